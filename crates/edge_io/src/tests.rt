@@ -1,0 +1,6 @@
+use super::*;
+
+#[test]
+fn nothing(rt: HostRuntime) {
+    assert!(rt; true);
+}
