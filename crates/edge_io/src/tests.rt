@@ -1,6 +1,0 @@
-use super::*;
-
-#[test]
-fn nothing(rt: HostRuntime) {
-    assert!(rt; true);
-}
