@@ -1,4 +1,4 @@
-use Rattle.std.proofs.Common.{◌≡◌, ◌+◌, ◌≤◌, length, rules, arith}
+use Rattle.std.proofs.Common.{◌≡◌, ◌+◌, length, rules, arith}
 use Rattle.edge_io.proofs.Waits.{waits-push}
 use Rattle.edge_io.proofs.output.waiting.Waiting.push.Goals as goal
 
