@@ -1,0 +1,4 @@
+pub mod Bits
+pub mod WordRunsLemmas
+pub mod Maps
+pub mod ScansLemmas

@@ -1,0 +1,11 @@
+-- The map of pages that eight words of 64 bits hold.
+use Rattle.std.specs.Prelude.{ℕ, ◌/◌, ◌%◌, Bool, ◌&&◌, List, nat_lt, ◌==◌, slice_index}
+use Rattle.std.specs.Int.{bit_at}
+
+-- the word has a 1 at this place, counted from the lowest
+unfoldable pub has_bit : ℕ → ℕ → Bool
+has_bit word place = bit_at word place == 1
+
+-- page p, below 512, is bit p % 64 of word p / 64
+unfoldable pub has_page : List ℕ → ℕ → Bool
+has_page words p = nat_lt p 512 && has_bit (slice_index words (p / 64)) (p % 64)

@@ -1,0 +1,41 @@
+//! Runs of pages, and the lines that a journal of pages has.
+
+/// Neighbouring pages of a chunk or of a region.
+#[derive(Clone, Copy, Debug, PartialEq, Eq)]
+pub struct Run {
+    /// The number of the first page.
+    pub page: u32,
+    /// How many pages there are.
+    pub pages: u32,
+}
+
+/// One line of a page journal: what happened to pages in a cycle. Cycles count mark ends, from 0. The journal is
+/// ours.
+#[derive(Clone, Copy, Debug, PartialEq, Eq)]
+pub enum Line {
+    /// The pages from `page` on became a span of this span class.
+    Take {
+        cycle: u32,
+        page: u32,
+        pages: u32,
+        class: u8,
+    },
+    /// No run of so many pages was free for a span of this span class.
+    Miss {
+        cycle: u32,
+        pages: u32,
+        class: u8,
+    },
+    /// The span of these pages was given back.
+    Give {
+        cycle: u32,
+        page: u32,
+        pages: u32,
+    },
+    /// These free pages were scavenged.
+    Scav {
+        cycle: u32,
+        page: u32,
+        pages: u32,
+    },
+}
