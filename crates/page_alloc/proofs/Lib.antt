@@ -1,0 +1,4 @@
+pub mod Lives
+pub mod Walks
+pub mod Keeping
+pub mod Adding

@@ -1,0 +1,295 @@
+-- Open lives of a legal journal: they lie in the region, share no page, and are what owners say.
+use Rattle.std.proofs.Common.{◌≡◌, ◌≢◌, ℕ, zero, suc, ◌+◌, ◌/◌, ◌<◌, ◌≤◌, Bool, true, false, ◌&&◌, leb, eqb, List, [], ◌∷◌, length, get_or, drop, Some, None, refl, sym, ◌∙◌, ap, arith, ◌⊎◌, inl, inr}
+use Rattle.std.proofs.lemmas.Bool.{leb-true, eqb-true, eq-eqb, ne_eqb, cases_lt, cases_Bool, and_parts}
+use Rattle.std.proofs.lemmas.Bool.Decides.{nat_tests}
+use Rattle.page_bitmap.specs.declared.line.Line.{Line}
+use Rattle.page_bitmap.specs.declared.line.Line.TheVariants.{Take, Miss, Give, Scav}
+use Rattle.size_classes.specs.Classes.{IsClass, pages_of}
+use Rattle.size_classes.specs.Table.{page_counts}
+use Rattle.page_alloc.specs.Lists.{In, AllApart}
+use Rattle.page_alloc.specs.Journal.{within, owner, unscavenged, Life, others, open_lives, Legal, IsSpanSize}
+
+pub within-true : (p first pages : ℕ) → first ≤ p → p < first + pages → within p first pages ≡ true
+within-true p first pages low high = grind (arith, nat_tests)
+
+pub within-false : (p first pages : ℕ) → (p < first) ⊎ (first + pages ≤ p) → within p first pages ≡ false
+within-false p first pages (inl low) = grind (arith, nat_tests)
+within-false p first pages (inr high) = grind (arith, nat_tests)
+
+pub within-low : (p first pages : ℕ) → within p first pages ≡ true → first ≤ p
+within-low p first pages h = grind (arith, nat_tests)
+
+pub within-high : (p first pages : ℕ) → within p first pages ≡ true → p < first + pages
+within-high p first pages h = grind (arith, nat_tests)
+
+-- a life of the others is one of all, and begins elsewhere
+pub from_others : (page : ℕ) (lives : List Life) (life : Life) → In life (others page lives) → In life lives × (life.page ≢ page)
+from_others page [] life h = absurd h
+from_others page (first ∷ lives) life h =
+    elim (cases_Bool (eqb first.page page)) [
+      | inl is ↦ (
+          let h' : In life (others page lives) = rw is at h in
+          let rest = from_others page lives life h' in
+          (inr rest.0, rest.1))
+      | inr isnt ↦ (
+          let h' : (first ≡ life) ⊎ In life (others page lives) = rw isnt at h in
+          elim h' [
+            | inl here ↦ (inl here, λ e. (let f : first.page ≡ page = ap (λ (l : Life). l.page) here ∙ e in let g : eqb first.page page ≡ true = eq-eqb first.page page f in cc))
+            | inr there ↦ (let rest = from_others page lives life there in (inr rest.0, rest.1))
+          ])
+    ]
+
+pub to_others : (page : ℕ) (lives : List Life) (life : Life) → In life lives → life.page ≢ page → In life (others page lives)
+to_others page [] life h ne = absurd h
+to_others page (first ∷ lives) life h ne =
+    elim (cases_Bool (eqb first.page page)) [
+      | inl is ↦ (
+          let same : first.page ≡ page = eqb-true first.page page is in
+          rw is (elim h [
+            | inl here ↦ absurd (ne (ap (λ (l : Life). l.page) (sym here) ∙ same))
+            | inr there ↦ to_others page lives life there ne
+          ]))
+      | inr isnt ↦ rw isnt (elim h [
+        | inl here ↦ inl here
+        | inr there ↦ inr (to_others page lives life there ne)
+      ])
+    ]
+
+-- each page of an open life has it as owner
+pub covers : (region goal : ℕ) (past : List Line) (life : Life) (p : ℕ) → Legal region goal past → In life (open_lives past) → life.page ≤ p → p < life.page + life.pages → owner past p ≡ Some life.page
+covers region goal [] life p legal h low high = absurd h
+covers region goal (Take cycle page pages class ∷ past) life p legal h low high =
+    elim h [
+      | inl here ↦ (
+          let e1 : page ≡ life.page = ap (λ (l : Life). l.page) here in
+          let e2 : pages ≡ life.pages = ap (λ (l : Life). l.pages) here in
+          let w : within p page pages ≡ true = within-true p page pages (omega arith) (omega arith) in
+          rw w (ap (λ (n : ℕ). Some n) e1))
+      | inr there ↦ (
+          let old = covers region goal past life p legal.2 there low high in
+          elim (cases_Bool (within p page pages)) [
+            | inl is ↦ (
+                let free = legal.0.1.here.free p (within-low p page pages is) (within-high p page pages is) in
+                cc)
+            | inr isnt ↦ rw isnt old
+          ])
+    ]
+covers region goal (Miss cycle pages class ∷ past) life p legal h low high = covers region goal past life p legal.2 h low high
+covers region goal (Give cycle page pages ∷ past) life p legal h low high =
+    let one = from_others page (open_lives past) life h in
+    let old = covers region goal past life p legal.2 one.0 low high in
+    elim (cases_Bool (within p page pages)) [
+      | inl is ↦ (
+          let given = legal.0.0 in
+          let e1 : given.page ≡ page = legal.0.2 in
+          let e2 : given.pages ≡ pages = legal.0.3 in
+          let low' = within-low p page pages is in
+          let high' = within-high p page pages is in
+          let also = covers region goal past given p legal.2 legal.0.1 (omega arith) (omega arith) in
+          let same : life.page ≡ page = cc in
+          absurd (one.1 same))
+      | inr isnt ↦ rw isnt old
+    ]
+covers region goal (Scav cycle page pages ∷ past) life p legal h low high = covers region goal past life p legal.2 h low high
+
+-- two open lives that share a page are the same
+pub share : (region goal : ℕ) (past : List Line) (a b : Life) (p : ℕ) → Legal region goal past → In a (open_lives past) → In b (open_lives past)
+    → a.page ≤ p → p < a.page + a.pages → b.page ≤ p → p < b.page + b.pages → a ≡ b
+share region goal [] a b p legal ha hb al ah bl bh = absurd ha
+share region goal (Take cycle page pages class ∷ past) a b p legal ha hb al ah bl bh =
+    elim ha [
+      | inl a-new ↦ elim hb [
+        | inl b-new ↦ sym a-new ∙ b-new
+        | inr b-old ↦ (
+            let old = covers region goal past b p legal.2 b-old bl bh in
+            let e1 : page ≡ a.page = ap (λ (l : Life). l.page) a-new in
+            let e2 : pages ≡ a.pages = ap (λ (l : Life). l.pages) a-new in
+            let free = legal.0.1.here.free p (omega arith) (omega arith) in
+            cc)
+      ]
+      | inr a-old ↦ elim hb [
+        | inl b-new ↦ (
+            let old = covers region goal past a p legal.2 a-old al ah in
+            let e1 : page ≡ b.page = ap (λ (l : Life). l.page) b-new in
+            let e2 : pages ≡ b.pages = ap (λ (l : Life). l.pages) b-new in
+            let free = legal.0.1.here.free p (omega arith) (omega arith) in
+            cc)
+        | inr b-old ↦ share region goal past a b p legal.2 a-old b-old al ah bl bh
+      ]
+    ]
+share region goal (Miss cycle pages class ∷ past) a b p legal ha hb al ah bl bh = share region goal past a b p legal.2 ha hb al ah bl bh
+share region goal (Give cycle page pages ∷ past) a b p legal ha hb al ah bl bh =
+    share region goal past a b p legal.2 (from_others page (open_lives past) a ha).0 (from_others page (open_lives past) b hb).0 al ah bl bh
+share region goal (Scav cycle page pages ∷ past) a b p legal ha hb al ah bl bh = share region goal past a b p legal.2 ha hb al ah bl bh
+
+-- each number of the list is at least 1
+abbrev pub positive : List ℕ → Bool
+positive [] = true
+positive (x ∷ xs) = leb 1 x && positive xs
+
+positive-at : (xs : List ℕ) (k : ℕ) → positive xs ≡ true → k < length xs → 1 ≤ get_or xs k 0
+positive-at [] k h lt = absurd (omega arith)
+positive-at (x ∷ xs) zero h lt = leb-true 1 x (and_parts (leb 1 x) (positive xs) h).0
+positive-at (x ∷ xs) (suc k) h lt = positive-at xs k (and_parts (leb 1 x) (positive xs) h).1 (omega arith)
+
+positive-class : (xs : List ℕ) (class : ℕ) → positive (drop 1 xs) ≡ true → 1 ≤ class → class < length xs → 1 ≤ get_or xs class 0
+positive-class [] class h low lt = absurd (omega arith)
+positive-class (x ∷ xs) zero h low lt = absurd (omega arith)
+positive-class (x ∷ xs) (suc k) h low lt = positive-at xs k h (omega arith)
+
+pub class_pages : (class : ℕ) → IsClass class → 1 ≤ pages_of class
+unfolding pages_of
+class_pages class is = positive-class page_counts class refl is.0 (omega arith)
+
+pub span_pages : (class pages : ℕ) → IsSpanSize class pages → 1 ≤ pages
+span_pages class pages size =
+    elim (cases_lt class 2) [
+      | inl large ↦ (let five = size.1 large in omega arith)
+      | inr small ↦ (let one = size.0 small in let e = one.1 in let some = class_pages (class / 2) one.0 in omega arith)
+    ]
+
+-- an open life has a page, and all its pages lie in the region
+pub lies : (region goal : ℕ) (past : List Line) (life : Life) → Legal region goal past → In life (open_lives past) → (1 ≤ life.pages) × (life.page + life.pages ≤ region)
+lies region goal [] life legal h = absurd h
+lies region goal (Take cycle page pages class ∷ past) life legal h =
+    elim h [
+      | inl here ↦ (
+          let e1 : page ≡ life.page = ap (λ (l : Life). l.page) here in
+          let e2 : pages ≡ life.pages = ap (λ (l : Life). l.pages) here in
+          let some = span_pages class pages legal.0.0 in
+          let inside = legal.0.1.here.inside in
+          (omega arith, omega arith))
+      | inr there ↦ lies region goal past life legal.2 there
+    ]
+lies region goal (Miss cycle pages class ∷ past) life legal h = lies region goal past life legal.2 h
+lies region goal (Give cycle page pages ∷ past) life legal h = lies region goal past life legal.2 (from_others page (open_lives past) life h).0
+lies region goal (Scav cycle page pages ∷ past) life legal h = lies region goal past life legal.2 h
+
+-- two open lives with one first page are the same
+pub same_page : (region goal : ℕ) (past : List Line) (a b : Life) → Legal region goal past → In a (open_lives past) → In b (open_lives past) → a.page ≡ b.page → a ≡ b
+same_page region goal past a b legal ha hb e =
+    let pa = lies region goal past a legal ha in
+    let pb = lies region goal past b legal hb in
+    share region goal past a b a.page legal ha hb (omega arith) (omega arith) (omega arith) (omega arith)
+
+-- a page has an owner only where an open life begins at the owner and has the page
+pub record IsOf (past : List Line) (p first : ℕ) (life : Life) : Type 0 where
+  pub here : In life (open_lives past)
+  pub begins : life.page ≡ first
+  pub low : first ≤ p
+  pub high : p < first + life.pages
+
+pub owned : (region goal : ℕ) (past : List Line) (p first : ℕ) → Legal region goal past → owner past p ≡ Some first → (life : Life) × IsOf past p first life
+owned region goal [] p first legal h = cc
+owned region goal (Take cycle page pages class ∷ past) p first legal h =
+    elim (cases_Bool (within p page pages)) [
+      | inl is ↦ (
+          let h' : Some page ≡ Some first = rw is at h in
+          let e : page ≡ first = cc in
+          let low = within-low p page pages is in
+          let high = within-high p page pages is in
+          (_, record { here = inl refl; begins = e; low = omega arith; high = omega arith }))
+      | inr isnt ↦ (
+          let h' : owner past p ≡ Some first = rw isnt at h in
+          let old = owned region goal past p first legal.2 h' in
+          (old.0, record { here = inr old.1.here; begins = old.1.begins; low = old.1.low; high = old.1.high }))
+    ]
+owned region goal (Miss cycle pages class ∷ past) p first legal h =
+    let old = owned region goal past p first legal.2 h in
+    (old.0, record { here = old.1.here; begins = old.1.begins; low = old.1.low; high = old.1.high })
+owned region goal (Give cycle page pages ∷ past) p first legal h =
+    elim (cases_Bool (within p page pages)) [
+      | inl is ↦ (let h' : None ≡ Some first = rw is at h in cc)
+      | inr isnt ↦ (
+          let h' : owner past p ≡ Some first = rw isnt at h in
+          let old = owned region goal past p first legal.2 h' in
+          let given = legal.0.0 in
+          let e1 : given.page ≡ page = legal.0.2 in
+          let e2 : given.pages ≡ pages = legal.0.3 in
+          let other : old.0.page ≢ page = λ e. (
+          let same : old.0 ≡ given = same_page region goal past old.0 given legal.2 old.1.here legal.0.1 (e ∙ sym e1) in
+          let e3 : old.0.pages ≡ given.pages = ap (λ (l : Life). l.pages) same in
+          let b = old.1.begins in
+          let low = old.1.low in
+          let high = old.1.high in
+          let w : within p page pages ≡ true = within-true p page pages (omega arith) (omega arith) in
+          cc) in
+          (old.0, record { here = to_others page (open_lives past) old.0 old.1.here other; begins = old.1.begins; low = old.1.low; high = old.1.high }))
+    ]
+owned region goal (Scav cycle page pages ∷ past) p first legal h =
+    let old = owned region goal past p first legal.2 h in
+    (old.0, record { here = old.1.here; begins = old.1.begins; low = old.1.low; high = old.1.high })
+
+-- an owned page is unscavenged
+pub owned-unscavenged : (region goal : ℕ) (past : List Line) (p first : ℕ) → Legal region goal past → owner past p ≡ Some first → unscavenged past p ≡ true
+owned-unscavenged region goal [] p first legal h = cc
+owned-unscavenged region goal (Take cycle page pages class ∷ past) p first legal h =
+    elim (cases_Bool (within p page pages)) [
+      | inl is ↦ rw is refl
+      | inr isnt ↦ (
+          let h' : owner past p ≡ Some first = rw isnt at h in
+          rw isnt (owned-unscavenged region goal past p first legal.2 h'))
+    ]
+owned-unscavenged region goal (Miss cycle pages class ∷ past) p first legal h = owned-unscavenged region goal past p first legal.2 h
+owned-unscavenged region goal (Give cycle page pages ∷ past) p first legal h =
+    elim (cases_Bool (within p page pages)) [
+      | inl is ↦ (let h' : None ≡ Some first = rw is at h in cc)
+      | inr isnt ↦ (
+          let h' : owner past p ≡ Some first = rw isnt at h in
+          owned-unscavenged region goal past p first legal.2 h')
+    ]
+owned-unscavenged region goal (Scav cycle page pages ∷ past) p first legal h =
+    elim (cases_Bool (within p page pages)) [
+      | inl is ↦ (
+          let free = (legal.0.1.loose p (within-low p page pages is) (within-high p page pages is)).0 in
+          cc)
+      | inr isnt ↦ rw isnt (owned-unscavenged region goal past p first legal.2 h)
+    ]
+
+others-none : (page : ℕ) (lives : List Life) → ((life : Life) → In life lives → life.page ≢ page) → others page lives ≡ lives
+others-none page [] none = refl
+others-none page (first ∷ lives) none =
+    let isnt : eqb first.page page ≡ false = ne_eqb first.page page (none first (inl refl)) in
+    rw isnt (ap (λ (ls : List Life). first ∷ ls) (others-none page lives (λ life h. none life (inr h))))
+
+apart-others : (page : ℕ) (lives : List Life) → AllApart (λ (a b : Life). a.page ≢ b.page) lives → AllApart (λ (a b : Life). a.page ≢ b.page) (others page lives)
+apart-others page [] apart = tt
+apart-others page (first ∷ lives) apart =
+    elim (cases_Bool (eqb first.page page)) [
+      | inl is ↦ rw is (apart-others page lives apart.1)
+      | inr isnt ↦ rw isnt (λ life h. apart.0 life (from_others page lives life h).0, apart-others page lives apart.1)
+    ]
+
+-- open lives begin at different pages
+pub pages-apart : (region goal : ℕ) (past : List Line) → Legal region goal past → AllApart (λ (a b : Life). a.page ≢ b.page) (open_lives past)
+pages-apart region goal [] legal = tt
+pages-apart region goal (Take cycle page pages class ∷ past) legal =
+    let some = span_pages class pages legal.0.0 in (
+      λ life h e. (
+          let lie = lies region goal past life legal.2 h in
+          let has = covers region goal past life page legal.2 h (omega arith) (omega arith) in
+          let none = legal.0.1.here.free page (omega arith) (omega arith) in
+          cc),
+      pages-apart region goal past legal.2,
+    )
+pages-apart region goal (Miss cycle pages class ∷ past) legal = pages-apart region goal past legal.2
+pages-apart region goal (Give cycle page pages ∷ past) legal = apart-others page (open_lives past) (pages-apart region goal past legal.2)
+pages-apart region goal (Scav cycle page pages ∷ past) legal = pages-apart region goal past legal.2
+
+-- without the life that begins at a page there is one life less
+pub length-others : (page : ℕ) (lives : List Life) (life : Life) → AllApart (λ (a b : Life). a.page ≢ b.page) lives → In life lives → life.page ≡ page
+    → length (others page lives) + 1 ≡ length lives
+length-others page [] life apart h e = absurd h
+length-others page (first ∷ lives) life apart h e =
+    elim h [
+      | inl here ↦ (
+          let same : first.page ≡ page = ap (λ (l : Life). l.page) here ∙ e in
+          let is : eqb first.page page ≡ true = eq-eqb first.page page same in
+          let rest : others page lives ≡ lives = others-none page lives (λ other there q. apart.0 other there (same ∙ sym q)) in
+          rw (is, rest) (omega arith))
+      | inr there ↦ (
+          let ne : first.page ≢ page = λ q. apart.0 life there (q ∙ sym e) in
+          let isnt : eqb first.page page ≡ false = ne_eqb first.page page ne in
+          let rest = length-others page lives life apart.1 there e in
+          rw isnt (omega arith))
+    ]

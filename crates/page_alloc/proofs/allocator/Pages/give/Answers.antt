@@ -1,0 +1,75 @@
+use Rattle.std.proofs.Common.{◌≡◌, ◌<◌, length, refl, ◌∙◌, sym, ap, arith}
+use Rattle.std.proofs.lemmas.List.{get_or_read, with_items_is}
+use Rattle.page_alloc.proofs.Keeping.{given, kept-give}
+use Rattle.page_alloc.proofs.Adding.{adds-line, sound-after, owner-view, by-view}
+use Rattle.page_alloc.proofs.allocator.Pages.give.Goals as goal
+
+pub index-pages-requires : goal.index-pages-requires
+index-pages-requires c =
+    let life = given c.self.invariant.kept (owner-view c.self.inside c.args.self.now c.args.page c.args.page c.self.view_is c.requires.begins) in
+    let inside = life.1.run.inside in
+    let some = life.1.some in
+    let numbers = c.self.invariant.numbers in
+    let ok = c.self.inside.lengths.ok.0 in
+    omega arith
+
+pub free_run-requires-clause-taken : goal.free_run-requires-clause-taken
+free_run-requires-clause-taken c =
+    let life = given c.self.invariant.kept (owner-view c.self.inside c.args.self.now c.args.page c.args.page c.self.view_is c.requires.begins) in
+    let lt : c.args.page < length c.self.inside.lengths.items = (let i = life.1.run.inside in let s = life.1.some in let n = c.self.invariant.numbers in omega arith) in
+    let read : c.index-pages.result.now ≡ life.0.pages = get_or_read c.self.inside.lengths.items _ _ lt c.index-pages.ensures 0 ∙ life.1.pages in
+    rw (c.as_mut_slice.ensures.value, read) life.1.run
+
+pub overflow_sub-self : goal.overflow_sub-self
+overflow_sub-self c =
+    let life = given c.self.invariant.kept (owner-view c.self.inside c.args.self.now c.args.page c.args.page c.self.view_is c.requires.begins) in
+    let lt : c.args.page < length c.self.inside.lengths.items = (let i = life.1.run.inside in let s = life.1.some in let n = c.self.invariant.numbers in omega arith) in
+    let read : c.index-pages.result.now ≡ life.0.pages = get_or_read c.self.inside.lengths.items _ _ lt c.index-pages.ensures 0 ∙ life.1.pages in
+    rw read life.1.owned_pages
+
+pub overflow_sub-self-2 : goal.overflow_sub-self-2
+overflow_sub-self-2 c = (given c.self.invariant.kept (owner-view c.self.inside c.args.self.now c.args.page c.args.page c.self.view_is c.requires.begins)).1.lives
+
+pub mark_start-requires : goal.mark_start-requires
+mark_start-requires c =
+    let life = given c.self.invariant.kept (owner-view c.self.inside c.args.self.now c.args.page c.args.page c.self.view_is c.requires.begins) in
+    let inside = life.1.run.inside in
+    let some = life.1.some in
+    let maps = c.self.invariant.maps in
+    let value = ap length c.as_mut_slice-2.ensures.value in
+    omega arith
+
+pub append-requires : goal.append-requires
+append-requires c =
+    let lives = (given c.self.invariant.kept (owner-view c.self.inside c.args.self.now c.args.page c.args.page c.self.view_is c.requires.begins)).1.lives in
+    let room = c.self.invariant.room in
+    omega arith
+
+pub invariant_of-self : goal.invariant_of-self
+invariant_of-self c =
+    let sound = c.self.invariant in
+    let life = given sound.kept (owner-view c.self.inside c.args.self.now c.args.page c.args.page c.self.view_is c.requires.begins) in
+    let lives = life.1.lives in
+    let room = sound.room in
+    let append = c.append.ensures in
+    let lt : c.args.page < length c.self.inside.lengths.items = (let i = life.1.run.inside in let s = life.1.some in let n = c.self.invariant.numbers in omega arith) in
+    let read : c.index-pages.result.now ≡ life.0.pages = get_or_read c.self.inside.lengths.items _ _ lt c.index-pages.ensures 0 ∙ life.1.pages in
+    let chunks : length c.free_run.new.chunks ≡ length c.self.inside.chunks.items = c.free_run.auto.chunks ∙ ap length c.as_mut_slice.ensures.value in
+    let maps : length c.mark_start.new.starts ≡ length c.self.inside.starts.items = c.mark_start.auto.starts ∙ ap length c.as_mut_slice-2.ensures.value in
+    sound-after c.self.inside _ c.free_run.new.chunks c.mark_start.new.starts c.self.inside.lengths.items _ sound
+    (with_items_is c.self.inside.chunks c.free_run.new.chunks (chunks ∙ sym c.self.inside.chunks.ok.0)) (with_items_is c.self.inside.starts c.mark_start.new.starts (maps ∙ sym c.self.inside.starts.ok.0)) refl chunks maps refl append.past
+    (kept-give _ _ _ c.args.cycle c.args.page c.index-pages.result.now life.0 sound.kept (by-view c.self.inside c.args.self.now c.args.cycle c.self.view_is c.requires.cycle) life.1.here life.1.first (sym read)
+    (rw c.as_mut_slice.ensures.value at c.free_run.ensures.free) (rw c.as_mut_slice.ensures.value at c.free_run.ensures.scavenged) (rw c.as_mut_slice-2.ensures.value at c.mark_start.ensures))
+    (omega arith)
+
+pub returns : goal.returns
+returns c =
+    let life = given c.self.invariant.kept (owner-view c.self.inside c.args.self.now c.args.page c.args.page c.self.view_is c.requires.begins) in
+    let lt : c.args.page < length c.self.inside.lengths.items = (let i = life.1.run.inside in let s = life.1.some in let n = c.self.invariant.numbers in omega arith) in
+    let read : c.index-pages.result.now ≡ life.0.pages = get_or_read c.self.inside.lengths.items _ _ lt c.index-pages.ensures 0 ∙ life.1.pages in
+    let chunks : length c.free_run.new.chunks ≡ length c.self.inside.chunks.items = c.free_run.auto.chunks ∙ ap length c.as_mut_slice.ensures.value in
+    let same = with_items_is c.self.inside.chunks c.free_run.new.chunks (chunks ∙ sym c.self.inside.chunks.ok.0) in
+    let sound = invariant_of-self c in
+    record {
+      given = rw (← c.self.view_is) (life.0, life.1.here, life.1.first, rw (← read) (adds-line c.self.inside _ _ _ refl sound (ap length same ∙ chunks) refl c.append.ensures.past c.append.ensures.len c.append.ensures.capacity));
+    }

@@ -1,0 +1,37 @@
+use Rattle.std.proofs.Common.{◌≡◌, ℕ, ◌<◌, true, false, get_or, ◌∙◌, ap, arith}
+use Rattle.std.proofs.lemmas.List.{get_or-replicate}
+use Rattle.page_bitmap.specs.declared.bitmap.Bitmap.{Bitmap}
+use Rattle.page_bitmap.specs.declared.chunk.Chunk.{Chunk}
+use Rattle.page_bitmap.specs.Pages.{is_free, is_scavenged}
+use Rattle.page_alloc.specs.Region.{pages_of_map}
+use Rattle.page_alloc.proofs.Keeping.{kept-new}
+use Rattle.page_alloc.proofs.Walks.{over-each}
+use Rattle.page_alloc.proofs.allocator.Pages.new.Goals as goal
+
+pub invariant_of-result : goal.invariant_of-result
+invariant_of-result c =
+    let chunks = c.in_ok-vec.ensures.items_if_clones_equal (λ y e. e) in
+    let maps = c.in_ok-vec-2.ensures.items_if_clones_equal (λ y e. e) in
+    let numbers = c.in_ok-vec-3.ensures.items_if_clones_equal (λ y e. e) in
+    let count = c.in_ok-vec.ensures.len in
+    let ok = c.in_ok-vec.field-0.ok.0 in
+    let ok2 = c.in_ok-vec-2.field-0.ok.0 in
+    let ok3 = c.in_ok-vec-3.field-0.ok.0 in
+    let count2 = c.in_ok-vec-2.ensures.len in
+    let count3 = c.in_ok-vec-3.ensures.len in
+    let len = c.new-2.ensures.len in
+    let chunk : (k : ℕ) (d : Chunk) → k < c.args.chunks → get_or c.in_ok-vec.field-0.items k d ≡ c.new.result =
+    λ k d lt. rw chunks (get_or-replicate {A = Chunk} c.args.chunks k c.new.result d lt) in
+    let map : (k : ℕ) (d : Bitmap) → k < c.args.chunks → get_or c.in_ok-vec-2.field-0.items k d ≡ c.empty.result =
+    λ k d lt. rw maps (get_or-replicate {A = Bitmap} c.args.chunks k c.empty.result d lt) in
+    record {
+      some_chunks = omega arith;
+      few_chunks = omega arith;
+      maps = omega arith;
+      numbers = omega arith;
+      kept = rw c.new-2.ensures.items (kept-new _ _ _ _ _ _
+          (over-each is_free c.in_ok-vec.field-0.items c.new.result true (λ k j lt low. ap (λ (x : Chunk). is_free x j) (chunk k c.new.result (omega arith)) ∙ c.new.ensures.free.each j (omega arith) low))
+          (over-each is_scavenged c.in_ok-vec.field-0.items c.new.result true (λ k j lt low. ap (λ (x : Chunk). is_scavenged x j) (chunk k c.new.result (omega arith)) ∙ c.new.ensures.scavenged.each j (omega arith) low))
+          (λ p lt. over-each pages_of_map c.in_ok-vec-2.field-0.items c.empty.result false (λ k j ltk low. ap (λ (x : Bitmap). pages_of_map x j) (map k c.empty.result (omega arith)) ∙ c.empty.ensures j) p (omega arith)));
+      room = omega arith;
+    }

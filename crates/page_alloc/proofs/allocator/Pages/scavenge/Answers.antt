@@ -1,0 +1,35 @@
+use Rattle.std.proofs.Common.{◌≡◌, length, refl, ◌∙◌, sym, ap, arith}
+use Rattle.std.proofs.lemmas.List.{with_items_is}
+use Rattle.page_alloc.specs.Journal.{IsScavengeRun}
+use Rattle.page_alloc.specs.Kept.{region_of, past_in}
+use Rattle.page_alloc.proofs.Keeping.{kept-scavenge, scavenge-run, scavenge_small}
+use Rattle.page_alloc.proofs.Adding.{adds-line, sound-after, by-view, spare-view}
+use Rattle.page_alloc.proofs.allocator.Pages.scavenge.Goals as goal
+
+pub overflow_sub-self : goal.overflow_sub-self
+overflow_sub-self c =
+    let run : IsScavengeRun (region_of c.self.inside) (past_in c.self.inside) c.in_ok-run.run'.page c.in_ok-run.run'.pages =
+    scavenge-run c.self.invariant.kept (rw c.as_slice.ensures.value at c.in_ok-run.ensures.found) in
+    scavenge_small c.self.invariant.kept run
+
+pub invariant_of-self : goal.invariant_of-self
+invariant_of-self c =
+    let sound = c.self.invariant in
+    let room = sound.room in
+    let append = c.append.ensures in
+    let lives = sound.kept.lives in
+    let spare = spare-view c.self.inside c.args.self.now 1 c.self.view_is (omega arith) in
+    let run : IsScavengeRun (region_of c.self.inside) (past_in c.self.inside) c.in_ok-run.run'.page c.in_ok-run.run'.pages =
+    scavenge-run sound.kept (rw c.as_slice.ensures.value at c.in_ok-run.ensures.found) in
+    let chunks : length c.scavenge_run.new.chunks ≡ length c.self.inside.chunks.items = c.scavenge_run.auto.chunks ∙ ap length c.as_mut_slice.ensures.value in
+    sound-after c.self.inside _ c.scavenge_run.new.chunks c.self.inside.starts.items c.self.inside.lengths.items _ sound
+    (with_items_is c.self.inside.chunks c.scavenge_run.new.chunks (chunks ∙ sym c.self.inside.chunks.ok.0)) refl refl chunks refl refl append.past
+    (kept-scavenge _ _ c.args.cycle c.in_ok-run.run'.page c.in_ok-run.run'.pages sound.kept (by-view c.self.inside c.args.self.now c.args.cycle c.self.view_is c.requires.cycle) c.if-self.false run
+    (rw c.as_mut_slice.ensures.value at c.scavenge_run.ensures.free) (rw c.as_mut_slice.ensures.value at c.scavenge_run.ensures.scavenged))
+    (omega arith)
+
+pub returns-clause-released : goal.returns-clause-released
+returns-clause-released c =
+    let chunks : length c.scavenge_run.new.chunks ≡ length c.self.inside.chunks.items = c.scavenge_run.auto.chunks ∙ ap length c.as_mut_slice.ensures.value in
+    let same = with_items_is c.self.inside.chunks c.scavenge_run.new.chunks (chunks ∙ sym c.self.inside.chunks.ok.0) in
+    adds-line c.self.inside _ c.args.self.now _ c.self.view_is (invariant_of-self c) (ap length same ∙ chunks) refl c.append.ensures.past c.append.ensures.len c.append.ensures.capacity

@@ -1,0 +1,30 @@
+-- What contracts see of the pages of a region, and how a call changes it.
+use Rattle.std.specs.Prelude.{◌≡◌, ℕ, ◌+◌, ◌≤◌, List, ◌∷◌, length}
+use Rattle.page_bitmap.specs.declared.line.Line.{Line}
+use Rattle.page_alloc.specs.Journal.{open_lives, MayFollow, Legal}
+
+-- The region's number of pages, the goal for backed pages, the journal with its newest line first, and how many more lines
+-- it has room for.
+pub record PageHeap : Type 0 where
+  pub region : ℕ
+  pub goal : ℕ
+  pub past : List Line
+  pub spare : ℕ
+
+-- Only the room for lines may have changed, and it is no less.
+pub record HasMoreRoom (old new : PageHeap) : Type 0 where
+  pub region : new.region ≡ old.region
+  pub goal : new.goal ≡ old.goal
+  pub past : new.past ≡ old.past
+  pub spare : old.spare ≤ new.spare
+
+-- One line was added to the journal, which took room for one line at most, and left room for one for each live span. It is a
+-- line that may follow, and the journal is legal.
+pub record AddsLine (old new : PageHeap) (line : Line) : Type 0 where
+  pub region : new.region ≡ old.region
+  pub goal : new.goal ≡ old.goal
+  pub past : new.past ≡ line ∷ old.past
+  pub spare : old.spare ≤ new.spare + 1
+  pub room : length (open_lives new.past) ≤ new.spare
+  pub may_follow : MayFollow old.region old.goal old.past line
+  pub legal : Legal new.region new.goal new.past

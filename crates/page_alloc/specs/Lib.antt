@@ -1,0 +1,5 @@
+pub mod Lists
+pub mod Journal
+pub mod Region
+pub mod Heap
+pub mod Kept

@@ -1,0 +1,265 @@
+//! The pages of one region, and the journal of what happened to them.
+
+ghost use Rattle.std.specs.Prelude.{
+  ◌≡◌,
+  ℕ,
+  ◌+◌,
+  ◌*◌,
+  ◌<◌,
+  ◌≤◌,
+  ◌^◌,
+  ◌⊎◌,
+  [],
+  ◌∷◌,
+  Option,
+  length,
+  vec_capacity,
+  vec_len,
+  IfErr,
+  IfNone,
+  IfOk,
+  IfSome,
+  OnErr,
+  OnOk,
+};
+ghost use Rattle.page_alloc.specs.Heap.{AddsLine, HasMoreRoom};
+ghost use Rattle.page_alloc.specs.Lists.{In};
+ghost use Rattle.page_alloc.specs.Journal.{
+  HasNoRun,
+  IsBy,
+  IsFirstFit,
+  IsLongestFree,
+  IsLoose,
+  IsSpanSize,
+  Life,
+  backed,
+  open_lives,
+  owner,
+  past_of,
+  taken,
+  Legal,
+};
+
+use crate::runs::{first_run, free_run, longest_run, scavenge_run, take_run, top_run};
+use crate::starts::{last_start, mark_start};
+use edge_io::NoMemory;
+use page_bitmap::{Bitmap, Chunk, Line, Run};
+use std::alloc::Global;
+use std::marker::Model;
+
+/// No run of the wanted pages was free. The Miss line of the journal that says so has this number.
+#[derive(Clone, Copy, Debug, PartialEq, Eq)]
+pub struct NoRun {
+    pub line: u64,
+}
+
+/// The pages of one region: which span has each of them, which are backed by memory, and the journal.
+#[derive(Drop)]
+pub struct Pages {
+    chunks: Vec<Chunk>,
+    starts: Vec<Bitmap>,
+    lengths: Vec<u32>,
+    journal: Vec<Line>,
+    goal: u32,
+    live: usize,
+    taken: u32,
+    backed: u32,
+}
+
+impl Model for Pages {
+    ghost use Rattle.page_alloc.specs.Heap.{PageHeap};
+
+    ghost Value = { PageHeap };
+
+    ghost use Rattle.page_alloc.specs.Kept.{IsSound, heap_of};
+
+    ghost view = { heap_of };
+
+    ghost invariant = { IsSound };
+}
+
+impl Pages {
+    /// The pages of a region of so many chunks of 512 pages, from 1 to 128: all free and scavenged, with an
+    /// empty journal and this goal for backed pages.
+    pub fn new(alloc: Global, chunks: u32, goal: u32) -> Result<Pages, NoMemory>
+        requires some { 1 ≤ chunks }
+        requires few { chunks ≤ 128 }
+        ensures region { IfOk result (λ pages. pages.region ≡ 512 * chunks) }
+        ensures goal { IfOk result (λ pages. pages.goal ≡ goal) }
+        ensures empty { IfOk result (λ pages. pages.past ≡ []) }
+    {
+        let count = chunks as usize;
+        Ok(Pages {
+            chunks: vec![in alloc; Chunk::new(); count]?,
+            starts: vec![in alloc; Bitmap::empty(); count]?,
+            lengths: vec![in alloc; 0; 512 * count]?,
+            journal: Vec::new(alloc),
+            goal,
+            live: 0,
+            taken: 0,
+            backed: 0,
+        })
+    }
+
+    /// Makes room for lines: two more than there are live spans.
+    pub fn reserve_line(&mut self) -> Result<(), NoMemory>
+        ensures ok { OnOk result (length (open_lives self.new.past) + 2 ≤ self.new.spare) }
+        ensures same { HasMoreRoom self.old self.new }
+    {
+        self.journal.reserve(self.live + 2)?;
+        Ok(())
+    }
+
+    /// First fit: the least page from which `n` pages are free, for n from 1 on. None exactly where no run of
+    /// n pages is free. The counter of steps stays, while the search goes chunk by chunk
+    /// (`mpagealloc.go`, `find`).
+    pub fn find(&self, n: u32, steps: &mut u64) -> Option<u32>
+        requires some { 1 ≤ n }
+        requires room { steps.old ≤ 2 ^ 63 }
+        ensures found { IfSome result (λ page. IsFirstFit self.now.region self.now.past page n) }
+        ensures none { IfNone result (HasNoRun self.now.region self.now.past n) }
+        ensures steps { steps.new ≡ steps.old }
+    {
+        let _steps = *steps;
+        first_run(self.chunks.as_slice(), n)
+    }
+
+    /// A span of `n` pages and this span class takes the pages at first fit, and a Take line says so; the
+    /// answer is its first page. Where no run of n pages is free, a Miss line says that. Takes no memory
+    /// (`mheap.go`, `allocSpan`).
+    pub fn take(&mut self, cycle: u32, n: u32, class: u8) -> Result<u32, NoRun>
+        requires cycle { IsBy cycle self.old.past }
+        requires spare { length (open_lives self.old.past) + 2 ≤ self.old.spare }
+        requires some { 1 ≤ n }
+        requires size { (page : ℕ) → IsFirstFit self.old.region self.old.past page n → IsSpanSize class n }
+        ensures taken { IfOk result (λ page. AddsLine self.old self.new (Line.Take cycle page n class)) }
+        ensures missed { IfErr result (λ _. AddsLine self.old self.new (Line.Miss cycle n class)) }
+        ensures line { IfErr result (λ none. none.line ≡ length self.old.past) }
+    {
+        let Some(page) = first_run(self.chunks.as_slice(), n) else {
+            let line = self.journal.len() as u64;
+            append(
+                &mut self.journal,
+                Line::Miss {
+                    cycle,
+                    pages: n,
+                    class,
+                },
+            );
+            return Err(NoRun { line });
+        };
+        let run = Run { page, pages: n };
+        self.backed += take_run(self.chunks.as_mut_slice(), run);
+        self.taken += n;
+        self.live += 1;
+        self.lengths[page as usize] = n;
+        mark_start(self.starts.as_mut_slice(), page, true);
+        append(
+            &mut self.journal,
+            Line::Take {
+                cycle,
+                page,
+                pages: n,
+                class,
+            },
+        );
+        Ok(page)
+    }
+
+    /// The span that begins at a page gives its pages back, and a Give line says so. They stay backed. Takes
+    /// no memory (`mheap.go`, `freeSpanLocked`).
+    pub fn give(&mut self, cycle: u32, page: u32)
+        requires cycle { IsBy cycle self.old.past }
+        requires begins { owner self.old.past page ≡ Some page }
+        ensures given { (life : Life) × In life (open_lives self.old.past) × (life.page ≡ page) × AddsLine self.old self.new (Line.Give cycle page life.pages) }
+    {
+        let pages = self.lengths[page as usize];
+        free_run(self.chunks.as_mut_slice(), Run { page, pages });
+        self.taken -= pages;
+        self.live -= 1;
+        mark_start(self.starts.as_mut_slice(), page, false);
+        append(&mut self.journal, Line::Give { cycle, page, pages });
+    }
+
+    /// One scavenging step: the highest free and backed page, with those directly below it in its chunk, at
+    /// most 64 in all, is no longer backed, and a Scav line says so. None exactly where the backed pages are
+    /// at most the goal, or no free page is backed (ours; Go's is `mgcscavenge.go`, `scavengeOne`).
+    pub fn scavenge(&mut self, cycle: u32) -> Option<Run>
+        requires cycle { IsBy cycle self.old.past }
+        requires spare { length (open_lives self.old.past) < self.old.spare }
+        ensures released { IfSome result (λ run. AddsLine self.old self.new (Line.Scav cycle run.page run.pages)) }
+        ensures done { IfNone result ((backed self.old.region self.old.past ≤ self.old.goal) ⊎ ((p : ℕ) → p < self.old.region → ¬ IsLoose self.old.past p)) }
+        ensures same { IfNone result (HasMoreRoom self.old self.new) }
+    {
+        if self.backed <= self.goal {
+            return None;
+        }
+        let run = top_run(self.chunks.as_slice())?;
+        scavenge_run(self.chunks.as_mut_slice(), run);
+        self.backed -= run.pages;
+        append(
+            &mut self.journal,
+            Line::Scav {
+                cycle,
+                page: run.page,
+                pages: run.pages,
+            },
+        );
+        Some(run)
+    }
+
+    /// The first page of the span that has a page of the region: None exactly where the page is free.
+    pub fn owner(&self, page: u32) -> Option<u32>
+        requires { page < self.now.region }
+        ensures { result ≡ owner self.now.past page }
+    {
+        let first = last_start(self.starts.as_slice(), page)?;
+        if page - first < self.lengths[first as usize] {
+            Some(first)
+        } else {
+            None
+        }
+    }
+
+    /// The number of pages of the longest run of free pages.
+    pub fn longest_free(&self) -> u32
+        ensures { IsLongestFree self.now.region self.now.past result }
+    {
+        longest_run(self.chunks.as_slice())
+    }
+
+    /// The number of pages that are backed by memory: those of spans, and the free ones that aren't scavenged.
+    pub fn backed(&self) -> u32
+        ensures { result ≡ backed self.now.region self.now.past }
+    {
+        self.backed
+    }
+
+    /// The number of pages that spans have.
+    pub fn taken(&self) -> u32
+        ensures { result ≡ taken self.now.region self.now.past }
+    {
+        self.taken
+    }
+
+    /// The lines of the journal, as they were made.
+    pub fn journal(&self) -> &[Line]
+        ensures lines { past_of result.now ≡ self.now.past }
+        ensures legal { Legal self.now.region self.now.goal self.now.past }
+        ensures room { length (open_lives self.now.past) ≤ self.now.spare }
+    {
+        self.journal.as_slice()
+    }
+}
+
+/// Puts a line at the end of a journal that has room for it.
+fn append(journal: &mut Vec<Line>, line: Line)
+    requires { vec_len journal.old < vec_capacity journal.old }
+    ensures past { past_of journal.new.items ≡ line ∷ past_of journal.old.items }
+    ensures len { vec_len journal.new ≡ vec_len journal.old + 1 }
+    ensures capacity { vec_capacity journal.old ≤ vec_capacity journal.new }
+{
+    let Ok(()) = journal.push(line) else {
+        unreachable!()
+    };
+}

@@ -1,0 +1,12 @@
+//! The pages of one region of chunks: which span has each of them, which are backed by memory, and a journal
+//! that is legal by its type (`docs/pages.md`).
+#![tactic(auto)]
+
+mod allocator;
+mod runs;
+mod starts;
+
+pub use allocator::{NoRun, Pages};
+
+#[cfg(test)]
+mod tests;

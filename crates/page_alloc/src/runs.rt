@@ -1,0 +1,160 @@
+//! Runs of pages over neighbouring chunks.
+
+ghost use Rattle.std.specs.Prelude.{
+  ◌≡◌,
+  ℕ,
+  ◌+◌,
+  ◌-◌,
+  ◌*◌,
+  ◌/◌,
+  ◌<◌,
+  ◌≤◌,
+  false,
+  not,
+  true,
+  length,
+  IfNone,
+  IfSome,
+};
+ghost use Rattle.page_bitmap.specs.Counts.{count_run};
+ghost use Rattle.page_bitmap.specs.Runs.{SetsRun};
+ghost use Rattle.page_alloc.specs.Region.{
+  HasNoRunIn,
+  IsFirstRunIn,
+  IsLongestRunIn,
+  IsRunIn,
+  IsTopRunIn,
+  free_in,
+  loose_in,
+  scavenged_in,
+};
+
+use page_bitmap::{Chunk, Run};
+
+/// The pages of a chunk.
+pub const CHUNK_PAGES: u32 = 512;
+
+/// The most pages that one scavenging step releases (ours).
+const SCAVENGE_PAGES: u32 = 64;
+
+/// The first page of the lowest run of `n` free pages, of which there is at least one.
+pub(crate) fn first_run(chunks: &[Chunk], n: u32) -> Option<u32>
+    requires chunks { length chunks.now ≤ 128 }
+    requires some { 1 ≤ n }
+    ensures found { IfSome result (IsFirstRunIn (free_in chunks.now) (512 * length chunks.now) n) }
+    ensures none { IfNone result (HasNoRunIn (free_in chunks.now) (512 * length chunks.now) n) }
+{
+    let mut back = 0;
+    for (index, chunk) in chunks.iter().enumerate() {
+        let base = CHUNK_PAGES * index as u32;
+        let (start, max, end) = chunk.sums();
+        if n <= back + start {
+            return Some(base - back);
+        }
+        if n <= max {
+            let page = chunk.find(n, 0)?;
+            return Some(base + page);
+        }
+        back = if end == CHUNK_PAGES { back + end } else { end };
+    }
+    None
+}
+
+/// The pages of the longest run of free pages.
+pub(crate) fn longest_run(chunks: &[Chunk]) -> u32
+    requires { length chunks.now ≤ 128 }
+    ensures { IsLongestRunIn (free_in chunks.now) (512 * length chunks.now) result }
+{
+    let mut longest = 0u32;
+    let mut back = 0u32;
+    for chunk in chunks {
+        let (start, max, end) = chunk.sums();
+        longest = longest.max(back + start).max(max);
+        back = if end == CHUNK_PAGES { back + end } else { end };
+    }
+    longest
+}
+
+/// Takes the pages of a free run, and says how many of them were scavenged.
+pub(crate) fn take_run(chunks: &mut [Chunk], run: Run) -> u32
+    requires chunks { length chunks.old ≤ 128 }
+    requires free { IsRunIn (free_in chunks.old) (512 * length chunks.old) run.page run.pages }
+    ensures free { SetsRun (free_in chunks.old) (free_in chunks.new) run.page run.pages false }
+    ensures scavenged { SetsRun (scavenged_in chunks.old) (scavenged_in chunks.new) run.page run.pages false }
+    ensures count { result ≡ count_run run.page run.pages (scavenged_in chunks.old) }
+{
+    let mut scavenged = 0;
+    let mut done = 0;
+    while done < run.pages {
+        let (index, page, n) = piece(run, done);
+        let chunk = &mut chunks[index];
+        scavenged += chunk.scavenged_in(page, n);
+        chunk.take(page, n);
+        done += n;
+    }
+    scavenged
+}
+
+/// Frees the pages of a taken run.
+pub(crate) fn free_run(chunks: &mut [Chunk], run: Run)
+    requires chunks { length chunks.old ≤ 128 }
+    requires taken { IsRunIn (λ p. not (free_in chunks.old p)) (512 * length chunks.old) run.page run.pages }
+    ensures free { SetsRun (free_in chunks.old) (free_in chunks.new) run.page run.pages true }
+    ensures scavenged { (p : ℕ) → scavenged_in chunks.new p ≡ scavenged_in chunks.old p }
+{
+    let mut done = 0;
+    while done < run.pages {
+        let (index, page, n) = piece(run, done);
+        chunks[index].free(page, n);
+        done += n;
+    }
+}
+
+/// The chunk, the first page in it and the number of pages of the part of a run that follows its first `done` pages.
+fn piece(run: Run, done: u32) -> (usize, u32, u32)
+    requires left { done < run.pages }
+    requires fits { run.page + run.pages ≤ 65536 }
+    ensures page { run.page + done ≡ 512 * result.0 + result.1 }
+    ensures some { 1 ≤ result.2 }
+    ensures chunk { result.1 + result.2 ≤ 512 }
+    ensures inside { done + result.2 ≤ run.pages }
+{
+    let at = run.page + done;
+    let page = at % CHUNK_PAGES;
+    let n = (CHUNK_PAGES - page).min(run.pages - done);
+    ((at / CHUNK_PAGES) as usize, page, n)
+}
+
+/// The run that a scavenging step releases: None where every free page is scavenged.
+pub(crate) fn top_run(chunks: &[Chunk]) -> Option<Run>
+    requires { length chunks.now ≤ 128 }
+    ensures found { IfSome result (λ run. IsTopRunIn (loose_in chunks.now) (512 * length chunks.now) run.page run.pages) }
+    ensures none { IfNone result ((p : ℕ) → p < 512 * length chunks.now → loose_in chunks.now p ≡ false) }
+{
+    for index in (0..chunks.len()).rev() {
+        if let Some(run) = chunks[index].scavenge_candidate(SCAVENGE_PAGES) {
+            let page = CHUNK_PAGES * index as u32 + run.page;
+            return Some(Run {
+                page,
+                pages: run.pages,
+            });
+        }
+    }
+    None
+}
+
+/// Marks the pages of a free run inside one chunk as scavenged.
+pub(crate) fn scavenge_run(chunks: &mut [Chunk], run: Run)
+    requires chunks { length chunks.old ≤ 128 }
+    requires some { 1 ≤ run.pages }
+    requires one { run.page / 512 ≡ (run.page + run.pages - 1) / 512 }
+    requires free { IsRunIn (free_in chunks.old) (512 * length chunks.old) run.page run.pages }
+    ensures scavenged { SetsRun (scavenged_in chunks.old) (scavenged_in chunks.new) run.page run.pages true }
+    ensures free { (p : ℕ) → free_in chunks.new p ≡ free_in chunks.old p }
+{
+    let index = (run.page / CHUNK_PAGES) as usize;
+    chunks[index].mark_scavenged(Run {
+        page: run.page % CHUNK_PAGES,
+        pages: run.pages,
+    });
+}

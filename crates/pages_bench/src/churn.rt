@@ -1,0 +1,48 @@
+//! What is timed.
+
+ghost use Rattle.std.specs.Prelude.{◌≡◌};
+
+use crate::steps::{give, take};
+use edge_io::NoMemory;
+use page_alloc::Pages;
+use rand_core::utils::NextWord;
+use rand_pcg::Pcg32;
+use std::alloc::Global;
+
+/// The chunks and the pages of the largest region.
+const CHUNKS: u32 = 128;
+
+const PAGES: u32 = 512 * CHUNKS;
+
+/// Fills a percentage of the pages, and then gives and takes in turn.
+pub fn churn(alloc: Global, percent: u32, calls: u64) -> Result<u64, NoMemory> {
+    let mut pages = Pages::new(alloc, CHUNKS, PAGES)?;
+    let mut live = Vec::new(alloc);
+    let mut words = Pcg32::new(1, 1);
+    for _ in 0..PAGES {
+        if u64::from(pages.taken()) * 100 >= u64::from(PAGES) * u64::from(percent) {
+            break;
+        }
+        take(&mut pages, &mut live, words.next_word())?;
+    }
+    let mut sum = 0u64;
+    for _ in 0..calls / 2 {
+        let given = give(&mut pages, &mut live, words.next_word());
+        let taken = take(&mut pages, &mut live, words.next_word())?;
+        sum = sum.wrapping_add(u64::from(given.unwrap_or(PAGES)));
+        sum = sum.wrapping_add(u64::from(taken.unwrap_or(PAGES)));
+    }
+    Ok(sum)
+}
+
+/// Takes all pages but the last one, and then looks for one page.
+pub fn last(alloc: Global, calls: u64) -> Result<u64, NoMemory> {
+    let mut pages = Pages::new(alloc, CHUNKS, PAGES)?;
+    pages.reserve_line()?;
+    let mut sum = u64::from(pages.take(0, PAGES - 1, 0).unwrap_or(PAGES));
+    for _ in 0..calls {
+        let page = pages.find(1, &mut 0);
+        sum = sum.wrapping_add(u64::from(page.unwrap_or(PAGES)));
+    }
+    Ok(sum)
+}

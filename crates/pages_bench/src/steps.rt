@@ -1,0 +1,59 @@
+//! Takes and gives of mixed sizes.
+
+ghost use Rattle.std.specs.Prelude.{◌≡◌, ◌≤◌, ◌<◌, IfOk};
+ghost use Rattle.page_alloc.specs.Journal.{IsBy, IsSpanSize};
+
+use edge_io::NoMemory;
+use page_alloc::Pages;
+use size_classes::span_pages;
+
+/// The pages and the span class of the span that a random word asks for: one of the small classes, or one
+/// time in sixteen a large span of 5 to 68 pages.
+pub fn size_of(word: u32) -> (u32, u8)
+    ensures some { 1 ≤ result.0 }
+    ensures size { IsSpanSize result.1 result.0 }
+{
+    if word % 16 == 0 {
+        (5 + word / 16 % 64, 1)
+    } else {
+        let class = (1 + word / 16 % 67) as u8;
+        (span_pages(class), 2 * class)
+    }
+}
+
+/// Takes a span of a random size, and notes its first page: None where no run was free.
+pub fn take(pages: &mut Pages, live: &mut Vec<u32>, word: u32) -> Result<Option<u32>, NoMemory>
+    requires by { IsBy 0 pages.old.past }
+    ensures by { IsBy 0 pages.new.past }
+    ensures region { pages.new.region ≡ pages.old.region }
+{
+    let (n, class) = size_of(word);
+    pages.reserve_line()?;
+    live.reserve(1)?;
+    match pages.take(0, n, class) {
+        Ok(page) => {
+            live.push(page)?;
+            Ok(Some(page))
+        }
+        Err(_) => Ok(None),
+    }
+}
+
+/// Gives back a random one of the spans that were noted: None where none is left.
+pub fn give(pages: &mut Pages, live: &mut Vec<u32>, word: u32) -> Option<u32>
+    requires by { IsBy 0 pages.old.past }
+    requires region { 65536 ≤ pages.old.region }
+    ensures by { IsBy 0 pages.new.past }
+    ensures region { pages.new.region ≡ pages.old.region }
+{
+    if live.is_empty() {
+        return None;
+    }
+    let index = word as usize % live.len();
+    let page = live.swap_remove(index);
+    if page >= 65536 || pages.owner(page) != Some(page) {
+        return None;
+    }
+    pages.give(0, page);
+    Some(page)
+}
