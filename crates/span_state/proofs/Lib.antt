@@ -1,0 +1,4 @@
+pub mod Added
+pub mod Pairs
+pub mod Sweeps
+pub mod Words

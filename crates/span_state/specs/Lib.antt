@@ -1,0 +1,5 @@
+pub mod Bits
+pub mod Counts
+pub mod Groups
+pub mod MarkSet
+pub mod Spans

@@ -1,0 +1,136 @@
+ghost use Rattle.std.specs.Prelude.{◌≡◌, ℕ, ◌<◌, ◌≤◌, true, IfOk};
+ghost use Rattle.span_state.specs.Bits.{IsFull};
+ghost use Rattle.span_state.specs.MarkSet.{is_marked};
+ghost use Rattle.span_state.specs.Spans.{allocated};
+
+use crate::{Body, Marks, Swept};
+use edge_io::NoMemory;
+use std::alloc::Global;
+use std::marker::{Send, Sync};
+use std::process::Abort;
+use std::test::Fail;
+
+const PAGE: u32 = 7;
+
+// The indices from `low` up to `high` of the page are marked, and one of another page.
+fn marks_of(alloc: Global, low: u32, high: u32) -> Result<Marks, NoMemory>
+    ensures { IfOk result (λ marks. (k : ℕ) → is_marked marks PAGE k ≡ true → k < high) }
+{
+    let mut marks = Marks::empty(alloc);
+    for index in low..high {
+        marks.add(PAGE, index)?;
+    }
+    marks.add(PAGE + 1, 0)?;
+    Ok(marks)
+}
+
+// A body of which each index was taken in turn.
+fn full(rt: &impl Abort, count: u32) -> Body
+    requires { (1 ≤ count) × (count ≤ 1024) }
+    ensures page { result.page ≡ PAGE }
+    ensures count { result.count ≡ count }
+    ensures full { IsFull count (allocated result) }
+{
+    let mut body = Body::new(PAGE, 1, 8, count, 2, 0);
+    for want in 0..count {
+        let index = body.next_free().expect(rt, "an index is free");
+        assert_eq!(rt; index, want);
+        body.take_index(index);
+    }
+    assert!(rt; body.next_free().is_none(), "full at {count}");
+    body
+}
+
+// What a sweep of a full body answers, and the lowest free index after it.
+fn swept(rt: &impl Abort, marks: &Marks, count: u32) -> (Swept, u32, Option<u32>)
+    requires count { (1 ≤ count) × (count ≤ 1024) }
+    requires marks { (k : ℕ) → is_marked marks.now PAGE k ≡ true → k < count }
+{
+    let mut body = full(rt, count);
+    let swept = body.sweep(marks);
+    (swept, body.next, body.next_free())
+}
+
+// Bodies are handed from thread to thread, and marks are shared by threads.
+fn crosses_threads<T: Send + Sync>(_: &T) {}
+
+#[test]
+fn bodies_at_word_borders(rt: HostRuntime) -> Result<(), Fail> {
+    // the count; the marked indices, from .. up to ..; after the sweep: kept, freed, the lowest free index
+    let rows = [
+        (1, 0, 0, 0, 1, Some(0)),
+        (1, 0, 1, 1, 0, None),
+        (64, 0, 63, 63, 1, Some(63)),
+        (64, 63, 64, 1, 63, Some(0)),
+        (64, 0, 64, 64, 0, None),
+        (341, 0, 1, 1, 340, Some(1)),
+        (341, 0, 64, 64, 277, Some(64)),
+        (341, 0, 65, 65, 276, Some(65)),
+        (341, 63, 65, 2, 339, Some(0)),
+        (341, 0, 341, 341, 0, None),
+        (1024, 0, 1023, 1023, 1, Some(1023)),
+        (1024, 1023, 1024, 1, 1023, Some(0)),
+        (1024, 0, 1024, 1024, 0, None),
+    ];
+    for (count, low, high, kept, freed, free) in rows {
+        assert!(rt; 1 <= count && count <= 1024 && high <= count);
+        let marks = marks_of(rt.alloc(), low, high)?;
+        let (swept, next, lowest) = swept(&rt, &marks, count);
+        assert_eq!(rt; swept, Swept { kept, freed }, "{count}, {low} to {high}");
+        assert_eq!(rt; next, 0);
+        assert_eq!(rt; lowest, free, "{count}, {low} to {high}");
+    }
+    Ok(())
+}
+
+#[test]
+fn marks_in_any_order(rt: HostRuntime) -> Result<(), Fail> {
+    let mut marks = Marks::empty(rt.alloc());
+    crosses_threads(&marks);
+    crosses_threads(&Body::new(PAGE, 1, 8, 1, 2, 0));
+    let added = [
+        (5, 63),
+        (5, 64),
+        (2, 1023),
+        (u32::MAX, u32::MAX),
+        (5, 0),
+        (5, 63),
+        (2, u32::MAX),
+        (u32::MAX, 0),
+    ];
+    for (page, index) in added {
+        marks.add(page, index)?;
+    }
+    for (page, bucket) in [(5, 9), (2, 1), (5, 9), (5, 3)] {
+        marks.add_dead(page, bucket)?;
+    }
+
+    // the page; an index of it, and whether that is marked; how many are; the dead buckets
+    let rows = [
+        (5, 63, true, 3, [9, 9, 3].as_slice()),
+        (5, 62, false, 3, [9, 9, 3].as_slice()),
+        (5, 1, false, 3, [9, 9, 3].as_slice()),
+        (2, 1023, true, 2, [1].as_slice()),
+        (2, 1022, false, 2, [1].as_slice()),
+        (u32::MAX, u32::MAX, true, 2, [].as_slice()),
+        (3, 0, false, 0, [].as_slice()),
+    ];
+    for (page, index, marked, count, dead) in rows {
+        assert_eq!(rt; marks.marked(page, index), marked, "{page}, {index}");
+        assert_eq!(rt; marks.count(page), count, "{page}");
+        assert_eq!(rt; marks.dead(page), dead, "{page}");
+    }
+
+    let pairs = marks.pairs()?;
+    let rising = [
+        (2, 1023),
+        (2, u32::MAX),
+        (5, 0),
+        (5, 63),
+        (5, 64),
+        (u32::MAX, 0),
+        (u32::MAX, u32::MAX),
+    ];
+    assert_eq!(rt; pairs.as_slice(), rising.as_slice());
+    Ok(())
+}
