@@ -1,0 +1,239 @@
+-- Lines that nothing is wrong with.
+use Rattle.std.proofs.Common.{◌≡◌, ◌≢◌, ◌==◌, ℕ, ◌+◌, ◌*◌, ◌^◌, ◌<◌, ◌≤◌, Bool, true, false, not, ◌||◌, List, [], ◌∷◌, ◌++◌, length, map, codes, decimal, Option, None, nat_lt, nat_le, refl, ap, subst, arith, length-append}
+use Rattle.std.specs.List.{AllByRecursion, list_all}
+use Rattle.std.specs.Option.{option_map}
+use Rattle.std.proofs.lemmas.Bool.Decides.{nat_tests}
+use Rattle.std.proofs.lemmas.Fmt.{length-decimal-le_wide}
+use Rattle.edge_io.specs.Line.{IsLine}
+use Rattle.trace_reader.specs.declared.fault.Which.{Which}
+use Rattle.trace_reader.specs.declared.fault.TraceFault.{TraceFault}
+use Rattle.trace_reader.specs.declared.fault.TraceFault.TheVariants.{Malformed, Limit, Later, BadMark}
+use Rattle.trace_reader.specs.declared.statement.Statement.{Statement}
+use Rattle.trace_reader.specs.declared.statement.Statement.TheVariants.{Title, Alloc, Gc, Mark, End}
+use Rattle.trace_reader.specs.declared.statement.AllocForm.{AllocForm}
+use Rattle.trace_reader.specs.declared.trace.Header.{Header}
+use Rattle.trace_reader.specs.declared.trace.Event.{Event}
+use Rattle.trace_reader.specs.Words.{IsDigit}
+use Rattle.trace_reader.specs.Spelling.{alloc_of, form_of, heap_of, kind, line_for}
+use Rattle.trace_reader.specs.Limits.{EventFits, HeaderFits}
+use Rattle.trace_reader.specs.Refusal.{AreEvents, bad_mark, counts_within, fault_if, first_of, may_follow, needs_later, numbers_within, objects_of, passed, procs_of, statement_fault, within}
+use Rattle.trace_reader.proofs.Digits.{digits_decimal}
+use Rattle.trace_reader.proofs.Saying.{AllByRecursion-map, Short, both, of_both, said_line}
+use Rattle.trace_reader.proofs.Judging.{AreGood, IsGood, below_false, below_true, onto}
+use Rattle.trace_reader.proofs.Reading.{All-append}
+
+-- Lengths, and no line feed
+
+decimal_short : (k n : ℕ) → 0 < k → n < 10 ^ k → n < 10 ^ 20 → length (decimal n) ≤ k
+decimal_short k n some small short = length-decimal-le_wide k n some small (omega arith)
+
+no_feed : (n : ℕ) → n < 10 ^ 20 → AllByRecursion (λ b. b ≢ 10) (decimal n)
+no_feed n small = AllByRecursion-map IsDigit (λ b. b ≢ 10) (λ b digit e. omega (arith, digit.0, e)) (decimal n) (digits_decimal n (omega arith))
+
+-- a test of a text
+apart_test : (xs : List ℕ) → list_all (λ b. not (b == 10)) xs ≡ true → AllByRecursion (λ b. b ≢ 10) xs
+apart_test [] test = tt
+apart_test (x ∷ xs) test =
+    let parts = of_both (not (x == 10)) (list_all (λ b. not (b == 10)) xs) test in
+    (λ e. ten (subst (λ (y : ℕ). not (y == 10) ≡ true) e parts.0), apart_test xs parts.1) where
+      ten : false ≡ true → ⊥
+      ten e = absurd cc
+
+kind_length : (scan : Bool) → length (kind scan) ≡ 3
+kind_length true = refl
+kind_length false = refl
+
+kind_apart : (scan : Bool) → AllByRecursion (λ b. b ≢ 10) (kind scan)
+kind_apart true = apart_test (codes " s ") refl
+kind_apart false = apart_test (codes " n ") refl
+
+-- a text and a number before a rest without line feeds
+field_apart : (text rest : List ℕ) (n : ℕ) → list_all (λ b. not (b == 10)) text ≡ true → n < 10 ^ 20 → AllByRecursion (λ b. b ≢ 10) rest → AllByRecursion (λ b. b ≢ 10) (text ++ (decimal n ++ rest))
+field_apart text rest n test small all = All-append (λ b. b ≢ 10) text (decimal n ++ rest) (apart_test text test) (All-append (λ b. b ≢ 10) (decimal n) rest (no_feed n small) all)
+
+field_length : (text rest : List ℕ) (n k : ℕ) → 0 < k → n < 10 ^ k → n < 10 ^ 20 → length (text ++ (decimal n ++ rest)) ≤ length text + k + length rest
+field_length text rest n k some small short =
+    let whole = length-append text (decimal n ++ rest) in
+    let tail = length-append (decimal n) rest in
+    let digits = decimal_short k n some small short in
+    omega arith
+
+pub alloc_is_line : (e : AllocForm) → Short (Alloc e) → IsLine (line_for (Alloc e))
+alloc_is_line e short =
+    let r3 = decimal e.stack ++ [] in
+    let r2 = kind e.scan ++ r3 in
+    let r1 = codes " " ++ (decimal e.size ++ r2) in
+    let l4 = field_length [] [] e.stack 20 (omega arith) short.1.1.0 short.1.1.0 in
+    let l3 = length-append (kind e.scan) r3 in
+    let k = kind_length e.scan in
+    let l2 = field_length (codes " ") r2 e.size 20 (omega arith) short.1.0 short.1.0 in
+    let l1 = field_length (codes "a ") r1 e.proc 20 (omega arith) short.0 short.0 in (
+      omega arith,
+      field_apart (codes "a ") r1 e.proc refl short.0 (field_apart (codes " ") r2 e.size refl short.1.0
+          (All-append (λ b. b ≢ 10) (kind e.scan) r3 (kind_apart e.scan) (field_apart [] [] e.stack refl short.1.1.0 tt))),
+    )
+
+heap_is_line : (h : Header) → HeaderFits h → IsLine (line_for (heap_of h))
+heap_is_line h fits =
+    let chunks = fits.chunks in
+    let procs = fits.procs in
+    let rate = fits.rate in
+    let seed = fits.seed in
+    let goal = fits.goal in
+    let r4 = codes " goal " ++ (decimal h.goal ++ []) in
+    let r3 = codes " seed " ++ (decimal h.seed ++ r4) in
+    let r2 = codes " rate " ++ (decimal h.rate ++ r3) in
+    let r1 = codes " procs " ++ (decimal h.procs ++ r2) in
+    let l5 = field_length (codes " goal ") [] h.goal 5 (omega arith) (omega arith) (omega arith) in
+    let l4 = field_length (codes " seed ") r4 h.seed 20 (omega arith) (omega arith) (omega arith) in
+    let l3 = field_length (codes " rate ") r3 h.rate 10 (omega arith) (omega arith) (omega arith) in
+    let l2 = field_length (codes " procs ") r2 h.procs 2 (omega arith) (omega arith) (omega arith) in
+    let l1 = field_length (codes "heap ") r1 h.chunks 3 (omega arith) (omega arith) (omega arith) in (
+      omega arith,
+      field_apart (codes "heap ") r1 h.chunks refl (omega arith) (field_apart (codes " procs ") r2 h.procs refl (omega arith) (field_apart (codes " rate ") r3 h.rate refl (omega arith)
+          (field_apart (codes " seed ") r4 h.seed refl (omega arith) (field_apart (codes " goal ") [] h.goal refl (omega arith) tt)))),
+    )
+
+-- No fault
+
+none_of : (a b c d e : Option TraceFault) → a ≡ None → b ≡ None → c ≡ None → d ≡ None → e ≡ None → first_of (a ∷ b ∷ c ∷ d ∷ e ∷ []) ≡ None
+none_of a b c d e p q r s t = rw (p, q, r, s, t) refl
+
+pub fault_none : (later : Statement → Bool) (past : List Statement) (s : Statement) → may_follow past s ≡ true → passed (numbers_within past s) ≡ None → later s ≡ false → passed (counts_within past s) ≡ None
+    → bad_mark past s ≡ None → (n : ℕ) → statement_fault later n past s ≡ None
+fault_none later past s follows low built few live n = none_of _ _ _ _ _
+    (ap (λ (b : Bool). fault_if (not b) (Malformed n)) follows) (ap (λ (o : Option Which). option_map (λ which. Limit n which) o) low) (ap (λ (b : Bool). fault_if b (Later n)) built)
+    (ap (λ (o : Option Which). option_map (λ which. Limit n which) o) few) (ap (λ (o : Option ℕ). option_map (λ i. BadMark n i) o) live)
+
+pub pass : (which : Which) (test : Bool) (rest : List (Which × Bool)) → test ≡ true → passed rest ≡ None → passed ((which, test) ∷ rest) ≡ None
+pass which test rest e f = rw e f
+
+pub within_true : (least most n : ℕ) → least ≤ n → n ≤ most → within least most n ≡ true
+within_true least most n low high = both (nat_le least n) (nat_le n most) (at_most least n low) (at_most n most high) where
+  at_most : (a b : ℕ) → a ≤ b → nat_le a b ≡ true
+  at_most a b le = grind (arith, nat_tests)
+
+pub at_most : (a b : ℕ) → a ≤ b → nat_le a b ≡ true
+at_most a b le = grind (arith, nat_tests)
+
+-- The first two lines
+
+pub title_good : (later : Statement → Bool) → later Title ≡ false → AreGood later [] (Title ∷ [])
+title_good later built = (record { is_line = (omega arith, apart_test (codes "goheap 1") refl); says = said_line Title tt; not_end = refl; no_fault = fault_none later [] Title refl refl built refl refl }, tt)
+
+pub header_good : (later : Statement → Bool) (h : Header) → HeaderFits h → later (heap_of h) ≡ false → AreGood later (Title ∷ []) (heap_of h ∷ [])
+header_good later h fits built =
+    let chunks = fits.chunks in
+    let procs = fits.procs in
+    let rate = fits.rate in
+    let seed = fits.seed in
+    let goal = fits.goal in (
+      record {
+        is_line = heap_is_line h fits;
+        says = said_line (heap_of h) (omega arith, (omega arith, (omega arith, (omega arith, (omega arith, tt)))));
+        not_end = refl;
+        no_fault = fault_none later (Title ∷ []) (heap_of h) refl
+            (pass _ _ _ (within_true 1 128 h.chunks chunks.0 chunks.1) (pass _ _ _ (within_true 1 64 h.procs procs.0 procs.1) (pass _ _ _ (at_most h.rate (2 ^ 30) rate)
+            (pass _ _ _ (below_true h.seed (2 ^ 64) seed) (pass _ _ _ (at_most h.goal 65536 goal) refl))))) built refl refl;
+      },
+      tt,
+    )
+
+later_false : (p r g c : ℕ) → p ≡ 1 → r ≡ 0 → 512 * c ≤ g → (not (p == 1) || (not (r == 0) || nat_lt g (512 * c))) ≡ false
+later_false p r g c e f l = rw (e, f) (below_false g (512 * c) l)
+
+pub plain_header : (h : Header) → (h.procs ≡ 1) × (h.rate ≡ 0) × (512 * h.chunks ≤ h.goal) → needs_later (heap_of h) ≡ false
+plain_header h plain = later_false h.procs h.rate h.goal h.chunks plain.0 plain.1 plain.2
+
+-- The events
+
+pub short_event : (procs : ℕ) (e : Event) → procs < 2 ^ 32 → EventFits procs e → Short (alloc_of e)
+short_event procs e low fits =
+    let proc = fits.proc in
+    let size = fits.size in
+    let stack = fits.stack in
+    (omega arith, (omega arith, (omega arith, tt)))
+
+follows_alloc : (past : List Statement) (procs objects : ℕ) (e : AllocForm) → AreEvents past procs objects → may_follow past (Alloc e) ≡ true
+follows_alloc [] procs objects e events = absurd events
+follows_alloc (a ∷ []) procs objects e events = absurd events
+follows_alloc (a ∷ b ∷ past) procs objects e events = refl
+
+the_procs : (past : List Statement) (procs objects : ℕ) → AreEvents past procs objects → procs_of past ≡ procs
+the_procs [] procs objects events = absurd events
+the_procs (a ∷ []) procs objects events = absurd events
+the_procs (a ∷ b ∷ past) procs objects events = events.0
+
+the_objects : (past : List Statement) (procs objects : ℕ) → AreEvents past procs objects → objects_of past ≡ objects
+the_objects [] procs objects events = absurd events
+the_objects (a ∷ []) procs objects events = absurd events
+the_objects (a ∷ b ∷ past) procs objects events = events.1
+
+one_more : (past : List Statement) (procs objects : ℕ) (e : AllocForm) → AreEvents past procs objects → AreEvents (Alloc e ∷ past) procs (objects + 1)
+one_more [] procs objects e events = absurd events
+one_more (a ∷ []) procs objects e events = absurd events
+one_more (a ∷ b ∷ past) procs objects e events = (events.0, ap (λ (k : ℕ). k + 1) events.1, λ lo. refl)
+
+event_good : (later : Statement → Bool) (past : List Statement) (procs objects : ℕ) (e : Event) → procs < 2 ^ 32 → AreEvents past procs objects → EventFits procs e → later (alloc_of e) ≡ false → objects < 1000000
+    → IsGood later past (alloc_of e)
+event_good later past procs objects e low events fits built few =
+    let short = short_event procs e low fits in
+    let here = the_procs past procs objects events in
+    let count = the_objects past procs objects events in
+    let proc = fits.proc in
+    record {
+      is_line = alloc_is_line (form_of e) short;
+      says = said_line (alloc_of e) short;
+      not_end = refl;
+      no_fault = fault_none later past (alloc_of e) (follows_alloc past procs objects (form_of e) events)
+          (pass _ _ _ (below_true e.proc (procs_of past) (rw here proc)) (pass _ _ _ (at_most e.size (2 ^ 40) fits.size) (pass _ _ _ (at_most e.stack 999999 fits.stack) refl))) built
+          (pass _ _ _ (below_true (objects_of past) 1000000 (rw count few)) refl) refl;
+    }
+
+pub events_good : (later : Statement → Bool) (past : List Statement) (procs objects : ℕ) (events : List Event) → procs < 2 ^ 32 → AreEvents past procs objects → AllByRecursion (EventFits procs) events
+    → AllByRecursion (λ e. later (alloc_of e) ≡ false) events → objects + length events ≤ 1000000 → AreGood later past (map alloc_of events)
+events_good later past procs objects [] low are fits built few = tt
+events_good later past procs objects (e ∷ es) low are fits built few = (
+  event_good later past procs objects e low are fits.0 built.0 (omega arith),
+  events_good later (alloc_of e ∷ past) procs (objects + 1) es low (one_more past procs objects (form_of e) are) fits.1 built.1 (omega arith),
+)
+
+pub events_after : (past : List Statement) (procs objects : ℕ) (events : List Event) → AreEvents past procs objects → AreEvents (onto (map alloc_of events) past) procs (objects + length events)
+events_after past procs objects [] are = subst (AreEvents past procs) (omega arith) are
+events_after past procs objects (e ∷ es) are =
+    let count : objects + 1 + length es ≡ objects + length (e ∷ es) = omega arith in
+    subst (AreEvents (onto (map alloc_of es) (alloc_of e ∷ past)) procs) count (events_after (alloc_of e ∷ past) procs (objects + 1) es (one_more past procs objects (form_of e) are))
+
+pub events_lines : (procs : ℕ) (events : List Event) → procs < 2 ^ 32 → AllByRecursion (EventFits procs) events → AllByRecursion IsLine (map line_for (map alloc_of events))
+events_lines procs [] low fits = tt
+events_lines procs (e ∷ es) low fits = (alloc_is_line (form_of e) (short_event procs e low fits.0), events_lines procs es low fits.1)
+
+pub small_events : (events : List Event) → AllByRecursion (λ e. e.size ≤ 32768) events → AllByRecursion (λ e. needs_later (alloc_of e) ≡ false) events
+small_events [] small = tt
+small_events (e ∷ es) small = (below_false 32768 e.size small.0, small_events es small.1)
+
+-- what has been read of the events, with what is built
+pub read_good : (past : List Statement) (procs : ℕ) (events : List Event) → procs < 2 ^ 32 → AreEvents past procs 0 → AllByRecursion (EventFits procs) events
+    → AllByRecursion (λ e. e.size ≤ 32768) events → length events ≤ 1000000 → AreGood needs_later past (map alloc_of events)
+read_good past procs events low are fits small few = events_good needs_later past procs 0 events low are fits (small_events events small) (omega arith)
+
+pub lines_of_good : (later : Statement → Bool) (past ss : List Statement) → AreGood later past ss → AllByRecursion IsLine (map line_for ss)
+lines_of_good later past [] good = tt
+lines_of_good later past (s ∷ ss) good = (good.0.is_line, lines_of_good later (s ∷ past) ss good.1)
+
+-- Lines of mark ends
+
+pub gc_is_line : (d : ℕ) → Short (Gc d) → IsLine (line_for (Gc d))
+gc_is_line d short =
+    let l1 = field_length (codes "gc ") [] d 20 (omega arith) short.0 short.0 in
+    (omega arith, field_apart (codes "gc ") [] d refl short.0 tt)
+
+pub mark_is_line : (lo hi : ℕ) → Short (Mark lo hi) → IsLine (line_for (Mark lo hi))
+mark_is_line lo hi short =
+    let r1 = codes " " ++ (decimal hi ++ []) in
+    let l2 = field_length (codes " ") [] hi 20 (omega arith) short.1.0 short.1.0 in
+    let l1 = field_length (codes "m ") r1 lo 20 (omega arith) short.0 short.0 in
+    (omega arith, field_apart (codes "m ") r1 lo refl short.0 (field_apart (codes " ") [] hi refl short.1.0 tt))
+
+pub end_is_line : IsLine (line_for End)
+end_is_line = (omega arith, apart_test (codes "end") refl)

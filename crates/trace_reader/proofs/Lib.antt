@@ -1,0 +1,12 @@
+pub mod Rows
+pub mod Digits
+pub mod Forms
+pub mod Saying
+pub mod Judging
+pub mod Reading
+pub mod Good
+pub mod Plain
+pub mod Cycles
+pub mod Whole
+pub mod One
+pub mod Complete

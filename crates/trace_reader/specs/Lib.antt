@@ -1,0 +1,7 @@
+pub mod Spelling
+pub mod Words
+pub mod Says
+pub mod Refusal
+pub mod Limits
+pub mod Taken
+pub mod Read

@@ -1,0 +1,16 @@
+-- What stands at the front of bytes.
+use Rattle.std.specs.Prelude.{◌≡◌, ℕ, ◌^◌, ◌<◌, ◌≤◌, ◌⊎◌, List, [], ◌∷◌, ◌++◌, decimal}
+
+abbrev pub IsDigit : ℕ → Type 0
+IsDigit byte = (48 ≤ byte) × (byte ≤ 57)
+
+-- no digit stands first
+abbrev pub NoDigitFirst : List ℕ → Type 0
+NoDigitFirst [] = Unit {0}
+NoDigitFirst (byte ∷ rest) = (byte < 48) ⊎ (57 < byte)
+
+-- the text, then the number with all its digits, then the rest; a number has up to 20 digits
+pub record IsField (text bytes : List ℕ) (n : ℕ) (rest : List ℕ) : Type 0 where
+  pub spelled : bytes ≡ text ++ (decimal n ++ rest)
+  pub small : n < 10 ^ 20
+  pub ended : NoDigitFirst rest

@@ -1,0 +1,21 @@
+//! Traces of a heap, as text.
+#![tactic(auto)]
+
+mod fault;
+mod laws;
+mod limits;
+mod reader;
+mod statement;
+mod trace;
+mod words;
+
+pub use fault::{TraceFault, Which};
+pub use laws::{
+    a_trace_has_one_spelling, bytes_spell_one_trace, what_is_refused_spells_no_trace,
+    what_is_spelled_is_not_refused,
+};
+pub use reader::{expect_end, read_trace};
+pub use trace::{Cycle, Event, Header, MarkEnd, Span, Trace};
+
+#[cfg(test)]
+mod tests;

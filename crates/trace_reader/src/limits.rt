@@ -1,0 +1,163 @@
+//! The numbers of a line against their limits, and what is not built yet.
+
+ghost use Rattle.std.specs.Prelude.{
+  ◌≡◌,
+  ◌≢◌,
+  ◌*◌,
+  ◌<◌,
+  ◌≤◌,
+  [],
+  ◌∷◌,
+  List,
+  ℕ,
+  Some,
+  IfErr,
+  IfOk,
+  MatchOption,
+  MatchBool,
+};
+ghost use Rattle.std.specs.Option.{option_map};
+ghost use Rattle.trace_reader.specs.declared.fault.TraceFault.TheVariants.{Limit, Malformed, ReadFault};
+ghost use Rattle.trace_reader.specs.declared.statement.Statement.{Statement as Said};
+ghost use Rattle.trace_reader.specs.declared.statement.Statement.TheVariants.{Alloc, End, Gc, Heap, Title};
+ghost use Rattle.trace_reader.specs.Spelling.{alloc_of, heap_of};
+ghost use Rattle.trace_reader.specs.Limits.{EventFits, HeaderFits};
+ghost use Rattle.trace_reader.specs.Says.{said};
+ghost use Rattle.trace_reader.specs.Refusal.{AreEvents, event_numbers, header_numbers, needs_later, passed, said_fault};
+ghost use Rattle.trace_reader.specs.Taken.{NoReadFault};
+
+use crate::fault::{TraceFault, Which};
+use crate::statement::{AllocForm, HeapForm, Statement, statement_of};
+use crate::trace::{Event, Header};
+
+/// The most objects of a trace.
+const MAX_OBJECTS: usize = 1_000_000;
+
+/// The largest size that is built, in bytes.
+const MAX_SMALL: u64 = 32768;
+
+/// Whether the line is the first one of a trace.
+pub(crate) fn is_title(line: &[u8]) -> bool
+    ensures { MatchBool result
+        (said line.now ≡ Some Title)
+        ((number : ℕ) → said_fault needs_later number [] (said line.now) ≡ Some (Malformed number)) }
+{
+    matches!(statement_of(line), Some(Statement::Title))
+}
+
+/// The header that the second line has, or what is wrong with it.
+pub(crate) fn header_of(line: &[u8], number: u64) -> Result<Header, TraceFault>
+    ensures says { IfOk result (λ h. said line.now ≡ Some (heap_of h)) }
+    ensures fits { IfOk result (λ h. HeaderFits h) }
+    ensures plain { IfOk result (λ h. (h.procs ≡ 1) × (h.rate ≡ 0) × (512 * h.chunks ≤ h.goal)) }
+    ensures no_read { NoReadFault result }
+    ensures fault { IfErr result (λ fault. said_fault needs_later number (Title ∷ []) (said line.now) ≡ Some fault) }
+{
+    let Some(Statement::Heap(form)) = statement_of(line) else {
+        return Err(TraceFault::Malformed(number));
+    };
+    let header = limited_header(form, number)?;
+    if header.procs != 1 || header.rate != 0 || header.goal < 512 * header.chunks {
+        return Err(TraceFault::Later(number));
+    }
+    Ok(header)
+}
+
+/// The event that a line behind the header has, none for the last line, or what is wrong with it. So many objects came before.
+pub(crate) fn event_of(
+    line: &[u8],
+    number: u64,
+    procs: u32,
+    objects: usize,
+) -> Result<Option<Event>, TraceFault>
+    ensures end { IfOk result (λ found. MatchOption found (said line.now ≡ Some End) (λ e. said line.now ≡ Some (alloc_of e))) }
+    ensures fits { IfOk result (λ found. MatchOption found (Unit {0}) (λ e. EventFits procs e × (e.size ≤ 32768))) }
+    ensures few { IfOk result (λ found. MatchOption found (Unit {0}) (λ e. objects < 1000000)) }
+    ensures no_read { NoReadFault result }
+    ensures fault { IfErr result (λ fault. (past : List Said) → AreEvents past procs objects
+        → said_fault needs_later number past (said line.now) ≡ Some fault) }
+{
+    match statement_of(line) {
+        Some(Statement::End) => Ok(None),
+        Some(Statement::Alloc(form)) => {
+            let event = limited_event(form, number, procs)?;
+            if event.size > MAX_SMALL {
+                return Err(TraceFault::Later(number));
+            }
+            if objects >= MAX_OBJECTS {
+                return Err(TraceFault::Limit(number, Which::Objects));
+            }
+            Ok(Some(event))
+        }
+        Some(Statement::Gc(distance)) => Err(mark_end_fault(distance, number)),
+        _ => Err(TraceFault::Malformed(number)),
+    }
+}
+
+// The header of these numbers, or the first that is past its limit.
+fn limited_header(form: HeapForm, number: u64) -> Result<Header, TraceFault>
+    ensures header { IfOk result (λ h. heap_of h ≡ Heap form) }
+    ensures fits { IfOk result (λ h. HeaderFits h) }
+    ensures no_read { NoReadFault result }
+    ensures fault { IfErr result (λ fault. option_map (λ which. Limit number which) (passed (header_numbers form)) ≡ Some fault) }
+{
+    if form.chunks < 1 || form.chunks > 128 {
+        return Err(TraceFault::Limit(number, Which::Chunks));
+    }
+    if form.procs < 1 || form.procs > 64 {
+        return Err(TraceFault::Limit(number, Which::Procs));
+    }
+    if form.rate > 1 << 30 {
+        return Err(TraceFault::Limit(number, Which::Rate));
+    }
+    if form.seed > u128::from(u64::MAX) {
+        return Err(TraceFault::Limit(number, Which::Seed));
+    }
+    if form.goal > 65536 {
+        return Err(TraceFault::Limit(number, Which::Goal));
+    }
+    Ok(Header {
+        chunks: form.chunks as u32,
+        procs: form.procs as u32,
+        rate: form.rate as u64,
+        seed: form.seed as u64,
+        goal: form.goal as u32,
+    })
+}
+
+// The event of these numbers, or the first that is past its limit.
+fn limited_event(form: AllocForm, number: u64, procs: u32) -> Result<Event, TraceFault>
+    ensures event { IfOk result (λ e. alloc_of e ≡ Alloc form) }
+    ensures fits { IfOk result (λ e. EventFits procs e) }
+    ensures no_read { NoReadFault result }
+    ensures fault { IfErr result (λ fault. option_map (λ which. Limit number which) (passed (event_numbers procs form)) ≡ Some fault) }
+{
+    if form.proc >= u128::from(procs) {
+        return Err(TraceFault::Limit(number, Which::Proc));
+    }
+    if form.size > 1 << 40 {
+        return Err(TraceFault::Limit(number, Which::Size));
+    }
+    if form.stack > 999_999 {
+        return Err(TraceFault::Limit(number, Which::Stack));
+    }
+    Ok(Event {
+        proc: form.proc as u32,
+        size: form.size as u64,
+        scan: form.scan,
+        stack: form.stack as u32,
+    })
+}
+
+// Why a mark end is refused: it is past its limit, or else not built yet.
+fn mark_end_fault(distance: u128, number: u64) -> TraceFault
+    ensures no_read { result ≢ ReadFault }
+    ensures fault { (past : List Said) (procs objects : ℕ) → AreEvents past procs objects
+        → said_fault needs_later number past (Some (Gc distance)) ≡ Some result }
+{
+    if distance < 1 || distance > 1 << 40 {
+        TraceFault::Limit(number, Which::Distance)
+    } else {
+        TraceFault::Later(number)
+    }
+}
