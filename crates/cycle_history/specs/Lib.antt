@@ -1,0 +1,10 @@
+pub mod First
+pub mod Needs
+pub mod Requests
+pub mod Objects
+pub mod Rules
+pub mod Sound
+pub mod Broken
+pub mod Text
+pub mod Run
+pub mod Spans

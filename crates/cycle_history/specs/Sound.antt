@@ -1,0 +1,56 @@
+-- Sound reports, and reports that use what they take.
+use Rattle.std.specs.Prelude.{◌≡◌, ℕ, ◌<◌, ◌≤◌, true, List, map, reverse, ◌⊎◌}
+use Rattle.page_bitmap.specs.declared.line.Line.{Line}
+use Rattle.page_alloc.specs.Lists.{In}
+use Rattle.page_alloc.specs.Journal.{past_of, Life, all_lives, at_end, IsBy, Legal, backed, IsLoose}
+use Rattle.trace_reader.specs.declared.trace.Trace.{Trace}
+use Rattle.cycle_history.specs.declared.Report.{Report}
+use Rattle.cycle_history.specs.Requests.{requests_of, marked_by, last_cycle, region_of}
+use Rattle.cycle_history.specs.Objects.{Object, is_placed}
+use Rattle.cycle_history.specs.Rules.{AreAnswered, AreMissed, AreSeated, AreApart, AreFilled}
+
+-- The past that a report's journal tells, with the newest line first.
+abbrev pub past_in : Report → List Line
+past_in report = past_of report.journal
+
+-- Rule 1. The objects are those of the trace's requests, and their answers are the report's.
+pub record HasAnswers (t : Trace) (report : Report) (objects : List Object) : Type 0 where
+  pub asked : AreAnswered (requests_of t) objects
+  pub printed : map (λ (o : Object). o.answer) objects ≡ reverse report.answers
+
+-- Rule 2. The journal is one that pages of the trace's region and goal can have, by the trace's last cycle.
+pub record HasJournal (t : Trace) (report : Report) : Type 0 where
+  pub legal : Legal (region_of t) t.header.goal (past_in report)
+  pub cycles : IsBy (last_cycle t) (past_in report)
+
+-- A report is sound, by these objects with their seats, where it meets each rule; the rules 7 to 9 on sweeps, totals
+-- and the profile come with the lines that they judge.
+pub record IsSound (t : Trace) (report : Report) (objects : List Object) : Type 0 where
+  pub answers : HasAnswers t report objects
+  pub journal : HasJournal t report
+  pub misses : AreMissed (past_in report) objects
+  pub places : AreSeated (marked_by t) (past_in report) objects
+  pub apart : AreApart (marked_by t) objects
+  pub filling : AreFilled (marked_by t) objects
+
+-- An object of the life's own cycle sits at its index 0.
+abbrev pub IsWanted : List Object → Life → Type 0
+IsWanted objects life = (o : Object) × In o objects × (is_placed o.answer ≡ true) × (o.life ≡ life.number) × (o.index ≡ 0) × (o.cycle ≡ life.cycle)
+
+-- Each life is one that an object asked for.
+abbrev pub AllWanted : List Line → List Object → Type 0
+AllWanted past objects = (life : Life) → In life (all_lives past) → IsWanted objects life
+
+-- The backed pages are at most the goal, or no page of the region is free and unscavenged.
+abbrev pub IsScavenged : ℕ → ℕ → List Line → Type 0
+IsScavenged region goal past = (backed region past ≤ goal) ⊎ ((p : ℕ) → p < region → ¬ IsLoose past p)
+
+-- A report is used, by these objects with their seats, where each life is wanted, and the pages are scavenged to the
+-- goal as each cycle ends.
+pub record IsUsed (t : Trace) (report : Report) (objects : List Object) : Type 0 where
+  pub wanted : AllWanted (past_in report) objects
+  pub scavenged : (c : ℕ) → c ≤ last_cycle t → IsScavenged (region_of t) t.header.goal (at_end c (past_in report))
+
+-- A report is sound and used where some objects with their seats show it.
+abbrev pub IsSoundAndUsed : Trace → Report → Type 0
+IsSoundAndUsed t report = (objects : List Object) × IsSound t report objects × IsUsed t report objects

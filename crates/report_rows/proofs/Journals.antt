@@ -1,0 +1,178 @@
+-- A test of whether a journal is legal.
+use Rattle.std.proofs.Common.{◌≡◌, ℕ, ◌+◌, ◌-◌, ◌/◌, ◌%◌, ◌<◌, ◌≤◌, Bool, true, false, not, leb, ltb, eqb, List, [], ◌∷◌, refl, arith, ◌⊎◌, Decides, Option, Some, None}
+use Rattle.std.proofs.lemmas.Bool.{false≢true, le-leb, leb-true}
+use Rattle.std.proofs.lemmas.Bool.Decides.{Decides-like, Decides-not, Decides-ltb, Decides-eqb}
+use Rattle.page_bitmap.specs.declared.line.Line.{Line}
+use Rattle.page_bitmap.specs.declared.line.Line.TheVariants.{Take, Miss, Give, Scav}
+use Rattle.size_classes.specs.Classes.{pages_of}
+use Rattle.page_alloc.specs.Lists.{In}
+use Rattle.page_alloc.specs.Journal.{owner, unscavenged, backed, Life, open_lives, cycle_of, IsFree, IsFirstFit, HasNoRun, IsSpanSize, IsLoose, IsScavengeRun, MayFollow, IsBy, Legal}
+use Rattle.report_rows.proofs.Tests.{Decides-then, Decides-else, Decides-implies, all_below, any_in, all_from, Decides-any, Decides-below, Decides-from}
+
+pub Decides-leb : (a b : ℕ) → Decides (leb a b) (a ≤ b)
+Decides-leb a b = (λ h. leb-true a b h, λ le. le-leb a b le)
+
+abbrev pub is_nothing : Option ℕ → Bool
+is_nothing None = true
+is_nothing (Some n) = false
+
+Decides-nothing : (o : Option ℕ) → Decides (is_nothing o) (o ≡ None)
+Decides-nothing None = (λ h. refl, λ e. refl)
+Decides-nothing (Some n) = (λ h. absurd (false≢true h), λ e. cc)
+
+Decides-Bool : (b : Bool) → Decides b (b ≡ true)
+Decides-Bool b = (λ h. h, λ h. h)
+
+-- ---- free runs
+
+abbrev pub is_free : ℕ → List Line → ℕ → ℕ → Bool
+is_free region past page pages = elim (leb (page + pages) region) [ true ↦ all_from (λ p. is_nothing (owner past p)) page pages | false ↦ false ]
+
+pub Decides-free : (region : ℕ) (past : List Line) (page pages : ℕ) → Decides (is_free region past page pages) (IsFree region past page pages)
+Decides-free region past page pages =
+    Decides-like (is_free region past page pages)
+    (λ (both : (page + pages ≤ region) × ((p : ℕ) → page ≤ p → p < page + pages → owner past p ≡ None)). record { inside = both.0; free = both.1 })
+    (λ h. (h.inside, h.free))
+    (Decides-then (leb (page + pages) region) (all_from (λ p. is_nothing (owner past p)) page pages) (Decides-leb (page + pages) region)
+    (Decides-from (λ p. is_nothing (owner past p)) (λ p. owner past p ≡ None) (λ p. Decides-nothing (owner past p)) page pages))
+
+abbrev pub is_first_fit : ℕ → List Line → ℕ → ℕ → Bool
+is_first_fit region past page pages = elim (is_free region past page pages) [ true ↦ all_below (λ q. not (is_free region past q pages)) page | false ↦ false ]
+
+pub Decides-first_fit : (region : ℕ) (past : List Line) (page pages : ℕ) → Decides (is_first_fit region past page pages) (IsFirstFit region past page pages)
+Decides-first_fit region past page pages =
+    Decides-like (is_first_fit region past page pages)
+    (λ (both : IsFree region past page pages × ((q : ℕ) → q < page → ¬ IsFree region past q pages)). record { here = both.0; least = both.1 })
+    (λ h. (h.here, h.least))
+    (Decides-then (is_free region past page pages) (all_below (λ q. not (is_free region past q pages)) page) (Decides-free region past page pages)
+    (Decides-below (λ q. not (is_free region past q pages)) (λ q. ¬ IsFree region past q pages) (λ q. Decides-not (is_free region past q pages) (Decides-free region past q pages)) page))
+
+abbrev pub has_no_run : ℕ → List Line → ℕ → Bool
+has_no_run region past pages = all_below (λ q. not (is_free region past q pages)) (region + 1 - pages)
+
+pub Decides-no_run : (region : ℕ) (past : List Line) (pages : ℕ) → Decides (has_no_run region past pages) (HasNoRun region past pages)
+Decides-no_run region past pages =
+    Decides-like (has_no_run region past pages)
+    (λ (below : (q : ℕ) → q < region + 1 - pages → ¬ IsFree region past q pages). λ page free. (let room = free.inside in below page (omega arith) free))
+    (λ h. λ q lt. h q)
+    (Decides-below (λ q. not (is_free region past q pages)) (λ q. ¬ IsFree region past q pages) (λ q. Decides-not (is_free region past q pages) (Decides-free region past q pages)) (region + 1 - pages))
+
+-- ---- spans
+
+abbrev pub is_class : ℕ → Bool
+is_class class = elim (leb 1 class) [ true ↦ leb class 67 | false ↦ false ]
+
+abbrev pub is_small_size : ℕ → ℕ → Bool
+is_small_size class pages = elim (leb 2 class) [ true ↦ elim (is_class (class / 2)) [ true ↦ eqb pages (pages_of (class / 2)) | false ↦ false ] | false ↦ true ]
+
+abbrev pub is_large_size : ℕ → ℕ → Bool
+is_large_size class pages = elim (ltb class 2) [ true ↦ leb 5 pages | false ↦ true ]
+
+abbrev pub is_span_size : ℕ → ℕ → Bool
+is_span_size class pages = elim (is_small_size class pages) [ true ↦ is_large_size class pages | false ↦ false ]
+
+pub Decides-span_size : (class pages : ℕ) → Decides (is_span_size class pages) (IsSpanSize class pages)
+Decides-span_size class pages =
+    Decides-then (is_small_size class pages) (is_large_size class pages)
+    (Decides-implies (leb 2 class) (elim (is_class (class / 2)) [ true ↦ eqb pages (pages_of (class / 2)) | false ↦ false ]) (Decides-leb 2 class)
+    (Decides-then (is_class (class / 2)) (eqb pages (pages_of (class / 2)))
+    (Decides-then (leb 1 (class / 2)) (leb (class / 2) 67) (Decides-leb 1 (class / 2)) (Decides-leb (class / 2) 67))
+    (Decides-eqb pages (pages_of (class / 2)))))
+    (Decides-implies (ltb class 2) (leb 5 pages) (Decides-ltb class 2) (Decides-leb 5 pages))
+
+-- ---- scavenging
+
+abbrev pub is_loose : List Line → ℕ → Bool
+is_loose past p = elim (is_nothing (owner past p)) [ true ↦ unscavenged past p | false ↦ false ]
+
+pub Decides-loose : (past : List Line) (p : ℕ) → Decides (is_loose past p) (IsLoose past p)
+Decides-loose past p = Decides-then (is_nothing (owner past p)) (unscavenged past p) (Decides-nothing (owner past p)) (Decides-Bool (unscavenged past p))
+
+abbrev pub is_cut_off : List Line → ℕ → Bool
+is_cut_off past page = elim (eqb (page % 512) 0) [ true ↦ true | false ↦ not (is_loose past (page - 1)) ]
+
+abbrev pub is_longest : List Line → ℕ → ℕ → Bool
+is_longest past page pages = elim (eqb pages 64) [ true ↦ true | false ↦ is_cut_off past page ]
+
+abbrev pub is_top : ℕ → List Line → ℕ → ℕ → Bool
+is_top region past page pages = elim (all_from (λ p. not (is_loose past p)) (page + pages) (region - (page + pages))) [ true ↦ elim (eqb (page / 512) ((page + pages - 1) / 512)) [ true ↦ is_longest past page pages | false ↦ false ] | false ↦ false ]
+
+abbrev pub is_loose_run : ℕ → List Line → ℕ → ℕ → Bool
+is_loose_run region past page pages = elim (leb pages 64) [ true ↦ elim (all_from (is_loose past) page pages) [ true ↦ is_top region past page pages | false ↦ false ] | false ↦ false ]
+
+abbrev pub is_scavenge_run : ℕ → List Line → ℕ → ℕ → Bool
+is_scavenge_run region past page pages = elim (leb (page + pages) region) [ true ↦ elim (leb 1 pages) [ true ↦ is_loose_run region past page pages | false ↦ false ] | false ↦ false ]
+
+Decides-longest : (past : List Line) (page pages : ℕ) → Decides (is_longest past page pages) ((pages ≡ 64) ⊎ ((page % 512 ≡ 0) ⊎ (¬ IsLoose past (page - 1))))
+Decides-longest past page pages =
+    Decides-else (eqb pages 64) (is_cut_off past page) (Decides-eqb pages 64)
+    (Decides-else (eqb (page % 512) 0) (not (is_loose past (page - 1))) (Decides-eqb (page % 512) 0) (Decides-not (is_loose past (page - 1)) (Decides-loose past (page - 1))))
+
+pub Decides-scavenge_run : (region : ℕ) (past : List Line) (page pages : ℕ) → Decides (is_scavenge_run region past page pages) (IsScavengeRun region past page pages)
+Decides-scavenge_run region past page pages =
+    let highest : Decides (all_from (λ p. not (is_loose past p)) (page + pages) (region - (page + pages))) ((p : ℕ) → page + pages ≤ p → p < page + pages + (region - (page + pages)) → ¬ IsLoose past p) =
+    Decides-from (λ p. not (is_loose past p)) (λ p. ¬ IsLoose past p) (λ p. Decides-not (is_loose past p) (Decides-loose past p)) (page + pages) (region - (page + pages)) in
+    Decides-like (is_scavenge_run region past page pages)
+    (λ (h : (page + pages ≤ region) × ((1 ≤ pages) × ((pages ≤ 64) × (((p : ℕ) → page ≤ p → p < page + pages → IsLoose past p)
+    × (((p : ℕ) → page + pages ≤ p → p < page + pages + (region - (page + pages)) → ¬ IsLoose past p)
+    × ((page / 512 ≡ (page + pages - 1) / 512) × ((pages ≡ 64) ⊎ ((page % 512 ≡ 0) ⊎ (¬ IsLoose past (page - 1)))))))))).
+    (let inside = h.0 in record {
+      inside = h.0;
+      some = h.1.0;
+      few = h.1.1.0;
+      loose = h.1.1.1.0;
+      highest = λ p low high. h.1.1.1.1.0 p low (omega arith);
+      chunk = h.1.1.1.1.1.0;
+      longest = h.1.1.1.1.1.1;
+    }))
+    (λ h. (let inside = h.inside in (h.inside, (h.some, (h.few, (h.loose, ((λ p low high. h.highest p low (omega arith)), (h.chunk, h.longest))))))))
+    (Decides-then (leb (page + pages) region) (elim (leb 1 pages) [ true ↦ is_loose_run region past page pages | false ↦ false ]) (Decides-leb (page + pages) region)
+    (Decides-then (leb 1 pages) (is_loose_run region past page pages) (Decides-leb 1 pages)
+    (Decides-then (leb pages 64) (elim (all_from (is_loose past) page pages) [ true ↦ is_top region past page pages | false ↦ false ]) (Decides-leb pages 64)
+    (Decides-then (all_from (is_loose past) page pages) (is_top region past page pages) (Decides-from (is_loose past) (IsLoose past) (Decides-loose past) page pages)
+    (Decides-then (all_from (λ p. not (is_loose past p)) (page + pages) (region - (page + pages))) (elim (eqb (page / 512) ((page + pages - 1) / 512)) [ true ↦ is_longest past page pages | false ↦ false ]) highest
+    (Decides-then (eqb (page / 512) ((page + pages - 1) / 512)) (is_longest past page pages) (Decides-eqb (page / 512) ((page + pages - 1) / 512)) (Decides-longest past page pages)))))))
+
+-- ---- lines
+
+abbrev pub is_span : ℕ → ℕ → Life → Bool
+is_span page pages life = elim (eqb life.page page) [ true ↦ eqb life.pages pages | false ↦ false ]
+
+abbrev pub may_follow : ℕ → ℕ → List Line → Line → Bool
+may_follow region goal past (Take cycle page pages class) = elim (is_span_size class pages) [ true ↦ is_first_fit region past page pages | false ↦ false ]
+may_follow region goal past (Miss cycle pages class) = elim (leb 1 pages) [ true ↦ has_no_run region past pages | false ↦ false ]
+may_follow region goal past (Give cycle page pages) = any_in (is_span page pages) (open_lives past)
+may_follow region goal past (Scav cycle page pages) = elim (ltb goal (backed region past)) [ true ↦ is_scavenge_run region past page pages | false ↦ false ]
+
+pub Decides-follow : (region goal : ℕ) (past : List Line) (line : Line) → Decides (may_follow region goal past line) (MayFollow region goal past line)
+Decides-follow region goal past (Take cycle page pages class) = Decides-then (is_span_size class pages) (is_first_fit region past page pages) (Decides-span_size class pages) (Decides-first_fit region past page pages)
+Decides-follow region goal past (Miss cycle pages class) = Decides-then (leb 1 pages) (has_no_run region past pages) (Decides-leb 1 pages) (Decides-no_run region past pages)
+Decides-follow region goal past (Give cycle page pages) =
+    Decides-like (any_in (is_span page pages) (open_lives past))
+    (λ (h : (life : Life) × In life (open_lives past) × ((life.page ≡ page) × (life.pages ≡ pages))). (h.0, h.1, h.2.0, h.2.1))
+    (λ h. (h.0, h.1, (h.2, h.3)))
+    (Decides-any (is_span page pages) (λ life. (life.page ≡ page) × (life.pages ≡ pages)) (open_lives past)
+    (λ life i. Decides-then (eqb life.page page) (eqb life.pages pages) (Decides-eqb life.page page) (Decides-eqb life.pages pages)))
+Decides-follow region goal past (Scav cycle page pages) =
+    Decides-then (ltb goal (backed region past)) (is_scavenge_run region past page pages) (Decides-ltb goal (backed region past)) (Decides-scavenge_run region past page pages)
+
+abbrev pub is_by : ℕ → List Line → Bool
+is_by c [] = true
+is_by c (line ∷ past) = leb (cycle_of line) c
+
+pub Decides-by : (c : ℕ) (past : List Line) → Decides (is_by c past) (IsBy c past)
+Decides-by c [] = (λ h. tt, λ h. refl)
+Decides-by c (line ∷ past) = Decides-leb (cycle_of line) c
+
+abbrev pub is_legal : ℕ → ℕ → List Line → Bool
+is_legal region goal [] = true
+is_legal region goal (line ∷ past) = elim (may_follow region goal past line) [ true ↦ elim (is_by (cycle_of line) past) [ true ↦ is_legal region goal past | false ↦ false ] | false ↦ false ]
+
+pub Decides-legal : (region goal : ℕ) (past : List Line) → Decides (is_legal region goal past) (Legal region goal past)
+Decides-legal region goal [] = (λ h. tt, λ h. refl)
+Decides-legal region goal (line ∷ past) =
+    Decides-like (is_legal region goal (line ∷ past))
+    (λ (h : MayFollow region goal past line × (IsBy (cycle_of line) past × Legal region goal past)). (h.0, h.1.0, h.1.1))
+    (λ h. (h.0, (h.1, h.2)))
+    (Decides-then (may_follow region goal past line) (elim (is_by (cycle_of line) past) [ true ↦ is_legal region goal past | false ↦ false ]) (Decides-follow region goal past line)
+    (Decides-then (is_by (cycle_of line) past) (is_legal region goal past) (Decides-by (cycle_of line) past) (Decides-legal region goal past)))

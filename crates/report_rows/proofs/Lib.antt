@@ -1,0 +1,11 @@
+pub mod Tests
+pub mod Journals
+pub mod Misses
+pub mod Places
+pub mod Apart
+pub mod Filled
+pub mod Needs
+pub mod Alike
+pub mod Decided
+pub mod Used
+pub mod Rows

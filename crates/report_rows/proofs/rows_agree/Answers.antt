@@ -1,0 +1,15 @@
+use Rattle.report_rows.proofs.Rows.{sounds_agree, marks_agree, answers_agree, journals_agree, misses_agree, places_agree, aparts_agree, fillings_agree, uses_agree}
+use Rattle.report_rows.proofs.rows_agree.Goals as goal
+
+pub returns : goal.returns
+returns c = record {
+  sound = sounds_agree;
+  marked = marks_agree;
+  answers = answers_agree;
+  journals = journals_agree;
+  misses = misses_agree;
+  places = places_agree;
+  apart = aparts_agree;
+  filling = fillings_agree;
+  used = uses_agree;
+}

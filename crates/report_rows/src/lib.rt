@@ -1,0 +1,32 @@
+//! What the rules of a report say of small reports: a table, and a law that the definitions agree with it.
+//!
+//! Each row has a trace and a report, and says that the report is sound, or which rule it breaks first; a row on use says
+//! whether a sound report is used. The law is about the definitions themselves: `proofs/` has tests that decide them,
+//! `Decided.antt` the proof that they do, and the checker computes these tests at each row.
+#![tactic(auto)]
+
+ghost use Rattle.report_rows.specs.Words.{AllAgree, AllUseAgree};
+ghost use Rattle.report_rows.specs.Rows.{
+  answer_rows,
+  apart_rows,
+  filling_rows,
+  journal_rows,
+  marked_rows,
+  miss_rows,
+  place_rows,
+  sound_rows,
+  used_rows,
+};
+
+/// The definitions agree with each row of the table.
+pub fn rows_agree()
+    ensures sound { AllAgree sound_rows }
+    ensures marked { AllAgree marked_rows }
+    ensures answers { AllAgree answer_rows }
+    ensures journals { AllAgree journal_rows }
+    ensures misses { AllAgree miss_rows }
+    ensures places { AllAgree place_rows }
+    ensures apart { AllAgree apart_rows }
+    ensures filling { AllAgree filling_rows }
+    ensures used { AllUseAgree used_rows }
+{}

@@ -1,0 +1,4 @@
+pub mod Hex
+pub mod Put
+pub mod Whole
+pub mod Unique

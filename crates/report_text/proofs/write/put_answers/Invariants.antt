@@ -1,0 +1,13 @@
+use Rattle.std.proofs.Common.{◌≡◌, ◌≤◌, take}
+use Rattle.edge_io.specs.Output.{sink_of, waiting_of}
+use Rattle.edge_io.specs.Text.{text}
+use Rattle.cycle_history.specs.Text.{answer_line, numbered}
+use Rattle.report_text.specs.Sent.{Puts}
+use Rattle.report_text.proofs.write.put_answers.Given as goal
+
+abbrev pub invariant-loop-id : goal.invariant-loop-id
+invariant-loop-id g l = record {
+  same_sink : l.out.sink.ghost_name ≡ l.initial.out.sink.ghost_name;
+  written : Puts (g.K.Sink.held (sink_of l.initial.out)) (g.K.Sink.held (sink_of l.out)) (waiting_of l.initial.out) (waiting_of l.out) (text (numbered answer_line 0 (take l.id l.answers)));
+  faults : g.K.Sink.faults (sink_of l.initial.out) ≤ g.K.Sink.faults (sink_of l.out);
+}

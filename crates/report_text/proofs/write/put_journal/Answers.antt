@@ -1,0 +1,16 @@
+use Rattle.std.proofs.Common.{rules}
+use Rattle.report_text.proofs.Put.{put_more, put_front, on_err}
+use Rattle.cycle_history.specs.Text.{journal_line}
+use Rattle.report_text.proofs.write.put_journal.Goals as goal
+
+pub loop-number-preserved : goal.loop-number-preserved
+loop-number-preserved g c = record {
+  same_sink = search rules;
+  written = put_more journal_line _ _ _ _ _ _ c.args.journal.now c.loop-number.number _ c.loop-number-test.true c.loop-number.invariant.written
+      (rw (c.as_slice.ensures.text, c.push_journal_line.ensures.text) at c.in_ok-put.ensures.ok);
+  faults = search rules;
+}
+
+pub returns-in_err-put-clause-err : goal.returns-in_err-put-clause-err
+returns-in_err-put-clause-err g c = on_err c.from_residual.result
+    (put_front journal_line _ _ _ _ _ _ c.args.journal.now c.loop-number.number c.loop-number.invariant.written c.in_err-put.ensures.err)

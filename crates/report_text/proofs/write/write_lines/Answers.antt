@@ -1,0 +1,23 @@
+use Rattle.std.proofs.Common.{rules}
+use Rattle.std.proofs.lemmas.Result.{on_ok_weaker}
+use Rattle.report_text.proofs.Whole.{answers_fault, journal_fault, end_fault, flush_fault, flushed}
+use Rattle.report_text.proofs.write.write_lines.Goals as goal
+
+pub returns-in_err-put_answers-clause-front : goal.returns-in_err-put_answers-clause-front
+returns-in_err-put_answers-clause-front g c = answers_fault c.args.report.now _ _ _ _ c.requires (rw c.as_slice.ensures at c.in_err-put_answers.ensures.err)
+
+pub returns-in_err-put_journal-clause-front : goal.returns-in_err-put_journal-clause-front
+returns-in_err-put_journal-clause-front g c =
+    journal_fault c.args.report.now _ _ _ _ _ _ c.requires (rw c.as_slice.ensures at c.in_ok-put_answers.ensures.ok) (rw c.as_slice-2.ensures at c.in_err-put_journal.ensures.err)
+
+pub returns-in_err-put-clause-front : goal.returns-in_err-put-clause-front
+returns-in_err-put-clause-front g c =
+    end_fault c.args.report.now _ _ _ _ _ _ _ _ c.requires (rw c.as_slice.ensures at c.in_ok-put_answers.ensures.ok) (rw c.as_slice-2.ensures at c.in_ok-put_journal.ensures.ok) c.in_err-put.ensures.err
+
+pub returns-clause-front : goal.returns-clause-front
+returns-clause-front g c =
+    flush_fault c.args.report.now _ _ _ _ _ _ _ _ _ _ c.requires (rw c.as_slice.ensures at c.in_ok-put_answers.ensures.ok) (rw c.as_slice-2.ensures at c.in_ok-put_journal.ensures.ok) c.in_ok-put.ensures.ok c.flush.ensures.sends
+
+pub returns-clause-ok : goal.returns-clause-ok
+returns-clause-ok g c = on_ok_weaker c.flush.result (λ empty.
+    flushed c.args.report.now _ _ _ _ _ _ _ _ _ _ c.requires (rw c.as_slice.ensures at c.in_ok-put_answers.ensures.ok) (rw c.as_slice-2.ensures at c.in_ok-put_journal.ensures.ok) c.in_ok-put.ensures.ok c.flush.ensures.sends empty) c.flush.ensures.ok

@@ -1,0 +1,31 @@
+-- A text is of at most one report.
+use Rattle.std.specs.Prelude.{◌≡◌, ℕ, ◌^◌, ◌<◌}
+use Rattle.std.specs.List.{AllByRecursion}
+use Rattle.page_bitmap.specs.declared.line.Line.{Line}
+use Rattle.page_bitmap.specs.declared.line.Line.TheVariants.{Take, Miss, Give, Scav}
+use Rattle.cycle_history.specs.declared.Answer.{Answer}
+use Rattle.cycle_history.specs.declared.Answer.TheVariants.{Placed, Zero, Missed}
+use Rattle.cycle_history.specs.declared.Report.{Report}
+use Rattle.cycle_history.specs.Text.{report_text}
+
+-- An answer's number is one of 64 bits.
+abbrev pub AnswerFits : Answer → Type 0
+AnswerFits (Placed address) = address < 2 ^ 64
+AnswerFits Zero = Unit {0}
+AnswerFits (Missed line) = line < 2 ^ 64
+
+-- A journal line's numbers are of 32 bits, and its span class of 8.
+abbrev pub LineFits : Line → Type 0
+LineFits (Take cycle page pages class) = (cycle < 2 ^ 32) × (page < 2 ^ 32) × (pages < 2 ^ 32) × (class < 2 ^ 8)
+LineFits (Miss cycle pages class) = (cycle < 2 ^ 32) × (pages < 2 ^ 32) × (class < 2 ^ 8)
+LineFits (Give cycle page pages) = (cycle < 2 ^ 32) × (page < 2 ^ 32) × (pages < 2 ^ 32)
+LineFits (Scav cycle page pages) = (cycle < 2 ^ 32) × (page < 2 ^ 32) × (pages < 2 ^ 32)
+
+-- Each number of a report fits its type, as it does in every report of a program.
+pub record FitsTypes (report : Report) : Type 0 where
+  pub answers : AllByRecursion AnswerFits report.answers
+  pub journal : AllByRecursion LineFits report.journal
+
+-- Reports of one text are the same.
+abbrev pub IsOfOneReport : Type 0
+IsOfOneReport = (a b : Report) → FitsTypes a → FitsTypes b → report_text a ≡ report_text b → a ≡ b

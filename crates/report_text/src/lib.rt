@@ -1,0 +1,13 @@
+//! The text of a report: its one writer, and the law that a text is of at most one report.
+#![tactic(auto)]
+
+mod laws;
+mod lines;
+#[cfg(test)]
+mod tests;
+mod text_line;
+mod write;
+
+pub use laws::text_of_one_report;
+pub use text_line::TextLine;
+pub use write::write_report;
