@@ -1,0 +1,71 @@
+-- What is known of a run decides its status where no stream failed.
+use Rattle.std.proofs.Common.{◌≡◌, ℕ, ◌⊎◌, inl, inr, List, [], ◌∷◌, ◌++◌, length, Option, Some, None, refl, ap, ◌∙◌, arith, length-append}
+use Rattle.std.specs.Io.KnownBytes.{Consumes, IsAtEnd}
+use Rattle.std.proofs.lemmas.List.{append-nil}
+use Rattle.trace_reader.specs.declared.trace.Trace.{Trace}
+use Rattle.trace_reader.specs.declared.fault.TraceFault.{TraceFault}
+use Rattle.trace_reader.specs.Limits.{Spells, IsPlain}
+use Rattle.trace_reader.specs.Refusal.{nothing_behind, pieces_of}
+use Rattle.alloc_tool.specs.WholeInput.{ReadsAll}
+use Rattle.alloc_tool.specs.Top.{IsComplete, IsStatusOfRun}
+
+length-zero : (xs : List ℕ) → length xs ≡ 0 → xs ≡ []
+length-zero [] e = refl
+length-zero (x ∷ xs) e = absurd (omega arith)
+
+-- a run that answers read all bytes, and they are the trace's
+reads_these : (left' : Option (List ℕ)) (bytes : List ℕ) (trace : Trace) → ReadsAll (Some bytes) left' trace → Spells bytes trace × IsPlain trace
+reads_these None bytes trace reads = absurd reads.1
+reads_these (Some rest) bytes trace reads =
+    let e : bytes ≡ reads.0 = reads.1 ∙ ap (λ (xs : List ℕ). reads.0 ++ xs) reads.2 ∙ append-nil reads.0 in
+    (rw e reads.3, reads.4)
+
+-- behind the bytes of a trace that were all taken, nothing is left to refuse
+pub nothing_left : (left mid : Option (List ℕ)) (bytes taken : List ℕ) (n : ℕ) (fault : TraceFault) → left ≡ Some bytes → Consumes left mid taken → taken ≡ bytes
+    → ((rest : List ℕ) → mid ≡ Some rest → nothing_behind n (pieces_of rest) ≡ Some fault) → ⊥
+nothing_left None mid bytes taken n fault told takes all fails = (let e : None ≡ Some bytes = told in cc)
+nothing_left (Some xs) None bytes taken n fault told takes all fails = absurd takes
+nothing_left (Some xs) (Some rest) bytes taken n fault told takes all fails =
+    let same : xs ≡ bytes = (let e : Some xs ≡ Some bytes = told in cc) in
+    let none : length rest ≡ 0 = omega (arith, ap length takes, ap length same, ap length all, length-append taken rest) in
+    let e : nothing_behind n (pieces_of []) ≡ Some fault = rw (length-zero rest none) at (fails rest refl) in
+    (let f : None ≡ Some fault = e in cc)
+
+-- the status is that of an answer or for want of memory, or of a refusal or for want of memory
+pub complete : (left left' : Option (List ℕ)) (bytes : List ℕ) (status : ℕ) → left ≡ Some bytes
+    → ((t : Trace) → Spells bytes t → IsPlain t → status ≡ 3 → ⊥)
+    → IsStatusOfRun status → (status ≡ 5 → ⊥) → (status ≡ 6 → ⊥)
+    → (status ≡ 0 → (t : Trace) × ReadsAll left left' t) → IsComplete bytes status
+complete left left' bytes status told taken is no_read no_write answered = record {
+  spelled = λ t spells plain.
+      (elim is [
+        | inl zero ↦ inl zero
+        | inr rest ↦ elim rest [
+          | inl three ↦ absurd (taken t spells plain three)
+          | inr rest ↦ elim rest [
+            | inl five ↦ absurd (no_read five)
+            | inr rest ↦ elim rest [
+              | inl six ↦ absurd (no_write six)
+              | inr seven ↦ inr seven
+            ]
+          ]
+        ]
+      ]);
+  others = λ none.
+      (elim is [
+        | inl zero ↦
+            (let a = answered zero in
+            let all = reads_these left' bytes a.0 (rw told at a.1) in
+            absurd (none a.0 all.0 all.1))
+        | inr rest ↦ elim rest [
+          | inl three ↦ inl three
+          | inr rest ↦ elim rest [
+            | inl five ↦ absurd (no_read five)
+            | inr rest ↦ elim rest [
+              | inl six ↦ absurd (no_write six)
+              | inr seven ↦ inr seven
+            ]
+          ]
+        ]
+      ]);
+}

@@ -1,0 +1,43 @@
+use Rattle.std.proofs.Common.{◌++◌, [], ap, inl, sym, ◌∙◌}
+use Rattle.std.proofs.lemmas.List.{append-nil}
+use Rattle.std.proofs.lemmas.Result.{err_from_is_err_and}
+use Rattle.edge_io.specs.Text.{text}
+use Rattle.trace_reader.specs.declared.trace.Trace.{Trace}
+use Rattle.trace_reader.specs.Spelling.{lines_of}
+use Rattle.alloc_tool.proofs.Behind.{refused_behind}
+use Rattle.alloc_tool.proofs.Complete.{nothing_left}
+use Rattle.alloc_tool.proofs.Ended.{source_ended, Consumes-none}
+use Rattle.alloc_tool.proofs.top.read_lines.Goals as goal
+
+pub returns-clause-trace : goal.returns-clause-trace
+returns-clause-trace g c =
+    let read = c.in_ok-trace.ensures.spelled in
+    let end = c.in_ok-expect_end.ensures.ended in
+    let wet = c.in_ok-trace.ensures.lines.bytes.wet c.requires.fresh in
+    let all = source_ended _ _ _ read.0 (Consumes-none _ _ _ read.0 read.1 end.nothing) (end.at_end wet) in
+    (read.0, all.0, all.1, rw c.requires.room at read.2, read.3)
+
+pub returns-in_err-trace-clause-refused : goal.returns-in_err-trace-clause-refused
+returns-in_err-trace-clause-refused g c =
+    let p = err_from_is_err_and c.from_residual.result c.from_residual.ensures.1 in
+    rw (p.1, p.2) (λ of bytes e. inl (λ behind. rw (c.requires.number, c.requires.room) at (c.in_err-trace.ensures.refused of c.requires.fresh behind bytes e)))
+
+pub returns-in_err-expect_end-clause-refused : goal.returns-in_err-expect_end-clause-refused
+returns-in_err-expect_end-clause-refused g c =
+    let p = err_from_is_err_and c.from_residual-in_err-expect_end.result c.from_residual-in_err-expect_end.ensures.1 in
+    let read = c.in_ok-trace.ensures.spelled in
+    let number = rw c.requires.number at c.in_ok-trace.ensures.lines.number in
+    rw (p.1, p.2) (λ of. refused_behind _ _ read.0 c.in_ok-trace.trace _ _ read.1 (rw c.requires.room at read.2) read.3 number (c.in_err-expect_end.ensures.refused of))
+
+pub returns-in_err-trace-clause-complete : goal.returns-in_err-trace-clause-complete
+returns-in_err-trace-clause-complete g c = λ bytes t told spells plain.
+    let p = err_from_is_err_and c.from_residual.result c.from_residual.ensures.1 in
+    rw (p.1, p.2) (c.in_err-trace.ensures.complete t (record { wet = c.requires.fresh; bytes = bytes; rest = []; known = rw append-nil told; spelled = rw c.requires.room spells }) plain)
+
+pub returns-in_err-expect_end-clause-complete : goal.returns-in_err-expect_end-clause-complete
+returns-in_err-expect_end-clause-complete g c = λ bytes t told spells plain.
+    let p = err_from_is_err_and c.from_residual-in_err-expect_end.result c.from_residual-in_err-expect_end.ensures.1 in
+    let read = c.in_ok-trace.ensures.spelled in
+    let same = c.in_ok-trace.ensures.complete t (record { wet = c.requires.fresh; bytes = bytes; rest = []; known = rw append-nil told; spelled = rw c.requires.room spells }) plain in
+    let all = read.2.lines ∙ ap (λ (x : Trace). text (lines_of x)) same ∙ sym spells.lines in
+    rw (p.1, p.2) (λ of. nothing_left _ _ bytes read.0 _ _ told read.1 all (c.in_err-expect_end.ensures.refused of))

@@ -1,0 +1,133 @@
+//! Telling why the program stops without its answer. It takes no memory.
+
+ghost use Rattle.std.specs.Prelude.{◌≡◌, ◌≤◌, [], length};
+ghost use Rattle.alloc_tool.specs.Texts.{fault_status, fault_text, limit_name, place, usage, write_fault};
+ghost use Rattle.alloc_tool.specs.Told.{Tells, TellsAll};
+
+use edge_io::{Sink, write_all};
+use report_text::TextLine;
+use trace_reader::{TraceFault, Which};
+
+/// Words that are not known: tells the usage, and answers the status.
+pub(crate) fn refuse_words<E: Sink>(errors: &mut E) -> u8
+    ensures status { result ≡ 2 }
+    ensures told { Tells E.held E.faults errors.old errors.new usage }
+{
+    tell(
+        errors,
+        b"usage: goheap run [--background=N] [--each] / check / gen SEED OBJECTS / demo SEED OBJECTS / classes\n",
+    );
+    2
+}
+
+/// A write that failed: tells so, and answers the status.
+pub(crate) fn stop_writing<E: Sink>(errors: &mut E) -> u8
+    ensures status { result ≡ 6 }
+    ensures told { Tells E.held E.faults errors.old errors.new write_fault }
+{
+    tell(errors, b"goheap: write fault\n");
+    6
+}
+
+/// A trace that was not taken, or want of memory: tells why, and answers the status.
+pub(crate) fn refuse_trace<E: Sink>(errors: &mut E, fault: TraceFault) -> u8
+    ensures status { result ≡ fault_status fault }
+    ensures told { Tells E.held E.faults errors.old errors.new (fault_text fault) }
+{
+    let mut line = TextLine::new();
+    push_fault(&mut line, fault);
+    line.push(b"\n");
+    tell(errors, line.as_slice());
+    status_of(fault)
+}
+
+// The status of a trace that was not taken.
+fn status_of(fault: TraceFault) -> u8
+    ensures { result ≡ fault_status fault }
+{
+    match fault {
+        TraceFault::ReadFault => 5,
+        TraceFault::NoMemory => 7,
+        TraceFault::Malformed(_)
+        | TraceFault::Truncated(_)
+        | TraceFault::Limit(..)
+        | TraceFault::BadMark(..)
+        | TraceFault::Later(_) => 3,
+    }
+}
+
+// Tells a line as far as the sink takes it.
+fn tell<E: Sink>(errors: &mut E, line: &[u8])
+    ensures { TellsAll E.held E.faults errors.old errors.new line.now }
+{
+    let _ = write_all(errors, line);
+}
+
+// Puts the line of a fault together.
+fn push_fault(line: &mut TextLine, fault: TraceFault)
+    requires { line.old ≡ [] }
+    ensures text { line.new ≡ fault_text fault }
+    ensures short { length line.new ≤ 127 }
+{
+    match fault {
+        TraceFault::ReadFault => line.push(b"goheap: read fault"),
+        TraceFault::NoMemory => line.push(b"goheap: out of memory"),
+        TraceFault::Malformed(number) => {
+            push_place(line, number);
+            line.push(b"malformed");
+        }
+        TraceFault::Truncated(number) => {
+            push_place(line, number);
+            line.push(b"ends early");
+        }
+        TraceFault::Limit(number, which) => {
+            push_place(line, number);
+            line.push(b"limit ");
+            line.push(name_of(which));
+        }
+        TraceFault::BadMark(number, object) => {
+            push_place(line, number);
+            line.push(b"object ");
+            line.push_decimal(u64::from(object));
+            line.push(b" is not live");
+        }
+        TraceFault::Later(number) => {
+            push_place(line, number);
+            line.push(b"not built yet");
+        }
+    }
+}
+
+// Names the line of the trace.
+fn push_place(line: &mut TextLine, number: u64)
+    requires { line.old ≡ [] }
+    ensures text { line.new ≡ place number }
+    ensures short { length line.new ≤ 41 }
+{
+    line.push(b"goheap: trace line ");
+    line.push_decimal(number);
+    line.push(b": ");
+}
+
+// The name of a limit.
+fn name_of(which: Which) -> &'static [u8]
+    ensures name { result.now ≡ limit_name which }
+    ensures short { length result.now ≤ 8 }
+{
+    match which {
+        Which::Bytes => b"bytes",
+        Which::Chunks => b"chunks",
+        Which::Procs => b"procs",
+        Which::Rate => b"rate",
+        Which::Seed => b"seed",
+        Which::Goal => b"goal",
+        Which::Proc => b"proc",
+        Which::Size => b"size",
+        Which::Stack => b"stack",
+        Which::Distance => b"distance",
+        Which::Id => b"id",
+        Which::Objects => b"objects",
+        Which::MarkEnds => b"markends",
+        Which::Marks => b"marks",
+    }
+}

@@ -1,0 +1,295 @@
+//! Words that are not known, and faulty traces.
+
+use super::*;
+use std::process::Abort;
+use trace_reader::{TraceFault, Which, read_trace};
+
+// Whole inputs, in which `/` stands for a line feed and `[120]` for so many bytes, and what is told of them: ends of input and long lines at each line, and what stands behind `end`.
+const INPUTS: &str = "\
+|1: ends early
+g|1: ends early
+goheap 1|1: ends early
+/|1: malformed
+goheap 1\r/|1: malformed
+goheap 1 /|1: malformed
+ goheap 1/|1: malformed
+goheap  1/|1: malformed
+goheap\t1/|1: malformed
+Goheap 1/|1: malformed
+goheap 01/|1: malformed
+goheap 2/|1: malformed
+end/|1: malformed
+[121]|1: malformed
+[120]|1: ends early
+[120]/|1: malformed
+goheap 1/|2: ends early
+goheap 1/heap 1 procs|2: ends early
+goheap 1/heap 1 procs 1 rate 0 seed 1 goal 512|2: ends early
+goheap 1/[121]|2: malformed
+goheap 1/[120]|2: ends early
+goheap 1/heap 1 procs 1 rate 0 seed 1 goal 512/|3: ends early
+goheap 1/heap 1 procs 1 rate 0 seed 1 goal 512/a 0 24 s 1|3: ends early
+goheap 1/heap 1 procs 1 rate 0 seed 1 goal 512/end|3: ends early
+goheap 1/heap 1 procs 1 rate 0 seed 1 goal 512/x|3: ends early
+goheap 1/heap 1 procs 1 rate 0 seed 1 goal 512/[121]|3: malformed
+goheap 1/heap 1 procs 1 rate 0 seed 1 goal 512/[120]|3: ends early
+goheap 1/heap 1 procs 1 rate 0 seed 1 goal 512/a 0 24 s 1/|4: ends early
+goheap 1/heap 1 procs 1 rate 0 seed 1 goal 512/a 0 24 s 1/en|4: ends early
+goheap 1/heap 1 procs 1 rate 0 seed 1 goal 512/a 0 24 s 1/a 0 24 s 1 1/|4: malformed
+goheap 1/heap 1 procs 1 rate 0 seed 1 goal 512/a 0 24 s 1/end/x/|5: malformed
+goheap 1/heap 1 procs 1 rate 0 seed 1 goal 512/a 0 24 s 1/end/x|5: malformed
+goheap 1/heap 1 procs 1 rate 0 seed 1 goal 512/a 0 24 s 1/end//|5: malformed
+goheap 1/heap 1 procs 1 rate 0 seed 1 goal 512/end/end/|4: malformed
+goheap 1/heap 1 procs 1 rate 0 seed 1 goal 512/end/[121]|4: malformed
+goheap 1/heap 1 procs 1 rate 0 seed 1 goal 512/a 0 24 x 1/a 1 24 s 1/end/|3: malformed
+goheap 1/heap 1 procs 1 rate 0 seed 1 goal 512/a 1 24 s 1/a 0 24 x 1/end/|3: limit proc
+goheap 1/heap 1 procs 1 rate 0 seed 1 goal 512/a 0 32769 s 1/a 0 24 x 1/end/|3: not built yet
+goheap 1/heap 2 procs 1 rate 0 seed 1 goal 512/a 0 24 x 1/end/|2: not built yet
+goheap 1/heap 0 procs 1 rate 0 seed 1 goal 512|2: ends early";
+
+// Second lines, before `end`, and what is told of them.
+const HEADERS: &str = "\
+|malformed
+end|malformed
+goheap 1|malformed
+a 0 24 s 1|malformed
+heap 01 procs 1 rate 0 seed 1 goal 512|malformed
+heap +1 procs 1 rate 0 seed 1 goal 512|malformed
+heap -1 procs 1 rate 0 seed 1 goal 512|malformed
+heap  1 procs 1 rate 0 seed 1 goal 512|malformed
+heap 1  procs 1 rate 0 seed 1 goal 512|malformed
+heap\t1 procs 1 rate 0 seed 1 goal 512|malformed
+heap 1 procs 01 rate 0 seed 1 goal 512|malformed
+heap 1 procs 1 rate 00 seed 1 goal 512|malformed
+heap 1 procs 1 rate 0 seed 01 goal 512|malformed
+heap 1 procs 1 rate 0 seed 1 goal 0512|malformed
+heap 1 procs 1 rate 0 seed 1|malformed
+heap 1 procs 1 rate 0 seed 1 goal|malformed
+heap 1 procs 1 rate 0 seed 1 goal |malformed
+heap 1 procs 1 rate 0 seed 1 goal 512 |malformed
+heap 1 procs 1 rate 0 seed 1 goal 512 1|malformed
+heap 1 procs 1 rate 0 seed 1 goal 512\r|malformed
+heap 1 procs 1 rate 0 seed 100000000000000000000 goal 512|malformed
+heap 0 procs 1 rate 0 seed 1 goal 0512|malformed
+heap 0 procs 1 rate 0 seed 1 goal 512|limit chunks
+heap 129 procs 1 rate 0 seed 1 goal 512|limit chunks
+heap 99999999999999999999 procs 1 rate 0 seed 1 goal 512|limit chunks
+heap 1 procs 0 rate 0 seed 1 goal 512|limit procs
+heap 1 procs 65 rate 0 seed 1 goal 512|limit procs
+heap 1 procs 1 rate 1073741825 seed 1 goal 512|limit rate
+heap 1 procs 1 rate 0 seed 18446744073709551616 goal 512|limit seed
+heap 1 procs 1 rate 0 seed 99999999999999999999 goal 512|limit seed
+heap 1 procs 1 rate 0 seed 1 goal 65537|limit goal
+heap 0 procs 0 rate 0 seed 1 goal 512|limit chunks
+heap 1 procs 65 rate 0 seed 1 goal 65537|limit procs
+heap 1 procs 2 rate 0 seed 1 goal 65537|limit goal
+heap 1 procs 1 rate 1 seed 18446744073709551616 goal 512|limit seed
+heap 1 procs 2 rate 0 seed 1 goal 512|not built yet
+heap 1 procs 64 rate 0 seed 1 goal 512|not built yet
+heap 1 procs 1 rate 1 seed 1 goal 512|not built yet
+heap 1 procs 1 rate 1073741824 seed 1 goal 512|not built yet
+heap 1 procs 1 rate 0 seed 1 goal 511|not built yet
+heap 1 procs 1 rate 0 seed 1 goal 0|not built yet
+heap 128 procs 1 rate 0 seed 1 goal 65535|not built yet";
+
+// Third lines, behind the usual head and before `end`, and what is told of them.
+const EVENTS: &str = "\
+|malformed
+x|malformed
+a|malformed
+a |malformed
+a 0|malformed
+a 0 24|malformed
+a 0 24 s|malformed
+a 0 24 s |malformed
+a 0 24 s 1 |malformed
+a 0 24 s 1 1|malformed
+ a 0 24 s 1|malformed
+a  0 24 s 1|malformed
+a 0  24 s 1|malformed
+a 0 24  s 1|malformed
+a 0 24 s  1|malformed
+a\t0 24 s 1|malformed
+a 0 24 s 1\r|malformed
+A 0 24 s 1|malformed
+b 0 24 s 1|malformed
+a 00 24 s 1|malformed
+a 0 024 s 1|malformed
+a 0 24 s 01|malformed
+a -0 24 s 1|malformed
+a 0 +24 s 1|malformed
+a 0 -24 s 1|malformed
+a 0 0x18 s 1|malformed
+a 0 24 x 1|malformed
+a 0 24 S 1|malformed
+a 0 24 sn 1|malformed
+a 0 24 s 1x|malformed
+a 0 24 s \u{b2}|malformed
+a 0 100000000000000000000 s 1|malformed
+a 1 24 s 1 1|malformed
+goheap 1|malformed
+heap 1 procs 1 rate 0 seed 1 goal 512|malformed
+m 0 0|malformed
+end |malformed
+End|malformed
+end\r|malformed
+gc|malformed
+gc 01|malformed
+gc 1 1|malformed
+a 1 24 s 1|limit proc
+a 18446744073709551616 24 s 1|limit proc
+a 0 1099511627777 s 1|limit size
+a 0 99999999999999999999 s 1|limit size
+a 0 24 s 1000000|limit stack
+a 1 1099511627777 s 1000000|limit proc
+a 0 1099511627777 s 1000000|limit size
+a 0 32769 s 1000000|limit stack
+gc 0|limit distance
+gc 1099511627777|limit distance
+a 0 32769 s 1|not built yet
+a 0 1099511627776 n 1|not built yet
+gc 1|not built yet
+gc 1099511627776|not built yet";
+
+// Second lines that are taken, at the last good values.
+const GOOD_HEADERS: &str = "\
+heap 1 procs 1 rate 0 seed 0 goal 512
+heap 1 procs 1 rate 0 seed 18446744073709551615 goal 512
+heap 1 procs 1 rate 0 seed 1 goal 65536
+heap 128 procs 1 rate 0 seed 1 goal 65536
+heap 2 procs 1 rate 0 seed 1 goal 1024";
+
+// A line of 120 bytes.
+const LONG: &str =
+    "123456789012345678901234567890123456789012345678901234567890123456789012345678901234567890123456789012345678901234567890";
+
+// Wants that the input of a row is refused with status 3 and the row's text, and that nothing is written. A row has its
+// line, a bar, and what is told of it; `front` and `behind` stand round the line, and `told` before what is told.
+fn expect_refused<R: Threads + Wait + Sync + AllocGlobal + Abort>(
+    rt: &R,
+    row: &str,
+    front: &str,
+    behind: &str,
+    told: &str,
+) -> Result<(), Fail> {
+    let (line, reason) = row.split_once('|').ok_or("no bar")?;
+    let input = format!(in rt.alloc(); "{front}{line}{behind}")?;
+    let text = format!(in rt.alloc(); "goheap: trace line {told}{reason}\n")?;
+    let found = call(rt, &["run"], input.as_bytes(), &[], &[])?;
+    assert_eq!(rt; found.status, 3, "at {row}");
+    assert_eq!(rt; found.told.as_slice(), text.as_bytes(), "at {row}");
+    assert_eq!(rt; found.written.len(), 0, "at {row}");
+    Ok(())
+}
+
+// The row with its line feeds and long lines written out.
+fn written_out(alloc: Global, row: &str) -> Result<String, Fail> {
+    let over = format!(in alloc; "{LONG}1")?;
+    let row = row.replace(alloc, "/", "\n")?;
+    let row = row.as_str().replace(alloc, "[120]", LONG)?;
+    Ok(row.as_str().replace(alloc, "[121]", over.as_str())?)
+}
+
+#[test]
+fn faulty_traces_are_refused(rt: HostRuntime) -> Result<(), Fail> {
+    for row in INPUTS.lines() {
+        let row = written_out(rt.alloc(), row)?;
+        expect_refused(&rt, row.as_str(), "", "", "")?;
+    }
+    for row in HEADERS.lines() {
+        expect_refused(&rt, row, "goheap 1\n", "\nend\n", "2: ")?;
+    }
+    for row in EVENTS.lines() {
+        expect_refused(&rt, row, HEAD, "\nend\n", "3: ")?;
+    }
+    Ok(())
+}
+
+// The last good values of the header.
+#[test]
+fn good_headers_are_taken(rt: HostRuntime) -> Result<(), Fail> {
+    for line in GOOD_HEADERS.lines() {
+        let input = format!(in rt.alloc(); "goheap 1\n{line}\nend\n")?;
+        let found = call(&rt, &["run"], input.as_bytes(), &[], &[])?;
+        assert_eq!(rt; found.status, 0, "at {line}");
+    }
+    Ok(())
+}
+
+// Of all words but `run` alone, the usage is told, and nothing is read or written.
+#[test]
+fn other_words_are_refused(rt: HostRuntime) -> Result<(), Fail> {
+    let rows: [&[&str]; 16] = [
+        &[],
+        &[""],
+        &["Run"],
+        &["run "],
+        &["run\n"],
+        &["run", "run"],
+        &["run", ""],
+        &["run", "--each"],
+        &["run", "--background=5"],
+        &["run", "--each", "--each"],
+        &["check"],
+        &["classes"],
+        &["gen", "1", "0"],
+        &["demo", "1", "2"],
+        &["--help"],
+        &["--", "run"],
+    ];
+    let usage =
+        b"usage: goheap run [--background=N] [--each] / check / gen SEED OBJECTS / demo SEED OBJECTS / classes\n".as_slice();
+    for words in rows {
+        // A read or a write would fail.
+        let found = call(&rt, words, b"goheap 1\n", &[0], &[0])?;
+        assert_eq!(rt; found.status, 2, "at {words:?}");
+        assert_eq!(rt; found.told.as_slice(), usage, "at {words:?}");
+        assert_eq!(rt; found.written.len(), 0, "at {words:?}");
+    }
+    Ok(())
+}
+
+// The words that need the runtime, without it.
+#[test]
+fn plain_words_are_refused(rt: HostRuntime) -> Result<(), Fail> {
+    let alloc = rt.alloc();
+    let input = format!(in alloc; "{HEAD}a 0 24 s 1\nend\n")?;
+    for word in ["run", "demo", "check"] {
+        let words = words_of(alloc, &[word])?;
+        let bytes = List::from_vec(input.as_bytes().to_vec(alloc)?);
+        let mut source = MemorySource::new(bytes, List::from_vec(vec![in alloc; 0]?));
+        let mut output = MemorySink::new(alloc, List::from_vec(vec![in alloc; 0]?));
+        let mut errors = MemorySink::new(alloc, List::new(alloc));
+        assert_eq!(rt;
+            goheap_plain(alloc, &words, &mut source, &mut output, &mut errors),
+            2
+        );
+        assert_eq!(rt; output.held().len(), 0);
+        assert!(rt; errors.held().starts_with(b"usage: goheap run "));
+    }
+    Ok(())
+}
+
+// Line 3 is met with a limit of so many bytes.
+#[test]
+fn bytes_are_limited(rt: HostRuntime) -> Result<(), Fail> {
+    let alloc = rt.alloc();
+    let input = format!(in alloc; "{HEAD}a 0 24 s 1\nend\n")?;
+    let rows = [
+        (0, Err(TraceFault::Limit(1, Which::Bytes))),
+        (8, Err(TraceFault::Limit(1, Which::Bytes))),
+        (9, Err(TraceFault::Limit(2, Which::Bytes))),
+        (57, Err(TraceFault::Limit(3, Which::Bytes))),
+        (58, Err(TraceFault::Limit(4, Which::Bytes))),
+        (61, Err(TraceFault::Limit(4, Which::Bytes))),
+        (62, Ok(1)),
+    ];
+    for (limit, wanted) in rows {
+        let bytes = List::from_vec(input.as_bytes().to_vec(alloc)?);
+        let mut source = MemorySource::new(bytes, List::new(alloc));
+        let mut lines = Lines::new(&mut source, limit);
+        let found = read_trace(alloc, &mut lines).map(|trace| trace.cycles.len());
+        assert_eq!(rt; found, wanted, "at {limit}");
+    }
+    Ok(())
+}

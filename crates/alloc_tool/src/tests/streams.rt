@@ -1,0 +1,224 @@
+//! Reads and writes that fail.
+
+use super::*;
+
+// A source that gives 1 to 7 bytes a call, of which one fails.
+#[derive(Drop)]
+struct Trickle<'a> {
+    bytes: &'a [u8],
+    calls: u64,
+    failing: u64,
+    faults: u64,
+}
+
+impl Source for Trickle<'_> {
+    ghost use Rattle.std.specs.Prelude.{Some};
+
+    ghost left = { λ source. Some source.bytes.now };
+
+    ghost faults = { λ source. source.faults };
+
+    fn read(&mut self, buf: &mut [u8]) -> Result<usize, Failed> {
+        let call = self.calls;
+        self.calls = call.saturating_add(1);
+        if call == self.failing {
+            self.faults = self.faults.saturating_add(1);
+            return Err(Failed);
+        }
+        let most = (call % 7 + 1) as usize;
+        let count = most.min(self.bytes.len()).min(buf.len());
+        let (front, rest) = self.bytes.split_at(count);
+        buf[..count].copy_from_slice(front);
+        self.bytes = rest;
+        Ok(count)
+    }
+}
+
+// A sink that takes 1 to 7 bytes a call, of which one fails.
+#[derive(Drop)]
+struct Drip {
+    bytes: Vec<u8>,
+    calls: u64,
+    failing: u64,
+    faults: u64,
+}
+
+impl Sink for Drip {
+    ghost use Rattle.std.specs.Prelude.{Some};
+
+    ghost held = { λ sink. Some sink.bytes.items };
+
+    ghost faults = { λ sink. sink.faults };
+
+    fn write(&mut self, piece: &[u8]) -> Result<usize, Failed> {
+        let call = self.calls;
+        self.calls = call.saturating_add(1);
+        let most = (call % 7 + 1) as usize;
+        let count = most.min(piece.len());
+        if call != self.failing && self.bytes.extend_from_slice(&piece[..count]).is_ok() {
+            return Ok(count);
+        }
+        self.faults = self.faults.saturating_add(1);
+        Err(Failed)
+    }
+}
+
+// The status of `run` where one read and one write fail, what is held, and what is told.
+fn trickled<R: Threads + Wait + Sync + AllocGlobal>(
+    rt: &R,
+    input: &[u8],
+    read: u64,
+    write: u64,
+    tell: u64,
+) -> Result<Outcome, Fail> {
+    let alloc = rt.alloc();
+    let words = words_of(alloc, &["run"])?;
+    let mut source = Trickle {
+        bytes: input,
+        calls: 0,
+        failing: read,
+        faults: 0,
+    };
+    let mut output = Drip {
+        bytes: Vec::new(alloc),
+        calls: 0,
+        failing: write,
+        faults: 0,
+    };
+    let mut errors = Drip {
+        bytes: Vec::new(alloc),
+        calls: 0,
+        failing: tell,
+        faults: 0,
+    };
+    let status = goheap(
+        rt,
+        alloc,
+        &words,
+        &mut source,
+        &mut output,
+        &mut errors,
+        &OpenGate,
+    );
+    Ok(Outcome {
+        status,
+        written: output.bytes,
+        told: errors.bytes,
+    })
+}
+
+// The trace has 62 bytes, which come in 17 reads, and read 17 sees the end. The report has 21 bytes, which go in 6 writes.
+#[test]
+fn each_read_and_write_fails(rt: HostRuntime) -> Result<(), Fail> {
+    let input = format!(in rt.alloc(); "{HEAD}a 0 24 s 1\nend\n")?;
+    let report = b"o 0 0xc000000000\nend\n".as_slice();
+    for read in 0..20 {
+        let found = trickled(&rt, input.as_bytes(), read, u64::MAX, u64::MAX)?;
+        let (status, held, told) = if read < 18 {
+            (5, b"".as_slice(), b"goheap: read fault\n".as_slice())
+        } else {
+            (0, report, b"".as_slice())
+        };
+        assert_eq!(rt; found.status, status, "at read {read}");
+        assert_eq!(rt; found.written.as_slice(), held, "at read {read}");
+        assert_eq!(rt; found.told.as_slice(), told, "at read {read}");
+    }
+    let rows = [
+        (0, 6, 0),
+        (1, 6, 1),
+        (2, 6, 3),
+        (3, 6, 6),
+        (4, 6, 10),
+        (5, 6, 15),
+        (6, 0, 21),
+    ];
+    for (write, status, held) in rows {
+        let found = trickled(&rt, input.as_bytes(), u64::MAX, write, u64::MAX)?;
+        let told = if status == 6 {
+            b"goheap: write fault\n".as_slice()
+        } else {
+            b"".as_slice()
+        };
+        assert_eq!(rt; found.status, status, "at write {write}");
+        assert_eq!(rt;
+            Some(found.written.as_slice()),
+            report.get(..held),
+            "at write {write}"
+        );
+        assert_eq!(rt; found.told.as_slice(), told, "at write {write}");
+    }
+    Ok(())
+}
+
+// Where telling fails, the status stays, and a front of the line is told.
+#[test]
+fn telling_fails(rt: HostRuntime) -> Result<(), Fail> {
+    let input = format!(in rt.alloc(); "{HEAD}a 0 24 s 1\nend\n")?;
+    let rows = [
+        (0, ""),
+        (1, "g"),
+        (2, "goh"),
+        (3, "goheap"),
+        (4, "goheap: re"),
+        (5, "goheap: read fa"),
+    ];
+    for (tell, front) in rows {
+        let found = trickled(&rt, input.as_bytes(), 3, u64::MAX, tell)?;
+        assert_eq!(rt; found.status, 5, "at write {tell}");
+        assert_eq!(rt; found.written.len(), 0, "at write {tell}");
+        assert_eq!(rt; found.told.as_slice(), front.as_bytes(), "at write {tell}");
+    }
+    Ok(())
+}
+
+// The first bytes of the report that one write of at most 8192 bytes takes: whole lines.
+fn block_len(text: &[u8]) -> usize {
+    let mut len = 0;
+    for (at, byte) in text.iter().enumerate().take(8192) {
+        if *byte == b'\n' {
+            len = at + 1;
+        }
+    }
+    len
+}
+
+// A trace of three blocks, over streams that give and take whole blocks: 2000 events of 11 bytes.
+#[test]
+fn each_block_fails(rt: HostRuntime) -> Result<(), Fail> {
+    let input = repeated(
+        rt.alloc(),
+        "heap 1 procs 1 rate 0 seed 1 goal 512",
+        "a 0 16 n 2\n",
+        2000,
+    )?;
+    let whole = call(&rt, &["run"], input.as_bytes(), &[], &[])?;
+    assert_eq!(rt; whole.status, 0);
+    for read in 0..5 {
+        let found = call(&rt, &["run"], input.as_bytes(), &[read], &[])?;
+        assert_eq!(rt;
+            found.status,
+            if read < 4 { 5 } else { 0 },
+            "at read {read}"
+        );
+        assert_eq!(rt;
+            found.written.len(),
+            if read < 4 { 0 } else { whole.written.len() },
+            "at read {read}"
+        );
+    }
+    let mut held = 0;
+    for write in 0..6 {
+        let found = call(&rt, &["run"], input.as_bytes(), &[], &[write])?;
+        let front = whole.written.as_slice().get(..held);
+        assert_eq!(rt;
+            found.status,
+            if held < whole.written.len() { 6 } else { 0 },
+            "at write {write}"
+        );
+        assert_eq!(rt; Some(found.written.as_slice()), front, "at write {write}");
+        let block = whole.written.as_slice().get(held..).map_or(0, block_len);
+        held = held.saturating_add(block);
+    }
+    assert_eq!(rt; held, whole.written.len());
+    Ok(())
+}

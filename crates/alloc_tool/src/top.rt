@@ -1,0 +1,144 @@
+//! The whole program over any source and sinks.
+
+ghost use Rattle.std.specs.Prelude.{◌≡◌, ◌≢◌, ◌↔◌, false, List, ℕ, IfErr, IfOk, IsTrue, Some};
+ghost use Rattle.edge_io.specs.Reading.{IsSameSource, is_dry, lines_left, number_of, room_of, source_of};
+ghost use Rattle.edge_io.specs.Causes.{Rose, HasCause};
+ghost use Rattle.trace_reader.specs.declared.trace.Trace.{Trace as ATrace};
+ghost use Rattle.trace_reader.specs.Limits.{IsPlain, Spells};
+ghost use Rattle.trace_reader.specs.Taken.{HasReadCause, IsOfTrace};
+ghost use Rattle.trace_reader.specs.declared.fault.TraceFault.{TraceFault as Fault};
+ghost use Rattle.alloc_tool.specs.Texts.{fault_text, status_text, usage};
+ghost use Rattle.alloc_tool.specs.Told.{Tells};
+ghost use Rattle.alloc_tool.specs.Top.{AnswersAll, AnswersFront, IsComplete, IsRefused, IsStatusOfRun, IsUndisturbed};
+ghost use Rattle.alloc_tool.specs.WholeInput.{ReadsAll};
+ghost use Rattle.alloc_tool.specs.Words.{IsRun};
+
+use crate::run::report;
+use crate::tell::{refuse_trace, refuse_words, stop_writing};
+use edge_io::{Gate, Lines, Sink, Source};
+use report_text::write_report;
+use std::alloc::Global;
+use std::sync::Wait;
+use std::thread::Threads;
+use trace_reader::{Trace, TraceFault, expect_end, read_trace};
+
+/// The most bytes of a trace.
+const MAX_BYTES: u64 = 67_108_864;
+
+/// Does what the words say, and answers the exit status. It runs `run` itself; all other words go to [`goheap_plain`].
+///
+/// `words` are those behind the program's name. `run` reads a trace from `input` to its end and writes its report to
+/// `output`. Where it does not answer, one line on `errors` says why.
+pub fn goheap<R: Threads + Wait + Sync, S: Source, K: Sink, E: Sink, G: Gate>(
+    _rt: &R,
+    alloc: Global,
+    words: &[String],
+    input: &mut S,
+    output: &mut K,
+    errors: &mut E,
+    _gate: &G,
+) -> u8
+    ensures answered { result ≡ 0 → AnswersAll (S.left input.old) (S.left input.new) (K.held output.old) (K.held output.new) }
+    ensures silent { result ≡ 0 → errors.new ≡ errors.old }
+    ensures run_words { IsRun words.now → IsStatusOfRun result }
+    ensures other_words { (IsRun words.now → ⊥) → result ≡ 2 }
+    ensures unread { result ≡ 2 → input.new ≡ input.old }
+    ensures unwritten { result ≢ 0 → result ≢ 6 → output.new ≡ output.old }
+    ensures refused { result ≡ 3 → (fault : Fault) × IsRefused (S.left input.old) fault × Tells E.held E.faults errors.old errors.new (fault_text fault) }
+    ensures told { result ≢ 0 → result ≢ 3 → Tells E.held E.faults errors.old errors.new (status_text result) }
+    ensures read_fault { result ≡ 5 → Rose (S.faults input.old) (S.faults input.new) }
+    ensures write_fault { result ≡ 6 → Rose (K.faults output.old) (K.faults output.new) }
+    ensures partly_written { result ≡ 6 → AnswersFront (S.left input.old) (S.left input.new) (K.held output.old) (K.held output.new) }
+    ensures complete { IsRun words.now → (bytes : List ℕ)
+        → IsUndisturbed S.left S.faults K.faults input.old input.new output.old output.new bytes → IsComplete bytes result }
+{
+    if is_run(words) {
+        run(alloc, input, output, errors)
+    } else {
+        goheap_plain(alloc, words, input, output, errors)
+    }
+}
+
+/// Does what the words say where that needs no runtime, and answers the exit status. No words do yet, so that it
+/// answers 2 for all, also for `run` and `demo`, which need the runtime.
+pub fn goheap_plain<S: Source, K: Sink, E: Sink>(
+    _alloc: Global,
+    _words: &[String],
+    _input: &mut S,
+    _output: &mut K,
+    errors: &mut E,
+) -> u8
+    ensures status { result ≡ 2 }
+    ensures told { Tells E.held E.faults errors.old errors.new usage }
+    ensures unread { _input.new ≡ _input.old }
+    ensures unwritten { _output.new ≡ _output.old }
+{
+    refuse_words(errors)
+}
+
+// Whether the words are the one word `run`.
+fn is_run(words: &[String]) -> bool
+    ensures { IsTrue result ↔ IsRun words.now }
+{
+    words.len() == 1 && words[0].as_str() == "run"
+}
+
+// Reads a trace, and writes its report.
+fn run<S: Source, K: Sink, E: Sink>(
+    alloc: Global,
+    input: &mut S,
+    output: &mut K,
+    errors: &mut E,
+) -> u8
+    ensures answered { result ≡ 0 → AnswersAll (S.left input.old) (S.left input.new) (K.held output.old) (K.held output.new) }
+    ensures silent { result ≡ 0 → errors.new ≡ errors.old }
+    ensures status { IsStatusOfRun result }
+    ensures unwritten { result ≢ 0 → result ≢ 6 → output.new ≡ output.old }
+    ensures refused { result ≡ 3 → (fault : Fault) × IsRefused (S.left input.old) fault × Tells E.held E.faults errors.old errors.new (fault_text fault) }
+    ensures told { result ≢ 0 → result ≢ 3 → Tells E.held E.faults errors.old errors.new (status_text result) }
+    ensures read_fault { result ≡ 5 → Rose (S.faults input.old) (S.faults input.new) }
+    ensures write_fault { result ≡ 6 → Rose (K.faults output.old) (K.faults output.new) }
+    ensures partly_written { result ≡ 6 → AnswersFront (S.left input.old) (S.left input.new) (K.held output.old) (K.held output.new) }
+    ensures complete { (bytes : List ℕ) (trace : ATrace) → S.left input.old ≡ Some bytes → Spells bytes trace → IsPlain trace → result ≢ 3 }
+{
+    let trace = match read_all(alloc, input) {
+        Ok(trace) => trace,
+        Err(fault) => return refuse_trace(errors, fault),
+    };
+    let Ok(report) = report(alloc, &trace) else {
+        return refuse_trace(errors, TraceFault::NoMemory);
+    };
+    match write_report(output, &report) {
+        Ok(()) => 0,
+        Err(_) => stop_writing(errors),
+    }
+}
+
+// Reads a trace to the end of input.
+fn read_all<S: Source>(alloc: Global, input: &mut S) -> Result<Trace, TraceFault>
+    ensures trace { IfOk result (λ trace. ReadsAll (S.left input.old) (S.left input.new) trace) }
+    ensures refused { IfErr result (λ fault. IsOfTrace fault → IsRefused (S.left input.old) fault) }
+    ensures cause { HasReadCause (S.faults input.old) (S.faults input.new) result }
+    ensures complete { (bytes : List ℕ) (trace : ATrace) → S.left input.old ≡ Some bytes → Spells bytes trace → IsPlain trace
+        → IfErr result (λ fault. IsOfTrace fault → ⊥) }
+{
+    let mut lines = Lines::new(input, MAX_BYTES);
+    read_lines(alloc, &mut lines)
+}
+
+// Reads a trace, and wants that nothing is left.
+fn read_lines<S: Source>(alloc: Global, lines: &mut Lines<'_, S>) -> Result<Trace, TraceFault>
+    requires fresh { is_dry lines.old ≡ false }
+    requires room { room_of lines.old ≡ 67108864 }
+    requires number { number_of lines.old ≡ 0 }
+    ensures same_source { IsSameSource lines.old lines.new }
+    ensures trace { IfOk result (λ trace. ReadsAll (lines_left S.left lines.old) (S.left (source_of lines.new)) trace) }
+    ensures refused { IfErr result (λ fault. IsOfTrace fault → IsRefused (lines_left S.left lines.old) fault) }
+    ensures cause { HasReadCause (S.faults (source_of lines.old)) (S.faults (source_of lines.new)) result }
+    ensures complete { (bytes : List ℕ) (trace : ATrace) → lines_left S.left lines.old ≡ Some bytes → Spells bytes trace → IsPlain trace
+        → IfErr result (λ fault. IsOfTrace fault → ⊥) }
+{
+    let trace = read_trace(alloc, lines)?;
+    expect_end(lines)?;
+    Ok(trace)
+}
