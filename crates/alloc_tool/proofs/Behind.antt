@@ -1,5 +1,5 @@
 -- What the fault behind a trace says of the whole input.
-use Rattle.std.proofs.Common.{◌≡◌, ℕ, ◌+◌, ◌-◌, ◌^◌, List, [], ◌∷◌, ◌++◌, length, min, Option, Some, None, refl, sym, ◌∙◌, inr}
+use Rattle.std.proofs.Common.{◌≡◌, ℕ, ◌+◌, ◌-◌, ◌^◌, List, length, min, Option, Some, None, refl, sym, ◌∙◌, inr}
 use Rattle.std.specs.Io.KnownBytes.{Consumes}
 use Rattle.trace_reader.specs.declared.trace.Trace.{Trace}
 use Rattle.trace_reader.specs.declared.fault.TraceFault.{TraceFault}

@@ -1,5 +1,5 @@
 -- The test for the one word `run`.
-use Rattle.std.proofs.Common.{◌≡◌, ◌↔◌, ℕ, suc, Bool, IsTrue, List, [], ◌∷◌, length, map, get_or, ap, sym, ◌∙◌, arith, String, string_bytes, codes}
+use Rattle.std.proofs.Common.{◌≡◌, ◌↔◌, ℕ, Bool, IsTrue, List, [], ◌∷◌, length, get_or, ap, sym, ◌∙◌, arith, String, string_bytes, codes}
 use Rattle.std.specs.declared.alloc.Global.{Global}
 use Rattle.std.specs.Str.{bytes_eq}
 use Rattle.std.proofs.lemmas.Slice.Eq.{bytes_eq-Decides}

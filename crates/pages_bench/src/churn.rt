@@ -35,13 +35,15 @@ pub fn churn(alloc: Global, percent: u32, calls: u64) -> Result<u64, NoMemory> {
     Ok(sum)
 }
 
-/// Takes all pages but the last one, and then looks for one page.
+/// Takes all pages but the last one, and then looks for one page. How many pages a search looks for stands in the
+/// sum before it, so that none can begin early.
 pub fn last(alloc: Global, calls: u64) -> Result<u64, NoMemory> {
     let mut pages = Pages::new(alloc, CHUNKS, PAGES)?;
     pages.reserve_line()?;
     let mut sum = u64::from(pages.take(0, PAGES - 1, 0).unwrap_or(PAGES));
     for _ in 0..calls {
-        let page = pages.find(1, &mut 0);
+        let n = 1 + (sum >> 63) as u32;
+        let page = pages.find(n, &mut 0);
         sum = sum.wrapping_add(u64::from(page.unwrap_or(PAGES)));
     }
     Ok(sum)
