@@ -1,0 +1,211 @@
+-- A core as its view shows it: what the view shows, and what the core keeps, after one of its parts changed.
+use Rattle.std.proofs.Common.{◌≡◌, ℕ, ◌+◌, ◌<◌, ◌≤◌, List, length, get_or, set, map, refl, sym, ap, subst, ◌∙◌, ◌^◌, ◌⊎◌, inl, inr, [], ◌∷◌, ◌++◌, take, drop, Option, vec_capacity, arith}
+use Rattle.std.proofs.lemmas.List.{length-map, get_or-map}
+use Rattle.std.proofs.Math.ListN.{length-set}
+use Rattle.std.proofs.Math.Seq.{map-set_same}
+use Rattle.std.proofs.lemmas.List.Elements.{All-set, All-take, All-drop, All-append}
+use Rattle.std.specs.Vec.{with_item, with_items}
+use Rattle.std.specs.declared.vec.Vec.{Vec}
+use Rattle.std.specs.List.{All}
+use Rattle.std.specs.declared.alloc.Global.{Global}
+use Rattle.sweep_generation.specs.Room.{Roomy}
+use Rattle.sweep_generation.specs.declared.life.Life.{Life}
+use Rattle.sweep_generation.specs.declared.state.Core.TheInside.{Inside}
+use Rattle.sweep_generation.specs.declared.hand.CoreHand.{CoreHand}
+use Rattle.sweep_generation.specs.declared.set.CoreSet.{CoreSet}
+use Rattle.sweep_generation.specs.declared.spare.Spare.{Spare}
+use Rattle.sweep_generation.specs.State.{CoreState, HandState, SetState}
+use Rattle.sweep_generation.specs.Needs.{no_hand, no_set, hand_of, set_of}
+use Rattle.sweep_generation.specs.Views.{hand_view, set_view, HandRoom, LifeRoom}
+use Rattle.sweep_generation.specs.Kept.{core_view, IsKept}
+use Rattle.sweep_generation.proofs.Maps.{map-changed}
+
+-- what a hand that changed keeps of its room
+abbrev pub KeepsRoom : CoreHand → CoreHand → Type 0
+KeepsRoom old new = (n : ℕ) → HandRoom n old → HandRoom n new
+
+module _ (c : Inside) (now : CoreState) (seen : core_view c ≡ now) where
+  pub low-hand : (w : ℕ) → w < length now.hands → w < length c.hands.items
+  low-hand w low = subst (λ (n : ℕ). w < n) (ap (λ (s : CoreState). length s.hands) (sym seen) ∙ length-map c.hands.items hand_view) low
+
+  -- hand w has the room of all hands
+  pub room-at : (w : ℕ) → w < length now.hands → (old : CoreHand) → old ≡ get_or c.hands.items w old → IsKept c → HandRoom now.room old
+  room-at w low old at k =
+      subst (λ (n : ℕ). HandRoom n old) (ap (λ (s : CoreState). s.room) seen)
+      (subst (λ (h : CoreHand). HandRoom c.room h) (sym at) (k.hands_room w old (low-hand w low)))
+
+  -- what hand w shows
+  pub hand-is : (w : ℕ) → w < length now.hands → (old : CoreHand) → old ≡ get_or c.hands.items w old → hand_of now w ≡ hand_view old
+  hand-is w low old at =
+      ap (λ (s : CoreState). hand_of s w) (sym seen) ∙ get_or-map hand_view c.hands.items w old no_hand (low-hand w low) ∙ ap hand_view (sym at)
+
+  -- hand w is f of what it was
+  pub hand-changed : (w : ℕ) → w < length now.hands → (old new : CoreHand) (f : HandState → HandState)
+      → old ≡ get_or c.hands.items w old → hand_view new ≡ f (hand_view old)
+      → map hand_view (set c.hands.items w new) ≡ set (map hand_view c.hands.items) w (f (get_or (map hand_view c.hands.items) w no_hand))
+  hand-changed w low old new f at is = map-changed hand_view c.hands.items w old no_hand new f (low-hand w low) (is ∙ ap (λ h. f (hand_view h)) at)
+
+  -- hand w shows what it showed
+  pub hand-same : (w : ℕ) (old new : CoreHand) → old ≡ get_or c.hands.items w old → hand_view new ≡ hand_view old
+      → map hand_view (set c.hands.items w new) ≡ map hand_view c.hands.items
+  hand-same w old new at is = map-set_same hand_view c.hands.items w new old (is ∙ ap hand_view at)
+
+  -- the view is the same
+  pub seen-hand : (w : ℕ) (old new : CoreHand) → old ≡ get_or c.hands.items w old → hand_view new ≡ hand_view old
+      → core_view (record c { hands = with_item c.hands w new }) ≡ now
+  seen-hand w old new at is = rw (hand-same w old new at is) seen
+
+  pub low-set : (w : ℕ) → w < length now.sets → w < length c.sets.items
+  low-set w low = subst (λ (n : ℕ). w < n) (ap (λ (s : CoreState). length s.sets) (sym seen) ∙ length-map c.sets.items set_view) low
+
+  -- what set s shows
+  pub set-is : (s : ℕ) → s < length now.sets → (old : CoreSet) → old ≡ get_or c.sets.items s old → set_of now s ≡ set_view old
+  set-is s low old at =
+      ap (λ (st : CoreState). set_of st s) (sym seen) ∙ get_or-map set_view c.sets.items s old no_set (low-set s low) ∙ ap set_view (sym at)
+
+  -- set s is f of what it was
+  pub set-changed : (s : ℕ) → s < length now.sets → (old new : CoreSet) (f : SetState → SetState)
+      → old ≡ get_or c.sets.items s old → set_view new ≡ f (set_view old)
+      → map set_view (set c.sets.items s new) ≡ set (map set_view c.sets.items) s (f (get_or (map set_view c.sets.items) s no_set))
+  set-changed s low old new f at is = map-changed set_view c.sets.items s old no_set new f (low-set s low) (is ∙ ap (λ h. f (set_view h)) at)
+
+pub kept-hand : (c : Inside) (w : ℕ) → w < length c.hands.items → (old new : CoreHand) → old ≡ get_or c.hands.items w old → KeepsRoom old new
+    → IsKept c → IsKept (record c { hands = with_item c.hands w new })
+kept-hand c w low old new at keeps k = record {
+  generation = k.generation;
+  pages = k.pages;
+  owners = k.owners;
+  workers = subst (λ (n : ℕ). n < 2 ^ 32) (sym (length-set c.hands.items w new)) k.workers;
+  lives_room = k.lives_room;
+  hands_room = All-set (HandRoom c.room) c.hands.items w new
+      (keeps c.room (subst (λ (h : CoreHand). HandRoom c.room h) (sym at) (k.hands_room w old low))) k.hands_room;
+  sets_room = k.sets_room;
+  life_room = k.life_room;
+}
+
+pub kept-set : (c : Inside) (s : ℕ) → s < length c.sets.items → (old new : CoreSet) → old ≡ get_or c.sets.items s old → new.cells ≡ old.cells
+    → IsKept c → IsKept (record c { sets = with_item c.sets s new })
+kept-set c s low old new at same k = record {
+  generation = k.generation;
+  pages = k.pages;
+  owners = k.owners;
+  workers = k.workers;
+  lives_room = k.lives_room;
+  hands_room = k.hands_room;
+  sets_room = All-set (λ (x : CoreSet). c.room ≤ x.cells.space) c.sets.items s new
+      (subst (λ (x : Roomy ℕ). c.room ≤ x.space) (sym same) (subst (λ (x : CoreSet). c.room ≤ x.cells.space) (sym at) (k.sets_room s old low))) k.sets_room;
+  life_room = k.life_room;
+}
+
+take-append : {X : Type 0} (xs ys : List X) → take (length xs) (xs ++ ys) ≡ xs
+take-append [] ys = refl
+take-append (x ∷ xs) ys = ap (λ zs. x ∷ zs) (take-append xs ys)
+
+-- a list that is as long as the items is all of them
+pub items-whole : {X : Type 0} (v : Vec X Global) (ws : List X) → length ws ≡ length v.items → (with_items v ws).items ≡ ws
+items-whole v ws same =
+    let e : length ws ≡ v.len = same ∙ sym v.ok.0 in
+    rw (← e) (take-append ws (drop (length ws) v.items))
+
+-- no end of a sweep lacks room
+pub full-end : (n : ℕ) (h : CoreHand) → HandRoom n h → (h.held.space ≤ length h.held.items) ⊎ (h.swept.space ≤ length h.swept.items)
+    → length h.held.items < n → length h.swept.items < n → ⊥
+full-end n h k (inl a) held swept = let b = k.held in omega arith
+full-end n h k (inr a) held swept = let b = k.swept in omega arith
+
+pub kept-owners : (c : Inside) (ws : List (Option ℕ)) → IsKept c → IsKept (record c { owners = with_items c.owners ws })
+kept-owners c ws k = record {
+  generation = k.generation;
+  pages = k.pages;
+  owners = sym (with_items c.owners ws).ok.0 ∙ c.owners.ok.0 ∙ k.owners;
+  workers = k.workers;
+  lives_room = k.lives_room;
+  hands_room = k.hands_room;
+  sets_room = k.sets_room;
+  life_room = k.life_room;
+}
+
+pub kept-all-lives : (c : Inside) (v : Vec Life Global) → c.room ≤ vec_capacity v → All LifeRoom v.items → IsKept c → IsKept (record c { lives = v })
+kept-all-lives c v room all k = record {
+  generation = k.generation;
+  pages = k.pages;
+  owners = k.owners;
+  workers = k.workers;
+  lives_room = room;
+  hands_room = k.hands_room;
+  sets_room = k.sets_room;
+  life_room = all;
+}
+
+pub kept-sets : (c : Inside) (ws : List CoreSet) → All (λ (x : CoreSet). c.room ≤ x.cells.space) ws → IsKept c → IsKept (record c { sets = with_items c.sets ws })
+kept-sets c ws room k = record {
+  generation = k.generation;
+  pages = k.pages;
+  owners = k.owners;
+  workers = k.workers;
+  lives_room = k.lives_room;
+  hands_room = k.hands_room;
+  sets_room = All-take (λ (x : CoreSet). c.room ≤ x.cells.space) c.sets.len _
+      (All-append (λ (x : CoreSet). c.room ≤ x.cells.space) ws _ room (All-drop (λ (x : CoreSet). c.room ≤ x.cells.space) (length ws) c.sets.items k.sets_room));
+  life_room = k.life_room;
+}
+
+pub kept-lives : (c : Inside) (ws : List Life) → All LifeRoom ws → IsKept c → IsKept (record c { lives = with_items c.lives ws })
+kept-lives c ws room k = record {
+  generation = k.generation;
+  pages = k.pages;
+  owners = k.owners;
+  workers = k.workers;
+  lives_room = k.lives_room;
+  hands_room = k.hands_room;
+  sets_room = k.sets_room;
+  life_room = All-take LifeRoom c.lives.len _ (All-append LifeRoom ws _ room (All-drop LifeRoom (length ws) c.lives.items k.life_room));
+}
+
+pub kept-word : (c : Inside) (page word : ℕ) → IsKept c → IsKept (record c { words = with_item c.words page word })
+kept-word c page word k = record {
+  generation = k.generation;
+  pages = subst (λ (n : ℕ). n < 2 ^ 32) (sym (length-set c.words.items page word)) k.pages;
+  owners = k.owners ∙ sym (length-set c.words.items page word);
+  workers = k.workers;
+  lives_room = k.lives_room;
+  hands_room = k.hands_room;
+  sets_room = k.sets_room;
+  life_room = k.life_room;
+}
+
+pub kept-spare : (c : Inside) (spare : Spare) → IsKept c → IsKept (record c { spare = spare })
+kept-spare c spare k = record {
+  generation = k.generation;
+  pages = k.pages;
+  owners = k.owners;
+  workers = k.workers;
+  lives_room = k.lives_room;
+  hands_room = k.hands_room;
+  sets_room = k.sets_room;
+  life_room = k.life_room;
+}
+
+pub kept-generation : (c : Inside) (g : ℕ) → g + 3 < 2 ^ 64 → IsKept c → IsKept (record c { generation = g })
+kept-generation c g low k = record {
+  generation = low;
+  pages = k.pages;
+  owners = k.owners;
+  workers = k.workers;
+  lives_room = k.lives_room;
+  hands_room = k.hands_room;
+  sets_room = k.sets_room;
+  life_room = k.life_room;
+}
+
+pub kept-hands : (c : Inside) (ws : List CoreHand) → All (HandRoom c.room) ws → IsKept c → IsKept (record c { hands = with_items c.hands ws })
+kept-hands c ws room k = record {
+  generation = k.generation;
+  pages = k.pages;
+  owners = k.owners;
+  workers = subst (λ (n : ℕ). n < 2 ^ 32) (sym c.hands.ok.0 ∙ (with_items c.hands ws).ok.0) k.workers;
+  lives_room = k.lives_room;
+  hands_room = All-take (HandRoom c.room) c.hands.len _ (All-append (HandRoom c.room) ws _ room (All-drop (HandRoom c.room) (length ws) c.hands.items k.hands_room));
+  sets_room = k.sets_room;
+  life_room = k.life_room;
+}

@@ -1,0 +1,28 @@
+use Rattle.std.proofs.Common.{◌≡◌, ◌==◌, arith, rules, Some}
+use Rattle.std.proofs.lemmas.Result.{err_from_is_err_and}
+use Rattle.std.specs.List.{position}
+use Rattle.std.proofs.lemmas.List.Quantifiers.{position-Some}
+use Rattle.sweep_generation.specs.declared.life.Life.{Life}
+use Rattle.sweep_generation.specs.State.{LifeState}
+use Rattle.sweep_generation.specs.Needs.{no_life}
+use Rattle.sweep_generation.specs.Changes.{keep_marked}
+use Rattle.sweep_generation.specs.Views.{life_view}
+use Rattle.sweep_generation.proofs.Maps.{change-first-map, change-none-map, find-first-map}
+use Rattle.sweep_generation.proofs.life.keep_marked.Goals as goal
+
+pub returns-in_ok-keep_marked-clause-ok : goal.returns-in_ok-keep_marked-clause-ok
+returns-in_ok-keep_marked-clause-ok c =
+    change-first-map life_view (λ (l : LifeState). l.page == c.args.page) keep_marked c.args.lives.now c.in-Some.i _ no_life c.keep_marked.new.self (search rules) c.in_ok-keep_marked.ensures.ok
+
+pub returns-in_err-keep_marked-clause-full : goal.returns-in_err-keep_marked-clause-full
+returns-in_err-keep_marked-clause-full c =
+    let p = err_from_is_err_and c.from_residual.result c.from_residual.ensures.1 in
+    let d : Life = c.index-lives-i.result in
+    let e : position (λ (l : Life). l.page == c.args.page) c.args.lives.now ≡ Some c.in-Some.i = search rules in
+    let is = find-first-map life_view (λ (l : LifeState). l.page == c.args.page) c.args.lives.now c.in-Some.i d e in
+    let low = (position-Some (λ (l : Life). l.page == c.args.page) c.args.lives.now c.in-Some.i d e).0 in
+    rw (p.1, is) (λ all. let k = all c.in-Some.i d low in omega (arith, k.allocated, c.in_err-keep_marked.ensures.full))
+
+pub returns-in_default-clause-ok : goal.returns-in_default-clause-ok
+returns-in_default-clause-ok c =
+    change-none-map life_view (λ (l : LifeState). l.page == c.args.page) keep_marked c.args.lives.now (search rules)

@@ -1,0 +1,21 @@
+use Rattle.std.proofs.Common.{◌≡◌, List, length, refl, sym, subst, arith, rules}
+use Rattle.std.specs.List.{All}
+use Rattle.sweep_generation.specs.declared.hand.CoreHand.{CoreHand}
+use Rattle.sweep_generation.specs.Changes.{forget_swept}
+use Rattle.sweep_generation.specs.Views.{hand_view, HandRoom}
+use Rattle.sweep_generation.specs.Loops.{without_swept}
+use Rattle.sweep_generation.proofs.Changing.{changed-more, changed-all, All-changed}
+use Rattle.sweep_generation.proofs.mark_end.forget_swept.Goals as goal
+
+pub loop-k-preserved : goal.loop-k-preserved
+loop-k-preserved c = rw c.forget_swept.ensures (changed-more without_swept c.loop-k.k c.args.hands.now c.loop-k.hands c.index-hands-k.result (search rules) c.loop-k.invariant)
+
+pub returns-clause-view : goal.returns-clause-view
+returns-clause-view c =
+    let e : c.loop-k.k ≡ length c.args.hands.now = omega arith in
+    rw (c.loop-k.invariant, e) (changed-all without_swept hand_view forget_swept (λ n x. refl) 0 c.args.hands.now)
+
+pub returns-clause-room : goal.returns-clause-room
+returns-clause-room c = λ n all.
+    subst (λ (hs : List CoreHand). All (HandRoom n) hs) (sym c.loop-k.invariant)
+    (All-changed without_swept (HandRoom n) (λ m x h. record { sweeping = h.sweeping; held = h.held; cached = h.cached; popped = h.popped; swept = h.swept }) 0 c.loop-k.k c.args.hands.now all)

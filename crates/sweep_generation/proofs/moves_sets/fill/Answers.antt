@@ -1,0 +1,31 @@
+use Rattle.std.proofs.Common.{◌∙◌, ◌<◌, ◌≤◌, List, Option, length, ap, refl, sym, subst, arith}
+use Rattle.std.specs.List.{All}
+use Rattle.std.specs.Option.{IfSome}
+use Rattle.std.proofs.lemmas.Result.{err_from_is_err_and}
+use Rattle.sweep_generation.specs.declared.set.CoreSet.{CoreSet}
+use Rattle.sweep_generation.specs.declared.moves.Claimed.{Claimed}
+use Rattle.sweep_generation.specs.State.{CoreState}
+use Rattle.sweep_generation.specs.Changes.{fill_cell}
+use Rattle.sweep_generation.proofs.Seen.{hand-changed, low-hand, kept-hand, kept-sets, items-whole}
+use Rattle.sweep_generation.proofs.moves_sets.fill.Goals as goal
+
+pub returns-in_err-name_page : goal.returns-in_err-name_page
+returns-in_err-name_page c =
+    let p = err_from_is_err_and c.from_residual-in_err-name_page.result c.from_residual-in_err-name_page.ensures.1 in
+    let full = c.in_err-name_page.ensures.full c.core.inside.room (subst (λ (xs : List CoreSet). All (λ (x : CoreSet). c.core.inside.room ≤ x.cells.space) xs) (sym c.deref_mut.ensures.value) c.core.invariant.sets_room) in
+    let e = ap (λ (s : CoreState). s.room) c.core.view_is in
+    rw (p.1, p.2, items-whole c.core.inside.sets c.name_page.new.sets (c.name_page.auto.sets ∙ ap (λ (xs : List CoreSet). length xs) c.deref_mut.ensures.value), c.in_err-name_page.ensures.err, c.deref_mut.ensures.value)
+    (c.core.view_is, λ r. let low = subst (λ (o : Option Claimed). IfSome o (λ claim. claim.index < c.args.core.now.room)) c.in_ok-claim.ensures.claim r in omega (arith, full, e, low))
+
+pub invariant_of-core-2 : goal.invariant_of-core-2
+invariant_of-core-2 c =
+    kept-hand _ c.args.worker (low-hand c.core.inside c.args.core.now c.core.view_is c.args.worker c.in_ok-claim.ensures.worker) c.index_mut.result.now _ c.index_mut.ensures.value c.fill_cell.ensures.room
+    (kept-sets c.core.inside c.name_page.new.sets (c.name_page.ensures.room c.core.inside.room (subst (λ (xs : List CoreSet). All (λ (x : CoreSet). c.core.inside.room ≤ x.cells.space) xs) (sym c.deref_mut.ensures.value) c.core.invariant.sets_room)) c.core.invariant)
+
+pub returns : goal.returns
+returns c =
+    let f = hand-changed c.core.inside c.args.core.now c.core.view_is c.args.worker c.in_ok-claim.ensures.worker c.index_mut.result.now c.fill_cell.new.self (fill_cell c.in_ok-claim.claim.page) c.index_mut.ensures.value c.fill_cell.ensures.view in (
+      c.in_ok-claim.ensures.tried,
+      rw (c.in_ok-claim.ensures.claim, ← c.core.view_is, f, items-whole c.core.inside.sets c.name_page.new.sets (c.name_page.auto.sets ∙ ap (λ (xs : List CoreSet). length xs) c.deref_mut.ensures.value), c.in_ok-name_page.ensures.ok, c.deref_mut.ensures.value) refl,
+      refl,
+    )

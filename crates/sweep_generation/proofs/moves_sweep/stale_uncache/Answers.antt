@@ -1,0 +1,25 @@
+use Rattle.std.proofs.Common.{length, ap, refl, arith}
+use Rattle.std.proofs.lemmas.Result.{err_from_is_err_and}
+use Rattle.sweep_generation.proofs.Seen.{hand-changed, hand-same, hand-is, room-at, low-hand, kept-hand, kept-word}
+use Rattle.sweep_generation.specs.State.{HandState}
+use Rattle.sweep_generation.specs.Changes.{sweep_from_cache}
+use Rattle.sweep_generation.proofs.moves_sweep.stale_uncache.Goals as goal
+
+pub invariant_of-core : goal.invariant_of-core
+invariant_of-core c = kept-hand c.core.inside c.args.worker (low-hand c.core.inside c.args.core.now c.core.view_is c.args.worker c.in_ok-try_stale_uncache.ensures.worker) c.index_mut.result.now _ c.index_mut.ensures.value c.sweep_from_cache.ensures.room c.core.invariant
+
+pub invariant_of-core-2 : goal.invariant_of-core-2
+invariant_of-core-2 c = kept-word _ c.args.page _ (kept-hand c.core.inside c.args.worker (low-hand c.core.inside c.args.core.now c.core.view_is c.args.worker c.in_ok-try_stale_uncache.ensures.worker) c.index_mut.result.now _ c.index_mut.ensures.value c.sweep_from_cache.ensures.room c.core.invariant)
+
+pub returns-in_err-sweep_from_cache : goal.returns-in_err-sweep_from_cache
+returns-in_err-sweep_from_cache c =
+    let p = err_from_is_err_and c.from_residual-in_err-sweep_from_cache.result c.from_residual-in_err-sweep_from_cache.ensures.1 in
+    let k = room-at c.core.inside c.args.core.now c.core.view_is c.args.worker c.in_ok-try_stale_uncache.ensures.worker c.index_mut.result.now c.index_mut.ensures.value c.core.invariant in
+    let e = ap (λ (h : HandState). length h.sweeping) (hand-is c.core.inside c.args.core.now c.core.view_is c.args.worker c.in_ok-try_stale_uncache.ensures.worker c.index_mut.result.now c.index_mut.ensures.value) in
+    rw (p.1, p.2, hand-same c.core.inside c.args.core.now c.core.view_is c.args.worker c.index_mut.result.now c.sweep_from_cache.new.self c.index_mut.ensures.value c.in_err-sweep_from_cache.ensures.err)
+    (c.core.view_is, λ r. omega (arith, r, e, k.sweeping, c.in_err-sweep_from_cache.ensures.full))
+
+pub returns : goal.returns
+returns c =
+    let e = hand-changed c.core.inside c.args.core.now c.core.view_is c.args.worker c.in_ok-try_stale_uncache.ensures.worker c.index_mut.result.now c.sweep_from_cache.new.self (sweep_from_cache c.args.page) c.index_mut.ensures.value c.in_ok-sweep_from_cache.ensures.ok in
+    (c.in_ok-try_stale_uncache.ensures.tried, rw (← c.core.view_is, e, c.saturating_sub.ensures) refl, refl)

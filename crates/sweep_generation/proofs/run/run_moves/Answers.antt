@@ -1,0 +1,22 @@
+use Rattle.std.proofs.Common.{rules, ◌≡◌, Ok, Err}
+use Rattle.sweep_generation.proofs.StepsKept.{ran_end, ran_more, ran_stops, runs_owned, runs_once}
+use Rattle.sweep_generation.proofs.run.run_moves.Goals as goal
+
+pub loop-mv-preserved : goal.loop-mv-preserved
+loop-mv-preserved c = ran_more _ _ _ _ c.as_slice-mv-items.ensures _ c.loop-mv.invariant _ _ _ _ c.loop-mv-test.true c.mv-item.is c.step_by.ensures c.in_ok-step_by.was
+
+pub returns-in_err-step_by-clause-exact : goal.returns-in_err-step_by-clause-exact
+returns-in_err-step_by-clause-exact c = let e : c.from_residual.result ≡ Err c.in_err-step_by.field-0.0 = search rules in
+    ran_stops _ _ _ _ c.as_slice-mv-items.ensures _ c.loop-mv.invariant _ _ _ _ _ c.loop-mv-test.true c.mv-item.is c.step_by.ensures c.in_err-step_by.was e
+
+pub returns-in_err-step_by-clause-owned : goal.returns-in_err-step_by-clause-owned
+returns-in_err-step_by-clause-owned c = runs_owned _ _ _ _ (returns-in_err-step_by-clause-exact c)
+
+pub returns-clause-exact : goal.returns-clause-exact
+returns-clause-exact c = ran_end _ _ _ _ c.as_slice-mv-items.ensures _ c.loop-mv.invariant c.loop-mv-test.false
+
+pub returns-clause-owned : goal.returns-clause-owned
+returns-clause-owned c = runs_owned c.args.core.now c.loop-mv.core c.args.moves.now (Ok tt) (returns-clause-exact c)
+
+pub returns-clause-once : goal.returns-clause-once
+returns-clause-once c = runs_once c.args.core.now c.loop-mv.core c.args.moves.now (Ok tt) (returns-clause-exact c)

@@ -1,0 +1,6 @@
+use Rattle.std.proofs.Common.{take}
+use Rattle.sweep_generation.proofs.StepsKept.{Ran}
+use Rattle.sweep_generation.proofs.run.run_moves.Given as goal
+
+abbrev pub invariant-loop-mv : goal.invariant-loop-mv
+invariant-loop-mv l = Ran l.fn.core l.core (take l.mv-index l.moves)

@@ -1,0 +1,27 @@
+use Rattle.std.proofs.Common.{◌∙◌, ◌<◌, ℕ, length, get_or, set, sym, subst, arith, rules, below_more, get_or-set_same, get_or-set_other}
+use Rattle.std.proofs.Math.Seq.{map-set_same}
+use Rattle.std.proofs.lemmas.List.Elements.{All-set}
+use Rattle.sweep_generation.specs.declared.hand.CoreHand.{CoreHand}
+use Rattle.sweep_generation.specs.Views.{hand_view, HandRoom}
+use Rattle.sweep_generation.proofs.start.reserve_hands.Goals as goal
+
+pub returns-in_err-reserve_all-clause-view : goal.returns-in_err-reserve_all-clause-view
+returns-in_err-reserve_all-clause-view c =
+    map-set_same hand_view c.loop-k.hands c.loop-k.k c.reserve_all.new.self c.index-hands-k.result c.reserve_all.ensures.view ∙ c.loop-k.invariant.same
+
+pub returns-in_err-reserve_all-clause-keeps : goal.returns-in_err-reserve_all-clause-keeps
+returns-in_err-reserve_all-clause-keeps c = λ n all.
+    let low : c.loop-k.k < length c.loop-k.hands = search rules in
+    All-set (HandRoom n) c.loop-k.hands c.loop-k.k c.reserve_all.new.self (c.reserve_all.ensures.room n (c.loop-k.invariant.room n all c.loop-k.k c.index-hands-k.result low)) (c.loop-k.invariant.room n all)
+
+pub loop-k-preserved : goal.loop-k-preserved
+loop-k-preserved c =
+    let low : c.loop-k.k < length c.loop-k.hands = search rules in
+    let new : CoreHand = c.reserve_all.new.self in
+    record {
+      same = map-set_same hand_view c.loop-k.hands c.loop-k.k new c.index-hands-k.result c.reserve_all.ensures.view ∙ c.loop-k.invariant.same;
+      done = λ j e lt. below_more (λ (i : ℕ). (x : CoreHand) → HandRoom c.args.room (get_or (set c.loop-k.hands c.loop-k.k new) i x)) c.loop-k.k
+          (λ i l x. subst (λ (y : CoreHand). HandRoom c.args.room y) (sym (get_or-set_other c.loop-k.hands c.loop-k.k i new x (omega arith))) (c.loop-k.invariant.done i x l))
+          (λ x. subst (λ (y : CoreHand). HandRoom c.args.room y) (sym (get_or-set_same c.loop-k.hands c.loop-k.k new x low)) c.in_ok-reserve_all.ensures.ok) j lt e;
+      room = λ n all. All-set (HandRoom n) c.loop-k.hands c.loop-k.k new (c.reserve_all.ensures.room n (c.loop-k.invariant.room n all c.loop-k.k c.index-hands-k.result low)) (c.loop-k.invariant.room n all);
+    }

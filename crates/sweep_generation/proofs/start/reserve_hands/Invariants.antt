@@ -1,0 +1,12 @@
+use Rattle.std.proofs.Common.{◌≡◌, ◌<◌, ℕ, map, get_or}
+use Rattle.std.specs.List.{All}
+use Rattle.sweep_generation.specs.declared.hand.CoreHand.{CoreHand}
+use Rattle.sweep_generation.specs.Views.{hand_view, HandRoom}
+use Rattle.sweep_generation.proofs.start.reserve_hands.Given as goal
+
+abbrev pub invariant-loop-k : goal.invariant-loop-k
+invariant-loop-k l = record {
+  same : map hand_view l.hands ≡ map hand_view l.initial.hands;
+  done : (j : ℕ) (d : CoreHand) → j < l.k → HandRoom l.room (get_or l.hands j d);
+  room : (n : ℕ) → All (HandRoom n) l.initial.hands → All (HandRoom n) l.hands;
+}

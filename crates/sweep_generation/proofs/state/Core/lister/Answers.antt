@@ -1,0 +1,12 @@
+use Rattle.std.proofs.Common.{sym}
+use Rattle.sweep_generation.proofs.Maps.{position-map}
+use Rattle.sweep_generation.specs.State.{HandState}
+use Rattle.sweep_generation.specs.Lists.{has}
+use Rattle.sweep_generation.specs.Needs.{listed}
+use Rattle.sweep_generation.specs.Views.{hand_view}
+use Rattle.sweep_generation.proofs.state.Core.lister.Goals as goal
+
+pub returns : goal.returns
+returns c =
+    rw (← c.self.view_is, c.narrow.ensures, c.first_lister.ensures, c.deref.ensures.value)
+    (sym (position-map hand_view (λ (h : HandState). has c.args.page (listed c.args.kind h)) c.self.inside.hands.items))

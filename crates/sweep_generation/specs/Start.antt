@@ -1,0 +1,39 @@
+-- The state at the start.
+use Rattle.std.specs.Prelude.{ℕ, List, [], None, map}
+use Rattle.std.specs.List.{range_with_len}
+use Rattle.sweep_generation.specs.State.{CoreState}
+use Rattle.sweep_generation.specs.Needs.{no_hand, no_set}
+use Rattle.sweep_generation.specs.declared.hand.CoreHand.{CoreHand}
+use Rattle.sweep_generation.specs.declared.set.CoreSet.{CoreSet}
+
+-- n copies of an item
+abbrev pub copies : {A : Type 0} → ℕ → A → List A
+copies n x = map (λ _. x) (range_with_len 0 n)
+
+-- generation 4, all pages free, all sets and hands empty, no lives and no holder of the lock
+abbrev pub new_state : ℕ → ℕ → CoreState
+new_state pages workers = record {
+  generation = 4;
+  words = copies pages 0;
+  owners = copies pages None;
+  lives = [];
+  sets = copies 544 no_set;
+  lock = None;
+  hands = copies workers no_hand;
+  room = 0;
+  prepared = 0;
+}
+
+-- a hand and a set with nothing in them and no room
+abbrev pub bare_hand : CoreHand
+bare_hand = record {
+  sweeping = record { items = []; space = 0 };
+  held = record { items = []; space = 0 };
+  cached = record { items = []; space = 0 };
+  popped = record { items = []; space = 0 };
+  claimed = None;
+  swept = record { items = []; space = 0 };
+}
+
+abbrev pub bare_set : CoreSet
+bare_set = record { head = 0; tail = 0; cells = record { items = []; space = 0 } }

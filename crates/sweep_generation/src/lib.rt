@@ -1,0 +1,44 @@
+//! Who may touch a span: the states of its generation word, and the moves between them over plain lists.
+#![tactic(auto)]
+
+mod entries;
+mod hand;
+mod kind;
+mod life;
+mod mark_end;
+mod moves;
+mod moves_cache;
+mod moves_lock;
+mod moves_pages;
+mod moves_sets;
+mod moves_sweep;
+mod owners;
+mod roles;
+mod run;
+mod scan;
+mod set;
+mod spare;
+mod start;
+mod state;
+mod steps;
+mod tries;
+mod tries_life;
+mod tries_next;
+mod tries_sets;
+mod words;
+
+pub use entries::Entries;
+pub use hand::CoreHand;
+pub use life::Life;
+pub use moves::{Claimed, Found, Move, Reply, StepFault};
+pub use roles::Role;
+pub use run::run_moves;
+pub use set::CoreSet;
+pub use state::Core;
+pub use steps::step;
+pub use words::role;
+
+#[cfg(test)]
+mod run_tests;
+#[cfg(test)]
+mod tests;

@@ -1,0 +1,40 @@
+ghost use Rattle.std.specs.Prelude.{◌≡◌};
+ghost use Rattle.sweep_generation.specs.Step.{Steps};
+
+use crate::life::allocate_index;
+use crate::moves::{Move, Reply, StepFault};
+use crate::state::Core;
+
+// Caches a span that the worker holds.
+pub(crate) fn cache(core: &mut Core, worker: u32, page: u32) -> Result<Reply, StepFault>
+    ensures { Steps core.old core.new (Move.Cache worker page) result }
+{
+    core.try_cache(worker, page)?;
+    core.hands[worker as usize].put_in_cache(page)?;
+    core.words[page as usize] = core.generation + 3;
+    Ok(Reply::Done)
+}
+
+// Takes a swept span out of the cache.
+pub(crate) fn uncache(core: &mut Core, worker: u32, page: u32) -> Result<Reply, StepFault>
+    ensures { Steps core.old core.new (Move.Uncache worker page) result }
+{
+    core.try_uncache(worker, page)?;
+    core.hands[worker as usize].take_from_cache(page)?;
+    core.words[page as usize] = core.generation;
+    Ok(Reply::Done)
+}
+
+// Allocates an object.
+pub(crate) fn allocate(
+    core: &mut Core,
+    worker: u32,
+    page: u32,
+    index: u32,
+) -> Result<Reply, StepFault>
+    ensures { Steps core.old core.new (Move.Allocate worker page index) result }
+{
+    core.try_allocate(worker, page, index)?;
+    allocate_index(&mut core.lives, page, index)?;
+    Ok(Reply::Done)
+}

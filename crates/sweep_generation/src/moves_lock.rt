@@ -1,0 +1,23 @@
+ghost use Rattle.std.specs.Prelude.{◌≡◌, ◌<◌, ◌≤◌, length};
+ghost use Rattle.sweep_generation.specs.Step.{Steps};
+
+use crate::moves::{Move, Reply, StepFault};
+use crate::state::Core;
+
+// Takes the heap lock.
+pub(crate) fn lock(core: &mut Core, worker: u32) -> Result<Reply, StepFault>
+    ensures { Steps core.old core.new (Move.Lock worker) result }
+{
+    core.try_lock(worker)?;
+    core.lock = Some(worker);
+    Ok(Reply::Done)
+}
+
+// Lets go of the heap lock.
+pub(crate) fn unlock(core: &mut Core, worker: u32) -> Result<Reply, StepFault>
+    ensures { Steps core.old core.new (Move.Unlock worker) result }
+{
+    core.try_unlock(worker)?;
+    core.lock = None;
+    Ok(Reply::Done)
+}

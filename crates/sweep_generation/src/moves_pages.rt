@@ -1,0 +1,41 @@
+ghost use Rattle.std.specs.Prelude.{◌≡◌};
+ghost use Rattle.sweep_generation.specs.Step.{Steps};
+
+use crate::life::{drop_life, push_life, reserve_life};
+use crate::moves::{Move, Reply, StepFault};
+use crate::owners::put_owner;
+use crate::state::Core;
+
+// Makes a span of free pages, which the worker holds.
+pub(crate) fn take(
+    core: &mut Core,
+    worker: u32,
+    page: u32,
+    pages: u32,
+    count: u32,
+    class: u8,
+) -> Result<Reply, StepFault>
+    ensures { Steps core.old core.new (Move.Take worker page pages count class) result }
+{
+    core.try_take(worker, page, pages, count, class)?;
+    reserve_life(&mut core.lives)?;
+    core.hands[worker as usize].reserve_held()?;
+    let life = core.spare.make(core.alloc, page, pages, count, class)?;
+    push_life(&mut core.lives, life);
+    core.hands[worker as usize].take_hold(page);
+    put_owner(&mut core.owners, page, pages, Some(page));
+    core.words[page as usize] = core.generation;
+    Ok(Reply::Done)
+}
+
+// Gives a span without objects back: its pages are free again.
+pub(crate) fn give(core: &mut Core, worker: u32, page: u32) -> Result<Reply, StepFault>
+    ensures { Steps core.old core.new (Move.Give worker page) result }
+{
+    core.try_give(worker, page)?;
+    core.hands[worker as usize].let_go(page);
+    let pages = drop_life(&mut core.lives, page);
+    put_owner(&mut core.owners, page, pages, None);
+    core.words[page as usize] = 0;
+    Ok(Reply::Done)
+}

@@ -1,0 +1,167 @@
+ghost use Rattle.std.specs.Prelude.{◌≡◌, ℕ, ◌≤◌, ◌<◌, ◌+◌, ◌^◌, map, length, max, None, IfOk, OnOk, OnErr};
+ghost use Rattle.std.specs.List.{All};
+ghost use Rattle.sweep_generation.specs.Owned.{Owned};
+ghost use Rattle.sweep_generation.specs.Start.{copies, new_state, bare_hand, bare_set};
+ghost use Rattle.sweep_generation.specs.Views.{hand_view, set_view, HandRoom};
+
+use crate::entries::Entries;
+use crate::hand::CoreHand;
+use crate::life::{Life, reserve_lives};
+use crate::set::CoreSet;
+use crate::spare::Spare;
+use crate::state::Core;
+use edge_io::{List, NoMemory};
+use std::alloc::{AllocError, Global};
+
+// The number of sets: for each of 136 span classes two partial and two full ones.
+const SETS: usize = 544;
+
+// A set without entries.
+fn empty_set(alloc: Global) -> CoreSet
+    ensures { result ≡ bare_set }
+{
+    CoreSet {
+        head: 0,
+        tail: 0,
+        cells: Entries::new(alloc),
+    }
+}
+
+// A hand that has nothing.
+fn empty_hand(alloc: Global) -> CoreHand
+    ensures { result ≡ bare_hand }
+{
+    CoreHand {
+        sweeping: Entries::new(alloc),
+        held: Entries::new(alloc),
+        cached: Entries::new(alloc),
+        popped: Entries::new(alloc),
+        claimed: None,
+        swept: Entries::new(alloc),
+    }
+}
+
+fn no_words(alloc: Global, pages: u32) -> Result<Vec<u64>, AllocError>
+    ensures { IfOk result (λ words. words.items ≡ copies pages 0) }
+{
+    (0..pages).map(|_| 0u64).collect(alloc)
+}
+
+fn no_owners(alloc: Global, pages: u32) -> Result<Vec<Option<u32>>, AllocError>
+    ensures { IfOk result (λ owners. owners.items ≡ copies pages None) }
+{
+    (0..pages).map(|_| None).collect(alloc)
+}
+
+fn empty_sets(alloc: Global) -> Result<Vec<CoreSet>, AllocError>
+    ensures { IfOk result (λ sets. sets.items ≡ copies 544 bare_set) }
+{
+    (0..SETS).map(|_| empty_set(alloc)).collect(alloc)
+}
+
+fn empty_hands(alloc: Global, workers: u32) -> Result<Vec<CoreHand>, AllocError>
+    ensures { IfOk result (λ hands. hands.items ≡ copies workers bare_hand) }
+{
+    (0..workers).map(|_| empty_hand(alloc)).collect(alloc)
+}
+
+// Each set gets room for so many cells.
+fn reserve_sets(sets: &mut [CoreSet], room: usize) -> Result<(), NoMemory>
+    ensures view { map set_view sets.new ≡ map set_view sets.old }
+    ensures ok { OnOk result (All (λ set. room ≤ set.cells.space) sets.new) }
+    ensures keeps { (n : ℕ) → All (λ set. n ≤ set.cells.space) sets.old → All (λ set. n ≤ set.cells.space) sets.new }
+{
+    for k in 0..sets.len() {
+        sets[k].cells.reserve(room)?;
+    }
+    Ok(())
+}
+
+// Each list of each hand gets room for so many entries.
+fn reserve_hands(hands: &mut [CoreHand], room: usize) -> Result<(), NoMemory>
+    ensures view { map hand_view hands.new ≡ map hand_view hands.old }
+    ensures ok { OnOk result (All (HandRoom room) hands.new) }
+    ensures keeps { (n : ℕ) → All (HandRoom n) hands.old → All (HandRoom n) hands.new }
+{
+    for k in 0..hands.len() {
+        hands[k].reserve_all(room)?;
+    }
+    Ok(())
+}
+
+impl Core {
+    /// A region of so many pages, all of them free, for so many workers: generation 4, all 544 sets empty, no
+    /// holder of the lock, and no room made.
+    pub fn new(alloc: Global, pages: u32, workers: u32) -> Result<Core, NoMemory>
+        ensures state { IfOk result (λ core. core ≡ new_state pages workers) }
+        ensures owned { IfOk result (λ core. Owned core) }
+    {
+        let words = no_words(alloc, pages)?;
+        let owners = no_owners(alloc, pages)?;
+        let sets = empty_sets(alloc)?;
+        let hands = empty_hands(alloc, workers)?;
+        Ok(Core {
+            generation: 4,
+            words,
+            owners,
+            lives: Vec::new(alloc),
+            sets,
+            lock: None,
+            hands,
+            room: 0,
+            spare: Spare::new(alloc),
+            alloc,
+        })
+    }
+
+    /// A core as `new` makes it, but of another generation and with these sets: a state to try moves on.
+    pub fn with_sets(
+        alloc: Global,
+        pages: u32,
+        workers: u32,
+        generation: u64,
+        sets: List<CoreSet>,
+    ) -> Result<Core, NoMemory>
+        requires { generation + 3 < 2 ^ 64 }
+        ensures { IfOk result (λ core. core ≡ record (new_state pages workers) { generation = generation; sets = map set_view sets }) }
+    {
+        let words = no_words(alloc, pages)?;
+        let owners = no_owners(alloc, pages)?;
+        let hands = empty_hands(alloc, workers)?;
+        Ok(Core {
+            generation,
+            words,
+            owners,
+            lives: Vec::new(alloc),
+            sets: sets.into_vec(),
+            lock: None,
+            hands,
+            room: 0,
+            spare: Spare::new(alloc),
+            alloc,
+        })
+    }
+
+    /// Makes room for as many entries as there are pages in the lives, in each set's cells and in each list of
+    /// each hand.
+    pub fn make_room(&mut self) -> Result<(), NoMemory>
+        ensures ok { OnOk result (self.new ≡ record self.old { room = length self.old.words }) }
+        ensures err { OnErr result (self.new ≡ self.old) }
+    {
+        let room = self.words.len();
+        reserve_lives(&mut self.lives, room)?;
+        reserve_sets(&mut self.sets, room)?;
+        reserve_hands(&mut self.hands, room)?;
+        self.room = room;
+        Ok(())
+    }
+
+    /// Prepares a life of so many objects. The next Take of at most as many uses it up and takes no memory for
+    /// its life.
+    pub fn make_life_room(&mut self, count: u32) -> Result<(), NoMemory>
+        ensures ok { OnOk result (self.new ≡ record self.old { prepared = max self.old.prepared count }) }
+        ensures err { OnErr result (self.new ≡ self.old) }
+    {
+        self.spare.reserve(count as usize)
+    }
+}

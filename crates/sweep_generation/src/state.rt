@@ -1,0 +1,89 @@
+ghost use Rattle.std.specs.Prelude.{◌≡◌, map};
+ghost use Rattle.sweep_generation.specs.Views.{hand_view, life_view, set_view};
+
+use crate::hand::CoreHand;
+use crate::life::Life;
+use crate::set::CoreSet;
+use crate::spare::Spare;
+use std::alloc::Global;
+use std::marker::Model;
+
+/// The whole state of span ownership over plain lists.
+#[derive(Debug, Drop)]
+pub struct Core {
+    pub(crate) generation: u64,
+    pub(crate) words: Vec<u64>,
+    pub(crate) owners: Vec<Option<u32>>,
+    pub(crate) lives: Vec<Life>,
+    pub(crate) sets: Vec<CoreSet>,
+    pub(crate) lock: Option<u32>,
+    pub(crate) hands: Vec<CoreHand>,
+    // How many entries the lives, each set's cells and each list of each hand have room for at least.
+    pub(crate) room: usize,
+    pub(crate) spare: Spare,
+    pub(crate) alloc: Global,
+}
+
+impl Model for Core {
+    ghost use Rattle.std.specs.Prelude.{◌≤◌, vec_capacity};
+    ghost use Rattle.sweep_generation.specs.State.{CoreState};
+
+    ghost Value = { CoreState };
+
+    ghost use Rattle.sweep_generation.specs.Kept.{core_view, IsKept};
+
+    ghost view = { core_view };
+
+    ghost invariant = { IsKept };
+}
+
+impl Core {
+    /// The generation: it starts at 4 and rises by 2 at each mark end.
+    pub fn generation(&self) -> u64
+        ensures { result ≡ self.now.generation }
+    {
+        self.generation
+    }
+
+    /// The generation word of each page.
+    pub fn words(&self) -> &[u64]
+        ensures { result.now ≡ self.now.words }
+    {
+        &self.words
+    }
+
+    /// The first page of the span that owns each page, None for a free page.
+    pub fn owners(&self) -> &[Option<u32>]
+        ensures { result.now ≡ self.now.owners }
+    {
+        &self.owners
+    }
+
+    /// The spans from their Take to their Give, in the order of their Takes.
+    pub fn lives(&self) -> &[Life]
+        ensures { map life_view result.now ≡ self.now.lives }
+    {
+        &self.lives
+    }
+
+    /// The 544 sets. The number of a set is four times the span class, plus 2 for a full set, plus its part.
+    pub fn sets(&self) -> &[CoreSet]
+        ensures { map set_view result.now ≡ self.now.sets }
+    {
+        &self.sets
+    }
+
+    /// The worker that holds the heap lock.
+    pub fn lock(&self) -> Option<u32>
+        ensures { result ≡ self.now.lock }
+    {
+        self.lock
+    }
+
+    /// What each worker has.
+    pub fn hands(&self) -> &[CoreHand]
+        ensures { map hand_view result.now ≡ self.now.hands }
+    {
+        &self.hands
+    }
+}

@@ -1,0 +1,48 @@
+ghost use Rattle.std.specs.Prelude.{◌≡◌};
+ghost use Rattle.sweep_generation.specs.Owned.{Owned};
+ghost use Rattle.sweep_generation.specs.Step.{Steps};
+
+use crate::mark_end::next;
+use crate::moves::{Move, Reply, StepFault};
+use crate::moves_cache::{allocate, cache, uncache};
+use crate::moves_lock::{lock, unlock};
+use crate::moves_pages::{give, take};
+use crate::moves_sets::{claim, fill, pop_swept, pop_unswept};
+use crate::moves_sweep::{acquire, drop_popped, release, stale_uncache};
+use crate::state::Core;
+
+// Makes one move.
+pub(crate) fn step_by(core: &mut Core, mv: &Move) -> Result<Reply, StepFault>
+    ensures { Steps core.old core.new mv.now result }
+{
+    match mv {
+        Move::Lock(worker) => lock(core, *worker),
+        Move::Unlock(worker) => unlock(core, *worker),
+        Move::Take(worker, page, pages, count, class) => {
+            take(core, *worker, *page, *pages, *count, *class)
+        }
+        Move::Give(worker, page) => give(core, *worker, *page),
+        Move::Acquire(worker, page) => acquire(core, *worker, *page),
+        Move::Release(worker, page) => release(core, *worker, *page),
+        Move::Cache(worker, page) => cache(core, *worker, *page),
+        Move::Allocate(worker, page, index) => allocate(core, *worker, *page, *index),
+        Move::Uncache(worker, page) => uncache(core, *worker, *page),
+        Move::StaleUncache(worker, page) => stale_uncache(core, *worker, *page),
+        Move::Claim(worker, set, page) => claim(core, *worker, *set, *page),
+        Move::Fill(worker) => fill(core, *worker),
+        Move::PopSwept(worker, set) => pop_swept(core, *worker, *set),
+        Move::PopUnswept(worker, set) => pop_unswept(core, *worker, *set),
+        Move::DropPopped(worker, page) => drop_popped(core, *worker, *page),
+        Move::Next(marks) => next(core, marks.as_slice()),
+    }
+}
+
+/// Makes one move. It is done and answered as defined, or refused at the first need that fails with what was
+/// found; or memory ran out. After a refusal and without memory nothing changed. Memory is not asked for where
+/// the lists that the move puts something into have room.
+pub fn step(core: &mut Core, mv: Move) -> Result<Reply, StepFault>
+    ensures exact { Steps core.old core.new mv result }
+    ensures owned { Owned core.old → Owned core.new }
+{
+    step_by(core, &mv)
+}

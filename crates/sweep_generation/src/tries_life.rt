@@ -1,0 +1,158 @@
+ghost use Rattle.std.specs.Prelude.{◌≡◌, ◌<◌, ◌≤◌, ◌+◌, OnOk, length, [], ◌∷◌};
+ghost use Rattle.sweep_generation.specs.Needs.{
+  need,
+  run_in_range,
+  class_in_range,
+  nothing_allocated,
+  run_is_free,
+  run_owner,
+  take_needs,
+  give_needs,
+  allocate_needs,
+  is_at_hand,
+  may_allocate,
+  is_least_free,
+  free_index,
+  life_of,
+};
+ghost use Rattle.sweep_generation.specs.Tries.{Tried};
+
+use crate::kind::Kind;
+use crate::moves::{Found, StepFault};
+use crate::scan::{first_owner, least, least_free};
+use crate::state::Core;
+use crate::tries::demand;
+
+// The number of span classes.
+const SPAN_CLASSES: u8 = 136;
+
+impl Core {
+    fn try_run(&self, page: u32, pages: u32) -> Result<(), StepFault>
+        ensures ok { OnOk result (page + pages ≤ length self.now.words) }
+        ensures tried { Tried (run_in_range self.now page pages ∷ []) result }
+    {
+        let end = u64::from(page) + u64::from(pages);
+        demand(end <= self.words.len() as u64, Found::Range)
+    }
+
+    fn try_run_is_free(&self, page: u32, pages: u32) -> Result<(), StepFault>
+        requires { page + pages ≤ length self.now.words }
+        ensures { Tried (run_is_free self.now page pages ∷ []) result }
+    {
+        let start = page as usize;
+        let end = start + pages as usize;
+        match first_owner(&self.owners[start..end]) {
+            Some(owner) => demand(false, Found::Owner(owner)),
+            None => Ok(()),
+        }
+    }
+
+    fn try_nothing_allocated(&self, page: u32) -> Result<(), StepFault>
+        ensures { Tried (nothing_allocated self.now page ∷ []) result }
+    {
+        match self.life(page) {
+            Some(life) => match least(life.allocated.as_slice()) {
+                Some(index) => demand(false, Found::Index(Some(index))),
+                None => Ok(()),
+            },
+            None => Ok(()),
+        }
+    }
+
+    pub(crate) fn try_take(
+        &self,
+        worker: u32,
+        page: u32,
+        pages: u32,
+        count: u32,
+        class: u8,
+    ) -> Result<(), StepFault>
+        ensures worker { OnOk result (worker < length self.now.hands) }
+        ensures run { OnOk result (page + pages ≤ length self.now.words) }
+        ensures page { OnOk result (page < length self.now.words) }
+        ensures tried { Tried (take_needs self.now worker page pages count class) result }
+    {
+        self.try_worker(worker)?;
+        self.try_page(page)?;
+        self.try_run(page, pages)?;
+        demand(class < SPAN_CLASSES, Found::Range)?;
+        self.try_lock_is_own(worker)?;
+        demand(0 < pages && 0 < count, Found::Range)?;
+        self.try_run_is_free(page, pages)
+    }
+
+    pub(crate) fn try_give(&self, worker: u32, page: u32) -> Result<(), StepFault>
+        ensures worker { OnOk result (worker < length self.now.hands) }
+        ensures page { OnOk result (page < length self.now.words) }
+        ensures tried { Tried (give_needs self.now worker page) result }
+    {
+        self.try_worker(worker)?;
+        self.try_page(page)?;
+        self.try_lock_is_own(worker)?;
+        self.try_list(Kind::Held, worker, page)?;
+        self.try_nothing_allocated(page)?;
+        self.try_claims_nothing(worker)
+    }
+
+    fn try_at_hand(&self, worker: u32, page: u32) -> Result<(), StepFault>
+        requires { worker < length self.now.hands }
+        ensures { Tried (is_at_hand self.now worker page ∷ []) result }
+    {
+        let hand = &self.hands[worker as usize];
+        if hand.cached.has(page) || hand.held.has(page) {
+            return Ok(());
+        }
+        let found = match self.lister(Kind::Cached, page) {
+            Some(cacher) => Found::Holder(Some(cacher)),
+            None => Found::Holder(self.lister(Kind::Held, page)),
+        };
+        Err(StepFault::NotAllowed { found })
+    }
+
+    // The objects of the first life that begins at the page, 0 where there is none.
+    fn count_at(&self, page: u32) -> u32
+        ensures { result ≡ (life_of self.now page).count }
+    {
+        match self.life(page) {
+            Some(life) => life.count,
+            None => 0,
+        }
+    }
+
+    fn try_may_allocate(&self, worker: u32, page: u32) -> Result<(), StepFault>
+        requires worker { worker < length self.now.hands }
+        requires page { page < length self.now.words }
+        ensures { Tried (may_allocate self.now worker page ∷ []) result }
+    {
+        let hand = &self.hands[worker as usize];
+        let word = self.words[page as usize];
+        let cached = hand.cached.has(page) && word == self.generation + 3;
+        let single = hand.held.has(page) && word == self.generation && self.count_at(page) == 1;
+        demand(cached || single, Found::Word(word))
+    }
+
+    // The least index below the count that is not allocated.
+    fn free_index(&self, page: u32) -> Option<u32>
+        ensures { result ≡ free_index self.now page }
+    {
+        let life = self.life(page)?;
+        least_free(life.allocated.as_slice(), life.count)
+    }
+
+    fn try_least_free(&self, page: u32, index: u32) -> Result<(), StepFault>
+        ensures { Tried (is_least_free self.now page index ∷ []) result }
+    {
+        let free = self.free_index(page);
+        demand(free == Some(index), Found::Index(free))
+    }
+
+    pub(crate) fn try_allocate(&self, worker: u32, page: u32, index: u32) -> Result<(), StepFault>
+        ensures { Tried (allocate_needs self.now worker page index) result }
+    {
+        self.try_worker(worker)?;
+        self.try_page(page)?;
+        self.try_at_hand(worker, page)?;
+        self.try_may_allocate(worker, page)?;
+        self.try_least_free(page, index)
+    }
+}

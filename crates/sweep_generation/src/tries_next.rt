@@ -1,0 +1,196 @@
+ghost use Rattle.std.specs.Prelude.{◌≡◌, ◌<◌, ◌+◌, ◌^◌, OnOk, not, map, option_map, option_copied, [], ◌∷◌};
+ghost use Rattle.std.specs.List.{find, position};
+ghost use Rattle.std.specs.Option.{is_some};
+ghost use Rattle.sweep_generation.specs.Lists.{rises, is_before as stands_before};
+ghost use Rattle.sweep_generation.specs.Needs.{
+  busy_hand,
+  hands_are_idle,
+  first_claim,
+  no_claims,
+  claim_index as claimed_at,
+  is_idle,
+  is_settled,
+  words_are_settled,
+  first_unpopped,
+  sets_are_popped,
+  is_swept_set,
+  is_allocated,
+  marks_are_allocated,
+  next_needs,
+};
+ghost use Rattle.sweep_generation.specs.Tries.{Tried};
+ghost use Rattle.sweep_generation.specs.Views.{hand_view, set_view};
+
+use crate::hand::CoreHand;
+use crate::moves::{Found, StepFault};
+use crate::set::CoreSet;
+use crate::state::Core;
+use crate::tries::{demand, narrow};
+
+// Mark ends are made below this generation.
+const LAST_GENERATION: u64 = 1 << 63;
+
+// Whether a pair stands before another: by the first parts, and then by the second ones.
+fn is_before(a: (u32, u32), b: (u32, u32)) -> bool
+    ensures { result ≡ stands_before a b }
+{
+    a.0 < b.0 || (a.0 == b.0 && a.1 < b.1)
+}
+
+// Whether pairs strictly rise.
+fn is_rising(marks: &[(u32, u32)]) -> bool
+    ensures { result ≡ rises marks.now }
+{
+    let Some((first, rest)) = marks.split_first() else {
+        return true;
+    };
+    let mut last = *first;
+    for mark in rest {
+        if !is_before(last, *mark) {
+            return false;
+        }
+        last = *mark;
+    }
+    true
+}
+
+// Whether the part of a set is swept in a generation.
+pub(crate) fn is_swept(generation: u64, number: u64) -> bool
+    ensures { result ≡ is_swept_set generation number }
+{
+    number % 2 == generation / 2 % 2
+}
+
+// The first hand that sweeps, holds or has popped a page.
+fn first_busy(hands: &[CoreHand]) -> Option<usize>
+    ensures { result ≡ position (λ hand. not (is_idle (hand_view hand))) hands.now }
+{
+    hands.iter().position(|hand| !hand.is_idle())
+}
+
+// The first hand with a claim.
+fn find_claim(hands: &[CoreHand]) -> Option<&CoreHand>
+    ensures { option_copied result ≡ find (λ hand. is_some (hand_view hand).claimed) hands.now }
+{
+    hands.iter().find(|hand| hand.claimed.is_some())
+}
+
+// The index that a hand claimed.
+fn claim_index(hand: &CoreHand) -> Option<u32>
+    ensures { result ≡ claimed_at (hand_view hand.now) }
+{
+    match hand.claimed {
+        Some(claim) => Some(claim.index),
+        None => None,
+    }
+}
+
+// The first word that is not settled.
+fn find_unsettled(words: &[u64], generation: u64) -> Option<u64>
+    requires { generation + 3 < 2 ^ 64 }
+    ensures { result ≡ find (λ word. not (is_settled generation word)) words.now }
+{
+    let cached = generation + 3;
+    words.iter().copied().find(|&word| !(word == 0 || word == generation || word == cached))
+}
+
+// The first unswept set with head and tail apart.
+fn find_unpopped(sets: &[CoreSet], generation: u64) -> Option<&CoreSet>
+    ensures { option_map (λ set. set_view set.now) result ≡ first_unpopped generation 0 (map set_view sets.now) }
+{
+    for (number, set) in sets.iter().enumerate() {
+        if !is_swept(generation, number as u64) && set.head != set.tail {
+            return Some(set);
+        }
+    }
+    None
+}
+
+impl Core {
+    fn busy_hand(&self) -> Option<u32>
+        ensures { result ≡ busy_hand self.now }
+    {
+        narrow(first_busy(&self.hands))
+    }
+
+    fn try_idle(&self) -> Result<(), StepFault>
+        ensures { Tried (hands_are_idle self.now ∷ []) result }
+    {
+        let busy = self.busy_hand();
+        demand(busy.is_none(), Found::Holder(busy))
+    }
+
+    fn first_claim(&self) -> Option<&CoreHand>
+        ensures { option_map (λ hand. hand_view hand.now) result ≡ first_claim self.now }
+    {
+        find_claim(&self.hands)
+    }
+
+    fn try_no_claims(&self) -> Result<(), StepFault>
+        ensures { Tried (no_claims self.now ∷ []) result }
+    {
+        match self.first_claim() {
+            Some(hand) => demand(false, Found::Index(claim_index(hand))),
+            None => Ok(()),
+        }
+    }
+
+    fn try_settled(&self) -> Result<(), StepFault>
+        ensures { Tried (words_are_settled self.now ∷ []) result }
+    {
+        match find_unsettled(&self.words, self.generation) {
+            Some(word) => demand(false, Found::Word(word)),
+            None => Ok(()),
+        }
+    }
+
+    fn try_popped(&self) -> Result<(), StepFault>
+        ensures { Tried (sets_are_popped self.now ∷ []) result }
+    {
+        match find_unpopped(&self.sets, self.generation) {
+            Some(set) => demand(false, Found::HeadTail(set.head, set.tail)),
+            None => Ok(()),
+        }
+    }
+
+    fn is_allocated(&self, mark: (u32, u32)) -> bool
+        ensures { result ≡ is_allocated self.now mark }
+    {
+        match self.life(mark.0) {
+            Some(life) => life.allocated.has(mark.1),
+            None => false,
+        }
+    }
+
+    fn find_wrong<'a>(&self, marks: &'a [(u32, u32)]) -> Option<&'a (u32, u32)>
+        ensures { option_copied result ≡ find (λ mark. not (is_allocated self.now mark)) marks.now }
+    {
+        marks.iter().find(|mark| !self.is_allocated(**mark))
+    }
+
+    fn try_marks(&self, marks: &[(u32, u32)]) -> Result<(), StepFault>
+        ensures { Tried (marks_are_allocated self.now marks.now ∷ []) result }
+    {
+        match self.find_wrong(marks) {
+            Some(mark) => demand(false, Found::Index(Some(mark.1))),
+            None => Ok(()),
+        }
+    }
+
+    pub(crate) fn try_next(&self, marks: &[(u32, u32)]) -> Result<(), StepFault>
+        ensures low { OnOk result (self.now.generation < 2 ^ 63) }
+        ensures tried { Tried (next_needs self.now marks.now) result }
+    {
+        demand(is_rising(marks), Found::Range)?;
+        demand(self.lock.is_none(), Found::Holder(self.lock))?;
+        demand(
+            self.generation < LAST_GENERATION,
+            Found::Word(self.generation),
+        )?;
+        self.try_idle()?;
+        self.try_no_claims()?;
+        self.try_settled()?;
+        self.try_popped()?;
+        self.try_marks(marks)
+    }
+}

@@ -1,0 +1,27 @@
+ghost use Rattle.std.specs.Prelude.{◌≡◌, ℕ, ◌≤◌, ◌^◌};
+ghost use Rattle.sweep_generation.specs.Roles.{role_of};
+
+use crate::roles::Role;
+
+/// The role of a word at a generation from 4 to 2^63.
+pub fn role(word: u64, generation: u64) -> Role
+    requires low { 4 ≤ generation }
+    requires high { generation ≤ 2 ^ 63 }
+    ensures { result ≡ role_of word generation }
+{
+    if word == 0 {
+        Role::Nothing
+    } else if word == generation - 2 {
+        Role::Unswept
+    } else if word == generation - 1 {
+        Role::Sweeping
+    } else if word == generation {
+        Role::Swept
+    } else if word == generation + 1 {
+        Role::StaleCached
+    } else if word == generation + 3 {
+        Role::Cached
+    } else {
+        Role::Foreign
+    }
+}
