@@ -1,5 +1,5 @@
 -- What the fields keep, and what contracts see, when a line was added.
-use Rattle.std.proofs.Common.{◌≡◌, ℕ, ◌+◌, ◌-◌, ◌*◌, ◌≤◌, List, ◌∷◌, length, Some, ap, sym, subst, ◌∙◌, arith, vec_len, vec_capacity}
+use Rattle.std.proofs.Common.{◌≡◌, ℕ, ◌+◌, ◌-◌, ◌*◌, ◌<◌, ◌≤◌, false, List, ◌∷◌, length, Some, ap, sym, subst, ◌∙◌, arith, vec_len, vec_capacity}
 use Rattle.page_bitmap.specs.declared.bitmap.Bitmap.{Bitmap}
 use Rattle.page_bitmap.specs.declared.chunk.Chunk.{Chunk}
 use Rattle.page_bitmap.specs.declared.line.Line.{Line}
@@ -14,13 +14,16 @@ pub sound-after : (a b : Inside) (chunks : List Chunk) (maps : List Bitmap) (len
     → length chunks ≡ length a.chunks.items → length maps ≡ length a.starts.items → length lengths ≡ length a.lengths.items
     → past_in b ≡ line ∷ past_in a
     → IsKept (region_of a) b.goal (line ∷ past_in a) (free_in chunks) (scavenged_in chunks) (pages_in maps) lengths b.live b.taken b.backed
-    → b.live + vec_len b.journal ≤ vec_capacity b.journal → IsSound b
-sound-after a b chunks maps lengths line sound is_chunks is_maps is_lengths same_chunks same_maps same_lengths past kept room = record {
+    → b.live + vec_len b.journal ≤ vec_capacity b.journal
+    → b.full ≤ length chunks → ((p : ℕ) → p < 512 * b.full → free_in chunks p ≡ false) → IsSound b
+sound-after a b chunks maps lengths line sound is_chunks is_maps is_lengths same_chunks same_maps same_lengths past kept room within taken = record {
   some_chunks = rw (is_chunks, same_chunks) sound.some_chunks;
   few_chunks = rw (is_chunks, same_chunks) sound.few_chunks;
   maps = rw (is_maps, is_chunks, same_chunks, same_maps) sound.maps;
   numbers = rw (is_lengths, is_chunks, same_chunks, same_lengths) sound.numbers;
   kept = rw (is_chunks, is_maps, is_lengths, same_chunks, past) kept;
+  full_within = rw is_chunks within;
+  full_taken = λ p lt. rw is_chunks (taken p lt);
   room = room;
 }
 

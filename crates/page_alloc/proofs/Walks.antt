@@ -1,7 +1,7 @@
 -- A walk over chunks from the lowest up, and parts of a run one after another.
 use Rattle.std.proofs.Common.{◌≡◌, ℕ, zero, suc, ◌+◌, ◌-◌, ◌*◌, ◌/◌, ◌%◌, ◌<◌, ◌≤◌, Bool, true, false, not, ltb, List, [], ◌∷◌, length, get_or, refl, sym, ◌∙◌, ap, arith, ◌⊎◌, inl, inr}
 use Rattle.std.proofs.Math.ListN.{set}
-use Rattle.std.proofs.lemmas.Bool.{lt-ltb, le-ltb, cases_lt, false≢true}
+use Rattle.std.proofs.lemmas.Bool.{lt-ltb, le-ltb, cases_lt, cases_Bool, false≢true}
 use Rattle.page_bitmap.specs.declared.chunk.Chunk.{Chunk}
 use Rattle.page_bitmap.specs.Runs.{IsRun, HasNoRun, IsFirstRun, IsFrontRun, IsBackRun, IsLongestRun, IsTopRun, SetsRun}
 use Rattle.page_bitmap.specs.Pages.{is_free, is_scavenged, can_scavenge}
@@ -69,14 +69,17 @@ walked-none map n some = record {
   none = λ q run. (let inside = run.inside in absurd (omega arith));
 }
 
-pub walked-more_pages : (map : ℕ → Bool) (n m base back : ℕ) → n ≤ m → Walked map n base back → Walked map m base back
-walked-more_pages map n m base back le walked = record {
-  low = walked.low;
-  each = walked.each;
-  stops = walked.stops;
+-- where no page below `base` is in the map, they are walked over
+pub walked-empty : (map : ℕ → Bool) (n base : ℕ) → 1 ≤ n → ((p : ℕ) → p < base → map p ≡ false) → Walked map n base 0
+walked-empty map n base some empty = record {
+  low = omega arith;
+  each = λ p low high. absurd (omega arith);
+  stops = λ lt. empty (base - 0 - 1) (omega arith);
   none = λ q run. (
       let inside = run.inside in
-      walked.none q (record { inside = omega arith; each = λ p low high. run.each p low (omega arith) }));
+      let was = run.each q (omega arith) (omega arith) in
+      let not_there = empty q (omega arith) in
+      absurd (false≢true (sym not_there ∙ was)));
 }
 
 -- The pages from `base` on are those of a chunk.
@@ -89,6 +92,34 @@ tied map m base p ties low high =
     let here : base + k ≡ p = omega arith in
     let at = ties.at k (omega arith) in
     sym (ap map here) ∙ at
+
+-- a chunk whose longest run has no page leaves the front empty
+pub empty-more : {map m : ℕ → Bool} {base max : ℕ} → Ties map m base → IsLongestRun m max → max ≡ 0 → ((p : ℕ) → p < base → map p ≡ false)
+    → (p : ℕ) → p < base + 512 → map p ≡ false
+empty-more {map} {m} {base} {max} ties longest none empty p lt =
+    elim (cases_lt p base) [
+      | inl before ↦ empty p before
+      | inr behind ↦ elim (cases_Bool (m (p - base))) [
+        | inr isnt ↦ tied map m base p ties behind lt ∙ isnt
+        | inl is ↦ (
+            let one : IsRun m (p - base) 1 = record {
+              within = omega arith;
+              each = λ q low high. (let here : q ≡ p - base = omega arith in rw here is);
+            } in
+            let short = longest.longest (p - base) 1 one in
+            absurd (omega arith))
+      ]
+    ]
+
+pub walked-more_pages : (map : ℕ → Bool) (n m base back : ℕ) → n ≤ m → Walked map n base back → Walked map m base back
+walked-more_pages map n m base back le walked = record {
+  low = walked.low;
+  each = walked.each;
+  stops = walked.stops;
+  none = λ q run. (
+      let inside = run.inside in
+      walked.none q (record { inside = omega arith; each = λ p low high. run.each p low (omega arith) }));
+}
 
 -- a run that begins before a chunk has at most the pages of the runs at both sides of the border
 pub straddle : (map m : ℕ → Bool) (n base back start q : ℕ) → Walked map n base back → Ties map m base → IsFrontRun m start

@@ -1,5 +1,5 @@
 -- What the pages of a region keep: their maps and numbers are those of the journal, which is legal.
-use Rattle.std.specs.Prelude.{◌≡◌, ℕ, ◌+◌, ◌-◌, ◌*◌, ◌<◌, ◌≤◌, Bool, true, not, is_some, List, length, slice_index, Some, vec_len, vec_capacity}
+use Rattle.std.specs.Prelude.{◌≡◌, ℕ, ◌+◌, ◌-◌, ◌*◌, ◌<◌, ◌≤◌, Bool, true, false, not, is_some, List, length, slice_index, Some, vec_len, vec_capacity}
 use Rattle.page_bitmap.specs.declared.line.Line.{Line}
 use Rattle.page_alloc.specs.declared.allocator.Pages.TheInside.{Inside}
 use Rattle.page_alloc.specs.Lists.{In}
@@ -38,4 +38,6 @@ pub record IsSound (inside : Inside) : Type 0 where
   pub maps : length inside.starts.items ≡ length inside.chunks.items
   pub numbers : length inside.lengths.items ≡ 512 * length inside.chunks.items
   pub kept : IsKept (region_of inside) inside.goal (past_in inside) (free_in inside.chunks.items) (scavenged_in inside.chunks.items) (pages_in inside.starts.items) inside.lengths.items inside.live inside.taken inside.backed
+  pub full_within : inside.full ≤ length inside.chunks.items
+  pub full_taken : (p : ℕ) → p < 512 * inside.full → free_in inside.chunks.items p ≡ false
   pub room : inside.live + vec_len inside.journal ≤ vec_capacity inside.journal

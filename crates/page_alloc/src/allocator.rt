@@ -40,7 +40,9 @@ ghost use Rattle.page_alloc.specs.Journal.{
   Legal,
 };
 
-use crate::runs::{first_run, free_run, longest_run, scavenge_run, take_run, top_run};
+use crate::runs::{
+    CHUNK_PAGES, first_run, free_run, full_chunks, longest_run, scavenge_run, take_run, top_run,
+};
 use crate::starts::{last_start, mark_start};
 use edge_io::NoMemory;
 use page_bitmap::{Bitmap, Chunk, Line, Run};
@@ -57,6 +59,8 @@ pub struct NoRun {
 #[derive(Drop)]
 pub struct Pages {
     chunks: Vec<Chunk>,
+    // So many chunks at the front have no free page, so that no search begins there.
+    full: usize,
     starts: Vec<Bitmap>,
     lengths: Vec<u32>,
     journal: Vec<Line>,
@@ -91,6 +95,7 @@ impl Pages {
         let count = chunks as usize;
         Ok(Pages {
             chunks: vec![in alloc; Chunk::new(); count]?,
+            full: 0,
             starts: vec![in alloc; Bitmap::empty(); count]?,
             lengths: vec![in alloc; 0; 512 * count]?,
             journal: Vec::new(alloc),
@@ -111,8 +116,8 @@ impl Pages {
     }
 
     /// First fit: the least page from which `n` pages are free, for n from 1 on. None exactly where no run of
-    /// n pages is free. The counter of steps stays, while the search goes chunk by chunk
-    /// (`mpagealloc.go`, `find`).
+    /// n pages is free. The search goes chunk by chunk from the first that has a free page, as Go's begins at
+    /// `searchAddr` (`mpagealloc.go`, `find`), and the counter of steps stays.
     pub fn find(&self, n: u32, steps: &mut u64) -> Option<u32>
         requires some { 1 ≤ n }
         requires room { steps.old ≤ 2 ^ 63 }
@@ -121,7 +126,7 @@ impl Pages {
         ensures steps { steps.new ≡ steps.old }
     {
         let _steps = *steps;
-        first_run(self.chunks.as_slice(), n)
+        first_run(self.chunks.as_slice(), self.full, n)
     }
 
     /// A span of `n` pages and this span class takes the pages at first fit, and a Take line says so; the
@@ -136,7 +141,7 @@ impl Pages {
         ensures missed { IfErr result (λ _. AddsLine self.old self.new (Line.Miss cycle n class)) }
         ensures line { IfErr result (λ none. none.line ≡ length self.old.past) }
     {
-        let Some(page) = first_run(self.chunks.as_slice(), n) else {
+        let Some(page) = first_run(self.chunks.as_slice(), self.full, n) else {
             let line = self.journal.len() as u64;
             append(
                 &mut self.journal,
@@ -150,6 +155,7 @@ impl Pages {
         };
         let run = Run { page, pages: n };
         self.backed += take_run(self.chunks.as_mut_slice(), run);
+        self.full = full_chunks(self.chunks.as_slice(), self.full);
         self.taken += n;
         self.live += 1;
         self.lengths[page as usize] = n;
@@ -175,6 +181,7 @@ impl Pages {
     {
         let pages = self.lengths[page as usize];
         free_run(self.chunks.as_mut_slice(), Run { page, pages });
+        self.full = self.full.min((page / CHUNK_PAGES) as usize);
         self.taken -= pages;
         self.live -= 1;
         mark_start(self.starts.as_mut_slice(), page, false);

@@ -37,15 +37,18 @@ pub const CHUNK_PAGES: u32 = 512;
 /// The most pages that one scavenging step releases (ours).
 const SCAVENGE_PAGES: u32 = 64;
 
-/// The first page of the lowest run of `n` free pages, of which there is at least one.
-pub(crate) fn first_run(chunks: &[Chunk], n: u32) -> Option<u32>
+/// The first page of the lowest run of `n` free pages, where the chunks at the front up to `full` have no free page.
+pub(crate) fn first_run(chunks: &[Chunk], full: usize, n: u32) -> Option<u32>
     requires chunks { length chunks.now ≤ 128 }
+    requires full { full ≤ length chunks.now }
+    requires taken { (p : ℕ) → p < 512 * full → free_in chunks.now p ≡ false }
     requires some { 1 ≤ n }
     ensures found { IfSome result (IsFirstRunIn (free_in chunks.now) (512 * length chunks.now) n) }
     ensures none { IfNone result (HasNoRunIn (free_in chunks.now) (512 * length chunks.now) n) }
 {
     let mut back = 0;
-    for (index, chunk) in chunks.iter().enumerate() {
+    for index in full..chunks.len() {
+        let chunk = &chunks[index];
         let base = CHUNK_PAGES * index as u32;
         let (start, max, end) = chunk.sums();
         if n <= back + start {
@@ -58,6 +61,22 @@ pub(crate) fn first_run(chunks: &[Chunk], n: u32) -> Option<u32>
         back = if end == CHUNK_PAGES { back + end } else { end };
     }
     None
+}
+
+/// How many chunks at the front have no free page, where the first `full` of them have none.
+pub(crate) fn full_chunks(chunks: &[Chunk], full: usize) -> usize
+    requires full { full ≤ length chunks.now }
+    requires taken { (p : ℕ) → p < 512 * full → free_in chunks.now p ≡ false }
+    ensures within { result ≤ length chunks.now }
+    ensures taken { (p : ℕ) → p < 512 * result → free_in chunks.now p ≡ false }
+{
+    for index in full..chunks.len() {
+        let (_, max, _) = chunks[index].sums();
+        if max > 0 {
+            return index;
+        }
+    }
+    chunks.len()
 }
 
 /// The pages of the longest run of free pages.

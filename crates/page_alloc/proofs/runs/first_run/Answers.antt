@@ -1,11 +1,11 @@
 use Rattle.std.proofs.Common.{◌≡◌, ◌+◌, ◌*◌, length, arith}
 use Rattle.page_bitmap.specs.Pages.{is_free}
-use Rattle.page_alloc.proofs.Walks.{ties-at, found-across, found-inside, none-shorter, walked-more, walked-none}
+use Rattle.page_alloc.proofs.Walks.{ties-at, found-across, found-inside, none-shorter, walked-more, walked-empty}
 use Rattle.page_alloc.proofs.runs.first_run.Goals as goal
 use Rattle.page_alloc.proofs.runs.first_run.Goals.{then-end-eq-CHUNK_PAGES, else-end-eq-CHUNK_PAGES}
 
 pub loop-index-init : goal.loop-index-init
-loop-index-init c = walked-none _ _ c.requires.some
+loop-index-init c = walked-empty _ _ _ c.requires.some c.requires.taken
 
 pub returns-then-n-back-clause-found : goal.returns-then-n-back-clause-found
 returns-then-n-back-clause-found c =

@@ -60,7 +60,8 @@ invariant_of-self c =
     (with_items_is c.self.inside.chunks c.free_run.new.chunks (chunks ∙ sym c.self.inside.chunks.ok.0)) (with_items_is c.self.inside.starts c.mark_start.new.starts (maps ∙ sym c.self.inside.starts.ok.0)) refl chunks maps refl append.past
     (kept-give _ _ _ c.args.cycle c.args.page c.index-pages.result.now life.0 sound.kept (by-view c.self.inside c.args.self.now c.args.cycle c.self.view_is c.requires.cycle) life.1.here life.1.first (sym read)
     (rw c.as_mut_slice.ensures.value at c.free_run.ensures.free) (rw c.as_mut_slice.ensures.value at c.free_run.ensures.scavenged) (rw c.as_mut_slice-2.ensures.value at c.mark_start.ensures))
-    (omega arith)
+    (omega arith) (let within = sound.full_within in omega arith)
+    (λ p lt. (rw c.as_mut_slice.ensures.value at c.free_run.ensures.free).below p (omega arith) ∙ sound.full_taken p (omega arith))
 
 pub returns : goal.returns
 returns c =

@@ -33,5 +33,7 @@ invariant_of-result c =
           (over-each is_free c.in_ok-vec.field-0.items c.new.result true (λ k j lt low. ap (λ (x : Chunk). is_free x j) (chunk k c.new.result (omega arith)) ∙ c.new.ensures.free.each j (omega arith) low))
           (over-each is_scavenged c.in_ok-vec.field-0.items c.new.result true (λ k j lt low. ap (λ (x : Chunk). is_scavenged x j) (chunk k c.new.result (omega arith)) ∙ c.new.ensures.scavenged.each j (omega arith) low))
           (λ p lt. over-each pages_of_map c.in_ok-vec-2.field-0.items c.empty.result false (λ k j ltk low. ap (λ (x : Bitmap). pages_of_map x j) (map k c.empty.result (omega arith)) ∙ c.empty.ensures j) p (omega arith)));
+      full_within = omega arith;
+      full_taken = λ p lt. absurd (omega arith);
       room = omega arith;
     }

@@ -26,7 +26,8 @@ invariant_of-self c =
     (with_items_is c.self.inside.chunks c.scavenge_run.new.chunks (chunks ∙ sym c.self.inside.chunks.ok.0)) refl refl chunks refl refl append.past
     (kept-scavenge _ _ c.args.cycle c.in_ok-run.run'.page c.in_ok-run.run'.pages sound.kept (by-view c.self.inside c.args.self.now c.args.cycle c.self.view_is c.requires.cycle) c.if-self.false run
     (rw c.as_mut_slice.ensures.value at c.scavenge_run.ensures.free) (rw c.as_mut_slice.ensures.value at c.scavenge_run.ensures.scavenged))
-    (omega arith)
+    (omega arith) (rw chunks sound.full_within)
+    (λ p lt. rw c.as_mut_slice.ensures.value at c.scavenge_run.ensures.free p ∙ sound.full_taken p lt)
 
 pub returns-clause-released : goal.returns-clause-released
 returns-clause-released c =

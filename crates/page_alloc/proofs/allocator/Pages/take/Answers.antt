@@ -17,7 +17,7 @@ invariant_of-self c =
     sound-after c.self.inside _ c.self.inside.chunks.items c.self.inside.starts.items c.self.inside.lengths.items _ sound refl refl refl refl refl refl append.past
     (kept-miss sound.kept (by-view c.self.inside c.args.self.now c.args.cycle c.self.view_is c.requires.cycle) c.requires.some
     (no-run sound.kept (rw c.as_slice.ensures.value at c.in_default.ensures.none)))
-    (omega arith)
+    (omega arith) sound.full_within sound.full_taken
 
 pub returns-in_default-clause-missed : goal.returns-in_default-clause-missed
 returns-in_default-clause-missed c =
@@ -52,13 +52,14 @@ invariant_of-self-2 c =
     let size = size-view c.self.inside c.args.self.now c.args.n c.args.class c.self.view_is c.requires.size c.in-Some.page fit in
     let chunks : length c.take_run.new.chunks ≡ length c.self.inside.chunks.items = c.take_run.auto.chunks ∙ ap length c.as_mut_slice.ensures.value in
     let maps : length c.mark_start.new.starts ≡ length c.self.inside.starts.items = c.mark_start.auto.starts ∙ ap length c.as_mut_slice-2.ensures.value in
+    let with_chunks : c.as_slice-2.result.now ≡ c.take_run.new.chunks = c.as_slice-2.ensures.value ∙ with_items_is c.self.inside.chunks c.take_run.new.chunks (chunks ∙ sym c.self.inside.chunks.ok.0) in
     rw (rw c.as_mut_slice.ensures.value at c.take_run.ensures.count) (
     sound-after c.self.inside _ c.take_run.new.chunks c.mark_start.new.starts _ _ sound
     (with_items_is c.self.inside.chunks c.take_run.new.chunks (chunks ∙ sym c.self.inside.chunks.ok.0))
     (with_items_is c.self.inside.starts c.mark_start.new.starts (maps ∙ sym c.self.inside.starts.ok.0)) refl chunks maps (length-set _ _ _) append.past
     (kept-take _ _ _ c.args.cycle c.in-Some.page c.args.n c.args.class sound.kept (by-view c.self.inside c.args.self.now c.args.cycle c.self.view_is c.requires.cycle) size fit (omega arith)
     (rw c.as_mut_slice.ensures.value at c.take_run.ensures.free) (rw c.as_mut_slice.ensures.value at c.take_run.ensures.scavenged) (rw c.as_mut_slice-2.ensures.value at c.mark_start.ensures))
-    (omega arith))
+    (omega arith) (rw (with_chunks) at c.full_chunks-self-inside.ensures.within) (rw (with_chunks) at c.full_chunks-self-inside.ensures.taken))
 
 pub returns-clause-taken : goal.returns-clause-taken
 returns-clause-taken c =
