@@ -13,14 +13,15 @@ use Rattle.trace_reader.specs.declared.trace.Trace.{Trace}
 use Rattle.trace_reader.specs.declared.trace.Cycle.{Cycle}
 use Rattle.trace_reader.specs.declared.trace.Event.{Event}
 use Rattle.trace_reader.specs.declared.trace.MarkEnd.{MarkEnd}
-use Rattle.trace_reader.specs.Spelling.{alloc_of, cycle_statements, lines_of, mark_statements, statements_of}
-use Rattle.trace_reader.specs.Limits.{AreCycles, IsPlain, Spells, WithinLimits}
+use Rattle.trace_reader.specs.declared.trace.Span.{Span}
+use Rattle.trace_reader.specs.Spelling.{alloc_of, cycle_statements, lines_of, mark_of, mark_statements, statements_of}
+use Rattle.trace_reader.specs.Limits.{IsPlain, Spells}
 use Rattle.trace_reader.specs.Says.{said}
 use Rattle.trace_reader.specs.Refusal.{IsLater, bad_mark, counts_within, fault_if, first_of, is_end, line_fault, lines_fault, may_follow, needs_later, needs_nothing, next_number, nothing_behind, numbers_within, onto_past, passed, pieces_of, refusal, refusal_now, said_fault}
 use Rattle.trace_reader.specs.Taken.{IsFirstFault, IsOfTrace, TellsFirstFault}
 use Rattle.trace_reader.specs.Read.{IsAhead, Reads}
 use Rattle.trace_reader.proofs.Reading.{All-append, append_nil, known_rest}
-use Rattle.trace_reader.proofs.Good.{plain_header, small_events}
+use Rattle.trace_reader.proofs.Good.{plain_header}
 use Rattle.trace_reader.proofs.Whole.{whole_fault}
 use Rattle.trace_reader.proofs.One.{built_trace, one_trace}
 
@@ -29,23 +30,27 @@ use Rattle.trace_reader.proofs.One.{built_trace, one_trace}
 abbrev Built : List Statement → Type 0
 Built ss = AllByRecursion (λ s. needs_later s ≡ false) ss
 
-built_events : (es : List Event) → AllByRecursion (λ e. needs_later (alloc_of e) ≡ false) es → Built (map alloc_of es)
-built_events [] built = tt
-built_events (e ∷ es) built = (built.0, built_events es built.1)
+built_events : (es : List Event) → Built (map alloc_of es)
+built_events [] = tt
+built_events (e ∷ es) = (refl, built_events es)
 
-built_cycles : (cs : List Cycle) (live : ℕ → Type 0) → AreCycles 0 live cs → length cs ≡ 1 → AllByRecursion (λ e. e.size ≤ 32768) (flat_map (λ c. c.events) cs) → Built (flat_map cycle_statements cs ++ (End ∷ []))
-built_cycles [] live cycles one small = absurd cycles
-built_cycles (c ∷ []) live cycles one small =
-    let events = subst (λ es. AllByRecursion (λ e. e.size ≤ 32768) es) (events_nil c.events) small in
-    let mark : Built (mark_statements c.mark) = subst (λ (m : Option MarkEnd). Built (mark_statements m)) (sym cycles) tt in
-    All-append (λ s. needs_later s ≡ false) (cycle_statements c ++ []) (End ∷ []) (All-append (λ s. needs_later s ≡ false) (cycle_statements c) [] (All-append (λ s. needs_later s ≡ false) (map alloc_of c.events) (mark_statements c.mark) (built_events c.events (small_events c.events events)) mark) tt) (refl, tt) where
-      events_nil : (es : List Event) → es ++ [] ≡ es
-      events_nil [] = refl
-      events_nil (e ∷ es) = ap (λ (fs : List Event). e ∷ fs) (events_nil es)
-built_cycles (c ∷ d ∷ cs) live cycles one small = absurd (omega arith)
+built_marks : (ss : List Span) → Built (map mark_of ss)
+built_marks [] = tt
+built_marks (s ∷ ss) = (refl, built_marks ss)
 
-built_plain : (t : Trace) → WithinLimits t → IsPlain t → Built (statements_of t)
-built_plain t limits plain = (refl, (plain_header t.header (plain.procs, plain.rate, plain.goal), built_cycles t.cycles _ limits.cycles plain.cycles plain.sizes))
+built_mark : (m : Option MarkEnd) → Built (mark_statements m)
+built_mark None = tt
+built_mark (Some m) = (refl, built_marks m.marks)
+
+built_append : (ss ts : List Statement) → Built ss → Built ts → Built (ss ++ ts)
+built_append ss ts built more = All-append (λ s. needs_later s ≡ false) ss ts built more
+
+built_cycles : (cs : List Cycle) → Built (flat_map cycle_statements cs)
+built_cycles [] = tt
+built_cycles (c ∷ cs) = built_append (cycle_statements c) (flat_map cycle_statements cs) (built_append (map alloc_of c.events) (mark_statements c.mark) (built_events c.events) (built_mark c.mark)) (built_cycles cs)
+
+built_plain : (t : Trace) → IsPlain t → Built (statements_of t)
+built_plain t plain = (refl, (plain_header t.header (plain.procs, plain.rate, plain.goal), built_append (flat_map cycle_statements t.cycles) (End ∷ []) (built_cycles t.cycles) (refl, tt)))
 
 -- Completeness
 
@@ -56,7 +61,7 @@ never_told left a fault t first ahead plain =
     let room = ahead.spelled.room in
     let same : ahead.bytes ≡ text (lines_of t) = ahead.spelled.lines in
     let fits : length (text (lines_of t)) ≤ room_of a = subst (λ (x : List ℕ). length x ≤ room_of a) same room in
-    let whole = whole_fault needs_later behind (next_number (number_of a)) (room_of a) t ahead.rest ahead.spelled.limits (built_plain t ahead.spelled.limits plain) fits (omega arith) in
+    let whole = whole_fault needs_later behind (next_number (number_of a)) (room_of a) t ahead.rest ahead.spelled.limits (built_plain t plain) fits (omega arith) in
     let none : Some fault ≡ None = sym told ∙ ap (λ (x : List ℕ). lines_fault needs_later behind (next_number (number_of a)) (room_of a) [] (pieces_of (x ++ ahead.rest))) same ∙ whole in
     absurd cc
 

@@ -11,18 +11,13 @@ use Rattle.trace_reader.specs.declared.trace.MarkEnd.{MarkEnd}
 use Rattle.trace_reader.specs.declared.trace.Span.{Span}
 use Rattle.trace_reader.specs.Spelling.{alloc_of, cycle_statements, form_of, mark_of, mark_statements}
 use Rattle.trace_reader.specs.Limits.{AreCycles, AreSpans, EventFits, IsMarked, marked_by}
-use Rattle.trace_reader.specs.Refusal.{before_mark_end, is_live, is_marked, marks_of, mark_ends_of, may_begin, may_follow, objects_of, procs_of}
+use Rattle.trace_reader.specs.Refusal.{AreGood, IsGood, before_mark_end, is_live, is_marked, mark_ends_of, marks_of, may_begin, may_follow, objects_of, procs_of}
+use Rattle.trace_reader.specs.Draft.{IsBody}
 use Rattle.trace_reader.proofs.Saying.{Short, both, said_line}
-use Rattle.trace_reader.proofs.Judging.{AreGood, IsGood, below_true, onto}
+use Rattle.trace_reader.proofs.Judging.{below_true, onto}
 use Rattle.trace_reader.proofs.Good.{alloc_is_line, at_most, fault_none, gc_is_line, mark_is_line, pass, short_event, within_true}
 
--- behind the header
-abbrev pub IsBody : List Statement → Type 0
-IsBody [] = ⊥
-IsBody (s ∷ []) = ⊥
-IsBody (s ∷ t ∷ past) = Unit {0}
-
-body_more : (past : List Statement) (s : Statement) → IsBody past → IsBody (s ∷ past)
+pub body_more : (past : List Statement) (s : Statement) → IsBody past → IsBody (s ∷ past)
 body_more [] s body = absurd body
 body_more (a ∷ []) s body = absurd body
 body_more (a ∷ b ∷ past) s body = tt
@@ -35,12 +30,12 @@ pub record Counts (past : List Statement) (procs objects ends marks : ℕ) : Typ
   pub ends_are : mark_ends_of past ≡ ends
   pub marks_are : marks_of past ≡ marks
 
-follows_any : (past : List Statement) (e : Event) → IsBody past → may_follow past (alloc_of e) ≡ true
+pub follows_any : (past : List Statement) (e : Event) → IsBody past → may_follow past (alloc_of e) ≡ true
 follows_any [] e body = absurd body
 follows_any (a ∷ []) e body = absurd body
 follows_any (a ∷ b ∷ past) e body = refl
 
-follows_gc : (past : List Statement) (d : ℕ) → IsBody past → may_follow past (Gc d) ≡ true
+pub follows_gc : (past : List Statement) (d : ℕ) → IsBody past → may_follow past (Gc d) ≡ true
 follows_gc [] d body = absurd body
 follows_gc (a ∷ []) d body = absurd body
 follows_gc (a ∷ b ∷ past) d body = refl
@@ -70,7 +65,7 @@ alloc_good later past procs objects ends marks e low counts fits built few =
           (pass _ _ _ (below_true (objects_of past) 1000000 (rw counts.objects_are few)) refl) refl;
     }
 
-after_alloc : (past : List Statement) (procs objects ends marks : ℕ) (e : Event) → Counts past procs objects ends marks → Counts (alloc_of e ∷ past) procs (objects + 1) ends marks
+pub after_alloc : (past : List Statement) (procs objects ends marks : ℕ) (e : Event) → Counts past procs objects ends marks → Counts (alloc_of e ∷ past) procs (objects + 1) ends marks
 after_alloc past procs objects ends marks e counts = record {
   body = body_more past (alloc_of e) counts.body;
   procs_are = counts.procs_are;
@@ -87,7 +82,7 @@ allocs_good later past procs objects ends marks (e ∷ es) low counts fits built
   allocs_good later (alloc_of e ∷ past) procs (objects + 1) ends marks es low (after_alloc past procs objects ends marks e counts) fits.1 built.1 (omega arith),
 )
 
-after_allocs : (past : List Statement) (procs objects ends marks : ℕ) (es : List Event) → Counts past procs objects ends marks → Counts (onto (map alloc_of es) past) procs (objects + length es) ends marks
+pub after_allocs : (past : List Statement) (procs objects ends marks : ℕ) (es : List Event) → Counts past procs objects ends marks → Counts (onto (map alloc_of es) past) procs (objects + length es) ends marks
 after_allocs past procs objects ends marks [] counts = let none : objects ≡ objects + 0 = omega arith in subst (λ (k : ℕ). Counts past procs k ends marks) none counts
 after_allocs past procs objects ends marks (e ∷ es) counts =
     let count : objects + 1 + length es ≡ objects + length (e ∷ es) = omega arith in
@@ -121,17 +116,17 @@ allocs_live (e ∷ es) past first live count all = λ i one.
 
 -- Marks
 
-find_none : (p : ℕ → Bool) (a n : ℕ) → ((i : ℕ) → a ≤ i → i < a + n → p i ≡ false) → find p (range_with_len a n) ≡ None
+pub find_none : (p : ℕ → Bool) (a n : ℕ) → ((i : ℕ) → a ≤ i → i < a + n → p i ≡ false) → find p (range_with_len a n) ≡ None
 find_none p a zero none = refl
 find_none p a (suc n) none =
     let here : p a ≡ false = none a (omega arith) (omega arith) in
     rw here (find_none p (a + 1) n (λ i low high. none i (omega arith) (omega arith)))
 
 -- what a mark needs of the lines before it: they end a mark end behind these lines, and a mark may begin from here
-record Marking (past ended : List Statement) (procs objects ends marks from : ℕ) : Type 0 where
-  counts : Counts past procs objects ends marks
-  before : before_mark_end past ≡ ended
-  begins : (s : Statement) (rest : List Statement) → past ≡ s ∷ rest → (lo : ℕ) → from ≤ lo → may_begin s lo ≡ true
+pub record Marking (past ended : List Statement) (procs objects ends marks from : ℕ) : Type 0 where
+  pub counts : Counts past procs objects ends marks
+  pub before : before_mark_end past ≡ ended
+  pub begins : (s : Statement) (rest : List Statement) → past ≡ s ∷ rest → (lo : ℕ) → from ≤ lo → may_begin s lo ≡ true
 
 follows_mark : (past : List Statement) (lo hi : ℕ) → IsBody past → ((s : Statement) (rest : List Statement) → past ≡ s ∷ rest → may_begin s lo ≡ true) → lo ≤ hi → may_follow past (Mark lo hi) ≡ true
 follows_mark [] lo hi body begins rising = absurd body
@@ -153,7 +148,7 @@ mark_good later past ended procs objects ends marks from s marking low rising hi
           (find_none (λ i. not (is_live (before_mark_end past) i)) s.lo (s.hi + 1 - s.lo) (λ i least most. ap not (ap (λ (lines : List Statement). is_live lines i) marking.before ∙ live i least (omega arith))));
     }
 
-after_mark : (past ended : List Statement) (procs objects ends marks from : ℕ) (s : Span) → Marking past ended procs objects ends marks from
+pub after_mark : (past ended : List Statement) (procs objects ends marks from : ℕ) (s : Span) → Marking past ended procs objects ends marks from
     → Marking (mark_of s ∷ past) ended procs objects ends (marks + (s.hi + 1 - s.lo)) (s.hi + 1)
 after_mark past ended procs objects ends marks from s marking = record {
   counts = record {
@@ -176,7 +171,7 @@ marks_good later past ended procs objects ends marks from (s ∷ ss) marking spa
       marks_good later (mark_of s ∷ past) ended procs objects ends (marks + (s.hi + 1 - s.lo)) (s.hi + 1) ss (after_mark past ended procs objects ends marks from s marking) spans.3 built.1 (omega arith) (λ i marked. live i (inr marked)),
     )
 
-after_marks : (past ended : List Statement) (procs objects ends marks from : ℕ) (ss : List Span) → Marking past ended procs objects ends marks from
+pub after_marks : (past ended : List Statement) (procs objects ends marks from : ℕ) (ss : List Span) → Marking past ended procs objects ends marks from
     → Counts (onto (map mark_of ss) past) procs objects ends (marks + sum_by (λ s. s.hi + 1 - s.lo) ss)
 after_marks past ended procs objects ends marks from [] marking = let none : marks ≡ marks + 0 = omega arith in subst (λ (k : ℕ). Counts past procs objects ends k) none marking.counts
 after_marks past ended procs objects ends marks from (s ∷ ss) marking =
@@ -212,7 +207,7 @@ gc_good later past procs objects ends marks d counts least most built few =
           (pass _ _ _ (below_true (mark_ends_of past) 10000 (rw counts.ends_are few)) refl) refl;
     }
 
-after_gc : (past : List Statement) (procs objects ends marks d : ℕ) → Counts past procs objects ends marks → Marking (Gc d ∷ past) past procs objects (ends + 1) marks 0
+pub after_gc : (past : List Statement) (procs objects ends marks d : ℕ) → Counts past procs objects ends marks → Marking (Gc d ∷ past) past procs objects (ends + 1) marks 0
 after_gc past procs objects ends marks d counts = record {
   counts = record {
     body = body_more past (Gc d) counts.body;
@@ -227,11 +222,11 @@ after_gc past procs objects ends marks d counts = record {
 
 -- Cycles
 
-onto-append : (ss ts past : List Statement) → onto (ss ++ ts) past ≡ onto ts (onto ss past)
+pub onto-append : (ss ts past : List Statement) → onto (ss ++ ts) past ≡ onto ts (onto ss past)
 onto-append [] ts past = refl
 onto-append (s ∷ ss) ts past = onto-append ss ts (s ∷ past)
 
-good_append : (later : Statement → Bool) (past ss ts : List Statement) → AreGood later past ss → AreGood later (onto ss past) ts → AreGood later past (ss ++ ts)
+pub good_append : (later : Statement → Bool) (past ss ts : List Statement) → AreGood later past ss → AreGood later (onto ss past) ts → AreGood later past (ss ++ ts)
 good_append later past [] ts good more = more
 good_append later past (s ∷ ss) ts good more = (good.0, good_append later (s ∷ past) ss ts good.1 more)
 

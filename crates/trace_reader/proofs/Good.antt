@@ -14,12 +14,12 @@ use Rattle.trace_reader.specs.declared.statement.AllocForm.{AllocForm}
 use Rattle.trace_reader.specs.declared.trace.Header.{Header}
 use Rattle.trace_reader.specs.declared.trace.Event.{Event}
 use Rattle.trace_reader.specs.Words.{IsDigit}
-use Rattle.trace_reader.specs.Spelling.{alloc_of, form_of, heap_of, kind, line_for}
+use Rattle.trace_reader.specs.Spelling.{alloc_of, heap_of, kind, line_for}
 use Rattle.trace_reader.specs.Limits.{EventFits, HeaderFits}
-use Rattle.trace_reader.specs.Refusal.{AreEvents, bad_mark, counts_within, fault_if, first_of, may_follow, needs_later, numbers_within, objects_of, passed, procs_of, statement_fault, within}
+use Rattle.trace_reader.specs.Refusal.{AreGood, bad_mark, counts_within, fault_if, first_of, may_follow, needs_later, numbers_within, passed, statement_fault, within}
 use Rattle.trace_reader.proofs.Digits.{digits_decimal}
 use Rattle.trace_reader.proofs.Saying.{AllByRecursion-map, Short, both, of_both, said_line}
-use Rattle.trace_reader.proofs.Judging.{AreGood, IsGood, below_false, below_true, onto}
+use Rattle.trace_reader.proofs.Judging.{below_false, below_true}
 use Rattle.trace_reader.proofs.Reading.{All-append}
 
 -- Lengths, and no line feed
@@ -145,7 +145,7 @@ later_false p r g c e f l = rw (e, f) (below_false g (512 * c) l)
 pub plain_header : (h : Header) → (h.procs ≡ 1) × (h.rate ≡ 0) × (512 * h.chunks ≤ h.goal) → needs_later (heap_of h) ≡ false
 plain_header h plain = later_false h.procs h.rate h.goal h.chunks plain.0 plain.1 plain.2
 
--- The events
+-- An event
 
 pub short_event : (procs : ℕ) (e : Event) → procs < 2 ^ 32 → EventFits procs e → Short (alloc_of e)
 short_event procs e low fits =
@@ -153,69 +153,6 @@ short_event procs e low fits =
     let size = fits.size in
     let stack = fits.stack in
     (omega arith, (omega arith, (omega arith, tt)))
-
-follows_alloc : (past : List Statement) (procs objects : ℕ) (e : AllocForm) → AreEvents past procs objects → may_follow past (Alloc e) ≡ true
-follows_alloc [] procs objects e events = absurd events
-follows_alloc (a ∷ []) procs objects e events = absurd events
-follows_alloc (a ∷ b ∷ past) procs objects e events = refl
-
-the_procs : (past : List Statement) (procs objects : ℕ) → AreEvents past procs objects → procs_of past ≡ procs
-the_procs [] procs objects events = absurd events
-the_procs (a ∷ []) procs objects events = absurd events
-the_procs (a ∷ b ∷ past) procs objects events = events.0
-
-the_objects : (past : List Statement) (procs objects : ℕ) → AreEvents past procs objects → objects_of past ≡ objects
-the_objects [] procs objects events = absurd events
-the_objects (a ∷ []) procs objects events = absurd events
-the_objects (a ∷ b ∷ past) procs objects events = events.1
-
-one_more : (past : List Statement) (procs objects : ℕ) (e : AllocForm) → AreEvents past procs objects → AreEvents (Alloc e ∷ past) procs (objects + 1)
-one_more [] procs objects e events = absurd events
-one_more (a ∷ []) procs objects e events = absurd events
-one_more (a ∷ b ∷ past) procs objects e events = (events.0, ap (λ (k : ℕ). k + 1) events.1, λ lo. refl)
-
-event_good : (later : Statement → Bool) (past : List Statement) (procs objects : ℕ) (e : Event) → procs < 2 ^ 32 → AreEvents past procs objects → EventFits procs e → later (alloc_of e) ≡ false → objects < 1000000
-    → IsGood later past (alloc_of e)
-event_good later past procs objects e low events fits built few =
-    let short = short_event procs e low fits in
-    let here = the_procs past procs objects events in
-    let count = the_objects past procs objects events in
-    let proc = fits.proc in
-    record {
-      is_line = alloc_is_line (form_of e) short;
-      says = said_line (alloc_of e) short;
-      not_end = refl;
-      no_fault = fault_none later past (alloc_of e) (follows_alloc past procs objects (form_of e) events)
-          (pass _ _ _ (below_true e.proc (procs_of past) (rw here proc)) (pass _ _ _ (at_most e.size (2 ^ 40) fits.size) (pass _ _ _ (at_most e.stack 999999 fits.stack) refl))) built
-          (pass _ _ _ (below_true (objects_of past) 1000000 (rw count few)) refl) refl;
-    }
-
-pub events_good : (later : Statement → Bool) (past : List Statement) (procs objects : ℕ) (events : List Event) → procs < 2 ^ 32 → AreEvents past procs objects → AllByRecursion (EventFits procs) events
-    → AllByRecursion (λ e. later (alloc_of e) ≡ false) events → objects + length events ≤ 1000000 → AreGood later past (map alloc_of events)
-events_good later past procs objects [] low are fits built few = tt
-events_good later past procs objects (e ∷ es) low are fits built few = (
-  event_good later past procs objects e low are fits.0 built.0 (omega arith),
-  events_good later (alloc_of e ∷ past) procs (objects + 1) es low (one_more past procs objects (form_of e) are) fits.1 built.1 (omega arith),
-)
-
-pub events_after : (past : List Statement) (procs objects : ℕ) (events : List Event) → AreEvents past procs objects → AreEvents (onto (map alloc_of events) past) procs (objects + length events)
-events_after past procs objects [] are = subst (AreEvents past procs) (omega arith) are
-events_after past procs objects (e ∷ es) are =
-    let count : objects + 1 + length es ≡ objects + length (e ∷ es) = omega arith in
-    subst (AreEvents (onto (map alloc_of es) (alloc_of e ∷ past)) procs) count (events_after (alloc_of e ∷ past) procs (objects + 1) es (one_more past procs objects (form_of e) are))
-
-pub events_lines : (procs : ℕ) (events : List Event) → procs < 2 ^ 32 → AllByRecursion (EventFits procs) events → AllByRecursion IsLine (map line_for (map alloc_of events))
-events_lines procs [] low fits = tt
-events_lines procs (e ∷ es) low fits = (alloc_is_line (form_of e) (short_event procs e low fits.0), events_lines procs es low fits.1)
-
-pub small_events : (events : List Event) → AllByRecursion (λ e. e.size ≤ 32768) events → AllByRecursion (λ e. needs_later (alloc_of e) ≡ false) events
-small_events [] small = tt
-small_events (e ∷ es) small = (below_false 32768 e.size small.0, small_events es small.1)
-
--- what has been read of the events, with what is built
-pub read_good : (past : List Statement) (procs : ℕ) (events : List Event) → procs < 2 ^ 32 → AreEvents past procs 0 → AllByRecursion (EventFits procs) events
-    → AllByRecursion (λ e. e.size ≤ 32768) events → length events ≤ 1000000 → AreGood needs_later past (map alloc_of events)
-read_good past procs events low are fits small few = events_good needs_later past procs 0 events low are fits (small_events events small) (omega arith)
 
 pub lines_of_good : (later : Statement → Bool) (past ss : List Statement) → AreGood later past ss → AllByRecursion IsLine (map line_for ss)
 lines_of_good later past [] good = tt

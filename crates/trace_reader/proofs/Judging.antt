@@ -9,7 +9,7 @@ use Rattle.trace_reader.specs.declared.fault.Which.TheVariants.{Bytes}
 use Rattle.trace_reader.specs.declared.statement.Statement.{Statement}
 use Rattle.trace_reader.specs.Says.{said}
 use Rattle.trace_reader.specs.Spelling.{line_for, spelled}
-use Rattle.trace_reader.specs.Refusal.{feed, fault_if, first_of, is_end, line_fault, lines_fault, next_number, onto_past, pieces_of, said_fault, statement_fault}
+use Rattle.trace_reader.specs.Refusal.{AreGood, fault_if, feed, first_of, is_end, line_fault, lines_fault, next_number, onto_past, pieces_of, said_fault, statement_fault}
 use Rattle.trace_reader.proofs.Saying.{split_at, split_last}
 
 -- Pieces
@@ -183,17 +183,6 @@ lines_cut later behind n room past line is_line room_left =
 abbrev pub onto : List Statement → List Statement → List Statement
 onto [] past = past
 onto (s ∷ ss) past = onto ss (s ∷ past)
-
--- nothing is wrong with a statement behind these
-pub record IsGood (later : Statement → Bool) (past : List Statement) (s : Statement) : Type 0 where
-  pub is_line : IsLine (line_for s)
-  pub says : said (line_for s) ≡ Some s
-  pub not_end : is_end (Some s) ≡ false
-  pub no_fault : (n : ℕ) → statement_fault later n past s ≡ None
-
-abbrev pub AreGood : (Statement → Bool) → List Statement → List Statement → Type 0
-AreGood later past [] = Unit {0}
-AreGood later past (s ∷ ss) = IsGood later past s × AreGood later (s ∷ past) ss
 
 pub lines_go : (later : Statement → Bool) (behind : ℕ → List (List ℕ) → Option TraceFault) (n room : ℕ) (past ss : List Statement) (rest : List ℕ)
     → AreGood later past ss → length (spelled ss) ≤ room → n ≤ 2 ^ 64 - 1

@@ -5,8 +5,12 @@ pub mod Saying
 pub mod Judging
 pub mod Reading
 pub mod Good
-pub mod Plain
 pub mod Cycles
+pub mod Walk
+pub mod Keeping
+pub mod Body
 pub mod Whole
+pub mod Fits
 pub mod One
 pub mod Complete
+pub mod Put

@@ -16,10 +16,10 @@ use Rattle.trace_reader.specs.declared.statement.Statement.{Statement}
 use Rattle.trace_reader.specs.declared.trace.Header.{Header}
 use Rattle.trace_reader.specs.Says.{said}
 use Rattle.trace_reader.specs.Spelling.{heap_of, line_for, spelled}
-use Rattle.trace_reader.specs.Refusal.{feed, lines_fault, needs_later, next_number, nothing_behind, pieces_of, said_fault}
+use Rattle.trace_reader.specs.Refusal.{AreGood, feed, lines_fault, needs_later, next_number, nothing_behind, pieces_of, said_fault}
 use Rattle.trace_reader.specs.Taken.{IsFaultBehind, IsFirstFault, IsFrontOfLine, StandsInLine, Takes, TakesLines, TellsFirstFault}
 use Rattle.trace_reader.proofs.Saying.{Says-said}
-use Rattle.trace_reader.proofs.Judging.{AreGood, feed_pieces, lines_cut, lines_go, lines_long, lines_over, lines_stop, onto}
+use Rattle.trace_reader.proofs.Judging.{feed_pieces, lines_cut, lines_go, lines_long, lines_over, lines_stop, onto}
 
 -- What is known of the rest
 

@@ -8,12 +8,13 @@ use Rattle.trace_reader.specs.declared.statement.Statement.TheVariants.{Title, E
 use Rattle.trace_reader.specs.declared.trace.Trace.{Trace}
 use Rattle.trace_reader.specs.Spelling.{cycle_statements, heap_of, lines_of, spelled, statements_of}
 use Rattle.trace_reader.specs.Limits.{WithinLimits}
-use Rattle.trace_reader.specs.Refusal.{lines_fault, next_number, pieces_of}
+use Rattle.trace_reader.specs.Refusal.{AreGood, lines_fault, next_number, pieces_of}
+use Rattle.trace_reader.specs.Draft.{IsBody}
 use Rattle.trace_reader.proofs.Saying.{said_line}
-use Rattle.trace_reader.proofs.Judging.{AreGood, lines_end, lines_go, onto}
+use Rattle.trace_reader.proofs.Judging.{lines_end, lines_go, onto}
 use Rattle.trace_reader.proofs.Reading.{spelled-append}
 use Rattle.trace_reader.proofs.Good.{end_is_line, fault_none, header_good, title_good}
-use Rattle.trace_reader.proofs.Cycles.{IsBody, all_back, all_front, body_onto, cycles_good, follows_end}
+use Rattle.trace_reader.proofs.Cycles.{all_back, all_front, body_onto, cycles_good, follows_end}
 
 -- all lines but the last
 abbrev pub front_of : Trace → List Statement

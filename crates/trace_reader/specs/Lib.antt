@@ -3,5 +3,7 @@ pub mod Words
 pub mod Says
 pub mod Refusal
 pub mod Limits
+pub mod Draft
+pub mod Printed
 pub mod Taken
 pub mod Read

@@ -71,10 +71,8 @@ pub record SpellsWithin (limit : ℕ) (bytes : List ℕ) (t : Trace) : Type 0 wh
 abbrev pub Spells : List ℕ → Trace → Type 0
 Spells bytes t = SpellsWithin 67108864 bytes t
 
--- one processor, no samples, no scavenging, no mark ends and no large objects
+-- one processor, no samples and no scavenging
 pub record IsPlain (t : Trace) : Type 0 where
   pub procs : t.header.procs ≡ 1
   pub rate : t.header.rate ≡ 0
   pub goal : 512 * t.header.chunks ≤ t.header.goal
-  pub cycles : length t.cycles ≡ 1
-  pub sizes : AllByRecursion (λ e. e.size ≤ 32768) (events_of t)

@@ -10,6 +10,8 @@ use Rattle.trace_reader.specs.declared.statement.Statement.{Statement}
 use Rattle.trace_reader.specs.declared.statement.Statement.TheVariants.{Title, Heap, Alloc, Gc, Mark, End}
 use Rattle.trace_reader.specs.declared.statement.HeapForm.{HeapForm}
 use Rattle.trace_reader.specs.declared.statement.AllocForm.{AllocForm}
+use Rattle.edge_io.specs.Line.{IsLine}
+use Rattle.trace_reader.specs.Spelling.{line_for}
 use Rattle.trace_reader.specs.Says.{said}
 
 -- What the lines so far say
@@ -190,11 +192,9 @@ nothing_behind number rest = Some (Malformed number)
 abbrev pub needs_nothing : Statement → Bool
 needs_nothing s = false
 
--- more than one processor, sampling, scavenging, large objects and mark ends are not built yet
+-- more than one processor, sampling and scavenging are not built yet
 abbrev pub needs_later : Statement → Bool
 needs_later (Heap h) = not (h.procs == 1) || (not (h.rate == 0) || nat_lt h.goal (512 * h.chunks))
-needs_later (Alloc e) = nat_lt 32768 e.size
-needs_later (Gc distance) = true
 needs_later s = false
 
 -- why the bytes are no trace, if they are none
@@ -205,12 +205,19 @@ refusal bytes = fault_in needs_nothing nothing_behind 0 67108864 bytes
 abbrev pub refusal_now : List ℕ → Option TraceFault
 refusal_now bytes = fault_in needs_later nothing_behind 0 67108864 bytes
 
--- lines so far behind which an event, a mark end or the last line may stand, with so many processors and objects, and no marks directly before
-abbrev pub AreEvents : List Statement → ℕ → ℕ → Type 0
-AreEvents [] procs objects = ⊥
-AreEvents (newest ∷ []) procs objects = ⊥
-AreEvents (newest ∷ older ∷ past) procs objects = (procs_of (newest ∷ older ∷ past) ≡ procs) × (objects_of (newest ∷ older ∷ past) ≡ objects) × ((lo : ℕ) → may_begin newest lo ≡ false)
-
 -- the fault is that something is not built yet
 abbrev pub IsLater : TraceFault → Type 0
 IsLater fault = (number : ℕ) × (fault ≡ Later number)
+
+-- Lines that nothing is wrong with
+
+-- nothing is wrong with a statement behind these
+pub record IsGood (later : Statement → Bool) (past : List Statement) (s : Statement) : Type 0 where
+  pub is_line : IsLine (line_for s)
+  pub says : said (line_for s) ≡ Some s
+  pub not_end : is_end (Some s) ≡ false
+  pub no_fault : (n : ℕ) → statement_fault later n past s ≡ None
+
+abbrev pub AreGood : (Statement → Bool) → List Statement → List Statement → Type 0
+AreGood later past [] = Unit {0}
+AreGood later past (s ∷ ss) = IsGood later past s × AreGood later (s ∷ past) ss

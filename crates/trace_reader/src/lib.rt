@@ -1,10 +1,14 @@
 //! Traces of a heap, as text.
 #![tactic(auto)]
 
+mod draft;
 mod fault;
 mod laws;
 mod limits;
+mod live;
+mod print;
 mod reader;
+mod spelling;
 mod statement;
 mod trace;
 mod words;
@@ -14,6 +18,7 @@ pub use laws::{
     a_trace_has_one_spelling, bytes_spell_one_trace, what_is_refused_spells_no_trace,
     what_is_spelled_is_not_refused,
 };
+pub use print::print_trace;
 pub use reader::{expect_end, read_trace};
 pub use trace::{Cycle, Event, Header, MarkEnd, Span, Trace};
 

@@ -1,9 +1,9 @@
-//! The numbers of a line against their limits, and what is not built yet.
+//! The first two lines, and the numbers of each line against their limits.
 
 ghost use Rattle.std.specs.Prelude.{
   ◌≡◌,
-  ◌≢◌,
   ◌*◌,
+  ◌^◌,
   ◌<◌,
   ◌≤◌,
   [],
@@ -13,28 +13,21 @@ ghost use Rattle.std.specs.Prelude.{
   Some,
   IfErr,
   IfOk,
-  MatchOption,
   MatchBool,
 };
 ghost use Rattle.std.specs.Option.{option_map};
-ghost use Rattle.trace_reader.specs.declared.fault.TraceFault.TheVariants.{Limit, Malformed, ReadFault};
+ghost use Rattle.trace_reader.specs.declared.fault.TraceFault.TheVariants.{Limit, Malformed};
 ghost use Rattle.trace_reader.specs.declared.statement.Statement.{Statement as Said};
-ghost use Rattle.trace_reader.specs.declared.statement.Statement.TheVariants.{Alloc, End, Gc, Heap, Title};
-ghost use Rattle.trace_reader.specs.Spelling.{alloc_of, heap_of};
+ghost use Rattle.trace_reader.specs.declared.statement.Statement.TheVariants.{Alloc, Gc, Heap, Mark, Title};
+ghost use Rattle.trace_reader.specs.Spelling.{alloc_of, heap_of, mark_of};
 ghost use Rattle.trace_reader.specs.Limits.{EventFits, HeaderFits};
 ghost use Rattle.trace_reader.specs.Says.{said};
-ghost use Rattle.trace_reader.specs.Refusal.{AreEvents, event_numbers, header_numbers, needs_later, passed, said_fault};
+ghost use Rattle.trace_reader.specs.Refusal.{event_numbers, header_numbers, needs_later, numbers_within, passed, said_fault};
 ghost use Rattle.trace_reader.specs.Taken.{NoReadFault};
 
 use crate::fault::{TraceFault, Which};
 use crate::statement::{AllocForm, HeapForm, Statement, statement_of};
-use crate::trace::{Event, Header};
-
-/// The most objects of a trace.
-const MAX_OBJECTS: usize = 1_000_000;
-
-/// The largest size that is built, in bytes.
-const MAX_SMALL: u64 = 32768;
+use crate::trace::{Event, Header, Span};
 
 /// Whether the line is the first one of a trace.
 pub(crate) fn is_title(line: &[u8]) -> bool
@@ -61,37 +54,6 @@ pub(crate) fn header_of(line: &[u8], number: u64) -> Result<Header, TraceFault>
         return Err(TraceFault::Later(number));
     }
     Ok(header)
-}
-
-/// The event that a line behind the header has, none for the last line, or what is wrong with it. So many objects came before.
-pub(crate) fn event_of(
-    line: &[u8],
-    number: u64,
-    procs: u32,
-    objects: usize,
-) -> Result<Option<Event>, TraceFault>
-    ensures end { IfOk result (λ found. MatchOption found (said line.now ≡ Some End) (λ e. said line.now ≡ Some (alloc_of e))) }
-    ensures fits { IfOk result (λ found. MatchOption found (Unit {0}) (λ e. EventFits procs e × (e.size ≤ 32768))) }
-    ensures few { IfOk result (λ found. MatchOption found (Unit {0}) (λ e. objects < 1000000)) }
-    ensures no_read { NoReadFault result }
-    ensures fault { IfErr result (λ fault. (past : List Said) → AreEvents past procs objects
-        → said_fault needs_later number past (said line.now) ≡ Some fault) }
-{
-    match statement_of(line) {
-        Some(Statement::End) => Ok(None),
-        Some(Statement::Alloc(form)) => {
-            let event = limited_event(form, number, procs)?;
-            if event.size > MAX_SMALL {
-                return Err(TraceFault::Later(number));
-            }
-            if objects >= MAX_OBJECTS {
-                return Err(TraceFault::Limit(number, Which::Objects));
-            }
-            Ok(Some(event))
-        }
-        Some(Statement::Gc(distance)) => Err(mark_end_fault(distance, number)),
-        _ => Err(TraceFault::Malformed(number)),
-    }
 }
 
 // The header of these numbers, or the first that is past its limit.
@@ -125,8 +87,8 @@ fn limited_header(form: HeapForm, number: u64) -> Result<Header, TraceFault>
     })
 }
 
-// The event of these numbers, or the first that is past its limit.
-fn limited_event(form: AllocForm, number: u64, procs: u32) -> Result<Event, TraceFault>
+/// The event of these numbers, or the first that is past its limit.
+pub(crate) fn limited_event(form: AllocForm, number: u64, procs: u32) -> Result<Event, TraceFault>
     ensures event { IfOk result (λ e. alloc_of e ≡ Alloc form) }
     ensures fits { IfOk result (λ e. EventFits procs e) }
     ensures no_read { NoReadFault result }
@@ -149,15 +111,31 @@ fn limited_event(form: AllocForm, number: u64, procs: u32) -> Result<Event, Trac
     })
 }
 
-// Why a mark end is refused: it is past its limit, or else not built yet.
-fn mark_end_fault(distance: u128, number: u64) -> TraceFault
-    ensures no_read { result ≢ ReadFault }
-    ensures fault { (past : List Said) (procs objects : ℕ) → AreEvents past procs objects
-        → said_fault needs_later number past (Some (Gc distance)) ≡ Some result }
+/// The distance of a mark end, or that it is past its limit.
+pub(crate) fn limited_distance(distance: u128, number: u64) -> Result<u64, TraceFault>
+    ensures same { IfOk result (λ d. d ≡ distance) }
+    ensures fits { IfOk result (λ d. (1 ≤ d) × (d ≤ 2 ^ 40)) }
+    ensures no_read { NoReadFault result }
+    ensures fault { IfErr result (λ fault. (past : List Said) → option_map (λ which. Limit number which) (passed (numbers_within past (Gc distance))) ≡ Some fault) }
 {
     if distance < 1 || distance > 1 << 40 {
-        TraceFault::Limit(number, Which::Distance)
-    } else {
-        TraceFault::Later(number)
+        return Err(TraceFault::Limit(number, Which::Distance));
     }
+    Ok(distance as u64)
+}
+
+/// The span of these objects, or that one is past its limit.
+pub(crate) fn limited_span(lo: u128, hi: u128, number: u64) -> Result<Span, TraceFault>
+    ensures span { IfOk result (λ s. mark_of s ≡ Mark lo hi) }
+    ensures fits { IfOk result (λ s. (s.lo ≤ 999999) × (s.hi ≤ 999999)) }
+    ensures no_read { NoReadFault result }
+    ensures fault { IfErr result (λ fault. (past : List Said) → option_map (λ which. Limit number which) (passed (numbers_within past (Mark lo hi))) ≡ Some fault) }
+{
+    if lo > 999_999 || hi > 999_999 {
+        return Err(TraceFault::Limit(number, Which::Id));
+    }
+    Ok(Span {
+        lo: lo as u32,
+        hi: hi as u32,
+    })
 }

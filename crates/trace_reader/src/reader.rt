@@ -1,23 +1,26 @@
 //! Reading a trace, line by line.
 
-ghost use Rattle.std.specs.Prelude.{◌≡◌, ◌*◌, ◌≤◌, [], ◌∷◌, ◌++◌, List as Items, length, map, IfErr, IfOk, MatchResult, OnOk};
-ghost use Rattle.std.specs.List.{AllByRecursion};
+ghost use Rattle.std.specs.Prelude.{◌≡◌, ◌*◌, ◌≤◌, [], ◌∷◌, ◌++◌, List as Items, IfErr, IfOk, MatchResult, OnOk};
+ghost use Rattle.std.specs.List.{flat_map};
 ghost use Rattle.edge_io.specs.Line.{IsLine};
 ghost use Rattle.edge_io.specs.Reading.{IsSameSource, line_of, number_of, source_of};
 ghost use Rattle.trace_reader.specs.declared.fault.TraceFault.TheVariants.{Malformed};
-ghost use Rattle.trace_reader.specs.declared.statement.Statement.{Statement};
+ghost use Rattle.trace_reader.specs.declared.statement.Statement.{Statement as Said};
 ghost use Rattle.trace_reader.specs.declared.statement.Statement.TheVariants.{End, Title};
 ghost use Rattle.trace_reader.specs.declared.trace.Trace.{Trace as ATrace};
-ghost use Rattle.trace_reader.specs.Spelling.{alloc_of, heap_of, statements_of};
-ghost use Rattle.trace_reader.specs.Limits.{EventFits, HeaderFits, IsPlain};
-ghost use Rattle.trace_reader.specs.Refusal.{AreEvents, next_number};
+ghost use Rattle.trace_reader.specs.Spelling.{cycle_statements, heap_of, statements_of};
+ghost use Rattle.trace_reader.specs.Limits.{HeaderFits, IsPlain};
+ghost use Rattle.trace_reader.specs.Refusal.{AreGood, needs_later, next_number};
+ghost use Rattle.trace_reader.specs.Draft.{AreEnded, IsStart};
 ghost use Rattle.trace_reader.specs.Taken.{HasReadCause, IsEnded, IsFaultBehind, IsOfTrace, StandsInLine, Takes, TakesLines, TellsFirstFault};
 ghost use Rattle.trace_reader.specs.Read.{IsAhead, Reads};
 
+use crate::draft::Draft;
 use crate::fault::{TraceFault, Which};
-use crate::limits::{event_of, header_of, is_title};
-use crate::trace::{Cycle, Event, Header, Trace};
-use edge_io::{Lines, List, NoMemory, Seen, Source};
+use crate::limits::{header_of, is_title};
+use crate::statement::{Statement, statement_of};
+use crate::trace::{Cycle, Header, Trace};
+use edge_io::{Lines, List, Seen, Source};
 use std::alloc::Global;
 
 /// Reads a trace up to its `end` line, and no further. Lines are counted from the number that they stand at, and bytes
@@ -35,8 +38,7 @@ pub fn read_trace<S: Source>(alloc: Global, lines: &mut Lines<'_, S>) -> Result<
 {
     read_title(lines)?;
     let header = read_header(lines)?;
-    let events = read_events(alloc, lines, header.procs)?;
-    let cycles = one_cycle(alloc, events)?;
+    let cycles = read_cycles(alloc, lines, header.procs)?;
     Ok(Trace { header, cycles })
 }
 
@@ -57,15 +59,6 @@ pub fn expect_end<S: Source>(lines: &mut Lines<'_, S>) -> Result<(), TraceFault>
         Seen::Finished => Ok(()),
         _ => Err(TraceFault::Malformed(lines.number())),
     }
-}
-
-// The cycles of a trace without mark ends.
-fn one_cycle(alloc: Global, events: List<Event>) -> Result<List<Cycle>, NoMemory>
-    ensures { IfOk result (λ cycles. cycles ≡ record { events = events; mark = None } ∷ []) }
-{
-    let mut cycles = List::new(alloc);
-    cycles.push(Cycle { events, mark: None })?;
-    Ok(cycles)
 }
 
 // Reads the first line.
@@ -98,28 +91,28 @@ fn read_header<S: Source>(lines: &mut Lines<'_, S>) -> Result<Header, TraceFault
     header_of(lines.line(), lines.number())
 }
 
-// Reads the lines of the events, and the last line.
-fn read_events<S: Source>(
+// Reads the lines behind the header, and the last line.
+fn read_cycles<S: Source>(
     alloc: Global,
     lines: &mut Lines<'_, S>,
     procs: u32,
-) -> Result<List<Event>, TraceFault>
+) -> Result<List<Cycle>, TraceFault>
     ensures same_source { IsSameSource lines.old lines.new }
-    ensures lines { IfOk result (λ events. TakesLines S.left lines.old lines.new (map alloc_of events ++ End ∷ [])) }
-    ensures fit { IfOk result (λ events. AllByRecursion (EventFits procs) events) }
-    ensures small { IfOk result (λ events. AllByRecursion (λ e. e.size ≤ 32768) events) }
-    ensures few { IfOk result (λ events. length events ≤ 1000000) }
-    ensures refused { (past : Items Statement) → AreEvents past procs 0 → TellsFirstFault S.left lines.old past result }
+    ensures lines { IfOk result (λ cycles. TakesLines S.left lines.old lines.new (flat_map cycle_statements cycles ++ End ∷ [])) }
+    ensures ended { IfOk result (λ cycles. AreEnded cycles) }
+    ensures good { IfOk result (λ cycles. (past : Items Said) → IsStart past procs → AreGood needs_later past (flat_map cycle_statements cycles)) }
+    ensures refused { (past : Items Said) → IsStart past procs → TellsFirstFault S.left lines.old past result }
     ensures stands { StandsInLine S.left lines.old lines.new }
     ensures cause { HasReadCause (S.faults (source_of lines.old)) (S.faults (source_of lines.new)) result }
 {
-    let mut events = List::new(alloc);
+    let mut draft = Draft::new(alloc, procs);
     loop {
         read_line(lines)?;
-        let Some(event) = event_of(lines.line(), lines.number(), procs, events.len())? else {
-            return Ok(events);
-        };
-        events.push(event)?;
+        let said = statement_of(lines.line());
+        if matches!(said, Some(Statement::End)) {
+            return Ok(draft.finish(alloc)?);
+        }
+        draft.take(alloc, said, lines.number())?;
     }
 }
 
@@ -129,7 +122,7 @@ fn read_line<S: Source>(lines: &mut Lines<'_, S>) -> Result<(), TraceFault>
     ensures line { OnOk result (Takes S.left lines.old lines.new (line_of lines.new ++ 10 ∷ [])) }
     ensures is_line { OnOk result (IsLine (line_of lines.new)) }
     ensures number { number_of lines.new ≡ next_number (number_of lines.old) }
-    ensures refused { (past : Items Statement) → TellsFirstFault S.left lines.old past result }
+    ensures refused { (past : Items Said) → TellsFirstFault S.left lines.old past result }
     ensures stands { StandsInLine S.left lines.old lines.new }
     ensures cause { HasReadCause (S.faults (source_of lines.old)) (S.faults (source_of lines.new)) result }
 {

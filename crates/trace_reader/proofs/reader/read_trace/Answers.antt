@@ -5,7 +5,7 @@ use Rattle.trace_reader.specs.Spelling.{heap_of}
 use Rattle.trace_reader.specs.Refusal.{needs_later}
 use Rattle.trace_reader.proofs.Reading.{first_behind, stands_behind}
 use Rattle.trace_reader.proofs.Good.{header_good, lines_of_good, plain_header, title_good}
-use Rattle.trace_reader.proofs.Plain.{reads_plain, takes_plain}
+use Rattle.trace_reader.proofs.Fits.{reads_trace, takes_trace, trace_fits}
 use Rattle.trace_reader.proofs.Complete.{never_refused, never_told, same_read}
 use Rattle.trace_reader.proofs.reader.read_trace.Goals as goal
 
@@ -18,47 +18,40 @@ pub returns-in_err-header-clause-stands : goal.returns-in_err-header-clause-stan
 returns-in_err-header-clause-stands g c =
     stands_behind g.S.Source.left c.args.lines.now c.read_title.new.lines c.read_header.new.lines (Title ∷ []) c.in_ok-read_title.ensures.lines (lines_of_good needs_later [] (Title ∷ []) (title_good needs_later refl)) c.read_header.ensures.stands
 
-pub returns-in_err-events-clause-refused : goal.returns-in_err-events-clause-refused
-returns-in_err-events-clause-refused g c =
+pub returns-in_err-cycles-clause-refused : goal.returns-in_err-cycles-clause-refused
+returns-in_err-cycles-clause-refused g c =
     let h = c.in_ok-header.header in
     let good = header_good needs_later h c.in_ok-header.ensures.fits (plain_header h c.in_ok-header.ensures.plain) in
-    let p = err_from_is_err_and c.from_residual-in_err-events.result c.from_residual-in_err-events.ensures.1 in
+    let p = err_from_is_err_and c.from_residual-in_err-cycles.result c.from_residual-in_err-cycles.ensures.1 in
     rw (p.1, p.2) (λ of. first_behind g.S.Source.left c.args.lines.now c.read_title.new.lines [] (Title ∷ []) _ c.in_ok-read_title.ensures.lines (title_good needs_later refl)
     (first_behind g.S.Source.left c.read_title.new.lines c.read_header.new.lines (Title ∷ []) (heap_of h ∷ []) _ c.in_ok-header.ensures.lines good
-    (c.in_err-events.ensures.refused (heap_of h ∷ Title ∷ []) (refl, refl, λ lo. refl) of)))
-
-pub returns-in_err-events-clause-stands : goal.returns-in_err-events-clause-stands
-returns-in_err-events-clause-stands g c =
-    let h = c.in_ok-header.header in
-    let good = header_good needs_later h c.in_ok-header.ensures.fits (plain_header h c.in_ok-header.ensures.plain) in
-    stands_behind g.S.Source.left c.args.lines.now c.read_title.new.lines c.read_events.new.lines (Title ∷ []) c.in_ok-read_title.ensures.lines (lines_of_good needs_later [] (Title ∷ []) (title_good needs_later refl))
-    (stands_behind g.S.Source.left c.read_title.new.lines c.read_header.new.lines c.read_events.new.lines (heap_of h ∷ []) c.in_ok-header.ensures.lines (lines_of_good needs_later (Title ∷ []) (heap_of h ∷ []) good) c.read_events.ensures.stands)
+    (c.in_err-cycles.ensures.refused (heap_of h ∷ Title ∷ []) (_, refl, refl) of)))
 
 pub returns-in_err-cycles-clause-stands : goal.returns-in_err-cycles-clause-stands
 returns-in_err-cycles-clause-stands g c =
     let h = c.in_ok-header.header in
     let good = header_good needs_later h c.in_ok-header.ensures.fits (plain_header h c.in_ok-header.ensures.plain) in
-    stands_behind g.S.Source.left c.args.lines.now c.read_title.new.lines c.read_events.new.lines (Title ∷ []) c.in_ok-read_title.ensures.lines (lines_of_good needs_later [] (Title ∷ []) (title_good needs_later refl))
-    (stands_behind g.S.Source.left c.read_title.new.lines c.read_header.new.lines c.read_events.new.lines (heap_of h ∷ []) c.in_ok-header.ensures.lines (lines_of_good needs_later (Title ∷ []) (heap_of h ∷ []) good) c.read_events.ensures.stands)
+    stands_behind g.S.Source.left c.args.lines.now c.read_title.new.lines c.read_cycles.new.lines (Title ∷ []) c.in_ok-read_title.ensures.lines (lines_of_good needs_later [] (Title ∷ []) (title_good needs_later refl))
+    (stands_behind g.S.Source.left c.read_title.new.lines c.read_header.new.lines c.read_cycles.new.lines (heap_of h ∷ []) c.in_ok-header.ensures.lines (lines_of_good needs_later (Title ∷ []) (heap_of h ∷ []) good) c.read_cycles.ensures.stands)
 
 pub returns-clause-stands : goal.returns-clause-stands
 returns-clause-stands g c =
     let h = c.in_ok-header.header in
     let good = header_good needs_later h c.in_ok-header.ensures.fits (plain_header h c.in_ok-header.ensures.plain) in
-    stands_behind g.S.Source.left c.args.lines.now c.read_title.new.lines c.read_events.new.lines (Title ∷ []) c.in_ok-read_title.ensures.lines (lines_of_good needs_later [] (Title ∷ []) (title_good needs_later refl))
-    (stands_behind g.S.Source.left c.read_title.new.lines c.read_header.new.lines c.read_events.new.lines (heap_of h ∷ []) c.in_ok-header.ensures.lines (lines_of_good needs_later (Title ∷ []) (heap_of h ∷ []) good) c.read_events.ensures.stands)
+    stands_behind g.S.Source.left c.args.lines.now c.read_title.new.lines c.read_cycles.new.lines (Title ∷ []) c.in_ok-read_title.ensures.lines (lines_of_good needs_later [] (Title ∷ []) (title_good needs_later refl))
+    (stands_behind g.S.Source.left c.read_title.new.lines c.read_header.new.lines c.read_cycles.new.lines (heap_of h ∷ []) c.in_ok-header.ensures.lines (lines_of_good needs_later (Title ∷ []) (heap_of h ∷ []) good) c.read_cycles.ensures.stands)
 
 pub returns-clause-lines : goal.returns-clause-lines
 returns-clause-lines g c =
-    rw c.in_ok-cycles.ensures (takes_plain g.S.Source.left c.args.lines.now c.read_title.new.lines c.read_header.new.lines c.read_events.new.lines c.in_ok-header.header c.in_ok-events.events
-    c.in_ok-read_title.ensures.lines c.in_ok-header.ensures.lines c.in_ok-events.ensures.lines)
+    takes_trace g.S.Source.left c.args.lines.now c.read_title.new.lines c.read_header.new.lines c.read_cycles.new.lines c.in_ok-header.header c.in_ok-cycles.cycles
+    c.in_ok-read_title.ensures.lines c.in_ok-header.ensures.lines c.in_ok-cycles.ensures.lines
 
 pub returns-clause-spelled : goal.returns-clause-spelled
 returns-clause-spelled g c =
-    let takes = takes_plain g.S.Source.left c.args.lines.now c.read_title.new.lines c.read_header.new.lines c.read_events.new.lines c.in_ok-header.header c.in_ok-events.events
-    c.in_ok-read_title.ensures.lines c.in_ok-header.ensures.lines c.in_ok-events.ensures.lines in
-    rw c.in_ok-cycles.ensures (reads_plain g.S.Source.left c.args.lines.now c.read_events.new.lines c.in_ok-header.header c.in_ok-events.events takes
-    c.in_ok-header.ensures.fits c.in_ok-header.ensures.plain c.in_ok-events.ensures.fit c.in_ok-events.ensures.small c.in_ok-events.ensures.few)
+    let h = c.in_ok-header.header in
+    let cs = c.in_ok-cycles.cycles in
+    let limits = trace_fits needs_later h cs c.in_ok-header.ensures.fits c.in_ok-cycles.ensures.ended (c.in_ok-cycles.ensures.good (heap_of h ∷ Title ∷ []) (_, refl, refl)) in
+    reads_trace g.S.Source.left c.args.lines.now c.read_cycles.new.lines h cs (returns-clause-lines g c) limits c.in_ok-header.ensures.plain
 
 pub returns-in_err-read_title-clause-complete : goal.returns-in_err-read_title-clause-complete
 returns-in_err-read_title-clause-complete g c = λ trace ahead plain.
@@ -70,10 +63,10 @@ returns-in_err-header-clause-complete g c = λ trace ahead plain.
     let p = err_from_is_err_and c.from_residual-in_err-header.result c.from_residual-in_err-header.ensures.1 in
     never_refused g.S.Source.left c.args.lines.now c.from_residual-in_err-header.result p.0 p.1 (returns-in_err-header-clause-refused g c) _ trace ahead plain
 
-pub returns-in_err-events-clause-complete : goal.returns-in_err-events-clause-complete
-returns-in_err-events-clause-complete g c = λ trace ahead plain.
-    let p = err_from_is_err_and c.from_residual-in_err-events.result c.from_residual-in_err-events.ensures.1 in
-    never_refused g.S.Source.left c.args.lines.now c.from_residual-in_err-events.result p.0 p.1 (returns-in_err-events-clause-refused g c) _ trace ahead plain
+pub returns-in_err-cycles-clause-complete : goal.returns-in_err-cycles-clause-complete
+returns-in_err-cycles-clause-complete g c = λ trace ahead plain.
+    let p = err_from_is_err_and c.from_residual-in_err-cycles.result c.from_residual-in_err-cycles.ensures.1 in
+    never_refused g.S.Source.left c.args.lines.now c.from_residual-in_err-cycles.result p.0 p.1 (returns-in_err-cycles-clause-refused g c) _ trace ahead plain
 
 pub returns-clause-complete : goal.returns-clause-complete
-returns-clause-complete g c = λ trace ahead plain. same_read g.S.Source.left c.args.lines.now c.read_events.new.lines _ trace (returns-clause-spelled g c) ahead
+returns-clause-complete g c = λ trace ahead plain. same_read g.S.Source.left c.args.lines.now c.read_cycles.new.lines _ trace (returns-clause-spelled g c) ahead

@@ -1,0 +1,6 @@
+//! A line of text that is put together without taking memory.
+#![tactic(auto)]
+
+mod line;
+
+pub use line::TextLine;

@@ -1,0 +1,160 @@
+-- What a reader keeps of the lines behind the header, and what they say.
+use Rattle.std.specs.Prelude.{◌≡◌, ◌≢◌, ℕ, ◌+◌, ◌<◌, ◌≤◌, Bool, true, false, ◌&&◌, ◌||◌, List, [], ◌∷◌, ◌++◌, length, map, drop, nat_lt, nat_le, Option, Some, None, MatchOption}
+use Rattle.std.specs.List.{AllByRecursion, flat_map}
+use Rattle.trace_reader.specs.declared.draft.Draft.{Draft}
+use Rattle.trace_reader.specs.declared.statement.Statement.{Statement}
+use Rattle.trace_reader.specs.declared.statement.Statement.TheVariants.{Title, Heap, Gc}
+use Rattle.trace_reader.specs.declared.statement.HeapForm.{HeapForm}
+use Rattle.trace_reader.specs.declared.trace.Cycle.{Cycle}
+use Rattle.trace_reader.specs.declared.trace.MarkEnd.{MarkEnd}
+use Rattle.trace_reader.specs.declared.trace.Span.{Span}
+use Rattle.trace_reader.specs.Spelling.{alloc_of, cycle_statements, mark_of}
+use Rattle.trace_reader.specs.Limits.{AreSpans}
+use Rattle.trace_reader.specs.Refusal.{before_mark_end, is_end, is_live, is_marked, mark_ends_of, marks_of, may_begin, needs_later, objects_of, procs_of, statement_fault}
+
+-- Spans and objects
+
+-- object i is in one of the spans
+abbrev pub in_spans : List Span → ℕ → Bool
+in_spans [] i = false
+in_spans (s ∷ ss) i = (nat_le s.lo i && nat_le i s.hi) || in_spans ss i
+
+-- object i is live
+abbrev pub lives : List Span → ℕ → ℕ → ℕ → Bool
+lives kept first objects i = (nat_le first i && nat_lt i objects) || in_spans kept i
+
+-- from object `from` on, the spans behind the first `at` hold what all do
+abbrev pub Skips : List Span → ℕ → ℕ → Type 0
+Skips kept at from = (i : ℕ) → from ≤ i → in_spans (drop at kept) i ≡ in_spans kept i
+
+-- all objects from lo to below hi are live
+abbrev pub AllLive : (ℕ → Bool) → ℕ → ℕ → Type 0
+AllLive live lo hi = (i : ℕ) → lo ≤ i → i < hi → live i ≡ true
+
+-- the object is the least of the span that is not live
+pub record IsFirstDead (live : ℕ → Bool) (span : Span) (id : ℕ) : Type 0 where
+  pub low : span.lo ≤ id
+  pub high : id ≤ span.hi
+  pub dead : live id ≡ false
+  pub before : AllLive live span.lo id
+
+-- the kept spans rise, and those passed hold none of the objects from here on
+pub record Passes (kept : List Span) (passed from : ℕ) : Type 0 where
+  pub rising : AreSpans 0 kept
+  pub skips : Skips kept passed from
+
+-- where the objects of a span were asked for: the first that is not live, or none, and how many of the kept spans were passed
+pub record Asked (kept : List Span) (live : ℕ → Bool) (span : Span) (at : ℕ) (found : Option ℕ) : Type 0 where
+  pub passed : Passes kept at (span.hi + 1)
+  pub dead : MatchOption found (AllLive live span.lo (span.hi + 1)) (λ id. IsFirstDead live span id)
+
+-- Drafts
+
+-- the marks of a mark end
+abbrev pub marks_in : Option MarkEnd → List Span
+marks_in None = []
+marks_in (Some m) = m.marks
+
+-- the marks of the last cycle's mark end
+abbrev pub kept_of : List Cycle → List Span
+kept_of [] = []
+kept_of (c ∷ []) = marks_in c.mark
+kept_of (c ∷ d ∷ cs) = kept_of (d ∷ cs)
+
+-- the cycle ends with a mark end
+abbrev pub HasEnd : Cycle → Type 0
+HasEnd c = c.mark ≢ None
+
+-- all cycles but the last end with a mark end
+abbrev pub AreEnded : List Cycle → Type 0
+AreEnded [] = ⊥
+AreEnded (c ∷ []) = c.mark ≡ None
+AreEnded (c ∷ d ∷ cs) = HasEnd c × AreEnded (d ∷ cs)
+
+-- the lines of a mark end whose marks may go on
+abbrev pub ending : Option ℕ → List Span → List Statement
+ending None marks = []
+ending (Some distance) marks = Gc distance ∷ map mark_of marks
+
+-- what the lines behind the header said
+abbrev pub told_of : Draft → List Statement
+told_of d = flat_map cycle_statements d.cycles ++ (map alloc_of d.events ++ ending d.distance d.marks)
+
+-- the draft behind the marks
+abbrev pub ended_at : Draft → Option ℕ → Draft
+ended_at d None = d
+ended_at d (Some distance) = record d { cycles = d.cycles ++ record { events = d.events; mark = Some (record { distance = distance; marks = d.marks }) } ∷ []; events = []; distance = None; marks = []; first = d.objects }
+
+abbrev pub ended : Draft → Draft
+ended d = ended_at d d.distance
+
+-- What a draft keeps of the lines so far
+
+-- behind the header
+abbrev pub IsBody : List Statement → Type 0
+IsBody [] = ⊥
+IsBody (s ∷ []) = ⊥
+IsBody (s ∷ t ∷ past) = Unit {0}
+
+-- a mark may begin with this object behind these lines
+abbrev pub begins : List Statement → ℕ → Bool
+begins [] lo = false
+begins (newest ∷ past) lo = may_begin newest lo
+
+-- 1 where marks may go on
+abbrev pub ends_in : Option ℕ → ℕ
+ends_in None = 0
+ends_in (Some distance) = 1
+
+-- the first object behind these spans
+abbrev pub behind_spans : ℕ → List Span → ℕ
+behind_spans from [] = from
+behind_spans from (s ∷ ss) = behind_spans (s.hi + 1) ss
+
+-- the draft counts what the lines before it hold
+pub record Counts (past : List Statement) (d : Draft) : Type 0 where
+  pub body : IsBody past
+  pub procs : procs_of past ≡ d.procs
+  pub objects : objects_of past ≡ d.objects
+  pub ends : mark_ends_of past ≡ length d.cycles + ends_in d.distance
+  pub marks : marks_of past + d.marks_left ≡ 20000000
+  pub order : d.first ≤ d.objects
+  pub kept : AreSpans 0 (kept_of d.cycles)
+  pub ended : AllByRecursion HasEnd d.cycles
+
+-- no marks may go on, and the draft has what is live
+pub record IsResting (past : List Statement) (d : Draft) : Type 0 where
+  pub live : (i : ℕ) → is_live past i ≡ lives (kept_of d.cycles) d.first d.objects i
+
+-- marks may go on, and the draft has what may be marked, what is marked, and where the marks end
+pub record IsMarking (past : List Statement) (d : Draft) : Type 0 where
+  pub begins : (lo : ℕ) → begins past lo ≡ nat_le d.next lo
+  pub live : (i : ℕ) → is_live (before_mark_end past) i ≡ lives (kept_of d.cycles) d.first d.objects i
+  pub marked : (i : ℕ) → is_marked past i ≡ in_spans d.marks i
+  pub latest : (i : ℕ) → is_live past i ≡ is_marked past i
+  pub spans : AreSpans 0 d.marks
+  pub next : behind_spans 0 d.marks ≡ d.next
+  pub passed : Skips (kept_of d.cycles) d.passed d.next
+
+abbrev pub FollowsAt : List Statement → Draft → Option ℕ → Type 0
+FollowsAt past d None = IsResting past d × ((lo : ℕ) → begins past lo ≡ false)
+FollowsAt past d (Some distance) = IsMarking past d
+
+-- the draft stands behind these lines
+abbrev pub Follows : List Statement → Draft → Type 0
+Follows past d = Counts past d × FollowsAt past d d.distance
+
+-- nothing is wrong with the statement behind these lines
+abbrev pub IsFaultless : List Statement → Statement → Type 0
+IsFaultless past s = (n : ℕ) → statement_fault needs_later n past s ≡ None
+
+-- the draft took the statement, with which nothing was wrong, and which is not the last one
+pub record Took (old new : Draft) (s : Statement) : Type 0 where
+  pub goes_on : is_end (Some s) ≡ false
+  pub told : told_of new ≡ told_of old ++ s ∷ []
+  pub faultless : (past : List Statement) → Follows past old → IsFaultless past s
+  pub follows : (past : List Statement) → Follows past old → Follows (s ∷ past) new
+
+-- these are the lines up to the header, which has so many processors
+abbrev pub IsStart : List Statement → ℕ → Type 0
+IsStart past procs = (h : HeapForm) × (past ≡ Heap h ∷ Title ∷ []) × (h.procs ≡ procs)

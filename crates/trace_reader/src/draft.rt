@@ -1,0 +1,202 @@
+//! A trace while its lines are read: what those behind the header said so far.
+
+ghost use Rattle.std.specs.Prelude.{◌≡◌, ◌≢◌, ◌<◌, ◌≤◌, [], ◌∷◌, ◌++◌, List as Items, ℕ, None, Some, IfErr, IfOk, MatchOption, OnOk};
+ghost use Rattle.std.specs.List.{AllByRecursion, flat_map};
+ghost use Rattle.trace_reader.specs.declared.statement.Statement.{Statement as Said};
+ghost use Rattle.trace_reader.specs.declared.statement.Statement.TheVariants.{Alloc, End, Gc, Mark};
+ghost use Rattle.trace_reader.specs.Spelling.{cycle_statements};
+ghost use Rattle.trace_reader.specs.Refusal.{needs_later, said_fault};
+ghost use Rattle.trace_reader.specs.Taken.{IsOfTrace, NoReadFault};
+ghost use Rattle.trace_reader.specs.Draft.{AreEnded, Follows, HasEnd, IsStart, Took, ended, kept_of, told_of};
+
+use crate::fault::{TraceFault, Which};
+use crate::limits::{limited_distance, limited_event, limited_span};
+use crate::live::first_dead;
+use crate::statement::{AllocForm, Statement};
+use crate::trace::{Cycle, Event, MarkEnd, Span};
+use edge_io::{List, NoMemory};
+use std::alloc::Global;
+use std::mem::replace;
+
+/// The most objects of a trace.
+const MAX_OBJECTS: u32 = 1_000_000;
+
+/// The most mark ends of a trace.
+const MAX_MARK_ENDS: usize = 10_000;
+
+/// The most marked objects of a trace, over all mark ends.
+const MAX_MARKS: u32 = 20_000_000;
+
+/// What the lines behind the header said so far.
+#[derive(Drop)]
+pub(crate) struct Draft {
+    /// The processors of the header.
+    procs: u32,
+    /// The cycles that ended, without the one whose marks may go on.
+    cycles: List<Cycle>,
+    /// The events of the cycle behind them.
+    events: List<Event>,
+    /// The distance of the mark end behind these events, while its marks may go on.
+    distance: Option<u64>,
+    /// The marks of that mark end.
+    marks: List<Span>,
+    /// The objects before these events, and with them.
+    first: u32,
+    objects: u32,
+    /// How many more objects may be marked, over all mark ends.
+    marks_left: u32,
+    /// The least object with which the next `m` line may begin.
+    next: u32,
+    /// So many spans of the mark end before end below that object.
+    passed: usize,
+}
+
+impl Draft {
+    /// Nothing was said yet.
+    pub(crate) fn new(alloc: Global, procs: u32) -> Self
+        ensures told { told_of result ≡ [] }
+        ensures follows { (past : Items Said) → IsStart past procs → Follows past result }
+    {
+        Draft {
+            procs,
+            cycles: List::new(alloc),
+            events: List::new(alloc),
+            distance: None,
+            marks: List::new(alloc),
+            first: 0,
+            objects: 0,
+            marks_left: MAX_MARKS,
+            next: 0,
+            passed: 0,
+        }
+    }
+
+    /// Takes what the next line says, if it is not the last one, or tells what is wrong with it.
+    pub(crate) fn take(
+        &mut self,
+        alloc: Global,
+        said: Option<Statement>,
+        number: u64,
+    ) -> Result<(), TraceFault>
+        requires { said ≢ Some End }
+        ensures took { OnOk result (MatchOption said ⊥ (λ s. Took self.old self.new s)) }
+        ensures no_read { NoReadFault result }
+        ensures fault { IfErr result (λ fault. IsOfTrace fault → (past : Items Said) → Follows past self.old → said_fault needs_later number past said ≡ Some fault) }
+    {
+        match said {
+            Some(Statement::Alloc(form)) => self.take_event(alloc, form, number),
+            Some(Statement::Gc(distance)) => self.take_mark_end(alloc, distance, number),
+            Some(Statement::Mark(lo, hi)) => self.take_mark(lo, hi, number),
+            _ => Err(TraceFault::Malformed(number)),
+        }
+    }
+
+    /// The cycles of the whole trace.
+    pub(crate) fn finish(mut self, alloc: Global) -> Result<List<Cycle>, NoMemory>
+        ensures told { IfOk result (λ cycles. flat_map cycle_statements cycles ≡ told_of self) }
+        ensures ended { IfOk result (λ cycles. AllByRecursion HasEnd self.cycles → AreEnded cycles) }
+    {
+        self.end_cycle(alloc)?;
+        let Draft {
+            mut cycles,
+            events,
+            ..
+        } = self;
+        cycles.push(Cycle { events, mark: None })?;
+        Ok(cycles)
+    }
+
+    // Takes an `a` line.
+    fn take_event(&mut self, alloc: Global, form: AllocForm, number: u64) -> Result<(), TraceFault>
+        ensures took { OnOk result (Took self.old self.new (Alloc form)) }
+        ensures no_read { NoReadFault result }
+        ensures fault { IfErr result (λ fault. IsOfTrace fault → (past : Items Said) → Follows past self.old → said_fault needs_later number past (Some (Alloc form)) ≡ Some fault) }
+    {
+        let event = limited_event(form, number, self.procs)?;
+        if self.objects >= MAX_OBJECTS {
+            return Err(TraceFault::Limit(number, Which::Objects));
+        }
+        self.end_cycle(alloc)?;
+        self.events.push(event)?;
+        self.objects += 1;
+        Ok(())
+    }
+
+    // Takes a `gc` line.
+    fn take_mark_end(
+        &mut self,
+        alloc: Global,
+        distance: u128,
+        number: u64,
+    ) -> Result<(), TraceFault>
+        ensures took { OnOk result (Took self.old self.new (Gc distance)) }
+        ensures no_read { NoReadFault result }
+        ensures fault { IfErr result (λ fault. IsOfTrace fault → (past : Items Said) → Follows past self.old → said_fault needs_later number past (Some (Gc distance)) ≡ Some fault) }
+    {
+        let distance = limited_distance(distance, number)?;
+        self.end_cycle(alloc)?;
+        if self.cycles.len() >= MAX_MARK_ENDS {
+            return Err(TraceFault::Limit(number, Which::MarkEnds));
+        }
+        self.distance = Some(distance);
+        self.marks = List::new(alloc);
+        self.next = 0;
+        self.passed = 0;
+        Ok(())
+    }
+
+    // Takes an `m` line.
+    fn take_mark(&mut self, lo: u128, hi: u128, number: u64) -> Result<(), TraceFault>
+        ensures took { OnOk result (Took self.old self.new (Mark lo hi)) }
+        ensures no_read { NoReadFault result }
+        ensures fault { IfErr result (λ fault. IsOfTrace fault → (past : Items Said) → Follows past self.old → said_fault needs_later number past (Some (Mark lo hi)) ≡ Some fault) }
+    {
+        if self.distance.is_none() || hi < lo || lo < u128::from(self.next) {
+            return Err(TraceFault::Malformed(number));
+        }
+        let span = limited_span(lo, hi, number)?;
+        let count = span.hi - span.lo + 1;
+        if count > self.marks_left {
+            return Err(TraceFault::Limit(number, Which::Marks));
+        }
+        let kept = kept_by(self.cycles.as_slice());
+        let (passed, dead) = first_dead(kept, self.passed, self.first, self.objects, span);
+        if let Some(id) = dead {
+            return Err(TraceFault::BadMark(number, id));
+        }
+        self.marks.push(span)?;
+        self.marks_left -= count;
+        self.next = span.hi + 1;
+        self.passed = passed;
+        Ok(())
+    }
+
+    // Ends the cycle whose marks could go on, if there is one.
+    fn end_cycle(&mut self, alloc: Global) -> Result<(), NoMemory>
+        ensures { OnOk result (self.new ≡ ended self.old) }
+    {
+        let Some(distance) = self.distance else {
+            return Ok(());
+        };
+        let events = replace(&mut self.events, List::new(alloc));
+        let marks = replace(&mut self.marks, List::new(alloc));
+        let mark = Some(MarkEnd { distance, marks });
+        self.cycles.push(Cycle { events, mark })?;
+        self.distance = None;
+        self.first = self.objects;
+        Ok(())
+    }
+}
+
+// The marks of the mark end of the last cycle.
+fn kept_by(cycles: &[Cycle]) -> &[Span]
+    ensures { result.now ≡ kept_of cycles.now }
+{
+    let Some(last) = cycles.last() else {
+        return &[];
+    };
+    let Some(end) = &last.mark else {
+        return &[];
+    };
+    end.marks.as_slice()
+}
