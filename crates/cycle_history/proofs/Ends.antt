@@ -7,7 +7,8 @@ use Rattle.page_alloc.specs.Journal.{Life}
 use Rattle.cycle_history.specs.declared.Report.{Report}
 use Rattle.cycle_history.specs.Requests.{Marking, marked_by, region_of, last_cycle}
 use Rattle.cycle_history.specs.Objects.{Object, is_placed}
-use Rattle.cycle_history.specs.Sound.{past_in, HasAnswers, IsSound, AllWanted}
+use Rattle.cycle_history.specs.Sound.{past_in, HasAnswers, AllWanted}
+use Rattle.cycle_history.specs.Broken.{MeetsUpTo}
 use Rattle.cycle_history.specs.Run.{IsRun}
 use Rattle.cycle_history.proofs.Live.{by-later}
 use Rattle.cycle_history.proofs.Seats.{run-seated, run-apart}
@@ -40,16 +41,18 @@ next-keeps marked region goal c past objects run = record {
   filling = run.filling;
 }
 
--- the report of a run of the last cycle is sound
+-- the report of a run of the last cycle meets the rules 1 to 6
 pub run-sound : (t : Trace) (report : Report) (objects : List Object) → IsRun (marked_by t) (region_of t) t.header.goal (last_cycle t) (past_in report) objects
-    → HasAnswers t report objects → IsSound t report objects
+    → HasAnswers t report objects → MeetsUpTo 6 t report objects
 run-sound t report objects run answers = record {
-  answers = answers;
-  journal = record { legal = run.journal; cycles = run.by };
-  misses = run.misses;
-  places = run-seated (marked_by t) (region_of t) t.header.goal (last_cycle t) (past_in report) objects run;
-  apart = run-apart (marked_by t) (region_of t) t.header.goal (last_cycle t) (past_in report) objects run;
-  filling = run.filling;
+  answers = λ le. answers;
+  journal = λ le. record { legal = run.journal; cycles = run.by };
+  misses = λ le. run.misses;
+  places = λ le. run-seated (marked_by t) (region_of t) t.header.goal (last_cycle t) (past_in report) objects run;
+  apart = λ le. run-apart (marked_by t) (region_of t) t.header.goal (last_cycle t) (past_in report) objects run;
+  filling = λ le. run.filling;
+  sweeps = λ le. absurd (omega arith);
+  totals = λ le. absurd (omega arith);
 }
 
 -- one more object keeps the lives wanted

@@ -14,13 +14,13 @@ use Rattle.cycle_history.proofs.Keeps.{line-keeps, take-may, object-keeps}
 use Rattle.cycle_history.proofs.Ends.{start-run}
 use Rattle.cycle_history.proofs.Spans.{place-may, bits-fresh}
 
-abbrev one : Object
+abbrev pub one : Object
 one = record { id = 0; proc = 0; cycle = 0; need = record { class = 6; pages = 1; slot = 24; count = 341 }; answer = Placed 0xc000000000; life = 0; index = 0 }
 
-abbrev never : Marking
+abbrev pub never : Marking
 never m id = false
 
-abbrev past : List Line
+abbrev pub past : List Line
 past = Take 0 0 1 6 ∷ []
 
 first_fit : IsFirstFit 512 [] 0 1
@@ -60,7 +60,7 @@ may_place =
     (record { inside = omega arith; free = refl; lowest = λ j lt. absurd (omega arith) })
     refl refl (λ b h. absurd h) (λ small. refl)
 
-placed : IsRun never 512 512 0 past (one ∷ [])
+pub placed : IsRun never 512 512 0 past (one ∷ [])
 placed = object-keeps never 512 512 0 past [] one taken record {
   cycle = refl;
   order = λ b h. absurd h;

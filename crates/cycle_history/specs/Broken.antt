@@ -2,9 +2,10 @@
 use Rattle.std.specs.Prelude.{ℕ, ◌-◌, ◌≤◌, List}
 use Rattle.trace_reader.specs.declared.trace.Trace.{Trace}
 use Rattle.cycle_history.specs.declared.Report.{Report}
-use Rattle.cycle_history.specs.Requests.{marked_by}
+use Rattle.cycle_history.specs.Requests.{marked_by, last_cycle}
 use Rattle.cycle_history.specs.Objects.{Object}
 use Rattle.cycle_history.specs.Rules.{AreMissed, AreSeated, AreApart, AreFilled}
+use Rattle.cycle_history.specs.Sweeps.{AreSwept, AreTotals}
 use Rattle.cycle_history.specs.Sound.{past_in, HasAnswers, HasJournal}
 
 -- A report meets the rules up to number n, by these objects with their seats.
@@ -15,6 +16,8 @@ pub record MeetsUpTo (n : ℕ) (t : Trace) (report : Report) (objects : List Obj
   pub places : 4 ≤ n → AreSeated (marked_by t) (past_in report) objects
   pub apart : 5 ≤ n → AreApart (marked_by t) objects
   pub filling : 6 ≤ n → AreFilled (marked_by t) objects
+  pub sweeps : 7 ≤ n → AreSwept (marked_by t) (last_cycle t) (past_in report) objects report.sweeps
+  pub totals : 8 ≤ n → AreTotals (marked_by t) (last_cycle t) objects report.totals
 
 -- Some objects show that a report meets the rules up to number n.
 abbrev pub MeetsRules : ℕ → Trace → Report → Type 0

@@ -1,10 +1,16 @@
-pub mod First
 pub mod Needs
 pub mod Requests
 pub mod Objects
+pub mod Orders
 pub mod Rules
+pub mod Sweeps
 pub mod Sound
 pub mod Broken
 pub mod Text
 pub mod Run
+pub mod Notes
 pub mod Spans
+pub mod Places
+pub mod Marked
+pub mod MarkedLoops
+pub mod Counted

@@ -8,6 +8,7 @@ use Rattle.cycle_history.specs.declared.Report.{Report}
 use Rattle.cycle_history.specs.Requests.{requests_of, marked_by, last_cycle, region_of}
 use Rattle.cycle_history.specs.Objects.{Object, is_placed}
 use Rattle.cycle_history.specs.Rules.{AreAnswered, AreMissed, AreSeated, AreApart, AreFilled}
+use Rattle.cycle_history.specs.Sweeps.{AreSwept, AreTotals}
 
 -- The past that a report's journal tells, with the newest line first.
 abbrev pub past_in : Report → List Line
@@ -23,8 +24,8 @@ pub record HasJournal (t : Trace) (report : Report) : Type 0 where
   pub legal : Legal (region_of t) t.header.goal (past_in report)
   pub cycles : IsBy (last_cycle t) (past_in report)
 
--- A report is sound, by these objects with their seats, where it meets each rule; the rules 7 to 9 on sweeps, totals
--- and the profile come with the lines that they judge.
+-- A report is sound, by these objects with their seats, where it meets each rule. Rule 9, on the profile, is still to
+-- come.
 pub record IsSound (t : Trace) (report : Report) (objects : List Object) : Type 0 where
   pub answers : HasAnswers t report objects
   pub journal : HasJournal t report
@@ -32,6 +33,8 @@ pub record IsSound (t : Trace) (report : Report) (objects : List Object) : Type 
   pub places : AreSeated (marked_by t) (past_in report) objects
   pub apart : AreApart (marked_by t) objects
   pub filling : AreFilled (marked_by t) objects
+  pub sweeps : AreSwept (marked_by t) (last_cycle t) (past_in report) objects report.sweeps
+  pub totals : AreTotals (marked_by t) (last_cycle t) objects report.totals
 
 -- An object of the life's own cycle sits at its index 0.
 abbrev pub IsWanted : List Object → Life → Type 0

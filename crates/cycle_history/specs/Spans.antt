@@ -2,7 +2,7 @@
 use Rattle.std.specs.Prelude.{◌≡◌, ℕ, ◌<◌, Bool, true, false, ◌==◌, ◌||◌, List, ◌⊎◌, Option, Some}
 use Rattle.page_alloc.specs.Lists.{In}
 use Rattle.cycle_history.specs.Requests.{Marking}
-use Rattle.cycle_history.specs.Objects.{Object, live}
+use Rattle.cycle_history.specs.Objects.{Object, is_placed, live}
 use Rattle.cycle_history.specs.Rules.{IsSmall}
 
 -- An object that lives in cycle m has this index of the life.
@@ -13,6 +13,15 @@ HasIndex marked m objects n k = (o : Object) × In o objects × (live marked m o
 pub record AreBits (marked : Marking) (m : ℕ) (objects : List Object) (n : ℕ) (bits : ℕ → Bool) : Type 0 where
   pub shown : (o : Object) → In o objects → live marked m o ≡ true → o.life ≡ n → bits o.index ≡ true
   pub from : (k : ℕ) → bits k ≡ true → HasIndex marked m objects n k
+
+-- A placed object that mark end m marks has this index of the life.
+abbrev pub HasMarkedIndex : Marking → ℕ → List Object → ℕ → ℕ → Type 0
+HasMarkedIndex marked m objects n k = (o : Object) × In o objects × (is_placed o.answer ≡ true) × (marked m o.id ≡ true) × (o.life ≡ n) × (o.index ≡ k)
+
+-- The marks of a life's page at mark end m are the indices of its objects that the mark end marks.
+pub record AreMarks (marked : Marking) (m : ℕ) (objects : List Object) (n : ℕ) (marks : ℕ → Bool) : Type 0 where
+  pub shown : (o : Object) → In o objects → is_placed o.answer ≡ true → marked m o.id ≡ true → o.life ≡ n → marks o.index ≡ true
+  pub from : (k : ℕ) → marks k ≡ true → HasMarkedIndex marked m objects n k
 
 -- Each index of the life has an object that lives in cycle c.
 abbrev pub IsFull : Marking → ℕ → List Object → ℕ → ℕ → Type 0

@@ -1,14 +1,29 @@
 //! What a run of a trace answers, as a report, and when a report is sound.
 //!
 //! `specs/Sound.antt` has the rules that a report meets, over the words of `specs/Requests.antt`, `Needs.antt`,
-//! `Objects.antt` and `Rules.antt`, and `specs/Broken.antt` the first rule that one breaks. `specs/Text.antt` is the text of
-//! a report. `specs/First.antt` says which answers a trace has while nothing is ever freed. `specs/Run.antt` has the
-//! invariant of a run in the middle of a cycle; the laws that its steps keep it, and that it makes the report sound, are
-//! in `proofs/Keeps.antt` and `proofs/Ends.antt`.
+//! `Objects.antt`, `Rules.antt`, `Orders.antt` and `Sweeps.antt`, and `specs/Broken.antt` the first rule that one breaks.
+//! `specs/Text.antt` is the text of a report. `specs/Run.antt` and `specs/Notes.antt` have the invariant of a run in the
+//! middle of a cycle; the laws that its steps keep it, and that it makes the report sound, are in `proofs/Keeps.antt`,
+//! `proofs/Ends.antt`, `proofs/Notes.antt` and `proofs/Walk.antt`.
+//!
+//! `marks_of` finds the places that a mark end marks, and `totals_of` counts the objects of each size class, from a trace
+//! and its answers: `specs/Places.antt`, `Marked.antt` and `Counted.antt`.
 #![tactic(auto)]
 
+mod laws;
+mod lookups;
+mod marks;
+mod places;
+mod totals;
+
 use edge_io::List;
+pub use laws::{
+    a_mark_end_marks_by_objects, an_address_has_one_place, an_object_sits_at_its_place,
+};
+pub use marks::marks_of;
 use page_bitmap::Line;
+use span_state::SweepNote;
+pub use totals::totals_of;
 
 /// What an allocation answers.
 #[derive(Clone, Copy, Debug, PartialEq, Eq)]
@@ -21,6 +36,32 @@ pub enum Answer {
     Missed(u64),
 }
 
+/// The placed objects of a size class, over a whole trace.
+#[derive(Clone, Copy, Debug, PartialEq, Eq)]
+pub struct Total {
+    /// The size class, from 0 to 67; class 0 has the objects above 32768 bytes.
+    pub class: u8,
+    /// How many objects were placed.
+    pub mallocs: u64,
+    /// How many of them don't live in the last cycle.
+    pub frees: u64,
+}
+
+/// The sampled objects of one stack and one slot size, as of a mark end.
+#[derive(Clone, Copy, Debug, PartialEq, Eq)]
+pub struct Prof {
+    /// The mark end's number, from 1.
+    pub mark: u32,
+    /// The number of the stack that allocated the objects.
+    pub stack: u32,
+    /// The bytes of a slot.
+    pub size: u64,
+    /// How many sampled objects of cycles before the mark end were allocated.
+    pub allocs: u64,
+    /// How many of them the mark end doesn't mark.
+    pub frees: u64,
+}
+
 /// What a run prints.
 #[derive(Debug, Drop)]
 pub struct Report {
@@ -28,4 +69,10 @@ pub struct Report {
     pub answers: List<Answer>,
     /// The lines of the page journal, in the order in which they were made; a line's number is its place, from 0.
     pub journal: List<Line>,
+    /// The sweeps, by their cycle and then by the span's first page.
+    pub sweeps: List<SweepNote>,
+    /// The totals of the size classes that have placed objects, by class.
+    pub totals: List<Total>,
+    /// The published profile, by mark end, then by stack, then by slot size.
+    pub profile: List<Prof>,
 }

@@ -1,0 +1,53 @@
+-- What is counted of the objects of each size class.
+use Rattle.std.specs.Prelude.{◌≡◌, ℕ, ◌<◌, ◌≤◌, Bool, ◌&&◌, not, List, map, reverse, take, slice_index_or, Some, ◌↔◌}
+use Rattle.std.specs.List.{slice_get}
+use Rattle.page_alloc.specs.Lists.{In, count}
+use Rattle.trace_reader.specs.declared.trace.Trace.{Trace}
+use Rattle.trace_reader.specs.declared.trace.Event.{Event}
+use Rattle.trace_reader.specs.Limits.{events_of}
+use Rattle.cycle_history.specs.declared.Answer.{Answer}
+use Rattle.cycle_history.specs.declared.Answer.TheVariants.{Zero}
+use Rattle.cycle_history.specs.declared.Total.{Total}
+use Rattle.cycle_history.specs.declared.totals.Count.{Count}
+use Rattle.cycle_history.specs.Requests.{requests_from, requests_of, marked_by, last_cycle}
+use Rattle.cycle_history.specs.Objects.{Object, live}
+use Rattle.cycle_history.specs.Orders.{AreRisingTotals}
+use Rattle.cycle_history.specs.Rules.{AreAnswered}
+use Rattle.cycle_history.specs.Sweeps.{is_placed_of}
+
+-- An answer is zero exactly where the object's size is 0.
+abbrev pub AreZeros : Trace → List Answer → Type 0
+AreZeros t answers = (i : ℕ) (event : Event) → slice_get (events_of t) i ≡ Some event → (slice_get answers i ≡ Some Zero) ↔ (event.size ≡ 0)
+
+-- The objects are those of a trace's requests, and have these answers.
+pub record AreObjectsOf (t : Trace) (answers : List Answer) (objects : List Object) : Type 0 where
+  pub asked : AreAnswered (requests_of t) objects
+  pub printed : map (λ (o : Object). o.answer) objects ≡ reverse answers
+
+-- The objects are those of a trace's first n requests.
+pub record AreFirstOf (t : Trace) (answers : List Answer) (n : ℕ) (objects : List Object) : Type 0 where
+  pub asked : AreAnswered (reverse (take n (requests_from 0 t.cycles))) objects
+  pub printed : map (λ (o : Object). o.answer) objects ≡ reverse (take n answers)
+
+-- What was counted of a class; of a class that has no place nothing was.
+abbrev pub of_class : List Count → ℕ → Count
+of_class counts class = slice_index_or counts class (record { mallocs = 0; frees = 0 })
+
+-- An object is placed in a span of the class and doesn't live in the last cycle.
+abbrev pub is_freed_of : Trace → ℕ → Object → Bool
+is_freed_of t class o = is_placed_of class o && not (live (marked_by t) (last_cycle t) o)
+
+-- The counts are those of the first n objects.
+pub record AreCounts (t : Trace) (answers : List Answer) (n : ℕ) (counts : List Count) : Type 0 where
+  pub few : (class : ℕ) → ((of_class counts class).mallocs ≤ n) × ((of_class counts class).frees ≤ n)
+  pub mallocs : (objects : List Object) (class : ℕ) → AreFirstOf t answers n objects → class < 68 → (of_class counts class).mallocs ≡ count (is_placed_of class) objects
+  pub frees : (objects : List Object) (class : ℕ) → AreFirstOf t answers n objects → class < 68 → (of_class counts class).frees ≡ count (is_freed_of t class) objects
+
+-- The totals are those of the classes below a bound that have objects.
+pub record AreListed (counts : List Count) (bound : ℕ) (totals : List Total) : Type 0 where
+  pub order : AreRisingTotals totals
+  pub below : (total : Total) → In total totals → total.class < bound
+  pub some : (total : Total) → In total totals → 1 ≤ total.mallocs
+  pub mallocs : (total : Total) → In total totals → total.mallocs ≡ (of_class counts total.class).mallocs
+  pub frees : (total : Total) → In total totals → total.frees ≡ (of_class counts total.class).frees
+  pub each : (class : ℕ) → class < bound → 1 ≤ (of_class counts class).mallocs → (total : Total) × In total totals × (total.class ≡ class)
