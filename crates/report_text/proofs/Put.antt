@@ -1,5 +1,5 @@
 -- Putting numbered lines behind what waits, one at a time.
-use Rattle.std.proofs.Common.{◌≡◌, ℕ, ◌+◌, ◌<◌, ◌≤◌, List, [], ◌∷◌, ◌++◌, length, take, drop, get_or, Option, refl, sym, ap, ◌∙◌, arith, append_assoc, Result, Ok, Err, OnErr}
+use Rattle.std.proofs.Common.{◌≡◌, ℕ, ◌+◌, ◌<◌, ◌≤◌, List, [], ◌∷◌, ◌++◌, length, take, drop, get_or, Option, sym, ap, subst, ◌∙◌, arith, append_assoc, Result, Ok, Err, OnErr}
 use Rattle.std.specs.Io.KnownBytes.{Appends}
 use Rattle.std.proofs.KnownBytes.{Appends-trans}
 use Rattle.std.proofs.lemmas.List.{append-nil, take_more, take_all, take-append-drop, length-take-le}
@@ -66,9 +66,11 @@ front_of a b w0 w1 x y front =
 
 -- ---- one line at a time
 
-pub put_more : {X : Type 0} (line : ℕ → X → List ℕ) (a b c : Option (List ℕ)) (w0 w1 w2 : List ℕ) (xs : List X) (i : ℕ) (d : X) → i < length xs
-    → Puts a b w0 w1 (text (numbered line 0 (take i xs))) → Sends b c w2 (w1 ++ (line i (get_or xs i d) ++ 10 ∷ [])) → Puts a c w0 w2 (text (numbered line 0 (take (i + 1) xs)))
-put_more line a b c w0 w1 w2 xs i d lt first then = rw (text-more line xs i d lt) (puts-then a b c w0 w1 w2 _ _ first then)
+pub put_more : {X : Type 0} (line : ℕ → X → List ℕ) (a b c : Option (List ℕ)) (w0 w1 w2 : List ℕ) (xs : List X) (i : ℕ) (x : X) → i < length xs → x ≡ get_or xs i x
+    → Puts a b w0 w1 (text (numbered line 0 (take i xs))) → Sends b c w2 (w1 ++ (line i x ++ 10 ∷ [])) → Puts a c w0 w2 (text (numbered line 0 (take (i + 1) xs)))
+put_more {X} line a b c w0 w1 w2 xs i x lt is first then =
+    let more = subst (λ (y : X). Sends b c w2 (w1 ++ (line i y ++ 10 ∷ []))) is then in
+    rw (text-more line xs i x lt) (puts-then a b c w0 w1 w2 _ _ first more)
 
 pub put_all : {X : Type 0} (line : ℕ → X → List ℕ) (a b : Option (List ℕ)) (w0 w1 : List ℕ) (xs : List X) (i : ℕ) → length xs ≤ i
     → Puts a b w0 w1 (text (numbered line 0 (take i xs))) → Puts a b w0 w1 (text (numbered line 0 xs))

@@ -5,9 +5,7 @@ mod laws;
 mod lines;
 #[cfg(test)]
 mod tests;
-mod text_line;
 mod write;
 
 pub use laws::text_of_one_report;
-pub use text_line::TextLine;
 pub use write::write_report;

@@ -1,54 +1,104 @@
 //! The lines of a report, one at a time.
 
-ghost use Rattle.std.specs.Prelude.{◌≡◌, ◌+◌, ◌≤◌, [], ◌∷◌, ◌++◌, decimal, length};
-ghost use Rattle.cycle_history.specs.Text.{answer_line, answer_text, journal_line, journal_text};
+ghost use Rattle.std.specs.Prelude.{◌≡◌, ℕ, ◌+◌, ◌≤◌, List, [], ◌∷◌, ◌++◌, decimal, length};
+ghost use Rattle.cycle_history.specs.Text.{answer_line, answer_text, journal_line, journal_text, profile_line, sweep_line, total_line};
 
-use crate::text_line::TextLine;
-use cycle_history::Answer;
+use cycle_history::{Answer, Prof, Total};
 use page_bitmap::Line;
+use span_state::SweepNote;
+use text_line::TextLine;
 
-/// Puts the line of an answer together.
-pub(crate) fn push_answer_line(line: &mut TextLine, id: u64, answer: Answer)
-    requires { line.old ≡ [] }
-    ensures text { line.new ≡ answer_line id answer ++ 10 ∷ [] }
-    ensures short { length line.new ≤ 128 }
-{
-    line.push(b"o ");
-    line.push_decimal(id);
-    push_answer(line, answer);
-    line.push(b"\n");
+/// What has a line of its own in a report.
+pub(crate) trait ReportLine {
+    // the line of the item with this number, without its line feed
+    ghost printed: { ℕ → Self → List ℕ };
+
+    /// Puts together the line of the item with this number. Some kinds of lines don't show the number.
+    fn push_line(&self, text: &mut TextLine, number: u64)
+        requires { text.old ≡ [] }
+        ensures text { text.new ≡ printed number self.now ++ 10 ∷ [] }
+        ensures short { length text.new ≤ 128 };
 }
 
-// Appends what stands behind the number of an answer.
-fn push_answer(line: &mut TextLine, answer: Answer)
-    requires { length line.old ≤ 24 }
-    ensures text { line.new ≡ line.old ++ answer_text answer }
-    ensures short { length line.new ≤ 96 }
-{
-    match answer {
-        Answer::Placed(address) => {
-            line.push(b" 0x");
-            line.push_hexadecimal(address);
-        }
-        Answer::Zero => line.push(b" zero"),
-        Answer::Missed(number) => {
-            line.push(b" miss ");
-            line.push_decimal(number);
-        }
+impl ReportLine for Answer {
+    ghost printed = { answer_line };
+
+    fn push_line(&self, text: &mut TextLine, number: u64) {
+        text.push(b"o ");
+        text.push_decimal(number);
+        push_answer(text, *self);
+        text.push(b"\n");
     }
 }
 
-/// Puts the line of a journal line together.
-pub(crate) fn push_journal_line(text: &mut TextLine, number: u64, line: Line)
-    requires { text.old ≡ [] }
-    ensures text { text.new ≡ journal_line number line ++ 10 ∷ [] }
-    ensures short { length text.new ≤ 128 }
+impl ReportLine for Line {
+    ghost printed = { journal_line };
+
+    fn push_line(&self, text: &mut TextLine, number: u64) {
+        text.push(b"j ");
+        text.push_decimal(number);
+        text.push(b" ");
+        push_journal(text, *self);
+        text.push(b"\n");
+    }
+}
+
+impl ReportLine for SweepNote {
+    ghost printed = { λ _ note. sweep_line note };
+
+    fn push_line(&self, text: &mut TextLine, _number: u64) {
+        text.push(b"s ");
+        text.push_decimal(u64::from(self.cycle));
+        push_field(text, u64::from(self.page));
+        push_field(text, u64::from(self.kept));
+        push_field(text, u64::from(self.freed));
+        text.push(b"\n");
+    }
+}
+
+impl ReportLine for Total {
+    ghost printed = { λ _ total. total_line total };
+
+    fn push_line(&self, text: &mut TextLine, _number: u64) {
+        text.push(b"t ");
+        text.push_decimal(u64::from(self.class));
+        push_field(text, self.mallocs);
+        push_field(text, self.frees);
+        text.push(b"\n");
+    }
+}
+
+impl ReportLine for Prof {
+    ghost printed = { λ _ prof. profile_line prof };
+
+    fn push_line(&self, text: &mut TextLine, _number: u64) {
+        text.push(b"p ");
+        text.push_decimal(u64::from(self.mark));
+        push_field(text, u64::from(self.stack));
+        push_field(text, self.size);
+        push_field(text, self.allocs);
+        push_field(text, self.frees);
+        text.push(b"\n");
+    }
+}
+
+// Appends what stands behind the number of an answer.
+fn push_answer(text: &mut TextLine, answer: Answer)
+    requires { length text.old ≤ 24 }
+    ensures text { text.new ≡ text.old ++ answer_text answer }
+    ensures short { length text.new ≤ 96 }
 {
-    text.push(b"j ");
-    text.push_decimal(number);
-    text.push(b" ");
-    push_journal(text, line);
-    text.push(b"\n");
+    match answer {
+        Answer::Placed(address) => {
+            text.push(b" 0x");
+            text.push_hexadecimal(address);
+        }
+        Answer::Zero => text.push(b" zero"),
+        Answer::Missed(number) => {
+            text.push(b" miss ");
+            text.push_decimal(number);
+        }
+    }
 }
 
 // Appends what stands behind the number of a journal line.
@@ -67,8 +117,7 @@ fn push_journal(text: &mut TextLine, line: Line)
             text.push_decimal(u64::from(cycle));
             text.push(b" take ");
             push_pair(text, page, pages);
-            text.push(b" ");
-            text.push_decimal(u64::from(class));
+            push_field(text, u64::from(class));
         }
         Line::Miss {
             cycle,
@@ -99,6 +148,15 @@ fn push_pair(text: &mut TextLine, first: u32, second: u32)
     ensures short { length text.new ≤ length text.old + 41 }
 {
     text.push_decimal(u64::from(first));
+    push_field(text, u64::from(second));
+}
+
+// Appends a space and a number.
+fn push_field(text: &mut TextLine, number: u64)
+    requires { length text.old ≤ 105 }
+    ensures text { text.new ≡ text.old ++ 32 ∷ decimal number }
+    ensures short { length text.new ≤ length text.old + 21 }
+{
     text.push(b" ");
-    text.push_decimal(u64::from(second));
+    text.push_decimal(number);
 }

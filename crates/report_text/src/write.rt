@@ -6,67 +6,69 @@ ghost use Rattle.edge_io.specs.Causes.{HasCause};
 ghost use Rattle.edge_io.specs.Front.{AppendsFront};
 ghost use Rattle.edge_io.specs.Output.{IsSameSink, sink_of, waiting_of};
 ghost use Rattle.edge_io.specs.Text.{text};
-ghost use Rattle.cycle_history.specs.Text.{answer_line, journal_line, numbered, report_text};
+ghost use Rattle.cycle_history.specs.Orders.{AreRisingProfile, AreRisingSweeps, AreRisingTotals};
+ghost use Rattle.cycle_history.specs.Text.{closing_lines, numbered, report_text};
 ghost use Rattle.report_text.specs.Sent.{Puts, PutsFront};
 
-use crate::lines::{push_answer_line, push_journal_line};
-use crate::text_line::TextLine;
-use cycle_history::{Answer, Report};
+use crate::lines::ReportLine;
+use cycle_history::Report;
 use edge_io::{Failed, Output, Sink};
-use page_bitmap::Line;
+use text_line::TextLine;
 
 /// Appends the text of the report, or after [`Failed`] a front of it. Failed comes only where the sink's count rose. It
-/// takes no memory.
+/// takes no memory. The sweeps are in the order of their cycles and first pages, the totals in that of their classes, and
+/// the profile in that of mark ends, stacks and slot sizes, none twice.
 pub fn write_report<K: Sink>(out: &mut K, report: &Report) -> Result<(), Failed>
+    requires sweeps { AreRisingSweeps report.now.sweeps }
+    requires totals { AreRisingTotals report.now.totals }
+    requires profile { AreRisingProfile report.now.profile }
     ensures ok { OnOk result (Appends (K.held out.old) (K.held out.new) (report_text report.now)) }
     ensures front { AppendsFront (K.held out.old) (K.held out.new) (report_text report.now) }
     ensures cause { HasCause (K.faults out.old) (K.faults out.new) result }
 {
     let mut output = Output::new(out);
-    write_lines(&mut output, report)
+    write_all_lines(&mut output, report)
 }
 
 // Writes all lines behind nothing that waits, and sends them.
-fn write_lines<K: Sink>(out: &mut Output<'_, K>, report: &Report) -> Result<(), Failed>
+fn write_all_lines<K: Sink>(out: &mut Output<'_, K>, report: &Report) -> Result<(), Failed>
     requires { waiting_of out.old ≡ [] }
     ensures same_sink { IsSameSink out.old out.new }
     ensures ok { OnOk result (Appends (K.held (sink_of out.old)) (K.held (sink_of out.new)) (report_text report.now)) }
     ensures front { AppendsFront (K.held (sink_of out.old)) (K.held (sink_of out.new)) (report_text report.now) }
     ensures cause { HasCause (K.faults (sink_of out.old)) (K.faults (sink_of out.new)) result }
 {
-    put_answers(out, report.answers.as_slice())?;
-    put_journal(out, report.journal.as_slice())?;
-    out.put(b"end\n")?;
+    put_lines(out, report.answers.as_slice())?;
+    put_lines(out, report.journal.as_slice())?;
+    put_closing(out, report)?;
     out.flush()
 }
 
-// Puts the lines of the answers behind what waits.
-fn put_answers<K: Sink>(out: &mut Output<'_, K>, answers: &[Answer]) -> Result<(), Failed>
+// Puts the lines behind the journal behind what waits.
+fn put_closing<K: Sink>(out: &mut Output<'_, K>, report: &Report) -> Result<(), Failed>
     ensures same_sink { IsSameSink out.old out.new }
-    ensures ok { OnOk result (Puts (K.held (sink_of out.old)) (K.held (sink_of out.new)) (waiting_of out.old) (waiting_of out.new) (text (numbered answer_line 0 answers.now))) }
-    ensures err { OnErr result (PutsFront (K.held (sink_of out.old)) (K.held (sink_of out.new)) (waiting_of out.old) (waiting_of out.new) (text (numbered answer_line 0 answers.now))) }
+    ensures ok { OnOk result (Puts (K.held (sink_of out.old)) (K.held (sink_of out.new)) (waiting_of out.old) (waiting_of out.new) (text (closing_lines report.now))) }
+    ensures err { OnErr result (PutsFront (K.held (sink_of out.old)) (K.held (sink_of out.new)) (waiting_of out.old) (waiting_of out.new) (text (closing_lines report.now))) }
     ensures cause { HasCause (K.faults (sink_of out.old)) (K.faults (sink_of out.new)) result }
 {
-    let mut line = TextLine::new();
-    for (id, answer) in answers.iter().enumerate() {
-        line.clear();
-        push_answer_line(&mut line, id as u64, *answer);
-        out.put(line.as_slice())?;
-    }
+    put_lines(out, report.sweeps.as_slice())?;
+    put_lines(out, report.totals.as_slice())?;
+    put_lines(out, report.profile.as_slice())?;
+    out.put(b"end\n")?;
     Ok(())
 }
 
-// Puts the lines of the journal behind what waits.
-fn put_journal<K: Sink>(out: &mut Output<'_, K>, journal: &[Line]) -> Result<(), Failed>
+// Puts the lines of these items, numbered from 0, behind what waits.
+fn put_lines<K: Sink, X: ReportLine>(out: &mut Output<'_, K>, items: &[X]) -> Result<(), Failed>
     ensures same_sink { IsSameSink out.old out.new }
-    ensures ok { OnOk result (Puts (K.held (sink_of out.old)) (K.held (sink_of out.new)) (waiting_of out.old) (waiting_of out.new) (text (numbered journal_line 0 journal.now))) }
-    ensures err { OnErr result (PutsFront (K.held (sink_of out.old)) (K.held (sink_of out.new)) (waiting_of out.old) (waiting_of out.new) (text (numbered journal_line 0 journal.now))) }
+    ensures ok { OnOk result (Puts (K.held (sink_of out.old)) (K.held (sink_of out.new)) (waiting_of out.old) (waiting_of out.new) (text (numbered X.printed 0 items.now))) }
+    ensures err { OnErr result (PutsFront (K.held (sink_of out.old)) (K.held (sink_of out.new)) (waiting_of out.old) (waiting_of out.new) (text (numbered X.printed 0 items.now))) }
     ensures cause { HasCause (K.faults (sink_of out.old)) (K.faults (sink_of out.new)) result }
 {
     let mut line = TextLine::new();
-    for (number, entry) in journal.iter().enumerate() {
+    for (number, item) in items.iter().enumerate() {
         line.clear();
-        push_journal_line(&mut line, number as u64, *entry);
+        item.push_line(&mut line, number as u64);
         out.put(line.as_slice())?;
     }
     Ok(())
