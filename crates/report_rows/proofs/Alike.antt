@@ -173,10 +173,10 @@ from_left R (x ∷ os) (c ∷ cs) all o i = elim i [
   | inr there ↦ (let r = from_left R os cs all.1 o there in (r.0, inr r.1, r.2))
 ]
 
-live-like : (marked : Marking) (m : ℕ) (o c : Object) → IsLike o c → live marked m o ≡ live marked m c
+pub live-like : (marked : Marking) (m : ℕ) (o c : Object) → IsLike o c → live marked m o ≡ live marked m c
 live-like marked m o c like = let e1 = like.answer in let e2 = like.cycle in let e3 = like.id in cc
 
-need-like : (o c : Object) → IsLike o c → is_placed c.answer ≡ true → o.need ≡ c.need
+pub need-like : (o c : Object) → IsLike o c → is_placed c.answer ≡ true → o.need ≡ c.need
 need-like o c like placed = like.need (λ z. placed-not_zero c.answer placed (sym like.answer ∙ z))
 
 pub missed-alike : (past : List Line) (os cs : List Object) → AllZip IsLike os cs → AreMissed past os → AreMissed past cs

@@ -14,6 +14,7 @@ use Rattle.cycle_history.specs.declared.Report.{Report}
 use Rattle.cycle_history.specs.Requests.{Request, requests_of, spans_after, marked_by, last_cycle, region_of}
 use Rattle.cycle_history.specs.Objects.{Object, is_placed, live}
 use Rattle.cycle_history.specs.Rules.{IsObject, AreAnswered, AreMissed, AreSeated, AreApart, AreFilled}
+use Rattle.cycle_history.specs.Sweeps.{AreSwept, AreTotals}
 use Rattle.cycle_history.specs.Sound.{past_in, HasAnswers, HasJournal}
 use Rattle.cycle_history.specs.Broken.{MeetsUpTo, MeetsRules}
 use Rattle.report_rows.proofs.Tests.{Decides-then, Decides-given}
@@ -22,6 +23,9 @@ use Rattle.report_rows.proofs.Misses.{are_missed, Decides-missed}
 use Rattle.report_rows.proofs.Places.{sits_in, IsBounded, are_seated, Decides-are_seated}
 use Rattle.report_rows.proofs.Apart.{are_apart, Decides-are_apart}
 use Rattle.report_rows.proofs.Filled.{are_filled, Decides-filled}
+use Rattle.report_rows.proofs.Swept.{are_swept, Decides-swept}
+use Rattle.report_rows.proofs.Totals.{are_totals, Decides-totals}
+use Rattle.report_rows.proofs.Recounted.{swept-alike, totals-alike}
 use Rattle.report_rows.proofs.Needs.{need_for-is}
 use Rattle.report_rows.proofs.Alike.{object_for, put_at, first_seat, seated_objects, IsLike, IsSame, answered-like, seated-same, from_right, missed-alike, apart-alike, seated-alike, filled-alike}
 
@@ -174,8 +178,19 @@ meets_apart n t cs = elim (leb 5 n) [ true ↦ are_apart (marked_by t) (bound_of
 abbrev pub meets_filling : ℕ → Trace → List Object → Bool
 meets_filling n t cs = elim (leb 6 n) [ true ↦ are_filled (marked_by t) cs | false ↦ true ]
 
+abbrev pub meets_sweeps : ℕ → Trace → Report → List Object → Bool
+meets_sweeps n t report cs = elim (leb 7 n) [ true ↦ are_swept (marked_by t) (last_cycle t) (past_in report) cs report.sweeps | false ↦ true ]
+
+abbrev pub meets_totals : ℕ → Trace → Report → List Object → Bool
+meets_totals n t report cs = elim (leb 8 n) [ true ↦ are_totals (marked_by t) (last_cycle t) cs report.totals | false ↦ true ]
+
+-- the rules 6 to 8
+abbrev pub meets_last : ℕ → Trace → Report → List Object → Bool
+meets_last n t report cs = elim (meets_filling n t cs) [ true ↦ elim (meets_sweeps n t report cs) [ true ↦ meets_totals n t report cs | false ↦ false ] | false ↦ false ]
+
+-- the rules 3 to 8
 abbrev pub meets_rest : ℕ → Trace → Report → List Object → Bool
-meets_rest n t report cs = elim (meets_misses n report cs) [ true ↦ elim (meets_places n t report cs) [ true ↦ elim (meets_apart n t cs) [ true ↦ meets_filling n t cs | false ↦ false ] | false ↦ false ] | false ↦ false ]
+meets_rest n t report cs = elim (meets_misses n report cs) [ true ↦ elim (meets_places n t report cs) [ true ↦ elim (meets_apart n t cs) [ true ↦ meets_last n t report cs | false ↦ false ] | false ↦ false ] | false ↦ false ]
 
 abbrev pub meets : ℕ → Trace → Report → Bool
 meets n t report = elim (meets_answers n t report) [ true ↦ elim (meets_journal n t report) [ true ↦ meets_rest n t report (objects_in t report) | false ↦ false ] | false ↦ false ]
@@ -200,26 +215,37 @@ bounded-in t report has =
     let like : AllZip IsLike cs (seated_objects (past_in report) (requests_of t) (answers_in cs)) = answered-like (past_in report) (requests_of t) cs has.asked in
     all-bounded t cs cs (subst (λ (answers : List Answer). AllZip IsLike cs (seated_objects (past_in report) (requests_of t) answers)) has.printed like)
 
+abbrev LastRules : ℕ → Trace → Report → List Object → Type 0
+LastRules n t report cs = (6 ≤ n → AreFilled (marked_by t) cs) × ((7 ≤ n → AreSwept (marked_by t) (last_cycle t) (past_in report) cs report.sweeps) × (8 ≤ n → AreTotals (marked_by t) (last_cycle t) cs report.totals))
+
+Decides-last : (n : ℕ) (t : Trace) (report : Report) (cs : List Object) → Decides (meets_last n t report cs) (LastRules n t report cs)
+Decides-last n t report cs =
+    Decides-then (meets_filling n t cs) (elim (meets_sweeps n t report cs) [ true ↦ meets_totals n t report cs | false ↦ false ])
+    (asked-le 6 n (are_filled (marked_by t) cs) (λ le. Decides-filled (marked_by t) cs))
+    (Decides-then (meets_sweeps n t report cs) (meets_totals n t report cs)
+    (asked-le 7 n (are_swept (marked_by t) (last_cycle t) (past_in report) cs report.sweeps) (λ le. Decides-swept (marked_by t) (last_cycle t) (past_in report) cs report.sweeps))
+    (asked-le 8 n (are_totals (marked_by t) (last_cycle t) cs report.totals) (λ le. Decides-totals (marked_by t) (last_cycle t) cs report.totals)))
+
 pub Decides-meets_up_to : (n : ℕ) (t : Trace) (report : Report) → Decides (meets n t report) (MeetsUpTo n t report (objects_in t report))
 Decides-meets_up_to n t report =
     let cs = objects_in t report in
     let past = past_in report in
     let bound = bound_of (length t.cycles + 1) cs in
     Decides-like (meets n t report)
-    (λ (h : (1 ≤ n → HasAnswers t report cs) × ((2 ≤ n → HasJournal t report) × ((3 ≤ n → AreMissed past cs) × ((4 ≤ n → AreSeated (marked_by t) past cs) × ((5 ≤ n → AreApart (marked_by t) cs) × (6 ≤ n → AreFilled (marked_by t) cs)))))).
-    record { answers = h.0; journal = h.1.0; misses = h.1.1.0; places = h.1.1.1.0; apart = h.1.1.1.1.0; filling = h.1.1.1.1.1 })
-    (λ h. (h.answers, (h.journal, (h.misses, (h.places, (h.apart, h.filling))))))
+    (λ (h : (1 ≤ n → HasAnswers t report cs) × ((2 ≤ n → HasJournal t report) × ((3 ≤ n → AreMissed past cs) × ((4 ≤ n → AreSeated (marked_by t) past cs) × ((5 ≤ n → AreApart (marked_by t) cs) × LastRules n t report cs))))).
+    record { answers = h.0; journal = h.1.0; misses = h.1.1.0; places = h.1.1.1.0; apart = h.1.1.1.1.0; filling = h.1.1.1.1.1.0; sweeps = h.1.1.1.1.1.1.0; totals = h.1.1.1.1.1.1.1 })
+    (λ h. (h.answers, (h.journal, (h.misses, (h.places, (h.apart, (h.filling, (h.sweeps, h.totals))))))))
     (Decides-given (meets_answers n t report) (elim (meets_journal n t report) [ true ↦ meets_rest n t report cs | false ↦ false ])
     (asked-le 1 n (are_answered (requests_of t) (reverse report.answers)) (λ le. Decides-has_answers t report))
     (λ has. Decides-then (meets_journal n t report) (meets_rest n t report cs)
     (asked-le 2 n (has_journal t report) (λ le. Decides-has_journal t report))
-    (Decides-then (meets_misses n report cs) (elim (meets_places n t report cs) [ true ↦ elim (meets_apart n t cs) [ true ↦ meets_filling n t cs | false ↦ false ] | false ↦ false ])
+    (Decides-then (meets_misses n report cs) (elim (meets_places n t report cs) [ true ↦ elim (meets_apart n t cs) [ true ↦ meets_last n t report cs | false ↦ false ] | false ↦ false ])
     (asked-le 3 n (are_missed past cs) (λ le. Decides-missed past cs))
-    (Decides-then (meets_places n t report cs) (elim (meets_apart n t cs) [ true ↦ meets_filling n t cs | false ↦ false ])
+    (Decides-then (meets_places n t report cs) (elim (meets_apart n t cs) [ true ↦ meets_last n t report cs | false ↦ false ])
     (asked-le 4 n (are_seated (marked_by t) bound past cs) (λ le. Decides-are_seated (marked_by t) bound past cs (bounded-in t report (has (omega arith)))))
-    (Decides-then (meets_apart n t cs) (meets_filling n t cs)
+    (Decides-then (meets_apart n t cs) (meets_last n t report cs)
     (asked-le 5 n (are_apart (marked_by t) bound cs) (λ le. Decides-are_apart (marked_by t) bound cs (bounded-in t report (has (omega arith)))))
-    (asked-le 6 n (are_filled (marked_by t) cs) (λ le. Decides-filled (marked_by t) cs)))))))
+    (Decides-last n t report cs))))))
 
 -- what some objects meet, those with the seats that the addresses give meet too
 pub meets-seated : (n : ℕ) (t : Trace) (report : Report) (objects : List Object) → MeetsUpTo n t report objects → MeetsUpTo n t report (objects_in t report)
@@ -239,6 +265,8 @@ meets-seated n t report objects m =
       places = λ le. seated-alike (marked_by t) past objects (objects_in t report) (same le) (m.places le);
       apart = λ le. apart-alike (marked_by t) objects (objects_in t report) (like (omega arith)) (m.apart le);
       filling = λ le. filled-alike (marked_by t) objects (objects_in t report) (same (omega arith)) (m.filling le);
+      sweeps = λ le. swept-alike (marked_by t) (last_cycle t) past objects (objects_in t report) report.sweeps (same (omega arith)) (m.sweeps le);
+      totals = λ le. totals-alike (marked_by t) (last_cycle t) objects (objects_in t report) report.totals (same (omega arith)) (m.totals le);
     }
 
 pub Decides-meets : (n : ℕ) (t : Trace) (report : Report) → Decides (meets n t report) (MeetsRules n t report)

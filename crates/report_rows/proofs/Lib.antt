@@ -6,6 +6,9 @@ pub mod Apart
 pub mod Filled
 pub mod Needs
 pub mod Alike
+pub mod Swept
+pub mod Totals
+pub mod Recounted
 pub mod Decided
 pub mod Used
 pub mod Rows

@@ -34,7 +34,7 @@ Decides-same_life a b =
 abbrev pub is_life_in : List Life → Life → Bool
 is_life_in lives life = any_in (λ l. same_life l life) lives
 
-Decides-life_in : (lives : List Life) (life : Life) → Decides (is_life_in lives life) (In life lives)
+pub Decides-life_in : (lives : List Life) (life : Life) → Decides (is_life_in lives life) (In life lives)
 Decides-life_in lives life =
     Decides-like (is_life_in lives life)
     (λ (h : (l : Life) × In l lives × (l ≡ life)). subst (λ (l : Life). In l lives) h.2 h.1)

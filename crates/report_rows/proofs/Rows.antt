@@ -4,21 +4,23 @@ use Rattle.std.proofs.lemmas.Bool.Decides.{Decides-not}
 use Rattle.page_alloc.specs.Lists.{count_below}
 use Rattle.size_classes.specs.Classes.{slot_of, pages_of, objects_of}
 use Rattle.cycle_history.specs.Broken.{MeetsRules}
+use Rattle.cycle_history.proofs.Notes.{meets-sound}
 use Rattle.report_rows.specs.Words.{Row, UsedRow, IsJudged, AllAgree, IsUseJudged, AllUseAgree}
-use Rattle.report_rows.specs.Rows.{sound_rows, marked_rows, answer_rows, journal_rows, miss_rows, place_rows, apart_rows, filling_rows, used_rows}
+use Rattle.report_rows.specs.Rows.{sound_rows, answer_rows, journal_rows, miss_rows, place_rows, apart_rows, filling_rows, used_rows}
+use Rattle.report_rows.specs.SweptRows.{marked_rows, sweep_rows, give_rows, total_rows}
 use Rattle.report_rows.proofs.Tests.{all_in, Decides-then}
 use Rattle.report_rows.proofs.Decided.{meets, Decides-meets}
-use Rattle.report_rows.proofs.Used.{is_sound_and_used, Decides-sound_and_used, meets-sound}
+use Rattle.report_rows.proofs.Used.{is_sound_and_used, Decides-sound_and_used}
 
 abbrev pub is_judged : ℕ → Row → Bool
-is_judged zero row = meets 6 row.trace row.report
+is_judged zero row = meets 8 row.trace row.report
 is_judged (suc n) row = elim (meets n row.trace row.report) [ true ↦ not (meets (suc n) row.trace row.report) | false ↦ false ]
 
 abbrev pub agrees : Row → Bool
 agrees row = is_judged row.broken row
 
 judged-right : (n : ℕ) (row : Row) → is_judged n row ≡ true → IsJudged n row.trace row.report
-judged-right zero row h = (let m = (Decides-meets 6 row.trace row.report).0 h in (m.0, meets-sound row.trace row.report m.0 m.1))
+judged-right zero row h = (let m = (Decides-meets 8 row.trace row.report).0 h in (m.0, meets-sound row.trace row.report m.0 m.1))
 judged-right (suc n) row h =
     let both = (Decides-then (meets n row.trace row.report) (not (meets (suc n) row.trace row.report)) (Decides-meets n row.trace row.report)
     (Decides-not (meets (suc n) row.trace row.report) (Decides-meets (suc n) row.trace row.report))).0 h in
@@ -63,9 +65,21 @@ pub sounds_agree : AllAgree sound_rows
 unfolding count_below slot_of pages_of objects_of sound_rows
 sounds_agree = all_agree sound_rows refl
 
+pub sweeps_agree : AllAgree sweep_rows
+unfolding count_below slot_of pages_of objects_of sweep_rows
+sweeps_agree = all_agree sweep_rows refl
+
+pub gives_agree : AllAgree give_rows
+unfolding count_below slot_of pages_of objects_of give_rows
+gives_agree = all_agree give_rows refl
+
+pub totals_agree : AllAgree total_rows
+unfolding count_below slot_of pages_of objects_of total_rows
+totals_agree = all_agree total_rows refl
+
 abbrev pub use_judged : Bool → UsedRow → Bool
 use_judged true row = is_sound_and_used row.trace row.report
-use_judged false row = elim (meets 6 row.trace row.report) [ true ↦ not (is_sound_and_used row.trace row.report) | false ↦ false ]
+use_judged false row = elim (meets 8 row.trace row.report) [ true ↦ not (is_sound_and_used row.trace row.report) | false ↦ false ]
 
 abbrev pub use_agrees : UsedRow → Bool
 use_agrees row = use_judged row.used row
@@ -73,7 +87,7 @@ use_agrees row = use_judged row.used row
 use-right : (b : Bool) (row : UsedRow) → use_judged b row ≡ true → IsUseJudged b row.trace row.report
 use-right true row h = (Decides-sound_and_used row.trace row.report).0 h
 use-right false row h =
-    let both = (Decides-then (meets 6 row.trace row.report) (not (is_sound_and_used row.trace row.report)) (Decides-meets 6 row.trace row.report)
+    let both = (Decides-then (meets 8 row.trace row.report) (not (is_sound_and_used row.trace row.report)) (Decides-meets 8 row.trace row.report)
     (Decides-not (is_sound_and_used row.trace row.report) (Decides-sound_and_used row.trace row.report))).0 h in
     ((both.0.0, meets-sound row.trace row.report both.0.0 both.0.1), both.1)
 

@@ -2,7 +2,7 @@
 use Rattle.std.proofs.Common.{◌≡◌, ℕ, zero, suc, ◌+◌, ◌<◌, ◌≤◌, Bool, true, false, List, [], ◌∷◌, refl, subst, sym, arith, ◌⊎◌, inl, inr, Decides}
 use Rattle.std.proofs.lemmas.Bool.{false≢true, cases_eq}
 use Rattle.std.proofs.lemmas.Bool.Decides.{Decides-like}
-use Rattle.page_alloc.specs.Lists.{In}
+use Rattle.page_alloc.specs.Lists.{In, AllApart}
 
 -- ---- one test after another
 
@@ -54,11 +54,23 @@ Decides-any test P (x ∷ xs) each =
     (λ h. elim h.1 [ inl here ↦ inl (subst P (sym here) h.2) | inr there ↦ inr (h.0, there, h.2) ])
     (Decides-else (test x) (any_in test xs) (each x (inl refl)) (Decides-any test P xs (λ y i. each y (inr i))))
 
+abbrev pub all_apart : {X : Type 0} → (X → X → Bool) → List X → Bool
+all_apart test [] = true
+all_apart test (x ∷ xs) = elim (all_in (test x) xs) [ true ↦ all_apart test xs | false ↦ false ]
+
+pub Decides-apart : {X : Type 0} (test : X → X → Bool) (R : X → X → Type 0) → ((x y : X) → Decides (test x y) (R x y)) → (xs : List X) → Decides (all_apart test xs) (AllApart R xs)
+Decides-apart test R each [] = (λ h. tt, λ h. refl)
+Decides-apart test R each (x ∷ xs) = Decides-then (all_in (test x) xs) (all_apart test xs) (Decides-all (test x) (R x) xs (λ y i. each x y)) (Decides-apart test R each xs)
+
 -- ---- numbers
 
 abbrev pub all_below : (ℕ → Bool) → ℕ → Bool
 all_below test zero = true
 all_below test (suc n) = elim (test n) [ true ↦ all_below test n | false ↦ false ]
+
+abbrev pub any_below : (ℕ → Bool) → ℕ → Bool
+any_below test zero = false
+any_below test (suc n) = elim (test n) [ true ↦ true | false ↦ any_below test n ]
 
 abbrev pub all_from : (ℕ → Bool) → ℕ → ℕ → Bool
 all_from test from zero = true
@@ -71,6 +83,14 @@ Decides-below test P each (suc n) =
     (λ (both : P n × ((k : ℕ) → k < n → P k)). λ k lt. elim (cases_eq k n) [ inl same ↦ subst P (sym same) both.0 | inr other ↦ both.1 k (omega arith) ])
     (λ h. (h n (omega arith), λ k lt. h k (omega arith)))
     (Decides-then (test n) (all_below test n) (each n) (Decides-below test P each n))
+
+pub Decides-any_below : (test : ℕ → Bool) (P : ℕ → Type 0) → ((k : ℕ) → Decides (test k) (P k)) → (n : ℕ) → Decides (any_below test n) ((k : ℕ) × (k < n) × P k)
+Decides-any_below test P each zero = (λ h. absurd (false≢true h), λ h. (let lt = h.1 in absurd (omega arith)))
+Decides-any_below test P each (suc n) =
+    Decides-like (any_below test (suc n))
+    (λ (either : P n ⊎ ((k : ℕ) × (k < n) × P k)). elim either [ inl here ↦ (n, omega arith, here) | inr there ↦ (there.0, (let lt = there.1 in omega arith), there.2) ])
+    (λ h. elim (cases_eq h.0 n) [ inl same ↦ inl (subst P same h.2) | inr other ↦ inr (h.0, (let lt = h.1 in omega arith), h.2) ])
+    (Decides-else (test n) (any_below test n) (each n) (Decides-any_below test P each n))
 
 pub Decides-from : (test : ℕ → Bool) (P : ℕ → Type 0) → ((k : ℕ) → Decides (test k) (P k)) → (from n : ℕ) → Decides (all_from test from n) ((k : ℕ) → from ≤ k → k < from + n → P k)
 Decides-from test P each from zero = (λ h k low high. absurd (omega arith), λ h. refl)

@@ -12,6 +12,7 @@ use Rattle.cycle_history.specs.Requests.{requests_of, marked_by, last_cycle, reg
 use Rattle.cycle_history.specs.Objects.{Object, is_placed}
 use Rattle.cycle_history.specs.Sound.{past_in, IsSound, IsUsed, IsWanted, AllWanted, IsScavenged, IsSoundAndUsed}
 use Rattle.cycle_history.specs.Broken.{MeetsUpTo}
+use Rattle.cycle_history.proofs.Notes.{meets-sound}
 use Rattle.report_rows.proofs.Tests.{Decides-then, Decides-else, all_in, any_in, all_below, Decides-all, Decides-any, Decides-below}
 use Rattle.report_rows.proofs.Journals.{Decides-leb, is_loose, Decides-loose}
 use Rattle.report_rows.proofs.Alike.{IsSame, seated_objects, seated-same, from_left}
@@ -69,27 +70,27 @@ wanted-alike past os cs all wanted life i =
     let like = c.2.like in
     (c.0, c.1, sym (ap is_placed like.answer) ∙ w.2, sym (c.2.life w.2) ∙ w.3, sym (c.2.index w.2) ∙ w.4, sym like.cycle ∙ w.5)
 
-pub sound-meets : (t : Trace) (report : Report) (objects : List Object) → IsSound t report objects → MeetsUpTo 6 t report objects
-sound-meets t report objects s = record { answers = λ le. s.answers; journal = λ le. s.journal; misses = λ le. s.misses; places = λ le. s.places; apart = λ le. s.apart; filling = λ le. s.filling }
-
-pub meets-sound : (t : Trace) (report : Report) (objects : List Object) → MeetsUpTo 6 t report objects → IsSound t report objects
-meets-sound t report objects rules = record {
-  answers = rules.answers (omega arith);
-  journal = rules.journal (omega arith);
-  misses = rules.misses (omega arith);
-  places = rules.places (omega arith);
-  apart = rules.apart (omega arith);
-  filling = rules.filling (omega arith);
+-- a sound report meets all rules
+pub sound-meets : (t : Trace) (report : Report) (objects : List Object) → IsSound t report objects → MeetsUpTo 8 t report objects
+sound-meets t report objects s = record {
+  answers = λ le. s.answers;
+  journal = λ le. s.journal;
+  misses = λ le. s.misses;
+  places = λ le. s.places;
+  apart = λ le. s.apart;
+  filling = λ le. s.filling;
+  sweeps = λ le. s.sweeps;
+  totals = λ le. s.totals;
 }
 
 abbrev pub is_sound_and_used : Trace → Report → Bool
-is_sound_and_used t report = elim (meets 6 t report) [ true ↦ is_used t report (objects_in t report) | false ↦ false ]
+is_sound_and_used t report = elim (meets 8 t report) [ true ↦ is_used t report (objects_in t report) | false ↦ false ]
 
 pub Decides-sound_and_used : (t : Trace) (report : Report) → Decides (is_sound_and_used t report) (IsSoundAndUsed t report)
 Decides-sound_and_used t report =
     let cs = objects_in t report in
     Decides-like (is_sound_and_used t report)
-    (λ (h : MeetsUpTo 6 t report cs × IsUsed t report cs). (cs, meets-sound t report cs h.0, h.1))
+    (λ (h : MeetsUpTo 8 t report cs × IsUsed t report cs). (cs, meets-sound t report cs h.0, h.1))
     (λ h. (
     let objects = h.0 in
     let s = h.1 in
@@ -97,5 +98,5 @@ Decides-sound_and_used t report =
     let same : AllZip IsSame objects cs =
     subst (λ (answers : List Answer). AllZip IsSame objects (seated_objects (past_in report) (requests_of t) answers)) s.answers.printed
     (seated-same (marked_by t) (past_in report) (requests_of t) objects s.answers.asked s.places) in
-    (meets-seated 6 t report objects (sound-meets t report objects s), record { wanted = wanted-alike (past_in report) objects cs same u.wanted; scavenged = u.scavenged })))
-    (Decides-then (meets 6 t report) (is_used t report cs) (Decides-meets_up_to 6 t report) (Decides-used t report cs))
+    (meets-seated 8 t report objects (sound-meets t report objects s), record { wanted = wanted-alike (past_in report) objects cs same u.wanted; scavenged = u.scavenged })))
+    (Decides-then (meets 8 t report) (is_used t report cs) (Decides-meets_up_to 8 t report) (Decides-used t report cs))

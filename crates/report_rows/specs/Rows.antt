@@ -1,64 +1,41 @@
--- The table: small traces, each with a report, and what the rules say of it.
+-- The table: small traces, each with a report, and what the rules say of it. `SweptRows.antt` has the rows on sweeps and totals.
 use Rattle.std.specs.Prelude.{List, [], ◌∷◌, ◌++◌}
 use Rattle.page_bitmap.specs.declared.line.Line.TheVariants.{Take, Miss, Give, Scav}
 use Rattle.cycle_history.specs.declared.Answer.TheVariants.{Zero, Missed}
-use Rattle.report_rows.specs.Words.{scan, noscan, last, marking, heap, trace, report, at, times, slots, Row, sound, breaks, UsedRow, used, unused}
+use Rattle.report_rows.specs.Words.{scan, noscan, last, marking, heap, trace, report, whole, swept, total, at, times, slots, Row, sound, breaks, UsedRow, used, unused}
 
 -- Sound reports of traces without mark ends.
 unfoldable pub sound_rows : List Row
 sound_rows =
     -- one object
-    sound (trace (last (scan 0 24 ∷ []))) (report (at 0 ∷ []) (Take 0 0 1 6 ∷ [])) ∷
+    sound (trace (last (scan 0 24 ∷ []))) (whole (at 0 ∷ []) (Take 0 0 1 6 ∷ []) [] (total 3 1 0 ∷ [])) ∷
     -- no objects, with 1 and with 64 processors
     sound (trace (last [])) (report [] []) ∷
     sound (heap 64 512 (last [])) (report [] []) ∷
     -- a size of 0
     sound (trace (last (noscan 0 0 ∷ []))) (report (Zero ∷ []) []) ∷
     -- a span is filled, and a second one begun
-    sound (trace (last (times 342 (scan 0 24)))) (report (slots 341 0 24 ++ at 0x2000 ∷ []) (Take 0 0 1 6 ∷ Take 0 1 1 6 ∷ [])) ∷
+    sound (trace (last (times 342 (scan 0 24)))) (whole (slots 341 0 24 ++ at 0x2000 ∷ []) (Take 0 0 1 6 ∷ Take 0 1 1 6 ∷ []) [] (total 3 342 0 ∷ [])) ∷
     -- the bounds of the class of 1024 bytes
     sound (trace (last (noscan 0 1016 ∷ noscan 0 1017 ∷ noscan 0 1024 ∷ noscan 0 1025 ∷ [])))
-    (report (at 0 ∷ at 0x400 ∷ at 0x800 ∷ at 0x2000 ∷ []) (Take 0 0 1 65 ∷ Take 0 1 1 67 ∷ [])) ∷
+    (whole (at 0 ∷ at 0x400 ∷ at 0x800 ∷ at 0x2000 ∷ []) (Take 0 0 1 65 ∷ Take 0 1 1 67 ∷ []) [] (total 32 3 0 ∷ total 33 1 0 ∷ [])) ∷
     -- the largest small object, and the smallest large one
-    sound (trace (last (scan 0 32768 ∷ scan 0 32769 ∷ []))) (report (at 0 ∷ at 0x8000 ∷ []) (Take 0 0 4 134 ∷ Take 0 4 5 0 ∷ [])) ∷
+    sound (trace (last (scan 0 32768 ∷ scan 0 32769 ∷ []))) (whole (at 0 ∷ at 0x8000 ∷ []) (Take 0 0 4 134 ∷ Take 0 4 5 0 ∷ []) [] (total 0 1 0 ∷ total 67 1 0 ∷ [])) ∷
     -- the region is full
-    sound (trace (last (scan 0 4194304 ∷ scan 0 1 ∷ []))) (report (at 0 ∷ Missed 1 ∷ []) (Take 0 0 512 0 ∷ Miss 0 1 2 ∷ [])) ∷
+    sound (trace (last (scan 0 4194304 ∷ scan 0 1 ∷ []))) (whole (at 0 ∷ Missed 1 ∷ []) (Take 0 0 512 0 ∷ Miss 0 1 2 ∷ []) [] (total 0 1 0 ∷ [])) ∷
     -- with pointers and without
-    sound (trace (last (scan 0 24 ∷ noscan 0 24 ∷ []))) (report (at 0 ∷ at 0x2000 ∷ []) (Take 0 0 1 6 ∷ Take 0 1 1 7 ∷ [])) ∷
+    sound (trace (last (scan 0 24 ∷ noscan 0 24 ∷ []))) (whole (at 0 ∷ at 0x2000 ∷ []) (Take 0 0 1 6 ∷ Take 0 1 1 7 ∷ []) [] (total 3 2 0 ∷ [])) ∷
     -- two processors, in both orders of their spans
-    sound (heap 2 512 (last (scan 0 8 ∷ scan 1 8 ∷ []))) (report (at 0 ∷ at 0x2000 ∷ []) (Take 0 0 1 2 ∷ Take 0 1 1 2 ∷ [])) ∷
-    sound (heap 2 512 (last (scan 0 8 ∷ scan 1 8 ∷ []))) (report (at 0x2000 ∷ at 0 ∷ []) (Take 0 0 1 2 ∷ Take 0 1 1 2 ∷ [])) ∷
+    sound (heap 2 512 (last (scan 0 8 ∷ scan 1 8 ∷ []))) (whole (at 0 ∷ at 0x2000 ∷ []) (Take 0 0 1 2 ∷ Take 0 1 1 2 ∷ []) [] (total 1 2 0 ∷ [])) ∷
+    sound (heap 2 512 (last (scan 0 8 ∷ scan 1 8 ∷ []))) (whole (at 0x2000 ∷ at 0 ∷ []) (Take 0 0 1 2 ∷ Take 0 1 1 2 ∷ []) [] (total 1 2 0 ∷ [])) ∷
     -- larger than any region
     sound (trace (last (noscan 0 1099511627776 ∷ []))) (report (Missed 0 ∷ []) (Miss 0 134217728 1 ∷ [])) ∷
     -- a miss that no object names
-    sound (trace (last (scan 0 24 ∷ []))) (report (at 0 ∷ []) (Take 0 0 1 6 ∷ Miss 0 512 0 ∷ [])) ∷
+    sound (trace (last (scan 0 24 ∷ []))) (whole (at 0 ∷ []) (Take 0 0 1 6 ∷ Miss 0 512 0 ∷ []) [] (total 3 1 0 ∷ [])) ∷
     -- a span that no object is in
-    sound (trace (last (scan 0 24 ∷ []))) (report (at 0 ∷ []) (Take 0 0 1 6 ∷ Take 0 1 1 7 ∷ [])) ∷
+    sound (trace (last (scan 0 24 ∷ []))) (whole (at 0 ∷ []) (Take 0 0 1 6 ∷ Take 0 1 1 7 ∷ []) [] (total 3 1 0 ∷ [])) ∷
     -- two misses of one kind, each with its line
-    sound (trace (last (scan 0 4194304 ∷ scan 0 1 ∷ scan 0 1 ∷ []))) (report (at 0 ∷ Missed 2 ∷ Missed 1 ∷ []) (Take 0 0 512 0 ∷ Miss 0 1 2 ∷ Miss 0 1 2 ∷ [])) ∷
-    []
-
--- Sound reports of traces with mark ends.
-unfoldable pub marked_rows : List Row
-marked_rows =
-    -- a mark of an object of size 0
-    sound (trace (marking (noscan 0 0 ∷ []) (0 ∷ []) (last []))) (report (Zero ∷ []) []) ∷
-    -- two of four large spans are given back, and what is free is in two pieces
-    sound (trace (marking (times 4 (noscan 0 1048576)) (1 ∷ 3 ∷ []) (last (noscan 0 1048577 ∷ []))))
-    (report (at 0 ∷ at 0x100000 ∷ at 0x200000 ∷ at 0x300000 ∷ Missed 6 ∷ [])
-    (Take 0 0 128 1 ∷ Take 0 128 128 1 ∷ Take 0 256 128 1 ∷ Take 0 384 128 1 ∷ Give 1 0 128 ∷ Give 1 256 128 ∷ Miss 1 129 1 ∷ [])) ∷
-    -- a dead object's slot is taken again
-    sound (trace (marking (scan 0 24 ∷ scan 0 24 ∷ []) (1 ∷ []) (last (scan 0 24 ∷ [])))) (report (at 0 ∷ at 0x18 ∷ at 0 ∷ []) (Take 0 0 1 6 ∷ [])) ∷
-    -- an empty span is given back and taken again
-    sound (trace (marking (scan 0 24 ∷ []) [] (last (scan 0 24 ∷ [])))) (report (at 0 ∷ at 0 ∷ []) (Take 0 0 1 6 ∷ Give 1 0 1 ∷ Take 1 0 1 6 ∷ [])) ∷
-    -- scavenging to a goal of 0, 64 pages at a time
-    sound (heap 1 0 (marking (noscan 0 1048576 ∷ []) [] (last []))) (report (at 0 ∷ []) (Take 0 0 128 1 ∷ Give 1 0 128 ∷ Scav 1 64 64 ∷ Scav 1 0 64 ∷ [])) ∷
-    -- an object lives over two mark ends
-    sound (trace (marking (times 3 (scan 0 24)) (0 ∷ []) (marking (scan 0 24 ∷ []) (3 ∷ []) (last [])))) (report (at 0 ∷ at 0x18 ∷ at 0x30 ∷ at 0x18 ∷ []) (Take 0 0 1 6 ∷ [])) ∷
-    -- the first object of a cycle may go to any life
-    sound (trace (marking (scan 0 24 ∷ []) (0 ∷ []) (last (scan 0 24 ∷ [])))) (report (at 0 ∷ at 0x2000 ∷ []) (Take 0 0 1 6 ∷ Take 1 1 1 6 ∷ [])) ∷
-    -- another processor takes a life over in the next cycle
-    sound (heap 2 512 (marking (scan 0 8 ∷ []) (0 ∷ []) (last (scan 1 8 ∷ [])))) (report (at 0 ∷ at 8 ∷ []) (Take 0 0 1 2 ∷ [])) ∷
+    sound (trace (last (scan 0 4194304 ∷ scan 0 1 ∷ scan 0 1 ∷ []))) (whole (at 0 ∷ Missed 2 ∷ Missed 1 ∷ []) (Take 0 0 512 0 ∷ Miss 0 1 2 ∷ Miss 0 1 2 ∷ []) [] (total 0 1 0 ∷ [])) ∷
     []
 
 -- Answers that don't fit the objects.
@@ -169,19 +146,19 @@ filling_rows =
 unfoldable pub used_rows : List UsedRow
 used_rows =
     used (trace (last [])) (report [] []) ∷
-    used (trace (last (scan 0 24 ∷ noscan 0 24 ∷ []))) (report (at 0 ∷ at 0x2000 ∷ []) (Take 0 0 1 6 ∷ Take 0 1 1 7 ∷ [])) ∷
-    used (trace (last (scan 0 4194304 ∷ scan 0 1 ∷ []))) (report (at 0 ∷ Missed 1 ∷ []) (Take 0 0 512 0 ∷ Miss 0 1 2 ∷ [])) ∷
-    used (trace (marking (scan 0 24 ∷ []) [] (last (scan 0 24 ∷ [])))) (report (at 0 ∷ at 0 ∷ []) (Take 0 0 1 6 ∷ Give 1 0 1 ∷ Take 1 0 1 6 ∷ [])) ∷
+    used (trace (last (scan 0 24 ∷ noscan 0 24 ∷ []))) (whole (at 0 ∷ at 0x2000 ∷ []) (Take 0 0 1 6 ∷ Take 0 1 1 7 ∷ []) [] (total 3 2 0 ∷ [])) ∷
+    used (trace (last (scan 0 4194304 ∷ scan 0 1 ∷ []))) (whole (at 0 ∷ Missed 1 ∷ []) (Take 0 0 512 0 ∷ Miss 0 1 2 ∷ []) [] (total 0 1 0 ∷ [])) ∷
+    used (trace (marking (scan 0 24 ∷ []) [] (last (scan 0 24 ∷ [])))) (whole (at 0 ∷ at 0 ∷ []) (Take 0 0 1 6 ∷ Give 1 0 1 ∷ Take 1 0 1 6 ∷ []) (swept 1 0 0 1 ∷ []) (total 3 2 1 ∷ [])) ∷
     -- scavenged until nothing is left, and down to a goal that a span alone is above
-    used (heap 1 0 (marking (noscan 0 1048576 ∷ []) [] (last []))) (report (at 0 ∷ []) (Take 0 0 128 1 ∷ Give 1 0 128 ∷ Scav 1 64 64 ∷ Scav 1 0 64 ∷ [])) ∷
-    used (heap 1 64 (marking (noscan 0 1048576 ∷ []) [] (last []))) (report (at 0 ∷ []) (Take 0 0 128 1 ∷ Give 1 0 128 ∷ Scav 1 64 64 ∷ [])) ∷
-    used (heap 1 0 (last (scan 0 24 ∷ []))) (report (at 0 ∷ []) (Take 0 0 1 6 ∷ [])) ∷
+    used (heap 1 0 (marking (noscan 0 1048576 ∷ []) [] (last []))) (whole (at 0 ∷ []) (Take 0 0 128 1 ∷ Give 1 0 128 ∷ Scav 1 64 64 ∷ Scav 1 0 64 ∷ []) (swept 1 0 0 1 ∷ []) (total 0 1 1 ∷ [])) ∷
+    used (heap 1 64 (marking (noscan 0 1048576 ∷ []) [] (last []))) (whole (at 0 ∷ []) (Take 0 0 128 1 ∷ Give 1 0 128 ∷ Scav 1 64 64 ∷ []) (swept 1 0 0 1 ∷ []) (total 0 1 1 ∷ [])) ∷
+    used (heap 1 0 (last (scan 0 24 ∷ []))) (whole (at 0 ∷ []) (Take 0 0 1 6 ∷ []) [] (total 3 1 0 ∷ [])) ∷
     -- a span that no object is in, and the whole region taken first so that all else is missed
-    unused (trace (last (scan 0 24 ∷ []))) (report (at 0 ∷ []) (Take 0 0 1 6 ∷ Take 0 1 1 7 ∷ [])) ∷
+    unused (trace (last (scan 0 24 ∷ []))) (whole (at 0 ∷ []) (Take 0 0 1 6 ∷ Take 0 1 1 7 ∷ []) [] (total 3 1 0 ∷ [])) ∷
     unused (trace (last (scan 0 24 ∷ []))) (report (Missed 1 ∷ []) (Take 0 0 512 0 ∷ Miss 0 1 6 ∷ [])) ∷
     -- a life whose one object is of a later cycle
-    unused (trace (marking [] [] (last (scan 0 24 ∷ [])))) (report (at 0 ∷ []) (Take 0 0 1 6 ∷ [])) ∷
+    unused (trace (marking [] [] (last (scan 0 24 ∷ [])))) (whole (at 0 ∷ []) (Take 0 0 1 6 ∷ []) (swept 1 0 0 0 ∷ []) (total 3 1 0 ∷ [])) ∷
     -- free pages that stay backed above the goal
-    unused (heap 1 0 (marking (noscan 0 1048576 ∷ []) [] (last []))) (report (at 0 ∷ []) (Take 0 0 128 1 ∷ Give 1 0 128 ∷ Scav 1 64 64 ∷ [])) ∷
-    unused (heap 1 100 (marking (noscan 0 1048576 ∷ []) [] (last []))) (report (at 0 ∷ []) (Take 0 0 128 1 ∷ Give 1 0 128 ∷ [])) ∷
+    unused (heap 1 0 (marking (noscan 0 1048576 ∷ []) [] (last []))) (whole (at 0 ∷ []) (Take 0 0 128 1 ∷ Give 1 0 128 ∷ Scav 1 64 64 ∷ []) (swept 1 0 0 1 ∷ []) (total 0 1 1 ∷ [])) ∷
+    unused (heap 1 100 (marking (noscan 0 1048576 ∷ []) [] (last []))) (whole (at 0 ∷ []) (Take 0 0 128 1 ∷ Give 1 0 128 ∷ []) (swept 1 0 0 1 ∷ []) (total 0 1 1 ∷ [])) ∷
     []

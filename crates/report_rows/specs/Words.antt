@@ -6,8 +6,10 @@ use Rattle.trace_reader.specs.declared.trace.Cycle.{Cycle}
 use Rattle.trace_reader.specs.declared.trace.Event.{Event}
 use Rattle.trace_reader.specs.declared.trace.Span.{Span}
 use Rattle.page_bitmap.specs.declared.line.Line.{Line}
+use Rattle.span_state.specs.declared.sweep.SweepNote.{SweepNote}
 use Rattle.cycle_history.specs.declared.Answer.{Answer}
 use Rattle.cycle_history.specs.declared.Answer.TheVariants.{Placed}
+use Rattle.cycle_history.specs.declared.Total.{Total}
 use Rattle.cycle_history.specs.declared.Report.{Report}
 use Rattle.cycle_history.specs.Objects.{Object}
 use Rattle.cycle_history.specs.Sound.{IsSound, IsSoundAndUsed}
@@ -41,8 +43,21 @@ heap procs goal cycles = record { header = record { chunks = 1; procs = procs; r
 abbrev pub trace : List Cycle → Trace
 trace cycles = heap 1 512 cycles
 
+-- A report with its answers, its journal, its sweeps and its totals.
+abbrev pub whole : List Answer → List Line → List SweepNote → List Total → Report
+whole answers journal sweeps totals = record { answers = answers; journal = journal; sweeps = sweeps; totals = totals; profile = [] }
+
+-- A report that has answers and a journal alone.
 abbrev pub report : List Answer → List Line → Report
-report answers journal = record { answers = answers; journal = journal }
+report answers journal = whole answers journal [] []
+
+-- The line of a sweep: its cycle, its page, and what it kept and freed.
+abbrev pub swept : ℕ → ℕ → ℕ → ℕ → SweepNote
+swept cycle page kept freed = record { cycle = cycle; page = page; kept = kept; freed = freed }
+
+-- The line of a size class: its mallocs and its frees.
+abbrev pub total : ℕ → ℕ → ℕ → Total
+total class mallocs frees = record { class = class; mallocs = mallocs; frees = frees }
 
 -- An object at so many bytes behind the region's start.
 abbrev pub at : ℕ → Answer

@@ -11,12 +11,12 @@ ghost use Rattle.report_rows.specs.Rows.{
   apart_rows,
   filling_rows,
   journal_rows,
-  marked_rows,
   miss_rows,
   place_rows,
   sound_rows,
   used_rows,
 };
+ghost use Rattle.report_rows.specs.SweptRows.{give_rows, marked_rows, sweep_rows, total_rows};
 
 /// The definitions agree with each row of the table.
 pub fn rows_agree()
@@ -28,5 +28,8 @@ pub fn rows_agree()
     ensures places { AllAgree place_rows }
     ensures apart { AllAgree apart_rows }
     ensures filling { AllAgree filling_rows }
+    ensures sweeps { AllAgree sweep_rows }
+    ensures gives { AllAgree give_rows }
+    ensures totals { AllAgree total_rows }
     ensures used { AllUseAgree used_rows }
 {}
