@@ -1,0 +1,8 @@
+use Rattle.std.proofs.Common.{◌+◌}
+use Rattle.cycle_history.specs.Marked.{objects_before}
+use Rattle.history_bench.specs.Filled.{AreFilled}
+use Rattle.history_bench.proofs.lists.Lists.grow.Given as goal
+
+-- the objects so far are in the lists
+abbrev pub invariant-loop-event : goal.invariant-loop-event
+invariant-loop-event l = AreFilled l.fn.trace (objects_before l.fn.trace l.fn.cycle + l.event-index) l.self

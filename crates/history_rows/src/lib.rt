@@ -1,0 +1,5 @@
+//! A small trace with two mark ends, and its marks and totals, typed by hand.
+#![tactic(auto)]
+
+#[cfg(test)]
+mod tests;

@@ -1,0 +1,141 @@
+ghost use Rattle.std.specs.Prelude.{◌≡◌, ◌≤◌, ◌⊎◌, take, IfOk};
+ghost use Rattle.history_rows.specs.Example.{answers, event_of_size, example};
+
+use cycle_history::{Answer, Total, marks_of, totals_of};
+use edge_io::{List, NoMemory};
+use span_state::Marks;
+use std::alloc::Global;
+use std::test::Fail;
+use trace_reader::{Cycle, Event, Header, MarkEnd, Span, Trace};
+
+fn event(size: u64) -> Event
+    ensures { result ≡ event_of_size size }
+{
+    Event {
+        proc: 0,
+        size,
+        scan: true,
+        stack: 0,
+    }
+}
+
+// The list of these items.
+fn list<T: Copy, const N: usize>(alloc: Global, items: [T; N]) -> Result<List<T>, NoMemory>
+    ensures { IfOk result (λ list. list ≡ items) }
+{
+    Ok(List::from_vec(Vec::from_slice(alloc, items.as_slice())?))
+}
+
+// The trace: five objects, a mark end, three objects, another mark end, one object.
+fn trace(alloc: Global) -> Result<Trace, NoMemory>
+    ensures { IfOk result (λ trace. trace ≡ example) }
+{
+    let mut cycles = List::new(alloc);
+    cycles.push(Cycle {
+        events: list(
+            alloc,
+            [event(16), event(16), event(0), event(1400), event(40000)],
+        )?,
+        mark: Some(MarkEnd {
+            distance: 4096,
+            marks: list(alloc, [Span { lo: 0, hi: 0 }, Span { lo: 2, hi: 3 }])?,
+        }),
+    })?;
+    cycles.push(Cycle {
+        events: list(alloc, [event(16), event(3_000_000), event(24)])?,
+        mark: Some(MarkEnd {
+            distance: 4096,
+            marks: list(alloc, [Span { lo: 0, hi: 0 }, Span { lo: 6, hi: 7 }])?,
+        }),
+    })?;
+    cycles.push(Cycle {
+        events: list(alloc, [event(32768)])?,
+        mark: None,
+    })?;
+    Ok(Trace {
+        header: Header {
+            chunks: 1,
+            procs: 1,
+            rate: 0,
+            seed: 1,
+            goal: 512,
+        },
+        cycles,
+    })
+}
+
+// The answers of the first objects: object 3 lies in the second page of its span, object 4 is large, object 5 has the
+// place of object 1, which is dead, and object 7 has the last index of its span.
+fn first_answers(alloc: Global, count: usize) -> Result<List<Answer>, NoMemory>
+    requires { count ≤ 9 }
+    ensures { IfOk result (λ list. list ≡ take count answers) }
+{
+    let all = [
+        Answer::Placed(0xc0_0000_0000),
+        Answer::Placed(0xc0_0000_0010),
+        Answer::Zero,
+        Answer::Placed(0xc0_0000_8c00),
+        Answer::Placed(0xc0_0000_a000),
+        Answer::Placed(0xc0_0000_0010),
+        Answer::Missed(4),
+        Answer::Placed(0xc0_0001_5fe0),
+        Answer::Placed(0xc0_0002_8000),
+    ];
+    Ok(List::from_vec(Vec::from_slice(alloc, &all[..count])?))
+}
+
+// Of the first objects all but numbers 3 and 7 are sampled; the bucket of object n is n + 10.
+fn marks(alloc: Global, trace: &Trace, mark: u32, count: usize) -> Result<Marks, NoMemory>
+    requires trace { trace.now ≡ example }
+    requires mark { ((mark ≡ 1) × (count ≡ 5)) ⊎ ((mark ≡ 2) × (count ≡ 8)) }
+{
+    let answers = first_answers(alloc, count)?;
+    let sampled = [true, true, true, false, true, true, true, false];
+    let buckets = [10, 11, 12, 13, 14, 15, 16, 17];
+    let sampled = List::from_vec(Vec::from_slice(alloc, &sampled[..count])?);
+    let buckets = List::from_vec(Vec::from_slice(alloc, &buckets[..count])?);
+    marks_of(alloc, trace, mark, &answers, &sampled, &buckets)
+}
+
+#[test]
+fn marks_of_two_mark_ends(rt: HostRuntime) -> Result<(), Fail> {
+    let trace = trace(rt.alloc())?;
+
+    // object 2 is marked, but of size 0
+    let first = marks(rt.alloc(), &trace, 1, 5)?;
+    assert_eq!(rt; first.pairs()?.as_slice(), [(0, 0), (3, 8)].as_slice());
+    for (page, dead) in [
+        (0, [11].as_slice()),
+        (5, [14].as_slice()),
+        (3, [].as_slice()),
+    ] {
+        assert_eq!(rt; first.dead(page), dead, "at page {page}");
+    }
+
+    // object 6 is marked, but refused; object 3 dies, but isn't sampled; objects 1 and 4 died before
+    let second = marks(rt.alloc(), &trace, 2, 8)?;
+    assert_eq!(rt; second.pairs()?.as_slice(), [(0, 0), (10, 340)].as_slice());
+    for (page, dead) in [(0, [15].as_slice()), (3, [].as_slice()), (5, [].as_slice())] {
+        assert_eq!(rt; second.dead(page), dead, "at page {page}");
+    }
+    Ok(())
+}
+
+#[test]
+fn totals_of_five_classes(rt: HostRuntime) -> Result<(), Fail> {
+    let trace = trace(rt.alloc())?;
+    let answers = first_answers(rt.alloc(), 9)?;
+    let totals = totals_of(rt.alloc(), &trace, &answers)?;
+    // the class, the placed objects, and those of them that don't live in cycle 2
+    let rows = [(0, 1, 1), (2, 3, 2), (3, 1, 0), (35, 1, 1), (67, 1, 0)];
+    assert_eq!(rt; totals.len(), rows.len());
+    for (total, (class, mallocs, frees)) in totals.as_slice().iter().zip(rows) {
+        let want = Total {
+            class,
+            mallocs,
+            frees,
+        };
+        assert_eq!(rt; *total, want);
+    }
+    Ok(())
+}
