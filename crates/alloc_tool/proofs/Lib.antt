@@ -1,6 +1,12 @@
-pub mod Steps
-pub mod Places
-pub mod Ran
+pub mod Spots
+pub mod Given
+pub mod Serving
+pub mod Next
+pub mod Views
+pub mod Noted
+pub mod Sweeping
+pub mod Asked
+pub mod Cycled
 pub mod Behind
 pub mod Complete
 pub mod Ended

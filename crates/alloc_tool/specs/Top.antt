@@ -1,5 +1,5 @@
 -- What the program promises.
-use Rattle.std.specs.Prelude.{◌≡◌, ℕ, ◌+◌, ◌-◌, ◌^◌, min, ◌⊎◌, List, [], ◌++◌, length, Option, Some}
+use Rattle.std.specs.Prelude.{◌≡◌, ℕ, ◌+◌, ◌-◌, ◌^◌, min, ◌⊎◌, List, ◌++◌, length, Option, Some}
 use Rattle.std.specs.Io.KnownBytes.{Appends}
 use Rattle.edge_io.specs.Causes.{Rose}
 use Rattle.edge_io.specs.Front.{AppendsFront}
@@ -9,20 +9,20 @@ use Rattle.trace_reader.specs.Limits.{Spells, IsPlain}
 use Rattle.trace_reader.specs.Refusal.{fault_in, needs_later, nothing_behind, pieces_of}
 use Rattle.trace_reader.specs.Spelling.{statements_of}
 use Rattle.cycle_history.specs.declared.Report.{Report}
-use Rattle.cycle_history.specs.First.{IsFirst}
+use Rattle.cycle_history.specs.Sound.{IsSoundAndUsed}
 use Rattle.cycle_history.specs.Text.{report_text}
 use Rattle.alloc_tool.specs.WholeInput.{ReadsAll}
 
 -- The bytes that were read spell a trace that needs nothing later, and nothing is left unread. The bytes that were
--- written are the text of the report whose answers are the first ones of that trace, with no journal lines yet.
+-- written are the text of a sound report of that trace that uses what it takes.
 abbrev pub AnswersAll : (left left' held held' : Option (List ℕ)) → Type 0
 AnswersAll left left' held held' = (trace : Trace) × (report : Report)
-    × ReadsAll left left' trace × IsFirst trace report.answers × (report.journal ≡ []) × Appends held held' (report_text report)
+    × ReadsAll left left' trace × IsSoundAndUsed trace report × Appends held held' (report_text report)
 
 -- the same, but that only a front of the text was written
 abbrev pub AnswersFront : (left left' held held' : Option (List ℕ)) → Type 0
 AnswersFront left left' held held' = (trace : Trace) × (report : Report)
-    × ReadsAll left left' trace × IsFirst trace report.answers × (report.journal ≡ []) × AppendsFront held held' (report_text report)
+    × ReadsAll left left' trace × IsSoundAndUsed trace report × AppendsFront held held' (report_text report)
 
 -- how a run ends: with its answer, at a refused trace, at a fault of its input or its output, or for want of memory
 abbrev pub IsStatusOfRun : ℕ → Type 0

@@ -3,6 +3,8 @@
 //! `goheap run` reads a trace from standard input and writes its report to standard output.
 #![tactic(auto)]
 
+mod heap;
+mod need;
 mod run;
 mod tell;
 mod top;

@@ -5,7 +5,7 @@ ghost use Rattle.alloc_tool.specs.Texts.{fault_status, fault_text, limit_name, p
 ghost use Rattle.alloc_tool.specs.Told.{Tells, TellsAll};
 
 use edge_io::{Sink, write_all};
-use report_text::TextLine;
+use text_line::TextLine;
 use trace_reader::{TraceFault, Which};
 
 /// Words that are not known: tells the usage, and answers the status.

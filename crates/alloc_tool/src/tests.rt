@@ -59,26 +59,86 @@ fn call<R: Threads + Wait + Sync + AllocGlobal>(
     })
 }
 
+// Lines of events, and the report of them without its last line.
+const ANSWERED: [(&str, &str); 15] = [
+    ("", ""),
+    (
+        "a 0 24 s 1\n",
+        "o 0 0xc000000000\nj 0 0 take 0 1 6\nt 3 1 0\n",
+    ),
+    (
+        "a 0 1016 n 1\na 0 1017 n 1\na 0 1024 n 1\na 0 1025 n 1\n",
+        "o 0 0xc000000000\no 1 0xc000000400\no 2 0xc000000800\no 3 0xc000002000\n\
+         j 0 0 take 0 1 65\nj 1 0 take 1 1 67\nt 32 3 0\nt 33 1 0\n",
+    ),
+    (
+        "a 0 24 s 1\na 0 24 n 1\n",
+        "o 0 0xc000000000\no 1 0xc000002000\nj 0 0 take 0 1 6\nj 1 0 take 1 1 7\nt 3 2 0\n",
+    ),
+    (
+        "a 0 0 n 3\na 0 8 n 3\na 0 0 s 3\na 0 7 n 3\n",
+        "o 0 zero\no 1 0xc000000000\no 2 zero\no 3 0xc000000008\nj 0 0 take 0 1 3\nt 1 2 0\n",
+    ),
+    (
+        "a 0 32768 s 1\na 0 32769 s 1\n",
+        "o 0 0xc000000000\no 1 0xc000008000\nj 0 0 take 0 4 134\nj 1 0 take 4 5 0\nt 0 1 0\nt 67 1 0\n",
+    ),
+    (
+        "a 0 4194304 s 1\na 0 1 s 1\n",
+        "o 0 0xc000000000\no 1 miss 1\nj 0 0 take 0 512 0\nj 1 0 miss 1 2\nt 0 1 0\n",
+    ),
+    (
+        "a 0 1099511627776 n 1\n",
+        "o 0 miss 0\nj 0 0 miss 134217728 1\n",
+    ),
+    // One page is left, which a smaller object takes after a miss.
+    (
+        "a 0 4120576 n 1\na 0 32768 n 1\na 0 32768 n 1\na 0 32768 n 1\na 0 8 n 1\na 0 16 n 1\na 0 8 n 1\na 0 32769 s 1\n",
+        "o 0 0xc000000000\no 1 0xc0003ee000\no 2 0xc0003f6000\no 3 miss 3\no 4 0xc0003fe000\no 5 miss 5\no 6 0xc0003fe008\no 7 miss 6\n\
+         j 0 0 take 0 503 1\nj 1 0 take 503 4 135\nj 2 0 take 507 4 135\nj 3 0 miss 4 135\nj 4 0 take 511 1 3\nj 5 0 miss 1 5\nj 6 0 miss 5 0\nt 0 1 0\nt 1 2 0\nt 67 2 0\n",
+    ),
+    // Mark ends: what is kept, given back, missed and served again.
+    (
+        "a 0 1048576 n 1\na 0 1048576 n 1\na 0 1048576 n 1\na 0 1048576 n 1\ngc 1\nm 1 1\nm 3 3\na 0 1048577 n 1\n",
+        "o 0 0xc000000000\no 1 0xc000100000\no 2 0xc000200000\no 3 0xc000300000\no 4 miss 6\n\
+         j 0 0 take 0 128 1\nj 1 0 take 128 128 1\nj 2 0 take 256 128 1\nj 3 0 take 384 128 1\nj 4 1 give 0 128\nj 5 1 give 256 128\nj 6 1 miss 129 1\n\
+         s 1 0 0 1\ns 1 128 1 0\ns 1 256 0 1\ns 1 384 1 0\nt 0 4 2\n",
+    ),
+    (
+        "a 0 24 s 1\na 0 24 s 1\ngc 1\nm 1 1\na 0 24 s 1\n",
+        "o 0 0xc000000000\no 1 0xc000000018\no 2 0xc000000000\nj 0 0 take 0 1 6\ns 1 0 1 1\nt 3 3 1\n",
+    ),
+    (
+        "a 0 24 s 1\ngc 1\na 0 24 s 1\n",
+        "o 0 0xc000000000\no 1 0xc000000000\nj 0 0 take 0 1 6\nj 1 1 give 0 1\nj 2 1 take 0 1 6\ns 1 0 0 1\nt 3 2 1\n",
+    ),
+    (
+        "a 0 4194304 s 1\na 0 1 s 1\na 0 0 s 1\ngc 1\nm 0 2\n",
+        "o 0 0xc000000000\no 1 miss 1\no 2 zero\nj 0 0 take 0 512 0\nj 1 0 miss 1 2\ns 1 0 1 0\nt 0 1 0\n",
+    ),
+    // An object that outlives one mark end, and none of the next two.
+    (
+        "a 0 8 n 1\ngc 1\nm 0 0\ngc 1\ngc 1\n",
+        "o 0 0xc000000000\nj 0 0 take 0 1 3\nj 1 2 give 0 1\ns 1 0 1 0\ns 2 0 0 1\nt 1 1 1\n",
+    ),
+    // Three spans of four objects: the middle one stays full, and the lowest indices of the others are taken again.
+    (
+        "a 0 2048 n 1\na 0 2048 n 1\na 0 2048 n 1\na 0 2048 n 1\na 0 2048 n 1\na 0 2048 n 1\na 0 2048 n 1\na 0 2048 n 1\n\
+         a 0 2048 n 1\na 0 2048 n 1\na 0 2048 n 1\na 0 2048 n 1\ngc 1\nm 1 1\nm 3 7\nm 9 10\n\
+         a 0 2048 n 1\na 0 2048 n 1\na 0 2048 n 1\na 0 2048 n 1\na 0 2048 n 1\na 0 2048 n 1\na 0 2048 n 1\ngc 1\nm 1 1\nm 12 12\n\
+         a 0 2048 n 1\na 0 2048 n 1\na 0 2048 n 1\n",
+        "o 0 0xc000000000\no 1 0xc000000800\no 2 0xc000001000\no 3 0xc000001800\no 4 0xc000002000\no 5 0xc000002800\no 6 0xc000003000\n\
+         o 7 0xc000003800\no 8 0xc000004000\no 9 0xc000004800\no 10 0xc000005000\no 11 0xc000005800\n\
+         o 12 0xc000000000\no 13 0xc000001000\no 14 0xc000004000\no 15 0xc000005800\no 16 0xc000006000\no 17 0xc000006800\no 18 0xc000007000\n\
+         o 19 0xc000001000\no 20 0xc000001800\no 21 0xc000002000\n\
+         j 0 0 take 0 1 77\nj 1 0 take 1 1 77\nj 2 0 take 2 1 77\nj 3 1 take 3 1 77\nj 4 2 give 1 1\nj 5 2 give 2 1\nj 6 2 give 3 1\nj 7 2 take 1 1 77\n\
+         s 1 0 2 2\ns 1 1 4 0\ns 1 2 2 2\ns 2 0 2 2\ns 2 1 0 4\ns 2 2 0 4\ns 2 3 0 3\nt 38 22 17\n",
+    ),
+];
+
 #[test]
 fn traces_are_answered(rt: HostRuntime) -> Result<(), Fail> {
-    let rows = [
-        ("a 0 24 s 1\n", "o 0 0xc000000000\n"),
-        ("", ""),
-        (
-            "a 0 1016 n 1\na 0 1017 n 1\na 0 1024 n 1\na 0 1025 n 1\n",
-            "o 0 0xc000000000\no 1 0xc000000400\no 2 0xc000000800\no 3 0xc000002000\n",
-        ),
-        (
-            "a 0 24 s 1\na 0 24 n 1\n",
-            "o 0 0xc000000000\no 1 0xc000002000\n",
-        ),
-        ("a 0 0 n 3\na 0 8 n 3\n", "o 0 zero\no 1 0xc000000000\n"),
-        (
-            "a 0 32768 s 999999\na 0 1 s 0\n",
-            "o 0 0xc000000000\no 1 0xc000008000\n",
-        ),
-    ];
-    for (lines, text) in rows {
+    for (lines, text) in ANSWERED {
         let input = format!(in rt.alloc(); "{HEAD}{lines}end\n")?;
         let report = format!(in rt.alloc(); "{text}end\n")?;
         let found = call(&rt, &["run"], input.as_bytes(), &[], &[])?;
@@ -105,15 +165,55 @@ fn many_objects(rt: HostRuntime) -> Result<(), Fail> {
     let small = "heap 1 procs 1 rate 0 seed 1 goal 512";
     let page = repeated(rt.alloc(), small, "a 0 24 s 1\n", 342)?;
     let found = call(&rt, &["run"], page.as_bytes(), &[], &[])?;
-    let tail = b"\no 340 0xc000001fe0\no 341 0xc000002000\nend\n".as_slice();
+    let tail =
+        b"\no 340 0xc000001fe0\no 341 0xc000002000\nj 0 0 take 0 1 6\nj 1 0 take 1 1 6\nt 3 342 0\nend\n".as_slice();
     assert_eq!(rt; found.status, 0);
     assert!(rt; found.written.as_slice().ends_with(tail));
 
     let region = repeated(rt.alloc(), small, "a 0 32768 n 1\n", 130)?;
     let found = call(&rt, &["run"], region.as_bytes(), &[], &[])?;
-    let tail = b"\no 127 0xc0003f8000\no 128 miss 128\no 129 miss 129\nend\n".as_slice();
+    let tail =
+        b"\nj 127 0 take 508 4 135\nj 128 0 miss 4 135\nj 129 0 miss 4 135\nt 67 128 0\nend\n".as_slice();
     assert_eq!(rt; found.status, 0);
     assert!(rt; found.written.as_slice().ends_with(tail));
+    Ok(())
+}
+
+// The report of a region that is taken page by page, given back, and taken again, from its first miss on.
+fn emptied(alloc: Global) -> Result<String, Fail> {
+    let mut text = format!(in alloc; "\no 512 miss 512\no 513 0xc000000000\n")?;
+    for page in 0..512u32 {
+        let line = format!(in alloc; "j {page} 0 take {page} 1 103\n")?;
+        text.push_str(line.as_str())?;
+    }
+    text.push_str("j 512 0 miss 1 103\n")?;
+    for page in 0..512u32 {
+        let number = 513 + page;
+        let line = format!(in alloc; "j {number} 1 give {page} 1\n")?;
+        text.push_str(line.as_str())?;
+    }
+    text.push_str("j 1025 1 take 0 1 103\n")?;
+    for page in 0..512u32 {
+        let line = format!(in alloc; "s 1 {page} 0 1\n")?;
+        text.push_str(line.as_str())?;
+    }
+    text.push_str("t 51 513 512\nend\n")?;
+    Ok(text)
+}
+
+// A whole region is given back page by page.
+#[test]
+fn region_is_emptied(rt: HostRuntime) -> Result<(), Fail> {
+    let alloc = rt.alloc();
+    let mut input = String::from_str(alloc, HEAD)?;
+    for _ in 0..513u32 {
+        input.push_str("a 0 8192 n 1\n")?;
+    }
+    input.push_str("gc 1\na 0 8192 n 1\nend\n")?;
+    let found = call(&rt, &["run"], input.as_bytes(), &[], &[])?;
+    let tail = emptied(alloc)?;
+    assert_eq!(rt; found.status, 0);
+    assert!(rt; found.written.as_slice().ends_with(tail.as_bytes()));
     Ok(())
 }
 

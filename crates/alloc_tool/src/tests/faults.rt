@@ -43,7 +43,8 @@ goheap 1/heap 1 procs 1 rate 0 seed 1 goal 512/end/end/|4: malformed
 goheap 1/heap 1 procs 1 rate 0 seed 1 goal 512/end/[121]|4: malformed
 goheap 1/heap 1 procs 1 rate 0 seed 1 goal 512/a 0 24 x 1/a 1 24 s 1/end/|3: malformed
 goheap 1/heap 1 procs 1 rate 0 seed 1 goal 512/a 1 24 s 1/a 0 24 x 1/end/|3: limit proc
-goheap 1/heap 1 procs 1 rate 0 seed 1 goal 512/a 0 32769 s 1/a 0 24 x 1/end/|3: not built yet
+goheap 1/heap 1 procs 1 rate 0 seed 1 goal 512/gc 1/a 0 24 x 1/end/|4: malformed
+goheap 1/heap 1 procs 1 rate 0 seed 1 goal 512/a 0 8 n 1/gc 1/gc 1/m 0 0/end/|6: object 0 is not live
 goheap 1/heap 2 procs 1 rate 0 seed 1 goal 512/a 0 24 x 1/end/|2: not built yet
 goheap 1/heap 0 procs 1 rate 0 seed 1 goal 512|2: ends early";
 
@@ -145,11 +146,7 @@ a 1 1099511627777 s 1000000|limit proc
 a 0 1099511627777 s 1000000|limit size
 a 0 32769 s 1000000|limit stack
 gc 0|limit distance
-gc 1099511627777|limit distance
-a 0 32769 s 1|not built yet
-a 0 1099511627776 n 1|not built yet
-gc 1|not built yet
-gc 1099511627776|not built yet";
+gc 1099511627777|limit distance";
 
 // Second lines that are taken, at the last good values.
 const GOOD_HEADERS: &str = "\

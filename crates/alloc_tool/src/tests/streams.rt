@@ -107,11 +107,11 @@ fn trickled<R: Threads + Wait + Sync + AllocGlobal>(
     })
 }
 
-// The trace has 62 bytes, which come in 17 reads, and read 17 sees the end. The report has 21 bytes, which go in 6 writes.
+// The trace has 62 bytes, which come in 17 reads, and read 17 sees the end. The report has 46 bytes, which go in 13 writes.
 #[test]
 fn each_read_and_write_fails(rt: HostRuntime) -> Result<(), Fail> {
     let input = format!(in rt.alloc(); "{HEAD}a 0 24 s 1\nend\n")?;
-    let report = b"o 0 0xc000000000\nend\n".as_slice();
+    let report = b"o 0 0xc000000000\nj 0 0 take 0 1 6\nt 3 1 0\nend\n".as_slice();
     for read in 0..20 {
         let found = trickled(&rt, input.as_bytes(), read, u64::MAX, u64::MAX)?;
         let (status, held, told) = if read < 18 {
@@ -130,7 +130,14 @@ fn each_read_and_write_fails(rt: HostRuntime) -> Result<(), Fail> {
         (3, 6, 6),
         (4, 6, 10),
         (5, 6, 15),
-        (6, 0, 21),
+        (6, 6, 21),
+        (7, 6, 28),
+        (8, 6, 29),
+        (9, 6, 31),
+        (10, 6, 34),
+        (11, 6, 38),
+        (12, 6, 43),
+        (13, 0, 46),
     ];
     for (write, status, held) in rows {
         let found = trickled(&rt, input.as_bytes(), u64::MAX, write, u64::MAX)?;

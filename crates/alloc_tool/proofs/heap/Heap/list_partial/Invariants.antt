@@ -1,0 +1,11 @@
+use Rattle.std.proofs.Common.{◌≡◌, ◌≤◌}
+use Rattle.alloc_tool.proofs.heap.Heap.list_partial.Given as goal
+
+abbrev pub invariant-loop-page : goal.invariant-loop-page
+invariant-loop-page l = record {
+  pages : l.self.pages ≡ l.fn.self.pages;
+  bodies : l.self.bodies ≡ l.fn.self.bodies;
+  current : l.self.current ≡ l.fn.self.current;
+  sweeps : l.self.sweeps ≡ l.fn.self.sweeps;
+  inside : l.page ≤ l.self.top;
+}

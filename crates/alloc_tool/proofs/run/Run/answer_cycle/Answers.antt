@@ -1,0 +1,34 @@
+use Rattle.std.proofs.Common.{◌≡◌, ◌+◌, ◌<◌, ◌≤◌, List, length, get_or, refl, ◌∙◌, arith}
+use Rattle.std.specs.Prelude.{All}
+use Rattle.alloc_tool.specs.Runs.{GoesOn}
+use Rattle.alloc_tool.proofs.Cycled.{both-map, same-count, some-cycle, events-of, cycle-sizes, cycle-answered}
+use Rattle.alloc_tool.proofs.run.Run.answer_cycle.Goals as goal
+
+pub answer_all-requires-clause-sizes : goal.answer_all-requires-clause-sizes
+answer_all-requires-clause-sizes c =
+    let t = c.args.trace.now in
+    let some = some-cycle 0 (λ _. ⊥) t.cycles c.requires.limits.cycles in
+    let inside = c.requires.inside in
+    let lt : c.args.cycle < length t.cycles = omega arith in
+    let events : c.as_slice-events.result.now ≡ (get_or t.cycles c.args.cycle c.index-as_slice-cycle.result).events = events-of c.as_slice-events.result.now c.as_slice.result.now t.cycles c.args.cycle c.index-as_slice-cycle.result c.as_slice-events.ensures c.as_slice.ensures in
+    rw events (cycle-sizes t c.args.cycle c.index-as_slice-cycle.result c.requires.limits lt)
+
+pub returns : goal.returns
+returns c =
+    let t = c.args.trace.now in
+    let come = c.requires.come in
+    let some = some-cycle 0 (λ _. ⊥) t.cycles c.requires.limits.cycles in
+    let inside = c.requires.inside in
+    let lt : c.args.cycle < length t.cycles = omega arith in
+    let events : c.as_slice-events.result.now ≡ (get_or t.cycles c.args.cycle c.index-as_slice-cycle.result).events = events-of c.as_slice-events.result.now c.as_slice.result.now t.cycles c.args.cycle c.index-as_slice-cycle.result c.as_slice-events.ensures c.as_slice.ensures in
+    let goes : GoesOn c.args.cycle c.args.self.now.heap c.answer_all.new.heap (get_or t.cycles c.args.cycle c.index-as_slice-cycle.result).events c.args.self.now.answers c.answer_all.new.answers
+    = rw events at c.in_ok-answer_all.ensures.answered in
+    let all = cycle-answered t c.args.cycle c.index-as_slice-cycle.result _ _ _ _ come.objects c.requires.limits c.requires.plain lt come.answered goes in
+    both-map c.sample_none.result _ _ _ (λ sampled buckets. record {
+      objects = all.0;
+      answered = all.1;
+      region = c.in_ok-answer_all.ensures.region ∙ come.region;
+      goal = c.in_ok-answer_all.ensures.goal ∙ come.goal;
+      sampled = same-count _ _ _ _ _ _ sampled refl c.in_ok-answer_all.ensures.count come.sampled;
+      buckets = same-count _ _ _ _ _ _ buckets refl c.in_ok-answer_all.ensures.count come.buckets;
+    }) c.sample_none.ensures.sampled c.sample_none.ensures.buckets

@@ -1,0 +1,32 @@
+use Rattle.std.proofs.Common.{◌≡◌, ◌+◌, sym, ◌∙◌, rules}
+use Rattle.alloc_tool.proofs.Cycled.{ok-map, count-before, places-before, allocated-before, cycle-ended}
+use Rattle.alloc_tool.proofs.run.Run.end_cycle.Goals as goal
+
+pub marks_of-requires-clause-answers : goal.marks_of-requires-clause-answers
+marks_of-requires-clause-answers c = let come = c.requires.come in count-before c.args.trace.now c.args.cycle (c.args.cycle + 1) _ _ come.objects come.answered
+
+pub marks_of-requires-clause-sampled : goal.marks_of-requires-clause-sampled
+marks_of-requires-clause-sampled c = let come = c.requires.come in come.sampled ∙ count-before c.args.trace.now c.args.cycle (c.args.cycle + 1) _ _ come.objects come.answered
+
+pub marks_of-requires-clause-buckets : goal.marks_of-requires-clause-buckets
+marks_of-requires-clause-buckets c = let come = c.requires.come in come.buckets ∙ count-before c.args.trace.now c.args.cycle (c.args.cycle + 1) _ _ come.objects come.answered
+
+pub marks_of-requires-clause-places : goal.marks_of-requires-clause-places
+marks_of-requires-clause-places c = let come = c.requires.come in places-before c.args.trace.now c.args.cycle (c.args.cycle + 1) _ _ come.objects come.region come.answered
+
+pub next_cycle-requires-clause-allocated : goal.next_cycle-requires-clause-allocated
+next_cycle-requires-clause-allocated c =
+    let come = c.requires.come in
+    allocated-before c.args.trace.now c.args.cycle _ _ come.objects _ _ c.in_ok-marks.marks come.answered c.in_ok-marks.ensures.marks
+
+pub returns : goal.returns
+returns c =
+    let come = c.requires.come in
+    ok-map c.next_cycle.result _ _ (λ goes. record {
+      objects = come.objects;
+      answered = cycle-ended c.args.trace.now c.args.cycle _ _ _ come.objects _ _ c.in_ok-marks.marks come.answered c.in_ok-marks.ensures.marks goes;
+      region = c.next_cycle.ensures.region ∙ come.region;
+      goal = c.next_cycle.ensures.goal ∙ come.goal;
+      sampled = come.sampled;
+      buckets = come.buckets;
+    }) c.next_cycle.ensures.next
