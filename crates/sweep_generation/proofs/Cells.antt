@@ -1,6 +1,6 @@
 -- A cell is put into a list of cells.
 use Rattle.std.proofs.Common.{◌≡◌, ℕ, zero, suc, ◌-◌, ◌<◌, ◌≤◌, List, [], ◌∷◌, ◌++◌, length, set, replicate, refl, ap, ◌∙◌, arith}
-use Rattle.sweep_generation.specs.Lists.{put_cell}
+use Rattle.sweep_laws.specs.Lists.{put_cell}
 
 pub put-within : (xs : List ℕ) (i x : ℕ) → i < length xs → put_cell xs i x ≡ set xs i x
 put-within [] i x low = absurd (omega arith)

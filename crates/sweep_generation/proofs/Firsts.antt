@@ -4,7 +4,7 @@ use Rattle.std.proofs.lemmas.Bool.Decides.{nat_tests}
 use Rattle.std.specs.List.{find, position, remove, position_or_len}
 use Rattle.std.proofs.lemmas.List.Quantifiers.{position-Some}
 use Rattle.std.proofs.lemmas.List.Sums.{fails_before_first}
-use Rattle.sweep_generation.specs.Lists.{drop_first, change_first}
+use Rattle.sweep_laws.specs.Lists.{drop_first, change_first}
 
 not_some : (b : Bool) (n : ℕ) → cond b (Some n) None ≡ None → b ≡ false
 not_some true n e = absurd (cc)

@@ -4,30 +4,6 @@ pub mod Seen
 pub mod Cells
 pub mod Marks
 pub mod Changing
-pub mod Totals
-pub mod Unpopped
-pub mod Naming
-pub mod NeedsMet
-pub mod Standings
-pub mod Forms
-pub mod Lives
-pub mod LivesChange
-pub mod Turned
-pub mod Deltas
-pub mod Objects
-pub mod SweepMoves
-pub mod CacheMoves
-pub mod UnsweptMoves
-pub mod SweptMoves
-pub mod FillMove
-pub mod HeapMoves
-pub mod Claims
-pub mod Reset
-pub mod MarkEnd
-pub mod MovesKept
-pub mod Traced
-pub mod OnceKept
-pub mod StepsKept
-pub mod NewOwned
-pub mod BrokenFacts
-pub mod OnceSays
+mod Frees
+mod FirstFound
+mod Rising

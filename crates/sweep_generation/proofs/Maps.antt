@@ -4,7 +4,7 @@ use Rattle.std.specs.List.{position, prefix_len, find, remove}
 use Rattle.std.specs.Option.{option_copied}
 use Rattle.std.proofs.lemmas.List.{length-map, map-set, get_or-map}
 use Rattle.std.proofs.lemmas.List.Quantifiers.{position-Some}
-use Rattle.sweep_generation.specs.Lists.{drop_first, change_first}
+use Rattle.sweep_laws.specs.Lists.{drop_first, change_first}
 use Rattle.sweep_generation.proofs.Firsts.{drop-at, drop-absent, change-at, change-absent, find-at, find-absent}
 use denote.Ref.{Bor}
 

@@ -2,13 +2,13 @@
 use Rattle.std.proofs.Common.{◌≡◌, ℕ, ◌+◌, ◌<◌, ◌≤◌, ◌==◌, Bool, true, false, if◌then◌else◌, List, [], ◌∷◌, ◌++◌, length, get_or, take, drop, refl, ap, subst, ◌∙◌, ◌≢◌, arith, rules}
 use borrow.Author.Tests.{tests}
 use Rattle.std.proofs.lemmas.List.{take_more, length-append, append-nil, take-append-drop}
-use Rattle.sweep_generation.specs.Changes.{marks_at}
+use Rattle.sweep_laws.specs.Changes.{marks_at}
 
 by_test : (b : Bool) (x : ℕ) (all front back : List ℕ) → all ≡ front ++ back → (if b then x ∷ all else all) ≡ (if b then x ∷ front else front) ++ back
 by_test true x all front back e = ap (λ xs. x ∷ xs) e
 by_test false x all front back e = e
 
-marks-append : (page : ℕ) (xs ys : List (ℕ × ℕ)) → marks_at page (xs ++ ys) ≡ marks_at page xs ++ marks_at page ys
+pub marks-append : (page : ℕ) (xs ys : List (ℕ × ℕ)) → marks_at page (xs ++ ys) ≡ marks_at page xs ++ marks_at page ys
 marks-append page [] ys = refl
 marks-append page (m ∷ xs) ys = by_test (m.0 == page) m.1 _ _ _ (marks-append page xs ys)
 

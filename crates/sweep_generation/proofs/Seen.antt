@@ -14,8 +14,8 @@ use Rattle.sweep_generation.specs.declared.state.Core.TheInside.{Inside}
 use Rattle.sweep_generation.specs.declared.hand.CoreHand.{CoreHand}
 use Rattle.sweep_generation.specs.declared.set.CoreSet.{CoreSet}
 use Rattle.sweep_generation.specs.declared.spare.Spare.{Spare}
-use Rattle.sweep_generation.specs.State.{CoreState, HandState, SetState}
-use Rattle.sweep_generation.specs.Needs.{no_hand, no_set, hand_of, set_of}
+use Rattle.sweep_laws.specs.State.{CoreState, HandState, SetState}
+use Rattle.sweep_laws.specs.Needs.{no_hand, no_set, hand_of, set_of}
 use Rattle.sweep_generation.specs.Views.{hand_view, set_view, HandRoom, LifeRoom}
 use Rattle.sweep_generation.specs.Kept.{core_view, IsKept}
 use Rattle.sweep_generation.proofs.Maps.{map-changed}

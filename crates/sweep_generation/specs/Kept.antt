@@ -2,7 +2,7 @@
 use Rattle.std.specs.Prelude.{◌≤◌, ◌<◌, ◌+◌, ◌^◌, ◌≡◌, length, map, vec_capacity}
 use Rattle.std.specs.List.{All}
 use Rattle.sweep_generation.specs.declared.state.Core.TheInside.{Inside}
-use Rattle.sweep_generation.specs.State.{CoreState}
+use Rattle.sweep_laws.specs.State.{CoreState}
 use Rattle.sweep_generation.specs.Views.{hand_view, life_view, set_view, HandRoom, LifeRoom}
 
 abbrev pub core_view : Inside → CoreState

@@ -3,7 +3,7 @@ use Rattle.std.specs.Prelude.{ℕ, ◌≤◌}
 use Rattle.sweep_generation.specs.declared.hand.CoreHand.{CoreHand}
 use Rattle.sweep_generation.specs.declared.life.Life.{Life}
 use Rattle.sweep_generation.specs.declared.set.CoreSet.{CoreSet}
-use Rattle.sweep_generation.specs.State.{HandState, LifeState, SetState}
+use Rattle.sweep_laws.specs.State.{HandState, LifeState, SetState}
 
 abbrev pub hand_view : CoreHand → HandState
 hand_view h = record {

@@ -1,6 +1,6 @@
 ghost use Rattle.std.specs.Prelude.{◌≡◌, ◌<◌, ◌≤◌, ◌==◌, [], ◌∷◌, ◌++◌, length, OnOk, OnErr, ◌^◌};
 ghost use Rattle.std.specs.List.{remove};
-ghost use Rattle.sweep_generation.specs.Lists.{has, erase, put_cell};
+ghost use Rattle.sweep_laws.specs.Lists.{has, erase, put_cell};
 
 use crate::scan::index_of;
 use edge_io::{List, NoMemory};

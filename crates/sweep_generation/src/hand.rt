@@ -1,6 +1,6 @@
 ghost use Rattle.std.specs.Prelude.{◌≡◌, ◌≤◌, ◌<◌, ◌⊎◌, ℕ, length, None, OnOk, OnErr};
-ghost use Rattle.sweep_generation.specs.Needs.{listed, is_idle as no_pages};
-ghost use Rattle.sweep_generation.specs.Changes.{
+ghost use Rattle.sweep_laws.specs.Needs.{listed, is_idle as no_pages};
+ghost use Rattle.sweep_laws.specs.Changes.{
   hold,
   let_go,
   start_sweep,
@@ -17,9 +17,8 @@ ghost use Rattle.sweep_generation.specs.Loops.{without_swept};
 ghost use Rattle.sweep_generation.specs.Views.{hand_view, HandRoom};
 
 use crate::entries::Entries;
-use crate::kind::Kind;
-use crate::moves::Claimed;
 use edge_io::NoMemory;
+use sweep_laws::{Claimed, Kind};
 
 /// What one worker has, by first pages.
 #[derive(Debug, Drop)]

@@ -3,17 +3,14 @@
 
 mod entries;
 mod hand;
-mod kind;
 mod life;
 mod mark_end;
-mod moves;
 mod moves_cache;
 mod moves_lock;
 mod moves_pages;
 mod moves_sets;
 mod moves_sweep;
 mod owners;
-mod roles;
 mod run;
 mod scan;
 mod set;
@@ -30,15 +27,9 @@ mod words;
 pub use entries::Entries;
 pub use hand::CoreHand;
 pub use life::Life;
-pub use moves::{Claimed, Found, Move, Reply, StepFault};
-pub use roles::Role;
 pub use run::run_moves;
 pub use set::CoreSet;
 pub use state::Core;
 pub use steps::step;
+pub use sweep_laws::{Claimed, Found, Move, Reply, Role, StepFault};
 pub use words::role;
-
-#[cfg(test)]
-mod run_tests;
-#[cfg(test)]
-mod tests;

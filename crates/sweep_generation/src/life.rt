@@ -1,12 +1,13 @@
-ghost use Rattle.std.specs.Prelude.{◌≡◌, ◌≤◌, ◌<◌, map, length, OnOk, OnErr, vec_len, vec_capacity, [], ◌∷◌, ◌++◌};
+ghost use Rattle.std.specs.Prelude.{◌≡◌, ◌≤◌, ◌<◌, true, map, length, OnOk, OnErr, vec_len, vec_capacity, [], ◌∷◌, ◌++◌};
 ghost use Rattle.std.specs.List.{All};
-ghost use Rattle.sweep_generation.specs.Changes.{marks_at, change_life, drop_life as dropped_life, keep_marked as kept_marked, allocate_index as allocated_too};
-ghost use Rattle.sweep_generation.specs.Needs.{life_in};
+ghost use Rattle.sweep_laws.specs.Changes.{marks_at, change_life, drop_life as dropped_life, keep_marked as kept_marked, allocate_index as allocated_too};
+ghost use Rattle.sweep_laws.specs.Lists.{rises};
+ghost use Rattle.sweep_laws.specs.Needs.{life_in};
 ghost use Rattle.sweep_generation.specs.Loops.{marked};
 ghost use Rattle.sweep_generation.specs.Views.{life_view, LifeRoom};
 
 use crate::entries::Entries;
-use crate::scan::life_index;
+use crate::scan::{life_index, marks_of};
 use edge_io::NoMemory;
 
 /// A span from its Take to its Give.
@@ -53,16 +54,28 @@ impl Life {
 
     // Makes room for the marks of this life.
     pub(crate) fn reserve_marks(&mut self, marks: &[(u32, u32)]) -> Result<(), NoMemory>
+        requires { rises marks.now ≡ true }
         ensures view { life_view self.new ≡ life_view self.old }
         ensures ok { OnOk result (length (marks_at self.new.page marks.now) ≤ self.new.kept.space) }
         ensures room { LifeRoom self.old → LifeRoom self.new }
         ensures full { OnErr result (self.old.kept.space < length (marks_at self.old.page marks.now)) }
     {
-        self.kept.reserve(count_marks(marks, self.page))
+        let own = marks_of(marks, self.page);
+        self.kept.reserve(count_marks(own, self.page))
     }
 
     // What is kept is what is marked.
     pub(crate) fn set_marks(&mut self, marks: &[(u32, u32)])
+        requires rising { rises marks.now ≡ true }
+        requires room { length (marks_at self.old.page marks.now) ≤ self.old.kept.space }
+        ensures { self.new ≡ marked marks.now 0 self.old }
+    {
+        let own = marks_of(marks, self.page);
+        self.keep_marks(own);
+    }
+
+    // What is kept is what some marks name in this life.
+    fn keep_marks(&mut self, marks: &[(u32, u32)])
         requires { length (marks_at self.old.page marks.now) ≤ self.old.kept.space }
         ensures { self.new ≡ marked marks.now 0 self.old }
     {

@@ -1,19 +1,21 @@
-ghost use Rattle.std.specs.Prelude.{◌≡◌, ◌≤◌, ◌+◌, ◌^◌, ℕ, map, length, OnOk, OnErr};
+ghost use Rattle.std.specs.Prelude.{◌≡◌, ◌≤◌, ◌+◌, ◌^◌, ℕ, true, map, length, OnOk, OnErr};
 ghost use Rattle.std.specs.List.{All};
-ghost use Rattle.sweep_generation.specs.Changes.{marks_at, mark_life, empty_unswept as unswept_emptied, forget_swept as swept_forgotten};
+ghost use Rattle.sweep_laws.specs.Changes.{marks_at, mark_life, empty_unswept as unswept_emptied, forget_swept as swept_forgotten};
+ghost use Rattle.sweep_laws.specs.Lists.{rises};
 ghost use Rattle.sweep_generation.specs.Views.{life_view, hand_view, set_view, LifeRoom, HandRoom};
-ghost use Rattle.sweep_generation.specs.Step.{Steps};
+ghost use Rattle.sweep_laws.specs.Step.{Steps};
 
 use crate::hand::CoreHand;
 use crate::life::Life;
-use crate::moves::{Move, Reply, StepFault};
 use crate::set::CoreSet;
 use crate::state::Core;
 use crate::tries_next::is_swept;
 use edge_io::NoMemory;
+use sweep_laws::{Move, Reply, StepFault};
 
 // Each life gets room for its marks. It fails only where one has more marks than objects.
 fn reserve_marks(lives: &mut [Life], marks: &[(u32, u32)]) -> Result<(), NoMemory>
+    requires { rises marks.now ≡ true }
     ensures view { map life_view lives.new ≡ map life_view lives.old }
     ensures ok { OnOk result (All (λ life. length (marks_at life.page marks.now) ≤ life.kept.space) lives.new) }
     ensures room { All LifeRoom lives.old → All LifeRoom lives.new }
@@ -27,7 +29,8 @@ fn reserve_marks(lives: &mut [Life], marks: &[(u32, u32)]) -> Result<(), NoMemor
 
 // Each life keeps its marks.
 fn set_marks(lives: &mut [Life], marks: &[(u32, u32)])
-    requires { All (λ life. length (marks_at life.page marks.now) ≤ life.kept.space) lives.old }
+    requires rising { rises marks.now ≡ true }
+    requires room { All (λ life. length (marks_at life.page marks.now) ≤ life.kept.space) lives.old }
     ensures view { map life_view lives.new ≡ map (mark_life marks.now) (map life_view lives.old) }
     ensures room { All LifeRoom lives.old → All LifeRoom lives.new }
 {

@@ -1,9 +1,9 @@
 ghost use Rattle.std.specs.Prelude.{◌≡◌};
-ghost use Rattle.sweep_generation.specs.Step.{Steps};
+ghost use Rattle.sweep_laws.specs.Step.{Steps};
 
 use crate::life::allocate_index;
-use crate::moves::{Move, Reply, StepFault};
 use crate::state::Core;
+use sweep_laws::{Move, Reply, StepFault};
 
 // Caches a span that the worker holds.
 pub(crate) fn cache(core: &mut Core, worker: u32, page: u32) -> Result<Reply, StepFault>

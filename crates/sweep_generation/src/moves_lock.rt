@@ -1,8 +1,8 @@
 ghost use Rattle.std.specs.Prelude.{◌≡◌, ◌<◌, ◌≤◌, length};
-ghost use Rattle.sweep_generation.specs.Step.{Steps};
+ghost use Rattle.sweep_laws.specs.Step.{Steps};
 
-use crate::moves::{Move, Reply, StepFault};
 use crate::state::Core;
+use sweep_laws::{Move, Reply, StepFault};
 
 // Takes the heap lock.
 pub(crate) fn lock(core: &mut Core, worker: u32) -> Result<Reply, StepFault>

@@ -1,10 +1,10 @@
 ghost use Rattle.std.specs.Prelude.{◌≡◌};
-ghost use Rattle.sweep_generation.specs.Step.{Steps};
+ghost use Rattle.sweep_laws.specs.Step.{Steps};
 
 use crate::life::{drop_life, push_life, reserve_life};
-use crate::moves::{Move, Reply, StepFault};
 use crate::owners::put_owner;
 use crate::state::Core;
+use sweep_laws::{Move, Reply, StepFault};
 
 // Makes a span of free pages, which the worker holds.
 pub(crate) fn take(

@@ -1,9 +1,9 @@
 ghost use Rattle.std.specs.Prelude.{◌≡◌};
-ghost use Rattle.sweep_generation.specs.Step.{Steps};
+ghost use Rattle.sweep_laws.specs.Step.{Steps};
 
 use crate::life::keep_marked;
-use crate::moves::{Move, Reply, StepFault};
 use crate::state::Core;
+use sweep_laws::{Move, Reply, StepFault};
 
 // Begins to sweep a span.
 pub(crate) fn acquire(core: &mut Core, worker: u32, page: u32) -> Result<Reply, StepFault>

@@ -1,5 +1,5 @@
 ghost use Rattle.std.specs.Prelude.{◌≡◌};
-ghost use Rattle.sweep_generation.specs.Lists.{put_run};
+ghost use Rattle.sweep_laws.specs.Lists.{put_run};
 
 // The pages of a run have an owner, as far as the region goes.
 pub(crate) fn put_owner(owners: &mut [Option<u32>], page: u32, pages: u32, owner: Option<u32>)

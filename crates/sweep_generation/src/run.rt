@@ -1,17 +1,24 @@
-ghost use Rattle.std.specs.Prelude.{◌≡◌, Ok};
-ghost use Rattle.sweep_generation.specs.Owned.{Owned};
-ghost use Rattle.sweep_generation.specs.Once.{Once};
-ghost use Rattle.sweep_generation.specs.Run.{Runs};
+ghost use Rattle.std.specs.Prelude.{◌≡◌, ◌≢◌, Ok, Err};
+ghost use Rattle.sweep_laws.specs.Owned.{Owned};
+ghost use Rattle.sweep_laws.specs.Once.{Once};
+ghost use Rattle.sweep_laws.specs.Run.{Runs};
+ghost use Rattle.sweep_laws.specs.Tidy.{IsTidy, HasSpace, AreProvided};
 
-use crate::moves::{Move, StepFault};
 use crate::state::Core;
 use crate::steps::step_by;
 use edge_io::List;
+use sweep_laws::{Move, StepFault};
 
 /// Does moves one after another, and stops at the first that a step refuses, with the moves before it done.
+/// Memory does not run out where `step` says so of each move: a list has one Take at most that is provided for, since
+/// a Take uses up the prepared life.
 pub fn run_moves(core: &mut Core, moves: &List<Move>) -> Result<(), StepFault>
     ensures exact { Runs core.old core.new moves.now result }
     ensures owned { Owned core.old → Owned core.new }
+    ensures tidy { Owned core.old → IsTidy core.old → IsTidy core.new }
+    ensures room { core.new.room ≡ core.old.room }
+    ensures space { HasSpace core.old → AreProvided core.old moves.now → HasSpace core.new }
+    ensures memory { Owned core.old → IsTidy core.old → HasSpace core.old → AreProvided core.old moves.now → result ≢ Err StepFault.NoMemory }
     ensures once { Owned core.old → result ≡ Ok tt → Once core.old moves.now }
 {
     for mv in moves.as_slice() {

@@ -1,13 +1,13 @@
 ghost use Rattle.std.specs.Prelude.{◌≡◌, ◌≤◌, ◌<◌, ◌+◌, ℕ, map, length, OnOk, OnErr, slice_set, slice_index_or};
 ghost use Rattle.std.specs.List.{All};
-ghost use Rattle.sweep_generation.specs.Needs.{no_set};
-ghost use Rattle.sweep_generation.specs.Changes.{name_page as page_named, raise_head as head_raised, raise_tail as tail_raised};
+ghost use Rattle.sweep_laws.specs.Needs.{no_set};
+ghost use Rattle.sweep_laws.specs.Changes.{name_page as page_named, raise_head as head_raised, raise_tail as tail_raised};
 ghost use Rattle.sweep_generation.specs.Views.{set_view};
 ghost use Rattle.sweep_generation.specs.Loops.{emptied_unless};
 
 use crate::entries::Entries;
-use crate::moves::Claimed;
 use edge_io::NoMemory;
+use sweep_laws::Claimed;
 
 /// A queue of spans of one span class, by first pages.
 #[derive(Debug, Drop)]

@@ -1,5 +1,5 @@
 ghost use Rattle.std.specs.Prelude.{◌≡◌, ◌≤◌, ◌<◌, [], OnOk, OnErr, IfOk, max};
-ghost use Rattle.sweep_generation.specs.Changes.{new_life, left_prepared};
+ghost use Rattle.sweep_laws.specs.Changes.{new_life, left_prepared};
 ghost use Rattle.sweep_generation.specs.Views.{life_view, LifeRoom};
 
 use crate::entries::Entries;

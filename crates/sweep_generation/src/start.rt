@@ -1,7 +1,9 @@
 ghost use Rattle.std.specs.Prelude.{◌≡◌, ℕ, ◌≤◌, ◌<◌, ◌+◌, ◌^◌, map, length, max, None, IfOk, OnOk, OnErr};
 ghost use Rattle.std.specs.List.{All};
-ghost use Rattle.sweep_generation.specs.Owned.{Owned};
-ghost use Rattle.sweep_generation.specs.Start.{copies, new_state, bare_hand, bare_set};
+ghost use Rattle.sweep_laws.specs.Owned.{Owned};
+ghost use Rattle.sweep_generation.specs.Bare.{bare_hand, bare_set};
+ghost use Rattle.sweep_laws.specs.Start.{copies, new_state};
+ghost use Rattle.sweep_laws.specs.Tidy.{IsTidy, TailsFit};
 ghost use Rattle.sweep_generation.specs.Views.{hand_view, set_view, HandRoom};
 
 use crate::entries::Entries;
@@ -95,6 +97,8 @@ impl Core {
     pub fn new(alloc: Global, pages: u32, workers: u32) -> Result<Core, NoMemory>
         ensures state { IfOk result (λ core. core ≡ new_state pages workers) }
         ensures owned { IfOk result (λ core. Owned core) }
+        ensures tidy { IfOk result (λ core. IsTidy core) }
+        ensures tails { IfOk result (λ core. TailsFit core) }
     {
         let words = no_words(alloc, pages)?;
         let owners = no_owners(alloc, pages)?;
@@ -123,7 +127,8 @@ impl Core {
         sets: List<CoreSet>,
     ) -> Result<Core, NoMemory>
         requires { generation + 3 < 2 ^ 64 }
-        ensures { IfOk result (λ core. core ≡ record (new_state pages workers) { generation = generation; sets = map set_view sets }) }
+        ensures state { IfOk result (λ core. core ≡ record (new_state pages workers) { generation = generation; sets = map set_view sets }) }
+        ensures tidy { IfOk result (λ core. IsTidy core) }
     {
         let words = no_words(alloc, pages)?;
         let owners = no_owners(alloc, pages)?;

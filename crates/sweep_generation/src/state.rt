@@ -26,7 +26,7 @@ pub struct Core {
 
 impl Model for Core {
     ghost use Rattle.std.specs.Prelude.{◌≤◌, vec_capacity};
-    ghost use Rattle.sweep_generation.specs.State.{CoreState};
+    ghost use Rattle.sweep_laws.specs.State.{CoreState};
 
     ghost Value = { CoreState };
 

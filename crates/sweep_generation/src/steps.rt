@@ -1,15 +1,16 @@
-ghost use Rattle.std.specs.Prelude.{◌≡◌};
-ghost use Rattle.sweep_generation.specs.Owned.{Owned};
-ghost use Rattle.sweep_generation.specs.Step.{Steps};
+ghost use Rattle.std.specs.Prelude.{◌≡◌, ◌≢◌, Err};
+ghost use Rattle.sweep_laws.specs.Owned.{Owned};
+ghost use Rattle.sweep_laws.specs.Step.{Steps};
+ghost use Rattle.sweep_laws.specs.Tidy.{IsTidy, HasSpace, IsProvided};
 
 use crate::mark_end::next;
-use crate::moves::{Move, Reply, StepFault};
 use crate::moves_cache::{allocate, cache, uncache};
 use crate::moves_lock::{lock, unlock};
 use crate::moves_pages::{give, take};
 use crate::moves_sets::{claim, fill, pop_swept, pop_unswept};
 use crate::moves_sweep::{acquire, drop_popped, release, stale_uncache};
 use crate::state::Core;
+use sweep_laws::{Move, Reply, StepFault};
 
 // Makes one move.
 pub(crate) fn step_by(core: &mut Core, mv: &Move) -> Result<Reply, StepFault>
@@ -39,10 +40,17 @@ pub(crate) fn step_by(core: &mut Core, mv: &Move) -> Result<Reply, StepFault>
 
 /// Makes one move. It is done and answered as defined, or refused at the first need that fails with what was
 /// found; or memory ran out. After a refusal and without memory nothing changed. Memory is not asked for where
-/// the lists that the move puts something into have room.
+/// the lists that the move puts something into have room. So it does not run out in a core that has the rule of
+/// ownership, is tidy as a new one is, and has space: room for as many entries as there are pages
+/// (`Core::make_room`), and in no set more claimed cells than that. A Take asks beside that for a prepared life
+/// (`Core::make_life_room`), and a Claim for a set with fewer claimed cells than there are pages. The room stays.
 pub fn step(core: &mut Core, mv: Move) -> Result<Reply, StepFault>
     ensures exact { Steps core.old core.new mv result }
     ensures owned { Owned core.old → Owned core.new }
+    ensures tidy { Owned core.old → IsTidy core.old → IsTidy core.new }
+    ensures room { core.new.room ≡ core.old.room }
+    ensures space { HasSpace core.old → IsProvided core.old mv → HasSpace core.new }
+    ensures memory { Owned core.old → IsTidy core.old → HasSpace core.old → IsProvided core.old mv → result ≢ Err StepFault.NoMemory }
 {
     step_by(core, &mv)
 }

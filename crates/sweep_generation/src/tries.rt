@@ -1,5 +1,5 @@
 ghost use Rattle.std.specs.Prelude.{◌≡◌, ◌<◌, ◌^◌, OnOk, IfSome, IfOk, length, map, option_map, IsTrue, [], ◌∷◌};
-ghost use Rattle.sweep_generation.specs.Needs.{
+ghost use Rattle.sweep_laws.specs.Needs.{
   need,
   worker_in_range,
   page_in_range,
@@ -31,14 +31,13 @@ ghost use Rattle.sweep_generation.specs.Needs.{
   may_allocate,
   is_least_free,
 };
-ghost use Rattle.sweep_generation.specs.Tries.{Tried};
+ghost use Rattle.sweep_laws.specs.Tries.{Tried};
 ghost use Rattle.sweep_generation.specs.Views.{life_view};
 
-use crate::kind::Kind;
 use crate::life::Life;
-use crate::moves::{Found, StepFault};
 use crate::scan::{find_life, first_lister, first_owner, least, least_free};
 use crate::state::Core;
+use sweep_laws::{Found, Kind, StepFault};
 
 // Tries a need: `found` is what it finds where it is not met.
 pub(crate) fn demand(met: bool, found: Found) -> Result<(), StepFault>

@@ -1,5 +1,5 @@
 ghost use Rattle.std.specs.Prelude.{◌≡◌, ◌<◌, ◌≤◌, ◌+◌, OnOk, length, [], ◌∷◌};
-ghost use Rattle.sweep_generation.specs.Needs.{
+ghost use Rattle.sweep_laws.specs.Needs.{
   need,
   run_in_range,
   class_in_range,
@@ -15,13 +15,12 @@ ghost use Rattle.sweep_generation.specs.Needs.{
   free_index,
   life_of,
 };
-ghost use Rattle.sweep_generation.specs.Tries.{Tried};
+ghost use Rattle.sweep_laws.specs.Tries.{Tried};
 
-use crate::kind::Kind;
-use crate::moves::{Found, StepFault};
 use crate::scan::{first_owner, least, least_free};
 use crate::state::Core;
 use crate::tries::demand;
+use sweep_laws::{Found, Kind, StepFault};
 
 // The number of span classes.
 const SPAN_CLASSES: u8 = 136;

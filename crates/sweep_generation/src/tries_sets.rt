@@ -1,5 +1,5 @@
 ghost use Rattle.std.specs.Prelude.{◌≡◌, ◌<◌, OnOk, IfOk, length, Some, [], ◌∷◌};
-ghost use Rattle.sweep_generation.specs.Needs.{
+ghost use Rattle.sweep_laws.specs.Needs.{
   hand_of,
   set_of,
   cell_of,
@@ -17,13 +17,12 @@ ghost use Rattle.sweep_generation.specs.Needs.{
   tail_has_room,
   cell_is_filled,
 };
-ghost use Rattle.sweep_generation.specs.Changes.{head_base as base_at_head};
-ghost use Rattle.sweep_generation.specs.Tries.{Tried};
+ghost use Rattle.sweep_laws.specs.Changes.{head_base as base_at_head};
+ghost use Rattle.sweep_laws.specs.Tries.{Tried};
 
-use crate::kind::Kind;
-use crate::moves::{Claimed, Found, StepFault};
 use crate::state::Core;
 use crate::tries::demand;
+use sweep_laws::{Claimed, Found, Kind, StepFault};
 
 impl Core {
     fn try_set(&self, set: u32) -> Result<(), StepFault>

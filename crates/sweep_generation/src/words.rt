@@ -1,7 +1,7 @@
 ghost use Rattle.std.specs.Prelude.{◌≡◌, ℕ, ◌≤◌, ◌^◌};
-ghost use Rattle.sweep_generation.specs.Roles.{role_of};
+ghost use Rattle.sweep_laws.specs.Roles.{role_of};
 
-use crate::roles::Role;
+use sweep_laws::Role;
 
 /// The role of a word at a generation from 4 to 2^63.
 pub fn role(word: u64, generation: u64) -> Role

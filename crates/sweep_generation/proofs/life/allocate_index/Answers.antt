@@ -3,9 +3,9 @@ use Rattle.std.proofs.lemmas.Result.{err_from_is_err_and}
 use Rattle.std.specs.List.{position}
 use Rattle.std.proofs.lemmas.List.Quantifiers.{position-Some}
 use Rattle.sweep_generation.specs.declared.life.Life.{Life}
-use Rattle.sweep_generation.specs.State.{LifeState}
-use Rattle.sweep_generation.specs.Needs.{no_life}
-use Rattle.sweep_generation.specs.Changes.{allocate_index}
+use Rattle.sweep_laws.specs.State.{LifeState}
+use Rattle.sweep_laws.specs.Needs.{no_life}
+use Rattle.sweep_laws.specs.Changes.{allocate_index}
 use Rattle.sweep_generation.specs.Views.{life_view}
 use Rattle.sweep_generation.proofs.Maps.{change-first-map, change-none-map, find-first-map}
 use Rattle.sweep_generation.proofs.life.allocate_index.Goals as goal

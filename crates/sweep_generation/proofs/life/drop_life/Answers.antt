@@ -1,6 +1,6 @@
 use Rattle.std.proofs.Common.{◌==◌, refl, rules}
-use Rattle.sweep_generation.specs.State.{LifeState}
-use Rattle.sweep_generation.specs.Needs.{no_life}
+use Rattle.sweep_laws.specs.State.{LifeState}
+use Rattle.sweep_laws.specs.Needs.{no_life}
 use Rattle.sweep_generation.specs.Views.{life_view}
 use Rattle.sweep_generation.proofs.Maps.{drop-first-map, drop-none-map, find-first-map, find-none-map}
 use Rattle.sweep_generation.proofs.life.drop_life.Goals as goal

@@ -5,8 +5,8 @@ use Rattle.std.proofs.lemmas.Result.{err_from_is_err_and}
 use Rattle.sweep_generation.specs.declared.life.Life.{Life}
 use Rattle.sweep_generation.specs.declared.set.CoreSet.{CoreSet}
 use Rattle.sweep_generation.specs.declared.hand.CoreHand.{CoreHand}
-use Rattle.sweep_generation.specs.State.{CoreState, LifeState}
-use Rattle.sweep_generation.specs.Changes.{marks_at}
+use Rattle.sweep_laws.specs.State.{CoreState, LifeState}
+use Rattle.sweep_laws.specs.Changes.{marks_at}
 use Rattle.sweep_generation.specs.Views.{LifeRoom, HandRoom}
 use Rattle.sweep_generation.proofs.Seen.{items-whole, kept-lives, kept-sets, kept-hands, kept-generation}
 use Rattle.sweep_generation.proofs.mark_end.next.Goals as goal
@@ -17,7 +17,7 @@ returns-in_err-reserve_marks c =
     let rooms = subst (λ (xs : List Life). All LifeRoom xs) (sym c.deref_mut.ensures.value) c.core.invariant.life_room in
     let full = rw c.deref_mut.ensures.value at (c.in_err-reserve_marks.ensures.full rooms) in
     rw (p.1, p.2, items-whole c.core.inside.lives c.reserve_marks.new.lives (c.reserve_marks.auto.lives ∙ ap (λ (xs : List Life). length xs) c.deref_mut.ensures.value), c.in_err-reserve_marks.ensures.view, c.deref_mut.ensures.value)
-    (c.core.view_is, λ r. full (subst (λ (s : CoreState). All (λ (x : LifeState). length (marks_at x.page c.args.marks.now) ≤ x.count) s.lives) (sym c.core.view_is) r))
+    (c.in_ok-try_next.ensures.tried, c.core.view_is, λ r. full (subst (λ (s : CoreState). All (λ (x : LifeState). length (marks_at x.page c.args.marks.now) ≤ x.count) s.lives) (sym c.core.view_is) r))
 
 pub invariant_of-core : goal.invariant_of-core
 invariant_of-core c = kept-lives c.core.inside c.reserve_marks.new.lives (c.reserve_marks.ensures.room (subst (λ (xs : List Life). All LifeRoom xs) (sym c.deref_mut.ensures.value) c.core.invariant.life_room)) c.core.invariant

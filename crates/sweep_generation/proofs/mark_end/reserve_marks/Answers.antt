@@ -6,8 +6,8 @@ use Rattle.std.proofs.lemmas.List.{length-map}
 use Rattle.std.proofs.lemmas.List.Elements.{All-set}
 use Rattle.std.proofs.lemmas.Result.{err_from_is_err_and}
 use Rattle.sweep_generation.specs.declared.life.Life.{Life}
-use Rattle.sweep_generation.specs.State.{LifeState}
-use Rattle.sweep_generation.specs.Changes.{marks_at}
+use Rattle.sweep_laws.specs.State.{LifeState}
+use Rattle.sweep_laws.specs.Changes.{marks_at}
 use Rattle.sweep_generation.specs.Views.{life_view, LifeRoom}
 use Rattle.sweep_generation.proofs.mark_end.reserve_marks.Goals as goal
 

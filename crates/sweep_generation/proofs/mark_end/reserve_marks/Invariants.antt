@@ -1,7 +1,7 @@
 use Rattle.std.proofs.Common.{◌≡◌, ◌<◌, ◌≤◌, ℕ, map, length, get_or}
 use Rattle.std.specs.List.{All}
 use Rattle.sweep_generation.specs.declared.life.Life.{Life}
-use Rattle.sweep_generation.specs.Changes.{marks_at}
+use Rattle.sweep_laws.specs.Changes.{marks_at}
 use Rattle.sweep_generation.specs.Views.{life_view, LifeRoom}
 use Rattle.sweep_generation.proofs.mark_end.reserve_marks.Given as goal
 

@@ -1,18 +1,18 @@
 use Rattle.std.proofs.Common.{◌≡◌, ◌<◌, ◌≤◌, List, length, refl, sym, subst, arith, rules}
 use Rattle.std.specs.List.{All}
 use Rattle.sweep_generation.specs.declared.life.Life.{Life}
-use Rattle.sweep_generation.specs.Changes.{marks_at, mark_life}
+use Rattle.sweep_laws.specs.Changes.{marks_at, mark_life}
 use Rattle.sweep_generation.specs.Views.{life_view, LifeRoom}
 use Rattle.sweep_generation.specs.Loops.{marked}
 use Rattle.sweep_generation.proofs.Changing.{changed-more, changed-later, changed-all, All-changed}
 use Rattle.sweep_generation.proofs.mark_end.set_marks.Goals as goal
 
-pub set_marks-requires : goal.set_marks-requires
-set_marks-requires c =
+pub set_marks-requires-clause-room : goal.set_marks-requires-clause-room
+set_marks-requires-clause-room c =
     let low : c.loop-k.k < length c.args.lives.now = search rules in
     subst (λ (life : Life). length (marks_at life.page c.args.marks.now) ≤ life.kept.space)
     (sym (changed-later (marked c.args.marks.now) c.loop-k.k c.args.lives.now c.loop-k.lives c.index-lives-k.result c.loop-k.invariant))
-    (c.requires c.loop-k.k c.index-lives-k.result low)
+    (c.requires.room c.loop-k.k c.index-lives-k.result low)
 
 pub loop-k-preserved : goal.loop-k-preserved
 loop-k-preserved c = rw c.set_marks.ensures (changed-more (marked c.args.marks.now) c.loop-k.k c.args.lives.now c.loop-k.lives c.index-lives-k.result (search rules) c.loop-k.invariant)

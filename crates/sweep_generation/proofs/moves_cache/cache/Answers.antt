@@ -1,8 +1,8 @@
 use Rattle.std.proofs.Common.{length, ap, refl, arith}
 use Rattle.std.proofs.lemmas.Result.{err_from_is_err_and}
 use Rattle.sweep_generation.proofs.Seen.{hand-changed, hand-same, hand-is, room-at, low-hand, kept-hand, kept-word}
-use Rattle.sweep_generation.specs.State.{HandState}
-use Rattle.sweep_generation.specs.Changes.{put_in_cache}
+use Rattle.sweep_laws.specs.State.{HandState}
+use Rattle.sweep_laws.specs.Changes.{put_in_cache}
 use Rattle.sweep_generation.proofs.moves_cache.cache.Goals as goal
 
 pub invariant_of-core : goal.invariant_of-core
@@ -17,7 +17,7 @@ returns-in_err-put_in_cache c =
     let k = room-at c.core.inside c.args.core.now c.core.view_is c.args.worker c.in_ok-try_cache.ensures.worker c.index_mut.result.now c.index_mut.ensures.value c.core.invariant in
     let e = ap (λ (h : HandState). length h.cached) (hand-is c.core.inside c.args.core.now c.core.view_is c.args.worker c.in_ok-try_cache.ensures.worker c.index_mut.result.now c.index_mut.ensures.value) in
     rw (p.1, p.2, hand-same c.core.inside c.args.core.now c.core.view_is c.args.worker c.index_mut.result.now c.put_in_cache.new.self c.index_mut.ensures.value c.in_err-put_in_cache.ensures.err)
-    (c.core.view_is, λ r. omega (arith, r, e, k.cached, c.in_err-put_in_cache.ensures.full))
+    (c.in_ok-try_cache.ensures.tried, c.core.view_is, λ r. omega (arith, r, e, k.cached, c.in_err-put_in_cache.ensures.full))
 
 pub returns : goal.returns
 returns c =

@@ -1,5 +1,5 @@
 use Rattle.std.proofs.Common.{◌∙◌, ◌≤◌, ℕ, List, Option, length, ap, refl, arith, vec_capacity}
-use Rattle.sweep_generation.specs.Changes.{let_go}
+use Rattle.sweep_laws.specs.Changes.{let_go}
 use Rattle.sweep_generation.proofs.Seen.{hand-changed, low-hand, kept-hand, kept-word, kept-owners, kept-all-lives, items-whole}
 use Rattle.sweep_generation.proofs.moves_pages.give.Goals as goal
 

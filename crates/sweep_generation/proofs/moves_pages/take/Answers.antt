@@ -6,8 +6,8 @@ use Rattle.std.proofs.lemmas.List.{map-append}
 use Rattle.std.proofs.lemmas.List.Elements.{All-push}
 use Rattle.std.proofs.lemmas.Result.{err_from_is_err_and}
 use Rattle.sweep_generation.specs.declared.life.Life.{Life}
-use Rattle.sweep_generation.specs.State.{CoreState, HandState}
-use Rattle.sweep_generation.specs.Changes.{hold}
+use Rattle.sweep_laws.specs.State.{CoreState, HandState}
+use Rattle.sweep_laws.specs.Changes.{hold}
 use Rattle.sweep_generation.specs.Views.{LifeRoom}
 use Rattle.sweep_generation.proofs.Seen.{hand-changed, hand-same, hand-is, room-at, low-hand, kept-hand, kept-word, kept-owners, kept-all-lives, kept-spare, seen-hand, items-whole}
 use Rattle.sweep_generation.proofs.moves_pages.take.Goals as goal
@@ -21,7 +21,7 @@ returns-in_err-reserve_held c =
     let k = room-at c.core.inside c.args.core.now c.core.view_is c.args.worker c.in_ok-try_take.ensures.worker c.index_mut.result.now c.index_mut.ensures.value c.core.invariant in
     let e = ap (λ (h : HandState). length h.held) (hand-is c.core.inside c.args.core.now c.core.view_is c.args.worker c.in_ok-try_take.ensures.worker c.index_mut.result.now c.index_mut.ensures.value) in
     rw (p.1, p.2, hand-same c.core.inside c.args.core.now c.core.view_is c.args.worker c.index_mut.result.now c.reserve_held.new.self c.index_mut.ensures.value c.reserve_held.ensures.view, c.reserve_life.ensures.items)
-    (c.core.view_is, λ r. omega (arith, r.1, e, k.held, c.in_err-reserve_held.ensures.full))
+    (c.in_ok-try_take.ensures.tried, c.core.view_is, λ r. omega (arith, r.1, e, k.held, c.in_err-reserve_held.ensures.full))
 
 pub invariant_of-core-in_err-life : goal.invariant_of-core-in_err-life
 invariant_of-core-in_err-life c = kept-spare _ c.make.new.self (kept-hand _ c.args.worker (low-hand c.core.inside c.args.core.now c.core.view_is c.args.worker c.in_ok-try_take.ensures.worker) c.index_mut.result.now c.reserve_held.new.self c.index_mut.ensures.value c.reserve_held.ensures.room (kept-all-lives c.core.inside c.reserve_life.new.lives (omega (arith, c.core.invariant.lives_room, c.reserve_life.ensures.grows)) (subst (λ (xs : List Life). All LifeRoom xs) (sym c.reserve_life.ensures.items) c.core.invariant.life_room) c.core.invariant))
@@ -31,7 +31,7 @@ returns-in_err-life c =
     let p = err_from_is_err_and c.from_residual-in_err-life.result c.from_residual-in_err-life.ensures.1 in
     let e = ap (λ (s : CoreState). s.prepared) c.core.view_is in
     rw (p.1, p.2, hand-same c.core.inside c.args.core.now c.core.view_is c.args.worker c.index_mut.result.now c.reserve_held.new.self c.index_mut.ensures.value c.reserve_held.ensures.view, c.reserve_life.ensures.items, c.in_err-life.ensures.err)
-    (c.core.view_is, λ r. omega (arith, r.2, e, c.in_err-life.ensures.full))
+    (c.in_ok-try_take.ensures.tried, c.core.view_is, λ r. omega (arith, r.2, e, c.in_err-life.ensures.full))
 
 pub invariant_of-core-2 : goal.invariant_of-core-2
 invariant_of-core-2 c =

@@ -3,9 +3,9 @@ use Rattle.std.specs.List.{All}
 use Rattle.std.specs.Option.{IfSome}
 use Rattle.std.proofs.lemmas.Result.{err_from_is_err_and}
 use Rattle.sweep_generation.specs.declared.set.CoreSet.{CoreSet}
-use Rattle.sweep_generation.specs.declared.moves.Claimed.{Claimed}
-use Rattle.sweep_generation.specs.State.{CoreState}
-use Rattle.sweep_generation.specs.Changes.{fill_cell}
+use Rattle.sweep_laws.specs.declared.moves.Claimed.{Claimed}
+use Rattle.sweep_laws.specs.State.{CoreState}
+use Rattle.sweep_laws.specs.Changes.{fill_cell}
 use Rattle.sweep_generation.proofs.Seen.{hand-changed, low-hand, kept-hand, kept-sets, items-whole}
 use Rattle.sweep_generation.proofs.moves_sets.fill.Goals as goal
 
@@ -15,7 +15,7 @@ returns-in_err-name_page c =
     let full = c.in_err-name_page.ensures.full c.core.inside.room (subst (λ (xs : List CoreSet). All (λ (x : CoreSet). c.core.inside.room ≤ x.cells.space) xs) (sym c.deref_mut.ensures.value) c.core.invariant.sets_room) in
     let e = ap (λ (s : CoreState). s.room) c.core.view_is in
     rw (p.1, p.2, items-whole c.core.inside.sets c.name_page.new.sets (c.name_page.auto.sets ∙ ap (λ (xs : List CoreSet). length xs) c.deref_mut.ensures.value), c.in_err-name_page.ensures.err, c.deref_mut.ensures.value)
-    (c.core.view_is, λ r. let low = subst (λ (o : Option Claimed). IfSome o (λ claim. claim.index < c.args.core.now.room)) c.in_ok-claim.ensures.claim r in omega (arith, full, e, low))
+    (c.in_ok-claim.ensures.tried, c.core.view_is, λ r. let low = subst (λ (o : Option Claimed). IfSome o (λ claim. claim.index < c.args.core.now.room)) c.in_ok-claim.ensures.claim r in omega (arith, full, e, low))
 
 pub invariant_of-core-2 : goal.invariant_of-core-2
 invariant_of-core-2 c =

@@ -1,9 +1,9 @@
 use Rattle.std.proofs.Common.{◌∙◌, length, sym, ap, refl, arith}
 use Rattle.std.proofs.lemmas.Result.{err_from_is_err_and}
 use Rattle.sweep_generation.proofs.Seen.{hand-changed, hand-same, hand-is, room-at, low-hand, low-set, kept-hand, kept-set, set-changed, set-is}
-use Rattle.sweep_generation.specs.State.{CoreState, HandState, SetState}
-use Rattle.sweep_generation.specs.Changes.{pop_entry, raise_head, head_base}
-use Rattle.sweep_generation.specs.declared.moves.Reply.TheVariants.{Base}
+use Rattle.sweep_laws.specs.State.{CoreState, HandState, SetState}
+use Rattle.sweep_laws.specs.Changes.{pop_entry, raise_head, head_base}
+use Rattle.sweep_laws.specs.declared.moves.Reply.TheVariants.{Base}
 use Rattle.sweep_generation.proofs.moves_sets.pop_unswept.Goals as goal
 
 pub invariant_of-core : goal.invariant_of-core
@@ -15,7 +15,7 @@ returns-in_err-pop_entry c =
     let k = room-at c.core.inside c.args.core.now c.core.view_is c.args.worker c.in_ok-try_pop_unswept.ensures.worker c.index_mut.result.now c.index_mut.ensures.value c.core.invariant in
     let e = ap (λ (h : HandState). length h.popped) (hand-is c.core.inside c.args.core.now c.core.view_is c.args.worker c.in_ok-try_pop_unswept.ensures.worker c.index_mut.result.now c.index_mut.ensures.value) in
     rw (p.1, p.2, hand-same c.core.inside c.args.core.now c.core.view_is c.args.worker c.index_mut.result.now c.pop_entry.new.self c.index_mut.ensures.value c.in_err-pop_entry.ensures.err)
-    (c.core.view_is, λ r. omega (arith, r, e, k.popped, c.in_err-pop_entry.ensures.full))
+    (c.in_ok-try_pop_unswept.ensures.tried, c.core.view_is, λ r. omega (arith, r, e, k.popped, c.in_err-pop_entry.ensures.full))
 
 pub raise_head-requires : goal.raise_head-requires
 raise_head-requires c =

@@ -1,6 +1,6 @@
 use Rattle.std.proofs.Common.{refl}
 use Rattle.sweep_generation.proofs.Seen.{hand-changed, low-hand, kept-hand}
-use Rattle.sweep_generation.specs.Changes.{drop_entry}
+use Rattle.sweep_laws.specs.Changes.{drop_entry}
 use Rattle.sweep_generation.proofs.moves_sweep.drop_popped.Goals as goal
 
 pub invariant_of-core : goal.invariant_of-core

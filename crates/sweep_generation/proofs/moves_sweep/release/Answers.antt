@@ -3,9 +3,9 @@ use Rattle.std.specs.Vec.{with_item}
 use Rattle.std.specs.List.{All}
 use Rattle.std.proofs.lemmas.Result.{err_from_is_err_and}
 use Rattle.sweep_generation.specs.declared.life.Life.{Life}
-use Rattle.sweep_generation.specs.State.{CoreState, HandState}
-use Rattle.sweep_generation.specs.Needs.{life_of}
-use Rattle.sweep_generation.specs.Changes.{end_sweep}
+use Rattle.sweep_laws.specs.State.{CoreState, HandState}
+use Rattle.sweep_laws.specs.Needs.{life_of}
+use Rattle.sweep_laws.specs.Changes.{end_sweep}
 use Rattle.sweep_generation.specs.Views.{LifeRoom}
 use Rattle.sweep_generation.proofs.Seen.{hand-changed, hand-same, hand-is, room-at, low-hand, kept-hand, kept-word, kept-lives, seen-hand, items-whole, full-end}
 use Rattle.std.proofs.Math.ListN.{length-set}
@@ -20,6 +20,7 @@ returns-in_err-reserve_end c =
     let k = room-at c.core.inside c.args.core.now c.core.view_is c.args.worker c.in_ok-try_release.ensures.worker c.index_mut.result.now c.index_mut.ensures.value c.core.invariant in
     let e = hand-is c.core.inside c.args.core.now c.core.view_is c.args.worker c.in_ok-try_release.ensures.worker c.index_mut.result.now c.index_mut.ensures.value in
     rw (p.1, p.2, hand-same c.core.inside c.args.core.now c.core.view_is c.args.worker c.index_mut.result.now c.reserve_end.new.self c.index_mut.ensures.value c.reserve_end.ensures.view) (
+      c.in_ok-try_release.ensures.tried,
       c.core.view_is,
       λ r. full-end c.args.core.now.room c.index_mut.result.now k c.in_err-reserve_end.ensures.full
           (subst (λ (h : HandState). length h.held < c.args.core.now.room) e r.0) (subst (λ (h : HandState). length h.swept < c.args.core.now.room) e r.1),
@@ -37,7 +38,7 @@ returns-in_err-keep_marked c =
     let full = (rw c.deref_mut.ensures.value at c.in_err-keep_marked.ensures.full) rooms in
     let short = subst (λ (s : CoreState). (life_of s c.args.page).count < length (life_of s c.args.page).kept) c.core.view_is full in
     rw (p.1, p.2, hand-same c.core.inside c.args.core.now c.core.view_is c.args.worker c.index_mut.result.now c.reserve_end.new.self c.index_mut.ensures.value c.reserve_end.ensures.view, items-whole c.core.inside.lives c.keep_marked.new.lives (c.keep_marked.auto.lives ∙ ap (λ (xs : List Life). length xs) c.deref_mut.ensures.value), c.in_err-keep_marked.ensures.err, c.deref_mut.ensures.value)
-    (c.core.view_is, λ r. omega (arith, r.2, short))
+    (c.in_ok-try_release.ensures.tried, c.core.view_is, λ r. omega (arith, r.2, short))
 
 pub invariant_of-core-2 : goal.invariant_of-core-2
 invariant_of-core-2 c =

@@ -1,5 +1,5 @@
 use Rattle.std.proofs.Common.{◌≡◌}
-use Rattle.sweep_generation.specs.Lists.{put_run}
+use Rattle.sweep_laws.specs.Lists.{put_run}
 use Rattle.sweep_generation.proofs.owners.put_owner.Given as goal
 
 abbrev pub invariant-loop-k : goal.invariant-loop-k

@@ -1,5 +1,6 @@
 use Rattle.std.proofs.Common.{rules, ◌≡◌, Ok, Err}
-use Rattle.sweep_generation.proofs.StepsKept.{ran_end, ran_more, ran_stops, runs_owned, runs_once}
+use Rattle.sweep_laws.proofs.StepsKept.{ran_end, ran_more, ran_stops, runs_owned, runs_once}
+use Rattle.sweep_laws.proofs.MemoryKept.{runs_room, runs_tidy, runs_space, runs_memory}
 use Rattle.sweep_generation.proofs.run.run_moves.Goals as goal
 
 pub loop-mv-preserved : goal.loop-mv-preserved
@@ -12,6 +13,18 @@ returns-in_err-step_by-clause-exact c = let e : c.from_residual.result ≡ Err c
 pub returns-in_err-step_by-clause-owned : goal.returns-in_err-step_by-clause-owned
 returns-in_err-step_by-clause-owned c = runs_owned _ _ _ _ (returns-in_err-step_by-clause-exact c)
 
+pub returns-in_err-step_by-clause-tidy : goal.returns-in_err-step_by-clause-tidy
+returns-in_err-step_by-clause-tidy c = runs_tidy _ _ _ _ (returns-in_err-step_by-clause-exact c)
+
+pub returns-in_err-step_by-clause-room : goal.returns-in_err-step_by-clause-room
+returns-in_err-step_by-clause-room c = runs_room _ _ _ _ (returns-in_err-step_by-clause-exact c)
+
+pub returns-in_err-step_by-clause-space : goal.returns-in_err-step_by-clause-space
+returns-in_err-step_by-clause-space c = runs_space _ _ _ _ (returns-in_err-step_by-clause-exact c)
+
+pub returns-in_err-step_by-clause-memory : goal.returns-in_err-step_by-clause-memory
+returns-in_err-step_by-clause-memory c = runs_memory _ _ _ _ (returns-in_err-step_by-clause-exact c)
+
 pub returns-clause-exact : goal.returns-clause-exact
 returns-clause-exact c = ran_end _ _ _ _ c.as_slice-mv-items.ensures _ c.loop-mv.invariant c.loop-mv-test.false
 
@@ -20,3 +33,15 @@ returns-clause-owned c = runs_owned c.args.core.now c.loop-mv.core c.args.moves.
 
 pub returns-clause-once : goal.returns-clause-once
 returns-clause-once c = runs_once c.args.core.now c.loop-mv.core c.args.moves.now (Ok tt) (returns-clause-exact c)
+
+pub returns-clause-tidy : goal.returns-clause-tidy
+returns-clause-tidy c = runs_tidy c.args.core.now c.loop-mv.core c.args.moves.now (Ok tt) (returns-clause-exact c)
+
+pub returns-clause-room : goal.returns-clause-room
+returns-clause-room c = runs_room c.args.core.now c.loop-mv.core c.args.moves.now (Ok tt) (returns-clause-exact c)
+
+pub returns-clause-space : goal.returns-clause-space
+returns-clause-space c = runs_space c.args.core.now c.loop-mv.core c.args.moves.now (Ok tt) (returns-clause-exact c)
+
+pub returns-clause-memory : goal.returns-clause-memory
+returns-clause-memory c = runs_memory c.args.core.now c.loop-mv.core c.args.moves.now (Ok tt) (returns-clause-exact c)

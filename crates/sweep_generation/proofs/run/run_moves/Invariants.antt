@@ -1,5 +1,5 @@
 use Rattle.std.proofs.Common.{take}
-use Rattle.sweep_generation.proofs.StepsKept.{Ran}
+use Rattle.sweep_laws.proofs.StepsKept.{Ran}
 use Rattle.sweep_generation.proofs.run.run_moves.Given as goal
 
 abbrev pub invariant-loop-mv : goal.invariant-loop-mv

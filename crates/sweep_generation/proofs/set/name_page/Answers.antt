@@ -1,7 +1,7 @@
 use Rattle.std.proofs.Common.{get_or, refl, rules}
 use Rattle.sweep_generation.specs.declared.set.CoreSet.{CoreSet}
-use Rattle.sweep_generation.specs.Needs.{no_set}
-use Rattle.sweep_generation.specs.Changes.{name_page}
+use Rattle.sweep_laws.specs.Needs.{no_set}
+use Rattle.sweep_laws.specs.Changes.{name_page}
 use Rattle.sweep_generation.specs.Views.{set_view}
 use Rattle.sweep_generation.proofs.Maps.{map-changed}
 use Rattle.sweep_generation.proofs.set.name_page.Goals as goal

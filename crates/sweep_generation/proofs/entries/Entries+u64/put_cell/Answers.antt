@@ -1,7 +1,7 @@
 use Rattle.std.proofs.Common.{ℕ, ◌+◌, ◌≤◌, List, [], ◌∷◌, ◌++◌, length, sym, ap, refl, ◌∙◌, arith, rules, vec_capacity}
 use Rattle.std.proofs.lemmas.List.{take_all}
 use Rattle.sweep_generation.specs.Room.{Roomy}
-use Rattle.sweep_generation.specs.Lists.{put_cell}
+use Rattle.sweep_laws.specs.Lists.{put_cell}
 use Rattle.sweep_generation.proofs.Cells.{put-within, put-beyond}
 use Rattle.sweep_generation.proofs.entries.Entries+u64.put_cell.Goals as goal
 

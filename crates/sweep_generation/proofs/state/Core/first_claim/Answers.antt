@@ -1,7 +1,7 @@
 use Rattle.std.proofs.Common.{sym}
 use Rattle.std.specs.Option.{is_some}
 use Rattle.sweep_generation.proofs.Maps.{copied-map, find-map}
-use Rattle.sweep_generation.specs.State.{HandState}
+use Rattle.sweep_laws.specs.State.{HandState}
 use Rattle.sweep_generation.specs.Views.{hand_view}
 use Rattle.sweep_generation.proofs.state.Core.first_claim.Goals as goal
 

@@ -1,6 +1,6 @@
 use Rattle.std.proofs.Common.{◌==◌, sym}
 use Rattle.sweep_generation.proofs.Maps.{copied-map, find-map}
-use Rattle.sweep_generation.specs.State.{LifeState}
+use Rattle.sweep_laws.specs.State.{LifeState}
 use Rattle.sweep_generation.specs.Views.{life_view}
 use Rattle.sweep_generation.proofs.state.Core.life.Goals as goal
 

@@ -1,14 +1,16 @@
-use Rattle.std.proofs.Common.{◌≤◌, List, refl, sym, subst, arith, rules}
+use Rattle.std.proofs.Common.{◌≤◌, List, refl, sym, ap, subst, arith, rules}
 use Rattle.std.specs.List.{All, range_with_len}
 use Rattle.std.proofs.lemmas.List.Elements.{All-map, All-nil}
 use Rattle.std.proofs.lemmas.List.FromFn.{length-map-range_with_len}
 use Rattle.sweep_generation.specs.declared.hand.CoreHand.{CoreHand}
 use Rattle.sweep_generation.specs.declared.life.Life.{Life}
 use Rattle.sweep_generation.specs.declared.set.CoreSet.{CoreSet}
-use Rattle.sweep_generation.specs.Start.{bare_hand, bare_set}
+use Rattle.sweep_generation.specs.Bare.{bare_hand, bare_set}
 use Rattle.sweep_generation.specs.Views.{hand_view, set_view, HandRoom, LifeRoom}
 use Rattle.sweep_generation.proofs.Maps.{map-const}
-use Rattle.sweep_generation.proofs.NewOwned.{owned_as}
+use Rattle.sweep_laws.proofs.NewOwned.{owned_as}
+use Rattle.sweep_laws.proofs.MemoryKept.{start_tidy, start_tails}
+use Rattle.sweep_laws.specs.State.{CoreState}
 use Rattle.sweep_generation.proofs.state.Core.new.Goals as goal
 
 pub invariant_of-result : goal.invariant_of-result
@@ -29,3 +31,9 @@ returns-clause-state c =
 
 pub returns-clause-owned : goal.returns-clause-owned
 returns-clause-owned c = owned_as _ c.args.pages c.args.workers (returns-clause-state c)
+
+pub returns-clause-tidy : goal.returns-clause-tidy
+returns-clause-tidy c = let e = returns-clause-state c in start_tidy _ c.args.workers (ap (λ (s : CoreState). s.hands) e) (ap (λ (s : CoreState). s.lives) e)
+
+pub returns-clause-tails : goal.returns-clause-tails
+returns-clause-tails c = start_tails _ c.args.pages c.args.workers (returns-clause-state c)

@@ -1,0 +1,88 @@
+-- PopUnswept and DropPopped keep the rule.
+use Rattle.std.proofs.Common.{◌≡◌, ◌≢◌, ℕ, suc, ◌+◌, ◌<◌, ◌⊎◌, inl, inr, ⊎_elim, Bool, true, false, true≢false, eqb, List, length, set, get_or, sym, refl, ap, ◌∙◌, subst, arith}
+use Rattle.std.specs.Prelude.{Option}
+use mathlib.Core.Logic.{dite}
+use mathlib.Core.Option.{some}
+use lib.ListN.{get_elem?}
+use native.Mathlib.Decide.{ℕ_discrete}
+use Rattle.sweep_laws.specs.declared.moves.Claimed.{Claimed}
+use Rattle.sweep_laws.specs.State.{LifeState, SetState, HandState}
+use Rattle.sweep_laws.specs.Needs.{cell_of, class_of_set, is_swept_set}
+use Rattle.sweep_laws.specs.Changes.{pop_entry, drop_entry, raise_head}
+use Rattle.sweep_laws.specs.Counts.{one_if, times}
+use Rattle.sweep_laws.specs.Named.{only, names_in, is_class}
+use Rattle.sweep_laws.specs.Owned.{ClaimFits}
+use Rattle.sweep_laws.specs.Standing.{tally, Page, Kept}
+use Rattle.sweep_laws.proofs.Totals.{same_one, other_one, times_end, times_end_else}
+use Rattle.sweep_laws.proofs.Naming.{times_erase_le, times_erase_else, at_set}
+use Rattle.sweep_laws.proofs.Unpopped.{head_between}
+use Rattle.sweep_laws.proofs.Lives.{same_alike}
+use Rattle.sweep_laws.proofs.Standings.{unswept_word, page_entries}
+use Rattle.sweep_laws.proofs.Deltas.{deltas}
+use Rattle.sweep_laws.proofs.Turned.{turned, claimers_kept}
+use Rattle.sweep_laws.proofs.Reset.{set_deltas, claim_reset, sets_reset}
+
+pub only_step : (b : Bool) (x y : ℕ) → x ≡ suc y → (only b x ≡ suc (only b y)) ⊎ ((only b x ≡ 0) × (only b y ≡ 0))
+only_step true x y e = inl e
+only_step false x y e = inr (refl, refl)
+
+module _ (g : ℕ) (ws : List ℕ) (os : List (Option ℕ)) (ls : List LifeState) (ss : List SetState) (hs : List HandState) (k : Kept g ws os ls ss hs) (n : ℕ) (h : HandState) (at : get_elem? hs n ≡ some h) (p : ℕ) (low : p < length ws) where
+  pub drop_popped_keeps : get_or ws p 0 + 2 ≢ g → Kept g ws os ls ss (set hs n (drop_entry p h))
+  drop_popped_keeps other = let h' : HandState = drop_entry p h in let d = deltas hs n h h' at p in
+      turned g ws os ls ss hs n h h' at k p ws ls refl (λ q o. refl) (λ _. refl) (same_alike ls) k.objects
+      record { sweeping = λ q o. refl; held = λ q o. refl; cached = λ q o. refl; popped = λ q o. times_erase_else q p h.popped o; swept = λ q o. refl }
+      refl (λ x e. (k.sets_fit.claim n h at x e).held)
+      (λ _. page_entries g (tally g ws ls ss hs p) (tally g ws ls ss (set hs n h') p) (k.page p low) refl (omega arith) (omega arith) (omega arith) refl
+      (λ e. absurd (other e)) (let a = times_erase_le p h.popped in let w = (k.page p low).waiting in omega arith) (omega arith))
+
+  pub pop_unswept_keeps : (j : ℕ) (s : SetState) → get_elem? ss j ≡ some s → is_swept_set g j ≡ false → s.head < s.tail → cell_of s s.head ≡ p + 1
+      → Kept g ws os ls (set ss j (raise_head s)) (set hs n (pop_entry p h))
+  pop_unswept_keeps j s there part more here = record {
+    generation = k.generation;
+    lives_fit = k.lives_fit;
+    page = λ q l. dite (ℕ_discrete q p) (λ e. subst (λ (z : ℕ). Page g (tally g ws ls ss' hs' z)) (sym e) here_page) (λ o. else_page q o l);
+    sets_fit = sets_reset g (length ws) ls ss hs hs' j s s' there k.sets_fit (omega arith) (k.sets_fit.beyond j s there)
+        (λ e i l m. k.sets_fit.unswept_cell j s there e i (omega arith) m)
+        (λ e i l m. absurd (true≢false (sym e ∙ part)))
+        (λ x i o. claimers_kept x i hs n h h' at refl)
+        (λ m x a d e. ⊎_elim
+        (λ (t : (m ≡ n) × (h' ≡ x)). let was = ap (λ (z : HandState). z.claimed) t.1 ∙ e in
+        subst (λ (z : HandState). ClaimFits g (length ws) ls ss' z d) t.1 (claim_kept h h' d (k.sets_fit.claim n h at d was) (k.sets_fit.claim n h at d was).held))
+        (λ (t : (m ≢ n) × (get_elem? hs m ≡ some x)). let c = k.sets_fit.claim m x t.1 d e in claim_kept x x d c c.held)
+        (at_set hs n m h' x a));
+    objects = k.objects;
+  }
+    where
+      h' : HandState
+      h' = pop_entry p h
+
+      s' : SetState
+      s' = raise_head s
+
+      hs' : List HandState
+      hs' = set hs n h'
+
+      ss' : List SetState
+      ss' = set ss j s'
+
+      claim_kept : (x y : HandState) (d : Claimed) → ClaimFits g (length ws) ls ss x d → 0 < times d.page y.held → ClaimFits g (length ws) ls ss' y d
+      claim_kept x y d c held = claim_reset g (length ws) ls ss hs hs' j s s' there x y d c (λ e a b z. absurd (true≢false (sym c.is_swept ∙ ap (is_swept_set g) e ∙ part))) held
+
+      else_page : (q : ℕ) → q ≢ p → q < length ws → Page g (tally g ws ls ss' hs' q)
+      else_page q o l = let d = deltas hs n h h' at q in let e = set_deltas g q ls ss j s s' false there part in let r = k.page q l in let w = r.waiting in
+          let c = head_between (cell_of s) (q + 1) s.head s.tail more in let f = ap (λ (z : ℕ). one_if (eqb z (q + 1))) here in let z = other_one (p + 1) (q + 1) (λ x. o (omega arith)) in
+          let a = times_end_else q p h.popped o in let y : names_in q s ≡ names_in q s' = omega arith in
+          let m = ap (only (is_class q (class_of_set j) ls)) y in
+          page_entries g (tally g ws ls ss hs q) (tally g ws ls ss' hs' q) r refl (omega arith) (omega arith) (omega arith) (omega arith)
+          (λ x. let u = (unswept_word g (tally g ws ls ss hs q) k.generation.low r.standing x).1 in omega arith) (omega arith) (omega arith)
+
+      here_page : Page g (tally g ws ls ss' hs' p)
+      here_page = let d = deltas hs n h h' at p in let e = set_deltas g p ls ss j s s' false there part in let r = k.page p low in let w = r.waiting in
+          let c = head_between (cell_of s) (p + 1) s.head s.tail more in let f = ap (λ (z : ℕ). one_if (eqb z (p + 1))) here in let z = same_one (p + 1) in
+          let a = times_end p h.popped in let y : names_in p s ≡ suc (names_in p s') = omega arith in
+          page_entries g (tally g ws ls ss hs p) (tally g ws ls ss' hs' p) r refl (omega arith) (omega arith) (omega arith) (omega arith)
+          (λ x. let u = (unswept_word g (tally g ws ls ss hs p) k.generation.low r.standing x).1 in
+          ⊎_elim (λ (t : only (is_class p (class_of_set j) ls) (names_in p s) ≡ suc (only (is_class p (class_of_set j) ls) (names_in p s'))). omega arith)
+          (λ (t : (only (is_class p (class_of_set j) ls) (names_in p s) ≡ 0) × (only (is_class p (class_of_set j) ls) (names_in p s') ≡ 0)). let g₀ = e.gap in let t₀ = t.0 in absurd (omega arith))
+          (only_step (is_class p (class_of_set j) ls) (names_in p s) (names_in p s') y))
+          (omega arith) (omega arith)

@@ -1,0 +1,15 @@
+pub mod State
+pub mod Lists
+pub mod Roles
+pub mod Needs
+pub mod Changes
+pub mod Step
+pub mod Tries
+pub mod Counts
+pub mod Named
+pub mod Owned
+pub mod Standing
+pub mod Run
+pub mod Once
+pub mod Start
+pub mod Tidy
