@@ -1,51 +1,70 @@
 #!/usr/bin/env bash
-# Measures `goheap run` beside `wc -l` and an awk sum, in one run on one machine. Each time is the median of nine,
-# less the median of nine for a trace without objects.
+# Measures `goheap run` beside `wc -l` and an awk sum, in one run on one machine, and how its time grows with the trace.
+# Each time is the median of nine, less the median of nine for a trace without objects.
 set -eu
 
 cd "$(dirname "$(readlink -f "$0")")/.."
 folder=$(mktemp -d)
 trap 'rm -rf "$folder"' EXIT
 rounds=9
+counts='10000 100000 1000000'
 
-# A trace of this many objects of 1 to 512 bytes, which all find room.
+# make_trace CHUNKS: a trace on so many chunks, with the allocations that the input has.
 make_trace() {
-  awk -v objects="$1" 'BEGIN {
-    print "goheap 1"
-    print "heap 128 procs 1 rate 0 seed 1 goal 65536"
-    for (i = 0; i < objects; i++)
-      print "a 0 " 1 + (i * 7919) % 512, (i % 3 ? "s" : "n"), i % 1000
-    print "end"
-  }'
+  echo "goheap 1"
+  echo "heap $1 procs 1 rate 0 seed 1 goal 65536"
+  cat
+  echo "end"
 }
 
-for objects in 0 10000 100000 1000000; do
-  make_trace $objects >"$folder/$objects"
+# Objects of 1 to 512 bytes, which all find room.
+small_sizes() {
+  awk -v objects="$1" 'BEGIN { for (i = 0; i < objects; i++) print "a 0 " 1 + (i * 7919) % 512, (i % 3 ? "s" : "n"), i % 1000 }' | make_trace 128
+}
+
+# Objects of 512 bytes, sixteen of which fill a span of one page: 1,000,000 of them take 62500 of the 65536 pages.
+one_page_spans() {
+  awk -v objects="$1" 'BEGIN { for (i = 0; i < objects; i++) print "a 0 512 n 1" }' | make_trace 128
+}
+
+# One large object that fills the region, and then misses alone.
+misses() {
+  awk -v objects="$1" 'BEGIN { if (objects) print "a 0 4194304 n 1"; for (i = 1; i < objects; i++) print "a 0 8 n 1" }' | make_trace 1
+}
+
+kinds='small_sizes one_page_spans misses'
+for kind in $kinds; do
+  for objects in 0 $counts; do
+    $kind $objects >"$folder/$kind.$objects"
+  done
 done
 
 run_goheap() { ./goheap run <"$1" >/dev/null; }
 run_wc() { wc -l <"$1" >/dev/null; }
 run_awk() { awk '{ s += $3 } END { print s }' <"$1" >/dev/null; }
 
-# The microseconds that a command takes on a file.
+# The microseconds that a command takes on a trace.
 time_of() {
   local start=${EPOCHREALTIME/./}
   "run_$1" "$folder/$2"
   local end=${EPOCHREALTIME/./}
-  echo $((end - start)) >>"$folder/$1.$2"
+  echo $((end - start)) >>"$folder/$1.$2.times"
 }
 
-median() { sort -n "$folder/$1.$2" | sed -n "$(((rounds + 1) / 2))p"; }
-net() { echo $(($(median "$1" "$2") - $(median "$1" 0))); }
+median() { sort -n "$folder/$1.$2.times" | sed -n "$(((rounds + 1) / 2))p"; }
+net() { echo $(($(median "$1" "$2.$3") - $(median "$1" "$2.0"))); }
 
-run_goheap "$folder/0" # built, if need be, before anything is timed
+run_goheap "$folder/small_sizes.0" # built, if need be, before anything is timed
 for ((round = 0; round < rounds; round++)); do
-  for tool in goheap wc awk; do
-    time_of $tool 0
-    time_of $tool 1000000
+  for tool in wc awk; do
+    time_of $tool small_sizes.0
+    time_of $tool small_sizes.1000000
   done
-  time_of goheap 10000
-  time_of goheap 100000
+  for kind in $kinds; do
+    for objects in 0 $counts; do
+      time_of goheap "$kind.$objects"
+    done
+  done
 done
 
 # The most memory that the program had, in bytes.
@@ -54,16 +73,17 @@ peak() {
   echo $(($(cat "$folder/peak") * 1024))
 }
 
-goheap=$(net goheap 1000000)
-awk -v goheap="$goheap" -v wc="$(net wc 1000000)" -v awk="$(net awk 1000000)" 'BEGIN {
+awk -v goheap="$(net goheap small_sizes 1000000)" -v wc="$(net wc small_sizes 1000000)" -v awk="$(net awk small_sizes 1000000)" 'BEGIN {
   printf "goheap run on 1,000,000 objects: %.3f s\n", goheap / 1000000
   printf "ratio to wc -l: %.2f\n", goheap / wc
   printf "ratio to an awk sum of the sizes: %.2f\n", goheap / awk
 }'
-for objects in 10000 100000 1000000; do
-  awk -v time="$(net goheap $objects)" -v objects=$objects \
-    'BEGIN { printf "at %d lines: %.0f ns a line\n", objects, 1000 * time / objects }'
+for kind in $kinds; do
+  for objects in $counts; do
+    awk -v kind=$kind -v time="$(net goheap $kind $objects)" -v objects=$objects \
+      'BEGIN { printf "%s, %d objects: %.0f ns an object\n", kind, objects, 1000 * time / objects }'
+  done
 done
-empty=$(peak 0)
-full=$(peak 1000000)
+empty=$(peak small_sizes.0)
+full=$(peak small_sizes.1000000)
 awk -v bytes=$((full - empty)) 'BEGIN { printf "memory: %.1f bytes an object beyond an empty trace\n", bytes / 1000000 }'
