@@ -1,24 +1,23 @@
 -- A core as its view shows it: what the view shows, and what the core keeps, after one of its parts changed.
-use Rattle.std.proofs.Common.{◌≡◌, ℕ, ◌+◌, ◌<◌, ◌≤◌, List, length, get_or, set, map, refl, sym, ap, subst, ◌∙◌, ◌^◌, ◌⊎◌, inl, inr, [], ◌∷◌, ◌++◌, take, drop, Option, vec_capacity, arith}
+use Rattle.std.proofs.Common.{◌≡◌, ℕ, ◌+◌, ◌<◌, ◌≤◌, List, length, get_or, set, map, refl, sym, ap, subst, ◌∙◌, ◌^◌, ◌⊎◌, inl, inr, [], ◌∷◌, ◌++◌, take, drop, Option, arith}
 use Rattle.std.proofs.lemmas.List.{length-map, get_or-map}
 use Rattle.std.proofs.Math.ListN.{length-set}
+use Rattle.std.proofs.Math.Nat.{le_trans, le_of_eq}
 use Rattle.std.proofs.Math.Seq.{map-set_same}
 use Rattle.std.proofs.lemmas.List.Elements.{All-set, All-take, All-drop, All-append}
 use Rattle.std.specs.Vec.{with_item, with_items}
 use Rattle.std.specs.declared.vec.Vec.{Vec}
 use Rattle.std.specs.List.{All}
 use Rattle.std.specs.declared.alloc.Global.{Global}
-use Rattle.sweep_generation.specs.Room.{Roomy}
-use Rattle.sweep_generation.specs.declared.life.Life.{Life}
+use Rattle.sweep_lists.specs.Room.{Roomy}
 use Rattle.sweep_generation.specs.declared.state.Core.TheInside.{Inside}
-use Rattle.sweep_generation.specs.declared.hand.CoreHand.{CoreHand}
-use Rattle.sweep_generation.specs.declared.set.CoreSet.{CoreSet}
-use Rattle.sweep_generation.specs.declared.spare.Spare.{Spare}
-use Rattle.sweep_laws.specs.State.{CoreState, HandState, SetState}
+use Rattle.sweep_lists.specs.declared.hand.CoreHand.{CoreHand}
+use Rattle.sweep_lists.specs.declared.set.CoreSet.{CoreSet}
+use Rattle.sweep_laws.specs.State.{CoreState, HandState, LifeState, SetState}
 use Rattle.sweep_laws.specs.Needs.{no_hand, no_set, hand_of, set_of}
-use Rattle.sweep_generation.specs.Views.{hand_view, set_view, HandRoom, LifeRoom}
+use Rattle.sweep_lists.specs.Views.{hand_view, set_view, HandRoom}
 use Rattle.sweep_generation.specs.Kept.{core_view, IsKept}
-use Rattle.sweep_generation.proofs.Maps.{map-changed}
+use Rattle.sweep_lists.proofs.Maps.{map-changed}
 
 -- what a hand that changed keeps of its room
 abbrev pub KeepsRoom : CoreHand → CoreHand → Type 0
@@ -80,7 +79,6 @@ kept-hand c w low old new at keeps k = record {
   hands_room = All-set (HandRoom c.room) c.hands.items w new
       (keeps c.room (subst (λ (h : CoreHand). HandRoom c.room h) (sym at) (k.hands_room w old low))) k.hands_room;
   sets_room = k.sets_room;
-  life_room = k.life_room;
 }
 
 pub kept-set : (c : Inside) (s : ℕ) → s < length c.sets.items → (old new : CoreSet) → old ≡ get_or c.sets.items s old → new.cells ≡ old.cells
@@ -94,7 +92,6 @@ kept-set c s low old new at same k = record {
   hands_room = k.hands_room;
   sets_room = All-set (λ (x : CoreSet). c.room ≤ x.cells.space) c.sets.items s new
       (subst (λ (x : Roomy ℕ). c.room ≤ x.space) (sym same) (subst (λ (x : CoreSet). c.room ≤ x.cells.space) (sym at) (k.sets_room s old low))) k.sets_room;
-  life_room = k.life_room;
 }
 
 take-append : {X : Type 0} (xs ys : List X) → take (length xs) (xs ++ ys) ≡ xs
@@ -122,20 +119,23 @@ kept-owners c ws k = record {
   lives_room = k.lives_room;
   hands_room = k.hands_room;
   sets_room = k.sets_room;
-  life_room = k.life_room;
 }
 
-pub kept-all-lives : (c : Inside) (v : Vec Life Global) → c.room ≤ vec_capacity v → All LifeRoom v.items → IsKept c → IsKept (record c { lives = v })
-kept-all-lives c v room all k = record {
+-- the lives have at least the room that they had
+pub kept-lives : (c : Inside) (lives : Roomy LifeState) → c.lives.space ≤ lives.space → IsKept c → IsKept (record c { lives = lives })
+kept-lives c lives grows k = record {
   generation = k.generation;
   pages = k.pages;
   owners = k.owners;
   workers = k.workers;
-  lives_room = room;
+  lives_room = le_trans k.lives_room grows;
   hands_room = k.hands_room;
   sets_room = k.sets_room;
-  life_room = all;
 }
+
+-- the lives have the room that they had
+pub kept-same-room : (c : Inside) (lives : Roomy LifeState) (items : List LifeState) → lives ≡ record c.lives { items = items } → IsKept c → IsKept (record c { lives = lives })
+kept-same-room c lives items is k = kept-lives c lives (le_of_eq (sym (ap (λ (x : Roomy LifeState). x.space) is))) k
 
 pub kept-sets : (c : Inside) (ws : List CoreSet) → All (λ (x : CoreSet). c.room ≤ x.cells.space) ws → IsKept c → IsKept (record c { sets = with_items c.sets ws })
 kept-sets c ws room k = record {
@@ -147,19 +147,6 @@ kept-sets c ws room k = record {
   hands_room = k.hands_room;
   sets_room = All-take (λ (x : CoreSet). c.room ≤ x.cells.space) c.sets.len _
       (All-append (λ (x : CoreSet). c.room ≤ x.cells.space) ws _ room (All-drop (λ (x : CoreSet). c.room ≤ x.cells.space) (length ws) c.sets.items k.sets_room));
-  life_room = k.life_room;
-}
-
-pub kept-lives : (c : Inside) (ws : List Life) → All LifeRoom ws → IsKept c → IsKept (record c { lives = with_items c.lives ws })
-kept-lives c ws room k = record {
-  generation = k.generation;
-  pages = k.pages;
-  owners = k.owners;
-  workers = k.workers;
-  lives_room = k.lives_room;
-  hands_room = k.hands_room;
-  sets_room = k.sets_room;
-  life_room = All-take LifeRoom c.lives.len _ (All-append LifeRoom ws _ room (All-drop LifeRoom (length ws) c.lives.items k.life_room));
 }
 
 pub kept-word : (c : Inside) (page word : ℕ) → IsKept c → IsKept (record c { words = with_item c.words page word })
@@ -171,10 +158,9 @@ kept-word c page word k = record {
   lives_room = k.lives_room;
   hands_room = k.hands_room;
   sets_room = k.sets_room;
-  life_room = k.life_room;
 }
 
-pub kept-spare : (c : Inside) (spare : Spare) → IsKept c → IsKept (record c { spare = spare })
+pub kept-spare : (c : Inside) (spare : ℕ) → IsKept c → IsKept (record c { spare = spare })
 kept-spare c spare k = record {
   generation = k.generation;
   pages = k.pages;
@@ -183,7 +169,6 @@ kept-spare c spare k = record {
   lives_room = k.lives_room;
   hands_room = k.hands_room;
   sets_room = k.sets_room;
-  life_room = k.life_room;
 }
 
 pub kept-generation : (c : Inside) (g : ℕ) → g + 3 < 2 ^ 64 → IsKept c → IsKept (record c { generation = g })
@@ -195,7 +180,6 @@ kept-generation c g low k = record {
   lives_room = k.lives_room;
   hands_room = k.hands_room;
   sets_room = k.sets_room;
-  life_room = k.life_room;
 }
 
 pub kept-hands : (c : Inside) (ws : List CoreHand) → All (HandRoom c.room) ws → IsKept c → IsKept (record c { hands = with_items c.hands ws })
@@ -207,5 +191,4 @@ kept-hands c ws room k = record {
   lives_room = k.lives_room;
   hands_room = All-take (HandRoom c.room) c.hands.len _ (All-append (HandRoom c.room) ws _ room (All-drop (HandRoom c.room) (length ws) c.hands.items k.hands_room));
   sets_room = k.sets_room;
-  life_room = k.life_room;
 }

@@ -1,21 +1,21 @@
 -- What each core keeps.
-use Rattle.std.specs.Prelude.{◌≤◌, ◌<◌, ◌+◌, ◌^◌, ◌≡◌, length, map, vec_capacity}
+use Rattle.std.specs.Prelude.{◌≤◌, ◌<◌, ◌+◌, ◌^◌, ◌≡◌, length, map}
 use Rattle.std.specs.List.{All}
 use Rattle.sweep_generation.specs.declared.state.Core.TheInside.{Inside}
 use Rattle.sweep_laws.specs.State.{CoreState}
-use Rattle.sweep_generation.specs.Views.{hand_view, life_view, set_view, HandRoom, LifeRoom}
+use Rattle.sweep_lists.specs.Views.{hand_view, set_view, HandRoom}
 
 abbrev pub core_view : Inside → CoreState
 core_view c = record {
   generation = c.generation;
   words = c.words.items;
   owners = c.owners.items;
-  lives = map life_view c.lives.items;
+  lives = c.lives.items;
   sets = map set_view c.sets.items;
   lock = c.lock;
   hands = map hand_view c.hands.items;
   room = c.room;
-  prepared = c.spare.count;
+  prepared = c.spare;
 }
 
 -- sizes fit the numbers that name their entries, and all that has room has it
@@ -24,7 +24,6 @@ pub record IsKept (c : Inside) : Type 0 where
   pub pages : length c.words.items < 2 ^ 32
   pub owners : length c.owners.items ≡ length c.words.items
   pub workers : length c.hands.items < 2 ^ 32
-  pub lives_room : c.room ≤ vec_capacity c.lives
+  pub lives_room : c.room ≤ c.lives.space
   pub hands_room : All (HandRoom c.room) c.hands.items
   pub sets_room : All (λ s. c.room ≤ s.cells.space) c.sets.items
-  pub life_room : All LifeRoom c.lives.items

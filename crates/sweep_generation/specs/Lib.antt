@@ -1,8 +1,6 @@
-pub mod Room
-pub mod Views
 pub mod Kept
-pub mod Loops
-pub mod Bare
+pub use Rattle.sweep_lists.specs.Room
+pub use Rattle.sweep_lists.specs.Views
 pub use Rattle.sweep_laws.specs.State
 pub use Rattle.sweep_laws.specs.Lists
 pub use Rattle.sweep_laws.specs.Roles

@@ -1,7 +1,6 @@
 ghost use Rattle.std.specs.Prelude.{◌≡◌};
 ghost use Rattle.sweep_laws.specs.Step.{Steps};
 
-use crate::life::allocate_index;
 use crate::state::Core;
 use sweep_laws::{Move, Reply, StepFault};
 
@@ -35,6 +34,6 @@ pub(crate) fn allocate(
     ensures { Steps core.old core.new (Move.Allocate worker page index) result }
 {
     core.try_allocate(worker, page, index)?;
-    allocate_index(&mut core.lives, page, index)?;
+    core.lives.allocate(page, index)?;
     Ok(Reply::Done)
 }

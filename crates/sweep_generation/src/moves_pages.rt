@@ -1,7 +1,6 @@
 ghost use Rattle.std.specs.Prelude.{◌≡◌};
 ghost use Rattle.sweep_laws.specs.Step.{Steps};
 
-use crate::life::{drop_life, push_life, reserve_life};
 use crate::owners::put_owner;
 use crate::state::Core;
 use sweep_laws::{Move, Reply, StepFault};
@@ -18,10 +17,10 @@ pub(crate) fn take(
     ensures { Steps core.old core.new (Move.Take worker page pages count class) result }
 {
     core.try_take(worker, page, pages, count, class)?;
-    reserve_life(&mut core.lives)?;
+    core.lives.reserve_one()?;
     core.hands[worker as usize].reserve_held()?;
     let life = core.spare.make(core.alloc, page, pages, count, class)?;
-    push_life(&mut core.lives, life);
+    core.lives.push(life);
     core.hands[worker as usize].take_hold(page);
     put_owner(&mut core.owners, page, pages, Some(page));
     core.words[page as usize] = core.generation;
@@ -34,7 +33,7 @@ pub(crate) fn give(core: &mut Core, worker: u32, page: u32) -> Result<Reply, Ste
 {
     core.try_give(worker, page)?;
     core.hands[worker as usize].let_go(page);
-    let pages = drop_life(&mut core.lives, page);
+    let pages = core.lives.drop_life(page);
     put_owner(&mut core.owners, page, pages, None);
     core.words[page as usize] = 0;
     Ok(Reply::Done)

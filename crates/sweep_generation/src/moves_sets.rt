@@ -1,9 +1,9 @@
 ghost use Rattle.std.specs.Prelude.{◌≡◌};
 ghost use Rattle.sweep_laws.specs.Step.{Steps};
 
-use crate::set::name_page;
 use crate::state::Core;
 use sweep_laws::{Claimed, Move, Reply, StepFault};
+use sweep_lists::name_page;
 
 // Takes the next index of a swept set for a span that the worker holds.
 pub(crate) fn claim(core: &mut Core, worker: u32, set: u32, page: u32) -> Result<Reply, StepFault>

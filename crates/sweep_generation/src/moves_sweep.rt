@@ -1,7 +1,6 @@
 ghost use Rattle.std.specs.Prelude.{◌≡◌};
 ghost use Rattle.sweep_laws.specs.Step.{Steps};
 
-use crate::life::keep_marked;
 use crate::state::Core;
 use sweep_laws::{Move, Reply, StepFault};
 
@@ -21,7 +20,7 @@ pub(crate) fn release(core: &mut Core, worker: u32, page: u32) -> Result<Reply, 
 {
     core.try_release(worker, page)?;
     core.hands[worker as usize].reserve_end()?;
-    keep_marked(&mut core.lives, page)?;
+    core.lives.keep_marked(page)?;
     core.hands[worker as usize].end_sweep(page);
     core.words[page as usize] = core.generation;
     Ok(Reply::Done)

@@ -22,7 +22,8 @@ pub fn run_moves(core: &mut Core, moves: &List<Move>) -> Result<(), StepFault>
     ensures once { Owned core.old → result ≡ Ok tt → Once core.old moves.now }
 {
     for mv in moves.as_slice() {
-        step_by(core, mv)?;
+        let answer = step_by(core, mv);
+        answer?;
     }
     Ok(())
 }

@@ -1,47 +1,18 @@
 ghost use Rattle.std.specs.Prelude.{◌≡◌, ℕ, ◌≤◌, ◌<◌, ◌+◌, ◌^◌, map, length, max, None, IfOk, OnOk, OnErr};
 ghost use Rattle.std.specs.List.{All};
 ghost use Rattle.sweep_laws.specs.Owned.{Owned};
-ghost use Rattle.sweep_generation.specs.Bare.{bare_hand, bare_set};
+ghost use Rattle.sweep_lists.specs.Bare.{bare_hand, bare_set};
 ghost use Rattle.sweep_laws.specs.Start.{copies, new_state};
 ghost use Rattle.sweep_laws.specs.Tidy.{IsTidy, TailsFit};
-ghost use Rattle.sweep_generation.specs.Views.{hand_view, set_view, HandRoom};
+ghost use Rattle.sweep_lists.specs.Views.{hand_view, set_view, HandRoom};
 
-use crate::entries::Entries;
-use crate::hand::CoreHand;
-use crate::life::{Life, reserve_lives};
-use crate::set::CoreSet;
-use crate::spare::Spare;
 use crate::state::Core;
 use edge_io::{List, NoMemory};
 use std::alloc::{AllocError, Global};
+use sweep_lists::{CoreHand, CoreSet, Lives, Spare};
 
 // The number of sets: for each of 136 span classes two partial and two full ones.
 const SETS: usize = 544;
-
-// A set without entries.
-fn empty_set(alloc: Global) -> CoreSet
-    ensures { result ≡ bare_set }
-{
-    CoreSet {
-        head: 0,
-        tail: 0,
-        cells: Entries::new(alloc),
-    }
-}
-
-// A hand that has nothing.
-fn empty_hand(alloc: Global) -> CoreHand
-    ensures { result ≡ bare_hand }
-{
-    CoreHand {
-        sweeping: Entries::new(alloc),
-        held: Entries::new(alloc),
-        cached: Entries::new(alloc),
-        popped: Entries::new(alloc),
-        claimed: None,
-        swept: Entries::new(alloc),
-    }
-}
 
 fn no_words(alloc: Global, pages: u32) -> Result<Vec<u64>, AllocError>
     ensures { IfOk result (λ words. words.items ≡ copies pages 0) }
@@ -58,13 +29,17 @@ fn no_owners(alloc: Global, pages: u32) -> Result<Vec<Option<u32>>, AllocError>
 fn empty_sets(alloc: Global) -> Result<Vec<CoreSet>, AllocError>
     ensures { IfOk result (λ sets. sets.items ≡ copies 544 bare_set) }
 {
-    (0..SETS).map(|_| empty_set(alloc)).collect(alloc)
+    (0..SETS).map(|_| CoreSet::new(alloc)).collect(alloc)
 }
 
-fn empty_hands(alloc: Global, workers: u32) -> Result<Vec<CoreHand>, AllocError>
+fn empty_hands(alloc: Global, workers: u32, pages: u32) -> Result<Vec<CoreHand>, NoMemory>
     ensures { IfOk result (λ hands. hands.items ≡ copies workers bare_hand) }
 {
-    (0..workers).map(|_| empty_hand(alloc)).collect(alloc)
+    let mut hands = Vec::new(alloc);
+    for _ in 0..workers {
+        hands.push(CoreHand::new(alloc, pages)?)?;
+    }
+    Ok(hands)
 }
 
 // Each set gets room for so many cells.
@@ -103,12 +78,12 @@ impl Core {
         let words = no_words(alloc, pages)?;
         let owners = no_owners(alloc, pages)?;
         let sets = empty_sets(alloc)?;
-        let hands = empty_hands(alloc, workers)?;
+        let hands = empty_hands(alloc, workers, pages)?;
         Ok(Core {
             generation: 4,
             words,
             owners,
-            lives: Vec::new(alloc),
+            lives: Lives::with_table(alloc, pages)?,
             sets,
             lock: None,
             hands,
@@ -132,12 +107,12 @@ impl Core {
     {
         let words = no_words(alloc, pages)?;
         let owners = no_owners(alloc, pages)?;
-        let hands = empty_hands(alloc, workers)?;
+        let hands = empty_hands(alloc, workers, pages)?;
         Ok(Core {
             generation,
             words,
             owners,
-            lives: Vec::new(alloc),
+            lives: Lives::with_table(alloc, pages)?,
             sets: sets.into_vec(),
             lock: None,
             hands,
@@ -154,7 +129,7 @@ impl Core {
         ensures err { OnErr result (self.new ≡ self.old) }
     {
         let room = self.words.len();
-        reserve_lives(&mut self.lives, room)?;
+        self.lives.reserve(room)?;
         reserve_sets(&mut self.sets, room)?;
         reserve_hands(&mut self.hands, room)?;
         self.room = room;
@@ -167,6 +142,6 @@ impl Core {
         ensures ok { OnOk result (self.new ≡ record self.old { prepared = max self.old.prepared count }) }
         ensures err { OnErr result (self.new ≡ self.old) }
     {
-        self.spare.reserve(count as usize)
+        self.spare.reserve(self.alloc, count)
     }
 }

@@ -1,12 +1,9 @@
 ghost use Rattle.std.specs.Prelude.{◌≡◌, map};
-ghost use Rattle.sweep_generation.specs.Views.{hand_view, life_view, set_view};
+ghost use Rattle.sweep_lists.specs.Views.{hand_view, life_view, set_view};
 
-use crate::hand::CoreHand;
-use crate::life::Life;
-use crate::set::CoreSet;
-use crate::spare::Spare;
 use std::alloc::Global;
 use std::marker::Model;
+use sweep_lists::{CoreHand, CoreSet, Life, Lives, Spare};
 
 /// The whole state of span ownership over plain lists.
 #[derive(Debug, Drop)]
@@ -14,7 +11,7 @@ pub struct Core {
     pub(crate) generation: u64,
     pub(crate) words: Vec<u64>,
     pub(crate) owners: Vec<Option<u32>>,
-    pub(crate) lives: Vec<Life>,
+    pub(crate) lives: Lives,
     pub(crate) sets: Vec<CoreSet>,
     pub(crate) lock: Option<u32>,
     pub(crate) hands: Vec<CoreHand>,
@@ -63,7 +60,7 @@ impl Core {
     pub fn lives(&self) -> &[Life]
         ensures { map life_view result.now ≡ self.now.lives }
     {
-        &self.lives
+        self.lives.as_slice()
     }
 
     /// The 544 sets. The number of a set is four times the span class, plus 2 for a full set, plus its part.

@@ -32,12 +32,12 @@ ghost use Rattle.sweep_laws.specs.Needs.{
   is_least_free,
 };
 ghost use Rattle.sweep_laws.specs.Tries.{Tried};
-ghost use Rattle.sweep_generation.specs.Views.{life_view};
+ghost use Rattle.sweep_lists.specs.Views.{life_view};
 
-use crate::life::Life;
-use crate::scan::{find_life, first_lister, first_owner, least, least_free};
+use crate::scan::first_lister;
 use crate::state::Core;
 use sweep_laws::{Found, Kind, StepFault};
+use sweep_lists::Life;
 
 // Tries a need: `found` is what it finds where it is not met.
 pub(crate) fn demand(met: bool, found: Found) -> Result<(), StepFault>
@@ -112,7 +112,7 @@ impl Core {
     pub(crate) fn life(&self, page: u32) -> Option<&Life>
         ensures { option_map (λ life. life_view life.now) result ≡ life_at self.now page }
     {
-        find_life(&self.lives, page)
+        self.lives.find(page)
     }
 
     pub(crate) fn try_lock(&self, worker: u32) -> Result<(), StepFault>

@@ -17,7 +17,7 @@ ghost use Rattle.sweep_laws.specs.Needs.{
 };
 ghost use Rattle.sweep_laws.specs.Tries.{Tried};
 
-use crate::scan::{first_owner, least, least_free};
+use crate::scan::{first_owner, least};
 use crate::state::Core;
 use crate::tries::demand;
 use sweep_laws::{Found, Kind, StepFault};
@@ -135,7 +135,7 @@ impl Core {
         ensures { result ≡ free_index self.now page }
     {
         let life = self.life(page)?;
-        least_free(life.allocated.as_slice(), life.count)
+        life.allocated.least_free(life.count)
     }
 
     fn try_least_free(&self, page: u32, index: u32) -> Result<(), StepFault>

@@ -1,5 +1,5 @@
 ghost use Rattle.std.specs.Prelude.{◌≡◌, ◌==◌, ◌<◌, ◌+◌, ◌^◌, OnOk, true, not, map, option_map, option_copied, [], ◌∷◌};
-ghost use Rattle.std.specs.List.{find, position, prefix_len};
+ghost use Rattle.std.specs.List.{find, position};
 ghost use Rattle.std.specs.Option.{is_some};
 ghost use Rattle.sweep_laws.specs.Lists.{has, rises, is_before as stands_before};
 ghost use Rattle.sweep_laws.specs.Needs.{
@@ -14,20 +14,18 @@ ghost use Rattle.sweep_laws.specs.Needs.{
   first_unpopped,
   sets_are_popped,
   is_swept_set,
-  allocated_at,
+  is_allocated,
   wrong_mark,
   marks_are_allocated,
   next_needs,
 };
 ghost use Rattle.sweep_laws.specs.Tries.{Tried};
-ghost use Rattle.sweep_generation.specs.Views.{hand_view, set_view};
+ghost use Rattle.sweep_lists.specs.Views.{hand_view, set_view};
 
-use crate::hand::CoreHand;
-use crate::scan::{is_among, low_seen};
-use crate::set::CoreSet;
 use crate::state::Core;
 use crate::tries::{demand, narrow};
 use sweep_laws::{Found, StepFault};
+use sweep_lists::{CoreHand, CoreSet};
 
 // Mark ends are made below this generation.
 const LAST_GENERATION: u64 = 1 << 63;
@@ -108,26 +106,6 @@ fn find_unpopped(sets: &[CoreSet], generation: u64) -> Option<&CoreSet>
     None
 }
 
-// How many marks, from the first on, name a page.
-fn run_len(marks: &[(u32, u32)], page: u32) -> usize
-    ensures { result ≡ prefix_len (λ mark. mark.0 == page) marks.now }
-{
-    marks.iter().take_while(|mark| mark.0 == page).count()
-}
-
-// The index of the first mark whose index is not among some indices.
-fn first_outside(indices: &[u32], marks: &[(u32, u32)]) -> Option<u32>
-    ensures { result ≡ option_map (λ mark. mark.1) (find (λ mark. not (has mark.1 indices.now)) marks.now) }
-{
-    let seen = low_seen(indices);
-    for mark in marks {
-        if !is_among(indices, &seen, mark.1) {
-            return Some(mark.1);
-        }
-    }
-    None
-}
-
 impl Core {
     fn busy_hand(&self) -> Option<u32>
         ensures { result ≡ busy_hand self.now }
@@ -175,27 +153,24 @@ impl Core {
         }
     }
 
-    // What the first life that begins at a page has allocated, nothing where there is none.
-    fn allocated_at(&self, page: u32) -> &[u32]
-        ensures { result.now ≡ allocated_at self.now page }
+    // Whether a mark names an index that is allocated.
+    fn is_allocated(&self, mark: (u32, u32)) -> bool
+        ensures { result ≡ is_allocated self.now mark }
     {
-        match self.life(page) {
-            Some(life) => life.allocated.as_slice(),
-            None => &[],
+        match self.life(mark.0) {
+            Some(life) => life.allocated.has(mark.1),
+            None => false,
         }
     }
 
-    // The index of the first mark that names no allocated one: page by page, as far as neighbours name the same page.
+    // The index of the first mark that names no allocated one.
     fn wrong_mark(&self, marks: &[(u32, u32)]) -> Option<u32>
         ensures { result ≡ wrong_mark self.now marks.now }
     {
-        let mut rest = marks;
-        while let Some(first) = rest.first() {
-            let (run, behind) = rest.split_at(run_len(rest, first.0));
-            if let Some(index) = first_outside(self.allocated_at(first.0), run) {
-                return Some(index);
+        for mark in marks {
+            if !self.is_allocated(*mark) {
+                return Some(mark.1);
             }
-            rest = behind;
         }
         None
     }

@@ -1,5 +1,5 @@
 use Rattle.std.proofs.Common.{◌≡◌}
-use Rattle.sweep_generation.specs.Loops.{changed_to, emptied_at}
+use Rattle.sweep_lists.specs.Loops.{changed_to, emptied_at}
 use Rattle.sweep_generation.proofs.mark_end.empty_unswept.Given as goal
 
 abbrev pub invariant-loop-k : goal.invariant-loop-k

@@ -1,10 +1,10 @@
 use Rattle.std.proofs.Common.{◌≡◌, List, length, refl, sym, subst, arith, rules}
 use Rattle.std.specs.List.{All}
-use Rattle.sweep_generation.specs.declared.hand.CoreHand.{CoreHand}
+use Rattle.sweep_lists.specs.declared.hand.CoreHand.{CoreHand}
 use Rattle.sweep_laws.specs.Changes.{forget_swept}
-use Rattle.sweep_generation.specs.Views.{hand_view, HandRoom}
-use Rattle.sweep_generation.specs.Loops.{without_swept}
-use Rattle.sweep_generation.proofs.Changing.{changed-more, changed-all, All-changed}
+use Rattle.sweep_lists.specs.Views.{hand_view, HandRoom}
+use Rattle.sweep_lists.specs.Loops.{without_swept}
+use Rattle.sweep_lists.proofs.Changing.{changed-more, changed-all, All-changed}
 use Rattle.sweep_generation.proofs.mark_end.forget_swept.Goals as goal
 
 pub loop-k-preserved : goal.loop-k-preserved

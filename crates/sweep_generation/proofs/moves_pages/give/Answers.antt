@@ -1,12 +1,11 @@
-use Rattle.std.proofs.Common.{◌∙◌, ◌≤◌, ℕ, List, Option, length, ap, refl, arith, vec_capacity}
+use Rattle.std.proofs.Common.{◌∙◌, ℕ, List, Option, length, ap, refl}
 use Rattle.sweep_laws.specs.Changes.{let_go}
-use Rattle.sweep_generation.proofs.Seen.{hand-changed, low-hand, kept-hand, kept-word, kept-owners, kept-all-lives, items-whole}
+use Rattle.sweep_generation.proofs.Seen.{hand-changed, low-hand, kept-hand, kept-word, kept-owners, kept-same-room, items-whole}
 use Rattle.sweep_generation.proofs.moves_pages.give.Goals as goal
 
 pub invariant_of-core : goal.invariant_of-core
 invariant_of-core c =
-    let room : c.core.inside.room ≤ vec_capacity c.drop_life-pages.new.lives = omega (arith, c.core.invariant.lives_room, c.drop_life-pages.ensures.capacity) in
-    kept-word _ c.args.page 0 (kept-owners _ c.put_owner.new.owners (kept-all-lives _ c.drop_life-pages.new.lives room (c.drop_life-pages.ensures.room c.core.invariant.life_room)
+    kept-word _ c.args.page 0 (kept-owners _ c.put_owner.new.owners (kept-same-room _ c.drop_life-pages.new.self _ c.drop_life-pages.ensures.lives
     (kept-hand c.core.inside c.args.worker (low-hand c.core.inside c.args.core.now c.core.view_is c.args.worker c.in_ok-try_give.ensures.worker) c.index_mut.result.now _ c.index_mut.ensures.value c.let_go.ensures.room c.core.invariant)))
 
 pub returns : goal.returns

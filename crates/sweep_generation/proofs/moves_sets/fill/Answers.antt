@@ -2,7 +2,7 @@ use Rattle.std.proofs.Common.{◌∙◌, ◌<◌, ◌≤◌, List, Option, lengt
 use Rattle.std.specs.List.{All}
 use Rattle.std.specs.Option.{IfSome}
 use Rattle.std.proofs.lemmas.Result.{err_from_is_err_and}
-use Rattle.sweep_generation.specs.declared.set.CoreSet.{CoreSet}
+use Rattle.sweep_lists.specs.declared.set.CoreSet.{CoreSet}
 use Rattle.sweep_laws.specs.declared.moves.Claimed.{Claimed}
 use Rattle.sweep_laws.specs.State.{CoreState}
 use Rattle.sweep_laws.specs.Changes.{fill_cell}

@@ -1,13 +1,10 @@
-use Rattle.std.proofs.Common.{◌∙◌, ◌<◌, ℕ, List, length, ap, refl, sym, subst, arith}
+use Rattle.std.proofs.Common.{◌<◌, ℕ, length, refl, sym, subst, arith}
 use Rattle.std.specs.Vec.{with_item}
-use Rattle.std.specs.List.{All}
 use Rattle.std.proofs.lemmas.Result.{err_from_is_err_and}
-use Rattle.sweep_generation.specs.declared.life.Life.{Life}
 use Rattle.sweep_laws.specs.State.{CoreState, HandState}
 use Rattle.sweep_laws.specs.Needs.{life_of}
 use Rattle.sweep_laws.specs.Changes.{end_sweep}
-use Rattle.sweep_generation.specs.Views.{LifeRoom}
-use Rattle.sweep_generation.proofs.Seen.{hand-changed, hand-same, hand-is, room-at, low-hand, kept-hand, kept-word, kept-lives, seen-hand, items-whole, full-end}
+use Rattle.sweep_generation.proofs.Seen.{hand-changed, hand-same, hand-is, room-at, low-hand, kept-hand, kept-word, kept-same-room, seen-hand, full-end}
 use Rattle.std.proofs.Math.ListN.{length-set}
 use Rattle.sweep_generation.proofs.moves_sweep.release.Goals as goal
 
@@ -28,21 +25,19 @@ returns-in_err-reserve_end c =
 
 pub invariant_of-core-in_err-keep_marked : goal.invariant_of-core-in_err-keep_marked
 invariant_of-core-in_err-keep_marked c =
-    kept-lives _ c.keep_marked.new.lives (c.keep_marked.ensures.room (rw c.deref_mut.ensures.value c.core.invariant.life_room))
+    kept-same-room _ c.keep_marked.new.self _ c.in_err-keep_marked.ensures.err
     (kept-hand c.core.inside c.args.worker (low-hand c.core.inside c.args.core.now c.core.view_is c.args.worker c.in_ok-try_release.ensures.worker) c.index_mut.result.now _ c.index_mut.ensures.value c.reserve_end.ensures.room c.core.invariant)
 
 pub returns-in_err-keep_marked : goal.returns-in_err-keep_marked
 returns-in_err-keep_marked c =
     let p = err_from_is_err_and c.from_residual-in_err-keep_marked.result c.from_residual-in_err-keep_marked.ensures.1 in
-    let rooms : All LifeRoom c.core.inside.lives.items = c.core.invariant.life_room in
-    let full = (rw c.deref_mut.ensures.value at c.in_err-keep_marked.ensures.full) rooms in
-    let short = subst (λ (s : CoreState). (life_of s c.args.page).count < length (life_of s c.args.page).kept) c.core.view_is full in
-    rw (p.1, p.2, hand-same c.core.inside c.args.core.now c.core.view_is c.args.worker c.index_mut.result.now c.reserve_end.new.self c.index_mut.ensures.value c.reserve_end.ensures.view, items-whole c.core.inside.lives c.keep_marked.new.lives (c.keep_marked.auto.lives ∙ ap (λ (xs : List Life). length xs) c.deref_mut.ensures.value), c.in_err-keep_marked.ensures.err, c.deref_mut.ensures.value)
+    let short = subst (λ (s : CoreState). (life_of s c.args.page).count < length (life_of s c.args.page).kept) c.core.view_is c.in_err-keep_marked.ensures.full in
+    rw (p.1, p.2, hand-same c.core.inside c.args.core.now c.core.view_is c.args.worker c.index_mut.result.now c.reserve_end.new.self c.index_mut.ensures.value c.reserve_end.ensures.view, c.in_err-keep_marked.ensures.err)
     (c.in_ok-try_release.ensures.tried, c.core.view_is, λ r. omega (arith, r.2, short))
 
 pub invariant_of-core-2 : goal.invariant_of-core-2
 invariant_of-core-2 c =
-    let k = kept-lives _ c.keep_marked.new.lives (c.keep_marked.ensures.room (rw c.deref_mut.ensures.value c.core.invariant.life_room))
+    let k = kept-same-room _ c.keep_marked.new.self _ c.in_ok-keep_marked.ensures.ok
     (kept-hand c.core.inside c.args.worker (low-hand c.core.inside c.args.core.now c.core.view_is c.args.worker c.in_ok-try_release.ensures.worker) c.index_mut.result.now _ c.index_mut.ensures.value c.reserve_end.ensures.room c.core.invariant) in
     let low = subst (λ (n : ℕ). c.args.worker < n) (sym (length-set c.core.inside.hands.items c.args.worker c.reserve_end.new.self)) (low-hand c.core.inside c.args.core.now c.core.view_is c.args.worker c.in_ok-try_release.ensures.worker) in
     kept-word _ c.args.page _ (kept-hand _ c.args.worker low c.index_mut-2.result.now _ c.index_mut-2.ensures.value c.end_sweep.ensures.room k)
@@ -52,6 +47,6 @@ returns c =
     let seen = seen-hand c.core.inside c.args.core.now c.core.view_is c.args.worker c.index_mut.result.now c.reserve_end.new.self c.index_mut.ensures.value c.reserve_end.ensures.view in
     let f = hand-changed (record c.core.inside { hands = with_item c.core.inside.hands c.args.worker c.reserve_end.new.self }) c.args.core.now seen c.args.worker c.in_ok-try_release.ensures.worker c.index_mut-2.result.now c.end_sweep.new.self (end_sweep c.args.page) c.index_mut-2.ensures.value c.end_sweep.ensures.view in (
       c.in_ok-try_release.ensures.tried,
-      rw (← c.core.view_is, f, hand-same c.core.inside c.args.core.now c.core.view_is c.args.worker c.index_mut.result.now c.reserve_end.new.self c.index_mut.ensures.value c.reserve_end.ensures.view, items-whole c.core.inside.lives c.keep_marked.new.lives (c.keep_marked.auto.lives ∙ ap (λ (xs : List Life). length xs) c.deref_mut.ensures.value), c.in_ok-keep_marked.ensures.ok, c.deref_mut.ensures.value) refl,
+      rw (← c.core.view_is, f, hand-same c.core.inside c.args.core.now c.core.view_is c.args.worker c.index_mut.result.now c.reserve_end.new.self c.index_mut.ensures.value c.reserve_end.ensures.view, c.in_ok-keep_marked.ensures.ok) refl,
       refl,
     )

@@ -4,26 +4,26 @@ use Rattle.sweep_laws.proofs.MemoryKept.{runs_room, runs_tidy, runs_space, runs_
 use Rattle.sweep_generation.proofs.run.run_moves.Goals as goal
 
 pub loop-mv-preserved : goal.loop-mv-preserved
-loop-mv-preserved c = ran_more _ _ _ _ c.as_slice-mv-items.ensures _ c.loop-mv.invariant _ _ _ _ c.loop-mv-test.true c.mv-item.is c.step_by.ensures c.in_ok-step_by.was
+loop-mv-preserved c = ran_more _ _ _ _ c.as_slice-mv-items.ensures _ c.loop-mv.invariant _ _ _ _ c.loop-mv-test.true c.mv-item.is c.step_by-answer.ensures c.in_ok-answer.was
 
-pub returns-in_err-step_by-clause-exact : goal.returns-in_err-step_by-clause-exact
-returns-in_err-step_by-clause-exact c = let e : c.from_residual.result ≡ Err c.in_err-step_by.field-0.0 = search rules in
-    ran_stops _ _ _ _ c.as_slice-mv-items.ensures _ c.loop-mv.invariant _ _ _ _ _ c.loop-mv-test.true c.mv-item.is c.step_by.ensures c.in_err-step_by.was e
+pub returns-in_err-answer-clause-exact : goal.returns-in_err-answer-clause-exact
+returns-in_err-answer-clause-exact c = let e : c.from_residual.result ≡ Err c.in_err-answer.field-0.0 = search rules in
+    ran_stops _ _ _ _ c.as_slice-mv-items.ensures _ c.loop-mv.invariant _ _ _ _ _ c.loop-mv-test.true c.mv-item.is c.step_by-answer.ensures c.in_err-answer.was e
 
-pub returns-in_err-step_by-clause-owned : goal.returns-in_err-step_by-clause-owned
-returns-in_err-step_by-clause-owned c = runs_owned _ _ _ _ (returns-in_err-step_by-clause-exact c)
+pub returns-in_err-answer-clause-owned : goal.returns-in_err-answer-clause-owned
+returns-in_err-answer-clause-owned c = runs_owned _ _ _ _ (returns-in_err-answer-clause-exact c)
 
-pub returns-in_err-step_by-clause-tidy : goal.returns-in_err-step_by-clause-tidy
-returns-in_err-step_by-clause-tidy c = runs_tidy _ _ _ _ (returns-in_err-step_by-clause-exact c)
+pub returns-in_err-answer-clause-tidy : goal.returns-in_err-answer-clause-tidy
+returns-in_err-answer-clause-tidy c = runs_tidy _ _ _ _ (returns-in_err-answer-clause-exact c)
 
-pub returns-in_err-step_by-clause-room : goal.returns-in_err-step_by-clause-room
-returns-in_err-step_by-clause-room c = runs_room _ _ _ _ (returns-in_err-step_by-clause-exact c)
+pub returns-in_err-answer-clause-room : goal.returns-in_err-answer-clause-room
+returns-in_err-answer-clause-room c = runs_room _ _ _ _ (returns-in_err-answer-clause-exact c)
 
-pub returns-in_err-step_by-clause-space : goal.returns-in_err-step_by-clause-space
-returns-in_err-step_by-clause-space c = runs_space _ _ _ _ (returns-in_err-step_by-clause-exact c)
+pub returns-in_err-answer-clause-space : goal.returns-in_err-answer-clause-space
+returns-in_err-answer-clause-space c = runs_space _ _ _ _ (returns-in_err-answer-clause-exact c)
 
-pub returns-in_err-step_by-clause-memory : goal.returns-in_err-step_by-clause-memory
-returns-in_err-step_by-clause-memory c = runs_memory _ _ _ _ (returns-in_err-step_by-clause-exact c)
+pub returns-in_err-answer-clause-memory : goal.returns-in_err-answer-clause-memory
+returns-in_err-answer-clause-memory c = runs_memory _ _ _ _ (returns-in_err-answer-clause-exact c)
 
 pub returns-clause-exact : goal.returns-clause-exact
 returns-clause-exact c = ran_end _ _ _ _ c.as_slice-mv-items.ensures _ c.loop-mv.invariant c.loop-mv-test.false

@@ -1,8 +1,8 @@
 use Rattle.std.proofs.Common.{◌∙◌, ◌<◌, ℕ, length, get_or, set, sym, subst, arith, rules, below_more, get_or-set_same, get_or-set_other}
 use Rattle.std.proofs.Math.Seq.{map-set_same}
 use Rattle.std.proofs.lemmas.List.Elements.{All-set}
-use Rattle.sweep_generation.specs.declared.hand.CoreHand.{CoreHand}
-use Rattle.sweep_generation.specs.Views.{hand_view, HandRoom}
+use Rattle.sweep_lists.specs.declared.hand.CoreHand.{CoreHand}
+use Rattle.sweep_lists.specs.Views.{hand_view, HandRoom}
 use Rattle.sweep_generation.proofs.start.reserve_hands.Goals as goal
 
 pub returns-in_err-reserve_all-clause-view : goal.returns-in_err-reserve_all-clause-view

@@ -1,7 +1,7 @@
 use Rattle.std.proofs.Common.{◌≡◌, ◌<◌, ℕ, map, get_or}
 use Rattle.std.specs.List.{All}
-use Rattle.sweep_generation.specs.declared.hand.CoreHand.{CoreHand}
-use Rattle.sweep_generation.specs.Views.{hand_view, HandRoom}
+use Rattle.sweep_lists.specs.declared.hand.CoreHand.{CoreHand}
+use Rattle.sweep_lists.specs.Views.{hand_view, HandRoom}
 use Rattle.sweep_generation.proofs.start.reserve_hands.Given as goal
 
 abbrev pub invariant-loop-k : goal.invariant-loop-k

@@ -1,8 +1,8 @@
 use Rattle.std.proofs.Common.{◌≡◌, ◌∙◌, ◌<◌, ◌≤◌, ℕ, length, get_or, set, refl, sym, subst, arith, rules, below_more, get_or-set_same, get_or-set_other}
 use Rattle.std.proofs.Math.Seq.{map-set_same}
 use Rattle.std.proofs.lemmas.List.Elements.{All-set}
-use Rattle.sweep_generation.specs.declared.set.CoreSet.{CoreSet}
-use Rattle.sweep_generation.specs.Views.{set_view}
+use Rattle.sweep_lists.specs.declared.set.CoreSet.{CoreSet}
+use Rattle.sweep_lists.specs.Views.{set_view}
 use Rattle.sweep_generation.proofs.start.reserve_sets.Goals as goal
 
 pub loop-k-preserved : goal.loop-k-preserved

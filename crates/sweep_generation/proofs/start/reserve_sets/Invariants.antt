@@ -1,7 +1,7 @@
 use Rattle.std.proofs.Common.{◌≡◌, ◌<◌, ◌≤◌, ℕ, map, get_or}
 use Rattle.std.specs.List.{All}
-use Rattle.sweep_generation.specs.declared.set.CoreSet.{CoreSet}
-use Rattle.sweep_generation.specs.Views.{set_view}
+use Rattle.sweep_lists.specs.declared.set.CoreSet.{CoreSet}
+use Rattle.sweep_lists.specs.Views.{set_view}
 use Rattle.sweep_generation.proofs.start.reserve_sets.Given as goal
 
 abbrev pub invariant-loop-k : goal.invariant-loop-k

@@ -1,6 +1,6 @@
 use Rattle.std.proofs.Common.{◌≡◌, drop, map}
 use Rattle.sweep_laws.specs.Needs.{first_unpopped}
-use Rattle.sweep_generation.specs.Views.{set_view}
+use Rattle.sweep_lists.specs.Views.{set_view}
 use Rattle.sweep_generation.proofs.tries_next.find_unpopped.Given as goal
 
 abbrev pub invariant-loop-number : goal.invariant-loop-number

@@ -1,8 +1,8 @@
 use Rattle.std.proofs.Common.{not, sym}
-use Rattle.sweep_generation.proofs.Maps.{position-map}
+use Rattle.sweep_lists.proofs.Maps.{position-map}
 use Rattle.sweep_laws.specs.State.{HandState}
 use Rattle.sweep_laws.specs.Needs.{is_idle}
-use Rattle.sweep_generation.specs.Views.{hand_view}
+use Rattle.sweep_lists.specs.Views.{hand_view}
 use Rattle.sweep_generation.proofs.state.Core.busy_hand.Goals as goal
 
 pub returns : goal.returns

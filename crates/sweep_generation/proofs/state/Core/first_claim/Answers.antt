@@ -1,8 +1,8 @@
 use Rattle.std.proofs.Common.{sym}
 use Rattle.std.specs.Option.{is_some}
-use Rattle.sweep_generation.proofs.Maps.{copied-map, find-map}
+use Rattle.sweep_lists.proofs.Maps.{copied-map, find-map}
 use Rattle.sweep_laws.specs.State.{HandState}
-use Rattle.sweep_generation.specs.Views.{hand_view}
+use Rattle.sweep_lists.specs.Views.{hand_view}
 use Rattle.sweep_generation.proofs.state.Core.first_claim.Goals as goal
 
 pub returns : goal.returns

@@ -1,13 +1,12 @@
 use Rattle.std.proofs.Common.{◌≤◌, List, refl, sym, ap, subst, arith, rules}
 use Rattle.std.specs.List.{All, range_with_len}
-use Rattle.std.proofs.lemmas.List.Elements.{All-map, All-nil}
+use Rattle.std.proofs.lemmas.List.Elements.{All-map}
 use Rattle.std.proofs.lemmas.List.FromFn.{length-map-range_with_len}
-use Rattle.sweep_generation.specs.declared.hand.CoreHand.{CoreHand}
-use Rattle.sweep_generation.specs.declared.life.Life.{Life}
-use Rattle.sweep_generation.specs.declared.set.CoreSet.{CoreSet}
-use Rattle.sweep_generation.specs.Bare.{bare_hand, bare_set}
-use Rattle.sweep_generation.specs.Views.{hand_view, set_view, HandRoom, LifeRoom}
-use Rattle.sweep_generation.proofs.Maps.{map-const}
+use Rattle.sweep_lists.specs.declared.hand.CoreHand.{CoreHand}
+use Rattle.sweep_lists.specs.declared.set.CoreSet.{CoreSet}
+use Rattle.sweep_lists.specs.Bare.{bare_hand, bare_set}
+use Rattle.sweep_lists.specs.Views.{hand_view, set_view, HandRoom}
+use Rattle.sweep_lists.proofs.Maps.{map-const}
 use Rattle.sweep_laws.proofs.NewOwned.{owned_as}
 use Rattle.sweep_laws.proofs.MemoryKept.{start_tidy, start_tails}
 use Rattle.sweep_laws.specs.State.{CoreState}
@@ -22,12 +21,11 @@ invariant_of-result c = record {
   lives_room = omega arith;
   hands_room = subst (λ (xs : List CoreHand). All (HandRoom 0) xs) (sym c.in_ok-hands.ensures) (All-map (HandRoom 0) (λ _. bare_hand) (range_with_len 0 c.args.workers) (λ k d l. record { sweeping = omega arith; held = omega arith; cached = omega arith; popped = omega arith; swept = omega arith }));
   sets_room = subst (λ (xs : List CoreSet). All (λ (x : CoreSet). 0 ≤ x.cells.space) xs) (sym c.in_ok-sets.ensures) (All-map (λ (x : CoreSet). 0 ≤ x.cells.space) (λ _. bare_set) (range_with_len 0 544) (λ k d l. omega arith));
-  life_room = subst (λ (xs : List Life). All LifeRoom xs) (sym c.new.ensures.items) (All-nil LifeRoom);
 }
 
 pub returns-clause-state : goal.returns-clause-state
 returns-clause-state c =
-    rw (c.in_ok-words.ensures, c.in_ok-owners.ensures, c.new.ensures.items, c.in_ok-sets.ensures, map-const set_view bare_set (range_with_len 0 544), c.in_ok-hands.ensures, map-const hand_view bare_hand (range_with_len 0 c.args.workers), c.new-2.ensures) refl
+    rw (c.in_ok-words.ensures, c.in_ok-owners.ensures, c.in_ok-with_table.ensures, c.in_ok-sets.ensures, map-const set_view bare_set (range_with_len 0 544), c.in_ok-hands.ensures, map-const hand_view bare_hand (range_with_len 0 c.args.workers), c.new.ensures) refl
 
 pub returns-clause-owned : goal.returns-clause-owned
 returns-clause-owned c = owned_as _ c.args.pages c.args.workers (returns-clause-state c)

@@ -1,14 +1,13 @@
 use Rattle.std.proofs.Common.{List, refl, sym, ap, subst, arith, rules}
 use Rattle.std.specs.List.{All, range_with_len}
-use Rattle.std.proofs.lemmas.List.Elements.{All-map, All-nil}
+use Rattle.std.proofs.lemmas.List.Elements.{All-map}
 use Rattle.std.proofs.lemmas.List.FromFn.{length-map-range_with_len}
-use Rattle.sweep_generation.specs.declared.hand.CoreHand.{CoreHand}
-use Rattle.sweep_generation.specs.declared.life.Life.{Life}
-use Rattle.sweep_generation.specs.Bare.{bare_hand}
-use Rattle.sweep_generation.specs.Views.{hand_view, HandRoom, LifeRoom}
+use Rattle.sweep_lists.specs.declared.hand.CoreHand.{CoreHand}
+use Rattle.sweep_lists.specs.Bare.{bare_hand}
+use Rattle.sweep_lists.specs.Views.{hand_view, HandRoom}
 use Rattle.sweep_laws.proofs.MemoryKept.{start_tidy}
 use Rattle.sweep_laws.specs.State.{CoreState}
-use Rattle.sweep_generation.proofs.Maps.{map-const}
+use Rattle.sweep_lists.proofs.Maps.{map-const}
 use Rattle.sweep_generation.proofs.state.Core.with_sets.Goals as goal
 
 pub invariant_of-result : goal.invariant_of-result
@@ -20,12 +19,11 @@ invariant_of-result c = record {
   lives_room = omega arith;
   hands_room = subst (λ (xs : List CoreHand). All (HandRoom 0) xs) (sym c.in_ok-hands.ensures) (All-map (HandRoom 0) (λ _. bare_hand) (range_with_len 0 c.args.workers) (λ k d l. record { sweeping = omega arith; held = omega arith; cached = omega arith; popped = omega arith; swept = omega arith }));
   sets_room = λ k d l. omega arith;
-  life_room = subst (λ (xs : List Life). All LifeRoom xs) (sym c.new.ensures.items) (All-nil LifeRoom);
 }
 
 pub returns-clause-state : goal.returns-clause-state
 returns-clause-state c =
-    rw (c.in_ok-words.ensures, c.in_ok-owners.ensures, c.new.ensures.items, c.into_vec.ensures, c.in_ok-hands.ensures, map-const hand_view bare_hand (range_with_len 0 c.args.workers), c.new-2.ensures) refl
+    rw (c.in_ok-words.ensures, c.in_ok-owners.ensures, c.in_ok-with_table.ensures, c.into_vec.ensures, c.in_ok-hands.ensures, map-const hand_view bare_hand (range_with_len 0 c.args.workers), c.new.ensures) refl
 
 pub returns-clause-tidy : goal.returns-clause-tidy
 returns-clause-tidy c = let e = returns-clause-state c in start_tidy _ c.args.workers (ap (λ (s : CoreState). s.hands) e) (ap (λ (s : CoreState). s.lives) e)

@@ -1,19 +1,12 @@
-use Rattle.std.proofs.Common.{◌≡◌, rules, ◌∙◌, Some, None}
-use Rattle.std.proofs.lemmas.List.Sums.{prefix_len-le-length}
-use Rattle.sweep_generation.proofs.FirstFound.{wrong_in_front, wrong_behind}
+use Rattle.std.proofs.Common.{ℕ, not, sym, ap, ◌∙◌}
+use Rattle.std.specs.Prelude.{option_map}
+use Rattle.sweep_laws.specs.Needs.{is_allocated}
+use Rattle.sweep_generation.proofs.FirstFound.{found_next, none_next}
 use Rattle.sweep_generation.proofs.state.Core.wrong_mark.Goals as goal
 
-pub split_at-requires : goal.split_at-requires
-split_at-requires c = rw c.run_len.ensures (prefix_len-le-length _ _)
+pub returns-then-not-is_allocated : goal.returns-then-not-is_allocated
+returns-then-not-is_allocated c = sym (ap (option_map (λ (mark : ℕ × ℕ). mark.1))
+    (found_next (λ (mark : ℕ × ℕ). not (is_allocated c.args.self.now mark)) c.args.marks.now c.loop-mark.mark-index (0, 0) c.loop-mark-test.true c.loop-mark.invariant (ap not (sym c.is_allocated.ensures ∙ c.if-not-is_allocated.true))))
 
-pub returns-in-Some-first_outside : goal.returns-in-Some-first_outside
-returns-in-Some-first_outside c =
-    let is = rw (c.allocated_at.ensures, c.split_at.ensures.front, c.run_len.ensures) at c.first_outside.ensures in
-    let e : c.first_outside.result ≡ Some c.in-Some-first_outside.index = search rules in
-    wrong_in_front c.args.self.now c.in-Some.first.now.0 c.in-Some-first_outside.index c.loop-first.rest.now c.first_outside.result is e ∙ c.loop-first.invariant
-
-pub loop-first-preserved : goal.loop-first-preserved
-loop-first-preserved c =
-    let is = rw (c.allocated_at.ensures, c.split_at.ensures.front, c.run_len.ensures) at c.first_outside.ensures in
-    let e : c.first_outside.result ≡ None = search rules in
-    rw (c.split_at.ensures.back, c.run_len.ensures) (wrong_behind c.args.self.now c.in-Some.first.now.0 c.loop-first.rest.now c.first_outside.result is e ∙ c.loop-first.invariant)
+pub loop-mark-preserved : goal.loop-mark-preserved
+loop-mark-preserved c = none_next (λ (mark : ℕ × ℕ). not (is_allocated c.args.self.now mark)) c.args.marks.now c.loop-mark.mark-index (0, 0) c.loop-mark-test.true c.loop-mark.invariant (ap not (sym c.is_allocated.ensures ∙ c.if-not-is_allocated.false))

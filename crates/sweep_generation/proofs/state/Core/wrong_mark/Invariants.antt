@@ -1,9 +1,7 @@
-use Rattle.std.proofs.Common.{◌≡◌, length}
-use Rattle.sweep_laws.specs.Needs.{wrong_mark}
+use Rattle.std.proofs.Common.{◌≡◌, not, take, None}
+use Rattle.std.specs.List.{find}
+use Rattle.sweep_laws.specs.Needs.{is_allocated}
 use Rattle.sweep_generation.proofs.state.Core.wrong_mark.Given as goal
 
-abbrev pub invariant-loop-first : goal.invariant-loop-first
-invariant-loop-first l = wrong_mark l.self l.rest ≡ wrong_mark l.fn.self l.marks
-
-abbrev pub decreases-loop-first : goal.decreases-loop-first
-decreases-loop-first l = length l.rest
+abbrev pub invariant-loop-mark : goal.invariant-loop-mark
+invariant-loop-mark l = find (λ mark. not (is_allocated l.self mark)) (take l.mark-index l.marks) ≡ None

@@ -1,0 +1,11 @@
+use Rattle.std.proofs.Common.{Bool, arith}
+use Rattle.std.proofs.Math.ListN.{length-set}
+use Rattle.sweep_lists.proofs.Members.{told_more, beyond_more}
+use Rattle.sweep_lists.proofs.numbers.tell_all.Goals.{then-item-seen, else-item-seen}
+use Rattle.sweep_lists.proofs.numbers.tell_all.Goals as goal
+
+pub loop-item-preserved : goal.loop-item-preserved
+loop-item-preserved c = elim c.if-item-seen.branch [
+  | then-item-seen w ↦ (rw w.seen-is (λ i inside. told_more c.args.items.now c.args.seen.now c.loop-item.seen c.loop-item.item-index 0 c.loop-item-test.true c.loop-item.invariant i (omega (arith, length-set {A = Bool}))))
+  | else-item-seen w ↦ (rw w.seen-is (beyond_more c.args.items.now c.args.seen.now c.loop-item.seen c.loop-item.item-index 0 c.loop-item-test.true w.if-item-seen.false c.loop-item.invariant))
+]

@@ -1,0 +1,10 @@
+-- What is prepared for a life to come.
+use Rattle.std.specs.Prelude.{◌≡◌, ◌≤◌, ℕ, []}
+use Rattle.sweep_lists.specs.Room.{Roomy}
+
+-- two lists without entries have room for so many
+pub record IsPrepared (count : ℕ) (allocated kept : Roomy ℕ) : Type 0 where
+  pub allocated_room : count ≤ allocated.space
+  pub kept_room : count ≤ kept.space
+  pub no_allocated : allocated.items ≡ []
+  pub no_kept : kept.items ≡ []

@@ -1,0 +1,7 @@
+pub mod Room
+pub mod Tables
+pub mod KeptLives
+pub mod KeptSpare
+pub mod Views
+pub mod Loops
+pub mod Bare

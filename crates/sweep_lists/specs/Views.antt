@@ -1,0 +1,42 @@
+-- What the parts of a core show: lists with room as plain lists.
+use Rattle.std.specs.Prelude.{ℕ, ◌≤◌}
+use Rattle.sweep_lists.specs.declared.hand.CoreHand.{CoreHand}
+use Rattle.sweep_lists.specs.declared.life.Life.{Life}
+use Rattle.sweep_lists.specs.declared.set.CoreSet.{CoreSet}
+use Rattle.sweep_laws.specs.State.{HandState, LifeState, SetState}
+
+abbrev pub hand_view : CoreHand → HandState
+hand_view h = record {
+  sweeping = h.sweeping.items;
+  held = h.held.items;
+  cached = h.cached.items;
+  popped = h.popped.items;
+  claimed = h.claimed;
+  swept = h.swept.items;
+}
+
+abbrev pub life_view : Life → LifeState
+life_view l = record {
+  page = l.page;
+  pages = l.pages;
+  count = l.count;
+  class = l.class;
+  allocated = l.allocated.items;
+  kept = l.kept.items;
+}
+
+abbrev pub set_view : CoreSet → SetState
+set_view s = record { head = s.head; tail = s.tail; cells = s.cells.items }
+
+-- each list of the hand has room
+pub record HandRoom (room : ℕ) (h : CoreHand) : Type 0 where
+  pub sweeping : room ≤ h.sweeping.space
+  pub held : room ≤ h.held.space
+  pub cached : room ≤ h.cached.space
+  pub popped : room ≤ h.popped.space
+  pub swept : room ≤ h.swept.space
+
+-- both lists of the life have room for all its objects
+pub record LifeRoom (l : Life) : Type 0 where
+  pub allocated : l.count ≤ l.allocated.space
+  pub kept : l.count ≤ l.kept.space

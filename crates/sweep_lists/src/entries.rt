@@ -1,0 +1,179 @@
+ghost use Rattle.std.specs.Prelude.{◌≡◌, ◌<◌, ◌≤◌, ◌==◌, [], ◌∷◌, ◌++◌, length, OnOk, OnErr, ◌^◌};
+ghost use Rattle.std.specs.List.{remove, position};
+ghost use Rattle.sweep_laws.specs.Lists.{has, erase, put_cell};
+
+use edge_io::{List, NoMemory};
+use std::alloc::Global;
+use std::marker::Model;
+
+/// A list of items with room for more: what is put in within the room takes no memory.
+#[derive(Debug, Drop)]
+pub struct Entries<T> {
+    items: Vec<T>,
+    space: usize,
+}
+
+impl<T> Model for Entries<T> {
+    ghost use Rattle.std.specs.Prelude.{◌≤◌, vec_capacity};
+    ghost use Rattle.sweep_lists.specs.Room.{Roomy};
+
+    ghost Value = { Roomy T };
+
+    ghost view = { λ entries. record { items = entries.items.items; space = entries.space } };
+
+    ghost invariant = { λ entries. entries.space ≤ vec_capacity entries.items };
+}
+
+impl<T> Entries<T> {
+    /// No items, and no room.
+    pub fn new(alloc: Global) -> Self
+        ensures { result ≡ record { items = []; space = 0 } }
+    {
+        Entries {
+            items: Vec::new(alloc),
+            space: 0,
+        }
+    }
+
+    /// The items of a list, without room for more.
+    pub fn from_list(list: List<T>) -> Self
+        ensures { result ≡ record { items = list; space = 0 } }
+    {
+        Entries {
+            items: list.into_vec(),
+            space: 0,
+        }
+    }
+
+    /// The items.
+    pub fn as_slice(&self) -> &[T]
+        ensures { result.now ≡ self.now.items }
+    {
+        self.items.as_slice()
+    }
+
+    /// The number of items.
+    pub fn len(&self) -> usize
+        ensures { result ≡ length self.now.items }
+    {
+        self.items.len()
+    }
+
+    /// Whether there are no items.
+    pub fn is_empty(&self) -> bool
+        ensures { result ≡ (length self.now.items == 0) }
+    {
+        self.items.is_empty()
+    }
+
+    /// Makes room for `space` items at least. It fails only where there is less room.
+    pub fn reserve(&mut self, space: usize) -> Result<(), NoMemory>
+        ensures items { self.new.items ≡ self.old.items }
+        ensures grows { self.old.space ≤ self.new.space }
+        ensures ok { OnOk result (space ≤ self.new.space) }
+        ensures full { OnErr result (self.old.space < space) }
+        ensures err { OnErr result (self.new ≡ self.old) }
+    {
+        if self.space < space {
+            self.items.reserve(space.saturating_sub(self.items.len()))?;
+            self.space = space;
+        }
+        Ok(())
+    }
+
+    /// Makes room for one item more. It fails only where there is no room.
+    pub fn reserve_one(&mut self) -> Result<(), NoMemory>
+        ensures items { self.new.items ≡ self.old.items }
+        ensures grows { self.old.space ≤ self.new.space }
+        ensures ok { OnOk result (length self.new.items < self.new.space) }
+        ensures full { OnErr result (self.old.space ≤ length self.old.items) }
+        ensures err { OnErr result (self.new ≡ self.old) }
+    {
+        if self.space <= self.items.len() {
+            self.items.reserve(1)?;
+            self.space = self.items.len() + 1;
+        }
+        Ok(())
+    }
+
+    /// Takes all items out.
+    pub fn clear(&mut self)
+    where
+        T: Drop,
+        ensures { self.new ≡ record self.old { items = [] } }
+    {
+        self.items.clear();
+    }
+}
+
+impl<T: Drop> Entries<T> {
+    /// Puts an item at the end.
+    pub fn push(&mut self, item: T)
+        requires { length self.old.items < self.old.space }
+        ensures { self.new ≡ record self.old { items = self.old.items ++ item ∷ [] } }
+    {
+        let _ = self.items.push(item);
+    }
+
+    /// Takes out the item at an index; those behind it move up.
+    pub fn remove(&mut self, index: usize)
+        requires { index < length self.old.items }
+        ensures { self.new ≡ record self.old { items = remove self.old.items index } }
+    {
+        let _ = self.items.remove(index);
+    }
+}
+
+impl Entries<u32> {
+    /// Whether a number is among the items.
+    pub fn has(&self, item: u32) -> bool
+        ensures { result ≡ has item self.now.items }
+    {
+        self.items.contains(&item)
+    }
+
+    /// Takes out the first place of a number, if it is there.
+    pub fn erase(&mut self, item: u32)
+        ensures { self.new ≡ record self.old { items = erase item self.old.items } }
+    {
+        if let Some(index) = index_of(&self.items, item) {
+            let _ = self.items.remove(index);
+        }
+    }
+
+    /// Has the items of a slice in place of its own.
+    pub fn copy_from(&mut self, items: &[u32])
+        requires { length items.now ≤ self.old.space }
+        ensures { self.new ≡ record self.old { items = items.now } }
+    {
+        self.items.clear();
+        let _ = self.items.extend_from_slice(items);
+    }
+}
+
+impl Entries<u64> {
+    /// Puts a number at an index, with zeros between the end and that index. It fails only where there is no room.
+    pub fn put_cell(&mut self, index: usize, cell: u64) -> Result<(), NoMemory>
+        requires { index < 2 ^ 63 }
+        ensures ok { OnOk result (self.new.items ≡ put_cell self.old.items index cell) }
+        ensures err { OnErr result (self.new ≡ self.old) }
+        ensures full { OnErr result (self.old.space ≤ index) }
+        ensures grows { self.old.space ≤ self.new.space }
+    {
+        if index < self.items.len() {
+            self.items[index] = cell;
+            return Ok(());
+        }
+        self.reserve(index + 1)?;
+        let _ = self.items.resize(index, 0);
+        let _ = self.items.push(cell);
+        Ok(())
+    }
+}
+
+// The first index of a number.
+fn index_of(items: &[u32], item: u32) -> Option<usize>
+    ensures { result ≡ position (λ x. x == item) items.now }
+{
+    items.iter().position(|&x| x == item)
+}

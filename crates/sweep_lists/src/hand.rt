@@ -1,0 +1,249 @@
+ghost use Rattle.std.specs.Prelude.{◌≡◌, ◌≤◌, ◌<◌, ◌⊎◌, ℕ, length, None, IfOk, OnOk, OnErr};
+ghost use Rattle.sweep_laws.specs.Needs.{listed, is_idle as no_pages};
+ghost use Rattle.sweep_laws.specs.Changes.{
+  hold,
+  let_go,
+  start_sweep,
+  end_sweep,
+  put_in_cache,
+  take_from_cache,
+  sweep_from_cache,
+  claim_cell,
+  fill_cell,
+  pop_entry,
+  drop_entry,
+};
+ghost use Rattle.sweep_lists.specs.Bare.{bare_hand};
+ghost use Rattle.sweep_lists.specs.Loops.{without_swept};
+ghost use Rattle.sweep_lists.specs.Views.{hand_view, HandRoom};
+
+use crate::entries::Entries;
+use crate::numbers::Numbers;
+use edge_io::NoMemory;
+use std::alloc::Global;
+use sweep_laws::{Claimed, Kind};
+
+/// What one worker has, by first pages.
+#[derive(Debug, Drop)]
+pub struct CoreHand {
+    /// Spans that it sweeps.
+    pub sweeping: Numbers,
+    /// Swept spans that it holds.
+    pub held: Numbers,
+    /// Spans that it has cached.
+    pub cached: Numbers,
+    /// Entries that it popped from unswept sets.
+    pub popped: Numbers,
+    /// The index that it claimed and has not filled.
+    pub claimed: Option<Claimed>,
+    /// Spans that it swept since the last mark end.
+    pub swept: Entries<u32>,
+}
+
+impl CoreHand {
+    /// A hand that has nothing, with tables of the pages of a region of so many pages.
+    pub fn new(alloc: Global, pages: u32) -> Result<Self, NoMemory>
+        ensures { IfOk result (λ hand. hand ≡ bare_hand) }
+    {
+        Ok(CoreHand {
+            sweeping: Numbers::with_table(alloc, pages)?,
+            held: Numbers::with_table(alloc, pages)?,
+            cached: Numbers::with_table(alloc, pages)?,
+            popped: Numbers::with_table(alloc, pages)?,
+            claimed: None,
+            swept: Entries::new(alloc),
+        })
+    }
+
+    /// The list of that kind.
+    pub fn list(&self, kind: Kind) -> &Numbers
+        ensures { result.now.items ≡ listed kind (hand_view self.now) }
+    {
+        match kind {
+            Kind::Sweeping => &self.sweeping,
+            Kind::Held => &self.held,
+            Kind::Cached => &self.cached,
+            Kind::Popped => &self.popped,
+        }
+    }
+
+    /// Holds a span.
+    pub fn hold(&mut self, page: u32) -> Result<(), NoMemory>
+        ensures ok { OnOk result (hand_view self.new ≡ hold page (hand_view self.old)) }
+        ensures err { OnErr result (hand_view self.new ≡ hand_view self.old) }
+        ensures full { OnErr result (self.old.held.space ≤ length self.old.held.items) }
+        ensures room { (n : ℕ) → HandRoom n self.old → HandRoom n self.new }
+    {
+        self.held.reserve_one()?;
+        self.held.push(page);
+        Ok(())
+    }
+
+    /// Begins to sweep a span, which leaves the popped entries.
+    pub fn start_sweep(&mut self, page: u32) -> Result<(), NoMemory>
+        ensures ok { OnOk result (hand_view self.new ≡ start_sweep page (hand_view self.old)) }
+        ensures err { OnErr result (hand_view self.new ≡ hand_view self.old) }
+        ensures full { OnErr result (self.old.sweeping.space ≤ length self.old.sweeping.items) }
+        ensures room { (n : ℕ) → HandRoom n self.old → HandRoom n self.new }
+    {
+        self.sweeping.reserve_one()?;
+        self.sweeping.push(page);
+        self.popped.erase(page);
+        Ok(())
+    }
+
+    /// Caches a span that it holds.
+    pub fn put_in_cache(&mut self, page: u32) -> Result<(), NoMemory>
+        ensures ok { OnOk result (hand_view self.new ≡ put_in_cache page (hand_view self.old)) }
+        ensures err { OnErr result (hand_view self.new ≡ hand_view self.old) }
+        ensures full { OnErr result (self.old.cached.space ≤ length self.old.cached.items) }
+        ensures room { (n : ℕ) → HandRoom n self.old → HandRoom n self.new }
+    {
+        self.cached.reserve_one()?;
+        self.cached.push(page);
+        self.held.erase(page);
+        Ok(())
+    }
+
+    /// Takes a span out of the cache and holds it.
+    pub fn take_from_cache(&mut self, page: u32) -> Result<(), NoMemory>
+        ensures ok { OnOk result (hand_view self.new ≡ take_from_cache page (hand_view self.old)) }
+        ensures err { OnErr result (hand_view self.new ≡ hand_view self.old) }
+        ensures full { OnErr result (self.old.held.space ≤ length self.old.held.items) }
+        ensures room { (n : ℕ) → HandRoom n self.old → HandRoom n self.new }
+    {
+        self.held.reserve_one()?;
+        self.held.push(page);
+        self.cached.erase(page);
+        Ok(())
+    }
+
+    /// Takes a span out of the cache and begins to sweep it.
+    pub fn sweep_from_cache(&mut self, page: u32) -> Result<(), NoMemory>
+        ensures ok { OnOk result (hand_view self.new ≡ sweep_from_cache page (hand_view self.old)) }
+        ensures err { OnErr result (hand_view self.new ≡ hand_view self.old) }
+        ensures full { OnErr result (self.old.sweeping.space ≤ length self.old.sweeping.items) }
+        ensures room { (n : ℕ) → HandRoom n self.old → HandRoom n self.new }
+    {
+        self.sweeping.reserve_one()?;
+        self.sweeping.push(page);
+        self.cached.erase(page);
+        Ok(())
+    }
+
+    /// Has popped an entry.
+    pub fn pop_entry(&mut self, page: u32) -> Result<(), NoMemory>
+        ensures ok { OnOk result (hand_view self.new ≡ pop_entry page (hand_view self.old)) }
+        ensures err { OnErr result (hand_view self.new ≡ hand_view self.old) }
+        ensures full { OnErr result (self.old.popped.space ≤ length self.old.popped.items) }
+        ensures room { (n : ℕ) → HandRoom n self.old → HandRoom n self.new }
+    {
+        self.popped.reserve_one()?;
+        self.popped.push(page);
+        Ok(())
+    }
+
+    /// Lets go of a span that it holds.
+    pub fn let_go(&mut self, page: u32)
+        ensures view { hand_view self.new ≡ let_go page (hand_view self.old) }
+        ensures room { (n : ℕ) → HandRoom n self.old → HandRoom n self.new }
+    {
+        self.held.erase(page);
+    }
+
+    /// Has claimed an index of a set.
+    pub fn claim_cell(&mut self, claim: Claimed)
+        ensures view { hand_view self.new ≡ claim_cell claim.set claim.index claim.page (hand_view self.old) }
+        ensures room { (n : ℕ) → HandRoom n self.old → HandRoom n self.new }
+    {
+        self.claimed = Some(claim);
+    }
+
+    /// Has filled its claim with a span, which it holds no more.
+    pub fn fill_cell(&mut self, page: u32)
+        ensures view { hand_view self.new ≡ fill_cell page (hand_view self.old) }
+        ensures room { (n : ℕ) → HandRoom n self.old → HandRoom n self.new }
+    {
+        self.let_go(page);
+        self.claimed = None;
+    }
+
+    /// Drops a popped entry.
+    pub fn drop_entry(&mut self, page: u32)
+        ensures view { hand_view self.new ≡ drop_entry page (hand_view self.old) }
+        ensures room { (n : ℕ) → HandRoom n self.old → HandRoom n self.new }
+    {
+        self.popped.erase(page);
+    }
+
+    /// Forgets what it swept.
+    pub fn forget_swept(&mut self)
+        ensures { self.new ≡ without_swept 0 self.old }
+    {
+        self.swept.clear();
+    }
+
+    /// Whether it neither sweeps nor holds nor has popped a page.
+    pub fn is_idle(&self) -> bool
+        ensures { result ≡ no_pages (hand_view self.now) }
+    {
+        self.sweeping.is_empty() && self.held.is_empty() && self.popped.is_empty()
+    }
+
+    /// Makes room for so many entries in each list.
+    pub fn reserve_all(&mut self, room: usize) -> Result<(), NoMemory>
+        ensures view { hand_view self.new ≡ hand_view self.old }
+        ensures ok { OnOk result (HandRoom room self.new) }
+        ensures room { (n : ℕ) → HandRoom n self.old → HandRoom n self.new }
+    {
+        self.sweeping.reserve(room)?;
+        self.held.reserve(room)?;
+        self.cached.reserve(room)?;
+        self.popped.reserve(room)?;
+        self.swept.reserve(room)
+    }
+
+    /// Makes room for one span more that it holds.
+    pub fn reserve_held(&mut self) -> Result<(), NoMemory>
+        ensures view { hand_view self.new ≡ hand_view self.old }
+        ensures held { OnOk result (length self.new.held.items < self.new.held.space) }
+        ensures full { OnErr result (self.old.held.space ≤ length self.old.held.items) }
+        ensures room { (n : ℕ) → HandRoom n self.old → HandRoom n self.new }
+    {
+        self.held.reserve_one()
+    }
+
+    /// Holds a span, for which there is room.
+    pub fn take_hold(&mut self, page: u32)
+        requires { length self.old.held.items < self.old.held.space }
+        ensures view { hand_view self.new ≡ hold page (hand_view self.old) }
+        ensures room { (n : ℕ) → HandRoom n self.old → HandRoom n self.new }
+    {
+        self.held.push(page);
+    }
+
+    /// Makes room for the end of a sweep.
+    pub fn reserve_end(&mut self) -> Result<(), NoMemory>
+        ensures view { hand_view self.new ≡ hand_view self.old }
+        ensures held { OnOk result (length self.new.held.items < self.new.held.space) }
+        ensures swept { OnOk result (length self.new.swept.items < self.new.swept.space) }
+        ensures full { OnErr result ((self.old.held.space ≤ length self.old.held.items) ⊎ (self.old.swept.space ≤ length self.old.swept.items)) }
+        ensures room { (n : ℕ) → HandRoom n self.old → HandRoom n self.new }
+    {
+        self.held.reserve_one()?;
+        self.swept.reserve_one()?;
+        Ok(())
+    }
+
+    /// Ends the sweep of a span and holds it.
+    pub fn end_sweep(&mut self, page: u32)
+        requires held { length self.old.held.items < self.old.held.space }
+        requires swept { length self.old.swept.items < self.old.swept.space }
+        ensures view { hand_view self.new ≡ end_sweep page (hand_view self.old) }
+        ensures room { (n : ℕ) → HandRoom n self.old → HandRoom n self.new }
+    {
+        self.sweeping.erase(page);
+        self.held.push(page);
+        self.swept.push(page);
+    }
+}

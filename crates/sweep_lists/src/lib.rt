@@ -1,0 +1,21 @@
+//! The lists that the state of span ownership is made of, with room for more, and with indices by page beside them.
+#![tactic(auto)]
+
+mod entries;
+mod hand;
+mod indices;
+mod life;
+mod lives;
+mod marks;
+mod numbers;
+mod set;
+mod spare;
+
+pub use entries::Entries;
+pub use hand::CoreHand;
+pub use indices::Indices;
+pub use life::Life;
+pub use lives::Lives;
+pub use numbers::Numbers;
+pub use set::{CoreSet, name_page};
+pub use spare::Spare;

@@ -1,0 +1,101 @@
+ghost use Rattle.std.specs.Prelude.{◌≡◌, ◌≤◌, ◌<◌, true, length, OnOk, OnErr};
+ghost use Rattle.sweep_laws.specs.Changes.{marks_at, keep_marked as kept_marked, allocate_index as allocated_too};
+ghost use Rattle.sweep_laws.specs.Lists.{rises};
+ghost use Rattle.sweep_lists.specs.Loops.{marked};
+ghost use Rattle.sweep_lists.specs.Views.{life_view, LifeRoom};
+
+use crate::entries::Entries;
+use crate::indices::Indices;
+use crate::marks::marks_of;
+use edge_io::NoMemory;
+
+/// A span from its Take to its Give.
+#[derive(Debug, Drop)]
+pub struct Life {
+    /// The first page.
+    pub page: u32,
+    /// The number of pages.
+    pub pages: u32,
+    /// The number of objects for which it has place.
+    pub count: u32,
+    /// The span class: twice the size class, plus 1 for objects without pointers.
+    pub class: u8,
+    /// The indices that are allocated.
+    pub allocated: Indices,
+    /// The allocated indices that the last mark end marked.
+    pub kept: Entries<u32>,
+}
+
+impl Life {
+    // What was marked stays allocated.
+    pub(crate) fn keep_marked(&mut self) -> Result<(), NoMemory>
+        ensures ok { OnOk result (life_view self.new ≡ kept_marked (life_view self.old)) }
+        ensures err { OnErr result (self.new ≡ self.old) }
+        ensures room { LifeRoom self.old → LifeRoom self.new }
+        ensures full { OnErr result (self.old.allocated.space < length self.old.kept.items) }
+    {
+        self.allocated.reserve(self.kept.len())?;
+        self.allocated.copy_from(self.kept.as_slice());
+        Ok(())
+    }
+
+    // An index is allocated.
+    pub(crate) fn allocate(&mut self, index: u32) -> Result<(), NoMemory>
+        ensures ok { OnOk result (life_view self.new ≡ allocated_too index (life_view self.old)) }
+        ensures err { OnErr result (self.new ≡ self.old) }
+        ensures room { LifeRoom self.old → LifeRoom self.new }
+        ensures full { OnErr result (self.old.allocated.space ≤ length self.old.allocated.items) }
+    {
+        self.allocated.reserve_one()?;
+        self.allocated.push(index);
+        Ok(())
+    }
+
+    // Makes room for the marks of this life.
+    pub(crate) fn reserve_marks(&mut self, marks: &[(u32, u32)]) -> Result<(), NoMemory>
+        requires { rises marks.now ≡ true }
+        ensures view { life_view self.new ≡ life_view self.old }
+        ensures ok { OnOk result (length (marks_at self.new.page marks.now) ≤ self.new.kept.space) }
+        ensures room { LifeRoom self.old → LifeRoom self.new }
+        ensures full { OnErr result (self.old.kept.space < length (marks_at self.old.page marks.now)) }
+    {
+        let own = marks_of(marks, self.page);
+        self.kept.reserve(count_marks(own, self.page))
+    }
+
+    // What is kept is what is marked.
+    pub(crate) fn set_marks(&mut self, marks: &[(u32, u32)])
+        requires rising { rises marks.now ≡ true }
+        requires room { length (marks_at self.old.page marks.now) ≤ self.old.kept.space }
+        ensures { self.new ≡ marked marks.now 0 self.old }
+    {
+        let own = marks_of(marks, self.page);
+        self.keep_marks(own);
+    }
+
+    // What is kept is what some marks name in this life.
+    fn keep_marks(&mut self, marks: &[(u32, u32)])
+        requires { length (marks_at self.old.page marks.now) ≤ self.old.kept.space }
+        ensures { self.new ≡ marked marks.now 0 self.old }
+    {
+        self.kept.clear();
+        for mark in marks {
+            if mark.0 == self.page {
+                self.kept.push(mark.1);
+            }
+        }
+    }
+}
+
+// How many marks name a page.
+fn count_marks(marks: &[(u32, u32)], page: u32) -> usize
+    ensures { result ≡ length (marks_at page marks.now) }
+{
+    let mut count = 0;
+    for mark in marks {
+        if mark.0 == page {
+            count += 1;
+        }
+    }
+    count
+}

@@ -1,0 +1,150 @@
+ghost use Rattle.std.specs.Prelude.{◌≡◌, ◌<◌, ◌≤◌, ◌==◌, ◌||◌, ℕ, false, [], ◌∷◌, ◌++◌, length, IfOk, OnOk, OnErr, slice_index_or};
+ghost use Rattle.sweep_laws.specs.Lists.{has, erase};
+
+use crate::entries::Entries;
+use edge_io::NoMemory;
+use std::alloc::Global;
+use std::marker::Model;
+
+/// Numbers in the order in which they came, with room for more: what is put in within the room takes no memory. A
+/// table tells which of the numbers below a bound are there, so that no list is scanned for them.
+#[derive(Debug, Drop)]
+pub struct Numbers {
+    items: Entries<u32>,
+    // For each number below the bound, whether it is among the items.
+    seen: Vec<bool>,
+}
+
+impl Model for Numbers {
+    ghost use Rattle.std.specs.Prelude.{ℕ};
+    ghost use Rattle.sweep_lists.specs.Room.{Roomy};
+    ghost use Rattle.sweep_lists.specs.Tables.{TellsMembers};
+
+    ghost Value = { Roomy ℕ };
+
+    ghost view = { λ numbers. numbers.items };
+
+    ghost invariant = { λ numbers. TellsMembers numbers.seen.items numbers.items.items };
+}
+
+impl Numbers {
+    /// No numbers, no room, and no table.
+    pub fn new(alloc: Global) -> Self
+        ensures { result ≡ record { items = []; space = 0 } }
+    {
+        Numbers {
+            items: Entries::new(alloc),
+            seen: Vec::new(alloc),
+        }
+    }
+
+    /// No numbers and no room, with a table of the numbers below `bound`.
+    pub fn with_table(alloc: Global, bound: u32) -> Result<Self, NoMemory>
+        ensures { IfOk result (λ numbers. numbers ≡ record { items = []; space = 0 }) }
+    {
+        let seen = vec![in alloc; false; bound as usize]?;
+        Ok(Numbers {
+            items: Entries::new(alloc),
+            seen,
+        })
+    }
+
+    /// The numbers.
+    pub fn as_slice(&self) -> &[u32]
+        ensures { result.now ≡ self.now.items }
+    {
+        self.items.as_slice()
+    }
+
+    /// How many numbers there are.
+    pub fn len(&self) -> usize
+        ensures { result ≡ length self.now.items }
+    {
+        self.items.len()
+    }
+
+    /// Whether there are no numbers.
+    pub fn is_empty(&self) -> bool
+        ensures { result ≡ (length self.now.items == 0) }
+    {
+        self.items.is_empty()
+    }
+
+    /// Whether a number is there: one look into the table where the number is below its bound, a scan of the list
+    /// where it is not.
+    pub fn has(&self, item: u32) -> bool
+        ensures { result ≡ has item self.now.items }
+    {
+        match self.seen.get(item as usize) {
+            Some(seen) => *seen,
+            None => self.items.has(item),
+        }
+    }
+
+    /// Makes room for `space` numbers at least. It fails only where there is less room.
+    pub fn reserve(&mut self, space: usize) -> Result<(), NoMemory>
+        ensures items { self.new.items ≡ self.old.items }
+        ensures grows { self.old.space ≤ self.new.space }
+        ensures ok { OnOk result (space ≤ self.new.space) }
+        ensures full { OnErr result (self.old.space < space) }
+        ensures err { OnErr result (self.new ≡ self.old) }
+    {
+        self.items.reserve(space)
+    }
+
+    /// Makes room for one number more. It fails only where there is no room.
+    pub fn reserve_one(&mut self) -> Result<(), NoMemory>
+        ensures items { self.new.items ≡ self.old.items }
+        ensures grows { self.old.space ≤ self.new.space }
+        ensures ok { OnOk result (length self.new.items < self.new.space) }
+        ensures full { OnErr result (self.old.space ≤ length self.old.items) }
+        ensures err { OnErr result (self.new ≡ self.old) }
+    {
+        self.items.reserve_one()
+    }
+
+    /// Puts a number at the end.
+    pub fn push(&mut self, item: u32)
+        requires { length self.old.items < self.old.space }
+        ensures { self.new ≡ record self.old { items = self.old.items ++ item ∷ [] } }
+    {
+        self.items.push(item);
+        if (item as usize) < self.seen.len() {
+            self.seen[item as usize] = true;
+        }
+    }
+
+    /// Takes out the first place of a number, if it is there; those behind it move up. Where the table tells that it is
+    /// not there, nothing is scanned.
+    pub fn erase(&mut self, item: u32)
+        ensures { self.new ≡ record self.old { items = erase item self.old.items } }
+    {
+        if self.has(item) {
+            self.items.erase(item);
+            if (item as usize) < self.seen.len() {
+                self.seen[item as usize] = self.items.has(item);
+            }
+        }
+    }
+
+    /// Has the numbers of a slice in place of its own.
+    pub fn copy_from(&mut self, items: &[u32])
+        requires { length items.now ≤ self.old.space }
+        ensures { self.new ≡ record self.old { items = items.now } }
+    {
+        self.items.copy_from(items);
+        self.seen.fill(false);
+        tell_all(&mut self.seen, items);
+    }
+}
+
+// The table tells of some numbers that they are there.
+fn tell_all(seen: &mut [bool], items: &[u32])
+    ensures { (i : ℕ) → i < length seen.old → slice_index_or seen.new i false ≡ (slice_index_or seen.old i false || has i items.now) }
+{
+    for &item in items {
+        if (item as usize) < seen.len() {
+            seen[item as usize] = true;
+        }
+    }
+}

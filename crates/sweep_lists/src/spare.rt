@@ -1,0 +1,104 @@
+ghost use Rattle.std.specs.Prelude.{◌≡◌, ◌≤◌, ◌<◌, [], OnOk, OnErr, IfOk, max};
+ghost use Rattle.sweep_laws.specs.Changes.{new_life, left_prepared};
+ghost use Rattle.sweep_lists.specs.KeptSpare.{IsPrepared};
+ghost use Rattle.sweep_lists.specs.Views.{life_view, LifeRoom};
+
+use crate::entries::Entries;
+use crate::indices::Indices;
+use crate::life::Life;
+use edge_io::NoMemory;
+use std::alloc::Global;
+use std::marker::Model;
+use std::mem::replace;
+
+/// The two lists of a life to come. Its value is the number of objects for which they are prepared.
+#[derive(Debug, Drop)]
+pub struct Spare {
+    count: u32,
+    allocated: Indices,
+    kept: Entries<u32>,
+}
+
+impl Model for Spare {
+    ghost use Rattle.std.specs.Prelude.{ℕ};
+    ghost use Rattle.sweep_lists.specs.KeptSpare.{IsPrepared};
+
+    ghost Value = { ℕ };
+
+    ghost view = { λ spare. spare.count };
+
+    ghost invariant = { λ spare. IsPrepared spare.count spare.allocated spare.kept };
+}
+
+impl Spare {
+    /// Nothing prepared.
+    pub fn new(alloc: Global) -> Self
+        ensures { result ≡ 0 }
+    {
+        Spare {
+            count: 0,
+            allocated: Indices::new(alloc),
+            kept: Entries::new(alloc),
+        }
+    }
+
+    /// Prepares for at least so many objects. It fails only where fewer are prepared.
+    pub fn reserve(&mut self, alloc: Global, count: u32) -> Result<(), NoMemory>
+        ensures ok { OnOk result (self.new ≡ max self.old count) }
+        ensures err { OnErr result (self.new ≡ self.old) }
+        ensures full { OnErr result (self.old < count) }
+    {
+        if self.count < count {
+            let (allocated, kept) = lists(alloc, count)?;
+            self.allocated = allocated;
+            self.kept = kept;
+            self.count = count;
+        }
+        Ok(())
+    }
+
+    /// Makes a life with room for `count` objects, of what is prepared where that is enough: then nothing is prepared
+    /// any more.
+    pub fn make(
+        &mut self,
+        alloc: Global,
+        page: u32,
+        pages: u32,
+        count: u32,
+        class: u8,
+    ) -> Result<Life, NoMemory>
+        ensures life { IfOk result (λ life. life_view life ≡ new_life page pages count class) }
+        ensures room { IfOk result LifeRoom }
+        ensures left { OnOk result (self.new ≡ left_prepared self.old count) }
+        ensures err { OnErr result (self.new ≡ self.old) }
+        ensures full { OnErr result (self.old < count) }
+    {
+        let (allocated, kept) = if count <= self.count {
+            self.count = 0;
+            let allocated = replace(&mut self.allocated, Indices::new(alloc));
+            let kept = replace(&mut self.kept, Entries::new(alloc));
+            (allocated, kept)
+        } else {
+            lists(alloc, count)?
+        };
+        Ok(Life {
+            page,
+            pages,
+            count,
+            class,
+            allocated,
+            kept,
+        })
+    }
+}
+
+// Two lists without entries, with room for the indices of so many objects.
+fn lists(alloc: Global, count: u32) -> Result<(Indices, Entries<u32>), NoMemory>
+    ensures { IfOk result (λ lists. IsPrepared count lists.0 lists.1) }
+{
+    let mut allocated = Indices::with_table(alloc, count)?;
+    allocated.reserve(count as usize)?;
+    let mut kept = Entries::new(alloc);
+    kept.reserve(count as usize)?;
+    Ok((allocated, kept))
+}
