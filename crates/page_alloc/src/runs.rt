@@ -69,6 +69,7 @@ pub(crate) fn full_chunks(chunks: &[Chunk], full: usize) -> usize
     requires taken { (p : ℕ) → p < 512 * full → free_in chunks.now p ≡ false }
     ensures within { result ≤ length chunks.now }
     ensures taken { (p : ℕ) → p < 512 * result → free_in chunks.now p ≡ false }
+    ensures stops { result < length chunks.now → (p : ℕ) × (p < 512) × (free_in chunks.now (512 * result + p) ≡ true) }
 {
     for index in full..chunks.len() {
         let (_, max, _) = chunks[index].sums();

@@ -110,69 +110,79 @@ fn answers<R: Abort + AllocGlobal>(
     Ok(())
 }
 
-fn run(page: u32, pages: u32) -> Option<Run> {
-    Some(Run { page, pages })
-}
+const OVER_THREE_CHUNKS: [Step; 42] = [
+    Sizes(1536, 0, 0),
+    Find(1536, Some(0)),
+    Find(1537, None),
+    Take(500, 0, Some(0)),
+    Take(20, 1, Some(500)),
+    Owner(511, Some(500)),
+    Owner(512, Some(500)),
+    Owner(519, Some(500)),
+    Owner(520, None),
+    Take(4, 134, Some(520)),
+    Take(1012, 0, Some(524)),
+    Owner(1535, Some(524)),
+    Sizes(0, 1536, 1536),
+    Find(1, None),
+    Take(1, 2, None),
+    Scavenge(None),
+    Give(500),
+    Owner(512, None),
+    Sizes(20, 1516, 1536),
+    Find(20, Some(500)),
+    Find(21, None),
+    Scavenge(Some(Run {
+        page: 512,
+        pages: 8,
+    })),
+    Scavenge(Some(Run {
+        page: 500,
+        pages: 12,
+    })),
+    Scavenge(None),
+    Sizes(20, 1516, 1516),
+    Take(1, 3, Some(500)),
+    Sizes(19, 1517, 1517),
+    Take(19, 0, Some(501)),
+    Give(524),
+    Sizes(1012, 524, 1536),
+    Take(512, 1, Some(524)),
+    Owner(1035, Some(524)),
+    Give(0),
+    Sizes(500, 536, 1536),
+    Find(500, Some(0)),
+    Take(501, 0, None),
+    Scavenge(Some(Run {
+        page: 1472,
+        pages: 64,
+    })),
+    Scavenge(Some(Run {
+        page: 1408,
+        pages: 64,
+    })),
+    Take(5, 0, Some(0)),
+    Owner(4, Some(0)),
+    Owner(5, None),
+    Sizes(500, 541, 1408),
+];
+
+const OVER_TWO_CHUNKS: [Step; 9] = [
+    Take(600, 0, Some(0)),
+    Take(425, 0, None),
+    Find(424, Some(600)),
+    Take(424, 1, Some(600)),
+    Give(0),
+    Scavenge(None),
+    Take(1, 3, Some(0)),
+    Owner(1023, Some(600)),
+    Sizes(599, 425, 1024),
+];
 
 #[test]
 fn calls_are_answered(rt: HostRuntime) -> Result<(), Fail> {
-    let over_three = [
-        Sizes(1536, 0, 0),
-        Find(1536, Some(0)),
-        Find(1537, None),
-        Take(500, 0, Some(0)),
-        Take(20, 1, Some(500)),
-        Owner(511, Some(500)),
-        Owner(512, Some(500)),
-        Owner(519, Some(500)),
-        Owner(520, None),
-        Take(4, 134, Some(520)),
-        Take(1012, 0, Some(524)),
-        Owner(1535, Some(524)),
-        Sizes(0, 1536, 1536),
-        Find(1, None),
-        Take(1, 2, None),
-        Scavenge(None),
-        Give(500),
-        Owner(512, None),
-        Sizes(20, 1516, 1536),
-        Find(20, Some(500)),
-        Find(21, None),
-        Scavenge(run(512, 8)),
-        Scavenge(run(500, 12)),
-        Scavenge(None),
-        Sizes(20, 1516, 1516),
-        Take(1, 3, Some(500)),
-        Sizes(19, 1517, 1517),
-        Take(19, 0, Some(501)),
-        Give(524),
-        Sizes(1012, 524, 1536),
-        Take(512, 1, Some(524)),
-        Owner(1035, Some(524)),
-        Give(0),
-        Sizes(500, 536, 1536),
-        Find(500, Some(0)),
-        Take(501, 0, None),
-        Scavenge(run(1472, 64)),
-        Scavenge(run(1408, 64)),
-        Take(5, 0, Some(0)),
-        Owner(4, Some(0)),
-        Owner(5, None),
-        Sizes(500, 541, 1408),
-    ];
-    answers(&rt, 3, 600, over_three.as_slice())?;
-    let over_two = [
-        Take(600, 0, Some(0)),
-        Take(425, 0, None),
-        Find(424, Some(600)),
-        Take(424, 1, Some(600)),
-        Give(0),
-        Scavenge(None),
-        Take(1, 3, Some(0)),
-        Owner(1023, Some(600)),
-        Sizes(599, 425, 1024),
-    ];
-    answers(&rt, 2, 1024, over_two.as_slice())
+    answers(&rt, 3, 600, OVER_THREE_CHUNKS.as_slice())?;
+    answers(&rt, 2, 1024, OVER_TWO_CHUNKS.as_slice())
 }
 
 #[test]

@@ -152,13 +152,8 @@ fn small_reports_are_written(rt: HostRuntime) -> Result<(), Fail> {
 #[test]
 fn reports_of_large_objects_are_written(rt: HostRuntime) -> Result<(), Fail> {
     let alloc = rt.alloc();
-    let [first, second, third, fourth, next] = [
-        Answer::Placed(0xc0_0000_0000),
-        Answer::Placed(0xc0_0010_0000),
-        Answer::Placed(0xc0_0020_0000),
-        Answer::Placed(0xc0_0030_0000),
-        Answer::Placed(0xc0_0000_8000),
-    ];
+    let first = Answer::Placed(0xc0_0000_0000);
+    let next = Answer::Placed(0xc0_0000_8000);
     let two_classes = Row {
         answers: &[first, next],
         journal: &[take(0, 0, 4, 134), take(0, 4, 5, 0)],
@@ -166,6 +161,35 @@ fn reports_of_large_objects_are_written(rt: HostRuntime) -> Result<(), Fail> {
         text: "o 0 0xc000000000\no 1 0xc000008000\nj 0 0 take 0 4 134\nj 1 0 take 4 5 0\nt 0 1 0\nt 67 1 0\nend\n",
         ..NOTHING
     };
+    let scavenged = Row {
+        answers: &[first],
+        journal: &[
+            take(0, 0, 128, 1),
+            give(1, 0, 128),
+            scav(1, 64, 64),
+            scav(1, 0, 64),
+        ],
+        sweeps: &[sweep(1, 0, 0, 1)],
+        totals: &[total(0, 1, 1)],
+        text: "o 0 0xc000000000\nj 0 0 take 0 128 1\nj 1 1 give 0 128\nj 2 1 scav 64 64\nj 3 1 scav 0 64\ns 1 0 0 1\nt 0 1 1\nend\n",
+        ..NOTHING
+    };
+    for row in [two_classes, scavenged] {
+        let outcome = written(alloc, row, &[])?;
+        assert!(rt; outcome.whole);
+        assert_eq!(rt; outcome.held.as_slice(), row.text.as_bytes());
+    }
+    Ok(())
+}
+
+#[test]
+fn a_report_of_a_full_region_is_written(rt: HostRuntime) -> Result<(), Fail> {
+    let [first, second, third, fourth] = [
+        Answer::Placed(0xc0_0000_0000),
+        Answer::Placed(0xc0_0010_0000),
+        Answer::Placed(0xc0_0020_0000),
+        Answer::Placed(0xc0_0030_0000),
+    ];
     let full_region = Row {
         answers: &[first, second, third, fourth, Answer::Missed(6)],
         journal: &[
@@ -187,24 +211,9 @@ fn reports_of_large_objects_are_written(rt: HostRuntime) -> Result<(), Fail> {
         text: "o 0 0xc000000000\no 1 0xc000100000\no 2 0xc000200000\no 3 0xc000300000\no 4 miss 6\nj 0 0 take 0 128 1\nj 1 0 take 128 128 1\nj 2 0 take 256 128 1\nj 3 0 take 384 128 1\nj 4 1 give 0 128\nj 5 1 give 256 128\nj 6 1 miss 129 1\ns 1 0 0 1\ns 1 128 1 0\ns 1 256 0 1\ns 1 384 1 0\nt 0 4 2\nend\n",
         ..NOTHING
     };
-    let scavenged = Row {
-        answers: &[first],
-        journal: &[
-            take(0, 0, 128, 1),
-            give(1, 0, 128),
-            scav(1, 64, 64),
-            scav(1, 0, 64),
-        ],
-        sweeps: &[sweep(1, 0, 0, 1)],
-        totals: &[total(0, 1, 1)],
-        text: "o 0 0xc000000000\nj 0 0 take 0 128 1\nj 1 1 give 0 128\nj 2 1 scav 64 64\nj 3 1 scav 0 64\ns 1 0 0 1\nt 0 1 1\nend\n",
-        ..NOTHING
-    };
-    for row in [two_classes, full_region, scavenged] {
-        let outcome = written(alloc, row, &[])?;
-        assert!(rt; outcome.whole);
-        assert_eq!(rt; outcome.held.as_slice(), row.text.as_bytes());
-    }
+    let outcome = written(rt.alloc(), full_region, &[])?;
+    assert!(rt; outcome.whole);
+    assert_eq!(rt; outcome.held.as_slice(), full_region.text.as_bytes());
     Ok(())
 }
 

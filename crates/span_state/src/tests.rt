@@ -83,11 +83,9 @@ fn bodies_at_word_borders(rt: HostRuntime) -> Result<(), Fail> {
     Ok(())
 }
 
-#[test]
-fn marks_in_any_order(rt: HostRuntime) -> Result<(), Fail> {
-    let mut marks = Marks::empty(rt.alloc());
-    crosses_threads(&marks);
-    crosses_threads(&Body::new(PAGE, 1, 8, 1, 2, 0));
+// Marks of three pages, added out of order and some twice, and dead of two.
+fn marks_out_of_order(alloc: Global) -> Result<Marks, NoMemory> {
+    let mut marks = Marks::empty(alloc);
     let added = [
         (5, 63),
         (5, 64),
@@ -104,7 +102,14 @@ fn marks_in_any_order(rt: HostRuntime) -> Result<(), Fail> {
     for (page, bucket) in [(5, 9), (2, 1), (5, 9), (5, 3)] {
         marks.add_dead(page, bucket)?;
     }
+    Ok(marks)
+}
 
+#[test]
+fn marks_in_any_order(rt: HostRuntime) -> Result<(), Fail> {
+    let marks = marks_out_of_order(rt.alloc())?;
+    crosses_threads(&marks);
+    crosses_threads(&Body::new(PAGE, 1, 8, 1, 2, 0));
     // the page; an index of it, and whether that is marked; how many are; the dead buckets
     let rows = [
         (5, 63, true, 3, [9, 9, 3].as_slice()),

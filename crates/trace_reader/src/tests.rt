@@ -2,7 +2,9 @@
 
 use super::*;
 use edge_io::{Lines, List, MemorySink, MemorySource};
+use std::process::Abort;
 use std::test::Fail;
+use TraceFault::{BadMark, Limit, Malformed, Truncated};
 
 const HEAD: &str = "goheap 1\nheap 1 procs 1 rate 0 seed 1 goal 512\n";
 
@@ -36,7 +38,6 @@ fn fault_behind<R: AllocGlobal>(
 
 #[test]
 fn first_faults(rt: HostRuntime) -> Result<(), Fail> {
-    use TraceFault::{Limit, Malformed, Truncated};
     let rows = [
         ("a 0 24 s 1\na 0 32768 n 999999\nend\n", 999, None),
         ("a 0 32769 s 1\na 0 1099511627776 n 1\nend\n", 999, None),
@@ -90,145 +91,184 @@ fn headers_that_are_not_built(rt: HostRuntime) -> Result<(), Fail> {
     Ok(())
 }
 
-#[test]
-fn mark_ends_and_marks(rt: HostRuntime) -> Result<(), Fail> {
-    use TraceFault::{BadMark, Limit, Malformed};
-    let one = "a 0 8 n 1\n";
-    let rows = [
-        // distances
-        (0, "gc 1\nend\n", None),
-        (0, "gc 1099511627776\nend\n", None),
-        (0, "gc 0\nend\n", Some(Limit(3, Which::Distance))),
-        (
-            0,
-            "gc 1099511627777\nend\n",
-            Some(Limit(3, Which::Distance)),
-        ),
-        (0, "gc 01\nend\n", Some(Malformed(3))),
-        (0, "gc\nend\n", Some(Malformed(3))),
-        (0, "gc 1 1\nend\n", Some(Malformed(3))),
-        // where no marks may stand
-        (0, "m 0 0\nend\n", Some(Malformed(3))),
-        (1, "m 0 0\nend\n", Some(Malformed(4))),
-        (1, "gc 1\na 0 8 n 1\nm 0 0\nend\n", Some(Malformed(6))),
-        (
-            1,
-            "gc 1\nm 0 0\na 0 8 n 1\nm 1 1\nend\n",
-            Some(Malformed(7)),
-        ),
-        // orders
-        (2, "gc 1\nm 0 0\nm 1 1\nend\n", None),
-        (2, "gc 1\nm 1 0\nend\n", Some(Malformed(6))),
-        (2, "gc 1\nm 0 0\nm 0 0\nend\n", Some(Malformed(7))),
-        (2, "gc 1\nm 0 0\nm 0 1\nend\n", Some(Malformed(7))),
-        (2, "gc 1\nm 1 1\nm 0 0\nend\n", Some(Malformed(7))),
-        (2, "gc 1\nm 0 1\nm 1 2\nend\n", Some(Malformed(7))),
-        (2, "gc 1\nm 1 1\ngc 1\nm 0 0\nend\n", Some(BadMark(8, 0))),
-        (2, "gc 1\nm 0 1\ngc 1\nm 0 0\nend\n", None),
-        (2, "gc 1\nm 0 x\nend\n", Some(Malformed(6))),
-        (2, "gc 1\nm 0\nend\n", Some(Malformed(6))),
-        // ids
-        (0, "gc 1\nm 2000000 1\nend\n", Some(Malformed(4))),
-        (
-            0,
-            "gc 1\nm 1000000 1000000\nend\n",
-            Some(Limit(4, Which::Id)),
-        ),
-        (1, "gc 1\nm 0 1000000\nend\n", Some(Limit(5, Which::Id))),
-        (1, "gc 1\nm 0 999999\nend\n", Some(BadMark(5, 1))),
-        (1, "gc 1\nm 999999 999999\nend\n", Some(BadMark(5, 999999))),
-        // dead, future and unknown objects
-        (1, "gc 1\ngc 1\nm 0 0\nend\n", Some(BadMark(6, 0))),
-        (2, "gc 1\nm 0 0\ngc 1\nm 0 1\nend\n", Some(BadMark(8, 1))),
-        (
-            2,
-            "gc 1\nm 1 1\ngc 1\nm 1 1\ngc 1\nm 0 1\nend\n",
-            Some(BadMark(10, 0)),
-        ),
-        (1, "gc 1\nm 1 1\na 0 8 n 1\nend\n", Some(BadMark(5, 1))),
-        (1, "gc 1\nm 0 0\nm 5 9\nend\n", Some(BadMark(6, 5))),
-        // objects that were refused, and objects of size 0
-        (0, "a 0 1099511627776 n 1\ngc 1\nm 0 0\nend\n", None),
-        (0, "a 0 0 n 1\ngc 1\nm 0 0\nend\n", None),
-        // marks of the mark end before, in parts and together
-        (
-            4,
-            "gc 1\nm 0 3\ngc 1\nm 0 0\nm 1 1\nm 2 2\nm 3 3\nend\n",
-            None,
-        ),
-        (
-            4,
-            "gc 1\nm 0 0\nm 1 1\nm 2 3\na 0 8 n 1\ngc 1\nm 0 4\nend\n",
-            None,
-        ),
-        (
-            4,
-            "gc 1\nm 0 0\nm 2 3\na 0 8 n 1\ngc 1\nm 2 5\nend\n",
-            Some(BadMark(12, 5)),
-        ),
-        (
-            4,
-            "gc 1\nm 0 0\nm 2 3\na 0 8 n 1\ngc 1\nm 0 4\nend\n",
-            Some(BadMark(12, 1)),
-        ),
-        (
-            4,
-            "gc 1\nm 0 3\ngc 1\nm 1 1\nm 3 3\ngc 1\nm 1 1\nm 2 2\nend\n",
-            Some(BadMark(14, 2)),
-        ),
-        (
-            4,
-            "gc 1\nm 0 3\ngc 1\ngc 1\nm 3 3\nend\n",
-            Some(BadMark(11, 3)),
-        ),
-    ];
-    for (objects, lines, fault) in rows {
-        let found = fault_behind(&rt, &[(one, objects)], lines)?;
+// How many objects come before, the lines behind them, and what is wrong with the trace, if anything is.
+type MarkRow = (usize, &'static str, Option<TraceFault>);
+
+// distances
+const DISTANCES: [MarkRow; 7] = [
+    (0, "gc 1\nend\n", None),
+    (0, "gc 1099511627776\nend\n", None),
+    (0, "gc 0\nend\n", Some(Limit(3, Which::Distance))),
+    (
+        0,
+        "gc 1099511627777\nend\n",
+        Some(Limit(3, Which::Distance)),
+    ),
+    (0, "gc 01\nend\n", Some(Malformed(3))),
+    (0, "gc\nend\n", Some(Malformed(3))),
+    (0, "gc 1 1\nend\n", Some(Malformed(3))),
+];
+
+// where no marks may stand
+const PLACES_OF_MARKS: [MarkRow; 4] = [
+    (0, "m 0 0\nend\n", Some(Malformed(3))),
+    (1, "m 0 0\nend\n", Some(Malformed(4))),
+    (1, "gc 1\na 0 8 n 1\nm 0 0\nend\n", Some(Malformed(6))),
+    (
+        1,
+        "gc 1\nm 0 0\na 0 8 n 1\nm 1 1\nend\n",
+        Some(Malformed(7)),
+    ),
+];
+
+// orders
+const ORDERS: [MarkRow; 10] = [
+    (2, "gc 1\nm 0 0\nm 1 1\nend\n", None),
+    (2, "gc 1\nm 1 0\nend\n", Some(Malformed(6))),
+    (2, "gc 1\nm 0 0\nm 0 0\nend\n", Some(Malformed(7))),
+    (2, "gc 1\nm 0 0\nm 0 1\nend\n", Some(Malformed(7))),
+    (2, "gc 1\nm 1 1\nm 0 0\nend\n", Some(Malformed(7))),
+    (2, "gc 1\nm 0 1\nm 1 2\nend\n", Some(Malformed(7))),
+    (2, "gc 1\nm 1 1\ngc 1\nm 0 0\nend\n", Some(BadMark(8, 0))),
+    (2, "gc 1\nm 0 1\ngc 1\nm 0 0\nend\n", None),
+    (2, "gc 1\nm 0 x\nend\n", Some(Malformed(6))),
+    (2, "gc 1\nm 0\nend\n", Some(Malformed(6))),
+];
+
+// ids
+const IDS: [MarkRow; 5] = [
+    (0, "gc 1\nm 2000000 1\nend\n", Some(Malformed(4))),
+    (
+        0,
+        "gc 1\nm 1000000 1000000\nend\n",
+        Some(Limit(4, Which::Id)),
+    ),
+    (1, "gc 1\nm 0 1000000\nend\n", Some(Limit(5, Which::Id))),
+    (1, "gc 1\nm 0 999999\nend\n", Some(BadMark(5, 1))),
+    (1, "gc 1\nm 999999 999999\nend\n", Some(BadMark(5, 999999))),
+];
+
+// dead, future and unknown objects
+const OBJECTS_NOT_LIVE: [MarkRow; 5] = [
+    (1, "gc 1\ngc 1\nm 0 0\nend\n", Some(BadMark(6, 0))),
+    (2, "gc 1\nm 0 0\ngc 1\nm 0 1\nend\n", Some(BadMark(8, 1))),
+    (
+        2,
+        "gc 1\nm 1 1\ngc 1\nm 1 1\ngc 1\nm 0 1\nend\n",
+        Some(BadMark(10, 0)),
+    ),
+    (1, "gc 1\nm 1 1\na 0 8 n 1\nend\n", Some(BadMark(5, 1))),
+    (1, "gc 1\nm 0 0\nm 5 9\nend\n", Some(BadMark(6, 5))),
+];
+
+// objects that were refused, and objects of size 0
+const REFUSED_OBJECTS: [MarkRow; 2] = [
+    (0, "a 0 1099511627776 n 1\ngc 1\nm 0 0\nend\n", None),
+    (0, "a 0 0 n 1\ngc 1\nm 0 0\nend\n", None),
+];
+
+// marks of the mark end before, in parts and together
+const MARKS_OF_BEFORE: [MarkRow; 6] = [
+    (
+        4,
+        "gc 1\nm 0 3\ngc 1\nm 0 0\nm 1 1\nm 2 2\nm 3 3\nend\n",
+        None,
+    ),
+    (
+        4,
+        "gc 1\nm 0 0\nm 1 1\nm 2 3\na 0 8 n 1\ngc 1\nm 0 4\nend\n",
+        None,
+    ),
+    (
+        4,
+        "gc 1\nm 0 0\nm 2 3\na 0 8 n 1\ngc 1\nm 2 5\nend\n",
+        Some(BadMark(12, 5)),
+    ),
+    (
+        4,
+        "gc 1\nm 0 0\nm 2 3\na 0 8 n 1\ngc 1\nm 0 4\nend\n",
+        Some(BadMark(12, 1)),
+    ),
+    (
+        4,
+        "gc 1\nm 0 3\ngc 1\nm 1 1\nm 3 3\ngc 1\nm 1 1\nm 2 2\nend\n",
+        Some(BadMark(14, 2)),
+    ),
+    (
+        4,
+        "gc 1\nm 0 3\ngc 1\ngc 1\nm 3 3\nend\n",
+        Some(BadMark(11, 3)),
+    ),
+];
+
+fn marks_are_judged<R: Abort + AllocGlobal>(rt: &R, table: &[MarkRow]) -> Result<(), Fail> {
+    for &(objects, lines, fault) in table {
+        let found = fault_behind(rt, &[("a 0 8 n 1\n", objects)], lines)?;
         assert_eq!(rt; found, fault, "behind {objects} objects at {lines}");
     }
     Ok(())
 }
 
 #[test]
-fn counts_at_their_limits(rt: HostRuntime) -> Result<(), Fail> {
-    use TraceFault::{BadMark, Limit};
-    let object = "a 0 0 n 0\n";
-    let all = "gc 1\nm 0 19999\n";
-    let rows: [(&[(&str, usize)], &str, Option<TraceFault>); 8] = [
-        (&[("gc 1\n", 10_000)], "end\n", None),
-        (
-            &[("gc 1\n", 10_001)],
-            "end\n",
-            Some(Limit(10_003, Which::MarkEnds)),
-        ),
-        (
-            &[("gc 1\n", 10_000)],
-            "gc 0\nend\n",
-            Some(Limit(10_003, Which::Distance)),
-        ),
-        (&[(object, 20_000), (all, 1000)], "gc 1\nend\n", None),
-        (
-            &[(object, 20_000), (all, 1000)],
-            "gc 1\nm 0 0\nend\n",
-            Some(Limit(22_004, Which::Marks)),
-        ),
-        (
-            &[(object, 20_000), (all, 999)],
-            "gc 1\nm 0 20000\nend\n",
-            Some(Limit(22_002, Which::Marks)),
-        ),
-        (
-            &[(object, 20_000), (all, 999)],
-            "gc 1\nm 1 20000\nend\n",
-            Some(BadMark(22_002, 20_000)),
-        ),
-        (
-            &[(object, 20_000), (all, 999)],
-            "gc 1\nm 0 9999\nm 10000 19999\nend\n",
-            None,
-        ),
+fn mark_ends_and_marks(rt: HostRuntime) -> Result<(), Fail> {
+    let tables = [
+        DISTANCES.as_slice(),
+        PLACES_OF_MARKS.as_slice(),
+        ORDERS.as_slice(),
+        IDS.as_slice(),
+        OBJECTS_NOT_LIVE.as_slice(),
+        REFUSED_OBJECTS.as_slice(),
+        MARKS_OF_BEFORE.as_slice(),
     ];
-    for (many, last, fault) in rows {
+    for table in tables {
+        marks_are_judged(&rt, table)?;
+    }
+    Ok(())
+}
+
+const OBJECT: &str = "a 0 0 n 0\n";
+
+const ALL_MARKED: &str = "gc 1\nm 0 19999\n";
+
+// Lines, each so often, the lines behind them, and what is wrong with the trace, if anything is.
+const COUNTS: [(&[(&str, usize)], &str, Option<TraceFault>); 8] = [
+    (&[("gc 1\n", 10_000)], "end\n", None),
+    (
+        &[("gc 1\n", 10_001)],
+        "end\n",
+        Some(Limit(10_003, Which::MarkEnds)),
+    ),
+    (
+        &[("gc 1\n", 10_000)],
+        "gc 0\nend\n",
+        Some(Limit(10_003, Which::Distance)),
+    ),
+    (&[(OBJECT, 20_000), (ALL_MARKED, 1000)], "gc 1\nend\n", None),
+    (
+        &[(OBJECT, 20_000), (ALL_MARKED, 1000)],
+        "gc 1\nm 0 0\nend\n",
+        Some(Limit(22_004, Which::Marks)),
+    ),
+    (
+        &[(OBJECT, 20_000), (ALL_MARKED, 999)],
+        "gc 1\nm 0 20000\nend\n",
+        Some(Limit(22_002, Which::Marks)),
+    ),
+    (
+        &[(OBJECT, 20_000), (ALL_MARKED, 999)],
+        "gc 1\nm 1 20000\nend\n",
+        Some(BadMark(22_002, 20_000)),
+    ),
+    (
+        &[(OBJECT, 20_000), (ALL_MARKED, 999)],
+        "gc 1\nm 0 9999\nm 10000 19999\nend\n",
+        None,
+    ),
+];
+
+#[test]
+fn counts_at_their_limits(rt: HostRuntime) -> Result<(), Fail> {
+    for (many, last, fault) in COUNTS {
         assert_eq!(rt; fault_behind(&rt, many, last)?, fault, "at {last}");
     }
     Ok(())

@@ -1,4 +1,4 @@
-use Rattle.std.proofs.Common.{◌≡◌, ◌+◌, ◌*◌, length, arith}
+use Rattle.std.proofs.Common.{◌≡◌, ◌+◌, ◌*◌, ◌∙◌, length, arith}
 use Rattle.page_bitmap.specs.Pages.{is_free}
 use Rattle.page_alloc.proofs.Walks.{ties-at, empty-more}
 use Rattle.page_alloc.proofs.runs.full_chunks.Goals as goal
@@ -8,6 +8,13 @@ loop-index-init c = c.requires.taken
 
 pub returns-then-max-gt0-clause-taken : goal.returns-then-max-gt0-clause-taken
 returns-then-max-gt0-clause-taken c = c.loop-index.invariant
+
+pub returns-then-max-gt0-clause-stops : goal.returns-then-max-gt0-clause-stops
+returns-then-max-gt0-clause-stops c less =
+    let run = c.sums-max.ensures.max.run in
+    let within = run.1.within in
+    let free = run.1.each run.0 (omega arith) (omega arith) in
+    (run.0, omega arith, (ties-at is_free c.args.chunks.now c.loop-index.index _ c.loop-index-test.true).at run.0 (omega arith) ∙ free)
 
 pub loop-index-preserved : goal.loop-index-preserved
 loop-index-preserved c p lt =
