@@ -31,6 +31,10 @@ pages_of_map map = has_page map.words
 abbrev pub pages_in : List Bitmap → ℕ → Bool
 pages_in maps = over pages_of_map maps
 
+-- The map has a page of chunk k.
+abbrev pub HasPageOf : (ℕ → Bool) → ℕ → Type 0
+HasPageOf map k = (p : ℕ) × (p / 512 ≡ k) × (map p ≡ true)
+
 -- The page is the last one of a map, up to a limit.
 pub record IsLastIn (map : ℕ → Bool) (limit page : ℕ) : Type 0 where
   pub low : page ≤ limit

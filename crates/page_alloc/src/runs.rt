@@ -20,6 +20,7 @@ ghost use Rattle.page_bitmap.specs.Counts.{count_run};
 ghost use Rattle.page_bitmap.specs.Runs.{SetsRun};
 ghost use Rattle.page_alloc.specs.Region.{
   HasNoRunIn,
+  HasPageOf,
   IsFirstRunIn,
   IsLongestRunIn,
   IsRunIn,
@@ -69,7 +70,7 @@ pub(crate) fn full_chunks(chunks: &[Chunk], full: usize) -> usize
     requires taken { (p : ℕ) → p < 512 * full → free_in chunks.now p ≡ false }
     ensures within { result ≤ length chunks.now }
     ensures taken { (p : ℕ) → p < 512 * result → free_in chunks.now p ≡ false }
-    ensures stops { result < length chunks.now → (p : ℕ) × (p < 512) × (free_in chunks.now (512 * result + p) ≡ true) }
+    ensures stops { result < length chunks.now → HasPageOf (free_in chunks.now) result }
 {
     for index in full..chunks.len() {
         let (_, max, _) = chunks[index].sums();

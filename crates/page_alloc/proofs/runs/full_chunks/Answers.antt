@@ -14,7 +14,7 @@ returns-then-max-gt0-clause-stops c less =
     let run = c.sums-max.ensures.max.run in
     let within = run.1.within in
     let free = run.1.each run.0 (omega arith) (omega arith) in
-    (run.0, omega arith, (ties-at is_free c.args.chunks.now c.loop-index.index _ c.loop-index-test.true).at run.0 (omega arith) ∙ free)
+    (512 * c.loop-index.index + run.0, omega arith, (ties-at is_free c.args.chunks.now c.loop-index.index _ c.loop-index-test.true).at run.0 (omega arith) ∙ free)
 
 pub loop-index-preserved : goal.loop-index-preserved
 loop-index-preserved c p lt =

@@ -1,4 +1,5 @@
-use Rattle.std.proofs.Common.{◌≡◌, ◌<◌, length, refl, ◌∙◌, sym, ap, arith}
+use Rattle.std.proofs.Common.{◌≡◌, ◌/◌, ◌<◌, length, refl, ◌∙◌, sym, ap, arith, inl, inr}
+use Rattle.std.proofs.lemmas.Bool.{cases_lt}
 use Rattle.std.proofs.lemmas.List.{get_or_read, with_items_is}
 use Rattle.page_alloc.proofs.Keeping.{given, kept-give}
 use Rattle.page_alloc.proofs.Adding.{adds-line, sound-after, owner-view, by-view}
@@ -62,6 +63,15 @@ invariant_of-self c =
     (rw c.as_mut_slice.ensures.value at c.free_run.ensures.free) (rw c.as_mut_slice.ensures.value at c.free_run.ensures.scavenged) (rw c.as_mut_slice-2.ensures.value at c.mark_start.ensures))
     (omega arith) (let within = sound.full_within in omega arith)
     (λ p lt. (rw c.as_mut_slice.ensures.value at c.free_run.ensures.free).below p (omega arith) ∙ sound.full_taken p (omega arith))
+    (λ lt. elim (cases_lt c.self.inside.full (c.args.page / 512)) [
+      | inl front ↦ (
+          let here = sound.full_stops (omega arith) in
+          let chunk = here.1 in
+          (here.0, omega arith, (rw c.as_mut_slice.ensures.value at c.free_run.ensures.free).below here.0 (omega arith) ∙ here.2))
+      | inr behind ↦ (
+          let some = life.1.some in
+          (c.args.page, omega arith, (rw c.as_mut_slice.ensures.value at c.free_run.ensures.free).inside c.args.page (omega arith) (omega arith)))
+    ])
 
 pub returns : goal.returns
 returns c =

@@ -24,16 +24,18 @@ invariant_of-result c =
     λ k d lt. rw chunks (get_or-replicate {A = Chunk} c.args.chunks k c.new.result d lt) in
     let map : (k : ℕ) (d : Bitmap) → k < c.args.chunks → get_or c.in_ok-vec-2.field-0.items k d ≡ c.empty.result =
     λ k d lt. rw maps (get_or-replicate {A = Bitmap} c.args.chunks k c.empty.result d lt) in
+    let free = over-each is_free c.in_ok-vec.field-0.items c.new.result true (λ k j lt low. ap (λ (x : Chunk). is_free x j) (chunk k c.new.result (omega arith)) ∙ c.new.ensures.free.each j (omega arith) low) in
     record {
       some_chunks = omega arith;
       few_chunks = omega arith;
       maps = omega arith;
       numbers = omega arith;
       kept = rw c.new-2.ensures.items (kept-new _ _ _ _ _ _
-          (over-each is_free c.in_ok-vec.field-0.items c.new.result true (λ k j lt low. ap (λ (x : Chunk). is_free x j) (chunk k c.new.result (omega arith)) ∙ c.new.ensures.free.each j (omega arith) low))
+          free
           (over-each is_scavenged c.in_ok-vec.field-0.items c.new.result true (λ k j lt low. ap (λ (x : Chunk). is_scavenged x j) (chunk k c.new.result (omega arith)) ∙ c.new.ensures.scavenged.each j (omega arith) low))
           (λ p lt. over-each pages_of_map c.in_ok-vec-2.field-0.items c.empty.result false (λ k j ltk low. ap (λ (x : Bitmap). pages_of_map x j) (map k c.empty.result (omega arith)) ∙ c.empty.ensures j) p (omega arith)));
       full_within = omega arith;
       full_taken = λ p lt. absurd (omega arith);
+      full_stops = λ lt. (0, omega arith, free 0 (omega arith));
       room = omega arith;
     }

@@ -28,6 +28,7 @@ invariant_of-self c =
     (rw c.as_mut_slice.ensures.value at c.scavenge_run.ensures.free) (rw c.as_mut_slice.ensures.value at c.scavenge_run.ensures.scavenged))
     (omega arith) (rw chunks sound.full_within)
     (λ p lt. rw c.as_mut_slice.ensures.value at c.scavenge_run.ensures.free p ∙ sound.full_taken p lt)
+    (λ lt. let here = sound.full_stops (omega arith) in (here.0, here.1, rw c.as_mut_slice.ensures.value at c.scavenge_run.ensures.free here.0 ∙ here.2))
 
 pub returns-clause-released : goal.returns-clause-released
 returns-clause-released c =

@@ -17,7 +17,7 @@ invariant_of-self c =
     sound-after c.self.inside _ c.self.inside.chunks.items c.self.inside.starts.items c.self.inside.lengths.items _ sound refl refl refl refl refl refl append.past
     (kept-miss sound.kept (by-view c.self.inside c.args.self.now c.args.cycle c.self.view_is c.requires.cycle) c.requires.some
     (no-run sound.kept (rw c.as_slice.ensures.value at c.in_default.ensures.none)))
-    (omega arith) sound.full_within sound.full_taken
+    (omega arith) sound.full_within sound.full_taken sound.full_stops
 
 pub returns-in_default-clause-missed : goal.returns-in_default-clause-missed
 returns-in_default-clause-missed c =
@@ -59,7 +59,7 @@ invariant_of-self-2 c =
     (with_items_is c.self.inside.starts c.mark_start.new.starts (maps ∙ sym c.self.inside.starts.ok.0)) refl chunks maps (length-set _ _ _) append.past
     (kept-take _ _ _ c.args.cycle c.in-Some.page c.args.n c.args.class sound.kept (by-view c.self.inside c.args.self.now c.args.cycle c.self.view_is c.requires.cycle) size fit (omega arith)
     (rw c.as_mut_slice.ensures.value at c.take_run.ensures.free) (rw c.as_mut_slice.ensures.value at c.take_run.ensures.scavenged) (rw c.as_mut_slice-2.ensures.value at c.mark_start.ensures))
-    (omega arith) (rw (with_chunks) at c.full_chunks-self-inside.ensures.within) (rw (with_chunks) at c.full_chunks-self-inside.ensures.taken))
+    (omega arith) (rw (with_chunks) at c.full_chunks-self-inside.ensures.within) (rw (with_chunks) at c.full_chunks-self-inside.ensures.taken) (rw (with_chunks) at c.full_chunks-self-inside.ensures.stops))
 
 pub returns-clause-taken : goal.returns-clause-taken
 returns-clause-taken c =
