@@ -59,7 +59,7 @@ pub struct NoRun {
 #[derive(Drop)]
 pub struct Pages {
     chunks: Vec<Chunk>,
-    // So many chunks at the front have no free page, so that no search begins there.
+    // So many chunks at the front have no free page, and the next one has some: each search begins there.
     full: usize,
     starts: Vec<Bitmap>,
     lengths: Vec<u32>,

@@ -1,10 +1,10 @@
 //! Traces in memory. The faults are found by hand from the rules of the format.
 
 use super::*;
+use TraceFault::{BadMark, Limit, Malformed, Truncated};
 use edge_io::{Lines, List, MemorySink, MemorySource};
 use std::process::Abort;
 use std::test::Fail;
-use TraceFault::{BadMark, Limit, Malformed, Truncated};
 
 const HEAD: &str = "goheap 1\nheap 1 procs 1 rate 0 seed 1 goal 512\n";
 

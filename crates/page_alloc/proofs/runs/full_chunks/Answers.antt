@@ -7,7 +7,7 @@ pub loop-index-init : goal.loop-index-init
 loop-index-init c = c.requires.taken
 
 pub returns-then-max-gt0-clause-taken : goal.returns-then-max-gt0-clause-taken
-returns-then-max-gt0-clause-taken c = c.loop-index.invariant
+returns-then-max-gt0-clause-taken c = λ p lt. c.loop-index.invariant p (omega arith)
 
 pub returns-then-max-gt0-clause-stops : goal.returns-then-max-gt0-clause-stops
 returns-then-max-gt0-clause-stops c less =
