@@ -1,31 +1,23 @@
 -- From an object with an answer to the object of a request, and what a run of one cycle has to show at its end.
-use Rattle.std.proofs.Common.{◌≡◌, ◌≢◌, ℕ, zero, suc, ◌+◌, ◌<◌, ◌≤◌, List, [], ◌∷◌, ◌++◌, reverse, length, take, get_or, replicate, Option, None, refl, sym, ◌∙◌, ap, arith, append_assoc, length-append, inl, inr}
-use Rattle.std.specs.List.{AllByRecursion}
-use Rattle.std.specs.Prelude.{All}
+use Rattle.std.proofs.Common.{◌≡◌, ◌≢◌, ℕ, ◌+◌, ◌<◌, ◌≤◌, List, [], ◌∷◌, ◌++◌, reverse, length, take, get_or, replicate, Option, None, sym, ◌∙◌, ap, arith, append_assoc, length-append, inl, inr}
 use Rattle.std.proofs.lemmas.Bool.{cases_lt}
 use Rattle.std.proofs.lemmas.List.{get_or-replicate, get_or_past, take_all, take_more, append-nil, map-append, length-take-le, length-reverse, length-replicate, length-map}
 use Rattle.std.proofs.lemmas.List.Elements.{All-get_or}
-use Rattle.trace_reader.specs.declared.trace.Trace.{Trace}
 use Rattle.trace_reader.specs.declared.trace.Event.{Event}
-use Rattle.trace_reader.specs.Limits.{IsPlain, WithinLimits, EventFits, events_of}
 use Rattle.page_bitmap.specs.declared.line.Line.{Line}
 use Rattle.page_alloc.specs.Lists.{In}
-use Rattle.page_alloc.specs.Journal.{past_of, at_end}
 use Rattle.span_state.specs.declared.body.Body.{Body}
 use Rattle.cycle_history.specs.declared.Answer.{Answer}
 use Rattle.cycle_history.specs.declared.Answer.TheVariants.{Zero}
-use Rattle.cycle_history.specs.declared.Report.{Report}
 use Rattle.cycle_history.specs.Needs.{Need, IsNeed}
-use Rattle.cycle_history.specs.Requests.{Request, Marking, marked_by, region_of, last_cycle}
+use Rattle.cycle_history.specs.Requests.{Request, Marking}
 use Rattle.cycle_history.specs.Objects.{Object}
 use Rattle.cycle_history.specs.Rules.{IsObject, AreAnswered}
-use Rattle.cycle_history.specs.Sound.{past_in, HasAnswers}
-use Rattle.cycle_history.specs.Broken.{MeetsUpTo}
-use Rattle.cycle_history.specs.Run.{IsRun, Lasts}
-use Rattle.cycle_history.proofs.Ends.{start-run, run-sound}
+use Rattle.cycle_history.specs.Run.{Lasts}
+use Rattle.cycle_history.proofs.Ends.{start-run}
 use Rattle.cycle_history.proofs.Notes.{notes-start}
 use Rattle.span_state.specs.declared.sweep.SweepNote.{SweepNote}
-use Rattle.cycle_history.proofs.Plain.{answered-more, printed-more, requests-plain, unmarked-plain, lasts-unmarked, scavenged-roomy}
+use Rattle.cycle_history.proofs.Plain.{answered-more, printed-more}
 use Rattle.alloc_tool.specs.declared.heap.Heap.{Heap}
 use Rattle.alloc_tool.specs.Bodies.{body_at, page_of, AreBodies, AreCurrent}
 use Rattle.alloc_tool.specs.Tied.{Serves, ServesNoted, Tied, MayCome, HasAnswer}

@@ -1,5 +1,5 @@
 -- What a run of a trace keeps from cycle to cycle, and what its report says at the end.
-use Rattle.std.proofs.Common.{◌≡◌, ℕ, zero, suc, ◌+◌, ◌-◌, ◌*◌, ◌^◌, ◌<◌, ◌≤◌, Bool, List, [], ◌∷◌, ◌++◌, map, reverse, length, take, drop, get_or, Result, Ok, Err, OnOk, refl, sym, ◌∙◌, ap, arith, drop-cons}
+use Rattle.std.proofs.Common.{◌≡◌, ℕ, zero, suc, ◌+◌, ◌^◌, ◌<◌, ◌≤◌, Bool, List, [], ◌∷◌, ◌++◌, reverse, length, take, drop, get_or, Result, Ok, Err, OnOk, refl, sym, ◌∙◌, ap, arith, drop-cons}
 use Rattle.std.specs.List.{AllByRecursion, flat_map}
 use Rattle.std.specs.Prelude.{All}
 use Rattle.std.proofs.lemmas.List.{take_all, take_more, take-append-drop, reverse-reverse, length-take-le}
@@ -7,15 +7,11 @@ use Rattle.trace_reader.specs.declared.trace.Trace.{Trace}
 use Rattle.trace_reader.specs.declared.trace.Cycle.{Cycle}
 use Rattle.trace_reader.specs.declared.trace.Event.{Event}
 use Rattle.trace_reader.specs.Limits.{AreCycles, IsPlain, WithinLimits, EventFits, events_of}
-use Rattle.page_bitmap.specs.declared.line.Line.{Line}
-use Rattle.span_state.specs.declared.body.Body.{Body}
-use Rattle.span_state.specs.declared.sweep.SweepNote.{SweepNote}
 use Rattle.span_state.specs.MarkSet.{MarkSet}
 use Rattle.page_alloc.specs.Journal.{at_end}
 use Rattle.cycle_history.specs.declared.Answer.{Answer}
 use Rattle.cycle_history.specs.declared.Report.{Report}
-use Rattle.cycle_history.specs.declared.Total.{Total}
-use Rattle.cycle_history.specs.Requests.{Request, requests_from, requests_of, marked_by, region_of, last_cycle}
+use Rattle.cycle_history.specs.Requests.{requests_from, marked_by, region_of, last_cycle}
 use Rattle.cycle_history.specs.Objects.{Object}
 use Rattle.cycle_history.specs.Sweeps.{AreTotals}
 use Rattle.cycle_history.specs.Sound.{past_in, HasAnswers, IsSoundAndUsed}
@@ -29,7 +25,6 @@ use Rattle.cycle_history.proofs.Sweeps.{answered-distinct}
 use Rattle.cycle_history.proofs.Notes.{run-sound_to_8, meets-sound}
 use Rattle.cycle_history.proofs.OfObjects.{marks-of-objects, answers-before, run-places, objects-zeros}
 use Rattle.alloc_tool.specs.declared.heap.Heap.{Heap}
-use Rattle.alloc_tool.specs.Bodies.{AreBodies}
 use Rattle.alloc_tool.specs.Tied.{Tied}
 use Rattle.alloc_tool.specs.Runs.{HasRun, requests_in, MayAsk, GoesOn}
 use Rattle.alloc_tool.specs.Sweeping.{AreAllocated, AreMarked, GoesToNext}

@@ -9,11 +9,11 @@ use Rattle.page_bitmap.specs.declared.line.Line.TheVariants.{Give}
 use Rattle.page_alloc.specs.Heap.{PageHeap, AddsLine}
 use Rattle.page_alloc.specs.Lists.{In}
 use Rattle.page_alloc.specs.Journal.{Life, open_lives, owner, IsFirstFit, Legal}
-use Rattle.page_alloc.proofs.Lives.{within-true, within-false, covers, from_others}
+use Rattle.page_alloc.proofs.Lives.{within-false, covers, from_others}
 use Rattle.span_state.specs.declared.body.Body.{Body}
 use Rattle.span_state.specs.Spans.{IsSameSpan}
 use Rattle.cycle_history.specs.Needs.{Need}
-use Rattle.alloc_tool.specs.Bodies.{body_at, page_of, AreBodies, IsServing, AreCurrent, KeepsSpan, IsSpanNeed}
+use Rattle.alloc_tool.specs.Bodies.{body_at, AreBodies, AreCurrent, KeepsSpan, IsSpanNeed}
 use Rattle.alloc_tool.specs.Listed.{CanServe, AreListed, AreBelow, AreEmpty, IsSized, AreSized, IsIdle}
 use Rattle.alloc_tool.proofs.Spots.{put-cases, put-some, body-below, fresh-page, is_some-of}
 
@@ -139,11 +139,11 @@ listed-new bodies lists page new are lt none class list q is h =
 
 -- ---- the lists
 
-in-front : {X : Type 0} (x : X) (xs ys : List X) → In x xs → In x (xs ++ ys)
+pub in-front : {X : Type 0} (x : X) (xs ys : List X) → In x xs → In x (xs ++ ys)
 in-front x [] ys h = absurd h
 in-front x (y ∷ xs) ys h = elim h [ inl here ↦ inl here | inr there ↦ inr (in-front x xs ys there) ]
 
-in-last : {X : Type 0} (x : X) (xs : List X) → In x (xs ++ x ∷ [])
+pub in-last : {X : Type 0} (x : X) (xs : List X) → In x (xs ++ x ∷ [])
 in-last x [] = inl refl
 in-last x (y ∷ xs) = inr (in-last x xs)
 

@@ -1,5 +1,6 @@
 pub mod Spots
 pub mod Given
+pub mod Waiting
 pub mod Serving
 pub mod Next
 pub mod Views

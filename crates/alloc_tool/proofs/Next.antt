@@ -1,5 +1,5 @@
 -- Another span becomes the current one of a span class, where the current one is full.
-use Rattle.std.proofs.Common.{◌≡◌, ◌≢◌, ℕ, ◌<◌, ◌≤◌, true, List, [], ◌∷◌, length, set, Option, Some, None, IfSome, IfNone, is_some, refl, sym, ◌∙◌, ap, arith, ◌⊎◌, inl, inr}
+use Rattle.std.proofs.Common.{◌≡◌, ◌≢◌, ℕ, ◌<◌, true, List, length, set, Option, Some, None, IfSome, IfNone, sym, ◌∙◌, ap, arith, ◌⊎◌, inl, inr}
 use Rattle.std.proofs.lemmas.Bool.{cases_eq}
 use Rattle.std.proofs.lemmas.List.{get_or-set_same, get_or-set_other}
 use Rattle.page_bitmap.specs.declared.line.Line.{Line}
@@ -9,7 +9,7 @@ use Rattle.span_state.specs.Spans.{allocated}
 use Rattle.cycle_history.specs.Requests.{Marking}
 use Rattle.cycle_history.specs.Objects.{Object}
 use Rattle.cycle_history.specs.Rules.{IsSmall}
-use Rattle.cycle_history.specs.Spans.{AreServed, IsFull}
+use Rattle.cycle_history.specs.Spans.{IsFull}
 use Rattle.cycle_history.proofs.Spans.{served-changed}
 use Rattle.alloc_tool.specs.Bodies.{body_at, page_of, AreBodies, AreCurrent, IsCurrentFull}
 use Rattle.alloc_tool.specs.Listed.{CanServe}

@@ -1,10 +1,8 @@
 -- The notes of a run's sweeps stay right while a cycle's objects are answered.
-use Rattle.std.proofs.Common.{◌≡◌, ℕ, ◌<◌, ◌≤◌, List, ◌∷◌, reverse, refl, sym, ◌∙◌, ap, arith, inl, inr}
+use Rattle.std.proofs.Common.{◌≡◌, ℕ, List, ◌∷◌, refl, ◌∙◌, ap, arith, inl}
 use Rattle.page_bitmap.specs.declared.line.Line.{Line}
 use Rattle.page_bitmap.specs.declared.line.Line.TheVariants.{Take, Miss}
 use Rattle.page_alloc.specs.Heap.{PageHeap, HasMoreRoom, AddsLine}
-use Rattle.page_alloc.specs.Lists.{In}
-use Rattle.page_alloc.specs.Journal.{IsBy, Legal}
 use Rattle.span_state.specs.declared.sweep.SweepNote.{SweepNote}
 use Rattle.cycle_history.specs.Requests.{Marking}
 use Rattle.cycle_history.specs.Objects.{Object}
@@ -12,7 +10,6 @@ use Rattle.cycle_history.specs.Run.{IsRun, Lasts}
 use Rattle.cycle_history.specs.Notes.{HasNotes}
 use Rattle.cycle_history.proofs.Counts.{note-same, gives-same}
 use Rattle.cycle_history.proofs.Notes.{done-object, notes-take, notes-miss}
-use Rattle.alloc_tool.specs.Tied.{HasAnswer}
 
 -- one more object of the cycle
 pub noted-object : (marked : Marking) (region goal c : ℕ) (past : List Line) (objects : List Object) (notes : List SweepNote) (o : Object) → IsRun marked region goal c past (o ∷ objects) → o.cycle ≡ c

@@ -1,32 +1,30 @@
 -- Each sweep of a mark end keeps what a heap knows of a run's objects.
-use Rattle.std.proofs.Common.{◌≡◌, ◌≢◌, ℕ, suc, ◌+◌, ◌<◌, ◌≤◌, Bool, true, false, ◌&&◌, not, List, [], ◌∷◌, ◌++◌, reverse, length, set, Option, Some, None, Result, Ok, Err, OnOk, is_some, refl, sym, ◌∙◌, ap, arith, ◌⊎◌, inl, inr}
+use Rattle.std.proofs.Common.{◌≡◌, ◌≢◌, ℕ, suc, ◌+◌, ◌<◌, ◌≤◌, true, false, ◌&&◌, not, List, [], ◌∷◌, ◌++◌, reverse, length, set, Option, Some, None, Result, Ok, Err, OnOk, is_some, refl, sym, ◌∙◌, ap, arith, inl, inr}
 use Rattle.std.proofs.lemmas.Bool.{cases_eq, cases_lt}
 use Rattle.std.proofs.lemmas.List.{get_or-set_other, set-get_or, reverse-append}
 use Rattle.page_bitmap.specs.declared.line.Line.{Line}
 use Rattle.page_bitmap.specs.declared.line.Line.TheVariants.{Give}
 use Rattle.page_alloc.specs.Lists.{In}
-use Rattle.page_alloc.specs.Journal.{Life, open_lives, Legal}
-use Rattle.page_alloc.proofs.Lives.{from_others, lies, same_page}
+use Rattle.page_alloc.specs.Journal.{Life, open_lives}
+use Rattle.page_alloc.proofs.Lives.{from_others}
 use Rattle.span_state.specs.declared.body.Body.{Body}
 use Rattle.span_state.specs.declared.sweep.SweepNote.{SweepNote}
 use Rattle.span_state.specs.MarkSet.{MarkSet, is_marked}
-use Rattle.span_state.specs.Spans.{allocated, IsSameSpan}
+use Rattle.span_state.specs.Spans.{allocated}
 use Rattle.span_state.specs.Bits.{count_below}
 use Rattle.cycle_history.specs.Requests.{Marking}
 use Rattle.cycle_history.specs.Objects.{Object}
-use Rattle.cycle_history.specs.Sound.{AllWanted}
 use Rattle.cycle_history.specs.Sweeps.{IsNote}
-use Rattle.cycle_history.specs.Run.{count_for, IsRun}
-use Rattle.cycle_history.specs.Spans.{AreBits, AreMarks, AreServed}
+use Rattle.cycle_history.specs.Run.{count_for}
+use Rattle.cycle_history.specs.Spans.{AreBits}
 use Rattle.cycle_history.specs.Notes.{HasNotes, IsSweptTo}
 use Rattle.cycle_history.proofs.Sweeps.{marks-allocated, bits-marked, bits-alike}
-use Rattle.cycle_history.proofs.Notes.{notes-ended}
 use Rattle.cycle_history.proofs.Walk.{note-right, walk-start, walk-skip, walk-kept, walk-given, walk-end}
-use Rattle.alloc_tool.specs.Bodies.{body_at, page_of, IsBodyOf, AreBodies}
-use Rattle.alloc_tool.specs.Listed.{AreBelow, IsIdle}
-use Rattle.alloc_tool.specs.Tied.{Serves, cached}
-use Rattle.alloc_tool.specs.Sweeping.{IsAllocated, AreAllocated, AreMarked, AreDistinct, IsSwept, Sweeps}
-use Rattle.alloc_tool.proofs.Spots.{some-of, is_some-of, life-of, HasLife, put-cases}
+use Rattle.alloc_tool.specs.Bodies.{body_at, page_of, AreBodies}
+use Rattle.alloc_tool.specs.Listed.{AreBelow}
+use Rattle.alloc_tool.specs.Tied.{Serves}
+use Rattle.alloc_tool.specs.Sweeping.{AreAllocated, AreMarked, AreDistinct, IsSwept, Sweeps}
+use Rattle.alloc_tool.proofs.Spots.{some-of, life-of, HasLife, put-cases}
 use Rattle.alloc_tool.proofs.Given.{gone-cases}
 use Rattle.alloc_tool.proofs.Serving.{cached-alone}
 

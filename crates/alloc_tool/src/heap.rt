@@ -9,6 +9,7 @@ ghost use Rattle.std.specs.Prelude.{
   ◌^◌,
   ◌<◌,
   ◌≤◌,
+  ◌⊎◌,
   [],
   ◌∷◌,
   List as Items,
@@ -26,6 +27,7 @@ ghost use Rattle.span_state.specs.Bits.{HasFree, IsFull, with_bit};
 ghost use Rattle.page_alloc.specs.Journal.{IsBy, past_of};
 ghost use Rattle.cycle_history.specs.declared.Answer.TheVariants.{Placed, Zero};
 ghost use Rattle.cycle_history.specs.Requests.{Marking};
+ghost use Rattle.cycle_history.specs.Needs.{IsNeed, Need as ObjectNeed};
 ghost use Rattle.cycle_history.specs.Objects.{Object};
 ghost use Rattle.cycle_history.specs.Rules.{IsObject};
 ghost use Rattle.alloc_tool.specs.Bodies.{
@@ -38,7 +40,18 @@ ghost use Rattle.alloc_tool.specs.Bodies.{
   body_at,
   page_of,
 };
-ghost use Rattle.alloc_tool.specs.Listed.{AreBelow, AreEmpty, AreListed, AreSized};
+ghost use Rattle.alloc_tool.specs.Listed.{
+  AreBelow,
+  AreEmpty,
+  AreListed,
+  AreSized,
+  AreWaiting,
+  HaveSamePages,
+  IsLowestFree,
+  IsServedOut,
+  TakesNext,
+  pages_on,
+};
 
 mod mark_end;
 
@@ -79,6 +92,7 @@ pub(crate) struct Heap {
     ghost spans: { AreBodies pages.past bodies.items },
     ghost serving: { AreCurrent bodies.items current.items },
     ghost listed: { AreListed bodies.items partial.items },
+    ghost waiting: { AreWaiting bodies.items current.items partial.items },
 }
 
 impl Heap {
@@ -111,6 +125,10 @@ impl Heap {
         ensures region { self.new.pages.region ≡ self.old.pages.region }
         ensures goal { self.new.pages.goal ≡ self.old.pages.goal }
         ensures by { IsBy cycle self.new.pages.past }
+        ensures served_out { (self.new.pages ≡ self.old.pages) ⊎ ((need : ObjectNeed) × IsNeed event.now.size event.now.scan need
+            × IsServedOut self.old.bodies.items self.old.current.items self.old.partial.items need.class) }
+        ensures lists { HaveSamePages self.old.partial.items self.new.partial.items ⊎ ((need : ObjectNeed) × IsNeed event.now.size event.now.scan need
+            × TakesNext need.class self.new.current.items self.old.partial.items self.new.partial.items) }
         ensures answered { IfOk result (λ answer. (marked : Marking) (n : ℕ) (objects : Items Object) → Tied marked cycle self.old objects
             → MayCome marked cycle n objects → event.now.proc ≡ 0
             → (o : Object) × (o.answer ≡ answer) × IsObject (record { cycle = cycle; event = event.now }) n o × Tied marked cycle self.new (o ∷ objects)) }
@@ -132,7 +150,10 @@ impl Heap {
     fn in_current(&mut self, need: Need) -> Option<u64>
         requires need { IsSpanNeed (as_need need) }
         ensures pages { self.new.pages ≡ self.old.pages }
+        ensures current { self.new.current ≡ self.old.current }
+        ensures lists { self.new.partial ≡ self.old.partial }
         ensures placed { IfSome result (λ address. (cycle : ℕ) → Answers cycle self.old self.new (as_need need) (Placed address)) }
+        ensures lowest { IfSome result (IsLowestFree self.old.bodies.items self.old.current.items (as_need need)) }
         ensures same { IfNone result (self.new ≡ self.old) }
         ensures full { IfNone result (IsCurrentFull self.old.bodies.items self.old.current.items need.class) }
     {
@@ -148,8 +169,13 @@ impl Heap {
         requires full { IsCurrentFull self.old.bodies.items self.old.current.items need.class }
         ensures pages { self.new.pages ≡ self.old.pages }
         ensures placed { IfSome result (λ address. (cycle : ℕ) → Answers cycle self.old self.new (as_need need) (Placed address)) }
+        ensures lowest { IfSome result (IsLowestFree self.old.bodies.items self.new.current.items (as_need need)) }
+        ensures next { IfSome result (λ _. TakesNext need.class self.new.current.items self.old.partial.items self.new.partial.items) }
         ensures kept { IfNone result ((cycle : ℕ) → KeepsTied cycle self.old self.new) }
         ensures full { IfNone result (IsCurrentFull self.new.bodies.items self.new.current.items need.class) }
+        ensures empty { IfNone result (pages_on self.old.partial.items need.class ≡ []) }
+        ensures same { IfNone result ((self.new.bodies ≡ self.old.bodies) × (self.new.current ≡ self.old.current)) }
+        ensures same_lists { IfNone result (HaveSamePages self.old.partial.items self.new.partial.items) }
     {
         let page = self.partial[need.class as usize].pop()?;
         self.current[need.class as usize] = Some(page);
@@ -165,6 +191,7 @@ impl Heap {
         ensures region { self.new.pages.region ≡ self.old.pages.region }
         ensures goal { self.new.pages.goal ≡ self.old.pages.goal }
         ensures by { IsBy cycle self.new.pages.past }
+        ensures lists { self.new.partial ≡ self.old.partial }
         ensures some { IfOk result (λ answer. answer ≢ Zero) }
         ensures answered { IfOk result (λ answer. Answers cycle self.old self.new (as_need need) answer) }
     {

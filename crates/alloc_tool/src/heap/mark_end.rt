@@ -4,8 +4,8 @@
 ghost use Rattle.std.specs.Prelude.{◌≡◌, ℕ, ◌+◌, ◌≤◌, ◌<◌, None, Some, IfNone, IfSome, OnOk, OnErr, is_some, true};
 ghost use Rattle.span_state.specs.declared.body.Body.{Body as SpanBody};
 ghost use Rattle.page_alloc.specs.Journal.{IsBy, Life};
-ghost use Rattle.alloc_tool.specs.Bodies.{KeepsSpan, body_at};
-ghost use Rattle.alloc_tool.specs.Listed.{IsIdle};
+ghost use Rattle.alloc_tool.specs.Bodies.{KeepsSpan, body_at, page_of};
+ghost use Rattle.alloc_tool.specs.Listed.{AreAllListed, AreListedTo, IsIdle, class_served};
 ghost use Rattle.alloc_tool.specs.Sweeping.{AreAllocated, GoesToNext, IsAllocated, IsGiven, IsSwept, SweepsOn};
 
 use super::{Heap, SPAN_CLASSES, no_lists};
@@ -29,6 +29,7 @@ impl Heap {
         ensures goal { self.new.pages.goal ≡ self.old.pages.goal }
         ensures by { IsBy cycle self.new.pages.past }
         ensures next { OnOk result (GoesToNext cycle self.old self.new marks.now) }
+        ensures listed { OnOk result (AreAllListed self.new.top self.new.bodies.items self.new.current.items self.new.partial.items) }
     {
         self.serve_nothing(alloc)?;
         self.sweep_all(cycle, marks)?;
@@ -108,10 +109,12 @@ impl Heap {
 
     // Lists the spans of small objects that aren't full, by span class.
     fn list_partial(&mut self) -> Result<(), NoMemory>
+        requires idle { IsIdle self.old.current.items self.old.partial.items }
         ensures pages { self.new.pages ≡ self.old.pages }
         ensures bodies { self.new.bodies ≡ self.old.bodies }
         ensures current { self.new.current ≡ self.old.current }
         ensures sweeps { self.new.sweeps ≡ self.old.sweeps }
+        ensures listed { OnOk result (AreAllListed self.new.top self.new.bodies.items self.new.current.items self.new.partial.items) }
     {
         for page in (0..self.top).rev() {
             self.list_at(page)?;
@@ -121,12 +124,15 @@ impl Heap {
 
     // Lists the span that begins at a page, if there is one of small objects that isn't full.
     fn list_at(&mut self, page: u32) -> Result<(), NoMemory>
-        requires { page < self.old.top }
+        requires inside { page < self.old.top }
+        requires idle { (class : ℕ) → page_of self.old.current.items class ≡ None }
+        requires listed { AreListedTo (page + 1) self.old.top self.old.bodies.items self.old.partial.items }
         ensures pages { self.new.pages ≡ self.old.pages }
         ensures bodies { self.new.bodies ≡ self.old.bodies }
         ensures current { self.new.current ≡ self.old.current }
         ensures sweeps { self.new.sweeps ≡ self.old.sweeps }
         ensures top { self.new.top ≡ self.old.top }
+        ensures listed { OnOk result (AreListedTo page self.new.top self.new.bodies.items self.new.partial.items) }
     {
         let Some(class) = partial_class(&self.bodies[page as usize]) else {
             return Ok(());
@@ -148,7 +154,8 @@ fn sweep_body(place: &mut Option<Body>, marks: &Marks) -> Option<Swept>
 
 // The span class of a span of small objects that has a free index.
 fn partial_class(place: &Option<Body>) -> Option<u8>
-    ensures { IfSome result (λ class. (body : SpanBody) × (place.now ≡ Some body) × (body.class ≡ class) × (2 ≤ class)) }
+    ensures some { IfSome result (λ class. (body : SpanBody) × (place.now ≡ Some body) × (body.class ≡ class) × (2 ≤ class)) }
+    ensures served { result ≡ class_served place.now }
 {
     let body = place.as_ref()?;
     if body.class >= 2 && body.next_free().is_some() {

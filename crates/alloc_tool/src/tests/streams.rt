@@ -63,6 +63,16 @@ impl Sink for Drip {
     }
 }
 
+// A sink that holds nothing yet, of which one write fails.
+fn dripping(alloc: Global, failing: u64) -> Drip {
+    Drip {
+        bytes: Vec::new(alloc),
+        calls: 0,
+        failing,
+        faults: 0,
+    }
+}
+
 // The status of `run` where one read and one write fail, what is held, and what is told.
 fn trickled<R: Threads + Wait + Sync + AllocGlobal>(
     rt: &R,
@@ -79,18 +89,8 @@ fn trickled<R: Threads + Wait + Sync + AllocGlobal>(
         failing: read,
         faults: 0,
     };
-    let mut output = Drip {
-        bytes: Vec::new(alloc),
-        calls: 0,
-        failing: write,
-        faults: 0,
-    };
-    let mut errors = Drip {
-        bytes: Vec::new(alloc),
-        calls: 0,
-        failing: tell,
-        faults: 0,
-    };
+    let mut output = dripping(alloc, write);
+    let mut errors = dripping(alloc, tell);
     let status = goheap(
         rt,
         alloc,
@@ -107,11 +107,16 @@ fn trickled<R: Threads + Wait + Sync + AllocGlobal>(
     })
 }
 
-// The trace has 62 bytes, which come in 17 reads, and read 17 sees the end. The report has 46 bytes, which go in 13 writes.
+// The report of one object of 24 bytes, the first of a trace. It has 46 bytes, which go in 13 writes.
+fn report_of_one() -> &'static [u8] {
+    b"o 0 0xc000000000\nj 0 0 take 0 1 6\nt 3 1 0\nend\n".as_slice()
+}
+
+// The trace has 62 bytes, which come in 17 reads, and read 17 sees the end.
 #[test]
-fn each_read_and_write_fails(rt: HostRuntime) -> Result<(), Fail> {
+fn each_read_fails(rt: HostRuntime) -> Result<(), Fail> {
     let input = format!(in rt.alloc(); "{HEAD}a 0 24 s 1\nend\n")?;
-    let report = b"o 0 0xc000000000\nj 0 0 take 0 1 6\nt 3 1 0\nend\n".as_slice();
+    let report = report_of_one();
     for read in 0..20 {
         let found = trickled(&rt, input.as_bytes(), read, u64::MAX, u64::MAX)?;
         let (status, held, told) = if read < 18 {
@@ -123,6 +128,14 @@ fn each_read_and_write_fails(rt: HostRuntime) -> Result<(), Fail> {
         assert_eq!(rt; found.written.as_slice(), held, "at read {read}");
         assert_eq!(rt; found.told.as_slice(), told, "at read {read}");
     }
+    Ok(())
+}
+
+// Where a write fails, a front of the report is held.
+#[test]
+fn each_write_fails(rt: HostRuntime) -> Result<(), Fail> {
+    let input = format!(in rt.alloc(); "{HEAD}a 0 24 s 1\nend\n")?;
+    let report = report_of_one();
     let rows = [
         (0, 6, 0),
         (1, 6, 1),

@@ -1,7 +1,6 @@
-use Rattle.std.proofs.Common.{◌≡◌, Some, refl, sym, rules}
-use Rattle.page_alloc.specs.Journal.{Legal}
-use Rattle.alloc_tool.specs.Bodies.{AreBodies}
+use Rattle.std.proofs.Common.{rules}
 use Rattle.alloc_tool.proofs.Given.{bodies-given-at, below-gone, sized-gone, idle-current, idle-listed}
+use Rattle.alloc_tool.proofs.Waiting.{waiting-idle}
 use Rattle.alloc_tool.proofs.heap.Heap.give_back.Goals as goal
 
 pub invariant_of-self : goal.invariant_of-self
@@ -18,4 +17,5 @@ invariant_of-self c =
       spans = bodies-given-at _ _ _ _ _ given.0 given.3 c.args.self.now.spans given.1 given.2;
       serving = idle-current _ _ _ c.requires.idle;
       listed = idle-listed _ _ _ c.requires.idle;
+      waiting = waiting-idle _ _ _ _ c.requires.idle;
     }

@@ -4,6 +4,7 @@ use Rattle.alloc_tool.specs.Tied.{as_need}
 use Rattle.alloc_tool.proofs.Spots.{page-read, body-read, current-below, bodies-kept, current-kept, slots-before}
 use Rattle.alloc_tool.proofs.Serving.{in-current}
 use Rattle.alloc_tool.proofs.Given.{below-kept, listed-kept, sized-kept}
+use Rattle.alloc_tool.proofs.Waiting.{waiting-served}
 use Rattle.alloc_tool.proofs.Noted.{noted-object}
 use Rattle.alloc_tool.proofs.heap.Heap.in_current.Goals as goal
 
@@ -32,6 +33,7 @@ invariant_of-self c =
       sized = sized-kept _ _ _ c.args.self.now.sized keeps;
       below = below-kept _ _ _ _ c.args.self.now.below keeps;
       listed = listed-kept _ _ _ _ c.args.self.now.listed keeps;
+      waiting = waiting-served _ _ _ _ _ _ c.args.self.now.waiting c.args.self.now.serving now;
     }
 
 pub address-requires : goal.address-requires
@@ -42,6 +44,22 @@ address-requires c =
     let taken = c.in_ok-index.ensures.taken in
     let at = body-read _ _ _ below c.index_mut.ensures.value ∙ taken.2 in
     slots-before (as_need c.args.need) taken.0 c.in_ok-index.index c.requires.need (c.args.self.now.serving.serving _ _ taken.0 now at) taken.4.inside
+
+pub returns-clause-lowest : goal.returns-clause-lowest
+returns-clause-lowest c =
+    let lt : c.args.need.class < length c.args.self.now.current.items = search rules in
+    let now : page_of c.args.self.now.current.items c.args.need.class ≡ Some c.in_ok-page.page = page-read _ _ _ lt c.index.ensures ∙ c.in_ok-page.was in
+    let below = current-below _ _ _ _ c.args.self.now.serving now in
+    let taken = c.in_ok-index.ensures.taken in
+    record {
+      page = c.in_ok-page.page;
+      body = taken.0;
+      index = c.in_ok-index.index;
+      page_is = now;
+      body_is = body-read _ _ _ below c.index_mut.ensures.value ∙ taken.2;
+      lowest = taken.4;
+      address_is = c.address.ensures;
+    }
 
 pub returns-clause-placed : goal.returns-clause-placed
 returns-clause-placed c = λ cycle marked n objects tied may.

@@ -3,6 +3,7 @@ use Rattle.alloc_tool.specs.Tied.{as_need}
 use Rattle.alloc_tool.proofs.Views.{written, next-number, missed-after, TakesSpan, bodies-after, current-after, taken-after, follows-after}
 use Rattle.page_alloc.proofs.Lives.{span_pages}
 use Rattle.alloc_tool.proofs.Given.{none-at, below-new, sized-new, need-sized, listed-new}
+use Rattle.alloc_tool.proofs.Waiting.{waiting-new}
 use Rattle.alloc_tool.proofs.Noted.{noted-taken, noted-missed}
 use Rattle.alloc_tool.proofs.heap.Heap.in_new_span.Goals as goal
 
@@ -49,6 +50,7 @@ invariant_of-self-2 c =
       sized = sized-new c.args.self.now.bodies.items c.in-Ok.page body c.args.self.now.sized lt (need-sized need body c.requires.need is.class is.pages is.count);
       below = below-new c.args.self.now.top _ c.args.self.now.bodies.items c.in-Ok.page body c.args.self.now.below lt (search rules) (search rules);
       listed = listed-new c.args.self.now.bodies.items _ c.in-Ok.page body c.args.self.now.listed lt none;
+      waiting = rw now (waiting-new c.args.self.now.bodies.items c.args.self.now.current.items c.serve_from.new.current _ need.class c.in-Ok.page body c.args.self.now.waiting none sets);
       spans = bodies-after c.args.cycle need c.in-Ok.page _ _ _ _ body c.args.self.now.bodies.items c.requires.need takes c.args.self.now.spans lt;
       serving = rw now (current-after c.args.cycle need c.in-Ok.page _ _ _ _ body c.args.self.now.bodies.items c.args.self.now.current.items c.serve_from.new.current c.requires.need takes c.args.self.now.spans c.args.self.now.serving lt sets);
     }

@@ -1,6 +1,7 @@
 use Rattle.std.proofs.Common.{◌≡◌, ℕ, None, replicate, rules}
 use Rattle.alloc_tool.specs.Bodies.{page_of}
 use Rattle.alloc_tool.proofs.Given.{empty-listed, no-below, no-sized}
+use Rattle.alloc_tool.proofs.Waiting.{waiting-empty}
 use Rattle.alloc_tool.proofs.Asked.{no-pages, no-current, no-bodies, start-tied}
 use Rattle.alloc_tool.proofs.heap.Heap.new.Goals as goal
 
@@ -20,6 +21,7 @@ invariant_of-result c =
       spans = rw c.in_ok-new.ensures.empty (no-bodies _ c.in_ok-no_bodies.ensures.none);
       serving = no-current _ _ none;
       listed = empty-listed _ _ c.in_ok-no_lists.ensures.empty;
+      waiting = waiting-empty _ _ _ c.in_ok-no_lists.ensures.empty;
     }
 
 pub returns-clause-tied : goal.returns-clause-tied

@@ -1,4 +1,4 @@
-use Rattle.std.proofs.Common.{◌≡◌, ℕ, suc, reverse, sym, ◌∙◌, arith, rules}
+use Rattle.std.proofs.Common.{suc}
 use Rattle.alloc_tool.specs.Sweeping.{AreMarked, HasSwept}
 use Rattle.alloc_tool.proofs.Sweeping.{ok-of, sweeping-start, sweeping-end}
 use Rattle.alloc_tool.proofs.heap.Heap.next_cycle.Goals as goal

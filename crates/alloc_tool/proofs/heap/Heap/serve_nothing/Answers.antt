@@ -1,6 +1,7 @@
-use Rattle.std.proofs.Common.{◌≡◌, ℕ, None, replicate, refl, rules}
+use Rattle.std.proofs.Common.{◌≡◌, ℕ, None, replicate, rules}
 use Rattle.alloc_tool.specs.Bodies.{page_of}
 use Rattle.alloc_tool.proofs.Given.{empty-listed}
+use Rattle.alloc_tool.proofs.Waiting.{waiting-empty}
 use Rattle.alloc_tool.proofs.Asked.{no-pages, no-current}
 use Rattle.alloc_tool.proofs.heap.Heap.serve_nothing.Goals as goal
 
@@ -20,4 +21,5 @@ invariant_of-self-2 c =
       spans = search rules;
       serving = no-current _ _ none;
       listed = empty-listed _ _ c.in_ok-self-2.ensures.empty;
+      waiting = waiting-empty _ _ _ c.in_ok-self-2.ensures.empty;
     }

@@ -1,8 +1,9 @@
-use Rattle.std.proofs.Common.{rules, ◌≡◌, ◌≢◌, ℕ, suc, ◌≤◌, ◌<◌, length, None, Some, Option, get_or, refl, sym, ◌∙◌, arith}
+use Rattle.std.proofs.Common.{rules, ◌≡◌, ◌<◌, length, None, refl}
 use Rattle.span_state.specs.declared.sweep.SweepNote.{SweepNote}
 use Rattle.alloc_tool.specs.Bodies.{body_at, KeepsSpan}
 use Rattle.alloc_tool.proofs.Spots.{body-read, bodies-kept}
 use Rattle.alloc_tool.proofs.Given.{below-kept, sized-kept, idle-current, idle-listed}
+use Rattle.alloc_tool.proofs.Waiting.{waiting-idle}
 use Rattle.alloc_tool.proofs.Sweeping.{page-empty, page-kept, page-given, SweepsPlace}
 use Rattle.alloc_tool.proofs.heap.Heap.sweep_at.Goals as goal
 
@@ -30,6 +31,7 @@ invariant_of-self c =
       spans = bodies-kept _ _ _ _ c.args.self.now.spans keeps;
       serving = idle-current _ _ _ c.requires.idle;
       listed = idle-listed _ _ _ c.requires.idle;
+      waiting = waiting-idle _ _ _ _ c.requires.idle;
     }
 
 pub invariant_of-self-2 : goal.invariant_of-self-2
@@ -48,6 +50,7 @@ invariant_of-self-2 c =
       spans = bodies-kept _ _ _ _ c.args.self.now.spans keeps;
       serving = idle-current _ _ _ c.requires.idle;
       listed = idle-listed _ _ _ c.requires.idle;
+      waiting = waiting-idle _ _ _ _ c.requires.idle;
     }
 
 pub returns-then-swept-eq0-clause-swept : goal.returns-then-swept-eq0-clause-swept

@@ -1,5 +1,4 @@
-use Rattle.std.proofs.Common.{◌≡◌, ◌+◌, ◌<◌, ◌≤◌, List, length, get_or, refl, ◌∙◌, arith}
-use Rattle.std.specs.Prelude.{All}
+use Rattle.std.proofs.Common.{◌≡◌, ◌<◌, length, get_or, refl, ◌∙◌, arith}
 use Rattle.alloc_tool.specs.Runs.{GoesOn}
 use Rattle.alloc_tool.proofs.Cycled.{both-map, same-count, some-cycle, events-of, cycle-sizes, cycle-answered}
 use Rattle.alloc_tool.proofs.run.Run.answer_cycle.Goals as goal

@@ -1,4 +1,4 @@
-use Rattle.std.proofs.Common.{◌≡◌, ◌+◌, sym, ◌∙◌, rules}
+use Rattle.std.proofs.Common.{◌+◌, ◌∙◌}
 use Rattle.alloc_tool.proofs.Cycled.{ok-map, count-before, places-before, allocated-before, cycle-ended}
 use Rattle.alloc_tool.proofs.run.Run.end_cycle.Goals as goal
 

@@ -1,4 +1,4 @@
-use Rattle.std.proofs.Common.{refl, rules}
+use Rattle.std.proofs.Common.{refl}
 use Rattle.alloc_tool.proofs.Cycled.{all-answers, all-zeros, report-sound}
 use Rattle.cycle_history.specs.Requests.{last_cycle}
 use Rattle.alloc_tool.proofs.run.Run.into_report.Goals as goal

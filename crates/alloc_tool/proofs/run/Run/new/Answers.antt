@@ -1,4 +1,4 @@
-use Rattle.std.proofs.Common.{[], refl, rules}
+use Rattle.std.proofs.Common.{[], rules}
 use Rattle.cycle_history.specs.Requests.{marked_by}
 use Rattle.alloc_tool.proofs.Cycled.{new-run}
 use Rattle.alloc_tool.proofs.run.Run.new.Goals as goal
