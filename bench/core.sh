@@ -16,13 +16,20 @@ seconds() {
   echo "$best"
 }
 
-for spans in 2000 8000 32000; do
-  empty=$(seconds "$spans" 1 fill)
-  filled=$(seconds "$spans" 65 fill)
+for spans in 8000 64000; do
+  one=$(seconds "$spans" 1 fill)
+  more=$(seconds "$spans" 257 fill)
+  swept=$(seconds "$spans" 1 sweep)
+  awk -v n="$spans" -v e="$one" -v f="$more" -v s="$swept" 'BEGIN {
+    printf "%d spans: an Allocate %.0f ns, a move to take and queue a span %.0f ns, a move to sweep one %.0f ns\n",
+      n, (f - e) / (256 * n) * 1e9, e / (8 * n) * 1e9, (s - e) / (5 * n) * 1e9
+  }'
+done
+# The first span in the list of lives is given each time, so that all others move up.
+for spans in 4000 16000; do
   swept=$(seconds "$spans" 1 sweep)
   given=$(seconds "$spans" 1 give)
-  awk -v n="$spans" -v e="$empty" -v f="$filled" -v s="$swept" -v g="$given" 'BEGIN {
-    printf "%d spans: a move to take and queue a span %.0f ns, an Allocate %.0f ns, ", n, e / (8 * n) * 1e9, (f - e) / (64 * n) * 1e9
-    printf "a move to sweep one %.0f ns, a Give %.0f ns\n", (s - e) / (5 * n) * 1e9, (g - s) / n * 1e9
+  awk -v n="$spans" -v s="$swept" -v g="$given" 'BEGIN {
+    printf "%d spans: a Give %.1f us\n", n, (g - s) / n * 1e6
   }'
 done
