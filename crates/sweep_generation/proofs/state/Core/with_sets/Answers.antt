@@ -1,4 +1,4 @@
-use Rattle.std.proofs.Common.{List, refl, sym, ap, subst, arith, rules}
+use Rattle.std.proofs.Common.{◌∙◌, List, refl, sym, ap, subst, arith, rules}
 use Rattle.std.specs.List.{All, range_with_len}
 use Rattle.std.proofs.lemmas.List.Elements.{All-map}
 use Rattle.std.proofs.lemmas.List.FromFn.{length-map-range_with_len}
@@ -14,7 +14,7 @@ pub invariant_of-result : goal.invariant_of-result
 invariant_of-result c = record {
   generation = c.requires;
   pages = rw (c.in_ok-words.ensures, length-map-range_with_len) (search rules);
-  owners = rw (c.in_ok-words.ensures, c.in_ok-owners.ensures, length-map-range_with_len, length-map-range_with_len) refl;
+  owners = rw (c.in_ok-words.ensures, c.in_ok-owners.ensures) (length-map-range_with_len _ 0 c.args.pages ∙ sym (length-map-range_with_len _ 0 c.args.pages));
   workers = rw (c.in_ok-hands.ensures, length-map-range_with_len) (search rules);
   lives_room = omega arith;
   hands_room = subst (λ (xs : List CoreHand). All (HandRoom 0) xs) (sym c.in_ok-hands.ensures) (All-map (HandRoom 0) (λ _. bare_hand) (range_with_len 0 c.args.workers) (λ k d l. record { sweeping = omega arith; held = omega arith; cached = omega arith; popped = omega arith; swept = omega arith }));
