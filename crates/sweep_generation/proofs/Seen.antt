@@ -4,12 +4,14 @@ use Rattle.std.proofs.lemmas.List.{length-map, get_or-map}
 use Rattle.std.proofs.Math.ListN.{length-set}
 use Rattle.std.proofs.Math.Nat.{le_trans, le_of_eq}
 use Rattle.std.proofs.Math.Seq.{map-set_same}
-use Rattle.std.proofs.lemmas.List.Elements.{All-set, All-take, All-drop, All-append}
+use Rattle.std.proofs.lemmas.List.Elements.{All-set, All-map, All-take, All-drop, All-append}
 use Rattle.std.specs.Vec.{with_item, with_items}
 use Rattle.std.specs.declared.vec.Vec.{Vec}
-use Rattle.std.specs.List.{All}
+use Rattle.std.specs.List.{All, range_with_len}
 use Rattle.std.specs.declared.alloc.Global.{Global}
-use Rattle.sweep_lists.specs.Room.{Roomy}
+use Rattle.sweep_laws.specs.Start.{copies}
+use Rattle.sweep_lists.specs.Bare.{bare_hand}
+use Rattle.sweep_lists.specs.Room.{Roomy, Tabled}
 use Rattle.sweep_generation.specs.declared.state.Core.TheInside.{Inside}
 use Rattle.sweep_lists.specs.declared.hand.CoreHand.{CoreHand}
 use Rattle.sweep_lists.specs.declared.set.CoreSet.{CoreSet}
@@ -21,17 +23,17 @@ use Rattle.sweep_lists.proofs.Maps.{map-changed}
 
 -- what a hand that changed keeps of its room
 abbrev pub KeepsRoom : CoreHand → CoreHand → Type 0
-KeepsRoom old new = (n : ℕ) → HandRoom n old → HandRoom n new
+KeepsRoom old new = (pages n : ℕ) → HandRoom pages n old → HandRoom pages n new
 
 module _ (c : Inside) (now : CoreState) (seen : core_view c ≡ now) where
   pub low-hand : (w : ℕ) → w < length now.hands → w < length c.hands.items
   low-hand w low = subst (λ (n : ℕ). w < n) (ap (λ (s : CoreState). length s.hands) (sym seen) ∙ length-map c.hands.items hand_view) low
 
   -- hand w has the room of all hands
-  pub room-at : (w : ℕ) → w < length now.hands → (old : CoreHand) → old ≡ get_or c.hands.items w old → IsKept c → HandRoom now.room old
+  pub room-at : (w : ℕ) → w < length now.hands → (old : CoreHand) → old ≡ get_or c.hands.items w old → IsKept c → HandRoom (length c.words.items) now.room old
   room-at w low old at k =
-      subst (λ (n : ℕ). HandRoom n old) (ap (λ (s : CoreState). s.room) seen)
-      (subst (λ (h : CoreHand). HandRoom c.room h) (sym at) (k.hands_room w old (low-hand w low)))
+      subst (λ (n : ℕ). HandRoom (length c.words.items) n old) (ap (λ (s : CoreState). s.room) seen)
+      (subst (λ (h : CoreHand). HandRoom (length c.words.items) c.room h) (sym at) (k.hands_room w old (low-hand w low)))
 
   -- what hand w shows
   pub hand-is : (w : ℕ) → w < length now.hands → (old : CoreHand) → old ≡ get_or c.hands.items w old → hand_of now w ≡ hand_view old
@@ -76,8 +78,9 @@ kept-hand c w low old new at keeps k = record {
   owners = k.owners;
   workers = subst (λ (n : ℕ). n < 2 ^ 32) (sym (length-set c.hands.items w new)) k.workers;
   lives_room = k.lives_room;
-  hands_room = All-set (HandRoom c.room) c.hands.items w new
-      (keeps c.room (subst (λ (h : CoreHand). HandRoom c.room h) (sym at) (k.hands_room w old low))) k.hands_room;
+  lives_table = k.lives_table;
+  hands_room = All-set (HandRoom (length c.words.items) c.room) c.hands.items w new
+      (keeps (length c.words.items) c.room (subst (λ (h : CoreHand). HandRoom (length c.words.items) c.room h) (sym at) (k.hands_room w old low))) k.hands_room;
   sets_room = k.sets_room;
 }
 
@@ -89,6 +92,7 @@ kept-set c s low old new at same k = record {
   owners = k.owners;
   workers = k.workers;
   lives_room = k.lives_room;
+  lives_table = k.lives_table;
   hands_room = k.hands_room;
   sets_room = All-set (λ (x : CoreSet). c.room ≤ x.cells.space) c.sets.items s new
       (subst (λ (x : Roomy ℕ). c.room ≤ x.space) (sym same) (subst (λ (x : CoreSet). c.room ≤ x.cells.space) (sym at) (k.sets_room s old low))) k.sets_room;
@@ -105,10 +109,10 @@ items-whole v ws same =
     rw (← e) (take-append ws (drop (length ws) v.items))
 
 -- no end of a sweep lacks room
-pub full-end : (n : ℕ) (h : CoreHand) → HandRoom n h → (h.held.space ≤ length h.held.items) ⊎ (h.swept.space ≤ length h.swept.items)
+pub full-end : (pages n : ℕ) (h : CoreHand) → HandRoom pages n h → (h.held.space ≤ length h.held.items) ⊎ (h.swept.space ≤ length h.swept.items)
     → length h.held.items < n → length h.swept.items < n → ⊥
-full-end n h k (inl a) held swept = let b = k.held in omega arith
-full-end n h k (inr a) held swept = let b = k.swept in omega arith
+full-end pages n h k (inl a) held swept = let b = k.held in omega arith
+full-end pages n h k (inr a) held swept = let b = k.swept in omega arith
 
 pub kept-owners : (c : Inside) (ws : List (Option ℕ)) → IsKept c → IsKept (record c { owners = with_items c.owners ws })
 kept-owners c ws k = record {
@@ -117,25 +121,27 @@ kept-owners c ws k = record {
   owners = sym (with_items c.owners ws).ok.0 ∙ c.owners.ok.0 ∙ k.owners;
   workers = k.workers;
   lives_room = k.lives_room;
+  lives_table = k.lives_table;
   hands_room = k.hands_room;
   sets_room = k.sets_room;
 }
 
--- the lives have at least the room that they had
-pub kept-lives : (c : Inside) (lives : Roomy LifeState) → c.lives.space ≤ lives.space → IsKept c → IsKept (record c { lives = lives })
-kept-lives c lives grows k = record {
+-- the lives have at least the room that they had, and the table
+pub kept-lives : (c : Inside) (lives : Tabled LifeState) → c.lives.space ≤ lives.space → lives.reach ≡ c.lives.reach → IsKept c → IsKept (record c { lives = lives })
+kept-lives c lives grows same k = record {
   generation = k.generation;
   pages = k.pages;
   owners = k.owners;
   workers = k.workers;
   lives_room = le_trans k.lives_room grows;
+  lives_table = same ∙ k.lives_table;
   hands_room = k.hands_room;
   sets_room = k.sets_room;
 }
 
--- the lives have the room that they had
-pub kept-same-room : (c : Inside) (lives : Roomy LifeState) (items : List LifeState) → lives ≡ record c.lives { items = items } → IsKept c → IsKept (record c { lives = lives })
-kept-same-room c lives items is k = kept-lives c lives (le_of_eq (sym (ap (λ (x : Roomy LifeState). x.space) is))) k
+-- the lives have the room and the table that they had
+pub kept-same-room : (c : Inside) (lives : Tabled LifeState) (items : List LifeState) → lives ≡ record c.lives { items = items } → IsKept c → IsKept (record c { lives = lives })
+kept-same-room c lives items is k = kept-lives c lives (le_of_eq (sym (ap (λ (x : Tabled LifeState). x.space) is))) (ap (λ (x : Tabled LifeState). x.reach) is) k
 
 pub kept-sets : (c : Inside) (ws : List CoreSet) → All (λ (x : CoreSet). c.room ≤ x.cells.space) ws → IsKept c → IsKept (record c { sets = with_items c.sets ws })
 kept-sets c ws room k = record {
@@ -144,6 +150,7 @@ kept-sets c ws room k = record {
   owners = k.owners;
   workers = k.workers;
   lives_room = k.lives_room;
+  lives_table = k.lives_table;
   hands_room = k.hands_room;
   sets_room = All-take (λ (x : CoreSet). c.room ≤ x.cells.space) c.sets.len _
       (All-append (λ (x : CoreSet). c.room ≤ x.cells.space) ws _ room (All-drop (λ (x : CoreSet). c.room ≤ x.cells.space) (length ws) c.sets.items k.sets_room));
@@ -156,7 +163,8 @@ kept-word c page word k = record {
   owners = k.owners ∙ sym (length-set c.words.items page word);
   workers = k.workers;
   lives_room = k.lives_room;
-  hands_room = k.hands_room;
+  lives_table = k.lives_table ∙ sym (length-set c.words.items page word);
+  hands_room = subst (λ (n : ℕ). All (HandRoom n c.room) c.hands.items) (sym (length-set c.words.items page word)) k.hands_room;
   sets_room = k.sets_room;
 }
 
@@ -167,6 +175,7 @@ kept-spare c spare k = record {
   owners = k.owners;
   workers = k.workers;
   lives_room = k.lives_room;
+  lives_table = k.lives_table;
   hands_room = k.hands_room;
   sets_room = k.sets_room;
 }
@@ -178,17 +187,37 @@ kept-generation c g low k = record {
   owners = k.owners;
   workers = k.workers;
   lives_room = k.lives_room;
+  lives_table = k.lives_table;
   hands_room = k.hands_room;
   sets_room = k.sets_room;
 }
 
-pub kept-hands : (c : Inside) (ws : List CoreHand) → All (HandRoom c.room) ws → IsKept c → IsKept (record c { hands = with_items c.hands ws })
+pub kept-hands : (c : Inside) (ws : List CoreHand) → All (HandRoom (length c.words.items) c.room) ws → IsKept c → IsKept (record c { hands = with_items c.hands ws })
 kept-hands c ws room k = record {
   generation = k.generation;
   pages = k.pages;
   owners = k.owners;
   workers = subst (λ (n : ℕ). n < 2 ^ 32) (sym c.hands.ok.0 ∙ (with_items c.hands ws).ok.0) k.workers;
   lives_room = k.lives_room;
-  hands_room = All-take (HandRoom c.room) c.hands.len _ (All-append (HandRoom c.room) ws _ room (All-drop (HandRoom c.room) (length ws) c.hands.items k.hands_room));
+  lives_table = k.lives_table;
+  hands_room = All-take (HandRoom (length c.words.items) c.room) c.hands.len _ (All-append (HandRoom (length c.words.items) c.room) ws _ room (All-drop (HandRoom (length c.words.items) c.room) (length ws) c.hands.items k.hands_room));
   sets_room = k.sets_room;
 }
+
+-- hands with nothing in them have tables of the pages
+pub bare-hands : (pages workers : ℕ) (hands : List CoreHand) → hands ≡ copies workers (bare_hand pages) → All (HandRoom pages 0) hands
+bare-hands pages workers hands is =
+    subst (λ (xs : List CoreHand). All (HandRoom pages 0) xs) (sym is) (All-map (HandRoom pages 0) (λ _. bare_hand pages) (range_with_len 0 workers) (λ k d l. bare))
+  where
+    bare : HandRoom pages 0 (bare_hand pages)
+    bare = record {
+      sweeping = omega arith;
+      held = omega arith;
+      cached = omega arith;
+      popped = omega arith;
+      swept = omega arith;
+      sweeping_table = omega arith;
+      held_table = omega arith;
+      cached_table = omega arith;
+      popped_table = omega arith;
+    }

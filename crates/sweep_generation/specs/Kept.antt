@@ -18,12 +18,13 @@ core_view c = record {
   prepared = c.spare;
 }
 
--- sizes fit the numbers that name their entries, and all that has room has it
+-- sizes fit the numbers that name their entries, all that has room has it, and all tables by page reach over the region
 pub record IsKept (c : Inside) : Type 0 where
   pub generation : c.generation + 3 < 2 ^ 64
   pub pages : length c.words.items < 2 ^ 32
   pub owners : length c.owners.items ≡ length c.words.items
   pub workers : length c.hands.items < 2 ^ 32
   pub lives_room : c.room ≤ c.lives.space
-  pub hands_room : All (HandRoom c.room) c.hands.items
+  pub lives_table : c.lives.reach ≡ length c.words.items
+  pub hands_room : All (HandRoom (length c.words.items) c.room) c.hands.items
   pub sets_room : All (λ s. c.room ≤ s.cells.space) c.sets.items

@@ -22,7 +22,7 @@ fn empty_unswept(sets: &mut [CoreSet], generation: u64)
 // All hands forget what they swept.
 fn forget_swept(hands: &mut [CoreHand])
     ensures view { map hand_view hands.new ≡ map swept_forgotten (map hand_view hands.old) }
-    ensures room { (n : ℕ) → All (HandRoom n) hands.old → All (HandRoom n) hands.new }
+    ensures room { (pages n : ℕ) → All (HandRoom pages n) hands.old → All (HandRoom pages n) hands.new }
 {
     for k in 0..hands.len() {
         hands[k].forget_swept();

@@ -33,7 +33,7 @@ fn empty_sets(alloc: Global) -> Result<Vec<CoreSet>, AllocError>
 }
 
 fn empty_hands(alloc: Global, workers: u32, pages: u32) -> Result<Vec<CoreHand>, NoMemory>
-    ensures { IfOk result (λ hands. hands.items ≡ copies workers bare_hand) }
+    ensures { IfOk result (λ hands. hands.items ≡ copies workers (bare_hand pages)) }
 {
     let mut hands = Vec::new(alloc);
     for _ in 0..workers {
@@ -57,8 +57,8 @@ fn reserve_sets(sets: &mut [CoreSet], room: usize) -> Result<(), NoMemory>
 // Each list of each hand gets room for so many entries.
 fn reserve_hands(hands: &mut [CoreHand], room: usize) -> Result<(), NoMemory>
     ensures view { map hand_view hands.new ≡ map hand_view hands.old }
-    ensures ok { OnOk result (All (HandRoom room) hands.new) }
-    ensures keeps { (n : ℕ) → All (HandRoom n) hands.old → All (HandRoom n) hands.new }
+    ensures ok { OnOk result ((pages n : ℕ) → All (HandRoom pages n) hands.old → All (HandRoom pages room) hands.new) }
+    ensures keeps { (pages n : ℕ) → All (HandRoom pages n) hands.old → All (HandRoom pages n) hands.new }
 {
     for k in 0..hands.len() {
         hands[k].reserve_all(room)?;

@@ -13,7 +13,7 @@ use Rattle.sweep_laws.specs.Changes.{mark_life, change_life, drop_life}
 use Rattle.sweep_lists.specs.declared.life.Life.{Life}
 use Rattle.sweep_lists.specs.declared.lives.Lives.TheInside.{Inside}
 use Rattle.sweep_lists.specs.KeptLives.{lives_view, AreKept}
-use Rattle.sweep_lists.specs.Room.{Roomy}
+use Rattle.sweep_lists.specs.Room.{Tabled}
 use Rattle.sweep_lists.specs.Tables.{TellsPlaces}
 use Rattle.sweep_lists.specs.Views.{life_view, LifeRoom}
 use Rattle.sweep_lists.proofs.Maps.{position-map, find-first-map, find-none-map, change-first-map, change-none-map, drop-first-map, drop-none-map}
@@ -65,7 +65,7 @@ kept-at inside page i d y kept at same stays room = record {
 pub shown-at : (inside : Inside) (page i : ℕ) (f : LifeState → LifeState) (d y : Life) → position (λ (l : Life). l.page == page) inside.items.items ≡ Some i → d ≡ get_or inside.items.items i d
     → life_view y ≡ f (life_view d) → lives_view (record inside { items = with_item inside.items i y }) ≡ record (lives_view inside) { items = change_life page f (lives_view inside).items }
 shown-at inside page i f d y at same is =
-    ap (λ (states : List LifeState). let r : Roomy LifeState = record { items = states; space = inside.space } in r)
+    ap (λ (states : List LifeState). let r : Tabled LifeState = record { items = states; space = inside.space; reach = inside.starts.len } in r)
     (change-first-map life_view (λ (s : LifeState). s.page == page) f inside.items.items i d no_life y at (is ∙ ap (λ l. f (life_view l)) same))
 
 -- what the lives keep where all change and keep their pages and their room
@@ -82,20 +82,20 @@ kept-with inside news kept long stays room = record {
 pub shown-none : (inside : Inside) (page : ℕ) (f : LifeState → LifeState) → position (λ (l : Life). l.page == page) inside.items.items ≡ None
     → lives_view inside ≡ record (lives_view inside) { items = change_life page f (lives_view inside).items }
 shown-none inside page f at =
-    ap (λ (states : List LifeState). let r : Roomy LifeState = record { items = states; space = inside.space } in r)
+    ap (λ (states : List LifeState). let r : Tabled LifeState = record { items = states; space = inside.space; reach = inside.starts.len } in r)
     (change-none-map life_view (λ (s : LifeState). s.page == page) f inside.items.items at)
 
 pub dropped-none : (inside : Inside) (page : ℕ) → position (λ (l : Life). l.page == page) inside.items.items ≡ None
     → lives_view inside ≡ record (lives_view inside) { items = drop_life page (lives_view inside).items }
 dropped-none inside page at =
-    ap (λ (states : List LifeState). let r : Roomy LifeState = record { items = states; space = inside.space } in r)
+    ap (λ (states : List LifeState). let r : Tabled LifeState = record { items = states; space = inside.space; reach = inside.starts.len } in r)
     (drop-none-map life_view (λ (s : LifeState). s.page == page) inside.items.items at)
 
 -- the first life that begins at the page leaves
 pub dropped-at : (inside : Inside) (page i : ℕ) → position (λ (l : Life). l.page == page) inside.items.items ≡ Some i
-    → (let r : Roomy LifeState = record { items = map life_view (remove inside.items.items i); space = inside.space } in r) ≡ record (lives_view inside) { items = drop_life page (lives_view inside).items }
+    → (let r : Tabled LifeState = record { items = map life_view (remove inside.items.items i); space = inside.space; reach = inside.starts.len } in r) ≡ record (lives_view inside) { items = drop_life page (lives_view inside).items }
 dropped-at inside page i at =
-    ap (λ (states : List LifeState). let r : Roomy LifeState = record { items = states; space = inside.space } in r)
+    ap (λ (states : List LifeState). let r : Tabled LifeState = record { items = states; space = inside.space; reach = inside.starts.len } in r)
     (drop-first-map life_view (λ (s : LifeState). s.page == page) inside.items.items i no_life at)
 
 pub room-without : (lives : List Life) (i : ℕ) → All LifeRoom lives → All LifeRoom (remove lives i)

@@ -5,3 +5,9 @@ use Rattle.std.specs.Prelude.{ℕ, List}
 pub record Roomy (T : Type 0) : Type 0 where
   pub items : List T
   pub space : ℕ
+
+-- such a list with a table beside it, which tells of all numbers below `reach`
+pub record Tabled (T : Type 0) : Type 0 where
+  pub items : List T
+  pub space : ℕ
+  pub reach : ℕ

@@ -28,15 +28,20 @@ life_view l = record {
 abbrev pub set_view : CoreSet → SetState
 set_view s = record { head = s.head; tail = s.tail; cells = s.cells.items }
 
--- each list of the hand has room
-pub record HandRoom (room : ℕ) (h : CoreHand) : Type 0 where
+-- each list of the hand has room, and the tables of its lists of spans reach over so many pages
+pub record HandRoom (pages room : ℕ) (h : CoreHand) : Type 0 where
   pub sweeping : room ≤ h.sweeping.space
   pub held : room ≤ h.held.space
   pub cached : room ≤ h.cached.space
   pub popped : room ≤ h.popped.space
   pub swept : room ≤ h.swept.space
+  pub sweeping_table : pages ≤ h.sweeping.reach
+  pub held_table : pages ≤ h.held.reach
+  pub cached_table : pages ≤ h.cached.reach
+  pub popped_table : pages ≤ h.popped.reach
 
--- both lists of the life have room for all its objects
+-- both lists of the life have room for all its objects, and the table of the allocated ones reaches over them
 pub record LifeRoom (l : Life) : Type 0 where
   pub allocated : l.count ≤ l.allocated.space
   pub kept : l.count ≤ l.kept.space
+  pub table : l.count ≤ l.allocated.reach

@@ -43,7 +43,7 @@ pub struct CoreHand {
 impl CoreHand {
     /// A hand that has nothing, with tables of the pages of a region of so many pages.
     pub fn new(alloc: Global, pages: u32) -> Result<Self, NoMemory>
-        ensures { IfOk result (λ hand. hand ≡ bare_hand) }
+        ensures { IfOk result (λ hand. hand ≡ bare_hand pages) }
     {
         Ok(CoreHand {
             sweeping: Numbers::with_table(alloc, pages)?,
@@ -72,7 +72,7 @@ impl CoreHand {
         ensures ok { OnOk result (hand_view self.new ≡ hold page (hand_view self.old)) }
         ensures err { OnErr result (hand_view self.new ≡ hand_view self.old) }
         ensures full { OnErr result (self.old.held.space ≤ length self.old.held.items) }
-        ensures room { (n : ℕ) → HandRoom n self.old → HandRoom n self.new }
+        ensures room { (pages n : ℕ) → HandRoom pages n self.old → HandRoom pages n self.new }
     {
         self.held.reserve_one()?;
         self.held.push(page);
@@ -84,7 +84,7 @@ impl CoreHand {
         ensures ok { OnOk result (hand_view self.new ≡ start_sweep page (hand_view self.old)) }
         ensures err { OnErr result (hand_view self.new ≡ hand_view self.old) }
         ensures full { OnErr result (self.old.sweeping.space ≤ length self.old.sweeping.items) }
-        ensures room { (n : ℕ) → HandRoom n self.old → HandRoom n self.new }
+        ensures room { (pages n : ℕ) → HandRoom pages n self.old → HandRoom pages n self.new }
     {
         self.sweeping.reserve_one()?;
         self.sweeping.push(page);
@@ -97,7 +97,7 @@ impl CoreHand {
         ensures ok { OnOk result (hand_view self.new ≡ put_in_cache page (hand_view self.old)) }
         ensures err { OnErr result (hand_view self.new ≡ hand_view self.old) }
         ensures full { OnErr result (self.old.cached.space ≤ length self.old.cached.items) }
-        ensures room { (n : ℕ) → HandRoom n self.old → HandRoom n self.new }
+        ensures room { (pages n : ℕ) → HandRoom pages n self.old → HandRoom pages n self.new }
     {
         self.cached.reserve_one()?;
         self.cached.push(page);
@@ -110,7 +110,7 @@ impl CoreHand {
         ensures ok { OnOk result (hand_view self.new ≡ take_from_cache page (hand_view self.old)) }
         ensures err { OnErr result (hand_view self.new ≡ hand_view self.old) }
         ensures full { OnErr result (self.old.held.space ≤ length self.old.held.items) }
-        ensures room { (n : ℕ) → HandRoom n self.old → HandRoom n self.new }
+        ensures room { (pages n : ℕ) → HandRoom pages n self.old → HandRoom pages n self.new }
     {
         self.held.reserve_one()?;
         self.held.push(page);
@@ -123,7 +123,7 @@ impl CoreHand {
         ensures ok { OnOk result (hand_view self.new ≡ sweep_from_cache page (hand_view self.old)) }
         ensures err { OnErr result (hand_view self.new ≡ hand_view self.old) }
         ensures full { OnErr result (self.old.sweeping.space ≤ length self.old.sweeping.items) }
-        ensures room { (n : ℕ) → HandRoom n self.old → HandRoom n self.new }
+        ensures room { (pages n : ℕ) → HandRoom pages n self.old → HandRoom pages n self.new }
     {
         self.sweeping.reserve_one()?;
         self.sweeping.push(page);
@@ -136,7 +136,7 @@ impl CoreHand {
         ensures ok { OnOk result (hand_view self.new ≡ pop_entry page (hand_view self.old)) }
         ensures err { OnErr result (hand_view self.new ≡ hand_view self.old) }
         ensures full { OnErr result (self.old.popped.space ≤ length self.old.popped.items) }
-        ensures room { (n : ℕ) → HandRoom n self.old → HandRoom n self.new }
+        ensures room { (pages n : ℕ) → HandRoom pages n self.old → HandRoom pages n self.new }
     {
         self.popped.reserve_one()?;
         self.popped.push(page);
@@ -146,7 +146,7 @@ impl CoreHand {
     /// Lets go of a span that it holds.
     pub fn let_go(&mut self, page: u32)
         ensures view { hand_view self.new ≡ let_go page (hand_view self.old) }
-        ensures room { (n : ℕ) → HandRoom n self.old → HandRoom n self.new }
+        ensures room { (pages n : ℕ) → HandRoom pages n self.old → HandRoom pages n self.new }
     {
         self.held.erase(page);
     }
@@ -154,7 +154,7 @@ impl CoreHand {
     /// Has claimed an index of a set.
     pub fn claim_cell(&mut self, claim: Claimed)
         ensures view { hand_view self.new ≡ claim_cell claim.set claim.index claim.page (hand_view self.old) }
-        ensures room { (n : ℕ) → HandRoom n self.old → HandRoom n self.new }
+        ensures room { (pages n : ℕ) → HandRoom pages n self.old → HandRoom pages n self.new }
     {
         self.claimed = Some(claim);
     }
@@ -162,7 +162,7 @@ impl CoreHand {
     /// Has filled its claim with a span, which it holds no more.
     pub fn fill_cell(&mut self, page: u32)
         ensures view { hand_view self.new ≡ fill_cell page (hand_view self.old) }
-        ensures room { (n : ℕ) → HandRoom n self.old → HandRoom n self.new }
+        ensures room { (pages n : ℕ) → HandRoom pages n self.old → HandRoom pages n self.new }
     {
         self.let_go(page);
         self.claimed = None;
@@ -171,7 +171,7 @@ impl CoreHand {
     /// Drops a popped entry.
     pub fn drop_entry(&mut self, page: u32)
         ensures view { hand_view self.new ≡ drop_entry page (hand_view self.old) }
-        ensures room { (n : ℕ) → HandRoom n self.old → HandRoom n self.new }
+        ensures room { (pages n : ℕ) → HandRoom pages n self.old → HandRoom pages n self.new }
     {
         self.popped.erase(page);
     }
@@ -193,8 +193,8 @@ impl CoreHand {
     /// Makes room for so many entries in each list.
     pub fn reserve_all(&mut self, room: usize) -> Result<(), NoMemory>
         ensures view { hand_view self.new ≡ hand_view self.old }
-        ensures ok { OnOk result (HandRoom room self.new) }
-        ensures room { (n : ℕ) → HandRoom n self.old → HandRoom n self.new }
+        ensures ok { OnOk result ((pages n : ℕ) → HandRoom pages n self.old → HandRoom pages room self.new) }
+        ensures room { (pages n : ℕ) → HandRoom pages n self.old → HandRoom pages n self.new }
     {
         self.sweeping.reserve(room)?;
         self.held.reserve(room)?;
@@ -208,7 +208,7 @@ impl CoreHand {
         ensures view { hand_view self.new ≡ hand_view self.old }
         ensures held { OnOk result (length self.new.held.items < self.new.held.space) }
         ensures full { OnErr result (self.old.held.space ≤ length self.old.held.items) }
-        ensures room { (n : ℕ) → HandRoom n self.old → HandRoom n self.new }
+        ensures room { (pages n : ℕ) → HandRoom pages n self.old → HandRoom pages n self.new }
     {
         self.held.reserve_one()
     }
@@ -217,7 +217,7 @@ impl CoreHand {
     pub fn take_hold(&mut self, page: u32)
         requires { length self.old.held.items < self.old.held.space }
         ensures view { hand_view self.new ≡ hold page (hand_view self.old) }
-        ensures room { (n : ℕ) → HandRoom n self.old → HandRoom n self.new }
+        ensures room { (pages n : ℕ) → HandRoom pages n self.old → HandRoom pages n self.new }
     {
         self.held.push(page);
     }
@@ -228,7 +228,7 @@ impl CoreHand {
         ensures held { OnOk result (length self.new.held.items < self.new.held.space) }
         ensures swept { OnOk result (length self.new.swept.items < self.new.swept.space) }
         ensures full { OnErr result ((self.old.held.space ≤ length self.old.held.items) ⊎ (self.old.swept.space ≤ length self.old.swept.items)) }
-        ensures room { (n : ℕ) → HandRoom n self.old → HandRoom n self.new }
+        ensures room { (pages n : ℕ) → HandRoom pages n self.old → HandRoom pages n self.new }
     {
         self.held.reserve_one()?;
         self.swept.reserve_one()?;
@@ -240,7 +240,7 @@ impl CoreHand {
         requires held { length self.old.held.items < self.old.held.space }
         requires swept { length self.old.swept.items < self.old.swept.space }
         ensures view { hand_view self.new ≡ end_sweep page (hand_view self.old) }
-        ensures room { (n : ℕ) → HandRoom n self.old → HandRoom n self.new }
+        ensures room { (pages n : ℕ) → HandRoom pages n self.old → HandRoom pages n self.new }
     {
         self.sweeping.erase(page);
         self.held.push(page);

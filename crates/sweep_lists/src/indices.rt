@@ -17,10 +17,10 @@ pub struct Indices {
 
 impl Model for Indices {
     ghost use Rattle.std.specs.Prelude.{ℕ};
-    ghost use Rattle.sweep_lists.specs.Room.{Roomy};
+    ghost use Rattle.sweep_lists.specs.Room.{Tabled};
     ghost use Rattle.sweep_lists.specs.Tables.{IsLeastOutside};
 
-    ghost Value = { Roomy ℕ };
+    ghost Value = { Tabled ℕ };
 
     ghost view = { λ indices. indices.numbers };
 
@@ -30,7 +30,7 @@ impl Model for Indices {
 impl Indices {
     /// No indices, no room, and no table.
     pub fn new(alloc: Global) -> Self
-        ensures { result ≡ record { items = []; space = 0 } }
+        ensures { result ≡ record { items = []; space = 0; reach = 0 } }
     {
         Indices {
             numbers: Numbers::new(alloc),
@@ -40,7 +40,7 @@ impl Indices {
 
     /// No indices and no room, with a table of the indices below `bound`.
     pub fn with_table(alloc: Global, bound: u32) -> Result<Self, NoMemory>
-        ensures { IfOk result (λ indices. indices ≡ record { items = []; space = 0 }) }
+        ensures { IfOk result (λ indices. indices ≡ record { items = []; space = 0; reach = bound }) }
     {
         Ok(Indices {
             numbers: Numbers::with_table(alloc, bound)?,
@@ -90,6 +90,7 @@ impl Indices {
     /// Makes room for `space` indices at least. It fails only where there is less room.
     pub fn reserve(&mut self, space: usize) -> Result<(), NoMemory>
         ensures items { self.new.items ≡ self.old.items }
+        ensures reach { self.new.reach ≡ self.old.reach }
         ensures grows { self.old.space ≤ self.new.space }
         ensures ok { OnOk result (space ≤ self.new.space) }
         ensures full { OnErr result (self.old.space < space) }
@@ -101,6 +102,7 @@ impl Indices {
     /// Makes room for one index more. It fails only where there is no room.
     pub fn reserve_one(&mut self) -> Result<(), NoMemory>
         ensures items { self.new.items ≡ self.old.items }
+        ensures reach { self.new.reach ≡ self.old.reach }
         ensures grows { self.old.space ≤ self.new.space }
         ensures ok { OnOk result (length self.new.items < self.new.space) }
         ensures full { OnErr result (self.old.space ≤ length self.old.items) }

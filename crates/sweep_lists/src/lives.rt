@@ -23,10 +23,10 @@ pub struct Lives {
 
 impl Model for Lives {
     ghost use Rattle.sweep_laws.specs.State.{LifeState};
-    ghost use Rattle.sweep_lists.specs.Room.{Roomy};
+    ghost use Rattle.sweep_lists.specs.Room.{Tabled};
     ghost use Rattle.sweep_lists.specs.KeptLives.{lives_view, AreKept};
 
-    ghost Value = { Roomy LifeState };
+    ghost Value = { Tabled LifeState };
 
     ghost view = { lives_view };
 
@@ -36,7 +36,7 @@ impl Model for Lives {
 impl Lives {
     /// No lives and no room, with a table of the pages of a region of so many pages.
     pub fn with_table(alloc: Global, pages: u32) -> Result<Self, NoMemory>
-        ensures { IfOk result (λ lives. lives ≡ record { items = []; space = 0 }) }
+        ensures { IfOk result (λ lives. lives ≡ record { items = []; space = 0; reach = pages }) }
     {
         let starts = vec![in alloc; None; pages as usize]?;
         Ok(Lives {
@@ -77,6 +77,7 @@ impl Lives {
     /// Makes room for `space` lives at least. It fails only where there is less room.
     pub fn reserve(&mut self, space: usize) -> Result<(), NoMemory>
         ensures items { self.new.items ≡ self.old.items }
+        ensures reach { self.new.reach ≡ self.old.reach }
         ensures grows { self.old.space ≤ self.new.space }
         ensures ok { OnOk result (space ≤ self.new.space) }
         ensures full { OnErr result (self.old.space < space) }
@@ -92,6 +93,7 @@ impl Lives {
     /// Makes room for one life more. It fails only where there is no room.
     pub fn reserve_one(&mut self) -> Result<(), NoMemory>
         ensures items { self.new.items ≡ self.old.items }
+        ensures reach { self.new.reach ≡ self.old.reach }
         ensures grows { self.old.space ≤ self.new.space }
         ensures ok { OnOk result (length self.new.items < self.new.space) }
         ensures full { OnErr result (self.old.space ≤ length self.old.items) }
@@ -104,7 +106,7 @@ impl Lives {
         Ok(())
     }
 
-    /// Puts a life with room for its objects at the end.
+    /// Puts a life at the end, whose lists have room for its objects and whose table reaches over them.
     pub fn push(&mut self, life: Life)
         requires space { length self.old.items < self.old.space }
         requires room { LifeRoom life }

@@ -17,12 +17,12 @@ pub struct Numbers {
 
 impl Model for Numbers {
     ghost use Rattle.std.specs.Prelude.{ℕ};
-    ghost use Rattle.sweep_lists.specs.Room.{Roomy};
+    ghost use Rattle.sweep_lists.specs.Room.{Tabled};
     ghost use Rattle.sweep_lists.specs.Tables.{TellsMembers};
 
-    ghost Value = { Roomy ℕ };
+    ghost Value = { Tabled ℕ };
 
-    ghost view = { λ numbers. numbers.items };
+    ghost view = { λ numbers. record { items = numbers.items.items; space = numbers.items.space; reach = numbers.seen.len } };
 
     ghost invariant = { λ numbers. TellsMembers numbers.seen.items numbers.items.items };
 }
@@ -30,7 +30,7 @@ impl Model for Numbers {
 impl Numbers {
     /// No numbers, no room, and no table.
     pub fn new(alloc: Global) -> Self
-        ensures { result ≡ record { items = []; space = 0 } }
+        ensures { result ≡ record { items = []; space = 0; reach = 0 } }
     {
         Numbers {
             items: Entries::new(alloc),
@@ -40,7 +40,7 @@ impl Numbers {
 
     /// No numbers and no room, with a table of the numbers below `bound`.
     pub fn with_table(alloc: Global, bound: u32) -> Result<Self, NoMemory>
-        ensures { IfOk result (λ numbers. numbers ≡ record { items = []; space = 0 }) }
+        ensures { IfOk result (λ numbers. numbers ≡ record { items = []; space = 0; reach = bound }) }
     {
         let seen = vec![in alloc; false; bound as usize]?;
         Ok(Numbers {
@@ -84,6 +84,7 @@ impl Numbers {
     /// Makes room for `space` numbers at least. It fails only where there is less room.
     pub fn reserve(&mut self, space: usize) -> Result<(), NoMemory>
         ensures items { self.new.items ≡ self.old.items }
+        ensures reach { self.new.reach ≡ self.old.reach }
         ensures grows { self.old.space ≤ self.new.space }
         ensures ok { OnOk result (space ≤ self.new.space) }
         ensures full { OnErr result (self.old.space < space) }
@@ -95,6 +96,7 @@ impl Numbers {
     /// Makes room for one number more. It fails only where there is no room.
     pub fn reserve_one(&mut self) -> Result<(), NoMemory>
         ensures items { self.new.items ≡ self.old.items }
+        ensures reach { self.new.reach ≡ self.old.reach }
         ensures grows { self.old.space ≤ self.new.space }
         ensures ok { OnOk result (length self.new.items < self.new.space) }
         ensures full { OnErr result (self.old.space ≤ length self.old.items) }

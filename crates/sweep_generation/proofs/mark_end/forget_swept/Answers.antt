@@ -16,6 +16,16 @@ returns-clause-view c =
     rw (c.loop-k.invariant, e) (changed-all without_swept hand_view forget_swept (λ n x. refl) 0 c.args.hands.now)
 
 pub returns-clause-room : goal.returns-clause-room
-returns-clause-room c = λ n all.
-    subst (λ (hs : List CoreHand). All (HandRoom n) hs) (sym c.loop-k.invariant)
-    (All-changed without_swept (HandRoom n) (λ m x h. record { sweeping = h.sweeping; held = h.held; cached = h.cached; popped = h.popped; swept = h.swept }) 0 c.loop-k.k c.args.hands.now all)
+returns-clause-room c = λ pages n all.
+    subst (λ (hs : List CoreHand). All (HandRoom pages n) hs) (sym c.loop-k.invariant)
+    (All-changed without_swept (HandRoom pages n) (λ m x h. record {
+      sweeping = h.sweeping;
+      held = h.held;
+      cached = h.cached;
+      popped = h.popped;
+      swept = h.swept;
+      sweeping_table = h.sweeping_table;
+      held_table = h.held_table;
+      cached_table = h.cached_table;
+      popped_table = h.popped_table;
+    }) 0 c.loop-k.k c.args.hands.now all)

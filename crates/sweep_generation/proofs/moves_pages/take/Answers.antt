@@ -8,7 +8,7 @@ use Rattle.sweep_generation.proofs.Seen.{hand-changed, hand-same, hand-is, room-
 use Rattle.sweep_generation.proofs.moves_pages.take.Goals as goal
 
 pub invariant_of-core-in_err-reserve_held : goal.invariant_of-core-in_err-reserve_held
-invariant_of-core-in_err-reserve_held c = kept-hand _ c.args.worker (low-hand c.core.inside c.args.core.now c.core.view_is c.args.worker c.in_ok-try_take.ensures.worker) c.index_mut.result.now c.reserve_held.new.self c.index_mut.ensures.value c.reserve_held.ensures.room (kept-lives c.core.inside c.reserve_one.new.self c.reserve_one.ensures.grows c.core.invariant)
+invariant_of-core-in_err-reserve_held c = kept-hand _ c.args.worker (low-hand c.core.inside c.args.core.now c.core.view_is c.args.worker c.in_ok-try_take.ensures.worker) c.index_mut.result.now c.reserve_held.new.self c.index_mut.ensures.value c.reserve_held.ensures.room (kept-lives c.core.inside c.reserve_one.new.self c.reserve_one.ensures.grows c.reserve_one.ensures.reach c.core.invariant)
 
 pub returns-in_err-reserve_held : goal.returns-in_err-reserve_held
 returns-in_err-reserve_held c =
@@ -19,7 +19,7 @@ returns-in_err-reserve_held c =
     (c.in_ok-try_take.ensures.tried, c.core.view_is, λ r. omega (arith, r.1, e, k.held, c.in_err-reserve_held.ensures.full))
 
 pub invariant_of-core-in_err-life : goal.invariant_of-core-in_err-life
-invariant_of-core-in_err-life c = kept-spare _ c.make.new.self (kept-hand _ c.args.worker (low-hand c.core.inside c.args.core.now c.core.view_is c.args.worker c.in_ok-try_take.ensures.worker) c.index_mut.result.now c.reserve_held.new.self c.index_mut.ensures.value c.reserve_held.ensures.room (kept-lives c.core.inside c.reserve_one.new.self c.reserve_one.ensures.grows c.core.invariant))
+invariant_of-core-in_err-life c = kept-spare _ c.make.new.self (kept-hand _ c.args.worker (low-hand c.core.inside c.args.core.now c.core.view_is c.args.worker c.in_ok-try_take.ensures.worker) c.index_mut.result.now c.reserve_held.new.self c.index_mut.ensures.value c.reserve_held.ensures.room (kept-lives c.core.inside c.reserve_one.new.self c.reserve_one.ensures.grows c.reserve_one.ensures.reach c.core.invariant))
 
 pub returns-in_err-life : goal.returns-in_err-life
 returns-in_err-life c =
@@ -33,7 +33,7 @@ invariant_of-core-2 c =
     let low = subst (λ (n : ℕ). c.args.worker < n) (sym (length-set c.core.inside.hands.items c.args.worker c.reserve_held.new.self)) (low-hand c.core.inside c.args.core.now c.core.view_is c.args.worker c.in_ok-try_take.ensures.worker) in
     kept-word _ c.args.page _ (kept-owners _ c.put_owner.new.owners
     (kept-hand _ c.args.worker low c.index_mut-2.result.now c.take_hold.new.self c.index_mut-2.ensures.value c.take_hold.ensures.room
-    (kept-same-room _ c.push.new.self _ c.push.ensures (kept-spare _ c.make.new.self (kept-hand _ c.args.worker (low-hand c.core.inside c.args.core.now c.core.view_is c.args.worker c.in_ok-try_take.ensures.worker) c.index_mut.result.now c.reserve_held.new.self c.index_mut.ensures.value c.reserve_held.ensures.room (kept-lives c.core.inside c.reserve_one.new.self c.reserve_one.ensures.grows c.core.invariant))))))
+    (kept-same-room _ c.push.new.self _ c.push.ensures (kept-spare _ c.make.new.self (kept-hand _ c.args.worker (low-hand c.core.inside c.args.core.now c.core.view_is c.args.worker c.in_ok-try_take.ensures.worker) c.index_mut.result.now c.reserve_held.new.self c.index_mut.ensures.value c.reserve_held.ensures.room (kept-lives c.core.inside c.reserve_one.new.self c.reserve_one.ensures.grows c.reserve_one.ensures.reach c.core.invariant))))))
 
 pub returns : goal.returns
 returns c =

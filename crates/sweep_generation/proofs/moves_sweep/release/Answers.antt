@@ -19,7 +19,7 @@ returns-in_err-reserve_end c =
     rw (p.1, p.2, hand-same c.core.inside c.args.core.now c.core.view_is c.args.worker c.index_mut.result.now c.reserve_end.new.self c.index_mut.ensures.value c.reserve_end.ensures.view) (
       c.in_ok-try_release.ensures.tried,
       c.core.view_is,
-      λ r. full-end c.args.core.now.room c.index_mut.result.now k c.in_err-reserve_end.ensures.full
+      λ r. full-end (length c.core.inside.words.items) c.args.core.now.room c.index_mut.result.now k c.in_err-reserve_end.ensures.full
           (subst (λ (h : HandState). length h.held < c.args.core.now.room) e r.0) (subst (λ (h : HandState). length h.swept < c.args.core.now.room) e r.1),
     )
 

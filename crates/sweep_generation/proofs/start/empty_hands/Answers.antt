@@ -6,4 +6,4 @@ use Rattle.sweep_generation.proofs.start.empty_hands.Goals as goal
 pub loop-preserved : goal.loop-preserved
 loop-preserved c =
     rw (c.in_ok-push.ensures.items, c.in_ok-new.ensures, c.loop.invariant)
-    (sym (map-range_with_len_more (λ _. bare_hand) 0 c.loop.counter c.loop.counter (omega arith)))
+    (sym (map-range_with_len_more (λ _. bare_hand c.args.pages) 0 c.loop.counter c.loop.counter (omega arith)))

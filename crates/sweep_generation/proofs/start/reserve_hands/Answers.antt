@@ -10,9 +10,9 @@ returns-in_err-reserve_all-clause-view c =
     map-set_same hand_view c.loop-k.hands c.loop-k.k c.reserve_all.new.self c.index-hands-k.result c.reserve_all.ensures.view ∙ c.loop-k.invariant.same
 
 pub returns-in_err-reserve_all-clause-keeps : goal.returns-in_err-reserve_all-clause-keeps
-returns-in_err-reserve_all-clause-keeps c = λ n all.
+returns-in_err-reserve_all-clause-keeps c = λ pages n all.
     let low : c.loop-k.k < length c.loop-k.hands = search rules in
-    All-set (HandRoom n) c.loop-k.hands c.loop-k.k c.reserve_all.new.self (c.reserve_all.ensures.room n (c.loop-k.invariant.room n all c.loop-k.k c.index-hands-k.result low)) (c.loop-k.invariant.room n all)
+    All-set (HandRoom pages n) c.loop-k.hands c.loop-k.k c.reserve_all.new.self (c.reserve_all.ensures.room pages n (c.loop-k.invariant.room pages n all c.loop-k.k c.index-hands-k.result low)) (c.loop-k.invariant.room pages n all)
 
 pub loop-k-preserved : goal.loop-k-preserved
 loop-k-preserved c =
@@ -20,8 +20,11 @@ loop-k-preserved c =
     let new : CoreHand = c.reserve_all.new.self in
     record {
       same = map-set_same hand_view c.loop-k.hands c.loop-k.k new c.index-hands-k.result c.reserve_all.ensures.view ∙ c.loop-k.invariant.same;
-      done = λ j e lt. below_more (λ (i : ℕ). (x : CoreHand) → HandRoom c.args.room (get_or (set c.loop-k.hands c.loop-k.k new) i x)) c.loop-k.k
-          (λ i l x. subst (λ (y : CoreHand). HandRoom c.args.room y) (sym (get_or-set_other c.loop-k.hands c.loop-k.k i new x (omega arith))) (c.loop-k.invariant.done i x l))
-          (λ x. subst (λ (y : CoreHand). HandRoom c.args.room y) (sym (get_or-set_same c.loop-k.hands c.loop-k.k new x low)) c.in_ok-reserve_all.ensures.ok) j lt e;
-      room = λ n all. All-set (HandRoom n) c.loop-k.hands c.loop-k.k new (c.reserve_all.ensures.room n (c.loop-k.invariant.room n all c.loop-k.k c.index-hands-k.result low)) (c.loop-k.invariant.room n all);
+      done = λ pages n all j e lt. below_more (λ (i : ℕ). (x : CoreHand) → HandRoom pages c.args.room (get_or (set c.loop-k.hands c.loop-k.k new) i x)) c.loop-k.k
+          (λ i l x. subst (λ (y : CoreHand). HandRoom pages c.args.room y) (sym (get_or-set_other c.loop-k.hands c.loop-k.k i new x (omega arith))) (c.loop-k.invariant.done pages n all i x l))
+          (λ x. subst (λ (y : CoreHand). HandRoom pages c.args.room y) (sym (get_or-set_same c.loop-k.hands c.loop-k.k new x low)) (c.in_ok-reserve_all.ensures.ok pages n (c.loop-k.invariant.room pages n all c.loop-k.k c.index-hands-k.result low))) j lt e;
+      room = λ pages n all. All-set (HandRoom pages n) c.loop-k.hands c.loop-k.k new (c.reserve_all.ensures.room pages n (c.loop-k.invariant.room pages n all c.loop-k.k c.index-hands-k.result low)) (c.loop-k.invariant.room pages n all);
     }
+
+pub returns-clause-ok : goal.returns-clause-ok
+returns-clause-ok c = λ pages n all k d low. c.loop-k.invariant.done pages n all k d (omega arith)

@@ -7,6 +7,6 @@ use Rattle.sweep_generation.proofs.start.reserve_hands.Given as goal
 abbrev pub invariant-loop-k : goal.invariant-loop-k
 invariant-loop-k l = record {
   same : map hand_view l.hands ≡ map hand_view l.initial.hands;
-  done : (j : ℕ) (d : CoreHand) → j < l.k → HandRoom l.room (get_or l.hands j d);
-  room : (n : ℕ) → All (HandRoom n) l.initial.hands → All (HandRoom n) l.hands;
+  done : (pages n : ℕ) → All (HandRoom pages n) l.initial.hands → (j : ℕ) (d : CoreHand) → j < l.k → HandRoom pages l.room (get_or l.hands j d);
+  room : (pages n : ℕ) → All (HandRoom pages n) l.initial.hands → All (HandRoom pages n) l.hands;
 }

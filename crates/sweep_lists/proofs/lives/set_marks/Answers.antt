@@ -25,4 +25,4 @@ returns-clause-view c =
 pub returns-clause-room : goal.returns-clause-room
 returns-clause-room c = λ all.
     subst (λ (hs : List Life). All LifeRoom hs) (sym c.loop-k.invariant)
-    (All-changed (marked c.args.marks.now) LifeRoom (λ m x h. record { allocated = h.allocated; kept = h.kept }) 0 c.loop-k.k c.args.lives.now all)
+    (All-changed (marked c.args.marks.now) LifeRoom (λ m x h. record { allocated = h.allocated; kept = h.kept; table = h.table }) 0 c.loop-k.k c.args.lives.now all)

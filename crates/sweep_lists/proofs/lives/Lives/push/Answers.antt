@@ -4,7 +4,7 @@ use Rattle.std.proofs.lemmas.List.{length-map, with_items_is}
 use Rattle.std.proofs.lemmas.List.Elements.{All-push}
 use Rattle.sweep_laws.specs.State.{LifeState}
 use Rattle.sweep_lists.specs.declared.life.Life.{Life}
-use Rattle.sweep_lists.specs.Room.{Roomy}
+use Rattle.sweep_lists.specs.Room.{Tabled}
 use Rattle.sweep_lists.specs.Tables.{TellsPlaces}
 use Rattle.sweep_lists.specs.Views.{life_view, LifeRoom}
 use Rattle.sweep_lists.proofs.Places.{tells_pushed}
@@ -13,8 +13,8 @@ use Rattle.sweep_lists.proofs.lives.Lives.push.Goals as goal
 pub invariant_of-self : goal.invariant_of-self
 invariant_of-self c =
     let lives = c.self.inside.items.items in
-    let shown = ap (λ (r : Roomy LifeState). length r.items) c.self.view_is in
-    let space = ap (λ (r : Roomy LifeState). r.space) c.self.view_is in
+    let shown = ap (λ (r : Tabled LifeState). length r.items) c.self.view_is in
+    let space = ap (λ (r : Tabled LifeState). r.space) c.self.view_is in
     let size = length-map c.self.inside.items.items life_view in
     let pushed = c.push.ensures.succeeds (omega (arith, shown, space, size, c.requires.space, c.self.invariant.space, c.self.inside.items.ok.0)) in
     let items = rw pushed at c.push.ensures.items in

@@ -1,7 +1,7 @@
 use Rattle.std.proofs.Common.{◌≡◌, ◌≤◌, ℕ, Bool, length, List, false, sym, ap, ◌∙◌, arith, rules}
 use Rattle.std.proofs.Math.ListN.{length-set}
 use Rattle.sweep_laws.specs.Lists.{has}
-use Rattle.sweep_lists.specs.Room.{Roomy}
+use Rattle.sweep_lists.specs.Room.{Roomy, Tabled}
 use Rattle.sweep_lists.proofs.Members.{tells_erased, tells_beyond, erased_absent}
 use Rattle.sweep_lists.proofs.numbers.Numbers.erase.Goals as goal
 
@@ -18,4 +18,4 @@ invariant_of-self-else-item-len c =
 pub returns-else-has : goal.returns-else-has
 returns-else-has c =
     let gone : has c.args.item c.args.self.now.items ≡ false = sym c.has.ensures ∙ c.if-has.false in
-    ap (λ (xs : List ℕ). let r : Roomy ℕ = record { items = xs; space = c.args.self.now.space } in r) (erased_absent c.args.item c.args.self.now.items gone)
+    ap (λ (xs : List ℕ). let r : Tabled ℕ = record { items = xs; space = c.args.self.now.space; reach = c.args.self.now.reach } in r) (erased_absent c.args.item c.args.self.now.items gone)
