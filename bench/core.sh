@@ -16,15 +16,15 @@ seconds() {
   echo "$best"
 }
 
-for spans in 8000 64000; do
+for spans in 16000 64000; do
   one=$(seconds "$spans" 1 fill)
   more=$(seconds "$spans" 257 fill)
-  swept=$(seconds "$spans" 1 sweep)
-  awk -v n="$spans" -v e="$one" -v f="$more" -v s="$swept" 'BEGIN {
-    printf "%d spans: an Allocate %.0f ns, a move to take and queue a span %.0f ns, a move to sweep one %.0f ns\n",
-      n, (f - e) / (256 * n) * 1e9, e / (8 * n) * 1e9, (s - e) / (5 * n) * 1e9
-  }'
+  awk -v n="$spans" -v e="$one" -v f="$more" 'BEGIN { printf "%d spans: an Allocate %.0f ns\n", n, (f - e) / (256 * n) * 1e9 }'
 done
+swept=$(seconds 64000 1 sweep)
+awk -v e="$one" -v s="$swept" 'BEGIN {
+  printf "64000 spans: a move to take and queue a span %.0f ns, a move to sweep one %.0f ns\n", e / (8 * 64000) * 1e9, (s - e) / (5 * 64000) * 1e9
+}'
 # The first span in the list of lives is given each time, so that all others move up.
 for spans in 4000 16000; do
   swept=$(seconds "$spans" 1 sweep)
