@@ -7,7 +7,7 @@
 
 mod moves;
 
-use edge_io::NoMemory;
+use fallible_list::NoMemory;
 use moves::{fill_span, mark_end, new_core, sweep_span};
 use std::rt::Env;
 use std::{env, io};

@@ -1,4 +1,4 @@
-use edge_io::{List, NoMemory};
+use fallible_list::{List, NoMemory};
 use std::alloc::Global;
 use sweep_generation::{Core, Move, Reply, StepFault, step};
 

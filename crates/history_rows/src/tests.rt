@@ -2,7 +2,7 @@ ghost use Rattle.std.specs.Prelude.{◌≡◌, ◌≤◌, ◌⊎◌, take, IfOk}
 ghost use Rattle.history_rows.specs.Example.{answers, event_of_size, example};
 
 use cycle_history::{Answer, Total, marks_of, totals_of};
-use edge_io::{List, NoMemory};
+use fallible_list::{List, NoMemory};
 use span_state::Marks;
 use std::alloc::Global;
 use std::test::Fail;

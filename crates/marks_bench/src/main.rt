@@ -6,7 +6,7 @@
 
 mod spans;
 
-use edge_io::NoMemory;
+use fallible_list::NoMemory;
 use spans::{Size, full, marks_of};
 use std::rt::Env;
 use std::{env, io};

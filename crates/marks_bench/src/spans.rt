@@ -3,7 +3,7 @@ ghost use Rattle.span_state.specs.Bits.{IsFull};
 ghost use Rattle.span_state.specs.MarkSet.{is_marked};
 ghost use Rattle.span_state.specs.Spans.{allocated};
 
-use edge_io::NoMemory;
+use fallible_list::NoMemory;
 use span_state::{Body, Marks};
 use std::alloc::Global;
 

@@ -44,7 +44,7 @@ use crate::runs::{
     CHUNK_PAGES, first_run, free_run, full_chunks, longest_run, scavenge_run, take_run, top_run,
 };
 use crate::starts::{last_start, mark_start};
-use edge_io::NoMemory;
+use fallible_list::NoMemory;
 use page_bitmap::{Bitmap, Chunk, Line, Run};
 use std::alloc::Global;
 use std::marker::Model;

@@ -3,7 +3,7 @@
 ghost use Rattle.std.specs.Prelude.{◌≡◌};
 
 use crate::steps::{give, take};
-use edge_io::NoMemory;
+use fallible_list::NoMemory;
 use page_alloc::Pages;
 use rand_core::utils::NextWord;
 use rand_pcg::Pcg32;

@@ -8,7 +8,7 @@ mod churn;
 mod steps;
 
 use churn::{churn, last};
-use edge_io::NoMemory;
+use fallible_list::NoMemory;
 use std::process::ExitCode;
 use std::rt::Env;
 use std::{env, io};

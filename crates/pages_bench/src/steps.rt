@@ -3,7 +3,7 @@
 ghost use Rattle.std.specs.Prelude.{◌≡◌, ◌≤◌, ◌<◌, IfOk};
 ghost use Rattle.page_alloc.specs.Journal.{IsBy, IsSpanSize};
 
-use edge_io::NoMemory;
+use fallible_list::NoMemory;
 use page_alloc::Pages;
 use size_classes::span_pages;
 

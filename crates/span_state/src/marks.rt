@@ -3,7 +3,7 @@ ghost use Rattle.std.specs.Int.{bit_at};
 ghost use Rattle.span_state.specs.Groups.{group_pairs};
 ghost use Rattle.span_state.specs.MarkSet.{is_marked, marked_count, dead_of, IsRising};
 
-use edge_io::{List, NoMemory};
+use fallible_list::{List, NoMemory};
 use std::alloc::Global;
 use std::collections::BTreeMap;
 use std::marker::Model;

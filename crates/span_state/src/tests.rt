@@ -4,7 +4,7 @@ ghost use Rattle.span_state.specs.MarkSet.{is_marked};
 ghost use Rattle.span_state.specs.Spans.{allocated};
 
 use crate::{Body, Marks, Swept};
-use edge_io::NoMemory;
+use fallible_list::NoMemory;
 use std::alloc::Global;
 use std::marker::{Send, Sync};
 use std::process::Abort;

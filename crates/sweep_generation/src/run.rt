@@ -6,7 +6,7 @@ ghost use Rattle.sweep_laws.specs.Tidy.{IsTidy, HasSpace, AreProvided};
 
 use crate::state::Core;
 use crate::steps::step_by;
-use edge_io::List;
+use fallible_list::List;
 use sweep_laws::{Move, StepFault};
 
 /// Does moves one after another, and stops at the first that a step refuses, with the moves before it done.

@@ -7,7 +7,7 @@ ghost use Rattle.sweep_laws.specs.Tidy.{IsTidy, TailsFit};
 ghost use Rattle.sweep_lists.specs.Views.{hand_view, set_view, HandRoom};
 
 use crate::state::Core;
-use edge_io::{List, NoMemory};
+use fallible_list::{List, NoMemory};
 use std::alloc::{AllocError, Global};
 use sweep_lists::{CoreHand, CoreSet, Lives, Spare};
 

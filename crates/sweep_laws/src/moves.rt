@@ -1,4 +1,4 @@
-use edge_io::{List, NoMemory};
+use fallible_list::{List, NoMemory};
 
 /// An index of a set that a worker took for a page and has not filled yet.
 #[derive(Clone, Copy, Debug, PartialEq, Eq)]

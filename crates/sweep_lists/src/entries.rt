@@ -2,7 +2,7 @@ ghost use Rattle.std.specs.Prelude.{◌≡◌, ◌<◌, ◌≤◌, ◌==◌, [],
 ghost use Rattle.std.specs.List.{remove, position};
 ghost use Rattle.sweep_laws.specs.Lists.{has, erase, put_cell};
 
-use edge_io::{List, NoMemory};
+use fallible_list::{List, NoMemory};
 use std::alloc::Global;
 use std::marker::Model;
 

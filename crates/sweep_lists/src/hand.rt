@@ -19,7 +19,7 @@ ghost use Rattle.sweep_lists.specs.Views.{hand_view, HandRoom};
 
 use crate::entries::Entries;
 use crate::numbers::Numbers;
-use edge_io::NoMemory;
+use fallible_list::NoMemory;
 use std::alloc::Global;
 use sweep_laws::{Claimed, Kind};
 

@@ -3,7 +3,7 @@ ghost use Rattle.sweep_laws.specs.Lists.{has, least_outside};
 ghost use Rattle.sweep_lists.specs.Tables.{AreMembers, IsLeastOutside};
 
 use crate::numbers::Numbers;
-use edge_io::NoMemory;
+use fallible_list::NoMemory;
 use std::alloc::Global;
 use std::marker::Model;
 

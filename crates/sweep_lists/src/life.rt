@@ -7,7 +7,7 @@ ghost use Rattle.sweep_lists.specs.Views.{life_view, LifeRoom};
 use crate::entries::Entries;
 use crate::indices::Indices;
 use crate::marks::marks_of;
-use edge_io::NoMemory;
+use fallible_list::NoMemory;
 
 /// A span from its Take to its Give.
 #[derive(Debug, Drop)]

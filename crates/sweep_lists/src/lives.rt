@@ -7,7 +7,7 @@ ghost use Rattle.sweep_lists.specs.Tables.{told, is_below as is_told_below};
 ghost use Rattle.sweep_lists.specs.Views.{life_view, LifeRoom};
 
 use crate::life::Life;
-use edge_io::NoMemory;
+use fallible_list::NoMemory;
 use std::alloc::Global;
 use std::marker::Model;
 

@@ -2,7 +2,7 @@ ghost use Rattle.std.specs.Prelude.{◌≡◌, ◌<◌, ◌≤◌, ◌==◌, ◌
 ghost use Rattle.sweep_laws.specs.Lists.{has, erase};
 
 use crate::entries::Entries;
-use edge_io::NoMemory;
+use fallible_list::NoMemory;
 use std::alloc::Global;
 use std::marker::Model;
 

@@ -7,7 +7,7 @@ ghost use Rattle.sweep_lists.specs.Views.{set_view};
 ghost use Rattle.sweep_lists.specs.Loops.{emptied_unless};
 
 use crate::entries::Entries;
-use edge_io::NoMemory;
+use fallible_list::NoMemory;
 use std::alloc::Global;
 use sweep_laws::Claimed;
 

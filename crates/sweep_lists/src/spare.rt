@@ -6,7 +6,7 @@ ghost use Rattle.sweep_lists.specs.Views.{life_view, LifeRoom};
 use crate::entries::Entries;
 use crate::indices::Indices;
 use crate::life::Life;
-use edge_io::NoMemory;
+use fallible_list::NoMemory;
 use std::alloc::Global;
 use std::marker::Model;
 use std::mem::replace;

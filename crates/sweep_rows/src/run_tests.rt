@@ -1,7 +1,7 @@
 //! What a run of a list of moves answers, and what it leaves. Expected values are worked out by hand from the
 //! table of moves.
 
-use edge_io::{List, NoMemory};
+use fallible_list::{List, NoMemory};
 use std::alloc::Global;
 use std::test::Fail;
 use sweep_generation::{Core, Found, Move, StepFault, run_moves};

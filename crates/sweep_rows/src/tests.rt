@@ -1,4 +1,4 @@
-use edge_io::List;
+use fallible_list::List;
 use std::alloc::Global;
 use std::process::Abort;
 use std::test::Fail;

@@ -1,7 +1,7 @@
 ghost use Rattle.std.specs.Prelude.{◌≡◌};
 ghost use Rattle.edge_io.specs.MemoryStreams.{is_listed};
 
-use crate::list::List;
+use fallible_list::List;
 
 // Whether the call of this number fails by its list.
 pub(super) fn is_listed(failing: &List<u64>, call: u64) -> bool

@@ -1,5 +1,4 @@
-use super::*;
-use crate::{Lines, Seen, write_all};
+use edge_io::{Lines, Seen, StdSink, StdSource, write_all};
 use std::alloc::Global;
 use std::io;
 use std::io::{Read, Write};
@@ -32,13 +31,13 @@ impl<'a> Read for Broken<'a> {
 
 // A writer that takes at most three bytes at once, errs once it holds `until` bytes, and takes nothing behind `full`.
 #[derive(Drop)]
-struct Narrow {
-    got: Vec<u8>,
+struct Narrow<'a> {
+    got: &'a mut Vec<u8>,
     until: usize,
     full: usize,
 }
 
-impl Write for Narrow {
+impl<'a> Write for Narrow<'a> {
     fn write(&mut self, buf: &[u8]) -> io::Result<usize> {
         let held = self.got.len();
         if held >= self.until {
@@ -71,13 +70,14 @@ fn seen_until(until: usize) -> [Option<Seen>; 4] {
 
 // How many bytes a writer holds after a text of ten, and whether all were taken.
 fn held_of(alloc: Global, until: usize, full: usize) -> (bool, usize) {
+    let mut got = Vec::new(alloc);
     let mut sink = StdSink::new(Narrow {
-        got: Vec::new(alloc),
+        got: &mut got,
         until,
         full,
     });
     let whole = write_all(&mut sink, b"0123456789").is_ok();
-    (whole, sink.inner.got.len())
+    (whole, got.len())
 }
 
 #[test]
