@@ -1,16 +1,17 @@
 //! One line of text while it is put together, without memory of its own.
 
-ghost use Rattle.std.specs.Prelude.{◌≡◌, ◌+◌, ◌≤◌, ◌<◌, List, ℕ, [], ◌++◌, false, drop, length, take, decimal};
-ghost use Rattle.std.specs.Fmt.{digit_glyph, digits};
+ghost use Rattle.std.specs.Prelude.{◌≡◌, ◌+◌, ◌-◌, ◌≤◌, List, ℕ, [], ◌++◌, false, drop, length, take, decimal};
+ghost use Rattle.std.specs.Fmt.{digits};
 
-use itoa::Buffer;
+use crate::digits::{MAX_DIGITS, write_hexadecimal};
+use itoa::write_digits;
 use std::marker::Model;
 
 /// The most bytes of a line here, its line feed included.
-const ROOM: usize = 128;
+const MAX_LINE: usize = 128;
 
-/// The digits that a number is given room for.
-const MAX_DIGITS: usize = 64;
+/// Behind the longest line there is room for what is copied behind a number's digits.
+const ROOM: usize = MAX_LINE + MAX_DIGITS;
 
 /// At most 128 bytes of text, which contracts see as the list of these bytes.
 #[derive(Drop)]
@@ -67,7 +68,9 @@ impl TextLine {
         ensures text { self.new ≡ self.old ++ decimal number }
         ensures short { length self.new ≤ length self.old + 20 }
     {
-        self.push(Buffer::new().format(number).as_bytes());
+        let mut digits = [0; 2 * MAX_DIGITS];
+        let start = write_digits(number, &mut digits, MAX_DIGITS);
+        self.push_digits(&digits, start);
     }
 
     /// Appends a number of the smaller type, which has fewer digits.
@@ -76,7 +79,9 @@ impl TextLine {
         ensures text { self.new ≡ self.old ++ decimal number }
         ensures short { length self.new ≤ length self.old + 10 }
     {
-        self.push(Buffer::new().format(number).as_bytes());
+        let mut digits = [0; 2 * MAX_DIGITS];
+        let start = write_digits(u64::from(number), &mut digits, MAX_DIGITS);
+        self.push_digits(&digits, start);
     }
 
     /// Appends a number in hexadecimal digits, of which the letters are small.
@@ -85,38 +90,21 @@ impl TextLine {
         ensures text { self.new ≡ self.old ++ digits 16 false number }
         ensures short { length self.new ≤ length self.old + 64 }
     {
-        let mut buffer = [0; MAX_DIGITS];
-        let start = hexadecimal(number, &mut buffer);
-        self.push(&buffer[start..]);
+        let mut digits = [0; 2 * MAX_DIGITS];
+        let start = write_hexadecimal(number, &mut digits);
+        self.push_digits(&digits, start);
     }
-}
 
-// Writes the hexadecimal digits at the end of the buffer, and answers where they begin.
-fn hexadecimal(number: u64, buffer: &mut [u8; MAX_DIGITS]) -> usize
-    ensures start { result ≤ 64 }
-    ensures digits { drop result buffer.new ≡ digits 16 false number }
-{
-    let mut rest = number;
-    let mut start = MAX_DIGITS;
-    while start > 0 {
-        start -= 1;
-        buffer[start] = digit(rest % 16);
-        rest /= 16;
-        if rest == 0 {
-            return start;
-        }
-    }
-    start
-}
-
-// The glyph of a hexadecimal digit.
-fn digit(value: u64) -> u8
-    requires { value < 16 }
-    ensures { result ≡ digit_glyph false value }
-{
-    if value < 10 {
-        b'0' + value as u8
-    } else {
-        b'a' + (value as u8 - 10)
+    // Appends the digits from `start` to the middle of the buffer. As many bytes as a number can have digits are copied,
+    // since a copy of a fixed length is faster; those behind the digits are forgotten.
+    fn push_digits(&mut self, digits: &[u8; 2 * MAX_DIGITS], start: usize)
+        requires within { start ≤ 20 }
+        requires short { length self.old + (20 - start) ≤ 128 }
+        ensures { self.new ≡ self.old ++ take (20 - start) (drop start digits.now) }
+    {
+        self.bytes[self.used..self.used + MAX_DIGITS].copy_from_slice(
+            &digits[start..start + MAX_DIGITS],
+        );
+        self.used += MAX_DIGITS - start;
     }
 }
