@@ -12,4 +12,4 @@ returns c =
     let e : decimal c.from.result ≡ c.in_ok-byte.byte ∷ [] =
     rw c.from.ensures (decimal_digit (c.in_ok-byte.byte - 48) (omega arith) ∙ ap (λ (b : ℕ). b ∷ []) (omega arith)) in
     let whole : c.args.bytes.now ≡ decimal c.from.result ++ c.in_ok-byte.rest.now = rw e c.in_ok-byte.ensures.1 in
-    rw whole c.longer.ensures
+    rw whole c.shorter.ensures
