@@ -43,13 +43,23 @@ pub(crate) struct AllocForm {
     pub stack: u128,
 }
 
-/// What the line says, if it has the form of any line.
+/// What the line says, if it has the form of any line. Most lines are `a` lines. They are tried first, and inlined, since
+/// a statement is large to return.
+#[inline(always)]
 pub(crate) fn statement_of(line: &[u8]) -> Option<Statement>
     ensures { result ≡ said line.now }
 {
     if let Some(form) = alloc_form(line) {
         return Some(Statement::Alloc(form));
     }
+    other_statement(line)
+}
+
+// What a line that is no `a` line says.
+fn other_statement(line: &[u8]) -> Option<Statement>
+    requires { (form : AllocForm) → ¬ Says line.now (Alloc form) }
+    ensures { result ≡ said line.now }
+{
     if line == b"end".as_slice() {
         return Some(Statement::End);
     }
@@ -69,6 +79,7 @@ pub(crate) fn statement_of(line: &[u8]) -> Option<Statement>
 }
 
 // The numbers of an `a` line.
+#[inline(always)]
 fn alloc_form(line: &[u8]) -> Option<AllocForm>
     ensures { MatchOption result ((form : AllocForm) → ¬ Says line.now (Alloc form)) (λ form. Says line.now (Alloc form)) }
 {
