@@ -148,7 +148,7 @@ lost_page = one_page 2 (one_life) (idle_hand)
 
 pub lost_page_breaks : BreaksAlone 2 lost_page
 lost_page_breaks = record {
-  broken = λ f. let e = (f 0 (omega arith) refl).1 in let z : ⊥ = omega arith in z;
+  broken = λ f. let e = (f 0 (omega arith) refl).once in let z : ⊥ = omega arith in z;
   others = others_of 2 lost_page
       (λ _. record { generation = record { even = refl; low = omega arith; high = omega arith }; lives = record { entries = refl; word = λ p low. rw (first 2 p low) (inr (inl refl)); begin = λ p low. rw (first 2 p low) refl; owner_is = λ p low. rw (first 2 p low) refl; apart = λ p. one_covers p (one_life); whole = (omega arith, tt) } })
       (λ _ p low. rw (first 2 p low) (λ e. absurd (omega arith)))
@@ -168,7 +168,7 @@ unswept_by_all = one_page 3 (one_life) (idle_hand)
 
 pub unswept_by_all_breaks : BreaksAlone 3 unswept_by_all
 unswept_by_all_breaks = record {
-  broken = λ f. let e = (f 0 (omega arith) refl).0 in let z : ⊥ = omega arith in z;
+  broken = λ f. let e = (f 0 (omega arith) refl).one in let z : ⊥ = omega arith in z;
   others = others_of 3 unswept_by_all
       (λ _. record { generation = record { even = refl; low = omega arith; high = omega arith }; lives = record { entries = refl; word = λ p low. rw (first 3 p low) (inr (inr (inl refl))); begin = λ p low. rw (first 3 p low) refl; owner_is = λ p low. rw (first 3 p low) refl; apart = λ p. one_covers p (one_life); whole = (omega arith, tt) } })
       (λ _ p low. rw (first 3 p low) (λ e. absurd (omega arith)))
@@ -188,7 +188,7 @@ nobodys_page = one_page 4 (one_life) (idle_hand)
 
 pub nobodys_page_breaks : BreaksAlone 4 nobodys_page
 nobodys_page_breaks = record {
-  broken = λ f. let e = (f 0 (omega arith) refl).1 in let z : ⊥ = omega arith in z;
+  broken = λ f. let e = (f 0 (omega arith) refl).one in let z : ⊥ = omega arith in z;
   others = others_of 4 nobodys_page
       (λ _. record { generation = record { even = refl; low = omega arith; high = omega arith }; lives = record { entries = refl; word = λ p low. rw (first 4 p low) (inr (inr (inr (inl refl)))); begin = λ p low. rw (first 4 p low) refl; owner_is = λ p low. rw (first 4 p low) refl; apart = λ p. one_covers p (one_life); whole = (omega arith, tt) } })
       (λ _ p low. rw (first 4 p low) (λ e. absurd (omega arith)))
@@ -208,7 +208,7 @@ uncached_page = one_page 5 (one_life) (idle_hand)
 
 pub uncached_page_breaks : BreaksAlone 5 uncached_page
 uncached_page_breaks = record {
-  broken = λ f. let e = (f 0 (omega arith) (inl refl)).0 in let z : ⊥ = omega arith in z;
+  broken = λ f. let e = (f 0 (omega arith) (inl refl)).one in let z : ⊥ = omega arith in z;
   others = others_of 5 uncached_page
       (λ _. record { generation = record { even = refl; low = omega arith; high = omega arith }; lives = record { entries = refl; word = λ p low. rw (first 5 p low) (inr (inr (inr (inr (inl refl))))); begin = λ p low. rw (first 5 p low) refl; owner_is = λ p low. rw (first 5 p low) refl; apart = λ p. one_covers p (one_life); whole = (omega arith, tt) } })
       (λ _ p low. rw (first 5 p low) (λ e. absurd (omega arith)))
@@ -234,7 +234,7 @@ popped_twice_breaks = record {
       (λ _ p low. rw (first 4 p low) (λ e. absurd (omega arith)))
       (λ _ p low. rw (first 4 p low) (λ e. absurd (omega arith)))
       (λ _ p low. rw (first 4 p low) (λ e. absurd (omega arith)))
-      (λ _ p low. rw (first 4 p low) (λ e. (refl, refl)))
+      (λ _ p low. rw (first 4 p low) (λ e. record { one = refl; no_other = refl }))
       (λ _ p low. rw (first 4 p low) (λ e. absurd (⊎_elim (λ (x : 4 ≡ 5). let z : ⊥ = omega arith in z) (λ (x : 4 ≡ 7). let z : ⊥ = omega arith in z) e)))
       (λ n. absurd (n refl))
       (λ _. record { order = λ k s e. absurd (some-ne-none s (sym e)); beyond = λ k s e. absurd (some-ne-none s (sym e)); unswept_cell = λ k s e. absurd (some-ne-none s (sym e)); swept_cell = λ k s e. absurd (some-ne-none s (sym e)); claim = λ n x e d c. absurd (some_none d (sym c ∙ only_hand (record idle_hand { held = 0 ∷ []; popped = 0 ∷ 0 ∷ [] }) (λ m y. y.claimed ≡ None) refl n x e)) })
@@ -255,7 +255,7 @@ swept_and_stale_breaks = record {
       (λ _ p low. rw (first 5 p low) (λ e. absurd (omega arith)))
       (λ _ p low. rw (first 5 p low) (λ e. absurd (omega arith)))
       (λ _ p low. rw (first 5 p low) (λ e. absurd (omega arith)))
-      (λ _ p low. rw (first 5 p low) (λ e. (refl, refl)))
+      (λ _ p low. rw (first 5 p low) (λ e. record { one = refl; no_other = refl }))
       (λ _. record { lists = λ p low. rw (first 5 p low) (only_hand (record idle_hand { cached = 0 ∷ []; swept = 0 ∷ [] }) (λ n x. NamesOnce 0 x) record { sweeping = omega arith; held = omega arith; cached = omega arith; popped = omega arith; swept = omega arith }); entries = λ p low. omega arith })
       (λ _. record { order = λ k s e. absurd (some-ne-none s (sym e)); beyond = λ k s e. absurd (some-ne-none s (sym e)); unswept_cell = λ k s e. absurd (some-ne-none s (sym e)); swept_cell = λ k s e. absurd (some-ne-none s (sym e)); claim = λ n x e d c. absurd (some_none d (sym c ∙ only_hand (record idle_hand { cached = 0 ∷ []; swept = 0 ∷ [] }) (λ m y. y.claimed ≡ None) refl n x e)) })
       (λ n. absurd (n refl))
@@ -274,7 +274,7 @@ far_object_breaks = record {
       (λ _ p low. rw (first 4 p low) (λ e. absurd (omega arith)))
       (λ _ p low. rw (first 4 p low) (λ e. absurd (omega arith)))
       (λ _ p low. rw (first 4 p low) (λ e. absurd (omega arith)))
-      (λ _ p low. rw (first 4 p low) (λ e. (refl, refl)))
+      (λ _ p low. rw (first 4 p low) (λ e. record { one = refl; no_other = refl }))
       (λ _ p low. rw (first 4 p low) (λ e. absurd (⊎_elim (λ (x : 4 ≡ 5). let z : ⊥ = omega arith in z) (λ (x : 4 ≡ 7). let z : ⊥ = omega arith in z) e)))
       (λ _. record { lists = λ p low. rw (first 4 p low) (only_hand (record idle_hand { held = 0 ∷ [] }) (λ n x. NamesOnce 0 x) record { sweeping = omega arith; held = omega arith; cached = omega arith; popped = omega arith; swept = omega arith }); entries = λ p low. omega arith })
       (λ _. record { order = λ k s e. absurd (some-ne-none s (sym e)); beyond = λ k s e. absurd (some-ne-none s (sym e)); unswept_cell = λ k s e. absurd (some-ne-none s (sym e)); swept_cell = λ k s e. absurd (some-ne-none s (sym e)); claim = λ n x e d c. absurd (some_none d (sym c ∙ only_hand (record idle_hand { held = 0 ∷ [] }) (λ m y. y.claimed ≡ None) refl n x e)) })

@@ -30,7 +30,7 @@ module _ (g : ℕ) (ws : List ℕ) (os : List (Option ℕ)) (ls : List LifeState
     lives_fit = k.lives_fit;
     page = λ q l. dite (ℕ_discrete q d.page) (λ e. subst (λ (z : ℕ). Page g (tally g ws ls ss' hs' z)) (sym e) here_page) (λ o. else_page q o l);
     sets_fit = sets_reset g (length ws) ls ss hs hs' d.set s s' there k.sets_fit (k.sets_fit.order d.set s there)
-        (λ i l. else_cell i (λ e. let u = from.1 in omega arith) ∙ k.sets_fit.beyond d.set s there i l)
+        (λ i l. else_cell i (λ e. let u = below_tail in omega arith) ∙ k.sets_fit.beyond d.set s there i l)
         (λ e i l m. absurd (true≢false (sym fits.is_swept ∙ e)))
         (λ e i l m. dite (ℕ_discrete i d.index)
         (λ x. inl (d.page, ap (cell_of s') x ∙ here_cell, fits.is_page, fits.class))
@@ -72,8 +72,11 @@ module _ (g : ℕ) (ws : List ℕ) (os : List (Option ℕ)) (ls : List LifeState
       same_set : fits.set_at ≡ s
       same_set = some-injective fits.set_at s (sym fits.is_set ∙ there)
 
-      from : (s.head ≤ d.index) × (d.index < s.tail)
-      from = subst (λ (z : SetState). (z.head ≤ d.index) × (d.index < z.tail)) same_set fits.unpopped
+      from_head : s.head ≤ d.index
+      from_head = subst (λ (z : SetState). z.head ≤ d.index) same_set fits.from_head
+
+      below_tail : d.index < s.tail
+      below_tail = subst (λ (z : SetState). d.index < z.tail) same_set fits.below_tail
 
       blank : cell_of s d.index ≡ 0
       blank = subst (λ (z : SetState). cell_of z d.index ≡ 0) same_set fits.blank
@@ -90,11 +93,11 @@ module _ (g : ℕ) (ws : List ℕ) (os : List (Option ℕ)) (ls : List LifeState
       one_claimer : claimers d.set d.index hs ≡ 1
       one_claimer = ⊎_elim (λ (c : IsPage (length ws) (λ z. is_class z (class_of_set d.set) ls ≡ true) (cell_of s d.index)). let c₁ = c.1 in let b = blank in absurd (omega arith))
           (λ (c : (cell_of s d.index ≡ 0) × (claimers d.set d.index hs ≡ 1)). c.1)
-          (k.sets_fit.swept_cell d.set s there fits.is_swept d.index from.0 from.1)
+          (k.sets_fit.swept_cell d.set s there fits.is_swept d.index from_head below_tail)
 
       else_page : (q : ℕ) → q ≢ d.page → q < length ws → Page g (tally g ws ls ss' hs' q)
       else_page q o l = let x = deltas hs n h h' at q in let e = set_deltas g q ls ss d.set s s' true there fits.is_swept in
-          let c = put_between (cell_of s) (cell_of s') (q + 1) s.head s.tail d.index from.0 from.1 else_cell in
+          let c = put_between (cell_of s) (cell_of s') (q + 1) s.head s.tail d.index from_head below_tail else_cell in
           let f = ap (λ (z : ℕ). one_if (eqb z (q + 1))) blank in let z = other_one 0 (q + 1) (λ y. omega arith) in
           let y = ap (λ (z : ℕ). one_if (eqb z (q + 1))) here_cell in let w = other_one (d.page + 1) (q + 1) (λ v. o (omega arith)) in
           let a = times_erase_else q d.page h.held o in
@@ -102,7 +105,7 @@ module _ (g : ℕ) (ws : List ℕ) (os : List (Option ℕ)) (ls : List LifeState
 
       here_page : Page g (tally g ws ls ss' hs' d.page)
       here_page = let p = d.page in let x = deltas hs n h h' at p in let e = set_deltas g p ls ss d.set s s' true there fits.is_swept in let r = k.page p fits.is_page in
-          let c = put_between (cell_of s) (cell_of s') (p + 1) s.head s.tail d.index from.0 from.1 else_cell in
+          let c = put_between (cell_of s) (cell_of s') (p + 1) s.head s.tail d.index from_head below_tail else_cell in
           let f = ap (λ (z : ℕ). one_if (eqb z (p + 1))) blank in let z = other_one 0 (p + 1) (λ y. omega arith) in
           let y = ap (λ (z : ℕ). one_if (eqb z (p + 1))) here_cell in let w = same_one (p + 1) in
           let a = times_erase p h.held fits.held in let i = parts hs n h at p in

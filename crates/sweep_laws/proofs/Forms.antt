@@ -26,20 +26,20 @@ kept_of c o = record {
   where
     stands : (p : ℕ) → p < length c.words → IsWord c.generation (get_or c.words p 0) → Standing c.generation (page_of c p)
     stands p low (inl e) = is_free e (o.free p low e)
-    stands p low (inr (inl e)) = let f = o.unswept p low e in is_unswept e f.0 f.1
-    stands p low (inr (inr (inl e))) = let f = o.sweeping p low e in is_sweeping e f.0 f.1
-    stands p low (inr (inr (inr (inl e)))) = let f = o.swept p low e in is_swept e f.0 f.1
-    stands p low (inr (inr (inr (inr (inl e))))) = let f = o.cached p low (inl e) in is_stale e f.0 f.1
-    stands p low (inr (inr (inr (inr (inr e))))) = let f = o.cached p low (inr e) in is_cached e f.0 f.1
+    stands p low (inr (inl e)) = let f = o.unswept p low e in is_unswept e f.nobodys f.once
+    stands p low (inr (inr (inl e))) = let f = o.sweeping p low e in is_sweeping e f.one f.no_other
+    stands p low (inr (inr (inr (inl e)))) = let f = o.swept p low e in is_swept e f.no_other f.one
+    stands p low (inr (inr (inr (inr (inl e))))) = let f = o.cached p low (inl e) in is_stale e f.one f.no_other
+    stands p low (inr (inr (inr (inr (inr e))))) = let f = o.cached p low (inr e) in is_cached e f.one f.no_other
 
 pub owned_of : (c : CoreState) → CoreKept c → Owned c
 owned_of c k = record {
   lives = record { generation = k.generation; lives = k.lives_fit };
   free = λ p low e. free_word c.generation (page_of c p) k.generation.low (k.page p low).standing e;
-  unswept = λ p low e. unswept_word c.generation (page_of c p) k.generation.low (k.page p low).standing e;
-  sweeping = λ p low e. sweeping_word c.generation (page_of c p) k.generation.low (k.page p low).standing e;
-  swept = λ p low e. swept_word c.generation (page_of c p) k.generation.low (k.page p low).standing e;
-  cached = λ p low e. cached_word c.generation (page_of c p) k.generation.low (k.page p low).standing e;
+  unswept = λ p low e. let f = unswept_word c.generation (page_of c p) k.generation.low (k.page p low).standing e in record { nobodys = f.0; once = f.1 };
+  sweeping = λ p low e. let f = sweeping_word c.generation (page_of c p) k.generation.low (k.page p low).standing e in record { one = f.0; no_other = f.1 };
+  swept = λ p low e. let f = swept_word c.generation (page_of c p) k.generation.low (k.page p low).standing e in record { no_other = f.0; one = f.1 };
+  cached = λ p low e. let f = cached_word c.generation (page_of c p) k.generation.low (k.page p low).standing e in record { one = f.0; no_other = f.1 };
   once = record {
     lists = λ p low n h at. let l = lists_once c.generation (page_of c p) (k.page p low) in let l₀ = l.0 in let l₁ = l.1 in let l₂ = l.2 in
         let w = (k.page p low).waiting in let s = (k.page p low).listed in record {

@@ -72,7 +72,8 @@ module _ (g : ℕ) (ws : List ℕ) (os : List (Option ℕ)) (ls : List LifeState
         set_at = c.set_at;
         is_set = c.is_set;
         is_swept = c.is_swept;
-        unpopped = c.unpopped;
+        from_head = c.from_head;
+        below_tail = c.below_tail;
         blank = c.blank;
         is_page = c.is_page;
         held = c.held;

@@ -59,12 +59,13 @@ module _ (g pages : ℕ) (ls : List LifeState) (ss : List SetState) (hs hs' : Li
       → 0 < times d.page y.held → ClaimFits g pages ls (set ss j s') y d
   claim_reset x y d c blank held = dite (ℕ_discrete d.set j)
       (λ e. let same : c.set_at ≡ s = some-injective c.set_at s (sym c.is_set ∙ ap (get_elem? ss) e ∙ at) in
-      let b = blank e (subst (λ (z : SetState). z.head ≤ d.index) same c.unpopped.0) (subst (λ (z : SetState). d.index < z.tail) same c.unpopped.1) (subst (λ (z : SetState). cell_of z d.index ≡ 0) same c.blank) in
+      let b = blank e (subst (λ (z : SetState). z.head ≤ d.index) same c.from_head) (subst (λ (z : SetState). d.index < z.tail) same c.below_tail) (subst (λ (z : SetState). cell_of z d.index ≡ 0) same c.blank) in
       record {
         set_at = s';
         is_set = ap (get_elem? (set ss j s')) e ∙ set_here ss j s' (inside_at ss j s at);
         is_swept = c.is_swept;
-        unpopped = (b.0, b.1);
+        from_head = b.0;
+        below_tail = b.1;
         blank = b.2;
         is_page = c.is_page;
         held = held;
@@ -74,7 +75,8 @@ module _ (g pages : ℕ) (ls : List LifeState) (ss : List SetState) (hs hs' : Li
         set_at = c.set_at;
         is_set = set_else ss j d.set s' o ∙ c.is_set;
         is_swept = c.is_swept;
-        unpopped = c.unpopped;
+        from_head = c.from_head;
+        below_tail = c.below_tail;
         blank = c.blank;
         is_page = c.is_page;
         held = held;

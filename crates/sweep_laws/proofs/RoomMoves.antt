@@ -75,7 +75,7 @@ module _ (c : CoreState) (k : CoreKept c) (t : IsTidy c) (s : HasSpace c) where
 
   fill_room : (w : ℕ) → refusal (fill_needs c w) ≡ None → HasRoom c (Fill w)
   fill_room w e = let m = all_met (fill_needs c w) e in let at = hand_at c k w m.0 in let claim = some_there (hand_of c w).claimed m.1.0 in
-      let f = k.sets_fit.claim w (hand_of c w) at claim.0 claim.1 in let below = f.unpopped.1 in let tail = s.tails claim.0.set f.set_at f.is_set in let r = s.room in
+      let f = k.sets_fit.claim w (hand_of c w) at claim.0 claim.1 in let below = f.below_tail in let tail = s.tails claim.0.set f.set_at f.is_set in let r = s.room in
       subst (λ (o : Option Claimed). IfSome o (λ d. d.index < c.room)) (sym claim.1) (omega arith)
 
   pop_swept_room : (w n : ℕ) → refusal (pop_swept_needs c w n) ≡ None → HasRoom c (PopSwept w n)

@@ -124,14 +124,15 @@ module _ (g : ℕ) (ws : List ℕ) (os : List (Option ℕ)) (ls : List LifeState
       first_claim = let t = claim_made hs n h h' at new unclaimed refl j s.tail in let z = claim_here j s.tail new refl refl in
           let y = no_claimers j s.tail hs (λ m x a d e same_set same_index. let c = k.sets_fit.claim m x a d e in
           let b : c.set_at ≡ s = some-injective c.set_at s (sym c.is_set ∙ ap (get_elem? ss) same_set ∙ there) in
-          let l : d.index < s.tail = subst (λ (w : SetState). d.index < w.tail) b c.unpopped.1 in let v : ⊥ = omega arith in v) in omega arith
+          let l : d.index < s.tail = subst (λ (w : SetState). d.index < w.tail) b c.below_tail in let v : ⊥ = omega arith in v) in omega arith
 
       new_fits : ClaimFits g (length ws) ls ss' h' new
       new_fits = record {
         set_at = s';
         is_set = set_here ss j s' (inside_at ss j s there);
         is_swept = part;
-        unpopped = (order, omega arith);
+        from_head = order;
+        below_tail = omega arith;
         blank = blank;
         is_page = low;
         held = has;

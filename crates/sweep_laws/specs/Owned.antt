@@ -48,7 +48,8 @@ pub record ClaimFits (g pages : ℕ) (lives : List LifeState) (sets : List SetSt
   pub set_at : SetState
   pub is_set : get_elem? sets d.set ≡ some set_at
   pub is_swept : is_swept_set g d.set ≡ true
-  pub unpopped : (set_at.head ≤ d.index) × (d.index < set_at.tail)
+  pub from_head : set_at.head ≤ d.index
+  pub below_tail : d.index < set_at.tail
   pub blank : cell_of set_at d.index ≡ 0
   pub is_page : d.page < pages
   pub held : 0 < times d.page h.held
@@ -82,6 +83,27 @@ pub record NamesOnce (p : ℕ) (h : HandState) : Type 0 where
 abbrev pub IsNobodys : CoreState → ℕ → Type 0
 IsNobodys c p = sweepers p c.hands + holders p c.hands + cachers p c.hands + queued c.generation p c.sets ≡ 0
 
+-- a page waits to be swept: it is nobody's, and the unpopped cells of the unswept sets of its class and the popped
+-- lists together name it once
+pub record WaitsOnce (c : CoreState) (p : ℕ) : Type 0 where
+  pub nobodys : IsNobodys c p
+  pub once : unswept_own c.generation p c.lives c.sets + poppers p c.hands ≡ 1
+
+-- one hand sweeps a page, nobody holds or caches it, and no unpopped swept cell names it
+pub record IsSweptByOne (c : CoreState) (p : ℕ) : Type 0 where
+  pub one : sweepers p c.hands ≡ 1
+  pub no_other : holders p c.hands + cachers p c.hands + queued c.generation p c.sets ≡ 0
+
+-- a page is swept or cached by nobody, and either one hand holds it or one unpopped swept cell names it
+pub record IsHeldOrQueued (c : CoreState) (p : ℕ) : Type 0 where
+  pub no_other : sweepers p c.hands + cachers p c.hands ≡ 0
+  pub one : holders p c.hands + queued c.generation p c.sets ≡ 1
+
+-- one hand caches a page, nobody sweeps or holds it, and no unpopped swept cell names it
+pub record IsCachedByOne (c : CoreState) (p : ℕ) : Type 0 where
+  pub one : cachers p c.hands ≡ 1
+  pub no_other : sweepers p c.hands + holders p c.hands + queued c.generation p c.sets ≡ 0
+
 -- 1. the generation, the words, the owners and the lives fit together
 pub record LivesAreApart (c : CoreState) : Type 0 where
   pub generation : IsGeneration c.generation
@@ -91,23 +113,22 @@ pub record LivesAreApart (c : CoreState) : Type 0 where
 abbrev pub FreeIsNobodys : CoreState → Type 0
 FreeIsNobodys c = EachPage c.words (λ p w. w ≡ 0 → IsNobodys c p)
 
--- 3. a page at G-2 is nobody's, and the unpopped cells of the unswept sets of its class and the popped lists
--- together name it once
+-- 3. a page at G-2 waits to be swept, in one place
 abbrev pub UnsweptIsQueued : CoreState → Type 0
-UnsweptIsQueued c = EachPage c.words (λ p w. w + 2 ≡ c.generation → IsNobodys c p × (unswept_own c.generation p c.lives c.sets + poppers p c.hands ≡ 1))
+UnsweptIsQueued c = EachPage c.words (λ p w. w + 2 ≡ c.generation → WaitsOnce c p)
 
--- 4. a page at G-1 is swept by one hand; nobody holds or caches it, and no unpopped swept cell names it
+-- 4. a page at G-1 is swept by one hand
 abbrev pub SweepingIsOnes : CoreState → Type 0
-SweepingIsOnes c = EachPage c.words (λ p w. w + 1 ≡ c.generation → (sweepers p c.hands ≡ 1) × (holders p c.hands + cachers p c.hands + queued c.generation p c.sets ≡ 0))
+SweepingIsOnes c = EachPage c.words (λ p w. w + 1 ≡ c.generation → IsSweptByOne c p)
 
--- 5. a page at G is swept or cached by nobody, and either one hand holds it or one unpopped swept cell names
--- it, which by fact 8 is of a set of its class
+-- 5. a page at G is held by one hand or named by one unpopped swept cell, which by fact 8 is of a set of its
+-- class
 abbrev pub SweptIsOnes : CoreState → Type 0
-SweptIsOnes c = EachPage c.words (λ p w. w ≡ c.generation → (sweepers p c.hands + cachers p c.hands ≡ 0) × (holders p c.hands + queued c.generation p c.sets ≡ 1))
+SweptIsOnes c = EachPage c.words (λ p w. w ≡ c.generation → IsHeldOrQueued c p)
 
--- 6. a page at G+1 or G+3 is cached by one hand; nobody sweeps or holds it, and no unpopped swept cell names it
+-- 6. a page at G+1 or G+3 is cached by one hand
 abbrev pub CachedIsOnes : CoreState → Type 0
-CachedIsOnes c = EachPage c.words (λ p w. (w ≡ c.generation + 1) ⊎ (w ≡ c.generation + 3) → (cachers p c.hands ≡ 1) × (sweepers p c.hands + holders p c.hands + queued c.generation p c.sets ≡ 0))
+CachedIsOnes c = EachPage c.words (λ p w. (w ≡ c.generation + 1) ⊎ (w ≡ c.generation + 3) → IsCachedByOne c p)
 
 -- 7. no hand's list names a page twice, and all unpopped unswept cells and popped lists together name it at
 -- most once
