@@ -28,6 +28,11 @@ all_met (n ∷ ns) e = go n.met refl (all_met ns) e
     go true s rest f = (s, rest f)
     go false s rest f = absurd (some_none n.found f)
 
+-- and so the other way round
+pub none_refuses : (ns : List Need) → AllMet ns → refusal ns ≡ None
+none_refuses [] m = refl
+none_refuses (n ∷ ns) m = rw m.0 (none_refuses ns m.1)
+
 pub both : (a b : Bool) → a && b ≡ true → (a ≡ true) × (b ≡ true)
 both true b e = (refl, e)
 both false b e = absurd (true≢false (sym e))

@@ -4,11 +4,13 @@ use Rattle.std.specs.List.{AllByRecursion}
 use Rattle.sweep_laws.specs.declared.moves.Move.{Move}
 use Rattle.sweep_laws.specs.declared.moves.Move.TheVariants.{Next}
 use Rattle.sweep_laws.specs.State.{CoreState}
+use Rattle.sweep_laws.specs.Needs.{next_needs}
 use Rattle.sweep_laws.specs.Step.{after}
 use Rattle.sweep_laws.specs.Owned.{Owned}
 use Rattle.sweep_laws.specs.Standing.{CoreKept}
 use Rattle.sweep_laws.specs.Run.{IsAllowed, AreAllowed, run}
 use Rattle.sweep_laws.specs.Once.{is_mark_end, releases, ReleasesOnce, Once}
+use Rattle.sweep_laws.proofs.NeedsMet.{all_met, none_refuses}
 use Rattle.sweep_laws.proofs.Forms.{kept_of, owned_of}
 use Rattle.sweep_laws.proofs.MovesKept.{move_kept}
 use Rattle.sweep_laws.proofs.Traced.{owed, done, move_traced, settled_owed, end_done, end_beyond, end_owed}
@@ -35,6 +37,12 @@ allowed_rest c (x ∷ xs) ys a = allowed_rest (after c x) xs ys a.1
 pub allowed_append : (c : CoreState) (xs ys : List Move) → AreAllowed c xs → AreAllowed (run c xs) ys → AreAllowed c (xs ++ ys)
 allowed_append c [] ys a b = b
 allowed_append c (x ∷ xs) ys a b = (a.0, allowed_append (after c x) xs ys a.1 b)
+
+-- where a mark end is allowed, one without marks is allowed too: so before each mark end of a list of allowed moves
+-- a state stands of which `Once` speaks
+pub unmarked_end : (c : CoreState) (marks : List (ℕ × ℕ)) → IsAllowed c (Next marks) → IsAllowed c (Next [])
+unmarked_end c marks e = let m = all_met (next_needs c marks) e in
+    none_refuses (next_needs c []) (refl, (m.1.0, (m.1.1.0, (m.1.1.1.0, (m.1.1.1.1.0, (m.1.1.1.1.1.0, (m.1.1.1.1.1.1.0, (refl, tt))))))))
 
 -- moves without a mark end
 pub record Traced (c d : CoreState) (p n : ℕ) : Type 0 where
