@@ -12,9 +12,6 @@ use Rattle.sweep_laws.specs.Needs.{Need, refusal, is_holder, owner_in}
 pub some_none : {A : Type 0} (a : A) → Some a ≡ None → ⊥
 some_none a e = cc
 
-same_some : {A : Type 0} (a b : A) → Some a ≡ Some b → a ≡ b
-same_some a b e = cc
-
 -- each need of a list is met
 abbrev pub AllMet : List Need → Type 0
 AllMet [] = Unit {0}

@@ -10,12 +10,6 @@ same_one p = ap one_if (eq-eqb p p refl)
 pub other_one : (x p : ℕ) → x ≢ p → one_if (eqb x p) ≡ 0
 other_one x p n = ap one_if (ne_eqb x p n)
 
-pub times_here : (p : ℕ) (xs : List ℕ) → times p (p ∷ xs) ≡ suc (times p xs)
-times_here p xs = omega (arith, same_one p)
-
-pub times_else : (q p : ℕ) (xs : List ℕ) → q ≢ p → times q (p ∷ xs) ≡ times q xs
-times_else q p xs n = omega (arith, other_one p q (λ e. n (sym e)))
-
 pub times_append : (p : ℕ) (xs ys : List ℕ) → times p (xs ++ ys) ≡ times p xs + times p ys
 times_append p [] ys = omega arith
 times_append p (x ∷ xs) ys = let t = times_append p xs ys in omega arith
@@ -31,11 +25,6 @@ module _ {A : Type 0} where
   inside_at [] n a e = absurd (some-ne-none a (sym e))
   inside_at (x ∷ xs) zero a e = omega arith
   inside_at (x ∷ xs) (suc n) a e = let t = inside_at xs n a e in omega arith
-
-  pub at_inside : (l : List A) (n : ℕ) → n < length l → (a : A) × (get_elem? l n ≡ some a)
-  at_inside [] n h = absurd (omega arith)
-  at_inside (x ∷ xs) zero h = (x, refl)
-  at_inside (x ∷ xs) (suc n) h = at_inside xs n (omega arith)
 
   -- the sum where one item is replaced
   pub total_set : (f : A → ℕ) (l : List A) (n : ℕ) (a b : A) → get_elem? l n ≡ some a → total f (set l n b) + f a ≡ total f l + f b
@@ -73,10 +62,6 @@ module _ {A : Type 0} where
   pub total_none : (f : A → ℕ) (l : List A) → ((n : ℕ) (a : A) → get_elem? l n ≡ some a → f a ≡ 0) → total f l ≡ 0
   total_none f [] h = refl
   total_none f (x ∷ xs) h = let s = h 0 x refl in let t = total_none f xs (λ n a e. h (suc n) a e) in omega arith
-
-  pub total_same : (f g : A → ℕ) (l : List A) → ((n : ℕ) (a : A) → get_elem? l n ≡ some a → f a ≡ g a) → total f l ≡ total g l
-  total_same f g [] h = refl
-  total_same f g (x ∷ xs) h = let s = h 0 x refl in let t = total_same f g xs (λ n a e. h (suc n) a e) in omega arith
 
   pub total_from-same : (f : ℕ → A → ℕ) (g : ℕ → A → ℕ) (k : ℕ) (l : List A) → ((n : ℕ) (a : A) → get_elem? l n ≡ some a → f (k + n) a ≡ g (k + n) a) → total_from f k l ≡ total_from g k l
   total_from-same f g k [] h = refl

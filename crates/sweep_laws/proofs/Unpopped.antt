@@ -44,9 +44,6 @@ put_count f g x i (suc n) j a b h = dite (ℕ_discrete j i)
 abbrev between : (ℕ → ℕ) → ℕ → ℕ → ℕ → ℕ
 between at x a b = count at x a (b - a)
 
-pub same_between : (f g : ℕ → ℕ) (x a b : ℕ) → ((j : ℕ) → a ≤ j → j < b → f j ≡ g j) → between f x a b ≡ between g x a b
-same_between f g x a b h = same_count f g x a (b - a) (λ j l m. h j l (omega arith))
-
 pub found_between : (f : ℕ → ℕ) (x a b : ℕ) → 0 < between f x a b → (j : ℕ) × (a ≤ j) × (j < b) × (f j ≡ x)
 found_between f x a b h = let t = found_count f x a (b - a) h in let l = t.1 in let m = t.2 in (t.0, l, omega arith, t.3)
 
@@ -64,9 +61,6 @@ tail_between f x a b h = let e : b + 1 - a ≡ suc (b - a) = omega arith in let 
 
 pub put_between : (f g : ℕ → ℕ) (x a b j : ℕ) → a ≤ j → j < b → ((k : ℕ) → k ≢ j → g k ≡ f k) → between g x a b + one_if (eqb (f j) x) ≡ between f x a b + one_if (eqb (g j) x)
 put_between f g x a b j l m h = put_count f g x a (b - a) j l (omega arith) h
-
-pub none_between : (f : ℕ → ℕ) (x a : ℕ) → between f x a a ≡ 0
-none_between f x a = let e : a - a ≡ 0 = omega arith in rw e refl
 
 -- the cells of a set with one written
 pub put_cell_here : (xs : List ℕ) (i x : ℕ) → get_or (put_cell xs i x) i 0 ≡ x

@@ -16,9 +16,6 @@ with_word c page word = record c { words = slice_set c.words page word }
 abbrev pub with_set : CoreState → ℕ → SetState → CoreState
 with_set c s new_set = record c { sets = slice_set c.sets s new_set }
 
-abbrev pub with_owners : CoreState → ℕ → ℕ → Option ℕ → CoreState
-with_owners c page pages owner = record c { owners = put_run c.owners page pages owner }
-
 -- the first life of the list that begins at the page changes
 abbrev pub change_life : ℕ → (LifeState → LifeState) → List LifeState → List LifeState
 change_life page f lives = change_first (λ life. life.page == page) f lives

@@ -1,26 +1,15 @@
 -- The step: one move on one state.
-use Rattle.std.specs.Prelude.{◌<◌, ◌≤◌, length, List, Option, Some, None, ◌≡◌, Result, Ok, Err, IfSome}
+use Rattle.std.specs.Prelude.{◌<◌, ◌≤◌, length, List, Some, None, ◌≡◌, Result, Ok, Err, IfSome}
 use Rattle.std.specs.List.{All}
 use Rattle.sweep_laws.specs.declared.moves.Move.{Move}
 use Rattle.sweep_laws.specs.declared.moves.Move.TheVariants.{Lock, Unlock, Take, Give, Acquire, Release, Cache, Allocate, Uncache, StaleUncache, Claim, Fill, PopSwept, PopUnswept, DropPopped, Next}
 use Rattle.sweep_laws.specs.declared.moves.Reply.{Reply}
 use Rattle.sweep_laws.specs.declared.moves.Reply.TheVariants.{Done, Index, Base}
-use Rattle.sweep_laws.specs.declared.moves.Found.{Found}
 use Rattle.sweep_laws.specs.declared.moves.StepFault.{StepFault}
 use Rattle.sweep_laws.specs.declared.moves.StepFault.TheVariants.{NotAllowed, NoMemory}
 use Rattle.sweep_laws.specs.State.{CoreState}
 use Rattle.sweep_laws.specs.Needs.{Need, refusal, set_of, hand_of, life_of, lock_needs, unlock_needs, take_needs, give_needs, acquire_needs, release_needs, cache_needs, allocate_needs, uncache_needs, stale_uncache_needs, claim_needs, fill_needs, pop_swept_needs, pop_unswept_needs, drop_popped_needs, next_needs}
 use Rattle.sweep_laws.specs.Changes.{head_base, marks_at, after_lock, after_unlock, after_take, after_give, after_acquire, after_release, after_cache, after_allocate, after_uncache, after_stale_uncache, after_claim, after_fill, after_pop_swept, after_pop_unswept, after_drop_popped, after_next}
-
--- what a move does to a state: it makes another and answers, or it is refused with what was found
-pub data Outcome : Type 0 where
-  Made : CoreState → Reply → Outcome
-  Refused : Found → Outcome
-
--- a move makes its change exactly where all its needs are met; otherwise the first that fails decides
-abbrev pub outcome : Option Found → CoreState → Reply → Outcome
-outcome None c reply = Made c reply
-outcome (Some found) c reply = Refused found
 
 abbrev pub needs_of : CoreState → Move → List Need
 needs_of c (Lock w) = lock_needs c w
@@ -64,9 +53,6 @@ reply_of c (Claim w s page) = Index (set_of c s).tail
 reply_of c (PopSwept w s) = Base (head_base c s)
 reply_of c (PopUnswept w s) = Base (head_base c s)
 reply_of c _ = Done
-
-abbrev pub step_of : CoreState → Move → Outcome
-step_of c move = outcome (refusal (needs_of c move)) (after c move) (reply_of c move)
 
 -- whether there is room for all that a move puts into lists, so that it takes no memory
 abbrev pub HasRoom : CoreState → Move → Type 0
