@@ -8,11 +8,13 @@ use native.Mathlib.Decide.{ℕ_discrete}
 use Rattle.sweep_laws.specs.declared.moves.Claimed.{Claimed}
 use Rattle.sweep_laws.specs.State.{LifeState, SetState, HandState}
 use Rattle.sweep_laws.specs.Needs.{cell_of, class_of_set, is_swept_set}
+use Rattle.sweep_laws.specs.Changes.{raise_head}
 use Rattle.sweep_laws.specs.Counts.{times, total_from}
 use Rattle.sweep_laws.specs.Named.{claimers, only, names_in, queued, unswept, unswept_own, is_class}
 use Rattle.sweep_laws.specs.Owned.{IsPage, ClaimFits, SetsFit}
 use Rattle.sweep_laws.proofs.Totals.{total_from-set, part_from_le, gap_le, inside_at}
 use Rattle.sweep_laws.proofs.Naming.{at_set, set_here, set_else}
+use Rattle.sweep_laws.proofs.Turned.{claimers_kept}
 
 abbrev Of : Type 0
 Of = ℕ → SetState → ℕ
@@ -106,3 +108,23 @@ module _ (g pages : ℕ) (ls : List LifeState) (ss : List SetState) (hs hs' : Li
         (at_set ss j k s' x a);
     claim = claims;
   }
+
+-- a head goes over a cell that is filled, and one hand keeps its claim and what it holds
+pub head_raised : (g pages : ℕ) (ls : List LifeState) (ss : List SetState) (hs : List HandState) → SetsFit g pages ls ss hs
+    → (n : ℕ) (h h' : HandState) → get_elem? hs n ≡ some h → h'.claimed ≡ h.claimed → ((p : ℕ) → times p h.held ≤ times p h'.held)
+    → (j : ℕ) (s : SetState) → get_elem? ss j ≡ some s → s.head < s.tail → 0 < cell_of s s.head → SetsFit g pages ls (set ss j (raise_head s)) (set hs n h')
+head_raised g pages ls ss hs f n h h' at same holds j s there more filled = sets_reset g pages ls ss hs (set hs n h') j s (raise_head s) there f (omega arith) (f.beyond j s there)
+    (λ e i l m. f.unswept_cell j s there e i (omega arith) m)
+    (λ e i l m. ⊎_elim (λ (c : IsPage pages (λ z. is_class z (class_of_set j) ls ≡ true) (cell_of s i)). inl c)
+    (λ (c : (cell_of s i ≡ 0) × (claimers j i hs ≡ 1)). inr (c.0, claimers_kept j i hs n h h' at same ∙ c.1))
+    (f.swept_cell j s there e i (omega arith) m))
+    (λ x i o. claimers_kept x i hs n h h' at same)
+    (λ m x a d e. ⊎_elim
+    (λ (t : (m ≡ n) × (h' ≡ x)). let c = f.claim n h at d (sym same ∙ ap (λ (z : HandState). z.claimed) t.1 ∙ e) in
+    subst (λ (z : HandState). ClaimFits g pages ls (set ss j (raise_head s)) z d) t.1 (claim_kept h h' d c (let held = c.held in let o = holds d.page in omega arith)))
+    (λ (t : (m ≢ n) × (get_elem? hs m ≡ some x)). let c = f.claim m x t.1 d e in claim_kept x x d c c.held)
+    (at_set hs n m h' x a))
+  where
+    claim_kept : (x y : HandState) (d : Claimed) → ClaimFits g pages ls ss x d → 0 < times d.page y.held → ClaimFits g pages ls (set ss j (raise_head s)) y d
+    claim_kept x y d c held = claim_reset g pages ls ss hs (set hs n h') j s (raise_head s) there x y d c
+        (λ e a b z. (dite (ℕ_discrete d.index s.head) (λ y. let w = ap (cell_of s) y in absurd (omega arith)) (λ o. omega arith), b, z)) held

@@ -18,8 +18,7 @@ use Rattle.sweep_laws.proofs.Naming.{at_set, set_here}
 use Rattle.sweep_laws.proofs.Unpopped.{head_between, tail_between}
 use Rattle.sweep_laws.proofs.Standings.{same_tally, queued_list, page_swept}
 use Rattle.sweep_laws.proofs.Deltas.{deltas}
-use Rattle.sweep_laws.proofs.Turned.{claimers_kept}
-use Rattle.sweep_laws.proofs.Reset.{set_deltas, claim_reset, sets_reset}
+use Rattle.sweep_laws.proofs.Reset.{set_deltas, claim_reset, sets_reset, head_raised}
 use Rattle.sweep_laws.proofs.Claims.{claim_here, claim_else, no_claimers, claim_made}
 
 module _ (g : ℕ) (ws : List ℕ) (os : List (Option ℕ)) (ls : List LifeState) (ss : List SetState) (hs : List HandState) (k : Kept g ws os ls ss hs) (n : ℕ) (h : HandState) (at : get_elem? hs n ≡ some h) (p : ℕ) (low : p < length ws)
@@ -29,17 +28,7 @@ module _ (g : ℕ) (ws : List ℕ) (os : List (Option ℕ)) (ls : List LifeState
     generation = k.generation;
     lives_fit = k.lives_fit;
     page = λ q l. dite (ℕ_discrete q p) (λ e. subst (λ (z : ℕ). Page g (tally g ws ls ss' hs' z)) (sym e) here_page) (λ o. else_page q o l);
-    sets_fit = sets_reset g (length ws) ls ss hs hs' j s s' there k.sets_fit (omega arith) (k.sets_fit.beyond j s there)
-        (λ e i l m. absurd (true≢false (sym part ∙ e)))
-        (λ e i l m. ⊎_elim (λ (c : IsPage (length ws) (λ z. is_class z (class_of_set j) ls ≡ true) (cell_of s i)). inl c)
-        (λ (c : (cell_of s i ≡ 0) × (claimers j i hs ≡ 1)). inr (c.0, claimers_kept j i hs n h h' at refl ∙ c.1))
-        (k.sets_fit.swept_cell j s there part i (omega arith) m))
-        (λ x i o. claimers_kept x i hs n h h' at refl)
-        (λ m x a d e. ⊎_elim
-        (λ (t : (m ≡ n) × (h' ≡ x)). let was = ap (λ (z : HandState). z.claimed) t.1 ∙ e in let c = k.sets_fit.claim n h at d was in
-        subst (λ (z : HandState). ClaimFits g (length ws) ls ss' z d) t.1 (claim_kept h h' d c (let held = c.held in let y = times_append d.page h.held (p ∷ []) in omega arith)))
-        (λ (t : (m ≢ n) × (get_elem? hs m ≡ some x)). let c = k.sets_fit.claim m x t.1 d e in claim_kept x x d c c.held)
-        (at_set hs n m h' x a));
+    sets_fit = head_raised g (length ws) ls ss hs k.sets_fit n h h' at refl (λ q. let t = times_append q h.held (p ∷ []) in omega arith) j s there more (omega arith);
     objects = k.objects;
   }
     where
@@ -54,10 +43,6 @@ module _ (g : ℕ) (ws : List ℕ) (os : List (Option ℕ)) (ls : List LifeState
 
       ss' : List SetState
       ss' = set ss j s'
-
-      claim_kept : (x y : HandState) (d : Claimed) → ClaimFits g (length ws) ls ss x d → 0 < times d.page y.held → ClaimFits g (length ws) ls ss' y d
-      claim_kept x y d c held = claim_reset g (length ws) ls ss hs hs' j s s' there x y d c
-          (λ e a b z. (dite (ℕ_discrete d.index s.head) (λ y. let w = ap (cell_of s) y in absurd (omega arith)) (λ o. omega arith), b, z)) held
 
       else_page : (q : ℕ) → q ≢ p → q < length ws → Page g (tally g ws ls ss' hs' q)
       else_page q o l = let d = deltas hs n h h' at q in let e = set_deltas g q ls ss j s s' true there part in

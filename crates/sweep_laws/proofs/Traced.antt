@@ -1,11 +1,12 @@
 -- What is still to be swept, with what was swept, stays the same from mark end to mark end.
-use Rattle.std.proofs.Common.{◌≡◌, ◌≢◌, ℕ, zero, suc, ◌+◌, ◌-◌, ◌<◌, ◌≤◌, ◌⊎◌, ⊎_elim, Bool, false, true≢false, ◌||◌, not, eqb, eq-eqb, ne_eqb, List, [], ◌∷◌, map, length, set, get_or, sym, refl, ap, ◌∙◌, subst, arith, get_or-set_other, get_or-set_same}
+use Rattle.std.proofs.Common.{◌≡◌, ◌≢◌, ℕ, suc, ◌+◌, ◌-◌, ◌<◌, ◌≤◌, ◌⊎◌, ⊎_elim, Bool, false, true≢false, ◌||◌, not, eqb, eq-eqb, ne_eqb, List, map, length, set, get_or, sym, refl, ap, ◌∙◌, subst, arith, get_or-set_other, get_or-set_same}
 use Rattle.std.specs.Prelude.{Option, Some}
 use Rattle.std.proofs.lemmas.Bool.{eqb-true, ltb-true}
 use mathlib.Core.Logic.{dite}
 use mathlib.Core.Option.{some}
 use lib.ListN.{get_elem?}
 use native.Mathlib.Decide.{ℕ_discrete, dec_le}
+use Rattle.std.proofs.lemmas.List.{get_or_past}
 use Rattle.sweep_laws.specs.declared.moves.Claimed.{Claimed}
 use Rattle.sweep_laws.specs.declared.moves.Move.{Move}
 use Rattle.sweep_laws.specs.declared.moves.Move.TheVariants.{Lock, Unlock, Take, Give, Acquire, Release, Cache, Allocate, Uncache, StaleUncache, Claim, Fill, PopSwept, PopUnswept, DropPopped, Next}
@@ -142,12 +143,7 @@ module _ (c : CoreState) (k : CoreKept c) where
 
   -- beyond the region no word is due
   beyond_owed : (p : ℕ) → length c.words ≤ p → owed c p ≡ 0
-  beyond_owed p far = due_free c.generation (get_or c.words p 0) k.generation.low (beyond c.words p far)
-    where
-      beyond : (ws : List ℕ) (p : ℕ) → length ws ≤ p → get_or ws p 0 ≡ 0
-      beyond [] p far = refl
-      beyond (x ∷ ws) zero far = absurd (omega arith)
-      beyond (x ∷ ws) (suc p) far = beyond ws p (omega arith)
+  beyond_owed p far = due_free c.generation (get_or c.words p 0) k.generation.low (get_or_past c.words p 0 far)
 
   -- where a mark end is allowed, nothing is due
   pub settled_owed : (marks : List (ℕ × ℕ)) → IsAllowed c (Next marks) → (p : ℕ) → owed c p ≡ 0
@@ -164,12 +160,7 @@ module _ (c : CoreState) (k : CoreKept c) where
   end_done marks p = total_mapped forget_swept (λ (h : HandState). times p h.swept) c.hands ∙ total_none (λ (h : HandState). 0) c.hands (λ n x a. refl)
 
   pub end_beyond : (marks : List (ℕ × ℕ)) (p : ℕ) → length c.words ≤ p → owed (after c (Next marks)) p ≡ 0
-  end_beyond marks p far = due_free (c.generation + 2) (get_or c.words p 0) (let o = k.generation.low in omega arith) (beyond c.words p far)
-    where
-      beyond : (ws : List ℕ) (p : ℕ) → length ws ≤ p → get_or ws p 0 ≡ 0
-      beyond [] p far = refl
-      beyond (x ∷ ws) zero far = absurd (omega arith)
-      beyond (x ∷ ws) (suc p) far = beyond ws p (omega arith)
+  end_beyond marks p far = due_free (c.generation + 2) (get_or c.words p 0) (let o = k.generation.low in omega arith) (get_or_past c.words p 0 far)
 
   pub end_owed : (marks : List (ℕ × ℕ)) → IsAllowed c (Next marks) → (p : ℕ) → p < length c.words → owed (after c (Next marks)) p ≡ one_if (begins p (after c (Next marks)).lives)
   end_owed marks e p low = let old = k.generation.low in let b = sym (alike_begins p c.lives (map (mark_life marks) c.lives) (mapped_alike (mark_life marks) (λ l. record { page = refl; pages = refl; class = refl }) c.lives)) ∙ k.lives_fit.begin p low in

@@ -1,26 +1,24 @@
 -- PopUnswept and DropPopped keep the rule.
-use Rattle.std.proofs.Common.{◌≡◌, ◌≢◌, ℕ, suc, ◌+◌, ◌<◌, ◌⊎◌, inl, inr, ⊎_elim, Bool, true, false, true≢false, eqb, List, length, set, get_or, sym, refl, ap, ◌∙◌, subst, arith}
+use Rattle.std.proofs.Common.{◌≡◌, ◌≢◌, ℕ, suc, ◌+◌, ◌<◌, ◌⊎◌, inl, inr, ⊎_elim, Bool, true, false, eqb, List, length, set, get_or, sym, refl, ap, subst, arith}
 use Rattle.std.specs.Prelude.{Option}
 use mathlib.Core.Logic.{dite}
 use mathlib.Core.Option.{some}
 use lib.ListN.{get_elem?}
 use native.Mathlib.Decide.{ℕ_discrete}
-use Rattle.sweep_laws.specs.declared.moves.Claimed.{Claimed}
 use Rattle.sweep_laws.specs.State.{LifeState, SetState, HandState}
 use Rattle.sweep_laws.specs.Needs.{cell_of, class_of_set, is_swept_set}
 use Rattle.sweep_laws.specs.Changes.{pop_entry, drop_entry, raise_head}
-use Rattle.sweep_laws.specs.Counts.{one_if, times}
+use Rattle.sweep_laws.specs.Counts.{one_if}
 use Rattle.sweep_laws.specs.Named.{only, names_in, is_class}
-use Rattle.sweep_laws.specs.Owned.{ClaimFits}
 use Rattle.sweep_laws.specs.Standing.{tally, Page, Kept}
 use Rattle.sweep_laws.proofs.Totals.{same_one, other_one, times_end, times_end_else}
-use Rattle.sweep_laws.proofs.Naming.{times_erase_le, times_erase_else, at_set}
+use Rattle.sweep_laws.proofs.Naming.{times_erase_le, times_erase_else}
 use Rattle.sweep_laws.proofs.Unpopped.{head_between}
 use Rattle.sweep_laws.proofs.Lives.{same_alike}
 use Rattle.sweep_laws.proofs.Standings.{unswept_word, page_entries}
 use Rattle.sweep_laws.proofs.Deltas.{deltas}
-use Rattle.sweep_laws.proofs.Turned.{turned, claimers_kept}
-use Rattle.sweep_laws.proofs.Reset.{set_deltas, claim_reset, sets_reset}
+use Rattle.sweep_laws.proofs.Turned.{turned}
+use Rattle.sweep_laws.proofs.Reset.{set_deltas, head_raised}
 
 pub only_step : (b : Bool) (x y : ℕ) → x ≡ suc y → (only b x ≡ suc (only b y)) ⊎ ((only b x ≡ 0) × (only b y ≡ 0))
 only_step true x y e = inl e
@@ -41,15 +39,7 @@ module _ (g : ℕ) (ws : List ℕ) (os : List (Option ℕ)) (ls : List LifeState
     generation = k.generation;
     lives_fit = k.lives_fit;
     page = λ q l. dite (ℕ_discrete q p) (λ e. subst (λ (z : ℕ). Page g (tally g ws ls ss' hs' z)) (sym e) here_page) (λ o. else_page q o l);
-    sets_fit = sets_reset g (length ws) ls ss hs hs' j s s' there k.sets_fit (omega arith) (k.sets_fit.beyond j s there)
-        (λ e i l m. k.sets_fit.unswept_cell j s there e i (omega arith) m)
-        (λ e i l m. absurd (true≢false (sym e ∙ part)))
-        (λ x i o. claimers_kept x i hs n h h' at refl)
-        (λ m x a d e. ⊎_elim
-        (λ (t : (m ≡ n) × (h' ≡ x)). let was = ap (λ (z : HandState). z.claimed) t.1 ∙ e in
-        subst (λ (z : HandState). ClaimFits g (length ws) ls ss' z d) t.1 (claim_kept h h' d (k.sets_fit.claim n h at d was) (k.sets_fit.claim n h at d was).held))
-        (λ (t : (m ≢ n) × (get_elem? hs m ≡ some x)). let c = k.sets_fit.claim m x t.1 d e in claim_kept x x d c c.held)
-        (at_set hs n m h' x a));
+    sets_fit = head_raised g (length ws) ls ss hs k.sets_fit n h h' at refl (λ q. omega arith) j s there more (omega arith);
     objects = k.objects;
   }
     where
@@ -64,9 +54,6 @@ module _ (g : ℕ) (ws : List ℕ) (os : List (Option ℕ)) (ls : List LifeState
 
       ss' : List SetState
       ss' = set ss j s'
-
-      claim_kept : (x y : HandState) (d : Claimed) → ClaimFits g (length ws) ls ss x d → 0 < times d.page y.held → ClaimFits g (length ws) ls ss' y d
-      claim_kept x y d c held = claim_reset g (length ws) ls ss hs hs' j s s' there x y d c (λ e a b z. absurd (true≢false (sym c.is_swept ∙ ap (is_swept_set g) e ∙ part))) held
 
       else_page : (q : ℕ) → q ≢ p → q < length ws → Page g (tally g ws ls ss' hs' q)
       else_page q o l = let d = deltas hs n h h' at q in let e = set_deltas g q ls ss j s s' false there part in let r = k.page q l in let w = r.waiting in
