@@ -9,19 +9,20 @@ use Rattle.sweep_laws.specs.Named.{is_covered, covers}
 use Rattle.sweep_laws.specs.Owned.{NamesOnce, LivesAreApart, FreeIsNobodys, UnsweptIsQueued, SweepingIsOnes, SweptIsOnes, CachedIsOnes, NamedOnce, SetsAreFilled, SweptOnce, ObjectsAreKept, ObjectsFit}
 use Rattle.sweep_laws.proofs.NeedsMet.{some_none}
 
--- the facts in their order, from 0
+-- the facts by their numbers, from 1 to 10
 abbrev pub fact : ℕ → CoreState → Type 0
-fact zero c = LivesAreApart c
-fact (suc zero) c = FreeIsNobodys c
-fact (suc (suc zero)) c = UnsweptIsQueued c
-fact (suc (suc (suc zero))) c = SweepingIsOnes c
-fact (suc (suc (suc (suc zero)))) c = SweptIsOnes c
-fact (suc (suc (suc (suc (suc zero))))) c = CachedIsOnes c
-fact (suc (suc (suc (suc (suc (suc zero)))))) c = NamedOnce c
-fact (suc (suc (suc (suc (suc (suc (suc zero))))))) c = SetsAreFilled c
-fact (suc (suc (suc (suc (suc (suc (suc (suc zero)))))))) c = SweptOnce c
-fact (suc (suc (suc (suc (suc (suc (suc (suc (suc zero))))))))) c = ObjectsAreKept c
-fact (suc (suc (suc (suc (suc (suc (suc (suc (suc (suc n)))))))))) c = Unit {0}
+fact zero c = Unit {0}
+fact (suc zero) c = LivesAreApart c
+fact (suc (suc zero)) c = FreeIsNobodys c
+fact (suc (suc (suc zero))) c = UnsweptIsQueued c
+fact (suc (suc (suc (suc zero)))) c = SweepingIsOnes c
+fact (suc (suc (suc (suc (suc zero))))) c = SweptIsOnes c
+fact (suc (suc (suc (suc (suc (suc zero)))))) c = CachedIsOnes c
+fact (suc (suc (suc (suc (suc (suc (suc zero))))))) c = NamedOnce c
+fact (suc (suc (suc (suc (suc (suc (suc (suc zero)))))))) c = SetsAreFilled c
+fact (suc (suc (suc (suc (suc (suc (suc (suc (suc zero))))))))) c = SweptOnce c
+fact (suc (suc (suc (suc (suc (suc (suc (suc (suc (suc zero)))))))))) c = ObjectsAreKept c
+fact (suc (suc (suc (suc (suc (suc (suc (suc (suc (suc (suc n))))))))))) c = Unit {0}
 
 -- a state has all facts but one
 pub record BreaksAlone (k : ℕ) (c : CoreState) : Type 0 where
@@ -29,7 +30,6 @@ pub record BreaksAlone (k : ℕ) (c : CoreState) : Type 0 where
   pub others : (j : ℕ) → j ≢ k → fact j c
 
 others_of : (k : ℕ) (c : CoreState)
-    → (0 ≢ k → fact 0 c)
     → (1 ≢ k → fact 1 c)
     → (2 ≢ k → fact 2 c)
     → (3 ≢ k → fact 3 c)
@@ -39,18 +39,20 @@ others_of : (k : ℕ) (c : CoreState)
     → (7 ≢ k → fact 7 c)
     → (8 ≢ k → fact 8 c)
     → (9 ≢ k → fact 9 c)
+    → (10 ≢ k → fact 10 c)
     → (j : ℕ) → j ≢ k → fact j c
-others_of k c f0 f1 f2 f3 f4 f5 f6 f7 f8 f9 zero n = f0 n
-others_of k c f0 f1 f2 f3 f4 f5 f6 f7 f8 f9 (suc zero) n = f1 n
-others_of k c f0 f1 f2 f3 f4 f5 f6 f7 f8 f9 (suc (suc zero)) n = f2 n
-others_of k c f0 f1 f2 f3 f4 f5 f6 f7 f8 f9 (suc (suc (suc zero))) n = f3 n
-others_of k c f0 f1 f2 f3 f4 f5 f6 f7 f8 f9 (suc (suc (suc (suc zero)))) n = f4 n
-others_of k c f0 f1 f2 f3 f4 f5 f6 f7 f8 f9 (suc (suc (suc (suc (suc zero))))) n = f5 n
-others_of k c f0 f1 f2 f3 f4 f5 f6 f7 f8 f9 (suc (suc (suc (suc (suc (suc zero)))))) n = f6 n
-others_of k c f0 f1 f2 f3 f4 f5 f6 f7 f8 f9 (suc (suc (suc (suc (suc (suc (suc zero))))))) n = f7 n
-others_of k c f0 f1 f2 f3 f4 f5 f6 f7 f8 f9 (suc (suc (suc (suc (suc (suc (suc (suc zero)))))))) n = f8 n
-others_of k c f0 f1 f2 f3 f4 f5 f6 f7 f8 f9 (suc (suc (suc (suc (suc (suc (suc (suc (suc zero))))))))) n = f9 n
-others_of k c f0 f1 f2 f3 f4 f5 f6 f7 f8 f9 (suc (suc (suc (suc (suc (suc (suc (suc (suc (suc j)))))))))) n = tt
+others_of k c f1 f2 f3 f4 f5 f6 f7 f8 f9 f10 zero n = tt
+others_of k c f1 f2 f3 f4 f5 f6 f7 f8 f9 f10 (suc zero) n = f1 n
+others_of k c f1 f2 f3 f4 f5 f6 f7 f8 f9 f10 (suc (suc zero)) n = f2 n
+others_of k c f1 f2 f3 f4 f5 f6 f7 f8 f9 f10 (suc (suc (suc zero))) n = f3 n
+others_of k c f1 f2 f3 f4 f5 f6 f7 f8 f9 f10 (suc (suc (suc (suc zero)))) n = f4 n
+others_of k c f1 f2 f3 f4 f5 f6 f7 f8 f9 f10 (suc (suc (suc (suc (suc zero))))) n = f5 n
+others_of k c f1 f2 f3 f4 f5 f6 f7 f8 f9 f10 (suc (suc (suc (suc (suc (suc zero)))))) n = f6 n
+others_of k c f1 f2 f3 f4 f5 f6 f7 f8 f9 f10 (suc (suc (suc (suc (suc (suc (suc zero))))))) n = f7 n
+others_of k c f1 f2 f3 f4 f5 f6 f7 f8 f9 f10 (suc (suc (suc (suc (suc (suc (suc (suc zero)))))))) n = f8 n
+others_of k c f1 f2 f3 f4 f5 f6 f7 f8 f9 f10 (suc (suc (suc (suc (suc (suc (suc (suc (suc zero))))))))) n = f9 n
+others_of k c f1 f2 f3 f4 f5 f6 f7 f8 f9 f10 (suc (suc (suc (suc (suc (suc (suc (suc (suc (suc zero)))))))))) n = f10 n
+others_of k c f1 f2 f3 f4 f5 f6 f7 f8 f9 f10 (suc (suc (suc (suc (suc (suc (suc (suc (suc (suc (suc j))))))))))) n = tt
 
 abbrev pub no_core : CoreState
 no_core = record { generation = 4; words = []; owners = []; lives = []; sets = []; lock = None; hands = []; room = 0; prepared = 0 }
@@ -86,10 +88,10 @@ no_objects = record { kept = λ i e. absurd (omega arith); allocated = λ i e. a
 abbrev pub odd_generation : CoreState
 odd_generation = record no_core { generation = 5 }
 
-pub odd_generation_breaks : BreaksAlone 0 odd_generation
+pub odd_generation_breaks : BreaksAlone 1 odd_generation
 odd_generation_breaks = record {
   broken = λ f. let e = f.generation.even in let z : ⊥ = omega arith in z;
-  others = others_of 0 odd_generation
+  others = others_of 1 odd_generation
       (λ n. absurd (n refl))
       (λ _ p low. absurd (omega arith))
       (λ _ p low. absurd (omega arith))
@@ -102,34 +104,14 @@ odd_generation_breaks = record {
       (λ _. tt);
 }
 
--- 8. the head of a set is past its tail
-abbrev pub head_past_tail : CoreState
-head_past_tail = record no_core { sets = record { head = 1; tail = 0; cells = [] } ∷ [] }
-
-pub head_past_tail_breaks : BreaksAlone 7 head_past_tail
-head_past_tail_breaks = record {
-  broken = λ f. let e = f.order 0 (record { head = 1; tail = 0; cells = [] }) refl in let z : ⊥ = omega arith in z;
-  others = others_of 7 head_past_tail
-      (λ _. record { generation = record { even = refl; low = omega arith; high = omega arith }; lives = record { entries = refl; word = λ p low. absurd (omega arith); begin = λ p low. absurd (omega arith); owner_is = λ p low. absurd (omega arith); apart = λ p. omega arith; whole = tt } })
-      (λ _ p low. absurd (omega arith))
-      (λ _ p low. absurd (omega arith))
-      (λ _ p low. absurd (omega arith))
-      (λ _ p low. absurd (omega arith))
-      (λ _ p low. absurd (omega arith))
-      (λ _. record { lists = λ p low. absurd (omega arith); entries = λ p low. absurd (omega arith) })
-      (λ n. absurd (n refl))
-      (λ _. record { once = λ p low. absurd (omega arith); word = λ p low. absurd (omega arith) })
-      (λ _. tt);
-}
-
 -- 2. a hand sweeps a page that no life has
 abbrev pub swept_free_page : CoreState
 swept_free_page = record no_core { words = 0 ∷ []; owners = None ∷ []; hands = record idle_hand { sweeping = 0 ∷ [] } ∷ [] }
 
-pub swept_free_page_breaks : BreaksAlone 1 swept_free_page
+pub swept_free_page_breaks : BreaksAlone 2 swept_free_page
 swept_free_page_breaks = record {
   broken = λ f. let e = f 0 (omega arith) refl in let z : ⊥ = omega arith in z;
-  others = others_of 1 swept_free_page
+  others = others_of 2 swept_free_page
       (λ _. record { generation = record { even = refl; low = omega arith; high = omega arith }; lives = record { entries = refl; word = λ p low. rw (first 0 p low) (inl refl); begin = λ p low. rw (first 0 p low) refl; owner_is = λ p low. rw (first 0 p low) refl; apart = λ p. omega arith; whole = tt } })
       (λ n. absurd (n refl))
       (λ _ p low. rw (first 0 p low) (λ e. absurd (omega arith)))
@@ -146,10 +128,10 @@ swept_free_page_breaks = record {
 abbrev pub lost_page : CoreState
 lost_page = one_page 2 (one_life) (idle_hand)
 
-pub lost_page_breaks : BreaksAlone 2 lost_page
+pub lost_page_breaks : BreaksAlone 3 lost_page
 lost_page_breaks = record {
   broken = λ f. let e = (f 0 (omega arith) refl).once in let z : ⊥ = omega arith in z;
-  others = others_of 2 lost_page
+  others = others_of 3 lost_page
       (λ _. record { generation = record { even = refl; low = omega arith; high = omega arith }; lives = record { entries = refl; word = λ p low. rw (first 2 p low) (inr (inl refl)); begin = λ p low. rw (first 2 p low) refl; owner_is = λ p low. rw (first 2 p low) refl; apart = λ p. one_covers p (one_life); whole = (omega arith, tt) } })
       (λ _ p low. rw (first 2 p low) (λ e. absurd (omega arith)))
       (λ n. absurd (n refl))
@@ -166,10 +148,10 @@ lost_page_breaks = record {
 abbrev pub unswept_by_all : CoreState
 unswept_by_all = one_page 3 (one_life) (idle_hand)
 
-pub unswept_by_all_breaks : BreaksAlone 3 unswept_by_all
+pub unswept_by_all_breaks : BreaksAlone 4 unswept_by_all
 unswept_by_all_breaks = record {
   broken = λ f. let e = (f 0 (omega arith) refl).one in let z : ⊥ = omega arith in z;
-  others = others_of 3 unswept_by_all
+  others = others_of 4 unswept_by_all
       (λ _. record { generation = record { even = refl; low = omega arith; high = omega arith }; lives = record { entries = refl; word = λ p low. rw (first 3 p low) (inr (inr (inl refl))); begin = λ p low. rw (first 3 p low) refl; owner_is = λ p low. rw (first 3 p low) refl; apart = λ p. one_covers p (one_life); whole = (omega arith, tt) } })
       (λ _ p low. rw (first 3 p low) (λ e. absurd (omega arith)))
       (λ _ p low. rw (first 3 p low) (λ e. absurd (omega arith)))
@@ -186,10 +168,10 @@ unswept_by_all_breaks = record {
 abbrev pub nobodys_page : CoreState
 nobodys_page = one_page 4 (one_life) (idle_hand)
 
-pub nobodys_page_breaks : BreaksAlone 4 nobodys_page
+pub nobodys_page_breaks : BreaksAlone 5 nobodys_page
 nobodys_page_breaks = record {
   broken = λ f. let e = (f 0 (omega arith) refl).one in let z : ⊥ = omega arith in z;
-  others = others_of 4 nobodys_page
+  others = others_of 5 nobodys_page
       (λ _. record { generation = record { even = refl; low = omega arith; high = omega arith }; lives = record { entries = refl; word = λ p low. rw (first 4 p low) (inr (inr (inr (inl refl)))); begin = λ p low. rw (first 4 p low) refl; owner_is = λ p low. rw (first 4 p low) refl; apart = λ p. one_covers p (one_life); whole = (omega arith, tt) } })
       (λ _ p low. rw (first 4 p low) (λ e. absurd (omega arith)))
       (λ _ p low. rw (first 4 p low) (λ e. absurd (omega arith)))
@@ -206,10 +188,10 @@ nobodys_page_breaks = record {
 abbrev pub uncached_page : CoreState
 uncached_page = one_page 5 (one_life) (idle_hand)
 
-pub uncached_page_breaks : BreaksAlone 5 uncached_page
+pub uncached_page_breaks : BreaksAlone 6 uncached_page
 uncached_page_breaks = record {
   broken = λ f. let e = (f 0 (omega arith) (inl refl)).one in let z : ⊥ = omega arith in z;
-  others = others_of 5 uncached_page
+  others = others_of 6 uncached_page
       (λ _. record { generation = record { even = refl; low = omega arith; high = omega arith }; lives = record { entries = refl; word = λ p low. rw (first 5 p low) (inr (inr (inr (inr (inl refl))))); begin = λ p low. rw (first 5 p low) refl; owner_is = λ p low. rw (first 5 p low) refl; apart = λ p. one_covers p (one_life); whole = (omega arith, tt) } })
       (λ _ p low. rw (first 5 p low) (λ e. absurd (omega arith)))
       (λ _ p low. rw (first 5 p low) (λ e. absurd (omega arith)))
@@ -226,10 +208,10 @@ uncached_page_breaks = record {
 abbrev pub popped_twice : CoreState
 popped_twice = one_page 4 (one_life) (record idle_hand { held = 0 ∷ []; popped = 0 ∷ 0 ∷ [] })
 
-pub popped_twice_breaks : BreaksAlone 6 popped_twice
+pub popped_twice_breaks : BreaksAlone 7 popped_twice
 popped_twice_breaks = record {
   broken = λ f. let e = f.entries 0 (omega arith) in let z : ⊥ = omega arith in z;
-  others = others_of 6 popped_twice
+  others = others_of 7 popped_twice
       (λ _. record { generation = record { even = refl; low = omega arith; high = omega arith }; lives = record { entries = refl; word = λ p low. rw (first 4 p low) (inr (inr (inr (inl refl)))); begin = λ p low. rw (first 4 p low) refl; owner_is = λ p low. rw (first 4 p low) refl; apart = λ p. one_covers p (one_life); whole = (omega arith, tt) } })
       (λ _ p low. rw (first 4 p low) (λ e. absurd (omega arith)))
       (λ _ p low. rw (first 4 p low) (λ e. absurd (omega arith)))
@@ -242,14 +224,34 @@ popped_twice_breaks = record {
       (λ _. (no_objects, tt));
 }
 
+-- 8. the head of a set is past its tail
+abbrev pub head_past_tail : CoreState
+head_past_tail = record no_core { sets = record { head = 1; tail = 0; cells = [] } ∷ [] }
+
+pub head_past_tail_breaks : BreaksAlone 8 head_past_tail
+head_past_tail_breaks = record {
+  broken = λ f. let e = f.order 0 (record { head = 1; tail = 0; cells = [] }) refl in let z : ⊥ = omega arith in z;
+  others = others_of 8 head_past_tail
+      (λ _. record { generation = record { even = refl; low = omega arith; high = omega arith }; lives = record { entries = refl; word = λ p low. absurd (omega arith); begin = λ p low. absurd (omega arith); owner_is = λ p low. absurd (omega arith); apart = λ p. omega arith; whole = tt } })
+      (λ _ p low. absurd (omega arith))
+      (λ _ p low. absurd (omega arith))
+      (λ _ p low. absurd (omega arith))
+      (λ _ p low. absurd (omega arith))
+      (λ _ p low. absurd (omega arith))
+      (λ _. record { lists = λ p low. absurd (omega arith); entries = λ p low. absurd (omega arith) })
+      (λ n. absurd (n refl))
+      (λ _. record { once = λ p low. absurd (omega arith); word = λ p low. absurd (omega arith) })
+      (λ _. tt);
+}
+
 -- 9. a page was swept in this cycle and is to be swept still
 abbrev pub swept_and_stale : CoreState
 swept_and_stale = one_page 5 (one_life) (record idle_hand { cached = 0 ∷ []; swept = 0 ∷ [] })
 
-pub swept_and_stale_breaks : BreaksAlone 8 swept_and_stale
+pub swept_and_stale_breaks : BreaksAlone 9 swept_and_stale
 swept_and_stale_breaks = record {
   broken = λ f. ⊎_elim (λ (x : 5 ≡ 0). let z : ⊥ = omega arith in z) (λ (y : (5 ≡ 4) ⊎ (5 ≡ 7)). ⊎_elim (λ (x : 5 ≡ 4). let z : ⊥ = omega arith in z) (λ (x : 5 ≡ 7). let z : ⊥ = omega arith in z) y) (f.word 0 (omega arith) (omega arith));
-  others = others_of 8 swept_and_stale
+  others = others_of 9 swept_and_stale
       (λ _. record { generation = record { even = refl; low = omega arith; high = omega arith }; lives = record { entries = refl; word = λ p low. rw (first 5 p low) (inr (inr (inr (inr (inl refl))))); begin = λ p low. rw (first 5 p low) refl; owner_is = λ p low. rw (first 5 p low) refl; apart = λ p. one_covers p (one_life); whole = (omega arith, tt) } })
       (λ _ p low. rw (first 5 p low) (λ e. absurd (omega arith)))
       (λ _ p low. rw (first 5 p low) (λ e. absurd (omega arith)))
@@ -266,10 +268,10 @@ swept_and_stale_breaks = record {
 abbrev pub far_object : CoreState
 far_object = one_page 4 (record one_life { allocated = 1 ∷ [] }) (record idle_hand { held = 0 ∷ [] })
 
-pub far_object_breaks : BreaksAlone 9 far_object
+pub far_object_breaks : BreaksAlone 10 far_object
 far_object_breaks = record {
   broken = λ f. let e = f.0.allocated 1 (omega arith) in let z : ⊥ = omega arith in z;
-  others = others_of 9 far_object
+  others = others_of 10 far_object
       (λ _. record { generation = record { even = refl; low = omega arith; high = omega arith }; lives = record { entries = refl; word = λ p low. rw (first 4 p low) (inr (inr (inr (inl refl)))); begin = λ p low. rw (first 4 p low) refl; owner_is = λ p low. rw (first 4 p low) refl; apart = λ p. one_covers p (record one_life { allocated = 1 ∷ [] }); whole = (omega arith, tt) } })
       (λ _ p low. rw (first 4 p low) (λ e. absurd (omega arith)))
       (λ _ p low. rw (first 4 p low) (λ e. absurd (omega arith)))

@@ -24,44 +24,57 @@ change_life page f lives = change_first (λ life. life.page == page) f lives
 abbrev pub drop_life : ℕ → List LifeState → List LifeState
 drop_life page lives = drop_first (λ life. life.page == page) lives
 
+-- the first life that begins at the page is changed
 abbrev pub with_life : CoreState → ℕ → (LifeState → LifeState) → CoreState
 with_life c page f = record c { lives = change_life page f c.lives }
 
 -- one hand
 
+-- the hand holds one page more
 abbrev pub hold : ℕ → HandState → HandState
 hold page h = record h { held = h.held ++ page ∷ [] }
 
+-- the hand holds the page no more
 abbrev pub let_go : ℕ → HandState → HandState
 let_go page h = record h { held = erase page h.held }
 
+-- the hand begins to sweep the page, and uses up an entry that it popped for it
 abbrev pub start_sweep : ℕ → HandState → HandState
 start_sweep page h = record h { sweeping = h.sweeping ++ page ∷ []; popped = erase page h.popped }
 
+-- the hand ends the sweep of the page: it holds it, and tells it among those swept since the last mark end
 abbrev pub end_sweep : ℕ → HandState → HandState
 end_sweep page h = record h { sweeping = erase page h.sweeping; held = h.held ++ page ∷ []; swept = h.swept ++ page ∷ [] }
 
+-- the hand caches a page that it held
 abbrev pub put_in_cache : ℕ → HandState → HandState
 put_in_cache page h = record h { held = erase page h.held; cached = h.cached ++ page ∷ [] }
 
+-- the hand holds a page that it had cached
 abbrev pub take_from_cache : ℕ → HandState → HandState
 take_from_cache page h = record h { cached = erase page h.cached; held = h.held ++ page ∷ [] }
 
+-- the hand begins to sweep a page that it had cached
 abbrev pub sweep_from_cache : ℕ → HandState → HandState
 sweep_from_cache page h = record h { cached = erase page h.cached; sweeping = h.sweeping ++ page ∷ [] }
 
+-- the hand claims a cell for a page
 abbrev pub claim_cell : ℕ → ℕ → ℕ → HandState → HandState
 claim_cell s i page h = record h { claimed = Some (record { set = s; index = i; page = page }) }
 
+-- the claim of the hand is over, and it holds the page no more
 abbrev pub fill_cell : ℕ → HandState → HandState
 fill_cell page h = record h { held = erase page h.held; claimed = None }
 
+-- the hand has one popped entry more
 abbrev pub pop_entry : ℕ → HandState → HandState
 pop_entry page h = record h { popped = h.popped ++ page ∷ [] }
 
+-- the hand forgets an entry that it popped
 abbrev pub drop_entry : ℕ → HandState → HandState
 drop_entry page h = record h { popped = erase page h.popped }
 
+-- a mark end begins a new cycle, in which the hand has swept nothing
 abbrev pub forget_swept : HandState → HandState
 forget_swept h = record h { swept = [] }
 
@@ -76,6 +89,7 @@ new_life page pages count class =
 abbrev pub keep_marked : LifeState → LifeState
 keep_marked life = record life { allocated = life.kept }
 
+-- one index more is allocated
 abbrev pub allocate_index : ℕ → LifeState → LifeState
 allocate_index i life = record life { allocated = life.allocated ++ i ∷ [] }
 
@@ -84,17 +98,21 @@ abbrev pub marks_at : ℕ → List (ℕ × ℕ) → List ℕ
 marks_at page [] = []
 marks_at page (mark ∷ marks) = if mark.0 == page then mark.1 ∷ marks_at page marks else marks_at page marks
 
+-- what the marks name in the life is to be kept
 abbrev pub mark_life : List (ℕ × ℕ) → LifeState → LifeState
 mark_life marks life = record life { kept = marks_at life.page marks }
 
 -- sets
 
+-- the cell at the tail is taken
 abbrev pub raise_tail : SetState → SetState
 raise_tail s = record s { tail = s.tail + 1 }
 
+-- the cell at the head is popped
 abbrev pub raise_head : SetState → SetState
 raise_head s = record s { head = s.head + 1 }
 
+-- a cell names a page, by its number plus 1
 abbrev pub name_page : ℕ → ℕ → SetState → SetState
 name_page i page s = record s { cells = put_cell s.cells i (page + 1) }
 
@@ -102,6 +120,7 @@ name_page i page s = record s { cells = put_cell s.cells i (page + 1) }
 abbrev pub base_of : ℕ → ℕ → ℕ
 base_of pages cell = if (nat_lt 0 cell && nat_le cell pages) then cell - 1 else 0
 
+-- the page that the cell at the head of a set names
 abbrev pub head_base : CoreState → ℕ → ℕ
 head_base c s = base_of (length c.words) (cell_of (set_of c s) (set_of c s).head)
 
@@ -165,11 +184,13 @@ abbrev pub after_claim : CoreState → ℕ → ℕ → ℕ → CoreState
 after_claim c w s page =
     with_hand (with_set c s (raise_tail (set_of c s))) w (claim_cell s (set_of c s).tail page (hand_of c w))
 
+-- a claim is filled, where the hand has one
 abbrev pub after_fill_of : Option Claimed → CoreState → ℕ → CoreState
 after_fill_of None c w = c
 after_fill_of (Some claim) c w =
     with_hand (with_set c claim.set (name_page claim.index claim.page (set_of c claim.set))) w (fill_cell claim.page (hand_of c w))
 
+-- the same of the claim that the hand has
 abbrev pub after_fill : CoreState → ℕ → CoreState
 after_fill c w = after_fill_of (hand_of c w).claimed c w
 

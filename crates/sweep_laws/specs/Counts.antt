@@ -1,6 +1,7 @@
 -- How often lists name a number, and sums over lists.
 use Rattle.std.specs.Prelude.{ℕ, ◌+◌, Bool, true, false, ◌==◌, List, [], ◌∷◌}
 
+-- 1 where the test holds, else 0
 abbrev pub one_if : Bool → ℕ
 one_if true = 1
 one_if false = 0

@@ -6,19 +6,23 @@ use Rattle.sweep_laws.specs.Counts.{one_if, times, total, total_from}
 use Rattle.sweep_laws.specs.State.{LifeState, SetState, HandState}
 use Rattle.sweep_laws.specs.Needs.{cell_of, class_of_set, is_swept_set}
 
--- how often the hands' lists of one kind name a page
+-- how often the hands' sweeping lists name a page
 abbrev pub sweepers : ℕ → List HandState → ℕ
 sweepers p hands = total (λ h. times p h.sweeping) hands
 
+-- how often the hands' held lists name it
 abbrev pub holders : ℕ → List HandState → ℕ
 holders p hands = total (λ h. times p h.held) hands
 
+-- how often the hands' cached lists name it
 abbrev pub cachers : ℕ → List HandState → ℕ
 cachers p hands = total (λ h. times p h.cached) hands
 
+-- how often the hands' popped lists name it
 abbrev pub poppers : ℕ → List HandState → ℕ
 poppers p hands = total (λ h. times p h.popped) hands
 
+-- how often the hands' swept lists name it
 abbrev pub swept_by : ℕ → List HandState → ℕ
 swept_by p hands = total (λ h. times p h.swept) hands
 

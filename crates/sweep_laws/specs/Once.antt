@@ -8,15 +8,17 @@ use Rattle.sweep_laws.specs.Counts.{one_if}
 use Rattle.sweep_laws.specs.Named.{begins}
 use Rattle.sweep_laws.specs.Run.{IsAllowed, run}
 
+-- whether a move is a mark end
 abbrev pub is_mark_end : Move → Bool
 is_mark_end (Next marks) = true
 is_mark_end _ = false
 
--- how often a move, and a list of moves, releases a page
+-- how often a move releases a page
 abbrev pub release_of : ℕ → Move → ℕ
 release_of p (Release w q) = one_if (q == p)
 release_of p _ = 0
 
+-- how often a list of moves releases a page
 abbrev pub releases : ℕ → List Move → ℕ
 releases p [] = 0
 releases p (move ∷ moves) = release_of p move + releases p moves

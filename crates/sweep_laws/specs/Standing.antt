@@ -18,6 +18,7 @@ pub record Tally : Type 0 where
   pub waiting : ℕ
   pub listed : ℕ
 
+-- the tally of a page
 abbrev pub tally : ℕ → List ℕ → List LifeState → List SetState → List HandState → ℕ → Tally
 tally g words lives sets hands p = record {
   word = slice_index words p;
@@ -54,5 +55,6 @@ pub record Kept (g : ℕ) (words : List ℕ) (owners : List (Option ℕ)) (lives
   pub sets_fit : SetsFit g (length words) lives sets hands
   pub objects : AllByRecursion ObjectsFit lives
 
+-- the rule of a state
 abbrev pub CoreKept : CoreState → Type 0
 CoreKept c = Kept c.generation c.words c.owners c.lives c.sets c.hands

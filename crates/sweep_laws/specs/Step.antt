@@ -11,6 +11,7 @@ use Rattle.sweep_laws.specs.State.{CoreState}
 use Rattle.sweep_laws.specs.Needs.{Need, refusal, set_of, hand_of, life_of, lock_needs, unlock_needs, take_needs, give_needs, acquire_needs, release_needs, cache_needs, allocate_needs, uncache_needs, stale_uncache_needs, claim_needs, fill_needs, pop_swept_needs, pop_unswept_needs, drop_popped_needs, next_needs}
 use Rattle.sweep_laws.specs.Changes.{head_base, marks_at, after_lock, after_unlock, after_take, after_give, after_acquire, after_release, after_cache, after_allocate, after_uncache, after_stale_uncache, after_claim, after_fill, after_pop_swept, after_pop_unswept, after_drop_popped, after_next}
 
+-- the needs of a move, in the order in which they are tried
 abbrev pub needs_of : CoreState → Move → List Need
 needs_of c (Lock w) = lock_needs c w
 needs_of c (Unlock w) = unlock_needs c w
@@ -29,6 +30,7 @@ needs_of c (PopUnswept w s) = pop_unswept_needs c w s
 needs_of c (DropPopped w page) = drop_popped_needs c w page
 needs_of c (Next marks) = next_needs c marks
 
+-- the state that a move makes where all its needs are met
 abbrev pub after : CoreState → Move → CoreState
 after c (Lock w) = after_lock c w
 after c (Unlock w) = after_unlock c
