@@ -1,12 +1,12 @@
 -- For each fact of the ownership rule a state by hand that breaks that fact alone.
-use Rattle.std.proofs.Common.{◌≡◌, ◌≢◌, ℕ, zero, suc, ◌+◌, ◌<◌, ◌≤◌, ◌⊎◌, inl, inr, ⊎_elim, Bool, true, false, [], ◌∷◌, length, sym, refl, ◌∙◌, subst, arith}
+use Rattle.std.proofs.Common.{◌≡◌, ◌≢◌, ℕ, zero, suc, ◌+◌, ◌<◌, ◌≤◌, ◌⊎◌, inl, inr, ⊎_elim, Bool, true, false, true≢false, [], ◌∷◌, length, sym, refl, ◌∙◌, subst, arith}
 use Rattle.std.specs.Prelude.{Some, None}
 use mathlib.Core.Option.{some, some-injective, some-ne-none}
 use lib.ListN.{get_elem?}
 use Rattle.sweep_laws.specs.State.{LifeState, HandState, CoreState}
 use Rattle.sweep_laws.specs.Counts.{one_if}
-use Rattle.sweep_laws.specs.Named.{is_covered, covers}
-use Rattle.sweep_laws.specs.Owned.{NamesOnce, LivesAreApart, FreeIsNobodys, UnsweptIsQueued, SweepingIsOnes, SweptIsOnes, CachedIsOnes, NamedOnce, SetsAreFilled, SweptOnce, ObjectsAreKept, ObjectsFit}
+use Rattle.sweep_laws.specs.Named.{claimers, is_covered, covers, is_class}
+use Rattle.sweep_laws.specs.Owned.{Owned, IsPage, NamesOnce, LivesAreApart, FreeIsNobodys, UnsweptIsQueued, SweepingIsOnes, SweptIsOnes, CachedIsOnes, NamedOnce, SetsAreFilled, SweptOnce, ObjectsAreKept, ObjectsFit}
 use Rattle.sweep_laws.proofs.NeedsMet.{some_none}
 
 -- the facts by their numbers, from 1 to 10
@@ -283,3 +283,30 @@ far_object_breaks = record {
       (λ _. record { once = λ p low. omega arith; word = λ p low e. absurd (omega arith) })
       (λ n. absurd (n refl));
 }
+
+-- sharper parts of facts 1 and 8
+
+-- a life without pages, so that its first page has no owner
+abbrev pub life_without_pages : CoreState
+life_without_pages = record (one_page 4 (record one_life { pages = 0 }) (record idle_hand { held = 0 ∷ [] })) { owners = None ∷ [] }
+
+pub life_without_pages_is_refused : Owned life_without_pages → ⊥
+life_without_pages_is_refused o = let e = o.lives.lives.whole.0 in let z : ⊥ = omega arith in z
+
+-- a set of the class 0 with a span of the class 1
+abbrev pub span_of_other_class : CoreState
+span_of_other_class = record (one_page 4 (record one_life { class = 1 }) idle_hand) { sets = record { head = 0; tail = 1; cells = 1 ∷ [] } ∷ [] }
+
+pub span_of_other_class_is_refused : Owned span_of_other_class → ⊥
+span_of_other_class_is_refused o = ⊎_elim
+    (λ (c : IsPage 1 (λ p. is_class p 0 (record one_life { class = 1 } ∷ []) ≡ true) 1). let e = c.1 in let at : c.0 ≡ 0 = omega arith in
+    true≢false (sym (subst (λ (p : ℕ). is_class p 0 (record one_life { class = 1 } ∷ []) ≡ true) at c.3)))
+    (λ (c : (1 ≡ 0) × (claimers 0 0 (idle_hand ∷ []) ≡ 1)). let e = c.0 in let z : ⊥ = omega arith in z)
+    (o.sets.swept_cell 0 record { head = 0; tail = 1; cells = 1 ∷ [] } refl refl 0 (omega arith) (omega arith))
+
+-- an unswept set with a page beyond the region
+abbrev pub page_beyond : CoreState
+page_beyond = record no_core { sets = record { head = 0; tail = 0; cells = [] } ∷ record { head = 0; tail = 1; cells = 1 ∷ [] } ∷ [] }
+
+pub page_beyond_is_refused : Owned page_beyond → ⊥
+page_beyond_is_refused o = let e = (o.sets.unswept_cell 1 record { head = 0; tail = 1; cells = 1 ∷ [] } refl refl 0 (omega arith) (omega arith)).2 in let z : ⊥ = omega arith in z
