@@ -1,5 +1,6 @@
 -- Where lives begin, told by a table.
-use Rattle.std.proofs.Common.{◌≡◌, ℕ, zero, suc, ◌<◌, ◌==◌, List, [], ◌∷◌, length, get_or, map, refl, sym, ap, subst, ◌∙◌, Option, Some, None}
+use Rattle.std.proofs.Common.{◌≡◌, ℕ, zero, suc, ◌<◌, ◌==◌, List, [], ◌∷◌, length, get_or, map, refl, sym, ap, subst, ◌∙◌, Option, Some, None, Result, Ok, Err}
+use Rattle.std.specs.Result.{OnOk, OnErr}
 use Rattle.std.specs.Prelude.{unwrap_or}
 use Rattle.std.specs.List.{All, position, remove}
 use Rattle.std.specs.Vec.{with_item, with_items}
@@ -68,6 +69,11 @@ shown-at inside page i f d y at same is =
     ap (λ (states : List LifeState). let r : Tabled LifeState = record { items = states; space = inside.space; reach = inside.starts.len } in r)
     (change-first-map life_view (λ (s : LifeState). s.page == page) f inside.items.items i d no_life y at (is ∙ ap (λ l. f (life_view l)) same))
 
+-- a life that changes, or stays where its call fails, keeps its page
+pub page-stays : {E : Type 0} (f : LifeState → LifeState) (r : Result (Unit {0}) E) (d y : Life) → ((s : LifeState) → (f s).page ≡ s.page) → OnOk r (life_view y ≡ f (life_view d)) → OnErr r (y ≡ d) → y.page ≡ d.page
+page-stays f (Ok x) d y keeps ok err = ap (λ (s : LifeState). s.page) ok ∙ keeps (life_view d)
+page-stays f (Err e) d y keeps ok err = ap (λ (l : Life). l.page) err
+
 -- what the lives keep where all change and keep their pages and their room
 pub kept-with : (inside : Inside) (news : List Life) → AreKept inside → length news ≡ inside.items.len → map (λ (l : Life). l.page) news ≡ map (λ (l : Life). l.page) inside.items.items
     → All LifeRoom news → AreKept (record inside { items = with_items inside.items news })
@@ -76,6 +82,13 @@ kept-with inside news kept long stays room = record {
   room = subst (λ (lives : List Life). All LifeRoom lives) (sym (with_items_is inside.items news long)) room;
   starts = subst (λ (pages : List ℕ). TellsPlaces inside.starts.items pages) (sym stays ∙ ap (map (λ (l : Life). l.page)) (sym (with_items_is inside.items news long))) kept.starts;
 }
+
+-- what they show then
+pub shown-with : (inside : Inside) (news : List Life) (states : List LifeState) → length news ≡ inside.items.len → map life_view news ≡ states
+    → lives_view (record inside { items = with_items inside.items news }) ≡ record (lives_view inside) { items = states }
+shown-with inside news states long is =
+    ap (λ (states : List LifeState). let r : Tabled LifeState = record { items = states; space = inside.space; reach = inside.starts.len } in r)
+    (ap (map life_view) (with_items_is inside.items news long) ∙ is)
 
 -- no life begins at the page: none changes, and none leaves
 

@@ -1,6 +1,6 @@
 -- The first item that passes a test, by its index.
 use Rattle.std.proofs.Common.{◌≡◌, ℕ, zero, suc, ◌<◌, Bool, true, false, cond, List, [], ◌∷◌, length, get_or, set, refl, ap, arith, Some, None, nat_lt}
-use Rattle.std.proofs.lemmas.Bool.Decides.{nat_tests}
+use Rattle.std.proofs.lemmas.Bool.{ltb-false}
 use Rattle.std.specs.List.{find, position, remove, position_or_len}
 use Rattle.std.proofs.lemmas.List.Quantifiers.{position-Some}
 use Rattle.std.proofs.lemmas.List.Sums.{fails_before_first}
@@ -35,7 +35,7 @@ module _ {A : Type 0} (test : A → Bool) where
   none-fails : (xs : List A) (d : A) → position test xs ≡ None → (k : ℕ) → k < length xs → test (get_or xs k d) ≡ false
   none-fails xs d e k low =
       let b = not_some (nat_lt (position_or_len test xs) (length xs)) (position_or_len test xs) e in
-      fails_before_first test xs k d (grind (arith, nat_tests))
+      fails_before_first test xs k d (omega (arith, ltb-false (position_or_len test xs) (length xs) b))
 
   pub drop-at : (xs : List A) (i : ℕ) (d : A) → position test xs ≡ Some i → drop_first test xs ≡ remove xs i
   drop-at xs i d e = let p = position-Some test xs i d e in drop-found xs i d p.0 p.1 p.2

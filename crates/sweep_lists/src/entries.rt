@@ -89,11 +89,8 @@ impl<T> Entries<T> {
         ensures full { OnErr result (self.old.space ≤ length self.old.items) }
         ensures err { OnErr result (self.new ≡ self.old) }
     {
-        if self.space <= self.items.len() {
-            self.items.reserve(1)?;
-            self.space = self.items.len() + 1;
-        }
-        Ok(())
+        let space = self.items.len() + 1;
+        self.reserve(space)
     }
 
     /// Takes all items out.

@@ -1,4 +1,5 @@
-ghost use Rattle.std.specs.Prelude.{◌≡◌, ◌≤◌, ◌<◌, ◌⊎◌, ℕ, length, None, IfOk, OnOk, OnErr};
+ghost use Rattle.std.specs.Prelude.{◌≡◌, ◌≤◌, ◌<◌, ◌⊎◌, ℕ, [], ◌∷◌, ◌++◌, length, None, IfOk, OnOk, OnErr};
+ghost use Rattle.sweep_laws.specs.Lists.{erase};
 ghost use Rattle.sweep_laws.specs.Needs.{listed, is_idle as no_pages};
 ghost use Rattle.sweep_laws.specs.Changes.{
   hold,
@@ -45,11 +46,13 @@ impl CoreHand {
     pub fn new(alloc: Global, pages: u32) -> Result<Self, NoMemory>
         ensures { IfOk result (λ hand. hand ≡ bare_hand pages) }
     {
+        let (sweeping, held) = two_lists(alloc, pages)?;
+        let (cached, popped) = two_lists(alloc, pages)?;
         Ok(CoreHand {
-            sweeping: Numbers::with_table(alloc, pages)?,
-            held: Numbers::with_table(alloc, pages)?,
-            cached: Numbers::with_table(alloc, pages)?,
-            popped: Numbers::with_table(alloc, pages)?,
+            sweeping,
+            held,
+            cached,
+            popped,
             claimed: None,
             swept: Entries::new(alloc),
         })
@@ -74,9 +77,7 @@ impl CoreHand {
         ensures full { OnErr result (self.old.held.space ≤ length self.old.held.items) }
         ensures room { (pages n : ℕ) → HandRoom pages n self.old → HandRoom pages n self.new }
     {
-        self.held.reserve_one()?;
-        self.held.push(page);
-        Ok(())
+        self.held.add(page)
     }
 
     /// Begins to sweep a span, which leaves the popped entries.
@@ -86,10 +87,7 @@ impl CoreHand {
         ensures full { OnErr result (self.old.sweeping.space ≤ length self.old.sweeping.items) }
         ensures room { (pages n : ℕ) → HandRoom pages n self.old → HandRoom pages n self.new }
     {
-        self.sweeping.reserve_one()?;
-        self.sweeping.push(page);
-        self.popped.erase(page);
-        Ok(())
+        pass_on(&mut self.popped, &mut self.sweeping, page)
     }
 
     /// Caches a span that it holds.
@@ -99,10 +97,7 @@ impl CoreHand {
         ensures full { OnErr result (self.old.cached.space ≤ length self.old.cached.items) }
         ensures room { (pages n : ℕ) → HandRoom pages n self.old → HandRoom pages n self.new }
     {
-        self.cached.reserve_one()?;
-        self.cached.push(page);
-        self.held.erase(page);
-        Ok(())
+        pass_on(&mut self.held, &mut self.cached, page)
     }
 
     /// Takes a span out of the cache and holds it.
@@ -112,10 +107,7 @@ impl CoreHand {
         ensures full { OnErr result (self.old.held.space ≤ length self.old.held.items) }
         ensures room { (pages n : ℕ) → HandRoom pages n self.old → HandRoom pages n self.new }
     {
-        self.held.reserve_one()?;
-        self.held.push(page);
-        self.cached.erase(page);
-        Ok(())
+        pass_on(&mut self.cached, &mut self.held, page)
     }
 
     /// Takes a span out of the cache and begins to sweep it.
@@ -125,10 +117,7 @@ impl CoreHand {
         ensures full { OnErr result (self.old.sweeping.space ≤ length self.old.sweeping.items) }
         ensures room { (pages n : ℕ) → HandRoom pages n self.old → HandRoom pages n self.new }
     {
-        self.sweeping.reserve_one()?;
-        self.sweeping.push(page);
-        self.cached.erase(page);
-        Ok(())
+        pass_on(&mut self.cached, &mut self.sweeping, page)
     }
 
     /// Has popped an entry.
@@ -138,9 +127,7 @@ impl CoreHand {
         ensures full { OnErr result (self.old.popped.space ≤ length self.old.popped.items) }
         ensures room { (pages n : ℕ) → HandRoom pages n self.old → HandRoom pages n self.new }
     {
-        self.popped.reserve_one()?;
-        self.popped.push(page);
-        Ok(())
+        self.popped.add(page)
     }
 
     /// Lets go of a span that it holds.
@@ -231,8 +218,7 @@ impl CoreHand {
         ensures room { (pages n : ℕ) → HandRoom pages n self.old → HandRoom pages n self.new }
     {
         self.held.reserve_one()?;
-        self.swept.reserve_one()?;
-        Ok(())
+        self.swept.reserve_one()
     }
 
     /// Ends the sweep of a span and holds it.
@@ -246,4 +232,31 @@ impl CoreHand {
         self.held.push(page);
         self.swept.push(page);
     }
+}
+
+// Two lists without entries, with tables of so many pages.
+fn two_lists(alloc: Global, pages: u32) -> Result<(Numbers, Numbers), NoMemory>
+    ensures first { IfOk result (λ lists. lists.0 ≡ record { items = []; space = 0; reach = pages }) }
+    ensures second { IfOk result (λ lists. lists.1 ≡ record { items = []; space = 0; reach = pages }) }
+{
+    let first = Numbers::with_table(alloc, pages)?;
+    let second = Numbers::with_table(alloc, pages)?;
+    Ok((first, second))
+}
+
+// A page leaves a list for another one. It fails only where there is no room.
+fn pass_on(source: &mut Numbers, target: &mut Numbers, page: u32) -> Result<(), NoMemory>
+    ensures left { OnOk result (source.new.items ≡ erase page source.old.items) }
+    ensures come { OnOk result (target.new.items ≡ target.old.items ++ page ∷ []) }
+    ensures source_reach { source.new.reach ≡ source.old.reach }
+    ensures source_space { source.new.space ≡ source.old.space }
+    ensures target_reach { target.new.reach ≡ target.old.reach }
+    ensures grows { target.old.space ≤ target.new.space }
+    ensures full { OnErr result (target.old.space ≤ length target.old.items) }
+    ensures source_err { OnErr result (source.new ≡ source.old) }
+    ensures target_err { OnErr result (target.new ≡ target.old) }
+{
+    target.add(page)?;
+    source.erase(page);
+    Ok(())
 }

@@ -99,11 +99,8 @@ impl Lives {
         ensures full { OnErr result (self.old.space ≤ length self.old.items) }
         ensures err { OnErr result (self.new ≡ self.old) }
     {
-        if self.space <= self.items.len() {
-            self.items.reserve(1)?;
-            self.space = self.items.len() + 1;
-        }
-        Ok(())
+        let space = self.items.len() + 1;
+        self.reserve(space)
     }
 
     /// Puts a life at the end, whose lists have room for its objects and whose table reaches over them.
@@ -139,10 +136,10 @@ impl Lives {
         ensures err { OnErr result (self.new ≡ self.old) }
         ensures full { OnErr result ((life_in page self.old.items).count < length (life_in page self.old.items).kept) }
     {
-        if let Some(i) = self.index(page) {
-            self.items[i].keep_marked()?;
+        match self.index(page) {
+            Some(i) => self.items[i].keep_marked(),
+            None => Ok(()),
         }
-        Ok(())
     }
 
     /// An index of the first life that begins at a page is allocated. It fails only where as many are allocated as the
@@ -152,10 +149,10 @@ impl Lives {
         ensures err { OnErr result (self.new ≡ self.old) }
         ensures full { OnErr result ((life_in page self.old.items).count ≤ length (life_in page self.old.items).allocated) }
     {
-        if let Some(i) = self.index(page) {
-            self.items[i].allocate(index)?;
+        match self.index(page) {
+            Some(i) => self.items[i].allocate(index),
+            None => Ok(()),
         }
-        Ok(())
     }
 
     /// Each life keeps its marks, of marks that rise. It fails only where a life has more marks than objects.
@@ -218,7 +215,10 @@ fn tell_start(starts: &mut [Option<usize>], page: usize, k: usize, from: usize)
 fn is_below(index: Option<usize>, bound: usize) -> bool
     ensures { result ≡ is_told_below bound index }
 {
-    index.is_some_and(|i| i < bound)
+    match index {
+        Some(i) => i < bound,
+        None => false,
+    }
 }
 
 // Each life keeps its marks. It fails only where one has more marks than objects.

@@ -116,6 +116,19 @@ impl Numbers {
         }
     }
 
+    // Puts a number at the end, with room for it. It fails only where there is no room.
+    pub(crate) fn add(&mut self, item: u32) -> Result<(), NoMemory>
+        ensures ok { OnOk result (self.new.items ≡ self.old.items ++ item ∷ []) }
+        ensures reach { self.new.reach ≡ self.old.reach }
+        ensures grows { self.old.space ≤ self.new.space }
+        ensures full { OnErr result (self.old.space ≤ length self.old.items) }
+        ensures err { OnErr result (self.new ≡ self.old) }
+    {
+        self.reserve_one()?;
+        self.push(item);
+        Ok(())
+    }
+
     /// Takes out the first place of a number, if it is there; those behind it move up. Where the table tells that it is
     /// not there, nothing is scanned.
     pub fn erase(&mut self, item: u32)

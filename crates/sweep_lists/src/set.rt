@@ -76,9 +76,9 @@ pub fn name_page(sets: &mut [CoreSet], claim: Claimed) -> Result<(), NoMemory>
 {
     let number = claim.set as usize;
     if number < sets.len() {
-        let set = &mut sets[number];
-        set.cells
-            .put_cell(claim.index as usize, u64::from(claim.page) + 1)?;
+        let cells = &mut sets[number].cells;
+        cells.put_cell(claim.index as usize, u64::from(claim.page) + 1)
+    } else {
+        Ok(())
     }
-    Ok(())
 }

@@ -9,7 +9,7 @@ use crate::life::Life;
 use fallible_list::NoMemory;
 use std::alloc::Global;
 use std::marker::Model;
-use std::mem::replace;
+use std::mem::swap;
 
 /// The two lists of a life to come. Its value is the number of objects for which they are prepared.
 #[derive(Debug, Drop)]
@@ -49,9 +49,11 @@ impl Spare {
         ensures full { OnErr result (self.old < count) }
     {
         if self.count < count {
-            let (allocated, kept) = lists(alloc, count)?;
+            let room = count as usize;
+            self.kept.reserve(room)?;
+            let mut allocated = Indices::with_table(alloc, count)?;
+            allocated.reserve(room)?;
             self.allocated = allocated;
-            self.kept = kept;
             self.count = count;
         }
         Ok(())
@@ -73,14 +75,16 @@ impl Spare {
         ensures err { OnErr result (self.new ≡ self.old) }
         ensures full { OnErr result (self.old < count) }
     {
-        let (allocated, kept) = if count <= self.count {
-            self.count = 0;
-            let allocated = replace(&mut self.allocated, Indices::new(alloc));
-            let kept = replace(&mut self.kept, Entries::new(alloc));
-            (allocated, kept)
-        } else {
-            lists(alloc, count)?
-        };
+        let mut spare = Spare::new(alloc);
+        if count <= self.count {
+            swap(self, &mut spare);
+        }
+        spare.reserve(alloc, count)?;
+        let Spare {
+            count: _,
+            allocated,
+            kept,
+        } = spare;
         Ok(Life {
             page,
             pages,
@@ -90,15 +94,4 @@ impl Spare {
             kept,
         })
     }
-}
-
-// Two lists without entries, with room for the indices of so many objects.
-fn lists(alloc: Global, count: u32) -> Result<(Indices, Entries<u32>), NoMemory>
-    ensures { IfOk result (λ lists. IsPrepared count lists.0 lists.1) }
-{
-    let mut allocated = Indices::with_table(alloc, count)?;
-    allocated.reserve(count as usize)?;
-    let mut kept = Entries::new(alloc);
-    kept.reserve(count as usize)?;
-    Ok((allocated, kept))
 }
