@@ -1,8 +1,8 @@
 ghost use Rattle.std.specs.Prelude.{◌≡◌, ◌<◌, ◌≤◌, ◌==◌, [], ◌∷◌, ◌++◌, length, OnOk, OnErr, ◌^◌};
-ghost use Rattle.std.specs.List.{remove, position};
+ghost use Rattle.std.specs.List.{position};
 ghost use Rattle.sweep_laws.specs.Lists.{has, erase, put_cell};
 
-use fallible_list::{List, NoMemory};
+use fallible_list::NoMemory;
 use std::alloc::Global;
 use std::marker::Model;
 
@@ -31,16 +31,6 @@ impl<T> Entries<T> {
     {
         Entries {
             items: Vec::new(alloc),
-            space: 0,
-        }
-    }
-
-    /// The items of a list, without room for more.
-    pub fn from_list(list: List<T>) -> Self
-        ensures { result ≡ record { items = list; space = 0 } }
-    {
-        Entries {
-            items: list.into_vec(),
             space: 0,
         }
     }
@@ -110,14 +100,6 @@ impl<T: Drop> Entries<T> {
         ensures { self.new ≡ record self.old { items = self.old.items ++ item ∷ [] } }
     {
         let _ = self.items.push(item);
-    }
-
-    /// Takes out the item at an index; those behind it move up.
-    pub fn remove(&mut self, index: usize)
-        requires { index < length self.old.items }
-        ensures { self.new ≡ record self.old { items = remove self.old.items index } }
-    {
-        let _ = self.items.remove(index);
     }
 }
 
