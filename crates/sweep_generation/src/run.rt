@@ -9,6 +9,17 @@ use crate::steps::step_by;
 use fallible_list::List;
 use sweep_laws::{Move, StepFault};
 
+// Does moves up to the first that a step refuses.
+fn run_all(core: &mut Core, moves: &[Move]) -> Result<(), StepFault>
+    ensures { Runs core.old core.new moves.now result }
+{
+    for mv in moves {
+        let answer = step_by(core, mv);
+        answer?;
+    }
+    Ok(())
+}
+
 /// Does moves one after another, and stops at the first that a step refuses, with the moves before it done.
 /// Memory does not run out where `step` says so of each move: a list has one Take at most that is provided for, since
 /// a Take uses up the prepared life.
@@ -21,9 +32,5 @@ pub fn run_moves(core: &mut Core, moves: &List<Move>) -> Result<(), StepFault>
     ensures memory { Owned core.old → IsTidy core.old → HasSpace core.old → AreProvided core.old moves.now → result ≢ Err StepFault.NoMemory }
     ensures once { Owned core.old → result ≡ Ok tt → Once core.old moves.now }
 {
-    for mv in moves.as_slice() {
-        let answer = step_by(core, mv);
-        answer?;
-    }
-    Ok(())
+    run_all(core, moves.as_slice())
 }
