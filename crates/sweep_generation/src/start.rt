@@ -75,22 +75,8 @@ impl Core {
         ensures tidy { IfOk result (λ core. IsTidy core) }
         ensures tails { IfOk result (λ core. TailsFit core) }
     {
-        let words = no_words(alloc, pages)?;
-        let owners = no_owners(alloc, pages)?;
         let sets = empty_sets(alloc)?;
-        let hands = empty_hands(alloc, workers, pages)?;
-        Ok(Core {
-            generation: 4,
-            words,
-            owners,
-            lives: Lives::with_table(alloc, pages)?,
-            sets,
-            lock: None,
-            hands,
-            room: 0,
-            spare: Spare::new(alloc),
-            alloc,
-        })
+        Core::with_sets(alloc, pages, workers, 4, List::from_vec(sets))
     }
 
     /// A core as `new` makes it, but of another generation and with these sets: a state to try moves on.

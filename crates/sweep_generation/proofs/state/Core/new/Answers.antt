@@ -1,39 +1,23 @@
-use Rattle.std.proofs.Common.{◌∙◌, ◌≤◌, ℕ, List, length, refl, sym, ap, subst, arith, rules}
-use Rattle.std.specs.List.{All, range_with_len}
-use Rattle.std.proofs.lemmas.List.Elements.{All-map}
-use Rattle.std.proofs.lemmas.List.FromFn.{length-map-range_with_len}
+use Rattle.std.proofs.Common.{◌∙◌, List, map, ap}
+use Rattle.std.specs.List.{range_with_len}
+use Rattle.std.proofs.lemmas.Result.{IfOk-weaker}
 use Rattle.sweep_lists.specs.declared.set.CoreSet.{CoreSet}
-use Rattle.sweep_lists.specs.Room.{Tabled}
-use Rattle.sweep_lists.specs.Bare.{bare_hand, bare_set}
-use Rattle.sweep_lists.specs.Views.{hand_view, set_view, HandRoom}
+use Rattle.sweep_lists.specs.Bare.{bare_set}
+use Rattle.sweep_lists.specs.Views.{set_view}
 use Rattle.sweep_lists.proofs.Maps.{map-const}
+use Rattle.sweep_laws.specs.Start.{new_state}
+use Rattle.sweep_laws.specs.State.{SetState}
 use Rattle.sweep_laws.proofs.NewOwned.{owned_as}
-use Rattle.sweep_laws.proofs.MemoryKept.{start_tidy, start_tails}
-use Rattle.sweep_laws.specs.State.{CoreState, LifeState}
-use Rattle.sweep_generation.proofs.Seen.{bare-hands}
+use Rattle.sweep_laws.proofs.MemoryKept.{start_tails}
 use Rattle.sweep_generation.proofs.state.Core.new.Goals as goal
-
-pub invariant_of-result : goal.invariant_of-result
-invariant_of-result c = record {
-  generation = omega arith;
-  pages = rw (c.in_ok-words.ensures, length-map-range_with_len) (search rules);
-  owners = rw (c.in_ok-words.ensures, c.in_ok-owners.ensures) (length-map-range_with_len _ 0 c.args.pages ∙ sym (length-map-range_with_len _ 0 c.args.pages));
-  workers = rw (c.in_ok-hands.ensures, length-map-range_with_len) (search rules);
-  lives_room = omega arith;
-  lives_table = ap (λ (x : Tabled LifeState). x.reach) c.in_ok-with_table.ensures ∙ sym (ap (λ (xs : List ℕ). length xs) c.in_ok-words.ensures ∙ length-map-range_with_len _ 0 c.args.pages);
-  hands_room = subst (λ (n : ℕ). All (HandRoom n 0) c.in_ok-hands.hands.items) (sym (ap (λ (xs : List ℕ). length xs) c.in_ok-words.ensures ∙ length-map-range_with_len _ 0 c.args.pages)) (bare-hands c.args.pages c.args.workers c.in_ok-hands.hands.items c.in_ok-hands.ensures);
-  sets_room = subst (λ (xs : List CoreSet). All (λ (x : CoreSet). 0 ≤ x.cells.space) xs) (sym c.in_ok-sets.ensures) (All-map (λ (x : CoreSet). 0 ≤ x.cells.space) (λ _. bare_set) (range_with_len 0 544) (λ k d l. omega arith));
-}
 
 pub returns-clause-state : goal.returns-clause-state
 returns-clause-state c =
-    rw (c.in_ok-words.ensures, c.in_ok-owners.ensures, c.in_ok-with_table.ensures, c.in_ok-sets.ensures, map-const set_view bare_set (range_with_len 0 544), c.in_ok-hands.ensures, map-const hand_view (bare_hand c.args.pages) (range_with_len 0 c.args.workers), c.new.ensures) refl
+    let sets = ap (λ (xs : List CoreSet). map set_view xs) (c.from_vec.ensures ∙ c.in_ok-sets.ensures) ∙ map-const set_view bare_set (range_with_len 0 544) in
+    IfOk-weaker c.with_sets.result _ _ (λ core is. is ∙ ap (λ (xs : List SetState). record (new_state c.args.pages c.args.workers) { sets = xs }) sets) c.with_sets.ensures.state
 
 pub returns-clause-owned : goal.returns-clause-owned
-returns-clause-owned c = owned_as _ c.args.pages c.args.workers (returns-clause-state c)
-
-pub returns-clause-tidy : goal.returns-clause-tidy
-returns-clause-tidy c = let e = returns-clause-state c in start_tidy _ c.args.workers (ap (λ (s : CoreState). s.hands) e) (ap (λ (s : CoreState). s.lives) e)
+returns-clause-owned c = IfOk-weaker c.with_sets.result _ _ (λ core is. owned_as _ c.args.pages c.args.workers is) (returns-clause-state c)
 
 pub returns-clause-tails : goal.returns-clause-tails
-returns-clause-tails c = start_tails _ c.args.pages c.args.workers (returns-clause-state c)
+returns-clause-tails c = IfOk-weaker c.with_sets.result _ _ (λ core is. start_tails _ c.args.pages c.args.workers is) (returns-clause-state c)
