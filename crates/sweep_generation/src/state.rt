@@ -6,7 +6,7 @@ use std::marker::Model;
 use sweep_lists::{CoreHand, CoreSet, Life, Lives, Spare};
 
 /// The whole state of span ownership over plain lists.
-#[derive(Debug, Drop)]
+#[derive(Drop)]
 pub struct Core {
     pub(crate) generation: u64,
     pub(crate) words: Vec<u64>,
@@ -63,7 +63,7 @@ impl Core {
         self.lives.as_slice()
     }
 
-    /// The 544 sets. The number of a set is four times the span class, plus 2 for a full set, plus its part.
+    /// The sets. The number of a set is four times the span class, plus 2 for a full set, plus its part.
     pub fn sets(&self) -> &[CoreSet]
         ensures { map set_view result.now ≡ self.now.sets }
     {
