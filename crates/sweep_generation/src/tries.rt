@@ -1,35 +1,21 @@
-ghost use Rattle.std.specs.Prelude.{◌≡◌, ◌<◌, ◌^◌, OnOk, IfSome, IfOk, length, map, option_map, IsTrue, [], ◌∷◌};
+ghost use Rattle.std.specs.Prelude.{◌≡◌, ◌<◌, ◌^◌, OnOk, IfSome, length, option_map, IsTrue, [], ◌∷◌};
 ghost use Rattle.sweep_laws.specs.Needs.{
   need,
   worker_in_range,
   page_in_range,
-  run_in_range,
-  class_in_range,
-  lock_is_free,
   lock_is_own,
   lists,
   lister,
   claims_nothing,
-  claims_something,
   life_at,
-  nothing_allocated,
-  run_is_free,
-  word_is_below,
-  word_is_above,
   lock_needs,
   unlock_needs,
-  take_needs,
-  give_needs,
   acquire_needs,
   release_needs,
   cache_needs,
-  allocate_needs,
   uncache_needs,
   stale_uncache_needs,
   drop_popped_needs,
-  is_at_hand,
-  may_allocate,
-  is_least_free,
 };
 ghost use Rattle.sweep_laws.specs.Tries.{Tried};
 ghost use Rattle.sweep_lists.specs.Views.{life_view};
