@@ -22,6 +22,7 @@ ghost use Rattle.sweep_laws.specs.Tries.{Tried};
 
 use crate::state::Core;
 use crate::tries::demand;
+use crate::tries_next::is_swept;
 use sweep_laws::{Claimed, Found, Kind, StepFault};
 
 impl Core {
@@ -36,7 +37,7 @@ impl Core {
     fn is_swept_set(&self, set: u32) -> bool
         ensures { result ≡ is_of_swept_part self.now.generation set }
     {
-        u64::from(set % 2) == self.generation / 2 % 2
+        is_swept(self.generation, u64::from(set))
     }
 
     fn try_swept(&self, set: u32) -> Result<(), StepFault>
