@@ -7,6 +7,8 @@ use Rattle.sweep_laws.specs.State.{CoreState, LifeState}
 use Rattle.sweep_laws.specs.Changes.{marks_at}
 use Rattle.sweep_lists.specs.Views.{HandRoom}
 use Rattle.sweep_generation.proofs.Seen.{items-whole, kept-same-room, kept-sets, kept-hands, kept-generation}
+use Rattle.sweep_laws.specs.declared.moves.Move.TheVariants.{Next}
+use Rattle.sweep_generation.proofs.Tried.{refused}
 use Rattle.sweep_generation.proofs.mark_end.next.Goals as goal
 
 pub returns-in_err-mark : goal.returns-in_err-mark
@@ -39,3 +41,8 @@ returns c = (
   ) refl,
   refl,
 )
+
+pub returns-in_err-try_next : goal.returns-in_err-try_next
+returns-in_err-try_next c =
+    let p = err_from_is_err_and c.from_residual.result c.from_residual.ensures.1 in
+    rw (p.1, p.2) (refused (Unit {0}) c.args.core.now (Next c.args.marks.now) _ c.in_err-try_next.ensures.tried)

@@ -5,6 +5,8 @@ use Rattle.std.proofs.lemmas.Result.{err_from_is_err_and}
 use Rattle.sweep_laws.specs.State.{CoreState, HandState}
 use Rattle.sweep_laws.specs.Changes.{hold}
 use Rattle.sweep_generation.proofs.Seen.{hand-changed, hand-same, hand-is, room-at, low-hand, kept-hand, kept-word, kept-owners, kept-lives, kept-same-room, kept-spare, seen-hand, items-whole}
+use Rattle.sweep_laws.specs.declared.moves.Move.TheVariants.{Take}
+use Rattle.sweep_generation.proofs.Tried.{refused}
 use Rattle.sweep_generation.proofs.moves_pages.take.Goals as goal
 
 pub invariant_of-core-in_err-reserve_held : goal.invariant_of-core-in_err-reserve_held
@@ -43,3 +45,8 @@ returns c =
       rw (← c.core.view_is, f, hand-same c.core.inside c.args.core.now c.core.view_is c.args.worker c.index_mut.result.now c.reserve_held.new.self c.index_mut.ensures.value c.reserve_held.ensures.view, items-whole c.core.inside.owners c.put_owner.new.owners (c.put_owner.auto.owners ∙ ap (λ (xs : List (Option ℕ)). length xs) c.deref_mut.ensures.value), c.put_owner.ensures, c.deref_mut.ensures.value, c.push.ensures, c.reserve_one.ensures.items, c.in_ok-life.ensures.life, c.in_ok-life.ensures.left) refl,
       refl,
     )
+
+pub returns-in_err-try_take : goal.returns-in_err-try_take
+returns-in_err-try_take c =
+    let p = err_from_is_err_and c.from_residual.result c.from_residual.ensures.1 in
+    rw (p.1, p.2) (refused (Unit {0}) c.args.core.now (Take c.args.worker c.args.page c.args.pages c.args.count c.args.class) _ c.in_err-try_take.ensures.tried)

@@ -5,6 +5,9 @@ use Rattle.sweep_laws.specs.Changes.{raise_tail, claim_cell}
 use Rattle.sweep_generation.proofs.Seen.{set-changed, set-is, kept-set, hand-changed, kept-hand, low-hand, low-set}
 use Rattle.sweep_laws.specs.declared.moves.Reply.TheVariants.{Index}
 use Rattle.sweep_generation.specs.Kept.{core_view}
+use Rattle.sweep_laws.specs.declared.moves.Move.TheVariants.{Claim}
+use Rattle.sweep_generation.proofs.Tried.{refused}
+use Rattle.std.proofs.lemmas.Result.{err_from_is_err_and}
 use Rattle.sweep_generation.proofs.moves_sets.claim.Goals as goal
 
 pub raise_tail-index-requires : goal.raise_tail-index-requires
@@ -23,3 +26,8 @@ returns c =
     let low = subst (λ (s : CoreState). c.args.set < length s.sets) (sym c.core.view_is) c.in_ok-try_claim.ensures.set in
     let i = c.raise_tail-index.ensures.index ∙ ap (λ (s : SetState). s.tail) (sym (set-is c.core.inside (core_view c.core.inside) refl c.args.set low c.index_mut.result.now c.index_mut.ensures.value)) in
     (c.in_ok-try_claim.ensures.tried, rw (← c.core.view_is, e, f, i) refl, ap Index index)
+
+pub returns-in_err-try_claim : goal.returns-in_err-try_claim
+returns-in_err-try_claim c =
+    let p = err_from_is_err_and c.from_residual.result c.from_residual.ensures.1 in
+    rw (p.1, p.2) (refused (Unit {0}) c.args.core.now (Claim c.args.worker c.args.set c.args.page) _ c.in_err-try_claim.ensures.tried)

@@ -7,6 +7,8 @@ use Rattle.sweep_laws.specs.declared.moves.Claimed.{Claimed}
 use Rattle.sweep_laws.specs.State.{CoreState}
 use Rattle.sweep_laws.specs.Changes.{fill_cell}
 use Rattle.sweep_generation.proofs.Seen.{hand-changed, low-hand, kept-hand, kept-sets, items-whole}
+use Rattle.sweep_laws.specs.declared.moves.Move.TheVariants.{Fill}
+use Rattle.sweep_generation.proofs.Tried.{refused}
 use Rattle.sweep_generation.proofs.moves_sets.fill.Goals as goal
 
 pub returns-in_err-name_page : goal.returns-in_err-name_page
@@ -29,3 +31,8 @@ returns c =
       rw (c.in_ok-claim.ensures.claim, ← c.core.view_is, f, items-whole c.core.inside.sets c.name_page.new.sets (c.name_page.auto.sets ∙ ap (λ (xs : List CoreSet). length xs) c.deref_mut.ensures.value), c.in_ok-name_page.ensures.ok, c.deref_mut.ensures.value) refl,
       refl,
     )
+
+pub returns-in_err-claim : goal.returns-in_err-claim
+returns-in_err-claim c =
+    let p = err_from_is_err_and c.from_residual.result c.from_residual.ensures.1 in
+    rw (p.1, p.2) (refused Claimed c.args.core.now (Fill c.args.worker) _ c.in_err-claim.ensures.tried)

@@ -4,6 +4,8 @@ use Rattle.sweep_generation.proofs.Seen.{hand-changed, hand-same, hand-is, room-
 use Rattle.sweep_laws.specs.State.{CoreState, HandState, SetState}
 use Rattle.sweep_laws.specs.Changes.{pop_entry, raise_head, head_base}
 use Rattle.sweep_laws.specs.declared.moves.Reply.TheVariants.{Base}
+use Rattle.sweep_laws.specs.declared.moves.Move.TheVariants.{PopUnswept}
+use Rattle.sweep_generation.proofs.Tried.{refused}
 use Rattle.sweep_generation.proofs.moves_sets.pop_unswept.Goals as goal
 
 pub invariant_of-core : goal.invariant_of-core
@@ -33,3 +35,8 @@ returns c =
     let f = set-changed c.core.inside c.args.core.now c.core.view_is c.args.set c.in_ok-try_pop_unswept.ensures.set c.index_mut-2.result.now c.raise_head.new.self raise_head c.index_mut-2.ensures.value c.raise_head.ensures.view in
     let base = c.head_base-base.ensures ∙ ap (λ (s : CoreState). head_base s c.args.set) (sym c.core.view_is) in
     (c.in_ok-try_pop_unswept.ensures.tried, rw (← c.core.view_is, e, f, base) refl, ap Base c.head_base-base.ensures)
+
+pub returns-in_err-try_pop_unswept : goal.returns-in_err-try_pop_unswept
+returns-in_err-try_pop_unswept c =
+    let p = err_from_is_err_and c.from_residual.result c.from_residual.ensures.1 in
+    rw (p.1, p.2) (refused (Unit {0}) c.args.core.now (PopUnswept c.args.worker c.args.set) _ c.in_err-try_pop_unswept.ensures.tried)

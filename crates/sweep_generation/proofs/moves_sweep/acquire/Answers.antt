@@ -2,6 +2,8 @@ use Rattle.std.proofs.Common.{length, ap, refl, arith}
 use Rattle.std.proofs.lemmas.Result.{err_from_is_err_and}
 use Rattle.sweep_generation.proofs.Seen.{hand-changed, hand-same, hand-is, room-at, low-hand, kept-hand, kept-word}
 use Rattle.sweep_laws.specs.State.{HandState}
+use Rattle.sweep_generation.proofs.Tried.{refused}
+use Rattle.sweep_laws.specs.declared.moves.Move.TheVariants.{Acquire}
 use Rattle.sweep_laws.specs.Changes.{start_sweep}
 use Rattle.sweep_generation.proofs.moves_sweep.acquire.Goals as goal
 
@@ -23,3 +25,8 @@ pub returns : goal.returns
 returns c =
     let e = hand-changed c.core.inside c.args.core.now c.core.view_is c.args.worker c.in_ok-try_acquire.ensures.worker c.index_mut.result.now c.start_sweep.new.self (start_sweep c.args.page) c.index_mut.ensures.value c.in_ok-start_sweep.ensures.ok in
     (c.in_ok-try_acquire.ensures.tried, rw (← c.core.view_is, e, c.saturating_sub.ensures) refl, refl)
+
+pub returns-in_err-try_acquire : goal.returns-in_err-try_acquire
+returns-in_err-try_acquire c =
+    let p = err_from_is_err_and c.from_residual.result c.from_residual.ensures.1 in
+    rw (p.1, p.2) (refused (Unit {0}) c.args.core.now (Acquire c.args.worker c.args.page) _ c.in_err-try_acquire.ensures.tried)

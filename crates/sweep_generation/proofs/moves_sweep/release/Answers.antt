@@ -6,6 +6,8 @@ use Rattle.sweep_laws.specs.Needs.{life_of}
 use Rattle.sweep_laws.specs.Changes.{end_sweep}
 use Rattle.sweep_generation.proofs.Seen.{hand-changed, hand-same, hand-is, room-at, low-hand, kept-hand, kept-word, kept-same-room, seen-hand, full-end}
 use Rattle.std.proofs.Math.ListN.{length-set}
+use Rattle.sweep_laws.specs.declared.moves.Move.TheVariants.{Release}
+use Rattle.sweep_generation.proofs.Tried.{refused}
 use Rattle.sweep_generation.proofs.moves_sweep.release.Goals as goal
 
 pub invariant_of-core : goal.invariant_of-core
@@ -50,3 +52,8 @@ returns c =
       rw (← c.core.view_is, f, hand-same c.core.inside c.args.core.now c.core.view_is c.args.worker c.index_mut.result.now c.reserve_end.new.self c.index_mut.ensures.value c.reserve_end.ensures.view, c.in_ok-keep_marked.ensures.ok) refl,
       refl,
     )
+
+pub returns-in_err-try_release : goal.returns-in_err-try_release
+returns-in_err-try_release c =
+    let p = err_from_is_err_and c.from_residual.result c.from_residual.ensures.1 in
+    rw (p.1, p.2) (refused (Unit {0}) c.args.core.now (Release c.args.worker c.args.page) _ c.in_err-try_release.ensures.tried)
