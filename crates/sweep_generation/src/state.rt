@@ -6,7 +6,7 @@ use std::marker::Model;
 use sweep_lists::{CoreHand, CoreSet, Life, Lives, Spare};
 
 /// The whole state of span ownership over plain lists.
-#[derive(Drop)]
+#[derive(Debug, Drop)]
 pub struct Core {
     pub(crate) generation: u64,
     pub(crate) words: Vec<u64>,
