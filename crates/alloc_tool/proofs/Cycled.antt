@@ -1,5 +1,5 @@
 -- What a run of a trace keeps from cycle to cycle, and what its report says at the end.
-use Rattle.std.proofs.Common.{◌≡◌, ℕ, zero, suc, ◌+◌, ◌^◌, ◌<◌, ◌≤◌, Bool, List, [], ◌∷◌, ◌++◌, reverse, length, take, drop, get_or, Result, Ok, Err, OnOk, refl, sym, ◌∙◌, ap, arith, drop-cons}
+use Rattle.std.proofs.Common.{◌≡◌, ℕ, zero, suc, ◌+◌, ◌-◌, ◌^◌, ◌<◌, ◌≤◌, Bool, List, [], ◌∷◌, ◌++◌, reverse, length, take, drop, get_or, Result, Ok, Err, OnOk, refl, sym, ◌∙◌, ap, arith, drop-cons}
 use Rattle.std.specs.List.{AllByRecursion, flat_map}
 use Rattle.std.specs.Prelude.{All}
 use Rattle.std.proofs.lemmas.List.{take_all, take_more, take-append-drop, reverse-reverse, length-take-le}
@@ -34,10 +34,6 @@ pub ok-map : {T E : Type 0} (result : Result T E) (P Q : Type 0) → (P → Q) �
 ok-map (Ok x) P Q f h = f h
 ok-map (Err e) P Q f h = h
 
-pub both-map : {T E : Type 0} (result : Result T E) (P Q R : Type 0) → (P → Q → R) → OnOk result P → OnOk result Q → OnOk result R
-both-map (Ok x) P Q R f p q = f p q
-both-map (Err e) P Q R f p q = p
-
 -- ---- the start
 
 pub new-run : (t : Trace) (heap : Heap) (answers : List Answer) → Tied (marked_by t) 0 heap [] → answers ≡ [] → HasRun (marked_by t) 0 heap (requests_from 0 (take 0 t.cycles)) answers []
@@ -69,9 +65,9 @@ some-cycle first live (c ∷ cycles) are = omega arith
 pub events-of : (events : List Event) (read cycles : List Cycle) (c : ℕ) (d : Cycle) → events ≡ (get_or read c d).events → read ≡ cycles → events ≡ (get_or cycles c d).events
 events-of events read cycles c d at same = at ∙ ap (λ (cs : List Cycle). (get_or cs c d).events) same
 
--- as many were put behind a list as answers came
-pub same-count : (list list' answers answers' count events : ℕ) → list' ≡ list + count → count ≡ events → answers' ≡ answers + events → list ≡ answers → list' ≡ answers'
-same-count list list' answers answers' count events more are came before = omega arith
+-- a list that was behind is as long as the answers, once as many as it left out are put behind it
+pub caught-up : (list list' answers all some : ℕ) → list ≤ answers → all ≡ answers → some ≡ list → list' ≡ list + (all - some) → list' ≡ answers
+caught-up list list' answers all some below whole part more = omega arith
 
 -- each is within the limits
 pub cycle-sizes : (t : Trace) (c : ℕ) (d : Cycle) → WithinLimits t → c < length t.cycles → All (λ (e : Event). e.size ≤ 2 ^ 40) (get_or t.cycles c d).events

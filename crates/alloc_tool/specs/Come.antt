@@ -1,5 +1,5 @@
 -- How far a run of a trace has come.
-use Rattle.std.specs.Prelude.{◌≡◌, ℕ, List, length, take}
+use Rattle.std.specs.Prelude.{◌≡◌, ◌≤◌, ℕ, List, length, take}
 use Rattle.trace_reader.specs.declared.trace.Trace.{Trace}
 use Rattle.cycle_history.specs.Requests.{requests_from, marked_by, region_of}
 use Rattle.cycle_history.specs.Objects.{Object}
@@ -12,5 +12,5 @@ pub record HasCome (t : Trace) (c done : ℕ) (run : Run) : Type 0 where
   pub answered : HasRun (marked_by t) c run.heap (requests_from 0 (take done t.cycles)) run.answers objects
   pub region : run.heap.pages.region ≡ region_of t
   pub goal : run.heap.pages.goal ≡ t.header.goal
-  pub sampled : length run.sampled ≡ length run.answers
-  pub buckets : length run.buckets ≡ length run.answers
+  pub sampled : length run.sampled ≤ length run.answers
+  pub buckets : length run.buckets ≡ length run.sampled

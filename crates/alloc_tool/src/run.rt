@@ -34,7 +34,7 @@ pub(crate) fn report(alloc: Global, trace: &Trace) -> Result<Report, NoMemory>
 struct Run {
     heap: Heap,
     answers: List<Answer>,
-    // Whether each object is sampled, and its bucket if it is. None is sampled yet.
+    // Whether each object is sampled, and its bucket if it is, as far as a mark end has asked. None is sampled yet.
     sampled: List<bool>,
     buckets: List<u32>,
 }
@@ -77,7 +77,7 @@ impl Run {
     {
         let events = trace.cycles.as_slice()[cycle as usize].events.as_slice();
         answer_all(&mut self.heap, cycle, events, &mut self.answers)?;
-        sample_none(events.len(), &mut self.sampled, &mut self.buckets)
+        Ok(())
     }
 
     // The mark end behind a cycle comes, and the next cycle begins.
@@ -87,6 +87,8 @@ impl Run {
         requires come { HasCome trace.now cycle (cycle + 1) self.old }
         ensures { OnOk result (HasCome trace.now (cycle + 1) (cycle + 1) self.new) }
     {
+        let fresh = self.answers.len() - self.sampled.len();
+        sample_none(fresh, &mut self.sampled, &mut self.buckets)?;
         let mark = cycle + 1;
         let marks = marks_of(
             alloc,

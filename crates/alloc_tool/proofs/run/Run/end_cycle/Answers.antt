@@ -1,15 +1,21 @@
-use Rattle.std.proofs.Common.{◌+◌, ◌∙◌}
-use Rattle.alloc_tool.proofs.Cycled.{ok-map, count-before, places-before, allocated-before, cycle-ended}
+use Rattle.std.proofs.Common.{◌+◌, ◌∙◌, arith}
+use Rattle.alloc_tool.proofs.Cycled.{ok-map, caught-up, count-before, places-before, allocated-before, cycle-ended}
 use Rattle.alloc_tool.proofs.run.Run.end_cycle.Goals as goal
 
 pub marks_of-requires-clause-answers : goal.marks_of-requires-clause-answers
 marks_of-requires-clause-answers c = let come = c.requires.come in count-before c.args.trace.now c.args.cycle (c.args.cycle + 1) _ _ come.objects come.answered
 
 pub marks_of-requires-clause-sampled : goal.marks_of-requires-clause-sampled
-marks_of-requires-clause-sampled c = let come = c.requires.come in come.sampled ∙ count-before c.args.trace.now c.args.cycle (c.args.cycle + 1) _ _ come.objects come.answered
+marks_of-requires-clause-sampled c =
+    let come = c.requires.come in
+    caught-up _ _ _ _ _ come.sampled c.len.ensures c.len-2.ensures c.in_ok-sample_none.ensures.sampled
+    ∙ count-before c.args.trace.now c.args.cycle (c.args.cycle + 1) _ _ come.objects come.answered
 
 pub marks_of-requires-clause-buckets : goal.marks_of-requires-clause-buckets
-marks_of-requires-clause-buckets c = let come = c.requires.come in come.buckets ∙ count-before c.args.trace.now c.args.cycle (c.args.cycle + 1) _ _ come.objects come.answered
+marks_of-requires-clause-buckets c =
+    let come = c.requires.come in
+    caught-up _ _ _ _ _ (rw come.buckets come.sampled) c.len.ensures (rw come.buckets c.len-2.ensures) c.in_ok-sample_none.ensures.buckets
+    ∙ count-before c.args.trace.now c.args.cycle (c.args.cycle + 1) _ _ come.objects come.answered
 
 pub marks_of-requires-clause-places : goal.marks_of-requires-clause-places
 marks_of-requires-clause-places c = let come = c.requires.come in places-before c.args.trace.now c.args.cycle (c.args.cycle + 1) _ _ come.objects come.region come.answered
@@ -27,6 +33,12 @@ returns c =
       answered = cycle-ended c.args.trace.now c.args.cycle _ _ _ come.objects _ _ c.in_ok-marks.marks come.answered c.in_ok-marks.ensures.marks goes;
       region = c.next_cycle.ensures.region ∙ come.region;
       goal = c.next_cycle.ensures.goal ∙ come.goal;
-      sampled = come.sampled;
-      buckets = come.buckets;
+      sampled = (
+          let all = caught-up _ _ _ _ _ come.sampled c.len.ensures c.len-2.ensures c.in_ok-sample_none.ensures.sampled in
+          omega arith);
+      buckets = (
+          let same = come.buckets in
+          let sampled = c.in_ok-sample_none.ensures.sampled in
+          let buckets = c.in_ok-sample_none.ensures.buckets in
+          omega arith);
     }) c.next_cycle.ensures.next
