@@ -1,5 +1,5 @@
 -- How the lists grow by an object.
-use Rattle.std.proofs.Common.{◌≡◌, ℕ, zero, suc, ◌+◌, ◌*◌, ◌^◌, ◌<◌, ◌≤◌, ◌↔◌, Bool, List, [], ◌∷◌, ◌++◌, length, Some, refl, sym, ◌∙◌, ap, subst, arith, ◌⊎◌, inl, inr}
+use Rattle.std.proofs.Common.{◌≡◌, ℕ, zero, suc, ◌+◌, ◌<◌, ◌↔◌, Bool, List, [], ◌∷◌, ◌++◌, length, Some, refl, sym, ◌∙◌, ap, subst, arith, ◌⊎◌, inl, inr}
 use Rattle.std.specs.List.{slice_get}
 use Rattle.std.proofs.lemmas.Bool.{cases_lt}
 use Rattle.std.proofs.lemmas.List.{length_push}
@@ -10,8 +10,7 @@ use Rattle.trace_reader.specs.Limits.{events_of}
 use Rattle.cycle_history.specs.declared.Answer.{Answer}
 use Rattle.cycle_history.specs.declared.Answer.TheVariants.{Placed, Zero}
 use Rattle.cycle_history.specs.Requests.{region_of}
-use Rattle.cycle_history.specs.Places.{IsPlace, LiesAt}
-use Rattle.cycle_history.specs.Marked.{ArePlaces}
+use Rattle.cycle_history.specs.Places.{IsPlace}
 use Rattle.history_bench.specs.declared.lists.Lists.{Lists}
 use Rattle.history_bench.specs.Filled.{AreFilled}
 

@@ -1,7 +1,6 @@
-use Rattle.std.proofs.Common.{◌≡◌, ℕ, ◌+◌, ◌*◌, ◌/◌, ◌<◌, ◌≤◌, true, refl, sym, arith}
+use Rattle.std.proofs.Common.{◌≡◌, ℕ, ◌+◌, ◌*◌, ◌/◌, ◌<◌, ◌≤◌, true, refl, arith}
 use Rattle.size_classes.specs.Classes.{IsLeastClass, slot_of, pages_of, objects_of, span_class_of}
 use Rattle.size_classes.proofs.Bounds.{objects_bounds}
-use Rattle.cycle_history.specs.declared.Answer.TheVariants.{Placed, Zero}
 use Rattle.cycle_history.specs.Places.{IsPlace}
 use Rattle.history_bench.proofs.lists.answer_of.Goals as goal
 

@@ -1,12 +1,9 @@
-use Rattle.std.proofs.Common.{◌≡◌, ℕ, ◌+◌, ◌<◌, false, List, length, get_or, Some, refl, sym, ◌∙◌, ap, arith}
+use Rattle.std.proofs.Common.{◌≡◌, ℕ, false, List, length, get_or, Some, sym, ◌∙◌, ap, arith}
 use Rattle.std.specs.List.{slice_get}
 use Rattle.trace_reader.specs.declared.trace.Cycle.{Cycle}
 use Rattle.trace_reader.specs.declared.trace.Event.{Event}
-use Rattle.trace_reader.specs.declared.trace.Trace.{Trace}
 use Rattle.trace_reader.specs.Limits.{events_of}
-use Rattle.cycle_history.specs.Marked.{objects_before}
-use Rattle.cycle_history.proofs.Firsts.{before-more, event-at}
-use Rattle.history_bench.specs.Filled.{AreFilled}
+use Rattle.cycle_history.proofs.Firsts.{event-at}
 use Rattle.history_bench.proofs.lists.Lists.grow.Goals as goal
 
 none : Event

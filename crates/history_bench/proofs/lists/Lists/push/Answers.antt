@@ -1,5 +1,4 @@
-use Rattle.std.proofs.Common.{◌≡◌, ℕ, ◌%◌, ◌<◌, eqb, length, refl, arith}
-use Rattle.cycle_history.specs.Requests.{region_of}
+use Rattle.std.proofs.Common.{◌%◌, eqb, length, arith}
 use Rattle.history_bench.specs.declared.lists.Lists.{Lists}
 use Rattle.history_bench.proofs.Filling.{filled-more}
 use Rattle.history_bench.proofs.lists.Lists.push.Goals as goal
