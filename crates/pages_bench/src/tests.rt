@@ -1,6 +1,6 @@
 //! Random takes, gives and scavenging steps on three chunks, against a body that goes page by page.
 
-ghost use Rattle.std.specs.Prelude.{◌≡◌};
+ghost use Rattle.std.specs.Prelude.{◌≡◌, ◌<◌};
 ghost use Rattle.page_alloc.specs.Journal.{IsBy};
 
 use crate::steps::size_of;
@@ -97,6 +97,65 @@ fn count(owners: &[Option<u32>], first: u32) -> u32 {
     pages
 }
 
+/// A take of a random size, and the same of the plain body.
+fn take_some(
+    rt: &impl Abort,
+    pages: &mut Pages,
+    owners: &mut [Option<u32>],
+    backed: &mut [bool],
+    word: u32,
+) -> Result<(), Fail>
+    requires by { IsBy 0 pages.old.past }
+    requires region { pages.old.region ≡ 1536 }
+    ensures by { IsBy 0 pages.new.past }
+    ensures region { pages.new.region ≡ 1536 }
+{
+    pages.reserve_line()?;
+    let (n, class) = size_of(word);
+    let (first, _) = search(owners, n);
+    assert_eq!(rt; pages.find(n, &mut 0), first, "find {n}");
+    assert_eq!(rt; pages.take(0, n, class).ok(), first, "take {n}");
+    if let Some(page) = first {
+        fill(owners, Run { page, pages: n }, Some(page));
+        fill(backed, Run { page, pages: n }, true);
+    }
+    Ok(())
+}
+
+/// A give of the span that has a page, and the same of the plain body.
+fn give_one(
+    rt: &impl Abort,
+    pages: &mut Pages,
+    owners: &mut [Option<u32>],
+    page: u32,
+) -> Result<(), Fail>
+    requires by { IsBy 0 pages.old.past }
+    requires region { pages.old.region ≡ 1536 }
+    requires page { page < 1536 }
+    ensures by { IsBy 0 pages.new.past }
+    ensures region { pages.new.region ≡ 1536 }
+{
+    pages.reserve_line()?;
+    let first = pages.owner(page);
+    assert_eq!(rt;
+        Some(first),
+        owners.get(page as usize).copied(),
+        "owner of {page}"
+    );
+    if let Some(first) = first
+        && first < PAGES
+        && pages.owner(first) == Some(first)
+    {
+        let run = Run {
+            page: first,
+            pages: count(owners, first),
+        };
+        pages.give(0, first);
+        fill(owners, run, None);
+    }
+    Ok(())
+}
+
 /// One random call, and the same of the plain body.
 fn step(
     rt: &impl Abort,
@@ -110,48 +169,20 @@ fn step(
     ensures by { IsBy 0 pages.new.past }
     ensures region { pages.new.region ≡ 1536 }
 {
-    let page = word / 8 % PAGES;
-    pages.reserve_line()?;
     match word % 8 {
-        0..4 => {
-            let (n, class) = size_of(word / 8);
-            let (first, _) = search(owners, n);
-            assert_eq!(rt; pages.find(n, &mut 0), first, "find {n}");
-            assert_eq!(rt; pages.take(0, n, class).ok(), first, "take {n}");
-            if let Some(page) = first {
-                fill(owners, Run { page, pages: n }, Some(page));
-                fill(backed, Run { page, pages: n }, true);
-            }
-        }
-        4..7 => {
-            let first = pages.owner(page);
-            assert_eq!(rt;
-                Some(first),
-                owners.get(page as usize).copied(),
-                "owner of {page}"
-            );
-            if let Some(first) = first
-                && first < PAGES
-                && pages.owner(first) == Some(first)
-            {
-                let run = Run {
-                    page: first,
-                    pages: count(owners, first),
-                };
-                pages.give(0, first);
-                fill(owners, run, None);
-            }
-        }
+        0..4 => take_some(rt, pages, owners, backed, word / 8),
+        4..7 => give_one(rt, pages, owners, word / 8 % PAGES),
         _ => {
+            pages.reserve_line()?;
             let (top, count) = loose(owners, backed);
             let top = if count > GOAL { top } else { None };
             assert_eq!(rt; pages.scavenge(0), top, "scavenge");
             if let Some(run) = top {
                 fill(backed, run, false);
             }
+            Ok(())
         }
     }
-    Ok(())
 }
 
 #[test]
