@@ -44,7 +44,7 @@ answer-end (Missed m) (Missed n) s t fx fy e =
     let both = line-end m n s t fx fy (same_behind (codes " miss ") (decimal m ++ 10 ∷ s) (decimal n ++ 10 ∷ t) e) in
     (ap (λ (k : ℕ). Missed k) both.0, both.1)
 
-answer-form : (number rest behind : List ℕ) → ((codes "o " ++ (number ++ (rest ++ []))) ++ 10 ∷ []) ++ behind ≡ codes "o " ++ (number ++ (rest ++ 10 ∷ behind))
+pub answer-form : (number rest behind : List ℕ) → ((codes "o " ++ (number ++ (rest ++ []))) ++ 10 ∷ []) ++ behind ≡ codes "o " ++ (number ++ (rest ++ 10 ∷ behind))
 answer-form number rest behind = simp append_assoc
 
 -- ---- journal lines
@@ -116,7 +116,7 @@ journal-end x y s t fx fy e =
     let both = space-end (cycle_in x) (cycle_in y) (behind_cycle x s) (behind_cycle y t) (cycle_fits x fx) (cycle_fits y fy) (sym (line-form x s) ∙ e ∙ line-form y t) in
     behind-end x y s t fx fy both.0 both.1
 
-journal-form : (number rest behind : List ℕ) → ((codes "j " ++ (number ++ (codes " " ++ (rest ++ [])))) ++ 10 ∷ []) ++ behind ≡ codes "j " ++ (number ++ 32 ∷ (rest ++ 10 ∷ behind))
+pub journal-form : (number rest behind : List ℕ) → ((codes "j " ++ (number ++ (codes " " ++ (rest ++ [])))) ++ 10 ∷ []) ++ behind ≡ codes "j " ++ (number ++ 32 ∷ (rest ++ 10 ∷ behind))
 journal-form number rest behind = simp append_assoc
 
 -- ---- sweeps, totals, buckets

@@ -1,2 +1,7 @@
 pub mod Sent
 pub mod Unique
+pub mod Items
+pub mod Words
+pub mod Refusal
+pub mod Gathered
+pub mod Read

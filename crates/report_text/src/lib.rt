@@ -1,11 +1,19 @@
-//! The text of a report: its one writer, and the law that a text is of at most one report.
+//! The text of a report, both ways: its one writer, its reader, and the law that a text is of at most one report.
 #![tactic(auto)]
 
+mod fault;
+mod item;
 mod laws;
 mod lines;
+mod order;
+mod parse;
+mod reader;
 #[cfg(test)]
 mod tests;
+mod words;
 mod write;
 
+pub use fault::ReportFault;
 pub use laws::text_of_one_report;
+pub use reader::read_report;
 pub use write::write_report;

@@ -11,7 +11,7 @@ mod reader;
 mod spelling;
 mod statement;
 mod trace;
-mod words;
+pub mod words;
 
 pub use fault::{TraceFault, Which};
 pub use laws::{

@@ -10,7 +10,7 @@ const NINETEEN_DIGITS: u64 = 1_000_000_000_000_000_000;
 const TWENTY_DIGITS: u128 = 10_000_000_000_000_000_000;
 
 /// What follows the text at the front.
-pub(crate) fn after<'a>(bytes: &'a [u8], text: &[u8]) -> Option<&'a [u8]>
+pub fn after<'a>(bytes: &'a [u8], text: &[u8]) -> Option<&'a [u8]>
     ensures { MatchOption result ((rest : List ℕ) → bytes.now ≢ text.now ++ rest) (λ rest. bytes.now ≡ text.now ++ rest.now) }
 {
     bytes.strip_prefix(text)
@@ -26,7 +26,7 @@ pub(crate) fn field<'a>(bytes: &'a [u8], text: &[u8]) -> Option<(u128, &'a [u8])
 }
 
 /// The number at the front, and what follows it. A number is 0, or up to 20 digits that don't begin with 0.
-pub(crate) fn number(bytes: &[u8]) -> Option<(u128, &[u8])>
+pub fn number(bytes: &[u8]) -> Option<(u128, &[u8])>
     ensures { MatchOption result
         ((n : ℕ) (rest : List ℕ) → ¬ IsField [] bytes.now n rest)
         (λ found. IsField [] bytes.now found.0 found.1.now) }

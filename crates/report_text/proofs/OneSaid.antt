@@ -1,0 +1,128 @@
+-- A line says one thing, and is one line.
+use Rattle.std.proofs.Common.{◌≡◌, ◌≢◌, ◌==◌, not, Bool, true, false, ℕ, ◌+◌, ◌^◌, ◌<◌, ◌≤◌, List, [], ◌∷◌, ◌++◌, codes, decimal, drop, length, refl, sym, ap, ap₂, ◌∙◌, subst, arith, length-append}
+use Rattle.std.specs.List.{AllByRecursion, list_all}
+use Rattle.std.specs.Fmt.{digits}
+use Rattle.std.specs.Char.{digit_value}
+use Rattle.std.specs.Str.Parse.{AllDigits}
+use Rattle.std.proofs.lemmas.Fmt.{digits_is_IsNumeral, length-decimal-le}
+use Rattle.edge_io.specs.Line.{HasNoFeed, IsLine}
+use Rattle.page_bitmap.specs.declared.line.Line.{Line}
+use Rattle.page_bitmap.specs.declared.line.Line.TheVariants.{Take, Miss, Give, Scav}
+use Rattle.cycle_history.specs.declared.Answer.{Answer}
+use Rattle.cycle_history.specs.declared.Answer.TheVariants.{Placed, Zero, Missed}
+use Rattle.cycle_history.specs.Text.{answer_line, answer_text, journal_line, journal_text}
+use Rattle.trace_reader.specs.Words.{IsDigit}
+use Rattle.trace_reader.proofs.Digits.{digits_decimal}
+use Rattle.trace_reader.proofs.Reading.{All-append}
+use Rattle.trace_reader.proofs.Saying.{AllByRecursion-map}
+use Rattle.report_text.specs.declared.item.Item.{Item}
+use Rattle.report_text.specs.declared.item.Item.TheVariants.{Object, Journal, Sweep, Class, Bucket, End}
+use Rattle.report_text.specs.Items.{ItemFits, Says, line_for}
+use Rattle.report_text.specs.Unique.{AnswerFits, LineFits}
+use Rattle.report_text.proofs.Fields.{first_same, same_behind, space-end}
+use Rattle.report_text.proofs.OneItem.{answer-form, journal-form, answers_kind, journal_kind, sweeps_kind, totals_kind, profile_kind}
+
+-- ---- one thing
+
+letter : Item → ℕ
+letter (Object n answer) = 111
+letter (Journal n line) = 106
+letter (Sweep note) = 115
+letter (Class total) = 116
+letter (Bucket prof) = 112
+letter End = 101
+
+begins : (x : Item) → (rest : List ℕ) × (line_for x ≡ letter x ∷ rest)
+unfolding letter
+begins (Object n answer) = (drop 1 (line_for (Object n answer)), refl)
+begins (Journal n line) = (drop 1 (line_for (Journal n line)), refl)
+begins (Sweep note) = (drop 1 (line_for (Sweep note)), refl)
+begins (Class total) = (drop 1 (line_for (Class total)), refl)
+begins (Bucket prof) = (drop 1 (line_for (Bucket prof)), refl)
+begins End = (codes "nd", refl)
+
+same_letter : (x y : Item) (s t : List ℕ) → (line_for x ++ 10 ∷ []) ++ s ≡ (line_for y ++ 10 ∷ []) ++ t → letter x ≡ letter y
+same_letter x y s t e = first_same (letter x) (letter y) _ _ (sym (ap (λ (l : List ℕ). (l ++ 10 ∷ []) ++ s) (begins x).1) ∙ e ∙ ap (λ (l : List ℕ). (l ++ 10 ∷ []) ++ t) (begins y).1)
+
+blank_first : (answer : Answer) → (rest : List ℕ) × (answer_text answer ≡ 32 ∷ rest)
+blank_first (Placed address) = (drop 1 (answer_text (Placed address)), refl)
+blank_first Zero = (codes "zero", refl)
+blank_first (Missed number) = (drop 1 (answer_text (Missed number)), refl)
+
+object_number : (m n : ℕ) (a b : Answer) (s t : List ℕ) → m < 2 ^ 64 → n < 2 ^ 64 → (answer_line m a ++ 10 ∷ []) ++ s ≡ (answer_line n b ++ 10 ∷ []) ++ t → m ≡ n
+object_number m n a b s t fm fn e =
+    let split = sym (answer-form (decimal m) (answer_text a) s) ∙ e ∙ answer-form (decimal n) (answer_text b) t in
+    let behind = same_behind (codes "o ") (decimal m ++ (answer_text a ++ 10 ∷ s)) (decimal n ++ (answer_text b ++ 10 ∷ t)) split in
+    let left = blank_first a in
+    let right = blank_first b in
+    (space-end m n (left.0 ++ 10 ∷ s) (right.0 ++ 10 ∷ t) fm fn
+    (sym (ap (λ (l : List ℕ). decimal m ++ (l ++ 10 ∷ s)) left.1) ∙ behind ∙ ap (λ (l : List ℕ). decimal n ++ (l ++ 10 ∷ t)) right.1)).0
+
+journal_number : (m n : ℕ) (a b : Line) (s t : List ℕ) → m < 2 ^ 64 → n < 2 ^ 64 → (journal_line m a ++ 10 ∷ []) ++ s ≡ (journal_line n b ++ 10 ∷ []) ++ t → m ≡ n
+journal_number m n a b s t fm fn e =
+    let split = sym (journal-form (decimal m) (journal_text a) s) ∙ e ∙ journal-form (decimal n) (journal_text b) t in
+    (space-end m n _ _ fm fn (same_behind (codes "j ") _ _ split)).0
+
+-- what two texts begin with
+pub one_item : (x y : Item) (s t : List ℕ) → ItemFits x → ItemFits y → (line_for x ++ 10 ∷ []) ++ s ≡ (line_for y ++ 10 ∷ []) ++ t → (x ≡ y) × (s ≡ t)
+unfolding letter
+one_item (Object m a) (Object n b) s t fx fy e =
+    let number = object_number m n a b s t fx.0 fy.0 e in
+    let both = answers_kind.one n a b s t fx.1 fy.1 (subst (λ (k : ℕ). (answer_line k a ++ 10 ∷ []) ++ s ≡ (answer_line n b ++ 10 ∷ []) ++ t) number e) in
+    (ap₂ Object number both.0, both.1)
+one_item (Journal m a) (Journal n b) s t fx fy e =
+    let number = journal_number m n a b s t fx.0 fy.0 e in
+    let both = journal_kind.one n a b s t fx.1 fy.1 (subst (λ (k : ℕ). (journal_line k a ++ 10 ∷ []) ++ s ≡ (journal_line n b ++ 10 ∷ []) ++ t) number e) in
+    (ap₂ Journal number both.0, both.1)
+one_item (Sweep a) (Sweep b) s t fx fy e = let both = sweeps_kind.one 0 a b s t fx fy e in (ap Sweep both.0, both.1)
+one_item (Class a) (Class b) s t fx fy e = let both = totals_kind.one 0 a b s t fx fy e in (ap Class both.0, both.1)
+one_item (Bucket a) (Bucket b) s t fx fy e = let both = profile_kind.one 0 a b s t fx fy e in (ap Bucket both.0, both.1)
+one_item End End s t fx fy e = (refl, same_behind (codes "end\n") s t e)
+one_item x y s t fx fy e = absurd (let apart = same_letter x y s t e in omega arith)
+
+pub one_said : (line : List ℕ) (x y : Item) → Says line x → Says line y → x ≡ y
+one_said line x y left right = (one_item x y [] [] left.1 right.1 (ap (λ (l : List ℕ). (l ++ 10 ∷ []) ++ []) (sym left.0 ∙ right.0))).0
+
+-- ---- one line
+
+-- at most so many bytes, none of them a line feed
+abbrev IsShort : ℕ → List ℕ → Type 0
+IsShort most bytes = (length bytes ≤ most) × HasNoFeed bytes
+
+join : (j k : ℕ) (xs ys : List ℕ) → IsShort j xs → IsShort k ys → IsShort (j + k) (xs ++ ys)
+join j k xs ys left right =
+    let whole = length-append xs ys in
+    let first = left.0 in
+    let then = right.0 in
+    (omega arith, All-append (λ b. b ≢ 10) xs ys left.1 right.1)
+
+number_short : (n : ℕ) → n < 2 ^ 64 → IsShort 20 (decimal n)
+number_short n small = (length-decimal-le 20 n (omega arith) (omega arith) small, AllByRecursion-map IsDigit (λ b. b ≢ 10) (λ b digit e. omega (arith, digit.0, e)) (decimal n) (digits_decimal n (omega arith)))
+
+apart_test : (xs : List ℕ) → list_all (λ b. not (b == 10)) xs ≡ true → HasNoFeed xs
+apart_test [] test = tt
+apart_test (x ∷ xs) test = at (x == 10) refl test where
+  ten : (b : ℕ) → (b == 10) ≡ false → b ≢ 10
+  ten b e same = (let clash : (10 == 10) ≡ false = subst (λ (c : ℕ). (c == 10) ≡ false) same e in absurd cc)
+
+  at : (b : Bool) → (x == 10) ≡ b → list_all (λ b. not (b == 10)) (x ∷ xs) ≡ true → HasNoFeed (x ∷ xs)
+  at true is test = absurd (let no : false ≡ true = sym (rw is refl) ∙ test in cc)
+  at false is test = (ten x is, apart_test xs (sym (rw is refl) ∙ test))
+
+nothing : IsShort 0 []
+nothing = (omega arith, tt)
+
+field : (text rest : List ℕ) (n k : ℕ) → list_all (λ b. not (b == 10)) text ≡ true → n < 2 ^ 64 → IsShort k rest → IsShort (length text + (20 + k)) (text ++ (decimal n ++ rest))
+field text rest n k test small short = join (length text) (20 + k) text (decimal n ++ rest) (omega arith, apart_test text test) (join 20 k (decimal n) rest (number_short n small) short)
+
+longer : (j k : ℕ) (xs : List ℕ) → j ≤ k → IsShort j xs → IsShort k xs
+longer j k xs le short = let few = short.0 in (omega arith, short.1)
+
+hex_apart : (xs : List ℕ) → AllDigits 16 xs → HasNoFeed xs
+hex_apart [] all = tt
+hex_apart (x ∷ xs) all = (λ e. high (subst (λ (c : ℕ). digit_value c < 16) e all.0), hex_apart xs all.1) where
+  high : 36 < 16 → ⊥
+  high less = absurd (omega arith)
+
+address_short : (n : ℕ) → n < 2 ^ 64 → IsShort 64 (digits 16 false n)
+address_short n small = (length_hex n, hex_apart (digits 16 false n) (digits_is_IsNumeral 16 false (omega arith) (omega arith) n (omega arith)).0.1)
