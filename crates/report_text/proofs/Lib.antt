@@ -5,3 +5,8 @@ pub mod OneItem
 pub mod Unique
 pub mod Numbers
 pub mod Forms
+pub mod OneSaid
+pub mod Turns
+pub mod Stage
+pub mod Refused
+pub mod Reading

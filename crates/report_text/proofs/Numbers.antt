@@ -14,7 +14,7 @@ use Rattle.report_text.proofs.Fields.{space-end}
 
 -- ---- numbers at the front
 
-abbrev Within : ℕ → Type 0
+abbrev pub Within : ℕ → Type 0
 Within bound = bound ≤ 2 ^ 64
 
 head_field : (bound n : ℕ) (bytes rest : List ℕ) → Within bound → IsHead bound bytes n rest → IsField [] bytes n (32 ∷ rest)

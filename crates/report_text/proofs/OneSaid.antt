@@ -1,7 +1,7 @@
 -- A line says one thing, and is one line.
-use Rattle.std.proofs.Common.{◌≡◌, ◌≢◌, ◌==◌, not, Bool, true, false, ℕ, ◌+◌, ◌^◌, ◌<◌, ◌≤◌, List, [], ◌∷◌, ◌++◌, codes, decimal, drop, length, refl, sym, ap, ap₂, ◌∙◌, subst, arith, length-append}
+use Rattle.std.proofs.Common.{◌≡◌, ◌≢◌, ◌==◌, not, ◌&&◌, cond, eqb, Bool, true, false, ℕ, zero, suc, ◌+◌, ◌/◌, ◌%◌, ◌^◌, ◌<◌, ◌≤◌, List, [], ◌∷◌, ◌++◌, codes, decimal, drop, length, refl, sym, ap, ap₂, ◌∙◌, subst, arith, length-append}
 use Rattle.std.specs.List.{AllByRecursion, list_all}
-use Rattle.std.specs.Fmt.{digits}
+use Rattle.std.specs.Fmt.{digit_glyph, digits, digits_onto}
 use Rattle.std.specs.Char.{digit_value}
 use Rattle.std.specs.Str.Parse.{AllDigits}
 use Rattle.std.proofs.lemmas.Fmt.{digits_is_IsNumeral, length-decimal-le}
@@ -99,15 +99,15 @@ join j k xs ys left right =
 number_short : (n : ℕ) → n < 2 ^ 64 → IsShort 20 (decimal n)
 number_short n small = (length-decimal-le 20 n (omega arith) (omega arith) small, AllByRecursion-map IsDigit (λ b. b ≢ 10) (λ b digit e. omega (arith, digit.0, e)) (decimal n) (digits_decimal n (omega arith)))
 
+not_ten : (b : ℕ) → (b == 10) ≡ false → b ≢ 10
+not_ten b e same = (let clash : (10 == 10) ≡ false = subst (λ (c : ℕ). (c == 10) ≡ false) same e in absurd cc)
+
 apart_test : (xs : List ℕ) → list_all (λ b. not (b == 10)) xs ≡ true → HasNoFeed xs
 apart_test [] test = tt
-apart_test (x ∷ xs) test = at (x == 10) refl test where
-  ten : (b : ℕ) → (b == 10) ≡ false → b ≢ 10
-  ten b e same = (let clash : (10 == 10) ≡ false = subst (λ (c : ℕ). (c == 10) ≡ false) same e in absurd cc)
-
-  at : (b : Bool) → (x == 10) ≡ b → list_all (λ b. not (b == 10)) (x ∷ xs) ≡ true → HasNoFeed (x ∷ xs)
-  at true is test = absurd (let no : false ≡ true = sym (rw is refl) ∙ test in cc)
-  at false is test = (ten x is, apart_test xs (sym (rw is refl) ∙ test))
+apart_test (x ∷ xs) test = at (x == 10) refl test (apart_test xs) where
+  at : (b : Bool) → (x == 10) ≡ b → not b && list_all (λ b. not (b == 10)) xs ≡ true → (list_all (λ b. not (b == 10)) xs ≡ true → HasNoFeed xs) → HasNoFeed (x ∷ xs)
+  at true is test more = absurd cc
+  at false is test more = (not_ten x is, more test)
 
 nothing : IsShort 0 []
 nothing = (omega arith, tt)
@@ -124,5 +124,53 @@ hex_apart (x ∷ xs) all = (λ e. high (subst (λ (c : ℕ). digit_value c < 16)
   high : 36 < 16 → ⊥
   high less = absurd (omega arith)
 
+length_onto : (fuel n : ℕ) (acc : List ℕ) → length (digits_onto fuel 16 false n acc) ≤ fuel + length acc
+length_onto zero n acc = omega arith
+length_onto (suc k) n acc = at (eqb (n / 16) 0) (length_onto k (n / 16) (digit_glyph false (n % 16) ∷ acc)) where
+  at : (b : Bool) → length (digits_onto k 16 false (n / 16) (digit_glyph false (n % 16) ∷ acc)) ≤ k + length (digit_glyph false (n % 16) ∷ acc)
+      → length (cond b (digit_glyph false (n % 16) ∷ acc) (digits_onto k 16 false (n / 16) (digit_glyph false (n % 16) ∷ acc))) ≤ suc k + length acc
+  at true more = omega arith
+  at false more = omega arith
+
+length_hex : (n : ℕ) → length (digits 16 false n) ≤ 64
+unfolding digits
+length_hex n = length_onto 64 n []
+
 address_short : (n : ℕ) → n < 2 ^ 64 → IsShort 64 (digits 16 false n)
 address_short n small = (length_hex n, hex_apart (digits 16 false n) (digits_is_IsNumeral 16 false (omega arith) (omega arith) n (omega arith)).0.1)
+
+text_short : (text : List ℕ) → list_all (λ b. not (b == 10)) text ≡ true → IsShort (length text) text
+text_short text test = (omega arith, apart_test text test)
+
+answer_short : (answer : Answer) → AnswerFits answer → IsShort 67 (answer_text answer)
+answer_short (Placed address) fits = join 3 64 (codes " 0x") (digits 16 false address) (text_short (codes " 0x") refl) (address_short address fits)
+answer_short Zero fits = longer 5 67 (codes " zero") (omega arith) (text_short (codes " zero") refl)
+answer_short (Missed number) fits = longer 26 67 (answer_text (Missed number)) (omega arith) (join 6 20 (codes " miss ") (decimal number) (text_short (codes " miss ") refl) (number_short number fits))
+
+change_short : (change : Line) → LineFits change → IsShort 88 (journal_text change)
+change_short (Take cycle page pages class) fits =
+    field [] _ cycle _ refl (omega (arith, fits.0)) (field (codes " take ") _ page _ refl (omega (arith, fits.1)) (field (codes " ") _ pages _ refl (omega (arith, fits.2)) (field (codes " ") [] class 0 refl (omega (arith, fits.3)) nothing)))
+change_short (Miss cycle pages class) fits =
+    longer 67 88 (journal_text (Miss cycle pages class)) (omega arith)
+    (field [] _ cycle _ refl (omega (arith, fits.0)) (field (codes " miss ") _ pages _ refl (omega (arith, fits.1)) (field (codes " ") [] class 0 refl (omega (arith, fits.2)) nothing)))
+change_short (Give cycle page pages) fits =
+    longer 67 88 (journal_text (Give cycle page pages)) (omega arith)
+    (field [] _ cycle _ refl (omega (arith, fits.0)) (field (codes " give ") _ page _ refl (omega (arith, fits.1)) (field (codes " ") [] pages 0 refl (omega (arith, fits.2)) nothing)))
+change_short (Scav cycle page pages) fits =
+    longer 67 88 (journal_text (Scav cycle page pages)) (omega arith)
+    (field [] _ cycle _ refl (omega (arith, fits.0)) (field (codes " scav ") _ page _ refl (omega (arith, fits.1)) (field (codes " ") [] pages 0 refl (omega (arith, fits.2)) nothing)))
+
+pub item_is_line : (x : Item) → ItemFits x → IsLine (line_for x)
+item_is_line (Object n answer) fits =
+    longer 89 120 (line_for (Object n answer)) (omega arith) (field (codes "o ") _ n 67 refl fits.0 (join 67 0 (answer_text answer) [] (answer_short answer fits.1) nothing))
+item_is_line (Journal n change) fits =
+    longer 111 120 (line_for (Journal n change)) (omega arith) (field (codes "j ") _ n 89 refl fits.0 (join 1 88 (codes " ") (journal_text change ++ []) (text_short (codes " ") refl) (join 88 0 (journal_text change) [] (change_short change fits.1) nothing)))
+item_is_line (Sweep note) fits =
+    longer 85 120 (line_for (Sweep note)) (omega arith) (field (codes "s ") _ note.cycle _ refl (omega (arith, fits.cycle)) (field (codes " ") _ note.page _ refl (omega (arith, fits.page))
+    (field (codes " ") _ note.kept _ refl (omega (arith, fits.kept)) (field (codes " ") [] note.freed 0 refl (omega (arith, fits.freed)) nothing))))
+item_is_line (Class total) fits =
+    longer 64 120 (line_for (Class total)) (omega arith) (field (codes "t ") _ total.class _ refl (omega (arith, fits.class)) (field (codes " ") _ total.mallocs _ refl fits.mallocs (field (codes " ") [] total.frees 0 refl fits.frees nothing)))
+item_is_line (Bucket prof) fits =
+    longer 106 120 (line_for (Bucket prof)) (omega arith) (field (codes "p ") _ prof.mark _ refl (omega (arith, fits.mark)) (field (codes " ") _ prof.stack _ refl (omega (arith, fits.stack)) (field (codes " ") _ prof.size _ refl fits.size
+    (field (codes " ") _ prof.allocs _ refl fits.allocs (field (codes " ") [] prof.frees 0 refl fits.frees nothing)))))
+item_is_line End fits = longer 3 120 (codes "end") (omega arith) (text_short (codes "end") refl)

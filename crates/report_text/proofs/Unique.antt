@@ -43,19 +43,19 @@ other_kind line Fits own letter kind other n (x ∷ xs) behind not_behind s e =
 
 -- ---- all lists
 
-abbrev from_end : List (List ℕ)
+abbrev pub from_end : List (List ℕ)
 from_end = codes "end" ∷ []
 
-abbrev from_profile : Report → List (List ℕ)
+abbrev pub from_profile : Report → List (List ℕ)
 from_profile r = numbered (λ _ prof. profile_line prof) 0 r.profile ++ from_end
 
-abbrev from_totals : Report → List (List ℕ)
+abbrev pub from_totals : Report → List (List ℕ)
 from_totals r = numbered (λ _ total. total_line total) 0 r.totals ++ from_profile r
 
-abbrev from_sweeps : Report → List (List ℕ)
+abbrev pub from_sweeps : Report → List (List ℕ)
 from_sweeps r = numbered (λ _ note. sweep_line note) 0 r.sweeps ++ from_totals r
 
-abbrev from_journal : Report → List (List ℕ)
+abbrev pub from_journal : Report → List (List ℕ)
 from_journal r = numbered journal_line 0 r.journal ++ from_sweeps r
 
 end_not : (letter : ℕ) → (101 ≡ letter → ⊥) → BeginsNot letter (text from_end)
@@ -86,7 +86,7 @@ totals_end r = profile_not r 116 (λ e. omega (arith, e)) (λ e. omega (arith, e
 profile_end : BeginsNot 112 (text from_end)
 profile_end = end_not 112 (λ e. omega (arith, e))
 
-all_numbered : (r : Report) → report_text r ≡ text (numbered answer_line 0 r.answers ++ from_journal r)
+pub all_numbered : (r : Report) → report_text r ≡ text (numbered answer_line 0 r.answers ++ from_journal r)
 all_numbered r = rw (numbered_plain sweep_line 0 r.sweeps, numbered_plain total_line 0 r.totals, numbered_plain profile_line 0 r.profile) refl
 
 abbrev made_report : List Answer → List Line → List SweepNote → List Total → List Prof → Report
