@@ -10,3 +10,4 @@ pub mod Turns
 pub mod Stage
 pub mod Refused
 pub mod Reading
+pub mod Begun

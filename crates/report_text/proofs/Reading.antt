@@ -76,7 +76,7 @@ read_nothing left a xs none = subst (HasRead left a a) (sym none) (record {
   lines = tt;
 })
 
-told-append : (xs ys : List Item) → told (xs ++ ys) ≡ told xs ++ told ys
+pub told-append : (xs ys : List Item) → told (xs ++ ys) ≡ told xs ++ told ys
 told-append [] ys = refl
 told-append (x ∷ xs) ys = ap (λ (t : List ℕ). (line_for x ++ 10 ∷ []) ++ t) (told-append xs ys) ∙ sym (append_assoc (line_for x ++ 10 ∷ []) (told xs) (told ys))
 

@@ -15,6 +15,7 @@ use Rattle.report_text.specs.declared.fault.ReportFault.{ReportFault}
 use Rattle.report_text.specs.declared.fault.ReportFault.TheVariants.{ReadFault, Malformed, Truncated, Limit, NoMemory}
 use Rattle.report_text.specs.Items.{AreInTurn, IsNext, ItemFits, MayFollow, last_of, line_for, rank}
 use Rattle.report_text.specs.Refusal.{IsCut, IsLong, IsMalformed, IsOffence, IsOther, IsOver, IsRefusal, number_behind, told}
+use Rattle.report_text.specs.Laws.{IsNotRefused, IsOneRefusal}
 use Rattle.report_text.specs.Read.{IsAhead, IsOfReport, IsText, Reads, Refuses}
 use Rattle.report_text.proofs.OneSaid.{item_is_line, one_item}
 use Rattle.report_text.proofs.Turns.{body, last_of_more, told_text, whole_in_turn}
@@ -42,7 +43,7 @@ line_ends (l ∷ ls) (z ∷ zs) s t clear apart e =
 
 -- ---- offences
 
-none_behind_end : (x : Item) → MayFollow (Some End) x → ⊥
+pub none_behind_end : (x : Item) → MayFollow (Some End) x → ⊥
 none_behind_end x m = elim m [ inl next ↦ at x next | inr less ↦ (let l = less.0 in let low = top x in absurd (omega arith)) ] where
   at : (x : Item) → IsNext End x → ⊥
   at (Object n a) next = next
@@ -127,13 +128,88 @@ not_refused number room before (x ∷ xs) (y ∷ ys) s fault tx ty end e fits of
     not_refused number (room - length (line_for x ++ 10 ∷ [])) (Some x) xs ys s fault tx.2 turn last both.1 (omega arith)
     (subst (λ (k : ℕ). IsOffence number k (last_of (Some x) xs) s fault) left offence)
 
-pub text_not_refused : (number room : ℕ) (bytes : List ℕ) (r : Report) (fault : ReportFault) → IsText bytes r → length bytes ≤ room → length bytes < 2 ^ 64 → ¬ IsRefusal number room bytes fault
+text_not_refused : (number room : ℕ) (bytes : List ℕ) (r : Report) (fault : ReportFault) → IsText bytes r → length bytes ≤ room → length bytes < 2 ^ 64 → ¬ IsRefusal number room bytes fault
 text_not_refused number room bytes r fault text fits small refusal =
     let same = ap length text.text in
     let whole : bytes ≡ told (body r ++ End ∷ []) = text.text ∙ sym (told_text r) in
     let len = ap length whole in
     not_refused (number_behind number (length refusal.items)) room None refusal.items (body r ++ End ∷ []) refusal.rest fault refusal.in_turn
     (whole_in_turn r text.fits text.sweeps text.totals text.profile (omega arith)) (last_of_more None (body r) End) (sym refusal.split ∙ whole) (omega arith) refusal.offence
+
+pub not_refused_law : IsNotRefused
+not_refused_law number room bytes report fault text fits small = text_not_refused number room bytes report fault text fits (omega arith)
+
+-- ---- one refusal
+
+malformed_truncated : (number room : ℕ) (before : Option Item) (rest : List ℕ) → IsMalformed room before rest → before ≢ Some End → IsCut room rest → ⊥
+malformed_truncated number room before rest malformed open_ cut = elim malformed [
+  | inl behind ↦ open_ behind.0
+  | inr instead ↦ elim instead.1 [
+    | inl long ↦ (let len = ap length long.3 ∙ length-append long.0 (long.1 ∷ long.2) in let full = long.5 in let short = cut.0.0 in absurd (omega arith))
+    | inr other ↦ clear_feed other.0 other.1 (subst HasNoFeed other.2 cut.0.1)
+  ]
+]
+
+malformed_over : (number room : ℕ) (before : Option Item) (rest : List ℕ) → IsMalformed room before rest → before ≢ Some End → IsOver room rest → ⊥
+malformed_over number room before rest malformed open_ over = elim malformed [
+  | inl behind ↦ open_ behind.0
+  | inr instead ↦ elim instead.1 [
+    | inl long ↦ (let full = over.5 in let short = over.4.0 in let more = long.7 in absurd (omega arith))
+    | inr other ↦ (let beyond = feed_beyond over.0 other.0 (over.1 ∷ over.2) other.1 over.4.1 (sym over.3 ∙ other.2) in let full = over.5 in let less = other.4 in absurd (omega arith))
+  ]
+]
+
+cut_over : (room : ℕ) (rest : List ℕ) → IsCut room rest → IsOver room rest → ⊥
+cut_over room rest cut over = let len = ap length over.3 ∙ length-append over.0 (over.1 ∷ over.2) in let full = over.5 in let short = cut.1 in absurd (omega arith)
+
+one_offence : (number room : ℕ) (before : Option Item) (rest : List ℕ) (f g : ReportFault) → IsOffence number room before rest f → IsOffence number room before rest g → f ≡ g
+one_offence number room before rest (Malformed m) (Malformed n) left right = ap Malformed (left.0 ∙ sym right.0)
+one_offence number room before rest (Malformed m) (Truncated n) left right = absurd (malformed_truncated number room before rest left.1 right.1 right.2)
+one_offence number room before rest (Malformed m) (Limit n) left right = absurd (malformed_over number room before rest left.1 right.1 right.2)
+one_offence number room before rest (Truncated m) (Malformed n) left right = absurd (malformed_truncated number room before rest right.1 left.1 left.2)
+one_offence number room before rest (Truncated m) (Truncated n) left right = ap Truncated (left.0 ∙ sym right.0)
+one_offence number room before rest (Truncated m) (Limit n) left right = absurd (cut_over room rest left.2 right.2)
+one_offence number room before rest (Limit m) (Malformed n) left right = absurd (malformed_over number room before rest right.1 left.1 left.2)
+one_offence number room before rest (Limit m) (Truncated n) left right = absurd (cut_over room rest right.2 left.2)
+one_offence number room before rest (Limit m) (Limit n) left right = ap Limit (left.0 ∙ sym right.0)
+one_offence number room before rest ReadFault g left right = absurd left
+one_offence number room before rest NoMemory g left right = absurd left
+one_offence number room before rest f ReadFault left right = absurd right
+one_offence number room before rest f NoMemory left right = absurd right
+
+-- a line in turn within the limit does not offend
+no_first : (number room : ℕ) (before : Option Item) (y : Item) (ys : List Item) (s t : List ℕ) (fault : ReportFault) → AreInTurn before (y ∷ ys) → s ≡ told (y ∷ ys) ++ t → length (told (y ∷ ys)) ≤ room → IsOffence number (room - 0) before s fault → ⊥
+no_first number room before y ys s t fault turn e fits offence =
+    let split : s ≡ line_for y ++ 10 ∷ (told ys ++ t) = e ∙ append_assoc (line_for y ++ 10 ∷ []) (told ys) t ∙ append_assoc (line_for y) (10 ∷ []) (told ys ++ t) in
+    let one = length-append (line_for y) (10 ∷ []) in
+    let all = length-append (line_for y ++ 10 ∷ []) (told ys) in
+    no_offence number (room - 0) before y (told ys ++ t) s fault turn.0 turn.1 (omega arith) split offence
+
+one_behind : (number room : ℕ) (before : Option Item) (xs ys : List Item) (s t : List ℕ) (f g : ReportFault) → AreInTurn before xs → AreInTurn before ys → told xs ++ s ≡ told ys ++ t → length (told xs) ≤ room → length (told ys) ≤ room
+    → IsOffence (number_behind number (length xs)) (room - length (told xs)) (last_of before xs) s f → IsOffence (number_behind number (length ys)) (room - length (told ys)) (last_of before ys) t g → f ≡ g
+one_behind number room before [] [] s t f g tx ty e fx fy left right = one_offence (number_behind number 0) (room - 0) before t f g (subst (λ (r : List ℕ). IsOffence (number_behind number 0) (room - 0) before r f) e left) right
+one_behind number room before [] (y ∷ ys) s t f g tx ty e fx fy left right = absurd (no_first (number_behind number 0) room before y ys s t f ty e fy left)
+one_behind number room before (x ∷ xs) [] s t f g tx ty e fx fy left right = absurd (no_first (number_behind number 0) room before x xs t s g tx (sym e) fx right)
+one_behind number room before (x ∷ xs) (y ∷ ys) s t f g tx ty e fx fy left right =
+    let both = one_item x y (told xs ++ s) (told ys ++ t) tx.0 ty.0 (sym (append_assoc (line_for x ++ 10 ∷ []) (told xs) s) ∙ e ∙ append_assoc (line_for y ++ 10 ∷ []) (told ys) t) in
+    let turn : AreInTurn (Some x) ys = subst (λ (z : Item). AreInTurn (Some z) ys) (sym both.0) ty.2 in
+    let all_x = length-append (line_for x ++ 10 ∷ []) (told xs) in
+    let all_y = length-append (line_for y ++ 10 ∷ []) (told ys) in
+    let same = ap (λ (z : Item). length (line_for z ++ 10 ∷ [])) both.0 in
+    let less = room - length (line_for x ++ 10 ∷ []) in
+    let room_x : room - length (told (x ∷ xs)) ≡ less - length (told xs) = omega arith in
+    let room_y : room - length (told (y ∷ ys)) ≡ less - length (told ys) = omega arith in
+    let number_x : number_behind number (length (x ∷ xs)) ≡ number_behind (number + 1) (length xs) = omega arith in
+    let number_y : number_behind number (length (y ∷ ys)) ≡ number_behind (number + 1) (length ys) = omega arith in
+    one_behind (number + 1) less (Some x) xs ys s t f g tx.2 turn both.1 (omega arith) (omega arith)
+    (moved (last_of (Some x) xs) s f number_x room_x left)
+    (subst (λ (z : Item). IsOffence (number_behind (number + 1) (length ys)) (less - length (told ys)) (last_of (Some z) ys) t g) (sym both.0) (moved (last_of (Some y) ys) t g number_y room_y right)) where
+      moved : (o : Option Item) (r : List ℕ) (h : ReportFault) {m n j k : ℕ} → m ≡ n → j ≡ k → IsOffence m j o r h → IsOffence n k o r h
+      moved o r h {m} {n} {j} {k} same_number same_room offence = subst (λ (i : ℕ). IsOffence n i o r h) same_room (subst (λ (i : ℕ). IsOffence i j o r h) same_number offence)
+
+pub one_refusal : IsOneRefusal
+one_refusal number room bytes f g left right =
+    one_behind number room None left.items right.items left.rest right.rest f g left.in_turn right.in_turn (sym left.split ∙ right.split) left.within right.within left.offence right.offence
 
 -- ---- reading it
 

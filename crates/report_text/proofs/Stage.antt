@@ -211,9 +211,13 @@ stage_more before r (Object n a) stage fits m low =
     let number = answers_number before r n a stage m in
     let count = length_more r.answers a in
     record {
-      in_turn = turn.0; last = turn.1; open_ = low;
+      in_turn = turn.0;
+      last = turn.1;
+      open_ = low;
       fits = record { answers = AllByRecursion-push AnswerFits r.answers a f.answers fits.1; journal = f.journal; sweeps = f.sweeps; totals = f.totals; profile = f.profile };
-      sweeps = stage.sweeps; totals = stage.totals; profile = stage.profile;
+      sweeps = stage.sweeps;
+      totals = stage.totals;
+      profile = stage.profile;
       no_answers = λ less. absurd (omega arith);
       no_journal = λ less. stage.no_journal (omega arith);
       no_sweeps = λ less. stage.no_sweeps (omega arith);
@@ -228,9 +232,13 @@ stage_more before r (Journal n l) stage fits m low =
     let number = journal_number before r n l stage m in
     let count = length_more r.journal l in
     record {
-      in_turn = turn.0; last = turn.1; open_ = low;
+      in_turn = turn.0;
+      last = turn.1;
+      open_ = low;
       fits = record { answers = f.answers; journal = AllByRecursion-push LineFits r.journal l f.journal fits.1; sweeps = f.sweeps; totals = f.totals; profile = f.profile };
-      sweeps = stage.sweeps; totals = stage.totals; profile = stage.profile;
+      sweeps = stage.sweeps;
+      totals = stage.totals;
+      profile = stage.profile;
       no_answers = λ less. absurd (omega arith);
       no_journal = λ less. absurd (omega arith);
       no_sweeps = λ less. stage.no_sweeps (omega arith);
@@ -244,9 +252,13 @@ stage_more before r (Sweep s) stage fits m low =
     let f = stage.fits in
     let all = sweeps_before before r s stage m in
     record {
-      in_turn = turn.0; last = turn.1; open_ = low;
+      in_turn = turn.0;
+      last = turn.1;
+      open_ = low;
       fits = record { answers = f.answers; journal = f.journal; sweeps = AllByRecursion-push SweepFits r.sweeps s f.sweeps fits; totals = f.totals; profile = f.profile };
-      sweeps = apart_more IsSweepBefore r.sweeps s stage.sweeps all; totals = stage.totals; profile = stage.profile;
+      sweeps = apart_more IsSweepBefore r.sweeps s stage.sweeps all;
+      totals = stage.totals;
+      profile = stage.profile;
       no_answers = λ less. absurd (omega arith);
       no_journal = λ less. absurd (omega arith);
       no_sweeps = λ less. absurd (omega arith);
@@ -260,9 +272,13 @@ stage_more before r (Class t) stage fits m low =
     let f = stage.fits in
     let all = totals_before before r t stage m in
     record {
-      in_turn = turn.0; last = turn.1; open_ = low;
+      in_turn = turn.0;
+      last = turn.1;
+      open_ = low;
       fits = record { answers = f.answers; journal = f.journal; sweeps = f.sweeps; totals = AllByRecursion-push TotalFits r.totals t f.totals fits; profile = f.profile };
-      sweeps = stage.sweeps; totals = apart_more IsTotalBefore r.totals t stage.totals all; profile = stage.profile;
+      sweeps = stage.sweeps;
+      totals = apart_more IsTotalBefore r.totals t stage.totals all;
+      profile = stage.profile;
       no_answers = λ less. absurd (omega arith);
       no_journal = λ less. absurd (omega arith);
       no_sweeps = λ less. absurd (omega arith);
@@ -275,9 +291,13 @@ stage_more before r (Bucket p) stage fits m low =
     let f = stage.fits in
     let all = profile_before before r p stage m in
     record {
-      in_turn = turn.0; last = turn.1; open_ = low;
+      in_turn = turn.0;
+      last = turn.1;
+      open_ = low;
       fits = record { answers = f.answers; journal = f.journal; sweeps = f.sweeps; totals = f.totals; profile = AllByRecursion-push ProfFits r.profile p f.profile fits };
-      sweeps = stage.sweeps; totals = stage.totals; profile = apart_more IsProfBefore r.profile p stage.profile all;
+      sweeps = stage.sweeps;
+      totals = stage.totals;
+      profile = apart_more IsProfBefore r.profile p stage.profile all;
       no_answers = λ less. absurd (omega arith);
       no_journal = λ less. absurd (omega arith);
       no_sweeps = λ less. absurd (omega arith);

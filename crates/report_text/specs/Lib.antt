@@ -5,3 +5,4 @@ pub mod Words
 pub mod Refusal
 pub mod Gathered
 pub mod Read
+pub mod Laws

@@ -14,6 +14,8 @@ mod words;
 mod write;
 
 pub use fault::ReportFault;
-pub use laws::text_of_one_report;
+pub use laws::{
+    a_text_is_not_refused, bytes_have_one_refusal, lines_in_turn_begin_a_text, text_of_one_report,
+};
 pub use reader::read_report;
 pub use write::write_report;

@@ -37,10 +37,7 @@ pub fn read_report<S: Source>(
 }
 
 // Reads the lines of a report onto an empty one.
-fn read_onto<S: Source>(
-    lines: &mut Lines<'_, S>,
-    mut report: Report,
-) -> Result<Report, ReportFault>
+fn read_onto<S: Source>(lines: &mut Lines<'_, S>, mut report: Report) -> Result<Report, ReportFault>
     requires { IsEmpty report }
     ensures same_source { IsSameSource lines.old lines.new }
     ensures read { IfOk result (λ report. Reads S.left lines.old lines.new report) }
@@ -61,10 +58,7 @@ fn read_onto<S: Source>(
 }
 
 // What the next line says, behind one that says `before` and is not the last.
-fn next_item<S: Source>(
-    lines: &mut Lines<'_, S>,
-    before: Option<Item>,
-) -> Result<Item, ReportFault>
+fn next_item<S: Source>(lines: &mut Lines<'_, S>, before: Option<Item>) -> Result<Item, ReportFault>
     requires { before ≢ Some End }
     ensures same_source { IsSameSource lines.old lines.new }
     ensures told { IfOk result (λ item. TakesItem S.left lines.old lines.new before item) }
@@ -107,10 +101,7 @@ fn put(report: &mut Report, item: Item) -> Result<(), NoMemory>
 }
 
 // Reads a whole line, behind one that says `before` and is not the last.
-fn read_line<S: Source>(
-    lines: &mut Lines<'_, S>,
-    before: Option<Item>,
-) -> Result<(), ReportFault>
+fn read_line<S: Source>(lines: &mut Lines<'_, S>, before: Option<Item>) -> Result<(), ReportFault>
     requires { before ≢ Some End }
     ensures same_source { IsSameSource lines.old lines.new }
     ensures line { OnOk result (Takes S.left lines.old lines.new (line_of lines.new ++ 10 ∷ [])) }

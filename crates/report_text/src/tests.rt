@@ -1,6 +1,7 @@
 //! Reports over a sink in memory. The expected texts are written by hand from the format.
 
 mod order;
+mod reading;
 
 use super::*;
 use cycle_history::{Answer, Prof, Report, Total};

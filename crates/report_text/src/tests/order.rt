@@ -2,49 +2,11 @@
 
 ghost use Rattle.std.specs.Prelude.{◌≡◌, true};
 ghost use Rattle.page_alloc.specs.Lists.{AllApart, In};
-ghost use Rattle.cycle_history.specs.Orders.{IsProfBefore, IsSweepBefore, IsTotalBefore};
 
-use cycle_history::{Prof, Total};
-use span_state::SweepNote;
-
-/// What a report lists in an order.
-pub trait Ordered {
-    // the first comes before the second
-    ghost Before: { Self → Self → Type 0 };
-
-    fn is_before(&self, other: &Self) -> bool
-        ensures { result ≡ true → Before self.now other.now };
-}
-
-impl Ordered for SweepNote {
-    ghost Before = { IsSweepBefore };
-
-    fn is_before(&self, other: &SweepNote) -> bool {
-        self.cycle < other.cycle || (self.cycle == other.cycle && self.page < other.page)
-    }
-}
-
-impl Ordered for Total {
-    ghost Before = { IsTotalBefore };
-
-    fn is_before(&self, other: &Total) -> bool {
-        self.class < other.class
-    }
-}
-
-impl Ordered for Prof {
-    ghost Before = { IsProfBefore };
-
-    fn is_before(&self, other: &Prof) -> bool {
-        self.mark < other.mark
-            || (self.mark == other.mark
-                && (self.stack < other.stack
-                    || (self.stack == other.stack && self.size < other.size)))
-    }
-}
+use crate::order::Ordered;
 
 /// Whether each item comes before all that follow it.
-pub fn rises<X: Ordered>(items: &[X]) -> bool
+pub(crate) fn rises<X: Ordered>(items: &[X]) -> bool
     ensures { result ≡ true → AllApart X.Before items.now }
 {
     match items.split_first() {
