@@ -30,16 +30,16 @@ use Rattle.trace_reader.proofs.Cycles.{Counts, after_alloc, after_allocs, after_
 
 -- Tests
 
-le_of : (a b : ℕ) → nat_le a b ≡ true → a ≤ b
+pub le_of : (a b : ℕ) → nat_le a b ≡ true → a ≤ b
 le_of a b e = grind (arith, nat_tests)
 
-lt_of : (a b : ℕ) → nat_lt a b ≡ true → a < b
+pub lt_of : (a b : ℕ) → nat_lt a b ≡ true → a < b
 lt_of a b e = grind (arith, nat_tests)
 
 eq_of : (a b : ℕ) → (a == b) ≡ true → a ≡ b
 eq_of a b e = grind (arith, nat_tests)
 
-and_parts : (a b : Bool) → (a && b) ≡ true → (a ≡ true) × (b ≡ true)
+pub and_parts : (a b : Bool) → (a && b) ≡ true → (a ≡ true) × (b ≡ true)
 and_parts true b e = (refl, e)
 and_parts false b e = absurd cc
 
@@ -61,11 +61,11 @@ all_none None None None (Some x) e f = absurd cc
 all_none None None None None (Some x) f = absurd cc
 all_none None None None None None f = (refl, refl, refl, refl)
 
-if_none : (b : Bool) (fault : TraceFault) → fault_if (not b) fault ≡ None → b ≡ true
+pub if_none : (b : Bool) (fault : TraceFault) → fault_if (not b) fault ≡ None → b ≡ true
 if_none true fault e = refl
 if_none false fault e = absurd cc
 
-which_none : (n : ℕ) (o : Option Which) → option_map (λ which. Limit n which) o ≡ None → o ≡ None
+pub which_none : (n : ℕ) (o : Option Which) → option_map (λ which. Limit n which) o ≡ None → o ≡ None
 which_none n None e = refl
 which_none n (Some which) e = absurd cc
 
@@ -73,7 +73,7 @@ mark_none : (n : ℕ) (o : Option ℕ) → option_map (λ i. BadMark n i) o ≡ 
 mark_none n None e = refl
 mark_none n (Some i) e = absurd cc
 
-passes : (which : Which) (test : Bool) (rest : List (Which × Bool)) → passed ((which, test) ∷ rest) ≡ None → (test ≡ true) × (passed rest ≡ None)
+pub passes : (which : Which) (test : Bool) (rest : List (Which × Bool)) → passed ((which, test) ∷ rest) ≡ None → (test ≡ true) × (passed rest ≡ None)
 passes which true rest e = (refl, e)
 passes which false rest e = absurd cc
 

@@ -4,6 +4,5 @@ pub mod Says
 pub mod Refusal
 pub mod Limits
 pub mod Draft
-pub mod Printed
 pub mod Taken
 pub mod Read
