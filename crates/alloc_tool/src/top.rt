@@ -5,7 +5,7 @@ ghost use Rattle.edge_io.specs.Reading.{IsSameSource, is_dry, lines_left, number
 ghost use Rattle.edge_io.specs.Causes.{Rose, HasCause};
 ghost use Rattle.trace_reader.specs.declared.trace.Trace.{Trace as ATrace};
 ghost use Rattle.trace_reader.specs.Limits.{IsPlain, Spells};
-ghost use Rattle.trace_reader.specs.Taken.{HasReadCause, IsOfTrace};
+ghost use Rattle.trace_reader.specs.Told.{HasReadCause, IsOfTrace};
 ghost use Rattle.trace_reader.specs.declared.fault.TraceFault.{TraceFault as Fault};
 ghost use Rattle.alloc_tool.specs.Texts.{fault_text, status_text, usage};
 ghost use Rattle.alloc_tool.specs.Told.{Tells};

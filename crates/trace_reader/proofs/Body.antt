@@ -11,8 +11,10 @@ use Rattle.trace_reader.specs.declared.statement.Statement.{Statement}
 use Rattle.trace_reader.specs.declared.statement.Statement.TheVariants.{Title, Heap, End}
 use Rattle.trace_reader.specs.Spelling.{line_for}
 use Rattle.trace_reader.specs.Says.{said}
-use Rattle.trace_reader.specs.Refusal.{AreGood, needs_later, next_number, said_fault}
-use Rattle.trace_reader.specs.Taken.{IsOfTrace, StandsInLine, Takes, TakesLines, TellsFault}
+use Rattle.trace_reader.specs.Refusal.{needs_later, next_number, said_fault}
+use Rattle.trace_reader.specs.Good.{AreGood}
+use Rattle.trace_reader.specs.Taken.{StandsInLine, Takes, TakesLines}
+use Rattle.trace_reader.specs.Told.{IsOfTrace, TellsFault}
 use Rattle.trace_reader.specs.Draft.{Follows, HasEnd, IsStart, Took, told_of}
 use Rattle.trace_reader.proofs.Saying.{Says-said}
 use Rattle.trace_reader.proofs.Judging.{onto}

@@ -17,8 +17,9 @@ use Rattle.trace_reader.specs.declared.trace.Span.{Span}
 use Rattle.trace_reader.specs.Spelling.{alloc_of, cycle_statements, lines_of, mark_of, mark_statements, statements_of}
 use Rattle.trace_reader.specs.Limits.{IsPlain, Spells}
 use Rattle.trace_reader.specs.Says.{said}
-use Rattle.trace_reader.specs.Refusal.{IsLater, bad_mark, counts_within, fault_if, first_of, is_end, line_fault, lines_fault, may_follow, needs_later, needs_nothing, next_number, nothing_behind, numbers_within, onto_past, passed, pieces_of, refusal, refusal_now, said_fault}
-use Rattle.trace_reader.specs.Taken.{IsFirstFault, IsOfTrace, TellsFault, TellsFirstFault}
+use Rattle.trace_reader.specs.Checks.{bad_mark, counts_within, may_follow, numbers_within, passed}
+use Rattle.trace_reader.specs.Refusal.{IsLater, fault_if, first_of, is_end, line_fault, lines_fault, needs_later, needs_nothing, next_number, nothing_behind, onto_past, pieces_of, refusal, refusal_now, said_fault}
+use Rattle.trace_reader.specs.Told.{IsFirstFault, IsOfTrace, TellsFault, TellsFirstFault}
 use Rattle.trace_reader.specs.Read.{IsAhead, Reads}
 use Rattle.trace_reader.proofs.Reading.{All-append, append_nil, known_rest}
 use Rattle.trace_reader.proofs.Good.{plain_header}

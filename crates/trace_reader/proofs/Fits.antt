@@ -20,7 +20,10 @@ use Rattle.trace_reader.specs.declared.trace.MarkEnd.{MarkEnd}
 use Rattle.trace_reader.specs.declared.trace.Span.{Span}
 use Rattle.trace_reader.specs.Spelling.{alloc_of, cycle_statements, heap_of, mark_of, mark_statements, spelled, statements_of}
 use Rattle.trace_reader.specs.Limits.{AreCycles, AreSpans, EventFits, HeaderFits, IsMarked, WithinLimits, marked_by}
-use Rattle.trace_reader.specs.Refusal.{AreGood, IsGood, bad_mark, before_mark_end, counts_within, fault_if, first_of, is_live, is_marked, mark_ends_of, marks_of, may_begin, may_follow, numbers_within, objects_of, passed, procs_of, within}
+use Rattle.trace_reader.specs.Past.{before_mark_end, is_live, is_marked, mark_ends_of, marks_of, objects_of, procs_of}
+use Rattle.trace_reader.specs.Checks.{bad_mark, counts_within, may_begin, may_follow, numbers_within, passed, within}
+use Rattle.trace_reader.specs.Refusal.{fault_if, first_of}
+use Rattle.trace_reader.specs.Good.{AreGood, IsGood}
 use Rattle.trace_reader.specs.Taken.{TakesLines}
 use Rattle.trace_reader.specs.Draft.{AreEnded, begins}
 use Rattle.trace_reader.specs.Read.{Reads}
@@ -65,7 +68,7 @@ pub if_none : (b : Bool) (fault : TraceFault) → fault_if (not b) fault ≡ Non
 if_none true fault e = refl
 if_none false fault e = absurd cc
 
-pub which_none : (n : ℕ) (o : Option Which) → option_map (λ which. Limit n which) o ≡ None → o ≡ None
+which_none : (n : ℕ) (o : Option Which) → option_map (λ which. Limit n which) o ≡ None → o ≡ None
 which_none n None e = refl
 which_none n (Some which) e = absurd cc
 
@@ -77,13 +80,13 @@ pub passes : (which : Which) (test : Bool) (rest : List (Which × Bool)) → pas
 passes which true rest e = (refl, e)
 passes which false rest e = absurd cc
 
-record IsSound (past : List Statement) (s : Statement) : Type 0 where
-  follows : may_follow past s ≡ true
-  low : passed (numbers_within past s) ≡ None
-  few : passed (counts_within past s) ≡ None
-  live : bad_mark past s ≡ None
+pub record IsSound (past : List Statement) (s : Statement) : Type 0 where
+  pub follows : may_follow past s ≡ true
+  pub low : passed (numbers_within past s) ≡ None
+  pub few : passed (counts_within past s) ≡ None
+  pub live : bad_mark past s ≡ None
 
-sound : (later : Statement → Bool) (past : List Statement) (s : Statement) → IsGood later past s → IsSound past s
+pub sound : (later : Statement → Bool) (past : List Statement) (s : Statement) → IsGood later past s → IsSound past s
 sound later past s good =
     let all = all_none _ _ _ _ _ (good.no_fault 0) in
     record { follows = if_none (may_follow past s) (Malformed 0) all.0; low = which_none 0 _ all.1; few = which_none 0 _ all.2; live = mark_none 0 _ all.3 }

@@ -18,8 +18,11 @@ use Rattle.trace_reader.specs.declared.statement.Statement.{Statement}
 use Rattle.trace_reader.specs.declared.trace.Header.{Header}
 use Rattle.trace_reader.specs.Says.{said}
 use Rattle.trace_reader.specs.Spelling.{heap_of, line_for, spelled}
-use Rattle.trace_reader.specs.Refusal.{AreGood, bad_mark, counts_within, fault_if, feed, first_of, lines_fault, may_follow, needs_later, next_number, nothing_behind, numbers_within, passed, pieces_of, said_fault}
-use Rattle.trace_reader.specs.Taken.{BreaksOff, IsAtLine, IsFaultBehind, IsFirstFault, IsFrontOfLine, IsOfTrace, StandsInLine, Takes, TakesLines, TellsFault, TellsFirstFault}
+use Rattle.trace_reader.specs.Checks.{bad_mark, counts_within, may_follow, numbers_within, passed}
+use Rattle.trace_reader.specs.Refusal.{fault_if, feed, first_of, lines_fault, needs_later, next_number, nothing_behind, pieces_of, said_fault}
+use Rattle.trace_reader.specs.Good.{AreGood}
+use Rattle.trace_reader.specs.Taken.{IsFrontOfLine, StandsInLine, Takes, TakesLines}
+use Rattle.trace_reader.specs.Told.{BreaksOff, IsAtLine, IsFaultBehind, IsFirstFault, IsOfTrace, TellsFault, TellsFirstFault}
 use Rattle.trace_reader.proofs.Saying.{Says-said}
 use Rattle.trace_reader.proofs.Judging.{feed_pieces, lines_cut, lines_go, lines_long, lines_over, lines_stop, onto}
 

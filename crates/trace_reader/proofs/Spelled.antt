@@ -22,12 +22,14 @@ use Rattle.trace_reader.specs.declared.trace.Span.{Span}
 use Rattle.trace_reader.specs.Spelling.{alloc_of, cycle_statements, heap_of, line_for, lines_of, mark_of, spelled, statements_of}
 use Rattle.trace_reader.specs.Says.{said}
 use Rattle.trace_reader.specs.Limits.{HeaderFits, Spells}
-use Rattle.trace_reader.specs.Refusal.{AreGood, IsGood, bad_mark, counts_within, fault_if, feed, first_of, header_numbers, is_end, line_fault, lines_fault, may_begin, may_follow, needs_nothing, next_number, nothing_behind, numbers_within, onto_past, passed, pieces_of, refusal, said_fault, statement_fault, within}
+use Rattle.trace_reader.specs.Checks.{bad_mark, counts_within, header_numbers, may_begin, may_follow, numbers_within, passed, within}
+use Rattle.trace_reader.specs.Refusal.{fault_if, feed, first_of, is_end, line_fault, lines_fault, needs_nothing, next_number, nothing_behind, onto_past, pieces_of, refusal, said_fault, statement_fault}
+use Rattle.trace_reader.specs.Good.{AreGood, IsGood}
 use Rattle.trace_reader.specs.Draft.{AreEnded}
 use Rattle.trace_reader.proofs.Saying.{Says-said, split_at, split_last}
 use Rattle.trace_reader.proofs.Judging.{below_true, feed_pieces, onto}
 use Rattle.trace_reader.proofs.Reading.{append_nil, some_left, spelled-append}
-use Rattle.trace_reader.proofs.Fits.{and_parts, if_none, le_of, lt_of, passes, trace_fits, trace_of, which_none}
+use Rattle.trace_reader.proofs.Fits.{and_parts, if_none, le_of, lt_of, passes, sound, trace_fits, trace_of}
 
 -- Lines
 
@@ -245,8 +247,8 @@ new_cycle newest distance ss marks (c ∷ cs) ended all = record {
 
 group : (newest older : Statement) (past ss : List Statement) → AreGood needs_nothing (newest ∷ older ∷ past) ss → Grouped newest ss
 group newest older past [] good = record { marks = []; cycles = record { events = []; mark = None } ∷ []; ended = refl; all = refl; none = λ _. refl }
-group newest older past (Title ∷ ss) good = (let e = none_first _ _ (good.0.no_fault 0) in absurd cc)
-group newest older past (Heap h ∷ ss) good = (let e = none_first _ _ (good.0.no_fault 0) in absurd cc)
+group newest older past (Title ∷ ss) good = (let e : false ≡ true = (sound needs_nothing (newest ∷ older ∷ past) Title good.0).follows in absurd cc)
+group newest older past (Heap h ∷ ss) good = (let e : false ≡ true = (sound needs_nothing (newest ∷ older ∷ past) (Heap h) good.0).follows in absurd cc)
 group newest older past (End ∷ ss) good = (let e = good.0.not_end in absurd cc)
 group newest older past (Alloc form ∷ ss) good =
     let more = group (Alloc form) newest (older ∷ past) ss good.1 in
@@ -256,7 +258,7 @@ group newest older past (Gc distance ∷ ss) good =
     new_cycle newest distance ss more.marks more.cycles more.ended more.all
 group newest older past (Mark lo hi ∷ ss) good =
     let more = group (Mark lo hi) newest (older ∷ past) ss good.1 in
-    let form = if_none (nat_le lo hi && may_begin newest lo) (Malformed 0) (none_first _ _ (good.0.no_fault 0)).0 in
+    let form = (sound needs_nothing (newest ∷ older ∷ past) (Mark lo hi) good.0).follows in
     let begin = (and_parts (nat_le lo hi) (may_begin newest lo) form).1 in
     record {
       marks = record { lo = lo; hi = hi } ∷ more.marks;
@@ -302,8 +304,7 @@ header_fits h e =
 of_parts : (bytes : List ℕ) (h : HeapForm) (ss : List Statement) → AreGood needs_nothing [] (Title ∷ Heap h ∷ ss) → bytes ≡ spelled ((Title ∷ Heap h ∷ ss) ++ End ∷ []) → length bytes ≤ 67108864 → (t : Trace) × Spells bytes t
 unfolding header_from
 of_parts bytes h ss good spells small =
-    let low = (none_first _ _ (none_first _ _ (good.1.0.no_fault 0)).1).0 in
-    let fits = header_fits h (which_none 0 (passed (header_numbers h)) low) in
+    let fits = header_fits h (sound needs_nothing (Title ∷ []) (Heap h) good.1.0).low in
     let cycles = group (Heap h) Title [] ss good.1.1 in
     let all : ss ≡ flat_map cycle_statements cycles.cycles = cycles.all ∙ ap (λ (ms : List Span). map mark_of ms ++ flat_map cycle_statements cycles.cycles) (cycles.none refl) in (
       trace_of (header_from h) cycles.cycles,
@@ -318,7 +319,7 @@ of_statements : (bytes : List ℕ) (ss : List Statement) → AreGood needs_nothi
 of_statements bytes [] good last spells small = absurd cc
 of_statements bytes (s ∷ []) good last spells small = absurd cc
 of_statements bytes (Title ∷ Heap h ∷ ss) good last spells small = of_parts bytes h ss good spells small
-of_statements bytes (s ∷ t ∷ ss) good last spells small = (let first = none_first _ _ (good.0.no_fault 0) in let second = none_first _ _ (good.1.0.no_fault 0) in absurd cc)
+of_statements bytes (s ∷ t ∷ ss) good last spells small = (let first : may_follow [] s ≡ true = (sound needs_nothing [] s good.0).follows in let second : may_follow (s ∷ []) t ≡ true = (sound needs_nothing (s ∷ []) t good.1.0).follows in absurd cc)
 
 pub unrefused_spells : (bytes : List ℕ) → refusal bytes ≡ None → (t : Trace) × Spells bytes t
 unrefused_spells bytes e =

@@ -10,9 +10,11 @@ ghost use Rattle.trace_reader.specs.declared.statement.Statement.TheVariants.{En
 ghost use Rattle.trace_reader.specs.declared.trace.Trace.{Trace as ATrace};
 ghost use Rattle.trace_reader.specs.Spelling.{cycle_statements, heap_of, statements_of};
 ghost use Rattle.trace_reader.specs.Limits.{HeaderFits, IsPlain};
-ghost use Rattle.trace_reader.specs.Refusal.{AreGood, needs_later, next_number};
+ghost use Rattle.trace_reader.specs.Refusal.{needs_later, next_number};
+ghost use Rattle.trace_reader.specs.Good.{AreGood};
 ghost use Rattle.trace_reader.specs.Draft.{AreEnded, IsStart};
-ghost use Rattle.trace_reader.specs.Taken.{BreaksInLine, HasReadCause, IsEnded, IsFaultBehind, IsOfTrace, StandsInLine, Takes, TakesLines, TellsFirstFault};
+ghost use Rattle.trace_reader.specs.Taken.{IsEnded, StandsInLine, Takes, TakesLines};
+ghost use Rattle.trace_reader.specs.Told.{BreaksInLine, HasReadCause, IsFaultBehind, IsOfTrace, TellsFirstFault};
 ghost use Rattle.trace_reader.specs.Read.{IsAhead, Reads};
 
 use crate::draft::Draft;

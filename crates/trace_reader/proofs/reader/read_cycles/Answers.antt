@@ -1,7 +1,8 @@
 use Rattle.std.proofs.Common.{◌≡◌, Some, Err, arith, rules, sym, ap, ◌∙◌, subst}
 use Rattle.std.proofs.lemmas.Result.{err_from_is_err_and}
 use Rattle.trace_reader.specs.declared.statement.Statement.TheVariants.{End}
-use Rattle.trace_reader.specs.Refusal.{AreGood, needs_later}
+use Rattle.trace_reader.specs.Refusal.{needs_later}
+use Rattle.trace_reader.specs.Good.{AreGood}
 use Rattle.trace_reader.proofs.Judging.{onto}
 use Rattle.trace_reader.specs.Draft.{told_of}
 use Rattle.trace_reader.proofs.Reading.{tells_memory}
