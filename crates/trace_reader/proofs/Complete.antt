@@ -1,5 +1,5 @@
 -- What is spelled is not refused.
-use Rattle.std.proofs.Common.{◌≡◌, ◌⊎◌, ℕ, ◌+◌, ◌≤◌, Bool, true, false, not, ◌-◌, cond, List, [], ◌∷◌, ◌++◌, length, map, Option, Some, None, Result, Err, IfErr, MatchResult, refl, sym, ap, ◌∙◌, subst, inl, inr, arith}
+use Rattle.std.proofs.Common.{◌≡◌, ◌⊎◌, ℕ, ◌+◌, ◌≤◌, Bool, true, false, not, ◌-◌, cond, List, [], ◌∷◌, ◌++◌, length, map, Option, Some, None, Result, Err, MatchResult, refl, sym, ap, ◌∙◌, subst, inl, inr, arith}
 use Rattle.std.specs.List.{AllByRecursion, flat_map}
 use Rattle.std.specs.Option.{option_map}
 use Rattle.edge_io.specs.declared.lines.Lines.{Lines}

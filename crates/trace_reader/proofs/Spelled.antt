@@ -1,15 +1,14 @@
 -- What is not refused is spelled by some trace.
-use Rattle.std.proofs.Common.{◌≡◌, ◌≢◌, ◌⊎◌, ◌==◌, ℕ, zero, suc, ◌+◌, ◌-◌, ◌^◌, ◌<◌, ◌≤◌, min, Bool, true, false, not, ◌&&◌, cond, List, [], ◌∷◌, ◌++◌, length, map, Option, Some, None, nat_lt, nat_le, refl, sym, ap, ◌∙◌, subst, inl, inr, arith, append_assoc, length-append}
-use Rattle.std.specs.List.{AllByRecursion, flat_map}
+use Rattle.std.proofs.Common.{◌≡◌, ◌≢◌, ◌⊎◌, ◌==◌, ℕ, zero, suc, ◌+◌, ◌-◌, ◌^◌, ◌<◌, ◌≤◌, min, Bool, true, false, not, cond, List, [], ◌∷◌, ◌++◌, length, map, Option, Some, None, nat_lt, nat_le, refl, sym, ap, ◌∙◌, subst, inl, inr, arith, append_assoc, length-append}
+use Rattle.std.specs.List.{flat_map}
 use Rattle.std.specs.Option.{option_map}
 use Rattle.std.proofs.lemmas.Bool.{cases_Bool}
 use Rattle.std.proofs.lemmas.Bool.Decides.{nat_tests}
 use Rattle.edge_io.specs.Line.{HasNoFeed, IsLine}
-use Rattle.edge_io.specs.Text.{text}
 use Rattle.trace_reader.specs.declared.fault.Which.{Which}
 use Rattle.trace_reader.specs.declared.fault.Which.TheVariants.{Bytes, Chunks, Procs, Rate, Seed, Goal}
 use Rattle.trace_reader.specs.declared.fault.TraceFault.{TraceFault}
-use Rattle.trace_reader.specs.declared.fault.TraceFault.TheVariants.{Malformed, Truncated, Limit, BadMark, Later}
+use Rattle.trace_reader.specs.declared.fault.TraceFault.TheVariants.{Malformed, Truncated, Limit, BadMark}
 use Rattle.trace_reader.specs.declared.statement.Statement.{Statement}
 use Rattle.trace_reader.specs.declared.statement.Statement.TheVariants.{Title, Heap, Alloc, Gc, Mark, End}
 use Rattle.trace_reader.specs.declared.statement.HeapForm.{HeapForm}
@@ -19,16 +18,16 @@ use Rattle.trace_reader.specs.declared.trace.Header.{Header}
 use Rattle.trace_reader.specs.declared.trace.Cycle.{Cycle}
 use Rattle.trace_reader.specs.declared.trace.Event.{Event}
 use Rattle.trace_reader.specs.declared.trace.Span.{Span}
-use Rattle.trace_reader.specs.Spelling.{alloc_of, cycle_statements, heap_of, line_for, lines_of, mark_of, spelled, statements_of}
+use Rattle.trace_reader.specs.Spelling.{cycle_statements, line_for, mark_of, spelled}
 use Rattle.trace_reader.specs.Says.{said}
 use Rattle.trace_reader.specs.Limits.{HeaderFits, Spells}
 use Rattle.trace_reader.specs.Checks.{bad_mark, counts_within, header_numbers, may_begin, may_follow, numbers_within, passed, within}
 use Rattle.trace_reader.specs.Refusal.{fault_if, feed, first_of, is_end, line_fault, lines_fault, needs_nothing, next_number, nothing_behind, onto_past, pieces_of, refusal, said_fault, statement_fault}
-use Rattle.trace_reader.specs.Good.{AreGood, IsGood}
+use Rattle.trace_reader.specs.Good.{AreGood}
 use Rattle.trace_reader.specs.Draft.{AreEnded}
 use Rattle.trace_reader.proofs.Saying.{Says-said, split_at, split_last}
-use Rattle.trace_reader.proofs.Judging.{below_true, feed_pieces, onto}
-use Rattle.trace_reader.proofs.Reading.{append_nil, some_left, spelled-append}
+use Rattle.trace_reader.proofs.Judging.{feed_pieces, onto}
+use Rattle.trace_reader.proofs.Reading.{append_nil, some_left}
 use Rattle.trace_reader.proofs.Fits.{and_parts, if_none, le_of, lt_of, passes, sound, trace_fits, trace_of}
 
 -- Lines

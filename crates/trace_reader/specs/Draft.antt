@@ -11,7 +11,7 @@ use Rattle.trace_reader.specs.declared.trace.MarkEnd.{MarkEnd}
 use Rattle.trace_reader.specs.declared.trace.Span.{Span}
 use Rattle.trace_reader.specs.Limits.{AreSpans}
 use Rattle.trace_reader.specs.Past.{before_mark_end, is_live, is_marked, mark_ends_of, marks_of, objects_of, procs_of}
-use Rattle.trace_reader.specs.Checks.{may_begin, passed}
+use Rattle.trace_reader.specs.Checks.{may_begin}
 use Rattle.trace_reader.specs.Refusal.{is_end, needs_later, statement_fault}
 use Rattle.trace_reader.specs.Kept.{in_spans, lives, Skips}
 
