@@ -31,34 +31,24 @@ trace() {
   echo "end"
 }
 
-# longest EXTRA: a trace of 67108864 bytes and so many more. It has as many objects as a trace may have, and then marks.
+# longest EXTRA: a trace of 67108864 bytes and so many more. It has as many objects as a trace may have, of which none finds room,
+# and then mark ends that mark each of the later ones by a line of 16 bytes. The distances of the last two fill up the text.
 longest() {
   awk -v most="$((67108864 + $1))" '
-    function put(line) { printf "%s\n", line; bytes += length(line) + 1 }
+    function put(line) { print line; bytes += length(line) + 1; left = most - bytes - 4 }
     BEGIN {
       put("goheap 1")
       put("heap 1 procs 1 rate 0 seed 1 goal 512")
       for (i = 0; i < 1000000; i++) put("a 0 1099511627776 s " 100000 + i % 900000)
-      while (1) {
+      while (left >= 40) {
         put("gc 1099511627776")
-        for (i = 100000; i < 1000000; i++) {
-          # Marks of one object have 16 bytes, and what is left is filled up by numbers with fewer digits.
-          if (most - bytes < 200) break
-          put("m " i " " i)
-        }
-        if (most - bytes < 200) break
+        for (i = 100000; i < 1000000 && left >= 21; i++) put("m " i " " i)
       }
-      # A last mark end: marks of 12 and 4 more bytes end the text to the byte.
-      left = most - bytes - 4
-      need = left - length("gc 1") - 1
-      for (d = 1; need % 4 != 0; d = d * 10) need--
-      put("gc " d)
-      for (i = 0; need > 0; i++) {
-        if (need % 16 == 0) { put("m " 100000 + i " " 100000 + i); need -= 16 }
-        else if (need % 12 == 8 || need >= 14 + 16 || need == 14) { put("m " 1000 + i " " 1000 + i); need -= 12 }
-        else { put("m " i " " i); need -= 6 + 2 * (i > 9) }
-      }
-      put("end")
+      if (left > 17) put("gc 1")
+      digits = 1
+      while (left > length("gc " digits) + 1) digits = digits "0"
+      put("gc " digits)
+      print "end"
     }'
 }
 
@@ -97,5 +87,16 @@ if [ $status -ne 0 ] && [ $status -ne 3 ]; then
   echo "a file that shrinks: status $status" >&2
   failed=1
 fi
+
+longest 0 >"$folder/longest"
+[ "$(wc -c <"$folder/longest")" -eq 67108864 ] || failed=1
+"$goheap" run <"$folder/longest" >"$folder/wrote" 2>"$folder/said"
+wants "67108864 bytes" 0 $? ""
+
+longest 1 >"$folder/longest"
+[ "$(wc -c <"$folder/longest")" -eq 67108865 ] || failed=1
+"$goheap" run <"$folder/longest" >"$folder/wrote" 2>"$folder/said"
+wants "67108865 bytes" 3 $? "goheap: trace line $(wc -l <"$folder/longest"): limit bytes"
+[ -s "$folder/wrote" ] && { echo "67108865 bytes: something was written" >&2; failed=1; }
 
 exit $failed
