@@ -9,9 +9,9 @@ use Rattle.page_alloc.specs.Journal.{Life, open_lives, at_end, Legal}
 use Rattle.cycle_history.specs.Requests.{Marking}
 use Rattle.cycle_history.specs.Objects.{Object, is_placed, start_of, Sits, IsSeated, IsApart}
 use Rattle.cycle_history.specs.Rules.{AreSeated, AreApart}
-use Rattle.cycle_history.specs.Run.{Fits, HasSeat, IsRun, slot_for}
+use Rattle.sound_run.specs.Run.{Fits, HasSeat, IsRun, slot_for}
 use Rattle.page_alloc.proofs.Lives.{share, from_others}
-use Rattle.cycle_history.proofs.Live.{legal-at_end, live-placed, live-of}
+use Rattle.sound_run.proofs.Live.{legal-at_end, live-placed, live-of}
 
 slot_room : (slot count pages k : ℕ) → k < count → slot * count ≤ 8192 * pages → slot * k + slot ≤ 8192 * pages
 slot_room slot count pages k lt room = omega (arith, mul-le-mul_left slot lt)

@@ -5,7 +5,7 @@ use Rattle.page_bitmap.specs.declared.line.Line.{Line}
 use Rattle.page_alloc.specs.Journal.{cycle_of, at_end, IsBy, Legal}
 use Rattle.cycle_history.specs.Requests.{Marking}
 use Rattle.cycle_history.specs.Objects.{Object, is_placed, live}
-use Rattle.cycle_history.specs.Run.{Lasts}
+use Rattle.sound_run.specs.Run.{Lasts}
 
 pub at_end-now : (c : ℕ) (past : List Line) → IsBy c past → at_end c past ≡ past
 at_end-now c [] by = refl

@@ -9,13 +9,13 @@ use Rattle.cycle_history.specs.Requests.{Request, Marking}
 use Rattle.cycle_history.specs.Objects.{Object, is_placed, live, kept, freed}
 use Rattle.cycle_history.specs.Rules.{AreAnswered}
 use Rattle.cycle_history.specs.Sweeps.{IsOpenAfter}
-use Rattle.cycle_history.specs.Run.{count_for, Lasts, IsRun}
-use Rattle.cycle_history.specs.Spans.{AreBits, AreMarks}
-use Rattle.cycle_history.proofs.Live.{live-placed, live-marked, live-before, marked-after}
-use Rattle.cycle_history.proofs.Counts.{unmarked}
-use Rattle.cycle_history.proofs.Seats.{same_number}
-use Rattle.cycle_history.proofs.Spans.{bits-swept}
-use Rattle.cycle_history.proofs.Bits.{bits_count}
+use Rattle.sound_run.specs.Run.{count_for, Lasts, IsRun}
+use Rattle.sound_run.specs.Spans.{AreBits, AreMarks}
+use Rattle.sound_run.proofs.Live.{live-placed, live-marked, live-before, marked-after}
+use Rattle.sound_run.proofs.Counts.{unmarked}
+use Rattle.sound_run.proofs.Seats.{same_number}
+use Rattle.sound_run.proofs.Spans.{bits-swept}
+use Rattle.sound_run.proofs.Bits.{bits_count}
 
 -- ---- objects have different ids
 

@@ -9,8 +9,8 @@ use Rattle.span_state.specs.declared.sweep.SweepNote.{SweepNote}
 use Rattle.cycle_history.specs.Requests.{Marking}
 use Rattle.cycle_history.specs.Objects.{Object, is_placed, live, kept, freed}
 use Rattle.cycle_history.specs.Sweeps.{IsNote, GivesWhenEmpty}
-use Rattle.cycle_history.specs.Run.{Lasts}
-use Rattle.cycle_history.proofs.Live.{marked-after, by-later}
+use Rattle.sound_run.specs.Run.{Lasts}
+use Rattle.sound_run.proofs.Live.{marked-after, by-later}
 
 -- an object isn't marked in its own cycle or before
 pub unmarked : (marked : Marking) (o : Object) (m : ℕ) → Lasts marked o → m ≤ o.cycle → marked m o.id ≡ false

@@ -1,36 +1,24 @@
 -- A mark end whose sweeps go through the pages in rising order, one page after the other.
-use Rattle.std.proofs.Common.{◌≡◌, ◌≢◌, ℕ, suc, ◌≤◌, Bool, ◌&&◌, not, List, [], ◌∷◌, refl, sym, ◌∙◌, ap, arith, inl, inr}
+use Rattle.std.proofs.Common.{◌≡◌, ◌≢◌, ℕ, suc, ◌≤◌, List, [], ◌∷◌, refl, sym, ◌∙◌, ap, arith, inl, inr}
 use Rattle.std.proofs.lemmas.Bool.{cases_eq}
 use Rattle.page_bitmap.specs.declared.line.Line.{Line}
 use Rattle.page_bitmap.specs.declared.line.Line.TheVariants.{Take, Miss, Give, Scav}
 use Rattle.page_alloc.specs.Lists.{In}
 use Rattle.page_alloc.specs.Journal.{Life, open_lives, at_end, IsBy, Legal}
 use Rattle.page_alloc.proofs.Lives.{same_page, from_others, to_others, lies}
-use Rattle.span_state.specs.Bits.{count_below}
 use Rattle.span_state.specs.declared.sweep.SweepNote.{SweepNote}
 use Rattle.cycle_history.specs.Requests.{Marking}
-use Rattle.cycle_history.specs.Objects.{Object, kept}
+use Rattle.cycle_history.specs.Objects.{Object}
 use Rattle.cycle_history.specs.Sweeps.{IsOpenAfter, IsNote}
-use Rattle.cycle_history.specs.Run.{count_for, IsRun, MayGive}
-use Rattle.cycle_history.specs.Spans.{AreBits, AreMarks}
-use Rattle.cycle_history.specs.Notes.{HasNotes, MayNote, IsSweptTo}
-use Rattle.cycle_history.proofs.Live.{at_end-before, by-later, legal-at_end}
-use Rattle.cycle_history.proofs.Keeps.{line-keeps, give-may}
-use Rattle.cycle_history.proofs.Ends.{next-keeps}
-use Rattle.cycle_history.proofs.Sweeps.{AreDistinct, sweep-kept, sweep-freed}
-use Rattle.cycle_history.proofs.Notes.{open-now, open-after, given-gone, done-line, done-note, notes-more, notes-give, notes-ended, notes-next}
-
--- the two numbers of a sweep, counted over the life's bits and marks, make its note right
-pub note-right : (marked : Marking) (region goal c m : ℕ) (past : List Line) (objects : List Object) (life : Life) (bits marks : ℕ → Bool) (note : SweepNote)
-    → IsRun marked region goal c past objects → AreDistinct objects → IsOpenAfter past m life → AreBits marked m objects life.number bits → AreMarks marked (suc m) objects life.number marks
-    → note.cycle ≡ suc m → note.page ≡ life.page → note.kept ≡ count_below (count_for life.class) marks → note.freed ≡ count_below (count_for life.class) (λ k. bits k && not (marks k))
-    → IsNote marked objects (suc m) life note
-note-right marked region goal c m past objects life bits marks note run ids alive is are cycle page kept freed = record {
-  cycle = cycle;
-  page = page;
-  kept = kept ∙ sym (sweep-kept marked region goal c m past objects life marks run ids alive are);
-  freed = freed ∙ sym (sweep-freed marked region goal c m past objects life bits marks run ids alive is are);
-}
+use Rattle.sound_run.specs.Run.{IsRun}
+use Rattle.swept_run_laws.specs.Steps.{MayGive}
+use Rattle.sound_run.specs.Notes.{HasNotes}
+use Rattle.swept_run_laws.specs.Walked.{MayNote, IsSweptTo}
+use Rattle.sound_run.proofs.Live.{at_end-before, by-later, legal-at_end}
+use Rattle.swept_run_laws.proofs.Keeps.{line-keeps, give-may}
+use Rattle.sound_run.proofs.Ends.{next-keeps}
+use Rattle.sound_run.proofs.Notes.{open-now, open-after, notes-ended, notes-next}
+use Rattle.swept_run_laws.proofs.Noted.{given-gone, done-line, done-note, notes-more, notes-give}
 
 -- an open life is of a cycle that the journal has come to
 pub life-by : (region goal c : ℕ) (past : List Line) (life : Life) → Legal region goal past → IsBy c past → In life (open_lives past) → life.cycle ≤ c

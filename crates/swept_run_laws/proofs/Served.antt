@@ -7,10 +7,12 @@ use Rattle.page_alloc.specs.Journal.{Life, open_lives, at_end}
 use Rattle.cycle_history.specs.Requests.{Marking}
 use Rattle.cycle_history.specs.Objects.{Object, is_placed, live, Sits, IsHeld}
 use Rattle.cycle_history.specs.Rules.{IsSmall}
-use Rattle.cycle_history.specs.Run.{count_for, Fits, IsRun, MayPlace}
-use Rattle.cycle_history.specs.Spans.{AreBits, IsFull, AreServed, with_bit, HasFree}
-use Rattle.cycle_history.proofs.Live.{at_end-now, live-placed, live-cases, live-of, live-marked}
-use Rattle.cycle_history.proofs.Seats.{same_number, number-below}
+use Rattle.sound_run.specs.Run.{count_for, Fits, IsRun}
+use Rattle.swept_run_laws.specs.Steps.{MayPlace}
+use Rattle.sound_run.specs.Spans.{AreBits}
+use Rattle.swept_run_laws.specs.Served.{IsFull, AreServed, with_bit, HasFree}
+use Rattle.sound_run.proofs.Live.{at_end-now, live-placed, live-cases, live-of}
+use Rattle.sound_run.proofs.Seats.{same_number, number-below}
 
 -- Live objects of one life have one span class, so all are small or none.
 same_class : (marked : Marking) (region goal c : ℕ) (past : List Line) (objects : List Object) (a b : Object)
@@ -109,20 +111,6 @@ bits-other marked m objects o n bits is other = record {
     | inr old ↦ is.shown b old lb eb
   ];
   from = λ k on. (let at = is.from k on in (at.0, inr at.1, at.2, at.3, at.4));
-}
-
--- A sweep leaves the marked bits: of the next cycle's live objects, as long as that cycle placed none in the life.
-pub bits-swept : (marked : Marking) (m : ℕ) (objects : List Object) (n : ℕ) (marks : ℕ → Bool)
-    → ((o : Object) → In o objects → o.cycle ≡ suc m → is_placed o.answer ≡ true → o.life ≢ n)
-    → ((o : Object) → In o objects → is_placed o.answer ≡ true → marked (suc m) o.id ≡ true → o.life ≡ n → marks o.index ≡ true)
-    → ((k : ℕ) → marks k ≡ true → (o : Object) × In o objects × (is_placed o.answer ≡ true) × (marked (suc m) o.id ≡ true) × (o.life ≡ n) × (o.index ≡ k))
-    → AreBits marked (suc m) objects n marks
-bits-swept marked m objects n marks none names named = record {
-  shown = λ o h lives one. elim (live-cases marked (suc m) o lives) [
-    | inl now ↦ absurd (none o h now (live-placed marked (suc m) o lives) one)
-    | inr mark ↦ names o h (live-placed marked (suc m) o lives) mark one
-  ];
-  from = λ k on. (let at = named k on in (at.0, at.1, live-marked marked (suc m) at.0 at.2 at.3, at.4, at.5));
 }
 
 -- A processor goes on to serve: with the new object in its cached life, and with another life once the old one is full.

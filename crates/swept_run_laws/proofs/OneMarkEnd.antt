@@ -7,14 +7,17 @@ use Rattle.page_alloc.specs.Journal.{life_of}
 use Rattle.span_state.specs.Bits.{count_below}
 use Rattle.span_state.specs.declared.sweep.SweepNote.{SweepNote}
 use Rattle.cycle_history.specs.Sweeps.{AreSwept}
-use Rattle.cycle_history.specs.Spans.{AreBits, AreMarks, with_bit}
-use Rattle.cycle_history.specs.Run.{IsRun}
-use Rattle.cycle_history.specs.Notes.{HasNotes, IsSweptTo}
-use Rattle.cycle_history.proofs.OneObject.{one, never, past, placed}
-use Rattle.cycle_history.proofs.Spans.{bits-fresh, bits-placed}
-use Rattle.cycle_history.proofs.Ends.{start-run}
-use Rattle.cycle_history.proofs.Notes.{notes-swept}
-use Rattle.cycle_history.proofs.Walk.{note-right, walk-start, walk-skip, walk-given, walk-end}
+use Rattle.sound_run.specs.Spans.{AreBits, AreMarks}
+use Rattle.swept_run_laws.specs.Served.{with_bit}
+use Rattle.sound_run.specs.Run.{IsRun}
+use Rattle.sound_run.specs.Notes.{HasNotes}
+use Rattle.swept_run_laws.specs.Walked.{IsSweptTo}
+use Rattle.swept_run_laws.proofs.OneObject.{one, never, past, placed}
+use Rattle.swept_run_laws.proofs.Served.{bits-fresh, bits-placed}
+use Rattle.sound_run.proofs.Ends.{start-run}
+use Rattle.sound_run.proofs.Notes.{notes-swept}
+use Rattle.sound_run.proofs.Noted.{note-right}
+use Rattle.swept_run_laws.proofs.Walk.{walk-start, walk-skip, walk-given, walk-end}
 
 abbrev given : List Line
 given = Give 1 0 1 ∷ past

@@ -8,10 +8,11 @@ use Rattle.page_alloc.specs.Journal.{cycle_of, Life, open_lives, at_end, MayFoll
 use Rattle.cycle_history.specs.Requests.{Marking}
 use Rattle.cycle_history.specs.Objects.{Object, is_placed, live, IsHeld}
 use Rattle.cycle_history.specs.Rules.{IsSmall, AreFilled}
-use Rattle.cycle_history.specs.Run.{IsRun, IsNext, MayWrite, MayGive}
+use Rattle.sound_run.specs.Run.{IsRun}
+use Rattle.swept_run_laws.specs.Steps.{IsNext, MayWrite, MayGive}
 use Rattle.page_alloc.proofs.Lives.{same_page, to_others}
-use Rattle.cycle_history.proofs.Live.{at_end-now, at_end-before, by-later, live-placed, live-cases, live-after, live-before}
-use Rattle.cycle_history.proofs.Counts.{kept-counts}
+use Rattle.sound_run.proofs.Live.{at_end-now, at_end-before, by-later, live-placed, live-cases, live-after, live-before}
+use Rattle.sound_run.proofs.Counts.{kept-counts}
 
 -- the journal at the end of an earlier cycle stays
 earlier : (c m : ℕ) (line : Line) (past : List Line) (life : Life) → cycle_of line ≡ c → m < c → In life (open_lives (at_end m past)) → In life (open_lives (at_end m (line ∷ past)))

@@ -1,17 +1,15 @@
 -- The start of a run, a mark end, and the end.
-use Rattle.std.proofs.Common.{◌≡◌, ℕ, suc, true, List, [], ◌∷◌, length, refl, ◌∙◌, ap, arith, inl, inr}
+use Rattle.std.proofs.Common.{ℕ, suc, List, [], arith}
 use Rattle.page_bitmap.specs.declared.line.Line.{Line}
-use Rattle.page_bitmap.specs.declared.line.Line.TheVariants.{Take}
 use Rattle.trace_reader.specs.declared.trace.Trace.{Trace}
-use Rattle.page_alloc.specs.Journal.{Life}
 use Rattle.cycle_history.specs.declared.Report.{Report}
 use Rattle.cycle_history.specs.Requests.{Marking, marked_by, region_of, last_cycle}
-use Rattle.cycle_history.specs.Objects.{Object, is_placed}
-use Rattle.cycle_history.specs.Sound.{past_in, HasAnswers, AllWanted}
+use Rattle.cycle_history.specs.Objects.{Object}
+use Rattle.cycle_history.specs.Sound.{past_in, HasAnswers}
 use Rattle.cycle_history.specs.Broken.{MeetsUpTo}
-use Rattle.cycle_history.specs.Run.{IsRun}
-use Rattle.cycle_history.proofs.Live.{by-later}
-use Rattle.cycle_history.proofs.Seats.{run-seated, run-apart}
+use Rattle.sound_run.specs.Run.{IsRun}
+use Rattle.sound_run.proofs.Live.{by-later}
+use Rattle.sound_run.proofs.Seats.{run-seated, run-apart}
 
 -- nothing is written and nothing asked
 pub start-run : (marked : Marking) (region goal : ℕ) → IsRun marked region goal 0 [] []
@@ -54,19 +52,3 @@ run-sound t report objects run answers = record {
   sweeps = λ le. absurd (omega arith);
   totals = λ le. absurd (omega arith);
 }
-
--- one more object keeps the lives wanted
-pub wanted-object : (past : List Line) (objects : List Object) (o : Object) → AllWanted past objects → AllWanted past (o ∷ objects)
-wanted-object past objects o all life h = let old = all life h in (old.0, inr old.1, old.2, old.3, old.4, old.5)
-
--- a Take and its life's first object keep the lives wanted
-pub wanted-take : (c page pages class : ℕ) (past : List Line) (objects : List Object) (o : Object) → AllWanted past objects
-    → is_placed o.answer ≡ true → o.life ≡ length past → o.index ≡ 0 → o.cycle ≡ c → AllWanted (Take c page pages class ∷ past) (o ∷ objects)
-wanted-take c page pages class past objects o all placed number index cycle life h =
-    elim h [
-      | inl new ↦ (
-          let e1 : length past ≡ life.number = ap (λ (l : Life). l.number) new in
-          let e2 : c ≡ life.cycle = ap (λ (l : Life). l.cycle) new in
-          (o, inl refl, placed, number ∙ e1, index, cycle ∙ e2))
-      | inr old ↦ wanted-object past objects o all life old
-    ]

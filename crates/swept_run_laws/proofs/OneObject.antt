@@ -8,11 +8,12 @@ use Rattle.page_alloc.specs.Journal.{life_of, IsFirstFit, IsSpanSize}
 use Rattle.cycle_history.specs.declared.Answer.TheVariants.{Placed}
 use Rattle.cycle_history.specs.Requests.{Marking}
 use Rattle.cycle_history.specs.Objects.{Object}
-use Rattle.cycle_history.specs.Run.{Fits, IsRun, MayPlace}
-use Rattle.cycle_history.specs.Spans.{AreServed}
-use Rattle.cycle_history.proofs.Keeps.{line-keeps, take-may, object-keeps}
-use Rattle.cycle_history.proofs.Ends.{start-run}
-use Rattle.cycle_history.proofs.Spans.{place-may, bits-fresh}
+use Rattle.sound_run.specs.Run.{Fits, IsRun}
+use Rattle.swept_run_laws.specs.Steps.{MayPlace}
+use Rattle.swept_run_laws.specs.Served.{AreServed}
+use Rattle.swept_run_laws.proofs.Keeps.{line-keeps, take-may, object-keeps}
+use Rattle.sound_run.proofs.Ends.{start-run}
+use Rattle.swept_run_laws.proofs.Served.{place-may, bits-fresh}
 
 abbrev pub one : Object
 one = record { id = 0; proc = 0; cycle = 0; need = record { class = 6; pages = 1; slot = 24; count = 341 }; answer = Placed 0xc000000000; life = 0; index = 0 }
