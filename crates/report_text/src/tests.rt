@@ -5,7 +5,7 @@ mod reading;
 
 use super::*;
 use cycle_history::{Answer, Prof, Report, Total};
-use edge_io::{List, MemorySink};
+use edge_io::{Lines, List, MemorySink, MemorySource};
 use order::rises;
 use page_bitmap::Line;
 use span_state::SweepNote;
@@ -115,6 +115,19 @@ fn written(alloc: Global, row: Row<'_>, failing: &[u64]) -> Result<Outcome, Fail
     })
 }
 
+// Whether reading the text gives a report that is written as it.
+fn is_read_back(alloc: Global, text: &[u8]) -> Result<bool, Fail> {
+    let bytes = List::from_vec(text.to_vec(alloc)?);
+    let mut source = MemorySource::new(bytes, List::new(alloc));
+    let mut lines = Lines::new(&mut source, 4_294_967_296);
+    let Ok(report) = read_report(alloc, &mut lines) else {
+        return Ok(false);
+    };
+    let mut sink = MemorySink::new(alloc, List::new(alloc));
+    let whole = write_report(&mut sink, &report).is_ok();
+    Ok(whole && sink.held() == text)
+}
+
 #[test]
 fn small_reports_are_written(rt: HostRuntime) -> Result<(), Fail> {
     let alloc = rt.alloc();
@@ -146,6 +159,7 @@ fn small_reports_are_written(rt: HostRuntime) -> Result<(), Fail> {
         let outcome = written(alloc, row, &[])?;
         assert!(rt; outcome.whole);
         assert_eq!(rt; outcome.held.as_slice(), row.text.as_bytes());
+        assert!(rt; is_read_back(alloc, row.text.as_bytes())?);
     }
     Ok(())
 }
@@ -179,6 +193,7 @@ fn reports_of_large_objects_are_written(rt: HostRuntime) -> Result<(), Fail> {
         let outcome = written(alloc, row, &[])?;
         assert!(rt; outcome.whole);
         assert_eq!(rt; outcome.held.as_slice(), row.text.as_bytes());
+        assert!(rt; is_read_back(alloc, row.text.as_bytes())?);
     }
     Ok(())
 }
@@ -249,6 +264,7 @@ fn profiles_are_written(rt: HostRuntime) -> Result<(), Fail> {
         let outcome = written(alloc, row, &[])?;
         assert!(rt; outcome.whole);
         assert_eq!(rt; outcome.held.as_slice(), row.text.as_bytes());
+        assert!(rt; is_read_back(alloc, row.text.as_bytes())?);
     }
     Ok(())
 }
@@ -291,6 +307,7 @@ fn numbers_of_all_lengths_are_written(rt: HostRuntime) -> Result<(), Fail> {
     let outcome = written(alloc, row, &[])?;
     assert!(rt; outcome.whole);
     assert_eq!(rt; outcome.held.as_slice(), row.text.as_bytes());
+    assert!(rt; is_read_back(alloc, row.text.as_bytes())?);
     Ok(())
 }
 

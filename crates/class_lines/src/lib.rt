@@ -1,0 +1,9 @@
+//! The table of size classes as text.
+#![tactic(auto)]
+
+mod write;
+
+pub use write::write_classes;
+
+#[cfg(test)]
+mod tests;
