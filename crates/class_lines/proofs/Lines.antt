@@ -29,20 +29,24 @@ split_lines (suc k) n =
 pub one_more : (a b c : Option (List ℕ)) (w0 w1 w2 piece : List ℕ) (n : ℕ) → Puts a b w0 w1 (text (lines_to n)) → piece ≡ class_line (n + 1) ++ 10 ∷ [] → Puts b c w1 w2 piece → Puts a c w0 w2 (text (lines_to (n + 1)))
 one_more a b c w0 w1 w2 piece n first line then = rw (more_lines n, ← line) (puts-then a b c w0 w1 w2 (text (lines_to n)) piece first then)
 
+the_text : (n : ℕ) → n ≡ 67 → classes_text ≡ text (lines_to n)
+unfolding classes_text
+the_text n e = ap (λ (m : ℕ). text (lines_to m)) (sym e)
+
 -- a write failed behind the first lines
 pub front_at : (a b c : Option (List ℕ)) (w0 w1 w2 : List ℕ) (n : ℕ) → n ≤ 67 → w0 ≡ [] → Puts a b w0 w1 (text (lines_to n)) → Sends b c w2 w1 → AppendsFront a c classes_text
 front_at a b c w0 w1 w2 n le none first sends =
     let start : Puts a b [] w1 (text (lines_to n)) = rw none at first in
     let split = split_lines (67 - n) n in
-    let all : classes_text ≡ text (lines_to n) ++ split.0 = ap (λ (m : ℕ). text (lines_to m)) (omega arith) ∙ split.1 in
-    rw all (sent_front a c w2 (text (lines_to n) ++ split.0) (front_then a b c [] w1 w2 (text (lines_to n)) split.0 start (front_nothing b c w1 w2 split.0 sends)))
+    let all : classes_text ≡ text (lines_to n) ++ split.0 = the_text (n + (67 - n)) (omega arith) ∙ split.1 in
+    subst (λ (t : List ℕ). AppendsFront a c t) (sym all) (sent_front a c w2 (text (lines_to n) ++ split.0) (front_then a b c [] w1 w2 (text (lines_to n)) split.0 start (front_nothing b c w1 w2 split.0 sends)))
 
 -- all was put, and what waits is sent
 pub all_put : (a b c : Option (List ℕ)) (w0 w1 w2 : List ℕ) (n : ℕ) → n ≡ 67 → w0 ≡ [] → Puts a b w0 w1 (text (lines_to n)) → Sends b c w2 w1 → Puts a c [] w2 classes_text
 all_put a b c w0 w1 w2 n end none first sends =
     let start : Puts a b [] w1 (text (lines_to n)) = rw none at first in
     let whole = puts-then a b c [] w1 w2 (text (lines_to n)) [] start (puts_nothing b c w1 w2 sends) in
-    let same : text (lines_to n) ++ [] ≡ classes_text = append-nil (text (lines_to n)) ∙ ap (λ (m : ℕ). text (lines_to m)) end in
+    let same : text (lines_to n) ++ [] ≡ classes_text = append-nil (text (lines_to n)) ∙ sym (the_text n end) in
     subst (λ (t : List ℕ). Puts a c [] w2 t) same whole
 
 pub all_front : (a c : Option (List ℕ)) (w2 : List ℕ) → Puts a c [] w2 classes_text → AppendsFront a c classes_text

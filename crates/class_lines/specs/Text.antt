@@ -14,5 +14,5 @@ lines_to zero = []
 lines_to (suc class) = lines_to class ++ class_line (suc class) ∷ []
 
 -- The lines of all classes.
-abbrev pub classes_text : List ℕ
+unfoldable pub classes_text : List ℕ
 classes_text = text (lines_to 67)

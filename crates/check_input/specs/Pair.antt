@@ -1,0 +1,56 @@
+-- A trace, and directly behind it a report.
+use Rattle.std.specs.Prelude.{◌≡◌, ℕ, ◌≤◌, List, ◌++◌, length, Option, Some, Result, IsErrOf}
+use Rattle.std.specs.Io.KnownBytes.{Consumes, IsAtEnd}
+use Rattle.edge_io.specs.Causes.{Rose}
+use Rattle.trace_reader.specs.declared.trace.Trace.{Trace}
+use Rattle.trace_reader.specs.declared.fault.TraceFault.{TraceFault}
+use Rattle.trace_reader.specs.declared.fault.TraceFault.TheVariants.{ReadFault as TraceReadFault}
+use Rattle.trace_reader.specs.Limits.{IsPlain, Spells}
+use Rattle.trace_reader.specs.Refusal.{fault_in, needs_later}
+use Rattle.trace_reader.specs.Told.{IsOfTrace}
+use Rattle.cycle_history.specs.declared.Report.{Report}
+use Rattle.report_text.specs.declared.fault.ReportFault.{ReportFault}
+use Rattle.report_text.specs.declared.fault.ReportFault.TheVariants.{ReadFault as ReportReadFault}
+use Rattle.report_text.specs.Read.{IsOfReport, IsText}
+use Rattle.report_text.specs.Refusal.{IsRefusal}
+use Rattle.check_input.specs.declared.stop.Stop.{Stop}
+use Rattle.check_input.specs.declared.stop.Stop.TheVariants.{Trace as OfTrace, Report as OfReport}
+
+-- The bytes spell a trace that needs nothing later, and behind it stands the text of a report of at most 4294967296 bytes.
+pub record ArePair (bytes : List ℕ) (trace : Trace) (report : Report) : Type 0 where
+  pub front : List ℕ
+  pub rest : List ℕ
+  pub split : bytes ≡ front ++ rest
+  pub spelled : Spells front trace
+  pub plain : IsPlain trace
+  pub text : IsText rest report
+  pub room : length rest ≤ 4294967296
+
+-- The bytes that were read are those, and nothing is left.
+abbrev pub ReadsPair : Option (List ℕ) → Option (List ℕ) → Trace → Report → Type 0
+ReadsPair left left' trace report = (bytes : List ℕ) × Consumes left left' bytes × IsAtEnd left' × ArePair bytes trace report
+
+-- The fault of a trace at the front of the bytes, whatever is thought of what stands behind its last line.
+abbrev pub IsTraceFault : List ℕ → TraceFault → Type 0
+IsTraceFault bytes fault = (behind : ℕ → List (List ℕ) → Option TraceFault) → fault_in needs_later behind 0 67108864 bytes ≡ Some fault
+
+-- A whole trace that needs nothing later stands at the front of the bytes, and this is the refusal of what stands behind it.
+pub record IsReportFault (bytes : List ℕ) (fault : ReportFault) : Type 0 where
+  pub front : List ℕ
+  pub rest : List ℕ
+  pub split : bytes ≡ front ++ rest
+  pub trace : Trace
+  pub spelled : Spells front trace
+  pub plain : IsPlain trace
+  pub refusal : IsRefusal 0 4294967296 rest fault
+
+-- Where the source told its bytes, a fault that is not the source's or memory's is theirs.
+abbrev pub Refuses : Option (List ℕ) → Stop → Type 0
+Refuses left (OfTrace fault) = IsOfTrace fault → (bytes : List ℕ) → left ≡ Some bytes → IsTraceFault bytes fault
+Refuses left (OfReport fault) = IsOfReport fault → (bytes : List ℕ) → left ≡ Some bytes → IsReportFault bytes fault
+
+-- A read fault is told only where the count rose.
+pub record HasReadCause {T : Type 0} (before now : ℕ) (result : Result T Stop) : Type 0 where
+  pub later : before ≤ now
+  pub in_trace : IsErrOf result (OfTrace TraceReadFault) → Rose before now
+  pub in_report : IsErrOf result (OfReport ReportReadFault) → Rose before now
