@@ -12,6 +12,7 @@ use Rattle.edge_io.specs.Reading.{is_dry, line_of, lines_left, number_of, room_o
 use Rattle.edge_io.specs.Text.{text}
 use Rattle.trace_reader.specs.Refusal.{next_number}
 use Rattle.trace_reader.specs.Taken.{IsEnded, StandsInLine, Takes}
+use Rattle.trace_reader.specs.Told.{BreaksInLine}
 use Rattle.trace_reader.proofs.Reading.{All-append, Shown, fault_behind, known_rest}
 use Rattle.cycle_history.specs.declared.Report.{Report}
 use Rattle.report_text.specs.declared.item.Item.{Item}
@@ -21,7 +22,7 @@ use Rattle.report_text.specs.declared.fault.ReportFault.TheVariants.{Malformed}
 use Rattle.report_text.specs.Items.{AreInTurn, ItemFits, MayFollow, Says, last_of, line_for}
 use Rattle.report_text.specs.Gathered.{IsEmpty, with_item}
 use Rattle.report_text.specs.Refusal.{IsOffence, number_behind, told}
-use Rattle.report_text.specs.Read.{Offends, Reads, Refuses, TakesItem}
+use Rattle.report_text.specs.Read.{BreaksOff, Offends, Reads, Refuses, TakesItem}
 use Rattle.report_text.proofs.OneSaid.{one_said}
 use Rattle.report_text.proofs.Turns.{body, rank_of, told_text}
 use Rattle.report_text.proofs.Stage.{Stage, body_more}
@@ -162,6 +163,24 @@ stands_on left a b c xs read stands =
       stands.4,
       omega arith,
     )
+
+-- a read that failed behind the lines so far
+pub broken_on : {S : Type 0} (left : S → Option (List ℕ)) (a b c : Lines S) (xs : List Item) → HasRead left a b xs → AreInTurn None xs → BreaksInLine left b c → number_of c ≡ next_number (number_of b) → BreaksOff left a c
+broken_on left a b c xs read turn breaks next =
+    let number = read.number in
+    let room = read.taken.room in
+    let more = breaks.in_line.room in
+    let len = length-append (told xs) (line_of c) in
+    record {
+      items = xs;
+      front = line_of c;
+      taken = Consumes-trans _ _ _ (told xs) (line_of c) read.taken.taken breaks.in_line.taken;
+      in_turn = turn;
+      is_line = breaks.in_line.is_line;
+      room = omega arith;
+      number = omega arith;
+      all_used = breaks.all_used;
+    }
 
 -- ---- the whole text
 

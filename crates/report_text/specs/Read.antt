@@ -1,21 +1,21 @@
 -- What reading a report takes, and what it answers.
-use Rattle.std.specs.Prelude.{◌≡◌, ℕ, ◌^◌, ◌<◌, ◌≤◌, List, [], ◌∷◌, ◌++◌, length, false, Option, Some, Result, IfErr, IsErrOf}
+use Rattle.std.specs.Prelude.{◌≡◌, ℕ, ◌^◌, ◌<◌, ◌≤◌, List, [], ◌∷◌, ◌++◌, length, false, Option, Some, None, Result, IfErr, IsErrOf}
 use Rattle.std.specs.Io.KnownBytes.{Consumes, IsAtEnd}
 use Rattle.edge_io.specs.declared.lines.Lines.{Lines}
 use Rattle.edge_io.specs.Causes.{Rose}
-use Rattle.edge_io.specs.Reading.{is_dry, lines_left, number_of, room_of}
+use Rattle.edge_io.specs.Reading.{is_dry, lines_left, number_of, room_of, source_of}
 use Rattle.cycle_history.specs.declared.Report.{Report}
 use Rattle.cycle_history.specs.Orders.{AreRisingProfile, AreRisingSweeps, AreRisingTotals}
 use Rattle.cycle_history.specs.Text.{report_text}
 use Rattle.report_text.specs.declared.item.Item.{Item}
 use Rattle.report_text.specs.declared.fault.ReportFault.{ReportFault}
-use Rattle.report_text.specs.declared.fault.ReportFault.TheVariants.{ReadFault, NoMemory}
+use Rattle.report_text.specs.declared.fault.ReportFault.TheVariants.{ReadFault, Malformed, Truncated, Limit, NoMemory}
 use Rattle.trace_reader.specs.Refusal.{next_number}
 use Rattle.trace_reader.specs.Taken.{Takes}
 use Rattle.edge_io.specs.Line.{IsLine}
-use Rattle.report_text.specs.Items.{ItemFits, MayFollow, line_for}
+use Rattle.report_text.specs.Items.{AreInTurn, ItemFits, MayFollow, line_for}
 use Rattle.report_text.specs.Unique.{FitsTypes}
-use Rattle.report_text.specs.Refusal.{IsOffence, IsRefusal, number_behind}
+use Rattle.report_text.specs.Refusal.{IsOffence, IsRefusal, number_behind, told}
 
 -- The bytes are the text of a report: each number fits its type, and the lists are in their orders.
 pub record IsText (bytes : List ℕ) (report : Report) : Type 0 where
@@ -66,6 +66,26 @@ TellsOffence left lines before result = IfErr result (λ fault. IsOfReport fault
 pub record HasReadCause {T : Type 0} (before now : ℕ) (result : Result T ReportFault) : Type 0 where
   pub later : before ≤ now
   pub fault : IsErrOf result ReadFault → Rose before now
+
+-- If the fault is one of a line, it is of the line with this number.
+abbrev pub IsAtLine : ℕ → ReportFault → Type 0
+IsAtLine number ReadFault = Unit {0}
+IsAtLine number (Malformed line) = line ≡ number
+IsAtLine number (Truncated line) = line ≡ number
+IsAtLine number (Limit line) = line ≡ number
+IsAtLine number NoMemory = Unit {0}
+
+-- A read failed behind lines in turn and a front of the next line, whose number the lines have, and all that the source
+-- gave was read.
+pub record BreaksOff {S : Type 0} (left : S → Option (List ℕ)) (old new : Lines S) : Type 0 where
+  pub items : List Item
+  pub front : List ℕ
+  pub taken : Consumes (lines_left left old) (lines_left left new) (told items ++ front)
+  pub in_turn : AreInTurn None items
+  pub is_line : IsLine front
+  pub room : length (told items ++ front) ≤ room_of old
+  pub number : number_of new ≡ number_behind (number_of old) (length items)
+  pub all_used : lines_left left new ≡ left (source_of new)
 
 -- A line that says this was read, and it may stand behind one that says `before`.
 pub record TakesItem {S : Type 0} (left : S → Option (List ℕ)) (old new : Lines S) (before : Option Item) (item : Item) : Type 0 where

@@ -1,14 +1,16 @@
 //! Reading a report, line by line.
 
-ghost use Rattle.std.specs.Prelude.{◌≡◌, ◌≢◌, [], ◌∷◌, ◌++◌, IfErr, IfOk, MatchResult, OnOk, Some};
+ghost use Rattle.std.specs.Prelude.{◌≡◌, ◌≢◌, [], ◌∷◌, ◌++◌, IfErr, IfOk, IsErrOf, MatchResult, OnOk, Some};
 ghost use Rattle.edge_io.specs.Line.{IsLine};
 ghost use Rattle.edge_io.specs.Reading.{IsSameSource, line_of, number_of, source_of};
 ghost use Rattle.trace_reader.specs.Refusal.{next_number};
 ghost use Rattle.trace_reader.specs.Taken.{IsEnded, StandsInLine, Takes};
+ghost use Rattle.trace_reader.specs.Told.{BreaksInLine};
 ghost use Rattle.cycle_history.specs.declared.Report.{Report as AReport};
+ghost use Rattle.report_text.specs.declared.fault.ReportFault.TheVariants.{ReadFault};
 ghost use Rattle.report_text.specs.declared.item.Item.TheVariants.{End};
 ghost use Rattle.report_text.specs.Gathered.{IsEmpty, with_item};
-ghost use Rattle.report_text.specs.Read.{HasReadCause, IsAhead, IsOfReport, Reads, Refuses, TakesItem, TellsOffence};
+ghost use Rattle.report_text.specs.Read.{BreaksOff, HasReadCause, IsAhead, IsAtLine, IsOfReport, Reads, Refuses, TakesItem, TellsOffence};
 
 use crate::fault::ReportFault;
 use crate::item::Item;
@@ -19,7 +21,8 @@ use std::alloc::Global;
 
 /// Reads a report to the end of the input. Lines are counted from the number that they stand at, and bytes against what is
 /// left of the limit. A refusal of the report tells the first line with which the lines so far begin no report's text; the
-/// lines then stand behind what was read of that line. [`ReportFault::ReadFault`] comes only where the source's count rose.
+/// lines then stand behind what was read of that line. [`ReportFault::ReadFault`] comes only where the source's count rose, and
+/// only behind lines that nothing is wrong with, before the byte or the end of the input that ends the next one.
 pub fn read_report<S: Source>(
     alloc: Global,
     lines: &mut Lines<'_, S>,
@@ -29,6 +32,8 @@ pub fn read_report<S: Source>(
     ensures refused { IfErr result (λ fault. IsOfReport fault → Refuses S.left lines.old fault) }
     ensures complete { (report : AReport) → IsAhead S.left lines.old report
         → MatchResult result (λ read. read ≡ report) (λ fault. IsOfReport fault → ⊥) }
+    ensures at_line { IfErr result (IsAtLine (number_of lines.new)) }
+    ensures broken_off { IsErrOf result ReadFault → BreaksOff S.left lines.old lines.new }
     ensures stands { StandsInLine S.left lines.old lines.new }
     ensures cause { HasReadCause (S.faults (source_of lines.old)) (S.faults (source_of lines.new)) result }
 {
@@ -42,6 +47,8 @@ fn read_onto<S: Source>(lines: &mut Lines<'_, S>, mut report: Report) -> Result<
     ensures same_source { IsSameSource lines.old lines.new }
     ensures read { IfOk result (λ report. Reads S.left lines.old lines.new report) }
     ensures refused { IfErr result (λ fault. IsOfReport fault → Refuses S.left lines.old fault) }
+    ensures at_line { IfErr result (IsAtLine (number_of lines.new)) }
+    ensures broken_off { IsErrOf result ReadFault → BreaksOff S.left lines.old lines.new }
     ensures stands { StandsInLine S.left lines.old lines.new }
     ensures cause { HasReadCause (S.faults (source_of lines.old)) (S.faults (source_of lines.new)) result }
 {
@@ -63,6 +70,9 @@ fn next_item<S: Source>(lines: &mut Lines<'_, S>, before: Option<Item>) -> Resul
     ensures same_source { IsSameSource lines.old lines.new }
     ensures told { IfOk result (λ item. TakesItem S.left lines.old lines.new before item) }
     ensures refused { TellsOffence S.left lines.old before result }
+    ensures at_line { IfErr result (IsAtLine (number_of lines.new)) }
+    ensures broken_off { IsErrOf result ReadFault → BreaksInLine S.left lines.old lines.new }
+    ensures number { number_of lines.new ≡ next_number (number_of lines.old) }
     ensures stands { StandsInLine S.left lines.old lines.new }
     ensures cause { HasReadCause (S.faults (source_of lines.old)) (S.faults (source_of lines.new)) result }
 {
@@ -108,6 +118,8 @@ fn read_line<S: Source>(lines: &mut Lines<'_, S>, before: Option<Item>) -> Resul
     ensures is_line { OnOk result (IsLine (line_of lines.new)) }
     ensures number { number_of lines.new ≡ next_number (number_of lines.old) }
     ensures refused { TellsOffence S.left lines.old before result }
+    ensures at_line { IfErr result (IsAtLine (number_of lines.new)) }
+    ensures broken_off { IsErrOf result ReadFault → BreaksInLine S.left lines.old lines.new }
     ensures stands { StandsInLine S.left lines.old lines.new }
     ensures cause { HasReadCause (S.faults (source_of lines.old)) (S.faults (source_of lines.new)) result }
 {
@@ -127,6 +139,9 @@ fn expect_end<S: Source>(lines: &mut Lines<'_, S>) -> Result<(), ReportFault>
     ensures same_source { IsSameSource lines.old lines.new }
     ensures ended { OnOk result (IsEnded S.left lines.old lines.new) }
     ensures refused { TellsOffence S.left lines.old (Some End) result }
+    ensures at_line { IfErr result (IsAtLine (number_of lines.new)) }
+    ensures broken_off { IsErrOf result ReadFault → BreaksInLine S.left lines.old lines.new }
+    ensures number { number_of lines.new ≡ next_number (number_of lines.old) }
     ensures stands { StandsInLine S.left lines.old lines.new }
     ensures cause { HasReadCause (S.faults (source_of lines.old)) (S.faults (source_of lines.new)) result }
 {

@@ -3,7 +3,7 @@ use Rattle.std.proofs.lemmas.Result.{err_from_is_err_and}
 use Rattle.report_text.specs.declared.item.Item.TheVariants.{End}
 use Rattle.report_text.specs.Items.{MayFollow}
 use Rattle.report_text.specs.Read.{TakesItem}
-use Rattle.report_text.proofs.Reading.{is_open, not_last, read_more, read_nothing, read_one, reads_all, refuses_on, room_falls, stands_on}
+use Rattle.report_text.proofs.Reading.{broken_on, is_open, not_last, read_more, read_nothing, read_one, reads_all, refuses_on, room_falls, stands_on}
 use Rattle.report_text.proofs.Stage.{Stage, stage_more, stage_start, empty_body}
 use Rattle.report_text.proofs.Turns.{body, in_turn_more, last_of_more}
 use Rattle.report_text.proofs.reader.read_onto.Goals as goal
@@ -76,3 +76,27 @@ loop-report-preserved g c =
       stage = subst (Stage (Some x)) (sym c.in_ok-put.ensures) (stage_more c.loop-report.before c.loop-report.report x stage told.fits told.follows (not_last x other));
       faults = search rules;
     }
+
+pub returns-in_err-item-clause-at_line : goal.returns-in_err-item-clause-at_line
+returns-in_err-item-clause-at_line g c = let p = err_from_is_err_and c.from_residual.result c.from_residual.ensures.1 in rw (p.1, p.2) c.in_err-item.ensures.at_line
+
+pub returns-in_err-item-clause-broken_off : goal.returns-in_err-item-clause-broken_off
+returns-in_err-item-clause-broken_off g c =
+    let p = err_from_is_err_and c.from_residual.result c.from_residual.ensures.1 in
+    rw (p.1, p.2) (λ e. broken_on g.S.Source.left c.args.lines.now c.loop-report.lines c.next_item.new.lines (body c.loop-report.report) c.loop-report.invariant.read c.loop-report.invariant.stage.in_turn (c.in_err-item.ensures.broken_off cc) c.next_item.ensures.number)
+
+pub returns-in_err-expect_end-clause-at_line : goal.returns-in_err-expect_end-clause-at_line
+returns-in_err-expect_end-clause-at_line g c =
+    let p = err_from_is_err_and c.from_residual-in_err-expect_end.result c.from_residual-in_err-expect_end.ensures.1 in rw (p.1, p.2) c.in_err-expect_end.ensures.at_line
+
+pub returns-in_err-expect_end-clause-broken_off : goal.returns-in_err-expect_end-clause-broken_off
+returns-in_err-expect_end-clause-broken_off g c =
+    let stage = c.loop-report.invariant.stage in
+    let told = c.in_ok-item.ensures.told in
+    let r = c.loop-report.report in
+    let x = c.in_ok-item.item in
+    let follows = subst (λ b. MayFollow b x) (sym stage.last) told.follows in
+    let p = err_from_is_err_and c.from_residual-in_err-expect_end.result c.from_residual-in_err-expect_end.ensures.1 in
+    rw (p.1, p.2) (λ e. broken_on g.S.Source.left c.args.lines.now c.next_item.new.lines c.expect_end.new.lines (body r ++ x ∷ [])
+    (read_one g.S.Source.left c.args.lines.now c.loop-report.lines c.next_item.new.lines (body r) c.loop-report.before x c.loop-report.invariant.read told)
+    (in_turn_more None (body r) x stage.in_turn told.fits follows) (c.in_err-expect_end.ensures.broken_off cc) c.expect_end.ensures.number)
