@@ -1,5 +1,6 @@
 -- The lines of the classes, one after another.
-use Rattle.std.proofs.Common.{◌≡◌, ℕ, zero, suc, ◌+◌, ◌-◌, ◌≤◌, List, [], ◌∷◌, ◌++◌, Option, refl, sym, ap, ◌∙◌, subst, arith, add-one, append_assoc}
+use Rattle.std.proofs.Common.{◌≡◌, ℕ, zero, suc, ◌+◌, ◌-◌, ◌≤◌, List, [], ◌∷◌, ◌++◌, Option, codes, sym, ap, ◌∙◌, subst, arith, add-one, append_assoc}
+use Rattle.std.specs.List.{concat}
 use Rattle.std.specs.Io.KnownBytes.{Appends}
 use Rattle.std.proofs.lemmas.List.{append-nil}
 use Rattle.edge_io.specs.Front.{AppendsFront, Sends}
@@ -8,15 +9,20 @@ use Rattle.edge_io.specs.Text.{text}
 use Rattle.edge_io.proofs.Put.{front_nothing, front_then, puts-then, puts_nothing, sent_all, sent_front, text-append, whole_front}
 use Rattle.class_lines.specs.Text.{class_line, classes_text, lines_to}
 
+pub line_form : (a b c d : List ℕ) → (((((((codes "c " ++ a) ++ codes " ") ++ b) ++ codes " ") ++ c) ++ codes " ") ++ d) ++ 10 ∷ []
+    ≡ concat (codes "c " ∷ a ∷ codes " " ∷ b ∷ codes " " ∷ c ∷ codes " " ∷ d ∷ []) ++ 10 ∷ []
+line_form a b c d = simp append_assoc
+
 pub no_lines : (a : Option (List ℕ)) (w : List ℕ) → Puts a a w w [] → Puts a a w w (text (lines_to 0))
 unfolding lines_to
 no_lines a w puts = puts
 
+line_more : (n : ℕ) → text (lines_to (suc n)) ≡ text (lines_to n) ++ (class_line (suc n) ++ 10 ∷ [])
+unfolding lines_to
+line_more n = text-append (lines_to n) (class_line (suc n) ∷ []) ∙ ap (λ (t : List ℕ). text (lines_to n) ++ t) (append-nil (class_line (suc n) ++ 10 ∷ []))
+
 more_lines : (n : ℕ) → text (lines_to (n + 1)) ≡ text (lines_to n) ++ (class_line (n + 1) ++ 10 ∷ [])
-more_lines n = rw add-one (step n) where
-  step : (n : ℕ) → text (lines_to (suc n)) ≡ text (lines_to n) ++ (class_line (suc n) ++ 10 ∷ [])
-  unfolding lines_to
-  step n = text-append (lines_to n) (class_line (suc n) ∷ []) ∙ ap (λ (t : List ℕ). text (lines_to n) ++ t) (append-nil (class_line (suc n) ++ 10 ∷ []))
+more_lines n = subst (λ (m : ℕ). text (lines_to m) ≡ text (lines_to n) ++ (class_line m ++ 10 ∷ [])) (sym (add-one n)) (line_more n)
 
 -- all lines begin with the first ones
 split_lines : (k n : ℕ) → (rest : List ℕ) × (text (lines_to (n + k)) ≡ text (lines_to n) ++ rest)
