@@ -3,16 +3,15 @@ use Rattle.std.proofs.Common.{◌≡◌, ℕ, ◌≤◌, false, List, [], ◌∷
 use Rattle.std.specs.Io.KnownBytes.{Consumes, IsAtEnd, prepend_known}
 use Rattle.std.proofs.KnownBytes.{Consumes-trans}
 use Rattle.edge_io.specs.declared.lines.Lines.{Lines}
-use Rattle.edge_io.specs.Reading.{is_dry, lines_left, number_of, room_of, source_of}
+use Rattle.edge_io.specs.Reading.{is_dry, lines_left, room_of, source_of}
 use Rattle.trace_reader.specs.declared.trace.Trace.{Trace}
-use Rattle.trace_reader.specs.Limits.{IsPlain, Spells}
 use Rattle.trace_reader.specs.Read.{Reads}
-use Rattle.trace_reader.proofs.Reading.{known_rest}
 use Rattle.cycle_history.specs.declared.Report.{Report}
-use Rattle.report_text.specs.declared.fault.ReportFault.{ReportFault}
-use Rattle.report_text.specs.Read.{IsOfReport, Refuses, Reads as ReadsReport}
-use Rattle.report_text.specs.Refusal.{IsRefusal}
-use Rattle.check_input.specs.Pair.{IsReportFault, ReadsPair}
+use Rattle.report_text.specs.Read.{Reads as ReadsReport}
+use Rattle.check_input.specs.declared.stop.Stop.{Stop}
+use Rattle.check_input.specs.declared.stop.Stop.TheVariants.{Trace as OfTrace, Report as OfReport, Verdict as OfVerdict}
+use Rattle.check_input.specs.Judged.{Stops}
+use Rattle.check_input.specs.Pair.{ReadsPair, Refuses}
 
 -- at the end of the lines nothing is left of the source
 source_ended : (ahead : List ℕ) (a left : Option (List ℕ)) (bytes : List ℕ) → Consumes a (prepend_known ahead left) bytes → IsAtEnd (prepend_known ahead left) → Consumes a left bytes × IsAtEnd left
@@ -27,28 +26,23 @@ reads_pair left a b c d trace report read limit same dry wet room reads =
     let rest = reads.bytes in
     let taken : Consumes (lines_left left b) (lines_left left d) rest = subst (λ (o : Option (List ℕ)). Consumes o (lines_left left d) rest) same reads.taken in
     let all = Consumes-trans (lines_left left a) (lines_left left b) (lines_left left d) front rest read.1 taken in
-    let ended = source_ended _ (lines_left left a) (left (source_of d)) (front ++ rest) all (reads.ended (dry ∙ wet)) in
-    (front ++ rest, ended.0, ended.1, record {
-      front = front;
-      rest = rest;
-      split = refl;
-      spelled = rw limit at read.2;
-      plain = read.3;
-      text = reads.text;
-      room = rw room at reads.room;
-    })
+    let ended = source_ended _ (lines_left left a) (left (source_of d)) (front ++ rest) all (reads.ended (dry ∙ wet)) in (
+      front ++ rest,
+      ended.0,
+      ended.1,
+      record {
+        front = front;
+        rest = rest;
+        split = refl;
+        spelled = rw limit at read.2;
+        plain = read.3;
+        text = reads.text;
+        room = rw room at reads.room;
+      },
+    )
 
-pub report_refused : {S : Type 0} (left : S → Option (List ℕ)) (a b c : Lines S) (trace : Trace) (fault : ReportFault) → Reads left a b trace → room_of a ≡ 67108864 → lines_left left c ≡ lines_left left b → is_dry c ≡ is_dry b → is_dry b ≡ false
-    → room_of c ≡ 4294967296 → number_of c ≡ 0 → (IsOfReport fault → Refuses left c fault) → IsOfReport fault → (bytes : List ℕ) → lines_left left a ≡ Some bytes → IsReportFault bytes fault
-report_refused left a b c trace fault read limit same dry wet room number refused of bytes e =
-    let known = known_rest (lines_left left a) (lines_left left b) read.0 bytes read.1 e in
-    let refusal = refused of (dry ∙ wet) known.0 (same ∙ known.1) in
-    record {
-      front = read.0;
-      rest = known.0;
-      split = known.2;
-      trace = trace;
-      spelled = rw limit at read.2;
-      plain = read.3;
-      refusal = subst (λ (r : ℕ). IsRefusal 0 r known.0 fault) room (subst (λ (n : ℕ). IsRefusal n (room_of c) known.0 fault) number refusal);
-    }
+-- what was not read was not judged
+pub stops_before : (broken : Trace → Report → ℕ → ℕ → Type 0) (left left' : Option (List ℕ)) (stop : Stop) → Refuses left stop → Stops broken left left' stop
+stops_before broken left left' (OfTrace fault) refused = refused
+stops_before broken left left' (OfReport fault) refused = refused
+stops_before broken left left' (OfVerdict verdict) refused = absurd refused

@@ -14,7 +14,7 @@ use Rattle.report_text.specs.declared.fault.ReportFault.TheVariants.{ReadFault a
 use Rattle.report_text.specs.Read.{IsOfReport, IsText}
 use Rattle.report_text.specs.Refusal.{IsRefusal}
 use Rattle.check_input.specs.declared.stop.Stop.{Stop}
-use Rattle.check_input.specs.declared.stop.Stop.TheVariants.{Trace as OfTrace, Report as OfReport}
+use Rattle.check_input.specs.declared.stop.Stop.TheVariants.{Trace as OfTrace, Report as OfReport, Verdict as OfVerdict}
 
 -- The bytes spell a trace that needs nothing later, and behind it stands the text of a report of at most 4294967296 bytes.
 pub record ArePair (bytes : List ℕ) (trace : Trace) (report : Report) : Type 0 where
@@ -44,10 +44,11 @@ pub record IsReportFault (bytes : List ℕ) (fault : ReportFault) : Type 0 where
   pub plain : IsPlain trace
   pub refusal : IsRefusal 0 4294967296 rest fault
 
--- Where the source told its bytes, a fault that is not the source's or memory's is theirs.
+-- Where the source told its bytes, a fault that is not the source's or memory's is theirs. Nothing was judged yet.
 abbrev pub Refuses : Option (List ℕ) → Stop → Type 0
 Refuses left (OfTrace fault) = IsOfTrace fault → (bytes : List ℕ) → left ≡ Some bytes → IsTraceFault bytes fault
 Refuses left (OfReport fault) = IsOfReport fault → (bytes : List ℕ) → left ≡ Some bytes → IsReportFault bytes fault
+Refuses left (OfVerdict verdict) = ⊥
 
 -- A read fault is told only where the count rose.
 pub record HasReadCause {T : Type 0} (before now : ℕ) (result : Result T Stop) : Type 0 where

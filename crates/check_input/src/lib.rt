@@ -1,11 +1,13 @@
 //! The input of `check`: a trace, and directly behind it a report.
 #![tactic(auto)]
 
+mod judge;
 mod read;
 mod stop;
 
+pub use judge::{Judge, check_input};
 pub use read::read_pair;
-pub use stop::Stop;
+pub use stop::{Stop, Verdict};
 
 #[cfg(test)]
 mod tests;

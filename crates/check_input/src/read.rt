@@ -29,10 +29,7 @@ pub fn read_pair<S: Source>(alloc: Global, input: &mut S) -> Result<(Trace, Repo
 }
 
 // Reads both from lines that nothing was read of.
-fn read_both<S: Source>(
-    alloc: Global,
-    lines: &mut Lines<'_, S>,
-) -> Result<(Trace, Report), Stop>
+fn read_both<S: Source>(alloc: Global, lines: &mut Lines<'_, S>) -> Result<(Trace, Report), Stop>
     requires fresh { is_dry lines.old ≡ false }
     requires room { room_of lines.old ≡ 67108864 }
     requires number { number_of lines.old ≡ 0 }
