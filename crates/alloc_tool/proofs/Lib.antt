@@ -15,3 +15,4 @@ pub mod Faults
 pub mod OneWord
 pub mod Outcomes
 pub mod Broken
+pub mod Plain

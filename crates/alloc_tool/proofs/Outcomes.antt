@@ -9,7 +9,7 @@ use Rattle.trace_reader.specs.declared.fault.TraceFault.TheVariants.{ReadFault, 
 use Rattle.trace_reader.specs.Told.{IsOfTrace}
 use Rattle.cycle_history.specs.declared.Report.{Report}
 use Rattle.cycle_history.specs.Text.{report_text}
-use Rattle.alloc_tool.specs.Texts.{fault_status, fault_text, status_text, usage, write_fault}
+use Rattle.alloc_tool.specs.Texts.{fault_status, fault_text, status_text, write_fault}
 use Rattle.alloc_tool.specs.Told.{Tells}
 use Rattle.alloc_tool.specs.Top.{BreaksOff, IsAnswer, IsRefused}
 use Rattle.alloc_tool.specs.WholeInput.{ReadsAll}
@@ -79,22 +79,4 @@ written_outcome left reads held writes shown tells input input' output output' e
   told = λ _ _. subst (λ (k : ℕ). Tells shown tells errors errors' (status_text k)) (sym is) told;
 } where
   clash : (k : ℕ) → (6 ≡ k → ⊥) → status ≡ k → ⊥
-  clash k apart e = apart (sym is ∙ e)
-
--- other words
-pub usage_outcome : {S K E : Type 0} (left : S → Option (List ℕ)) (reads : S → ℕ) (held : K → Option (List ℕ)) (writes : K → ℕ) (shown : E → Option (List ℕ)) (tells : E → ℕ)
-    (input input' : S) (output output' : K) (errors errors' : E) (status : ℕ) → status ≡ 2 → output' ≡ output → Tells shown tells errors errors' usage
-    → Outcome left reads held writes shown tells input input' output output' errors errors' status
-usage_outcome left reads held writes shown tells input input' output output' errors errors' status is same told = record {
-  answered = λ e. absurd (clash 0 (λ f. cc) e);
-  silent = λ e. absurd (clash 0 (λ f. cc) e);
-  refused = λ e. absurd (clash 3 (λ f. cc) e);
-  read_fault = λ e. absurd (clash 5 (λ f. cc) e);
-  broken_off = λ e. absurd (clash 5 (λ f. cc) e);
-  write_fault = λ e. absurd (clash 6 (λ f. cc) e);
-  partly_written = λ e. absurd (clash 6 (λ f. cc) e);
-  unwritten = λ _ _. same;
-  told = λ _ _. subst (λ (k : ℕ). Tells shown tells errors errors' (status_text k)) (sym is) told;
-} where
-  clash : (k : ℕ) → (2 ≡ k → ⊥) → status ≡ k → ⊥
   clash k apart e = apart (sym is ∙ e)

@@ -10,3 +10,4 @@ pub mod Top
 pub mod Outcome
 pub mod WholeInput
 pub mod Words
+pub mod Plain

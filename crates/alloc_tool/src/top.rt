@@ -1,20 +1,26 @@
 //! The whole program over any source and sinks.
 
-ghost use Rattle.std.specs.Prelude.{◌≡◌, ◌≢◌, ◌↔◌, false, List, ℕ, IfErr, IfOk, IsErrOf, IsTrue, Some};
+ghost use Rattle.std.specs.Prelude.{◌≡◌, ◌≢◌, ◌↔◌, ◌⊎◌, false, List, ℕ, IfErr, IfOk, IsErrOf, IsTrue, Some};
+ghost use Rattle.std.specs.Io.KnownBytes.{Appends};
+ghost use Rattle.edge_io.specs.Causes.{Rose};
+ghost use Rattle.edge_io.specs.Front.{AppendsFront};
 ghost use Rattle.edge_io.specs.Reading.{IsSameSource, is_dry, lines_left, number_of, room_of, source_of};
 ghost use Rattle.trace_reader.specs.declared.fault.TraceFault.TheVariants.{ReadFault};
 ghost use Rattle.trace_reader.specs.declared.trace.Trace.{Trace as ATrace};
 ghost use Rattle.trace_reader.specs.Limits.{IsPlain, Spells};
 ghost use Rattle.trace_reader.specs.Told.{HasReadCause, IsOfTrace};
+ghost use Rattle.class_lines.specs.Text.{classes_text};
 ghost use Rattle.alloc_tool.specs.Outcome.{Outcome};
-ghost use Rattle.alloc_tool.specs.Texts.{usage};
+ghost use Rattle.alloc_tool.specs.Plain.{Plain};
+ghost use Rattle.alloc_tool.specs.Texts.{status_text};
 ghost use Rattle.alloc_tool.specs.Told.{Tells};
 ghost use Rattle.alloc_tool.specs.Top.{BreaksOff, IsComplete, IsRefused, IsStatusOfRun, IsUndisturbed};
 ghost use Rattle.alloc_tool.specs.WholeInput.{ReadsAll};
-ghost use Rattle.alloc_tool.specs.Words.{IsRun};
+ghost use Rattle.alloc_tool.specs.Words.{IsRun, IsWord};
 
 use crate::run::report;
 use crate::tell::{refuse_trace, refuse_words, stop_writing};
+use class_lines::write_classes;
 use edge_io::{Gate, Lines, Sink, Source};
 use report_text::write_report;
 use std::alloc::Global;
@@ -38,42 +44,57 @@ pub fn goheap<R: Threads + Wait + Sync, S: Source, K: Sink, E: Sink, G: Gate>(
     errors: &mut E,
     _gate: &G,
 ) -> u8
-    ensures outcome { Outcome S.left S.faults K.held K.faults E.held E.faults input.old input.new output.old output.new errors.old errors.new result }
+    ensures outcome { IsRun words.now → Outcome S.left S.faults K.held K.faults E.held E.faults input.old input.new output.old output.new errors.old errors.new result }
     ensures run_words { IsRun words.now → IsStatusOfRun result }
-    ensures other_words { (IsRun words.now → ⊥) → result ≡ 2 }
-    ensures unread { result ≡ 2 → input.new ≡ input.old }
+    ensures other_words { (IsRun words.now → ⊥) → Plain K.held K.faults E.held E.faults words.now input.old input.new output.old output.new errors.old errors.new result }
     ensures complete { IsRun words.now → (bytes : List ℕ)
         → IsUndisturbed S.left S.faults K.faults input.old input.new output.old output.new bytes → IsComplete bytes result }
 {
-    if is_run(words) {
+    if is_word(words, "run") {
         run(alloc, input, output, errors)
     } else {
         goheap_plain(alloc, words, input, output, errors)
     }
 }
 
-/// Does what the words say where that needs no runtime, and answers the exit status. No words do yet, so that it
-/// answers 2 for all, also for `run` and `demo`, which need the runtime.
+/// Does what the words say where that needs no runtime, and answers the exit status. `classes` writes the table of size
+/// classes to `output`. All other words are not known yet, and `run` and `demo` need the runtime. Nothing is read.
 pub fn goheap_plain<S: Source, K: Sink, E: Sink>(
     _alloc: Global,
-    _words: &[String],
+    words: &[String],
     _input: &mut S,
-    _output: &mut K,
+    output: &mut K,
     errors: &mut E,
 ) -> u8
-    ensures status { result ≡ 2 }
-    ensures told { Tells E.held E.faults errors.old errors.new usage }
-    ensures unread { _input.new ≡ _input.old }
-    ensures unwritten { _output.new ≡ _output.old }
+    ensures { Plain K.held K.faults E.held E.faults words.now _input.old _input.new output.old output.new errors.old errors.new result }
 {
-    refuse_words(errors)
+    if is_word(words, "classes") {
+        classes(output, errors)
+    } else {
+        refuse_words(errors)
+    }
 }
 
-// Whether the words are the one word `run`.
-fn is_run(words: &[String]) -> bool
-    ensures { IsTrue result ↔ IsRun words.now }
+// Whether the words are this one word.
+fn is_word(words: &[String], word: &str) -> bool
+    ensures { IsTrue result ↔ IsWord word.now words.now }
 {
-    words.len() == 1 && words[0].as_str() == "run"
+    words.len() == 1 && words[0].as_str() == word
+}
+
+// Writes the size classes.
+fn classes<K: Sink, E: Sink>(output: &mut K, errors: &mut E) -> u8
+    ensures status { (result ≡ 0) ⊎ (result ≡ 6) }
+    ensures answered { result ≡ 0 → Appends (K.held output.old) (K.held output.new) classes_text }
+    ensures silent { result ≡ 0 → errors.new ≡ errors.old }
+    ensures write_fault { result ≡ 6 → Rose (K.faults output.old) (K.faults output.new) }
+    ensures partly_written { result ≡ 6 → AppendsFront (K.held output.old) (K.held output.new) classes_text }
+    ensures told { result ≡ 6 → Tells E.held E.faults errors.old errors.new (status_text 6) }
+{
+    match write_classes(output) {
+        Ok(()) => 0,
+        Err(_) => stop_writing(errors),
+    }
 }
 
 // Reads a trace, and writes its report.

@@ -213,7 +213,7 @@ fn good_headers_are_taken(rt: HostRuntime) -> Result<(), Fail> {
     Ok(())
 }
 
-// Of all words but `run` alone, the usage is told, and nothing is read or written.
+// Of all words but `run` or `classes` alone, the usage is told, and nothing is read or written.
 #[test]
 fn other_words_are_refused(rt: HostRuntime) -> Result<(), Fail> {
     let rows: [&[&str]; 16] = [
@@ -228,7 +228,7 @@ fn other_words_are_refused(rt: HostRuntime) -> Result<(), Fail> {
         &["run", "--background=5"],
         &["run", "--each", "--each"],
         &["check"],
-        &["classes"],
+        &["classes", ""],
         &["gen", "1", "0"],
         &["demo", "1", "2"],
         &["--help"],
@@ -243,6 +243,22 @@ fn other_words_are_refused(rt: HostRuntime) -> Result<(), Fail> {
         assert_eq!(rt; found.told.as_slice(), usage, "at {words:?}");
         assert_eq!(rt; found.written.len(), 0, "at {words:?}");
     }
+    Ok(())
+}
+
+// The table of size classes is written, and nothing is read.
+#[test]
+fn classes_are_written(rt: HostRuntime) -> Result<(), Fail> {
+    // A read would fail.
+    let found = call(&rt, &["classes"], b"goheap 1\n", &[0], &[])?;
+    assert_eq!(rt; found.status, 0);
+    assert!(rt; found.told.is_empty());
+    assert!(rt; found.written.as_slice().starts_with(b"c 1 8 1 1024\n"));
+    assert!(rt; found.written.as_slice().ends_with(b"\nc 67 32768 4 1\n"));
+    let found = call(&rt, &["classes"], b"", &[], &[0])?;
+    assert_eq!(rt; found.status, 6);
+    assert_eq!(rt; found.told.as_slice(), b"goheap: write fault\n".as_slice());
+    assert!(rt; found.written.is_empty());
     Ok(())
 }
 
