@@ -12,5 +12,6 @@ pub mod Notes
 pub mod Spans
 pub mod Places
 pub mod Marked
+pub mod Found
 pub mod MarkedLoops
 pub mod Counted

@@ -7,7 +7,7 @@
 //! `proofs/Ends.antt`, `proofs/Notes.antt` and `proofs/Walk.antt`.
 //!
 //! `marks_of` finds the places that a mark end marks, and `totals_of` counts the objects of each size class, from a trace
-//! and its answers: `specs/Places.antt`, `Marked.antt` and `Counted.antt`.
+//! and its answers: `specs/Places.antt`, `Found.antt`, `Marked.antt` and `Counted.antt`.
 #![tactic(auto)]
 
 mod laws;
@@ -22,6 +22,7 @@ pub use laws::{
 };
 pub use marks::marks_of;
 use page_bitmap::Line;
+pub use places::Place;
 use span_state::SweepNote;
 pub use totals::totals_of;
 
