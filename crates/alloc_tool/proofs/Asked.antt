@@ -13,9 +13,9 @@ use Rattle.cycle_history.specs.Needs.{Need, IsNeed}
 use Rattle.cycle_history.specs.Requests.{Request, Marking}
 use Rattle.cycle_history.specs.Objects.{Object}
 use Rattle.cycle_history.specs.Rules.{IsObject, AreAnswered}
-use Rattle.cycle_history.specs.Run.{Lasts}
-use Rattle.cycle_history.proofs.Ends.{start-run}
-use Rattle.cycle_history.proofs.Notes.{notes-start}
+use Rattle.sound_run.specs.Run.{Lasts}
+use Rattle.sound_run.proofs.Ends.{start-run}
+use Rattle.sound_run.proofs.Notes.{notes-start}
 use Rattle.span_state.specs.declared.sweep.SweepNote.{SweepNote}
 use Rattle.cycle_history.proofs.Plain.{answered-more, printed-more}
 use Rattle.alloc_tool.specs.declared.heap.Heap.{Heap}

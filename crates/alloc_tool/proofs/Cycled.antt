@@ -16,18 +16,21 @@ use Rattle.cycle_history.specs.Requests.{requests_from, marked_by, region_of, la
 use Rattle.cycle_history.specs.Objects.{Object}
 use Rattle.cycle_history.specs.Sweeps.{AreTotals}
 use Rattle.cycle_history.specs.Sound.{past_in, HasAnswers, IsSoundAndUsed}
-use Rattle.cycle_history.specs.Run.{IsRun}
-use Rattle.cycle_history.specs.Notes.{HasNotes}
+use Rattle.sound_run.specs.Run.{IsRun}
+use Rattle.sound_run.specs.Notes.{HasNotes}
 use Rattle.cycle_history.specs.Marked.{IsLimited, AreMarksOf, AreObjectsBefore, ArePlaces, objects_before}
 use Rattle.cycle_history.specs.declared.places.Place.{Place}
 use Rattle.cycle_history.specs.Found.{AreFound}
 use Rattle.cycle_history.specs.Counted.{AreObjectsOf, AreZeros}
 use Rattle.cycle_history.proofs.Found.{found-kept}
 use Rattle.cycle_history.proofs.Plain.{scavenged-roomy}
-use Rattle.cycle_history.proofs.Cycles.{requests-one, lasts-next}
-use Rattle.cycle_history.proofs.Sweeps.{answered-distinct}
-use Rattle.cycle_history.proofs.Notes.{run-sound_to_8, meets-sound}
-use Rattle.cycle_history.proofs.OfObjects.{marks-of-objects, answers-before, run-places, objects-zeros}
+use Rattle.cycle_history.proofs.Cycles.{requests-one}
+use Rattle.sound_run.proofs.Lasting.{lasts-next}
+use Rattle.sound_run.proofs.Sweeps.{answered-distinct}
+use Rattle.sound_run.proofs.Notes.{run-sound_to_8}
+use Rattle.cycle_history.proofs.Meets.{meets-sound}
+use Rattle.sound_run.proofs.OfObjects.{marks-of-objects, run-places}
+use Rattle.cycle_history.proofs.OfObjects.{answers-before, objects-zeros}
 use Rattle.alloc_tool.specs.declared.heap.Heap.{Heap}
 use Rattle.alloc_tool.specs.Tied.{Tied}
 use Rattle.alloc_tool.specs.Runs.{HasRun, requests_in, MayAsk, GoesOn}

@@ -9,8 +9,8 @@ use Rattle.span_state.specs.Spans.{allocated}
 use Rattle.cycle_history.specs.Requests.{Marking}
 use Rattle.cycle_history.specs.Objects.{Object}
 use Rattle.cycle_history.specs.Rules.{IsSmall}
-use Rattle.cycle_history.specs.Spans.{IsFull}
-use Rattle.cycle_history.proofs.Spans.{served-changed}
+use Rattle.swept_run_laws.specs.Served.{IsFull}
+use Rattle.swept_run_laws.proofs.Served.{served-changed}
 use Rattle.alloc_tool.specs.Bodies.{body_at, page_of, AreBodies, AreCurrent, IsCurrentFull}
 use Rattle.alloc_tool.specs.Listed.{CanServe}
 use Rattle.alloc_tool.specs.Tied.{cached, life_at, Serves}

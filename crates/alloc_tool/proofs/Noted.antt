@@ -6,10 +6,10 @@ use Rattle.page_alloc.specs.Heap.{PageHeap, HasMoreRoom, AddsLine}
 use Rattle.span_state.specs.declared.sweep.SweepNote.{SweepNote}
 use Rattle.cycle_history.specs.Requests.{Marking}
 use Rattle.cycle_history.specs.Objects.{Object}
-use Rattle.cycle_history.specs.Run.{IsRun, Lasts}
-use Rattle.cycle_history.specs.Notes.{HasNotes}
-use Rattle.cycle_history.proofs.Counts.{note-same, gives-same}
-use Rattle.cycle_history.proofs.Notes.{done-object, notes-take, notes-miss}
+use Rattle.sound_run.specs.Run.{IsRun, Lasts}
+use Rattle.sound_run.specs.Notes.{HasNotes}
+use Rattle.sound_run.proofs.Counts.{note-same, gives-same}
+use Rattle.swept_run_laws.proofs.Noted.{done-object, notes-take, notes-miss}
 
 -- one more object of the cycle
 pub noted-object : (marked : Marking) (region goal c : ℕ) (past : List Line) (objects : List Object) (notes : List SweepNote) (o : Object) → IsRun marked region goal c past (o ∷ objects) → o.cycle ≡ c

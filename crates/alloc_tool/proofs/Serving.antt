@@ -16,13 +16,15 @@ use Rattle.cycle_history.specs.Needs.{Need}
 use Rattle.cycle_history.specs.Requests.{Marking}
 use Rattle.cycle_history.specs.Objects.{Object, is_placed, Sits}
 use Rattle.cycle_history.specs.Rules.{IsSmall}
-use Rattle.cycle_history.specs.Run.{count_for, Fits, IsRun, IsNext, MayMiss, MayPlace}
-use Rattle.cycle_history.specs.Spans.{AreBits, AreServed, HasFree, IsFull, with_bit}
-use Rattle.cycle_history.proofs.Live.{live-of, live-placed}
-use Rattle.cycle_history.proofs.Seats.{number-below, same_number}
-use Rattle.cycle_history.proofs.Keeps.{line-keeps, take-may, miss-may, object-keeps}
-use Rattle.cycle_history.proofs.Ends.{wanted-object, wanted-take}
-use Rattle.cycle_history.proofs.Spans.{place-may, bits-placed, bits-other, bits-fresh, served-placed, served-changed}
+use Rattle.sound_run.specs.Run.{count_for, Fits, IsRun}
+use Rattle.swept_run_laws.specs.Steps.{IsNext, MayMiss, MayPlace}
+use Rattle.sound_run.specs.Spans.{AreBits}
+use Rattle.swept_run_laws.specs.Served.{AreServed, HasFree, IsFull, with_bit}
+use Rattle.sound_run.proofs.Live.{live-of, live-placed}
+use Rattle.sound_run.proofs.Seats.{number-below, same_number}
+use Rattle.swept_run_laws.proofs.Keeps.{line-keeps, take-may, miss-may, object-keeps}
+use Rattle.swept_run_laws.proofs.Wanted.{wanted-object, wanted-take}
+use Rattle.swept_run_laws.proofs.Served.{place-may, bits-placed, bits-other, bits-fresh, served-placed, served-changed}
 use Rattle.alloc_tool.specs.Bodies.{body_at, page_of, IsBodyOf, AreBodies, AreCurrent, IsCurrentFull, SetsCurrent, IsSpanNeed}
 use Rattle.alloc_tool.specs.Tied.{life_in, life_at, cached, Serves, MayCome, HasAnswer}
 use Rattle.alloc_tool.proofs.Spots.{some-of, body-below, life-of, put-cases, fresh-page}

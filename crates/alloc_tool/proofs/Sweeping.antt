@@ -15,11 +15,13 @@ use Rattle.span_state.specs.Bits.{count_below}
 use Rattle.cycle_history.specs.Requests.{Marking}
 use Rattle.cycle_history.specs.Objects.{Object}
 use Rattle.cycle_history.specs.Sweeps.{IsNote}
-use Rattle.cycle_history.specs.Run.{count_for}
-use Rattle.cycle_history.specs.Spans.{AreBits}
-use Rattle.cycle_history.specs.Notes.{HasNotes, IsSweptTo}
-use Rattle.cycle_history.proofs.Sweeps.{marks-allocated, bits-marked, bits-alike}
-use Rattle.cycle_history.proofs.Walk.{note-right, walk-start, walk-skip, walk-kept, walk-given, walk-end}
+use Rattle.sound_run.specs.Run.{count_for}
+use Rattle.sound_run.specs.Spans.{AreBits}
+use Rattle.sound_run.specs.Notes.{HasNotes}
+use Rattle.swept_run_laws.specs.Walked.{IsSweptTo}
+use Rattle.sound_run.proofs.Sweeps.{marks-allocated, bits-marked, bits-alike}
+use Rattle.sound_run.proofs.Noted.{note-right}
+use Rattle.swept_run_laws.proofs.Walk.{walk-start, walk-skip, walk-kept, walk-given, walk-end}
 use Rattle.alloc_tool.specs.Bodies.{body_at, page_of, AreBodies}
 use Rattle.alloc_tool.specs.Listed.{AreBelow}
 use Rattle.alloc_tool.specs.Tied.{Serves}

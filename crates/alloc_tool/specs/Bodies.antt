@@ -8,7 +8,7 @@ use Rattle.size_classes.specs.Classes.{pages_of}
 use Rattle.page_alloc.specs.Lists.{In}
 use Rattle.page_alloc.specs.Journal.{Life, open_lives, owner, IsSpanSize}
 use Rattle.cycle_history.specs.Needs.{Need}
-use Rattle.cycle_history.specs.Run.{slot_for, count_for, Fits}
+use Rattle.sound_run.specs.Run.{slot_for, count_for, Fits}
 
 -- The body of the span that begins at a page.
 abbrev pub body_at : List (Option Body) → ℕ → Option Body

@@ -5,7 +5,7 @@ use Rattle.cycle_history.specs.declared.Answer.{Answer}
 use Rattle.cycle_history.specs.Requests.{Request, Marking}
 use Rattle.cycle_history.specs.Objects.{Object}
 use Rattle.cycle_history.specs.Rules.{AreAnswered}
-use Rattle.cycle_history.specs.Run.{Lasts}
+use Rattle.sound_run.specs.Run.{Lasts}
 use Rattle.alloc_tool.specs.declared.heap.Heap.{Heap}
 use Rattle.alloc_tool.specs.Tied.{Tied}
 

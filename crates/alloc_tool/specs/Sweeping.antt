@@ -12,9 +12,10 @@ use Rattle.page_alloc.specs.Journal.{Life, open_lives}
 use Rattle.cycle_history.specs.Requests.{Marking}
 use Rattle.cycle_history.specs.Objects.{Object}
 use Rattle.cycle_history.specs.Sound.{AllWanted}
-use Rattle.cycle_history.specs.Run.{IsRun}
-use Rattle.cycle_history.specs.Spans.{AreBits, AreMarks}
-use Rattle.cycle_history.specs.Notes.{HasNotes, IsSweptTo}
+use Rattle.sound_run.specs.Run.{IsRun}
+use Rattle.sound_run.specs.Spans.{AreBits, AreMarks}
+use Rattle.sound_run.specs.Notes.{HasNotes}
+use Rattle.swept_run_laws.specs.Walked.{IsSweptTo}
 use Rattle.alloc_tool.specs.declared.heap.Heap.{Heap}
 use Rattle.alloc_tool.specs.Bodies.{body_at}
 use Rattle.alloc_tool.specs.Tied.{Tied}

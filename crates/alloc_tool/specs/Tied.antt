@@ -10,9 +10,10 @@ use Rattle.cycle_history.specs.Needs.{Need}
 use Rattle.cycle_history.specs.Requests.{Marking}
 use Rattle.cycle_history.specs.Objects.{Object}
 use Rattle.cycle_history.specs.Sound.{AllWanted}
-use Rattle.cycle_history.specs.Run.{IsRun, Lasts}
-use Rattle.cycle_history.specs.Notes.{HasNotes}
-use Rattle.cycle_history.specs.Spans.{AreBits, AreServed}
+use Rattle.sound_run.specs.Run.{IsRun, Lasts}
+use Rattle.sound_run.specs.Notes.{HasNotes}
+use Rattle.sound_run.specs.Spans.{AreBits}
+use Rattle.swept_run_laws.specs.Served.{AreServed}
 use Rattle.alloc_tool.specs.declared.need.Need.{Need as SpanNeed}
 use Rattle.alloc_tool.specs.declared.heap.Heap.{Heap}
 use Rattle.alloc_tool.specs.Bodies.{body_at, page_of}

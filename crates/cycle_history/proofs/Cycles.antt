@@ -1,19 +1,14 @@
--- The requests of a trace cycle by cycle, and how long an object of a cycle lasts.
-use Rattle.std.proofs.Common.{◌≡◌, ℕ, suc, ◌+◌, ◌<◌, ◌≤◌, List, [], ◌∷◌, ◌++◌, map, length, get_or, refl, sym, ◌∙◌, ap, arith, inl, inr}
+-- The requests of a trace cycle by cycle.
+use Rattle.std.proofs.Common.{◌≡◌, ℕ, suc, ◌+◌, List, [], ◌∷◌, ◌++◌, map, length, get_or, refl, sym, ◌∙◌, ap, arith}
 use Rattle.std.specs.List.{flat_map}
 use Rattle.std.proofs.Math.Seq.{take-append_seam, get_or-append_seam}
-use Rattle.std.proofs.lemmas.Bool.{cases_lt}
 use Rattle.std.proofs.lemmas.List.{append_assoc, append-nil, length-append, length-map}
 use Rattle.trace_reader.specs.declared.trace.Trace.{Trace}
 use Rattle.trace_reader.specs.declared.trace.Cycle.{Cycle}
-use Rattle.trace_reader.specs.Limits.{AreCycles}
-use Rattle.cycle_history.specs.Requests.{Request, requests_from, marked_by}
+use Rattle.cycle_history.specs.Requests.{Request, requests_from}
 use Rattle.cycle_history.specs.Marked.{objects_before}
-use Rattle.cycle_history.specs.Objects.{Object}
-use Rattle.cycle_history.specs.Run.{Lasts}
 use Rattle.cycle_history.proofs.Plain.{request_in}
-use Rattle.cycle_history.proofs.Firsts.{before-more, before-rise}
-use Rattle.cycle_history.proofs.Rising.{marked-early, marked-may}
+use Rattle.cycle_history.proofs.Firsts.{before-more}
 
 -- ---- requests
 
@@ -45,39 +40,15 @@ requests-length first (c ∷ cs) =
     omega arith
 
 -- the objects before a cycle are the requests of the cycles that are done
-before-requests : (t : Trace) (done : List Cycle) (c : Cycle) (rest : List Cycle) → t.cycles ≡ done ++ c ∷ rest → objects_before t (length done) ≡ length (requests_from 0 done)
+pub before-requests : (t : Trace) (done : List Cycle) (c : Cycle) (rest : List Cycle) → t.cycles ≡ done ++ c ∷ rest → objects_before t (length done) ≡ length (requests_from 0 done)
 before-requests t done c rest cycles =
     rw cycles (ap (λ (cs : List Cycle). length (flat_map (λ (x : Cycle). x.events) cs)) (take-append_seam done (c ∷ rest)) ∙ requests-length 0 done)
 
 -- and one cycle later its events are objects too
-before-next : (t : Trace) (done : List Cycle) (c : Cycle) (rest : List Cycle) → t.cycles ≡ done ++ c ∷ rest → objects_before t (suc (length done)) ≡ objects_before t (length done) + length c.events
+pub before-next : (t : Trace) (done : List Cycle) (c : Cycle) (rest : List Cycle) → t.cycles ≡ done ++ c ∷ rest → objects_before t (suc (length done)) ≡ objects_before t (length done) + length c.events
 before-next t done c rest cycles =
     let size : length t.cycles ≡ length done + suc (length rest) = ap (λ (cs : List Cycle). length cs) cycles ∙ length-append done (c ∷ rest) in
     let here : get_or t.cycles (length done) c ≡ c = ap (λ (cs : List Cycle). get_or cs (length done) c) cycles ∙ get_or-append_seam done c rest c in
     let more = before-more t (length done) c (omega arith) in
     let e : length done + 1 ≡ suc (length done) = omega arith in
     rw here at (rw e at more)
-
--- an object of a trace whose number is that of an event of its cycle
-lasts-numbered : (t : Trace) (o : Object) → AreCycles 0 (λ _. ⊥) t.cycles → objects_before t o.cycle ≤ o.id → o.id < objects_before t (suc o.cycle) → Lasts (marked_by t) o
-lasts-numbered t o are low high = record {
-  first = refl;
-  next = λ m mark. elim (marked-may t m o.id are mark) [
-    | inl old ↦ (let early = marked-early t m o.id are old in inr (before o.cycle m low early, old))
-    | inr new ↦ (
-        let behind = before o.cycle (suc m) low new.1 in
-        let ahead = before m (suc o.cycle) new.0 high in
-        inl (omega arith))
-  ];
-}
-  where
-    before : (c d : ℕ) → objects_before t c ≤ o.id → o.id < objects_before t d → c < d
-    before c d le lt = elim (cases_lt c d) [ inl less ↦ less | inr more ↦ (let rises = before-rise t d c more in absurd (omega arith)) ]
-
--- an object of a cycle, behind the cycles that are done
-pub lasts-next : (t : Trace) (done : List Cycle) (c : Cycle) (rest : List Cycle) (o : Object) → AreCycles 0 (λ _. ⊥) t.cycles → t.cycles ≡ done ++ c ∷ rest → o.cycle ≡ length done
-    → length (requests_from 0 done) ≤ o.id → o.id < length (requests_from 0 done) + length c.events → Lasts (marked_by t) o
-lasts-next t done c rest o are cycles cycle low high =
-    let begin = before-requests t done c rest cycles in
-    let end = before-next t done c rest cycles in
-    lasts-numbered t o are (rw cycle (omega arith)) (rw cycle (omega arith))

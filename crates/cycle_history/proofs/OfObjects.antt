@@ -1,4 +1,4 @@
--- Marks by places are marks by a run's objects.
+-- Objects, their requests, their answers and their places.
 use Rattle.std.proofs.Common.{◌≡◌, ℕ, zero, suc, ◌+◌, ◌*◌, ◌<◌, ◌≤◌, Bool, true, List, [], ◌∷◌, ◌++◌, length, map, reverse, take, drop, Option, Some, refl, sym, ◌∙◌, ap, subst, arith, ◌⊎◌, inl, inr}
 use Rattle.std.specs.List.{flat_map, slice_get}
 use Rattle.std.specs.Option.{option_map}
@@ -6,11 +6,8 @@ use Rattle.std.proofs.lemmas.Bool.{cases_lt}
 use Rattle.std.proofs.lemmas.List.{length-map, length-reverse, map-append, reverse-append, reverse-reverse, take-append-drop}
 use Rattle.std.proofs.lemmas.List.Concat.{flat_map-append}
 use Rattle.std.proofs.lemmas.Option.{slice_get-map, slice_get_within}
-use Rattle.page_bitmap.specs.declared.line.Line.{Line}
 use Rattle.page_alloc.specs.Lists.{In, IsNumber}
-use Rattle.page_alloc.specs.Journal.{Life, open_lives, at_end}
-use Rattle.page_alloc.proofs.Lives.{lies, same_page}
-use Rattle.span_state.specs.MarkSet.{MarkSet, is_marked}
+use Rattle.page_alloc.specs.Journal.{Life}
 use Rattle.trace_reader.specs.declared.trace.Trace.{Trace}
 use Rattle.trace_reader.specs.declared.trace.Cycle.{Cycle}
 use Rattle.trace_reader.specs.declared.trace.Event.{Event}
@@ -18,17 +15,13 @@ use Rattle.trace_reader.specs.Limits.{events_of}
 use Rattle.cycle_history.specs.declared.Answer.{Answer}
 use Rattle.cycle_history.specs.declared.Answer.TheVariants.{Placed, Zero, Missed}
 use Rattle.cycle_history.specs.Needs.{IsNeed}
-use Rattle.cycle_history.specs.Requests.{Request, requests_from, requests_of, marked_by, region_of}
+use Rattle.cycle_history.specs.Requests.{Request, requests_from, requests_of}
 use Rattle.cycle_history.specs.Objects.{Object, is_placed, Sits}
 use Rattle.cycle_history.specs.Rules.{IsObject, AreAnswered}
-use Rattle.cycle_history.specs.Run.{IsRun}
-use Rattle.cycle_history.specs.Spans.{AreMarks}
-use Rattle.cycle_history.specs.Places.{IsPlace, LiesAt}
-use Rattle.cycle_history.specs.Marked.{AreMarksOf, AreObjectsBefore, ArePlaces, objects_before, requests_before}
+use Rattle.cycle_history.specs.Places.{IsPlace}
+use Rattle.cycle_history.specs.Marked.{AreObjectsBefore, objects_before, requests_before}
 use Rattle.cycle_history.specs.Counted.{AreObjectsOf, AreZeros}
-use Rattle.cycle_history.proofs.Live.{at_end-now, by-later, legal-at_end, live-marked, live-of}
 use Rattle.cycle_history.proofs.Plain.{same_length}
-use Rattle.cycle_history.proofs.Seats.{same_number}
 use Rattle.cycle_history.proofs.OnePlace.{place-one}
 
 -- ---- numbers from the newest and from the oldest
@@ -167,22 +160,22 @@ pub sits-one : (size : ℕ) (scan : Bool) (address : ℕ) (o : Object) (life : L
 sits-one size scan address o life k page j fits answer sits place =
     place-one size address life.page page k j (sits-place size scan address o life k place.some fits answer sits) place
 
-placed-address : (a : Answer) → is_placed a ≡ true → (address : ℕ) × (a ≡ Placed address)
+pub placed-address : (a : Answer) → is_placed a ≡ true → (address : ℕ) × (a ≡ Placed address)
 placed-address (Placed address) h = (address, refl)
 placed-address Zero h = cc
 placed-address (Missed line) h = cc
 
 -- what is known of a placed object of a run
-record IsKnown (t : Trace) (m : ℕ) (answers : List Answer) (o : Object) : Type 0 where
-  request : Request
-  address : ℕ
-  answer : o.answer ≡ Placed address
-  asked : slice_get (events_of t) o.id ≡ Some request.event
-  answered : slice_get answers o.id ≡ Some (Placed address)
-  some : 1 ≤ request.event.size
-  fits : IsNeed request.event.size request.event.scan o.need
+pub record IsKnown (t : Trace) (m : ℕ) (answers : List Answer) (o : Object) : Type 0 where
+  pub request : Request
+  pub address : ℕ
+  pub answer : o.answer ≡ Placed address
+  pub asked : slice_get (events_of t) o.id ≡ Some request.event
+  pub answered : slice_get answers o.id ≡ Some (Placed address)
+  pub some : 1 ≤ request.event.size
+  pub fits : IsNeed request.event.size request.event.scan o.need
 
-known : (t : Trace) (m : ℕ) (answers : List Answer) (objects : List Object) (o : Object) → AreObjectsBefore t m answers objects → In o objects → is_placed o.answer ≡ true → IsKnown t m answers o
+pub known : (t : Trace) (m : ℕ) (answers : List Answer) (objects : List Object) (o : Object) → AreObjectsBefore t m answers objects → In o objects → is_placed o.answer ≡ true → IsKnown t m answers o
 known t m answers objects o are h placed =
     let has = request-of (requests_before t m) objects o are.asked h in
     let at = placed-address o.answer placed in
@@ -200,56 +193,6 @@ known t m answers objects o are h placed =
       fits = has.answers.need some;
     }
 
--- The marks of a life's page are the indices of its objects that the mark end marks.
-pub marks-of-objects : (t : Trace) (region goal c : ℕ) (past : List Line) (objects : List Object) (answers : List Answer) (sampled : List Bool) (buckets : List ℕ) (marks : MarkSet) (life : Life)
-    → IsRun (marked_by t) region goal c past objects → AreObjectsBefore t (suc c) answers objects → AreMarksOf t (suc c) answers sampled buckets marks → In life (open_lives past)
-    → AreMarks (marked_by t) (suc c) objects life.number (λ k. is_marked marks life.page k)
-marks-of-objects t region goal c past objects answers sampled buckets marks life run are marks-are open-life =
-    let seated : (o : Object) → In o objects → is_placed o.answer ≡ true → marked_by t (suc c) o.id ≡ true → (l : Life) × In l (open_lives past) × (l.number ≡ o.life) × Sits o l o.index =
-    λ o h placed marked. (
-    let seat = run.seats o h placed in
-    let there : In seat.0 (open_lives past) = subst (λ (ls : List Line). In seat.0 (open_lives ls)) (at_end-now (suc c) past (by-later c (suc c) past (omega arith) run.by))
-    (seat.1.stays (suc c) (live-marked (marked_by t) (suc c) o placed marked)) in
-    (seat.0, there, seat.1.number, seat.1.sits)) in
-    record {
-      shown = λ o h placed marked one. (
-          let seat = seated o h placed marked in
-          let same : seat.0 ≡ life = same_number past seat.0 life seat.1 open-life (seat.2 ∙ one) in
-          let page : seat.0.page ≡ life.page = ap (λ (l : Life). l.page) same in
-          let is = known t (suc c) answers objects o are h placed in
-          let place = sits-place is.request.event.size is.request.event.scan is.address o seat.0 o.index is.some is.fits is.answer seat.3 in
-          let lies : LiesAt t answers o.id life.page o.index = record {
-            event = is.request.event;
-            address = is.address;
-            asked = is.asked;
-            answered = is.answered;
-            place = subst (λ (p : ℕ). IsPlace is.request.event.size is.address p o.index) page place;
-          } in
-          (marks-are.places life.page o.index).1 (o.id, record { marked = marked; lies = lies }));
-      from = λ k on. (
-          let at = (marks-are.places life.page k).0 on in
-          let lies = at.1.lies in
-          let e : reverse (map (λ (x : Object). x.answer) objects) ≡ answers = ap (λ (xs : List Answer). reverse xs) are.printed ∙ reverse-reverse answers in
-          let number = get-number at.0 (Placed lies.address) (map (λ (x : Object). x.answer) objects) (ap (λ (xs : List Answer). slice_get xs at.0) e ∙ lies.answered) in
-          let found = object-of (requests_before t (suc c)) objects at.0 (Placed lies.address) are.asked number in
-          let o = found.0 in
-          let placed : is_placed o.answer ≡ true = ap is_placed found.3 in
-          let marked : marked_by t (suc c) o.id ≡ true = ap (λ (i : ℕ). marked_by t (suc c) i) found.2 ∙ at.1.marked in
-          let is = known t (suc c) answers objects o are found.1 placed in
-          let seat = seated o found.1 placed marked in
-          let asked = is.asked in
-          let asked' = lies.asked in
-          let id = found.2 in
-          let event : lies.event ≡ is.request.event = some-same (sym asked' ∙ ap (λ (i : ℕ). slice_get (events_of t) i) (sym id) ∙ asked) in
-          let place : IsPlace is.request.event.size lies.address life.page k = subst (λ (x : Event). IsPlace x.size lies.address life.page k) event lies.place in
-          let one = sits-one is.request.event.size is.request.event.scan lies.address o seat.0 o.index life.page k is.fits found.3 seat.3 place in
-          let same : seat.0 ≡ life = same_page region goal past seat.0 life run.journal seat.1 open-life one.0 in
-          (o, found.1, placed, marked, sym seat.2 ∙ ap (λ (l : Life). l.number) same, one.1));
-    }
-  where
-    some-same : {a b : Event} → Some a ≡ Some b → a ≡ b
-    some-same h = cc
-
 -- ---- what a run shows of what the search for marks asks
 
 -- there is one answer for each object before the mark end
@@ -263,33 +206,6 @@ answers-before t m answers objects are =
     let e : length (map (λ (r : Request). r.event) (requests_from 0 (take m t.cycles))) ≡ length (requests_from 0 (take m t.cycles)) = length-map (requests_from 0 (take m t.cycles)) (λ (r : Request). r.event) in
     let f = ap (λ (es : List Event). length es) (requests-events 0 (take m t.cycles)) in
     omega arith
-
--- and each placed answer is a place
-pub run-places : (t : Trace) (goal c m : ℕ) (past : List Line) (objects : List Object) (answers : List Answer) → IsRun (marked_by t) (region_of t) goal c past objects → AreObjectsBefore t m answers objects
-    → ArePlaces t answers
-run-places t goal c m past objects answers run are i address at =
-    let e : reverse (map (λ (x : Object). x.answer) objects) ≡ answers = ap (λ (xs : List Answer). reverse xs) are.printed ∙ reverse-reverse answers in
-    let number = get-number i (Placed address) (map (λ (x : Object). x.answer) objects) (ap (λ (xs : List Answer). slice_get xs i) e ∙ at) in
-    let found = object-of (requests_before t m) objects i (Placed address) are.asked number in
-    let o = found.0 in
-    let placed : is_placed o.answer ≡ true = ap is_placed found.3 in
-    let is = known t m answers objects o are found.1 placed in
-    let seat = run.seats o found.1 placed in
-    let open-life = seat.1.stays o.cycle (live-of (marked_by t) o.cycle o placed refl) in
-    let inside = lies (region_of t) goal (at_end o.cycle past) seat.0 (legal-at_end (region_of t) goal o.cycle past run.journal) open-life in
-    let some = inside.0 in
-    let room = inside.1 in (
-      seat.0.page,
-      o.index,
-      (omega arith),
-      subst (λ (n : ℕ). LiesAt t answers n seat.0.page o.index) found.2 (record {
-        event = is.request.event;
-        address = is.address;
-        asked = is.asked;
-        answered = is.answered;
-        place = sits-place is.request.event.size is.request.event.scan is.address o seat.0 o.index is.some is.fits is.answer seat.1.sits;
-      }),
-    )
 
 -- an answer is zero exactly where the size is 0
 pub objects-zeros : (t : Trace) (answers : List Answer) (objects : List Object) → AreObjectsOf t answers objects → AreZeros t answers

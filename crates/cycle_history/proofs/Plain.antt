@@ -10,11 +10,10 @@ use Rattle.trace_reader.specs.declared.trace.Cycle.{Cycle}
 use Rattle.trace_reader.specs.declared.trace.Event.{Event}
 use Rattle.trace_reader.specs.Limits.{AreCycles, events_of}
 use Rattle.cycle_history.specs.declared.Answer.{Answer}
-use Rattle.cycle_history.specs.Requests.{Request, Marking, requests_from, requests_of, spans_of, spans_after, is_within, marked_by}
+use Rattle.cycle_history.specs.Requests.{Request, requests_from, requests_of, spans_of, spans_after, is_within, marked_by}
 use Rattle.cycle_history.specs.Objects.{Object}
 use Rattle.cycle_history.specs.Rules.{IsObject, AreAnswered}
 use Rattle.cycle_history.specs.Sound.{IsScavenged}
-use Rattle.cycle_history.specs.Run.{Lasts}
 
 -- ---- objects and answers, one more at a time
 
@@ -60,10 +59,6 @@ unmarked-single first earlier (c ∷ []) (suc (suc m)) id one are = refl
 pub unmarked-plain : (t : Trace) (m id : ℕ) → length t.cycles ≡ 1 → AreCycles 0 (λ _. ⊥) t.cycles → marked_by t m id ≡ false
 unmarked-plain t zero id one are = refl
 unmarked-plain t (suc m) id one are = unmarked-single 0 (λ _. ⊥) t.cycles m id one are
-
--- an object that no mark end marks lasts
-pub lasts-unmarked : (marked : Marking) (o : Object) → ((m : ℕ) → marked m o.id ≡ false) → Lasts marked o
-lasts-unmarked marked o never = record { first = never 0; next = λ m h. (let off = never (suc m) in let none : ⊥ = cc in absurd none) }
 
 -- ---- a goal that no backing can pass
 

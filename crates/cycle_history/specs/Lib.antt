@@ -7,9 +7,6 @@ pub mod Sweeps
 pub mod Sound
 pub mod Broken
 pub mod Text
-pub mod Run
-pub mod Notes
-pub mod Spans
 pub mod Places
 pub mod Marked
 pub mod Found

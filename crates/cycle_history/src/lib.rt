@@ -2,9 +2,7 @@
 //!
 //! `specs/Sound.antt` has the rules that a report meets, over the words of `specs/Requests.antt`, `Needs.antt`,
 //! `Objects.antt`, `Rules.antt`, `Orders.antt` and `Sweeps.antt`, and `specs/Broken.antt` the first rule that one breaks.
-//! `specs/Text.antt` is the text of a report. `specs/Run.antt` and `specs/Notes.antt` have the invariant of a run in the
-//! middle of a cycle; the laws that its steps keep it, and that it makes the report sound, are in `proofs/Keeps.antt`,
-//! `proofs/Ends.antt`, `proofs/Notes.antt` and `proofs/Walk.antt`.
+//! `specs/Text.antt` is the text of a report. How a run stays sound so far is `sound_run`'s.
 //!
 //! `marks_of` finds the places that a mark end marks, and `totals_of` counts the objects of each size class, from a trace
 //! and its answers: `specs/Places.antt`, `Found.antt`, `Marked.antt` and `Counted.antt`.
@@ -17,9 +15,7 @@ mod places;
 mod totals;
 
 use edge_io::List;
-pub use laws::{
-    a_mark_end_marks_by_objects, an_address_has_one_place, an_object_sits_at_its_place,
-};
+pub use laws::{an_address_has_one_place, an_object_sits_at_its_place};
 pub use marks::marks_of;
 use page_bitmap::Line;
 pub use places::Place;

@@ -4,7 +4,7 @@ use Rattle.std.proofs.lemmas.Bool.Decides.{Decides-not}
 use Rattle.page_alloc.specs.Lists.{count_below}
 use Rattle.size_classes.specs.Classes.{slot_of, pages_of, objects_of}
 use Rattle.cycle_history.specs.Broken.{MeetsRules}
-use Rattle.cycle_history.proofs.Notes.{meets-sound}
+use Rattle.cycle_history.proofs.Meets.{meets-sound}
 use Rattle.report_rows.specs.Words.{Row, UsedRow, IsJudged, AllAgree, IsUseJudged, AllUseAgree}
 use Rattle.report_rows.specs.Rows.{sound_rows, answer_rows, journal_rows, miss_rows, place_rows, apart_rows, filling_rows, used_rows}
 use Rattle.report_rows.specs.SweptRows.{marked_rows, sweep_rows, give_rows, total_rows}

@@ -12,7 +12,7 @@ use Rattle.cycle_history.specs.Requests.{requests_of, marked_by, last_cycle, reg
 use Rattle.cycle_history.specs.Objects.{Object, is_placed}
 use Rattle.cycle_history.specs.Sound.{past_in, IsSound, IsUsed, IsWanted, AllWanted, IsScavenged, IsSoundAndUsed}
 use Rattle.cycle_history.specs.Broken.{MeetsUpTo}
-use Rattle.cycle_history.proofs.Notes.{meets-sound}
+use Rattle.cycle_history.proofs.Meets.{meets-sound}
 use Rattle.report_rows.proofs.Tests.{Decides-then, Decides-else, all_in, any_in, all_below, Decides-all, Decides-any, Decides-below}
 use Rattle.report_rows.proofs.Journals.{Decides-leb, is_loose, Decides-loose}
 use Rattle.report_rows.proofs.Alike.{IsSame, seated_objects, seated-same, from_left}

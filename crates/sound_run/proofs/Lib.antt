@@ -1,0 +1,11 @@
+pub mod Live
+pub mod Seats
+pub mod Counts
+pub mod Ends
+pub mod Lasting
+pub mod OfObjects
+pub mod Spans
+pub mod Bits
+pub mod Sweeps
+pub mod Notes
+pub mod Noted
