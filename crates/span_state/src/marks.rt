@@ -143,10 +143,22 @@ fn reach(rows: &mut Vec<Row>, alloc: Global, page: u32) -> Result<(), NoMemory>
     ensures reached { OnOk result (page < length rows.new.items) }
     ensures few { (size : ℕ) → length rows.old.items ≤ size → page < size → length rows.new.items ≤ size }
 {
-    let page = page as usize;
-    if page < rows.len() {
+    if (page as usize) < rows.len() {
         return Ok(());
     }
+    add_rows(rows, alloc, page)
+}
+
+// Puts rows at the end up to that of the page, which is past the last.
+#[cold]
+#[inline(never)]
+fn add_rows(rows: &mut Vec<Row>, alloc: Global, page: u32) -> Result<(), NoMemory>
+    requires { length rows.old.items ≤ page }
+    ensures rows { (q : ℕ) → row_of rows.new.items q ≡ row_of rows.old.items q }
+    ensures reached { OnOk result (page < length rows.new.items) }
+    ensures few { (size : ℕ) → length rows.old.items ≤ size → page < size → length rows.new.items ≤ size }
+{
+    let page = page as usize;
     rows.reserve(page + 1 - rows.len())?;
     while rows.len() <= page {
         rows.push(Row::new(alloc))?;

@@ -54,6 +54,21 @@ impl Row {
         ensures same { OnErr result ((g : ℕ) → slice_index self.new g ≡ slice_index self.old g) }
         ensures few { (size : ℕ) → length self.old ≤ size → group < size → length self.new ≤ size }
     {
+        if (group as usize) < self.words.len() {
+            self.words[group as usize] = word;
+            return Ok(());
+        }
+        self.set_past(group, word)
+    }
+
+    // The same where the group is past the last word.
+    #[cold]
+    #[inline(never)]
+    fn set_past(&mut self, group: u32, word: u64) -> Result<(), NoMemory>
+        ensures set { OnOk result ((g : ℕ) → slice_index self.new g ≡ (if g == group then word else slice_index self.old g)) }
+        ensures same { OnErr result ((g : ℕ) → slice_index self.new g ≡ slice_index self.old g) }
+        ensures few { (size : ℕ) → length self.old ≤ size → group < size → length self.new ≤ size }
+    {
         let group = group as usize;
         while self.words.len() <= group {
             self.words.push(0)?;

@@ -1,5 +1,5 @@
 use Rattle.std.proofs.Common.{◌≡◌, ℕ, suc, ◌-◌, ◌<◌, ◌≤◌, length, get_or}
-use Rattle.span_state.proofs.row.Row.set.Given as goal
+use Rattle.span_state.proofs.row.Row.set_past.Given as goal
 
 -- words of 0 were put at the end
 abbrev pub invariant-loop-self : goal.invariant-loop-self

@@ -1,6 +1,6 @@
 use Rattle.std.proofs.Common.{◌≡◌, ℕ, suc, ◌-◌, ◌<◌, ◌≤◌, length}
 use Rattle.span_state.specs.Groups.{row_of}
-use Rattle.span_state.proofs.marks.reach.Given as goal
+use Rattle.span_state.proofs.marks.add_rows.Given as goal
 
 -- empty rows were put at the end
 abbrev pub invariant-loop-alloc : goal.invariant-loop-alloc
