@@ -107,15 +107,22 @@ pub cycles_follow : (es : ℕ → List Event) (a : ℕ → ℕ) (n count : ℕ) 
     → AreCycles first live (map (cycle_of es a n) (range_with_len k m) ++ last ∷ [])
 cycles_follow es a n count paced last none zero k first live at few early = none
 cycles_follow es a n count paced last none (suc zero) k first live at few early =
-    let low = paced.low k in let high = paced.high k in let events = paced.events k in
-    (omega arith, omega arith, marks_rise (a k) n (paced.early k) (paced.few k (omega arith)),
-     (λ i h. marked_here (a k) n first (length (es k)) i live (omega (arith, at, low)) (omega (arith, at, high, events)) early h), none)
+    let low = paced.low k in let high = paced.high k in let events = paced.events k in (
+      omega arith,
+      omega arith,
+      marks_rise (a k) n (paced.early k) (paced.few k (omega arith)),
+      (λ i h. marked_here (a k) n first (length (es k)) i live (omega (arith, at, low)) (omega (arith, at, high, events)) early h),
+      none,
+    )
 cycles_follow es a n count paced last none (suc (suc m)) k first live at few early =
-    let low = paced.low k in let high = paced.high k in let events = paced.events k in
-    (omega arith, omega arith, marks_rise (a k) n (paced.early k) (paced.few k (omega arith)),
-     (λ i h. marked_here (a k) n first (length (es k)) i live (omega (arith, at, low)) (omega (arith, at, high, events)) early h),
-     cycles_follow es a n count paced last none (suc m) (k + 1) (first + length (es k)) (IsMarked (marks_from (a k) n)) (omega (arith, at, events)) (omega (arith, few))
-       (λ j low. inl (early_marked (a k) n j low)))
+    let low = paced.low k in let high = paced.high k in let events = paced.events k in (
+      omega arith,
+      omega arith,
+      marks_rise (a k) n (paced.early k) (paced.few k (omega arith)),
+      (λ i h. marked_here (a k) n first (length (es k)) i live (omega (arith, at, low)) (omega (arith, at, high, events)) early h),
+      cycles_follow es a n count paced last none (suc m) (k + 1) (first + length (es k)) (IsMarked (marks_from (a k) n)) (omega (arith, at, events)) (omega (arith, few))
+          (λ j low. inl (early_marked (a k) n j low)),
+    )
 
 pub cycles_events_fit : (f : ℕ → Cycle) (last : Cycle) (k m : ℕ) → ((i : ℕ) → AllByRecursion (EventFits 8) (f i).events) → AllByRecursion (EventFits 8) last.events
     → AllByRecursion (EventFits 8) (flat_map (λ (c : Cycle). c.events) (map f (range_with_len k m) ++ last ∷ []))
@@ -140,11 +147,12 @@ ends_count g f last count each k (suc m) =
 
 paced : (g : Lcg) → IsPaced (λ k. events_from g (10000 * k) 10000) (λ k. (10000 * k + 10000 - 8000) / 8) 1000 10000
 paced g = record {
-    events = λ k. events_from_count g (10000 * k) 10000;
-    low = λ k. omega arith;
-    high = λ k. omega arith;
-    early = λ k. omega arith;
-    few = λ k low. omega (arith, low) }
+  events = λ k. events_from_count g (10000 * k) 10000;
+  low = λ k. omega arith;
+  high = λ k. omega arith;
+  early = λ k. omega arith;
+  few = λ k low. omega (arith, low);
+}
 
 first_ones : (g : Lcg) (j : ℕ) → j < 1000 → j < 0 + length (events_from g (10000 * 0) 10000)
 first_ones g j low = let count = events_from_count g (10000 * 0) 10000 in omega (arith, count)
@@ -156,15 +164,16 @@ made_fits seed objects low some few =
     let last : Cycle = last_cycle g objects in
     let last_events : length last.events ≡ objects - m * 10000 = events_from_count g (m * 10000) (objects - m * 10000) in
     let events : length (events_of (made_trace seed objects)) ≡ 10000 * m + length last.events =
-        events_count (made_cycle g) last 10000 (λ k. events_from_count g (10000 * k) 10000) 0 m in
+    events_count (made_cycle g) last 10000 (λ k. events_from_count g (10000 * k) 10000) 0 m in
     let ends : length (map (made_cycle g) (range_with_len 0 m)) ≡ m = length-map-range_with_len (made_cycle g) 0 m in
     let cycles : length (made_trace seed objects).cycles ≡ length (map (made_cycle g) (range_with_len 0 m)) + 1 = length-append (map (made_cycle g) (range_with_len 0 m)) (last ∷ []) in
     let marks : sum_by (λ (c : Cycle). marked_by c.mark) (made_trace seed objects).cycles ≡ 5000 * m + 0 =
-        ends_count (λ (c : Cycle). marked_by c.mark) (made_cycle g) last 5000 (λ k. marks_count ((10000 * k + 10000 - 8000) / 8) 1000) 0 m in
+    ends_count (λ (c : Cycle). marked_by c.mark) (made_cycle g) last 5000 (λ k. marks_count ((10000 * k + 10000 - 8000) / 8) 1000) 0 m in
     record {
-        header = record { chunks = (omega arith, omega arith); procs = (omega arith, omega arith); rate = omega arith; seed = low; goal = omega arith };
-        events = cycles_events_fit (made_cycle g) last 0 m (λ k. events_from_fit g (10000 * k) 10000) (events_from_fit g _ _);
-        cycles = cycles_follow _ _ 1000 10000 (paced g) last refl m 0 0 (λ _. ⊥) (omega arith) (omega arith) (λ j early. inr (omega arith, first_ones g j early));
-        objects = omega (arith, last_events, events);
-        mark_ends = omega (arith, ends, cycles);
-        marks = omega (arith, marks) }
+      header = record { chunks = (omega arith, omega arith); procs = (omega arith, omega arith); rate = omega arith; seed = low; goal = omega arith };
+      events = cycles_events_fit (made_cycle g) last 0 m (λ k. events_from_fit g (10000 * k) 10000) (events_from_fit g _ _);
+      cycles = cycles_follow _ _ 1000 10000 (paced g) last refl m 0 0 (λ _. ⊥) (omega arith) (omega arith) (λ j early. inr (omega arith, first_ones g j early));
+      objects = omega (arith, last_events, events);
+      mark_ends = omega (arith, ends, cycles);
+      marks = omega (arith, marks);
+    }

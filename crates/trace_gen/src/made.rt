@@ -57,12 +57,7 @@ fn full_cycle(alloc: Global, words: &mut Pcg32, number: u32) -> Result<Cycle, No
 }
 
 // So many events, from an object on.
-fn events(
-    alloc: Global,
-    words: &mut Pcg32,
-    first: u32,
-    count: u32,
-) -> Result<List<Event>, NoMemory>
+fn events(alloc: Global, words: &mut Pcg32, first: u32, count: u32) -> Result<List<Event>, NoMemory>
     requires { first + count < 2 ^ 32 }
     ensures events { (g : Lcg) → words.old ≡ generator_at g first → IfOk result (λ events. events ≡ events_from g first count) }
     ensures words { (g : Lcg) → words.old ≡ generator_at g first → OnOk result (words.new ≡ generator_at g (first + count)) }

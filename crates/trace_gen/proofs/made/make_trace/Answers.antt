@@ -8,6 +8,7 @@ unfolding words_of
 loop-end-init c = (c.new-cycles.ensures, c.new-words.ensures ∙ sym (generator_start _ 0 refl))
 
 pub loop-end-preserved : goal.loop-end-preserved
-loop-end-preserved c = let before = c.loop-end.invariant in
-    (c.in_ok-push.ensures.ok ∙ cycles_more _ c.loop-end.end _ _ before.0 (c.in_ok-full_cycle.ensures.cycle _ before.1),
-     c.in_ok-full_cycle.ensures.words _ before.1 ∙ ap (generator_at (words_of c.args.seed)) (omega arith))
+loop-end-preserved c = let before = c.loop-end.invariant in (
+  c.in_ok-push.ensures.ok ∙ cycles_more _ c.loop-end.end _ _ before.0 (c.in_ok-full_cycle.ensures.cycle _ before.1),
+  c.in_ok-full_cycle.ensures.words _ before.1 ∙ ap (generator_at (words_of c.args.seed)) (omega arith),
+)
