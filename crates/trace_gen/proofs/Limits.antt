@@ -1,12 +1,12 @@
 -- A made trace is within the limits. Counts are variables here: a list of so many items is never computed.
-use Rattle.std.proofs.Common.{◌≡◌, ℕ, zero, suc, ◌+◌, ◌-◌, ◌*◌, ◌/◌, ◌%◌, ◌^◌, ◌<◌, ◌≤◌, ◌⊎◌, inl, inr, List, [], ◌∷◌, ◌++◌, map, length, refl, sym, ap, ◌∙◌, arith, None, Some, length-append}
+use Rattle.std.proofs.Common.{◌≡◌, ℕ, zero, suc, ◌+◌, ◌-◌, ◌*◌, ◌/◌, ◌^◌, ◌<◌, ◌≤◌, ◌⊎◌, inl, inr, List, [], ◌∷◌, ◌++◌, map, length, refl, ap, ◌∙◌, arith, None, Some, length-append}
 use Rattle.std.specs.List.{range_with_len, AllByRecursion, flat_map, sum_by}
 use Rattle.std.proofs.lemmas.List.FromFn.{length-map-range_with_len}
 use Rattle.std.proofs.lemmas.List.Sums.{sum_by-cons}
 use Rattle.trace_reader.specs.declared.trace.Cycle.{Cycle}
 use Rattle.trace_reader.specs.declared.trace.Event.{Event}
 use Rattle.trace_reader.specs.declared.trace.Span.{Span}
-use Rattle.trace_reader.specs.Limits.{HeaderFits, EventFits, IsMarked, AreSpans, AreCycles, events_of, marked_by, WithinLimits}
+use Rattle.trace_reader.specs.Limits.{EventFits, IsMarked, AreSpans, AreCycles, events_of, marked_by, WithinLimits}
 use Rattle.rand_pcg.specs.Lcg.{Lcg}
 use Rattle.trace_gen.specs.Made.{event_by, events_from, groups_from, last_cycle, made_cycle, made_trace, size_by, words_of}
 

@@ -56,26 +56,37 @@ fn mark_ends_mark_five_thousand(rt: HostRuntime) -> Result<(), Fail> {
     // objects, and of each mark end the second and the last range
     let rows = [
         (9_999, [].as_slice()),
-        (10_000, [(2000, 9992)].as_slice()),
-        (20_001, [(2000, 9992), (12000, 19992)].as_slice()),
+        (10_000, [(2000, 2003, 9992, 9995)].as_slice()),
+        (
+            20_001,
+            [(2000, 2003, 9992, 9995), (12000, 12003, 19992, 19995)].as_slice(),
+        ),
     ];
     for (objects, ends) in rows {
         let trace = make_trace(rt.alloc(), 7, objects)?;
         let cycles = trace.cycles.as_slice();
         assert_eq!(rt; cycles.len(), ends.len() + 1, "cycles of {objects} objects");
-        for (cycle, (second, last)) in cycles.iter().zip(ends) {
+        for (cycle, (second, second_end, last, last_end)) in cycles.iter().zip(ends) {
             let Some(mark) = &cycle.mark else {
                 panic!(rt; "a cycle of {objects} objects has no mark end");
             };
             let marks = mark.marks.as_slice();
             assert_eq!(rt; (mark.distance, marks.len()), (4_194_304, 1001));
-            for (at, lo, hi) in [
-                (0, 0, 999),
-                (1, *second, second + 3),
-                (1000, *last, last + 3),
-            ] {
-                assert_eq!(rt; marks[at], Span { lo, hi });
-            }
+            assert_eq!(rt; marks[0], Span { lo: 0, hi: 999 });
+            assert_eq!(rt;
+                marks[1],
+                Span {
+                    lo: *second,
+                    hi: *second_end
+                }
+            );
+            assert_eq!(rt;
+                marks[1000],
+                Span {
+                    lo: *last,
+                    hi: *last_end
+                }
+            );
         }
         assert!(rt; cycles[ends.len()].mark.is_none());
     }

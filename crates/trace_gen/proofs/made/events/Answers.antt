@@ -1,4 +1,4 @@
-use Rattle.std.proofs.Common.{◌≡◌, ◌+◌, sym, ap, ◌∙◌, arith, refl}
+use Rattle.std.proofs.Common.{sym, ap, ◌∙◌, arith, refl}
 use Rattle.trace_gen.specs.Made.{generator_at, next_object}
 use Rattle.trace_gen.proofs.More.{events_more, events_none, generator_next}
 use Rattle.trace_gen.proofs.made.events.Goals as goal

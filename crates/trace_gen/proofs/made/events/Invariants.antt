@@ -1,4 +1,4 @@
-use Rattle.std.proofs.Common.{◌≡◌, ◌+◌, ℕ}
+use Rattle.std.proofs.Common.{◌≡◌, ◌+◌}
 use Rattle.rand_pcg.specs.Lcg.{Lcg}
 use Rattle.trace_gen.specs.Made.{events_from, generator_at}
 use Rattle.trace_gen.proofs.made.events.Given as goal

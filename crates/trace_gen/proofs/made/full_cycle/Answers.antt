@@ -1,8 +1,8 @@
-use Rattle.std.proofs.Common.{◌≡◌, ◌*◌, ◌+◌, ap, ◌∙◌, List, Some}
+use Rattle.std.proofs.Common.{◌*◌, ap, ◌∙◌, List, Some}
 use Rattle.trace_reader.specs.declared.trace.Cycle.{Cycle}
 use Rattle.trace_reader.specs.declared.trace.Event.{Event}
 use Rattle.trace_reader.specs.declared.trace.Span.{Span}
-use Rattle.trace_gen.specs.Made.{events_from, marks_at}
+use Rattle.trace_gen.specs.Made.{events_from}
 use Rattle.trace_gen.proofs.made.full_cycle.Goals as goal
 
 cycle_of : List Event → List Span → Cycle

@@ -1,4 +1,4 @@
-use Rattle.std.proofs.Common.{◌≡◌, ◌*◌, ◌+◌, ◌∙◌, sym, ap, arith, refl}
+use Rattle.std.proofs.Common.{◌∙◌, sym, ap, arith, refl}
 use Rattle.trace_gen.specs.Made.{generator_at, words_of}
 use Rattle.trace_gen.proofs.More.{cycles_more, generator_start}
 use Rattle.trace_gen.proofs.made.make_trace.Goals as goal
