@@ -257,6 +257,14 @@ impl Pages {
     {
         self.journal.as_slice()
     }
+
+    /// The same lines, where the pages are no longer needed: none is copied.
+    pub fn into_journal(self) -> Vec<Line>
+        ensures { past_of result.items ≡ self.past }
+    {
+        let Pages { journal, .. } = self;
+        journal
+    }
 }
 
 /// Puts a line at the end of a journal that has room for it.
