@@ -73,7 +73,8 @@ struct Objects<'a> {
 }
 
 impl Objects<'_> {
-    // Marks the places of the objects that the mark end marks.
+    // Marks the places of the objects that the mark end marks. It stands alone, so that its loop has the registers.
+    #[inline(never)]
     fn mark_all(&self, marks: &mut Marks) -> Result<(), NoMemory>
         requires given { AreOf self.now }
         requires below { AreMarksBelow self.now.trace.now self.now.mark self.now.answers.now self.now.sampled.now self.now.buckets.now 0 0 marks.old }
