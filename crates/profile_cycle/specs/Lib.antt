@@ -1,0 +1,3 @@
+pub mod Sampling
+pub mod History
+pub mod Naming

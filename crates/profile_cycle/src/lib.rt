@@ -1,0 +1,17 @@
+//! The sampled heap profile's parts: which objects are sampled, the buckets that count them, and the ring in which counts
+//! wait until their cycle is published.
+//!
+//! The rules are those of Go 1.21's `mprof.go` and `malloc.go`; `docs/profile.md` states them. `specs/Sampling.antt` says
+//! which objects are sampled, `specs/Naming.antt` how buckets are numbered, and `specs/History.antt` what the calls of a
+//! ring publish.
+#![tactic(auto)]
+
+mod buckets;
+mod calls;
+mod counts;
+mod sampler;
+
+pub use buckets::Bucket;
+pub use calls::{Call, View, What};
+pub use counts::Count;
+pub use sampler::Sampler;
