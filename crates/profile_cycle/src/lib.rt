@@ -9,9 +9,13 @@
 mod buckets;
 mod calls;
 mod counts;
+mod cycles;
+mod ring;
 mod sampler;
+mod waiting;
 
 pub use buckets::Bucket;
 pub use calls::{Call, View, What};
 pub use counts::Count;
+pub use ring::{Ring, Tally};
 pub use sampler::Sampler;
