@@ -1,5 +1,5 @@
 -- What counts that wait are once they are moved.
-use Rattle.std.proofs.Common.{◌≡◌, ◌≢◌, ℕ, ◌+◌, ◌%◌, ◌^◌, ◌<◌, ◌≤◌, Bool, true, false, List, length, get_or, set, refl, sym, ap, subst, ◌∙◌, ◌⊎◌, inl, inr, arith, length-set, get_or-set_same, get_or-set_other}
+use Rattle.std.proofs.Common.{◌≡◌, ◌≢◌, ℕ, ◌+◌, ◌%◌, ◌^◌, ◌<◌, ◌≤◌, Bool, false, List, length, get_or, set, refl, sym, ap, subst, ◌∙◌, inl, inr, arith, length-set, get_or-set_other}
 use Rattle.std.proofs.lemmas.Bool.{cases_lt, cases_eq}
 use Rattle.std.proofs.Math.ListN.{get_or-eq_default}
 use Rattle.profile_cycle.specs.Waiting.{Has, Lists, Adds, AreZeros, Moving, Moves}
@@ -79,9 +79,9 @@ adds-one all all' all'' listed listed' listed'' others i before now = record {
   ];
   only = λ b has. elim (now.only b has) [
     | inl was ↦ (elim (before.only b was) [
-        | inl old ↦ inl old
-        | inr k ↦ (let h = k.1 in let low : k.0 < i + 1 = omega arith in inr (k.0, low, k.2))
-      ])
+      | inl old ↦ inl old
+      | inr k ↦ (let h = k.1 in let low : k.0 < i + 1 = omega arith in inr (k.0, low, k.2))
+    ])
     | inr is ↦ (let low : i < i + 1 = omega arith in inr (i, low, is))
   ];
 }

@@ -36,10 +36,15 @@ cycle_after k (Freed b) = k
 cycle_after k NextCycle = k + 1
 cycle_after k AfterSweep = k
 
+-- 1 where a test passes, and 0 where it doesn't.
+abbrev pub one_if : Bool → ℕ
+one_if true = 1
+one_if false = 0
+
 -- How many of the calls pass a test.
 abbrev pub count : (Call → Bool) → List Call → ℕ
 count test [] = 0
-count test (c ∷ older) = (if test c then 1 else 0) + count test older
+count test (c ∷ older) = one_if (test c) + count test older
 
 -- ---- what is published
 

@@ -1,5 +1,5 @@
 -- What a tally keeps of its calls.
-use Rattle.std.specs.Prelude.{◌≡◌, ℕ, ◌+◌, ◌%◌, ◌^◌, ◌<◌, ◌≤◌, Bool, true, false, ◌&&◌, ◌==◌, List, [], ◌∷◌, length, replicate, slice_index}
+use Rattle.std.specs.Prelude.{◌≡◌, ℕ, ◌+◌, ◌%◌, ◌^◌, ◌<◌, ◌≤◌, true, false, ◌&&◌, ◌==◌, List, [], ◌∷◌, length, replicate, slice_index}
 use Rattle.profile_cycle.specs.declared.calls.Call.{Call}
 use Rattle.profile_cycle.specs.declared.calls.View.{View}
 use Rattle.profile_cycle.specs.declared.cycles.Cycles.{Cycles}

@@ -1,9 +1,13 @@
 -- Which buckets a trace names, and in which order.
-use Rattle.std.specs.Prelude.{ℕ, ◌+◌, ◌*◌, ◌/◌, Bool, ◌&&◌, ◌==◌, nat_le, List, [], ◌∷◌, ◌++◌, fold, if◌then◌else◌}
+use Rattle.std.specs.Prelude.{ℕ, ◌+◌, ◌*◌, ◌/◌, ◌^◌, ◌≤◌, Bool, ◌&&◌, ◌==◌, nat_le, List, [], ◌∷◌, ◌++◌, fold, if◌then◌else◌}
 use Rattle.std.specs.List.{list_any}
 use Rattle.trace_reader.specs.declared.trace.Event.{Event}
 use Rattle.size_classes.specs.Table.{slot_sizes}
 use Rattle.profile_cycle.specs.declared.buckets.Bucket.{Bucket}
+
+-- An event's size is within the limit.
+abbrev pub HasSize : Event → Type 0
+HasSize e = e.size ≤ 2 ^ 40
 
 -- The first number of a list that is at least so much, and 0 where there is none.
 abbrev pub first_from : ℕ → List ℕ → ℕ

@@ -1,6 +1,6 @@
 //! The counts of the cycles that wait, and those that are published.
 
-ghost use Rattle.std.specs.Prelude.{◌≡◌, length, IfOk};
+ghost use Rattle.std.specs.Prelude.{◌≡◌, length, IfOk, IfSome};
 ghost use Rattle.profile_cycle.specs.Kept.{AreEmpty, AreNone, Publishes, TakesOver, Turns};
 
 use crate::waiting::Waiting;
@@ -42,8 +42,7 @@ impl Cycles {
         requires frees { length published.old.frees.items ≡ length self.old.next_frees }
         ensures { Publishes self.old published.old self.new published.new }
     {
-        self.next_allocs
-            .drain_into(published.allocs.as_mut_slice());
+        self.next_allocs.drain_into(published.allocs.as_mut_slice());
         self.next_frees.drain_into(published.frees.as_mut_slice());
     }
 
@@ -64,6 +63,22 @@ impl Cycles {
         self.next_allocs.absorb(&mut other.next_allocs);
         self.next_frees.absorb(&mut other.next_frees);
         self.later_allocs.absorb(&mut other.later_allocs);
+    }
+}
+
+/// The counts that lie ready, or else new ones. Nothing waits in them.
+pub(crate) fn take_spare(
+    spare: &mut Option<Cycles>,
+    alloc: Global,
+    buckets: u32,
+) -> Result<Cycles, NoMemory>
+    requires { IfSome spare.old (AreEmpty buckets) }
+    ensures ok { IfOk result (AreEmpty buckets) }
+    ensures spare { IfSome spare.new (AreEmpty buckets) }
+{
+    match spare.take() {
+        Some(cycles) => Ok(cycles),
+        None => Cycles::new(alloc, buckets),
     }
 }
 

@@ -10,12 +10,14 @@ mod buckets;
 mod calls;
 mod counts;
 mod cycles;
+mod laws;
 mod ring;
 mod sampler;
 mod waiting;
 
-pub use buckets::Bucket;
+pub use buckets::{Bucket, Buckets};
 pub use calls::{Call, View, What};
 pub use counts::Count;
+pub use laws::a_pair_is_a_bucket_where_an_event_has_it;
 pub use ring::{Ring, Tally};
 pub use sampler::Sampler;

@@ -2,7 +2,6 @@ ghost use Rattle.std.specs.Prelude.{◌≡◌, ◌%◌, ◌^◌, ◌+◌, ◌<�
 ghost use Rattle.profile_cycle.specs.declared.calls.What.TheVariants.{Allocated, Freed, NextCycle, AfterSweep};
 ghost use Rattle.profile_cycle.specs.History.{
   AreDated,
-
   calls,
   first_view,
   joined,
@@ -14,7 +13,7 @@ ghost use Rattle.profile_cycle.specs.History.{
 
 use crate::calls::{AnyCalls, HandsOut, TakesIn, View, What, make_call};
 use crate::counts::Count;
-use crate::cycles::{Cycles, Published};
+use crate::cycles::{Cycles, Published, take_spare};
 use atomic_table::{Seat, Table};
 use edge_io::NoMemory;
 use std::alloc::Global;
@@ -97,10 +96,7 @@ impl Ring {
         ensures tally { IfOk result (λ other. other ≡ record t.old { view = split_off t.old.view }) }
         ensures err { OnErr result (t.new ≡ t.old) }
     {
-        let cycles = match t.spare.take() {
-            Some(cycles) => cycles,
-            None => Cycles::new(self.alloc, self.buckets)?,
-        };
+        let cycles = take_spare(&mut t.spare, self.alloc, self.buckets)?;
         let shared = &self.table.shared;
         let seat = shared.split_seat::<HandsOut>(&mut t.seat);
         Ok(Tally {

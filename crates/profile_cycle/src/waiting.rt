@@ -54,7 +54,11 @@ impl Waiting {
         if self.listed.all {
             move_all(self.counts.as_mut_slice(), into);
         } else {
-            move_listed(self.listed.buckets.as_slice(), self.counts.as_mut_slice(), into);
+            move_listed(
+                self.listed.buckets.as_slice(),
+                self.counts.as_mut_slice(),
+                into,
+            );
         }
         self.listed.buckets.clear();
         self.listed.all = false;

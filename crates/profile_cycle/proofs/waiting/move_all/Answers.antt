@@ -1,4 +1,4 @@
-use Rattle.std.proofs.Common.{ℕ, ◌≤◌, length, arith}
+use Rattle.std.proofs.Common.{◌≤◌, length, arith}
 use Rattle.profile_cycle.proofs.Moved.{moved, zeros-all}
 use Rattle.profile_cycle.proofs.waiting.move_all.Goals as goal
 

@@ -1,4 +1,4 @@
-use Rattle.std.proofs.Common.{◌≡◌, ℕ, ◌<◌, get_or, length, refl, arith}
+use Rattle.std.proofs.Common.{◌<◌, refl, arith}
 use Rattle.profile_cycle.proofs.Moved.{moved, zeros-listed}
 use Rattle.profile_cycle.proofs.waiting.move_listed.Goals as goal
 
