@@ -1,0 +1,5 @@
+pub mod Requests
+pub mod Answered
+pub mod Numbered
+pub mod Journals
+pub mod Missed
