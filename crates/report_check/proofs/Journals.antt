@@ -234,3 +234,74 @@ pub give-test : (b : Bool) (old new : PageHeap) (life : Life) (cycle page n : �
     → AddsLine old new (Give cycle page life.pages) → MatchBool b (life.pages ≡ n) (life.pages ≢ n) → MatchBool b (HasLine old new (Give cycle page n)) (¬ MayCome old (Give cycle page n))
 give-test true old new life cycle page n legal there at adds e = subst (λ (k : ℕ). HasLine old new (Give cycle page k)) e (has-line old old new (Give cycle page life.pages) (same-room old) adds)
 give-test false old new life cycle page n legal there at adds ne = give-other old cycle page n life legal there at ne
+
+-- ---- the loop over lines
+
+pub record AreAdded (t : Trace) (report : Report) (lines : List Line) (pages : PageHeap) (newest n : ℕ) : Type 0 where
+  pub region : pages.region ≡ region_of t
+  pub goal : pages.goal ≡ t.header.goal
+  pub past : pages.past ≡ past_of (take n lines)
+  pub legal : Legal pages.region pages.goal pages.past
+  pub each : AreLegal t report n
+  pub late : (c : ℕ) → IsBy c pages.past → newest ≤ c
+  pub early : (c : ℕ) → newest ≤ c → IsBy c pages.past
+
+pub added-none : (t : Trace) (report : Report) (lines : List Line) (pages : PageHeap) → pages.region ≡ region_of t → pages.goal ≡ t.header.goal → pages.past ≡ [] → AreAdded t report lines pages 0 0
+added-none t report lines pages region goal past = record {
+    region = region;
+    goal = goal;
+    past = past;
+    legal = rw past tt;
+    each = legal-none t report;
+    late = λ c by. omega arith;
+    early = λ c le. rw past tt;
+  }
+
+pub added-more : (t : Trace) (report : Report) (lines : List Line) (old new : PageHeap) (newest n cycle : ℕ) (d : Line) → lines ≡ report.journal → AreAdded t report lines old newest n → n < length lines
+    → cycle ≡ cycle_of (get_or lines n d) → cycle ≤ last_cycle t → HasLine old new (get_or lines n d) → AreAdded t report lines new cycle (n + 1)
+added-more t report lines old new newest n cycle d same added lt is by has =
+    let line = get_or lines n d in
+    record {
+      region = has.region ∙ added.region;
+      goal = has.goal ∙ added.goal;
+      past = has.past ∙ (ap (λ (p : List Line). line ∷ p) added.past ∙ sym (past-more lines n d lt));
+      legal = has.legal;
+      each = legal-more t report n d old new added.each (subst (λ (l : List Line). n < length l) same lt) added.region added.goal (subst (λ (l : List Line). old.past ≡ past_of (take n l)) same added.past)
+          (subst (λ (l : List Line). HasLine old new (get_or l n d)) same has) (subst (λ (l : List Line). cycle_of (get_or l n d) ≤ last_cycle t) same (omega arith));
+      late = λ c h. (let h' : IsBy c (line ∷ old.past) = subst (λ (p : List Line). IsBy c p) has.past h in omega arith);
+      early = λ c le. (let h' : IsBy c (line ∷ old.past) = omega arith in subst (λ (p : List Line). IsBy c p) (sym has.past) h');
+    }
+
+broken-at : (t : Trace) (report : Report) (n line : ℕ) → line ≡ journal_at report n → AreLegal t report n → n < length report.journal → ¬ IsJournalTo t report (n + 1) → IsLeast (BreaksJournal t report) line
+broken-at t report n line e all lt wrong = rw e (broken-first t report n all lt wrong)
+
+pub added-early : (t : Trace) (report : Report) (lines : List Line) (old : PageHeap) (newest n cycle line : ℕ) (d : Line) → lines ≡ report.journal → AreAdded t report lines old newest n → n < length lines
+    → cycle ≡ cycle_of (get_or lines n d) → cycle < newest → line ≡ journal_at report n → IsLeast (BreaksJournal t report) line
+added-early t report lines old newest n cycle line d same added lt is less e =
+    let inside : n < length report.journal = subst (λ (l : List Line). n < length l) same lt in
+    let past : old.past ≡ past_of (take n report.journal) = subst (λ (l : List Line). old.past ≡ past_of (take n l)) same added.past in
+    let here : cycle ≡ cycle_of (get_or report.journal n d) = subst (λ (l : List Line). cycle ≡ cycle_of (get_or l n d)) same is in
+    broken-at t report n line e added.each inside (wrong-order t report n d old.past inside past (λ by. (let le = added.late (cycle_of (get_or report.journal n d)) by in absurd (omega arith))))
+
+pub added-late : (t : Trace) (report : Report) (lines : List Line) (old : PageHeap) (newest n cycle line : ℕ) (d : Line) → lines ≡ report.journal → AreAdded t report lines old newest n → n < length lines
+    → cycle ≡ cycle_of (get_or lines n d) → last_cycle t < cycle → line ≡ journal_at report n → IsLeast (BreaksJournal t report) line
+added-late t report lines old newest n cycle line d same added lt is less e =
+    let inside : n < length report.journal = subst (λ (l : List Line). n < length l) same lt in
+    let here : cycle ≡ cycle_of (get_or report.journal n d) = subst (λ (l : List Line). cycle ≡ cycle_of (get_or l n d)) same is in
+    broken-at t report n line e added.each inside (wrong-cycle t report n d inside (omega arith))
+
+pub added-wrong : (t : Trace) (report : Report) (lines : List Line) (old : PageHeap) (newest n line : ℕ) (d : Line) → lines ≡ report.journal → AreAdded t report lines old newest n → n < length lines
+    → ¬ MayCome old (get_or lines n d) → line ≡ journal_at report n → IsLeast (BreaksJournal t report) line
+added-wrong t report lines old newest n line d same added lt off e =
+    let inside : n < length report.journal = subst (λ (l : List Line). n < length l) same lt in
+    let past : old.past ≡ past_of (take n report.journal) = subst (λ (l : List Line). old.past ≡ past_of (take n l)) same added.past in
+    let here : ¬ MayCome old (get_or report.journal n d) = subst (λ (l : List Line). ¬ MayCome old (get_or l n d)) same off in
+    broken-at t report n line e added.each inside (wrong-line t report n d old inside added.region added.goal past here)
+
+pub match-false : (b : Bool) (P Q : Type 0) → b ≡ false → MatchBool b P Q → Q
+match-false true P Q e h = (let none : ⊥ = cc in absurd none)
+match-false false P Q e h = h
+
+pub match-true : (b : Bool) (P Q : Type 0) → b ≡ true → MatchBool b P Q → P
+match-true true P Q e h = h
+match-true false P Q e h = (let none : ⊥ = cc in absurd none)

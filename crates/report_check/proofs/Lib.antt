@@ -3,3 +3,4 @@ pub mod Answered
 pub mod Numbered
 pub mod Journals
 pub mod Missed
+pub mod Faults

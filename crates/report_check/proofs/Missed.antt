@@ -4,7 +4,7 @@ use Rattle.std.specs.List.{slice_get}
 use Rattle.std.proofs.lemmas.Bool.{cases_lt, cases_eq}
 use Rattle.std.proofs.lemmas.List.{reverse-reverse, get_or-set_same, get_or-set_other, get_or-replicate, length-replicate}
 use Rattle.std.proofs.Math.ListN.{get_or-eq_default}
-use Rattle.std.proofs.lemmas.Option.{slice_get_within}
+use Rattle.std.proofs.lemmas.Option.{slice_get_within, slice_get-get_or}
 use Rattle.page_bitmap.specs.declared.line.Line.{Line}
 use Rattle.page_bitmap.specs.declared.line.Line.TheVariants.{Miss}
 use Rattle.page_alloc.specs.Lists.{In, IsNumber}
@@ -218,3 +218,34 @@ miss-again journal items n line item named all at missed was =
         its = f.3.missed;
         here = missed;
     }))
+
+-- ---- the loop over objects
+
+pub seen-at : (named : List Bool) (line : ℕ) (r b : Bool) → r ≡ get_or named line r → r ≡ b → get_or named line b ≡ b
+seen-at named line r b e is = let P : Bool → Type 0 = λ x. x ≡ get_or named line x in sym (subst P is e)
+
+other-default : (xs : List Bool) (i : ℕ) (d e : Bool) → i < length xs → get_or xs i d ≡ get_or xs i e
+other-default xs i d e lt = let a = slice_get-get_or xs i d lt in let b = slice_get-get_or xs i e lt in let s : Some (get_or xs i d) ≡ Some (get_or xs i e) = sym a ∙ b in cc
+
+pub loop-wrong : (journal slice : List Line) (items : List Item) (n line : ℕ) (d : Item) (named : List Bool) → slice ≡ journal → AreNamed slice items n named → n < length items → (get_or items n d).answer ≡ Missed line
+    → (slice_get slice line ≢ Some (Miss (get_or items n d).cycle (get_or items n d).pages (get_or items n d).class)) → IsLeast (BreaksMisses (past_of journal) (objects_of items)) (n + 1)
+loop-wrong journal slice items n line d named same all lt missed off =
+    subst (λ (j : List Line). IsLeast (BreaksMisses (past_of j) (objects_of items)) (n + 1)) same (miss-wrong slice items n line (get_or items n d) named all (slice_get-get_or items n d lt) missed off)
+
+pub loop-again : (journal slice : List Line) (items : List Item) (n line : ℕ) (d : Item) (named : List Bool) → slice ≡ journal → AreNamed slice items n named → n < length items → (get_or items n d).answer ≡ Missed line
+    → line < length named → get_or named line true ≡ true → IsLeast (BreaksMisses (past_of journal) (objects_of items)) (n + 1)
+loop-again journal slice items n line d named same all lt missed inside was =
+    subst (λ (j : List Line). IsLeast (BreaksMisses (past_of j) (objects_of items)) (n + 1)) same
+    (miss-again slice items n line (get_or items n d) named all (slice_get-get_or items n d lt) missed (other-default named line false true inside ∙ was))
+
+pub loop-more : (slice : List Line) (items : List Item) (n line : ℕ) (d : Item) (named new : List Bool) → AreNamed slice items n named → n < length items → (get_or items n d).answer ≡ Missed line
+    → slice_get slice line ≡ Some (Miss (get_or items n d).cycle (get_or items n d).pages (get_or items n d).class) → line < length named → get_or named line false ≡ false → new ≡ set named line true → AreNamed slice items (n + 1) new
+loop-more slice items n line d named new all lt missed is inside was e =
+    rw e (named-more slice items n line (get_or items n d) named (slice_get-get_or items n d lt) missed is was inside all)
+
+pub loop-other : (slice : List Line) (items : List Item) (n : ℕ) (d : Item) (named new : List Bool) → AreNamed slice items n named → n < length items → ((line : ℕ) → (get_or items n d).answer ≢ Missed line) → new ≡ named
+    → AreNamed slice items (n + 1) new
+loop-other slice items n d named new all lt other e = rw e (named-other slice items n (get_or items n d) named (slice_get-get_or items n d lt) other all)
+
+pub loop-all : (journal slice : List Line) (items : List Item) (n : ℕ) (named : List Bool) → slice ≡ journal → AreNamed slice items n named → length items ≤ n → AreMissed (past_of journal) (objects_of items)
+loop-all journal slice items n named same all le = subst (λ (j : List Line). AreMissed (past_of j) (objects_of items)) same (are-missed slice items n named le all)

@@ -1,6 +1,6 @@
 //! Rule 3: the Miss lines that missed objects name.
 
-ghost use Rattle.std.specs.Prelude.{◌≡◌, ◌≢◌, false, replicate, IfErr, IfOk, MatchBool, OnOk};
+ghost use Rattle.std.specs.Prelude.{◌≡◌, ◌≢◌, ◌<◌, false, length, replicate, slice_set, true, IfErr, IfOk, MatchBool, OnOk};
 ghost use Rattle.std.specs.List.{slice_get};
 ghost use Rattle.page_bitmap.specs.declared.line.Line.TheVariants.{Miss};
 ghost use Rattle.cycle_history.specs.Rules.{AreMissed};
@@ -37,10 +37,18 @@ pub(crate) fn judge_misses(
                     line: number,
                 });
             }
-            named[line as usize] = true;
+            note(&mut named, line);
         }
     }
     Ok(())
+}
+
+// Notes that the line is named.
+fn note(named: &mut Vec<bool>, line: u64)
+    requires { line < length named.old.items }
+    ensures { named.new.items ≡ slice_set named.old.items line true }
+{
+    named[line as usize] = true;
 }
 
 // So many lines, none of which is named.
