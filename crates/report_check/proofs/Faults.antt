@@ -1,5 +1,6 @@
 -- The rules in their order.
-use Rattle.std.proofs.Common.{◌≡◌, ℕ, ◌-◌, ◌<◌, ◌≤◌, List, [], refl, sym, subst, arith}
+use Rattle.std.specs.Prelude.{IfErr, IsErrAnd}
+use Rattle.std.proofs.Common.{◌≡◌, ℕ, ◌-◌, ◌<◌, ◌≤◌, Result, Ok, Err, List, [], refl, sym, subst, arith}
 use Rattle.trace_reader.specs.declared.trace.Trace.{Trace}
 use Rattle.cycle_history.specs.declared.Report.{Report}
 use Rattle.cycle_history.specs.Objects.{Object}
@@ -124,3 +125,12 @@ pub fault-3 : (t : Trace) (report : Report) (objects : List Object) (fault : Che
     → IsFaultOf 3 (BreaksMisses (past_in report) objects) fault → IsFault t report fault
 fault-3 t report objects fault answers journal is =
     fault-of 3 (BreaksMisses (past_in report) objects) t report objects fault (meets-2 t report objects answers journal) (breaks-3 t report objects) (λ m b. b.misses refl) is
+
+pub err-map : {T : Type 0} (r : Result T CheckFault) (P Q : CheckFault → Type 0) → ((fault : CheckFault) → P fault → Q fault) → IfErr r P → IfErr r Q
+err-map (Ok x) P Q to h = tt
+err-map (Err e) P Q to h = to e h
+
+-- a fault that is handed on
+pub err-from : {T : Type 0} (r : Result T CheckFault) (fault : CheckFault) (P : CheckFault → Type 0) → IsErrAnd r (λ (e : CheckFault). e ≡ fault) → P fault → IfErr r P
+err-from (Ok x) fault P h p = absurd h
+err-from (Err e) fault P h p = subst P (sym h) p
