@@ -1,6 +1,6 @@
 -- Rule 1, one answer more at a time.
-use Rattle.std.proofs.Common.{◌≡◌, ◌↔◌, ℕ, zero, suc, ◌+◌, ◌^◌, ◌<◌, ◌≤◌, length-append, List, [], ◌∷◌, ◌++◌, map, reverse, take, length, get_or, Option, Some, None, refl, sym, ◌∙◌, ap, subst, arith, inl, inr}
-use Rattle.std.specs.List.{slice_get, flat_map, AllByRecursion}
+use Rattle.std.proofs.Common.{◌≡◌, ◌↔◌, ℕ, zero, suc, ◌+◌, ◌^◌, ◌<◌, ◌≤◌, length-append, List, [], ◌∷◌, ◌++◌, map, reverse, take, length, get_or, Option, Some, refl, sym, ◌∙◌, ap, subst, arith, inl, inr}
+use Rattle.std.specs.List.{slice_get, AllByRecursion}
 use Rattle.std.specs.Option.{option_map}
 use Rattle.std.proofs.lemmas.List.{reverse-append, length-reverse, length-map, length-take-le, take_more, map_push}
 use Rattle.std.proofs.lemmas.Bool.{cases_lt}
@@ -12,16 +12,16 @@ use Rattle.cycle_history.specs.declared.Answer.{Answer}
 use Rattle.cycle_history.specs.declared.Answer.TheVariants.{Zero}
 use Rattle.cycle_history.specs.declared.Report.{Report}
 use Rattle.cycle_history.specs.Marked.{IsLimited}
-use Rattle.cycle_history.specs.Requests.{Request, requests_from, requests_of}
+use Rattle.cycle_history.specs.Requests.{Request, requests_of}
 use Rattle.cycle_history.specs.Objects.{Object}
 use Rattle.cycle_history.specs.Rules.{IsObject, AreAnswered}
 use Rattle.cycle_history.specs.Sound.{HasAnswers}
 use Rattle.cycle_history.proofs.OfObjects.{requests-events}
-use Rattle.report_rules.specs.Lines.{answer_at, end_of, IsLeast}
-use Rattle.report_rules.specs.Answers.{IsRightAnswer, IsWrongAnswer, BreaksAnswers}
+use Rattle.report_rules.specs.Lines.{end_of, IsLeast}
+use Rattle.report_rules.specs.Answers.{IsRightAnswer, BreaksAnswers}
 use Rattle.report_check.specs.declared.asked.Asked.{Asked}
 use Rattle.report_check.specs.declared.items.Item.{Item}
-use Rattle.report_check.specs.Items.{AreAsked, IsItem, object_of, objects_from, objects_of, request_of}
+use Rattle.report_check.specs.Items.{AreAsked, IsItem, object_of, objects_of, request_of}
 
 -- the objects of one item more
 pub objects-more : (items : List Item) (item : Item) → objects_of (items ++ item ∷ []) ≡ object_of (length (reverse items)) item ∷ objects_of items
@@ -38,7 +38,7 @@ asked-step asked items i d item lt size all is =
     let next = get_or asked i d in
     let front = map request_of (take i asked) in
     let count : length (reverse items) ≡ length (reverse front) =
-        length-reverse items ∙ (size ∙ (sym (length-take-le i asked (omega arith)) ∙ (sym (length-map (take i asked) request_of) ∙ sym (length-reverse front)))) in
+    length-reverse items ∙ (size ∙ (sym (length-take-le i asked (omega arith)) ∙ (sym (length-map (take i asked) request_of) ∙ sym (length-reverse front)))) in
     let one : IsObject (request_of next) (length (reverse front)) (object_of (length (reverse items)) item) = record { id = count; proc = is.proc; cycle = is.cycle; zero = is.zero; need = is.need } in
     rw (take_more asked i d lt, map_push request_of (take i asked) next, reverse-append front (request_of next ∷ []), objects-more items item) (one, all)
 
@@ -70,26 +70,26 @@ pub record AreRight (t : Trace) (report : Report) (n : ℕ) : Type 0 where
 
 pub right-more : (t : Trace) (report : Report) (n : ℕ) (a : Answer) → AreRight t report n → slice_get report.answers n ≡ Some a → IsRightAnswer t n a → AreRight t report (n + 1)
 right-more t report n a all printed here = record {
-    right = λ k b lt at. elim (cases_lt k n) [
-      | inl below ↦ all.right k b below at
-      | inr above ↦ (
-          let e : k ≡ n = omega arith in
-          let at' : slice_get report.answers n ≡ Some b = subst (λ (j : ℕ). slice_get report.answers j ≡ Some b) e at in
-          let same : a ≡ b = cc in
-          let r : IsRightAnswer t n b = subst (λ (x : Answer). IsRightAnswer t n x) same here in
-          subst (λ (j : ℕ). IsRightAnswer t j b) (sym e) r)
-    ]
-  }
+  right = λ k b lt at. elim (cases_lt k n) [
+    | inl below ↦ all.right k b below at
+    | inr above ↦ (
+        let e : k ≡ n = omega arith in
+        let at' : slice_get report.answers n ≡ Some b = subst (λ (j : ℕ). slice_get report.answers j ≡ Some b) e at in
+        let same : a ≡ b = cc in
+        let r : IsRightAnswer t n b = subst (λ (x : Answer). IsRightAnswer t n x) same here in
+        subst (λ (j : ℕ). IsRightAnswer t j b) (sym e) r)
+  ];
+}
 
 -- the first answer that isn't right breaks rule 1 first
 pub wrong-first : (t : Trace) (report : Report) (n : ℕ) (a : Answer) → AreRight t report n → slice_get report.answers n ≡ Some a → ¬ IsRightAnswer t n a → IsLeast (BreaksAnswers t report) (n + 1)
 wrong-first t report n a all printed wrong = record {
-    here = inl (n, record { answer = a; printed = printed; wrong = wrong; stands = refl });
-    least = λ m lt breaks. elim breaks [
-      | inl w ↦ (let s = w.1.stands in w.1.wrong (all.right w.0 w.1.answer (omega arith) w.1.printed))
-      | inr e ↦ (let within = slice_get_within report.answers n a printed in let s = e.1 in absurd (omega arith))
-    ]
-  }
+  here = inl (n, record { answer = a; printed = printed; wrong = wrong; stands = refl });
+  least = λ m lt breaks. elim breaks [
+    | inl w ↦ (let s = w.1.stands in w.1.wrong (all.right w.0 w.1.answer (omega arith) w.1.printed))
+    | inr e ↦ (let within = slice_get_within report.answers n a printed in let s = e.1 in absurd (omega arith))
+  ];
+}
 
 -- an answer behind those of all objects isn't right
 pub wrong-behind : (t : Trace) (n : ℕ) (a : Answer) → length (events_of t) ≤ n → ¬ IsRightAnswer t n a
@@ -98,12 +98,12 @@ wrong-behind t n a le r = (let within = slice_get_within (events_of t) n r.event
 -- an object without an answer shows at the end
 pub missing-last : (t : Trace) (report : Report) → AreRight t report (length report.answers) → length report.answers < length (events_of t) → IsLeast (BreaksAnswers t report) (end_of report)
 missing-last t report all lt = record {
-    here = inr (lt, refl);
-    least = λ m less breaks. elim breaks [
-      | inl w ↦ w.1.wrong (all.right w.0 w.1.answer (slice_get_within report.answers w.0 w.1.answer w.1.printed) w.1.printed)
-      | inr e ↦ (let s = e.1 in absurd (omega arith))
-    ]
-  }
+  here = inr (lt, refl);
+  least = λ m less breaks. elim breaks [
+    | inl w ↦ w.1.wrong (all.right w.0 w.1.answer (slice_get_within report.answers w.0 w.1.answer w.1.printed) w.1.printed)
+    | inr e ↦ (let s = e.1 in absurd (omega arith))
+  ];
+}
 
 -- ---- the loop over requests
 

@@ -1,6 +1,6 @@
 -- The rules in their order.
 use Rattle.std.specs.Prelude.{IfErr, IsErrAnd}
-use Rattle.std.proofs.Common.{◌≡◌, ℕ, ◌-◌, ◌<◌, ◌≤◌, Result, Ok, Err, List, [], refl, sym, subst, arith}
+use Rattle.std.proofs.Common.{◌≡◌, ℕ, ◌-◌, Result, Ok, Err, List, [], refl, sym, subst, arith}
 use Rattle.trace_reader.specs.declared.trace.Trace.{Trace}
 use Rattle.cycle_history.specs.declared.Report.{Report}
 use Rattle.cycle_history.specs.Objects.{Object}
@@ -9,58 +9,58 @@ use Rattle.cycle_history.specs.Sound.{past_in, HasAnswers, HasJournal}
 use Rattle.cycle_history.specs.Broken.{MeetsUpTo}
 use Rattle.report_rules.specs.Lines.{IsLeast}
 use Rattle.report_rules.specs.Answers.{BreaksAnswers, BreaksJournal, BreaksMisses}
-use Rattle.report_rules.specs.Broken.{Breaks, IsBrokenBy, IsBroken}
+use Rattle.report_rules.specs.Broken.{Breaks, IsBroken}
 use Rattle.report_check.specs.declared.fault.CheckFault.{CheckFault}
 use Rattle.report_check.specs.declared.fault.CheckFault.TheVariants.{Broken, NoMemory}
 use Rattle.report_check.specs.Fault.{IsFault, IsFaultOf}
 
 pub meets-none : (t : Trace) (report : Report) (objects : List Object) → MeetsUpTo 0 t report objects
 meets-none t report objects = record {
-    answers = λ le. absurd (omega arith);
-    journal = λ le. absurd (omega arith);
-    misses = λ le. absurd (omega arith);
-    places = λ le. absurd (omega arith);
-    apart = λ le. absurd (omega arith);
-    filling = λ le. absurd (omega arith);
-    sweeps = λ le. absurd (omega arith);
-    totals = λ le. absurd (omega arith);
-  }
+  answers = λ le. absurd (omega arith);
+  journal = λ le. absurd (omega arith);
+  misses = λ le. absurd (omega arith);
+  places = λ le. absurd (omega arith);
+  apart = λ le. absurd (omega arith);
+  filling = λ le. absurd (omega arith);
+  sweeps = λ le. absurd (omega arith);
+  totals = λ le. absurd (omega arith);
+}
 
 pub meets-1 : (t : Trace) (report : Report) (objects : List Object) → HasAnswers t report objects → MeetsUpTo 1 t report objects
 meets-1 t report objects answers = record {
-    answers = λ le. answers;
-    journal = λ le. absurd (omega arith);
-    misses = λ le. absurd (omega arith);
-    places = λ le. absurd (omega arith);
-    apart = λ le. absurd (omega arith);
-    filling = λ le. absurd (omega arith);
-    sweeps = λ le. absurd (omega arith);
-    totals = λ le. absurd (omega arith);
-  }
+  answers = λ le. answers;
+  journal = λ le. absurd (omega arith);
+  misses = λ le. absurd (omega arith);
+  places = λ le. absurd (omega arith);
+  apart = λ le. absurd (omega arith);
+  filling = λ le. absurd (omega arith);
+  sweeps = λ le. absurd (omega arith);
+  totals = λ le. absurd (omega arith);
+}
 
 pub meets-2 : (t : Trace) (report : Report) (objects : List Object) → HasAnswers t report objects → HasJournal t report → MeetsUpTo 2 t report objects
 meets-2 t report objects answers journal = record {
-    answers = λ le. answers;
-    journal = λ le. journal;
-    misses = λ le. absurd (omega arith);
-    places = λ le. absurd (omega arith);
-    apart = λ le. absurd (omega arith);
-    filling = λ le. absurd (omega arith);
-    sweeps = λ le. absurd (omega arith);
-    totals = λ le. absurd (omega arith);
-  }
+  answers = λ le. answers;
+  journal = λ le. journal;
+  misses = λ le. absurd (omega arith);
+  places = λ le. absurd (omega arith);
+  apart = λ le. absurd (omega arith);
+  filling = λ le. absurd (omega arith);
+  sweeps = λ le. absurd (omega arith);
+  totals = λ le. absurd (omega arith);
+}
 
 pub meets-3 : (t : Trace) (report : Report) (objects : List Object) → HasAnswers t report objects → HasJournal t report → AreMissed (past_in report) objects → MeetsUpTo 3 t report objects
 meets-3 t report objects answers journal misses = record {
-    answers = λ le. answers;
-    journal = λ le. journal;
-    misses = λ le. misses;
-    places = λ le. absurd (omega arith);
-    apart = λ le. absurd (omega arith);
-    filling = λ le. absurd (omega arith);
-    sweeps = λ le. absurd (omega arith);
-    totals = λ le. absurd (omega arith);
-  }
+  answers = λ le. answers;
+  journal = λ le. journal;
+  misses = λ le. misses;
+  places = λ le. absurd (omega arith);
+  apart = λ le. absurd (omega arith);
+  filling = λ le. absurd (omega arith);
+  sweeps = λ le. absurd (omega arith);
+  totals = λ le. absurd (omega arith);
+}
 
 -- the least of two tests that hold together
 least-same : (P Q : ℕ → Type 0) (n : ℕ) → ((m : ℕ) → P m → Q m) → ((m : ℕ) → Q m → P m) → IsLeast P n → IsLeast Q n
@@ -68,45 +68,45 @@ least-same P Q n to from is = record { here = to n is.here; least = λ m lt q. i
 
 breaks-1 : (t : Trace) (report : Report) (objects : List Object) (m : ℕ) → BreaksAnswers t report m → Breaks 1 t report objects m
 breaks-1 t report objects m b = record {
-    some = omega arith;
-    few = omega arith;
-    answers = λ e. b;
-    journal = λ e. absurd (omega arith);
-    misses = λ e. absurd (omega arith);
-    places = λ e. absurd (omega arith);
-    apart = λ e. absurd (omega arith);
-    filling = λ e. absurd (omega arith);
-    sweeps = λ e. absurd (omega arith);
-    totals = λ e. absurd (omega arith);
-  }
+  some = omega arith;
+  few = omega arith;
+  answers = λ e. b;
+  journal = λ e. absurd (omega arith);
+  misses = λ e. absurd (omega arith);
+  places = λ e. absurd (omega arith);
+  apart = λ e. absurd (omega arith);
+  filling = λ e. absurd (omega arith);
+  sweeps = λ e. absurd (omega arith);
+  totals = λ e. absurd (omega arith);
+}
 
 breaks-2 : (t : Trace) (report : Report) (objects : List Object) (m : ℕ) → BreaksJournal t report m → Breaks 2 t report objects m
 breaks-2 t report objects m b = record {
-    some = omega arith;
-    few = omega arith;
-    answers = λ e. absurd (omega arith);
-    journal = λ e. b;
-    misses = λ e. absurd (omega arith);
-    places = λ e. absurd (omega arith);
-    apart = λ e. absurd (omega arith);
-    filling = λ e. absurd (omega arith);
-    sweeps = λ e. absurd (omega arith);
-    totals = λ e. absurd (omega arith);
-  }
+  some = omega arith;
+  few = omega arith;
+  answers = λ e. absurd (omega arith);
+  journal = λ e. b;
+  misses = λ e. absurd (omega arith);
+  places = λ e. absurd (omega arith);
+  apart = λ e. absurd (omega arith);
+  filling = λ e. absurd (omega arith);
+  sweeps = λ e. absurd (omega arith);
+  totals = λ e. absurd (omega arith);
+}
 
 breaks-3 : (t : Trace) (report : Report) (objects : List Object) (m : ℕ) → BreaksMisses (past_in report) objects m → Breaks 3 t report objects m
 breaks-3 t report objects m b = record {
-    some = omega arith;
-    few = omega arith;
-    answers = λ e. absurd (omega arith);
-    journal = λ e. absurd (omega arith);
-    misses = λ e. b;
-    places = λ e. absurd (omega arith);
-    apart = λ e. absurd (omega arith);
-    filling = λ e. absurd (omega arith);
-    sweeps = λ e. absurd (omega arith);
-    totals = λ e. absurd (omega arith);
-  }
+  some = omega arith;
+  few = omega arith;
+  answers = λ e. absurd (omega arith);
+  journal = λ e. absurd (omega arith);
+  misses = λ e. b;
+  places = λ e. absurd (omega arith);
+  apart = λ e. absurd (omega arith);
+  filling = λ e. absurd (omega arith);
+  sweeps = λ e. absurd (omega arith);
+  totals = λ e. absurd (omega arith);
+}
 
 -- a fault of one rule, where the rules before it are met
 fault-of : (n : ℕ) (P : ℕ → Type 0) (t : Trace) (report : Report) (objects : List Object) (fault : CheckFault) → MeetsUpTo (n - 1) t report objects

@@ -1,15 +1,13 @@
 -- Rule 2: which lines may come next.
-use Rattle.std.proofs.Common.{◌≡◌, ◌≢◌, ℕ, zero, suc, Bool, true, false, eqb, Option, Result, Ok, Err, ◌+◌, ◌-◌, ◌*◌, ◌/◌, ◌%◌, ◌<◌, ◌≤◌, List, [], ◌∷◌, ◌++◌, take, length, reverse, get_or, Some, None, refl, sym, ◌∙◌, ap, arith, ◌⊎◌, inl, inr, subst}
+use Rattle.std.proofs.Common.{◌≡◌, ◌≢◌, ℕ, zero, suc, Bool, true, false, eqb, Option, Result, Ok, Err, ◌+◌, ◌-◌, ◌/◌, ◌%◌, ◌<◌, ◌≤◌, List, [], ◌∷◌, ◌++◌, take, length, reverse, get_or, Some, None, refl, sym, ◌∙◌, ap, arith, ◌⊎◌, inl, inr, subst}
 use Rattle.std.specs.Prelude.{MatchBool, IfSome, IfNone, IfOk, IfErr, is_some, is_err}
-use Rattle.std.specs.List.{slice_get}
-use Rattle.std.proofs.lemmas.Bool.{cases_lt, cases_eq, eqb-true, eq-eqb}
+use Rattle.std.proofs.lemmas.Bool.{cases_lt, eqb-true, eq-eqb}
 use Rattle.std.proofs.lemmas.List.{reverse-append, take_more}
-use Rattle.std.proofs.lemmas.Option.{slice_get-get_or}
 use Rattle.page_bitmap.specs.declared.line.Line.{Line}
 use Rattle.page_bitmap.specs.declared.line.Line.TheVariants.{Take, Miss, Give, Scav}
 use Rattle.page_alloc.specs.Lists.{In}
 use Rattle.page_alloc.specs.Heap.{PageHeap, HasMoreRoom, AddsLine}
-use Rattle.page_alloc.specs.Journal.{Life, IsFirstFit, IsScavengeRun, IsSpanSize, IsLoose, HasNoRun, Legal, IsBy, MayFollow, cycle_of, open_lives, backed, past_of, owner}
+use Rattle.page_alloc.specs.Journal.{Life, IsFirstFit, IsScavengeRun, IsLoose, HasNoRun, Legal, IsBy, cycle_of, open_lives, backed, past_of, owner}
 use Rattle.page_alloc.proofs.Lives.{covers, lies, same_page}
 use Rattle.trace_reader.specs.declared.trace.Trace.{Trace}
 use Rattle.cycle_history.specs.declared.Report.{Report}
@@ -68,11 +66,11 @@ scav-one region past p q n m a b =
 
 pub has-line : (old mid new : PageHeap) (line : Line) → HasMoreRoom old mid → AddsLine mid new line → HasLine old new line
 has-line old mid new line more adds = record {
-    region = adds.region ∙ more.region;
-    goal = adds.goal ∙ more.goal;
-    past = adds.past ∙ ap (λ (past : List Line). line ∷ past) more.past;
-    legal = adds.legal;
-  }
+  region = adds.region ∙ more.region;
+  goal = adds.goal ∙ more.goal;
+  past = adds.past ∙ ap (λ (past : List Line). line ∷ past) more.past;
+  legal = adds.legal;
+}
 
 pub takes-other : (old mid new : PageHeap) (cycle page first n class : ℕ) → HasMoreRoom old mid → AddsLine mid new (Take cycle first n class) → first ≢ page → ¬ MayCome old (Take cycle page n class)
 takes-other old mid new cycle page first n class more adds other may =
@@ -150,24 +148,24 @@ past-more journal n d lt = rw (take_more journal n d lt) (reverse-append (take n
 pub legal-more : (t : Trace) (report : Report) (n : ℕ) (d : Line) (old new : PageHeap) → AreLegal t report n → n < length report.journal → old.region ≡ region_of t → old.goal ≡ t.header.goal
     → old.past ≡ past_of (take n report.journal) → HasLine old new (get_or report.journal n d) → cycle_of (get_or report.journal n d) ≤ last_cycle t → AreLegal t report (n + 1)
 legal-more t report n d old new all lt region goal past has by = record {
-    each = λ k le. elim (cases_lt k (n + 1)) [
-      | inl below ↦ all.each k (omega arith)
-      | inr above ↦ (
-          let e : k ≡ n + 1 = omega arith in
-          let line = get_or report.journal n d in
-          let turned : past_of (take (n + 1) report.journal) ≡ new.past = past-more report.journal n d lt ∙ (ap (λ (p : List Line). line ∷ p) (sym past) ∙ sym has.past) in
-          let legal : Legal (region_of t) t.header.goal (past_of (take (n + 1) report.journal)) = rw (turned, sym region, sym goal, sym has.region, sym has.goal) has.legal in
-          let cycles : IsBy (last_cycle t) (past_of (take (n + 1) report.journal)) = rw (past-more report.journal n d lt) by in
-          subst (λ (j : ℕ). IsJournalTo t report j) (sym e) (record { legal = legal; cycles = cycles }))
-    ]
-  }
+  each = λ k le. elim (cases_lt k (n + 1)) [
+    | inl below ↦ all.each k (omega arith)
+    | inr above ↦ (
+        let e : k ≡ n + 1 = omega arith in
+        let line = get_or report.journal n d in
+        let turned : past_of (take (n + 1) report.journal) ≡ new.past = past-more report.journal n d lt ∙ (ap (λ (p : List Line). line ∷ p) (sym past) ∙ sym has.past) in
+        let legal : Legal (region_of t) t.header.goal (past_of (take (n + 1) report.journal)) = rw (turned, sym region, sym goal, sym has.region, sym has.goal) has.legal in
+        let cycles : IsBy (last_cycle t) (past_of (take (n + 1) report.journal)) = rw (past-more report.journal n d lt) by in
+        subst (λ (j : ℕ). IsJournalTo t report j) (sym e) (record { legal = legal; cycles = cycles }))
+  ];
+}
 
 -- the first line that may not come breaks rule 2 first
 pub broken-first : (t : Trace) (report : Report) (n : ℕ) → AreLegal t report n → n < length report.journal → ¬ IsJournalTo t report (n + 1) → IsLeast (BreaksJournal t report) (journal_at report n)
 broken-first t report n all lt wrong = record {
-    here = record { number = n; inside = lt; wrong = wrong; stands = refl };
-    least = λ m less b. (let s = b.stands in b.wrong (all.each (b.number + 1) (omega arith)));
-  }
+  here = record { number = n; inside = lt; wrong = wrong; stands = refl };
+  least = λ m less b. (let s = b.stands in b.wrong (all.each (b.number + 1) (omega arith)));
+}
 
 -- a line that may not come, for its cycle or by the pages
 pub wrong-cycle : (t : Trace) (report : Report) (n : ℕ) (d : Line) → n < length report.journal → last_cycle t < cycle_of (get_or report.journal n d) → ¬ IsJournalTo t report (n + 1)
@@ -248,14 +246,14 @@ pub record AreAdded (t : Trace) (report : Report) (lines : List Line) (pages : P
 
 pub added-none : (t : Trace) (report : Report) (lines : List Line) (pages : PageHeap) → pages.region ≡ region_of t → pages.goal ≡ t.header.goal → pages.past ≡ [] → AreAdded t report lines pages 0 0
 added-none t report lines pages region goal past = record {
-    region = region;
-    goal = goal;
-    past = past;
-    legal = rw past tt;
-    each = legal-none t report;
-    late = λ c by. omega arith;
-    early = λ c le. rw past tt;
-  }
+  region = region;
+  goal = goal;
+  past = past;
+  legal = rw past tt;
+  each = legal-none t report;
+  late = λ c by. omega arith;
+  early = λ c le. rw past tt;
+}
 
 pub added-more : (t : Trace) (report : Report) (lines : List Line) (old new : PageHeap) (newest n cycle : ℕ) (d : Line) → lines ≡ report.journal → AreAdded t report lines old newest n → n < length lines
     → cycle ≡ cycle_of (get_or lines n d) → cycle ≤ last_cycle t → HasLine old new (get_or lines n d) → AreAdded t report lines new cycle (n + 1)

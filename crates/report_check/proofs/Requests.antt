@@ -1,5 +1,5 @@
 -- The requests of a trace, one cycle more at a time.
-use Rattle.std.proofs.Common.{◌≡◌, ℕ, zero, suc, ◌+◌, ◌<◌, List, [], ◌∷◌, ◌++◌, map, take, length, get_or, refl, sym, ◌∙◌, ap, ap₂, arith}
+use Rattle.std.proofs.Common.{◌≡◌, ℕ, zero, suc, ◌+◌, ◌<◌, List, [], ◌∷◌, ◌++◌, map, take, length, get_or, sym, ◌∙◌, ap, ap₂, arith}
 use Rattle.std.proofs.lemmas.List.{append_assoc, append-nil, map-append}
 use Rattle.std.proofs.lemmas.Simd.{map-map}
 use Rattle.trace_reader.specs.declared.trace.Event.{Event}

@@ -1,7 +1,6 @@
 -- A trace's objects as a table.
-use Rattle.std.specs.Prelude.{◌≡◌, ℕ, ◌<◌, ◌≤◌, List, [], ◌∷◌, map, reverse, length, take, ◌↔◌}
+use Rattle.std.specs.Prelude.{◌≡◌, ℕ, ◌≤◌, List, [], ◌∷◌, map, reverse, length, ◌↔◌}
 use Rattle.trace_reader.specs.declared.trace.Trace.{Trace}
-use Rattle.cycle_history.specs.declared.Answer.{Answer}
 use Rattle.cycle_history.specs.declared.Answer.TheVariants.{Zero}
 use Rattle.cycle_history.specs.Needs.{Need, IsNeed}
 use Rattle.cycle_history.specs.Requests.{Request, requests_from}

@@ -1,8 +1,8 @@
 -- Which line may come next in a journal, and what is known once it is there.
-use Rattle.std.specs.Prelude.{◌≡◌, ℕ, ◌≤◌, List, ◌∷◌}
+use Rattle.std.specs.Prelude.{◌≡◌, ◌∷◌}
 use Rattle.page_bitmap.specs.declared.line.Line.{Line}
 use Rattle.page_alloc.specs.Heap.{PageHeap}
-use Rattle.page_alloc.specs.Journal.{IsSpanSize, Legal, MayFollow}
+use Rattle.page_alloc.specs.Journal.{Legal, MayFollow}
 
 -- The line was added to the journal, which is legal with it.
 pub record HasLine (old new : PageHeap) (line : Line) : Type 0 where

@@ -1,5 +1,4 @@
-use Rattle.std.proofs.Common.{◌≡◌, ℕ, ◌+◌, ◌<◌, List, length, sym, ◌∙◌, ap, arith}
-use Rattle.trace_reader.specs.declared.trace.Event.{Event}
+use Rattle.std.proofs.Common.{◌∙◌, ap, arith}
 use Rattle.trace_reader.specs.declared.trace.Cycle.{Cycle}
 use Rattle.report_check.proofs.Requests.{asked-more}
 use Rattle.report_check.proofs.asked.asked_of.Goals as goal

@@ -3,7 +3,7 @@ use Rattle.report_rules.specs.Answers.{BreaksMisses}
 use Rattle.report_check.specs.declared.fault.CheckFault.{CheckFault}
 use Rattle.report_check.specs.Items.{objects_of}
 use Rattle.report_check.specs.Fault.{IsFault, IsFaultOf}
-use Rattle.report_check.proofs.Faults.{fault-1, fault-2, fault-3, err-map, err-from}
+use Rattle.report_check.proofs.Faults.{fault-1, fault-3, err-map, err-from}
 use Rattle.report_check.proofs.check.check_first_rules.Goals as goal
 
 pub returns-in_err-items-clause-broken : goal.returns-in_err-items-clause-broken

@@ -1,4 +1,3 @@
-use Rattle.std.proofs.Common.{◌≡◌}
 use Rattle.page_bitmap.specs.declared.line.Line.TheVariants.{Scav}
 use Rattle.report_check.specs.Journal.{HasLine, MayCome}
 use Rattle.report_check.proofs.Journals.{judged, scav-other}

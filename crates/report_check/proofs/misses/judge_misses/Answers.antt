@@ -1,4 +1,4 @@
-use Rattle.std.proofs.Common.{◌≡◌, ℕ, ◌<◌, Bool, true, false, List, Vec, Global, length, set, replicate, refl, sym, ◌∙◌, ap, subst, arith}
+use Rattle.std.proofs.Common.{◌≡◌, Bool, true, false, List, Vec, Global, length, set, replicate, refl, ◌∙◌, ap, arith}
 use Rattle.std.proofs.lemmas.Option.{slice_get_within}
 use Rattle.std.proofs.lemmas.List.{length-set, length-replicate}
 use Rattle.report_check.proofs.Missed.{seen-at, loop-wrong, loop-again, loop-more, loop-other, loop-all, named-none}
@@ -10,13 +10,18 @@ returns-then-not-names_miss-clause-fault c =
     let number = c.loop-item.invariant.number in
     let size = c.loop-item.invariant.size in
     elim c.then-not-names_miss.branch [
-      | then-not-names_miss-via-then-not-names_miss w ↦ (refl, rw number (loop-wrong c.args.report.now.journal c.as_slice-journal.result.now c.args.items.now c.loop-item.item-index c.in-Missed.line _ c.loop-item.named.items
-          c.as_slice-journal.ensures c.loop-item.invariant.named c.loop-item-test.true c.in-Missed.is w.if-not-names_miss.ensures))
+      | then-not-names_miss-via-then-not-names_miss w ↦ (
+        refl,
+        rw number (loop-wrong c.args.report.now.journal c.as_slice-journal.result.now c.args.items.now c.loop-item.item-index c.in-Missed.line _ c.loop-item.named.items
+            c.as_slice-journal.ensures c.loop-item.invariant.named c.loop-item-test.true c.in-Missed.is w.if-not-names_miss.ensures),
+      )
       | then-not-names_miss-via-else-not-names_miss+then-index w ↦ (
           let miss = w.if-not-names_miss.ensures in
-          let within = slice_get_within c.as_slice-journal.result.now c.in-Missed.line _ w.if-not-names_miss.ensures in
-          (refl, rw number (loop-again c.args.report.now.journal c.as_slice-journal.result.now c.args.items.now c.loop-item.item-index c.in-Missed.line _ c.loop-item.named.items
-          c.as_slice-journal.ensures c.loop-item.invariant.named c.loop-item-test.true c.in-Missed.is (omega arith) (seen-at c.loop-item.named.items c.in-Missed.line w.index.result.now true w.index.ensures w.if-index.true))))
+          let within = slice_get_within c.as_slice-journal.result.now c.in-Missed.line _ w.if-not-names_miss.ensures in (
+            refl,
+            rw number (loop-again c.args.report.now.journal c.as_slice-journal.result.now c.args.items.now c.loop-item.item-index c.in-Missed.line _ c.loop-item.named.items
+                c.as_slice-journal.ensures c.loop-item.invariant.named c.loop-item-test.true c.in-Missed.is (omega arith) (seen-at c.loop-item.named.items c.in-Missed.line w.index.result.now true w.index.ensures w.if-index.true)),
+          ))
     ]
 
 pub note-requires : goal.note-requires
