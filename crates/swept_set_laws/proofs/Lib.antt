@@ -1,0 +1,5 @@
+mod Pigeons
+pub mod Stays
+pub mod EnteredKept
+pub mod EnteredMoves
+pub mod EnteredRest
