@@ -1,0 +1,63 @@
+//! What a cycle of the run leaves behind, and that it keeps the run sound, whichever worker did what and when.
+//!
+//! `specs/CycleSoFar.antt` has what is left as a cycle ends, as plain lists: lines, logs, objects and notes.
+//! `specs/Facts.antt` has the facts of it from which the run stays sound, and `specs/Reached.antt` what a run keeps from
+//! cycle to cycle. `specs/Profile.antt` is the sampled profile and the rule on it.
+#![tactic(auto)]
+
+ghost use Rattle.std.specs.Prelude.{◌≡◌, ℕ, suc, ◌≤◌, Bool, List, [], ◌++◌, reverse};
+ghost use Rattle.page_bitmap.specs.declared.line.Line.{Line};
+ghost use Rattle.page_alloc.specs.Lists.{In};
+ghost use Rattle.span_state.specs.declared.sweep.SweepNote.{SweepNote};
+ghost use Rattle.trace_reader.specs.declared.trace.Trace.{Trace};
+ghost use Rattle.cycle_history.specs.declared.Report.{Report};
+ghost use Rattle.cycle_history.specs.Requests.{Marking, marked_by, last_cycle, region_of};
+ghost use Rattle.cycle_history.specs.Objects.{Object};
+ghost use Rattle.sound_run.specs.Run.{Lasts};
+ghost use Rattle.cycle_history.specs.Sweeps.{AreTotals};
+ghost use Rattle.cycle_history.specs.Sound.{past_in, HasAnswers, IsSoundAndUsed};
+ghost use Rattle.run_laws.specs.CycleSoFar.{CycleSoFar, past_after};
+ghost use Rattle.run_laws.specs.Facts.{Facts};
+ghost use Rattle.run_laws.specs.Reached.{Began, Reached};
+ghost use Rattle.run_laws.specs.Profile.{
+  Samples,
+  Bucket,
+  Calls,
+  AreCalls,
+  allocs_at,
+  frees_at,
+  published_allocs,
+  published_frees,
+};
+
+/// Nothing written and nothing asked is a run as cycle 0 begins.
+pub fn a_run_begins()
+    ensures { (marked : Marking) (region : ℕ) (goal : ℕ) (carried : ℕ → ℕ → Bool) → Began marked region goal 0 [] [] [] carried }
+{}
+
+/// A cycle with its facts leads from its beginning to its end.
+pub fn a_cycle_keeps_a_run_sound()
+    ensures { (marked : Marking) (region : ℕ) (goal : ℕ) (objects : List Object) (notes : List SweepNote) (e : CycleSoFar)
+        → Began marked region goal e.cycle e.before objects notes e.carried → Facts marked region goal objects e
+        → Reached marked region goal e.cycle (past_after e) (e.news ++ objects) (e.notes ++ notes) e.bits }
+{}
+
+/// The next cycle begins behind a mark end, and carries the allocated indices.
+pub fn a_mark_end_begins_a_cycle()
+    ensures { (marked : Marking) (region : ℕ) (goal : ℕ) (c : ℕ) (past : List Line) (objects : List Object) (notes : List SweepNote) (bits : ℕ → ℕ → Bool)
+        → Reached marked region goal c past objects notes bits → Began marked region goal (suc c) past objects notes bits }
+{}
+
+/// The report of a run that has reached the end of the trace's last cycle is sound and used.
+pub fn a_reached_run_is_sound()
+    ensures { (t : Trace) (report : Report) (objects : List Object) (notes : List SweepNote) (bits : ℕ → ℕ → Bool)
+        → Reached (marked_by t) (region_of t) t.header.goal (last_cycle t) (past_in report) objects notes bits → HasAnswers t report objects
+        → report.sweeps ≡ reverse notes → AreTotals (marked_by t) (last_cycle t) objects report.totals → IsSoundAndUsed t report }
+{}
+
+/// What the tallies' calls of the cycles up to a mark end publish is what the samples of the trace's objects say.
+pub fn calls_publish_the_profile()
+    ensures { (marked : Marking) (s : Samples) (objects : List Object) (calls : Calls) (b : Bucket) (m : ℕ) → ((o : Object) → In o objects → Lasts marked o)
+        → ((c : ℕ) → c ≤ m → AreCalls marked s objects calls c)
+        → (published_allocs calls (suc m) b ≡ allocs_at s objects m b) × (published_frees calls (suc m) b ≡ frees_at marked s objects m b) }
+{}
