@@ -1,6 +1,6 @@
 -- What a worker's allocation asks of the logs follows from whose the spans are, and that is kept by each step.
-use Rattle.std.proofs.Common.{◌≡◌, ◌≢◌, ℕ, ◌+◌, ◌<◌, ◌≤◌, Bool, true, false, eqb, List, sym, ◌∙◌, ap, subst, arith, inl, inr}
-use Rattle.std.proofs.lemmas.Bool.{cases_eq, cases_Bool, or_right}
+use Rattle.std.proofs.Common.{◌≡◌, ◌≢◌, ℕ, ◌+◌, ◌<◌, ◌≤◌, ◌⊎◌, Bool, true, false, eqb, List, sym, ◌∙◌, ap, subst, arith, inl, inr}
+use Rattle.std.proofs.lemmas.Bool.{cases_eq, cases_lt, cases_Bool, or_right}
 use Rattle.page_bitmap.specs.declared.line.Line.{Line}
 use Rattle.page_alloc.specs.Lists.{In}
 use Rattle.page_alloc.specs.Journal.{Life, open_lives}
@@ -122,6 +122,10 @@ standing-few g t (is_swept e none one) = omega arith
 standing-few g t (is_stale e one none) = omega arith
 standing-few g t (is_cached e one none) = omega arith
 
+-- a sum that isn't 0 has a part that isn't
+sum-cases : (a b : ℕ) → 0 < a + b → (0 < a) ⊎ (0 < b)
+sum-cases a b h = elim (cases_lt 0 a) [ inl lt ↦ inl lt | inr none ↦ inr (omega arith) ]
+
 -- so the core says whose a span is
 pub core-ones : (c : CoreState) → CoreKept c → IsOnes (has_of c)
 core-ones c kept v w p hv hw =
@@ -130,15 +134,15 @@ core-ones c kept v w p hv hw =
     elim (cases_eq v w) [
       | inl same ↦ same
       | inr other ↦ (
-          let none : ⊥ = elim hv.3 [
-            | inl v-holds ↦ elim hw.3 [
+          let none : ⊥ = elim (sum-cases _ _ hv.3) [
+            | inl v-holds ↦ elim (sum-cases _ _ hw.3) [
               | inl w-holds ↦ (let two = two_parts_le (λ (h : HandState). times p h.held) c.hands v w hv.1 hw.1 other hv.2 hw.2 in omega arith)
               | inr w-caches ↦ (
                   let a = part_le (λ (h : HandState). times p h.held) c.hands v hv.1 hv.2 in
                   let b = part_le (λ (h : HandState). times p h.cached) c.hands w hw.1 hw.2 in
                   omega arith)
             ]
-            | inr v-caches ↦ elim hw.3 [
+            | inr v-caches ↦ elim (sum-cases _ _ hw.3) [
               | inl w-holds ↦ (
                   let a = part_le (λ (h : HandState). times p h.cached) c.hands v hv.1 hv.2 in
                   let b = part_le (λ (h : HandState). times p h.held) c.hands w hw.1 hw.2 in

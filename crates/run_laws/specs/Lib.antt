@@ -9,4 +9,4 @@ pub mod Underway
 pub mod Occupied
 pub mod Keeping
 pub mod Shown
-pub mod Joint
+pub mod ShowsCycle

@@ -1,17 +1,17 @@
 -- A cycle under way: what its lines, logs and bits keep at each step, whichever worker makes it. Of an `CycleSoFar`, which is here
 -- the cycle so far, the objects and the notes don't matter.
-use Rattle.std.specs.Prelude.{◌≡◌, ◌≢◌, ℕ, ◌<◌, Bool, true, false, ◌&&◌, ◌==◌, not, if◌then◌else◌, [], ◌∷◌, length, ◌⊎◌}
+use Rattle.std.specs.Prelude.{◌≡◌, ◌≢◌, ℕ, ◌<◌, Bool, true, false, ◌&&◌, ◌==◌, not, if◌then◌else◌, List, [], ◌∷◌, length, ◌⊎◌}
 use Rattle.page_bitmap.specs.declared.line.Line.{Line}
-use Rattle.page_bitmap.specs.declared.line.Line.TheVariants.{Take, Miss}
+use Rattle.page_bitmap.specs.declared.line.Line.TheVariants.{Take, Miss, Give}
 use Rattle.page_alloc.specs.Lists.{In, IsNumber, AllApart}
 use Rattle.page_alloc.specs.Journal.{Life, open_lives, MayFollow, Legal}
 use Rattle.span_state.specs.Bits.{count_below, with_bit}
 use Rattle.sound_run.specs.Run.{count_for}
 use Rattle.worker_log.specs.declared.Entry.{Entry}
-use Rattle.worker_log.specs.declared.Entry.TheVariants.{Allocated, Swept, Missed}
+use Rattle.worker_log.specs.declared.Entry.TheVariants.{Allocated, Swept, Missed, Took, Gave}
 use Rattle.worker_log.specs.declared.Placing.{Placing}
 use Rattle.worker_log.specs.declared.Sweeping.{Sweeping}
-use Rattle.worker_log.specs.Logs.{Refusal, placings, sweepings, refusals}
+use Rattle.worker_log.specs.Logs.{Refusal, Taking, placings, sweepings, refusals, takings, is_swept_last}
 use Rattle.run_laws.specs.CycleSoFar.{CycleSoFar, past_after}
 use Rattle.run_laws.specs.Facts.{Writes, Places, Misses, Fills, IsIn, IsPlacedAt}
 
@@ -111,6 +111,28 @@ pub record MayRefuse (e : CycleSoFar) (x : Refusal) : Type 0 where
 
 abbrev pub after_refuse : CycleSoFar → ℕ → Refusal → CycleSoFar
 after_refuse e w x = record { cycle = e.cycle; before = e.before; lines = e.lines; carried = e.carried; marks = e.marks; bits = e.bits; logs = put e.logs w (refusal_entry e.cycle x ∷ e.logs w); news = e.news; notes = e.notes }
+
+-- Worker w takes a run of pages, and its log tells the line.
+abbrev pub after_took : CycleSoFar → ℕ → ℕ → ℕ → ℕ → CycleSoFar
+after_took e w page pages class = record { cycle = e.cycle; before = e.before; lines = Take e.cycle page pages class ∷ e.lines; carried = e.carried; marks = e.marks; bits = e.bits; logs = put e.logs w (Took (length (past_after e)) (Take e.cycle page pages class) ∷ e.logs w); news = e.news; notes = e.notes }
+
+-- Worker w finds no run of pages, and its log tells the line.
+abbrev pub after_missed : CycleSoFar → ℕ → ℕ → ℕ → CycleSoFar
+after_missed e w pages class = record { cycle = e.cycle; before = e.before; lines = Miss e.cycle pages class ∷ e.lines; carried = e.carried; marks = e.marks; bits = e.bits; logs = put e.logs w (Missed (length (past_after e)) (Miss e.cycle pages class) ∷ e.logs w); news = e.news; notes = e.notes }
+
+-- Worker w gives a span back, and its log tells it.
+abbrev pub after_gave : CycleSoFar → ℕ → ℕ → ℕ → CycleSoFar
+after_gave e w page pages = record { cycle = e.cycle; before = e.before; lines = Give e.cycle page pages ∷ e.lines; carried = e.carried; marks = e.marks; bits = e.bits; logs = put e.logs w (Gave page pages ∷ e.logs w); news = e.news; notes = e.notes }
+
+-- The cycle so far with other logs.
+abbrev pub with_logs : CycleSoFar → (ℕ → List Entry) → CycleSoFar
+with_logs e logs = record { cycle = e.cycle; before = e.before; lines = e.lines; carried = e.carried; marks = e.marks; bits = e.bits; logs = logs; news = e.news; notes = e.notes }
+
+-- What the logs tell of spans: the life that begins at a page which a log swept last is an old one that is open still, and
+-- a line that a log took a run by is the journal's.
+pub record LogsTell (e : CycleSoFar) : Type 0 where
+  pub old : (w page : ℕ) → is_swept_last page (e.logs w) ≡ true → (life : Life) × In life (open_lives (past_after e)) × (life.page ≡ page) × (life.number < length e.before)
+  pub took : (w : ℕ) (x : Taking) → In x (takings (e.logs w)) → IsNumber x.number x.line (past_after e)
 
 -- As the cycle begins nothing is written and no entry made, and all open lives wait.
 pub record IsFresh (region goal : ℕ) (e : CycleSoFar) : Type 0 where

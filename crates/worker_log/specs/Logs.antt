@@ -1,5 +1,5 @@
 -- What the log of a worker tells. A log has its newest entry first.
-use Rattle.std.specs.Prelude.{◌≡◌, ℕ, ◌+◌, ◌*◌, ◌/◌, ◌%◌, ◌==◌, ◌&&◌, Bool, true, false, not, List, [], ◌∷◌, ◌++◌}
+use Rattle.std.specs.Prelude.{◌≡◌, ℕ, ◌+◌, ◌*◌, ◌/◌, ◌%◌, ◌==◌, ◌&&◌, ◌||◌, Bool, true, false, not, List, [], ◌∷◌, ◌++◌}
 use Rattle.page_bitmap.specs.declared.line.Line.{Line}
 use Rattle.page_bitmap.specs.declared.line.Line.TheVariants.{Take, Miss, Give, Scav}
 use Rattle.page_bitmap.specs.Counts.{one_if}
@@ -71,12 +71,64 @@ refusals (Found page word ∷ log) = refusals log
 refusals (Read word value ∷ log) = refusals log
 refusals (Added word value ∷ log) = refusals log
 
--- The entry is one that the laws of a run don't look at: what a worker looked at, popped, pushed, took or gave back.
+-- A run of pages was taken, as the line of this number tells.
+pub record Taking : Type 0 where
+  pub number : ℕ
+  pub line : Line
+
+-- The runs that it took.
+abbrev pub takings : List Entry → List Taking
+takings [] = []
+takings (Took number line ∷ log) = record { number = number; line = line } ∷ takings log
+takings (Allocated a ∷ log) = takings log
+takings (Swept s ∷ log) = takings log
+takings (Missed number line ∷ log) = takings log
+takings (Looked set head tail ∷ log) = takings log
+takings (LookedEmptyCell set index ∷ log) = takings log
+takings (Popped set page ∷ log) = takings log
+takings (Pushed set page ∷ log) = takings log
+takings (Gave page pages ∷ log) = takings log
+takings (Found page word ∷ log) = takings log
+takings (Read word value ∷ log) = takings log
+takings (Added word value ∷ log) = takings log
+
+-- The line takes a run that begins at the page.
+abbrev pub is_take_at : ℕ → Line → Bool
+is_take_at p (Take cycle page pages class) = page == p
+is_take_at p (Miss cycle pages class) = false
+is_take_at p (Give cycle page pages) = false
+is_take_at p (Scav cycle page pages) = false
+
+-- Of the entries that sweep, take or give back the span of the page the newest is a sweep.
+abbrev pub is_swept_last : ℕ → List Entry → Bool
+is_swept_last p [] = false
+is_swept_last p (Swept s ∷ log) = s.page == p || is_swept_last p log
+is_swept_last p (Took number line ∷ log) = not (is_take_at p line) && is_swept_last p log
+is_swept_last p (Gave page pages ∷ log) = not (page == p) && is_swept_last p log
+is_swept_last p (Allocated a ∷ log) = is_swept_last p log
+is_swept_last p (Missed number line ∷ log) = is_swept_last p log
+is_swept_last p (Looked set head tail ∷ log) = is_swept_last p log
+is_swept_last p (LookedEmptyCell set index ∷ log) = is_swept_last p log
+is_swept_last p (Popped set page ∷ log) = is_swept_last p log
+is_swept_last p (Pushed set page ∷ log) = is_swept_last p log
+is_swept_last p (Found page word ∷ log) = is_swept_last p log
+is_swept_last p (Read word value ∷ log) = is_swept_last p log
+is_swept_last p (Added word value ∷ log) = is_swept_last p log
+
+-- The entry is one that the laws of a run don't look at: what a worker looked at, popped, pushed, read or added.
 abbrev pub is_quiet : Entry → Bool
 is_quiet (Allocated a) = false
 is_quiet (Swept s) = false
 is_quiet (Missed number line) = false
-is_quiet _ = true
+is_quiet (Took number line) = false
+is_quiet (Gave page pages) = false
+is_quiet (Looked set head tail) = true
+is_quiet (LookedEmptyCell set index) = true
+is_quiet (Popped set page) = true
+is_quiet (Pushed set page) = true
+is_quiet (Found page word) = true
+is_quiet (Read word value) = true
+is_quiet (Added word value) = true
 
 -- ---- what a call did
 
