@@ -3,3 +3,4 @@ pub mod Stays
 pub mod EnteredKept
 pub mod EnteredMoves
 pub mod EnteredRest
+pub mod EachMove
