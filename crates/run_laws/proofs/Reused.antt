@@ -20,13 +20,13 @@ use Rattle.worker_log.specs.declared.Entry.{Entry}
 use Rattle.worker_log.specs.declared.Placing.{Placing}
 use Rattle.worker_log.specs.declared.Sweeping.{Sweeping}
 use Rattle.worker_log.specs.Logs.{placings, sweepings, refusals}
-use Rattle.run_laws.specs.CycleSoFar.{CycleSoFar, past_after}
+use Rattle.run_laws.specs.CycleSoFar.{CycleSoFar, past_after, with_objects}
 use Rattle.run_laws.specs.Facts.{Objects, Facts, IsPlacing, IsRefusal, placed_by, missed_by}
 use Rattle.run_laws.specs.Reached.{Began, Reached}
 use Rattle.run_laws.specs.Underway.{put, IsUnderway, after_sweep, after_allocate, after_line}
 use Rattle.run_laws.proofs.Underway.{put_here, put_else, placings-swept, sweep-keeps}
 use Rattle.run_laws.proofs.Steps.{allocate-keeps, take-adds, give-adds, fresh-underway}
-use Rattle.run_laws.proofs.Whole.{with_objects, underway-facts}
+use Rattle.run_laws.proofs.Whole.{underway-facts}
 use Rattle.run_laws.proofs.Law.{cycle-law}
 use Rattle.run_laws.proofs.Ends.{began-first, began-next}
 

@@ -7,6 +7,10 @@ use Rattle.page_bitmap.specs.declared.line.Line.{Line}
 use Rattle.page_bitmap.specs.declared.line.Line.TheVariants.{Miss, Scav}
 use Rattle.page_alloc.specs.Lists.{In}
 use Rattle.page_alloc.specs.Journal.{open_lives, IsBy, MayFollow}
+use Rattle.span_state.specs.declared.sweep.SweepNote.{SweepNote}
+use Rattle.cycle_history.specs.Requests.{Marking}
+use Rattle.cycle_history.specs.Objects.{Object}
+use Rattle.cycle_history.specs.Sound.{IsScavenged}
 use Rattle.sweep_laws.specs.Lists.{has}
 use Rattle.sweep_laws.specs.Named.{begins}
 use Rattle.sweep_laws.specs.Needs.{refusal, next_needs, life_in, life_of, no_life, allocated_at, is_idle}
@@ -23,7 +27,8 @@ use Rattle.worker_log.specs.Logs.{placings}
 use Rattle.worker_log.specs.declared.Placing.{Placing}
 use Rattle.worker_log.proofs.Logs.{LookAlike}
 use Rattle.run_laws.specs.Lists.{begins_at}
-use Rattle.run_laws.specs.CycleSoFar.{CycleSoFar, past_after}
+use Rattle.run_laws.specs.CycleSoFar.{CycleSoFar, past_after, with_objects}
+use Rattle.run_laws.specs.Facts.{Notes, Marks, Objects, Facts}
 use Rattle.run_laws.specs.Occupied.{IsSettled, NamedHaveSome}
 use Rattle.run_laws.specs.Underway.{IsFresh, with_logs, after_line, after_missed}
 use Rattle.run_laws.specs.Shown.{waits_of, LivesShown}
@@ -33,7 +38,7 @@ use Rattle.run_laws.proofs.Shown.{next-waits}
 use Rattle.run_laws.proofs.CoreEnded.{shown-begins, core-ended}
 use Rattle.run_laws.proofs.Steps.{HasEnded, scav-adds, fresh-underway}
 use Rattle.run_laws.proofs.Tell.{tell-missed, tell-scav, tell-logs, underway-logs, missed-keeps, filter-more}
-use Rattle.run_laws.proofs.Whole.{underway-alike}
+use Rattle.run_laws.proofs.Whole.{underway-alike, underway-facts}
 
 module _ (region goal : ℕ) (c : CoreState) (e : CycleSoFar) (now : ShowsCycle region goal c e) where
   -- the logs grow by what the laws don't look at
@@ -211,3 +216,12 @@ module _ (region goal : ℕ) (c : CoreState) (e : CycleSoFar) (now : ShowsCycle 
         later : (past : List Line) → IsBy e.cycle past → IsBy (e.cycle + 1) past
         later [] by = tt
         later (line ∷ past) by = omega arith
+
+-- ---- the facts of a cycle
+
+-- where a mark end may come, a cycle under way has its facts with its objects, its notes and the marks of its beginning
+pub shows-facts : (marked : Marking) (region goal : ℕ) (objects news : List Object) (notes : List SweepNote) (c : CoreState) (e : CycleSoFar) (marks : List (ℕ × ℕ)) → ShowsCycle region goal c e → Owned c
+    → refusal (next_needs c marks) ≡ None → NamedHaveSome c → Notes (with_objects e news notes) → Marks marked objects (with_objects e news notes) → Objects marked objects (with_objects e news notes)
+    → IsScavenged region goal (past_after e) → Facts marked region goal objects (with_objects e news notes)
+shows-facts marked region goal objects news notes c e marks now o met named tells are objects_are scavenged =
+    underway-facts marked region goal objects news notes e (waits_of c) now.under (shows-ended region goal c e now o marks met named) tells are objects_are scavenged

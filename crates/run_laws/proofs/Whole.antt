@@ -12,7 +12,7 @@ use Rattle.worker_log.specs.declared.Entry.{Entry}
 use Rattle.worker_log.specs.declared.Placing.{Placing}
 use Rattle.worker_log.specs.declared.Sweeping.{Sweeping}
 use Rattle.worker_log.specs.Logs.{Refusal, placings, sweepings, refusals}
-use Rattle.run_laws.specs.CycleSoFar.{CycleSoFar, past_after}
+use Rattle.run_laws.specs.CycleSoFar.{CycleSoFar, past_after, with_objects}
 use Rattle.run_laws.specs.Facts.{AreGivesOld, Notes, Marks, Objects, Fills, Facts}
 use Rattle.run_laws.specs.Underway.{put, IsUnderway, MayRefuse, after_refuse, refusal_entry}
 use Rattle.run_laws.proofs.Underway.{put_here, put_else}
@@ -114,10 +114,6 @@ refuse-keeps region goal e waits w x now may =
     )
 
 -- ---- the whole cycle
-
--- the cycle with its objects and its notes, which are known only as it ends
-abbrev pub with_objects : CycleSoFar → List Object → List SweepNote → CycleSoFar
-with_objects e news notes = record { cycle = e.cycle; before = e.before; lines = e.lines; carried = e.carried; marks = e.marks; bits = e.bits; logs = e.logs; news = news; notes = notes }
 
 -- a cycle that was under way, as it has ended
 pub underway-facts : (marked : Marking) (region goal : ℕ) (objects news : List Object) (notes : List SweepNote) (e : CycleSoFar) (waits : ℕ → Bool) → IsUnderway region goal e waits → HasEnded e waits

@@ -5,10 +5,11 @@ use Rattle.span_state.specs.declared.sweep.SweepNote.{SweepNote}
 use Rattle.cycle_history.specs.Objects.{Object}
 use Rattle.worker_log.specs.declared.Entry.{Entry}
 
--- A cycle that has ended, with its number. `before` is the journal as the cycle began and `lines` what was written since.
--- By the first pages of spans, `carried` has the indices that were allocated as the cycle began, `marks` those that the
--- mark end before it marked, and `bits` those that are allocated as it ends. `logs` are those of all workers, by their
--- numbers. `news` are the cycle's objects, and `notes` its sweeps, with the highest page first.
+-- A cycle so far, or as it has ended, with its number. `before` is the journal as the cycle began and `lines` what was
+-- written since. By the first pages of spans, `carried` has the indices that were allocated as the cycle began, `marks`
+-- those that the mark end before it marked, and `bits` those that are allocated now. `logs` are those of all workers, by
+-- their numbers. `news` are the cycle's objects, and `notes` its sweeps, with the highest page first; both are known only
+-- as it ends.
 pub record CycleSoFar : Type 0 where
   pub cycle : ℕ
   pub before : List Line
@@ -23,3 +24,7 @@ pub record CycleSoFar : Type 0 where
 -- The journal as the cycle ended.
 abbrev pub past_after : CycleSoFar → List Line
 past_after e = e.lines ++ e.before
+
+-- The cycle with its objects and its notes, which are known only as it ends.
+abbrev pub with_objects : CycleSoFar → List Object → List SweepNote → CycleSoFar
+with_objects e news notes = record { cycle = e.cycle; before = e.before; lines = e.lines; carried = e.carried; marks = e.marks; bits = e.bits; logs = e.logs; news = news; notes = notes }

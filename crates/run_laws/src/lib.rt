@@ -1,11 +1,15 @@
 //! What a cycle of the run leaves behind, and that it keeps the run sound, whichever worker did what and when.
 //!
-//! `specs/CycleSoFar.antt` has what is left as a cycle ends, as plain lists: lines, logs, objects and notes.
-//! `specs/Facts.antt` has the facts of it from which the run stays sound, and `specs/Reached.antt` what a run keeps from
-//! cycle to cycle. `specs/Profile.antt` is the sampled profile and the rule on it.
+//! `specs/CycleSoFar.antt` has what a cycle has left behind so far, as plain lists: lines, logs, objects and notes.
+//! `specs/Facts.antt` has the facts of a cycle that has ended from which the run stays sound, `specs/Reached.antt` what a
+//! run keeps from cycle to cycle, and `specs/Profile.antt` the sampled profile and the rule on it.
+//!
+//! `specs/Underway.antt` and `specs/ShowsCycle.antt` have what a state of span ownership and the logs keep while a cycle is
+//! under way. `proofs/Moves.antt` has one law for each move, `proofs/Turns.antt` those for lines without a move, for a mark
+//! end and for the end of a cycle, and `proofs/Law.antt` and `proofs/Ends.antt` lead from the facts to a sound report.
 #![tactic(auto)]
 
-ghost use Rattle.std.specs.Prelude.{◌≡◌, ℕ, suc, ◌≤◌, Bool, List, [], ◌++◌, reverse};
+ghost use Rattle.std.specs.Prelude.{◌≡◌, ℕ, suc, ◌≤◌, Bool, List, [], ◌++◌, reverse, None};
 ghost use Rattle.page_bitmap.specs.declared.line.Line.{Line};
 ghost use Rattle.page_alloc.specs.Lists.{In};
 ghost use Rattle.span_state.specs.declared.sweep.SweepNote.{SweepNote};
@@ -15,9 +19,15 @@ ghost use Rattle.cycle_history.specs.Requests.{Marking, marked_by, last_cycle, r
 ghost use Rattle.cycle_history.specs.Objects.{Object};
 ghost use Rattle.sound_run.specs.Run.{Lasts};
 ghost use Rattle.cycle_history.specs.Sweeps.{AreTotals};
-ghost use Rattle.cycle_history.specs.Sound.{past_in, HasAnswers, IsSoundAndUsed};
-ghost use Rattle.run_laws.specs.CycleSoFar.{CycleSoFar, past_after};
-ghost use Rattle.run_laws.specs.Facts.{Facts};
+ghost use Rattle.cycle_history.specs.Sound.{past_in, HasAnswers, IsScavenged, IsSoundAndUsed};
+ghost use Rattle.sweep_laws.specs.State.{CoreState};
+ghost use Rattle.sweep_laws.specs.Needs.{refusal, next_needs};
+ghost use Rattle.sweep_laws.specs.Changes.{after_next};
+ghost use Rattle.sweep_laws.specs.Owned.{Owned};
+ghost use Rattle.run_laws.specs.CycleSoFar.{CycleSoFar, past_after, with_objects};
+ghost use Rattle.run_laws.specs.Facts.{Facts, Notes, Marks, Objects};
+ghost use Rattle.run_laws.specs.Occupied.{NamedHaveSome};
+ghost use Rattle.run_laws.specs.ShowsCycle.{ShowsCycle, after_mark_end};
 ghost use Rattle.run_laws.specs.Reached.{Began, Reached};
 ghost use Rattle.run_laws.specs.Profile.{
   Samples,
@@ -60,4 +70,19 @@ pub fn calls_publish_the_profile()
     ensures { (marked : Marking) (s : Samples) (objects : List Object) (calls : Calls) (b : Bucket) (m : ℕ) → ((o : Object) → In o objects → Lasts marked o)
         → ((c : ℕ) → c ≤ m → AreCalls marked s objects calls c)
         → (published_allocs calls (suc m) b ≡ allocs_at s objects m b) × (published_frees calls (suc m) b ≡ frees_at marked s objects m b) }
+{}
+
+/// Where a mark end may come, a state of span ownership that shows a cycle under way, with no span in it left empty, gives
+/// the cycle its facts. Its objects, its notes, the marks of its beginning and the scavenging are added here.
+pub fn a_settled_core_ends_a_cycle()
+    ensures { (marked : Marking) (region : ℕ) (goal : ℕ) (objects : List Object) (news : List Object) (notes : List SweepNote) (c : CoreState) (e : CycleSoFar)
+        (marks : List (ℕ × ℕ)) → ShowsCycle region goal c e → Owned c → refusal (next_needs c marks) ≡ None → NamedHaveSome c
+        → Notes (with_objects e news notes) → Marks marked objects (with_objects e news notes) → Objects marked objects (with_objects e news notes)
+        → IsScavenged region goal (past_after e) → Facts marked region goal objects (with_objects e news notes) }
+{}
+
+/// A mark end begins the next cycle under way: all open lives wait to be swept, nothing is written and no entry is made.
+pub fn a_mark_end_shows_the_next_cycle()
+    ensures { (region : ℕ) (goal : ℕ) (c : CoreState) (e : CycleSoFar) (marks : List (ℕ × ℕ)) → ShowsCycle region goal c e → Owned c
+        → refusal (next_needs c marks) ≡ None → ShowsCycle region goal (after_next c marks) (after_mark_end e marks) }
 {}
