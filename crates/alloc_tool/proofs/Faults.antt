@@ -2,7 +2,7 @@
 use Rattle.std.proofs.Common.{◌≡◌, ◌≢◌, refl}
 use Rattle.trace_reader.specs.declared.fault.TraceFault.{TraceFault}
 use Rattle.trace_reader.specs.declared.fault.TraceFault.TheVariants.{ReadFault, Malformed, Truncated, Limit, BadMark, NoMemory, Later}
-use Rattle.trace_reader.specs.Taken.{IsOfTrace}
+use Rattle.trace_reader.specs.Told.{IsOfTrace}
 use Rattle.alloc_tool.specs.Texts.{fault_status, fault_text, status_text}
 
 -- status 5 is that of a read fault alone

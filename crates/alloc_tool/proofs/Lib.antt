@@ -13,3 +13,5 @@ pub mod Complete
 pub mod Ended
 pub mod Faults
 pub mod OneWord
+pub mod Outcomes
+pub mod Broken

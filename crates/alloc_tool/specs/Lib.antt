@@ -7,5 +7,6 @@ pub mod Come
 pub mod Texts
 pub mod Told
 pub mod Top
+pub mod Outcome
 pub mod WholeInput
 pub mod Words

@@ -1,10 +1,12 @@
--- What the program promises.
-use Rattle.std.specs.Prelude.{◌≡◌, ℕ, ◌+◌, ◌-◌, ◌^◌, min, ◌⊎◌, List, ◌++◌, length, Option, Some}
-use Rattle.std.specs.Io.KnownBytes.{Appends}
+-- What the program promises of the bytes that it reads and writes.
+use Rattle.std.specs.Prelude.{◌≡◌, ℕ, ◌+◌, ◌-◌, ◌^◌, ◌≤◌, min, ◌⊎◌, List, [], ◌++◌, length, Option, Some}
+use Rattle.std.specs.Io.KnownBytes.{Appends, Consumes}
 use Rattle.edge_io.specs.Causes.{Rose}
 use Rattle.edge_io.specs.Front.{AppendsFront}
+use Rattle.edge_io.specs.Line.{IsLine}
 use Rattle.trace_reader.specs.declared.trace.Trace.{Trace}
 use Rattle.trace_reader.specs.declared.fault.TraceFault.{TraceFault}
+use Rattle.trace_reader.specs.declared.fault.TraceFault.TheVariants.{Truncated}
 use Rattle.trace_reader.specs.Limits.{Spells, IsPlain}
 use Rattle.trace_reader.specs.Refusal.{fault_in, needs_later, nothing_behind, pieces_of}
 use Rattle.trace_reader.specs.Spelling.{statements_of}
@@ -13,16 +15,21 @@ use Rattle.cycle_history.specs.Sound.{IsSoundAndUsed}
 use Rattle.cycle_history.specs.Text.{report_text}
 use Rattle.alloc_tool.specs.WholeInput.{ReadsAll}
 
+-- a sound report of the trace that uses what it takes; nothing is sampled yet, so that its profile is empty
+pub record IsAnswer (trace : Trace) (report : Report) : Type 0 where
+  pub sound : IsSoundAndUsed trace report
+  pub no_profile : report.profile ≡ []
+
 -- The bytes that were read spell a trace that needs nothing later, and nothing is left unread. The bytes that were
--- written are the text of a sound report of that trace that uses what it takes.
+-- written are the text of an answer to that trace.
 abbrev pub AnswersAll : (left left' held held' : Option (List ℕ)) → Type 0
 AnswersAll left left' held held' = (trace : Trace) × (report : Report)
-    × ReadsAll left left' trace × IsSoundAndUsed trace report × Appends held held' (report_text report)
+    × ReadsAll left left' trace × IsAnswer trace report × Appends held held' (report_text report)
 
 -- the same, but that only a front of the text was written
 abbrev pub AnswersFront : (left left' held held' : Option (List ℕ)) → Type 0
 AnswersFront left left' held held' = (trace : Trace) × (report : Report)
-    × ReadsAll left left' trace × IsSoundAndUsed trace report × AppendsFront held held' (report_text report)
+    × ReadsAll left left' trace × IsAnswer trace report × AppendsFront held held' (report_text report)
 
 -- how a run ends: with its answer, at a refused trace, at a fault of its input or its output, or for want of memory
 abbrev pub IsStatusOfRun : ℕ → Type 0
@@ -58,3 +65,21 @@ pub record IsUndisturbed {S K : Type 0} (left : S → Option (List ℕ)) (source
   pub told : left source ≡ Some bytes
   pub read : Rose (source_faults source) (source_faults source') → ⊥
   pub written : Rose (sink_faults sink) (sink_faults sink') → ⊥
+
+-- a whole trace stands at the front of the bytes, and behind it a line or a front of one that nothing has ended
+pub record IsUnendedBehind (bytes : List ℕ) : Type 0 where
+  pub front : List ℕ
+  pub rest : List ℕ
+  pub split : bytes ≡ front ++ rest
+  pub trace : Trace
+  pub spelled : Spells front trace
+  pub plain : IsPlain trace
+  pub is_line : IsLine rest
+  pub room : length bytes ≤ 67108864
+
+-- Nothing is wrong with what the source gave before a read failed but that it ends there: in a line of the trace, whose
+-- number this is, or in the line behind it.
+pub record BreaksOff (left left' : Option (List ℕ)) : Type 0 where
+  pub bytes : List ℕ
+  pub taken : Consumes left left' bytes
+  pub unended : ((number : ℕ) × IsTraceFault bytes (Truncated number)) ⊎ IsUnendedBehind bytes

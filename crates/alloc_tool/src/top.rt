@@ -1,15 +1,15 @@
 //! The whole program over any source and sinks.
 
-ghost use Rattle.std.specs.Prelude.{◌≡◌, ◌≢◌, ◌↔◌, false, List, ℕ, IfErr, IfOk, IsTrue, Some};
+ghost use Rattle.std.specs.Prelude.{◌≡◌, ◌≢◌, ◌↔◌, false, List, ℕ, IfErr, IfOk, IsErrOf, IsTrue, Some};
 ghost use Rattle.edge_io.specs.Reading.{IsSameSource, is_dry, lines_left, number_of, room_of, source_of};
-ghost use Rattle.edge_io.specs.Causes.{Rose, HasCause};
+ghost use Rattle.trace_reader.specs.declared.fault.TraceFault.TheVariants.{ReadFault};
 ghost use Rattle.trace_reader.specs.declared.trace.Trace.{Trace as ATrace};
 ghost use Rattle.trace_reader.specs.Limits.{IsPlain, Spells};
-ghost use Rattle.trace_reader.specs.Taken.{HasReadCause, IsOfTrace};
-ghost use Rattle.trace_reader.specs.declared.fault.TraceFault.{TraceFault as Fault};
-ghost use Rattle.alloc_tool.specs.Texts.{fault_text, status_text, usage};
+ghost use Rattle.trace_reader.specs.Told.{HasReadCause, IsOfTrace};
+ghost use Rattle.alloc_tool.specs.Outcome.{Outcome};
+ghost use Rattle.alloc_tool.specs.Texts.{usage};
 ghost use Rattle.alloc_tool.specs.Told.{Tells};
-ghost use Rattle.alloc_tool.specs.Top.{AnswersAll, AnswersFront, IsComplete, IsRefused, IsStatusOfRun, IsUndisturbed};
+ghost use Rattle.alloc_tool.specs.Top.{BreaksOff, IsComplete, IsRefused, IsStatusOfRun, IsUndisturbed};
 ghost use Rattle.alloc_tool.specs.WholeInput.{ReadsAll};
 ghost use Rattle.alloc_tool.specs.Words.{IsRun};
 
@@ -38,17 +38,10 @@ pub fn goheap<R: Threads + Wait + Sync, S: Source, K: Sink, E: Sink, G: Gate>(
     errors: &mut E,
     _gate: &G,
 ) -> u8
-    ensures answered { result ≡ 0 → AnswersAll (S.left input.old) (S.left input.new) (K.held output.old) (K.held output.new) }
-    ensures silent { result ≡ 0 → errors.new ≡ errors.old }
+    ensures outcome { Outcome S.left S.faults K.held K.faults E.held E.faults input.old input.new output.old output.new errors.old errors.new result }
     ensures run_words { IsRun words.now → IsStatusOfRun result }
     ensures other_words { (IsRun words.now → ⊥) → result ≡ 2 }
     ensures unread { result ≡ 2 → input.new ≡ input.old }
-    ensures unwritten { result ≢ 0 → result ≢ 6 → output.new ≡ output.old }
-    ensures refused { result ≡ 3 → (fault : Fault) × IsRefused (S.left input.old) fault × Tells E.held E.faults errors.old errors.new (fault_text fault) }
-    ensures told { result ≢ 0 → result ≢ 3 → Tells E.held E.faults errors.old errors.new (status_text result) }
-    ensures read_fault { result ≡ 5 → Rose (S.faults input.old) (S.faults input.new) }
-    ensures write_fault { result ≡ 6 → Rose (K.faults output.old) (K.faults output.new) }
-    ensures partly_written { result ≡ 6 → AnswersFront (S.left input.old) (S.left input.new) (K.held output.old) (K.held output.new) }
     ensures complete { IsRun words.now → (bytes : List ℕ)
         → IsUndisturbed S.left S.faults K.faults input.old input.new output.old output.new bytes → IsComplete bytes result }
 {
@@ -90,15 +83,8 @@ fn run<S: Source, K: Sink, E: Sink>(
     output: &mut K,
     errors: &mut E,
 ) -> u8
-    ensures answered { result ≡ 0 → AnswersAll (S.left input.old) (S.left input.new) (K.held output.old) (K.held output.new) }
-    ensures silent { result ≡ 0 → errors.new ≡ errors.old }
+    ensures outcome { Outcome S.left S.faults K.held K.faults E.held E.faults input.old input.new output.old output.new errors.old errors.new result }
     ensures status { IsStatusOfRun result }
-    ensures unwritten { result ≢ 0 → result ≢ 6 → output.new ≡ output.old }
-    ensures refused { result ≡ 3 → (fault : Fault) × IsRefused (S.left input.old) fault × Tells E.held E.faults errors.old errors.new (fault_text fault) }
-    ensures told { result ≢ 0 → result ≢ 3 → Tells E.held E.faults errors.old errors.new (status_text result) }
-    ensures read_fault { result ≡ 5 → Rose (S.faults input.old) (S.faults input.new) }
-    ensures write_fault { result ≡ 6 → Rose (K.faults output.old) (K.faults output.new) }
-    ensures partly_written { result ≡ 6 → AnswersFront (S.left input.old) (S.left input.new) (K.held output.old) (K.held output.new) }
     ensures complete { (bytes : List ℕ) (trace : ATrace) → S.left input.old ≡ Some bytes → Spells bytes trace → IsPlain trace → result ≢ 3 }
 {
     let trace = match read_all(alloc, input) {
@@ -118,6 +104,7 @@ fn run<S: Source, K: Sink, E: Sink>(
 fn read_all<S: Source>(alloc: Global, input: &mut S) -> Result<Trace, TraceFault>
     ensures trace { IfOk result (λ trace. ReadsAll (S.left input.old) (S.left input.new) trace) }
     ensures refused { IfErr result (λ fault. IsOfTrace fault → IsRefused (S.left input.old) fault) }
+    ensures broken_off { IsErrOf result ReadFault → BreaksOff (S.left input.old) (S.left input.new) }
     ensures cause { HasReadCause (S.faults input.old) (S.faults input.new) result }
     ensures complete { (bytes : List ℕ) (trace : ATrace) → S.left input.old ≡ Some bytes → Spells bytes trace → IsPlain trace
         → IfErr result (λ fault. IsOfTrace fault → ⊥) }
@@ -134,6 +121,7 @@ fn read_lines<S: Source>(alloc: Global, lines: &mut Lines<'_, S>) -> Result<Trac
     ensures same_source { IsSameSource lines.old lines.new }
     ensures trace { IfOk result (λ trace. ReadsAll (lines_left S.left lines.old) (S.left (source_of lines.new)) trace) }
     ensures refused { IfErr result (λ fault. IsOfTrace fault → IsRefused (lines_left S.left lines.old) fault) }
+    ensures broken_off { IsErrOf result ReadFault → BreaksOff (lines_left S.left lines.old) (S.left (source_of lines.new)) }
     ensures cause { HasReadCause (S.faults (source_of lines.old)) (S.faults (source_of lines.new)) result }
     ensures complete { (bytes : List ℕ) (trace : ATrace) → lines_left S.left lines.old ≡ Some bytes → Spells bytes trace → IsPlain trace
         → IfErr result (λ fault. IsOfTrace fault → ⊥) }

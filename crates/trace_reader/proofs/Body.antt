@@ -6,16 +6,19 @@ use Rattle.edge_io.specs.Line.{IsLine}
 use Rattle.edge_io.specs.Reading.{line_of, number_of, room_of}
 use Rattle.trace_reader.specs.declared.draft.Draft.{Draft}
 use Rattle.trace_reader.specs.declared.fault.TraceFault.{TraceFault}
+use Rattle.trace_reader.specs.declared.fault.TraceFault.TheVariants.{ReadFault, Malformed, Truncated, Limit, BadMark, NoMemory, Later}
 use Rattle.trace_reader.specs.declared.statement.Statement.{Statement}
 use Rattle.trace_reader.specs.declared.statement.Statement.TheVariants.{Title, Heap, End}
 use Rattle.trace_reader.specs.Spelling.{line_for}
 use Rattle.trace_reader.specs.Says.{said}
-use Rattle.trace_reader.specs.Refusal.{AreGood, needs_later, next_number, said_fault}
-use Rattle.trace_reader.specs.Taken.{IsFirstFault, StandsInLine, Takes, TakesLines}
+use Rattle.trace_reader.specs.Refusal.{needs_later, next_number, said_fault}
+use Rattle.trace_reader.specs.Good.{AreGood}
+use Rattle.trace_reader.specs.Taken.{StandsInLine, Takes, TakesLines}
+use Rattle.trace_reader.specs.Told.{IsOfTrace, TellsFault}
 use Rattle.trace_reader.specs.Draft.{Follows, HasEnd, IsStart, Took, told_of}
 use Rattle.trace_reader.proofs.Saying.{Says-said}
 use Rattle.trace_reader.proofs.Judging.{onto}
-use Rattle.trace_reader.proofs.Reading.{TakesLines-nil, TakesLines-trans, first_behind, first_told, stands_behind, takes_line}
+use Rattle.trace_reader.proofs.Reading.{TakesLines-nil, TakesLines-trans, stands_behind, takes_line, tells_behind, tells_memory, tells_said}
 use Rattle.trace_reader.proofs.Good.{lines_of_good}
 use Rattle.trace_reader.proofs.Cycles.{good_append, onto-append}
 
@@ -53,18 +56,28 @@ read_more left a b c procs d e shown o read takes is_line counted same is took =
       follows = λ past start. subst (λ (ss : List Statement). Follows ss e) (sym (ap (λ (ss : List Statement). onto ss past) told ∙ onto-append (told_of d) (s ∷ []) past)) (at.2.follows (onto (told_of d) past) (read.follows past start));
     }
 
--- a first fault behind what was read
-pub fault_on : {S : Type 0} (left : S → Option (List ℕ)) (a b : Lines S) (procs : ℕ) (d : Draft) (past : List Statement) (fault : TraceFault) → HasRead left a b procs d → IsStart past procs
-    → IsFirstFault left b (onto (told_of d) past) fault → IsFirstFault left a past fault
-fault_on left a b procs d past fault read start first = first_behind left a b past (told_of d) fault read.lines (read.good past start) first
+-- a fault behind what was read
+pub fault_on : {S : Type 0} (left : S → Option (List ℕ)) (a b c : Lines S) (procs : ℕ) (d : Draft) (past : List Statement) (fault : TraceFault) → HasRead left a b procs d → IsStart past procs
+    → TellsFault left b c (onto (told_of d) past) fault → TellsFault left a c past fault
+fault_on left a b c procs d past fault read start tells = tells_behind left a b c past (told_of d) fault read.lines (read.good past start) tells
 
--- the fault of the line behind what was read
+-- the fault of the line behind what was read, which is no read fault
 pub fault_told : {S : Type 0} (left : S → Option (List ℕ)) (a b c : Lines S) (procs : ℕ) (d : Draft) (shown : List ℕ) (number : ℕ) (o : Option Statement) (past : List Statement) (fault : TraceFault) → HasRead left a b procs d → IsStart past procs
-    → Takes left b c (line_of c ++ 10 ∷ []) → IsLine (line_of c) → number_of c ≡ next_number (number_of b) → shown ≡ line_of c → o ≡ said shown → number ≡ number_of c
-    → ((past : List Statement) → Follows past d → said_fault needs_later number past o ≡ Some fault) → IsFirstFault left a past fault
-fault_told left a b c procs d shown number o past fault read start takes is_line counted same is same_number says =
-    fault_on left a b procs d past fault read start (first_told left b c shown number (onto (told_of d) past) fault takes is_line counted same same_number
-    (ap (λ (o : Option Statement). said_fault needs_later number (onto (told_of d) past) o) (sym is) ∙ says (onto (told_of d) past) (read.follows past start)))
+    → Takes left b c (line_of c ++ 10 ∷ []) → IsLine (line_of c) → number_of c ≡ next_number (number_of b) → shown ≡ line_of c → o ≡ said shown → number ≡ number_of c → (fault ≡ ReadFault → ⊥)
+    → (IsOfTrace fault → (past : List Statement) → Follows past d → said_fault needs_later number past o ≡ Some fault) → TellsFault left a c past fault
+fault_told left a b c procs d shown number o past fault read start takes is_line counted same is same_number no_read says =
+    fault_on left a b c procs d past fault read start (tells fault no_read (λ of. says of (onto (told_of d) past) (read.follows past start))) where
+      said_here : (fault : TraceFault) → said_fault needs_later number (onto (told_of d) past) o ≡ Some fault → TellsFault left b c (onto (told_of d) past) fault
+      said_here fault e = tells_said left b c shown number (onto (told_of d) past) fault takes is_line counted same same_number (ap (λ (o : Option Statement). said_fault needs_later number (onto (told_of d) past) o) (sym is) ∙ e)
+
+      tells : (fault : TraceFault) → (fault ≡ ReadFault → ⊥) → (IsOfTrace fault → said_fault needs_later number (onto (told_of d) past) o ≡ Some fault) → TellsFault left b c (onto (told_of d) past) fault
+      tells ReadFault no_read says = absurd (no_read refl)
+      tells (Malformed line) no_read says = said_here (Malformed line) (says tt)
+      tells (Truncated line) no_read says = said_here (Truncated line) (says tt)
+      tells (Limit line which) no_read says = said_here (Limit line which) (says tt)
+      tells (BadMark line object) no_read says = said_here (BadMark line object) (says tt)
+      tells NoMemory no_read says = tells_memory left b c (onto (told_of d) past)
+      tells (Later line) no_read says = said_here (Later line) (says tt)
 
 -- lines up to a header with so many processors
 header : ℕ → List Statement

@@ -1,5 +1,5 @@
 -- What is spelled is not refused.
-use Rattle.std.proofs.Common.{◌≡◌, ◌⊎◌, ℕ, ◌+◌, ◌≤◌, Bool, true, false, not, ◌-◌, cond, List, [], ◌∷◌, ◌++◌, length, map, Option, Some, None, Result, Err, IfErr, MatchResult, refl, sym, ap, ◌∙◌, subst, inl, inr, arith}
+use Rattle.std.proofs.Common.{◌≡◌, ◌⊎◌, ℕ, ◌+◌, ◌≤◌, Bool, true, false, not, ◌-◌, cond, List, [], ◌∷◌, ◌++◌, length, map, Option, Some, None, Result, Err, MatchResult, refl, sym, ap, ◌∙◌, subst, inl, inr, arith}
 use Rattle.std.specs.List.{AllByRecursion, flat_map}
 use Rattle.std.specs.Option.{option_map}
 use Rattle.edge_io.specs.declared.lines.Lines.{Lines}
@@ -17,8 +17,9 @@ use Rattle.trace_reader.specs.declared.trace.Span.{Span}
 use Rattle.trace_reader.specs.Spelling.{alloc_of, cycle_statements, lines_of, mark_of, mark_statements, statements_of}
 use Rattle.trace_reader.specs.Limits.{IsPlain, Spells}
 use Rattle.trace_reader.specs.Says.{said}
-use Rattle.trace_reader.specs.Refusal.{IsLater, bad_mark, counts_within, fault_if, first_of, is_end, line_fault, lines_fault, may_follow, needs_later, needs_nothing, next_number, nothing_behind, numbers_within, onto_past, passed, pieces_of, refusal, refusal_now, said_fault}
-use Rattle.trace_reader.specs.Taken.{IsFirstFault, IsOfTrace, TellsFirstFault}
+use Rattle.trace_reader.specs.Checks.{bad_mark, counts_within, may_follow, numbers_within, passed}
+use Rattle.trace_reader.specs.Refusal.{IsLater, fault_if, first_of, is_end, line_fault, lines_fault, needs_later, needs_nothing, next_number, nothing_behind, onto_past, pieces_of, refusal, refusal_now, said_fault}
+use Rattle.trace_reader.specs.Told.{IsFirstFault, IsOfTrace, TellsFault, TellsFirstFault}
 use Rattle.trace_reader.specs.Read.{IsAhead, Reads}
 use Rattle.trace_reader.proofs.Reading.{All-append, append_nil, known_rest}
 use Rattle.trace_reader.proofs.Good.{plain_header}
@@ -65,11 +66,11 @@ never_told left a fault t first ahead plain =
     let none : Some fault ≡ None = sym told ∙ ap (λ (x : List ℕ). lines_fault needs_later behind (next_number (number_of a)) (room_of a) [] (pieces_of (x ++ ahead.rest))) same ∙ whole in
     absurd cc
 
-pub never_refused : {S T : Type 0} (left : S → Option (List ℕ)) (a : Lines S) (result : Result T TraceFault) (fault : TraceFault) → result ≡ Err fault → TellsFirstFault left a [] result
+pub never_refused : {S T : Type 0} (left : S → Option (List ℕ)) (a b : Lines S) (result : Result T TraceFault) (fault : TraceFault) → result ≡ Err fault → TellsFirstFault left a b [] result
     → (P : T → Type 0) (t : Trace) → IsAhead left a t → IsPlain t → MatchResult result P (λ f. IsOfTrace f → ⊥)
-never_refused left a result fault e tells P t ahead plain =
-    let told : IsOfTrace fault → IsFirstFault left a [] fault = subst (λ r. IfErr r (λ f. IsOfTrace f → IsFirstFault left a [] f)) e tells in
-    subst (λ r. MatchResult r P (λ f. IsOfTrace f → ⊥)) (sym e) (λ (of : IsOfTrace fault). never_told left a fault t (told of) ahead plain)
+never_refused left a b result fault e tells P t ahead plain =
+    let told : TellsFault left a b [] fault = subst (λ r. TellsFirstFault left a b [] r) e tells in
+    subst (λ r. MatchResult r P (λ f. IsOfTrace f → ⊥)) (sym e) (λ (of : IsOfTrace fault). never_told left a fault t (told.first of) ahead plain)
 
 pub same_read : {S : Type 0} (left : S → Option (List ℕ)) (a b : Lines S) (u t : Trace) → Reads left a b u → IsAhead left a t → u ≡ t
 same_read left a b u t reads ahead =

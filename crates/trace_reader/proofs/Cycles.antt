@@ -11,7 +11,9 @@ use Rattle.trace_reader.specs.declared.trace.MarkEnd.{MarkEnd}
 use Rattle.trace_reader.specs.declared.trace.Span.{Span}
 use Rattle.trace_reader.specs.Spelling.{alloc_of, cycle_statements, form_of, mark_of, mark_statements}
 use Rattle.trace_reader.specs.Limits.{AreCycles, AreSpans, EventFits, IsMarked, marked_by}
-use Rattle.trace_reader.specs.Refusal.{AreGood, IsGood, before_mark_end, is_live, is_marked, mark_ends_of, marks_of, may_begin, may_follow, objects_of, procs_of}
+use Rattle.trace_reader.specs.Past.{before_mark_end, is_live, is_marked, mark_ends_of, marks_of, objects_of, procs_of}
+use Rattle.trace_reader.specs.Checks.{may_begin, may_follow}
+use Rattle.trace_reader.specs.Good.{AreGood, IsGood}
 use Rattle.trace_reader.specs.Draft.{IsBody}
 use Rattle.trace_reader.proofs.Saying.{Short, both, said_line}
 use Rattle.trace_reader.proofs.Judging.{below_true, onto}

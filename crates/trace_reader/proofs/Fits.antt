@@ -20,7 +20,10 @@ use Rattle.trace_reader.specs.declared.trace.MarkEnd.{MarkEnd}
 use Rattle.trace_reader.specs.declared.trace.Span.{Span}
 use Rattle.trace_reader.specs.Spelling.{alloc_of, cycle_statements, heap_of, mark_of, mark_statements, spelled, statements_of}
 use Rattle.trace_reader.specs.Limits.{AreCycles, AreSpans, EventFits, HeaderFits, IsMarked, WithinLimits, marked_by}
-use Rattle.trace_reader.specs.Refusal.{AreGood, IsGood, bad_mark, before_mark_end, counts_within, fault_if, first_of, is_live, is_marked, mark_ends_of, marks_of, may_begin, may_follow, numbers_within, objects_of, passed, procs_of, within}
+use Rattle.trace_reader.specs.Past.{before_mark_end, is_live, is_marked, mark_ends_of, marks_of, objects_of, procs_of}
+use Rattle.trace_reader.specs.Checks.{bad_mark, counts_within, may_begin, may_follow, numbers_within, passed, within}
+use Rattle.trace_reader.specs.Refusal.{fault_if, first_of}
+use Rattle.trace_reader.specs.Good.{AreGood, IsGood}
 use Rattle.trace_reader.specs.Taken.{TakesLines}
 use Rattle.trace_reader.specs.Draft.{AreEnded, begins}
 use Rattle.trace_reader.specs.Read.{Reads}
@@ -30,16 +33,16 @@ use Rattle.trace_reader.proofs.Cycles.{Counts, after_alloc, after_allocs, after_
 
 -- Tests
 
-le_of : (a b : ℕ) → nat_le a b ≡ true → a ≤ b
+pub le_of : (a b : ℕ) → nat_le a b ≡ true → a ≤ b
 le_of a b e = grind (arith, nat_tests)
 
-lt_of : (a b : ℕ) → nat_lt a b ≡ true → a < b
+pub lt_of : (a b : ℕ) → nat_lt a b ≡ true → a < b
 lt_of a b e = grind (arith, nat_tests)
 
 eq_of : (a b : ℕ) → (a == b) ≡ true → a ≡ b
 eq_of a b e = grind (arith, nat_tests)
 
-and_parts : (a b : Bool) → (a && b) ≡ true → (a ≡ true) × (b ≡ true)
+pub and_parts : (a b : Bool) → (a && b) ≡ true → (a ≡ true) × (b ≡ true)
 and_parts true b e = (refl, e)
 and_parts false b e = absurd cc
 
@@ -61,7 +64,7 @@ all_none None None None (Some x) e f = absurd cc
 all_none None None None None (Some x) f = absurd cc
 all_none None None None None None f = (refl, refl, refl, refl)
 
-if_none : (b : Bool) (fault : TraceFault) → fault_if (not b) fault ≡ None → b ≡ true
+pub if_none : (b : Bool) (fault : TraceFault) → fault_if (not b) fault ≡ None → b ≡ true
 if_none true fault e = refl
 if_none false fault e = absurd cc
 
@@ -73,17 +76,17 @@ mark_none : (n : ℕ) (o : Option ℕ) → option_map (λ i. BadMark n i) o ≡ 
 mark_none n None e = refl
 mark_none n (Some i) e = absurd cc
 
-passes : (which : Which) (test : Bool) (rest : List (Which × Bool)) → passed ((which, test) ∷ rest) ≡ None → (test ≡ true) × (passed rest ≡ None)
+pub passes : (which : Which) (test : Bool) (rest : List (Which × Bool)) → passed ((which, test) ∷ rest) ≡ None → (test ≡ true) × (passed rest ≡ None)
 passes which true rest e = (refl, e)
 passes which false rest e = absurd cc
 
-record IsSound (past : List Statement) (s : Statement) : Type 0 where
-  follows : may_follow past s ≡ true
-  low : passed (numbers_within past s) ≡ None
-  few : passed (counts_within past s) ≡ None
-  live : bad_mark past s ≡ None
+pub record IsSound (past : List Statement) (s : Statement) : Type 0 where
+  pub follows : may_follow past s ≡ true
+  pub low : passed (numbers_within past s) ≡ None
+  pub few : passed (counts_within past s) ≡ None
+  pub live : bad_mark past s ≡ None
 
-sound : (later : Statement → Bool) (past : List Statement) (s : Statement) → IsGood later past s → IsSound past s
+pub sound : (later : Statement → Bool) (past : List Statement) (s : Statement) → IsGood later past s → IsSound past s
 sound later past s good =
     let all = all_none _ _ _ _ _ (good.no_fault 0) in
     record { follows = if_none (may_follow past s) (Malformed 0) all.0; low = which_none 0 _ all.1; few = which_none 0 _ all.2; live = mark_none 0 _ all.3 }

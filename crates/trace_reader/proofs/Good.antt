@@ -16,7 +16,9 @@ use Rattle.trace_reader.specs.declared.trace.Event.{Event}
 use Rattle.trace_reader.specs.Words.{IsDigit}
 use Rattle.trace_reader.specs.Spelling.{alloc_of, heap_of, kind, line_for}
 use Rattle.trace_reader.specs.Limits.{EventFits, HeaderFits}
-use Rattle.trace_reader.specs.Refusal.{AreGood, bad_mark, counts_within, fault_if, first_of, may_follow, needs_later, numbers_within, passed, statement_fault, within}
+use Rattle.trace_reader.specs.Checks.{bad_mark, counts_within, may_follow, numbers_within, passed, within}
+use Rattle.trace_reader.specs.Refusal.{fault_if, first_of, needs_later, statement_fault}
+use Rattle.trace_reader.specs.Good.{AreGood}
 use Rattle.trace_reader.proofs.Digits.{digits_decimal}
 use Rattle.trace_reader.proofs.Saying.{AllByRecursion-map, Short, both, of_both, said_line}
 use Rattle.trace_reader.proofs.Judging.{below_false, below_true}

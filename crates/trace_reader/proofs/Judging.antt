@@ -9,7 +9,8 @@ use Rattle.trace_reader.specs.declared.fault.Which.TheVariants.{Bytes}
 use Rattle.trace_reader.specs.declared.statement.Statement.{Statement}
 use Rattle.trace_reader.specs.Says.{said}
 use Rattle.trace_reader.specs.Spelling.{line_for, spelled}
-use Rattle.trace_reader.specs.Refusal.{AreGood, fault_if, feed, first_of, is_end, line_fault, lines_fault, next_number, onto_past, pieces_of, said_fault, statement_fault}
+use Rattle.trace_reader.specs.Refusal.{fault_if, feed, first_of, is_end, line_fault, lines_fault, next_number, onto_past, pieces_of, said_fault, statement_fault}
+use Rattle.trace_reader.specs.Good.{AreGood}
 use Rattle.trace_reader.proofs.Saying.{split_at, split_last}
 
 -- Pieces

@@ -19,8 +19,11 @@ use Rattle.trace_reader.specs.declared.trace.Event.{Event}
 use Rattle.trace_reader.specs.declared.trace.Span.{Span}
 use Rattle.trace_reader.specs.Spelling.{alloc_of, cycle_statements, mark_of}
 use Rattle.trace_reader.specs.Limits.{AreSpans, EventFits}
-use Rattle.trace_reader.specs.Refusal.{bad_mark, before_mark_end, counts_within, event_numbers, fault_if, first_of, is_live, mark_ends_of, marks_of, may_begin, may_follow, needs_later, numbers_within, objects_of, passed, procs_of, statement_fault}
-use Rattle.trace_reader.specs.Draft.{AreEnded, Asked, Counts, Follows, FollowsAt, HasEnd, IsBody, IsMarking, IsResting, IsStart, Passes, Took, begins, behind_spans, ended, ended_at, ending, ends_in, in_spans, kept_of, lives, marks_in, told_of}
+use Rattle.trace_reader.specs.Past.{before_mark_end, is_live, mark_ends_of, marks_of, objects_of, procs_of}
+use Rattle.trace_reader.specs.Checks.{bad_mark, counts_within, event_numbers, may_begin, may_follow, numbers_within, passed}
+use Rattle.trace_reader.specs.Refusal.{fault_if, first_of, needs_later, statement_fault}
+use Rattle.trace_reader.specs.Kept.{Asked, Passes, in_spans, lives}
+use Rattle.trace_reader.specs.Draft.{AreEnded, Counts, Follows, FollowsAt, HasEnd, IsBody, IsMarking, IsResting, IsStart, Took, begins, behind_spans, ended, ended_at, ending, ends_in, kept_of, marks_in, told_of}
 use Rattle.trace_reader.proofs.Saying.{both}
 use Rattle.trace_reader.proofs.Judging.{below_false, below_true}
 use Rattle.trace_reader.proofs.Reading.{All-append}

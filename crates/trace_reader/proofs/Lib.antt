@@ -11,6 +11,7 @@ pub mod Keeping
 pub mod Body
 pub mod Whole
 pub mod Fits
+pub mod Spelled
 pub mod One
 pub mod Complete
 pub mod Put

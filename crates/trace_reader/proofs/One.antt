@@ -16,7 +16,8 @@ use Rattle.trace_reader.specs.declared.trace.Span.{Span}
 use Rattle.trace_reader.specs.Says.{said}
 use Rattle.trace_reader.specs.Spelling.{alloc_of, cycle_statements, form_of, heap_of, line_for, lines_of, mark_of, mark_statements, spelled, statements_of}
 use Rattle.trace_reader.specs.Limits.{AreCycles, WithinLimits}
-use Rattle.trace_reader.specs.Refusal.{AreGood, is_end, needs_nothing, pieces_of}
+use Rattle.trace_reader.specs.Refusal.{is_end, needs_nothing, pieces_of}
+use Rattle.trace_reader.specs.Good.{AreGood}
 use Rattle.trace_reader.proofs.Saying.{said_line, split_at}
 use Rattle.trace_reader.proofs.Good.{end_is_line}
 use Rattle.trace_reader.proofs.Whole.{front_good, front_of, front_text}

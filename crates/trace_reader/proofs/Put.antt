@@ -1,20 +1,20 @@
 -- Putting lines behind what waits, one at a time.
-use Rattle.std.proofs.Common.{◌≡◌, ℕ, ◌+◌, ◌<◌, ◌≤◌, List, [], ◌∷◌, ◌++◌, map, length, take, drop, get_or, codes, Option, Some, refl, sym, ap, ◌∙◌, append_assoc, Result, Ok, Err, OnErr}
+use Rattle.std.proofs.Common.{◌≡◌, ℕ, ◌+◌, ◌<◌, ◌≤◌, List, [], ◌∷◌, ◌++◌, map, length, take, drop, get_or, codes, Option, Some, sym, ap, ◌∙◌, append_assoc}
 use Rattle.std.specs.List.{concat, flat_map}
 use Rattle.std.specs.Io.KnownBytes.{Appends}
-use Rattle.std.proofs.KnownBytes.{Appends-trans}
 use Rattle.std.proofs.lemmas.List.{append-nil, take_more, take_all, take-append-drop}
 use Rattle.std.proofs.lemmas.List.Concat.{flat_map_single}
 use Rattle.std.proofs.lemmas.Grind.{flat_map-append}
 use Rattle.edge_io.specs.Front.{AppendsFront, Sends}
 use Rattle.edge_io.specs.Text.{text}
+use Rattle.edge_io.proofs.Put.{front_nothing, front_of, front_then, puts-then, puts_nothing, sent_all, sent_front, whole_front}
 use Rattle.trace_reader.specs.declared.statement.Statement.{Statement}
 use Rattle.trace_reader.specs.declared.statement.Statement.TheVariants.{Title, End}
 use Rattle.trace_reader.specs.declared.trace.Trace.{Trace}
 use Rattle.trace_reader.specs.declared.trace.Cycle.{Cycle}
 use Rattle.trace_reader.specs.declared.trace.MarkEnd.{MarkEnd}
 use Rattle.trace_reader.specs.Spelling.{alloc_of, cycle_statements, heap_of, line_for, lines_of, mark_statements, spelled}
-use Rattle.trace_reader.specs.Printed.{Puts, PutsFront}
+use Rattle.edge_io.specs.Puts.{Puts, PutsFront}
 use Rattle.trace_reader.proofs.Reading.{spelled-append}
 
 -- Texts
@@ -37,37 +37,11 @@ text_front {X} f xs i =
 pub of_events : {X : Type 0} (f : X → Statement) (xs : List X) → spelled (flat_map (λ x. f x ∷ []) xs) ≡ spelled (map f xs)
 of_events f xs = ap spelled (flat_map_single f xs)
 
--- What waits
-
--- one text behind another
-pub puts_then : (a b c : Option (List ℕ)) (w0 w1 w2 x y : List ℕ) → Puts a b w0 w1 x → Puts b c w1 w2 y → Puts a c w0 w2 (x ++ y)
-puts_then a b c w0 w1 w2 x y first then =
-    let split : w0 ++ (x ++ y) ≡ (first.0 ++ then.0) ++ w2 =
-    sym (append_assoc w0 x y) ∙ ap (λ (l : List ℕ). l ++ y) first.1 ∙ append_assoc first.0 w1 y ∙ ap (λ (l : List ℕ). first.0 ++ l) then.1 ∙ sym (append_assoc first.0 then.0 w2) in
-    (first.0 ++ then.0, split, Appends-trans a b c first.0 then.0 first.2 then.2)
-
--- nothing is put, and what waits may be sent
-pub puts_nothing : (a b : Option (List ℕ)) (w0 w1 : List ℕ) → Sends a b w1 w0 → Puts a b w0 w1 []
-puts_nothing a b w0 w1 sends = rw (append-nil w0) sends
-
--- a front of nothing, where what waits may be sent
-pub front_nothing : (a b : Option (List ℕ)) (w0 w1 x : List ℕ) → Sends a b w1 w0 → PutsFront a b w0 w1 x
-front_nothing a b w0 w1 x sends = ([], x, refl, puts_nothing a b w0 w1 sends)
-
--- a text is put, and then a front of another
-pub front_then : (a b c : Option (List ℕ)) (w0 w1 w2 x y : List ℕ) → Puts a b w0 w1 x → PutsFront b c w1 w2 y → PutsFront a c w0 w2 (x ++ y)
-front_then a b c w0 w1 w2 x y first then =
-    (x ++ then.0, then.1, ap (λ (l : List ℕ). x ++ l) then.2 ∙ sym (append_assoc x then.0 then.1), puts_then a b c w0 w1 w2 x then.0 first then.3)
-
--- a front of the first of two texts is a front of both
-pub front_of : (a b : Option (List ℕ)) (w0 w1 x y : List ℕ) → PutsFront a b w0 w1 x → PutsFront a b w0 w1 (x ++ y)
-front_of a b w0 w1 x y front = (front.0, front.1 ++ y, ap (λ (l : List ℕ). l ++ y) front.2 ∙ append_assoc front.0 front.1 y, front.3)
-
 -- One item at a time
 
 pub put_more : {X : Type 0} (f : X → List Statement) (a b c : Option (List ℕ)) (w0 w1 w2 : List ℕ) (xs : List X) (i : ℕ) (d : X) → i < length xs
     → Puts a b w0 w1 (spelled (flat_map f (take i xs))) → Puts b c w1 w2 (spelled (f (get_or xs i d))) → Puts a c w0 w2 (spelled (flat_map f (take (i + 1) xs)))
-put_more f a b c w0 w1 w2 xs i d less first then = rw (text_more f xs i d less) (puts_then a b c w0 w1 w2 _ _ first then)
+put_more f a b c w0 w1 w2 xs i d less first then = rw (text_more f xs i d less) (puts-then a b c w0 w1 w2 _ _ first then)
 
 pub put_all : {X : Type 0} (f : X → List Statement) (a b : Option (List ℕ)) (w0 w1 : List ℕ) (xs : List X) (i : ℕ) → length xs ≤ i
     → Puts a b w0 w1 (spelled (flat_map f (take i xs))) → Puts a b w0 w1 (spelled (flat_map f xs))
@@ -84,26 +58,7 @@ put_front f a b c w0 w1 w2 xs i d less first then =
 pub one_line : (a b : Option (List ℕ)) (w0 w1 line : List ℕ) (s : Statement) → line ≡ line_for s ++ 10 ∷ [] → Sends a b w1 (w0 ++ line) → Puts a b w0 w1 (spelled (s ∷ []))
 one_line a b w0 w1 line s e sends = rw (spelled_one s, ← e) sends
 
-pub on_err : {T E P : Type 0} (result : Result T E) → P → OnErr result P
-on_err (Ok x) fact = tt
-on_err (Err e) fact = fact
-
 -- The whole
-
--- what was put behind nothing is a front of the whole, in what was sent
-pub sent_front : (a b : Option (List ℕ)) (w1 x : List ℕ) → PutsFront a b [] w1 x → AppendsFront a b x
-sent_front a b w1 x front =
-    let sends = front.3 in
-    (sends.0, w1 ++ front.1, front.2 ∙ ap (λ (l : List ℕ). l ++ front.1) sends.1 ∙ append_assoc sends.0 w1 front.1, sends.2)
-
-pub whole_front : (a b : Option (List ℕ)) (w0 w1 x : List ℕ) → Puts a b w0 w1 x → PutsFront a b w0 w1 x
-whole_front a b w0 w1 x puts = (x, [], sym (append-nil x), puts)
-
--- what was put behind nothing was sent, where nothing waits
-pub sent_all : (a b : Option (List ℕ)) (w1 x : List ℕ) → Puts a b [] w1 x → w1 ≡ [] → Appends a b x
-sent_all a b w1 x puts none =
-    let e : x ≡ puts.0 = puts.1 ∙ ap (λ (l : List ℕ). puts.0 ++ l) none ∙ append-nil puts.0 in
-    rw e puts.2
 
 -- a trace's text in its parts
 abbrev head_text : Trace → List ℕ
@@ -133,8 +88,8 @@ end_fault t a b c d w0 w1 w2 w3 none first then sends =
 all_put : (t : Trace) (a b c d e : Option (List ℕ)) (w0 w1 w2 w3 w4 : List ℕ) → w0 ≡ [] → Puts a b w0 w1 (head_text t) → Puts b c w1 w2 (cycles_text t) → Puts c d w2 w3 (codes "end\n") → Sends d e w4 w3 → Puts a e [] w4 (text (lines_of t))
 all_put t a b c d e w0 w1 w2 w3 w4 none first then last sends =
     let start : Puts a b [] w1 (head_text t) = rw none at first in
-    let lines = puts_then a b d [] w1 w3 (head_text t) (cycles_text t ++ codes "end\n") start (puts_then b c d w1 w2 w3 (cycles_text t) (codes "end\n") then last) in
-    let more = puts_then a d e [] w3 w4 _ [] lines (puts_nothing d e w3 w4 sends) in
+    let lines = puts-then a b d [] w1 w3 (head_text t) (cycles_text t ++ codes "end\n") start (puts-then b c d w1 w2 w3 (cycles_text t) (codes "end\n") then last) in
+    let more = puts-then a d e [] w3 w4 _ [] lines (puts_nothing d e w3 w4 sends) in
     rw (parts t ∙ sym (append-nil (head_text t ++ (cycles_text t ++ codes "end\n")))) more
 
 pub flush_fault : (t : Trace) (a b c d e : Option (List ℕ)) (w0 w1 w2 w3 w4 : List ℕ) → w0 ≡ [] → Puts a b w0 w1 (head_text t) → Puts b c w1 w2 (cycles_text t) → Puts c d w2 w3 (codes "end\n") → Sends d e w4 w3 → AppendsFront a e (text (lines_of t))
@@ -145,14 +100,14 @@ flushed t a b c d e w0 w1 w2 w3 w4 none first then last sends empty = sent_all a
 
 -- a line, and then more
 pub line_then : (a b c : Option (List ℕ)) (w0 w1 w2 line : List ℕ) (s : Statement) (ss : List Statement) → line ≡ line_for s ++ 10 ∷ [] → Sends a b w1 (w0 ++ line) → Puts b c w1 w2 (spelled ss) → Puts a c w0 w2 (spelled (s ∷ ss))
-line_then a b c w0 w1 w2 line s ss e sends then = let start : Puts a b w0 w1 (line_for s ++ 10 ∷ []) = rw e at sends in puts_then a b c w0 w1 w2 (line_for s ++ 10 ∷ []) (spelled ss) start then
+line_then a b c w0 w1 w2 line s ss e sends then = let start : Puts a b w0 w1 (line_for s ++ 10 ∷ []) = rw e at sends in puts-then a b c w0 w1 w2 (line_for s ++ 10 ∷ []) (spelled ss) start then
 
 pub line_front : (a b c : Option (List ℕ)) (w0 w1 w2 line : List ℕ) (s : Statement) (ss : List Statement) → line ≡ line_for s ++ 10 ∷ [] → Sends a b w1 (w0 ++ line) → PutsFront b c w1 w2 (spelled ss) → PutsFront a c w0 w2 (spelled (s ∷ ss))
 line_front a b c w0 w1 w2 line s ss e sends then = let start : Puts a b w0 w1 (line_for s ++ 10 ∷ []) = rw e at sends in front_then a b c w0 w1 w2 (line_for s ++ 10 ∷ []) (spelled ss) start then
 
 -- events, and then a mark end
 pub cycle_then : (a b c : Option (List ℕ)) (w0 w1 w2 : List ℕ) (ss ts : List Statement) → Puts a b w0 w1 (spelled ss) → Puts b c w1 w2 (spelled ts) → Puts a c w0 w2 (spelled (ss ++ ts))
-cycle_then a b c w0 w1 w2 ss ts first then = rw (spelled-append ss ts) (puts_then a b c w0 w1 w2 (spelled ss) (spelled ts) first then)
+cycle_then a b c w0 w1 w2 ss ts first then = rw (spelled-append ss ts) (puts-then a b c w0 w1 w2 (spelled ss) (spelled ts) first then)
 
 pub cycle_front : (a b c : Option (List ℕ)) (w0 w1 w2 : List ℕ) (ss ts : List Statement) → Puts a b w0 w1 (spelled ss) → PutsFront b c w1 w2 (spelled ts) → PutsFront a c w0 w2 (spelled (ss ++ ts))
 cycle_front a b c w0 w1 w2 ss ts first then = rw (spelled-append ss ts) (front_then a b c w0 w1 w2 (spelled ss) (spelled ts) first then)

@@ -1,23 +1,28 @@
 -- What a reader tells of the lines that it was lent.
-use Rattle.std.proofs.Common.{◌≡◌, ◌⊎◌, ℕ, suc, map, ◌+◌, ◌-◌, ◌^◌, ◌≤◌, min, Bool, true, false, cond, ◌==◌, List, [], ◌∷◌, ◌++◌, length, Option, Some, None, Result, Ok, Err, IfOk, IfErr, refl, sym, ap, ◌∙◌, subst, inl, inr, arith, append_assoc, length-append}
+use Rattle.std.proofs.Common.{◌≡◌, ◌⊎◌, ℕ, suc, map, ◌+◌, ◌-◌, ◌^◌, ◌≤◌, min, Bool, true, false, not, cond, ◌==◌, List, [], ◌∷◌, ◌++◌, length, Option, Some, None, Result, Ok, Err, IfOk, IfErr, refl, sym, ap, ◌∙◌, subst, inl, inr, arith, append_assoc, length-append}
 use Rattle.std.specs.List.{AllByRecursion, onto_first}
+use Rattle.std.specs.Option.{option_map}
 use Rattle.std.specs.Io.KnownBytes.{Consumes, IsAtEnd}
 use Rattle.std.proofs.KnownBytes.{Consumes-nil, Consumes-trans}
 use Rattle.edge_io.specs.declared.lines.Lines.{Lines}
 use Rattle.edge_io.specs.declared.lines.Seen.{Seen}
 use Rattle.edge_io.specs.declared.lines.Seen.TheVariants.{Line, Cut, Long, Over, Finished}
 use Rattle.edge_io.specs.Line.{IsLine, Shows, ends_input}
-use Rattle.edge_io.specs.Reading.{StopsInLine, is_dry, line_of, lines_left, number_of, room_of}
+use Rattle.edge_io.specs.Reading.{StopsInLine, is_dry, line_of, lines_left, number_of, room_of, source_of}
 use Rattle.edge_io.specs.Text.{text}
 use Rattle.trace_reader.specs.declared.fault.TraceFault.{TraceFault}
-use Rattle.trace_reader.specs.declared.fault.TraceFault.TheVariants.{Malformed, Truncated, Limit}
+use Rattle.trace_reader.specs.declared.fault.TraceFault.TheVariants.{ReadFault, Malformed, Truncated, Limit, BadMark, NoMemory, Later}
+use Rattle.trace_reader.specs.declared.fault.Which.{Which}
 use Rattle.trace_reader.specs.declared.fault.Which.TheVariants.{Bytes}
 use Rattle.trace_reader.specs.declared.statement.Statement.{Statement}
 use Rattle.trace_reader.specs.declared.trace.Header.{Header}
 use Rattle.trace_reader.specs.Says.{said}
 use Rattle.trace_reader.specs.Spelling.{heap_of, line_for, spelled}
-use Rattle.trace_reader.specs.Refusal.{AreGood, feed, lines_fault, needs_later, next_number, nothing_behind, pieces_of, said_fault}
-use Rattle.trace_reader.specs.Taken.{IsFaultBehind, IsFirstFault, IsFrontOfLine, StandsInLine, Takes, TakesLines, TellsFirstFault}
+use Rattle.trace_reader.specs.Checks.{bad_mark, counts_within, may_follow, numbers_within, passed}
+use Rattle.trace_reader.specs.Refusal.{fault_if, feed, first_of, lines_fault, needs_later, next_number, nothing_behind, pieces_of, said_fault}
+use Rattle.trace_reader.specs.Good.{AreGood}
+use Rattle.trace_reader.specs.Taken.{IsFrontOfLine, StandsInLine, Takes, TakesLines}
+use Rattle.trace_reader.specs.Told.{BreaksOff, IsAtLine, IsFaultBehind, IsFirstFault, IsOfTrace, TellsFault, TellsFirstFault}
 use Rattle.trace_reader.proofs.Saying.{Says-said}
 use Rattle.trace_reader.proofs.Judging.{feed_pieces, lines_cut, lines_go, lines_long, lines_over, lines_stop, onto}
 
@@ -92,6 +97,74 @@ first_behind left a b past ss fault takes good then = λ wet behind all e.
     ∙ ap (λ (k : ℕ). lines_fault needs_later behind k (room_of a - length (spelled ss)) (onto ss past) (pieces_of known.0)) number_after
     ∙ ap (λ (k : ℕ). lines_fault needs_later behind (next_number (number_of b)) k (onto ss past) (pieces_of known.0)) room_after
     ∙ then (takes.bytes.wet wet) behind known.0 known.1
+
+-- Why a fault is told
+
+-- a fault of the trace
+pub tells_trace : {S : Type 0} (left : S → Option (List ℕ)) (a b : Lines S) (past : List Statement) (fault : TraceFault) → IsOfTrace fault → IsFirstFault left a past fault → IsAtLine (number_of b) fault → TellsFault left a b past fault
+tells_trace left a b past fault of first at = record { first = λ _. first; at_line = at; read_fault = λ e. absurd (subst IsOfTrace e of) }
+
+pub tells_memory : {S : Type 0} (left : S → Option (List ℕ)) (a b : Lines S) (past : List Statement) → TellsFault left a b past NoMemory
+tells_memory left a b past = record { first = λ of. absurd of; at_line = tt; read_fault = λ e. absurd cc }
+
+-- a read fault in the line behind these
+breaks_in_line : {S : Type 0} (left : S → Option (List ℕ)) (a b : Lines S) (past : List Statement) → StopsInLine left a b → number_of b ≡ next_number (number_of a) → lines_left left b ≡ left (source_of b) → BreaksOff left a b past
+breaks_in_line left a b past stops number used =
+    let room = stops.room in
+    record {
+      bytes = line_of b;
+      taken = stops.taken;
+      ends_early = λ behind. lines_cut needs_later behind (next_number (number_of a)) (room_of a) past (line_of b) stops.is_line (omega arith) ∙ ap (λ (k : ℕ). Some (Truncated k)) (sym number);
+      all_used = used;
+    }
+
+pub tells_read : {S : Type 0} (left : S → Option (List ℕ)) (a b : Lines S) (past : List Statement) → StopsInLine left a b → number_of b ≡ next_number (number_of a) → lines_left left b ≡ left (source_of b) → TellsFault left a b past ReadFault
+tells_read left a b past stops number used = record { first = λ of. absurd of; at_line = tt; read_fault = λ _. breaks_in_line left a b past stops number used }
+
+-- good lines come before a read fault
+breaks_behind : {S : Type 0} (left : S → Option (List ℕ)) (a b c : Lines S) (past ss : List Statement) → TakesLines left a b ss → AreGood needs_later past ss → BreaksOff left b c (onto ss past) → BreaksOff left a c past
+breaks_behind left a b c past ss takes good off =
+    let room = takes.bytes.room in
+    let number = takes.number in
+    let number_after : min (next_number (number_of a) + length ss) (2 ^ 64 - 1) ≡ next_number (number_of b) = omega arith in
+    let room_after : room_of a - length (spelled ss) ≡ room_of b = omega arith in
+    record {
+      bytes = spelled ss ++ off.bytes;
+      taken = Consumes-trans _ _ _ (spelled ss) off.bytes takes.bytes.taken off.taken;
+      ends_early = λ behind. lines_go needs_later behind (next_number (number_of a)) (room_of a) past ss off.bytes good (omega arith) (omega arith)
+          ∙ ap (λ (k : ℕ). lines_fault needs_later behind k (room_of a - length (spelled ss)) (onto ss past) (pieces_of off.bytes)) number_after
+          ∙ ap (λ (k : ℕ). lines_fault needs_later behind (next_number (number_of b)) k (onto ss past) (pieces_of off.bytes)) room_after
+          ∙ off.ends_early behind;
+      all_used = off.all_used;
+    }
+
+-- good lines come before the line of a fault
+pub tells_behind : {S : Type 0} (left : S → Option (List ℕ)) (a b c : Lines S) (past ss : List Statement) (fault : TraceFault) → TakesLines left a b ss → AreGood needs_later past ss
+    → TellsFault left b c (onto ss past) fault → TellsFault left a c past fault
+tells_behind left a b c past ss fault takes good tells = record {
+  first = λ of. first_behind left a b past ss fault takes good (tells.first of);
+  at_line = tells.at_line;
+  read_fault = λ e. breaks_behind left a b c past ss takes good (tells.read_fault e);
+}
+
+-- the fault of a statement is one of the trace, and of its line
+abbrev IsOfLine : ℕ → TraceFault → Type 0
+IsOfLine number fault = IsOfTrace fault × IsAtLine number fault
+
+of_line : (number : ℕ) (told fault : TraceFault) → IsOfLine number told → Some told ≡ Some fault → IsOfLine number fault
+of_line number told fault is e = let same : told ≡ fault = cc in subst (IsOfLine number) same is
+
+pub said_of_line : (later : Statement → Bool) (number : ℕ) (past : List Statement) (o : Option Statement) (fault : TraceFault) → said_fault later number past o ≡ Some fault → IsOfLine number fault
+said_of_line later number past None fault e = of_line number (Malformed number) fault (tt, refl) e
+said_of_line later number past (Some s) fault e = shape (not (may_follow past s)) (later s) (passed (numbers_within past s)) (passed (counts_within past s)) (bad_mark past s) e where
+  shape : (a b : Bool) (p q : Option Which) (i : Option ℕ) → first_of (fault_if a (Malformed number) ∷ option_map (λ which. Limit number which) p ∷ fault_if b (Later number) ∷ option_map (λ which. Limit number which) q ∷ option_map (λ i. BadMark number i) i ∷ []) ≡ Some fault
+      → IsOfLine number fault
+  shape true b p q i e = of_line number (Malformed number) fault (tt, refl) e
+  shape false b (Some which) q i e = of_line number (Limit number which) fault (tt, refl) e
+  shape false true None q i e = of_line number (Later number) fault (tt, refl) e
+  shape false false None (Some which) i e = of_line number (Limit number which) fault (tt, refl) e
+  shape false false None None (Some object) e = of_line number (BadMark number object) fault (tt, refl) e
+  shape false false None None None e = absurd cc
 
 -- Where the lines stand
 
@@ -219,11 +292,17 @@ pub first_told : {S : Type 0} (left : S → Option (List ℕ)) (a b : Lines S) (
 first_told left a b shown number past fault takes is_line counted same same_number says =
     first_said left a b (line_of b) past fault takes is_line (ap (λ (k : ℕ). said_fault needs_later k past (said (line_of b))) (sym (same_number ∙ counted)) ∙ ap (λ (x : List ℕ). said_fault needs_later number past (said x)) (sym same) ∙ says)
 
+pub tells_said : {S : Type 0} (left : S → Option (List ℕ)) (a b : Lines S) (shown : List ℕ) (number : ℕ) (past : List Statement) (fault : TraceFault) → Takes left a b (line_of b ++ 10 ∷ []) → IsLine (line_of b)
+    → number_of b ≡ next_number (number_of a) → shown ≡ line_of b → number ≡ number_of b → said_fault needs_later number past (said shown) ≡ Some fault → TellsFault left a b past fault
+tells_said left a b shown number past fault takes is_line counted same same_number says =
+    let of = said_of_line needs_later number past (said shown) fault says in
+    tells_trace left a b past fault of.0 (first_told left a b shown number past fault takes is_line counted same same_number says) (subst (λ (k : ℕ). IsAtLine k fault) same_number of.1)
+
 -- the same of a result that the line gives
 pub result_told : {S T : Type 0} (left : S → Option (List ℕ)) (a b : Lines S) (shown : List ℕ) (number : ℕ) (past : List Statement) (result : Result T TraceFault) → Takes left a b (line_of b ++ 10 ∷ []) → IsLine (line_of b)
-    → number_of b ≡ next_number (number_of a) → shown ≡ line_of b → number ≡ number_of b → IfErr result (λ fault. said_fault needs_later number past (said shown) ≡ Some fault) → TellsFirstFault left a past result
+    → number_of b ≡ next_number (number_of a) → shown ≡ line_of b → number ≡ number_of b → IfErr result (λ fault. said_fault needs_later number past (said shown) ≡ Some fault) → TellsFirstFault left a b past result
 result_told left a b shown number past (Ok value) takes is_line counted same same_number says = tt
-result_told left a b shown number past (Err fault) takes is_line counted same same_number says = λ of. first_told left a b shown number past fault takes is_line counted same same_number says
+result_told left a b shown number past (Err fault) takes is_line counted same same_number says = tells_said left a b shown number past fault takes is_line counted same same_number says
 
 pub header_takes : {S : Type 0} (left : S → Option (List ℕ)) (a b : Lines S) (shown : List ℕ) (result : Result Header TraceFault) → Takes left a b (line_of b ++ 10 ∷ []) → number_of b ≡ next_number (number_of a)
     → shown ≡ line_of b → IfOk result (λ h. said shown ≡ Some (heap_of h)) → IfOk result (λ h. TakesLines left a b (heap_of h ∷ []))
@@ -232,7 +311,7 @@ header_takes left a b shown (Err fault) takes counted same says = tt
 
 -- What is left behind a trace
 
-some_left : (n : ℕ) (bytes : List ℕ) → (bytes ≡ [] → ⊥) → nothing_behind n (pieces_of bytes) ≡ Some (Malformed n)
+pub some_left : (n : ℕ) (bytes : List ℕ) → (bytes ≡ [] → ⊥) → nothing_behind n (pieces_of bytes) ≡ Some (Malformed n)
 some_left n [] some = absurd (some refl)
 some_left n (b ∷ bs) some = at (b == 10) where
   left : (pieces : List (List ℕ)) → feed pieces ≡ 1 → nothing_behind n ([] ∷ pieces) ≡ Some (Malformed n)

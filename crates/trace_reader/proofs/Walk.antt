@@ -4,7 +4,7 @@ use Rattle.std.proofs.lemmas.Bool.{cases_lt}
 use Rattle.std.proofs.lemmas.Bool.Decides.{nat_tests}
 use Rattle.trace_reader.specs.declared.trace.Span.{Span}
 use Rattle.trace_reader.specs.Limits.{AreSpans}
-use Rattle.trace_reader.specs.Draft.{AllLive, Asked, Passes, Skips, in_spans, lives}
+use Rattle.trace_reader.specs.Kept.{AllLive, Asked, Passes, Skips, in_spans, lives}
 use Rattle.trace_reader.proofs.Judging.{below_false, below_true}
 use Rattle.trace_reader.proofs.Good.{at_most}
 

@@ -8,7 +8,8 @@ use Rattle.trace_reader.specs.declared.statement.Statement.TheVariants.{Title, E
 use Rattle.trace_reader.specs.declared.trace.Trace.{Trace}
 use Rattle.trace_reader.specs.Spelling.{cycle_statements, heap_of, lines_of, spelled, statements_of}
 use Rattle.trace_reader.specs.Limits.{WithinLimits}
-use Rattle.trace_reader.specs.Refusal.{AreGood, lines_fault, next_number, pieces_of}
+use Rattle.trace_reader.specs.Refusal.{lines_fault, next_number, pieces_of}
+use Rattle.trace_reader.specs.Good.{AreGood}
 use Rattle.trace_reader.specs.Draft.{IsBody}
 use Rattle.trace_reader.proofs.Saying.{said_line}
 use Rattle.trace_reader.proofs.Judging.{lines_end, lines_go, onto}

@@ -1,9 +1,13 @@
 pub mod Spelling
 pub mod Words
 pub mod Says
+pub mod Past
+pub mod Checks
 pub mod Refusal
+pub mod Good
 pub mod Limits
+pub mod Kept
 pub mod Draft
-pub mod Printed
 pub mod Taken
+pub mod Told
 pub mod Read

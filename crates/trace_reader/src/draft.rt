@@ -6,7 +6,7 @@ ghost use Rattle.trace_reader.specs.declared.statement.Statement.{Statement as S
 ghost use Rattle.trace_reader.specs.declared.statement.Statement.TheVariants.{Alloc, End, Gc, Mark};
 ghost use Rattle.trace_reader.specs.Spelling.{cycle_statements};
 ghost use Rattle.trace_reader.specs.Refusal.{needs_later, said_fault};
-ghost use Rattle.trace_reader.specs.Taken.{IsOfTrace, NoReadFault};
+ghost use Rattle.trace_reader.specs.Told.{IsOfTrace, NoReadFault};
 ghost use Rattle.trace_reader.specs.Draft.{AreEnded, Follows, HasEnd, IsStart, Took, ended, kept_of, told_of};
 
 use crate::fault::{TraceFault, Which};

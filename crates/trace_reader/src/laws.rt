@@ -25,3 +25,8 @@ pub fn what_is_spelled_is_not_refused()
 pub fn what_is_refused_spells_no_trace()
     ensures { (bytes : List ℕ) (fault : TraceFault) → refusal_now bytes ≡ Some fault → IsLater fault ⊎ ((trace : Trace) → ¬ Spells bytes trace) }
 {}
+
+/// Bytes that are not refused spell a trace.
+pub fn what_is_not_refused_is_spelled()
+    ensures { (bytes : List ℕ) → refusal bytes ≡ None → (trace : Trace) × Spells bytes trace }
+{}

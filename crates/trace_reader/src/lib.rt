@@ -15,8 +15,8 @@ mod words;
 
 pub use fault::{TraceFault, Which};
 pub use laws::{
-    a_trace_has_one_spelling, bytes_spell_one_trace, what_is_refused_spells_no_trace,
-    what_is_spelled_is_not_refused,
+    a_trace_has_one_spelling, bytes_spell_one_trace, what_is_not_refused_is_spelled,
+    what_is_refused_spells_no_trace, what_is_spelled_is_not_refused,
 };
 pub use print::print_trace;
 pub use reader::{expect_end, read_trace};

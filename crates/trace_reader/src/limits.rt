@@ -22,8 +22,9 @@ ghost use Rattle.trace_reader.specs.declared.statement.Statement.TheVariants.{Al
 ghost use Rattle.trace_reader.specs.Spelling.{alloc_of, heap_of, mark_of};
 ghost use Rattle.trace_reader.specs.Limits.{EventFits, HeaderFits};
 ghost use Rattle.trace_reader.specs.Says.{said};
-ghost use Rattle.trace_reader.specs.Refusal.{event_numbers, header_numbers, needs_later, numbers_within, passed, said_fault};
-ghost use Rattle.trace_reader.specs.Taken.{NoReadFault};
+ghost use Rattle.trace_reader.specs.Checks.{event_numbers, header_numbers, numbers_within, passed};
+ghost use Rattle.trace_reader.specs.Refusal.{needs_later, said_fault};
+ghost use Rattle.trace_reader.specs.Told.{NoReadFault};
 
 use crate::fault::{TraceFault, Which};
 use crate::statement::{AllocForm, HeapForm, Statement, statement_of};

@@ -1,7 +1,7 @@
 //! The objects that a mark end may mark.
 
 ghost use Rattle.std.specs.Prelude.{◌≤◌};
-ghost use Rattle.trace_reader.specs.Draft.{Asked, Passes, lives};
+ghost use Rattle.trace_reader.specs.Kept.{Asked, Passes, lives};
 
 use crate::trace::Span;
 

@@ -9,7 +9,7 @@ ghost use Rattle.edge_io.specs.Output.{IsSameSink, sink_of, waiting_of};
 ghost use Rattle.edge_io.specs.Text.{text};
 ghost use Rattle.trace_reader.specs.declared.statement.Statement.TheVariants.{Title};
 ghost use Rattle.trace_reader.specs.Limits.{WithinLimits};
-ghost use Rattle.trace_reader.specs.Printed.{OutputPuts, OutputPutsFront};
+ghost use Rattle.edge_io.specs.Puts.{OutputPuts, OutputPutsFront};
 ghost use Rattle.trace_reader.specs.Spelling.{alloc_of, cycle_statements, heap_of, lines_of, mark_of, mark_statements, spelled};
 
 use crate::spelling::{push_alloc_line, push_gc_line, push_heap_line, push_mark_line};

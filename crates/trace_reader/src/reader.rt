@@ -1,18 +1,20 @@
 //! Reading a trace, line by line.
 
-ghost use Rattle.std.specs.Prelude.{◌≡◌, ◌*◌, ◌≤◌, [], ◌∷◌, ◌++◌, List as Items, IfErr, IfOk, MatchResult, OnOk};
+ghost use Rattle.std.specs.Prelude.{◌≡◌, ◌*◌, ◌≤◌, ◌⊎◌, [], ◌∷◌, ◌++◌, true, List as Items, IfErr, IfOk, IsErrOf, IsOk, MatchResult, OnOk};
 ghost use Rattle.std.specs.List.{flat_map};
 ghost use Rattle.edge_io.specs.Line.{IsLine};
-ghost use Rattle.edge_io.specs.Reading.{IsSameSource, line_of, number_of, source_of};
-ghost use Rattle.trace_reader.specs.declared.fault.TraceFault.TheVariants.{Malformed};
+ghost use Rattle.edge_io.specs.Reading.{IsSameSource, is_dry, line_of, number_of, source_of};
+ghost use Rattle.trace_reader.specs.declared.fault.TraceFault.TheVariants.{Malformed, ReadFault, Truncated};
 ghost use Rattle.trace_reader.specs.declared.statement.Statement.{Statement as Said};
 ghost use Rattle.trace_reader.specs.declared.statement.Statement.TheVariants.{End, Title};
 ghost use Rattle.trace_reader.specs.declared.trace.Trace.{Trace as ATrace};
 ghost use Rattle.trace_reader.specs.Spelling.{cycle_statements, heap_of, statements_of};
 ghost use Rattle.trace_reader.specs.Limits.{HeaderFits, IsPlain};
-ghost use Rattle.trace_reader.specs.Refusal.{AreGood, needs_later, next_number};
+ghost use Rattle.trace_reader.specs.Refusal.{needs_later, next_number};
+ghost use Rattle.trace_reader.specs.Good.{AreGood};
 ghost use Rattle.trace_reader.specs.Draft.{AreEnded, IsStart};
-ghost use Rattle.trace_reader.specs.Taken.{HasReadCause, IsEnded, IsFaultBehind, IsOfTrace, StandsInLine, Takes, TakesLines, TellsFirstFault};
+ghost use Rattle.trace_reader.specs.Taken.{IsEnded, StandsInLine, Takes, TakesLines};
+ghost use Rattle.trace_reader.specs.Told.{BreaksInLine, HasReadCause, IsFaultBehind, IsOfTrace, TellsFirstFault};
 ghost use Rattle.trace_reader.specs.Read.{IsAhead, Reads};
 
 use crate::draft::Draft;
@@ -24,15 +26,18 @@ use edge_io::{Lines, List, Seen, Source};
 use std::alloc::Global;
 
 /// Reads a trace up to its `end` line, and no further. Lines are counted from the number that they stand at, and bytes
-/// against what is left of the limit. A refusal of the trace tells its first offending line with the first reason; the
-/// lines then stand behind what was read of that line. [`TraceFault::ReadFault`] comes only where the source's count rose.
+/// against what is left of the limit. A refusal of the trace tells its first offending line with the first reason; that
+/// line has the number at which the lines then stand, behind what was read of it. [`TraceFault::ReadFault`] comes only
+/// where the source's count rose, and only behind lines that nothing is wrong with, before the byte or the end of the
+/// input that ends the next one. Lines that have seen the end of the input before end early, and nothing is read.
 pub fn read_trace<S: Source>(alloc: Global, lines: &mut Lines<'_, S>) -> Result<Trace, TraceFault>
     ensures same_source { IsSameSource lines.old lines.new }
     ensures spelled { IfOk result (λ trace. Reads S.left lines.old lines.new trace) }
     ensures lines { IfOk result (λ trace. TakesLines S.left lines.old lines.new (statements_of trace)) }
-    ensures refused { TellsFirstFault S.left lines.old [] result }
+    ensures refused { TellsFirstFault S.left lines.old lines.new [] result }
     ensures complete { (trace : ATrace) → IsAhead S.left lines.old trace → IsPlain trace
         → MatchResult result (λ read. read ≡ trace) (λ fault. IsOfTrace fault → ⊥) }
+    ensures dry { is_dry lines.old ≡ true → IsErrOf result (Truncated (next_number (number_of lines.old))) × (source_of lines.new ≡ source_of lines.old) }
     ensures stands { StandsInLine S.left lines.old lines.new }
     ensures cause { HasReadCause (S.faults (source_of lines.old)) (S.faults (source_of lines.new)) result }
 {
@@ -42,13 +47,18 @@ pub fn read_trace<S: Source>(alloc: Global, lines: &mut Lines<'_, S>) -> Result<
     Ok(Trace { header, cycles })
 }
 
-/// Wants that nothing is left behind a trace. What is left is malformed at its first line, whatever it is.
-/// [`TraceFault::ReadFault`] comes only where the source's count rose, and no other fault comes.
+/// Wants that nothing is left behind a trace. What is left is [`TraceFault::Malformed`] at its first line, whatever it is;
+/// the lines then stand behind what was read of that line. [`TraceFault::ReadFault`] comes only where the source's count
+/// rose, before the byte or the end of the input that ends that line. No other fault comes. Lines that have seen the end
+/// of the input before have nothing left, and nothing is read.
 pub fn expect_end<S: Source>(lines: &mut Lines<'_, S>) -> Result<(), TraceFault>
     ensures same_source { IsSameSource lines.old lines.new }
     ensures ended { OnOk result (IsEnded S.left lines.old lines.new) }
-    ensures line { IfErr result (λ fault. IsOfTrace fault → fault ≡ Malformed (next_number (number_of lines.old))) }
+    ensures only { IfErr result (λ fault. (fault ≡ ReadFault) ⊎ (fault ≡ Malformed (number_of lines.new))) }
+    ensures number { number_of lines.new ≡ next_number (number_of lines.old) }
     ensures refused { IfErr result (λ fault. IsOfTrace fault → IsFaultBehind S.left lines.old fault) }
+    ensures read_fault { IsErrOf result ReadFault → BreaksInLine S.left lines.old lines.new }
+    ensures dry { is_dry lines.old ≡ true → IsOk result × (source_of lines.new ≡ source_of lines.old) }
     ensures stands { StandsInLine S.left lines.old lines.new }
     ensures cause { HasReadCause (S.faults (source_of lines.old)) (S.faults (source_of lines.new)) result }
 {
@@ -65,8 +75,9 @@ pub fn expect_end<S: Source>(lines: &mut Lines<'_, S>) -> Result<(), TraceFault>
 fn read_title<S: Source>(lines: &mut Lines<'_, S>) -> Result<(), TraceFault>
     ensures same_source { IsSameSource lines.old lines.new }
     ensures lines { OnOk result (TakesLines S.left lines.old lines.new (Title ∷ [])) }
-    ensures refused { TellsFirstFault S.left lines.old [] result }
+    ensures refused { TellsFirstFault S.left lines.old lines.new [] result }
     ensures stands { StandsInLine S.left lines.old lines.new }
+    ensures dry { is_dry lines.old ≡ true → IsErrOf result (Truncated (next_number (number_of lines.old))) × (source_of lines.new ≡ source_of lines.old) }
     ensures cause { HasReadCause (S.faults (source_of lines.old)) (S.faults (source_of lines.new)) result }
 {
     read_line(lines)?;
@@ -83,7 +94,7 @@ fn read_header<S: Source>(lines: &mut Lines<'_, S>) -> Result<Header, TraceFault
     ensures lines { IfOk result (λ h. TakesLines S.left lines.old lines.new (heap_of h ∷ [])) }
     ensures fits { IfOk result (λ h. HeaderFits h) }
     ensures plain { IfOk result (λ h. (h.procs ≡ 1) × (h.rate ≡ 0) × (512 * h.chunks ≤ h.goal)) }
-    ensures refused { TellsFirstFault S.left lines.old (Title ∷ []) result }
+    ensures refused { TellsFirstFault S.left lines.old lines.new (Title ∷ []) result }
     ensures stands { StandsInLine S.left lines.old lines.new }
     ensures cause { HasReadCause (S.faults (source_of lines.old)) (S.faults (source_of lines.new)) result }
 {
@@ -101,7 +112,7 @@ fn read_cycles<S: Source>(
     ensures lines { IfOk result (λ cycles. TakesLines S.left lines.old lines.new (flat_map cycle_statements cycles ++ End ∷ [])) }
     ensures ended { IfOk result (λ cycles. AreEnded cycles) }
     ensures good { IfOk result (λ cycles. (past : Items Said) → IsStart past procs → AreGood needs_later past (flat_map cycle_statements cycles)) }
-    ensures refused { (past : Items Said) → IsStart past procs → TellsFirstFault S.left lines.old past result }
+    ensures refused { (past : Items Said) → IsStart past procs → TellsFirstFault S.left lines.old lines.new past result }
     ensures stands { StandsInLine S.left lines.old lines.new }
     ensures cause { HasReadCause (S.faults (source_of lines.old)) (S.faults (source_of lines.new)) result }
 {
@@ -122,7 +133,8 @@ fn read_line<S: Source>(lines: &mut Lines<'_, S>) -> Result<(), TraceFault>
     ensures line { OnOk result (Takes S.left lines.old lines.new (line_of lines.new ++ 10 ∷ [])) }
     ensures is_line { OnOk result (IsLine (line_of lines.new)) }
     ensures number { number_of lines.new ≡ next_number (number_of lines.old) }
-    ensures refused { (past : Items Said) → TellsFirstFault S.left lines.old past result }
+    ensures refused { (past : Items Said) → TellsFirstFault S.left lines.old lines.new past result }
+    ensures dry { is_dry lines.old ≡ true → IsErrOf result (Truncated (next_number (number_of lines.old))) × (source_of lines.new ≡ source_of lines.old) }
     ensures stands { StandsInLine S.left lines.old lines.new }
     ensures cause { HasReadCause (S.faults (source_of lines.old)) (S.faults (source_of lines.new)) result }
 {

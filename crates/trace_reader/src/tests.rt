@@ -10,9 +10,19 @@ const HEAD: &str = "goheap 1\nheap 1 procs 1 rate 0 seed 1 goal 512\n";
 
 // What is wrong with an input of at most so many bytes, if anything is.
 fn fault_of<R: AllocGlobal>(rt: &R, input: &str, limit: u64) -> Result<Option<TraceFault>, Fail> {
+    fault_over(rt, input, limit, &[])
+}
+
+// The same where the reads of these numbers fail.
+fn fault_over<R: AllocGlobal>(
+    rt: &R,
+    input: &str,
+    limit: u64,
+    failing: &[u64],
+) -> Result<Option<TraceFault>, Fail> {
     let alloc = rt.alloc();
     let bytes = List::from_vec(input.as_bytes().to_vec(alloc)?);
-    let mut source = MemorySource::new(bytes, List::new(alloc));
+    let mut source = MemorySource::new(bytes, List::from_vec(failing.to_vec(alloc)?));
     let mut lines = Lines::new(&mut source, limit);
     match read_trace(alloc, &mut lines) {
         Ok(_) => Ok(expect_end(&mut lines).err()),
@@ -70,6 +80,46 @@ fn first_faults(rt: HostRuntime) -> Result<(), Fail> {
         let input = format!(in rt.alloc(); "{HEAD}{lines}")?;
         assert_eq!(rt; fault_of(&rt, input.as_str(), limit)?, fault, "at {lines}");
     }
+    Ok(())
+}
+
+// The first read gives all bytes, and the second fails: a line that is whole, too long or past the limit decides.
+#[test]
+fn first_faults_before_a_failed_read(rt: HostRuntime) -> Result<(), Fail> {
+    let good = format!(in rt.alloc(); "{HEAD}a 0 24 s 1\n")?;
+    let ended = format!(in rt.alloc(); "{HEAD}end\n")?;
+    let read_fault = TraceFault::ReadFault;
+    let rows = [
+        ("", "x\n", Malformed(1)),
+        ("", "x", read_fault),
+        ("", "goheap 1\n", read_fault),
+        (good.as_str(), "", read_fault),
+        (good.as_str(), "a 0 24 x 1\n", Malformed(4)),
+        (good.as_str(), "a 0 24 x 1", read_fault),
+        (ended.as_str(), "", read_fault),
+        (ended.as_str(), "x\n", Malformed(4)),
+        (ended.as_str(), "x", read_fault),
+    ];
+    for (front, last, fault) in rows {
+        let input = format!(in rt.alloc(); "{front}{last}")?;
+        let found = fault_over(&rt, input.as_str(), 999, &[1])?;
+        assert_eq!(rt; found, Some(fault), "at {front} {last}");
+    }
+    let over = fault_over(&rt, "goheap 1\n", 8, &[1])?;
+    assert_eq!(rt; over, Some(Limit(1, Which::Bytes)));
+    Ok(())
+}
+
+// Lines that have seen the end of the input are read again.
+#[test]
+fn nothing_is_read_behind_the_end(rt: HostRuntime) -> Result<(), Fail> {
+    let alloc = rt.alloc();
+    let bytes = List::from_vec(b"goheap 1".to_vec(alloc)?);
+    let mut source = MemorySource::new(bytes, List::from_vec(vec![in alloc; 2]?));
+    let mut lines = Lines::new(&mut source, 999);
+    assert_eq!(rt; read_trace(alloc, &mut lines).err(), Some(Truncated(1)));
+    assert_eq!(rt; read_trace(alloc, &mut lines).err(), Some(Truncated(2)));
+    assert_eq!(rt; expect_end(&mut lines), Ok(()));
     Ok(())
 }
 

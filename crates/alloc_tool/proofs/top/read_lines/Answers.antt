@@ -1,10 +1,12 @@
-use Rattle.std.proofs.Common.{[], ap, inl, sym, ◌∙◌}
+use Rattle.std.proofs.Common.{◌≡◌, [], ap, inl, sym, ◌∙◌}
 use Rattle.std.proofs.lemmas.List.{append-nil}
 use Rattle.std.proofs.lemmas.Result.{err_from_is_err_and}
 use Rattle.edge_io.specs.Text.{text}
 use Rattle.trace_reader.specs.declared.trace.Trace.{Trace}
 use Rattle.trace_reader.specs.Spelling.{lines_of}
+use Rattle.trace_reader.specs.declared.fault.TraceFault.TheVariants.{ReadFault}
 use Rattle.alloc_tool.proofs.Behind.{refused_behind}
+use Rattle.alloc_tool.proofs.Broken.{broken_behind, broken_in_trace}
 use Rattle.alloc_tool.proofs.Complete.{nothing_left}
 use Rattle.alloc_tool.proofs.Ended.{source_ended, Consumes-none}
 use Rattle.alloc_tool.proofs.top.read_lines.Goals as goal
@@ -20,7 +22,7 @@ returns-clause-trace g c =
 pub returns-in_err-trace-clause-refused : goal.returns-in_err-trace-clause-refused
 returns-in_err-trace-clause-refused g c =
     let p = err_from_is_err_and c.from_residual.result c.from_residual.ensures.1 in
-    rw (p.1, p.2) (λ of bytes e. inl (λ behind. rw (c.requires.number, c.requires.room) at (c.in_err-trace.ensures.refused of c.requires.fresh behind bytes e)))
+    rw (p.1, p.2) (λ of bytes e. inl (λ behind. rw (c.requires.number, c.requires.room) at (c.in_err-trace.ensures.refused.first of c.requires.fresh behind bytes e)))
 
 pub returns-in_err-expect_end-clause-refused : goal.returns-in_err-expect_end-clause-refused
 returns-in_err-expect_end-clause-refused g c =
@@ -41,3 +43,14 @@ returns-in_err-expect_end-clause-complete g c = λ bytes t told spells plain.
     let same = c.in_ok-trace.ensures.complete t (record { wet = c.requires.fresh; bytes = bytes; rest = []; known = rw append-nil told; spelled = rw c.requires.room spells }) plain in
     let all = read.2.lines ∙ ap (λ (x : Trace). text (lines_of x)) same ∙ sym spells.lines in
     rw (p.1, p.2) (λ of. nothing_left _ _ bytes read.0 _ _ told read.1 all (c.in_err-expect_end.ensures.refused of))
+
+pub returns-in_err-trace-clause-broken_off : goal.returns-in_err-trace-clause-broken_off
+returns-in_err-trace-clause-broken_off g c =
+    let p = err_from_is_err_and c.from_residual.result c.from_residual.ensures.1 in
+    rw (p.1, p.2) (λ e. broken_in_trace _ _ _ c.requires.number c.requires.room (c.in_err-trace.ensures.refused.read_fault cc))
+
+pub returns-in_err-expect_end-clause-broken_off : goal.returns-in_err-expect_end-clause-broken_off
+returns-in_err-expect_end-clause-broken_off g c =
+    let p = err_from_is_err_and c.from_residual-in_err-expect_end.result c.from_residual-in_err-expect_end.ensures.1 in
+    let read = c.in_ok-trace.ensures.spelled in
+    rw (p.1, p.2) (λ e. broken_behind _ _ _ _ read.0 c.in_ok-trace.trace c.requires.room read.1 (rw c.requires.room at read.2) read.3 c.in_ok-trace.ensures.lines (c.in_err-expect_end.ensures.read_fault cc))

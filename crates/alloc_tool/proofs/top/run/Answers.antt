@@ -1,28 +1,25 @@
-use Rattle.std.proofs.Common.{◌≡◌, ◌≢◌, ap, sym, ◌∙◌, Err}
+use Rattle.std.proofs.Common.{◌≡◌, ap, refl, sym, ◌∙◌, Err}
+use Rattle.trace_reader.specs.declared.fault.TraceFault.TheVariants.{NoMemory}
 use Rattle.alloc_tool.specs.Texts.{fault_status}
-use Rattle.alloc_tool.proofs.Faults.{is_of_trace, is_read_fault, line_of_status}
+use Rattle.alloc_tool.proofs.Faults.{is_of_trace}
+use Rattle.alloc_tool.proofs.Outcomes.{refused_outcome, written_outcome}
 use Rattle.alloc_tool.proofs.top.run.Goals as goal
 
-pub returns-in-Err-clause-read_fault : goal.returns-in-Err-clause-read_fault
-returns-in-Err-clause-read_fault g c = λ five.
-    let status : fault_status c.in-Err.fault ≡ 5 = sym c.refuse_trace.ensures.status ∙ five in
-    c.in-Err.ensures.cause.fault (ap Err (is_read_fault c.in-Err.fault status))
+pub returns-in-Err-clause-outcome : goal.returns-in-Err-clause-outcome
+returns-in-Err-clause-outcome g c =
+    refused_outcome g.S.Source.left g.S.Source.faults g.K.Sink.held g.K.Sink.faults g.E.Sink.held g.E.Sink.faults c.args.input.now c.read_all.new.input c.args.output.now c.args.output.now c.args.errors.now c.refuse_trace.new.errors
+    c.in-Err.fault c.refuse_trace.result c.refuse_trace.ensures.status refl c.refuse_trace.ensures.told c.in-Err.ensures.refused (λ e. c.in-Err.ensures.cause.fault (ap Err e)) (λ e. c.in-Err.ensures.broken_off (ap Err e))
 
-pub returns-in-Err-clause-told : goal.returns-in-Err-clause-told
-returns-in-Err-clause-told g c = λ some other.
-    let others : fault_status c.in-Err.fault ≢ 3 = λ three. other (c.refuse_trace.ensures.status ∙ three) in
-    rw (c.refuse_trace.ensures.status, ← line_of_status c.in-Err.fault others) c.refuse_trace.ensures.told
+pub returns-in_default-clause-outcome : goal.returns-in_default-clause-outcome
+returns-in_default-clause-outcome g c =
+    refused_outcome g.S.Source.left g.S.Source.faults g.K.Sink.held g.K.Sink.faults g.E.Sink.held g.E.Sink.faults c.args.input.now c.read_all.new.input c.args.output.now c.args.output.now c.args.errors.now c.refuse_trace-in_default.new.errors
+    NoMemory c.refuse_trace-in_default.result c.refuse_trace-in_default.ensures.status refl c.refuse_trace-in_default.ensures.told (λ of. absurd of) (λ e. absurd cc) (λ e. absurd cc)
 
-pub returns-in_default-clause-told : goal.returns-in_default-clause-told
-returns-in_default-clause-told g c = λ some other. rw c.refuse_trace-in_default.ensures.status c.refuse_trace-in_default.ensures.told
-
-pub returns-clause-told : goal.returns-clause-told
-returns-clause-told g c = λ some other. rw c.stop_writing.ensures.status c.stop_writing.ensures.told
-
-pub returns-in-Err-clause-refused : goal.returns-in-Err-clause-refused
-returns-in-Err-clause-refused g c = λ three.
-    let status : fault_status c.in-Err.fault ≡ 3 = sym c.refuse_trace.ensures.status ∙ three in
-    (c.in-Err.fault, c.in-Err.ensures.refused (is_of_trace c.in-Err.fault status), c.refuse_trace.ensures.told)
+pub returns-clause-outcome : goal.returns-clause-outcome
+returns-clause-outcome g c =
+    written_outcome g.S.Source.left g.S.Source.faults g.K.Sink.held g.K.Sink.faults g.E.Sink.held g.E.Sink.faults c.args.input.now c.read_all.new.input c.args.output.now c.write_report.new.out c.args.errors.now c.stop_writing.new.errors
+    c.in-Ok.trace c.in-Ok-report.report c.stop_writing.result c.stop_writing.ensures.status c.in-Ok.ensures.trace (record { sound = c.in-Ok-report.ensures.sound; no_profile = c.in-Ok-report.ensures.no_profile })
+    c.in-Err-write_report.ensures.front c.in-Err-write_report.ensures.cause.failed c.stop_writing.ensures.told
 
 pub returns-in-Err-clause-complete : goal.returns-in-Err-clause-complete
 returns-in-Err-clause-complete g c = λ bytes t told spells plain three.

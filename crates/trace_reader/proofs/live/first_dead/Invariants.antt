@@ -1,5 +1,5 @@
 use Rattle.std.proofs.Common.{◌≤◌, ◌+◌, ◌-◌, length}
-use Rattle.trace_reader.specs.Draft.{Passes}
+use Rattle.trace_reader.specs.Kept.{Passes}
 use Rattle.trace_reader.proofs.Walk.{Walking}
 use Rattle.trace_reader.proofs.live.first_dead.Given as goal
 

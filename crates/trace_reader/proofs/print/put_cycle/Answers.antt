@@ -1,7 +1,8 @@
 use Rattle.std.proofs.Common.{map}
 use Rattle.std.proofs.lemmas.Result.{on_ok_weaker, on_err_weaker}
 use Rattle.trace_reader.specs.Spelling.{alloc_of, mark_statements}
-use Rattle.trace_reader.proofs.Put.{cycle_marked, cycle_marked_front, events_front, on_err}
+use Rattle.edge_io.proofs.Put.{on_err}
+use Rattle.trace_reader.proofs.Put.{cycle_marked, cycle_marked_front, events_front}
 use Rattle.trace_reader.proofs.print.put_cycle.Goals as goal
 
 pub returns-in_err-put_events-clause-err : goal.returns-in_err-put_events-clause-err

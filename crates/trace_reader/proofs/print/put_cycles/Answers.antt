@@ -1,6 +1,7 @@
 use Rattle.std.proofs.Common.{rules}
 use Rattle.trace_reader.specs.Spelling.{cycle_statements}
-use Rattle.trace_reader.proofs.Put.{on_err, put_all, put_front, put_more}
+use Rattle.edge_io.proofs.Put.{on_err}
+use Rattle.trace_reader.proofs.Put.{put_all, put_front, put_more}
 use Rattle.trace_reader.proofs.print.put_cycles.Goals as goal
 
 pub loop-cycle-preserved : goal.loop-cycle-preserved

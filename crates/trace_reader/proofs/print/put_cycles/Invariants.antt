@@ -1,7 +1,7 @@
 use Rattle.std.proofs.Common.{◌≡◌, ◌≤◌, take}
 use Rattle.std.specs.List.{flat_map}
 use Rattle.edge_io.specs.Output.{sink_of}
-use Rattle.trace_reader.specs.Printed.{OutputPuts}
+use Rattle.edge_io.specs.Puts.{OutputPuts}
 use Rattle.trace_reader.specs.Spelling.{cycle_statements, spelled}
 use Rattle.trace_reader.proofs.print.put_cycles.Given as goal
 

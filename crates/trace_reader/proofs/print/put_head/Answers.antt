@@ -2,7 +2,8 @@ use Rattle.std.proofs.Common.{[], ◌∷◌, codes, refl, ◌∙◌}
 use Rattle.std.proofs.lemmas.Result.{on_ok_weaker, on_err_weaker}
 use Rattle.trace_reader.specs.declared.statement.Statement.TheVariants.{Title}
 use Rattle.trace_reader.specs.Spelling.{heap_of}
-use Rattle.trace_reader.proofs.Put.{front_nothing, line_front, line_then, one_line}
+use Rattle.edge_io.proofs.Put.{front_nothing}
+use Rattle.trace_reader.proofs.Put.{line_front, line_then, one_line}
 use Rattle.trace_reader.proofs.print.put_head.Goals as goal
 
 pub returns-clause-ok : goal.returns-clause-ok

@@ -1,7 +1,8 @@
 use Rattle.std.proofs.Common.{[], ◌∷◌, get_or, rules, ◌∙◌}
 use Rattle.trace_reader.specs.declared.trace.Span.{Span}
 use Rattle.trace_reader.specs.Spelling.{mark_of}
-use Rattle.trace_reader.proofs.Put.{front_nothing, of_events, on_err, one_line, put_all, put_front, put_more}
+use Rattle.edge_io.proofs.Put.{front_nothing, on_err}
+use Rattle.trace_reader.proofs.Put.{of_events, one_line, put_all, put_front, put_more}
 use Rattle.trace_reader.proofs.print.put_marks.Goals as goal
 
 abbrev none : Span

@@ -1,9 +1,11 @@
-use Rattle.std.proofs.Common.{◌≡◌, Some, arith, rules, sym, ◌∙◌, subst}
+use Rattle.std.proofs.Common.{◌≡◌, Some, Err, arith, rules, sym, ap, ◌∙◌, subst}
 use Rattle.std.proofs.lemmas.Result.{err_from_is_err_and}
 use Rattle.trace_reader.specs.declared.statement.Statement.TheVariants.{End}
-use Rattle.trace_reader.specs.Refusal.{AreGood, needs_later}
+use Rattle.trace_reader.specs.Refusal.{needs_later}
+use Rattle.trace_reader.specs.Good.{AreGood}
 use Rattle.trace_reader.proofs.Judging.{onto}
 use Rattle.trace_reader.specs.Draft.{told_of}
+use Rattle.trace_reader.proofs.Reading.{tells_memory}
 use Rattle.trace_reader.proofs.Body.{all_ended, fault_on, fault_told, read_last, read_more, read_nothing, room_falls, stands_on}
 use Rattle.trace_reader.proofs.reader.read_cycles.Goals as goal
 use Rattle.trace_reader.proofs.reader.read_cycles.Goals.{in-Some-End, in_default, in_default-2}
@@ -18,11 +20,16 @@ loop-draft-init g c = record {
 pub returns-in_err-read_line-clause-refused : goal.returns-in_err-read_line-clause-refused
 returns-in_err-read_line-clause-refused g c = λ past start.
     let p = err_from_is_err_and c.from_residual.result c.from_residual.ensures.1 in
-    rw (p.1, p.2) (λ of. fault_on g.S.Source.left c.args.lines.now c.loop-draft.lines c.args.procs c.loop-draft.draft past _ c.loop-draft.invariant.read start
-    (c.in_err-read_line.ensures.refused (onto (told_of c.loop-draft.draft) past) of))
+    rw (p.1, p.2) (fault_on g.S.Source.left c.args.lines.now c.loop-draft.lines c.read_line.new.lines c.args.procs c.loop-draft.draft past _ c.loop-draft.invariant.read start
+    (c.in_err-read_line.ensures.refused (onto (told_of c.loop-draft.draft) past)))
 
 pub returns-in_err-read_line-clause-stands : goal.returns-in_err-read_line-clause-stands
 returns-in_err-read_line-clause-stands g c = stands_on g.S.Source.left c.args.lines.now c.loop-draft.lines c.read_line.new.lines c.args.procs c.loop-draft.draft c.loop-draft.invariant.read c.read_line.ensures.stands
+
+pub returns-in_err-finish-clause-refused : goal.returns-in_err-finish-clause-refused
+returns-in_err-finish-clause-refused g c = λ past start.
+    let p = err_from_is_err_and c.from_residual-in_err-finish.result c.from_residual-in_err-finish.ensures.1 in
+    rw (p.1, p.2) (tells_memory g.S.Source.left c.args.lines.now c.read_line.new.lines past)
 
 pub returns-in_err-finish-clause-stands : goal.returns-in_err-finish-clause-stands
 returns-in_err-finish-clause-stands g c = stands_on g.S.Source.left c.args.lines.now c.loop-draft.lines c.read_line.new.lines c.args.procs c.loop-draft.draft c.loop-draft.invariant.read c.read_line.ensures.stands
@@ -56,8 +63,9 @@ loop-draft-preserved g c = record {
 pub returns-in_err-take-clause-refused : goal.returns-in_err-take-clause-refused
 returns-in_err-take-clause-refused g c = λ past start.
     let p = err_from_is_err_and c.from_residual-in_err-take.result c.from_residual-in_err-take.ensures.1 in
-    rw (p.1, p.2) (λ of. fault_told g.S.Source.left c.args.lines.now c.loop-draft.lines c.read_line.new.lines c.args.procs c.loop-draft.draft c.line.result.now c.number.result c.statement_of-said.result past _ c.loop-draft.invariant.read start
-    c.in_ok-read_line.ensures.line c.in_ok-read_line.ensures.is_line c.read_line.ensures.number c.line.ensures c.statement_of-said.ensures c.number.ensures (λ past follows. c.in_err-take.ensures.fault of past follows))
+    rw (p.1, p.2) (fault_told g.S.Source.left c.args.lines.now c.loop-draft.lines c.read_line.new.lines c.args.procs c.loop-draft.draft c.line.result.now c.number.result c.statement_of-said.result past _ c.loop-draft.invariant.read start
+    c.in_ok-read_line.ensures.line c.in_ok-read_line.ensures.is_line c.read_line.ensures.number c.line.ensures c.statement_of-said.ensures c.number.ensures
+    (λ e. c.in_err-take.ensures.no_read (ap Err e)) c.in_err-take.ensures.fault)
 
 pub returns-in_err-take-clause-stands : goal.returns-in_err-take-clause-stands
 returns-in_err-take-clause-stands g c = stands_on g.S.Source.left c.args.lines.now c.loop-draft.lines c.read_line.new.lines c.args.procs c.loop-draft.draft c.loop-draft.invariant.read c.read_line.ensures.stands

@@ -3,7 +3,7 @@ use Rattle.std.proofs.lemmas.Result.{err_from_is_err_and}
 use Rattle.trace_reader.specs.declared.statement.Statement.TheVariants.{Title}
 use Rattle.trace_reader.specs.Spelling.{heap_of}
 use Rattle.trace_reader.specs.Refusal.{needs_later}
-use Rattle.trace_reader.proofs.Reading.{first_behind, stands_behind}
+use Rattle.trace_reader.proofs.Reading.{stands_behind, tells_behind}
 use Rattle.trace_reader.proofs.Good.{header_good, lines_of_good, plain_header, title_good}
 use Rattle.trace_reader.proofs.Fits.{reads_trace, takes_trace, trace_fits}
 use Rattle.trace_reader.proofs.Complete.{never_refused, never_told, same_read}
@@ -12,7 +12,7 @@ use Rattle.trace_reader.proofs.reader.read_trace.Goals as goal
 pub returns-in_err-header-clause-refused : goal.returns-in_err-header-clause-refused
 returns-in_err-header-clause-refused g c =
     let p = err_from_is_err_and c.from_residual-in_err-header.result c.from_residual-in_err-header.ensures.1 in
-    rw (p.1, p.2) (λ of. first_behind g.S.Source.left c.args.lines.now c.read_title.new.lines [] (Title ∷ []) _ c.in_ok-read_title.ensures.lines (title_good needs_later refl) (c.in_err-header.ensures.refused of))
+    rw (p.1, p.2) (tells_behind g.S.Source.left c.args.lines.now c.read_title.new.lines c.read_header.new.lines [] (Title ∷ []) _ c.in_ok-read_title.ensures.lines (title_good needs_later refl) c.in_err-header.ensures.refused)
 
 pub returns-in_err-header-clause-stands : goal.returns-in_err-header-clause-stands
 returns-in_err-header-clause-stands g c =
@@ -23,9 +23,9 @@ returns-in_err-cycles-clause-refused g c =
     let h = c.in_ok-header.header in
     let good = header_good needs_later h c.in_ok-header.ensures.fits (plain_header h c.in_ok-header.ensures.plain) in
     let p = err_from_is_err_and c.from_residual-in_err-cycles.result c.from_residual-in_err-cycles.ensures.1 in
-    rw (p.1, p.2) (λ of. first_behind g.S.Source.left c.args.lines.now c.read_title.new.lines [] (Title ∷ []) _ c.in_ok-read_title.ensures.lines (title_good needs_later refl)
-    (first_behind g.S.Source.left c.read_title.new.lines c.read_header.new.lines (Title ∷ []) (heap_of h ∷ []) _ c.in_ok-header.ensures.lines good
-    (c.in_err-cycles.ensures.refused (heap_of h ∷ Title ∷ []) (_, refl, refl) of)))
+    rw (p.1, p.2) (tells_behind g.S.Source.left c.args.lines.now c.read_title.new.lines c.read_cycles.new.lines [] (Title ∷ []) _ c.in_ok-read_title.ensures.lines (title_good needs_later refl)
+    (tells_behind g.S.Source.left c.read_title.new.lines c.read_header.new.lines c.read_cycles.new.lines (Title ∷ []) (heap_of h ∷ []) _ c.in_ok-header.ensures.lines good
+    (c.in_err-cycles.ensures.refused (heap_of h ∷ Title ∷ []) (_, refl, refl))))
 
 pub returns-in_err-cycles-clause-stands : goal.returns-in_err-cycles-clause-stands
 returns-in_err-cycles-clause-stands g c =
@@ -56,17 +56,17 @@ returns-clause-spelled g c =
 pub returns-in_err-read_title-clause-complete : goal.returns-in_err-read_title-clause-complete
 returns-in_err-read_title-clause-complete g c = λ trace ahead plain.
     let p = err_from_is_err_and c.from_residual.result c.from_residual.ensures.1 in
-    rw (p.1, p.2) (λ of. never_told g.S.Source.left c.args.lines.now _ trace (c.in_err-read_title.ensures.refused of) ahead plain)
+    rw (p.1, p.2) (λ of. never_told g.S.Source.left c.args.lines.now _ trace (c.in_err-read_title.ensures.refused.first of) ahead plain)
 
 pub returns-in_err-header-clause-complete : goal.returns-in_err-header-clause-complete
 returns-in_err-header-clause-complete g c = λ trace ahead plain.
     let p = err_from_is_err_and c.from_residual-in_err-header.result c.from_residual-in_err-header.ensures.1 in
-    never_refused g.S.Source.left c.args.lines.now c.from_residual-in_err-header.result p.0 p.1 (returns-in_err-header-clause-refused g c) _ trace ahead plain
+    never_refused g.S.Source.left c.args.lines.now c.read_header.new.lines c.from_residual-in_err-header.result p.0 p.1 (returns-in_err-header-clause-refused g c) _ trace ahead plain
 
 pub returns-in_err-cycles-clause-complete : goal.returns-in_err-cycles-clause-complete
 returns-in_err-cycles-clause-complete g c = λ trace ahead plain.
     let p = err_from_is_err_and c.from_residual-in_err-cycles.result c.from_residual-in_err-cycles.ensures.1 in
-    never_refused g.S.Source.left c.args.lines.now c.from_residual-in_err-cycles.result p.0 p.1 (returns-in_err-cycles-clause-refused g c) _ trace ahead plain
+    never_refused g.S.Source.left c.args.lines.now c.read_cycles.new.lines c.from_residual-in_err-cycles.result p.0 p.1 (returns-in_err-cycles-clause-refused g c) _ trace ahead plain
 
 pub returns-clause-complete : goal.returns-clause-complete
 returns-clause-complete g c = λ trace ahead plain. same_read g.S.Source.left c.args.lines.now c.read_cycles.new.lines _ trace (returns-clause-spelled g c) ahead

@@ -1,0 +1,101 @@
+#!/usr/bin/env bash
+# Processor minutes of the gate, crate by crate: of its proof, of the proof of its tests, and of the wrong bodies that must
+# be refused. It runs `rt ci` with the words that it is given and looks twice a second at what the provers below it have
+# used, so a figure is right to about half a second a process. Only what the run does counts: what an earlier run on this
+# machine has passed is kept and costs nothing, so the whole table comes from a new machine, or from `bench/gate.sh --anew`.
+# The log of the run goes to the file that LOG names (default: /dev/null). It ends with the status of `rt ci`.
+set -u
+cd "$(dirname "$(readlink -f "$0")")/.."
+exec python3 - "${LOG:-/dev/null}" "$@" <<'PYTHON'
+import os
+import subprocess
+import sys
+import time
+
+log, *words = sys.argv[1:]
+ticks = os.sysconf("SC_CLK_TCK")
+KINDS = ("proof", "tests", "edits", "other")
+
+
+def processes():
+    """The parent, the start and the ticks of each process."""
+    found = {}
+    for name in filter(str.isdigit, os.listdir("/proc")):
+        try:
+            with open(f"/proc/{name}/stat") as file:
+                fields = file.read().rpartition(")")[2].split()
+        except OSError:
+            continue
+        found[int(name)] = (int(fields[1]), fields[19], int(fields[11]) + int(fields[12]))
+    return found
+
+
+def words_of(pid):
+    try:
+        with open(f"/proc/{pid}/cmdline", "rb") as file:
+            return file.read().decode(errors="replace").split("\0")
+    except OSError:
+        return []
+
+
+def role(words):
+    """The crate that a prover is at, and what for; nothing for another process."""
+    if "--crate-name" not in words or os.path.basename(words[0]) != "rattle":
+        return None
+    crate = words[words.index("--crate-name") + 1]
+    if words[1] == "check":
+        return crate, "edits"
+    if words[1] == "build":
+        return crate, "tests" if "--test" in words else "proof"
+    return crate, "other"
+
+
+def is_below(pid, root, found):
+    while pid in found:
+        if pid == root:
+            return True
+        pid = found[pid][0]
+    return False
+
+
+def watch(run):
+    """The ticks of each prover below the run, by its crate and what it was at."""
+    used, roles = {}, {}
+    while run.poll() is None:
+        found = processes()
+        for pid, (_, start, spent) in found.items():
+            key = (pid, start)
+            if key not in roles and is_below(pid, run.pid, found):
+                at = words_of(pid)
+                if at[:1] and os.path.basename(at[0]) == "rattle":
+                    roles[key] = role(at)
+            if roles.get(key):
+                used[key] = spent
+        time.sleep(0.5)
+    return used, roles
+
+
+def main():
+    began = time.monotonic()
+    with open(log, "w") as out:
+        run = subprocess.Popen(["rt", "ci", *words], stdout=out, stderr=subprocess.STDOUT)
+        used, roles = watch(run)
+    table = {}
+    for key, spent in used.items():
+        crate, kind = roles[key]
+        row = table.setdefault(crate, dict.fromkeys(KINDS, 0.0))
+        row[kind] += spent / ticks / 60
+    kinds = [kind for kind in KINDS if any(row[kind] for row in table.values()) or kind != "other"]
+    line = "| {:<18} |" + " {:>7} |" * (len(kinds) + 1)
+    print(line.format("crate", *kinds, "all"))
+    print("|---|" + "---:|" * (len(kinds) + 1))
+    for crate, row in sorted(table.items(), key=lambda it: -sum(it[1].values())):
+        print(line.format(crate, *(f"{row[kind]:.2f}" for kind in kinds), f"{sum(row.values()):.2f}"))
+    sums = [sum(row[kind] for row in table.values()) for kind in kinds]
+    print(line.format("the whole", *(f"{one:.1f}" for one in sums), f"{sum(sums):.1f}"))
+    print(f"wall time: {(time.monotonic() - began) / 60:.1f} minutes on {os.cpu_count()} processors; rt ci ended with {run.returncode}")
+    return run.returncode
+
+
+sys.exit(main())
+PYTHON

@@ -1,0 +1,100 @@
+-- Each way in which a call of the program ends.
+use Rattle.std.proofs.Common.{◌≡◌, ◌≢◌, ℕ, List, Option, sym, ap, ◌∙◌, subst, refl}
+use Rattle.std.specs.Io.KnownBytes.{Appends}
+use Rattle.edge_io.specs.Causes.{Rose}
+use Rattle.edge_io.specs.Front.{AppendsFront}
+use Rattle.trace_reader.specs.declared.trace.Trace.{Trace}
+use Rattle.trace_reader.specs.declared.fault.TraceFault.{TraceFault}
+use Rattle.trace_reader.specs.declared.fault.TraceFault.TheVariants.{ReadFault, Malformed, Truncated, Limit, BadMark, NoMemory, Later}
+use Rattle.trace_reader.specs.Told.{IsOfTrace}
+use Rattle.cycle_history.specs.declared.Report.{Report}
+use Rattle.cycle_history.specs.Text.{report_text}
+use Rattle.alloc_tool.specs.Texts.{fault_status, fault_text, status_text, usage, write_fault}
+use Rattle.alloc_tool.specs.Told.{Tells}
+use Rattle.alloc_tool.specs.Top.{BreaksOff, IsAnswer, IsRefused}
+use Rattle.alloc_tool.specs.WholeInput.{ReadsAll}
+use Rattle.alloc_tool.specs.Outcome.{Outcome}
+use Rattle.alloc_tool.proofs.Faults.{is_of_trace, is_read_fault, line_of_status}
+
+-- a fault has no status of a call that writes
+no_writing : (fault : TraceFault) → (fault_status fault ≢ 0) × (fault_status fault ≢ 6)
+no_writing ReadFault = (λ e. cc, λ e. cc)
+no_writing (Malformed line) = (λ e. cc, λ e. cc)
+no_writing (Truncated line) = (λ e. cc, λ e. cc)
+no_writing (Limit line which) = (λ e. cc, λ e. cc)
+no_writing (BadMark line object) = (λ e. cc, λ e. cc)
+no_writing NoMemory = (λ e. cc, λ e. cc)
+no_writing (Later line) = (λ e. cc, λ e. cc)
+
+-- a fault was told
+pub refused_outcome : {S K E : Type 0} (left : S → Option (List ℕ)) (reads : S → ℕ) (held : K → Option (List ℕ)) (writes : K → ℕ) (shown : E → Option (List ℕ)) (tells : E → ℕ)
+    (input input' : S) (output output' : K) (errors errors' : E) (fault : TraceFault) (status : ℕ)
+    → status ≡ fault_status fault → output' ≡ output → Tells shown tells errors errors' (fault_text fault)
+    → (IsOfTrace fault → IsRefused (left input) fault) → (fault ≡ ReadFault → Rose (reads input) (reads input')) → (fault ≡ ReadFault → BreaksOff (left input) (left input'))
+    → Outcome left reads held writes shown tells input input' output output' errors errors' status
+refused_outcome left reads held writes shown tells input input' output output' errors errors' fault status is same told refused rose broken = record {
+  answered = λ zero. absurd ((no_writing fault).0 (sym is ∙ zero));
+  silent = λ zero. absurd ((no_writing fault).0 (sym is ∙ zero));
+  refused = λ three. (let of = is_of_trace fault (sym is ∙ three) in (fault, of, refused of, told));
+  read_fault = λ five. rose (is_read_fault fault (sym is ∙ five));
+  broken_off = λ five. broken (is_read_fault fault (sym is ∙ five));
+  write_fault = λ six. absurd ((no_writing fault).1 (sym is ∙ six));
+  partly_written = λ six. absurd ((no_writing fault).1 (sym is ∙ six));
+  unwritten = λ _ _. same;
+  told = λ some other. subst (λ (line : List ℕ). Tells shown tells errors errors' line) (line_of_status fault (λ three. other (is ∙ three)) ∙ ap status_text (sym is)) told;
+}
+
+-- the whole answer was written
+pub answered_outcome : {S K E : Type 0} (left : S → Option (List ℕ)) (reads : S → ℕ) (held : K → Option (List ℕ)) (writes : K → ℕ) (shown : E → Option (List ℕ)) (tells : E → ℕ)
+    (input input' : S) (output output' : K) (errors errors' : E) (trace : Trace) (report : Report)
+    → ReadsAll (left input) (left input') trace → IsAnswer trace report → Appends (held output) (held output') (report_text report) → errors' ≡ errors
+    → Outcome left reads held writes shown tells input input' output output' errors errors' 0
+answered_outcome left reads held writes shown tells input input' output output' errors errors' trace report reads_all answer appends same = record {
+  answered = λ _. (trace, report, reads_all, answer, appends);
+  silent = λ _. same;
+  refused = λ e. absurd cc;
+  read_fault = λ e. absurd cc;
+  broken_off = λ e. absurd cc;
+  write_fault = λ e. absurd cc;
+  partly_written = λ e. absurd cc;
+  unwritten = λ some _. absurd (some refl);
+  told = λ some _. absurd (some refl);
+}
+
+-- a write failed
+pub written_outcome : {S K E : Type 0} (left : S → Option (List ℕ)) (reads : S → ℕ) (held : K → Option (List ℕ)) (writes : K → ℕ) (shown : E → Option (List ℕ)) (tells : E → ℕ)
+    (input input' : S) (output output' : K) (errors errors' : E) (trace : Trace) (report : Report) (status : ℕ)
+    → status ≡ 6 → ReadsAll (left input) (left input') trace → IsAnswer trace report → AppendsFront (held output) (held output') (report_text report)
+    → Rose (writes output) (writes output') → Tells shown tells errors errors' write_fault
+    → Outcome left reads held writes shown tells input input' output output' errors errors' status
+written_outcome left reads held writes shown tells input input' output output' errors errors' trace report status is reads_all answer front rose told = record {
+  answered = λ e. absurd (clash 0 (λ f. cc) e);
+  silent = λ e. absurd (clash 0 (λ f. cc) e);
+  refused = λ e. absurd (clash 3 (λ f. cc) e);
+  read_fault = λ e. absurd (clash 5 (λ f. cc) e);
+  broken_off = λ e. absurd (clash 5 (λ f. cc) e);
+  write_fault = λ _. rose;
+  partly_written = λ _. (trace, report, reads_all, answer, front);
+  unwritten = λ _ other. absurd (other is);
+  told = λ _ _. subst (λ (k : ℕ). Tells shown tells errors errors' (status_text k)) (sym is) told;
+} where
+  clash : (k : ℕ) → (6 ≡ k → ⊥) → status ≡ k → ⊥
+  clash k apart e = apart (sym is ∙ e)
+
+-- other words
+pub usage_outcome : {S K E : Type 0} (left : S → Option (List ℕ)) (reads : S → ℕ) (held : K → Option (List ℕ)) (writes : K → ℕ) (shown : E → Option (List ℕ)) (tells : E → ℕ)
+    (input input' : S) (output output' : K) (errors errors' : E) (status : ℕ) → status ≡ 2 → output' ≡ output → Tells shown tells errors errors' usage
+    → Outcome left reads held writes shown tells input input' output output' errors errors' status
+usage_outcome left reads held writes shown tells input input' output output' errors errors' status is same told = record {
+  answered = λ e. absurd (clash 0 (λ f. cc) e);
+  silent = λ e. absurd (clash 0 (λ f. cc) e);
+  refused = λ e. absurd (clash 3 (λ f. cc) e);
+  read_fault = λ e. absurd (clash 5 (λ f. cc) e);
+  broken_off = λ e. absurd (clash 5 (λ f. cc) e);
+  write_fault = λ e. absurd (clash 6 (λ f. cc) e);
+  partly_written = λ e. absurd (clash 6 (λ f. cc) e);
+  unwritten = λ _ _. same;
+  told = λ _ _. subst (λ (k : ℕ). Tells shown tells errors errors' (status_text k)) (sym is) told;
+} where
+  clash : (k : ℕ) → (2 ≡ k → ⊥) → status ≡ k → ⊥
+  clash k apart e = apart (sym is ∙ e)
