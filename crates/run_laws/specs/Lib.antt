@@ -10,3 +10,4 @@ pub mod Occupied
 pub mod Keeping
 pub mod Shown
 pub mod ShowsCycle
+pub mod GoesOn

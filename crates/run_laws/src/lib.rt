@@ -24,10 +24,13 @@ ghost use Rattle.sweep_laws.specs.State.{CoreState};
 ghost use Rattle.sweep_laws.specs.Needs.{refusal, next_needs};
 ghost use Rattle.sweep_laws.specs.Changes.{after_next};
 ghost use Rattle.sweep_laws.specs.Owned.{Owned};
+ghost use Rattle.sweep_laws.specs.Step.{needs_of, after};
+ghost use Rattle.sweep_laws.specs.declared.moves.Move.{Move};
 ghost use Rattle.run_laws.specs.CycleSoFar.{CycleSoFar, past_after, with_objects};
 ghost use Rattle.run_laws.specs.Facts.{Facts, Notes, Marks, Objects};
 ghost use Rattle.run_laws.specs.Occupied.{NamedHaveSome};
 ghost use Rattle.run_laws.specs.ShowsCycle.{ShowsCycle, after_mark_end};
+ghost use Rattle.run_laws.specs.GoesOn.{GoesOn};
 ghost use Rattle.run_laws.specs.Reached.{Began, Reached};
 ghost use Rattle.run_laws.specs.Profile.{
   Samples,
@@ -70,6 +73,12 @@ pub fn calls_publish_the_profile()
     ensures { (marked : Marking) (s : Samples) (objects : List Object) (calls : Calls) (b : Bucket) (m : ℕ) → ((o : Object) → In o objects → Lasts marked o)
         → ((c : ℕ) → c ≤ m → AreCalls marked s objects calls c)
         → (published_allocs calls (suc m) b ≡ allocs_at s objects m b) × (published_frees calls (suc m) b ≡ frees_at marked s objects m b) }
+{}
+
+/// Each move of span ownership that may be made keeps a cycle under way, with the line and the entry that come with it.
+pub fn a_move_keeps_the_cycle_under_way()
+    ensures { (region : ℕ) (goal : ℕ) (c : CoreState) (e : CycleSoFar) (move : Move) (next : CycleSoFar) → ShowsCycle region goal c e → Owned c
+        → refusal (needs_of c move) ≡ None → GoesOn region goal c e move next → ShowsCycle region goal (after c move) next }
 {}
 
 /// Where a mark end may come, a state of span ownership that shows a cycle under way, with no span in it left empty, gives
