@@ -4,3 +4,4 @@ pub mod EnteredKept
 pub mod EnteredMoves
 pub mod EnteredRest
 pub mod EachMove
+pub mod OneLaw

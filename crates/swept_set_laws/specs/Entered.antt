@@ -2,10 +2,13 @@
 use Rattle.std.specs.Prelude.{◌≡◌, ◌≢◌, ◌⊎◌, ℕ, ◌+◌, ◌<◌, ◌≤◌, ◌==◌, ◌&&◌, Bool, true, false, not, cond, List, [], length, slice_index, slice_index_or, Some}
 use Rattle.std.specs.Option.{is_some}
 use Rattle.sweep_laws.specs.declared.moves.Claimed.{Claimed}
+use Rattle.sweep_laws.specs.declared.moves.Move.{Move}
+use Rattle.sweep_laws.specs.declared.moves.Move.TheVariants.{Lock, Unlock, Take, Give, Acquire, Release, Cache, Allocate, Uncache, StaleUncache, Claim, Fill, PopSwept, PopUnswept, DropPopped, Next}
+use Rattle.sweep_laws.specs.Changes.{head_base}
 use Rattle.sweep_laws.specs.Counts.{one_if, times}
 use Rattle.sweep_laws.specs.Lists.{least_outside}
 use Rattle.sweep_laws.specs.Named.{is_class}
-use Rattle.sweep_laws.specs.Needs.{cell_of, class_of_set, is_swept_set, life_in}
+use Rattle.sweep_laws.specs.Needs.{cell_of, class_of_set, is_swept_set, life_in, set_of}
 use Rattle.sweep_laws.specs.Owned.{EachAt}
 use Rattle.sweep_laws.specs.State.{LifeState, SetState, HandState, CoreState}
 use Rattle.worker_log.specs.declared.Entry.{Entry}
@@ -78,3 +81,24 @@ pub record MayClaim (c : CoreState) (logs : List (List Entry)) (n k p : ℕ) : T
   pub used : 0 < length (life_in p c.lives).allocated
   pub fullness : is_full_set k ≡ is_full_life (life_in p c.lives)
   pub unpopped : many (is_pop_of k p) (log_of logs n) ≡ 0
+
+-- What the sets name goes on from `names` to `names'`, and the logs from `logs` to `logs'`, at a move, where its call may make
+-- it: a Claim adds its name, a PopSwept comes with its entry, a mark end empties the logs, and at all other moves no log
+-- gains a pop from a swept set.
+abbrev pub NamesGoOn : CoreState → List (List Entry) → (ℕ → ℕ → ℕ) → Move → List (List Entry) → (ℕ → ℕ → ℕ) → Type 0
+NamesGoOn c logs names (Claim w s p) logs' names' = MayClaim c logs w s p × SamePops c.generation logs' logs × (names' ≡ put_name names s (set_of c s).tail p)
+NamesGoOn c logs names (PopSwept w s) logs' names' = HasPopped c.generation w s (head_base c s) logs' logs × (names' ≡ names)
+NamesGoOn c logs names (Next marks) logs' names' = (n : ℕ) → log_of logs' n ≡ []
+NamesGoOn c logs names (Lock w) logs' names' = SamePops c.generation logs' logs × (names' ≡ names)
+NamesGoOn c logs names (Unlock w) logs' names' = SamePops c.generation logs' logs × (names' ≡ names)
+NamesGoOn c logs names (Take w p pages count class) logs' names' = SamePops c.generation logs' logs × (names' ≡ names)
+NamesGoOn c logs names (Give w p) logs' names' = SamePops c.generation logs' logs × (names' ≡ names)
+NamesGoOn c logs names (Acquire w p) logs' names' = SamePops c.generation logs' logs × (names' ≡ names)
+NamesGoOn c logs names (Release w p) logs' names' = SamePops c.generation logs' logs × (names' ≡ names)
+NamesGoOn c logs names (Cache w p) logs' names' = SamePops c.generation logs' logs × (names' ≡ names)
+NamesGoOn c logs names (Allocate w p i) logs' names' = SamePops c.generation logs' logs × (names' ≡ names)
+NamesGoOn c logs names (Uncache w p) logs' names' = SamePops c.generation logs' logs × (names' ≡ names)
+NamesGoOn c logs names (StaleUncache w p) logs' names' = SamePops c.generation logs' logs × (names' ≡ names)
+NamesGoOn c logs names (Fill w) logs' names' = SamePops c.generation logs' logs × (names' ≡ names)
+NamesGoOn c logs names (PopUnswept w s) logs' names' = SamePops c.generation logs' logs × (names' ≡ names)
+NamesGoOn c logs names (DropPopped w p) logs' names' = SamePops c.generation logs' logs × (names' ≡ names)
