@@ -2,7 +2,7 @@
 use Rattle.std.specs.Prelude.{List, [], ◌∷◌, ◌++◌}
 use Rattle.page_bitmap.specs.declared.line.Line.TheVariants.{Take, Miss, Give, Scav}
 use Rattle.cycle_history.specs.declared.Answer.TheVariants.{Zero, Missed}
-use Rattle.report_rows.specs.Words.{scan, noscan, last, marking, heap, trace, report, whole, swept, total, at, times, slots, Row, sound, breaks, UsedRow, used, unused}
+use Rattle.report_rows.specs.Words.{scan, noscan, last, marking, region, heap, trace, report, whole, swept, total, at, times, slots, Row, sound, breaks, UsedRow, used, unused}
 
 -- Sound reports of traces without mark ends.
 unfoldable pub sound_rows : List Row
@@ -36,6 +36,8 @@ sound_rows =
     sound (trace (last (scan 0 24 ∷ []))) (whole (at 0 ∷ []) (Take 0 0 1 6 ∷ Take 0 1 1 7 ∷ []) [] (total 3 1 0 ∷ [])) ∷
     -- two misses of one kind, each with its line
     sound (trace (last (scan 0 4194304 ∷ scan 0 1 ∷ scan 0 1 ∷ []))) (whole (at 0 ∷ Missed 2 ∷ Missed 1 ∷ []) (Take 0 0 512 0 ∷ Miss 0 1 2 ∷ Miss 0 1 2 ∷ []) [] (total 0 1 0 ∷ [])) ∷
+    -- two chunks: a span over their border
+    sound (region 2 1 1024 (last (noscan 0 4096000 ∷ noscan 0 163840 ∷ []))) (whole (at 0 ∷ at 4096000 ∷ []) (Take 0 0 500 1 ∷ Take 0 500 20 1 ∷ []) [] (total 0 2 0 ∷ [])) ∷
     []
 
 -- Answers that don't fit the objects.
@@ -79,6 +81,12 @@ journal_rows =
     breaks 2 (heap 1 0 (last [])) (report [] (Take 0 0 128 1 ∷ Give 0 0 128 ∷ Scav 0 0 64 ∷ [])) ∷
     breaks 2 (heap 1 0 (last [])) (report [] (Take 0 0 128 1 ∷ Give 0 0 128 ∷ Scav 0 96 32 ∷ [])) ∷
     breaks 2 (heap 1 0 (last [])) (report [] (Take 0 0 1 6 ∷ Scav 0 0 1 ∷ [])) ∷
+    -- scavenging of more than 64 pages, and over the border of two chunks
+    breaks 2 (heap 1 0 (last [])) (report [] (Take 0 0 128 1 ∷ Give 0 0 128 ∷ Scav 0 0 128 ∷ [])) ∷
+    breaks 2 (region 2 1 0 (last [])) (report [] (Take 0 0 500 1 ∷ Take 0 500 50 1 ∷ Give 0 500 50 ∷ Scav 0 500 50 ∷ [])) ∷
+    -- a miss where the two chunks have a run, and a span outside of both
+    breaks 2 (region 2 1 1024 (last (scan 0 4202496 ∷ []))) (report (Missed 0 ∷ []) (Miss 0 513 0 ∷ [])) ∷
+    breaks 2 (region 2 1 1024 (last [])) (report [] (Take 0 0 1025 0 ∷ [])) ∷
     []
 
 -- Misses that name no line of their own.
@@ -140,6 +148,8 @@ filling_rows =
     breaks 6 (trace (marking (scan 0 24 ∷ scan 0 24 ∷ []) (1 ∷ []) (last (scan 0 24 ∷ [])))) (report (at 0 ∷ at 0x18 ∷ at 0x30 ∷ []) (Take 0 0 1 6 ∷ [])) ∷
     -- a miss doesn't free the way to another life
     breaks 6 (trace (last (scan 0 24 ∷ scan 0 4194304 ∷ scan 0 24 ∷ []))) (report (at 0 ∷ Missed 1 ∷ at 0x2000 ∷ []) (Take 0 0 1 6 ∷ Miss 0 512 0 ∷ Take 0 1 1 6 ∷ [])) ∷
+    -- a kept life that still has room is left in the next cycle
+    breaks 6 (trace (marking (scan 0 24 ∷ []) (0 ∷ []) (last (scan 0 24 ∷ scan 0 24 ∷ [])))) (report (at 0 ∷ at 0x18 ∷ at 0x2000 ∷ []) (Take 0 0 1 6 ∷ Take 1 1 1 6 ∷ [])) ∷
     []
 
 -- Sound reports that are used, and some that aren't.

@@ -6,7 +6,7 @@ use Rattle.cycle_history.specs.declared.Total.{Total}
 use Rattle.cycle_history.specs.declared.Answer.TheVariants.{Zero, Missed}
 use Rattle.cycle_history.specs.declared.Report.{Report}
 use Rattle.trace_reader.specs.declared.trace.Trace.{Trace}
-use Rattle.report_rows.specs.Words.{scan, noscan, last, marking, heap, trace, report, whole, swept, total, at, times, Row, sound, breaks}
+use Rattle.report_rows.specs.Words.{scan, noscan, last, marking, region, heap, trace, report, whole, swept, total, at, times, Row, sound, breaks}
 
 -- ---- three traces that many rows are about
 
@@ -49,6 +49,9 @@ marked_rows =
     sound (trace (marking (noscan 0 0 ∷ []) (0 ∷ []) (last []))) (report (Zero ∷ []) []) ∷
     -- scavenging to a goal of 0, 64 pages at a time
     sound (heap 1 0 (marking (noscan 0 1048576 ∷ []) [] (last []))) (whole (at 0 ∷ []) (Take 0 0 128 1 ∷ Give 1 0 128 ∷ Scav 1 64 64 ∷ Scav 1 0 64 ∷ []) (swept 1 0 0 1 ∷ []) (total 0 1 1 ∷ [])) ∷
+    -- two chunks: scavenging stops at their border
+    sound (region 2 1 0 (marking (noscan 0 4096000 ∷ noscan 0 409600 ∷ []) [] (last [])))
+    (whole (at 0 ∷ at 4096000 ∷ []) (Take 0 0 500 1 ∷ Take 0 500 50 1 ∷ Give 1 0 500 ∷ Give 1 500 50 ∷ Scav 1 512 38 ∷ Scav 1 448 64 ∷ []) (swept 1 0 0 1 ∷ swept 1 500 0 1 ∷ []) (total 0 2 2 ∷ [])) ∷
     -- one of three lives on, and its life gets an object that lives on alone
     sound (trace (marking (times 3 (scan 0 24)) (0 ∷ []) (marking (scan 0 24 ∷ []) (3 ∷ []) (last []))))
     (whole (at 0 ∷ at 0x18 ∷ at 0x30 ∷ at 0x18 ∷ []) (Take 0 0 1 6 ∷ []) (swept 1 0 1 2 ∷ swept 2 0 1 1 ∷ []) (total 3 4 3 ∷ [])) ∷

@@ -35,9 +35,13 @@ marks_at (id ∷ ids) = record { lo = id; hi = id } ∷ marks_at ids
 abbrev pub marking : List Event → List ℕ → List Cycle → List Cycle
 marking events ids rest = record { events = events; mark = Some (record { distance = 1; marks = marks_at ids }) } ∷ rest
 
+-- A trace of so many chunks and processors, with this goal.
+abbrev pub region : ℕ → ℕ → ℕ → List Cycle → Trace
+region chunks procs goal cycles = record { header = record { chunks = chunks; procs = procs; rate = 0; seed = 1; goal = goal }; cycles = cycles }
+
 -- A trace of one chunk, with so many processors and this goal.
 abbrev pub heap : ℕ → ℕ → List Cycle → Trace
-heap procs goal cycles = record { header = record { chunks = 1; procs = procs; rate = 0; seed = 1; goal = goal }; cycles = cycles }
+heap procs goal cycles = region 1 procs goal cycles
 
 -- A trace of one processor whose goal is the whole region.
 abbrev pub trace : List Cycle → Trace

@@ -6,13 +6,15 @@ use std::alloc::Global;
 use std::test::Fail;
 use sweep_generation::{Core, Found, Move, StepFault, run_moves};
 
-// What a run of the moves on a new core of one page and two workers answers, the core's words after it and who holds
-// the lock.
+// What a run of the moves on a new core of one page and two workers, with room for a life of 341 objects, answers, the
+// core's words after it and who holds the lock.
 fn outcome(
     alloc: Global,
     moves: Vec<Move>,
 ) -> Result<(Result<(), StepFault>, u64, Option<u32>), NoMemory> {
     let mut core = Core::new(alloc, 1, 2)?;
+    core.make_room()?;
+    core.make_life_room(341)?;
     let answer = run_moves(&mut core, &List::from_vec(moves));
     let word = core.words().first().copied().unwrap_or(0);
     Ok((answer, word, core.lock()))

@@ -191,54 +191,64 @@ fn telling_fails(rt: HostRuntime) -> Result<(), Fail> {
     Ok(())
 }
 
-// The first bytes of the report that one write of at most 8192 bytes takes: whole lines.
-fn block_len(text: &[u8]) -> usize {
-    let mut len = 0;
-    for (at, byte) in text.iter().enumerate().take(8192) {
-        if *byte == b'\n' {
-            len = at + 1;
-        }
+// The first read gives all bytes, and the second fails. A faulty line that was read whole is refused all the same.
+#[test]
+fn faults_before_a_failed_read(rt: HostRuntime) -> Result<(), Fail> {
+    let ended = format!(in rt.alloc(); "{HEAD}end\n")?;
+    let rows = [
+        ("", "x\n", 3, "trace line 1: malformed"),
+        ("", "x", 5, "read fault"),
+        (HEAD, "a 1 24 s 1\n", 3, "trace line 3: limit proc"),
+        (HEAD, "a 1 24 s 1", 5, "read fault"),
+        (ended.as_str(), "", 5, "read fault"),
+        (ended.as_str(), "x\n", 3, "trace line 4: malformed"),
+        (ended.as_str(), "x", 5, "read fault"),
+    ];
+    for (front, last, status, told) in rows {
+        let input = format!(in rt.alloc(); "{front}{last}")?;
+        let text = format!(in rt.alloc(); "goheap: {told}\n")?;
+        let found = call(&rt, &["run"], input.as_bytes(), &[1], &[])?;
+        assert_eq!(rt; found.status, status, "at {front} {last}");
+        assert_eq!(rt; found.told.as_slice(), text.as_bytes(), "at {front} {last}");
+        assert_eq!(rt; found.written.len(), 0, "at {front} {last}");
     }
-    len
+    Ok(())
 }
 
-// A trace of three blocks, over streams that give and take whole blocks: 2000 events of 11 bytes.
+// A trace of three blocks and a rest, over streams that give and take whole blocks: 2000 events of 11 bytes. The report has
+// lines of 17 to 20 bytes, and a block of it is as many whole lines as 8192 bytes hold.
 #[test]
 fn each_block_fails(rt: HostRuntime) -> Result<(), Fail> {
-    let input = repeated(
-        rt.alloc(),
-        "heap 1 procs 1 rate 0 seed 1 goal 512",
-        "a 0 16 n 2\n",
-        2000,
+    let alloc = rt.alloc();
+    let header = "heap 1 procs 1 rate 0 seed 1 goal 512";
+    let input = repeated(alloc, header, "a 0 16 n 2\n", 2000)?;
+    let mut report = placed(alloc, 2000, 16)?;
+    report.push_str(
+        "j 0 0 take 0 1 5\nj 1 0 take 1 1 5\nj 2 0 take 2 1 5\nj 3 0 take 3 1 5\nt 2 2000 0\nend\n",
     )?;
-    let whole = call(&rt, &["run"], input.as_bytes(), &[], &[])?;
-    assert_eq!(rt; whole.status, 0);
-    for read in 0..5 {
-        let found = call(&rt, &["run"], input.as_bytes(), &[read], &[])?;
+    let rows: [(&[u64], &[u64], u8, usize); 11] = [
+        (&[0], &[], 5, 0),
+        (&[1], &[], 5, 0),
+        (&[2], &[], 5, 0),
+        (&[3], &[], 5, 0),
+        (&[4], &[], 0, 38973),
+        (&[], &[0], 6, 0),
+        (&[], &[1], 6, 8174),
+        (&[], &[2], 6, 16363),
+        (&[], &[3], 6, 24550),
+        (&[], &[4], 6, 32730),
+        (&[], &[5], 0, 38973),
+    ];
+    for (reads, writes, status, held) in rows {
+        let found = call(&rt, &["run"], input.as_bytes(), reads, writes)?;
+        let front = report.as_bytes().get(..held);
+        assert_eq!(rt; found.status, status, "at {reads:?} {writes:?}");
         assert_eq!(rt;
-            found.status,
-            if read < 4 { 5 } else { 0 },
-            "at read {read}"
-        );
-        assert_eq!(rt;
-            found.written.len(),
-            if read < 4 { 0 } else { whole.written.len() },
-            "at read {read}"
+            Some(found.written.as_slice()),
+            front,
+            "at {reads:?} {writes:?}"
         );
     }
-    let mut held = 0;
-    for write in 0..6 {
-        let found = call(&rt, &["run"], input.as_bytes(), &[], &[write])?;
-        let front = whole.written.as_slice().get(..held);
-        assert_eq!(rt;
-            found.status,
-            if held < whole.written.len() { 6 } else { 0 },
-            "at write {write}"
-        );
-        assert_eq!(rt; Some(found.written.as_slice()), front, "at write {write}");
-        let block = whole.written.as_slice().get(held..).map_or(0, block_len);
-        held = held.saturating_add(block);
-    }
-    assert_eq!(rt; held, whole.written.len());
+    assert_eq!(rt; report.len(), 38973);
     Ok(())
 }
