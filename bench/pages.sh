@@ -1,29 +1,45 @@
 #!/usr/bin/env bash
-# Nanoseconds of one call of Pages on 128 chunks, of processor time, all measured in this one run. A take or a give
-# of a span of mixed size, where a tenth and where nine tenths of the pages are taken; and a search for one page
-# where the last page alone is free. Each figure is less what the same words cost with no calls. CALLS (default
-# 1000000) is the number of takes and gives, and of searches a hundredth.
+# Nanoseconds of one call of Pages on 128 chunks, of processor time, beside those of the search that stood before the levels
+# of sums (a copy in pages_bench, which keeps no journal and no spans). All are measured in this one run: a take or a give of a
+# span of mixed size, and a search for a run of mixed size, where 10, 50, 90 and 99 per cent of the pages are taken; and the
+# same for one page where the last page alone is free. Each figure is the least of five, less the least of what the same words cost
+# with no calls. CALLS (default 1000000) is the number of calls, and of the search before a hundredth.
 set -euo pipefail
 cd "$(dirname "$0")/../crates/pages_bench"
 rt run >/dev/null 2>&1
 calls=${CALLS:-1000000}
 TIMEFORMAT=%U
 
-# seconds WORDS..: the processor time of a run.
+# seconds WORDS..: the least processor time of five runs.
 seconds() {
-    { time ./out/pages_bench "$@" >/dev/null; } 2>&1
+    for _ in 1 2 3 4 5; do
+        { time ./out/pages_bench "$@" >/dev/null; } 2>&1
+    done | sort -n | head -n 1
 }
 
-# each NAME CALLS WORDS..: nanoseconds of one of that many calls.
+# each CALLS WORDS..: nanoseconds of one of that many calls.
 each() {
-    local name=$1 calls=$2
-    shift 2
+    local calls=$1
+    shift
     local whole own
     whole=$(seconds "$@" "$calls")
     own=$(seconds "$@" 0)
-    awk -v n="$name" -v w="$whole" -v o="$own" -v c="$calls" 'BEGIN { printf "%-32s %10.1f\n", n, (w - o) / c * 1e9 }'
+    awk -v w="$whole" -v o="$own" -v c="$calls" 'BEGIN { printf "%.1f", (w - o) / c * 1e9 }'
 }
 
-each 'take or give, 10 % taken' "$calls" churn 10
-each 'take or give, 90 % taken' "$calls" churn 90
-each 'find(1) at the last page' "$((calls / 100))" last
+# beside NAME WORDS..: a line with the figure of the levels, that of before, and their ratio.
+beside() {
+    local name=$1 now before
+    shift
+    now=$(each "$calls" "$@")
+    before=$(each "$((calls / 100))" before "$@")
+    awk -v m="$name" -v n="$now" -v b="$before" 'BEGIN { printf "%-32s %10.1f %10.1f %8.2f\n", m, n, b, n / b }'
+}
+
+printf '%-32s %10s %10s %8s\n' '' levels before ratio
+for percent in 10 50 90 99; do
+    beside "take or give, $percent % taken" churn "$percent"
+    beside "find, $percent % taken" finds "$percent"
+done
+beside 'take or give of the last page' ends
+beside 'find(1) at the last page' last

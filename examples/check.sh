@@ -1,11 +1,19 @@
 #!/usr/bin/env bash
-# Runs goheap on each trace of this folder, and compares what it prints with the report beside the trace.
+# Runs goheap on each trace of this folder, and compares what it prints with the report beside the trace. Of the recorded trace
+# of a real program it compares the totals.
 set -u
 cd "$(dirname "$0")" || exit 1
 failed=0
 for trace in *.trace; do
   if ! diff <(../goheap run <"$trace") "${trace%.trace}.report" >/dev/null; then
     echo "$trace: another report" >&2
+    failed=1
+  fi
+done
+unpacked() { python3 -c 'import lzma, shutil, sys; shutil.copyfileobj(lzma.open(sys.argv[1]), sys.stdout.buffer)' "$1"; }
+for packed in real/*.trace.xz; do
+  if ! diff <(unpacked "$packed" | ../goheap run | grep '^t ') "${packed%.trace.xz}.totals" >/dev/null; then
+    echo "$packed: other totals" >&2
     failed=1
   fi
 done

@@ -1,7 +1,8 @@
 -- What a run of a trace keeps from cycle to cycle, and what its report says at the end.
-use Rattle.std.proofs.Common.{◌≡◌, ℕ, zero, suc, ◌+◌, ◌-◌, ◌^◌, ◌<◌, ◌≤◌, Bool, List, [], ◌∷◌, ◌++◌, reverse, length, take, drop, get_or, Result, Ok, Err, OnOk, refl, sym, ◌∙◌, ap, arith, drop-cons}
+use Rattle.std.proofs.Common.{◌≡◌, ℕ, zero, suc, ◌+◌, ◌-◌, ◌^◌, ◌<◌, ◌≤◌, Bool, List, [], ◌∷◌, ◌++◌, reverse, length, take, drop, get_or, Option, Result, Ok, Err, OnOk, refl, sym, ◌∙◌, ap, subst, arith, drop-cons}
 use Rattle.std.specs.List.{AllByRecursion, flat_map}
 use Rattle.std.specs.Prelude.{All}
+use Rattle.std.proofs.lemmas.Option.{slice_get_within}
 use Rattle.std.proofs.lemmas.List.{take_all, take_more, take-append-drop, reverse-reverse, length-take-le}
 use Rattle.trace_reader.specs.declared.trace.Trace.{Trace}
 use Rattle.trace_reader.specs.declared.trace.Cycle.{Cycle}
@@ -18,7 +19,10 @@ use Rattle.cycle_history.specs.Sound.{past_in, HasAnswers, IsSoundAndUsed}
 use Rattle.sound_run.specs.Run.{IsRun}
 use Rattle.sound_run.specs.Notes.{HasNotes}
 use Rattle.cycle_history.specs.Marked.{IsLimited, AreMarksOf, AreObjectsBefore, ArePlaces, objects_before}
+use Rattle.cycle_history.specs.declared.places.Place.{Place}
+use Rattle.cycle_history.specs.Found.{AreFound}
 use Rattle.cycle_history.specs.Counted.{AreObjectsOf, AreZeros}
+use Rattle.cycle_history.proofs.Found.{found-kept}
 use Rattle.cycle_history.proofs.Plain.{scavenged-roomy}
 use Rattle.cycle_history.proofs.Cycles.{requests-one}
 use Rattle.sound_run.proofs.Lasting.{lasts-next}
@@ -107,6 +111,21 @@ pub cycle-answered : (t : Trace) (c : ℕ) (d : Cycle) (old new : Heap) (before 
 cycle-answered t c d old new before after objects limits plain lt run goes =
     let all = goes (marked_by t) (requests_from 0 (take c t.cycles)) objects run (cycle-asks t c d limits plain lt) in
     (all.0, rw (cycle-requests t c d lt) at all.1)
+
+-- of no objects no places were found yet
+pub places-none : (t : Trace) (answers : List Answer) (places : List (Option Place)) → places ≡ [] → AreFound t answers places
+places-none t answers places none i found at =
+    let lt = slice_get_within places i found at in
+    let size : length places ≡ 0 = ap (λ (ps : List (Option Place)). length ps) none in
+    absurd (omega arith)
+
+-- the places that were found of the objects before stay those of the answers
+pub answers-kept : (t : Trace) (c : ℕ) (heap : Heap) (old new : List Answer) (objects : List Object) (places : List (Option Place))
+    → HasRun (marked_by t) c heap (requests_from 0 (take c t.cycles)) old objects → length places ≡ objects_before t c → (more : List Answer) × (new ≡ old ++ more)
+    → AreFound t old places → AreFound t new places
+answers-kept t c heap old new objects places run kept more found =
+    let all = answers-before t c old objects (record { asked = run.asked; printed = run.printed }) in
+    subst (λ (answers : List Answer). AreFound t answers places) (sym more.1) (found-kept t old more.0 places (omega arith) found)
 
 -- ---- the mark end
 

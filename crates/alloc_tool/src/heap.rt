@@ -207,19 +207,13 @@ impl Heap {
         Ok(Answer::Placed(address(page, need.slot, 0)))
     }
 
-    /// The lines of the journal, as they were made.
-    pub(crate) fn journal(&self, alloc: Global) -> Result<List<Line>, NoMemory>
-        ensures { IfOk result (λ journal. past_of journal ≡ self.now.pages.past) }
+    /// The lines of the journal and the sweeps, each as they were made: the sweeps by cycle, and then by first page.
+    pub(crate) fn into_lists(self) -> (List<Line>, List<SweepNote>)
+        ensures journal { past_of result.0 ≡ self.pages.past }
+        ensures sweeps { result.1 ≡ self.sweeps }
     {
-        Ok(List::from_vec(self.pages.journal().to_vec(alloc)?))
-    }
-
-    /// The sweeps, as they were made: by cycle, and then by first page.
-    pub(crate) fn into_sweeps(self) -> List<SweepNote>
-        ensures { result ≡ self.sweeps }
-    {
-        let Heap { sweeps, .. } = self;
-        sweeps
+        let Heap { pages, sweeps, .. } = self;
+        (List::from_vec(pages.into_journal()), sweeps)
     }
 }
 

@@ -1,14 +1,15 @@
 //! Running a trace over the heap.
 
-ghost use Rattle.std.specs.Prelude.{◌≡◌, ◌+◌, ◌^◌, ◌<◌, ◌≤◌, [], length, All, IfOk, OnOk};
+ghost use Rattle.std.specs.Prelude.{◌≡◌, ◌+◌, ◌^◌, ◌<◌, ◌≤◌, [], ◌++◌, List as Items, length, All, IfOk, OnOk};
 ghost use Rattle.trace_reader.specs.Limits.{IsPlain, WithinLimits};
 ghost use Rattle.page_alloc.specs.Journal.{IsBy};
+ghost use Rattle.cycle_history.specs.declared.Answer.{Answer};
 ghost use Rattle.cycle_history.specs.Requests.{last_cycle};
 ghost use Rattle.cycle_history.specs.Sound.{IsSoundAndUsed};
 ghost use Rattle.alloc_tool.specs.Runs.{GoesOn};
 
 use crate::heap::Heap;
-use cycle_history::{Answer, Report, marks_of, totals_of};
+use cycle_history::{Answer, Place, Report, marks_of, totals_of};
 use edge_io::{List, NoMemory};
 use std::alloc::Global;
 use trace_reader::{Event, Trace};
@@ -37,6 +38,8 @@ struct Run {
     // Whether each object is sampled, and its bucket if it is, as far as a mark end has asked. None is sampled yet.
     sampled: List<bool>,
     buckets: List<u32>,
+    // Where each object before the last mark end lies.
+    places: List<Option<Place>>,
 }
 
 impl Run {
@@ -52,6 +55,7 @@ impl Run {
             answers: List::new(alloc),
             sampled: List::new(alloc),
             buckets: List::new(alloc),
+            places: List::new(alloc),
         })
     }
 
@@ -97,6 +101,7 @@ impl Run {
             &self.answers,
             &self.sampled,
             &self.buckets,
+            &mut self.places,
         )?;
         self.heap.next_cycle(alloc, mark, &marks)
     }
@@ -109,10 +114,11 @@ impl Run {
         ensures sound { IfOk result (λ report. IsSoundAndUsed trace.now report) }
         ensures no_profile { IfOk result (λ report. report.profile ≡ []) }
     {
+        let (journal, sweeps) = self.heap.into_lists();
         Ok(Report {
             totals: totals_of(alloc, trace, &self.answers)?,
-            journal: self.heap.journal(alloc)?,
-            sweeps: self.heap.into_sweeps(),
+            journal,
+            sweeps,
             answers: self.answers,
             profile: List::new(alloc),
         })
@@ -132,6 +138,7 @@ fn answer_all(
     ensures goal { heap.new.pages.goal ≡ heap.old.pages.goal }
     ensures by { IsBy cycle heap.new.pages.past }
     ensures count { OnOk result (length answers.new ≡ length answers.old + length events.now) }
+    ensures kept { OnOk result ((more : Items Answer) × (answers.new ≡ answers.old ++ more)) }
     ensures answered { IfOk result (λ _. GoesOn cycle heap.old heap.new events.now answers.old answers.new) }
 {
     for event in events {

@@ -66,7 +66,7 @@ newest-of t answers n r a objects at-r at-a first =
 
 -- ---- cycles of requests
 
-get-split : {X : Type 0} (xs ys : List X) (n : ℕ) (x : X) → slice_get (xs ++ ys) n ≡ Some x → (slice_get xs n ≡ Some x) ⊎ ((length xs ≤ n) × (slice_get ys (n - length xs) ≡ Some x))
+pub get-split : {X : Type 0} (xs ys : List X) (n : ℕ) (x : X) → slice_get (xs ++ ys) n ≡ Some x → (slice_get xs n ≡ Some x) ⊎ ((length xs ≤ n) × (slice_get ys (n - length xs) ≡ Some x))
 get-split [] ys n x h = inr ((omega arith), (let e : n - 0 ≡ n = omega arith in rw e h))
 get-split (y ∷ xs) ys zero x h = inl h
 get-split (y ∷ xs) ys (suc n) x h =

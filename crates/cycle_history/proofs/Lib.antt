@@ -5,6 +5,7 @@ pub mod Cycles
 pub mod OnePlace
 pub mod Firsts
 pub mod Rising
+pub mod Found
 pub mod Settled
 pub mod Walked
 pub mod OfObjects

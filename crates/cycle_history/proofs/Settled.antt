@@ -1,5 +1,5 @@
 -- How the marks of the objects below a bound grow with the bound.
-use Rattle.std.proofs.Common.{◌≡◌, ◌≢◌, ℕ, ◌+◌, ◌<◌, ◌≤◌, Bool, true, false, ◌||◌, ◌&&◌, eqb, List, [], ◌∷◌, ◌++◌, length, map, get_or, refl, sym, ◌∙◌, ap, subst, arith, ◌⊎◌, inl, inr}
+use Rattle.std.proofs.Common.{◌≡◌, ◌≢◌, ℕ, ◌+◌, ◌<◌, ◌≤◌, Bool, false, ◌||◌, ◌&&◌, eqb, List, [], ◌∷◌, ◌++◌, length, map, get_or, refl, sym, ◌∙◌, ap, subst, arith, ◌⊎◌, inl, inr}
 use Rattle.std.proofs.lemmas.Bool.{cases_lt, cases_eq, or_cases, or_left, or_right, and_parts, and_from, eqb-true, eq-eqb}
 use Rattle.std.proofs.lemmas.List.{reverse-append}
 use Rattle.std.proofs.lemmas.Option.{slice_get_within}
@@ -8,7 +8,6 @@ use Rattle.trace_reader.specs.declared.trace.Trace.{Trace}
 use Rattle.trace_reader.specs.declared.trace.Event.{Event}
 use Rattle.cycle_history.specs.declared.Answer.{Answer}
 use Rattle.cycle_history.specs.declared.Answer.TheVariants.{Placed}
-use Rattle.cycle_history.specs.Requests.{marked_by}
 use Rattle.cycle_history.specs.Places.{IsPlace, LiesAt}
 use Rattle.cycle_history.specs.Marked.{AreBuckets, AreMarksBelow, AreMarksOf, HasDied, IsMarkedAt}
 use Rattle.cycle_history.proofs.OnePlace.{place-one}
@@ -26,22 +25,25 @@ lies-one t answers i p q j k a b =
     let same : IsPlace a.event.size a.address q k = subst (λ (s : ℕ). IsPlace s a.address q k) size (subst (λ (x : ℕ). IsPlace b.event.size x q k) address b.place) in
     place-one a.event.size a.address p q j k a.place same
 
--- An object is quiet where it isn't marked and hasn't died.
-pub record IsQuiet (t : Trace) (m : ℕ) (answers : List Answer) (sampled : List Bool) (i : ℕ) : Type 0 where
-  pub unmarked : (page k : ℕ) → ¬ IsMarkedAt t m answers page k i
-  pub undead : (page : ℕ) → ¬ HasDied t m answers sampled page i
-
--- a bound moves past quiet objects
-pub below-quiet : (t : Trace) (m : ℕ) (answers : List Answer) (sampled : List Bool) (buckets : List ℕ) (low high : ℕ) (marks : MarkSet) → low ≤ high
-    → ((i : ℕ) → low ≤ i → i < high → IsQuiet t m answers sampled i) → AreMarksBelow t m answers sampled buckets low marks → AreMarksBelow t m answers sampled buckets high marks
-below-quiet t m answers sampled buckets low high marks le quiet below = record {
+-- the bound of the places moves past objects that aren't marked
+pub below-unmarked : (t : Trace) (m : ℕ) (answers : List Answer) (sampled : List Bool) (buckets : List ℕ) (low high late : ℕ) (marks : MarkSet) → low ≤ high
+    → ((i : ℕ) → low ≤ i → i < high → (page k : ℕ) → ¬ IsMarkedAt t m answers page k i) → AreMarksBelow t m answers sampled buckets low late marks → AreMarksBelow t m answers sampled buckets high late marks
+below-unmarked t m answers sampled buckets low high late marks le quiet below = record {
   places = λ page k. (
     (λ on. (let at = (below.places page k).0 on in (at.0, (let lt = at.1 in omega arith), at.2))),
     (λ at. elim (cases_lt at.0 low) [
       | inl lt ↦ (below.places page k).1 (at.0, lt, at.2)
-      | inr ge ↦ absurd ((quiet at.0 ge at.1).unmarked page k at.2)
+      | inr ge ↦ absurd (quiet at.0 ge at.1 page k at.2)
     ]),
   );
+  dead = below.dead;
+}
+
+-- the bound of the dead moves past objects that haven't died
+pub below-undead : (t : Trace) (m : ℕ) (answers : List Answer) (sampled : List Bool) (buckets : List ℕ) (bound low high : ℕ) (marks : MarkSet) → low ≤ high
+    → ((i : ℕ) → low ≤ i → i < high → (page : ℕ) → ¬ HasDied t m answers sampled page i) → AreMarksBelow t m answers sampled buckets bound low marks → AreMarksBelow t m answers sampled buckets bound high marks
+below-undead t m answers sampled buckets bound low high marks le quiet below = record {
+  places = below.places;
   dead = λ page. (let old = below.dead page in record {
     ids = old.ids;
     falling = old.falling;
@@ -49,7 +51,7 @@ below-quiet t m answers sampled buckets low high marks le quiet below = record {
       (λ h. (let at = (old.each i).0 h in ((let lt = at.0 in omega arith), at.1))),
       (λ at. elim (cases_lt i low) [
         | inl lt ↦ (old.each i).1 (lt, at.1)
-        | inr ge ↦ absurd ((quiet i ge at.0).undead page at.1)
+        | inr ge ↦ absurd (quiet i ge at.0 page at.1)
       ]),
     );
     is = old.is;
@@ -81,11 +83,11 @@ buckets-same died more buckets list old from to = record {
 }
 
 -- a marked object's place is added
-pub below-marked : (t : Trace) (m : ℕ) (answers : List Answer) (sampled : List Bool) (buckets : List ℕ) (o page index : ℕ) (marks new : MarkSet)
-    → AreMarksBelow t m answers sampled buckets o marks → IsMarkedAt t m answers page index o
+pub below-marked : (t : Trace) (m : ℕ) (answers : List Answer) (sampled : List Bool) (buckets : List ℕ) (o late page index : ℕ) (marks new : MarkSet)
+    → AreMarksBelow t m answers sampled buckets o late marks → IsMarkedAt t m answers page index o
     → ((q k : ℕ) → is_marked new q k ≡ (is_marked marks q k || (eqb q page && eqb k index))) → new.deaths ≡ marks.deaths
-    → AreMarksBelow t m answers sampled buckets (o + 1) new
-below-marked t m answers sampled buckets o page index marks new below at added same = record {
+    → AreMarksBelow t m answers sampled buckets (o + 1) late new
+below-marked t m answers sampled buckets o late page index marks new below at added same = record {
   places = λ q k. (
     (λ on. elim (or_cases (is_marked marks q k) (eqb q page && eqb k index) (sym (added q k) ∙ on)) [
       | inl old ↦ (let x = (below.places q k).0 old in (x.0, (let lt = x.1 in omega arith), x.2))
@@ -106,38 +108,18 @@ below-marked t m answers sampled buckets o page index marks new below at added s
   );
   dead = λ q. (
       let e : dead_of new q ≡ dead_of marks q = ap (λ (deaths : List (ℕ × List ℕ)). dead_of (record { pairs = []; deaths = deaths }) q) same in
-      rw e (buckets-same (λ i. (i < o) × HasDied t m answers sampled q i) (λ i. (i < o + 1) × HasDied t m answers sampled q i) buckets (dead_of marks q) (below.dead q)
-      (λ i h. elim (cases_lt i o) [
-        | inl lt ↦ (lt, h.1)
-        | inr ge ↦ (
-            let lt = h.0 in
-            let is : i ≡ o = omega arith in
-            let off = h.1.unmarked in
-            let on : marked_by t m i ≡ true = rw is at.marked in
-            absurd cc)
-      ])
-      (λ i h. ((let lt = h.0 in omega arith), h.1))));
+      rw e (below.dead q));
 }
 
 -- a dead object's bucket is added
-pub below-dead : (t : Trace) (m : ℕ) (answers : List Answer) (sampled : List Bool) (buckets : List ℕ) (o page b : ℕ) (marks new : MarkSet)
-    → AreMarksBelow t m answers sampled buckets o marks → HasDied t m answers sampled page o → b ≡ get_or buckets o 0
+pub below-dead : (t : Trace) (m : ℕ) (answers : List Answer) (sampled : List Bool) (buckets : List ℕ) (bound o page b : ℕ) (marks new : MarkSet)
+    → AreMarksBelow t m answers sampled buckets bound o marks → HasDied t m answers sampled page o → b ≡ get_or buckets o 0
     → dead_of new page ≡ dead_of marks page ++ b ∷ [] → ((q : ℕ) → q ≢ page → dead_of new q ≡ dead_of marks q) → new.pairs ≡ marks.pairs
-    → AreMarksBelow t m answers sampled buckets (o + 1) new
-below-dead t m answers sampled buckets o page b marks new below died same added others pairs = record {
+    → AreMarksBelow t m answers sampled buckets bound (o + 1) new
+below-dead t m answers sampled buckets bound o page b marks new below died same added others pairs = record {
   places = λ q k. (
-      let e : is_marked new q k ≡ is_marked marks q k = ap (λ (ps : List (ℕ × ℕ)). has_pair ps q k) pairs in (
-        (λ on. (let x = (below.places q k).0 (sym e ∙ on) in (x.0, (let lt = x.1 in omega arith), x.2))),
-        (λ x. e ∙ elim (cases_lt x.0 o) [
-          | inl lt ↦ (below.places q k).1 (x.0, lt, x.2)
-          | inr ge ↦ (
-              let lt = x.1 in
-              let is : x.0 ≡ o = omega arith in
-              let on = x.2.marked in
-              let off : marked_by t m x.0 ≡ false = rw is died.unmarked in
-              absurd cc)
-        ]),
-      ));
+      let e : is_marked new q k ≡ is_marked marks q k = ap (λ (ps : List (ℕ × ℕ)). has_pair ps q k) pairs in
+      rw e (below.places q k));
   dead = λ q. elim (cases_eq q page) [
     | inl here ↦ (
         let e : dead_of new q ≡ dead_of marks page ++ b ∷ [] = ap (λ (x : ℕ). dead_of new x) here ∙ added in
@@ -163,7 +145,7 @@ below-dead t m answers sampled buckets o page b marks new below died same added 
 
 -- no objects
 pub below-none : (t : Trace) (m : ℕ) (answers : List Answer) (sampled : List Bool) (buckets : List ℕ) (marks : MarkSet) → marks.pairs ≡ [] → ((page : ℕ) → dead_of marks page ≡ [])
-    → AreMarksBelow t m answers sampled buckets 0 marks
+    → AreMarksBelow t m answers sampled buckets 0 0 marks
 below-none t m answers sampled buckets marks pairs dead = record {
   places = λ page k. (
       let e : is_marked marks page k ≡ false = ap (λ (ps : List (ℕ × ℕ)). has_pair ps page k) pairs in (
@@ -180,7 +162,7 @@ below-none t m answers sampled buckets marks pairs dead = record {
 
 -- all objects
 pub below-all : (t : Trace) (m : ℕ) (answers : List Answer) (sampled : List Bool) (buckets : List ℕ) (marks : MarkSet)
-    → AreMarksBelow t m answers sampled buckets (length answers) marks → AreMarksOf t m answers sampled buckets marks
+    → AreMarksBelow t m answers sampled buckets (length answers) (length answers) marks → AreMarksOf t m answers sampled buckets marks
 below-all t m answers sampled buckets marks below = record {
   places = λ page k. (
     (λ on. (let x = (below.places page k).0 on in (x.0, x.2))),

@@ -9,9 +9,12 @@ use Rattle.cycle_history.specs.declared.Answer.{Answer}
 use Rattle.cycle_history.specs.declared.Answer.TheVariants.{Zero}
 use Rattle.cycle_history.specs.declared.Total.{Total}
 use Rattle.cycle_history.specs.declared.totals.Count.{Count}
+use Rattle.cycle_history.specs.declared.totals.Living.{Living}
 use Rattle.cycle_history.specs.Requests.{requests_from, requests_of, marked_by, last_cycle}
 use Rattle.cycle_history.specs.Objects.{Object, live}
 use Rattle.cycle_history.specs.Orders.{AreRisingTotals}
+use Rattle.cycle_history.specs.Marked.{marks_at, objects_before}
+use Rattle.cycle_history.specs.MarkedLoops.{IsBehind}
 use Rattle.cycle_history.specs.Rules.{AreAnswered}
 use Rattle.cycle_history.specs.Sweeps.{is_placed_of}
 
@@ -42,6 +45,12 @@ pub record AreCounts (t : Trace) (answers : List Answer) (n : ℕ) (counts : Lis
   pub few : (class : ℕ) → ((of_class counts class).mallocs ≤ n) × ((of_class counts class).frees ≤ n)
   pub mallocs : (objects : List Object) (class : ℕ) → AreFirstOf t answers n objects → class < 68 → (of_class counts class).mallocs ≡ count (is_placed_of class) objects
   pub frees : (objects : List Object) (class : ℕ) → AreFirstOf t answers n objects → class < 68 → (of_class counts class).frees ≡ count (is_freed_of t class) objects
+
+-- What is known of the objects that live in the last cycle, where those below a number were asked for.
+pub record AreLiving (t : Trace) (n : ℕ) (living : Living) : Type 0 where
+  pub newest : living.newest ≡ objects_before t (last_cycle t)
+  pub spans : living.marked.spans.now ≡ marks_at t (last_cycle t)
+  pub behind : IsBehind living.marked n
 
 -- The totals are those of the classes below a bound that have objects.
 pub record AreListed (counts : List Count) (bound : ℕ) (totals : List Total) : Type 0 where

@@ -9,5 +9,6 @@ pub mod Broken
 pub mod Text
 pub mod Places
 pub mod Marked
+pub mod Found
 pub mod MarkedLoops
 pub mod Counted

@@ -65,20 +65,15 @@ pub record AreMarksOf (t : Trace) (m : ℕ) (answers : List Answer) (sampled : L
   pub places : (page k : ℕ) → (is_marked marks page k ≡ true) ↔ ((i : ℕ) × IsMarkedAt t m answers page k i)
   pub dead : (page : ℕ) → AreBuckets (λ i. HasDied t m answers sampled page i) buckets (dead_of marks page)
 
--- The same of the objects with numbers below a bound.
-pub record AreMarksBelow (t : Trace) (m : ℕ) (answers : List Answer) (sampled : List Bool) (buckets : List ℕ) (bound : ℕ) (marks : MarkSet) : Type 0 where
+-- The same of the objects below two bounds: one for the places, and one for the dead.
+pub record AreMarksBelow (t : Trace) (m : ℕ) (answers : List Answer) (sampled : List Bool) (buckets : List ℕ) (bound late : ℕ) (marks : MarkSet) : Type 0 where
   pub places : (page k : ℕ) → (is_marked marks page k ≡ true) ↔ ((i : ℕ) × (i < bound) × IsMarkedAt t m answers page k i)
-  pub dead : (page : ℕ) → AreBuckets (λ i. (i < bound) × HasDied t m answers sampled page i) buckets (dead_of marks page)
+  pub dead : (page : ℕ) → AreBuckets (λ i. (i < late) × HasDied t m answers sampled page i) buckets (dead_of marks page)
 
 -- The spans that mark end m marks; there is no mark end 0.
 abbrev pub marks_at : Trace → ℕ → List Span
 marks_at t zero = []
 marks_at t (suc m) = spans_after m t.cycles
-
--- The numbers of the first objects of all cycles.
-pub record AreFirsts (t : Trace) (firsts : List ℕ) : Type 0 where
-  pub all : length firsts ≡ length t.cycles
-  pub each : (c : ℕ) → c < length t.cycles → slice_index firsts c ≡ objects_before t c
 
 -- The requests before mark end m, the newest first.
 abbrev pub requests_before : Trace → ℕ → List Request

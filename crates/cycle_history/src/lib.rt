@@ -5,7 +5,7 @@
 //! `specs/Text.antt` is the text of a report. How a run stays sound so far is `sound_run`'s.
 //!
 //! `marks_of` finds the places that a mark end marks, and `totals_of` counts the objects of each size class, from a trace
-//! and its answers: `specs/Places.antt`, `Marked.antt` and `Counted.antt`.
+//! and its answers: `specs/Places.antt`, `Found.antt`, `Marked.antt` and `Counted.antt`.
 #![tactic(auto)]
 
 mod laws;
@@ -18,6 +18,7 @@ use edge_io::List;
 pub use laws::{an_address_has_one_place, an_object_sits_at_its_place};
 pub use marks::marks_of;
 use page_bitmap::Line;
+pub use places::Place;
 use span_state::SweepNote;
 pub use totals::totals_of;
 

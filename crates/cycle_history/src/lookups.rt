@@ -1,14 +1,11 @@
-//! Which event an object is, and which objects a mark end marks.
+//! The spans of numbers that a mark end marks, and whether they have a number.
 
-ghost use Rattle.std.specs.Prelude.{◌≡◌, ◌<◌, ◌≤◌, length, Some, IfOk};
-ghost use Rattle.std.specs.List.{slice_get};
-ghost use Rattle.trace_reader.specs.Limits.{AreSpans, events_of};
+ghost use Rattle.std.specs.Prelude.{◌≡◌, ◌+◌, ◌<◌, ◌≤◌};
+ghost use Rattle.trace_reader.specs.Limits.{AreSpans};
 ghost use Rattle.cycle_history.specs.Requests.{is_within, last_cycle};
-ghost use Rattle.cycle_history.specs.Marked.{AreFirsts, IsLimited, marks_at};
+ghost use Rattle.cycle_history.specs.Marked.{marks_at};
 
-use edge_io::{List, NoMemory};
-use std::alloc::Global;
-use trace_reader::{Event, Span, Trace};
+use trace_reader::{Span, Trace};
 
 /// The spans that a mark end marks, in rising order.
 pub(crate) fn spans_at(trace: &Trace, mark: u32) -> &[Span]
@@ -24,35 +21,30 @@ pub(crate) fn spans_at(trace: &Trace, mark: u32) -> &[Span]
     }
 }
 
-/// Whether one of the spans, which rise, has the object.
-pub(crate) fn is_marked(spans: &[Span], object: usize) -> bool
-    requires { AreSpans 0 spans.now }
-    ensures { result ≡ is_within spans.now object }
-{
-    let above = spans.partition_point(|span| (span.hi as usize) < object);
-    above < spans.len() && spans[above].lo as usize <= object
+/// A walk along spans that rise, beside numbers that do so too: each number is asked for at most once, and no span is
+/// looked at again that ends below it.
+#[derive(Drop)]
+pub(crate) struct Walk<'a> {
+    /// The spans.
+    pub spans: &'a [Span],
+    /// How many of them end below each number that is still to come.
+    pub next: usize,
 }
 
-/// The number of each cycle's first object.
-pub(crate) fn firsts_of(alloc: Global, trace: &Trace) -> Result<List<usize>, NoMemory>
-    requires { IsLimited trace.now }
-    ensures { IfOk result (λ firsts. AreFirsts trace.now firsts) }
-{
-    let mut firsts = List::new(alloc);
-    let mut first = 0;
-    for cycle in trace.cycles.as_slice() {
-        firsts.push(first)?;
-        first += cycle.events.len();
+impl Walk<'_> {
+    ghost use Rattle.cycle_history.specs.MarkedLoops.{IsBehind};
+
+    /// Whether one of the spans has the number.
+    pub(crate) fn has(&mut self, number: usize) -> bool
+        requires rise { AreSpans 0 self.old.spans.now }
+        requires behind { IsBehind self.old number }
+        ensures has { result ≡ is_within self.old.spans.now number }
+        ensures spans { self.new.spans.now ≡ self.old.spans.now }
+        ensures behind { IsBehind self.new (number + 1) }
+    {
+        while self.next < self.spans.len() && (self.spans[self.next].hi as usize) < number {
+            self.next += 1;
+        }
+        self.next < self.spans.len() && self.spans[self.next].lo as usize <= number
     }
-    Ok(firsts)
-}
-
-/// The object's event.
-pub(crate) fn event_of(trace: &Trace, firsts: &[usize], object: usize) -> Event
-    requires firsts { AreFirsts trace.now firsts.now }
-    requires inside { object < length (events_of trace.now) }
-    ensures { slice_get (events_of trace.now) object ≡ Some result }
-{
-    let cycle = firsts.partition_point(|first| *first <= object) - 1;
-    trace.cycles.as_slice()[cycle].events.as_slice()[object - firsts[cycle]]
 }

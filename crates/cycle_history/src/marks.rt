@@ -1,24 +1,26 @@
 //! The marks of a mark end.
 
-ghost use Rattle.std.specs.Prelude.{◌≡◌, ℕ, ◌+◌, ◌<◌, ◌≤◌, length, IfOk, OnOk};
-ghost use Rattle.cycle_history.specs.Requests.{last_cycle};
-ghost use Rattle.cycle_history.specs.Marked.{AreMarksBelow, AreMarksOf, ArePlaces, IsLimited, LivedBefore, objects_before};
-ghost use Rattle.cycle_history.specs.MarkedLoops.{AreOf};
+ghost use Rattle.std.specs.Prelude.{◌≡◌, ℕ, ◌+◌, ◌-◌, ◌<◌, ◌≤◌, true, false, length, slice_get, Some, IfOk, OnOk};
+ghost use Rattle.cycle_history.specs.Requests.{last_cycle, marked_by};
+ghost use Rattle.cycle_history.specs.Found.{AreFound};
+ghost use Rattle.cycle_history.specs.Marked.{AreMarksBelow, AreMarksOf, ArePlaces, IsLimited, LivedBefore, marks_at, objects_before};
+ghost use Rattle.cycle_history.specs.MarkedLoops.{AreOf, IsBehind};
 
 use crate::Answer;
-use crate::lookups::{event_of, firsts_of, is_marked, spans_at};
-use crate::places::place_of;
+use crate::lookups::{Walk, spans_at};
+use crate::places::{Place, find_places};
 use edge_io::{List, NoMemory};
 use span_state::Marks;
 use std::alloc::Global;
-use trace_reader::{Span, Trace};
+use trace_reader::Trace;
 
 /// The marks of mark end `mark`, from 1 to the trace's last: the places of the objects that it marks, and for each page
 /// the buckets of the sampled objects that lay there, lived in the cycle before and are not marked.
 ///
 /// Each list has one entry for each object before the mark end, and a placed answer is a place of its object's size in
-/// the region. It takes time in the objects of the cycle before the mark end, in the marks of the mark end and of the one
-/// before it, and in the number of cycles.
+/// the region. `places` is kept from mark end to mark end: it has the places of the objects before the mark end before,
+/// and gets those of the cycle behind it, so that each object's place is found once. It takes time in the objects of
+/// that cycle and in the marks of the mark end and of the one before it, and in nothing else.
 pub fn marks_of(
     alloc: Global,
     trace: &Trace,
@@ -26,6 +28,7 @@ pub fn marks_of(
     answers: &List<Answer>,
     sampled: &List<bool>,
     buckets: &List<u32>,
+    places: &mut List<Option<Place>>,
 ) -> Result<Marks, NoMemory>
     requires limited { IsLimited trace.now }
     requires first { 1 ≤ mark }
@@ -34,24 +37,26 @@ pub fn marks_of(
     requires sampled { length sampled.now ≡ objects_before trace.now mark }
     requires buckets { length buckets.now ≡ objects_before trace.now mark }
     requires places { ArePlaces trace.now answers.now }
+    requires kept { length places.old ≡ objects_before trace.now (mark - 1) }
+    requires found { AreFound trace.now answers.now places.old }
     ensures marks { IfOk result (λ marks. AreMarksOf trace.now mark answers.now sampled.now buckets.now marks) }
+    ensures kept { OnOk result (length places.new ≡ objects_before trace.now mark) }
+    ensures found { OnOk result (AreFound trace.now answers.now places.new) }
 {
-    let firsts = firsts_of(alloc, trace)?;
+    let first = places.len();
+    let events = trace.cycles.as_slice()[mark as usize - 1].events.as_slice();
+    find_places(trace, mark - 1, events, answers.as_slice(), places)?;
     let objects = Objects {
         trace,
         mark,
-        firsts: firsts.as_slice(),
-        marked: spans_at(trace, mark),
         answers: answers.as_slice(),
         sampled: sampled.as_slice(),
         buckets: buckets.as_slice(),
+        places: places.as_slice(),
     };
     let mut marks = Marks::empty(alloc);
-    for span in spans_at(trace, mark - 1) {
-        objects.settle_all(&mut marks, span.lo as usize, span.hi as usize + 1)?;
-    }
-    let first = firsts.as_slice()[mark as usize - 1];
-    objects.settle_all(&mut marks, first, answers.len())?;
+    objects.mark_all(&mut marks)?;
+    objects.bury_all(&mut marks, first)?;
     Ok(marks)
 }
 
@@ -60,51 +65,102 @@ pub fn marks_of(
 struct Objects<'a> {
     trace: &'a Trace,
     mark: u32,
-    // the number of each cycle's first object
-    firsts: &'a [usize],
-    // what the mark end marks
-    marked: &'a [Span],
     answers: &'a [Answer],
     sampled: &'a [bool],
     buckets: &'a [u32],
+    // where each placed object lies
+    places: &'a [Option<Place>],
 }
 
 impl Objects<'_> {
-    // Settles the objects from low up to high.
-    fn settle_all(&self, marks: &mut Marks, low: usize, high: usize) -> Result<(), NoMemory>
+    // Marks the places of the objects that the mark end marks. It stands alone, so that its loop has the registers.
+    #[inline(never)]
+    fn mark_all(&self, marks: &mut Marks) -> Result<(), NoMemory>
         requires given { AreOf self.now }
-        requires order { low ≤ high }
-        requires high { high ≤ length self.now.answers.now }
-        requires lived { (i : ℕ) → low ≤ i → i < high → LivedBefore self.now.trace.now self.now.mark i }
-        requires below { AreMarksBelow self.now.trace.now self.now.mark self.now.answers.now self.now.sampled.now self.now.buckets.now low marks.old }
-        ensures { OnOk result (AreMarksBelow self.now.trace.now self.now.mark self.now.answers.now self.now.sampled.now self.now.buckets.now high marks.new) }
+        requires below { AreMarksBelow self.now.trace.now self.now.mark self.now.answers.now self.now.sampled.now self.now.buckets.now 0 0 marks.old }
+        ensures { OnOk result (AreMarksBelow self.now.trace.now self.now.mark self.now.answers.now self.now.sampled.now self.now.buckets.now (length self.now.answers.now) 0 marks.new) }
     {
-        for object in low..high {
-            self.settle(marks, object)?;
+        for span in spans_at(self.trace, self.mark) {
+            self.mark_span(marks, span.lo as usize, span.hi as usize + 1)?;
         }
         Ok(())
     }
 
-    // Marks the object's place, or counts it among the dead.
-    fn settle(&self, marks: &mut Marks, object: usize) -> Result<(), NoMemory>
+    // Marks the places of the objects from low up to high, all of which the mark end marks.
+    fn mark_span(&self, marks: &mut Marks, low: usize, high: usize) -> Result<(), NoMemory>
+        requires given { AreOf self.now }
+        requires order { low ≤ high }
+        requires high { high ≤ length self.now.answers.now }
+        requires marked { (i : ℕ) → low ≤ i → i < high → marked_by self.now.trace.now self.now.mark i ≡ true }
+        requires below { AreMarksBelow self.now.trace.now self.now.mark self.now.answers.now self.now.sampled.now self.now.buckets.now low 0 marks.old }
+        ensures { OnOk result (AreMarksBelow self.now.trace.now self.now.mark self.now.answers.now self.now.sampled.now self.now.buckets.now high 0 marks.new) }
+    {
+        for object in low..high {
+            if let Some(place) = self.places[object] {
+                marks.add(place.page, place.index)?;
+            }
+        }
+        Ok(())
+    }
+
+    // Counts the sampled objects that died among the dead of their pages: those that lived in the cycle before, which
+    // has this first object, and that the mark end doesn't mark.
+    fn bury_all(&self, marks: &mut Marks, first: usize) -> Result<(), NoMemory>
+        requires given { AreOf self.now }
+        requires first { first ≡ objects_before self.now.trace.now (self.now.mark - 1) }
+        requires below { AreMarksBelow self.now.trace.now self.now.mark self.now.answers.now self.now.sampled.now self.now.buckets.now (length self.now.answers.now) 0 marks.old }
+        ensures { OnOk result (AreMarksBelow self.now.trace.now self.now.mark self.now.answers.now self.now.sampled.now self.now.buckets.now (length self.now.answers.now) (length self.now.answers.now) marks.new) }
+    {
+        let mut marked = Walk {
+            spans: spans_at(self.trace, self.mark),
+            next: 0,
+        };
+        for span in spans_at(self.trace, self.mark - 1) {
+            self.bury(marks, &mut marked, span.lo as usize, span.hi as usize + 1)?;
+        }
+        self.bury(marks, &mut marked, first, self.answers.len())
+    }
+
+    // Does so for the objects from low up to high, all of which lived.
+    fn bury(
+        &self,
+        marks: &mut Marks,
+        marked: &mut Walk,
+        low: usize,
+        high: usize,
+    ) -> Result<(), NoMemory>
+        requires given { AreOf self.now }
+        requires order { low ≤ high }
+        requires high { high ≤ length self.now.answers.now }
+        requires lived { (i : ℕ) → low ≤ i → i < high → LivedBefore self.now.trace.now self.now.mark i }
+        requires spans { marked.old.spans.now ≡ marks_at self.now.trace.now self.now.mark }
+        requires behind { IsBehind marked.old low }
+        requires below { AreMarksBelow self.now.trace.now self.now.mark self.now.answers.now self.now.sampled.now self.now.buckets.now (length self.now.answers.now) low marks.old }
+        ensures spans { marked.new.spans.now ≡ marked.old.spans.now }
+        ensures behind { OnOk result (IsBehind marked.new high) }
+        ensures below { OnOk result (AreMarksBelow self.now.trace.now self.now.mark self.now.answers.now self.now.sampled.now self.now.buckets.now (length self.now.answers.now) high marks.new) }
+    {
+        for object in low..high {
+            if self.sampled[object] && !marked.has(object) {
+                self.bury_one(marks, object)?;
+            }
+        }
+        Ok(())
+    }
+
+    // Counts an object that died, if it is placed, among the dead of its page.
+    fn bury_one(&self, marks: &mut Marks, object: usize) -> Result<(), NoMemory>
         requires given { AreOf self.now }
         requires inside { object < length self.now.answers.now }
+        requires sampled { slice_get self.now.sampled.now object ≡ Some true }
         requires lived { LivedBefore self.now.trace.now self.now.mark object }
-        requires below { AreMarksBelow self.now.trace.now self.now.mark self.now.answers.now self.now.sampled.now self.now.buckets.now object marks.old }
-        ensures { OnOk result (AreMarksBelow self.now.trace.now self.now.mark self.now.answers.now self.now.sampled.now self.now.buckets.now (object + 1) marks.new) }
+        requires unmarked { marked_by self.now.trace.now self.now.mark object ≡ false }
+        requires below { AreMarksBelow self.now.trace.now self.now.mark self.now.answers.now self.now.sampled.now self.now.buckets.now (length self.now.answers.now) object marks.old }
+        ensures { OnOk result (AreMarksBelow self.now.trace.now self.now.mark self.now.answers.now self.now.sampled.now self.now.buckets.now (length self.now.answers.now) (object + 1) marks.new) }
     {
-        let Answer::Placed(address) = self.answers[object] else {
-            return Ok(());
-        };
-        let survives = is_marked(self.marked, object);
-        if !survives && !self.sampled[object] {
-            return Ok(());
-        }
-        let place = place_of(event_of(self.trace, self.firsts, object).size, address);
-        if survives {
-            marks.add(place.page, place.index)
-        } else {
-            marks.add_dead(place.page, self.buckets[object])
+        match self.places[object] {
+            Some(place) => marks.add_dead(place.page, self.buckets[object]),
+            None => Ok(()),
         }
     }
 }

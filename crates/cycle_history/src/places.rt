@@ -1,14 +1,21 @@
 //! Where an object lies, found from its size and its address.
 
-ghost use Rattle.std.specs.Prelude.{◌≡◌, ℕ, ◌+◌, ◌*◌, ◌/◌, ◌%◌, ◌^◌, ◌<◌, ◌≤◌, ◌==◌, ◌&&◌, nat_lt};
+ghost use Rattle.std.specs.Prelude.{◌≡◌, ℕ, ◌+◌, ◌*◌, ◌/◌, ◌%◌, ◌^◌, ◌<◌, ◌≤◌, ◌==◌, ◌&&◌, nat_lt, length, slice_index_or, OnOk};
 ghost use Rattle.size_classes.specs.Classes.{IsClass, slot_of, objects_of};
+ghost use Rattle.trace_reader.specs.declared.trace.Cycle.{Cycle};
+ghost use Rattle.cycle_history.specs.declared.Answer.TheVariants.{Placed};
 ghost use Rattle.cycle_history.specs.Places.{HasPlace, IsPlace};
+ghost use Rattle.cycle_history.specs.Marked.{ArePlaces, IsLimited, objects_before};
+ghost use Rattle.cycle_history.specs.Found.{AreFound, IsPlaceOf};
 
+use crate::Answer;
+use edge_io::{List, NoMemory};
 use size_classes::{Kind, PAGE_SIZE, class_of, slot_size, span_objects};
+use trace_reader::{Event, Trace};
 
 /// Where an object lies.
 #[derive(Clone, Copy, Debug, PartialEq, Eq)]
-pub(crate) struct Place {
+pub struct Place {
     /// The first page of its span.
     pub page: u32,
     /// Its index in the span.
@@ -17,6 +24,43 @@ pub(crate) struct Place {
 
 /// The address at which the region begins (the first hint of `mallocinit` in `malloc.go`).
 const REGION_START: u64 = 0xc0_0000_0000;
+
+/// Finds the places of a cycle's objects, which have these events, and puts them behind those of the objects before.
+pub(crate) fn find_places(
+    trace: &Trace,
+    cycle: u32,
+    events: &[Event],
+    answers: &[Answer],
+    places: &mut List<Option<Place>>,
+) -> Result<(), NoMemory>
+    requires limited { IsLimited trace.now }
+    requires inside { cycle < length trace.now.cycles }
+    requires events { (d : Cycle) → events.now ≡ (slice_index_or trace.now.cycles cycle d).events }
+    requires answers { length answers.now ≡ objects_before trace.now (cycle + 1) }
+    requires placed { ArePlaces trace.now answers.now }
+    requires kept { length places.old ≡ objects_before trace.now cycle }
+    requires found { AreFound trace.now answers.now places.old }
+    ensures kept { OnOk result (length places.new ≡ objects_before trace.now (cycle + 1)) }
+    ensures found { OnOk result (AreFound trace.now answers.now places.new) }
+{
+    let first = places.len();
+    for number in 0..events.len() {
+        places.push(find_place(events[number].size, answers[first + number]))?;
+    }
+    Ok(())
+}
+
+// The place of an object of this size with this answer, if it is placed.
+fn find_place(size: u64, answer: Answer) -> Option<Place>
+    requires size { size ≤ 2 ^ 40 }
+    requires place { (address : ℕ) → answer ≡ Placed address → HasPlace size address }
+    ensures { IsPlaceOf size answer result }
+{
+    match answer {
+        Answer::Placed(address) => Some(place_of(size, address)),
+        Answer::Zero | Answer::Missed(_) => None,
+    }
+}
 
 /// The place of an object of this size at this address, which has one.
 pub(crate) fn place_of(size: u64, address: u64) -> Place

@@ -1,21 +1,23 @@
 //! The totals of a trace's size classes.
 
-ghost use Rattle.std.specs.Prelude.{◌≡◌, ℕ, ◌+◌, ◌/◌, ◌^◌, ◌<◌, ◌≤◌, ◌==◌, ◌&&◌, ◌||◌, nat_le, not, Bool, List as Items, length, IfOk};
+ghost use Rattle.std.specs.Prelude.{◌≡◌, ℕ, ◌+◌, ◌/◌, ◌^◌, ◌<◌, ◌≤◌, ◌==◌, ◌&&◌, ◌||◌, nat_le, not, Bool, List as Items, length, slice_index_or, IfOk};
 ghost use Rattle.page_alloc.specs.Lists.{one_if};
 ghost use Rattle.trace_reader.specs.Limits.{AreSpans, events_of};
 ghost use Rattle.cycle_history.specs.Needs.{Need, IsNeed};
 ghost use Rattle.cycle_history.specs.Requests.{is_within, last_cycle, marked_by};
 ghost use Rattle.cycle_history.specs.Objects.{Object, is_placed as is_placed_at};
 ghost use Rattle.cycle_history.specs.Sweeps.{AreTotals};
-ghost use Rattle.cycle_history.specs.Marked.{IsLimited};
-ghost use Rattle.cycle_history.specs.Counted.{AreCounts, AreObjectsOf, AreZeros, of_class};
+ghost use Rattle.trace_reader.specs.declared.trace.Cycle.{Cycle};
+ghost use Rattle.cycle_history.specs.Marked.{IsLimited, objects_before};
+ghost use Rattle.cycle_history.specs.MarkedLoops.{IsBehind};
+ghost use Rattle.cycle_history.specs.Counted.{AreCounts, AreLiving, AreObjectsOf, AreZeros, of_class};
 
-use crate::lookups::{event_of, firsts_of, is_marked, spans_at};
+use crate::lookups::{Walk, spans_at};
 use crate::{Answer, Total};
 use edge_io::{List, NoMemory};
 use size_classes::{Kind, class_of};
 use std::alloc::Global;
-use trace_reader::{Span, Trace};
+use trace_reader::{Event, Trace};
 
 /// The size classes, and class 0 for the sizes above 32768 bytes.
 const CLASSES: usize = 68;
@@ -32,8 +34,8 @@ struct Count {
 /// The totals of the size classes that have placed objects, by class: how many objects are placed, and how many of them
 /// don't live in the last cycle.
 ///
-/// There is one answer for each object, zero exactly where its size is 0. It takes time in the objects, each of which is
-/// looked up among the cycles and among what the last mark end marks.
+/// There is one answer for each object, zero exactly where its size is 0. It takes time in the objects, the cycles and
+/// the marks of the last mark end.
 pub fn totals_of(
     alloc: Global,
     trace: &Trace,
@@ -45,7 +47,7 @@ pub fn totals_of(
     ensures totals { IfOk result (λ totals. (objects : Items Object) → AreObjectsOf trace.now answers.now objects
         → AreTotals (marked_by trace.now) (last_cycle trace.now) objects totals) }
 {
-    let counts = counts_of(alloc, trace, answers.as_slice())?;
+    let counts = counts_of(trace, answers.as_slice());
     let mut totals = List::new(alloc);
     for class in 0..CLASSES {
         let count = counts[class];
@@ -61,27 +63,68 @@ pub fn totals_of(
 }
 
 // What there is of each size class.
-fn counts_of(alloc: Global, trace: &Trace, answers: &[Answer]) -> Result<[Count; CLASSES], NoMemory>
+fn counts_of(trace: &Trace, answers: &[Answer]) -> [Count; CLASSES]
     requires limited { IsLimited trace.now }
     requires answers { length answers.now ≡ length (events_of trace.now) }
     requires zeros { AreZeros trace.now answers.now }
-    ensures { IfOk result (λ counts. AreCounts trace.now answers.now (length answers.now) counts) }
+    ensures { AreCounts trace.now answers.now (length answers.now) result }
 {
-    let last = trace.cycles.len() as u32 - 1;
-    let firsts = firsts_of(alloc, trace)?;
-    let newest = firsts.as_slice()[last as usize];
-    let marked = spans_at(trace, last);
+    let cycles = trace.cycles.as_slice();
+    let last = cycles.len() - 1;
+    let mut living = Living {
+        newest: answers.len() - cycles[last].events.len(),
+        marked: Walk {
+            spans: spans_at(trace, last as u32),
+            next: 0,
+        },
+    };
     let mut counts = no_counts();
-    for object in 0..answers.len() {
-        let placed = is_placed(answers[object]);
-        if placed {
-            let event = event_of(trace, firsts.as_slice(), object);
-            let class = size_class(event.size);
-            let lives = lives_on(object, newest, marked);
-            add(&mut counts, class, lives);
+    let mut first = 0;
+    for cycle in 0..cycles.len() {
+        let events = cycles[cycle].events.as_slice();
+        count_cycle(
+            trace,
+            cycle,
+            events,
+            first,
+            answers,
+            &mut living,
+            &mut counts,
+        );
+        first += events.len();
+    }
+    counts
+}
+
+// Counts the objects of a cycle, which has these events and this first object.
+fn count_cycle(
+    trace: &Trace,
+    cycle: usize,
+    events: &[Event],
+    first: usize,
+    answers: &[Answer],
+    living: &mut Living,
+    counts: &mut [Count; CLASSES],
+)
+    requires limited { IsLimited trace.now }
+    requires answers { length answers.now ≡ length (events_of trace.now) }
+    requires zeros { AreZeros trace.now answers.now }
+    requires inside { cycle < length trace.now.cycles }
+    requires events { (d : Cycle) → events.now ≡ (slice_index_or trace.now.cycles cycle d).events }
+    requires first { first ≡ objects_before trace.now cycle }
+    requires living { AreLiving trace.now first living.old }
+    requires counted { AreCounts trace.now answers.now first counts.old }
+    ensures living { AreLiving trace.now (first + length events.now) living.new }
+    ensures counted { AreCounts trace.now answers.now (first + length events.now) counts.new }
+{
+    for number in 0..events.len() {
+        let object = first + number;
+        if is_placed(answers[object]) {
+            let class = size_class(events[number].size);
+            let lives = living.has(object);
+            add(counts, class, lives);
         }
     }
-    Ok(counts)
 }
 
 // Nothing counted.
@@ -100,12 +143,26 @@ fn is_placed(answer: Answer) -> bool
     matches!(answer, Answer::Placed(_))
 }
 
-// Whether an object is of the last cycle, which has this first object, or marked by the last mark end.
-fn lives_on(object: usize, newest: usize, marked: &[Span]) -> bool
-    requires { AreSpans 0 marked.now }
-    ensures { result ≡ (nat_le newest object || is_within marked.now object) }
-{
-    object >= newest || is_marked(marked, object)
+// The objects that live in the last cycle, asked for in rising order.
+#[derive(Drop)]
+struct Living<'a> {
+    // the first object of that cycle
+    newest: usize,
+    // what the last mark end marks
+    marked: Walk<'a>,
+}
+
+impl Living<'_> {
+    // Whether an object is one of them, where it is placed.
+    fn has(&mut self, object: usize) -> bool
+        requires rise { AreSpans 0 self.old.marked.spans.now }
+        requires behind { IsBehind self.old.marked object }
+        ensures has { result ≡ (nat_le self.old.newest object || is_within self.old.marked.spans.now object) }
+        ensures same { (self.new.newest ≡ self.old.newest) × (self.new.marked.spans.now ≡ self.old.marked.spans.now) }
+        ensures behind { IsBehind self.new.marked (object + 1) }
+    {
+        object >= self.newest || self.marked.has(object)
+    }
 }
 
 // Counts a placed object.

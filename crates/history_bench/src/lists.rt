@@ -1,8 +1,9 @@
 //! Answers for the objects of a trace, whatever their sizes.
 
-ghost use Rattle.std.specs.Prelude.{◌≡◌, ℕ, ◌+◌, ◌*◌, ◌^◌, ◌<◌, ◌≤◌, ◌↔◌, length, OnOk, Some};
+ghost use Rattle.std.specs.Prelude.{◌≡◌, ℕ, ◌+◌, ◌*◌, ◌^◌, ◌<◌, ◌≤◌, ◌↔◌, [], ◌∷◌, ◌++◌, List as Items, length, OnOk, Some};
 ghost use Rattle.std.specs.List.{slice_get};
 ghost use Rattle.trace_reader.specs.Limits.{events_of};
+ghost use Rattle.cycle_history.specs.declared.Answer.{Answer};
 ghost use Rattle.cycle_history.specs.declared.Answer.TheVariants.{Placed, Zero};
 ghost use Rattle.cycle_history.specs.Places.{IsPlace};
 ghost use Rattle.cycle_history.specs.Marked.{IsLimited, objects_before};
@@ -44,7 +45,8 @@ impl Lists {
         requires limited { IsLimited trace.now }
         requires cycle { cycle < length trace.now.cycles }
         requires filled { AreFilled trace.now (objects_before trace.now cycle) self.old }
-        ensures { OnOk result (AreFilled trace.now (objects_before trace.now (cycle + 1)) self.new) }
+        ensures filled { OnOk result (AreFilled trace.now (objects_before trace.now (cycle + 1)) self.new) }
+        ensures kept { OnOk result ((more : Items Answer) × (self.new.answers ≡ self.old.answers ++ more)) }
     {
         let pages = 512 * trace.header.chunks;
         for event in trace.cycles.as_slice()[cycle].events.as_slice() {
@@ -59,7 +61,8 @@ impl Lists {
         requires pages { pages ≡ 512 * trace.now.header.chunks }
         requires event { slice_get (events_of trace.now) (length self.old.answers) ≡ Some event.now }
         requires filled { AreFilled trace.now (length self.old.answers) self.old }
-        ensures { OnOk result (AreFilled trace.now (length self.old.answers + 1) self.new) }
+        ensures filled { OnOk result (AreFilled trace.now (length self.old.answers + 1) self.new) }
+        ensures kept { OnOk result ((answer : Answer) × (self.new.answers ≡ self.old.answers ++ answer ∷ [])) }
     {
         let object = self.answers.len();
         let answer = answer_of(event.size, (object % pages as usize) as u32);

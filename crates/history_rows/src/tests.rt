@@ -1,7 +1,9 @@
-ghost use Rattle.std.specs.Prelude.{◌≡◌, ◌≤◌, ◌⊎◌, take, IfOk};
+ghost use Rattle.std.specs.Prelude.{◌≡◌, ◌-◌, ◌≤◌, ◌⊎◌, length, take, IfOk, OnOk};
+ghost use Rattle.cycle_history.specs.Marked.{objects_before};
+ghost use Rattle.cycle_history.specs.Found.{AreFound};
 ghost use Rattle.history_rows.specs.Example.{answers, event_of_size, example};
 
-use cycle_history::{Answer, Total, marks_of, totals_of};
+use cycle_history::{Answer, Place, Total, marks_of, totals_of};
 use fallible_list::{List, NoMemory};
 use span_state::Marks;
 use std::alloc::Global;
@@ -85,24 +87,35 @@ fn first_answers(alloc: Global, count: usize) -> Result<List<Answer>, NoMemory>
 }
 
 // Of the first objects all but numbers 3 and 7 are sampled; the bucket of object n is n + 10.
-fn marks(alloc: Global, trace: &Trace, mark: u32, count: usize) -> Result<Marks, NoMemory>
+fn marks(
+    alloc: Global,
+    trace: &Trace,
+    mark: u32,
+    count: usize,
+    places: &mut List<Option<Place>>,
+) -> Result<Marks, NoMemory>
     requires trace { trace.now ≡ example }
     requires mark { ((mark ≡ 1) × (count ≡ 5)) ⊎ ((mark ≡ 2) × (count ≡ 8)) }
+    requires kept { length places.old ≡ objects_before example (mark - 1) }
+    requires found { AreFound example (take count answers) places.old }
+    ensures kept { OnOk result (length places.new ≡ count) }
+    ensures found { OnOk result (AreFound example (take count answers) places.new) }
 {
     let answers = first_answers(alloc, count)?;
     let sampled = [true, true, true, false, true, true, true, false];
     let buckets = [10, 11, 12, 13, 14, 15, 16, 17];
     let sampled = List::from_vec(Vec::from_slice(alloc, &sampled[..count])?);
     let buckets = List::from_vec(Vec::from_slice(alloc, &buckets[..count])?);
-    marks_of(alloc, trace, mark, &answers, &sampled, &buckets)
+    marks_of(alloc, trace, mark, &answers, &sampled, &buckets, places)
 }
 
 #[test]
 fn marks_of_two_mark_ends(rt: HostRuntime) -> Result<(), Fail> {
     let trace = trace(rt.alloc())?;
+    let mut places = List::new(rt.alloc());
 
     // object 2 is marked, but of size 0
-    let first = marks(rt.alloc(), &trace, 1, 5)?;
+    let first = marks(rt.alloc(), &trace, 1, 5, &mut places)?;
     assert_eq!(rt; first.pairs()?.as_slice(), [(0, 0), (3, 8)].as_slice());
     for (page, dead) in [
         (0, [11].as_slice()),
@@ -113,7 +126,7 @@ fn marks_of_two_mark_ends(rt: HostRuntime) -> Result<(), Fail> {
     }
 
     // object 6 is marked, but refused; object 3 dies, but isn't sampled; objects 1 and 4 died before
-    let second = marks(rt.alloc(), &trace, 2, 8)?;
+    let second = marks(rt.alloc(), &trace, 2, 8, &mut places)?;
     assert_eq!(rt; second.pairs()?.as_slice(), [(0, 0), (10, 340)].as_slice());
     for (page, dead) in [(0, [15].as_slice()), (3, [].as_slice()), (5, [].as_slice())] {
         assert_eq!(rt; second.dead(page), dead, "at page {page}");

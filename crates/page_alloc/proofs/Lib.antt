@@ -2,3 +2,4 @@ pub mod Lives
 pub mod Walks
 pub mod Keeping
 pub mod Adding
+pub mod Sums

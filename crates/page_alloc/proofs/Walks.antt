@@ -1,12 +1,12 @@
--- A walk over chunks from the lowest up, and parts of a run one after another.
+-- The pages of chunks as those of a region, and parts of a run one after another.
 use Rattle.std.proofs.Common.{◌≡◌, ℕ, zero, suc, ◌+◌, ◌-◌, ◌*◌, ◌/◌, ◌%◌, ◌<◌, ◌≤◌, Bool, true, false, not, ltb, List, [], ◌∷◌, length, get_or, refl, sym, ◌∙◌, ap, arith, ◌⊎◌, inl, inr}
 use Rattle.std.proofs.Math.ListN.{set}
-use Rattle.std.proofs.lemmas.Bool.{lt-ltb, le-ltb, cases_lt, cases_Bool, false≢true}
+use Rattle.std.proofs.lemmas.Bool.{lt-ltb, le-ltb, cases_lt}
 use Rattle.page_bitmap.specs.declared.chunk.Chunk.{Chunk}
-use Rattle.page_bitmap.specs.Runs.{IsRun, HasNoRun, IsFirstRun, IsFrontRun, IsBackRun, IsLongestRun, IsTopRun, SetsRun}
+use Rattle.page_bitmap.specs.Runs.{IsRun, IsTopRun, SetsRun}
 use Rattle.page_bitmap.specs.Pages.{is_free, is_scavenged, can_scavenge}
 use Rattle.page_bitmap.specs.Counts.{count_run}
-use Rattle.page_alloc.specs.Region.{over, loose_in, IsRunIn, HasNoRunIn, IsFirstRunIn, IsTopRunIn}
+use Rattle.page_alloc.specs.Region.{over, loose_in, IsRunIn, IsTopRunIn}
 use Rattle.page_bitmap.specs.CountLaws.{count_below-same, count_run-split}
 
 -- a page of a chunk
@@ -53,35 +53,6 @@ over-set_other map (first ∷ rest) (suc k) p chunk other =
           rw test (over-set_other map rest k (p - 512) chunk other'))
     ]
 
--- The pages below `base` were walked over: none of them begins a run of n pages there, and the run at their back has `back`
--- pages.
-pub record Walked (map : ℕ → Bool) (n base back : ℕ) : Type 0 where
-  pub low : back ≤ base
-  pub each : (p : ℕ) → base ≤ p + back → p < base → map p ≡ true
-  pub stops : back < base → map (base - back - 1) ≡ false
-  pub none : HasNoRunIn map base n
-
-pub walked-none : (map : ℕ → Bool) (n : ℕ) → 1 ≤ n → Walked map n 0 0
-walked-none map n some = record {
-  low = omega arith;
-  each = λ p low high. absurd (omega arith);
-  stops = λ lt. absurd (omega arith);
-  none = λ q run. (let inside = run.inside in absurd (omega arith));
-}
-
--- where no page below `base` is in the map, they are walked over
-pub walked-empty : (map : ℕ → Bool) (n base : ℕ) → 1 ≤ n → ((p : ℕ) → p < base → map p ≡ false) → Walked map n base 0
-walked-empty map n base some empty = record {
-  low = omega arith;
-  each = λ p low high. absurd (omega arith);
-  stops = λ lt. empty (base - 0 - 1) (omega arith);
-  none = λ q run. (
-      let inside = run.inside in
-      let was = run.each q (omega arith) (omega arith) in
-      let not_there = empty q (omega arith) in
-      absurd (false≢true (sym not_there ∙ was)));
-}
-
 -- The pages from `base` on are those of a chunk.
 pub record Ties (map m : ℕ → Bool) (base : ℕ) : Type 0 where
   pub at : (k : ℕ) → k < 512 → map (base + k) ≡ m k
@@ -92,156 +63,6 @@ tied map m base p ties low high =
     let here : base + k ≡ p = omega arith in
     let at = ties.at k (omega arith) in
     sym (ap map here) ∙ at
-
--- a chunk whose longest run has no page leaves the front empty
-pub empty-more : {map m : ℕ → Bool} {base max : ℕ} → Ties map m base → IsLongestRun m max → max ≡ 0 → ((p : ℕ) → p < base → map p ≡ false)
-    → (p : ℕ) → p < base + 512 → map p ≡ false
-empty-more {map} {m} {base} {max} ties longest none empty p lt =
-    elim (cases_lt p base) [
-      | inl before ↦ empty p before
-      | inr behind ↦ elim (cases_Bool (m (p - base))) [
-        | inr isnt ↦ tied map m base p ties behind lt ∙ isnt
-        | inl is ↦ (
-            let one : IsRun m (p - base) 1 = record {
-              within = omega arith;
-              each = λ q low high. (let here : q ≡ p - base = omega arith in rw here is);
-            } in
-            let short = longest.longest (p - base) 1 one in
-            absurd (omega arith))
-      ]
-    ]
-
-pub walked-more_pages : (map : ℕ → Bool) (n m base back : ℕ) → n ≤ m → Walked map n base back → Walked map m base back
-walked-more_pages map n m base back le walked = record {
-  low = walked.low;
-  each = walked.each;
-  stops = walked.stops;
-  none = λ q run. (
-      let inside = run.inside in
-      walked.none q (record { inside = omega arith; each = λ p low high. run.each p low (omega arith) }));
-}
-
--- a run that begins before a chunk has at most the pages of the runs at both sides of the border
-pub straddle : (map m : ℕ → Bool) (n base back start q : ℕ) → Walked map n base back → Ties map m base → IsFrontRun m start
-    → q < base → IsRunIn map (base + 512) q n → n ≤ back + start
-straddle map m n base back start q walked ties front before run =
-    let inside = run.inside in
-    let small : 0 + start ≤ 512 = front.run.within in
-    elim (cases_lt base (q + n)) [
-      | inr ended ↦ absurd (walked.none q (record { inside = omega arith; each = run.each }))
-      | inl over_border ↦ elim (cases_lt (q + back) base) [
-        | inl early ↦ (
-            let at = walked.stops (omega arith) in
-            let was = run.each (base - back - 1) (omega arith) (omega arith) in
-            absurd (false≢true (sym at ∙ was)))
-        | inr late ↦ elim (cases_lt (base + start) (q + n)) [
-          | inr short ↦ omega arith
-          | inl long ↦ elim (cases_lt start 512) [
-            | inr whole ↦ omega arith
-            | inl part ↦ (
-                let at = front.stops part in
-                let was = run.each (base + start) (omega arith) (omega arith) in
-                let here = ties.at start part in
-                absurd (false≢true (sym at ∙ (sym here ∙ was))))
-          ]
-        ]
-      ]
-    ]
-
-pub found-across : {map m : ℕ → Bool} {n base back start region : ℕ} → Walked map n base back → Ties map m base → IsFrontRun m start
-    → n ≤ back + start → base + 512 ≤ region → IsFirstRunIn map region n (base - back)
-found-across {map} {m} {n} {base} {back} {start} {region} walked ties front fits inside =
-    let low = walked.low in
-    let small : 0 + start ≤ 512 = front.run.within in
-    record {
-      here = record {
-        inside = omega arith;
-        each = λ p from to. elim (cases_lt p base) [
-          | inl before ↦ walked.each p (omega arith) before
-          | inr behind ↦ tied map m base p ties behind (omega arith) ∙ front.run.each (p - base) (omega arith) (omega arith)
-        ];
-      };
-      least = λ q less run. elim (cases_lt base (q + n)) [
-        | inr ended ↦ walked.none q (record { inside = omega arith; each = run.each })
-        | inl over_border ↦ (
-            let at = walked.stops (omega arith) in
-            let was = run.each (base - back - 1) (omega arith) (omega arith) in
-            absurd (false≢true (sym at ∙ was)))
-      ];
-    }
-
-pub found-inside : {map m : ℕ → Bool} {n base back start region page : ℕ} → Walked map n base back → Ties map m base → IsFrontRun m start
-    → back + start < n → IsFirstRun m n 0 page → base + 512 ≤ region → IsFirstRunIn map region n (base + page)
-found-inside {map} {m} {n} {base} {back} {start} {region} {page} walked ties front short first inside =
-    let within = first.run.within in
-    record {
-      here = record {
-        inside = omega arith;
-        each = λ p from to. tied map m base p ties (omega arith) (omega arith) ∙ first.run.each (p - base) (omega arith) (omega arith);
-      };
-      least = λ q less run. elim (cases_lt q base) [
-        | inl before ↦ (
-            let over = straddle map m n base back start q walked ties front before (record { inside = omega arith; each = run.each }) in
-            absurd (omega arith))
-        | inr behind ↦ first.least (q - base) (omega arith) (omega arith) (record {
-          within = omega arith;
-          each = λ p from to. sym (ties.at p (omega arith)) ∙ run.each (base + p) (omega arith) (omega arith);
-        })
-      ];
-    }
-
-pub walked-more : {map m : ℕ → Bool} {n base back start max end back' : ℕ} → Walked map n base back → Ties map m base → IsFrontRun m start
-    → IsLongestRun m max → IsBackRun m end → back + start < n → max < n
-    → (end ≡ 512 → back' ≡ back + end) → (¬ (end ≡ 512) → back' ≡ end) → Walked map n (base + 512) back'
-walked-more {map} {m} {n} {base} {back} {start} {max} {end} {back'} walked ties front longest last short less full part =
-    let within = last.run.within in
-    let low = walked.low in
-    let none : HasNoRunIn map (base + 512) n = λ q run. elim (cases_lt q base) [
-      | inl before ↦ (
-          let over = straddle map m n base back start q walked ties front before run in
-          absurd (omega arith))
-      | inr behind ↦ (
-          let inside = run.inside in
-          let over = longest.longest (q - base) n (record {
-            within = omega arith;
-            each = λ p from to. sym (ties.at p (omega arith)) ∙ run.each (base + p) (omega arith) (omega arith);
-          }) in
-          absurd (omega arith))
-    ] in
-    elim (cases_lt end 512) [
-      | inl some ↦ (
-          let is : back' ≡ end = part (λ e. omega arith) in
-          record {
-            low = omega arith;
-            each = λ p from to. tied map m base p ties (omega arith) (omega arith) ∙ last.run.each (p - base) (omega arith) (omega arith);
-            stops = λ lt. (
-                let at = last.stops some in
-                let k : base + 512 - back' - 1 ≡ base + (511 - end) = omega arith in
-                ap map k ∙ (ties.at (511 - end) (omega arith) ∙ at));
-            none = none;
-          })
-      | inr all ↦ (
-          let is : back' ≡ back + end = full (omega arith) in
-          record {
-            low = omega arith;
-            each = λ p from to. elim (cases_lt p base) [
-              | inl before ↦ walked.each p (omega arith) before
-              | inr behind ↦ tied map m base p ties behind (omega arith) ∙ last.run.each (p - base) (omega arith) (omega arith)
-            ];
-            stops = λ lt. (
-                let at = walked.stops (omega arith) in
-                let k : base + 512 - back' - 1 ≡ base - back - 1 = omega arith in
-                ap map k ∙ at);
-            none = none;
-          })
-    ]
-
--- where some run has n pages, a run of n pages is found
-pub none-shorter : {m : ℕ → Bool} {n max : ℕ} → IsLongestRun m max → n ≤ max → HasNoRun m n 0 → ⊥
-none-shorter {m} {n} {max} longest le none =
-    let run = longest.run.1 in
-    let within = run.within in
-    none longest.run.0 (omega arith) (record { within = omega arith; each = λ p low high. run.each p low (omega arith) })
 
 -- nothing is set so far
 pub sets-none : (f : ℕ → Bool) (page : ℕ) (value : Bool) → SetsRun f f page 0 value
@@ -402,42 +223,20 @@ ties-loose chunks k d lt = record {
       rw (free, scavenged) refl);
 }
 
--- the longest of three runs: the longest so far, the one at a chunk's border, and the longest in the chunk
-pub longest-more : {map m : ℕ → Bool} {base back start max longest longest' : ℕ} → Walked map (longest + 1) base back → Ties map m base → IsFrontRun m start
-    → IsLongestRun m max → longest ≤ longest' → back + start ≤ longest' → max ≤ longest' → longest' ≤ longest ⊎ (longest' ≤ back + start ⊎ longest' ≤ max)
-    → ((page : ℕ) × IsRunIn map base page longest) → (page : ℕ) × IsRunIn map (base + 512) page longest'
-longest-more {map} {m} {base} {back} {start} {max} {longest} {longest'} walked ties front most le_longest le_across le_max which run =
-    elim which [
-      | inl old ↦ (
-          let inside = run.1.inside in
-          (run.0, record { inside = omega arith; each = λ p low high. run.1.each p low (omega arith) }))
-      | inr rest ↦ elim rest [
-        | inl across ↦ (
-            let low = walked.low in
-            let small : 0 + start ≤ 512 = front.run.within in (
-              base - back,
-              record {
-                inside = omega arith;
-                each = λ p from to. elim (cases_lt p base) [
-                  | inl before ↦ walked.each p (omega arith) before
-                  | inr behind ↦ tied map m base p ties behind (omega arith) ∙ front.run.each (p - base) (omega arith) (omega arith)
-                ];
-              },
-            ))
-        | inr inner ↦ (
-            let within = most.run.1.within in (
-              base + most.run.0,
-              record {
-                inside = omega arith;
-                each = λ p from to. tied map m base p ties (omega arith) (omega arith) ∙ most.run.1.each (p - base) (omega arith) (omega arith);
-              },
-            ))
-      ]
-    ]
-
 -- what holds of each page of each part holds of each page of the region
 pub over-each : {X : Type 0} (map : X → ℕ → Bool) (parts : List X) (d : X) (value : Bool)
     → ((k j : ℕ) → k < length parts → j < 512 → map (get_or parts k d) j ≡ value) → (p : ℕ) → p < 512 * length parts → over map parts p ≡ value
 over-each map parts d value each p lt =
     let here : 512 * (p / 512) + p % 512 ≡ p = omega arith in
     sym (ap (over map parts) here) ∙ (over-at map parts (p / 512) (p % 512) d (omega arith) (omega arith) ∙ each (p / 512) (p % 512) (omega arith) (omega arith))
+
+-- no part has a page beyond the region
+pub over-past : {X : Type 0} (map : X → ℕ → Bool) (parts : List X) (p : ℕ) → 512 * length parts ≤ p → over map parts p ≡ false
+over-past map [] p le = refl
+over-past map (first ∷ rest) p le =
+    let test : ltb p 512 ≡ false = le-ltb p 512 (omega arith) in
+    rw test (over-past map rest (p - 512) (omega arith))
+
+-- a page behind a border
+pub behind : (map : ℕ → Bool) (a p : ℕ) (value : Bool) → a ≤ p → map (a + (p - a)) ≡ value → map p ≡ value
+behind map a p value le is = (let here : a + (p - a) ≡ p = omega arith in sym (ap map here) ∙ is)

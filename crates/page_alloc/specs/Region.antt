@@ -5,6 +5,7 @@ use Rattle.page_bitmap.specs.declared.chunk.Chunk.{Chunk}
 use Rattle.page_bitmap.specs.declared.bitmap.Bitmap.{Bitmap}
 use Rattle.page_bitmap.specs.Pages.{is_free, is_scavenged}
 use Rattle.page_bitmap.specs.Words.{has_page}
+pub use Rattle.page_summary.specs.Runs.{IsRunIn, HasNoRunIn, IsFirstRunIn, IsLongestRunIn}
 
 -- The map of a region that is laid out in parts of 512 pages, from the map of each part.
 abbrev pub over : {X : Type 0} → (X → ℕ → Bool) → List X → ℕ → Bool
@@ -31,34 +32,11 @@ pages_of_map map = has_page map.words
 abbrev pub pages_in : List Bitmap → ℕ → Bool
 pages_in maps = over pages_of_map maps
 
--- The map has a page of chunk k.
-abbrev pub HasPageOf : (ℕ → Bool) → ℕ → Type 0
-HasPageOf map k = (p : ℕ) × (p / 512 ≡ k) × (map p ≡ true)
-
 -- The page is the last one of a map, up to a limit.
 pub record IsLastIn (map : ℕ → Bool) (limit page : ℕ) : Type 0 where
   pub low : page ≤ limit
   pub has : map page ≡ true
   pub last : (p : ℕ) → page < p → p ≤ limit → map p ≡ false
-
--- The run lies inside the region, and the map has each of its pages.
-pub record IsRunIn (map : ℕ → Bool) (region page n : ℕ) : Type 0 where
-  pub inside : page + n ≤ region
-  pub each : (p : ℕ) → page ≤ p → p < page + n → map p ≡ true
-
--- The map has no run of n pages.
-abbrev pub HasNoRunIn : (ℕ → Bool) → ℕ → ℕ → Type 0
-HasNoRunIn map region n = (page : ℕ) → ¬ IsRunIn map region page n
-
--- The page is the least one that begins a run of n pages.
-pub record IsFirstRunIn (map : ℕ → Bool) (region n page : ℕ) : Type 0 where
-  pub here : IsRunIn map region page n
-  pub least : (q : ℕ) → q < page → ¬ IsRunIn map region q n
-
--- Some run has n pages, and none has more.
-pub record IsLongestRunIn (map : ℕ → Bool) (region n : ℕ) : Type 0 where
-  pub here : (page : ℕ) × IsRunIn map region page n
-  pub longest : HasNoRunIn map region (n + 1)
 
 -- The run ends with the map's highest page, and goes on downwards in its chunk as long as the map has the next page, but is
 -- of at most 64 pages.

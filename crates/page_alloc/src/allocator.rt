@@ -40,9 +40,8 @@ ghost use Rattle.page_alloc.specs.Journal.{
   Legal,
 };
 
-use crate::runs::{
-    CHUNK_PAGES, first_run, free_run, full_chunks, longest_run, scavenge_run, take_run, top_run,
-};
+use crate::levels::Levels;
+use crate::runs::{CHUNK_PAGES, free_run, scavenge_run, take_run, top_run};
 use crate::starts::{last_start, mark_start};
 use fallible_list::NoMemory;
 use page_bitmap::{Bitmap, Chunk, Line, Run};
@@ -59,8 +58,9 @@ pub struct NoRun {
 #[derive(Drop)]
 pub struct Pages {
     chunks: Vec<Chunk>,
-    // So many chunks at the front have no free page, and the next one has some: each search begins there.
-    full: usize,
+    levels: Levels,
+    // No page below this one is free.
+    search: u32,
     starts: Vec<Bitmap>,
     lengths: Vec<u32>,
     journal: Vec<Line>,
@@ -93,9 +93,12 @@ impl Pages {
         ensures empty { IfOk result (λ pages. pages.past ≡ []) }
     {
         let count = chunks as usize;
+        let chunks = vec![in alloc; Chunk::new(); count]?;
+        let levels = Levels::new(alloc, chunks.as_slice())?;
         Ok(Pages {
-            chunks: vec![in alloc; Chunk::new(); count]?,
-            full: 0,
+            chunks,
+            levels,
+            search: 0,
             starts: vec![in alloc; Bitmap::empty(); count]?,
             lengths: vec![in alloc; 0; 512 * count]?,
             journal: Vec::new(alloc),
@@ -116,17 +119,17 @@ impl Pages {
     }
 
     /// First fit: the least page from which `n` pages are free, for n from 1 on. None exactly where no run of
-    /// n pages is free. The search goes chunk by chunk from the first that has a free page, as Go's begins at
-    /// `searchAddr` (`mpagealloc.go`, `find`), and the counter of steps stays.
+    /// n pages is free. The search goes down five levels of sums, as Go's does (`mpagealloc.go`, `find`), and raises
+    /// the counter of steps by one for each entry and for each word of a chunk that it looks at: by 1 to 41.
     pub fn find(&self, n: u32, steps: &mut u64) -> Option<u32>
         requires some { 1 ≤ n }
         requires room { steps.old ≤ 2 ^ 63 }
         ensures found { IfSome result (λ page. IsFirstFit self.now.region self.now.past page n) }
         ensures none { IfNone result (HasNoRun self.now.region self.now.past n) }
-        ensures steps { steps.new ≡ steps.old }
+        ensures steps { (steps.old < steps.new) × (steps.new ≤ steps.old + 41) }
     {
-        let _steps = *steps;
-        first_run(self.chunks.as_slice(), self.full, n)
+        self.levels
+            .find(self.chunks.as_slice(), self.search, n, steps)
     }
 
     /// A span of `n` pages and this span class takes the pages at first fit, and a Take line says so; the
@@ -141,7 +144,10 @@ impl Pages {
         ensures missed { IfErr result (λ _. AddsLine self.old self.new (Line.Miss cycle n class)) }
         ensures line { IfErr result (λ none. none.line ≡ length self.old.past) }
     {
-        let Some(page) = first_run(self.chunks.as_slice(), self.full, n) else {
+        let Some(page) = self
+            .levels
+            .find(self.chunks.as_slice(), self.search, n, &mut 0)
+        else {
             let line = self.journal.len() as u64;
             append(
                 &mut self.journal,
@@ -155,7 +161,12 @@ impl Pages {
         };
         let run = Run { page, pages: n };
         self.backed += take_run(self.chunks.as_mut_slice(), run);
-        self.full = full_chunks(self.chunks.as_slice(), self.full);
+        self.levels.update(
+            self.chunks.as_slice(),
+            (page / CHUNK_PAGES) as usize,
+            ((page + n - 1) / CHUNK_PAGES) as usize,
+        );
+        self.search = raised(self.search, page, n);
         self.taken += n;
         self.live += 1;
         self.lengths[page as usize] = n;
@@ -181,7 +192,12 @@ impl Pages {
     {
         let pages = self.lengths[page as usize];
         free_run(self.chunks.as_mut_slice(), Run { page, pages });
-        self.full = self.full.min((page / CHUNK_PAGES) as usize);
+        self.levels.update(
+            self.chunks.as_slice(),
+            (page / CHUNK_PAGES) as usize,
+            ((page + pages - 1) / CHUNK_PAGES) as usize,
+        );
+        self.search = self.search.min(page);
         self.taken -= pages;
         self.live -= 1;
         mark_start(self.starts.as_mut_slice(), page, false);
@@ -232,7 +248,7 @@ impl Pages {
     pub fn longest_free(&self) -> u32
         ensures { IsLongestFree self.now.region self.now.past result }
     {
-        longest_run(self.chunks.as_slice())
+        self.levels.longest()
     }
 
     /// The number of pages that are backed by memory: those of spans, and the free ones that aren't scavenged.
@@ -256,6 +272,27 @@ impl Pages {
         ensures room { length (open_lives self.now.past) ≤ self.now.spare }
     {
         self.journal.as_slice()
+    }
+
+    /// The same lines, where the pages are no longer needed: none is copied.
+    pub fn into_journal(self) -> Vec<Line>
+        ensures { past_of result.items ≡ self.past }
+    {
+        let Pages { journal, .. } = self;
+        journal
+    }
+}
+
+/// The search page after a take at first fit: behind the pages taken, where the first of them is the least free page, which a run
+/// of one page always is.
+fn raised(search: u32, page: u32, n: u32) -> u32
+    requires { page + n < 2 ^ 32 }
+    ensures { ((result ≡ page + n) × ((n ≡ 1) ⊎ (page ≡ search))) ⊎ (result ≡ search) }
+{
+    if n == 1 || page == search {
+        page + n
+    } else {
+        search
     }
 }
 

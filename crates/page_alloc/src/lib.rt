@@ -3,6 +3,7 @@
 #![tactic(auto)]
 
 mod allocator;
+mod levels;
 mod runs;
 mod starts;
 

@@ -19,10 +19,6 @@ ghost use Rattle.std.specs.Prelude.{
 ghost use Rattle.page_bitmap.specs.Counts.{count_run};
 ghost use Rattle.page_bitmap.specs.Runs.{SetsRun};
 ghost use Rattle.page_alloc.specs.Region.{
-  HasNoRunIn,
-  HasPageOf,
-  IsFirstRunIn,
-  IsLongestRunIn,
   IsRunIn,
   IsTopRunIn,
   free_in,
@@ -37,64 +33,6 @@ pub const CHUNK_PAGES: u32 = 512;
 
 /// The most pages that one scavenging step releases (ours).
 const SCAVENGE_PAGES: u32 = 64;
-
-/// The first page of the lowest run of `n` free pages, where the chunks at the front up to `full` have no free page.
-pub(crate) fn first_run(chunks: &[Chunk], full: usize, n: u32) -> Option<u32>
-    requires chunks { length chunks.now ≤ 128 }
-    requires full { full ≤ length chunks.now }
-    requires taken { (p : ℕ) → p < 512 * full → free_in chunks.now p ≡ false }
-    requires some { 1 ≤ n }
-    ensures found { IfSome result (IsFirstRunIn (free_in chunks.now) (512 * length chunks.now) n) }
-    ensures none { IfNone result (HasNoRunIn (free_in chunks.now) (512 * length chunks.now) n) }
-{
-    let mut back = 0;
-    for index in full..chunks.len() {
-        let chunk = &chunks[index];
-        let base = CHUNK_PAGES * index as u32;
-        let (start, max, end) = chunk.sums();
-        if n <= back + start {
-            return Some(base - back);
-        }
-        if n <= max {
-            let page = chunk.find(n, 0)?;
-            return Some(base + page);
-        }
-        back = if end == CHUNK_PAGES { back + end } else { end };
-    }
-    None
-}
-
-/// How many chunks at the front have no free page, where the first `full` of them have none.
-pub(crate) fn full_chunks(chunks: &[Chunk], full: usize) -> usize
-    requires full { full ≤ length chunks.now }
-    requires taken { (p : ℕ) → p < 512 * full → free_in chunks.now p ≡ false }
-    ensures within { result ≤ length chunks.now }
-    ensures taken { (p : ℕ) → p < 512 * result → free_in chunks.now p ≡ false }
-    ensures stops { result < length chunks.now → HasPageOf (free_in chunks.now) result }
-{
-    for index in full..chunks.len() {
-        let (_, max, _) = chunks[index].sums();
-        if max > 0 {
-            return index;
-        }
-    }
-    chunks.len()
-}
-
-/// The pages of the longest run of free pages.
-pub(crate) fn longest_run(chunks: &[Chunk]) -> u32
-    requires { length chunks.now ≤ 128 }
-    ensures { IsLongestRunIn (free_in chunks.now) (512 * length chunks.now) result }
-{
-    let mut longest = 0u32;
-    let mut back = 0u32;
-    for chunk in chunks {
-        let (start, max, end) = chunk.sums();
-        longest = longest.max(back + start).max(max);
-        back = if end == CHUNK_PAGES { back + end } else { end };
-    }
-    longest
-}
 
 /// Takes the pages of a free run, and says how many of them were scavenged.
 pub(crate) fn take_run(chunks: &mut [Chunk], run: Run) -> u32

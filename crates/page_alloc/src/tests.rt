@@ -1,4 +1,4 @@
-//! What the calls answer over one, two and three chunks.
+//! What the calls answer over one, two, three and 128 chunks.
 
 ghost use Rattle.std.specs.Prelude.{◌≡◌, ◌*◌, ◌<◌, ◌≤◌, IsTrue};
 ghost use Rattle.page_alloc.specs.Journal.{IsBy, IsSpanSize};
@@ -83,7 +83,11 @@ fn answer(rt: &impl Abort, pages: &mut Pages, chunks: u32, step: Step) -> Result
         Owner(page, first) if page < 512 * chunks => {
             assert_eq!(rt; pages.owner(page), first, "{step:?}")
         }
-        Find(n, page) if n > 0 => assert_eq!(rt; pages.find(n, &mut 0), page, "{step:?}"),
+        Find(n, page) if n > 0 => {
+            let mut steps = 0;
+            assert_eq!(rt; pages.find(n, &mut steps), page, "{step:?}");
+            assert!(rt; 0 < steps && steps <= 41, "{step:?}: {steps}");
+        }
         Scavenge(run) => assert_eq!(rt; scavenge(pages)?, run, "{step:?}"),
         Sizes(free, taken, backed) => {
             let sizes = (pages.longest_free(), pages.taken(), pages.backed());
@@ -167,6 +171,27 @@ const OVER_THREE_CHUNKS: [Step; 42] = [
     Sizes(500, 541, 1408),
 ];
 
+// All pages but the last one are taken.
+const OVER_128_CHUNKS: [Step; 6] = [
+    Find(65536, Some(0)),
+    Take(65535, 0, Some(0)),
+    Find(1, Some(65535)),
+    Find(2, None),
+    Give(0),
+    Find(65536, Some(0)),
+];
+
+// The pages 500 to 531, over the border of two chunks, are free.
+const ACROSS_TWO_CHUNKS: [Step; 7] = [
+    Take(500, 0, Some(0)),
+    Take(32, 0, Some(500)),
+    Take(492, 0, Some(532)),
+    Give(500),
+    Find(32, Some(500)),
+    Find(33, None),
+    Sizes(32, 992, 1024),
+];
+
 const OVER_TWO_CHUNKS: [Step; 9] = [
     Take(600, 0, Some(0)),
     Take(425, 0, None),
@@ -182,7 +207,9 @@ const OVER_TWO_CHUNKS: [Step; 9] = [
 #[test]
 fn calls_are_answered(rt: HostRuntime) -> Result<(), Fail> {
     answers(&rt, 3, 600, OVER_THREE_CHUNKS.as_slice())?;
-    answers(&rt, 2, 1024, OVER_TWO_CHUNKS.as_slice())
+    answers(&rt, 2, 1024, OVER_TWO_CHUNKS.as_slice())?;
+    answers(&rt, 2, 1024, ACROSS_TWO_CHUNKS.as_slice())?;
+    answers(&rt, 128, 65536, OVER_128_CHUNKS.as_slice())
 }
 
 #[test]

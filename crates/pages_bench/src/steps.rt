@@ -28,6 +28,30 @@ pub fn take(pages: &mut Pages, live: &mut Vec<u32>, word: u32) -> Result<Option<
     ensures region { pages.new.region ≡ pages.old.region }
 {
     let (n, class) = size_of(word);
+    take_sized(pages, live, n, class)
+}
+
+/// Takes a span of one page, and notes its first page: None where no page was free.
+pub fn take_one(pages: &mut Pages, live: &mut Vec<u32>) -> Result<Option<u32>, NoMemory>
+    requires by { IsBy 0 pages.old.past }
+    ensures by { IsBy 0 pages.new.past }
+    ensures region { pages.new.region ≡ pages.old.region }
+{
+    take_sized(pages, live, span_pages(1), 2)
+}
+
+fn take_sized(
+    pages: &mut Pages,
+    live: &mut Vec<u32>,
+    n: u32,
+    class: u8,
+) -> Result<Option<u32>, NoMemory>
+    requires by { IsBy 0 pages.old.past }
+    requires some { 1 ≤ n }
+    requires size { IsSpanSize class n }
+    ensures by { IsBy 0 pages.new.past }
+    ensures region { pages.new.region ≡ pages.old.region }
+{
     pages.reserve_line()?;
     live.reserve(1)?;
     match pages.take(0, n, class) {

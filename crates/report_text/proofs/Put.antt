@@ -7,12 +7,10 @@ use Rattle.std.proofs.lemmas.Grind.{flat_map-append}
 use Rattle.edge_io.specs.Front.{AppendsFront, Sends}
 use Rattle.edge_io.specs.Text.{text}
 use Rattle.cycle_history.specs.Text.{numbered}
-use Rattle.report_text.specs.Sent.{Puts, PutsFront}
+use Rattle.edge_io.specs.Puts.{Puts, PutsFront}
+use Rattle.edge_io.proofs.Put.{puts-then, puts_nothing, text-append}
 
 -- ---- lines
-
-pub text-append : (xs ys : List (List ℕ)) → text (xs ++ ys) ≡ text xs ++ text ys
-text-append xs ys = flat_map-append (λ (l : List ℕ). l ++ 10 ∷ []) xs ys
 
 numbered-append : {X : Type 0} (line : ℕ → X → List ℕ) (n : ℕ) (xs ys : List X) → numbered line n (xs ++ ys) ≡ numbered line n xs ++ numbered line (n + length xs) ys
 numbered-append line n [] ys = ap (λ (k : ℕ). numbered line k ys) (omega arith)
@@ -41,29 +39,6 @@ rest_behind {X} line xs i =
     ap (λ (ys : List X). numbered line 0 ys) (sym (take-append-drop i xs)) ∙ numbered-append line 0 (take i xs) (drop i xs) in
     (text others, ap text split ∙ text-append first others)
 
--- ---- what waits
-
--- one text behind another
-pub puts-then : (a b c : Option (List ℕ)) (w0 w1 w2 x y : List ℕ) → Puts a b w0 w1 x → Puts b c w1 w2 y → Puts a c w0 w2 (x ++ y)
-puts-then a b c w0 w1 w2 x y first then =
-    let split : w0 ++ (x ++ y) ≡ (first.0 ++ then.0) ++ w2 =
-    sym (append_assoc w0 x y) ∙ ap (λ (l : List ℕ). l ++ y) first.1 ∙ append_assoc first.0 w1 y ∙ ap (λ (l : List ℕ). first.0 ++ l) then.1 ∙ sym (append_assoc first.0 then.0 w2) in
-    (first.0 ++ then.0, split, Appends-trans a b c first.0 then.0 first.2 then.2)
-
--- nothing is put, and what waits may be sent
-pub puts_nothing : (a b : Option (List ℕ)) (w0 w1 : List ℕ) → Sends a b w1 w0 → Puts a b w0 w1 []
-puts_nothing a b w0 w1 sends = rw (append-nil w0) sends
-
--- a front is put, and then a front of the rest
-pub front_then : (a b c : Option (List ℕ)) (w0 w1 w2 x y : List ℕ) → Puts a b w0 w1 x → PutsFront b c w1 w2 y → PutsFront a c w0 w2 (x ++ y)
-front_then a b c w0 w1 w2 x y first then =
-    (x ++ then.0, then.1, ap (λ (l : List ℕ). x ++ l) then.2 ∙ sym (append_assoc x then.0 then.1), puts-then a b c w0 w1 w2 x then.0 first then.3)
-
--- a front of the first of two texts is a front of both
-pub front_of : (a b : Option (List ℕ)) (w0 w1 x y : List ℕ) → PutsFront a b w0 w1 x → PutsFront a b w0 w1 (x ++ y)
-front_of a b w0 w1 x y front =
-    (front.0, front.1 ++ y, ap (λ (l : List ℕ). l ++ y) front.2 ∙ append_assoc front.0 front.1 y, front.3)
-
 -- ---- one line at a time
 
 pub put_more : {X : Type 0} (line : ℕ → X → List ℕ) (a b c : Option (List ℕ)) (w0 w1 w2 : List ℕ) (xs : List X) (i : ℕ) (x : X) → i < length xs → x ≡ get_or xs i x
@@ -84,24 +59,3 @@ put_front line a b c w0 w1 w2 xs i first then =
     let front = text (numbered line 0 (take i xs)) in
     let puts = puts-then a b c w0 w1 w2 front [] first (puts_nothing b c w1 w2 then) in
     (front ++ [], rest.0, rest.1 ∙ ap (λ (l : List ℕ). l ++ rest.0) (sym (append-nil front)), puts)
-
-pub on_err : {T E P : Type 0} (result : Result T E) → P → OnErr result P
-on_err (Ok x) fact = tt
-on_err (Err e) fact = fact
-
--- ---- all of it
-
--- what was put behind nothing is a front of the whole, in what was sent
-pub sent_front : (a b : Option (List ℕ)) (w1 x : List ℕ) → PutsFront a b [] w1 x → AppendsFront a b x
-sent_front a b w1 x front =
-    let sends = front.3 in
-    (sends.0, w1 ++ front.1, front.2 ∙ ap (λ (l : List ℕ). l ++ front.1) sends.1 ∙ append_assoc sends.0 w1 front.1, sends.2)
-
-pub whole_front : (a b : Option (List ℕ)) (w0 w1 x : List ℕ) → Puts a b w0 w1 x → PutsFront a b w0 w1 x
-whole_front a b w0 w1 x puts = (x, [], sym (append-nil x), puts)
-
--- what was put behind nothing was sent, where nothing waits
-pub sent_all : (a b : Option (List ℕ)) (w1 x : List ℕ) → Puts a b [] w1 x → w1 ≡ [] → Appends a b x
-sent_all a b w1 x puts none =
-    let e : x ≡ puts.0 = puts.1 ∙ ap (λ (l : List ℕ). puts.0 ++ l) none ∙ append-nil puts.0 in
-    rw e puts.2

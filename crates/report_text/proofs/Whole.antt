@@ -6,8 +6,8 @@ use Rattle.edge_io.specs.Front.{AppendsFront, Sends}
 use Rattle.edge_io.specs.Text.{text}
 use Rattle.cycle_history.specs.declared.Report.{Report}
 use Rattle.cycle_history.specs.Text.{answer_line, journal_line, sweep_line, total_line, profile_line, numbered, closing_lines, report_text}
-use Rattle.report_text.specs.Sent.{Puts, PutsFront}
-use Rattle.report_text.proofs.Put.{text-append, puts-then, puts_nothing, front_then, front_of, whole_front, sent_front, sent_all}
+use Rattle.edge_io.specs.Puts.{Puts, PutsFront}
+use Rattle.edge_io.proofs.Put.{text-append, puts-then, puts_nothing, front_then, front_of, whole_front, sent_front, sent_all}
 
 -- ---- lines that don't show their numbers
 

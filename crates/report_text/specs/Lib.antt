@@ -1,4 +1,3 @@
-pub mod Sent
 pub mod Unique
 pub mod Items
 pub mod Words

@@ -8,7 +8,7 @@ ghost use Rattle.edge_io.specs.Output.{IsSameSink, sink_of, waiting_of};
 ghost use Rattle.edge_io.specs.Text.{text};
 ghost use Rattle.cycle_history.specs.Orders.{AreRisingProfile, AreRisingSweeps, AreRisingTotals};
 ghost use Rattle.cycle_history.specs.Text.{closing_lines, numbered, report_text};
-ghost use Rattle.report_text.specs.Sent.{Puts, PutsFront};
+ghost use Rattle.edge_io.specs.Puts.{Puts, PutsFront};
 
 use crate::lines::ReportLine;
 use cycle_history::Report;

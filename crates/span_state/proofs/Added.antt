@@ -1,25 +1,20 @@
 -- What one more mark changes.
-use Rattle.std.proofs.Common.{◌≡◌, ℕ, ◌+◌, ◌*◌, ◌/◌, ◌%◌, ◌^◌, ◌<◌, Bool, true, false, cond, not, ◌==◌, ◌||◌, ◌&&◌, eqb, nat_eq, List, [], ◌∷◌, Some, Option, unwrap_or, w64, refl, sym, ◌∙◌, ap, arith, inl, inr, ◌⊎◌, eq-eqb}
-use Rattle.std.proofs.lemmas.Bool.{cases_eq, cases_Bool, both_ways, ne_eqb, eqb-true, and_parts, or_parts}
-use Rattle.std.proofs.lemmas.Cmp.{tied_itself}
+use Rattle.std.proofs.Common.{◌≡◌, ℕ, suc, ◌-◌, min, ◌≤◌, ltb, length, get_or, get_or-set_same, get_or-set_other, ◌+◌, ◌*◌, ◌/◌, ◌%◌, ◌^◌, ◌<◌, Bool, true, false, cond, not, ◌==◌, ◌||◌, ◌&&◌, eqb, nat_eq, List, [], ◌∷◌, Some, w64, refl, sym, ◌∙◌, ap, arith, inl, inr, ◌⊎◌, eq-eqb}
+use Rattle.std.proofs.lemmas.Bool.{cases_eq, cases_lt, cases_Bool, both_ways, ne_eqb, eqb-true, and_parts, and_from, or_parts, lt-ltb, le-ltb}
 use Rattle.std.proofs.lemmas.Nat.{one_shl, pow_pos}
-use Rattle.std.proofs.lemmas.Nat.Bits.{and_pow, bit_at-lt, bit_at_set_same, bit_at_set_other}
+use Rattle.std.proofs.lemmas.Nat.Bits.{and_pow, bit_at-lt, bit_at-zero, bit_at_set_same, bit_at_set_other}
+use Rattle.std.proofs.Math.ListN.{set, length-set}
+use Rattle.std.proofs.lemmas.List.{get_or_default, get_or_past}
 use Rattle.std.proofs.lemmas.List.Sums.{sum_by-cons}
-use Rattle.std.specs.declared.cmp.Ordering.{Ordering}
-use Rattle.std.specs.declared.cmp.Ordering.TheVariants.{Less, Equal, Greater}
-use Rattle.std.specs.BTreeMap.{is_at, insert_entry}
-use Rattle.std.specs.Cmp.{Equal-is}
 use Rattle.std.specs.Int.{bit_at}
 use Rattle.std.specs.Int.Bits.{bit_and, bit_or}
-use Rattle.std.specs.List.{AllByRecursion}
-use Rattle.std.specs.List.Sorted.{IsStrictlySortedBy}
-use Rattle.std.specs.Map.{keys_of, lookup, set_value}
-use Rattle.std.specs.Ordering.{is_eq, match_ordering}
+use Rattle.std.specs.Int.Count.{ones}
+use Rattle.std.specs.Map.{lookup, set_value}
 use Rattle.span_state.specs.Bits.{count_below, with_bit}
-use Rattle.span_state.specs.Groups.{group_pairs, pairs_of, word_at, IsGroup}
-use Rattle.span_state.specs.MarkSet.{pair_cmp, has_pair, pairs_at}
-use Rattle.span_state.specs.Counts.{count_below-same, count_below-with}
-use Rattle.span_state.proofs.Pairs.{or_false, pair_cmp_total, pair_cmp_exact, has-pairs_of, pairs_at-insert, pairs_at-group_pairs}
+use Rattle.span_state.specs.Groups.{AreRows, page_pairs, pairs_of, row_of, word_of}
+use Rattle.span_state.specs.MarkSet.{IsRising, has_pair, pairs_at}
+use Rattle.span_state.specs.Counts.{ones-count}
+use Rattle.span_state.proofs.Pairs.{or_false, has-grid_pairs, pairs_at-grid_pairs, pairs_at-page_more, rising-grid_pairs, rising-one}
 use Rattle.span_state.proofs.Words.{same_place}
 
 -- ---- a bit of a word
@@ -67,44 +62,130 @@ bit_at-set_bit n i b lt =
       | inr other ↦ (let off : eqb b i ≡ false = ne_eqb b i other in let e = bit_at_set_other w64 n i lt b other in rw (off, e) refl)
     ]
 
--- ---- one more pair
-
--- a look-up after a word was put at the group
-abbrev pub IsPut : List ((ℕ × ℕ) × ℕ) → List ((ℕ × ℕ) × ℕ) → ℕ × ℕ → ℕ → Type 0
-IsPut old new key word = (k : ℕ × ℕ) → lookup (is_at (pair_cmp k)) new ≡ cond (is_at (pair_cmp key) k) (Some word) (lookup (is_at (pair_cmp k)) old)
-
-word_at-put : (old new : List ((ℕ × ℕ) × ℕ)) (page group word q g : ℕ) → IsPut old new (page, group) word
-    → word_at new q g ≡ cond (is_eq (pair_cmp (page, group) (q, g))) word (word_at old q g)
-word_at-put old new page group word q g put =
-    elim (cases_Bool (is_eq (pair_cmp (page, group) (q, g)))) [
-      | inl on ↦ ap (λ (o : Option ℕ). unwrap_or o 0) (put (q, g)) ∙ rw on refl
-      | inr off ↦ ap (λ (o : Option ℕ). unwrap_or o 0) (put (q, g)) ∙ rw off refl
-    ]
-
 or_true : (b : Bool) → (b || true) ≡ true
 or_true true = refl
 or_true false = refl
 
+-- ---- the pairs of rows
+
+-- An index is marked where the word of its group has its bit.
+pub has-pairs_of : (rows : List (List ℕ)) (q k : ℕ) → has_pair (pairs_of rows) q k ≡ (bit_at (word_of rows q (k / 64)) (k % 64) == 1)
+has-pairs_of rows q k =
+    let has = has-grid_pairs (length rows) (λ page. length (row_of rows page)) (word_of rows) q k (λ page group le. get_or_past (row_of rows page) group 0 le) in
+    elim (cases_lt q (length rows)) [
+      | inl lt ↦ (let on : ltb q (length rows) ≡ true = lt-ltb _ _ lt in has ∙ rw on refl)
+      | inr le ↦ (
+          let off : ltb q (length rows) ≡ false = le-ltb _ _ le in
+          let none : word_of rows q (k / 64) ≡ 0 = ap (λ (row : List ℕ). get_or row (k / 64) 0) (get_or_past rows q [] le) ∙ get_or_past [] (k / 64) 0 (omega arith) in
+          has ∙ rw (off, none, bit_at-zero) refl)
+    ]
+
+pub rising-pairs_of : (rows : List (List ℕ)) → IsRising (pairs_of rows)
+rising-pairs_of rows = rising-grid_pairs (length rows) (λ page. length (row_of rows page)) (word_of rows)
+
+-- rows with the same words mark the same pairs
+pub pairs_of-same : (old new : List (List ℕ)) → ((q g : ℕ) → word_of new q g ≡ word_of old q g) → pairs_of new ≡ pairs_of old
+pairs_of-same old new same =
+    rising-one (pairs_of new) (pairs_of old) (rising-pairs_of new) (rising-pairs_of old)
+    (λ q k. has-pairs_of new q k ∙ ap (λ (w : ℕ). bit_at w (k % 64) == 1) (same q (k / 64)) ∙ sym (has-pairs_of old q k))
+
+-- a page has as many pairs as its row marks
+pub pairs_at-row : (rows : List (List ℕ)) (q : ℕ) → q < length rows → pairs_at (pairs_of rows) q ≡ pairs_at (page_pairs (length (row_of rows q)) q (word_of rows q)) q
+pairs_at-row rows q lt =
+    let on : ltb q (length rows) ≡ true = lt-ltb _ _ lt in
+    pairs_at-grid_pairs (length rows) (λ page. length (row_of rows page)) (word_of rows) q ∙ rw on refl
+
+pub pairs_at-past : (rows : List (List ℕ)) (q : ℕ) → length rows ≤ q → pairs_at (pairs_of rows) q ≡ 0
+pairs_at-past rows q le =
+    let off : ltb q (length rows) ≡ false = le-ltb _ _ le in
+    pairs_at-grid_pairs (length rows) (λ page. length (row_of rows page)) (word_of rows) q ∙ rw off refl
+
+-- ---- one more pair
+
+-- the words are the old ones, but for one
+abbrev pub IsPut : List (List ℕ) → List (List ℕ) → ℕ → ℕ → ℕ → Type 0
+IsPut old new page group word = (q g : ℕ) → word_of new q g ≡ cond (q == page && g == group) word (word_of old q g)
+
+row_of-set : (rows : List (List ℕ)) (page : ℕ) (row : List ℕ) (q : ℕ) → page < length rows → row_of (set rows page row) q ≡ cond (q == page) row (row_of rows q)
+row_of-set rows page row q lt =
+    elim (cases_eq q page) [
+      | inl same ↦ (let on : (q == page) ≡ true = eq-eqb q page same in rw (on, same) (get_or-set_same rows page row [] lt))
+      | inr other ↦ (let off : (q == page) ≡ false = ne_eqb q page other in rw off (get_or-set_other rows page q row [] other))
+    ]
+
+-- a word of a page's row is put
+pub put-of : (old mid new : List (List ℕ)) (page group word : ℕ) (row : List ℕ) → page < length mid → ((q : ℕ) → row_of mid q ≡ row_of old q) → new ≡ set mid page row
+    → ((g : ℕ) → get_or row g 0 ≡ cond (g == group) word (word_of mid page g)) → IsPut old new page group word
+put-of old mid new page group word row lt same is put q g =
+    let at : word_of new q g ≡ get_or (cond (q == page) row (row_of mid q)) g 0 = ap (λ (rows : List (List ℕ)). word_of rows q g) is ∙ ap (λ (r : List ℕ). get_or r g 0) (row_of-set mid page row q lt) in
+    elim (cases_eq q page) [
+      | inl here ↦ (
+          let on : (q == page) ≡ true = eq-eqb q page here in
+          let own : word_of mid page g ≡ word_of old q g = ap (λ (r : List ℕ). get_or r g 0) (same page) ∙ ap (λ (p : ℕ). word_of old p g) (sym here) in
+          let at' : word_of new q g ≡ get_or row g 0 = at ∙ rw on refl in
+          rw on (at' ∙ put g ∙ ap (λ (w : ℕ). cond (g == group) word w) own))
+      | inr other ↦ (
+          let off : (q == page) ≡ false = ne_eqb q page other in
+          let at' : word_of new q g ≡ word_of mid q g = at ∙ rw off refl in
+          rw off (at' ∙ ap (λ (r : List ℕ). get_or r g 0) (same q)))
+    ]
+
+-- a page's row has the same words
+pub kept-of : (old mid new : List (List ℕ)) (page : ℕ) (row : List ℕ) → page < length mid → ((q : ℕ) → row_of mid q ≡ row_of old q) → new ≡ set mid page row
+    → ((g : ℕ) → get_or row g 0 ≡ word_of mid page g) → pairs_of new ≡ pairs_of old
+kept-of old mid new page row lt same is kept =
+    pairs_of-same old new (λ q g.
+    (let at : word_of new q g ≡ get_or (cond (q == page) row (row_of mid q)) g 0 = ap (λ (rows : List (List ℕ)). word_of rows q g) is ∙ ap (λ (r : List ℕ). get_or r g 0) (row_of-set mid page row q lt) in
+    elim (cases_eq q page) [
+      | inl here ↦ (
+          let on : (q == page) ≡ true = eq-eqb q page here in
+          at ∙ rw on (kept g ∙ ap (λ (r : List ℕ). get_or r g 0) (same page) ∙ ap (λ (p : ℕ). word_of old p g) (sym here)))
+      | inr other ↦ (
+          let off : (q == page) ≡ false = ne_eqb q page other in
+          at ∙ rw off (ap (λ (r : List ℕ). get_or r g 0) (same q)))
+    ]))
+
+-- more rows that are empty
+pub rows-reached : (old new : List (List ℕ)) → AreRows old → ((q : ℕ) → row_of new q ≡ row_of old q) → length new ≤ 2 ^ 32 → AreRows new
+rows-reached old new are same few = record {
+  pages = few;
+  groups = λ page. (let size = ap (λ (r : List ℕ). length r) (same page) in let old_size = are.groups page in omega arith);
+}
+
+-- a longer row
+pub rows-put : (mid new : List (List ℕ)) (page : ℕ) (row : List ℕ) → AreRows mid → page < length mid → new ≡ set mid page row → length row ≤ 2 ^ 26 → AreRows new
+rows-put mid new page row are lt is few = record {
+  pages = (let size = ap (λ (rows : List (List ℕ)). length rows) is ∙ length-set mid page row in let all = are.pages in omega arith);
+  groups = λ q. (
+      let at : length (row_of new q) ≡ length (cond (q == page) row (row_of mid q)) = ap (λ (rows : List (List ℕ)). length (row_of rows q)) is ∙ ap (λ (r : List ℕ). length r) (row_of-set mid page row q lt) in
+      elim (cases_Bool (q == page)) [
+        | inl on ↦ (let at' : length (row_of new q) ≡ length row = at ∙ rw on refl in omega arith)
+        | inr off ↦ (let at' : length (row_of new q) ≡ length (row_of mid q) = at ∙ rw off refl in let all = are.groups q in omega arith)
+      ]);
+}
+
 -- With its bit set in its group's word, a pair is marked besides those that were.
-pub has-added : (old new : List ((ℕ × ℕ) × ℕ)) (page index word : ℕ) → IsStrictlySortedBy pair_cmp (keys_of old) → IsStrictlySortedBy pair_cmp (keys_of new)
-    → word ≡ word_at old page (index / 64) → IsPut old new (page, index / 64) (set_bit word (index % 64))
+pub has-added : (old new : List (List ℕ)) (page index word : ℕ)
+    → ((b : ℕ) → b < 64 → (bit_at word b == 1) ≡ has_pair (pairs_of old) page (64 * (index / 64) + b)) → IsPut old new page (index / 64) (set_bit word (index % 64))
     → (q k : ℕ) → has_pair (pairs_of new) q k ≡ (has_pair (pairs_of old) q k || (q == page && k == index))
-has-added old new page index word sorted sorted' is put q k =
-    let now = has-pairs_of new q k sorted' in
-    let was = has-pairs_of old q k sorted in
-    let at = word_at-put old new page (index / 64) (set_bit word (index % 64)) q (k / 64) put in
+has-added old new page index word is put q k =
+    let now = has-pairs_of new q k in
+    let was = has-pairs_of old q k in
+    let at = put q (k / 64) in
     let within : index % 64 < 64 = omega arith in
-    elim (cases_Bool (is_eq (pair_cmp (page, index / 64) (q, k / 64)))) [
+    let inside : k % 64 < 64 = omega arith in
+    elim (cases_Bool (q == page && k / 64 == index / 64)) [
       | inl on ↦ (
-          let keys : (page, index / 64) ≡ (q, k / 64) = pair_cmp_exact (page, index / 64) (q, k / 64) ((Equal-is _).0 on) in
-          let pages : q ≡ page = sym (ap (λ (p : ℕ × ℕ). p.0) keys) in
-          let groups : k / 64 ≡ index / 64 = sym (ap (λ (p : ℕ × ℕ). p.1) keys) in
-          let here : eqb q page ≡ true = eq-eqb q page pages in
-          let same : word_at old q (k / 64) ≡ word = (λ i. word_at old (pages i) (groups i)) ∙ sym is in
-          let at' : word_at new q (k / 64) ≡ set_bit word (index % 64) = at ∙ rw on refl in
-          let bit = bit_at-set_bit word (index % 64) (k % 64) within in
-          let now' : has_pair (pairs_of new) q k ≡ with_bit (index % 64) (λ b. bit_at word b == 1) (k % 64) = now ∙ ap (λ (w : ℕ). bit_at w (k % 64) == 1) at' ∙ bit in
-          let was' : has_pair (pairs_of old) q k ≡ (bit_at word (k % 64) == 1) = was ∙ ap (λ (w : ℕ). bit_at w (k % 64) == 1) same in
+          let both = and_parts (q == page) (k / 64 == index / 64) on in
+          let pages : q ≡ page = eqb-true q page both.0 in
+          let groups : k / 64 ≡ index / 64 = eqb-true (k / 64) (index / 64) both.1 in
+          let here = both.0 in
+          let place : 64 * (index / 64) + k % 64 ≡ k = omega arith in
+          let at' : word_of new q (k / 64) ≡ set_bit word (index % 64) = at ∙ rw on refl in
+          let now' : has_pair (pairs_of new) q k ≡ with_bit (index % 64) (λ b. bit_at word b == 1) (k % 64) =
+          now ∙ ap (λ (w : ℕ). bit_at w (k % 64) == 1) at' ∙ bit_at-set_bit word (index % 64) (k % 64) within in
+          let was' : has_pair (pairs_of old) q k ≡ (bit_at word (k % 64) == 1) =
+          ap (λ (p : ℕ). has_pair (pairs_of old) p k) pages ∙ ap (λ (i : ℕ). has_pair (pairs_of old) page i) (sym place) ∙ sym (is (k % 64) inside) in
           elim (cases_eq (k % 64) (index % 64)) [
             | inl bits ↦ (
                 let yes_ : eqb (k % 64) (index % 64) ≡ true = eq-eqb _ _ bits in
@@ -116,51 +197,47 @@ has-added old new page index word sorted sorted' is put q k =
                 now' ∙ rw (no_, here, isnt) (sym was' ∙ sym (or_false _)))
           ])
       | inr off ↦ (
-          let at' : word_at new q (k / 64) ≡ word_at old q (k / 64) = at ∙ rw off refl in
+          let at' : word_of new q (k / 64) ≡ word_of old q (k / 64) = at ∙ rw off refl in
           let now' : has_pair (pairs_of new) q k ≡ has_pair (pairs_of old) q k = now ∙ ap (λ (w : ℕ). bit_at w (k % 64) == 1) at' ∙ sym was in
           let isnt : (q == page && k == index) ≡ false =
           elim (cases_Bool (q == page && k == index)) [
             | inr isnt ↦ isnt
             | inl is ↦ absurd (
                 let both = and_parts (q == page) (k == index) is in
-                let pages : page ≡ q = sym (eqb-true q page both.0) in
-                let places : index ≡ k = sym (eqb-true k index both.1) in
-                let keys : ◌≡◌ {A = ℕ × ℕ} (page, index / 64) (q, k / 64) = (λ i. (pages i, places i / 64)) in
-                let tied : is_eq (pair_cmp (page, index / 64) (page, index / 64)) ≡ true = ap is_eq (tied_itself pair_cmp_total (page, index / 64)) in
-                let on : is_eq (pair_cmp (page, index / 64) (q, k / 64)) ≡ true = ap (λ (p : ℕ × ℕ). is_eq (pair_cmp (page, index / 64) p)) (sym keys) ∙ tied in
+                let places : k ≡ index = eqb-true k index both.1 in
+                let groups : eqb (k / 64) (index / 64) ≡ true = eq-eqb (k / 64) (index / 64) (ap (λ (n : ℕ). n / 64) places) in
+                let on : (q == page && k / 64 == index / 64) ≡ true = and_from (q == page) (k / 64 == index / 64) both.0 groups in
                 both_ways _ off on)
           ] in
           now' ∙ rw isnt (sym (or_false _)))
     ]
 
--- The pairs of its page are one more, and those of the other pages as many as before.
-pub pairs_at-added : (words : List ((ℕ × ℕ) × ℕ)) (page index word q : ℕ) → IsStrictlySortedBy pair_cmp (keys_of words)
-    → word ≡ word_at words page (index / 64) → bit_at word (index % 64) ≡ 0
-    → pairs_at (pairs_of (insert_entry pair_cmp words (page, index / 64) (set_bit word (index % 64)))) q
-    ≡ pairs_at (pairs_of words) q + cond (page == q) 1 0
-pairs_at-added words page index word q sorted same off =
-    let more = pairs_at-insert words page (index / 64) (set_bit word (index % 64)) q sorted in
-    let old = ap (λ (w : ℕ). pairs_at (group_pairs ((page, index / 64), w)) q) (sym same) ∙ pairs_at-group_pairs page (index / 64) word q in
-    let new = pairs_at-group_pairs page (index / 64) (set_bit word (index % 64)) q in
-    let within : index % 64 < 64 = omega arith in
-    let unset : (bit_at word (index % 64) == 1) ≡ false = rw off refl in
-    let bits : count_below 64 (λ b. bit_at (set_bit word (index % 64)) b == 1) ≡ 1 + count_below 64 (λ b. bit_at word b == 1) =
-    count_below-same 64 _ _ (λ b lt. bit_at-set_bit word (index % 64) b within) ∙ count_below-with 64 (index % 64) (λ b. bit_at word b == 1) within unset in
-    elim (cases_Bool (page == q)) [
-      | inl is ↦ (let old' = rw is at old in let new' = rw is at new in rw is (omega arith))
-      | inr isnt ↦ (let old' = rw isnt at old in let new' = rw isnt at new in rw isnt (omega arith))
-    ]
-
 -- ---- what the code asks
 
--- the word that the map of words gives
-pub word-shows : (words : List ((ℕ × ℕ) × ℕ)) (page group word bit : ℕ) → IsStrictlySortedBy pair_cmp (keys_of words) → word ≡ word_at words page group → bit < 64
-    → (bit_at word bit == 1) ≡ has_pair (pairs_of words) page (64 * group + bit)
-word-shows words page group word bit sorted is lt =
+-- the word that the rows give
+pub word-shows : (rows : List (List ℕ)) (page group word bit : ℕ) → word ≡ word_of rows page group → bit < 64 → (bit_at word bit == 1) ≡ has_pair (pairs_of rows) page (64 * group + bit)
+word-shows rows page group word bit is lt =
     let g : (64 * group + bit) / 64 ≡ group = omega arith in
     let b : (64 * group + bit) % 64 ≡ bit = omega arith in
-    let has = has-pairs_of words page (64 * group + bit) sorted in
+    let has = has-pairs_of rows page (64 * group + bit) in
     sym (has ∙ rw (g, b, is) refl)
+
+-- the row that was read
+pub row-read : (rows : List (List ℕ)) (page : ℕ) (row : List ℕ) → page < length rows → row ≡ get_or rows page row → row ≡ row_of rows page
+row-read rows page row lt is = is ∙ get_or_default rows page row [] lt
+
+-- no word past the rows marks anything
+pub word-past : (rows : List (List ℕ)) (page group : ℕ) → length rows ≤ page → 0 ≡ word_of rows page group
+word-past rows page group le = sym (ap (λ (row : List ℕ). get_or row group 0) (get_or_past rows page [] le) ∙ get_or_past [] group 0 (omega arith))
+
+-- the ones of one word more
+pub count-more : (row : List ℕ) (group page count word result : ℕ) → count ≡ min (pairs_at (page_pairs group page (λ g. get_or row g 0)) page) (2 ^ 32 - 1) → word ≡ get_or row group 0 → word < 2 ^ 64
+    → result ≡ min (count + ones word) (2 ^ 32 - 1) → result ≡ min (pairs_at (page_pairs (group + 1) page (λ g. get_or row g 0)) page) (2 ^ 32 - 1)
+count-more row group page count word result so_far is fits sum =
+    let next : group + 1 ≡ suc group = omega arith in
+    let more = pairs_at-page_more group page (λ g. get_or row g 0) in
+    let bits : ones word ≡ count_below 64 (λ b. bit_at (get_or row group 0) b == 1) = ones-count 64 word fits ∙ ap (λ (w : ℕ). count_below 64 (λ b. bit_at w b == 1)) is in
+    rw next (omega arith)
 
 -- a page with no pair has no marked index
 pub none-marked : (pairs : List (ℕ × ℕ)) (page k : ℕ) → pairs_at pairs page ≡ 0 → has_pair pairs page k ≡ false
@@ -190,16 +267,6 @@ none-counted (p ∷ pairs) page none =
           omega arith)
     ]
 
-pub IsGroup-insert : (words : List ((ℕ × ℕ) × ℕ)) (key : ℕ × ℕ) (word : ℕ) → key.1 < 2 ^ 26 → AllByRecursion IsGroup words → AllByRecursion IsGroup (insert_entry pair_cmp words key word)
-IsGroup-insert [] key word small all = (small, tt)
-IsGroup-insert (e ∷ es) key word small all = by (pair_cmp key e.0) (IsGroup-insert es key word small all.1)
-  where
-    by : (r : Ordering) → AllByRecursion IsGroup (insert_entry pair_cmp es key word)
-        → AllByRecursion IsGroup (match_ordering r ((key, word) ∷ e ∷ es) ((e.0, word) ∷ es) (e ∷ insert_entry pair_cmp es key word))
-    by Less rest = (small, all)
-    by Equal rest = all
-    by Greater rest = (all.0, rest)
-
 -- a value written back over itself changes nothing
 pub set_value-same : {K X : Type 0} (test : K → Bool) (es : List (K × X)) (v : X) → lookup test es ≡ Some v → set_value test es v ≡ es
 set_value-same test [] v is = refl
@@ -210,29 +277,28 @@ set_value-same {K} {X} test (e ∷ es) v is = by (test e.0) is (set_value-same t
     by true same later = let w : v ≡ e.1 = cc in (λ i. (e.0, w i) ∷ es)
     by false same later = ap (λ (rest : List (K × X)). e ∷ rest) (later same)
 
--- a mark set a second time
-pub marked-already : (words : List ((ℕ × ℕ) × ℕ)) (page index word : ℕ) → IsStrictlySortedBy pair_cmp (keys_of words) → word ≡ word_at words page (index / 64) → bit_at word (index % 64) ≡ 1
-    → (q k : ℕ) → has_pair (pairs_of words) q k ≡ (has_pair (pairs_of words) q k || (q == page && k == index))
-marked-already words page index word sorted is on q k =
+-- a list of dead buckets written back over itself leaves the dead as they were
+pub deaths-same : (test : ℕ → Bool) (old new : List (ℕ × List ℕ)) (was now : List ℕ) → new ≡ set_value test old now → now ≡ was → lookup test old ≡ Some was → new ≡ old
+deaths-same test old new was now put same is = put ∙ ap (set_value test old) same ∙ set_value-same test old was is
+
+-- a pair whose bit is set is marked
+pub marked-already : (old : List (ℕ × ℕ)) (page index word : ℕ) → ((b : ℕ) → b < 64 → (bit_at word b == 1) ≡ has_pair old page (64 * (index / 64) + b)) → bit_at word (index % 64) ≡ 1
+    → (q k : ℕ) → has_pair old q k ≡ (has_pair old q k || (q == page && k == index))
+marked-already old page index word is on q k =
     elim (cases_Bool (q == page && k == index)) [
       | inr isnt ↦ rw isnt (sym (or_false _))
       | inl both ↦ (
           let parts = and_parts (q == page) (k == index) both in
           let pages : q ≡ page = eqb-true q page parts.0 in
           let places : k ≡ index = eqb-true k index parts.1 in
-          let bit : bit_at (word_at words page (index / 64)) (index % 64) ≡ 1 = rw (sym is) on in
-          let here : has_pair (pairs_of words) page index ≡ true = has-pairs_of words page index sorted ∙ rw bit refl in
-          let yes_ : has_pair (pairs_of words) q k ≡ true = (λ i. has_pair (pairs_of words) (pages i) (places i)) ∙ here in
+          let place : 64 * (index / 64) + index % 64 ≡ index = omega arith in
+          let here : has_pair old page index ≡ true = ap (λ (i : ℕ). has_pair old page i) (sym place) ∙ sym (is (index % 64) (omega arith)) ∙ rw on refl in
+          let yes_ : has_pair old q k ≡ true = (λ i. has_pair old (pages i) (places i)) ∙ here in
           rw yes_ refl)
     ]
 
--- a list of dead buckets written back over itself leaves the dead as they were
-pub deaths-same : (test : ℕ → Bool) (old new : List (ℕ × List ℕ)) (was now : List ℕ) → new ≡ set_value test old now → now ≡ was → lookup test old ≡ Some was → new ≡ old
-deaths-same test old new was now put same is = put ∙ ap (set_value test old) same ∙ set_value-same test old was is
-
 -- a pair whose bit is not set is not marked
-pub unmarked : (words : List ((ℕ × ℕ) × ℕ)) (page index word : ℕ) → IsStrictlySortedBy pair_cmp (keys_of words) → word ≡ word_at words page (index / 64) → bit_at word (index % 64) ≡ 0
-    → has_pair (pairs_of words) page index ≡ false
-unmarked words page index word sorted is off =
-    let bit : bit_at (word_at words page (index / 64)) (index % 64) ≡ 0 = rw (sym is) off in
-    has-pairs_of words page index sorted ∙ rw bit refl
+pub unmarked : (old : List (ℕ × ℕ)) (page index word : ℕ) → ((b : ℕ) → b < 64 → (bit_at word b == 1) ≡ has_pair old page (64 * (index / 64) + b)) → bit_at word (index % 64) ≡ 0 → has_pair old page index ≡ false
+unmarked old page index word is off =
+    let place : 64 * (index / 64) + index % 64 ≡ index = omega arith in
+    ap (λ (i : ℕ). has_pair old page i) (sym place) ∙ sym (is (index % 64) (omega arith)) ∙ rw off refl

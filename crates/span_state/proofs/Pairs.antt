@@ -1,26 +1,20 @@
 -- The pairs that words mark.
-use Rattle.std.proofs.Common.{◌≡◌, ℕ, zero, suc, ◌+◌, ◌*◌, ◌/◌, ◌%◌, ◌<◌, ◌≤◌, Bool, true, false, cond, ◌==◌, ◌||◌, ◌&&◌, eqb, ltb, List, [], ◌∷◌, ◌++◌, Some, None, Option, unwrap_or, refl, sym, ◌∙◌, ap, arith, inl, inr, eq-eqb, append-nil, append_assoc, ◌⊎◌}
-use Rattle.std.proofs.lemmas.Bool.{cases_eq, cases_lt, cases_Bool, both_ways, ne_eqb, lt-ltb, le-ltb}
-use Rattle.std.proofs.lemmas.Cmp.{then_total, on_total, nat_cmp_total, ranked, tied_itself}
+use Rattle.std.proofs.Common.{◌≡◌, ℕ, zero, suc, ◌+◌, ◌*◌, ◌/◌, ◌%◌, ◌<◌, ◌≤◌, Bool, true, false, cond, ◌==◌, ◌||◌, ◌&&◌, eqb, ltb, List, [], ◌∷◌, ◌++◌, refl, sym, ◌∙◌, ap, subst, arith, inl, inr, eq-eqb, append-nil, append_assoc, ◌⊎◌}
+use Rattle.std.proofs.lemmas.Bool.{cases_eq, cases_lt, cases_Bool, both_ways, ne_eqb, lt-ltb, le-ltb, and_parts, eqb-true}
+use Rattle.std.proofs.lemmas.Cmp.{then_total, on_total, nat_cmp_total, ranked}
 use Rattle.std.proofs.lemmas.List.Folds.{list_any-append}
 use Rattle.std.proofs.lemmas.List.Sums.{sum_by-append}
-use Rattle.std.proofs.lemmas.Map.{lookup-none}
-use Rattle.std.proofs.lemmas.Map.Entries.{none_past_head, none_below_head}
-use Rattle.std.proofs.lemmas.Map.Keys.{sorted_tail, IsDistinct-from_sorted}
 use Rattle.std.proofs.lemmas.Map.Lookups.{CmpEqualImpliesEq, exact_pairs, exact_unsigned}
 use Rattle.std.proofs.lemmas.Nat.Bits.{bit_at-zero}
 use Rattle.std.specs.declared.cmp.Ordering.{Ordering}
 use Rattle.std.specs.declared.cmp.Ordering.TheVariants.{Less, Equal, Greater}
-use Rattle.std.specs.BTreeMap.{is_at, insert_entry}
-use Rattle.std.specs.Cmp.{IsTotalOrder, eq_by_cmp_equiv, nat_cmp_is, Equal-is}
+use Rattle.std.specs.Cmp.{IsTotalOrder, nat_cmp_is}
 use Rattle.std.specs.Int.{bit_at}
 use Rattle.std.specs.List.{AllByRecursion}
 use Rattle.std.specs.List.Sorted.{IsStrictlySortedBy}
-use Rattle.std.specs.Map.{keys_of, lookup}
-use Rattle.std.specs.Ordering.{nat_cmp, is_eq, match_ordering}
+use Rattle.std.specs.Ordering.{nat_cmp}
 use Rattle.span_state.specs.Bits.{count_below, one_if}
-use Rattle.span_state.specs.Groups.{word_pairs, group_pairs, pairs_of, word_at}
-use Rattle.span_state.specs.Counts.{count_below-none}
+use Rattle.span_state.specs.Groups.{word_pairs, group_pairs, page_pairs, grid_pairs}
 use Rattle.span_state.specs.MarkSet.{pair_cmp, IsRising, has_pair, pairs_at}
 
 -- ---- the order of pairs
@@ -122,31 +116,81 @@ has-group_pairs e q k here =
     let inside : ltb (k % 64) 64 ≡ true = lt-ltb (k % 64) 64 (omega arith) in
     rw (sym page) (has-word_pairs 64 e.0.0 e.0.1 e.1 k group (omega arith) ∙ rw inside refl)
 
--- ---- the pairs of all words
+-- ---- the pairs of a page
 
-word_at-none : (words : List ((ℕ × ℕ) × ℕ)) (q g : ℕ) → lookup (is_at (pair_cmp (q, g))) words ≡ None → word_at words q g ≡ 0
-word_at-none words q g none = ap (λ (o : Option ℕ). unwrap_or o 0) none
+-- An index is among the pairs of a page's first n groups where its group is, and the group's word has its bit.
+pub has-page_pairs : (n page : ℕ) (words : ℕ → ℕ) (q k : ℕ) → has_pair (page_pairs n page words) q k ≡ (eqb page q && (ltb (k / 64) n && (bit_at (words (k / 64)) (k % 64) == 1)))
+has-page_pairs zero page words q k =
+    let none : ltb (k / 64) 0 ≡ false = le-ltb (k / 64) 0 (omega arith) in
+    elim (cases_Bool (eqb page q)) [ inl on ↦ rw (on, none) refl | inr off ↦ rw off refl ]
+has-page_pairs (suc n) page words q k =
+    let rest = has-page_pairs n page words q k in
+    elim (cases_eq page q) [
+      | inr ne ↦ (
+          let f : eqb page q ≡ false = ne_eqb page q ne in
+          let rest' : has_pair (page_pairs n page words) q k ≡ false = rest ∙ rw f refl in
+          let other : has_pair (group_pairs ((page, n), words n)) q k ≡ false = has-group_pairs-other ((page, n), words n) q k (λ here. ne (ap (λ (p : ℕ × ℕ). p.0) here)) in
+          rw (list_any-append, rest', other, f) refl)
+      | inl same ↦ (
+          let f : eqb page q ≡ true = eq-eqb page q same in
+          elim (cases_eq (k / 64) n) [
+            | inl here ↦ (
+                let before : ltb (k / 64) n ≡ false = le-ltb (k / 64) n (omega arith) in
+                let now : ltb (k / 64) (suc n) ≡ true = lt-ltb (k / 64) (suc n) (omega arith) in
+                let rest' : has_pair (page_pairs n page words) q k ≡ false = rest ∙ rw (f, before) refl in
+                let group : has_pair (group_pairs ((page, n), words n)) q k ≡ (bit_at (words n) (k % 64) == 1) = has-group_pairs ((page, n), words n) q k (λ i. (same i, sym here i)) in
+                let word : words (k / 64) ≡ words n = ap words here in
+                rw (list_any-append, rest', group, f, now, word) refl)
+            | inr other ↦ (
+                let off : has_pair (group_pairs ((page, n), words n)) q k ≡ false = has-group_pairs-other ((page, n), words n) q k (λ here. other (sym (ap (λ (p : ℕ × ℕ). p.1) here))) in
+                let bound : ltb (k / 64) (suc n) ≡ ltb (k / 64) n =
+                elim (cases_lt (k / 64) n) [
+                  | inl lt ↦ lt-ltb (k / 64) (suc n) (omega arith) ∙ sym (lt-ltb (k / 64) n lt)
+                  | inr le ↦ le-ltb (k / 64) (suc n) (omega arith) ∙ sym (le-ltb (k / 64) n le)
+                ] in
+                rw (list_any-append, rest, off, bound) (or_false _))
+          ])
+    ]
 
--- An index of a page is marked where the word of its group has its bit.
-pub has-pairs_of : (words : List ((ℕ × ℕ) × ℕ)) (q k : ℕ) → IsStrictlySortedBy pair_cmp (keys_of words)
-    → has_pair (pairs_of words) q k ≡ (bit_at (word_at words q (k / 64)) (k % 64) == 1)
-has-pairs_of [] q k sorted = rw bit_at-zero refl
-has-pairs_of (e ∷ es) q k sorted = by (is_eq (pair_cmp (q, k / 64) e.0)) refl (has-pairs_of es q k (sorted_tail pair_cmp e.0 (keys_of es) sorted))
-  where
-    by : (b : Bool) → is_eq (pair_cmp (q, k / 64) e.0) ≡ b → has_pair (pairs_of es) q k ≡ (bit_at (word_at es q (k / 64)) (k % 64) == 1)
-        → has_pair (group_pairs e ++ pairs_of es) q k ≡ (bit_at (unwrap_or (cond b (Some e.1) (lookup (is_at (pair_cmp (q, k / 64))) es)) 0) (k % 64) == 1)
-    by true on rest =
-        let here : e.0 ≡ (q, k / 64) = sym (pair_cmp_exact (q, k / 64) e.0 ((Equal-is (pair_cmp (q, k / 64) e.0)).0 on)) in
-        let none : word_at es q (k / 64) ≡ 0 =
-        word_at-none es q (k / 64) (lookup-none _ es (none_past_head (eq_by_cmp_equiv pair_cmp_total) (q, k / 64) e es (IsDistinct-from_sorted pair_cmp (keys_of (e ∷ es)) sorted) on)) in
-        let off : has_pair (pairs_of es) q k ≡ false = rest ∙ ap (λ (w : ℕ). bit_at w (k % 64) == 1) none ∙ rw bit_at-zero refl in
-        rw (list_any-append, has-group_pairs e q k here, off) (or_false _)
-    by false off rest =
-        let apart : e.0 ≡ (q, k / 64) → ⊥ = λ here. (
-        let tied : is_eq (pair_cmp e.0 e.0) ≡ true = ap is_eq (tied_itself pair_cmp_total e.0) in
-        let on : is_eq (pair_cmp (q, k / 64) e.0) ≡ true = ap (λ (p : ℕ × ℕ). is_eq (pair_cmp p e.0)) (sym here) ∙ tied in
-        both_ways (is_eq (pair_cmp (q, k / 64) e.0)) off on) in
-        rw (list_any-append, has-group_pairs-other e q k apart) rest
+-- ---- the pairs of all pages
+
+-- no word past a page's groups marks anything
+abbrev pub AreClosed : (ℕ → ℕ) → (ℕ → ℕ → ℕ) → Type 0
+AreClosed sizes words = (page group : ℕ) → sizes page ≤ group → words page group ≡ 0
+
+-- An index is among the pairs of the first n pages where its page is, and its group's word has its bit.
+pub has-grid_pairs : (n : ℕ) (sizes : ℕ → ℕ) (words : ℕ → ℕ → ℕ) (q k : ℕ) → AreClosed sizes words
+    → has_pair (grid_pairs n sizes words) q k ≡ (ltb q n && (bit_at (words q (k / 64)) (k % 64) == 1))
+has-grid_pairs zero sizes words q k closed = let none : ltb q 0 ≡ false = le-ltb q 0 (omega arith) in rw none refl
+has-grid_pairs (suc n) sizes words q k closed =
+    let rest = has-grid_pairs n sizes words q k closed in
+    let page = has-page_pairs (sizes n) n (words n) q k in
+    elim (cases_eq n q) [
+      | inr ne ↦ (
+          let f : eqb n q ≡ false = ne_eqb n q ne in
+          let off : has_pair (page_pairs (sizes n) n (words n)) q k ≡ false = page ∙ rw f refl in
+          let bound : ltb q (suc n) ≡ ltb q n =
+          elim (cases_lt q n) [
+            | inl lt ↦ lt-ltb q (suc n) (omega arith) ∙ sym (lt-ltb q n lt)
+            | inr le ↦ le-ltb q (suc n) (omega arith) ∙ sym (le-ltb q n le)
+          ] in
+          rw (list_any-append, rest, off, bound) (or_false _))
+      | inl same ↦ (
+          let f : eqb n q ≡ true = eq-eqb n q same in
+          let before : ltb q n ≡ false = le-ltb q n (omega arith) in
+          let now : ltb q (suc n) ≡ true = lt-ltb q (suc n) (omega arith) in
+          let rest' : has_pair (grid_pairs n sizes words) q k ≡ false = rest ∙ rw before refl in
+          let own : has_pair (page_pairs (sizes n) n (words n)) q k ≡ (bit_at (words n (k / 64)) (k % 64) == 1) =
+          elim (cases_lt (k / 64) (sizes n)) [
+            | inl lt ↦ (let on : ltb (k / 64) (sizes n) ≡ true = lt-ltb _ _ lt in page ∙ rw (f, on) refl)
+            | inr le ↦ (
+                let off : ltb (k / 64) (sizes n) ≡ false = le-ltb _ _ le in
+                let none : words n (k / 64) ≡ 0 = closed n (k / 64) le in
+                page ∙ rw (f, off, none, bit_at-zero) refl)
+          ] in
+          let word : words q (k / 64) ≡ words n (k / 64) = ap (λ (p : ℕ). words p (k / 64)) (sym same) in
+          rw (list_any-append, rest', own, now, word) refl)
+    ]
 
 -- ---- how many pairs a page has
 
@@ -174,46 +218,46 @@ pub pairs_at-group_pairs : (page group word q : ℕ) → pairs_at (group_pairs (
 unfolding group_pairs
 pairs_at-group_pairs page group word q = pairs_at-word_pairs 64 page group word q
 
-pairs_at-zero : (page group q : ℕ) → pairs_at (group_pairs ((page, group), 0)) q ≡ 0
-pairs_at-zero page group q =
-    pairs_at-group_pairs page group 0 q
-    ∙ elim (cases_Bool (page == q)) [
-      | inl is ↦ rw is (count_below-none 64 (λ b. bit_at 0 b == 1) (λ k lt. rw bit_at-zero refl))
-      | inr isnt ↦ rw isnt refl
-    ]
-
--- A group's word takes the place of the one before it: of each page there are as many pairs more as the new word has more than the old.
-pub pairs_at-insert : (words : List ((ℕ × ℕ) × ℕ)) (page group word q : ℕ) → IsStrictlySortedBy pair_cmp (keys_of words)
-    → pairs_at (pairs_of (insert_entry pair_cmp words (page, group) word)) q + pairs_at (group_pairs ((page, group), word_at words page group)) q
-    ≡ pairs_at (pairs_of words) q + pairs_at (group_pairs ((page, group), word)) q
-pairs_at-insert [] page group word q sorted =
-    let none = pairs_at-zero page group q in
-    let all = pairs_at-append (group_pairs ((page, group), word)) [] q in
+-- a page's pairs are of no other page
+pairs_at-page_pairs-other : (n page : ℕ) (words : ℕ → ℕ) (q : ℕ) → (page ≡ q → ⊥) → pairs_at (page_pairs n page words) q ≡ 0
+pairs_at-page_pairs-other zero page words q ne = refl
+pairs_at-page_pairs-other (suc n) page words q ne =
+    let rest = pairs_at-page_pairs-other n page words q ne in
+    let f : (page == q) ≡ false = ne_eqb page q ne in
+    let group : pairs_at (group_pairs ((page, n), words n)) q ≡ 0 = pairs_at-group_pairs page n (words n) q ∙ rw f refl in
+    let split = pairs_at-append (page_pairs n page words) (group_pairs ((page, n), words n)) q in
     omega arith
-pairs_at-insert (e ∷ es) page group word q sorted = by (pair_cmp (page, group) e.0) refl (pairs_at-insert es page group word q (sorted_tail pair_cmp e.0 (keys_of es) sorted))
-  where
-    by : (r : Ordering) → pair_cmp (page, group) e.0 ≡ r
-        → pairs_at (pairs_of (insert_entry pair_cmp es (page, group) word)) q + pairs_at (group_pairs ((page, group), word_at es page group)) q
-        ≡ pairs_at (pairs_of es) q + pairs_at (group_pairs ((page, group), word)) q
-        → pairs_at (pairs_of (match_ordering r (((page, group), word) ∷ e ∷ es) ((e.0, word) ∷ es) (e ∷ insert_entry pair_cmp es (page, group) word))) q
-        + pairs_at (group_pairs ((page, group), unwrap_or (cond (is_eq r) (Some e.1) (lookup (is_at (pair_cmp (page, group))) es)) 0)) q
-        ≡ pairs_at (pairs_of (e ∷ es)) q + pairs_at (group_pairs ((page, group), word)) q
-    by Less is rest =
-        let none : word_at es page group ≡ 0 = word_at-none es page group (lookup-none _ es (none_below_head pair_cmp_total (page, group) e es sorted is).1) in
-        let nothing = ap (λ (w : ℕ). pairs_at (group_pairs ((page, group), w)) q) none ∙ pairs_at-zero page group q in
-        let new = pairs_at-append (group_pairs ((page, group), word)) (pairs_of (e ∷ es)) q in
-        omega arith
-    by Equal is rest =
-        let same : (page, group) ≡ e.0 = pair_cmp_exact (page, group) e.0 is in
-        let one = ap (λ (p : ℕ × ℕ). pairs_at (group_pairs (p, word)) q) same in
-        let two = ap (λ (p : ℕ × ℕ). pairs_at (group_pairs (p, e.1)) q) same in
-        let new = pairs_at-append (group_pairs (e.0, word)) (pairs_of es) q in
-        let old = pairs_at-append (group_pairs (e.0, e.1)) (pairs_of es) q in
-        omega arith
-    by Greater is rest =
-        let new = pairs_at-append (group_pairs e) (pairs_of (insert_entry pair_cmp es (page, group) word)) q in
-        let old = pairs_at-append (group_pairs e) (pairs_of es) q in
-        omega arith
+
+-- one group more
+pub pairs_at-page_more : (n page : ℕ) (words : ℕ → ℕ) → pairs_at (page_pairs (suc n) page words) page ≡ pairs_at (page_pairs n page words) page + count_below 64 (λ b. bit_at (words n) b == 1)
+pairs_at-page_more n page words =
+    let f : (page == page) ≡ true = eq-eqb page page refl in
+    let group : pairs_at (group_pairs ((page, n), words n)) page ≡ count_below 64 (λ b. bit_at (words n) b == 1) = pairs_at-group_pairs page n (words n) page ∙ rw f refl in
+    let split = pairs_at-append (page_pairs n page words) (group_pairs ((page, n), words n)) page in
+    omega arith
+
+-- Of each page there are as many pairs as its own words mark.
+pub pairs_at-grid_pairs : (n : ℕ) (sizes : ℕ → ℕ) (words : ℕ → ℕ → ℕ) (q : ℕ) → pairs_at (grid_pairs n sizes words) q ≡ cond (ltb q n) (pairs_at (page_pairs (sizes q) q (words q)) q) 0
+pairs_at-grid_pairs zero sizes words q = let none : ltb q 0 ≡ false = le-ltb q 0 (omega arith) in rw none refl
+pairs_at-grid_pairs (suc n) sizes words q =
+    let rest = pairs_at-grid_pairs n sizes words q in
+    let split = pairs_at-append (grid_pairs n sizes words) (page_pairs (sizes n) n (words n)) q in
+    elim (cases_eq n q) [
+      | inr ne ↦ (
+          let other = pairs_at-page_pairs-other (sizes n) n (words n) q ne in
+          let bound : ltb q (suc n) ≡ ltb q n =
+          elim (cases_lt q n) [
+            | inl lt ↦ lt-ltb q (suc n) (omega arith) ∙ sym (lt-ltb q n lt)
+            | inr le ↦ le-ltb q (suc n) (omega arith) ∙ sym (le-ltb q n le)
+          ] in
+          rw bound (let sum : pairs_at (grid_pairs (suc n) sizes words) q ≡ pairs_at (grid_pairs n sizes words) q = omega arith in sum ∙ rest))
+      | inl same ↦ (
+          let before : ltb q n ≡ false = le-ltb q n (omega arith) in
+          let now : ltb q (suc n) ≡ true = lt-ltb q (suc n) (omega arith) in
+          let rest' : pairs_at (grid_pairs n sizes words) q ≡ 0 = rest ∙ rw before refl in
+          let own : pairs_at (page_pairs (sizes n) n (words n)) q ≡ pairs_at (page_pairs (sizes q) q (words q)) q = ap (λ (p : ℕ). pairs_at (page_pairs (sizes p) p (words p)) q) same in
+          rw now (omega arith))
+    ]
 
 -- ---- the pairs rise
 
@@ -257,25 +301,132 @@ rising-word_pairs (suc n) page group word =
       | inr off ↦ rw off (rising-append (word_pairs n page group word) [] rest tt (AllByRecursion-map (InGroup n page group) _ (λ p at. tt) (word_pairs n page group word) (in_group n page group word)))
     ]
 
--- a pair of a group stands before each pair of the groups that come after it
-before_rest : (k x : ℕ × ℕ) → InGroup 64 k.0 k.1 x → (es : List ((ℕ × ℕ) × ℕ)) → AllByRecursion (λ y. pair_cmp k y ≡ Less) (keys_of es) → AllByRecursion (λ y. pair_cmp x y ≡ Less) (pairs_of es)
+-- the pairs of a page's first n groups have its number and indices below 64 times n
+in_page : (n page : ℕ) (words : ℕ → ℕ) → AllByRecursion (λ p. (p.0 ≡ page) × (p.1 < 64 * n)) (page_pairs n page words)
 unfolding group_pairs InGroup
-before_rest k x at [] all = tt
-before_rest k x at (e ∷ es) all =
-    AllByRecursion-append (λ y. pair_cmp x y ≡ Less) (group_pairs e) (pairs_of es)
-    (AllByRecursion-map (InGroup 64 e.0.0 e.0.1) (λ y. pair_cmp x y ≡ Less) (λ y there. elim (pair_cmp-Less k e.0 all.0) [
-      | inl page ↦ pair_cmp-page x y (omega arith)
-      | inr index ↦ pair_cmp-index x y (omega arith) (omega arith)
-    ]) (group_pairs e) (in_group 64 e.0.0 e.0.1 e.1))
-    (before_rest k x at es all.1)
+in_page zero page words = tt
+in_page (suc n) page words =
+    AllByRecursion-append (λ p. (p.0 ≡ page) × (p.1 < 64 * suc n)) (page_pairs n page words) (group_pairs ((page, n), words n))
+    (AllByRecursion-map _ (λ p. (p.0 ≡ page) × (p.1 < 64 * suc n)) (λ p at. (at.0, (let lt = at.1 in omega arith))) (page_pairs n page words) (in_page n page words))
+    (AllByRecursion-map (InGroup 64 page n) (λ p. (p.0 ≡ page) × (p.1 < 64 * suc n)) (λ p at. (at.0, (let lt = at.2 in omega arith))) (group_pairs ((page, n), words n)) (in_group 64 page n (words n)))
 
--- The pairs of words in order rise.
-pub rising-pairs_of : (words : List ((ℕ × ℕ) × ℕ)) → IsStrictlySortedBy pair_cmp (keys_of words) → IsRising (pairs_of words)
-unfolding group_pairs IsStrictlySortedBy
-rising-pairs_of [] sorted = tt
-rising-pairs_of (e ∷ es) sorted =
-    rising-append (group_pairs e) (pairs_of es) (rising-word_pairs 64 e.0.0 e.0.1 e.1) (rising-pairs_of es sorted.1)
-    (AllByRecursion-map (InGroup 64 e.0.0 e.0.1) _ (λ x at. before_rest e.0 x at es sorted.0) (group_pairs e) (in_group 64 e.0.0 e.0.1 e.1))
+rising-page_pairs : (n page : ℕ) (words : ℕ → ℕ) → IsRising (page_pairs n page words)
+unfolding group_pairs IsStrictlySortedBy InGroup
+rising-page_pairs zero page words = tt
+rising-page_pairs (suc n) page words =
+    rising-append (page_pairs n page words) (group_pairs ((page, n), words n)) (rising-page_pairs n page words) (rising-word_pairs 64 page n (words n))
+    (AllByRecursion-map (λ p. (p.0 ≡ page) × (p.1 < 64 * n)) _
+    (λ p at. AllByRecursion-map (InGroup 64 page n) (λ y. pair_cmp p y ≡ Less) (λ y there. pair_cmp-index p y (at.0 ∙ sym there.0) (let lt = at.1 in let le = there.1 in omega arith)) (group_pairs ((page, n), words n)) (in_group 64 page n (words n)))
+    (page_pairs n page words) (in_page n page words))
+
+in_grid : (n : ℕ) (sizes : ℕ → ℕ) (words : ℕ → ℕ → ℕ) → AllByRecursion (λ p. p.0 < n) (grid_pairs n sizes words)
+in_grid zero sizes words = tt
+in_grid (suc n) sizes words =
+    AllByRecursion-append (λ p. p.0 < suc n) (grid_pairs n sizes words) (page_pairs (sizes n) n (words n))
+    (AllByRecursion-map (λ p. p.0 < n) (λ p. p.0 < suc n) (λ p lt. omega arith) (grid_pairs n sizes words) (in_grid n sizes words))
+    (AllByRecursion-map (λ p. (p.0 ≡ n) × (p.1 < 64 * sizes n)) (λ p. p.0 < suc n) (λ p at. (let is = at.0 in omega arith)) (page_pairs (sizes n) n (words n)) (in_page (sizes n) n (words n)))
+
+-- The pairs of all pages rise.
+pub rising-grid_pairs : (n : ℕ) (sizes : ℕ → ℕ) (words : ℕ → ℕ → ℕ) → IsRising (grid_pairs n sizes words)
+unfolding IsStrictlySortedBy
+rising-grid_pairs zero sizes words = tt
+rising-grid_pairs (suc n) sizes words =
+    rising-append (grid_pairs n sizes words) (page_pairs (sizes n) n (words n)) (rising-grid_pairs n sizes words) (rising-page_pairs (sizes n) n (words n))
+    (AllByRecursion-map (λ p. p.0 < n) _
+    (λ p lt. AllByRecursion-map (λ y. (y.0 ≡ n) × (y.1 < 64 * sizes n)) (λ y. pair_cmp p y ≡ Less) (λ y at. pair_cmp-page p y (let is = at.0 in omega arith)) (page_pairs (sizes n) n (words n)) (in_page (sizes n) n (words n)))
+    (grid_pairs n sizes words) (in_grid n sizes words))
+
+-- ---- pairs that rise are known by which they are
+
+-- a pair that stands before each of a list isn't among them
+not-after : (x : ℕ × ℕ) (ys : List (ℕ × ℕ)) → AllByRecursion (λ y. pair_cmp x y ≡ Less) ys → has_pair ys x.0 x.1 ≡ false
+not-after x [] all = refl
+not-after x (y ∷ ys) all =
+    let rest = not-after x ys all.1 in
+    let off : (y.0 == x.0 && y.1 == x.1) ≡ false = elim (pair_cmp-Less x y all.0) [
+      | inl page ↦ (let f : eqb y.0 x.0 ≡ false = ne_eqb y.0 x.0 (λ e. omega arith) in rw f refl)
+      | inr index ↦ (
+          let lt = index.1 in
+          let g : eqb y.1 x.1 ≡ false = ne_eqb y.1 x.1 (λ e. omega arith) in
+          elim (cases_Bool (eqb y.0 x.0)) [ inl on ↦ rw (on, g) refl | inr f ↦ rw f refl ])
+    ] in
+    rw (off, rest) refl
+
+-- a pair that stands before another stands before all that the other stands before
+before-after : (x y : ℕ × ℕ) (zs : List (ℕ × ℕ)) → pair_cmp x y ≡ Less → AllByRecursion (λ z. pair_cmp y z ≡ Less) zs → AllByRecursion (λ z. pair_cmp x z ≡ Less) zs
+before-after x y zs first all =
+    AllByRecursion-map (λ z. pair_cmp y z ≡ Less) (λ z. pair_cmp x z ≡ Less)
+    (λ z second. elim (pair_cmp-Less x y first) [
+      | inl a ↦ elim (pair_cmp-Less y z second) [ inl b ↦ pair_cmp-page x z (omega arith) | inr b ↦ (let e = b.0 in pair_cmp-page x z (omega arith)) ]
+      | inr a ↦ (
+          let e = a.0 in
+          let lt = a.1 in
+          elim (pair_cmp-Less y z second) [ inl b ↦ pair_cmp-page x z (omega arith) | inr b ↦ (let lt' = b.1 in pair_cmp-index x z (e ∙ b.0) (omega arith)) ])
+    ])
+    zs all
+
+-- a list's first pair is among its pairs
+has-first : (x : ℕ × ℕ) (xs : List (ℕ × ℕ)) → has_pair (x ∷ xs) x.0 x.1 ≡ true
+has-first x xs = let f : eqb x.0 x.0 ≡ true = eq-eqb x.0 x.0 refl in let g : eqb x.1 x.1 ≡ true = eq-eqb x.1 x.1 refl in rw (f, g) refl
+
+-- where the first of a rising list stands before that of another, it isn't among the other's
+not-in : (x y : ℕ × ℕ) (xs ys : List (ℕ × ℕ)) → pair_cmp x y ≡ Less → AllByRecursion (λ z. pair_cmp y z ≡ Less) ys → ((q k : ℕ) → has_pair (x ∷ xs) q k ≡ has_pair (y ∷ ys) q k) → ⊥
+not-in x y xs ys less all same =
+    let off : has_pair (y ∷ ys) x.0 x.1 ≡ false = not-after x (y ∷ ys) (less, before-after x y ys less all) in
+    both_ways _ off (sym (same x.0 x.1) ∙ has-first x xs)
+
+-- where the first pairs are the same, so are the pairs behind them
+tails : (x : ℕ × ℕ) (xs ys : List (ℕ × ℕ)) → AllByRecursion (λ z. pair_cmp x z ≡ Less) xs → AllByRecursion (λ z. pair_cmp x z ≡ Less) ys
+    → ((q k : ℕ) → has_pair (x ∷ xs) q k ≡ has_pair (x ∷ ys) q k) → (q k : ℕ) → has_pair xs q k ≡ has_pair ys q k
+tails x xs ys first second same q k =
+    elim (cases_Bool (x.0 == q && x.1 == k)) [
+      | inl on ↦ (
+          let parts = and_parts (x.0 == q) (x.1 == k) on in
+          let page : x.0 ≡ q = eqb-true x.0 q parts.0 in
+          let index : x.1 ≡ k = eqb-true x.1 k parts.1 in
+          let a : has_pair xs q k ≡ false = sym (λ i. has_pair xs (page i) (index i)) ∙ not-after x xs first in
+          let b : has_pair ys q k ≡ false = sym (λ i. has_pair ys (page i) (index i)) ∙ not-after x ys second in
+          a ∙ sym b)
+      | inr off ↦ (let h = same q k in rw off at h)
+    ]
+
+-- a pair after another is one that the other stands before
+flipped : (x y : ℕ × ℕ) → pair_cmp x y ≡ Greater → pair_cmp y x ≡ Less
+flipped x y is =
+    elim (cases_lt y.0 x.0) [
+      | inl lt ↦ pair_cmp-page y x lt
+      | inr le ↦ elim (cases_eq x.0 y.0) [
+        | inr ne ↦ (let less : pair_cmp x y ≡ Less = pair_cmp-page x y (omega arith) in cc)
+        | inl page ↦ elim (cases_lt y.1 x.1) [
+          | inl lt ↦ pair_cmp-index y x (sym page) lt
+          | inr le' ↦ elim (cases_eq x.1 y.1) [
+            | inr ne ↦ (let less : pair_cmp x y ≡ Less = pair_cmp-index x y page (omega arith) in cc)
+            | inl index ↦ (
+                let e : nat_cmp x.0 y.0 ≡ Equal = sym (nat_cmp_is x.0 y.0 Equal page) in
+                let f : nat_cmp x.1 y.1 ≡ Equal = sym (nat_cmp_is x.1 y.1 Equal index) in
+                let equal : pair_cmp x y ≡ Equal = rw (e, f) refl in
+                cc)
+          ]
+        ]
+      ]
+    ]
+
+-- Two rising lists with the same pairs are the same.
+pub rising-one : (xs ys : List (ℕ × ℕ)) → IsRising xs → IsRising ys → ((q k : ℕ) → has_pair xs q k ≡ has_pair ys q k) → xs ≡ ys
+unfolding IsStrictlySortedBy
+rising-one [] [] first second same = refl
+rising-one [] (y ∷ ys) first second same = absurd (both_ways _ (sym (same y.0 y.1)) (has-first y ys))
+rising-one (x ∷ xs) [] first second same = absurd (both_ways _ (same x.0 x.1) (has-first x xs))
+rising-one (x ∷ xs) (y ∷ ys) first second same = by (pair_cmp x y) refl (rising-one xs ys first.1 second.1)
+  where
+    by : (r : Ordering) → pair_cmp x y ≡ r → (((q k : ℕ) → has_pair xs q k ≡ has_pair ys q k) → xs ≡ ys) → x ∷ xs ≡ y ∷ ys
+    by Less is rest = absurd (not-in x y xs ys is second.0 same)
+    by Greater is rest = absurd (not-in y x ys xs (flipped x y is) first.0 (λ q k. sym (same q k)))
+    by Equal is rest =
+        let e : x ≡ y = pair_cmp_exact x y is in
+        let all : xs ≡ ys = rest (tails x xs ys first.0 (subst (λ (p : ℕ × ℕ). AllByRecursion (λ z. pair_cmp p z ≡ Less) ys) (sym e) second.0)
+        (λ q k. same q k ∙ ap (λ (p : ℕ × ℕ). has_pair (p ∷ ys) q k) (sym e))) in
+        (λ i. e i ∷ all i)
 
 -- ---- pairs pushed one after another
 

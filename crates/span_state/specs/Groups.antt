@@ -1,12 +1,6 @@
--- How marks are kept: a word of 64 bits for each group of 64 neighbouring indices of a page, by the page and the group's number.
-use Rattle.std.specs.Prelude.{◌≡◌, ℕ, zero, suc, ◌+◌, ◌-◌, ◌*◌, ◌^◌, ◌<◌, min, ◌==◌, List, [], ◌∷◌, ◌++◌, flat_map, unwrap_or, if◌then◌else◌}
-use Rattle.std.specs.Ordering.{nat_cmp}
-use Rattle.std.specs.List.{AllByRecursion}
-use Rattle.std.specs.List.Sorted.{IsStrictlySortedBy}
-use Rattle.std.specs.Map.{keys_of, lookup}
-use Rattle.std.specs.BTreeMap.{is_at}
+-- How marks are kept: for each page a row of words of 64 bits, each for a group of 64 neighbouring indices.
+use Rattle.std.specs.Prelude.{ℕ, zero, suc, ◌+◌, ◌*◌, ◌^◌, ◌≤◌, ◌==◌, List, [], ◌∷◌, ◌++◌, length, slice_index, slice_index_or, if◌then◌else◌}
 use Rattle.std.specs.Int.{bit_at}
-use Rattle.span_state.specs.MarkSet.{pair_cmp, pairs_at}
 
 -- the pairs that the lowest `n` bits of a group's word mark
 abbrev pub word_pairs : ℕ → ℕ → ℕ → ℕ → List (ℕ × ℕ)
@@ -17,24 +11,29 @@ word_pairs (suc n) page group word = word_pairs n page group word ++ (if bit_at 
 unfoldable pub group_pairs : (ℕ × ℕ) × ℕ → List (ℕ × ℕ)
 group_pairs e = word_pairs 64 e.0.0 e.0.1 e.1
 
+-- the pairs that the words of a page's first `n` groups mark
+abbrev pub page_pairs : ℕ → ℕ → (ℕ → ℕ) → List (ℕ × ℕ)
+page_pairs zero page words = []
+page_pairs (suc n) page words = page_pairs n page words ++ group_pairs ((page, n), words n)
+
+-- the pairs that the words of the first `n` pages mark, of which each has so many groups
+abbrev pub grid_pairs : ℕ → (ℕ → ℕ) → (ℕ → ℕ → ℕ) → List (ℕ × ℕ)
+grid_pairs zero sizes words = []
+grid_pairs (suc n) sizes words = grid_pairs n sizes words ++ page_pairs (sizes n) n (words n)
+
+-- the row of a page; a page past the last row has an empty one
+abbrev pub row_of : List (List ℕ) → ℕ → List ℕ
+row_of rows page = slice_index_or rows page []
+
+-- the word of a group; a group past the end of its row marks nothing
+abbrev pub word_of : List (List ℕ) → ℕ → ℕ → ℕ
+word_of rows page group = slice_index (row_of rows page) group
+
 -- the pairs that all words mark
-abbrev pub pairs_of : List ((ℕ × ℕ) × ℕ) → List (ℕ × ℕ)
-pairs_of words = flat_map group_pairs words
+abbrev pub pairs_of : List (List ℕ) → List (ℕ × ℕ)
+pairs_of rows = grid_pairs (length rows) (λ page. length (row_of rows page)) (word_of rows)
 
--- the word of a group; a group that has none marks nothing
-abbrev pub word_at : List ((ℕ × ℕ) × ℕ) → ℕ → ℕ → ℕ
-word_at words page group = unwrap_or (lookup (is_at (pair_cmp (page, group))) words) 0
-
--- the number kept for a page; 0 where none is kept
-abbrev pub kept_count : List (ℕ × ℕ) → ℕ → ℕ
-kept_count counts page = unwrap_or (lookup (is_at (nat_cmp page)) counts) 0
-
--- the group's indices are below 2 ^ 32
-abbrev pub IsGroup : (ℕ × ℕ) × ℕ → Type 0
-IsGroup e = e.0.1 < 2 ^ 26
-
--- The words stand in order, each group's indices are below 2 ^ 32, and the counts are those of the marked pairs, as far as 32 bits hold them.
-pub record IsKept (words : List ((ℕ × ℕ) × ℕ)) (counts : List (ℕ × ℕ)) : Type 0 where
-  pub ordered : IsStrictlySortedBy pair_cmp (keys_of words)
-  pub groups : AllByRecursion IsGroup words
-  pub counted : (page : ℕ) → kept_count counts page ≡ min (pairs_at (pairs_of words) page) (2 ^ 32 - 1)
+-- The rows are those of pages and groups whose numbers and indices are below 2 ^ 32.
+pub record AreRows (rows : List (List ℕ)) : Type 0 where
+  pub pages : length rows ≤ 2 ^ 32
+  pub groups : (page : ℕ) → length (row_of rows page) ≤ 2 ^ 26

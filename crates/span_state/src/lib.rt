@@ -3,6 +3,7 @@
 
 mod body;
 mod marks;
+mod row;
 mod sweep;
 
 pub use body::Body;

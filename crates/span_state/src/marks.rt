@@ -1,20 +1,21 @@
-ghost use Rattle.std.specs.Prelude.{◌≡◌, ◌↔◌, ℕ, ◌+◌, ◌-◌, ◌*◌, ◌^◌, ◌<◌, ◌==◌, ◌||◌, ◌&&◌, [], ◌∷◌, ◌++◌, ◌≢◌, false, min, true, IsOk, OnOk, OnErr, IfOk};
+ghost use Rattle.std.specs.Prelude.{◌≡◌, ◌↔◌, ℕ, ◌+◌, ◌-◌, ◌*◌, ◌^◌, ◌<◌, ◌≤◌, ◌==◌, ◌||◌, ◌&&◌, [], ◌∷◌, ◌++◌, ◌≢◌, false, length, min, slice_index, true, IsOk, OnOk, OnErr, IfOk};
 ghost use Rattle.std.specs.Int.{bit_at};
-ghost use Rattle.span_state.specs.Groups.{group_pairs};
-ghost use Rattle.span_state.specs.MarkSet.{is_marked, marked_count, dead_of, IsRising};
+ghost use Rattle.span_state.specs.Groups.{group_pairs, page_pairs, row_of};
+ghost use Rattle.span_state.specs.MarkSet.{is_marked, marked_count, dead_of, pairs_at, IsRising};
 
+use crate::row::Row;
 use fallible_list::{List, NoMemory};
 use std::alloc::Global;
 use std::collections::BTreeMap;
 use std::marker::Model;
 
 /// The marks of a mark end: which objects survive, and the buckets of the sampled objects that died.
+///
+/// They take memory for each page up to the highest that has a mark, and on each page up to its highest marked index.
 #[derive(Drop)]
 pub struct Marks {
-    // a bit for each of 64 indices, by the page and the index over 64
-    words: BTreeMap<(u32, u32), u64>,
-    // how many indices of a page are marked
-    counts: BTreeMap<u32, u32>,
+    // a row of words for each page
+    rows: Vec<Row>,
     // the dead buckets of a page
     dead: BTreeMap<u32, List<u32>>,
     alloc: Global,
@@ -22,13 +23,13 @@ pub struct Marks {
 
 impl Model for Marks {
     ghost use Rattle.span_state.specs.MarkSet.{MarkSet};
-    ghost use Rattle.span_state.specs.Groups.{pairs_of, IsKept};
+    ghost use Rattle.span_state.specs.Groups.{pairs_of, AreRows};
 
     ghost Value = { MarkSet };
 
-    ghost view = { λ m. record { pairs = pairs_of m.words.entries; deaths = m.dead.entries } };
+    ghost view = { λ m. record { pairs = pairs_of m.rows.items; deaths = m.dead.entries } };
 
-    ghost invariant = { λ m. IsKept m.words.entries m.counts.entries };
+    ghost invariant = { λ m. AreRows m.rows.items };
 }
 
 impl Marks {
@@ -38,8 +39,7 @@ impl Marks {
         ensures dead { (page : ℕ) → dead_of result page ≡ [] }
     {
         Marks {
-            words: BTreeMap::new(alloc),
-            counts: BTreeMap::new(alloc),
+            rows: Vec::new(alloc),
             dead: BTreeMap::new(alloc),
             alloc,
         }
@@ -54,17 +54,14 @@ impl Marks {
         ensures dead { self.new.deaths ≡ self.old.deaths }
         ensures err { OnErr result (self.new ≡ self.old) }
     {
-        let group = (page, index / 64);
+        let group = index / 64;
         let bit = 1 << (index % 64);
-        let word = self.words.get(&group).copied().unwrap_or(0);
+        let word = self.word(page, group);
         if word & bit != 0 {
             return Ok(());
         }
-        // a count of 0 says what no count says, if memory runs out below
-        let count = self.counts.entry(page)?.or_insert(0);
-        self.words.insert(group, word | bit)?;
-        *count = count.saturating_add(1);
-        Ok(())
+        reach(&mut self.rows, self.alloc, page)?;
+        self.rows[page as usize].set(group, word | bit)
     }
 
     /// Puts a bucket at the end of the page's dead.
@@ -88,15 +85,26 @@ impl Marks {
         ensures count { result ≡ min (marked_count self.now page) (2 ^ 32 - 1) }
         ensures none { (result ≡ 0) ↔ ((index : ℕ) → is_marked self.now page index ≡ false) }
     {
-        self.counts.get(&page).copied().unwrap_or(0)
+        let page = page as usize;
+        if page < self.rows.len() {
+            count_row(&self.rows[page])
+        } else {
+            0
+        }
     }
 
     /// The marks of 64 indices of the page, from index 64 * group on: the lowest bit is that of the first index.
     pub(crate) fn word(&self, page: u32, group: u32) -> u64
-        ensures { (bit : ℕ) → bit < 64
+        ensures bits { (bit : ℕ) → bit < 64
             → (bit_at result bit == 1) ≡ is_marked self.now page (64 * group + bit) }
+        ensures rising { IsRising self.now.pairs }
     {
-        self.words.get(&(page, group)).copied().unwrap_or(0)
+        let page = page as usize;
+        if page < self.rows.len() {
+            self.rows[page].word(group)
+        } else {
+            0
+        }
     }
 
     /// Whether the index of the page is marked.
@@ -122,11 +130,63 @@ impl Marks {
         ensures rising { IsRising self.now.pairs }
     {
         let mut pairs = List::new(self.alloc);
-        for (&(page, group), &word) in &self.words {
-            push_group(&mut pairs, page, group, word)?;
+        for page in 0..self.rows.len() {
+            push_row(&mut pairs, page as u32, &self.rows[page])?;
         }
         Ok(pairs)
     }
+}
+
+// Makes rows up to that of the page. Without memory no word changes.
+fn reach(rows: &mut Vec<Row>, alloc: Global, page: u32) -> Result<(), NoMemory>
+    ensures rows { (q : ℕ) → row_of rows.new.items q ≡ row_of rows.old.items q }
+    ensures reached { OnOk result (page < length rows.new.items) }
+    ensures few { (size : ℕ) → length rows.old.items ≤ size → page < size → length rows.new.items ≤ size }
+{
+    if (page as usize) < rows.len() {
+        return Ok(());
+    }
+    add_rows(rows, alloc, page)
+}
+
+// Puts rows at the end up to that of the page, which is past the last.
+#[cold]
+#[inline(never)]
+fn add_rows(rows: &mut Vec<Row>, alloc: Global, page: u32) -> Result<(), NoMemory>
+    requires { length rows.old.items ≤ page }
+    ensures rows { (q : ℕ) → row_of rows.new.items q ≡ row_of rows.old.items q }
+    ensures reached { OnOk result (page < length rows.new.items) }
+    ensures few { (size : ℕ) → length rows.old.items ≤ size → page < size → length rows.new.items ≤ size }
+{
+    let page = page as usize;
+    rows.reserve(page + 1 - rows.len())?;
+    while rows.len() <= page {
+        rows.push(Row::new(alloc))?;
+    }
+    Ok(())
+}
+
+// How many indices a page's row marks, or 2^32 - 1 where there are more.
+fn count_row(row: &Row) -> u32
+    requires { length row.now ≤ 2 ^ 26 }
+    ensures { (page : ℕ) → result ≡ min (pairs_at (page_pairs (length row.now) page (λ g. slice_index row.now g)) page) (2 ^ 32 - 1) }
+{
+    let mut count: u32 = 0;
+    for group in 0..row.len() {
+        count = count.saturating_add(row.word(group as u32).count_ones());
+    }
+    count
+}
+
+// Puts the pairs that a page's row marks at the end.
+fn push_row(pairs: &mut List<(u32, u32)>, page: u32, row: &Row) -> Result<(), NoMemory>
+    requires { length row.now ≤ 2 ^ 26 }
+    ensures { OnOk result (pairs.new ≡ pairs.old ++ page_pairs (length row.now) page (λ g. slice_index row.now g)) }
+{
+    for group in 0..row.len() {
+        push_group(pairs, page, group as u32, row.word(group as u32))?;
+    }
+    Ok(())
 }
 
 // Puts the pairs that a word marks at the end.

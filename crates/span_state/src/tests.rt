@@ -83,6 +83,11 @@ fn bodies_at_word_borders(rt: HostRuntime) -> Result<(), Fail> {
     Ok(())
 }
 
+// A page and an index that no region has.
+const FAR_PAGE: u32 = 70_000;
+
+const FAR_INDEX: u32 = 100_000;
+
 // Marks of three pages, added out of order and some twice, and dead of two.
 fn marks_out_of_order(alloc: Global) -> Result<Marks, NoMemory> {
     let mut marks = Marks::empty(alloc);
@@ -90,11 +95,11 @@ fn marks_out_of_order(alloc: Global) -> Result<Marks, NoMemory> {
         (5, 63),
         (5, 64),
         (2, 1023),
-        (u32::MAX, u32::MAX),
+        (FAR_PAGE, FAR_INDEX),
         (5, 0),
         (5, 63),
-        (2, u32::MAX),
-        (u32::MAX, 0),
+        (2, FAR_INDEX),
+        (FAR_PAGE, 0),
     ];
     for (page, index) in added {
         marks.add(page, index)?;
@@ -117,7 +122,7 @@ fn marks_in_any_order(rt: HostRuntime) -> Result<(), Fail> {
         (5, 1, false, 3, [9, 9, 3].as_slice()),
         (2, 1023, true, 2, [1].as_slice()),
         (2, 1022, false, 2, [1].as_slice()),
-        (u32::MAX, u32::MAX, true, 2, [].as_slice()),
+        (FAR_PAGE, FAR_INDEX, true, 2, [].as_slice()),
         (3, 0, false, 0, [].as_slice()),
     ];
     for (page, index, marked, count, dead) in rows {
@@ -129,12 +134,12 @@ fn marks_in_any_order(rt: HostRuntime) -> Result<(), Fail> {
     let pairs = marks.pairs()?;
     let rising = [
         (2, 1023),
-        (2, u32::MAX),
+        (2, FAR_INDEX),
         (5, 0),
         (5, 63),
         (5, 64),
-        (u32::MAX, 0),
-        (u32::MAX, u32::MAX),
+        (FAR_PAGE, 0),
+        (FAR_PAGE, FAR_INDEX),
     ];
     assert_eq!(rt; pairs.as_slice(), rising.as_slice());
     Ok(())

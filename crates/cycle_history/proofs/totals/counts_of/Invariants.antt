@@ -1,6 +1,12 @@
-use Rattle.cycle_history.specs.Counted.{AreCounts}
+use Rattle.std.proofs.Common.{◌≡◌}
+use Rattle.cycle_history.specs.Counted.{AreCounts, AreLiving}
+use Rattle.cycle_history.specs.Marked.{objects_before}
 use Rattle.cycle_history.proofs.totals.counts_of.Given as goal
 
--- the objects so far are counted
-abbrev pub invariant-loop-object : goal.invariant-loop-object
-invariant-loop-object l = AreCounts l.fn.trace l.fn.answers l.object l.counts
+-- the cycles so far are counted
+abbrev pub invariant-loop-cycle : goal.invariant-loop-cycle
+invariant-loop-cycle l = record {
+  first : l.first ≡ objects_before l.trace l.cycle;
+  living : AreLiving l.trace l.first l.living;
+  counted : AreCounts l.trace l.answers l.first l.counts;
+}

@@ -12,7 +12,7 @@ use Rattle.cycle_history.proofs.totals.totals_of.Goals as goal
 
 pub loop-class-preserved : goal.loop-class-preserved
 loop-class-preserved c =
-    let counts = c.in_ok-counts.counts in
+    let counts = c.counts_of-counts.result in
     let class = c.loop-class.class in
     elim c.if-count-ne0.branch [
       | then-count-ne0+in_ok-push w ↦ (
@@ -30,11 +30,11 @@ returns c = record {
       let t = c.args.trace.now in
       let all : length c.args.answers.now ≡ length (requests_from 0 t.cycles) =
       c.requires.answers ∙ sym (ap (λ (es : List Event). length es) (requests-events 0 t.cycles)) ∙ length-map (requests_from 0 t.cycles) (λ (r : Request). r.event) in
-      let counts : AreCounts t c.args.answers.now (length c.args.answers.now) c.in_ok-counts.counts =
-      subst (λ (xs : List Answer). AreCounts t xs (length xs) c.in_ok-counts.counts) c.as_slice.ensures c.in_ok-counts.ensures in
+      let counts : AreCounts t c.args.answers.now (length c.args.answers.now) c.counts_of-counts.result =
+      subst (λ (xs : List Answer). AreCounts t xs (length xs) c.counts_of-counts.result) c.as_slice.ensures c.counts_of-counts.ensures in
       let end = c.loop-class.auto.class-end in
       let over = c.loop-class-test.false in
       let class : c.loop-class.class ≡ 68 = omega arith in
-      let listed : AreListed c.in_ok-counts.counts 68 c.loop-class.totals = subst (λ (k : ℕ). AreListed c.in_ok-counts.counts k c.loop-class.totals) class c.loop-class.invariant in
-      listed-all t c.args.answers.now c.in_ok-counts.counts c.loop-class.totals objects all counts listed of);
+      let listed : AreListed c.counts_of-counts.result 68 c.loop-class.totals = subst (λ (k : ℕ). AreListed c.counts_of-counts.result k c.loop-class.totals) class c.loop-class.invariant in
+      listed-all t c.args.answers.now c.counts_of-counts.result c.loop-class.totals objects all counts listed of);
 }

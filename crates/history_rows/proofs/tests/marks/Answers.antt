@@ -1,8 +1,9 @@
-use Rattle.std.proofs.Common.{List, sym, subst}
+use Rattle.std.proofs.Common.{◌≡◌, ◌-◌, ◌∙◌, List, length, take, ap, sym, subst}
 use Rattle.trace_reader.specs.declared.trace.Trace.{Trace}
 use Rattle.cycle_history.specs.declared.Answer.{Answer}
-use Rattle.cycle_history.specs.Marked.{ArePlaces}
-use Rattle.history_rows.specs.Example.{example}
+use Rattle.cycle_history.specs.Found.{AreFound}
+use Rattle.cycle_history.specs.Marked.{ArePlaces, objects_before}
+use Rattle.history_rows.specs.Example.{answers, example}
 use Rattle.history_rows.proofs.Facts.{ready}
 use Rattle.history_rows.proofs.tests.marks.Goals as goal
 
@@ -10,3 +11,11 @@ pub marks_of-requires-clause-places : goal.marks_of-requires-clause-places
 marks_of-requires-clause-places c =
     let r = ready c.args.mark c.args.count c.requires.mark in
     subst (λ (t : Trace). ArePlaces t c.in_ok-answers.answers) (sym c.requires.trace) (subst (λ (xs : List Answer). ArePlaces example xs) (sym c.in_ok-answers.ensures) r.places)
+
+pub marks_of-requires-clause-kept : goal.marks_of-requires-clause-kept
+marks_of-requires-clause-kept c = c.requires.kept ∙ ap (λ (t : Trace). objects_before t (c.args.mark - 1)) (sym c.requires.trace)
+
+pub marks_of-requires-clause-found : goal.marks_of-requires-clause-found
+marks_of-requires-clause-found c =
+    subst (λ (t : Trace). AreFound t c.in_ok-answers.answers c.args.places.now) (sym c.requires.trace)
+    (subst (λ (xs : List Answer). AreFound example xs c.args.places.now) (sym c.in_ok-answers.ensures) c.requires.found)

@@ -1,4 +1,4 @@
-use Rattle.report_text.proofs.Put.{on_err}
+use Rattle.edge_io.proofs.Put.{on_err}
 use Rattle.report_text.proofs.Whole.{sweeps_fault, totals_fault, profile_fault, end_fault, closing_put}
 use Rattle.report_text.proofs.write.put_closing.Goals as goal
 

@@ -2,7 +2,7 @@ use Rattle.std.proofs.Common.{◌≡◌, ◌≤◌, take}
 use Rattle.edge_io.specs.Output.{sink_of, waiting_of}
 use Rattle.edge_io.specs.Text.{text}
 use Rattle.cycle_history.specs.Text.{numbered}
-use Rattle.report_text.specs.Sent.{Puts}
+use Rattle.edge_io.specs.Puts.{Puts}
 use Rattle.report_text.proofs.write.put_lines.Given as goal
 
 abbrev pub invariant-loop-number : goal.invariant-loop-number

@@ -1,6 +1,6 @@
 use Rattle.std.proofs.Common.{◌≡◌, ◌<◌, length, get_or, ◌∙◌, arith}
 use Rattle.alloc_tool.specs.Runs.{GoesOn}
-use Rattle.alloc_tool.proofs.Cycled.{some-cycle, events-of, cycle-sizes, cycle-answered}
+use Rattle.alloc_tool.proofs.Cycled.{some-cycle, events-of, cycle-sizes, cycle-answered, answers-kept}
 use Rattle.alloc_tool.proofs.run.Run.answer_cycle.Goals as goal
 
 pub answer_all-requires-clause-sizes : goal.answer_all-requires-clause-sizes
@@ -33,4 +33,7 @@ returns c =
           let before = come.sampled in
           omega arith);
       buckets = come.buckets;
+      kept = come.kept;
+      found = answers-kept t c.args.cycle c.args.self.now.heap c.args.self.now.answers c.answer_all.new.answers come.objects c.args.self.now.places come.answered come.kept
+          c.in_ok-answer_all.ensures.kept come.found;
     }

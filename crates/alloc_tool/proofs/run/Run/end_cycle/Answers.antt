@@ -1,4 +1,4 @@
-use Rattle.std.proofs.Common.{◌+◌, ◌∙◌, arith}
+use Rattle.std.proofs.Common.{◌≡◌, ◌+◌, ◌-◌, ◌∙◌, arith}
 use Rattle.alloc_tool.proofs.Cycled.{ok-map, caught-up, count-before, places-before, allocated-before, cycle-ended}
 use Rattle.alloc_tool.proofs.run.Run.end_cycle.Goals as goal
 
@@ -19,6 +19,12 @@ marks_of-requires-clause-buckets c =
 
 pub marks_of-requires-clause-places : goal.marks_of-requires-clause-places
 marks_of-requires-clause-places c = let come = c.requires.come in places-before c.args.trace.now c.args.cycle (c.args.cycle + 1) _ _ come.objects come.region come.answered
+
+pub marks_of-requires-clause-kept : goal.marks_of-requires-clause-kept
+marks_of-requires-clause-kept c =
+    let come = c.requires.come in
+    let back : c.args.cycle + 1 - 1 ≡ c.args.cycle = omega arith in
+    rw back come.kept
 
 pub next_cycle-requires-clause-allocated : goal.next_cycle-requires-clause-allocated
 next_cycle-requires-clause-allocated c =
@@ -41,4 +47,6 @@ returns c =
           let sampled = c.in_ok-sample_none.ensures.sampled in
           let buckets = c.in_ok-sample_none.ensures.buckets in
           omega arith);
+      kept = c.in_ok-marks.ensures.kept;
+      found = c.in_ok-marks.ensures.found;
     }) c.next_cycle.ensures.next

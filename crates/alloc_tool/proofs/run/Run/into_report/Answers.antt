@@ -13,4 +13,4 @@ pub returns-clause-sound : goal.returns-clause-sound
 returns-clause-sound c =
     let come = c.requires.come in
     report-sound c.args.trace.now c.args.self.heap c.args.self.answers come.objects _ c.requires.plain come.answered come.region come.goal
-    c.in_ok-journal.ensures refl c.into_sweeps.ensures c.in_ok-totals_of.ensures.totals
+    c.into_lists-journal.ensures.journal refl c.into_lists-journal.ensures.sweeps c.in_ok-totals_of.ensures.totals

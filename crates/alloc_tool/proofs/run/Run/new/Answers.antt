@@ -1,6 +1,6 @@
 use Rattle.std.proofs.Common.{[], rules}
 use Rattle.cycle_history.specs.Requests.{marked_by}
-use Rattle.alloc_tool.proofs.Cycled.{new-run}
+use Rattle.alloc_tool.proofs.Cycled.{new-run, places-none}
 use Rattle.alloc_tool.proofs.run.Run.new.Goals as goal
 
 pub returns : goal.returns
@@ -11,4 +11,6 @@ returns c = record {
   goal = c.in_ok-new.ensures.goal;
   sampled = search rules;
   buckets = search rules;
+  kept = search rules;
+  found = places-none c.args.trace.now _ _ c.new-5.ensures;
 }

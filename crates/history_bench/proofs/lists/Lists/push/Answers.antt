@@ -3,8 +3,8 @@ use Rattle.history_bench.specs.declared.lists.Lists.{Lists}
 use Rattle.history_bench.proofs.Filling.{filled-more}
 use Rattle.history_bench.proofs.lists.Lists.push.Goals as goal
 
-pub returns : goal.returns
-returns c =
+pub returns-clause-filled : goal.returns-clause-filled
+returns-clause-filled c =
     let new : Lists = record { answers = c.push.new.self; sampled = c.push-2.new.self; buckets = c.push-3.new.self } in
     let pages = c.requires.pages in
     let chunks = c.requires.limited.header.chunks in

@@ -4,6 +4,7 @@ use Rattle.page_alloc.specs.Journal.{IsScavengeRun}
 use Rattle.page_alloc.specs.Kept.{region_of, past_in}
 use Rattle.page_alloc.proofs.Keeping.{kept-scavenge, scavenge-run, scavenge_small}
 use Rattle.page_alloc.proofs.Adding.{adds-line, sound-after, by-view, spare-view}
+use Rattle.page_alloc.proofs.Sums.{right-same}
 use Rattle.page_alloc.proofs.allocator.Pages.scavenge.Goals as goal
 
 pub overflow_sub-self : goal.overflow_sub-self
@@ -26,9 +27,8 @@ invariant_of-self c =
     (with_items_is c.self.inside.chunks c.scavenge_run.new.chunks (chunks ∙ sym c.self.inside.chunks.ok.0)) refl refl chunks refl refl append.past
     (kept-scavenge _ _ c.args.cycle c.in_ok-run.run'.page c.in_ok-run.run'.pages sound.kept (by-view c.self.inside c.args.self.now c.args.cycle c.self.view_is c.requires.cycle) c.if-self.false run
     (rw c.as_mut_slice.ensures.value at c.scavenge_run.ensures.free) (rw c.as_mut_slice.ensures.value at c.scavenge_run.ensures.scavenged))
-    (omega arith) (rw chunks sound.full_within)
-    (λ p lt. rw c.as_mut_slice.ensures.value at c.scavenge_run.ensures.free p ∙ sound.full_taken p lt)
-    (λ lt. let here = sound.full_stops (omega arith) in (here.0, here.1, rw c.as_mut_slice.ensures.value at c.scavenge_run.ensures.free here.0 ∙ here.2))
+    (omega arith) (rw chunks (right-same _ _ _ c.self.inside.levels (rw c.as_mut_slice.ensures.value at c.scavenge_run.ensures.free) sound.levels))
+    (λ p lt. rw c.as_mut_slice.ensures.value at c.scavenge_run.ensures.free p ∙ sound.below_search p lt)
 
 pub returns-clause-released : goal.returns-clause-released
 returns-clause-released c =

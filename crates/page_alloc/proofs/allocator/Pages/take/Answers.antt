@@ -1,10 +1,11 @@
-use Rattle.std.proofs.Common.{◌≡◌, ◌≤◌, length, refl, ◌∙◌, sym, ap, arith, length-set}
+use Rattle.std.proofs.Common.{◌≡◌, ◌≤◌, false, length, refl, ◌∙◌, sym, ap, arith, length-set}
 use Rattle.std.proofs.lemmas.List.{with_items_is}
 use Rattle.page_bitmap.specs.CountLaws.{count_below-le}
 use Rattle.page_alloc.specs.Journal.{IsFirstFit}
 use Rattle.page_alloc.specs.Kept.{region_of, past_in}
 use Rattle.page_alloc.proofs.Keeping.{first-fit, kept-miss, kept-take, kept_small, no-run}
 use Rattle.page_alloc.proofs.Adding.{adds-line, sound-after, by-view, size-view, spare-view}
+use Rattle.page_alloc.proofs.Sums.{right-but, search-after}
 use Rattle.page_alloc.proofs.allocator.Pages.take.Goals as goal
 
 pub invariant_of-self : goal.invariant_of-self
@@ -17,7 +18,7 @@ invariant_of-self c =
     sound-after c.self.inside _ c.self.inside.chunks.items c.self.inside.starts.items c.self.inside.lengths.items _ sound refl refl refl refl refl refl append.past
     (kept-miss sound.kept (by-view c.self.inside c.args.self.now c.args.cycle c.self.view_is c.requires.cycle) c.requires.some
     (no-run sound.kept (rw c.as_slice.ensures.value at c.in_default.ensures.none)))
-    (omega arith) sound.full_within sound.full_taken sound.full_stops
+    (omega arith) sound.levels sound.below_search
 
 pub returns-in_default-clause-missed : goal.returns-in_default-clause-missed
 returns-in_default-clause-missed c =
@@ -40,6 +41,12 @@ overflow_add-self-2 c =
     let inside = fit.here.inside in
     omega arith
 
+pub update-requires-clause-others : goal.update-requires-clause-others
+update-requires-clause-others c =
+    let chunks : length c.take_run.new.chunks ≡ length c.self.inside.chunks.items = c.take_run.auto.chunks ∙ ap length c.as_mut_slice.ensures.value in
+    let with_chunks : c.as_slice-2.result.now ≡ c.take_run.new.chunks = c.as_slice-2.ensures.value ∙ with_items_is c.self.inside.chunks c.take_run.new.chunks (chunks ∙ sym c.self.inside.chunks.ok.0) in
+    rw (with_chunks, chunks) (right-but _ _ _ c.in-Some.page c.args.n false c.self.inside.levels c.requires.some (rw c.as_mut_slice.ensures.value at c.take_run.ensures.free) c.self.invariant.levels)
+
 pub invariant_of-self-2 : goal.invariant_of-self-2
 invariant_of-self-2 c =
     let sound = c.self.invariant in
@@ -48,6 +55,7 @@ invariant_of-self-2 c =
     let lives = sound.kept.lives in
     let spare = spare-view c.self.inside c.args.self.now 2 c.self.view_is c.requires.spare in
     let numbers = sound.numbers in
+    let inside = (rw c.as_slice.ensures.value at c.in-Some.ensures.found).here.inside in
     let fit : IsFirstFit (region_of c.self.inside) (past_in c.self.inside) c.in-Some.page c.args.n = first-fit sound.kept (rw c.as_slice.ensures.value at c.in-Some.ensures.found) in
     let size = size-view c.self.inside c.args.self.now c.args.n c.args.class c.self.view_is c.requires.size c.in-Some.page fit in
     let chunks : length c.take_run.new.chunks ≡ length c.self.inside.chunks.items = c.take_run.auto.chunks ∙ ap length c.as_mut_slice.ensures.value in
@@ -59,7 +67,9 @@ invariant_of-self-2 c =
     (with_items_is c.self.inside.starts c.mark_start.new.starts (maps ∙ sym c.self.inside.starts.ok.0)) refl chunks maps (length-set _ _ _) append.past
     (kept-take _ _ _ c.args.cycle c.in-Some.page c.args.n c.args.class sound.kept (by-view c.self.inside c.args.self.now c.args.cycle c.self.view_is c.requires.cycle) size fit (omega arith)
     (rw c.as_mut_slice.ensures.value at c.take_run.ensures.free) (rw c.as_mut_slice.ensures.value at c.take_run.ensures.scavenged) (rw c.as_mut_slice-2.ensures.value at c.mark_start.ensures))
-    (omega arith) (rw (with_chunks) at c.full_chunks-self-inside.ensures.within) (rw (with_chunks) at c.full_chunks-self-inside.ensures.taken) (rw (with_chunks) at c.full_chunks-self-inside.ensures.stops))
+    (omega arith) (rw with_chunks at c.update.ensures)
+    (search-after _ _ (region_of c.self.inside) c.in-Some.page c.args.n c.self.inside.search _ c.requires.some inside (rw c.as_mut_slice.ensures.value at c.take_run.ensures.free) sound.below_search
+    (rw c.as_slice.ensures.value at c.in-Some.ensures.found) c.raised-self-inside.ensures))
 
 pub returns-clause-taken : goal.returns-clause-taken
 returns-clause-taken c =

@@ -29,7 +29,7 @@ pub loop-group-preserved : goal.loop-group-preserved
 loop-group-preserved c =
     let fits : get_or c.args.self.now.bits c.loop-group.group 0 < 2 ^ 64 = omega arith in
     swept-more c.loop-group.group c.args.self.now.bits (is_marked c.args.marks.now c.args.self.now.page) _ _ _ c.word-marked.result (omega arith) (omega arith) fits
-    c.word-marked.ensures c.loop-group.invariant
+    c.word-marked.ensures.bits c.loop-group.invariant
 
 pub returns-clause-kept : goal.returns-clause-kept
 returns-clause-kept c =

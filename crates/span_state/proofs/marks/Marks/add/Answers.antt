@@ -1,68 +1,77 @@
-use Rattle.std.proofs.Common.{◌≡◌, ℕ, ◌+◌, ◌/◌, ◌%◌, ◌==◌, Option, cond, unwrap_or, ap, ◌∙◌, arith}
-use Rattle.std.proofs.lemmas.Grind.{common_steps}
-use Rattle.span_state.specs.Groups.{word_at, pairs_of}
+use Rattle.std.proofs.Common.{◌≡◌, ℕ, ◌+◌, ◌*◌, ◌/◌, ◌%◌, ◌^◌, ◌<◌, ◌==◌, ◌||◌, ◌&&◌, cond, List, length, Result, Ok, Err, OnErr, get_or, refl, sym, ◌∙◌, ap, arith}
+use Rattle.std.proofs.Math.ListN.{set}
 use Rattle.std.proofs.lemmas.Bool.{both_ways}
+use Rattle.std.proofs.lemmas.Result.{on_ok_weaker, on_err_weaker}
 use Rattle.std.specs.Int.{bit_at}
-use Rattle.span_state.specs.MarkSet.{pairs_at}
-use Rattle.span_state.proofs.Added.{bit_on, bit_off, has-added, pairs_at-added, IsGroup-insert, marked-already, unmarked}
-use Rattle.span_state.proofs.Pairs.{rising-pairs_of}
+use Rattle.span_state.specs.Groups.{AreRows, pairs_of}
+use Rattle.span_state.specs.MarkSet.{MarkSet, has_pair, is_marked}
+use Rattle.span_state.proofs.Added.{bit_on, bit_off, has-added, kept-of, marked-already, pairs_of-same, put-of, rising-pairs_of, row-read, rows-put, rows-reached, set_bit, unmarked}
 use Rattle.span_state.proofs.marks.Marks.add.Goals as goal
+
+on_err_of : {T E P : Type 0} (r : Result T E) → P → OnErr r P
+on_err_of (Ok x) p = tt
+on_err_of (Err e) p = p
 
 pub returns-then-word-bit-ne0-clause-marked : goal.returns-then-word-bit-ne0-clause-marked
 returns-then-word-bit-ne0-clause-marked c =
-    rw (← c.self.view_is) (marked-already c.self.inside.words.entries c.args.page c.args.index _ c.self.invariant.ordered
-    (c.unwrap_or-word.ensures ∙ ap (λ (o : Option ℕ). unwrap_or o 0) (c.copied.ensures ∙ c.get.ensures.value)) (bit_on _ _ (omega arith) c.if-word-bit-ne0.true))
+    marked-already c.args.self.now.pairs c.args.page c.args.index c.word-word.result c.word-word.ensures.bits (bit_on _ _ (omega arith) c.if-word-bit-ne0.true)
 
-pub returns-then-word-bit-ne0-clause-rising : goal.returns-then-word-bit-ne0-clause-rising
-returns-then-word-bit-ne0-clause-rising c = rw (← c.self.view_is) (rising-pairs_of _ c.self.invariant.ordered)
+pub invariant_of-self : goal.invariant_of-self
+invariant_of-self c =
+    rows-reached c.self.inside.rows.items c.reach.new.rows.items c.self.invariant c.reach.ensures.rows (c.reach.ensures.few (2 ^ 32) c.self.invariant.pages (omega arith))
 
-pub returns-in_err-self-inside-clause-rising : goal.returns-in_err-self-inside-clause-rising
-returns-in_err-self-inside-clause-rising c = rising-pairs_of _ c.self.invariant.ordered
+pub returns-in_err-reach-clause-again : goal.returns-in_err-reach-clause-again
+returns-in_err-reach-clause-again c = λ on.
+    (let off = unmarked c.args.self.now.pairs c.args.page c.args.index c.word-word.result c.word-word.ensures.bits (bit_off _ _ (omega arith) c.if-word-bit-ne0.false) in
+    absurd (both_ways _ off on))
 
-pub returns-in_err-insert-clause-rising : goal.returns-in_err-insert-clause-rising
-returns-in_err-insert-clause-rising c = rising-pairs_of _ c.in_err-insert.ensures.ordered
+pub returns-in_err-reach-clause-rising : goal.returns-in_err-reach-clause-rising
+returns-in_err-reach-clause-rising c = rising-pairs_of c.reach.new.rows.items
+
+pub returns-in_err-reach-clause-err : goal.returns-in_err-reach-clause-err
+returns-in_err-reach-clause-err c =
+    on_err_of c.from_residual.result (ap (λ (pairs : List (ℕ × ℕ)). record { pairs = pairs; deaths = c.self.inside.dead.entries })
+    (pairs_of-same c.self.inside.rows.items c.reach.new.rows.items (λ q g. ap (λ (row : List ℕ). get_or row g 0) (c.reach.ensures.rows q)))
+    ∙ c.self.view_is)
 
 pub invariant_of-self-2 : goal.invariant_of-self-2
 invariant_of-self-2 c =
-    let word : c.unwrap_or-word.result ≡ word_at c.self.inside.words.entries c.args.page (c.args.index / 64) =
-    c.unwrap_or-word.ensures ∙ ap (λ (o : Option ℕ). unwrap_or o 0) (c.copied.ensures ∙ c.get.ensures.value) in
-    let off : bit_at c.unwrap_or-word.result (c.args.index % 64) ≡ 0 = bit_off _ _ (omega arith) c.if-word-bit-ne0.false in
-    record {
-      ordered = c.in_ok-insert.ensures.ordered;
-      groups = rw c.in_ok-insert.ensures.entries (IsGroup-insert c.self.inside.words.entries (c.args.page, c.args.index / 64) _ (omega arith) c.self.invariant.groups);
-      counted = λ page. (
-          let more : pairs_at (pairs_of c.insert.new.self.entries) page ≡ pairs_at (pairs_of c.self.inside.words.entries) page + cond (c.args.page == page) 1 0 =
-          rw c.in_ok-insert.ensures.entries (pairs_at-added c.self.inside.words.entries c.args.page c.args.index _ page c.self.invariant.ordered word off) in
-          grind (arith, common_steps, c.self.invariant.counted page, more));
-    }
+    let mid = c.reach.new.rows.items in
+    let are : AreRows mid = rows-reached c.self.inside.rows.items mid c.self.invariant c.reach.ensures.rows (c.reach.ensures.few (2 ^ 32) c.self.invariant.pages (omega arith)) in
+    let row = ap (λ (r : List ℕ). length r) (row-read mid c.args.page c.index_mut.result.now c.in_ok-reach.ensures.reached c.index_mut.ensures.value) in
+    let groups = are.groups c.args.page in
+    rows-put mid (set mid c.args.page c.set.new.self) c.args.page c.set.new.self are c.in_ok-reach.ensures.reached refl (c.set.ensures.few (2 ^ 26) (omega arith) (omega arith))
 
 pub returns-clause-marked : goal.returns-clause-marked
 returns-clause-marked c =
-    let word : c.unwrap_or-word.result ≡ word_at c.self.inside.words.entries c.args.page (c.args.index / 64) =
-    c.unwrap_or-word.ensures ∙ ap (λ (o : Option ℕ). unwrap_or o 0) (c.copied.ensures ∙ c.get.ensures.value) in
-    rw (← c.self.view_is) (has-added c.self.inside.words.entries c.insert.new.self.entries c.args.page c.args.index c.unwrap_or-word.result
-    c.self.invariant.ordered c.in_ok-insert.ensures.ordered word c.in_ok-insert.ensures.updates.0)
-
-pub returns-clause-rising : goal.returns-clause-rising
-returns-clause-rising c = rising-pairs_of _ c.in_ok-insert.ensures.ordered
-
-pub returns-in_err-self-inside-clause-again : goal.returns-in_err-self-inside-clause-again
-returns-in_err-self-inside-clause-again c =
-    let word : c.unwrap_or-word.result ≡ word_at c.self.inside.words.entries c.args.page (c.args.index / 64) =
-    c.unwrap_or-word.ensures ∙ ap (λ (o : Option ℕ). unwrap_or o 0) (c.copied.ensures ∙ c.get.ensures.value) in
-    let off : bit_at c.unwrap_or-word.result (c.args.index % 64) ≡ 0 = bit_off _ _ (omega arith) c.if-word-bit-ne0.false in
-    rw (← c.self.view_is) (λ on. absurd (both_ways _ (unmarked c.self.inside.words.entries c.args.page c.args.index _ c.self.invariant.ordered word off) on))
-
-pub returns-in_err-insert-clause-again : goal.returns-in_err-insert-clause-again
-returns-in_err-insert-clause-again c =
-    let word : c.unwrap_or-word.result ≡ word_at c.self.inside.words.entries c.args.page (c.args.index / 64) =
-    c.unwrap_or-word.ensures ∙ ap (λ (o : Option ℕ). unwrap_or o 0) (c.copied.ensures ∙ c.get.ensures.value) in
-    let off : bit_at c.unwrap_or-word.result (c.args.index % 64) ≡ 0 = bit_off _ _ (omega arith) c.if-word-bit-ne0.false in
-    rw (← c.self.view_is) (λ on. absurd (both_ways _ (unmarked c.self.inside.words.entries c.args.page c.args.index _ c.self.invariant.ordered word off) on))
+    let old = c.self.inside.rows.items in
+    let mid = c.reach.new.rows.items in
+    let row = row-read mid c.args.page c.index_mut.result.now c.in_ok-reach.ensures.reached c.index_mut.ensures.value in
+    let bits : (b : ℕ) → b < 64 → (bit_at c.word-word.result b == 1) ≡ has_pair (pairs_of old) c.args.page (64 * (c.args.index / 64) + b) =
+    λ b lt. c.word-word.ensures.bits b lt ∙ sym (ap (λ (m : MarkSet). is_marked m c.args.page (64 * (c.args.index / 64) + b)) c.self.view_is) in
+    on_ok_weaker c.set.result
+    (λ put q k. has-added old (set mid c.args.page c.set.new.self) c.args.page c.args.index c.word-word.result bits
+    (put-of old mid (set mid c.args.page c.set.new.self) c.args.page (c.args.index / 64) (set_bit c.word-word.result (c.args.index % 64)) c.set.new.self c.in_ok-reach.ensures.reached c.reach.ensures.rows refl
+    (λ g. put g ∙ ap (λ (r : List ℕ). cond (g == c.args.index / 64) (set_bit c.word-word.result (c.args.index % 64)) (get_or r g 0)) row)) q k
+    ∙ ap (λ (m : MarkSet). is_marked m q k || (q == c.args.page && k == c.args.index)) c.self.view_is)
+    c.set.ensures.set
 
 pub returns-clause-again : goal.returns-clause-again
-returns-clause-again c =
-    let word : c.unwrap_or-word.result ≡ word_at c.self.inside.words.entries c.args.page (c.args.index / 64) =
-    c.unwrap_or-word.ensures ∙ ap (λ (o : Option ℕ). unwrap_or o 0) (c.copied.ensures ∙ c.get.ensures.value) in
-    let off : bit_at c.unwrap_or-word.result (c.args.index % 64) ≡ 0 = bit_off _ _ (omega arith) c.if-word-bit-ne0.false in
-    rw (← c.self.view_is) (λ on. absurd (both_ways _ (unmarked c.self.inside.words.entries c.args.page c.args.index _ c.self.invariant.ordered word off) on))
+returns-clause-again c = λ on.
+    (let off = unmarked c.args.self.now.pairs c.args.page c.args.index c.word-word.result c.word-word.ensures.bits (bit_off _ _ (omega arith) c.if-word-bit-ne0.false) in
+    absurd (both_ways _ off on))
+
+pub returns-clause-rising : goal.returns-clause-rising
+returns-clause-rising c = rising-pairs_of (set c.reach.new.rows.items c.args.page c.set.new.self)
+
+pub returns-clause-err : goal.returns-clause-err
+returns-clause-err c =
+    let old = c.self.inside.rows.items in
+    let mid = c.reach.new.rows.items in
+    let row = row-read mid c.args.page c.index_mut.result.now c.in_ok-reach.ensures.reached c.index_mut.ensures.value in
+    on_err_weaker c.set.result
+    (λ same. ap (λ (pairs : List (ℕ × ℕ)). record { pairs = pairs; deaths = c.self.inside.dead.entries })
+    (kept-of old mid (set mid c.args.page c.set.new.self) c.args.page c.set.new.self c.in_ok-reach.ensures.reached c.reach.ensures.rows refl
+    (λ g. same g ∙ ap (λ (r : List ℕ). get_or r g 0) row))
+    ∙ c.self.view_is)
+    c.set.ensures.same

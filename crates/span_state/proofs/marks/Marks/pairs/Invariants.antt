@@ -1,7 +1,7 @@
-use Rattle.std.proofs.Common.{◌≡◌, ◌++◌}
-use Rattle.std.specs.List.{AllByRecursion}
-use Rattle.span_state.specs.Groups.{pairs_of, IsGroup}
+use Rattle.std.proofs.Common.{◌≡◌, length}
+use Rattle.span_state.specs.Groups.{grid_pairs, row_of, word_of}
 use Rattle.span_state.proofs.marks.Marks.pairs.Given as goal
 
+-- the pages so far are there
 abbrev pub invariant-loop-page : goal.invariant-loop-page
-invariant-loop-page l = (l.pairs ++ pairs_of l.page-iterator ≡ l.self.pairs) × AllByRecursion IsGroup l.page-iterator
+invariant-loop-page l = l.pairs ≡ grid_pairs l.page (λ page. length (row_of l.self-inside.rows.items page)) (word_of l.self-inside.rows.items)

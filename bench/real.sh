@@ -1,0 +1,76 @@
+#!/usr/bin/env bash
+# real.sh TRACE: what `goheap run` costs on any trace that it accepts, measured in one run on one machine: its instructions
+# a line, as callgrind counts them, its time beside `wc -l` and an awk sum of one field, and what mark ends cost, as the
+# instructions of 1,000,000 objects with 100 mark ends beside those of the same objects without. Each time is the median
+# of nine, less the median of nine for a trace without objects.
+set -eu
+
+[ $# = 1 ] || { echo "usage: bench/real.sh TRACE" >&2; exit 2; }
+trace=$(readlink -f "$1")
+cd "$(dirname "$(readlink -f "$0")")/.."
+folder=$(mktemp -d)
+trap 'rm -rf "$folder"' EXIT
+rounds=9
+program=crates/alloc_tool/out/alloc_tool
+
+cp "$trace" "$folder/real"
+(head -2 "$trace"; echo end) >"$folder/empty"
+
+# objects EVERY: 1,000,000 objects of 1 to 512 bytes on 128 chunks, with a mark end after each EVERY of them (none for 0)
+# that marks the first 1000 objects and the 4000 last ones.
+objects() {
+  awk -v every="$1" 'BEGIN {
+    print "goheap 1"
+    print "heap 128 procs 1 rate 0 seed 1 goal 65536"
+    for (i = 0; i < 1000000; i++) {
+      print "a 0 " 1 + (i * 7919) % 512, (i % 3 ? "s" : "n"), i % 1000
+      if (every && (i + 1) % every == 0) {
+        print "gc 4194304"
+        print "m 0 999"
+        print "m " i - 3999 " " i
+      }
+    }
+    print "end"
+  }'
+}
+objects 0 >"$folder/without"
+objects 10000 >"$folder/hundred"
+
+run_goheap() { ./goheap run <"$folder/$1" >/dev/null; }
+run_wc() { wc -l <"$folder/$1" >/dev/null; }
+run_awk() { awk '{ s += $3 } END { print s }' <"$folder/$1" >/dev/null; }
+
+# The microseconds that a command takes on a trace.
+time_of() {
+  local start=${EPOCHREALTIME/./}
+  "run_$1" "$2"
+  local end=${EPOCHREALTIME/./}
+  echo $((end - start)) >>"$folder/$1.$2.times"
+}
+
+median() { sort -n "$folder/$1.$2.times" | sed -n "$(((rounds + 1) / 2))p"; }
+net() { echo $(($(median "$1" real) - $(median "$1" empty))); }
+
+# The instructions of a run.
+instructions() {
+  valgrind --tool=callgrind --callgrind-out-file="$folder/callgrind" "$program" run <"$folder/$1" 2>&1 >/dev/null |
+    sed -n 's/.*Collected : //p'
+}
+
+run_goheap real # built, if need be, and refused, if it is, before anything is timed
+for ((round = 0; round < rounds; round++)); do
+  for tool in wc awk goheap; do
+    time_of $tool empty
+    time_of $tool real
+  done
+done
+
+lines=$(wc -l <"$trace")
+awk -v lines="$lines" -v real="$(instructions real)" -v goheap="$(net goheap)" -v wc="$(net wc)" -v awk="$(net awk)" 'BEGIN {
+  printf "goheap run on %d lines: %.3f s, %.0f instructions a line\n", lines, goheap / 1000000, real / lines
+  printf "ratio to wc -l: %.2f\n", goheap / wc
+  printf "ratio to an awk sum of the sizes: %.2f\n", goheap / awk
+}'
+awk -v without="$(instructions without)" -v hundred="$(instructions hundred)" 'BEGIN {
+  printf "1,000,000 objects: %.0f instructions an object; with 100 mark ends %.2f times as many\n", without / 1000000, hundred / without
+}'

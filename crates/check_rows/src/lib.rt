@@ -1,0 +1,5 @@
+//! Broken reports, typed by hand: which rule each breaks first, and at which line.
+#![tactic(auto)]
+
+#[cfg(test)]
+mod tests;

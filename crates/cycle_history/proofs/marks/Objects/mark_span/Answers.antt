@@ -1,0 +1,40 @@
+use Rattle.std.proofs.Common.{◌≡◌, ◌≢◌, ℕ, ◌+◌, ◌<◌, length, get_or, Option, Some, None, sym, ◌∙◌, ap, subst, arith}
+use Rattle.std.proofs.lemmas.Option.{slice_get-get_or}
+use Rattle.span_state.specs.MarkSet.{MarkSet}
+use Rattle.cycle_history.specs.declared.places.Place.{Place}
+use Rattle.cycle_history.specs.Places.{LiesAt}
+use Rattle.cycle_history.specs.Marked.{AreMarksBelow, IsMarkedAt}
+use Rattle.cycle_history.proofs.Settled.{below-marked, below-unmarked}
+use Rattle.cycle_history.proofs.marks.Objects.mark_span.Goals.{in-Some+in_ok-add, in_default}
+use Rattle.cycle_history.proofs.marks.Objects.mark_span.Goals as goal
+
+none-of : (x : Option Place) → ((p : Place) → x ≢ Some p) → x ≡ None
+none-of None h = cc
+none-of (Some p) h = absurd (h p cc)
+
+pub loop-object-preserved : goal.loop-object-preserved
+loop-object-preserved c =
+    let o = c.args.self.now in
+    let i = c.loop-object.object in
+    let given = c.requires.given in
+    let all = given.all_places in
+    let answers = given.all_answers in
+    let high = c.requires.high in
+    let lt = c.loop-object-test.true in
+    let inside : i < length o.places.now = omega arith in
+    let low = c.loop-object.auto.object in
+    elim c.match-self-object.branch [
+      | in-Some+in_ok-add w ↦ (
+          let lies = given.found i (Some w.in-Some.place) (slice_get-get_or o.places.now i None inside ∙ ap Some w.in-Some.is) in
+          let at : IsMarkedAt o.trace.now o.mark o.answers.now w.in-Some.place.page w.in-Some.place.index i = record { marked = c.requires.marked i low lt; lies = lies } in
+          subst (λ (marks : MarkSet). AreMarksBelow o.trace.now o.mark o.answers.now o.sampled.now o.buckets.now (i + 1) 0 marks) (sym w.marks-is)
+          (below-marked o.trace.now o.mark o.answers.now o.sampled.now o.buckets.now i 0 w.in-Some.place.page w.in-Some.place.index c.loop-object.marks w.add.new.self
+          c.loop-object.invariant at w.in_ok-add.ensures.marked w.in_ok-add.ensures.dead))
+      | in_default w ↦ (
+          let none : get_or o.places.now i None ≡ None = none-of (get_or o.places.now i None) w.in_default.not-Some in
+          let nowhere = given.found i None (slice_get-get_or o.places.now i None inside ∙ ap Some none) in
+          subst (λ (marks : MarkSet). AreMarksBelow o.trace.now o.mark o.answers.now o.sampled.now o.buckets.now (i + 1) 0 marks) (sym w.marks-is)
+          (below-unmarked o.trace.now o.mark o.answers.now o.sampled.now o.buckets.now i (i + 1) 0 c.loop-object.marks (omega arith)
+          (λ j le less page k at. (let same : j ≡ i = omega arith in nowhere page k (subst (λ (n : ℕ). LiesAt o.trace.now o.answers.now n page k) same at.lies)))
+          c.loop-object.invariant))
+    ]

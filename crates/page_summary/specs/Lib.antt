@@ -1,0 +1,4 @@
+pub mod Runs
+pub mod Sums
+pub mod Places
+pub mod SumLaws

@@ -1,0 +1,6 @@
+mod Moved
+mod Counted
+mod Publishing
+mod Keeping
+mod Named
+mod Numbered

@@ -1,0 +1,136 @@
+-- The rules in their order.
+use Rattle.std.specs.Prelude.{IfErr, IsErrAnd}
+use Rattle.std.proofs.Common.{◌≡◌, ℕ, ◌-◌, Result, Ok, Err, List, [], refl, sym, subst, arith}
+use Rattle.trace_reader.specs.declared.trace.Trace.{Trace}
+use Rattle.cycle_history.specs.declared.Report.{Report}
+use Rattle.cycle_history.specs.Objects.{Object}
+use Rattle.cycle_history.specs.Rules.{AreMissed}
+use Rattle.cycle_history.specs.Sound.{past_in, HasAnswers, HasJournal}
+use Rattle.cycle_history.specs.Broken.{MeetsUpTo}
+use Rattle.report_rules.specs.Lines.{IsLeast}
+use Rattle.report_rules.specs.Answers.{BreaksAnswers, BreaksJournal, BreaksMisses}
+use Rattle.report_rules.specs.Broken.{Breaks, IsBroken}
+use Rattle.report_check.specs.declared.fault.CheckFault.{CheckFault}
+use Rattle.report_check.specs.declared.fault.CheckFault.TheVariants.{Broken, NoMemory}
+use Rattle.report_check.specs.Fault.{IsFault, IsFaultOf}
+
+pub meets-none : (t : Trace) (report : Report) (objects : List Object) → MeetsUpTo 0 t report objects
+meets-none t report objects = record {
+  answers = λ le. absurd (omega arith);
+  journal = λ le. absurd (omega arith);
+  misses = λ le. absurd (omega arith);
+  places = λ le. absurd (omega arith);
+  apart = λ le. absurd (omega arith);
+  filling = λ le. absurd (omega arith);
+  sweeps = λ le. absurd (omega arith);
+  totals = λ le. absurd (omega arith);
+}
+
+pub meets-1 : (t : Trace) (report : Report) (objects : List Object) → HasAnswers t report objects → MeetsUpTo 1 t report objects
+meets-1 t report objects answers = record {
+  answers = λ le. answers;
+  journal = λ le. absurd (omega arith);
+  misses = λ le. absurd (omega arith);
+  places = λ le. absurd (omega arith);
+  apart = λ le. absurd (omega arith);
+  filling = λ le. absurd (omega arith);
+  sweeps = λ le. absurd (omega arith);
+  totals = λ le. absurd (omega arith);
+}
+
+pub meets-2 : (t : Trace) (report : Report) (objects : List Object) → HasAnswers t report objects → HasJournal t report → MeetsUpTo 2 t report objects
+meets-2 t report objects answers journal = record {
+  answers = λ le. answers;
+  journal = λ le. journal;
+  misses = λ le. absurd (omega arith);
+  places = λ le. absurd (omega arith);
+  apart = λ le. absurd (omega arith);
+  filling = λ le. absurd (omega arith);
+  sweeps = λ le. absurd (omega arith);
+  totals = λ le. absurd (omega arith);
+}
+
+pub meets-3 : (t : Trace) (report : Report) (objects : List Object) → HasAnswers t report objects → HasJournal t report → AreMissed (past_in report) objects → MeetsUpTo 3 t report objects
+meets-3 t report objects answers journal misses = record {
+  answers = λ le. answers;
+  journal = λ le. journal;
+  misses = λ le. misses;
+  places = λ le. absurd (omega arith);
+  apart = λ le. absurd (omega arith);
+  filling = λ le. absurd (omega arith);
+  sweeps = λ le. absurd (omega arith);
+  totals = λ le. absurd (omega arith);
+}
+
+-- the least of two tests that hold together
+least-same : (P Q : ℕ → Type 0) (n : ℕ) → ((m : ℕ) → P m → Q m) → ((m : ℕ) → Q m → P m) → IsLeast P n → IsLeast Q n
+least-same P Q n to from is = record { here = to n is.here; least = λ m lt q. is.least m lt (from m q) }
+
+breaks-1 : (t : Trace) (report : Report) (objects : List Object) (m : ℕ) → BreaksAnswers t report m → Breaks 1 t report objects m
+breaks-1 t report objects m b = record {
+  some = omega arith;
+  few = omega arith;
+  answers = λ e. b;
+  journal = λ e. absurd (omega arith);
+  misses = λ e. absurd (omega arith);
+  places = λ e. absurd (omega arith);
+  apart = λ e. absurd (omega arith);
+  filling = λ e. absurd (omega arith);
+  sweeps = λ e. absurd (omega arith);
+  totals = λ e. absurd (omega arith);
+}
+
+breaks-2 : (t : Trace) (report : Report) (objects : List Object) (m : ℕ) → BreaksJournal t report m → Breaks 2 t report objects m
+breaks-2 t report objects m b = record {
+  some = omega arith;
+  few = omega arith;
+  answers = λ e. absurd (omega arith);
+  journal = λ e. b;
+  misses = λ e. absurd (omega arith);
+  places = λ e. absurd (omega arith);
+  apart = λ e. absurd (omega arith);
+  filling = λ e. absurd (omega arith);
+  sweeps = λ e. absurd (omega arith);
+  totals = λ e. absurd (omega arith);
+}
+
+breaks-3 : (t : Trace) (report : Report) (objects : List Object) (m : ℕ) → BreaksMisses (past_in report) objects m → Breaks 3 t report objects m
+breaks-3 t report objects m b = record {
+  some = omega arith;
+  few = omega arith;
+  answers = λ e. absurd (omega arith);
+  journal = λ e. absurd (omega arith);
+  misses = λ e. b;
+  places = λ e. absurd (omega arith);
+  apart = λ e. absurd (omega arith);
+  filling = λ e. absurd (omega arith);
+  sweeps = λ e. absurd (omega arith);
+  totals = λ e. absurd (omega arith);
+}
+
+-- a fault of one rule, where the rules before it are met
+fault-of : (n : ℕ) (P : ℕ → Type 0) (t : Trace) (report : Report) (objects : List Object) (fault : CheckFault) → MeetsUpTo (n - 1) t report objects
+    → ((m : ℕ) → P m → Breaks n t report objects m) → ((m : ℕ) → Breaks n t report objects m → P m) → IsFaultOf n P fault → IsFault t report fault
+fault-of n P t report objects (Broken rule line) before to from is =
+    subst (λ (k : ℕ). IsBroken t report k line) (sym is.0) (objects, record { before = before; first = least-same P (Breaks n t report objects) line to from is.1 })
+fault-of n P t report objects NoMemory before to from is = tt
+
+pub fault-1 : (t : Trace) (report : Report) (fault : CheckFault) → IsFaultOf 1 (BreaksAnswers t report) fault → IsFault t report fault
+fault-1 t report fault is = fault-of 1 (BreaksAnswers t report) t report [] fault (meets-none t report []) (breaks-1 t report []) (λ m b. b.answers refl) is
+
+pub fault-2 : (t : Trace) (report : Report) (objects : List Object) (fault : CheckFault) → HasAnswers t report objects → IsFaultOf 2 (BreaksJournal t report) fault → IsFault t report fault
+fault-2 t report objects fault answers is = fault-of 2 (BreaksJournal t report) t report objects fault (meets-1 t report objects answers) (breaks-2 t report objects) (λ m b. b.journal refl) is
+
+pub fault-3 : (t : Trace) (report : Report) (objects : List Object) (fault : CheckFault) → HasAnswers t report objects → HasJournal t report
+    → IsFaultOf 3 (BreaksMisses (past_in report) objects) fault → IsFault t report fault
+fault-3 t report objects fault answers journal is =
+    fault-of 3 (BreaksMisses (past_in report) objects) t report objects fault (meets-2 t report objects answers journal) (breaks-3 t report objects) (λ m b. b.misses refl) is
+
+pub err-map : {T : Type 0} (r : Result T CheckFault) (P Q : CheckFault → Type 0) → ((fault : CheckFault) → P fault → Q fault) → IfErr r P → IfErr r Q
+err-map (Ok x) P Q to h = tt
+err-map (Err e) P Q to h = to e h
+
+-- a fault that is handed on
+pub err-from : {T : Type 0} (r : Result T CheckFault) (fault : CheckFault) (P : CheckFault → Type 0) → IsErrAnd r (λ (e : CheckFault). e ≡ fault) → P fault → IfErr r P
+err-from (Ok x) fault P h p = absurd h
+err-from (Err e) fault P h p = subst P (sym h) p

@@ -1,0 +1,18 @@
+-- What a refusal says.
+use Rattle.std.specs.Prelude.{◌≡◌, ℕ}
+use Rattle.trace_reader.specs.declared.trace.Trace.{Trace}
+use Rattle.cycle_history.specs.declared.Report.{Report}
+use Rattle.report_rules.specs.Lines.{IsLeast}
+use Rattle.report_rules.specs.Broken.{IsBroken}
+use Rattle.report_check.specs.declared.fault.CheckFault.{CheckFault}
+use Rattle.report_check.specs.declared.fault.CheckFault.TheVariants.{Broken, NoMemory}
+
+-- A refusal names the first rule that the report breaks, and the first line that breaks it, or says that memory ran out.
+abbrev pub IsFault : Trace → Report → CheckFault → Type 0
+IsFault t report (Broken rule line) = IsBroken t report rule line
+IsFault t report NoMemory = Unit {0}
+
+-- A refusal by one rule names this rule, and the least line that breaks it.
+abbrev pub IsFaultOf : ℕ → (ℕ → Type 0) → CheckFault → Type 0
+IsFaultOf n breaks (Broken rule line) = (rule ≡ n) × IsLeast breaks line
+IsFaultOf n breaks NoMemory = Unit {0}

@@ -1,0 +1,4 @@
+pub mod Fault
+pub mod Items
+pub mod Asked
+pub mod Journal

@@ -1,0 +1,117 @@
+//! A trace's objects with their answers.
+
+ghost use Rattle.std.specs.Prelude.{◌≡◌, ◌≤◌, ◌^◌, ◌↔◌, IfErr, IfOk, MatchBool};
+ghost use Rattle.cycle_history.specs.declared.Answer.TheVariants.{Zero};
+ghost use Rattle.cycle_history.specs.Marked.{IsLimited};
+ghost use Rattle.cycle_history.specs.Sound.{HasAnswers};
+ghost use Rattle.report_rules.specs.Answers.{BreaksAnswers};
+ghost use Rattle.report_check.specs.Fault.{IsFaultOf};
+ghost use Rattle.report_check.specs.Items.{objects_of};
+
+use crate::CheckFault;
+use crate::asked::{Asked, asked_of};
+use crate::lines::end_of;
+use cycle_history::{Answer, Report};
+use edge_io::List;
+use size_classes::{Kind, PAGE_SIZE, class_of, slot_size, span_class, span_objects, span_pages};
+use std::alloc::Global;
+use trace_reader::Trace;
+
+/// An object with its answer, what it needs of a span, and where it sits.
+#[derive(Clone, Copy, Debug)]
+pub(crate) struct Item {
+    pub proc: u32,
+    pub cycle: u32,
+    /// The span class, and the pages, the bytes of a slot and the number of slots of such a span.
+    pub class: u8,
+    pub pages: u32,
+    pub slot: u64,
+    pub count: u32,
+    pub answer: Answer,
+    /// The number of the Take line of the span in which it sits, and its index there.
+    pub life: u64,
+    pub index: u32,
+}
+
+impl Item {
+    ghost use Rattle.report_check.specs.Items.{IsItem, request_of};
+
+    /// The object of a request with its answer, which is zero exactly where the size is 0.
+    pub(crate) fn new(asked: Asked, answer: Answer) -> Item
+        requires size { asked.event.size ≤ 2 ^ 40 }
+        requires zero { (answer ≡ Zero) ↔ (asked.event.size ≡ 0) }
+        ensures item { IsItem (request_of asked) result }
+        ensures answer { result.answer ≡ answer }
+    {
+        let event = asked.event;
+        let (class, pages, slot, count) = match class_of(event.size) {
+            Kind::Zero => (0, 0, 0, 0),
+            Kind::Small(class) => (
+                span_class(class, event.scan),
+                span_pages(class),
+                u64::from(slot_size(class)),
+                span_objects(class),
+            ),
+            Kind::Large(pages) => (
+                span_class(0, event.scan),
+                pages,
+                PAGE_SIZE * u64::from(pages),
+                1,
+            ),
+        };
+        Item {
+            proc: event.proc,
+            cycle: asked.cycle,
+            class,
+            pages,
+            slot,
+            count,
+            answer,
+            life: 0,
+            index: 0,
+        }
+    }
+}
+
+/// The objects of a trace with their answers, which the report prints: rule 1.
+pub(crate) fn items_of(
+    alloc: Global,
+    trace: &Trace,
+    report: &Report,
+) -> Result<List<Item>, CheckFault>
+    requires limited { IsLimited trace.now }
+    ensures answers { IfOk result (λ items. HasAnswers trace.now report.now (objects_of items)) }
+    ensures fault { IfErr result (IsFaultOf 1 (BreaksAnswers trace.now report.now)) }
+{
+    let asked = asked_of(alloc, trace)?;
+    let answers = report.answers.as_slice();
+    let mut items = List::new(alloc);
+    for request in asked.as_slice() {
+        let number = items.len();
+        if number == answers.len() {
+            let line = end_of(report);
+            return Err(CheckFault::Broken { rule: 1, line });
+        }
+        let answer = answers[number];
+        if !is_right(answer, request.event.size) {
+            let line = number as u64 + 1;
+            return Err(CheckFault::Broken { rule: 1, line });
+        }
+        items.push(Item::new(*request, answer))?;
+    }
+    if items.len() < answers.len() {
+        let line = items.len() as u64 + 1;
+        return Err(CheckFault::Broken { rule: 1, line });
+    }
+    Ok(items)
+}
+
+// Whether an answer is zero exactly where the size is 0.
+fn is_right(answer: Answer, size: u64) -> bool
+    ensures { MatchBool result ((answer ≡ Zero) ↔ (size ≡ 0)) (¬ ((answer ≡ Zero) ↔ (size ≡ 0))) }
+{
+    match answer {
+        Answer::Zero => size == 0,
+        _ => size != 0,
+    }
+}

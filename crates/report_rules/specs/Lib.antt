@@ -1,0 +1,5 @@
+pub mod Lines
+pub mod Answers
+pub mod Placing
+pub mod Closing
+pub mod Broken

@@ -1,0 +1,10 @@
+//! Which line of a report breaks which rule.
+//!
+//! `specs/Lines.antt` numbers the lines of a report. `Answers.antt`, `Placing.antt` and `Closing.antt` say which of them
+//! breaks each rule, and `Broken.antt` which rule is the first and which line the least. `laws` says that where a line of
+//! the rules 1 to 3 is named so, the report doesn't meet that rule.
+#![tactic(auto)]
+
+mod laws;
+
+pub use laws::a_broken_report_breaks_its_rule;

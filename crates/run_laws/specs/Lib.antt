@@ -1,0 +1,13 @@
+pub mod Lists
+pub mod CycleSoFar
+pub mod Cycle
+pub mod Facts
+pub mod Reached
+pub mod Asked
+pub mod Profile
+pub mod Underway
+pub mod Occupied
+pub mod Keeping
+pub mod Shown
+pub mod ShowsCycle
+pub mod GoesOn

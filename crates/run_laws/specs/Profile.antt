@@ -1,0 +1,164 @@
+-- The sampled profile: which objects are sampled, and what is published of them.
+use Rattle.std.specs.Prelude.{◌≡◌, ℕ, zero, suc, ◌+◌, ◌-◌, ◌*◌, ◌%◌, ◌<◌, ◌≤◌, Bool, ◌&&◌, ◌==◌, not, nat_le, nat_lt, if◌then◌else◌, List, [], ◌∷◌, ◌⊎◌, ◌≢◌}
+use Rattle.page_alloc.specs.Lists.{In, count}
+use Rattle.cycle_history.specs.declared.Prof.{Prof}
+use Rattle.cycle_history.specs.Requests.{Marking}
+use Rattle.cycle_history.specs.Objects.{Object, is_placed, live}
+use Rattle.cycle_history.specs.Orders.{AreRisingProfile}
+use Rattle.page_alloc.specs.Journal.{Life, open_lives}
+use Rattle.span_state.specs.declared.sweep.SweepNote.{SweepNote}
+use Rattle.run_laws.specs.CycleSoFar.{CycleSoFar}
+use Rattle.run_laws.specs.Facts.{placed_by}
+
+-- ---- samples
+
+-- The bytes that a processor has left before its next sample, and how many words it has drawn.
+pub record Sampler : Type 0 where
+  pub left : ℕ
+  pub drawn : ℕ
+
+-- The bytes to the next sample by a drawn word.
+abbrev pub countdown : ℕ → ℕ → ℕ
+countdown rate word = 1 + word % (2 * rate - 1)
+
+-- A placed object is sampled where its slot isn't below the countdown, if the rate isn't 0.
+abbrev pub samples : ℕ → Sampler → ℕ → Bool
+samples rate s slot = nat_le 1 rate && nat_le s.left slot
+
+-- The countdown after it: a new one after a sample, else the old one less the slot.
+abbrev pub sampled_on : ℕ → (ℕ → ℕ) → Sampler → ℕ → Sampler
+sampled_on rate words s slot = if nat_le s.left slot then record { left = countdown rate (words s.drawn); drawn = s.drawn + 1 } else record { left = s.left - slot; drawn = s.drawn }
+
+-- The countdown behind a processor's placed objects, the newest of which stands first.
+abbrev pub sampler_after : ℕ → (ℕ → ℕ) → List Object → Sampler
+sampler_after rate words [] = record { left = countdown rate (words 0); drawn = 1 }
+sampler_after rate words (o ∷ older) = sampled_on rate words (sampler_after rate words older) o.need.slot
+
+-- Of a processor's placed objects these are sampled, by their numbers.
+abbrev pub AreSampled : ℕ → (ℕ → ℕ) → (ℕ → Bool) → List Object → Type 0
+AreSampled rate words sampled [] = Unit {0}
+AreSampled rate words sampled (o ∷ older) = (sampled o.id ≡ samples rate (sampler_after rate words older) o.need.slot) × AreSampled rate words sampled older
+
+-- Each processor samples by words of its own.
+abbrev pub SamplesBy : ℕ → (ℕ → ℕ → ℕ) → (ℕ → Bool) → List Object → Type 0
+SamplesBy rate words sampled objects = (p : ℕ) → AreSampled rate (words p) sampled (placed_by p objects)
+
+-- ---- buckets
+
+-- A bucket is a stack and a slot size.
+pub record Bucket : Type 0 where
+  pub stack : ℕ
+  pub size : ℕ
+
+-- What is asked of objects: which are sampled, and the stack of each, by their numbers.
+pub record Samples : Type 0 where
+  pub sampled : ℕ → Bool
+  pub stack : ℕ → ℕ
+
+-- A placed object is a sample of the bucket.
+abbrev pub is_sample : Samples → Bucket → Object → Bool
+is_sample s b o = is_placed o.answer && (s.sampled o.id && (s.stack o.id == b.stack && o.need.slot == b.size))
+
+-- The samples of a bucket that were placed before mark end m, and those of them that it doesn't mark.
+abbrev pub allocs_at : Samples → List Object → ℕ → Bucket → ℕ
+allocs_at s objects m b = count (λ o. is_sample s b o && nat_lt o.cycle m) objects
+
+abbrev pub frees_at : Marking → Samples → List Object → ℕ → Bucket → ℕ
+frees_at marked s objects m b = count (λ o. is_sample s b o && (nat_lt o.cycle m && not (marked m o.id))) objects
+
+-- ---- rule 9
+
+-- The bucket of a line.
+abbrev pub bucket_of : Prof → Bucket
+bucket_of line = record { stack = line.stack; size = line.size }
+
+-- A line tells of its bucket as of its mark end.
+pub record IsProf (marked : Marking) (s : Samples) (objects : List Object) (line : Prof) : Type 0 where
+  pub some : 1 ≤ line.allocs
+  pub allocs : line.allocs ≡ allocs_at s objects line.mark (bucket_of line)
+  pub frees : line.frees ≡ frees_at marked s objects line.mark (bucket_of line)
+
+-- The numbers of a bucket changed from mark end m to the next.
+abbrev pub IsChanged : Marking → Samples → List Object → ℕ → Bucket → Type 0
+IsChanged marked s objects m b = (allocs_at s objects (suc m) b ≢ allocs_at s objects m b) ⊎ (frees_at marked s objects (suc m) b ≢ frees_at marked s objects m b)
+
+-- The line is that of a bucket and a mark end.
+pub record IsOf (m : ℕ) (b : Bucket) (line : Prof) : Type 0 where
+  pub mark : line.mark ≡ m
+  pub stack : line.stack ≡ b.stack
+  pub size : line.size ≡ b.size
+
+-- Rule 9 in the form of the last mark end: each line is right, and each bucket with samples before it has one.
+pub record IsProfile (marked : Marking) (s : Samples) (last : ℕ) (objects : List Object) (lines : List Prof) : Type 0 where
+  pub order : AreRisingProfile lines
+  pub right : (line : Prof) → In line lines → (line.mark ≡ last) × IsProf marked s objects line
+  pub each : (b : Bucket) → 1 ≤ allocs_at s objects last b → (line : Prof) × In line lines × IsOf last b line
+
+-- Rule 9 in the form of each mark end: those before the last have the buckets whose numbers changed.
+pub record IsProfileOfEach (marked : Marking) (s : Samples) (last : ℕ) (objects : List Object) (lines : List Prof) : Type 0 where
+  pub order : AreRisingProfile lines
+  pub right : (line : Prof) → In line lines → (1 ≤ line.mark) × (line.mark ≤ last) × IsProf marked s objects line
+  pub changed : (m : ℕ) (line : Prof) → In line lines → line.mark ≡ suc m → suc m < last → IsChanged marked s objects m (bucket_of line)
+  pub each : (m : ℕ) (b : Bucket) → suc m < last → IsChanged marked s objects m b → (line : Prof) × In line lines × IsOf (suc m) b line
+  pub last_each : (b : Bucket) → 1 ≤ allocs_at s objects last b → (line : Prof) × In line lines × IsOf last b line
+
+-- ---- calls of the tallies
+
+-- How often the calls of each cycle counted a bucket: as an allocation, and as a free.
+pub record Calls : Type 0 where
+  pub allocated : ℕ → Bucket → ℕ
+  pub freed : ℕ → Bucket → ℕ
+
+-- The sum of f over the numbers below n.
+abbrev pub sum_below : ℕ → (ℕ → ℕ) → ℕ
+sum_below zero f = 0
+sum_below (suc n) f = f n + sum_below n f
+
+-- What is published up to a bound L: allocations of the cycles k with k + 2 at most L, and frees of those with k + 1.
+abbrev pub published_allocs : Calls → ℕ → Bucket → ℕ
+published_allocs calls l b = sum_below (l - 1) (λ k. calls.allocated k b)
+
+abbrev pub published_frees : Calls → ℕ → Bucket → ℕ
+published_frees calls l b = sum_below l (λ k. calls.freed k b)
+
+-- The published numbers of a bucket are others after mark end m + 1 than after mark end m.
+abbrev pub HasMoved : Calls → ℕ → Bucket → Type 0
+HasMoved calls m b = (published_allocs calls (suc (suc m)) b ≢ published_allocs calls (suc m) b) ⊎ (published_frees calls (suc (suc m)) b ≢ published_frees calls (suc m) b)
+
+-- Lines with the published numbers of their mark ends: those before the last mark end are of the buckets whose numbers
+-- moved, and those of the last one of all buckets with allocations.
+pub record ArePublished (calls : Calls) (last : ℕ) (lines : List Prof) : Type 0 where
+  pub order : AreRisingProfile lines
+  pub right : (line : Prof) → In line lines → (1 ≤ line.mark) × (line.mark ≤ last) × (1 ≤ line.allocs)
+      × (line.allocs ≡ published_allocs calls (suc line.mark) (bucket_of line)) × (line.frees ≡ published_frees calls (suc line.mark) (bucket_of line))
+  pub changed : (m : ℕ) (line : Prof) → In line lines → line.mark ≡ suc m → suc m < last → HasMoved calls m (bucket_of line)
+  pub each : (m : ℕ) (b : Bucket) → suc m < last → HasMoved calls m b → (line : Prof) × In line lines × IsOf (suc m) b line
+  pub last_each : (b : Bucket) → 1 ≤ published_allocs calls (suc last) b → (line : Prof) × In line lines × IsOf last b line
+
+-- The calls of cycle c: each sample of the cycle was counted as allocated, and each that the mark end before the cycle
+-- found and didn't mark as freed.
+pub record AreCalls (marked : Marking) (s : Samples) (objects : List Object) (calls : Calls) (c : ℕ) : Type 0 where
+  pub allocated : (b : Bucket) → calls.allocated c b ≡ count (λ o. is_sample s b o && o.cycle == c) objects
+  pub first : (b : Bucket) → c ≡ 0 → calls.freed c b ≡ 0
+  pub freed : (b : Bucket) (m : ℕ) → c ≡ suc m → calls.freed c b ≡ count (λ o. is_sample s b o && (live marked m o && not (marked c o.id))) objects
+
+-- The sum of f over a list.
+abbrev pub sum_of : {X : Type 0} → (X → ℕ) → List X → ℕ
+sum_of f [] = 0
+sum_of f (x ∷ xs) = f x + sum_of f xs
+
+-- A sample of the bucket that lived in cycle m, and isn't marked by the mark end behind it.
+abbrev pub has_died : Marking → Samples → ℕ → Bucket → Object → Bool
+has_died marked s m b o = is_sample s b o && (live marked m o && not (marked (suc m) o.id))
+
+-- The calls of the cycle behind mark end m + 1 free, for each sweep that is noted, the samples of its life that died: `dead` has
+-- their number by first page and bucket.
+pub record FreesByNotes (marked : Marking) (s : Samples) (objects : List Object) (calls : Calls) (e : CycleSoFar) (m : ℕ) (dead : ℕ → Bucket → ℕ) : Type 0 where
+  pub right : (life : Life) (b : Bucket) → In life (open_lives e.before) → dead life.page b ≡ count (λ o. has_died marked s m b o && o.life == life.number) objects
+  pub freed : (b : Bucket) → calls.freed e.cycle b ≡ sum_of (λ (note : SweepNote). dead note.page b) e.notes
+
+-- The calls of a cycle count, worker by worker, the samples that each processor placed.
+pub record CountsByWorkers (s : Samples) (calls : Calls) (e : CycleSoFar) (workers : ℕ) (by : ℕ → Bucket → ℕ) : Type 0 where
+  pub procs : (o : Object) → In o e.news → o.proc < workers
+  pub each : (w : ℕ) (b : Bucket) → by w b ≡ count (λ o. is_sample s b o) (placed_by w e.news)
+  pub all : (b : Bucket) → calls.allocated e.cycle b ≡ sum_below workers (λ w. by w b)

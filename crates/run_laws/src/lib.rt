@@ -1,0 +1,97 @@
+//! What a cycle of the run leaves behind, and that it keeps the run sound, whichever worker did what and when.
+//!
+//! `specs/CycleSoFar.antt` has what a cycle has left behind so far, as plain lists: lines, logs, objects and notes.
+//! `specs/Facts.antt` has the facts of a cycle that has ended from which the run stays sound, `specs/Reached.antt` what a
+//! run keeps from cycle to cycle, and `specs/Profile.antt` the sampled profile and the rule on it.
+//!
+//! `specs/Underway.antt` and `specs/ShowsCycle.antt` have what a state of span ownership and the logs keep while a cycle is
+//! under way. `proofs/Moves.antt` has one law for each move, `proofs/Turns.antt` those for lines without a move, for a mark
+//! end and for the end of a cycle, and `proofs/Law.antt` and `proofs/Ends.antt` lead from the facts to a sound report.
+#![tactic(auto)]
+
+ghost use Rattle.std.specs.Prelude.{◌≡◌, ℕ, suc, ◌≤◌, Bool, List, [], ◌++◌, reverse, None};
+ghost use Rattle.page_bitmap.specs.declared.line.Line.{Line};
+ghost use Rattle.page_alloc.specs.Lists.{In};
+ghost use Rattle.span_state.specs.declared.sweep.SweepNote.{SweepNote};
+ghost use Rattle.trace_reader.specs.declared.trace.Trace.{Trace};
+ghost use Rattle.cycle_history.specs.declared.Report.{Report};
+ghost use Rattle.cycle_history.specs.Requests.{Marking, marked_by, last_cycle, region_of};
+ghost use Rattle.cycle_history.specs.Objects.{Object};
+ghost use Rattle.sound_run.specs.Run.{Lasts};
+ghost use Rattle.cycle_history.specs.Sweeps.{AreTotals};
+ghost use Rattle.cycle_history.specs.Sound.{past_in, HasAnswers, IsScavenged, IsSoundAndUsed};
+ghost use Rattle.sweep_laws.specs.State.{CoreState};
+ghost use Rattle.sweep_laws.specs.Needs.{refusal, next_needs};
+ghost use Rattle.sweep_laws.specs.Changes.{after_next};
+ghost use Rattle.sweep_laws.specs.Owned.{Owned};
+ghost use Rattle.sweep_laws.specs.Step.{needs_of, after};
+ghost use Rattle.sweep_laws.specs.declared.moves.Move.{Move};
+ghost use Rattle.run_laws.specs.CycleSoFar.{CycleSoFar, past_after, with_objects};
+ghost use Rattle.run_laws.specs.Facts.{Facts, Notes, Marks, Objects};
+ghost use Rattle.run_laws.specs.Occupied.{NamedHaveSome};
+ghost use Rattle.run_laws.specs.ShowsCycle.{ShowsCycle, after_mark_end};
+ghost use Rattle.run_laws.specs.GoesOn.{GoesOn};
+ghost use Rattle.run_laws.specs.Reached.{Began, Reached};
+ghost use Rattle.run_laws.specs.Profile.{
+  Samples,
+  Bucket,
+  Calls,
+  AreCalls,
+  allocs_at,
+  frees_at,
+  published_allocs,
+  published_frees,
+};
+
+/// Nothing written and nothing asked is a run as cycle 0 begins.
+pub fn a_run_begins()
+    ensures { (marked : Marking) (region : ℕ) (goal : ℕ) (carried : ℕ → ℕ → Bool) → Began marked region goal 0 [] [] [] carried }
+{}
+
+/// A cycle with its facts leads from its beginning to its end.
+pub fn a_cycle_keeps_a_run_sound()
+    ensures { (marked : Marking) (region : ℕ) (goal : ℕ) (objects : List Object) (notes : List SweepNote) (e : CycleSoFar)
+        → Began marked region goal e.cycle e.before objects notes e.carried → Facts marked region goal objects e
+        → Reached marked region goal e.cycle (past_after e) (e.news ++ objects) (e.notes ++ notes) e.bits }
+{}
+
+/// The next cycle begins behind a mark end, and carries the allocated indices.
+pub fn a_mark_end_begins_a_cycle()
+    ensures { (marked : Marking) (region : ℕ) (goal : ℕ) (c : ℕ) (past : List Line) (objects : List Object) (notes : List SweepNote) (bits : ℕ → ℕ → Bool)
+        → Reached marked region goal c past objects notes bits → Began marked region goal (suc c) past objects notes bits }
+{}
+
+/// The report of a run that has reached the end of the trace's last cycle is sound and used.
+pub fn a_reached_run_is_sound()
+    ensures { (t : Trace) (report : Report) (objects : List Object) (notes : List SweepNote) (bits : ℕ → ℕ → Bool)
+        → Reached (marked_by t) (region_of t) t.header.goal (last_cycle t) (past_in report) objects notes bits → HasAnswers t report objects
+        → report.sweeps ≡ reverse notes → AreTotals (marked_by t) (last_cycle t) objects report.totals → IsSoundAndUsed t report }
+{}
+
+/// What the tallies' calls of the cycles up to a mark end publish is what the samples of the trace's objects say.
+pub fn calls_publish_the_profile()
+    ensures { (marked : Marking) (s : Samples) (objects : List Object) (calls : Calls) (b : Bucket) (m : ℕ) → ((o : Object) → In o objects → Lasts marked o)
+        → ((c : ℕ) → c ≤ m → AreCalls marked s objects calls c)
+        → (published_allocs calls (suc m) b ≡ allocs_at s objects m b) × (published_frees calls (suc m) b ≡ frees_at marked s objects m b) }
+{}
+
+/// Each move of span ownership that may be made keeps a cycle under way, with the line and the entry that come with it.
+pub fn a_move_keeps_the_cycle_under_way()
+    ensures { (region : ℕ) (goal : ℕ) (c : CoreState) (e : CycleSoFar) (move : Move) (next : CycleSoFar) → ShowsCycle region goal c e → Owned c
+        → refusal (needs_of c move) ≡ None → GoesOn region goal c e move next → ShowsCycle region goal (after c move) next }
+{}
+
+/// Where a mark end may come, a state of span ownership that shows a cycle under way, with no span in it left empty, gives
+/// the cycle its facts. Its objects, its notes, the marks of its beginning and the scavenging are added here.
+pub fn a_settled_core_ends_a_cycle()
+    ensures { (marked : Marking) (region : ℕ) (goal : ℕ) (objects : List Object) (news : List Object) (notes : List SweepNote) (c : CoreState) (e : CycleSoFar)
+        (marks : List (ℕ × ℕ)) → ShowsCycle region goal c e → Owned c → refusal (next_needs c marks) ≡ None → NamedHaveSome c
+        → Notes (with_objects e news notes) → Marks marked objects (with_objects e news notes) → Objects marked objects (with_objects e news notes)
+        → IsScavenged region goal (past_after e) → Facts marked region goal objects (with_objects e news notes) }
+{}
+
+/// A mark end begins the next cycle under way: all open lives wait to be swept, nothing is written and no entry is made.
+pub fn a_mark_end_shows_the_next_cycle()
+    ensures { (region : ℕ) (goal : ℕ) (c : CoreState) (e : CycleSoFar) (marks : List (ℕ × ℕ)) → ShowsCycle region goal c e → Owned c
+        → refusal (next_needs c marks) ≡ None → ShowsCycle region goal (after_next c marks) (after_mark_end e marks) }
+{}

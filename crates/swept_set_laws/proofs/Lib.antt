@@ -1,0 +1,7 @@
+mod Pigeons
+pub mod Stays
+pub mod EnteredKept
+pub mod EnteredMoves
+pub mod EnteredRest
+pub mod EachMove
+pub mod OneLaw

@@ -1,0 +1,29 @@
+//! What the cells and claims of the swept sets name, popped ones included: a law over plain lists.
+//!
+//! `specs/Entered.antt` has the rule: in a swept set the cells and claims below the tail name different pages, at which
+//! swept lives of the set's class begin that have an object, and in a full set no free index; and a log's pops are pops of
+//! cells. So a set's tail is at most the number of pages. `proofs/` has one law for each move of span ownership: it
+//! keeps the rule, from what the move needs and what its call asks. Nothing here knows a step, a table or a handle.
+#![tactic(auto)]
+
+ghost use Rattle.std.specs.Prelude.{◌≡◌, ℕ, ◌<◌, List, length, None};
+ghost use Rattle.sweep_laws.specs.declared.moves.Move.{Move};
+ghost use Rattle.sweep_laws.specs.State.{CoreState};
+ghost use Rattle.sweep_laws.specs.Needs.{refusal, set_of, claim_needs};
+ghost use Rattle.sweep_laws.specs.Owned.{Owned};
+ghost use Rattle.sweep_laws.specs.Step.{needs_of, after};
+ghost use Rattle.worker_log.specs.declared.Entry.{Entry};
+ghost use Rattle.swept_set_laws.specs.Entered.{EnteredIn, MayClaim, NamesGoOn};
+
+/// Each move of span ownership that may be made keeps what the swept sets name.
+pub fn a_move_keeps_what_swept_sets_name()
+    ensures { (c : CoreState) (logs : List (List Entry)) (names : ℕ → ℕ → ℕ) (move : Move) (new_logs : List (List Entry)) (new_names : ℕ → ℕ → ℕ)
+        → EnteredIn c logs names → Owned c → refusal (needs_of c move) ≡ None → NamesGoOn c logs names move new_logs new_names
+        → EnteredIn (after c move) new_logs new_names }
+{}
+
+/// A claim that may be made finds room: in no swept set more cells were claimed than there are pages.
+pub fn a_claim_finds_room()
+    ensures { (c : CoreState) (logs : List (List Entry)) (names : ℕ → ℕ → ℕ) (w : ℕ) (s : ℕ) (p : ℕ) → EnteredIn c logs names → Owned c
+        → refusal (claim_needs c w s p) ≡ None → MayClaim c logs w s p → (set_of c s).tail < length c.words }
+{}
