@@ -4,7 +4,7 @@ use Rattle.std.specs.List.{concat}
 use Rattle.std.specs.Io.KnownBytes.{Appends}
 use Rattle.std.proofs.lemmas.List.{append-nil}
 use Rattle.edge_io.specs.Front.{AppendsFront, Sends}
-use Rattle.edge_io.specs.Puts.{Puts, PutsFront}
+use Rattle.edge_io.specs.Puts.{Puts}
 use Rattle.edge_io.specs.Text.{text}
 use Rattle.edge_io.proofs.Put.{front_nothing, front_then, puts-then, puts_nothing, sent_all, sent_front, text-append, whole_front}
 use Rattle.class_lines.specs.Text.{class_line, classes_text, lines_to}

@@ -5,7 +5,7 @@ use Rattle.cycle_history.specs.declared.Report.{Report}
 use Rattle.report_text.specs.declared.item.Item.{Item}
 use Rattle.report_text.specs.declared.item.Item.TheVariants.{Object, Journal, Sweep, Class, Bucket, End}
 use Rattle.report_text.specs.Gathered.{with_item}
-use Rattle.report_text.specs.Items.{AreInTurn, ItemFits, MayFollow, line_for, rank}
+use Rattle.report_text.specs.Items.{AreInTurn, MayFollow, rank}
 use Rattle.report_text.specs.Laws.{BeginsText}
 use Rattle.report_text.specs.Read.{IsText}
 use Rattle.report_text.specs.Refusal.{told}

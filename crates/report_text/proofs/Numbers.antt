@@ -1,5 +1,5 @@
 -- Numbers, blanks and ends of lines.
-use Rattle.std.proofs.Common.{◌≡◌, ℕ, zero, suc, ◌+◌, ◌*◌, ◌^◌, ◌<◌, ◌≤◌, Bool, true, false, List, [], ◌∷◌, ◌++◌, length, decimal, take, drop, get_or, refl, sym, ap, ◌∙◌, subst, inl, not, arith, length-drop}
+use Rattle.std.proofs.Common.{◌≡◌, ℕ, zero, suc, ◌+◌, ◌*◌, ◌^◌, ◌<◌, ◌≤◌, true, false, List, [], ◌∷◌, ◌++◌, length, decimal, take, drop, get_or, refl, sym, ap, ◌∙◌, subst, inl, not, arith, length-drop}
 use Rattle.std.specs.Fmt.{digits}
 use Rattle.std.specs.Char.{digit_value}
 use Rattle.std.specs.Str.Parse.{AllDigits, digits_value, digits_value_after}

@@ -1,10 +1,7 @@
 -- Putting numbered lines behind what waits, one at a time.
-use Rattle.std.proofs.Common.{◌≡◌, ℕ, ◌+◌, ◌<◌, ◌≤◌, List, [], ◌∷◌, ◌++◌, length, take, drop, get_or, Option, sym, ap, subst, ◌∙◌, arith, append_assoc, Result, Ok, Err, OnErr}
-use Rattle.std.specs.Io.KnownBytes.{Appends}
-use Rattle.std.proofs.KnownBytes.{Appends-trans}
+use Rattle.std.proofs.Common.{◌≡◌, ℕ, ◌+◌, ◌<◌, ◌≤◌, List, [], ◌∷◌, ◌++◌, length, take, drop, get_or, Option, sym, ap, subst, ◌∙◌, arith}
 use Rattle.std.proofs.lemmas.List.{append-nil, take_more, take_all, take-append-drop, length-take-le}
-use Rattle.std.proofs.lemmas.Grind.{flat_map-append}
-use Rattle.edge_io.specs.Front.{AppendsFront, Sends}
+use Rattle.edge_io.specs.Front.{Sends}
 use Rattle.edge_io.specs.Text.{text}
 use Rattle.cycle_history.specs.Text.{numbered}
 use Rattle.edge_io.specs.Puts.{Puts, PutsFront}

@@ -1,5 +1,5 @@
 -- What was read of a report.
-use Rattle.std.proofs.Common.{◌≡◌, ◌≢◌, ℕ, suc, ◌+◌, ◌-◌, ◌^◌, ◌<◌, ◌≤◌, min, List, [], ◌∷◌, ◌++◌, map, length, Option, Some, None, Result, Ok, Err, IfErr, refl, sym, ap, ◌∙◌, subst, inl, inr, arith, append_assoc, length-append}
+use Rattle.std.proofs.Common.{◌≡◌, ◌≢◌, ℕ, suc, ◌+◌, ◌-◌, ◌^◌, ◌<◌, min, List, [], ◌∷◌, ◌++◌, map, length, Option, Some, None, refl, sym, ap, ◌∙◌, subst, inl, inr, arith, append_assoc, length-append}
 use Rattle.std.specs.List.{AllByRecursion}
 use Rattle.std.specs.Io.KnownBytes.{Consumes}
 use Rattle.std.proofs.KnownBytes.{Consumes-nil, Consumes-trans}
@@ -8,7 +8,7 @@ use Rattle.edge_io.specs.declared.lines.Lines.{Lines}
 use Rattle.edge_io.specs.declared.lines.Seen.{Seen}
 use Rattle.edge_io.specs.declared.lines.Seen.TheVariants.{Finished}
 use Rattle.edge_io.specs.Line.{IsLine}
-use Rattle.edge_io.specs.Reading.{is_dry, line_of, lines_left, number_of, room_of}
+use Rattle.edge_io.specs.Reading.{line_of, lines_left, number_of, room_of}
 use Rattle.edge_io.specs.Text.{text}
 use Rattle.trace_reader.specs.Refusal.{next_number}
 use Rattle.trace_reader.specs.Taken.{IsEnded, StandsInLine, Takes}
@@ -19,8 +19,8 @@ use Rattle.report_text.specs.declared.item.Item.{Item}
 use Rattle.report_text.specs.declared.item.Item.TheVariants.{Object, Journal, Sweep, Class, Bucket, End}
 use Rattle.report_text.specs.declared.fault.ReportFault.{ReportFault}
 use Rattle.report_text.specs.declared.fault.ReportFault.TheVariants.{Malformed}
-use Rattle.report_text.specs.Items.{AreInTurn, ItemFits, MayFollow, Says, last_of, line_for}
-use Rattle.report_text.specs.Gathered.{IsEmpty, with_item}
+use Rattle.report_text.specs.Items.{AreInTurn, MayFollow, Says, last_of, line_for}
+use Rattle.report_text.specs.Gathered.{with_item}
 use Rattle.report_text.specs.Refusal.{IsOffence, number_behind, told}
 use Rattle.report_text.specs.Read.{BreaksOff, Offends, Reads, Refuses, TakesItem}
 use Rattle.report_text.proofs.OneSaid.{one_said}

@@ -1,5 +1,5 @@
 -- A report while its lines are read: what the last of them leaves open.
-use Rattle.std.proofs.Common.{◌≡◌, ℕ, ◌+◌, ◌^◌, ◌<◌, ◌≤◌, ◌⊎◌, List, [], ◌∷◌, ◌++◌, length, Option, Some, None, refl, sym, ap, ◌∙◌, subst, inl, inr, arith, append_assoc, length-append}
+use Rattle.std.proofs.Common.{◌≡◌, ℕ, ◌+◌, ◌<◌, ◌≤◌, ◌⊎◌, List, [], ◌∷◌, ◌++◌, length, Option, Some, None, refl, sym, ap, ◌∙◌, subst, inl, inr, arith, append_assoc, length-append}
 use Rattle.std.specs.List.{AllByRecursion}
 use Rattle.std.proofs.lemmas.List.{append-nil}
 use Rattle.page_bitmap.specs.declared.line.Line.{Line}
@@ -13,7 +13,7 @@ use Rattle.cycle_history.specs.Orders.{AreRisingProfile, AreRisingSweeps, AreRis
 use Rattle.trace_reader.proofs.Digits.{AllByRecursion-push}
 use Rattle.report_text.specs.declared.item.Item.{Item}
 use Rattle.report_text.specs.declared.item.Item.TheVariants.{Object, Journal, Sweep, Class, Bucket, End}
-use Rattle.report_text.specs.Items.{AreInTurn, IsFirst, IsNext, ItemFits, MayFollow, last_of, rank}
+use Rattle.report_text.specs.Items.{AreInTurn, IsNext, ItemFits, MayFollow, last_of, rank}
 use Rattle.report_text.specs.Gathered.{IsEmpty, with_item}
 use Rattle.report_text.specs.Unique.{AnswerFits, LineFits, SweepFits, TotalFits, ProfFits, FitsTypes}
 use Rattle.report_text.proofs.Turns.{body, bucket, class, in_turn_more, items, items_more, last_of_more, rank_of, sweep}

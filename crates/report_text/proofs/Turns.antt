@@ -1,12 +1,9 @@
 -- The lines of a report stand in turn.
-use Rattle.std.proofs.Common.{◌≡◌, ℕ, ◌+◌, ◌^◌, ◌<◌, ◌≤◌, ◌⊎◌, List, [], ◌∷◌, ◌++◌, map, length, Option, Some, None, refl, sym, ap, ◌∙◌, subst, inl, inr, arith, append_assoc, length-append}
+use Rattle.std.proofs.Common.{◌≡◌, ℕ, ◌+◌, ◌^◌, ◌<◌, ◌≤◌, List, [], ◌∷◌, ◌++◌, map, length, Option, Some, None, refl, sym, ap, ◌∙◌, subst, inl, inr, arith, append_assoc, length-append}
 use Rattle.std.specs.List.{AllByRecursion}
-use Rattle.std.proofs.lemmas.List.{append-nil}
 use Rattle.edge_io.specs.Text.{text}
-use Rattle.page_bitmap.specs.declared.line.Line.{Line}
-use Rattle.page_alloc.specs.Lists.{AllApart, In}
+use Rattle.page_alloc.specs.Lists.{AllApart}
 use Rattle.span_state.specs.declared.sweep.SweepNote.{SweepNote}
-use Rattle.cycle_history.specs.declared.Answer.{Answer}
 use Rattle.cycle_history.specs.declared.Total.{Total}
 use Rattle.cycle_history.specs.declared.Prof.{Prof}
 use Rattle.cycle_history.specs.declared.Report.{Report}

@@ -1,10 +1,5 @@
 -- The lines of a report, one at a time.
 use Rattle.std.specs.Prelude.{◌≡◌, ℕ, ◌+◌, ◌^◌, ◌<◌, ◌⊎◌, List, [], ◌∷◌, codes, Option, Some, None}
-use Rattle.page_bitmap.specs.declared.line.Line.{Line}
-use Rattle.span_state.specs.declared.sweep.SweepNote.{SweepNote}
-use Rattle.cycle_history.specs.declared.Answer.{Answer}
-use Rattle.cycle_history.specs.declared.Total.{Total}
-use Rattle.cycle_history.specs.declared.Prof.{Prof}
 use Rattle.cycle_history.specs.Text.{answer_line, journal_line, sweep_line, total_line, profile_line}
 use Rattle.cycle_history.specs.Orders.{IsSweepBefore, IsTotalBefore, IsProfBefore}
 use Rattle.report_text.specs.declared.item.Item.{Item}

@@ -1,7 +1,5 @@
-use Rattle.std.proofs.Common.{[], rules, arith, ◌∙◌, refl}
+use Rattle.std.proofs.Common.{rules, arith, ◌∙◌}
 use Rattle.std.proofs.lemmas.Result.{on_ok_weaker}
-use Rattle.std.proofs.lemmas.List.{append-nil}
-use Rattle.std.proofs.KnownBytes.{Appends-nil}
 use Rattle.class_lines.proofs.Lines.{all_front, all_put, all_sent, front_at, no_lines, one_more}
 use Rattle.class_lines.proofs.write.write_lines.Goals as goal
 

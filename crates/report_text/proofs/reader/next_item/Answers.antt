@@ -1,7 +1,6 @@
-use Rattle.std.proofs.Common.{◌≡◌, ◌∙◌}
 use Rattle.report_text.specs.declared.item.Item.{Item}
 use Rattle.report_text.specs.Items.{MayFollow, Says}
-use Rattle.report_text.proofs.Reading.{not_in_turn, other_line, takes_item}
+use Rattle.report_text.proofs.Reading.{not_in_turn, other_line}
 use Rattle.report_text.proofs.reader.next_item.Goals as goal
 use Rattle.report_text.proofs.reader.next_item.Goals.{in_default-via-in-Some+else-may_follow, in_default-via-in_default}
 
