@@ -72,8 +72,6 @@ returns c = let i = c.self.inside in let v : View = i.seat.me.0 in let k = c.sel
     let body = ap (λ (l : List (Option Body)). get_or l c.args.page None) (sym c.as_mut_slice.ensures.value) ∙ c.take_home-body.ensures.body in
     (
       taken_page i.core i.pages i.homes.items i.number v k c.args.set c.args.page r.set part more at c.take_home-body.result body,
-      (
-        rw (← c.self.view_is, c.tell_of.ensures.table, c.tell_of.ensures.view) refl,
-        taken_set i.core i.pages i.homes.items i.number v k c.args.set c.args.page r.set part more at c.take_home-body.result body,
-      ),
+      rw (← c.self.view_is, c.tell_of.ensures.table, c.tell_of.ensures.view) refl,
+      taken_set i.core i.pages i.homes.items i.number v k c.args.set c.args.page r.set part more at c.take_home-body.result body,
     )

@@ -26,11 +26,9 @@ apply-requires-clause-suits c = let i = c.self.inside in let k = c.self.invarian
     let at = filled i.core i.pages i.homes.items i.number i.seat.me.0 k c.args.set c.args.head c.args.page (sym x ∙ e.head) (ap (λ (w : Seen). has_cell c.args.set c.args.head c.args.page w.view.own.read) c.self.view_is ∙ r.read) in
     (
       at,
-      (
-        entry_low i.core i.pages i.homes.items i.number i.seat.me.0 k c.args.set c.args.page r.set (ap (λ (g : ℕ). is_swept_set g c.args.set) (sym k.generation) ∙ ap (λ (w : Seen). is_swept_set w.view.generation c.args.set) c.self.view_is ∙ r.part)
-        (let a = e.head in let b = e.tail in let o = r.order in omega arith) at,
-        r.set,
-      ),
+      entry_low i.core i.pages i.homes.items i.number i.seat.me.0 k c.args.set c.args.page r.set (ap (λ (g : ℕ). is_swept_set g c.args.set) (sym k.generation) ∙ ap (λ (w : Seen). is_swept_set w.view.generation c.args.set) c.self.view_is ∙ r.part)
+      (let a = e.head in let b = e.tail in let o = r.order in omega arith) at,
+      r.set,
     )
 
 pub returns : goal.returns
