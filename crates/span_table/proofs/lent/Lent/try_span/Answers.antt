@@ -3,7 +3,7 @@ use Rattle.std.specs.Prelude.{None, Some, Option, IfNone, IfSome}
 use Rattle.std.specs.Option.{is_some}
 use Rattle.std.proofs.lemmas.List.{length-reverse}
 use Rattle.page_alloc.specs.Heap.{HasMoreRoom, PageHeap}
-use Rattle.page_alloc.specs.Journal.{HasNoRun, IsBy, IsFirstFit, Legal}
+use Rattle.page_alloc.specs.Journal.{HasNoRun, IsBy, IsFirstFit, IsFree, Legal}
 use Rattle.page_alloc.proofs.Lives.{span_pages}
 use Rattle.page_bitmap.specs.declared.line.Line.{Line}
 use Rattle.page_bitmap.specs.declared.line.Line.TheVariants.{Take as TakeLine}
@@ -84,7 +84,13 @@ pub find-requires-clause-some : goal.find-requires-clause-some
 find-requires-clause-some c = span_pages c.args.class c.args.n c.requires.size
 
 pub returns-then-is_none : goal.returns-then-is_none
-returns-then-is_none c = ?
+returns-then-is_none c = let i = c.self.inside in let k = c.self.invariant in
+    let region = k.heap_region ∙ sym k.region ∙ ap (λ (w : Seen). w.view.region) c.self.view_is in
+    let goal = sym k.goal ∙ ap (λ (w : Seen). w.view.goal) c.self.view_is in
+    let none : HasNoRun i.pages.region i.pages.past c.args.n = none_found c.find.result c.if-is_none.ensures c.find.ensures.none in
+    (refl, (i.pages.past, (subst (λ (z : ℕ × ℕ). Legal z.0 z.1 i.pages.past) (λ j. (region j, goal j)) k.legal, subst (λ (r : ℕ). HasNoRun r i.pages.past c.args.n) region none)))
 
 pub unreachable-requires : goal.unreachable-requires
-unreachable-requires c = ?
+unreachable-requires c = let i = c.self.inside in let s = c.reserve_line.ensures.same in
+    let f : (p : ℕ) × IsFirstFit i.pages.region i.pages.past p c.args.n = some_found c.find.result c.if-is_none.ensures c.find.ensures.found in
+    c.in-Err.ensures.missed.may_follow.1 f.0 (subst (λ (z : ℕ × List Line). IsFree z.0 z.1 f.0 c.args.n) (λ j. (sym s.region j, sym s.past j)) f.1.here)
