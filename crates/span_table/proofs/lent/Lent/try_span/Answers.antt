@@ -1,4 +1,4 @@
-use Rattle.std.proofs.Common.{◌≡◌, ℕ, ◌+◌, ◌-◌, ◌/◌, ◌<◌, true, true≢false, ◌≤◌, List, ◌∷◌, length, get_or, refl, sym, ap, ◌∙◌, subst, arith}
+use Rattle.std.proofs.Common.{◌≡◌, ℕ, ◌+◌, ◌-◌, ◌/◌, ◌<◌, true, false, true≢false, ◌≤◌, List, ◌∷◌, length, get_or, refl, sym, ap, ◌∙◌, subst, arith}
 use Rattle.std.specs.Prelude.{None, Some, Option, IfNone, IfSome}
 use Rattle.std.specs.Option.{is_some}
 use Rattle.std.proofs.lemmas.List.{length-reverse}
@@ -41,8 +41,8 @@ take_run-requires-clause-owned c = let i = c.self.inside in (ready i.core i.page
 pub take_run-requires-clause-tidy : goal.take_run-requires-clause-tidy
 take_run-requires-clause-tidy c = let i = c.self.inside in (ready i.core i.pages i.homes.items i.number i.seat.me.0 c.self.invariant c.reserve_line.new.self c.reserve_line.ensures.same c.make_life_room.new.self _ c.in-Ok-make_life_room.ensures.ok).tidy
 
-pub invariant_of-self-in-Ok-take : goal.invariant_of-self-in-Ok-take
-invariant_of-self-in-Ok-take c =
+pub invariant_of-self-2 : goal.invariant_of-self-2
+invariant_of-self-2 c =
     let i = c.self.inside in let v : View = i.seat.me.0 in let b = c.new_body-body.result in let nb = c.new_body-body.ensures in
     let k = ready i.core i.pages i.homes.items i.number v c.self.invariant c.reserve_line.new.self c.reserve_line.ensures.same c.make_life_room.new.self _ c.in-Ok-make_life_room.ensures.ok in
     let t = c.in-Ok-take.ensures.taken in let f = t.may_follow.1.here in let r = c.take_run.ensures in let some = span_pages c.args.class c.args.n c.requires.size in
@@ -57,8 +57,8 @@ invariant_of-self-in-Ok-take c =
     (ap (λ (l : List Line). length l) (sym c.journal.ensures.lines) ∙ length-reverse c.journal.result.now ∙ sym nb.life)
     c.take_run.new.core (r.state ∙ same_state c.make_life_room.new.self i.number b.count c.in-Ok-take.page b.page c.args.n b.pages c.args.class b.class (sym nb.page) (sym nb.is_new.pages) (sym nb.is_new.class)) r.owned r.tidy r.space)
 
-pub returns-in-Ok-take : goal.returns-in-Ok-take
-returns-in-Ok-take c =
+pub returns : goal.returns
+returns c =
     let i = c.self.inside in let v : View = i.seat.me.0 in let b = c.new_body-body.result in let nb = c.new_body-body.ensures in let k₀ = c.self.invariant in
     let k = ready i.core i.pages i.homes.items i.number v c.self.invariant c.reserve_line.new.self c.reserve_line.ensures.same c.make_life_room.new.self _ c.in-Ok-make_life_room.ensures.ok in
     let t = c.in-Ok-take.ensures.taken in let f = t.may_follow.1.here in let some = span_pages c.args.class c.args.n c.requires.size in
@@ -93,4 +93,4 @@ returns-then-is_none c = let i = c.self.inside in let k = c.self.invariant in
 pub unreachable-requires : goal.unreachable-requires
 unreachable-requires c = let i = c.self.inside in let s = c.reserve_line.ensures.same in
     let f : (p : ℕ) × IsFirstFit i.pages.region i.pages.past p c.args.n = some_found c.find.result c.if-is_none.ensures c.find.ensures.found in
-    c.in-Err.ensures.missed.may_follow.1 f.0 (subst (λ (z : ℕ × List Line). IsFree z.0 z.1 f.0 c.args.n) (λ j. (sym s.region j, sym s.past j)) f.1.here)
+    c.in_default-take.ensures.missed.may_follow.1 f.0 (subst (λ (z : ℕ × List Line). IsFree z.0 z.1 f.0 c.args.n) (λ j. (sym s.region j, sym s.past j)) f.1.here)
