@@ -10,7 +10,7 @@ use Rattle.worker_log.specs.Logs.{is_pop_of, many}
 use Rattle.span_laws.specs.Asks.{HasBody}
 use Rattle.span_laws.specs.Views.{Seen}
 use Rattle.span_laws.specs.declared.view.View.{View}
-use Rattle.span_laws.proofs.Calls.{claim_rule}
+use Rattle.span_laws.proofs.Calls.{claim_rule, written_at}
 use Rattle.span_laws.proofs.Uses.{claim_allowed, claim_low, held_low}
 use Rattle.span_table.proofs.lent.Lent.claim_index.Goals as goal
 
@@ -29,13 +29,6 @@ make-requires-clause-provided c = let i = c.self.inside in let k = c.self.invari
 same_index : (a b : ℕ) → Index a ≡ Index b → a ≡ b
 same_index a b e = cc
 
--- a list that was lent whole, and written back with one place changed
-lent_back : {X : Type 0} (old new : List X) (n p : ℕ) (x : X) → n ≡ length old → new ≡ set old p x → take n (new ++ drop (length new) old) ≡ set old p x
-lent_back old new n p x e f =
-    let same : length new ≡ length old = ap length f ∙ length-set old p x in
-    let none : drop (length new) old ≡ [] = drop_all (length new) old (omega arith) in
-    rw (none, append-nil new) (take_all n new (omega arith) ∙ f)
-
 pub put_home-requires : goal.put_home-requires
 put_home-requires c = let i = c.self.inside in let k = c.self.invariant in let r = c.requires in
     let low = held_low i.core i.pages i.homes.items i.number i.seat.me.0 k c.args.body (ap (λ (w : Seen). has c.args.body.page w.view.own.held) c.self.view_is ∙ r.held) (ap (λ (w : Seen). w.view.own.claimed) c.self.view_is ∙ r.unclaimed)
@@ -44,7 +37,7 @@ put_home-requires c = let i = c.self.inside in let k = c.self.invariant in let r
 
 pub invariant_of-self : goal.invariant_of-self
 invariant_of-self c = let i = c.self.inside in let v : View = i.seat.me.0 in let k = c.self.invariant in let r = c.requires in let m = c.make.ensures in
-    let back = lent_back i.homes.items c.put_home.new.homes i.homes.len c.args.body.page (Some c.args.body) (let o = i.homes.ok.0 in omega arith) (c.put_home.ensures ∙ ap (λ (l : List (Option Body)). set l c.args.body.page (Some c.args.body)) c.as_mut_slice.ensures.value) in
+    let back = written_at i.homes.items c.put_home.new.homes i.homes.len c.args.body.page (Some c.args.body) (let o = i.homes.ok.0 in omega arith) (c.put_home.ensures ∙ ap (λ (l : List (Option Body)). set l c.args.body.page (Some c.args.body)) c.as_mut_slice.ensures.value) in
     let index : c.in-Index.index ≡ (set_of i.core c.args.set).tail = same_index c.in-Index.index (set_of i.core c.args.set).tail c.in-Index.ensures.reply in
     rw (back, c.tell.ensures.view, index)
     (claim_rule i.core i.pages i.homes.items i.number v k c.args.body (ap (λ (w : Seen). has c.args.body.page w.view.own.held) c.self.view_is ∙ r.held) (ap (λ (w : Seen). w.view.own.claimed) c.self.view_is ∙ r.unclaimed)
