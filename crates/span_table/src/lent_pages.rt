@@ -106,15 +106,25 @@ impl Lent {
         requires class { class < 136 }
         ensures { TriesSpan n class self.old self.new result }
     {
+        let cycle = ((self.core.generation() - 4) / 2) as u32;
         let mut steps = 0;
         if self.pages.find(n, &mut steps).is_none() {
             return Ok(None);
         }
-        match self.take_span(shared, n, class) {
-            Ok(body) => Ok(Some(body)),
-            Err(Refused::NoMemory) => Err(NoMemory),
-            Err(Refused::NoRun { .. }) => unreachable!(),
-        }
+        let Ok(()) = self.pages.reserve_line() else {
+            return Err(NoMemory);
+        };
+        let Ok(()) = self.core.make_life_room(objects(class)) else {
+            return Err(NoMemory);
+        };
+        let line = self.pages.journal().len() as u64;
+        let Ok(page) = self.pages.take(cycle, n, class) else {
+            unreachable!()
+        };
+        let body = new_body(page, n, class, line);
+        take_run(&mut self.core, self.number, page, n, body.count, class);
+        tell_of(shared, &mut self.seat, &SaidOf::Takes(cycle), &body);
+        Ok(Some(body))
     }
 
     // See `Shared::give_span`.
