@@ -119,7 +119,7 @@ module _ (g : ℕ) (ws : List ℕ) (os : List (Option ℕ)) (ls : List LifeState
 
   module _ (p : ℕ) (low : p < length ws) (has : 0 < times p h.held) (unclaimed : h.claimed ≡ None) where
     -- a page that a hand without a claim holds is named by popped cells alone
-    held_popped : (j : ℕ) (s : SetState) → get_elem? ss j ≡ some s → is_swept_set g j ≡ true → (i : ℕ) → i < s.tail → names j i ≡ p → i < s.head
+    pub held_popped : (j : ℕ) (s : SetState) → get_elem? ss j ≡ some s → is_swept_set g j ≡ true → (i : ℕ) → i < s.tail → names j i ≡ p → i < s.head
     held_popped j s there part i l is = dite (dec_le s.head i)
         (λ from. absurd (⊎_elim (blank from) (λ (c : cell_of s i ≡ names j i + 1). let q = queued_by j s there part i from l p (omega arith) in let x = alone in let x₂ = x.2 in let z : ⊥ = omega arith in z) ((e.sets_name j s there part).cell i l)))
         (λ near. omega arith)

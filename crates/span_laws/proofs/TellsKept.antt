@@ -1,0 +1,70 @@
+-- What the parts tell stays so, where one page, one part and the sets change.
+use Rattle.std.proofs.Common.{◌≡◌, ◌≢◌, ℕ, ◌+◌, ◌<◌, ◌⊎◌, ⊎_elim, Bool, ◌&&◌, true, false, eqb, List, set, get_or, refl, sym, ap, ◌∙◌, subst, arith}
+use mathlib.Core.Logic.{dite}
+use mathlib.Core.Option.{some}
+use lib.ListN.{get_elem?}
+use native.Mathlib.Decide.{ℕ_discrete}
+use Rattle.sweep_laws.specs.Lists.{has}
+use Rattle.sweep_laws.specs.Needs.{cell_of, is_swept_set, no_set}
+use Rattle.sweep_laws.specs.Owned.{EachAt}
+use Rattle.sweep_laws.specs.State.{LifeState, SetState}
+use Rattle.sweep_laws.proofs.Naming.{at_set}
+use Rattle.span_laws.specs.declared.view.Part.{Part}
+use Rattle.span_laws.specs.Logs.{is_placing_at}
+use Rattle.worker_log.specs.Logs.{many, is_seen_empty}
+use Rattle.span_laws.specs.Tells.{IsPlaced, Tells}
+use Rattle.span_laws.specs.Views.{has_cell}
+use Rattle.span_laws.proofs.Parts.{has3, has_none}
+
+-- what a step leaves as it is, besides the words of a page
+pub record Leads (g : ℕ) (ws : List ℕ) (ls : List LifeState) (ss : List SetState) (ws' : List ℕ) (ls' : List LifeState) (ss' : List SetState) (p : ℕ) : Type 0 where
+  pub words : (q : ℕ) → q ≢ p → get_or ws' q 0 ≡ get_or ws q 0
+  pub placed : (q i : ℕ) → IsPlaced g ws ls q i → IsPlaced g ws' ls' q i
+  pub empty : (k : ℕ) → is_swept_set g k ≡ false → (get_or ss k no_set).head ≡ (get_or ss k no_set).tail → (get_or ss' k no_set).head ≡ (get_or ss' k no_set).tail
+  pub cells : (k i q : ℕ) → cell_of (get_or ss k no_set) i ≡ q + 1 → cell_of (get_or ss' k no_set) i ≡ q + 1
+
+module _ (g : ℕ) (ws : List ℕ) (ls : List LifeState) (ss : List SetState) (ws' : List ℕ) (ls' : List LifeState) (ss' : List SetState) (p : ℕ) (lead : Leads g ws ls ss ws' ls' ss' p) where
+  both_false : (a b c : Bool) → a ≡ (b && c) → b ≡ false → (d : Bool) → a ≡ (b && d)
+  both_false a b c e f d = rw f at e ∙ sym (ap (λ (z : Bool). z && d) f)
+
+  -- a part without the page
+  pub else_tells : (x : Part) → has3 p x ≡ 0 → Tells g ws ls ss x → Tells g ws' ls' ss' x
+  else_tells x none t = record {
+    fresh = λ q. dite (ℕ_discrete q p)
+        (λ e. both_false (has q x.fresh) (has q x.cached) (eqb (get_or ws q 0) (g + 3)) (t.fresh q) (has_none q x.cached (let z = subst (λ (y : ℕ). has3 y x ≡ 0) (sym e) none in omega arith)) (eqb (get_or ws' q 0) (g + 3)))
+        (λ d. t.fresh q ∙ ap (λ (w : ℕ). has q x.cached && eqb w (g + 3)) (sym (lead.words q d)));
+    placed = λ q i m. lead.placed q i (t.placed q i m);
+    emptied = λ k u m. lead.empty k u (t.emptied k u m);
+    read = λ k i q r. lead.cells k i q (t.read k i q r);
+  }
+
+  -- the part that changes
+  module _ (h h' : Part) (t : Tells g ws ls ss h) (fresh : (q : ℕ) → has q h'.fresh ≡ (has q h'.cached && eqb (get_or ws' q 0) (g + 3)))
+      (log : (q i : ℕ) → 0 < many (is_placing_at q i) h'.log → (0 < many (is_placing_at q i) h.log) ⊎ IsPlaced g ws' ls' q i)
+      (seen : (k : ℕ) → is_swept_set g k ≡ false → 0 < many (is_seen_empty k) h'.log → (0 < many (is_seen_empty k) h.log) ⊎ ((get_or ss' k no_set).head ≡ (get_or ss' k no_set).tail))
+      (read : (k i q : ℕ) → has_cell k i q h'.read ≡ true → (has_cell k i q h.read ≡ true) ⊎ (cell_of (get_or ss' k no_set) i ≡ q + 1)) where
+    pub own_tells : Tells g ws' ls' ss' h'
+    own_tells = record {
+      fresh = fresh;
+      placed = λ q i m. ⊎_elim (λ (a : 0 < many (is_placing_at q i) h.log). lead.placed q i (t.placed q i a)) (λ (a : IsPlaced g ws' ls' q i). a) (log q i m);
+      emptied = λ k u m. ⊎_elim (λ (a : 0 < many (is_seen_empty k) h.log). lead.empty k u (t.emptied k u a)) (λ (a : (get_or ss' k no_set).head ≡ (get_or ss' k no_set).tail). a) (seen k u m);
+      read = λ k i q r. ⊎_elim (λ (a : has_cell k i q h.read ≡ true). lead.cells k i q (t.read k i q a)) (λ (a : cell_of (get_or ss' k no_set) i ≡ q + 1). a) (read k i q r);
+    }
+
+  -- so all parts
+  pub tells_turn : (ps : List Part) (n : ℕ) (h' : Part) → EachAt ps (λ m x. Tells g ws ls ss x) → ((m : ℕ) (x : Part) → m ≢ n → get_elem? ps m ≡ some x → has3 p x ≡ 0) → Tells g ws' ls' ss' h'
+      → EachAt (set ps n h') (λ m x. Tells g ws' ls' ss' x)
+  tells_turn ps n h' all others own m x a = ⊎_elim
+      (λ (t : (m ≡ n) × (h' ≡ x)). subst (Tells g ws' ls' ss') t.1 own)
+      (λ (t : (m ≢ n) × (get_elem? ps m ≡ some x)). else_tells x (others m x t.0 t.1) (all m x t.1))
+      (at_set ps n m h' x a)
+
+-- where nothing but a part changes
+pub same_leads : (g : ℕ) (ws : List ℕ) (ls : List LifeState) (ss : List SetState) (p : ℕ) → Leads g ws ls ss ws ls ss p
+same_leads g ws ls ss p = record { words = λ q d. refl; placed = λ q i x. x; empty = λ k u e. e; cells = λ k i q e. e }
+
+pub tells_stay : (g : ℕ) (ws : List ℕ) (ls : List LifeState) (ss : List SetState) (ps : List Part) (n : ℕ) (h' : Part) → EachAt ps (λ m x. Tells g ws ls ss x) → Tells g ws ls ss h' → EachAt (set ps n h') (λ m x. Tells g ws ls ss x)
+tells_stay g ws ls ss ps n h' all own m x a = ⊎_elim
+    (λ (t : (m ≡ n) × (h' ≡ x)). subst (Tells g ws ls ss) t.1 own)
+    (λ (t : (m ≢ n) × (get_elem? ps m ≡ some x)). all m x t.1)
+    (at_set ps n m h' x a)

@@ -1,0 +1,10 @@
+pub mod Views
+pub mod Logs
+pub mod Bodies
+pub mod Tells
+pub mod Rule
+pub mod Moves
+pub mod Suits
+pub mod Truth
+pub mod Asks
+pub mod Answers

@@ -1,0 +1,26 @@
+-- What contracts of the shared spans read in logs, besides the counts of worker_log. A log has its newest entry first.
+use Rattle.std.specs.Prelude.{◌≡◌, ℕ, true, false, ◌==◌, ◌&&◌, Bool, List, ◌∷◌, ◌++◌}
+use Rattle.worker_log.specs.declared.Entry.{Entry}
+use Rattle.worker_log.specs.declared.Entry.TheVariants.{Swept, Took, Allocated}
+use Rattle.worker_log.specs.declared.Sweeping.{Sweeping}
+use Rattle.worker_log.specs.Logs.{many}
+
+-- the entry places an object at this index of this page
+abbrev pub is_placing_at : ℕ → ℕ → Entry → Bool
+is_placing_at page index (Allocated a) = (a.page == page) && (a.index == index)
+is_placing_at page index _ = false
+
+-- the entry takes a run
+abbrev pub is_taking : Entry → Bool
+is_taking (Took number line) = true
+is_taking _ = false
+
+-- the entry is a sweep
+abbrev pub is_sweep : Entry → Bool
+is_sweep (Swept s) = true
+is_sweep _ = false
+
+-- the log's last sweep is of this page and kept nothing, and no run was taken behind it
+abbrev pub EndsSweptEmpty : ℕ → List Entry → Type 0
+EndsSweptEmpty page log = (behind : List Entry) × (before : List Entry) × (s : Sweeping) × (log ≡ behind ++ Swept s ∷ before)
+    × (s.page ≡ page) × (s.kept ≡ 0) × (many is_sweep behind ≡ 0) × (many is_taking behind ≡ 0)

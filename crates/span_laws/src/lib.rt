@@ -1,0 +1,15 @@
+//! What contracts see of the workers that share spans: their views and logs, how each step changes them, what calls ask and
+//! answer, and the rule that ties the views to the core, the pages and the bodies, with the laws that keep it.
+//!
+//! `specs/Views.antt` has what contracts see, `specs/Asks.antt` what calls ask and `specs/Answers.antt` what they answer,
+//! `specs/Rule.antt` the rule.
+#![tactic(auto)]
+
+mod answers;
+mod said;
+mod view;
+
+pub use answers::{Acquired, Refused, Step, Uncached};
+pub use said::{Said, SaidOf};
+pub use view::{Cell, Part, Span, View};
+pub use worker_log::Entry;

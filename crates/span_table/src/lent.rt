@@ -1,0 +1,174 @@
+ghost use Rattle.std.specs.Prelude.{◌≡◌, ℕ, ◌+◌, ◌<◌, ◌≤◌, true, None, Some, length, vec_len};
+ghost use Rattle.sweep_laws.specs.Needs.{refusal};
+ghost use Rattle.sweep_laws.specs.Step.{needs_of, after, reply_of};
+ghost use Rattle.sweep_laws.specs.Tidy.{IsProvided};
+ghost use Rattle.span_laws.specs.Moves.{move_of, move_on};
+ghost use Rattle.span_laws.specs.Rule.{Rule};
+ghost use Rattle.span_laws.specs.Truth.{IsSo, IsSoOf};
+ghost use Rattle.span_laws.specs.Suits.{Suits, SuitsOf, IsQuiet};
+ghost use Rattle.span_laws.specs.Views.{acts, as_number, span_of, told, told_of};
+
+use crate::make::make;
+use crate::seat::{hand, tell, tell_of};
+use crate::shared::Shared;
+use atomic_table::Seat;
+use page_alloc::Pages;
+use span_laws::{Said, SaidOf, View};
+use span_state::Body;
+use std::marker::Model;
+use sweep_generation::{Core, Move, Reply};
+
+/// The state, and the seat whose view tells what contracts know of it.
+#[derive(Drop)]
+pub struct Lent {
+    pub(crate) number: u32,
+    pub(crate) core: Core,
+    pub(crate) pages: Pages,
+    // the body of each span, by its first page, while no worker has it
+    pub(crate) homes: Vec<Option<Body>>,
+    pub(crate) counts: Counts,
+    pub(crate) seat: Seat<(), View>,
+}
+
+/// The words that count within a cycle, modulo 2^64.
+#[derive(Clone, Copy, Drop)]
+pub struct Counts {
+    /// The pages that were swept.
+    pub swept: u64,
+    /// The bytes of the spans that were cached or made.
+    pub spent: u64,
+    /// The next chunk to reclaim.
+    pub chunk: u64,
+}
+
+impl Model for Lent {
+    ghost use Rattle.std.specs.Prelude.{true};
+    ghost use Rattle.span_laws.specs.Views.{Seen};
+    ghost use Rattle.span_laws.specs.Rule.{Rule};
+
+    ghost Value = { Seen };
+
+    ghost view = { λ l. record { here = true; table = l.seat.table_id; number = l.number; view = l.seat.me.0 } };
+
+    ghost invariant = { λ l. Rule l.core l.pages l.homes.items l.number l.seat.me.0 };
+}
+
+// Makes a step that changes no body: the core's move of it, which is allowed and provided for, and the change of the view.
+pub(crate) fn apply(
+    shared: &Shared,
+    core: &mut Core,
+    pages: &Pages,
+    homes: &[Option<Body>],
+    number: u32,
+    seat: &mut Seat<(), View>,
+    said: &Said,
+    mv: Move,
+) -> Reply
+    requires table { seat.old.table_id ≡ shared.now }
+    requires rule { Rule core.old pages.now homes.now number seat.old.me.0 }
+    requires mv { mv ≡ move_of number said.now }
+    requires so { IsSo core.old pages.now said.now }
+    requires suits { Suits core.old seat.old.me.0.own said.now }
+    requires allowed { refusal (needs_of core.old mv) ≡ None }
+    requires provided { IsProvided core.old mv }
+    ensures table { seat.new.table_id ≡ seat.old.table_id }
+    ensures view { seat.new.me.0 ≡ acts seat.old.me.0 (told said.now seat.old.me.0.own) }
+    ensures rule { Rule core.new pages.now homes.now number seat.new.me.0 }
+    ensures state { core.new ≡ after core.old (move_of number said.now) }
+    ensures reply { result ≡ reply_of core.old (move_of number said.now) }
+{
+    let _pages = pages;
+    let _homes = homes;
+    tell(shared, seat, said);
+    make(core, mv)
+}
+
+// Makes a step on a body that the worker has and keeps.
+pub(crate) fn apply_of(
+    shared: &Shared,
+    core: &mut Core,
+    pages: &Pages,
+    homes: &[Option<Body>],
+    number: u32,
+    seat: &mut Seat<(), View>,
+    said: &SaidOf,
+    body: &Body,
+    mv: Move,
+) -> Reply
+    requires table { seat.old.table_id ≡ shared.now }
+    requires rule { Rule core.old pages.now homes.now number seat.old.me.0 }
+    requires mv { mv ≡ move_on number said.now (span_of body.now) }
+    requires suits { SuitsOf core.old pages.now seat.old.me.0 said.now (span_of body.now) }
+    requires allowed { refusal (needs_of core.old mv) ≡ None }
+    requires provided { IsProvided core.old mv }
+    ensures table { seat.new.table_id ≡ seat.old.table_id }
+    ensures view { seat.new.me.0 ≡ acts seat.old.me.0 (told_of said.now (span_of body.now) seat.old.me.0.own) }
+    ensures rule { Rule core.new pages.now homes.now number seat.new.me.0 }
+{
+    let _pages = pages;
+    let _homes = homes;
+    tell_of(shared, seat, said, body);
+    make(core, mv)
+}
+
+// An entry without a move.
+pub(crate) fn note(
+    shared: &Shared,
+    core: &Core,
+    pages: &Pages,
+    homes: &[Option<Body>],
+    number: u32,
+    seat: &mut Seat<(), View>,
+    said: &Said,
+)
+    requires table { seat.old.table_id ≡ shared.now }
+    requires rule { Rule core.now pages.now homes.now number seat.old.me.0 }
+    requires so { IsSo core.now pages.now said.now }
+    requires quiet { IsQuiet seat.old.me.0.own said.now }
+    ensures table { seat.new.table_id ≡ seat.old.table_id }
+    ensures view { seat.new.me.0 ≡ acts seat.old.me.0 (told said.now seat.old.me.0.own) }
+    ensures rule { Rule core.now pages.now homes.now number seat.new.me.0 }
+{
+    let _core = core;
+    let _pages = pages;
+    let _homes = homes;
+    tell(shared, seat, said);
+}
+
+impl Lent {
+    // The state of parts that have the rule.
+    pub(crate) fn of(
+        number: u32,
+        core: Core,
+        pages: Pages,
+        homes: Vec<Option<Body>>,
+        seat: Seat<(), View>,
+    ) -> Lent
+        requires { Rule core pages homes.items number seat.me.0 }
+        ensures { result ≡ record { here = true; table = seat.table_id; number = number; view = seat.me.0 } }
+    {
+        let counts = Counts {
+            swept: 0,
+            spent: 0,
+            chunk: 0,
+        };
+        Lent {
+            number,
+            core,
+            pages,
+            homes,
+            counts,
+            seat,
+        }
+    }
+
+    // The state goes to another worker.
+    pub(crate) fn become_worker(&mut self, shared: &Shared, number: u32)
+        requires table { self.old.table ≡ shared.now }
+        requires number { number < length self.old.view.parts }
+        ensures { self.new ≡ as_number number self.old }
+    {
+        hand(shared, &mut self.seat, self.number, number);
+        self.number = number;
+    }
+}

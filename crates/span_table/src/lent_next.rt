@@ -1,0 +1,39 @@
+ghost use Rattle.std.specs.Prelude.{◌≡◌, true};
+ghost use Rattle.sweep_laws.specs.Lists.{rises};
+ghost use Rattle.span_laws.specs.Asks.{MayMark};
+ghost use Rattle.span_laws.specs.Views.{after_next};
+
+use crate::lent::{Counts, Lent};
+use crate::make::make;
+use crate::seat::mark;
+use crate::shared::Shared;
+use fallible_list::List;
+use page_alloc::Pages;
+use sweep_generation::Move;
+
+impl Lent {
+    // See `Shared::next_generation`.
+    pub(crate) fn next_generation(&mut self, shared: &Shared, marks: List<(u32, u32)>)
+        requires table { self.old.table ≡ shared.now }
+        requires rising { rises marks ≡ true }
+        requires may { MayMark self.old.number self.old.view marks }
+        ensures { self.new ≡ after_next marks self.old }
+    {
+        mark(shared, &mut self.seat, &marks);
+        make(&mut self.core, Move::Next(marks));
+        self.counts = Counts {
+            swept: 0,
+            spent: 0,
+            chunk: 0,
+        };
+    }
+
+    // The pages, without the rest of the state.
+    pub(crate) fn into_pages(self) -> Pages
+        ensures region { result.region ≡ self.view.region }
+        ensures goal { result.goal ≡ self.view.goal }
+    {
+        let Lent { pages, .. } = self;
+        pages
+    }
+}

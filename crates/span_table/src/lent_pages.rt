@@ -1,0 +1,178 @@
+ghost use Rattle.std.specs.Prelude.{◌≡◌, ◌⊎◌, ℕ, ◌+◌, ◌-◌, ◌*◌, ◌/◌, ◌<◌, ◌≤◌, true, None, Some, List, length, OnOk, OnErr, IfOk};
+ghost use Rattle.page_alloc.specs.Journal.{HasNoRun, IsBy, IsSpanSize, Legal, open_lives, past_of, taken};
+ghost use Rattle.page_alloc.specs.Heap.{HasMoreRoom};
+ghost use Rattle.size_classes.specs.Classes.{IsClass, objects_of, slot_of};
+ghost use Rattle.sweep_laws.specs.Lists.{has};
+ghost use Rattle.span_laws.specs.Answers.{IsNew, NoRunFree, StepsOnce, TakesNew, TakesSpan, TriesSpan, cycle_at};
+ghost use Rattle.span_laws.specs.Asks.{HasBody, IsEmptyBody};
+ghost use Rattle.span_laws.specs.Logs.{EndsSweptEmpty};
+ghost use Rattle.span_laws.specs.Rule.{Rule};
+ghost use Rattle.span_laws.specs.Views.{acts, after_said, span_of, told, told_of};
+
+use span_laws::{Refused, Step};
+use crate::lent::Lent;
+use crate::make::{give_run, take_run};
+use span_laws::{Said, SaidOf};
+use crate::seat::{tell, tell_of};
+use crate::shared::Shared;
+use fallible_list::{List, NoMemory};
+use page_alloc::Pages;
+use page_bitmap::Line;
+use size_classes::{PAGE_SIZE, slot_size, span_objects};
+use span_state::Body;
+use std::alloc::Global;
+use sweep_generation::Core;
+
+// The objects of a span.
+fn objects(class: u8) -> u32
+    requires { 2 ≤ class → IsClass (class / 2) }
+    ensures large { class < 2 → result ≡ 1 }
+    ensures small { 2 ≤ class → result ≡ objects_of (class / 2) }
+    ensures bounds { (1 ≤ result) × (result ≤ 1024) }
+{
+    if class < 2 {
+        1
+    } else {
+        span_objects(class / 2)
+    }
+}
+
+// The bytes of an object of a span of n pages.
+fn slot(class: u8, n: u32) -> u64
+    requires { 2 ≤ class → IsClass (class / 2) }
+    ensures large { class < 2 → result ≡ 8192 * n }
+    ensures small { 2 ≤ class → result ≡ slot_of (class / 2) }
+{
+    if class < 2 {
+        PAGE_SIZE * u64::from(n)
+    } else {
+        u64::from(slot_size(class / 2))
+    }
+}
+
+// The body of a new span.
+fn new_body(page: u32, n: u32, class: u8, life: u64) -> Body
+    requires { 2 ≤ class → IsClass (class / 2) }
+    ensures is_new { IsNew n class result }
+    ensures page { result.page ≡ page }
+    ensures life { result.life ≡ life }
+{
+    Body::new(page, n, slot(class, n), objects(class), class, life)
+}
+
+impl Lent {
+    // See `Shared::take_span`.
+    pub(crate) fn take_span(&mut self, shared: &Shared, n: u32, class: u8) -> Result<Body, Refused>
+        requires table { self.old.table ≡ shared.now }
+        requires size { IsSpanSize class n }
+        requires class { class < 136 }
+        ensures { TakesSpan n class self.old self.new result }
+    {
+        let cycle = ((self.core.generation() - 4) / 2) as u32;
+        let Ok(()) = self.pages.reserve_line() else {
+            return Err(Refused::NoMemory);
+        };
+        let Ok(()) = self.core.make_life_room(objects(class)) else {
+            return Err(Refused::NoMemory);
+        };
+        let line = self.pages.journal().len() as u64;
+        match self.pages.take(cycle, n, class) {
+            Ok(page) => {
+                let body = new_body(page, n, class, line);
+                take_run(&mut self.core, self.number, page, n, body.count, class);
+                tell_of(shared, &mut self.seat, &SaidOf::Takes(cycle), &body);
+                Ok(body)
+            }
+            Err(none) => {
+                tell(
+                    shared,
+                    &mut self.seat,
+                    &Said::Misses(none.line, cycle, n, class),
+                );
+                Err(Refused::NoRun { line: none.line })
+            }
+        }
+    }
+
+    // See `Shared::try_span`.
+    pub(crate) fn try_span(
+        &mut self,
+        shared: &Shared,
+        n: u32,
+        class: u8,
+    ) -> Result<Option<Body>, NoMemory>
+        requires table { self.old.table ≡ shared.now }
+        requires size { IsSpanSize class n }
+        requires class { class < 136 }
+        ensures { TriesSpan n class self.old self.new result }
+    {
+        let cycle = ((self.core.generation() - 4) / 2) as u32;
+        let mut steps = 0;
+        if self.pages.find(n, &mut steps).is_none() {
+            return Ok(None);
+        }
+        let Ok(()) = self.pages.reserve_line() else {
+            return Err(NoMemory);
+        };
+        let Ok(()) = self.core.make_life_room(objects(class)) else {
+            return Err(NoMemory);
+        };
+        let line = self.pages.journal().len() as u64;
+        let Ok(page) = self.pages.take(cycle, n, class) else {
+            unreachable!()
+        };
+        let body = new_body(page, n, class, line);
+        take_run(&mut self.core, self.number, page, n, body.count, class);
+        tell_of(shared, &mut self.seat, &SaidOf::Takes(cycle), &body);
+        Ok(Some(body))
+    }
+
+    // See `Shared::give_span`.
+    pub(crate) fn give_span(&mut self, shared: &Shared, body: Body)
+        requires table { self.old.table ≡ shared.now }
+        requires held { has body.page self.old.view.own.held ≡ true }
+        requires unclaimed { self.old.view.own.claimed ≡ None }
+        requires lent { HasBody self.old.view.own body }
+        requires empty { IsEmptyBody body }
+        requires swept { EndsSweptEmpty body.page self.old.view.own.log }
+        ensures { self.new ≡ after_said (Said.Gives body.page body.pages) self.old }
+    {
+        let cycle = ((self.core.generation() - 4) / 2) as u32;
+        self.pages.give(cycle, body.page);
+        give_run(&mut self.core, self.number, body.page);
+        tell(
+            shared,
+            &mut self.seat,
+            &Said::Gives(body.page, body.pages),
+        );
+    }
+
+    // See `Shared::scavenge_step`.
+    pub(crate) fn scavenge_step(&mut self) -> Result<Step, NoMemory>
+        ensures { StepsOnce self.old self.new result }
+    {
+        let cycle = ((self.core.generation() - 4) / 2) as u32;
+        let Ok(()) = self.pages.reserve_line() else {
+            return Err(NoMemory);
+        };
+        let run = self.pages.scavenge(cycle);
+        let backed = self.pages.backed();
+        Ok(Step { run, backed })
+    }
+
+    // See `Shared::pages_taken`.
+    pub(crate) fn pages_taken(&self) -> u32
+        ensures { (past : List Line) × Legal self.now.view.region self.now.view.goal past × (result ≡ taken self.now.view.region past) }
+    {
+        self.pages.taken()
+    }
+
+    // See `Shared::journal_copy`.
+    pub(crate) fn journal_copy(&self, alloc: Global) -> Result<List<Line>, NoMemory>
+        ensures { IfOk result (λ lines. Legal self.now.view.region self.now.view.goal (past_of lines)) }
+    {
+        let mut lines = Vec::new(alloc);
+        lines.extend_from_slice(self.pages.journal())?;
+        Ok(List::from_vec(lines))
+    }
+}

@@ -1,0 +1,26 @@
+//! The running state of spans, lent to one worker at a time, and what contracts know of workers.
+//!
+//! `specs/Views.antt` has what contracts see: a worker's number, its own part and its log, and how each step changes them.
+//! `specs/Asks.antt` has what calls ask and `specs/Answers.antt` what they answer. The core, the pages and the bodies at home are
+//! hidden; `specs/Rule.antt` ties them to the views.
+#![tactic(auto)]
+
+mod homes;
+mod lent;
+mod lent_next;
+mod lent_pages;
+mod lent_sets;
+mod lent_words;
+mod make;
+mod seat;
+mod shared;
+mod worker;
+mod worker_pages;
+mod worker_sets;
+mod worker_words;
+
+pub use shared::Shared;
+pub use span_laws::{
+    Acquired, Cell, Entry, Part, Refused, Said, SaidOf, Span, Step, Uncached, View,
+};
+pub use worker::Worker;

@@ -1,0 +1,181 @@
+ghost use Rattle.std.specs.Prelude.{◌≡◌};
+ghost use Rattle.span_laws.specs.Views.{acts, handed, marked, span_of, told, told_of};
+
+use crate::shared::Shared;
+use atomic_table::{Play, Seat};
+use fallible_list::List;
+use span_laws::{Said, SaidOf, View};
+use span_state::Body;
+use std::marker::{Brand, PhantomData};
+
+/// How a step changes the own part of a view, which a call of the program picks.
+pub trait Tells {
+    ghost use Rattle.span_laws.specs.declared.said.Said.{Said};
+
+    ghost said: { Said };
+}
+
+impl Tells for Brand {
+    ghost use Rattle.span_laws.specs.declared.said.Said.TheVariants.{Caches};
+
+    ghost said = { Caches 0 };
+}
+
+struct Telling<J> {
+    said: PhantomData<J>,
+}
+
+impl<J: Tells> Play<(), View> for Telling<J> {
+    ghost use Rattle.std.specs.Prelude.{◌≡◌};
+    ghost use Rattle.span_laws.specs.Views.{acts, told};
+
+    ghost then = { λ _ m _ w. w ≡ (acts m.0 (told J.said m.0.own), m.1) };
+}
+
+/// How a step on a body does.
+pub trait TellsOf {
+    ghost use Rattle.span_laws.specs.declared.said.SaidOf.{SaidOf};
+    ghost use Rattle.span_laws.specs.declared.view.Span.{Span};
+
+    ghost said: { SaidOf };
+
+    ghost span: { Span };
+}
+
+impl TellsOf for Brand {
+    ghost use Rattle.span_laws.specs.declared.said.SaidOf.TheVariants.{Acquires};
+    ghost use Rattle.span_laws.specs.Views.{no_span};
+
+    ghost said = { Acquires };
+
+    ghost span = { no_span };
+}
+
+struct TellingOf<J> {
+    said: PhantomData<J>,
+}
+
+impl<J: TellsOf> Play<(), View> for TellingOf<J> {
+    ghost use Rattle.std.specs.Prelude.{◌≡◌};
+    ghost use Rattle.span_laws.specs.Views.{acts, told_of};
+
+    ghost then = { λ _ m _ w. w ≡ (acts m.0 (told_of J.said J.span m.0.own), m.1) };
+}
+
+/// Between which workers the state goes, which a call of the program picks.
+pub trait Hands {
+    ghost use Rattle.std.specs.Prelude.{ℕ};
+
+    ghost from: { ℕ };
+
+    ghost to: { ℕ };
+}
+
+impl Hands for Brand {
+    ghost from = { 0 };
+
+    ghost to = { 0 };
+}
+
+struct Handing<J> {
+    hands: PhantomData<J>,
+}
+
+impl<J: Hands> Play<(), View> for Handing<J> {
+    ghost use Rattle.std.specs.Prelude.{◌≡◌};
+    ghost use Rattle.span_laws.specs.Views.{handed};
+
+    ghost then = { λ _ m _ w. w ≡ (handed J.from J.to m.0, m.1) };
+}
+
+/// What a mark end marks, which a call of the program picks.
+pub trait Marking {
+    ghost use Rattle.std.specs.Prelude.{ℕ, List};
+
+    ghost marks: { List (ℕ × ℕ) };
+}
+
+impl Marking for Brand {
+    ghost use Rattle.std.specs.Prelude.{[]};
+
+    ghost marks = { [] };
+}
+
+struct MarkingBy<J> {
+    marks: PhantomData<J>,
+}
+
+impl<J: Marking> Play<(), View> for MarkingBy<J> {
+    ghost use Rattle.std.specs.Prelude.{◌≡◌};
+    ghost use Rattle.span_laws.specs.Views.{marked};
+
+    ghost then = { λ _ m _ w. w ≡ (marked J.marks m.0, m.1) };
+}
+
+fn tell_as<J: Tells>(shared: &Shared, seat: &mut Seat<(), View>, _said: &Said)
+    requires { seat.old.table_id ≡ shared.now }
+    ensures table { seat.new.table_id ≡ seat.old.table_id }
+    ensures view { seat.new.me.0 ≡ acts seat.old.me.0 (told J.said seat.old.me.0.own) }
+{
+    shared.table.shared.load::<Telling<J>>(seat, 0);
+}
+
+// The view changes as it is said.
+pub(crate) fn tell(shared: &Shared, seat: &mut Seat<(), View>, said: &Said)
+    requires { seat.old.table_id ≡ shared.now }
+    ensures table { seat.new.table_id ≡ seat.old.table_id }
+    ensures view { seat.new.me.0 ≡ acts seat.old.me.0 (told said.now seat.old.me.0.own) }
+{
+    tell_as::<Brand>(shared, seat, said);
+}
+
+fn tell_of_as<J: TellsOf>(shared: &Shared, seat: &mut Seat<(), View>, _said: &SaidOf, _body: &Body)
+    requires { seat.old.table_id ≡ shared.now }
+    ensures table { seat.new.table_id ≡ seat.old.table_id }
+    ensures view { seat.new.me.0 ≡ acts seat.old.me.0 (told_of J.said J.span seat.old.me.0.own) }
+{
+    shared.table.shared.load::<TellingOf<J>>(seat, 0);
+}
+
+// The view changes as it is said of a body.
+pub(crate) fn tell_of(shared: &Shared, seat: &mut Seat<(), View>, said: &SaidOf, body: &Body)
+    requires { seat.old.table_id ≡ shared.now }
+    ensures table { seat.new.table_id ≡ seat.old.table_id }
+    ensures view { seat.new.me.0 ≡ acts seat.old.me.0 (told_of said.now (span_of body.now) seat.old.me.0.own) }
+{
+    tell_of_as::<Brand>(shared, seat, said, body);
+}
+
+fn hand_as<J: Hands>(shared: &Shared, seat: &mut Seat<(), View>, _from: u32, _to: u32)
+    requires { seat.old.table_id ≡ shared.now }
+    ensures table { seat.new.table_id ≡ seat.old.table_id }
+    ensures view { seat.new.me.0 ≡ handed J.from J.to seat.old.me.0 }
+{
+    shared.table.shared.load::<Handing<J>>(seat, 0);
+}
+
+// The seat goes from one worker to another.
+pub(crate) fn hand(shared: &Shared, seat: &mut Seat<(), View>, from: u32, to: u32)
+    requires { seat.old.table_id ≡ shared.now }
+    ensures table { seat.new.table_id ≡ seat.old.table_id }
+    ensures view { seat.new.me.0 ≡ handed from to seat.old.me.0 }
+{
+    hand_as::<Brand>(shared, seat, from, to);
+}
+
+fn mark_as<J: Marking>(shared: &Shared, seat: &mut Seat<(), View>, _marks: &List<(u32, u32)>)
+    requires { seat.old.table_id ≡ shared.now }
+    ensures table { seat.new.table_id ≡ seat.old.table_id }
+    ensures view { seat.new.me.0 ≡ marked J.marks seat.old.me.0 }
+{
+    shared.table.shared.load::<MarkingBy<J>>(seat, 0);
+}
+
+// The view goes over a mark end.
+pub(crate) fn mark(shared: &Shared, seat: &mut Seat<(), View>, marks: &List<(u32, u32)>)
+    requires { seat.old.table_id ≡ shared.now }
+    ensures table { seat.new.table_id ≡ seat.old.table_id }
+    ensures view { seat.new.me.0 ≡ marked marks.now seat.old.me.0 }
+{
+    mark_as::<Brand>(shared, seat, marks);
+}

@@ -1,0 +1,142 @@
+ghost use Rattle.std.specs.Prelude.{◌≡◌, ◌<◌, true, None, List, IfOk};
+ghost use Rattle.page_alloc.specs.Journal.{IsSpanSize, Legal, past_of, taken};
+ghost use Rattle.page_bitmap.specs.declared.line.Line.{Line};
+ghost use Rattle.sweep_laws.specs.Lists.{has, rises};
+ghost use Rattle.span_laws.specs.Answers.{StepsOnce, TakesSpan, TriesSpan};
+ghost use Rattle.span_laws.specs.Asks.{HasBody, IsEmptyBody, MayMark};
+ghost use Rattle.span_laws.specs.Logs.{EndsSweptEmpty};
+ghost use Rattle.span_laws.specs.Views.{after_next, after_said};
+
+use span_laws::{Refused, Step};
+use span_laws::Said;
+use crate::shared::Shared;
+use crate::worker::Worker;
+use fallible_list::{List, NoMemory};
+use page_alloc::Pages;
+use page_bitmap::Line;
+use span_state::Body;
+use std::alloc::Global;
+
+impl Shared {
+    /// Takes a run of n pages at first fit under the heap lock, for a span of this span class: the worker holds it at G (`mheap.go`,
+    /// `allocSpan`). n is the pages of the small class, or at least 5 for span class 0 or 1. NoRun where no run of n pages is
+    /// free, with the Miss line that says so; nothing else changes then. NoMemory where there was no room for a line or for the
+    /// life of a span: nothing changes.
+    pub fn take_span(&self, w: &mut Worker, n: u32, class: u8) -> Result<Body, Refused>
+        requires here { w.old.here ≡ true }
+        requires table { w.old.table ≡ self.now }
+        requires size { IsSpanSize class n }
+        requires class { class < 136 }
+        ensures { TakesSpan n class w.old w.new result }
+    {
+        let Some(lent) = &mut w.lent else {
+            unreachable!()
+        };
+        lent.take_span(self, n, class)
+    }
+
+    /// The same, but None where no run of n pages is free, without a line.
+    pub fn try_span(&self, w: &mut Worker, n: u32, class: u8) -> Result<Option<Body>, NoMemory>
+        requires here { w.old.here ≡ true }
+        requires table { w.old.table ≡ self.now }
+        requires size { IsSpanSize class n }
+        requires class { class < 136 }
+        ensures { TriesSpan n class w.old w.new result }
+    {
+        let Some(lent) = &mut w.lent else {
+            unreachable!()
+        };
+        lent.try_span(self, n, class)
+    }
+
+    /// Gives a span back to the heap (`mheap.go`, `freeSpan`): the worker holds it at G, has claimed nothing, and nothing is
+    /// allocated in it; the last sweep of its log is of this span with nothing kept, and it took no run behind that. Takes no
+    /// memory.
+    pub fn give_span(&self, w: &mut Worker, body: Body)
+        requires here { w.old.here ≡ true }
+        requires table { w.old.table ≡ self.now }
+        requires held { has body.page w.old.view.own.held ≡ true }
+        requires unclaimed { w.old.view.own.claimed ≡ None }
+        requires lent { HasBody w.old.view.own body }
+        requires empty { IsEmptyBody body }
+        requires swept { EndsSweptEmpty body.page w.old.view.own.log }
+        ensures { w.new ≡ after_said (Said.Gives body.page body.pages) w.old }
+    {
+        let Some(lent) = &mut w.lent else {
+            unreachable!()
+        };
+        lent.give_span(self, body);
+    }
+
+    /// One scavenging step under the heap lock. Its run is None where backed pages were at most the goal, or no free page was
+    /// backed; `backed` is the number of backed pages after the step.
+    pub fn scavenge_step(&self, w: &mut Worker) -> Result<Step, NoMemory>
+        requires here { w.old.here ≡ true }
+        requires table { w.old.table ≡ self.now }
+        ensures { StepsOnce w.old w.new result }
+    {
+        let Some(lent) = &mut w.lent else {
+            unreachable!()
+        };
+        lent.scavenge_step()
+    }
+
+    /// The number of pages that spans have. Takes no memory.
+    pub fn pages_taken(&self, w: &mut Worker) -> u32
+        requires here { w.old.here ≡ true }
+        requires table { w.old.table ≡ self.now }
+        ensures same { w.new ≡ w.old }
+        ensures taken { (past : List Line) × Legal w.old.view.region w.old.view.goal past × (result ≡ taken w.old.view.region past) }
+    {
+        let Some(lent) = &mut w.lent else {
+            unreachable!()
+        };
+        lent.pages_taken()
+    }
+
+    /// Ends a mark phase (`mgc.go`, `gcMarkTermination`): the generation rises by 2, each span waits for its sweep, the
+    /// unswept sets become the swept ones, and all logs and the words 2 to 4 begin anew. `marks` has pairs of a first page
+    /// and an index, in rising order. No worker is out.
+    pub fn next_generation(&mut self, driver: &mut Worker, marks: List<(u32, u32)>)
+        requires here { driver.old.here ≡ true }
+        requires table { driver.old.table ≡ self.old }
+        requires rising { rises marks ≡ true }
+        requires may { MayMark driver.old.number driver.old.view marks }
+        ensures table { self.new ≡ self.old }
+        ensures view { driver.new ≡ after_next marks driver.old }
+    {
+        let Some(lent) = &mut driver.lent else {
+            unreachable!()
+        };
+        lent.next_generation(self, marks);
+    }
+
+    /// A copy of the whole journal, which is legal. No worker is out.
+    pub fn journal_copy(
+        &self,
+        alloc: Global,
+        driver: &mut Worker,
+    ) -> Result<List<Line>, NoMemory>
+        requires here { driver.old.here ≡ true }
+        requires table { driver.old.table ≡ self.now }
+        ensures same { driver.new ≡ driver.old }
+        ensures legal { IfOk result (λ lines. Legal driver.old.view.region driver.old.view.goal (past_of lines)) }
+    {
+        let Some(lent) = &mut driver.lent else {
+            unreachable!()
+        };
+        lent.journal_copy(alloc)
+    }
+
+    /// The pages with their journal, as all workers left them. No worker is out.
+    pub fn close(self, driver: Worker) -> Pages
+        requires here { driver.here ≡ true }
+        requires table { driver.table ≡ self }
+        ensures region { result.region ≡ driver.view.region }
+        ensures goal { result.goal ≡ driver.view.goal }
+    {
+        let Worker { lent } = driver;
+        let Some(lent) = lent else { unreachable!() };
+        lent.into_pages()
+    }
+}
