@@ -1,17 +1,12 @@
-use Rattle.std.proofs.Common.{◌≡◌, ◌≢◌, ℕ, ◌+◌, ◌<◌, true, false, List, [], ◌++◌, length, get_or, set, take, drop, refl, ap, sym, subst, ◌∙◌, arith}
-use Rattle.std.specs.Prelude.{None, Some, Option}
-use Rattle.std.proofs.Math.ListN.{length-set}
-use Rattle.std.proofs.lemmas.List.{append-nil, drop_all, take_all}
-use Rattle.page_alloc.specs.Heap.{PageHeap}
+use Rattle.std.proofs.Common.{◌≡◌, ℕ, ◌<◌, List, length, get_or, set, refl, ap, sym, subst, ◌∙◌, arith}
+use Rattle.std.specs.Prelude.{None, Option}
 use Rattle.span_state.specs.declared.body.Body.{Body}
-use Rattle.sweep_laws.specs.Needs.{cell_of, is_swept_set, set_of}
-use Rattle.sweep_laws.specs.State.{CoreState}
-use Rattle.span_laws.specs.Rule.{Rule}
+use Rattle.sweep_laws.specs.Needs.{is_swept_set, set_of}
 use Rattle.span_laws.specs.declared.view.View.{View}
 use Rattle.span_laws.specs.Views.{Seen, has_cell}
 use Rattle.span_laws.proofs.Allowed.{pop_swept_allowed}
 use Rattle.span_laws.proofs.Calls.{head_filled, pop_rule, taken_page, taken_set, written_at}
-use Rattle.span_laws.proofs.RuleKept.{low_number, part_at}
+use Rattle.span_laws.proofs.RuleKept.{low_number}
 use Rattle.span_laws.proofs.Uses.{popped_home, popped_low}
 use Rattle.span_table.proofs.lent.Lent.raise_swept.Goals as goal
 
@@ -58,8 +53,7 @@ returns c = let i = c.self.inside in let v : View = i.seat.me.0 in let k = c.sel
     let part = ap (λ (g : ℕ). is_swept_set g c.args.set) (sym k.generation) ∙ ap (λ (w : Seen). is_swept_set w.view.generation c.args.set) c.self.view_is ∙ r.part in
     let at = head_filled i.core i.pages i.homes.items i.number v k c.args.set c.args.head c.args.page (sym x ∙ e.head) (ap (λ (w : Seen). has_cell c.args.set c.args.head c.args.page w.view.own.read) c.self.view_is ∙ r.read) in
     let more : (set_of i.core c.args.set).head < (set_of i.core c.args.set).tail = (let a = e.head in let b = e.tail in let o = r.order in omega arith) in
-    let body = ap (λ (l : List (Option Body)). get_or l c.args.page None) (sym c.as_mut_slice.ensures.value) ∙ c.take_home-body.ensures.body in
-    (
+    let body = ap (λ (l : List (Option Body)). get_or l c.args.page None) (sym c.as_mut_slice.ensures.value) ∙ c.take_home-body.ensures.body in (
       taken_page i.core i.pages i.homes.items i.number v k c.args.set c.args.page r.set part more at c.take_home-body.result body,
       rw (← c.self.view_is, c.tell_of.ensures.table, c.tell_of.ensures.view) refl,
       taken_set i.core i.pages i.homes.items i.number v k c.args.set c.args.page r.set part more at c.take_home-body.result body,

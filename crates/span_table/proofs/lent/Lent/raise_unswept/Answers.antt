@@ -1,11 +1,5 @@
-use Rattle.std.proofs.Common.{◌≡◌, ℕ, ◌+◌, ◌<◌, true, false, List, length, refl, ap, sym, subst, ◌∙◌, arith}
-use Rattle.std.specs.Prelude.{Option}
-use Rattle.page_alloc.specs.Heap.{PageHeap}
-use Rattle.span_state.specs.declared.body.Body.{Body}
-use Rattle.sweep_laws.specs.Needs.{cell_of, is_swept_set, set_of}
-use Rattle.sweep_laws.specs.State.{CoreState}
-use Rattle.span_laws.specs.Rule.{Rule}
-use Rattle.span_laws.specs.declared.view.View.{View}
+use Rattle.std.proofs.Common.{◌≡◌, ℕ, ◌<◌, refl, ap, sym, subst, ◌∙◌, arith}
+use Rattle.sweep_laws.specs.Needs.{is_swept_set}
 use Rattle.span_laws.specs.Views.{Seen, has_cell}
 use Rattle.span_laws.proofs.Calls.{head_filled}
 use Rattle.span_laws.proofs.Uses.{entry_allowed, entry_low}
@@ -19,11 +13,10 @@ apply-requires-clause-allowed c = let i = c.self.inside in let k = c.self.invari
 pub apply-requires-clause-suits : goal.apply-requires-clause-suits
 apply-requires-clause-suits c = let i = c.self.inside in let k = c.self.invariant in let r = c.requires in let e = c.head_and_tail-found.ensures in
     let x : c.head_and_tail-found.result.0 ≡ c.args.head = c.if-found-head.false in let y : c.head_and_tail-found.result.1 ≡ c.args.tail = c.if-found-tail.false in
-    let at = head_filled i.core i.pages i.homes.items i.number i.seat.me.0 k c.args.set c.args.head c.args.page (sym x ∙ e.head) (ap (λ (w : Seen). has_cell c.args.set c.args.head c.args.page w.view.own.read) c.self.view_is ∙ r.read) in
-    (
+    let at = head_filled i.core i.pages i.homes.items i.number i.seat.me.0 k c.args.set c.args.head c.args.page (sym x ∙ e.head) (ap (λ (w : Seen). has_cell c.args.set c.args.head c.args.page w.view.own.read) c.self.view_is ∙ r.read) in (
       at,
       entry_low i.core i.pages i.homes.items i.number i.seat.me.0 k c.args.set c.args.page r.set (ap (λ (g : ℕ). is_swept_set g c.args.set) (sym k.generation) ∙ ap (λ (w : Seen). is_swept_set w.view.generation c.args.set) c.self.view_is ∙ r.part)
-      (let a = e.head in let b = e.tail in let o = r.order in omega arith) at,
+          (let a = e.head in let b = e.tail in let o = r.order in omega arith) at,
       r.set,
     )
 
