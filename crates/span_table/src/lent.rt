@@ -9,12 +9,11 @@ ghost use Rattle.span_laws.specs.Suits.{Suits, SuitsOf, IsQuiet};
 ghost use Rattle.span_laws.specs.Views.{acts, as_number, span_of, told, told_of};
 
 use crate::make::make;
-use span_laws::{Said, SaidOf};
 use crate::seat::{hand, tell, tell_of};
 use crate::shared::Shared;
-use span_laws::View;
 use atomic_table::Seat;
 use page_alloc::Pages;
+use span_laws::{Said, SaidOf, View};
 use span_state::Body;
 use std::marker::Model;
 use sweep_generation::{Core, Move, Reply};

@@ -10,16 +10,14 @@ ghost use Rattle.span_laws.specs.Moves.{move_on};
 ghost use Rattle.span_laws.specs.Rule.{Rule};
 ghost use Rattle.span_laws.specs.Views.{Seen, acts, after_of, after_said, span_of, told, told_of};
 
-use span_laws::{Acquired, Uncached};
 use crate::homes::take_home;
 use crate::lent::{Lent, apply, apply_of, note};
 use crate::make::make;
-use span_laws::{Said, SaidOf};
 use crate::seat::{tell, tell_of};
 use crate::shared::Shared;
-use span_laws::View;
 use atomic_table::Seat;
 use page_alloc::Pages;
+use span_laws::{Acquired, Said, SaidOf, Uncached, View};
 use span_state::Body;
 use sweep_generation::{Core, Move};
 

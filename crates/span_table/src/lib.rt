@@ -19,6 +19,8 @@ mod worker_pages;
 mod worker_sets;
 mod worker_words;
 
-pub use span_laws::{Acquired, Cell, Entry, Part, Refused, Said, SaidOf, Span, Step, Uncached, View};
 pub use shared::Shared;
+pub use span_laws::{
+    Acquired, Cell, Entry, Part, Refused, Said, SaidOf, Span, Step, Uncached, View,
+};
 pub use worker::Worker;

@@ -1,11 +1,10 @@
 ghost use Rattle.std.specs.Prelude.{◌≡◌};
 ghost use Rattle.span_laws.specs.Views.{acts, handed, marked, span_of, told, told_of};
 
-use span_laws::{Said, SaidOf};
 use crate::shared::Shared;
-use span_laws::View;
 use atomic_table::{Play, Seat};
 use fallible_list::List;
+use span_laws::{Said, SaidOf, View};
 use span_state::Body;
 use std::marker::{Brand, PhantomData};
 

@@ -1,5 +1,5 @@
-use span_laws::View;
 use atomic_table::{Table, TableRule};
+use span_laws::View;
 use std::alloc::Global;
 use std::marker::Model;
 

@@ -6,10 +6,9 @@ ghost use Rattle.span_laws.specs.Answers.{AcquiresSpan, UncachesSpan};
 ghost use Rattle.span_laws.specs.Asks.{HasBody, HasMarks, HasSpan, MayPlace};
 ghost use Rattle.span_laws.specs.Views.{after_of, after_said, span_of};
 
-use span_laws::{Acquired, Uncached};
-use span_laws::{Said, SaidOf};
 use crate::shared::Shared;
 use crate::worker::Worker;
+use span_laws::{Acquired, Said, SaidOf, Uncached};
 use span_state::Body;
 
 impl Shared {
