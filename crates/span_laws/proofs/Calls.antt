@@ -20,6 +20,7 @@ use Rattle.span_laws.specs.Answers.{IsNew, IsOfSet}
 use Rattle.span_laws.specs.Asks.{HasBody, HasMarked, IsUntouched}
 use Rattle.span_laws.specs.Bodies.{Fits}
 use Rattle.span_laws.specs.Rule.{Rule}
+use Rattle.span_laws.specs.Truth.{IsSoOf}
 use Rattle.span_laws.specs.declared.said.Said.TheVariants.{Claims}
 use Rattle.span_laws.specs.declared.said.SaidOf.TheVariants.{Acquires, Pops, Takes}
 use Rattle.span_laws.specs.declared.view.View.{View}
@@ -113,9 +114,15 @@ module _ (c : CoreState) (heap : PageHeap) (homes : List (Option Body)) (n : ℕ
       pub run_untouched : IsUntouched v.generation v.own b.page
       run_untouched = untouched c₁ heap₁ homes n v ready_rule b.page run_low (free_unsettled c₁ heap₁ homes n v ready_rule b.page run_low run_free)
 
+      pub run_line : heap'.past ≡ TakeLine cycle b.page b.pages b.class ∷ heap₁.past
+      run_line = line.past ∙ same_line cycle page b.page pages b.pages class b.class heap₁.past (sym at) (sym is_new.pages) (sym is_new.class)
+
+      pub run_last : length heap₁.past ≡ b.life → IsSoOf heap' (Takes cycle) (span_of b)
+      run_last number = (heap₁.past, run_line, number)
+
       pub run_rule : cycle ≤ (c.generation - 4) / 2 → length heap₁.past ≡ b.life → (c' : CoreState) → c' ≡ record (after_take c₁ n page pages b.count class) { lock = None } → Owned c' → IsTidy c' → HasSpace c'
           → Rule c' heap' homes n (acts v (told_of (Takes cycle) (span_of b) v.own))
       run_rule by number c' e o t r = take_keeps c₁ heap₁ homes n v ready_rule (span_of b) run_low run_free is_new.empty cycle heap' line.region line.goal line.legal
           (subst (IsBy ((c₁.generation - 4) / 2)) (sym line.past) (subst (λ (g : ℕ). cycle ≤ (g - 4) / 2) (sym (ap (λ (s : CoreState). s.generation) same)) by))
-          (line.past ∙ same_line cycle page b.page pages b.pages class b.class heap₁.past (sym at) (sym is_new.pages) (sym is_new.class)) number
+          run_line number
           c' (e ∙ same_take c₁ n b.count page b.page pages b.pages class b.class (sym at) (sym is_new.pages) (sym is_new.class)) o t r

@@ -7,17 +7,19 @@ ghost use Rattle.span_laws.specs.Answers.{IsNew, NoRunFree, StepsOnce, TakesNew,
 ghost use Rattle.span_laws.specs.Asks.{HasBody, IsEmptyBody};
 ghost use Rattle.span_laws.specs.Logs.{EndsSweptEmpty};
 ghost use Rattle.span_laws.specs.Rule.{Rule};
+ghost use Rattle.span_laws.specs.Truth.{IsSo, IsSoOf};
 ghost use Rattle.span_laws.specs.Views.{acts, after_said, span_of, told, told_of};
 
 use crate::lent::Lent;
 use crate::make::{give_run, take_run};
 use crate::seat::{tell, tell_of};
 use crate::shared::Shared;
+use atomic_table::Seat;
 use fallible_list::{List, NoMemory};
 use page_alloc::Pages;
 use page_bitmap::Line;
 use size_classes::{PAGE_SIZE, slot_size, span_objects};
-use span_laws::{Refused, Said, SaidOf, Step};
+use span_laws::{Refused, Said, SaidOf, Step, View};
 use span_state::Body;
 use std::alloc::Global;
 use sweep_generation::Core;
@@ -59,6 +61,29 @@ fn new_body(page: u32, n: u32, class: u8, life: u64) -> Body
     Body::new(page, n, slot(class, n), objects(class), class, life)
 }
 
+// A step tells a line: it is the journal's last.
+fn tell_line(shared: &Shared, core: &Core, pages: &Pages, seat: &mut Seat<(), View>, said: &Said)
+    requires table { seat.old.table_id ≡ shared.now }
+    requires so { IsSo core.now pages.now said.now }
+    ensures table { seat.new.table_id ≡ seat.old.table_id }
+    ensures view { seat.new.me.0 ≡ acts seat.old.me.0 (told said.now seat.old.me.0.own) }
+{
+    let _core = core;
+    let _pages = pages;
+    tell(shared, seat, said);
+}
+
+// The same of the line that took a body's run.
+fn tell_taken(shared: &Shared, pages: &Pages, seat: &mut Seat<(), View>, said: &SaidOf, body: &Body)
+    requires table { seat.old.table_id ≡ shared.now }
+    requires so { IsSoOf pages.now said.now (span_of body.now) }
+    ensures table { seat.new.table_id ≡ seat.old.table_id }
+    ensures view { seat.new.me.0 ≡ acts seat.old.me.0 (told_of said.now (span_of body.now) seat.old.me.0.own) }
+{
+    let _pages = pages;
+    tell_of(shared, seat, said, body);
+}
+
 impl Lent {
     // See `Shared::take_span`.
     pub(crate) fn take_span(&mut self, shared: &Shared, n: u32, class: u8) -> Result<Body, Refused>
@@ -79,15 +104,13 @@ impl Lent {
             Ok(page) => {
                 let body = new_body(page, n, class, line);
                 take_run(&mut self.core, self.number, page, n, body.count, class);
-                tell_of(shared, &mut self.seat, &SaidOf::Takes(cycle), &body);
+                let said = SaidOf::Takes(cycle);
+                tell_taken(shared, &self.pages, &mut self.seat, &said, &body);
                 Ok(body)
             }
             Err(none) => {
-                tell(
-                    shared,
-                    &mut self.seat,
-                    &Said::Misses(none.line, cycle, n, class),
-                );
+                let said = Said::Misses(none.line, cycle, n, class);
+                tell_line(shared, &self.core, &self.pages, &mut self.seat, &said);
                 Err(Refused::NoRun { line: none.line })
             }
         }
@@ -122,7 +145,8 @@ impl Lent {
         };
         let body = new_body(page, n, class, line);
         take_run(&mut self.core, self.number, page, n, body.count, class);
-        tell_of(shared, &mut self.seat, &SaidOf::Takes(cycle), &body);
+        let said = SaidOf::Takes(cycle);
+        tell_taken(shared, &self.pages, &mut self.seat, &said, &body);
         Ok(Some(body))
     }
 
@@ -139,7 +163,8 @@ impl Lent {
         let cycle = ((self.core.generation() - 4) / 2) as u32;
         self.pages.give(cycle, body.page);
         give_run(&mut self.core, self.number, body.page);
-        tell(shared, &mut self.seat, &Said::Gives(body.page, body.pages));
+        let said = Said::Gives(body.page, body.pages);
+        tell_line(shared, &self.core, &self.pages, &mut self.seat, &said);
     }
 
     // See `Shared::scavenge_step`.

@@ -1,5 +1,5 @@
-use Rattle.std.proofs.Common.{◌≡◌, ℕ, ◌+◌, ◌-◌, ◌/◌, ◌<◌, ◌≤◌, true, false, true≢false, List, [], ◌∷◌, length, sym, ap, ◌∙◌, subst, arith}
-use Rattle.std.specs.Prelude.{None, Some, Option}
+use Rattle.std.proofs.Common.{◌≡◌, ℕ, ◌-◌, ◌/◌, ◌≤◌, true≢false, List, ◌∷◌, length, refl, sym, ap, ◌∙◌, subst, arith}
+use Rattle.std.specs.Prelude.{Some, Option}
 use mathlib.Core.Logic.{dite}
 use native.Mathlib.Decide.{dec_le}
 use Rattle.page_alloc.specs.Heap.{PageHeap}
@@ -63,8 +63,17 @@ invariant_of-self c = let i = c.self.inside in let v : View = i.seat.me.0 in let
     let lent = subst (λ (w : Seen). HasBody w.view.own c.args.body) (sym c.self.view_is) r.lent in
     let fits = held_fits i.core i.pages i.homes.items i.number v k b held free lent in
     let past = t.3.past ∙ ap (λ (x : ℕ). GiveLine ((c.generation.result - 4) / 2) b.page x ∷ i.pages.past) (pages_are i.core i.pages i.homes.items i.number v k b fits t.0 t.1 t.2) in
-    rw c.tell.ensures.view
+    rw c.tell_line.ensures.view
     (give_keeps i.core i.pages i.homes.items i.number v k b.page b.pages (held_low i.core i.pages i.homes.items i.number v k b held free lent) held free (nothing i.core i.pages.past b fits r.empty) (sym fits.body.pages)
     ((c.generation.result - 4) / 2) c.give.new.self t.3.region t.3.goal t.3.legal
     (subst (IsBy ((i.core.generation - 4) / 2)) (sym past) (subst (λ (g : ℕ). (g - 4) / 2 ≤ (i.core.generation - 4) / 2) (sym c.generation.ensures) (omega arith))) past
     c.give_run.new.core m.state m.owned m.tidy m.space)
+
+pub tell_line-requires-clause-so : goal.tell_line-requires-clause-so
+tell_line-requires-clause-so c = let i = c.self.inside in let v : View = i.seat.me.0 in let k = c.self.invariant in let r = c.requires in let t = c.give.ensures.given in
+    let fits = held_fits i.core i.pages i.homes.items i.number v k c.args.body (ap (λ (w : Seen). has c.args.body.page w.view.own.held) c.self.view_is ∙ r.held) (ap (λ (w : Seen). w.view.own.claimed) c.self.view_is ∙ r.unclaimed)
+    (subst (λ (w : Seen). HasBody w.view.own c.args.body) (sym c.self.view_is) r.lent) in (
+      length i.pages.past,
+      (c.generation.result - 4) / 2,
+      (i.pages.past, t.3.past ∙ ap (λ (x : ℕ). GiveLine ((c.generation.result - 4) / 2) c.args.body.page x ∷ i.pages.past) (pages_are i.core i.pages i.homes.items i.number v k c.args.body fits t.0 t.1 t.2), refl),
+    )

@@ -1,17 +1,12 @@
-use Rattle.std.proofs.Common.{◌≡◌, ◌≢◌, ℕ, ◌+◌, ◌<◌, true, false, List, [], ◌++◌, length, get_or, set, take, drop, refl, ap, sym, subst, ◌∙◌, arith}
-use Rattle.std.specs.Prelude.{None, Some, Option}
-use Rattle.std.proofs.Math.ListN.{length-set}
-use Rattle.std.proofs.lemmas.List.{append-nil, drop_all, take_all}
-use Rattle.page_alloc.specs.Heap.{PageHeap}
+use Rattle.std.proofs.Common.{◌≡◌, ℕ, ◌<◌, List, length, get_or, set, refl, ap, sym, subst, ◌∙◌, arith}
+use Rattle.std.specs.Prelude.{None, Option}
 use Rattle.span_state.specs.declared.body.Body.{Body}
-use Rattle.sweep_laws.specs.Needs.{cell_of, is_swept_set, set_of}
-use Rattle.sweep_laws.specs.State.{CoreState}
-use Rattle.span_laws.specs.Rule.{Rule}
+use Rattle.sweep_laws.specs.Needs.{is_swept_set, set_of}
 use Rattle.span_laws.specs.declared.view.View.{View}
 use Rattle.span_laws.specs.Views.{Seen, has_cell}
 use Rattle.span_laws.proofs.Allowed.{pop_swept_allowed}
 use Rattle.span_laws.proofs.Calls.{head_filled, pop_rule, taken_page, taken_set, written_at}
-use Rattle.span_laws.proofs.RuleKept.{low_number, part_at}
+use Rattle.span_laws.proofs.RuleKept.{low_number}
 use Rattle.span_laws.proofs.Uses.{popped_home, popped_low}
 use Rattle.span_table.proofs.lent.Lent.raise_swept.Goals as goal
 

@@ -1,11 +1,5 @@
-use Rattle.std.proofs.Common.{◌≡◌, ℕ, ◌+◌, ◌<◌, true, false, List, length, refl, ap, sym, subst, ◌∙◌, arith}
-use Rattle.std.specs.Prelude.{Option}
-use Rattle.page_alloc.specs.Heap.{PageHeap}
-use Rattle.span_state.specs.declared.body.Body.{Body}
-use Rattle.sweep_laws.specs.Needs.{cell_of, is_swept_set, set_of}
-use Rattle.sweep_laws.specs.State.{CoreState}
-use Rattle.span_laws.specs.Rule.{Rule}
-use Rattle.span_laws.specs.declared.view.View.{View}
+use Rattle.std.proofs.Common.{◌≡◌, ℕ, ◌<◌, refl, ap, sym, subst, ◌∙◌, arith}
+use Rattle.sweep_laws.specs.Needs.{is_swept_set}
 use Rattle.span_laws.specs.Views.{Seen, has_cell}
 use Rattle.span_laws.proofs.Calls.{head_filled}
 use Rattle.span_laws.proofs.Uses.{entry_allowed, entry_low}

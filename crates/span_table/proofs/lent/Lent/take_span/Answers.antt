@@ -7,7 +7,7 @@ use Rattle.sweep_laws.specs.State.{CoreState}
 use Rattle.span_laws.specs.Asks.{IsUntouched}
 use Rattle.span_laws.specs.declared.view.View.{View}
 use Rattle.span_laws.specs.Views.{Seen}
-use Rattle.span_laws.proofs.Calls.{ready_rule, run_rule, run_untouched}
+use Rattle.span_laws.proofs.Calls.{ready_rule, run_last, run_rule, run_untouched}
 use Rattle.span_laws.proofs.Notes.{miss_keeps}
 use Rattle.span_table.proofs.lent.Lent.take_span.Goals as goal
 
@@ -25,7 +25,7 @@ take_run-requires-clause-tidy c = let i = c.self.inside in (ready_rule i.core i.
 
 pub invariant_of-self-in-Ok-take : goal.invariant_of-self-in-Ok-take
 invariant_of-self-in-Ok-take c = let i = c.self.inside in let v : View = i.seat.me.0 in let nb = c.new_body-body.ensures in let r = c.take_run.ensures in
-    rw c.tell_of.ensures.view
+    rw c.tell_taken.ensures.view
     (run_rule i.core i.pages i.homes.items i.number v c.self.invariant c.reserve_line.new.self c.reserve_line.ensures.same c.make_life_room.new.self _ c.in-Ok-make_life_room.ensures.ok
     ((c.generation.result - 4) / 2) c.in-Ok-take.page c.args.n c.args.class c.take.new.self c.in-Ok-take.ensures.taken c.new_body-body.result nb.is_new nb.page
     (subst (λ (g : ℕ). (g - 4) / 2 ≤ (i.core.generation - 4) / 2) (sym c.generation.ensures) (omega arith)) (ap (λ (l : List Line). length l) (sym c.journal.ensures.lines) ∙ length-reverse c.journal.result.now ∙ sym nb.life)
@@ -34,14 +34,14 @@ invariant_of-self-in-Ok-take c = let i = c.self.inside in let v : View = i.seat.
 pub invariant_of-self-in-Err : goal.invariant_of-self-in-Err
 invariant_of-self-in-Err c = let i = c.self.inside in let v : View = i.seat.me.0 in let t = c.in-Err.ensures.missed in
     let k = ready_rule i.core i.pages i.homes.items i.number v c.self.invariant c.reserve_line.new.self c.reserve_line.ensures.same c.make_life_room.new.self _ c.in-Ok-make_life_room.ensures.ok in
-    rw c.tell.ensures.view (miss_keeps c.make_life_room.new.self c.reserve_line.new.self i.homes.items i.number v k c.in-Err.none.line ((c.generation.result - 4) / 2) c.args.n c.args.class c.take.new.self t.region t.goal t.legal
+    rw c.tell_line.ensures.view (miss_keeps c.make_life_room.new.self c.reserve_line.new.self i.homes.items i.number v k c.in-Err.none.line ((c.generation.result - 4) / 2) c.args.n c.args.class c.take.new.self t.region t.goal t.legal
     (subst (IsBy ((c.make_life_room.new.self.generation - 4) / 2)) (sym t.past) (subst (λ (g : ℕ). (g - 4) / 2 ≤ (c.make_life_room.new.self.generation - 4) / 2) (ap (λ (s : CoreState). s.generation) c.in-Ok-make_life_room.ensures.ok ∙ sym c.generation.ensures) (omega arith)))
     t.past)
 
 pub returns-in-Ok-take : goal.returns-in-Ok-take
 returns-in-Ok-take c = let i = c.self.inside in let v : View = i.seat.me.0 in let nb = c.new_body-body.ensures in let k = c.self.invariant in record {
   is_new = nb.is_new;
-  view = rw (← c.self.view_is, c.tell_of.ensures.table, c.tell_of.ensures.view, c.generation.ensures, k.generation) refl;
+  view = rw (← c.self.view_is, c.tell_taken.ensures.table, c.tell_taken.ensures.view, c.generation.ensures, k.generation) refl;
   untouched = subst (λ (w : Seen). IsUntouched w.view.generation w.view.own c.new_body-body.result.page) c.self.view_is
       (run_untouched i.core i.pages i.homes.items i.number v k c.reserve_line.new.self c.reserve_line.ensures.same c.make_life_room.new.self _ c.in-Ok-make_life_room.ensures.ok
       ((c.generation.result - 4) / 2) c.in-Ok-take.page c.args.n c.args.class c.take.new.self c.in-Ok-take.ensures.taken c.new_body-body.result nb.is_new nb.page);
@@ -52,7 +52,7 @@ returns-in-Err c = let i = c.self.inside in let v : View = i.seat.me.0 in let k�
     let k = ready_rule i.core i.pages i.homes.items i.number v c.self.invariant c.reserve_line.new.self c.reserve_line.ensures.same c.make_life_room.new.self _ c.in-Ok-make_life_room.ensures.ok in
     let region = k.heap_region ∙ sym k.region ∙ ap (λ (w : Seen). w.view.region) c.self.view_is in
     let goal = sym k.goal ∙ ap (λ (w : Seen). w.view.goal) c.self.view_is in (
-      rw (← c.self.view_is, c.tell.ensures.table, c.tell.ensures.view, c.generation.ensures, k₀.generation) refl,
+      rw (← c.self.view_is, c.tell_line.ensures.table, c.tell_line.ensures.view, c.generation.ensures, k₀.generation) refl,
       (
         c.reserve_line.new.self.past,
         sym c.in-Err.ensures.line,
@@ -62,3 +62,12 @@ returns-in-Err c = let i = c.self.inside in let v : View = i.seat.me.0 in let k�
         ),
       ),
     )
+
+pub tell_taken-requires-clause-so : goal.tell_taken-requires-clause-so
+tell_taken-requires-clause-so c = let i = c.self.inside in let nb = c.new_body-body.ensures in
+    run_last i.core i.pages i.homes.items i.number i.seat.me.0 c.self.invariant c.reserve_line.new.self c.reserve_line.ensures.same c.make_life_room.new.self _ c.in-Ok-make_life_room.ensures.ok
+    ((c.generation.result - 4) / 2) c.in-Ok-take.page c.args.n c.args.class c.take.new.self c.in-Ok-take.ensures.taken c.new_body-body.result nb.is_new nb.page
+    (ap (λ (l : List Line). length l) (sym c.journal.ensures.lines) ∙ length-reverse c.journal.result.now ∙ sym nb.life)
+
+pub tell_line-requires-clause-so : goal.tell_line-requires-clause-so
+tell_line-requires-clause-so c = (c.reserve_line.new.self.past, c.in-Err.ensures.missed.past, sym c.in-Err.ensures.line)

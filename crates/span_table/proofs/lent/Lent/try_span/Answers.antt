@@ -8,7 +8,7 @@ use Rattle.page_bitmap.specs.declared.line.Line.{Line}
 use Rattle.span_laws.specs.Asks.{IsUntouched}
 use Rattle.span_laws.specs.declared.view.View.{View}
 use Rattle.span_laws.specs.Views.{Seen}
-use Rattle.span_laws.proofs.Calls.{ready_rule, run_rule, run_untouched}
+use Rattle.span_laws.proofs.Calls.{ready_rule, run_last, run_rule, run_untouched}
 use Rattle.span_table.proofs.lent.Lent.try_span.Goals as goal
 
 pub take-requires-clause-some : goal.take-requires-clause-some
@@ -25,7 +25,7 @@ take_run-requires-clause-tidy c = let i = c.self.inside in (ready_rule i.core i.
 
 pub invariant_of-self-2 : goal.invariant_of-self-2
 invariant_of-self-2 c = let i = c.self.inside in let v : View = i.seat.me.0 in let nb = c.new_body-body.ensures in let r = c.take_run.ensures in
-    rw c.tell_of.ensures.view
+    rw c.tell_taken.ensures.view
     (run_rule i.core i.pages i.homes.items i.number v c.self.invariant c.reserve_line.new.self c.reserve_line.ensures.same c.make_life_room.new.self _ c.in-Ok-make_life_room.ensures.ok
     ((c.generation.result - 4) / 2) c.in-Ok-take.page c.args.n c.args.class c.take.new.self c.in-Ok-take.ensures.taken c.new_body-body.result nb.is_new nb.page
     (subst (λ (g : ℕ). (g - 4) / 2 ≤ (i.core.generation - 4) / 2) (sym c.generation.ensures) (omega arith)) (ap (λ (l : List Line). length l) (sym c.journal.ensures.lines) ∙ length-reverse c.journal.result.now ∙ sym nb.life)
@@ -34,7 +34,7 @@ invariant_of-self-2 c = let i = c.self.inside in let v : View = i.seat.me.0 in l
 pub returns : goal.returns
 returns c = let i = c.self.inside in let v : View = i.seat.me.0 in let nb = c.new_body-body.ensures in let k = c.self.invariant in record {
   is_new = nb.is_new;
-  view = rw (← c.self.view_is, c.tell_of.ensures.table, c.tell_of.ensures.view, c.generation.ensures, k.generation) refl;
+  view = rw (← c.self.view_is, c.tell_taken.ensures.table, c.tell_taken.ensures.view, c.generation.ensures, k.generation) refl;
   untouched = subst (λ (w : Seen). IsUntouched w.view.generation w.view.own c.new_body-body.result.page) c.self.view_is
       (run_untouched i.core i.pages i.homes.items i.number v k c.reserve_line.new.self c.reserve_line.ensures.same c.make_life_room.new.self _ c.in-Ok-make_life_room.ensures.ok
       ((c.generation.result - 4) / 2) c.in-Ok-take.page c.args.n c.args.class c.take.new.self c.in-Ok-take.ensures.taken c.new_body-body.result nb.is_new nb.page);
@@ -62,3 +62,9 @@ pub unreachable-requires : goal.unreachable-requires
 unreachable-requires c = let i = c.self.inside in let s = c.reserve_line.ensures.same in
     let f : (p : ℕ) × IsFirstFit i.pages.region i.pages.past p c.args.n = some_found c.find.result c.if-is_none.ensures c.find.ensures.found in
     c.in_default-take.ensures.missed.may_follow.1 f.0 (subst (λ (z : ℕ × List Line). IsFree z.0 z.1 f.0 c.args.n) (λ j. (sym s.region j, sym s.past j)) f.1.here)
+
+pub tell_taken-requires-clause-so : goal.tell_taken-requires-clause-so
+tell_taken-requires-clause-so c = let i = c.self.inside in let nb = c.new_body-body.ensures in
+    run_last i.core i.pages i.homes.items i.number i.seat.me.0 c.self.invariant c.reserve_line.new.self c.reserve_line.ensures.same c.make_life_room.new.self _ c.in-Ok-make_life_room.ensures.ok
+    ((c.generation.result - 4) / 2) c.in-Ok-take.page c.args.n c.args.class c.take.new.self c.in-Ok-take.ensures.taken c.new_body-body.result nb.is_new nb.page
+    (ap (λ (l : List Line). length l) (sym c.journal.ensures.lines) ∙ length-reverse c.journal.result.now ∙ sym nb.life)
