@@ -11,7 +11,9 @@ mod fault;
 mod items;
 mod journal;
 mod lines;
+mod lives;
 mod misses;
+mod places;
 
 pub use check::check_first_rules;
 pub use fault::CheckFault;

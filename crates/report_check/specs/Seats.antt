@@ -1,0 +1,50 @@
+-- Items and their seats.
+use Rattle.std.specs.Prelude.{◌≡◌, ℕ, ◌<◌, ◌≤◌, true, List, map, length, slice_index_or, Some, None, Option}
+use Rattle.std.specs.List.{slice_get}
+use Rattle.cycle_history.specs.Requests.{is_within}
+use Rattle.trace_reader.specs.declared.trace.Span.{Span}
+use Rattle.cycle_history.specs.Objects.{is_placed}
+use Rattle.page_alloc.specs.Journal.{Life}
+use Rattle.report_check.specs.declared.lives.OpenLife.{OpenLife}
+use Rattle.report_check.specs.declared.lives.Seat.{Seat}
+use Rattle.report_check.specs.declared.items.Item.{Item}
+use Rattle.report_check.specs.Lives.{HasLife, HasNumber}
+
+-- The item without its seat.
+abbrev pub unseated : Item → Item
+unseated item = record item { life = 0; index = 0 }
+
+-- The item at this seat.
+abbrev pub at_seat : Item → Seat → Item
+at_seat item seat = record item { life = seat.life; index = seat.index }
+
+-- The items are the same but for their seats.
+abbrev pub AreSameBut : List Item → List Item → Type 0
+AreSameBut old new = map unseated new ≡ map unseated old
+
+-- Item i, which is placed and is one of the spans', has its life still in the table.
+abbrev pub IsKept : List (Option OpenLife) → Item → Type 0
+IsKept lives item = (life : Life) → HasLife item life → HasNumber lives life.page item.life
+
+-- Item i, which is placed, has lost its life: the table doesn't have it.
+pub record IsLost (lives : List (Option OpenLife)) (items : List Item) (i : ℕ) : Type 0 where
+  pub item : Item
+  pub at : slice_get items i ≡ Some item
+  pub placed : is_placed item.answer ≡ true
+  pub life : Life
+  pub has : HasLife item life
+  pub gone : ¬ HasNumber lives life.page item.life
+
+-- The placed items below the bound that the test names have lives.
+abbrev pub AllHaveLives : (ℕ → Type 0) → List Item → ℕ → Type 0
+AllHaveLives named items bound = (i : ℕ) (item : Item) → i < bound → named i → slice_get items i ≡ Some item → is_placed item.answer ≡ true → (life : Life) × HasLife item life
+
+-- The placed items below the bound that the test names have their lives still in the table.
+abbrev pub AllKept : List (Option OpenLife) → (ℕ → Type 0) → List Item → ℕ → Type 0
+AllKept lives named items bound = (i : ℕ) (item : Item) → i < bound → named i → slice_get items i ≡ Some item → is_placed item.answer ≡ true → IsKept lives item
+
+-- The item with this number isn't above the bound, and where it is below it has lost its life.
+pub record IsFirstLost (lives : List (Option OpenLife)) (named : ℕ → Type 0) (items : List Item) (bound found : ℕ) : Type 0 where
+  pub few : found ≤ bound
+  pub lost : found < bound → named found × IsLost lives items found
+  pub kept : AllKept lives named items found
