@@ -4,3 +4,5 @@ pub mod Numbered
 pub mod Journals
 pub mod Missed
 pub mod Faults
+pub mod Opened
+pub mod Seeking

@@ -8,7 +8,8 @@ use Rattle.page_alloc.specs.Journal.{Life}
 use Rattle.report_check.specs.declared.lives.OpenLife.{OpenLife}
 use Rattle.report_check.specs.declared.lives.Seat.{Seat}
 use Rattle.report_check.specs.declared.items.Item.{Item}
-use Rattle.report_check.specs.Lives.{HasLife, HasNumber}
+use Rattle.report_check.specs.Lives.{HasLife, HasNumber, IsOne}
+use Rattle.report_check.specs.Items.{object_of}
 
 -- The item without its seat.
 abbrev pub unseated : Item → Item
@@ -48,3 +49,27 @@ pub record IsFirstLost (lives : List (Option OpenLife)) (named : ℕ → Type 0)
   pub few : found ≤ bound
   pub lost : found < bound → named found × IsLost lives items found
   pub kept : AllKept lives named items found
+
+-- The seat that an item has.
+abbrev pub seat_in : Item → Seat
+seat_in item = record { life = item.life; index = item.index }
+
+-- The item's object has its one seat in the table.
+abbrev pub HasOne : List (Option OpenLife) → Item → Type 0
+HasOne lives item = IsOne lives (object_of 0 item) (seat_in item)
+
+-- Item i is placed, and has no one seat in the table.
+pub record IsSeatless (lives : List (Option OpenLife)) (items : List Item) (i : ℕ) : Type 0 where
+  pub item : Item
+  pub at : slice_get items i ≡ Some item
+  pub placed : is_placed item.answer ≡ true
+  pub none : (seat : Seat) → ¬ IsOne lives (object_of 0 item) seat
+
+-- The items from first up to last and below the found one have their seats; all others stay as they were. Where the found
+-- one is below the bound it is one of them, and has no seat.
+pub record AreSeatedIn (lives : List (Option OpenLife)) (old new : List Item) (first last bound found : ℕ) : Type 0 where
+  pub same : AreSameBut old new
+  pub few : found ≤ bound
+  pub kept : (i : ℕ) → i < first → slice_get new i ≡ slice_get old i
+  pub seats : (i : ℕ) (item : Item) → first ≤ i → i < last → i < found → slice_get new i ≡ Some item → is_placed item.answer ≡ true → HasOne lives item
+  pub lost : found < bound → (first ≤ found) × (found < last) × IsSeatless lives old found

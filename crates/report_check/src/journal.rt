@@ -45,7 +45,7 @@ pub(crate) fn judge_journal(alloc: Global, trace: &Trace, report: &Report) -> Re
     Ok(())
 }
 
-fn cycle_of(line: Line) -> u32
+pub(crate) fn cycle_of(line: Line) -> u32
     ensures { result ≡ cycle_in line }
 {
     match line {

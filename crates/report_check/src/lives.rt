@@ -1,6 +1,6 @@
 //! The lives that are open as a cycle ends, by their first pages, and the seats that they give.
 
-ghost use Rattle.std.specs.Prelude.{◌≡◌, ℕ, ◌*◌, ◌+◌, ◌<◌, ◌≤◌, ◌/◌, ◌∷◌, List as Lines, replicate, length, slice_set, IfOk, MatchBool, MatchOption, None as Nothing};
+ghost use Rattle.std.specs.Prelude.{◌≡◌, ℕ, ◌*◌, ◌+◌, ◌-◌, ◌<◌, ◌≤◌, ◌/◌, ◌∷◌, List as Lines, replicate, length, slice_set, IfOk, MatchBool, MatchOption, None as Nothing};
 ghost use Rattle.page_bitmap.specs.declared.line.Line.{Line as Entry};
 ghost use Rattle.page_alloc.specs.Journal.{Legal, Life};
 ghost use Rattle.cycle_history.specs.declared.Answer.TheVariants.{Placed};
@@ -43,6 +43,7 @@ pub(crate) fn no_lives(alloc: Global, pages: usize) -> Result<Vec<Option<OpenLif
 
 /// Takes up the line with this number: a life begins with a Take, and ends with a Give.
 pub(crate) fn take_up(lives: &mut [Option<OpenLife>], number: u64, line: Line)
+    requires { (region : ℕ) × (goal : ℕ) × (past : Lines Entry) × AreLives region past lives.old × Legal region goal (line ∷ past) }
     ensures { (region : ℕ) (goal : ℕ) (past : Lines Entry) → AreLives region past lives.old → Legal region goal (line ∷ past) → number ≡ length past → AreLives region (line ∷ past) lives.new }
 {
     match line {
@@ -102,7 +103,7 @@ pub(crate) fn seat_of(lives: &[Option<OpenLife>], item: &Item, address: u64) -> 
 // The first page that a life can have in which the object sits, if its address is in the last one.
 fn first_page(item: &Item, last: u64) -> u64
     requires count { 1 ≤ item.now.count }
-    ensures low { (k : ℕ) → k < item.now.count → last ≤ result + (item.now.slot * k) / 8192 }
+    ensures low { (k : ℕ) → k < item.now.count → result ≤ last - (item.now.slot * k) / 8192 }
     ensures high { result ≤ last }
 {
     let bytes = u128::from(item.slot) * u128::from(item.count - 1);
