@@ -6,3 +6,7 @@ pub mod Missed
 pub mod Faults
 pub mod Opened
 pub mod Seeking
+pub mod Lost
+pub mod Upto
+pub mod Seated
+pub mod Settled

@@ -27,7 +27,7 @@ same-life a b e = let s : life_in (entry_of a) ≡ life_in (entry_of b) = ap lif
 off : (x : Option OpenLife) (life : OpenLife) → x ≡ None → x ≡ Some life → ⊥
 off x life a b = cc
 
-empty : Option OpenLife
+abbrev empty : Option OpenLife
 empty = None
 
 -- ---- one line more

@@ -1,6 +1,7 @@
 -- The one seat of an object.
 use Rattle.std.specs.Prelude.{MatchOption}
-use Rattle.std.proofs.Common.{◌≡◌, ◌≢◌, ℕ, zero, suc, ◌+◌, ◌-◌, ◌*◌, ◌/◌, ◌<◌, ◌≤◌, List, get_or, Option, Some, None, refl, sym, ◌∙◌, ap, subst, arith, inl, inr}
+use Rattle.std.specs.Option.{is_some}
+use Rattle.std.proofs.Common.{◌≡◌, ◌≢◌, true, false, ℕ, zero, suc, ◌+◌, ◌-◌, ◌*◌, ◌/◌, ◌<◌, ◌≤◌, List, get_or, Option, Some, None, refl, sym, ◌∙◌, ap, subst, arith, inl, inr}
 use Rattle.std.proofs.lemmas.Bool.{cases_eq, cases_lt}
 use Rattle.page_alloc.specs.Journal.{Life}
 use Rattle.cycle_history.specs.declared.Answer.TheVariants.{Placed}
@@ -87,13 +88,36 @@ one-found lives o low high page seat between is = record {
   ];
 }
 
-pub sits-between : (o : Object) (offset low last : ℕ) → o.answer ≡ Placed (0xc000000000 + offset) → last ≡ offset / 8192 → ((k : ℕ) → k < o.need.count → low ≤ last - (o.need.slot * k) / 8192) → IsBetween o low (last + 1)
-sits-between o offset low last answer is lower = record {
+pub sits-between : (o : Object) (address low high : ℕ) → o.answer ≡ Placed address → 0xc000000000 ≤ address → (address - 0xc000000000) / 8192 + 1 ≤ high
+    → ((k : ℕ) → k < o.need.count → low ≤ (address - 0xc000000000) / 8192 - (o.need.slot * k) / 8192) → IsBetween o low high
+sits-between o address low high answer le top lower = record {
   pages = λ life k sits. (
-      let e = sits-inside o life k life.page offset sits answer refl in
+      let e : 0xc000000000 + (address - 0xc000000000) ≡ address = omega arith in
+      let f = sits-inside o life k life.page (address - 0xc000000000) sits (answer ∙ ap Placed (sym e)) refl in
       let l = lower k sits.index in
-      within offset life.page (o.need.slot * k) low last e is l);
+      within (address - 0xc000000000) life.page (o.need.slot * k) low high f top l);
 }
   where
-    within : (offset page d low last : ℕ) → offset ≡ 8192 * page + d → last ≡ offset / 8192 → low ≤ last - d / 8192 → (low ≤ page) × (page < last + 1)
-    within offset page d low last e is l = (omega arith, omega arith)
+    within : (offset page d low high : ℕ) → offset ≡ 8192 * page + d → offset / 8192 + 1 ≤ high → low ≤ offset / 8192 - d / 8192 → (low ≤ page) × (page < high)
+    within offset page d low high e top l = (omega arith, omega arith)
+
+-- ---- the loop over pages
+
+pub sought-two : (lives : List (Option OpenLife)) (o : Object) (low page : ℕ) (found : Option Seat) (seat : Seat) → is_some found ≡ true → IsSeatAt lives o page seat → IsSought lives o low page found
+    → (any : Seat) → ¬ IsOne lives o any
+sought-two lives o low page None seat some here old = let some' = some in absurd cc
+sought-two lives o low page (Some a) seat some here old = λ any. one-two lives o old.0 page a seat any (λ e. (let lt = old.1.to in omega arith)) old.1.here here
+
+pub sought-new : (lives : List (Option OpenLife)) (o : Object) (low page : ℕ) (found : Option Seat) (seat : Seat) → is_some found ≡ false → low ≤ page → IsSeatAt lives o page seat → IsSought lives o low page found
+    → IsSought lives o low (page + 1) (Some seat)
+sought-new lives o low page None seat none le here old = sought-hit lives o low page seat le here old
+sought-new lives o low page (Some a) seat none le here old = let none' = none in absurd cc
+
+pub match-none : {A : Type 0} (N : Type 0) (P : A → Type 0) (x : Option A) → MatchOption x N P → ((s : A) → x ≢ Some s) → N
+match-none N P None is off = is
+match-none N P (Some s) is off = absurd (off s refl)
+
+pub sought-all : (lives : List (Option OpenLife)) (o : Object) (low high : ℕ) (found : Option Seat) → IsBetween o low high → IsSought lives o low high found
+    → MatchOption found ((seat : Seat) → ¬ IsOne lives o seat) (IsOne lives o)
+sought-all lives o low high None between old = one-none lives o low high between old
+sought-all lives o low high (Some seat) between old = one-found lives o low high old.0 seat between old.1

@@ -5,12 +5,12 @@ use Rattle.report_check.specs.Lives.{AreLives}
 use Rattle.report_check.proofs.places.take_up_to.Given as goal
 
 -- the table has the lives that are open after the lines so far
-abbrev pub invariant-loop : goal.invariant-loop
-invariant-loop l = record {
+abbrev pub invariant-loop-next : goal.invariant-loop-next
+invariant-loop-next l = record {
   next : l.next ≤ length l.journal;
   by : IsBy l.cycle (past_of (take l.next l.journal));
   lives : AreLives (region_of l.trace) (past_of (take l.next l.journal)) l.lives;
 }
 
-abbrev pub measure-loop : goal.measure-loop
-measure-loop l = length l.journal - l.next
+abbrev pub decreases-loop-next : goal.decreases-loop-next
+decreases-loop-next l = length l.journal - l.next
