@@ -3,7 +3,7 @@ use Rattle.std.specs.Prelude.{MatchOption}
 use Rattle.std.proofs.Common.{◌≡◌, ◌≢◌, ℕ, zero, suc, ◌+◌, ◌-◌, ◌*◌, ◌^◌, ◌<◌, ◌≤◌, Bool, true, false, ◌&&◌, ◌||◌, eqb, leb, List, [], ◌∷◌, ◌++◌, map, reverse, take, length, get_or, Option, Some, None, refl, sym, ◌∙◌, ap, subst, arith, length-append, ◌⊎◌, inl, inr}
 use Rattle.std.specs.List.{slice_get, flat_map}
 use Rattle.std.proofs.lemmas.Bool.{cases_eq, cases_lt, cases_Bool, and_parts, or_cases, eqb-true, eq-eqb, and_from, or_left}
-use Rattle.std.proofs.lemmas.List.{reverse-reverse, append-nil}
+use Rattle.std.proofs.lemmas.List.{reverse-reverse, append-nil, length-reverse, length-map}
 use Rattle.std.proofs.lemmas.Option.{slice_get_within, slice_get-get_or}
 use Rattle.page_bitmap.specs.declared.line.Line.{Line}
 use Rattle.page_bitmap.specs.declared.line.Line.TheVariants.{Take, Miss, Give, Scav}
@@ -16,7 +16,7 @@ use Rattle.trace_reader.specs.declared.trace.Cycle.{Cycle}
 use Rattle.trace_reader.specs.declared.trace.Event.{Event}
 use Rattle.trace_reader.specs.declared.trace.MarkEnd.{MarkEnd}
 use Rattle.trace_reader.specs.declared.trace.Span.{Span}
-use Rattle.trace_reader.specs.Limits.{AreCycles, AreSpans, IsMarked}
+use Rattle.trace_reader.specs.Limits.{events_of, AreCycles, AreSpans, IsMarked}
 use Rattle.cycle_history.specs.declared.Answer.{Answer}
 use Rattle.cycle_history.specs.declared.Answer.TheVariants.{Placed, Zero, Missed}
 use Rattle.cycle_history.specs.declared.Report.{Report}
@@ -26,16 +26,16 @@ use Rattle.cycle_history.specs.Objects.{Object, is_placed, live, start_of, Sits,
 use Rattle.cycle_history.specs.Rules.{AreSeated}
 use Rattle.cycle_history.specs.Marked.{IsLimited, marks_at, objects_before}
 use Rattle.cycle_history.specs.Sound.{HasAnswers, past_in}
-use Rattle.cycle_history.proofs.Firsts.{before-rise, before-all}
-use Rattle.cycle_history.proofs.OfObjects.{number-get, request-of}
-use Rattle.cycle_history.proofs.Plain.{request_in}
+use Rattle.cycle_history.proofs.Firsts.{before-rise, before-all, before-le}
+use Rattle.cycle_history.proofs.OfObjects.{number-get, request-of, requests-events}
+use Rattle.cycle_history.proofs.Plain.{request_in, same_length}
 use Rattle.cycle_history.proofs.Rising.{marked-early, marks-within}
 use Rattle.report_rules.specs.Lines.{IsLeast}
 use Rattle.report_rules.specs.Placing.{BreaksPlaces, HasSeat, seat_at}
 use Rattle.report_check.specs.declared.items.Item.{Item}
 use Rattle.report_check.specs.declared.lives.OpenLife.{OpenLife}
 use Rattle.report_check.specs.declared.lives.Seat.{Seat}
-use Rattle.report_check.specs.Items.{object_of, objects_of}
+use Rattle.report_check.specs.Items.{object_of, objects_from, objects_of}
 use Rattle.report_check.specs.Lives.{AreLives, HasLife, HasNumber, Holds, IsOne, entry_of}
 use Rattle.report_check.specs.Seats.{AllHaveLives, AreSameBut, AreSeatedIn, HasOne, IsFirstLost, IsLost, unseated}
 use Rattle.report_check.proofs.Lost.{Of}
@@ -83,7 +83,7 @@ at-cycle first (c ∷ cs) i r at = elim (get-append (map (request_in first) c.ev
       let is = rest.is in
       let a = length-append c.events (events_in (take rest.k cs)) in
       let b = length-append c.events (events_in (take (rest.k + 1) cs)) in
-      record { k = suc rest.k; is = omega arith; low = omega arith; high = omega arith })
+      record { k = suc rest.k; is = omega arith; low = omega arith; high = (let e : suc rest.k + 1 ≡ suc (rest.k + 1) = omega arith in rw e (let f : i < length (c.events ++ events_in (take (rest.k + 1) cs)) = omega arith in f)) })
 ]
   where
     mapped : (first : ℕ) (es : List Event) → length (map (request_in first) es) ≡ length es
@@ -192,3 +192,313 @@ unmarked-late t (suc m) i are le h =
     let f = marks-within t (suc m) i in
     let g : marked_by t (suc m) i ≡ false = f ∙ ap (λ (ss : List Span). is_within ss i) e in
     cc
+
+-- ---- seats up to a cycle
+
+pub record IsSeatedTo (marked : Marking) (past : List Line) (bound : ℕ) (o : Object) (life : Life) : Type 0 where
+  pub number : life.number ≡ o.life
+  pub here : In life (open_lives (at_end o.cycle past))
+  pub sits : Sits o life o.index
+  pub only : (other : Life) (k : ℕ) → In other (open_lives (at_end o.cycle past)) → Sits o other k → other ≡ life
+  pub stays : (c : ℕ) → c < bound → live marked c o ≡ true → In life (open_lives (at_end c past))
+
+pub record IsUnplaced (t : Trace) (report : Report) (items : List Item) (n : ℕ) : Type 0 where
+  pub item : Item
+  pub at : slice_get items n ≡ Some item
+  pub placed : is_placed item.answer ≡ true
+  pub none : ¬ HasSeat (marked_by t) (past_in report) (object_of n item)
+
+-- the items below the bound have seats up to the cycle, and that at the bound, if there is one, has none
+pub record AreSettled (t : Trace) (report : Report) (old new : List Item) (c bound : ℕ) : Type 0 where
+  pub same : AreSameBut old new
+  pub few : bound ≤ length old
+  pub lost : bound < length old → IsUnplaced t report old bound
+  pub seats : (i : ℕ) (item : Item) → i < objects_before t c → i < bound → slice_get new i ≡ Some item → is_placed item.answer ≡ true → (life : Life) × IsSeatedTo (marked_by t) (past_in report) c (object_of i item) life
+
+pub settled-none : (t : Trace) (report : Report) (items : List Item) → AreSettled t report items items 0 (length items)
+settled-none t report items = record {
+  same = refl;
+  few = omega arith;
+  lost = λ lt. absurd (omega arith);
+  seats = λ i item lt. absurd (let e : objects_before t 0 ≡ 0 = refl in omega arith);
+}
+
+-- an object's having a seat doesn't hang on the one that its item has
+has-like : (marked : Marking) (past : List Line) (n : ℕ) (a b : Item) → unseated a ≡ unseated b → HasSeat marked past (object_of n a) → HasSeat marked past (object_of n b)
+has-like marked past n a b e has =
+    let f : HasSeat marked past (object_of n (unseated a)) = has in
+    let g : HasSeat marked past (object_of n (unseated b)) = subst (λ (x : Item). HasSeat marked past (object_of n x)) e f in
+    g
+
+seated-has : (marked : Marking) (past : List Line) (bound : ℕ) (o : Object) (life : Life) → IsSeatedTo marked past bound o life → ((c : ℕ) → live marked c o ≡ true → c < bound) → HasSeat marked past o
+seated-has marked past bound o life is all = (
+  life,
+  o.index,
+  record {
+    number = refl;
+    here = is.here;
+    sits = record { class = is.sits.class; pages = is.sits.pages; index = is.sits.index; address = is.sits.address };
+    only = λ other k i sits. is.only other k i (record { class = sits.class; pages = sits.pages; index = sits.index; address = sits.address });
+    stays = λ c alive. is.stays c (all c alive) alive;
+  },
+)
+
+-- the lives that the table has
+table-has : (region : ℕ) (past : List Line) (lives : List (Option OpenLife)) (life : Life) (n c d : ℕ) → AreLives region (at_end c past) lives → In life (open_lives (at_end d past)) → life.number ≡ n → HasNumber lives life.page n
+    → In life (open_lives (at_end c past))
+table-has region past lives life n c d are there e has =
+    let l = has.life in
+    let begins : l.page ≡ life.page = are.pages life.page l has.here in
+    let found : Life = life_of l.number l.cycle l.page l.pages l.class in
+    let holds : get_or lives l.page None ≡ Some l = subst (λ (p : ℕ). get_or lives p None ≡ Some l) (sym begins) has.here in
+    let open' : In found (open_lives (at_end c past)) = (are.all found).1 holds in
+    let same : found ≡ life = one-life past found life c d open' there (has.its ∙ sym e) in
+    subst (λ (x : Life). In x (open_lives (at_end c past))) same open'
+
+-- an item keeps its seats for a cycle more
+seat-on : (t : Trace) (report : Report) (region c i : ℕ) (lives : List (Option OpenLife)) (item : Item) (life : Life) → IsLimited t → IsAsked t i item → i < objects_before t c → AreLives region (at_end c (past_in report)) lives
+    → (is_within (marks_at t c) i ≡ true → (other : Life) → HasLife item other → HasNumber lives other.page item.life)
+    → IsSeatedTo (marked_by t) (past_in report) c (object_of i item) life → IsSeatedTo (marked_by t) (past_in report) (c + 1) (object_of i item) life
+seat-on t report region c i lives item life limited asked before are kept is = record {
+  number = is.number;
+  here = is.here;
+  sits = is.sits;
+  only = is.only;
+  stays = λ m lt alive. elim (cases_eq m c) [
+    | inr other ↦ is.stays m (omega arith) alive
+    | inl same ↦ elim (live-cases (marked_by t) m (object_of i item) alive) [
+      | inl own ↦ (
+          let e : item.cycle ≡ c = own ∙ same in
+          let low : objects_before t c ≤ i = subst (λ (n : ℕ). objects_before t n ≤ i) e asked.low in
+          absurd (omega arith))
+      | inr marked ↦ (
+          let on : marked_by t c i ≡ true = subst (λ (n : ℕ). marked_by t n i ≡ true) same marked in
+          let within : is_within (marks_at t c) i ≡ true = sym (marks-within t c i) ∙ on in
+          let has = kept within life (record { number = is.number; sits = record { class = is.sits.class; pages = is.sits.pages; index = is.sits.index; address = is.sits.address } }) in
+          let in' = table-has region (past_in report) lives life item.life c item.cycle are is.here is.number has in
+          subst (λ (n : ℕ). In life (open_lives (at_end n (past_in report)))) (sym same) in')
+    ]
+  ];
+}
+
+-- an item of the cycle gets its seat
+seat-new : (t : Trace) (report : Report) (region c i : ℕ) (lives : List (Option OpenLife)) (item : Item) → IsLimited t → item.cycle ≡ c → objects_before t c ≤ i → AreLives region (at_end c (past_in report)) lives → HasOne lives item
+    → (life : Life) × IsSeatedTo (marked_by t) (past_in report) (c + 1) (object_of i item) life
+seat-new t report region c i lives item limited cycle low are one = (
+  one.life,
+  record {
+    number = sym one.number;
+    here = here;
+    sits = record { class = one.sits.class; pages = one.sits.pages; index = one.sits.index; address = one.sits.address };
+    only = λ other k i' sits. one.only other k ((are.all other).0 (subst (λ (n : ℕ). In other (open_lives (at_end n (past_in report)))) cycle i')) (record { class = sits.class; pages = sits.pages; index = sits.index; address = sits.address });
+    stays = λ m lt alive. elim (live-cases (marked_by t) m (object_of i item) alive) [
+      | inl own ↦ subst (λ (n : ℕ). In one.life (open_lives (at_end n (past_in report)))) own here
+      | inr marked ↦ (
+          let early = marked-early t m i limited.cycles marked in
+          let rise = before-rise t m c (omega arith) in
+          absurd (omega arith))
+    ];
+  },
+)
+  where
+    here : In one.life (open_lives (at_end item.cycle (past_in report)))
+    here = subst (λ (n : ℕ). In one.life (open_lives (at_end n (past_in report)))) (sym cycle) ((are.all one.life).1 one.holds)
+
+-- an item of the cycle has no seat
+none-new : (t : Trace) (report : Report) (region c i : ℕ) (lives : List (Option OpenLife)) (item : Item) → item.cycle ≡ c → AreLives region (at_end c (past_in report)) lives → ((seat : Seat) → ¬ IsOne lives (object_of 0 item) seat)
+    → ¬ HasSeat (marked_by t) (past_in report) (object_of i item)
+none-new t report region c i lives item cycle are none has =
+    let life = has.0 in
+    let k = has.1 in
+    let is = has.2 in
+    none (record { life = life.number; index = k }) (record {
+      life = life;
+      number = refl;
+      holds = (are.all life).0 (subst (λ (n : ℕ). In life (open_lives (at_end n (past_in report)))) cycle is.here);
+      sits = record { class = is.sits.class; pages = is.sits.pages; index = is.sits.index; address = is.sits.address };
+      only = λ other j holds sits.
+          is.only other j (subst (λ (n : ℕ). In other (open_lives (at_end n (past_in report)))) (sym cycle) ((are.all other).1 holds)) (record { class = sits.class; pages = sits.pages; index = sits.index; address = sits.address });
+    })
+
+-- a marked item that has lost its life has no seat
+none-lost : (t : Trace) (report : Report) (region c i : ℕ) (lives : List (Option OpenLife)) (item : Item) (life at : Life) → AreLives region (at_end c (past_in report)) lives → is_placed item.answer ≡ true → marked_by t c i ≡ true
+    → IsSeatedTo (marked_by t) (past_in report) c (object_of i item) at → HasLife item life → ¬ HasNumber lives life.page item.life → ¬ HasSeat (marked_by t) (past_in report) (object_of i item)
+none-lost t report region c i lives item life at are placed marked is lost gone has =
+    let other = has.0 in
+    let s = has.2 in
+    let same : other ≡ at = is.only other has.1 s.here (record { class = s.sits.class; pages = s.sits.pages; index = s.sits.index; address = s.sits.address }) in
+    let stays = s.stays c (live-marked (marked_by t) c (object_of i item) placed marked) in
+    let open' : In at (open_lives (at_end c (past_in report))) = subst (λ (x : Life). In x (open_lives (at_end c (past_in report)))) same stays in
+    let holds = (are.all at).0 open' in
+    let a = is.sits.address in
+    let b = lost.sits.address in
+    let both : Placed (start_of at + item.slot * item.index) ≡ Placed (start_of life + item.slot * item.index) = sym a ∙ b in
+    let sum : start_of at + item.slot * item.index ≡ start_of life + item.slot * item.index = cc in
+    let page : at.page ≡ life.page = omega arith in
+    gone (record { life = entry_of at; here = subst (λ (p : ℕ). get_or lives p None ≡ Some (entry_of at)) page holds; its = is.number })
+
+pub settled-more : (t : Trace) (report : Report) (old mid new : List Item) (region c b0 b1 b2 : ℕ) (lives : List (Option OpenLife)) → IsLimited t → HasAnswers t report (objects_of old) → AreLives region (at_end c (past_in report)) lives
+    → AreSettled t report old mid c b0 → IsFirstLost lives (Of (marks_at t c)) mid b0 b1 → AreSeatedIn lives mid new (objects_before t c) (objects_before t (c + 1)) b1 b2 → AreSettled t report old new (c + 1) b2
+settled-more t report old mid new region c b0 b1 b2 lives limited answers are was kept got = record {
+  same = whole;
+  few = (let a = was.few in let b = kept.few in let d = got.few in omega arith);
+  lost = λ lt. elim (cases_lt b2 b1) [
+    | inl less ↦ unseated-now less
+    | inr ge ↦ (
+        let d = got.few in
+        let e : b1 ≡ b2 = omega arith in
+        elim (cases_lt b1 b0) [
+          | inl less ↦ subst (λ (n : ℕ). IsUnplaced t report old n) e (lost-now less)
+          | inr ge' ↦ (let f = kept.few in let g : b0 ≡ b2 = omega arith in subst (λ (n : ℕ). IsUnplaced t report old n) g (was.lost (omega arith)))
+        ])
+  ];
+  seats = λ i item lt less at placed. elim (cases_lt i (objects_before t c)) [
+    | inl before ↦ (
+        let at' : slice_get mid i ≡ Some item = sym (got.kept i before) ∙ at in
+        let f = kept.few in
+        let d = got.few in
+        let s = was.seats i item before (omega arith) at' placed in
+        (s.0, seat-on t report region c i lives item s.0 limited (asked-new t report old mid i item answers was.same at') before are (λ within. kept.kept i item (omega arith) within at' placed) s.1))
+    | inr after ↦ (
+        let asked = asked-new t report old new i item answers whole at in
+        seat-new t report region c i lives item limited (cycle-is i item asked after lt) after are (got.seats i item after lt less at placed))
+  ];
+}
+  where
+    whole : AreSameBut old new
+    whole = got.same ∙ was.same
+
+    cycle-is : (i : ℕ) (item : Item) → IsAsked t i item → objects_before t c ≤ i → i < objects_before t (c + 1) → item.cycle ≡ c
+    cycle-is i item asked low high =
+        let a = asked.low in
+        let b = asked.high in
+        elim (cases_lt item.cycle c) [
+          | inl less ↦ (let r = before-rise t (item.cycle + 1) c (omega arith) in absurd (omega arith))
+          | inr ge ↦ elim (cases_lt c item.cycle) [
+            | inl more ↦ (let r = before-rise t (c + 1) item.cycle (omega arith) in absurd (omega arith))
+            | inr le ↦ omega arith
+          ]
+        ]
+
+    unseated-now : b2 < b1 → IsUnplaced t report old b2
+    unseated-now less =
+        let l = got.lost less in
+        let s = l.2 in
+        let w = same-at old mid b2 s.item was.same s.at in
+        let asked = asked-new t report old mid b2 s.item answers was.same s.at in
+        let none = none-new t report region c b2 lives s.item (cycle-is b2 s.item asked l.0 l.1) are s.none in
+        record {
+          item = w.0;
+          at = w.1;
+          placed = ap (λ (x : Item). is_placed x.answer) (sym w.2) ∙ s.placed;
+          none = λ has. none (has-like (marked_by t) (past_in report) b2 w.0 s.item (sym w.2) has);
+        }
+
+    lost-now : b1 < b0 → IsUnplaced t report old b1
+    lost-now less =
+        let l = kept.lost less in
+        let s = l.1 in
+        let marked : marked_by t c b1 ≡ true = marks-within t c b1 ∙ l.0 in
+        let seat = was.seats b1 s.item (marked-early t c b1 limited.cycles marked) less s.at s.placed in
+        let w = same-at old mid b1 s.item was.same s.at in
+        let none = none-lost t report region c b1 lives s.item s.life seat.0 are s.placed marked seat.1 s.has s.gone in
+        record {
+          item = w.0;
+          at = w.1;
+          placed = ap (λ (x : Item). is_placed x.answer) (sym w.2) ∙ s.placed;
+          none = λ has. none (has-like (marked_by t) (past_in report) b1 w.0 s.item (sym w.2) has);
+        }
+
+-- what the two steps of a cycle ask
+pub settled-lives : (t : Trace) (report : Report) (old new : List Item) (c bound : ℕ) → IsLimited t → AreSettled t report old new c bound → AllHaveLives (Of (marks_at t c)) new bound
+settled-lives t report old new c bound limited is i item lt within at placed =
+    let marked : marked_by t c i ≡ true = marks-within t c i ∙ within in
+    let s = is.seats i item (marked-early t c i limited.cycles marked) lt at placed in
+    (s.0, record { number = s.1.number; sits = record { class = s.1.sits.class; pages = s.1.sits.pages; index = s.1.sits.index; address = s.1.sits.address } })
+
+pub settled-slots : (t : Trace) (report : Report) (old new : List Item) (c bound i : ℕ) (item : Item) → HasAnswers t report (objects_of old) → AreSettled t report old new c bound → slice_get new i ≡ Some item → is_placed item.answer ≡ true → 1 ≤ item.slot
+settled-slots t report old new c bound i item answers is at placed = (asked-new t report old new i item answers is.same at).slot placed
+
+-- ---- once all cycles are done
+
+all-alive : (t : Trace) (i c : ℕ) (item : Item) → IsLimited t → IsAsked t i item → live (marked_by t) c (object_of i item) ≡ true → c < length t.cycles
+all-alive t i c item limited asked alive = elim (cases_lt c (length t.cycles)) [
+  | inl lt ↦ lt
+  | inr ge ↦ absurd (elim (live-cases (marked_by t) c (object_of i item) alive) [
+    | inl own ↦ (
+        let e : item.cycle ≡ c = own in
+        let low = asked.low in
+        let high = asked.high in
+        let a = before-all t item.cycle (omega arith) in
+        let b = before-all t (item.cycle + 1) (omega arith) in
+        omega arith)
+    | inr marked ↦ unmarked-late t c i limited.cycles ge marked
+  ])
+]
+
+before-end : (t : Trace) (i : ℕ) (item : Item) → IsAsked t i item → i < objects_before t (length t.cycles)
+before-end t i item asked =
+    let high = asked.high in
+    let all = before-all t (length t.cycles) (omega arith) in
+    let le = before-le t (item.cycle + 1) in
+    omega arith
+
+pub settled-fault : (t : Trace) (report : Report) (old new : List Item) (n bound : ℕ) → IsLimited t → HasAnswers t report (objects_of old) → length t.cycles ≤ n → n ≤ length t.cycles → AreSettled t report old new n bound → bound < length old
+    → IsLeast (BreaksPlaces (marked_by t) (past_in report) (objects_of old)) (bound + 1)
+settled-fault t report old new n bound limited answers ge le is lt =
+    let u = is.lost lt in
+    record {
+      here = record { object = object_of bound u.item; among = object-in old bound u.item u.at; placed = u.placed; wrong = u.none; stands = refl };
+      least = λ m less b. (
+          let x = item-of old b.object b.among in
+          let id : b.object.id ≡ x.number = ap (λ (o : Object). o.id) x.is in
+          let s = b.stands in
+          let size = same-length old new is.same in
+          let within = slice_get_within old x.number x.item x.at in
+          let at : slice_get new x.number ≡ Some (get_or new x.number x.item) = slice_get-get_or new x.number x.item (omega arith) in
+          let w = same-at old new x.number (get_or new x.number x.item) is.same at in
+          let f : Some w.0 ≡ Some x.item = sym w.1 ∙ x.at in
+          let same : w.0 ≡ x.item = cc in
+          let like : unseated (get_or new x.number x.item) ≡ unseated x.item = w.2 ∙ ap unseated same in
+          let placed : is_placed (get_or new x.number x.item).answer ≡ true = ap (λ (y : Item). is_placed y.answer) like ∙ (ap (λ (o : Object). is_placed o.answer) (sym x.is) ∙ b.placed) in
+          let asked = asked-new t report old new x.number (get_or new x.number x.item) answers is.same at in
+          let end : n ≡ length t.cycles = omega arith in
+          let seat = is.seats x.number (get_or new x.number x.item) (subst (λ (k : ℕ). x.number < objects_before t k) (sym end) (before-end t x.number (get_or new x.number x.item) asked)) (omega arith) at placed in
+          let has = seated-has (marked_by t) (past_in report) n (object_of x.number (get_or new x.number x.item)) seat.0 seat.1
+          (λ c alive. (let a = all-alive t x.number c (get_or new x.number x.item) limited asked alive in omega arith)) in
+          b.wrong (subst (λ (o : Object). HasSeat (marked_by t) (past_in report) o) (sym x.is) (has-like (marked_by t) (past_in report) x.number (get_or new x.number x.item) x.item like has)));
+    }
+
+pub settled-all : (t : Trace) (report : Report) (old new : List Item) (n bound : ℕ) → IsLimited t → HasAnswers t report (objects_of old) → length t.cycles ≤ n → n ≤ length t.cycles → AreSettled t report old new n bound → length old ≤ bound
+    → AreSeated (marked_by t) (past_in report) (objects_of new)
+settled-all t report old new n bound limited answers ge le is all o among placed =
+    let x = item-of new o among in
+    let asked = asked-new t report old new x.number x.item answers is.same x.at in
+    let within = slice_get_within new x.number x.item x.at in
+    let size = same-length old new is.same in
+    let end : n ≡ length t.cycles = omega arith in
+    let seat = is.seats x.number x.item (subst (λ (k : ℕ). x.number < objects_before t k) (sym end) (before-end t x.number x.item asked)) (omega arith) x.at (ap (λ (y : Object). is_placed y.answer) (sym x.is) ∙ placed) in (
+      seat.0,
+      subst (λ (y : Object). IsSeated (marked_by t) (past_in report) y seat.0) (sym x.is) (record {
+        number = seat.1.number;
+        here = seat.1.here;
+        sits = seat.1.sits;
+        only = seat.1.only;
+        stays = λ c alive. seat.1.stays c (let a = all-alive t x.number c x.item limited asked alive in omega arith) alive;
+      }),
+    )
+
+-- there are as many items as events
+pub count-items : (t : Trace) (report : Report) (items : List Item) → HasAnswers t report (objects_of items) → length items ≡ length (events_of t)
+count-items t report items answers =
+    let a = same_length (requests_of t) (objects_of items) answers.asked in
+    let b : length (requests_of t) ≡ length (requests_from 0 t.cycles) = length-reverse (requests_from 0 t.cycles) in
+    let e = ap (λ (es : List Event). length es) (requests-events 0 t.cycles) in
+    let d = length-map (requests_from 0 t.cycles) (λ (r : Request). r.event) in
+    let f = objects-length (reverse items) in
+    let g = length-reverse items in
+    omega arith
+  where
+    objects-length : (is : List Item) → length (objects_from is) ≡ length is
+    objects-length [] = refl
+    objects-length (i ∷ is) = ap suc (objects-length is)
