@@ -4,11 +4,13 @@ use Rattle.std.proofs.Common.{◌≡◌, ℕ, ◌-◌, Result, Ok, Err, List, []
 use Rattle.trace_reader.specs.declared.trace.Trace.{Trace}
 use Rattle.cycle_history.specs.declared.Report.{Report}
 use Rattle.cycle_history.specs.Objects.{Object}
-use Rattle.cycle_history.specs.Rules.{AreMissed}
+use Rattle.cycle_history.specs.Requests.{marked_by}
+use Rattle.cycle_history.specs.Rules.{AreMissed, AreSeated}
 use Rattle.cycle_history.specs.Sound.{past_in, HasAnswers, HasJournal}
 use Rattle.cycle_history.specs.Broken.{MeetsUpTo}
 use Rattle.report_rules.specs.Lines.{IsLeast}
 use Rattle.report_rules.specs.Answers.{BreaksAnswers, BreaksJournal, BreaksMisses}
+use Rattle.report_rules.specs.Placing.{BreaksPlaces}
 use Rattle.report_rules.specs.Broken.{Breaks, IsBroken}
 use Rattle.report_check.specs.declared.fault.CheckFault.{CheckFault}
 use Rattle.report_check.specs.declared.fault.CheckFault.TheVariants.{Broken, NoMemory}
@@ -62,6 +64,19 @@ meets-3 t report objects answers journal misses = record {
   totals = λ le. absurd (omega arith);
 }
 
+pub meets-4 : (t : Trace) (report : Report) (objects : List Object) → HasAnswers t report objects → HasJournal t report → AreMissed (past_in report) objects → AreSeated (marked_by t) (past_in report) objects
+    → MeetsUpTo 4 t report objects
+meets-4 t report objects answers journal misses places = record {
+  answers = λ le. answers;
+  journal = λ le. journal;
+  misses = λ le. misses;
+  places = λ le. places;
+  apart = λ le. absurd (omega arith);
+  filling = λ le. absurd (omega arith);
+  sweeps = λ le. absurd (omega arith);
+  totals = λ le. absurd (omega arith);
+}
+
 -- the least of two tests that hold together
 least-same : (P Q : ℕ → Type 0) (n : ℕ) → ((m : ℕ) → P m → Q m) → ((m : ℕ) → Q m → P m) → IsLeast P n → IsLeast Q n
 least-same P Q n to from is = record { here = to n is.here; least = λ m lt q. is.least m lt (from m q) }
@@ -108,6 +123,20 @@ breaks-3 t report objects m b = record {
   totals = λ e. absurd (omega arith);
 }
 
+breaks-4 : (t : Trace) (report : Report) (objects : List Object) (m : ℕ) → BreaksPlaces (marked_by t) (past_in report) objects m → Breaks 4 t report objects m
+breaks-4 t report objects m b = record {
+  some = omega arith;
+  few = omega arith;
+  answers = λ e. absurd (omega arith);
+  journal = λ e. absurd (omega arith);
+  misses = λ e. absurd (omega arith);
+  places = λ e. b;
+  apart = λ e. absurd (omega arith);
+  filling = λ e. absurd (omega arith);
+  sweeps = λ e. absurd (omega arith);
+  totals = λ e. absurd (omega arith);
+}
+
 -- a fault of one rule, where the rules before it are met
 fault-of : (n : ℕ) (P : ℕ → Type 0) (t : Trace) (report : Report) (objects : List Object) (fault : CheckFault) → MeetsUpTo (n - 1) t report objects
     → ((m : ℕ) → P m → Breaks n t report objects m) → ((m : ℕ) → Breaks n t report objects m → P m) → IsFaultOf n P fault → IsFault t report fault
@@ -125,6 +154,11 @@ pub fault-3 : (t : Trace) (report : Report) (objects : List Object) (fault : Che
     → IsFaultOf 3 (BreaksMisses (past_in report) objects) fault → IsFault t report fault
 fault-3 t report objects fault answers journal is =
     fault-of 3 (BreaksMisses (past_in report) objects) t report objects fault (meets-2 t report objects answers journal) (breaks-3 t report objects) (λ m b. b.misses refl) is
+
+pub fault-4 : (t : Trace) (report : Report) (objects : List Object) (fault : CheckFault) → HasAnswers t report objects → HasJournal t report → AreMissed (past_in report) objects
+    → IsFaultOf 4 (BreaksPlaces (marked_by t) (past_in report) objects) fault → IsFault t report fault
+fault-4 t report objects fault answers journal misses is =
+    fault-of 4 (BreaksPlaces (marked_by t) (past_in report) objects) t report objects fault (meets-3 t report objects answers journal misses) (breaks-4 t report objects) (λ m b. b.places refl) is
 
 pub err-map : {T : Type 0} (r : Result T CheckFault) (P Q : CheckFault → Type 0) → ((fault : CheckFault) → P fault → Q fault) → IfErr r P → IfErr r Q
 err-map (Ok x) P Q to h = tt

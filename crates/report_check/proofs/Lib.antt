@@ -10,3 +10,4 @@ pub mod Lost
 pub mod Upto
 pub mod Seated
 pub mod Settled
+pub mod Carried

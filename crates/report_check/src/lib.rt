@@ -1,8 +1,8 @@
 //! The judge of reports: which rule a report breaks first, and the first of its lines that breaks it.
 //!
-//! The rules 1 to 3 are tried here, on answers (`items`), the journal (`journal`) and misses (`misses`), each in one pass
-//! that answers the least line that breaks it; `check` tries them in their order. What breaks a rule is defined in the
-//! crate `report_rules`.
+//! The rules 1 to 4 are tried here, on answers (`items`), the journal (`journal`), misses (`misses`) and places (`places`,
+//! by the table of open lives in `lives`), each in one pass that answers the least line that breaks it; `check` tries
+//! them in their order. What breaks a rule is defined in the crate `report_rules`.
 #![tactic(auto)]
 
 mod asked;
