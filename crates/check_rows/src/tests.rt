@@ -90,7 +90,7 @@ const GIVE_24: Line = Line::Give {
 };
 
 const ROWS: [Row; 74] = [
-    // These meet the rules 1 to 3.
+    // These meet the rules 1 to 3. Where the object sits in no life as its cycle ends, its line breaks rule 4.
     Row {
         lines: "a 0 24 s 1\n",
         goal: 512,
@@ -170,7 +170,7 @@ const ROWS: [Row; 74] = [
             pages: 5,
             class: 0,
         }],
-        broken: None,
+        broken: Some((4, 1)),
     },
     Row {
         lines: "a 0 24 s 1\n",
@@ -200,7 +200,7 @@ const ROWS: [Row; 74] = [
             pages: 4294967295,
             class: 255,
         }],
-        broken: None,
+        broken: Some((4, 1)),
     },
     Row {
         lines: "a 0 24 s 1\n",
@@ -224,7 +224,7 @@ const ROWS: [Row; 74] = [
                 pages: 1,
             },
         ],
-        broken: None,
+        broken: Some((4, 1)),
     },
     Row {
         lines: "a 0 24 s 1\n",
@@ -259,7 +259,7 @@ const ROWS: [Row; 74] = [
                 pages: 2,
             },
         ],
-        broken: None,
+        broken: Some((4, 1)),
     },
     Row {
         lines: "a 0 24 s 1\ngc 1\n",

@@ -1,21 +1,19 @@
 -- The table of the lives that are open.
-use Rattle.std.specs.Prelude.{MatchOption}
-use Rattle.std.proofs.Common.{◌≡◌, ◌≢◌, ℕ, zero, suc, ◌+◌, ◌-◌, ◌*◌, ◌/◌, ◌%◌, ◌<◌, ◌≤◌, List, [], ◌∷◌, length, get_or, set, replicate, Option, Some, None, refl, sym, ◌∙◌, ap, subst, arith, ◌⊎◌, inl, inr}
+use Rattle.std.proofs.Common.{◌≡◌, ◌≢◌, ℕ, ◌+◌, ◌-◌, ◌*◌, ◌/◌, ◌%◌, ◌<◌, ◌≤◌, List, [], ◌∷◌, length, get_or, set, replicate, Option, Some, None, refl, sym, ◌∙◌, ap, subst, arith, ◌⊎◌, inl, inr}
 use Rattle.std.proofs.Math.Nat.{mul-mod_right, mul-div_cancel_left, div-add-mod}
 use Rattle.std.proofs.Math.ListN.{get_or-eq_default}
 use Rattle.std.proofs.lemmas.Bool.{cases_eq, cases_lt}
 use Rattle.std.proofs.lemmas.List.{get_or-set_same, get_or-set_other, get_or-replicate, length-set, length-replicate}
 use Rattle.page_bitmap.specs.declared.line.Line.{Line}
-use Rattle.page_bitmap.specs.declared.line.Line.TheVariants.{Take, Miss, Give, Scav}
+use Rattle.page_bitmap.specs.declared.line.Line.TheVariants.{Take, Give}
 use Rattle.page_alloc.specs.Lists.{In}
 use Rattle.page_alloc.specs.Journal.{Life, life_of, open_lives, others, Legal}
 use Rattle.page_alloc.proofs.Lives.{lies, pages-apart, from_others, to_others}
-use Rattle.cycle_history.specs.declared.Answer.{Answer}
 use Rattle.cycle_history.specs.declared.Answer.TheVariants.{Placed}
 use Rattle.cycle_history.specs.Objects.{Object, Sits, start_of}
 use Rattle.report_check.specs.declared.lives.OpenLife.{OpenLife}
 use Rattle.report_check.specs.declared.lives.Seat.{Seat}
-use Rattle.report_check.specs.Lives.{entry_of, Holds, AreAtPages, AreLives, IsOne, IsSeatAt, NoSeatAt}
+use Rattle.report_check.specs.Lives.{entry_of, Holds, AreAtPages, AreLives, IsSeatAt, NoSeatAt}
 
 abbrev life_in : OpenLife → Life
 life_in entry = life_of entry.number entry.cycle entry.page entry.pages entry.class

@@ -1,8 +1,8 @@
 -- Rule 4, one cycle more at a time.
 use Rattle.std.specs.Prelude.{MatchOption}
-use Rattle.std.proofs.Common.{◌≡◌, ◌≢◌, ℕ, zero, suc, ◌+◌, ◌-◌, ◌*◌, ◌^◌, ◌<◌, ◌≤◌, Bool, true, false, ◌&&◌, ◌||◌, eqb, leb, List, [], ◌∷◌, ◌++◌, map, reverse, take, length, get_or, Option, Some, None, refl, sym, ◌∙◌, ap, subst, arith, length-append, ◌⊎◌, inl, inr}
+use Rattle.std.proofs.Common.{◌≡◌, ℕ, zero, suc, ◌+◌, ◌-◌, ◌*◌, ◌^◌, ◌<◌, ◌≤◌, Bool, true, false, ◌||◌, eqb, leb, List, [], ◌∷◌, ◌++◌, map, reverse, take, length, get_or, Option, Some, None, refl, sym, ◌∙◌, ap, subst, arith, length-append, ◌⊎◌, inl, inr}
 use Rattle.std.specs.List.{slice_get, flat_map}
-use Rattle.std.proofs.lemmas.Bool.{cases_eq, cases_lt, cases_Bool, and_parts, or_cases, eqb-true, eq-eqb, and_from, or_left}
+use Rattle.std.proofs.lemmas.Bool.{cases_eq, cases_lt, cases_Bool, and_parts, or_cases, eqb-true, and_from}
 use Rattle.std.proofs.lemmas.List.{reverse-reverse, append-nil, length-reverse, length-map}
 use Rattle.std.proofs.lemmas.Option.{slice_get_within, slice_get-get_or}
 use Rattle.page_bitmap.specs.declared.line.Line.{Line}
@@ -10,18 +10,16 @@ use Rattle.page_bitmap.specs.declared.line.Line.TheVariants.{Take, Miss, Give, S
 use Rattle.page_alloc.specs.Lists.{In, IsNumber}
 use Rattle.page_alloc.specs.Journal.{Life, life_of, open_lives, at_end, cycle_of}
 use Rattle.page_alloc.proofs.Lives.{from_others}
-use Rattle.size_classes.specs.Classes.{IsClass, slot_of}
 use Rattle.trace_reader.specs.declared.trace.Trace.{Trace}
 use Rattle.trace_reader.specs.declared.trace.Cycle.{Cycle}
 use Rattle.trace_reader.specs.declared.trace.Event.{Event}
 use Rattle.trace_reader.specs.declared.trace.MarkEnd.{MarkEnd}
 use Rattle.trace_reader.specs.declared.trace.Span.{Span}
 use Rattle.trace_reader.specs.Limits.{events_of, AreCycles, AreSpans, IsMarked}
-use Rattle.cycle_history.specs.declared.Answer.{Answer}
-use Rattle.cycle_history.specs.declared.Answer.TheVariants.{Placed, Zero, Missed}
+use Rattle.cycle_history.specs.declared.Answer.TheVariants.{Placed, Zero}
 use Rattle.cycle_history.specs.declared.Report.{Report}
 use Rattle.cycle_history.specs.Needs.{Need, IsNeed}
-use Rattle.cycle_history.specs.Requests.{Marking, Request, requests_from, requests_of, is_within, marked_by, region_of, spans_after, spans_of}
+use Rattle.cycle_history.specs.Requests.{Marking, Request, requests_from, requests_of, is_within, marked_by, spans_after, spans_of}
 use Rattle.cycle_history.specs.Objects.{Object, is_placed, live, start_of, Sits, IsSeated}
 use Rattle.cycle_history.specs.Rules.{AreSeated}
 use Rattle.cycle_history.specs.Marked.{IsLimited, marks_at, objects_before}
@@ -31,13 +29,13 @@ use Rattle.cycle_history.proofs.OfObjects.{number-get, request-of, requests-even
 use Rattle.cycle_history.proofs.Plain.{request_in, same_length}
 use Rattle.cycle_history.proofs.Rising.{marked-early, marks-within}
 use Rattle.report_rules.specs.Lines.{IsLeast}
-use Rattle.report_rules.specs.Placing.{BreaksPlaces, HasSeat, seat_at}
+use Rattle.report_rules.specs.Placing.{BreaksPlaces, HasSeat}
 use Rattle.report_check.specs.declared.items.Item.{Item}
 use Rattle.report_check.specs.declared.lives.OpenLife.{OpenLife}
 use Rattle.report_check.specs.declared.lives.Seat.{Seat}
 use Rattle.report_check.specs.Items.{object_of, objects_from, objects_of}
-use Rattle.report_check.specs.Lives.{AreLives, HasLife, HasNumber, Holds, IsOne, entry_of}
-use Rattle.report_check.specs.Seats.{AllHaveLives, AreSameBut, AreSeatedIn, HasOne, IsFirstLost, IsLost, unseated}
+use Rattle.report_check.specs.Lives.{AreLives, HasLife, HasNumber, IsOne, entry_of}
+use Rattle.report_check.specs.Seats.{AllHaveLives, AreSameBut, AreSeatedIn, HasOne, IsFirstLost, unseated}
 use Rattle.report_check.proofs.Lost.{Of}
 use Rattle.report_check.proofs.Numbered.{item-of, object-in}
 use Rattle.report_check.proofs.Seated.{same-at, same-length}

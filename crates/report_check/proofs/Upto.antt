@@ -1,11 +1,9 @@
 -- The journal's lines up to the end of a cycle.
-use Rattle.std.proofs.Common.{◌≡◌, ℕ, zero, suc, ◌+◌, ◌-◌, ◌<◌, ◌≤◌, leb, false, List, [], ◌∷◌, ◌++◌, take, reverse, length, get_or, Option, refl, sym, ◌∙◌, ap, subst, arith, ◌⊎◌, inl, inr}
-use Rattle.std.proofs.lemmas.Bool.{cases_lt, cases_eq, le-leb, lt-leb}
+use Rattle.std.proofs.Common.{◌≡◌, ℕ, zero, suc, ◌+◌, ◌-◌, ◌<◌, ◌≤◌, leb, false, List, [], ◌∷◌, take, length, get_or, refl, sym, ◌∙◌, ap, subst, arith, inl, inr}
+use Rattle.std.proofs.lemmas.Bool.{cases_lt, le-leb, lt-leb}
 use Rattle.std.proofs.lemmas.List.{take_more, reverse-append, length-reverse, length-take-le, take_all}
 use Rattle.page_bitmap.specs.declared.line.Line.{Line}
 use Rattle.page_alloc.specs.Journal.{cycle_of, at_end, past_of, IsBy, Legal}
-use Rattle.report_check.specs.declared.lives.OpenLife.{OpenLife}
-use Rattle.report_check.specs.Lives.{AreLives}
 
 pub line-more : (journal : List Line) (n : ℕ) (d : Line) → n < length journal → past_of (take (n + 1) journal) ≡ get_or journal n d ∷ past_of (take n journal)
 line-more journal n d lt = rw (take_more journal n d lt) (reverse-append (take n journal) (get_or journal n d ∷ []))

@@ -1,8 +1,6 @@
 -- Items and their seats.
-use Rattle.std.specs.Prelude.{◌≡◌, ℕ, ◌<◌, ◌≤◌, true, List, map, length, slice_index_or, Some, None, Option}
+use Rattle.std.specs.Prelude.{◌≡◌, ℕ, ◌<◌, ◌≤◌, true, List, map, Some, Option}
 use Rattle.std.specs.List.{slice_get}
-use Rattle.cycle_history.specs.Requests.{is_within}
-use Rattle.trace_reader.specs.declared.trace.Span.{Span}
 use Rattle.cycle_history.specs.Objects.{is_placed}
 use Rattle.page_alloc.specs.Journal.{Life}
 use Rattle.report_check.specs.declared.lives.OpenLife.{OpenLife}

@@ -5,7 +5,6 @@ use Rattle.cycle_history.specs.Requests.{marked_by}
 use Rattle.cycle_history.specs.Rules.{AreMissed}
 use Rattle.cycle_history.specs.Sound.{past_in, HasAnswers}
 use Rattle.cycle_history.specs.Broken.{MeetsUpTo}
-use Rattle.report_rules.specs.Answers.{BreaksMisses}
 use Rattle.report_rules.specs.Placing.{BreaksPlaces}
 use Rattle.report_check.specs.declared.fault.CheckFault.{CheckFault}
 use Rattle.report_check.specs.declared.items.Item.{Item}

@@ -1,4 +1,4 @@
-use Rattle.std.proofs.Common.{◌≡◌, ◌+◌, ◌≤◌, Option, Some, sym, ◌∙◌, subst, arith}
+use Rattle.std.proofs.Common.{◌+◌, Option, sym, ◌∙◌, subst, arith}
 use Rattle.report_check.specs.declared.lives.Seat.{Seat}
 use Rattle.report_check.specs.Items.{object_of}
 use Rattle.report_check.specs.Lives.{IsSeatAt, NoSeatAt}

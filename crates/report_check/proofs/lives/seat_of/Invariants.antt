@@ -1,4 +1,4 @@
-use Rattle.std.proofs.Common.{◌≡◌, ◌≤◌, ◌-◌}
+use Rattle.std.proofs.Common.{◌≤◌}
 use Rattle.report_check.specs.Items.{object_of}
 use Rattle.report_check.proofs.Seeking.{IsSought}
 use Rattle.report_check.proofs.lives.seat_of.Given as goal

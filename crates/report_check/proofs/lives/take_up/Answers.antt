@@ -1,9 +1,7 @@
-use Rattle.std.proofs.Common.{◌≡◌, ℕ, ◌∷◌, List, Option, Some, length, set, sym, ap, subst, ◌∙◌, arith}
+use Rattle.std.proofs.Common.{ℕ, ◌∷◌, Some, set, ap, subst, ◌∙◌, arith}
 use Rattle.page_bitmap.specs.declared.line.Line.{Line}
-use Rattle.page_bitmap.specs.declared.line.Line.TheVariants.{Take, Give}
 use Rattle.page_alloc.specs.Journal.{Legal, life_of}
-use Rattle.report_check.specs.declared.lives.OpenLife.{OpenLife}
-use Rattle.report_check.specs.Lives.{AreLives, entry_of}
+use Rattle.report_check.specs.Lives.{entry_of}
 use Rattle.report_check.proofs.Opened.{inside-take, inside-give, lives-take, lives-give}
 use Rattle.report_check.proofs.lives.take_up.Goals as goal
 

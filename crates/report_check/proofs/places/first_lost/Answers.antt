@@ -1,4 +1,3 @@
-use Rattle.std.proofs.Common.{◌≡◌, ◌≤◌, arith}
 use Rattle.report_check.proofs.Lost.{span-lives, lost-more}
 use Rattle.report_check.proofs.places.first_lost.Goals as goal
 

@@ -1,4 +1,4 @@
-use Rattle.std.proofs.Common.{◌≡◌, ◌<◌, length, arith, inl, inr}
+use Rattle.std.proofs.Common.{arith}
 use Rattle.report_check.proofs.Lost.{range-lost, range-more, not-placed}
 use Rattle.report_check.proofs.places.first_lost_in.Goals.{in-Placed+else-not-has_life, in_default}
 use Rattle.report_check.proofs.places.first_lost_in.Goals as goal

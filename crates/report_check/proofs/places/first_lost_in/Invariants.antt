@@ -1,4 +1,4 @@
-use Rattle.std.proofs.Common.{◌≡◌, ◌≤◌, ◌<◌}
+use Rattle.std.proofs.Common.{◌≤◌, ◌<◌}
 use Rattle.report_check.specs.Seats.{AllKept}
 use Rattle.report_check.proofs.places.first_lost_in.Given as goal
 

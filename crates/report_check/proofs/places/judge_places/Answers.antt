@@ -1,7 +1,7 @@
-use Rattle.std.proofs.Common.{◌≡◌, ℕ, ◌+◌, ◌<◌, ◌≤◌, List, ◌++◌, take, drop, length, get_or, Option, refl, sym, ◌∙◌, ap, subst, arith}
+use Rattle.std.proofs.Common.{◌≡◌, ℕ, ◌+◌, ◌<◌, List, ◌++◌, take, drop, length, get_or, Option, refl, sym, ◌∙◌, ap, subst, arith}
 use Rattle.std.proofs.Math.Seq.{take-append_seam}
 use Rattle.page_bitmap.specs.declared.line.Line.{Line}
-use Rattle.page_alloc.specs.Journal.{IsBy, past_of, at_end}
+use Rattle.page_alloc.specs.Journal.{past_of, at_end}
 use Rattle.trace_reader.specs.declared.trace.Cycle.{Cycle}
 use Rattle.trace_reader.specs.declared.trace.Trace.{Trace}
 use Rattle.trace_reader.specs.declared.trace.Span.{Span}
@@ -13,7 +13,7 @@ use Rattle.cycle_history.proofs.Firsts.{before-more, before-le}
 use Rattle.report_check.specs.declared.items.Item.{Item}
 use Rattle.report_check.specs.declared.lives.OpenLife.{OpenLife}
 use Rattle.report_check.specs.Items.{objects_of}
-use Rattle.report_check.specs.Lives.{AreLives, AreAtPages}
+use Rattle.report_check.specs.Lives.{AreLives}
 use Rattle.report_check.specs.Seats.{AllHaveLives, AreSeatedIn, IsFirstLost}
 use Rattle.report_check.proofs.Lost.{Of}
 use Rattle.report_check.proofs.Seated.{same-length}

@@ -1,4 +1,4 @@
-use Rattle.std.proofs.Common.{◌≡◌, ◌+◌, ◌≤◌, List, length, sym, ◌∙◌, ap, subst, arith, inl, inr}
+use Rattle.std.proofs.Common.{◌+◌, List, sym, ◌∙◌, ap, subst, arith, inl, inr}
 use Rattle.cycle_history.specs.Objects.{is_placed}
 use Rattle.report_check.specs.declared.items.Item.{Item}
 use Rattle.report_check.specs.Seats.{AreSeatedIn}

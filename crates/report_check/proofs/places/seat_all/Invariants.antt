@@ -1,4 +1,3 @@
-use Rattle.std.proofs.Common.{◌≡◌, ◌≤◌, length}
 use Rattle.report_check.specs.Seats.{AreSeatedIn}
 use Rattle.report_check.proofs.places.seat_all.Given as goal
 

@@ -1,4 +1,4 @@
-use Rattle.std.proofs.Common.{◌≡◌, ◌-◌, ◌≤◌, take, length}
+use Rattle.std.proofs.Common.{◌-◌, ◌≤◌, take, length}
 use Rattle.page_alloc.specs.Journal.{IsBy, past_of}
 use Rattle.cycle_history.specs.Requests.{region_of}
 use Rattle.report_check.specs.Lives.{AreLives}
