@@ -4,3 +4,4 @@ pub mod Numbered
 pub mod Journals
 pub mod Missed
 pub mod Faults
+pub mod Summed

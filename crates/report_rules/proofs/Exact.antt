@@ -25,7 +25,7 @@ use Rattle.report_rules.proofs.Twins.{twin-of, answers-length, event-at}
 
 -- ---- rule 1
 
-right-of : (t : Trace) (report : Report) (objects : List Object) (i : ℕ) (a : Answer) → HasAnswers t report objects → slice_get report.answers i ≡ Some a → IsRightAnswer t i a
+pub right-of : (t : Trace) (report : Report) (objects : List Object) (i : ℕ) (a : Answer) → HasAnswers t report objects → slice_get report.answers i ≡ Some a → IsRightAnswer t i a
 right-of t report objects i a has at =
     let turned : slice_get (reverse (reverse report.answers)) i ≡ Some a = subst (λ (xs : List Answer). slice_get xs i ≡ Some a) (sym (reverse-reverse report.answers)) at in
     let number : IsNumber i a (map (λ (x : Object). x.answer) objects) = subst (λ (xs : List Answer). IsNumber i a xs) (sym has.printed) (get-number i a (reverse report.answers) turned) in
