@@ -1,5 +1,4 @@
-use Rattle.std.proofs.Common.{arith}
-use Rattle.report_check.proofs.Summed.{at-none, at-more, misfit-low, misfit-other, fitting-all}
+use Rattle.report_check.proofs.Summed.{at-none}
 use Rattle.report_check.proofs.totals.first_misfit.Goals as goal
 
 pub loop-place-init : goal.loop-place-init

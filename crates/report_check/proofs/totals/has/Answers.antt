@@ -1,4 +1,4 @@
-use Rattle.std.proofs.Common.{sym, arith, subst}
+use Rattle.std.proofs.Common.{arith, subst}
 use Rattle.cycle_history.specs.declared.Total.{Total}
 use Rattle.page_alloc.specs.Lists.{In}
 use Rattle.std.proofs.lemmas.Option.{slice_get-get_or}
