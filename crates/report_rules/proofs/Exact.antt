@@ -1,26 +1,25 @@
 -- A line that breaks one of the rules 1 to 3 shows that the rule isn't met.
-use Rattle.std.proofs.Common.{◌≡◌, ◌≢◌, ℕ, ◌+◌, ◌-◌, ◌<◌, ◌≤◌, List, [], ◌∷◌, ◌++◌, length, map, reverse, take, drop, Some, refl, sym, ◌∙◌, ap, subst, arith, ◌⊎◌, inl, inr}
+use Rattle.std.proofs.Common.{◌≡◌, ◌≢◌, ℕ, ◌+◌, ◌-◌, ◌≤◌, List, [], ◌∷◌, ◌++◌, map, reverse, take, drop, Some, sym, ◌∙◌, ap, subst, arith, inl, inr}
 use Rattle.std.specs.List.{slice_get}
 use Rattle.std.proofs.lemmas.Bool.{cases_lt}
 use Rattle.std.proofs.lemmas.List.{reverse-reverse, reverse-append, take-append-drop}
 use Rattle.page_bitmap.specs.declared.line.Line.{Line}
 use Rattle.page_bitmap.specs.declared.line.Line.TheVariants.{Miss}
-use Rattle.page_alloc.specs.Lists.{In, IsNumber}
+use Rattle.page_alloc.specs.Lists.{IsNumber}
 use Rattle.page_alloc.specs.Journal.{IsBy, Legal, cycle_of, past_of}
 use Rattle.trace_reader.specs.declared.trace.Trace.{Trace}
-use Rattle.trace_reader.specs.declared.trace.Event.{Event}
 use Rattle.cycle_history.specs.declared.Answer.{Answer}
 use Rattle.cycle_history.specs.declared.Answer.TheVariants.{Zero, Missed}
 use Rattle.cycle_history.specs.declared.Report.{Report}
 use Rattle.cycle_history.specs.Needs.{Need}
-use Rattle.cycle_history.specs.Requests.{Request, requests_of, region_of, last_cycle}
+use Rattle.cycle_history.specs.Requests.{requests_of, region_of, last_cycle}
 use Rattle.cycle_history.specs.Objects.{Object}
-use Rattle.cycle_history.specs.Rules.{IsObject, NamesMiss, AreMissed}
+use Rattle.cycle_history.specs.Rules.{AreMissed}
 use Rattle.cycle_history.specs.Sound.{past_in, HasAnswers, HasJournal}
 use Rattle.cycle_history.specs.Broken.{MeetsUpTo, MeetsRules, IsFirstBroken}
-use Rattle.cycle_history.proofs.OfObjects.{request-of, object-of, get-number, event-of}
-use Rattle.report_rules.specs.Answers.{IsRightAnswer, BreaksAnswers, IsJournalTo, BreaksJournal, BreaksMisses}
-use Rattle.report_rules.specs.Broken.{Breaks, IsBrokenBy, IsBroken}
+use Rattle.cycle_history.proofs.OfObjects.{request-of, object-of, get-number}
+use Rattle.report_rules.specs.Answers.{IsRightAnswer, BreaksAnswers, IsJournalTo, BreaksMisses}
+use Rattle.report_rules.specs.Broken.{Breaks, IsBroken}
 use Rattle.report_rules.proofs.Twins.{twin-of, answers-length, event-at}
 
 -- ---- rule 1
