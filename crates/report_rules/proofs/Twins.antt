@@ -27,7 +27,7 @@ need-same a b e1 e2 e3 e4 =
     let e : made a.class a.pages a.slot a.count ≡ made b.class b.pages b.slot b.count = cc in e
 
 -- a size has one need
-need-one : (r : Request) (a b : Need) → IsNeed r.event.size r.event.scan a → IsNeed r.event.size r.event.scan b → a ≡ b
+pub need-one : (r : Request) (a b : Need) → IsNeed r.event.size r.event.scan a → IsNeed r.event.size r.event.scan b → a ≡ b
 need-one r a b na nb = elim (cases_lt 32768 r.event.size) [
   | inl large ↦ (
       let la = na.large large in
