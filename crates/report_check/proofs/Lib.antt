@@ -11,3 +11,4 @@ pub mod Upto
 pub mod Seated
 pub mod Settled
 pub mod Carried
+pub mod Summed

@@ -4,3 +4,4 @@ pub mod Asked
 pub mod Journal
 pub mod Lives
 pub mod Seats
+pub mod Totals

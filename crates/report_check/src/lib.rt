@@ -2,7 +2,8 @@
 //!
 //! The rules 1 to 4 are tried here, on answers (`items`), the journal (`journal`), misses (`misses`) and places (`places`,
 //! by the table of open lives in `lives`), each in one pass that answers the least line that breaks it; `check` tries
-//! them in their order. What breaks a rule is defined in the crate `report_rules`.
+//! them in their order. `totals` tries rule 8 alone, where rule 1 is met. What breaks a rule is defined in the crate
+//! `report_rules`.
 #![tactic(auto)]
 
 mod asked;
@@ -14,6 +15,8 @@ mod lines;
 mod lives;
 mod misses;
 mod places;
+mod totals;
 
 pub use check::check_first_rules;
 pub use fault::CheckFault;
+pub use totals::judge_totals;

@@ -1,31 +1,31 @@
--- A line that breaks one of the rules 1 to 3 shows that the rule isn't met.
-use Rattle.std.proofs.Common.{◌≡◌, ◌≢◌, ℕ, ◌+◌, ◌-◌, ◌<◌, ◌≤◌, List, [], ◌∷◌, ◌++◌, length, map, reverse, take, drop, Some, refl, sym, ◌∙◌, ap, subst, arith, ◌⊎◌, inl, inr}
+-- A line that breaks one of the rules 1 to 3, or rule 8, shows that the rule isn't met.
+use Rattle.std.proofs.Common.{◌≡◌, ◌≢◌, ℕ, ◌+◌, ◌-◌, ◌≤◌, List, [], ◌∷◌, ◌++◌, map, reverse, take, drop, Some, sym, ◌∙◌, ap, subst, ◌⊎◌, arith, inl, inr}
 use Rattle.std.specs.List.{slice_get}
 use Rattle.std.proofs.lemmas.Bool.{cases_lt}
 use Rattle.std.proofs.lemmas.List.{reverse-reverse, reverse-append, take-append-drop}
 use Rattle.page_bitmap.specs.declared.line.Line.{Line}
 use Rattle.page_bitmap.specs.declared.line.Line.TheVariants.{Miss}
-use Rattle.page_alloc.specs.Lists.{In, IsNumber}
+use Rattle.page_alloc.specs.Lists.{IsNumber}
 use Rattle.page_alloc.specs.Journal.{IsBy, Legal, cycle_of, past_of}
 use Rattle.trace_reader.specs.declared.trace.Trace.{Trace}
-use Rattle.trace_reader.specs.declared.trace.Event.{Event}
 use Rattle.cycle_history.specs.declared.Answer.{Answer}
 use Rattle.cycle_history.specs.declared.Answer.TheVariants.{Zero, Missed}
 use Rattle.cycle_history.specs.declared.Report.{Report}
 use Rattle.cycle_history.specs.Needs.{Need}
-use Rattle.cycle_history.specs.Requests.{Request, requests_of, region_of, last_cycle}
+use Rattle.cycle_history.specs.Requests.{requests_of, region_of, marked_by, last_cycle}
 use Rattle.cycle_history.specs.Objects.{Object}
-use Rattle.cycle_history.specs.Rules.{IsObject, NamesMiss, AreMissed}
+use Rattle.cycle_history.specs.Rules.{AreMissed}
 use Rattle.cycle_history.specs.Sound.{past_in, HasAnswers, HasJournal}
 use Rattle.cycle_history.specs.Broken.{MeetsUpTo, MeetsRules, IsFirstBroken}
-use Rattle.cycle_history.proofs.OfObjects.{request-of, object-of, get-number, event-of}
-use Rattle.report_rules.specs.Answers.{IsRightAnswer, BreaksAnswers, IsJournalTo, BreaksJournal, BreaksMisses}
-use Rattle.report_rules.specs.Broken.{Breaks, IsBrokenBy, IsBroken}
+use Rattle.cycle_history.proofs.OfObjects.{request-of, object-of, get-number}
+use Rattle.report_rules.specs.Answers.{IsRightAnswer, BreaksAnswers, IsJournalTo, BreaksMisses}
+use Rattle.report_rules.specs.Broken.{Breaks, IsBroken}
+use Rattle.report_rules.proofs.Counts.{totals-unmet}
 use Rattle.report_rules.proofs.Twins.{twin-of, answers-length, event-at}
 
 -- ---- rule 1
 
-right-of : (t : Trace) (report : Report) (objects : List Object) (i : ℕ) (a : Answer) → HasAnswers t report objects → slice_get report.answers i ≡ Some a → IsRightAnswer t i a
+pub right-of : (t : Trace) (report : Report) (objects : List Object) (i : ℕ) (a : Answer) → HasAnswers t report objects → slice_get report.answers i ≡ Some a → IsRightAnswer t i a
 right-of t report objects i a has at =
     let turned : slice_get (reverse (reverse report.answers)) i ≡ Some a = subst (λ (xs : List Answer). slice_get xs i ≡ Some a) (sym (reverse-reverse report.answers)) at in
     let number : IsNumber i a (map (λ (x : Object). x.answer) objects) = subst (λ (xs : List Answer). IsNumber i a xs) (sym has.printed) (get-number i a (reverse report.answers) turned) in
@@ -96,11 +96,14 @@ misses-met t report objects others line here there breaks met =
 
 -- ---- the law
 
+abbrev IsShown : ℕ → Type 0
+IsShown n = (n ≤ 3) ⊎ (n ≡ 8)
+
 abbrev BreaksRule : Trace → Report → ℕ → Type 0
 BreaksRule t report n = ¬ MeetsRules n t report
 
-unmet : (t : Trace) (report : Report) (objects : List Object) (n line : ℕ) → n ≤ 3 → MeetsUpTo (n - 1) t report objects → Breaks n t report objects line → BreaksRule t report n
-unmet t report objects n line few before breaks met =
+unmet : (t : Trace) (report : Report) (objects : List Object) (n line : ℕ) → IsShown n → MeetsUpTo (n - 1) t report objects → Breaks n t report objects line → BreaksRule t report n
+unmet t report objects n line shown before breaks met =
     let others = met.0 in
     let m = met.1 in
     let some = breaks.some in
@@ -108,13 +111,16 @@ unmet t report objects n line few before breaks met =
       | inl one ↦ answers-met t report others line (breaks.answers (omega arith)) (m.answers (omega arith))
       | inr more ↦ elim (cases_lt n 3) [
         | inl two ↦ (let b = breaks.journal (omega arith) in b.wrong (journal-to t report (b.number + 1) (m.journal (omega arith))))
-        | inr three ↦ misses-met t report objects others line (before.answers (omega arith)) (m.answers (omega arith)) (breaks.misses (omega arith)) (m.misses (omega arith))
+        | inr rest ↦ elim shown [
+          | inl few ↦ misses-met t report objects others line (before.answers (omega arith)) (m.answers (omega arith)) (breaks.misses (omega arith)) (m.misses (omega arith))
+          | inr eight ↦ totals-unmet (marked_by t) (last_cycle t) t report objects others line (before.answers (omega arith)) (m.answers (omega arith)) (breaks.totals eight) (m.totals (omega arith))
+        ]
       ]
     ]
 
-pub first-broken : (t : Trace) (report : Report) (n line : ℕ) → n ≤ 3 → IsBroken t report n line → IsFirstBroken n t report
-first-broken t report n line few is = record {
+pub first-broken : (t : Trace) (report : Report) (n line : ℕ) → IsShown n → IsBroken t report n line → IsFirstBroken n t report
+first-broken t report n line shown is = record {
   some = is.1.first.here.some;
   before = (is.0, is.1.before);
-  broken = unmet t report is.0 n line few is.1.before is.1.first.here;
+  broken = unmet t report is.0 n line shown is.1.before is.1.first.here;
 }

@@ -1,5 +1,5 @@
 -- Two lists of objects that answer one trace alike.
-use Rattle.std.proofs.Common.{◌≡◌, ◌≢◌, ℕ, suc, ◌+◌, ◌*◌, ◌/◌, ◌<◌, ◌≤◌, List, [], ◌∷◌, length, map, reverse, Option, Some, refl, sym, ◌∙◌, ap, subst, arith, inl, inr}
+use Rattle.std.proofs.Common.{◌≡◌, ◌≢◌, ℕ, suc, ◌*◌, ◌≤◌, List, [], ◌∷◌, length, map, reverse, Option, Some, refl, sym, ◌∙◌, ap, subst, arith, inl, inr}
 use Rattle.std.specs.List.{slice_get}
 use Rattle.std.specs.Option.{option_map}
 use Rattle.std.proofs.lemmas.Bool.{cases_lt}
@@ -19,7 +19,7 @@ use Rattle.cycle_history.specs.Objects.{Object}
 use Rattle.cycle_history.specs.Rules.{IsObject, AreAnswered}
 use Rattle.cycle_history.specs.Sound.{HasAnswers}
 use Rattle.cycle_history.proofs.OnePlace.{least-one}
-use Rattle.cycle_history.proofs.OfObjects.{HasRequest, request-of, object-of, answer-of, number-get, get-number, requests-events}
+use Rattle.cycle_history.proofs.OfObjects.{request-of, object-of, answer-of, number-get, get-number, requests-events}
 
 need-same : (a b : Need) → a.class ≡ b.class → a.pages ≡ b.pages → a.slot ≡ b.slot → a.count ≡ b.count → a ≡ b
 need-same a b e1 e2 e3 e4 =
@@ -27,7 +27,7 @@ need-same a b e1 e2 e3 e4 =
     let e : made a.class a.pages a.slot a.count ≡ made b.class b.pages b.slot b.count = cc in e
 
 -- a size has one need
-need-one : (r : Request) (a b : Need) → IsNeed r.event.size r.event.scan a → IsNeed r.event.size r.event.scan b → a ≡ b
+pub need-one : (r : Request) (a b : Need) → IsNeed r.event.size r.event.scan a → IsNeed r.event.size r.event.scan b → a ≡ b
 need-one r a b na nb = elim (cases_lt 32768 r.event.size) [
   | inl large ↦ (
       let la = na.large large in
