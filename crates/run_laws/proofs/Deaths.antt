@@ -196,8 +196,8 @@ module _ (t : Trace) (s : Samples) (region goal m : ℕ) (past : List Line) (obj
   dead-bucket o h = elim (cases_Bool (is_placed o.answer)) [
     | inl placed ↦ elim (cases_Bool (s.sampled o.id)) [
       | inl sample ↦ (
-          let same = one-bucket (slice_index buckets o.id) n (s.stack o.id) b.stack o.need.slot b.size (knows.numbered o h placed sample) in
-          rw (placed, sample, same) (moved ((eqb o.cycle m || marked_by t m o.id) && not (marked_by t (suc m) o.id)) (eqb o.life life.number) (eqb (s.stack o.id) b.stack && eqb o.need.slot b.size)))
+          let same = one-bucket (slice_index buckets o.id) n (s.stack o.id) b.stack o.need.slot b.slot (knows.numbered o h placed sample) in
+          rw (placed, sample, same) (moved ((eqb o.cycle m || marked_by t m o.id) && not (marked_by t (suc m) o.id)) (eqb o.life life.number) (eqb (s.stack o.id) b.stack && eqb o.need.slot b.slot)))
       | inr none ↦ rw (placed, none) refl
     ]
     | inr none ↦ rw none refl
