@@ -1,0 +1,3 @@
+pub mod TwoWorkers
+mod Reused
+pub mod Slips
