@@ -1,3 +1,4 @@
 pub mod TwoWorkers
 mod Reused
 pub mod Slips
+pub mod Broken

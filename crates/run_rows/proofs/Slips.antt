@@ -1,6 +1,8 @@
 -- Each slip takes one fact from the cycle.
-use Rattle.std.proofs.Common.{◌≡◌, ℕ, zero, suc, ◌<◌, ◌≤◌, List, [], ◌∷◌, refl, arith, inl, inr}
+use Rattle.std.proofs.Common.{◌≡◌, ℕ, zero, suc, ◌<◌, ◌≤◌, ◌&&◌, eqb, List, [], ◌∷◌, ◌++◌, refl, arith, inl, inr}
 use Rattle.size_classes.specs.Classes.{objects_of}
+use Rattle.page_bitmap.specs.declared.line.Line.TheVariants.{Take, Miss}
+use Rattle.page_alloc.specs.Lists
 use Rattle.page_alloc.specs.Lists.{In}
 use Rattle.page_alloc.specs.Journal.{Life, life_of}
 use Rattle.span_state.specs.Bits.{count_below}
@@ -9,9 +11,13 @@ use Rattle.worker_log.specs.declared.Entry.{Entry}
 use Rattle.worker_log.specs.declared.Placing.{Placing}
 use Rattle.worker_log.specs.declared.Sweeping.{Sweeping}
 use Rattle.worker_log.specs.Logs.{placings, sweepings}
+use Rattle.cycle_history.specs.Objects.{Object}
+use Rattle.cycle_history.specs.Sound.{IsScavenged}
+use Rattle.run_laws.specs.CycleSoFar.{past_after}
+use Rattle.run_laws.specs.Reached.{Began}
 use Rattle.run_laws.specs.Facts.{Writes, Sweeps, Notes, Marks, Places, Holdings, Fills, Objects, Misses}
-use Rattle.run_rows.specs.TwoWorkers.{All, marked, at, first, logs_of, note, cycle1}
-use Rattle.run_rows.specs.Slips.{NoneHas, page_in_use_taken, line_of_the_cycle_before, marked_life_given_back, life_not_swept, no_life_swept, kept_left_out, freed_left_out, note_of_no_sweep, sweep_without_a_note, notes_out_of_order, marks_lost, page_of_no_life_marked, placed_in_no_life, placed_past_the_end, placed_on_a_marked_one, placed_twice, placed_by_two_workers, bit_of_no_object, marked_bit_lost, placed_bit_lost, empty_life_not_given_back, lowest_index_passed_over, span_left_with_room, object_of_the_cycle_before, number_used_before, number_used_twice, slots_beyond_the_pages, object_elsewhere_than_placed, missed_with_no_refusal, life_of_other_pages, marked_again, refused_at_another_line, refused_twice_at_one_line, two_workers_refused_at_one_line}
+use Rattle.run_rows.specs.TwoWorkers.{All, marked, small, object, at, first, lines0, lines1, bits0, bits1, logs_of, second, note, notes1, cycle1}
+use Rattle.run_rows.specs.Slips.{NoneHas, Begins, marked_again, wrong_lines, wrong_sweeps, wrong_notes, wrong_marks, wrong_places, wrong_bits, wrong_filling, wrong_objects, wrong_refusals}
 use Rattle.run_rows.proofs.TwoWorkers.{each, lives0, lives1, placings1, sweeps1}
 
 -- the lives of cycle 0, by their pages
@@ -30,7 +36,7 @@ swept-in P a b c pa pb pc (suc (suc (suc w))) s h = absurd h
 
 -- ---- lines
 
-pub no-writes : NoneHas (Writes 512 512) (page_in_use_taken ∷ line_of_the_cycle_before ∷ marked_life_given_back ∷ [])
+pub no-writes : NoneHas (Writes 512 512) wrong_lines
 no-writes = (
   (λ w. (let free = w.legal.0.1.here.free 0 (omega arith) (omega arith) in cc)),
   (
@@ -49,7 +55,7 @@ no-writes = (
 
 -- ---- sweeps
 
-pub no-sweeps : NoneHas Sweeps (life_not_swept ∷ no_life_swept ∷ kept_left_out ∷ freed_left_out ∷ [])
+pub no-sweeps : NoneHas Sweeps wrong_sweeps
 unfolding objects_of count_below
 no-sweeps = (
   (λ s. (
@@ -71,7 +77,7 @@ no-sweeps = (
 
 -- ---- notes
 
-pub no-notes : NoneHas Notes (note_of_no_sweep ∷ sweep_without_a_note ∷ notes_out_of_order ∷ [])
+pub no-notes : NoneHas Notes wrong_notes
 no-notes = (
   (λ n. (
       let at = n.from _ (inl refl) in
@@ -93,18 +99,18 @@ no-notes = (
 
 -- ---- marks
 
-pub no-marks : NoneHas (Marks marked first) (marks_lost ∷ page_of_no_life_marked ∷ [])
+pub no-marks : NoneHas (Marks marked first) wrong_marks
 no-marks = (
   (λ m. (let on = (m.right life0 (inr (inr (inl refl)))).shown _ (inr (inr (inr (inl refl)))) refl refl refl in cc)),
   (
-    (λ m. (let at = m.only 9 0 refl in let page = at.2 in let low = lives0 (λ l. l.page ≤ 2) (omega arith) (omega arith) (omega arith) at.0 at.1 in absurd (omega arith))),
+    (λ m. (let at = m.only 7 0 refl in let page = at.2 in let low = lives0 (λ l. l.page ≤ 2) (omega arith) (omega arith) (omega arith) at.0 at.1 in absurd (omega arith))),
     tt,
   ),
 )
 
 -- ---- places
 
-pub no-places : NoneHas Places (placed_in_no_life ∷ placed_past_the_end ∷ placed_on_a_marked_one ∷ placed_twice ∷ placed_by_two_workers ∷ [])
+pub no-places : NoneHas Places wrong_places
 unfolding objects_of
 no-places = (
   (λ p. (let at = p.here 1 _ (inl refl) in let number = at.2.number in let low = lives1 (λ l. l.number ≤ 1) (omega arith) (omega arith) at.0 at.1 in absurd (omega arith))),
@@ -125,7 +131,7 @@ no-places = (
 
 -- ---- allocated indices
 
-pub no-holdings : NoneHas Holdings (bit_of_no_object ∷ marked_bit_lost ∷ placed_bit_lost ∷ empty_life_not_given_back ∷ [])
+pub no-holdings : NoneHas Holdings wrong_bits
 no-holdings = (
   (λ h. elim (h.from life0 1 (inr (inl refl)) refl) [
     | inl mark ↦ cc
@@ -145,7 +151,7 @@ no-holdings = (
 
 -- ---- filling
 
-pub no-fills : NoneHas (λ e. (w : ℕ) → Fills e.marks (placings (e.logs w))) (lowest_index_passed_over ∷ span_left_with_room ∷ [])
+pub no-fills : NoneHas (λ e. (w : ℕ) → Fills e.marks (placings (e.logs w))) wrong_filling
 unfolding objects_of
 no-fills = (
   (λ f. elim (((f 1).0 (omega arith)).lowest 0 (omega arith)) [
@@ -164,7 +170,7 @@ no-fills = (
 -- ---- objects
 
 pub no-objects : NoneHas (Objects marked first)
-    (object_of_the_cycle_before ∷ number_used_before ∷ number_used_twice ∷ slots_beyond_the_pages ∷ object_elsewhere_than_placed ∷ missed_with_no_refusal ∷ life_of_other_pages ∷ [])
+    wrong_objects
 no-objects = (
   (λ o. (let e = o.now _ (inl refl) in absurd (omega arith))),
   (
@@ -196,7 +202,7 @@ no-lasting o = elim ((o.lasts _ (inl refl)).next 2 refl) [
 
 -- ---- refusals
 
-pub no-misses : NoneHas Misses (refused_at_another_line ∷ refused_twice_at_one_line ∷ two_workers_refused_at_one_line ∷ [])
+pub no-misses : NoneHas Misses wrong_refusals
 no-misses = (
   (λ m. elim (m.named 1 _ (inl refl)) [
     | inl here ↦ (let line = here.1 in cc)
@@ -216,3 +222,39 @@ no-misses = (
     ),
   ),
 )
+
+-- ---- scavenging
+
+pub no-scavenged : ¬ IsScavenged 8 0 (past_after cycle1)
+unfolding Lists.count_below
+no-scavenged s = elim s [
+  | inl few ↦ (let few' : 7 ≤ 0 = few in absurd (omega arith))
+  | inr none ↦ none 3 (omega arith) (refl, refl)
+]
+
+-- ---- beginnings
+
+pub no-unwanted : ¬ Begins (Take 0 7 1 88 ∷ lines0) first [] bits0
+no-unwanted b =
+    let at = b.wanted (life_of 3 0 7 1 88) (inl refl) in
+    let life = at.3 in
+    let low = each (λ (o : Object). o.life ≤ 2) first (omega arith, (omega arith, (omega arith, (omega arith, tt)))) at.0 at.1 in
+    absurd (omega arith)
+
+pub no-carried : ¬ Begins lines0 first [] (λ page k. bits0 page k && eqb k 0)
+no-carried b = let on = (b.indices life1 (inr (inl refl))).shown (object 2 1 0 small 1 1 1) (inr (inl refl)) refl refl in cc
+
+pub no-line : ¬ Begins (Miss 1 600 1 ∷ lines0) first [] bits0
+no-line b = let lt = b.lines_older _ (inl refl) in absurd (omega arith)
+
+pub no-object : ¬ Begins lines0 (second ++ first) [] bits0
+no-object b = let lt = b.objects_older _ (inl refl) in absurd (omega arith)
+
+pub no-note : ¬ Begins lines0 first (note 0 1 0 ∷ []) bits0
+no-note b = let lt = b.notes_older _ (inl refl) in absurd (omega arith)
+
+pub no-number : ¬ Begins lines0 (object 0 0 0 small 0 0 0 ∷ first) [] bits0
+no-number b = b.distinct.0 (object 0 0 0 small 0 0 0) (inr (inr (inr (inl refl)))) refl
+
+pub no-scavenged-before : ¬ Began marked 8 0 2 (lines1 ++ lines0) (second ++ first) (notes1 ++ []) bits1
+no-scavenged-before b = no-scavenged (b.scavenged 1 (omega arith))

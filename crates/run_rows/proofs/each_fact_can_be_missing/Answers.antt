@@ -1,4 +1,4 @@
-use Rattle.run_rows.proofs.Slips.{no-writes, no-sweeps, no-notes, no-marks, no-places, no-holdings, no-fills, no-objects, no-lasting, no-misses}
+use Rattle.run_rows.proofs.Slips.{no-writes, no-sweeps, no-notes, no-marks, no-places, no-holdings, no-fills, no-objects, no-lasting, no-misses, no-scavenged}
 use Rattle.run_rows.proofs.each_fact_can_be_missing.Goals as goal
 
 pub returns-clause-writes : goal.returns-clause-writes
@@ -30,3 +30,6 @@ returns-clause-lasting c = no-lasting
 
 pub returns-clause-misses : goal.returns-clause-misses
 returns-clause-misses c = no-misses
+
+pub returns-clause-scavenged : goal.returns-clause-scavenged
+returns-clause-scavenged c = no-scavenged
