@@ -28,12 +28,13 @@ ghost use Rattle.sweep_laws.specs.State.{CoreState};
 ghost use Rattle.sweep_laws.specs.Needs.{refusal, next_needs};
 ghost use Rattle.sweep_laws.specs.Changes.{after_next};
 ghost use Rattle.sweep_laws.specs.Owned.{Owned};
+ghost use Rattle.sweep_laws.specs.Start.{new_state};
 ghost use Rattle.sweep_laws.specs.Step.{needs_of, after};
 ghost use Rattle.sweep_laws.specs.declared.moves.Move.{Move};
 ghost use Rattle.run_laws.specs.CycleSoFar.{CycleSoFar, past_after, with_objects};
 ghost use Rattle.run_laws.specs.Facts.{Facts, Notes, Marks, Objects};
 ghost use Rattle.run_laws.specs.Occupied.{NamedHaveSome};
-ghost use Rattle.run_laws.specs.ShowsCycle.{ShowsCycle, after_mark_end};
+ghost use Rattle.run_laws.specs.ShowsCycle.{ShowsCycle, after_mark_end, first_cycle};
 ghost use Rattle.run_laws.specs.GoesOn.{GoesOn};
 ghost use Rattle.run_laws.specs.Reached.{Began, Reached};
 ghost use Rattle.run_laws.specs.Profile.{
@@ -89,6 +90,11 @@ pub fn marks_count_the_dead_of_a_life()
         (marks : MarkSet) (b : Bucket) (n : ℕ) (life : Life) → m < length t.cycles → IsRun (marked_by t) region goal m past objects → AreObjectsBefore t (suc m) answers objects
         → AreMarksOf t (suc m) answers sampled buckets marks → KnowsSamples s objects sampled buckets b n → In life (open_lives past)
         → dead_in marks n life.page ≡ count (λ (o : Object). has_died (marked_by t) s m b o && o.life == life.number) objects }
+{}
+
+/// At the start, where all pages are free, a state of span ownership shows the first cycle.
+pub fn a_new_state_shows_the_first_cycle()
+    ensures { (region : ℕ) (goal : ℕ) (workers : ℕ) → ShowsCycle region goal (new_state region workers) first_cycle }
 {}
 
 /// Each move of span ownership that may be made keeps a cycle under way, with the line and the entry that come with it.
