@@ -62,21 +62,29 @@ cycles-from n c (r ∷ requests) (x ∷ news) all of o h = elim h [
   | inr there ↦ cycles-from n c requests news all.1 (λ q i. of q (inr i)) o there
 ]
 
+-- of all requests the objects have numbers below theirs
+number-few : (requests : List Request) (objects : List Object) (b : Object) → AreAnswered requests objects → In b objects → b.id < length requests
+number-few [] [] b all h = absurd h
+number-few [] (x ∷ objects) b all h = absurd all
+number-few (r ∷ requests) [] b all h = absurd h
+number-few (r ∷ requests) (x ∷ objects) b all h = elim h [
+  | inl here ↦ (let e = all.0.id in let f : x.id ≡ b.id = ap (λ (y : Object). y.id) here in omega arith)
+  | inr there ↦ (let lt = number-few requests objects b all.1 there in omega arith)
+]
+
+-- which rise too
+pub order-all : (requests : List Request) (objects : List Object) → AreAnswered requests objects → AllApart (λ (newer older : Object). older.id < newer.id) objects
+order-all [] [] all = tt
+order-all [] (x ∷ objects) all = absurd all
+order-all (r ∷ requests) [] all = absurd all
+order-all (r ∷ requests) (x ∷ objects) all = ((λ y h. (let e = all.0.id in let lt = number-few requests objects y all.1 h in omega arith)), order-all requests objects all.1)
+
 -- and behind all older ones
 pub behind-from : (requests older : List Request) (news objects : List Object) → AreAnsweredFrom (length older) requests news → AreAnswered older objects → (o b : Object) → In o news → In b objects → b.id < o.id
 behind-from requests older news objects now was o b ho hb =
     let low = (numbers-from (length older) requests news o now ho).0 in
-    let lt = below older objects b was hb in
+    let lt = number-few older objects b was hb in
     omega arith
-  where
-    below : (requests : List Request) (objects : List Object) (b : Object) → AreAnswered requests objects → In b objects → b.id < length requests
-    below [] [] b all h = absurd h
-    below [] (x ∷ objects) b all h = absurd all
-    below (r ∷ requests) [] b all h = absurd h
-    below (r ∷ requests) (x ∷ objects) b all h = elim h [
-      | inl here ↦ (let e = all.0.id in let f : x.id ≡ b.id = ap (λ (y : Object). y.id) here in omega arith)
-      | inr there ↦ (let lt = below requests objects b all.1 there in omega arith)
-    ]
 
 -- ---- a trace, cycle by cycle
 

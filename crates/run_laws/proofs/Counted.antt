@@ -13,7 +13,7 @@ use Rattle.run_laws.specs.Profile.{Samples, Bucket, is_sample, Calls, AreCalls, 
 use Rattle.run_laws.proofs.Profile.{count-append, count-none, count-by_proc}
 use Rattle.run_laws.proofs.Freed.{cycle-freed}
 
-count-same : {X : Type 0} (f g : X → Bool) (xs : List X) → ((x : X) → In x xs → f x ≡ g x) → count f xs ≡ count g xs
+pub count-same : {X : Type 0} (f g : X → Bool) (xs : List X) → ((x : X) → In x xs → f x ≡ g x) → count f xs ≡ count g xs
 count-same f g [] same = refl
 count-same f g (x ∷ xs) same = let here = ap one_if (same x (inl refl)) in let rest = count-same f g xs (λ y h. same y (inr h)) in omega arith
 

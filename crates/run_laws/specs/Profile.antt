@@ -1,54 +1,27 @@
 -- The sampled profile: which objects are sampled, and what is published of them.
-use Rattle.std.specs.Prelude.{◌≡◌, ℕ, zero, suc, ◌+◌, ◌-◌, ◌*◌, ◌%◌, ◌<◌, ◌≤◌, Bool, ◌&&◌, ◌==◌, not, nat_le, nat_lt, if◌then◌else◌, List, [], ◌∷◌, ◌⊎◌, ◌≢◌}
+use Rattle.std.specs.Prelude.{◌≡◌, ℕ, zero, suc, ◌+◌, ◌-◌, ◌<◌, ◌≤◌, Bool, true, ◌&&◌, ◌==◌, not, nat_lt, List, [], ◌∷◌, map, slice_index, Some, ◌⊎◌, ◌≢◌, ◌↔◌}
+use Rattle.std.specs.List.{slice_get}
 use Rattle.page_alloc.specs.Lists.{In, count}
 use Rattle.cycle_history.specs.declared.Prof.{Prof}
 use Rattle.cycle_history.specs.Requests.{Marking}
 use Rattle.cycle_history.specs.Objects.{Object, is_placed, live}
 use Rattle.cycle_history.specs.Orders.{AreRisingProfile}
 use Rattle.page_alloc.specs.Journal.{Life, open_lives}
+use Rattle.span_state.specs.MarkSet.{MarkSet, dead_of}
 use Rattle.span_state.specs.declared.sweep.SweepNote.{SweepNote}
+pub use Rattle.profile_cycle.specs.declared.buckets.Bucket.{Bucket}
+use Rattle.profile_cycle.specs.Sampling.{sampled}
 use Rattle.run_laws.specs.CycleSoFar.{CycleSoFar}
 use Rattle.run_laws.specs.Facts.{placed_by}
 
 -- ---- samples
 
--- The bytes that a processor has left before its next sample, and how many words it has drawn.
-pub record Sampler : Type 0 where
-  pub left : ℕ
-  pub drawn : ℕ
-
--- The bytes to the next sample by a drawn word.
-abbrev pub countdown : ℕ → ℕ → ℕ
-countdown rate word = 1 + word % (2 * rate - 1)
-
--- A placed object is sampled where its slot isn't below the countdown, if the rate isn't 0.
-abbrev pub samples : ℕ → Sampler → ℕ → Bool
-samples rate s slot = nat_le 1 rate && nat_le s.left slot
-
--- The countdown after it: a new one after a sample, else the old one less the slot.
-abbrev pub sampled_on : ℕ → (ℕ → ℕ) → Sampler → ℕ → Sampler
-sampled_on rate words s slot = if nat_le s.left slot then record { left = countdown rate (words s.drawn); drawn = s.drawn + 1 } else record { left = s.left - slot; drawn = s.drawn }
-
--- The countdown behind a processor's placed objects, the newest of which stands first.
-abbrev pub sampler_after : ℕ → (ℕ → ℕ) → List Object → Sampler
-sampler_after rate words [] = record { left = countdown rate (words 0); drawn = 1 }
-sampler_after rate words (o ∷ older) = sampled_on rate words (sampler_after rate words older) o.need.slot
-
--- Of a processor's placed objects these are sampled, by their numbers.
-abbrev pub AreSampled : ℕ → (ℕ → ℕ) → (ℕ → Bool) → List Object → Type 0
-AreSampled rate words sampled [] = Unit {0}
-AreSampled rate words sampled (o ∷ older) = (sampled o.id ≡ samples rate (sampler_after rate words older) o.need.slot) × AreSampled rate words sampled older
-
--- Each processor samples by words of its own.
-abbrev pub SamplesBy : ℕ → (ℕ → ℕ → ℕ) → (ℕ → Bool) → List Object → Type 0
-SamplesBy rate words sampled objects = (p : ℕ) → AreSampled rate (words p) sampled (placed_by p objects)
+-- Of the objects that each processor placed these are sampled, by their numbers: those that its countdown meets, at a rate,
+-- with words drawn by the trace's seed.
+abbrev pub SamplesBy : ℕ → ℕ → (ℕ → Bool) → List Object → Type 0
+SamplesBy rate seed which objects = (p : ℕ) → map (λ (o : Object). which o.id) (placed_by p objects) ≡ sampled rate seed p (map (λ (o : Object). o.need.slot) (placed_by p objects))
 
 -- ---- buckets
-
--- A bucket is a stack and a slot size.
-pub record Bucket : Type 0 where
-  pub stack : ℕ
-  pub size : ℕ
 
 -- What is asked of objects: which are sampled, and the stack of each, by their numbers.
 pub record Samples : Type 0 where
@@ -57,7 +30,7 @@ pub record Samples : Type 0 where
 
 -- A placed object is a sample of the bucket.
 abbrev pub is_sample : Samples → Bucket → Object → Bool
-is_sample s b o = is_placed o.answer && (s.sampled o.id && (s.stack o.id == b.stack && o.need.slot == b.size))
+is_sample s b o = is_placed o.answer && (s.sampled o.id && (s.stack o.id == b.stack && o.need.slot == b.slot))
 
 -- The samples of a bucket that were placed before mark end m, and those of them that it doesn't mark.
 abbrev pub allocs_at : Samples → List Object → ℕ → Bucket → ℕ
@@ -70,7 +43,7 @@ frees_at marked s objects m b = count (λ o. is_sample s b o && (nat_lt o.cycle 
 
 -- The bucket of a line.
 abbrev pub bucket_of : Prof → Bucket
-bucket_of line = record { stack = line.stack; size = line.size }
+bucket_of line = record { stack = line.stack; slot = line.size }
 
 -- A line tells of its bucket as of its mark end.
 pub record IsProf (marked : Marking) (s : Samples) (objects : List Object) (line : Prof) : Type 0 where
@@ -86,7 +59,7 @@ IsChanged marked s objects m b = (allocs_at s objects (suc m) b ≢ allocs_at s 
 pub record IsOf (m : ℕ) (b : Bucket) (line : Prof) : Type 0 where
   pub mark : line.mark ≡ m
   pub stack : line.stack ≡ b.stack
-  pub size : line.size ≡ b.size
+  pub size : line.size ≡ b.slot
 
 -- Rule 9 in the form of the last mark end: each line is right, and each bucket with samples before it has one.
 pub record IsProfile (marked : Marking) (s : Samples) (last : ℕ) (objects : List Object) (lines : List Prof) : Type 0 where
@@ -156,6 +129,17 @@ has_died marked s m b o = is_sample s b o && (live marked m o && not (marked (su
 pub record FreesByNotes (marked : Marking) (s : Samples) (objects : List Object) (calls : Calls) (e : CycleSoFar) (m : ℕ) (dead : ℕ → Bucket → ℕ) : Type 0 where
   pub right : (life : Life) (b : Bucket) → In life (open_lives e.before) → dead life.page b ≡ count (λ o. has_died marked s m b o && o.life == life.number) objects
   pub freed : (b : Bucket) → calls.freed e.cycle b ≡ sum_of (λ (note : SweepNote). dead note.page b) e.notes
+
+-- How many samples with a bucket of this number died at a page, by the marks of a mark end.
+abbrev pub dead_in : MarkSet → ℕ → ℕ → ℕ
+dead_in marks number page = count (λ (bucket : ℕ). bucket == number) (dead_of marks page)
+
+-- The search for the marks of a mark end knows the samples of these objects: it was told which of them are sampled, and of a
+-- sample that its bucket has the number n where that is bucket b.
+pub record KnowsSamples (s : Samples) (objects : List Object) (sampled : List Bool) (buckets : List ℕ) (b : Bucket) (n : ℕ) : Type 0 where
+  pub which : (o : Object) → In o objects → is_placed o.answer ≡ true → (slice_get sampled o.id ≡ Some true) ↔ (s.sampled o.id ≡ true)
+  pub numbered : (o : Object) → In o objects → is_placed o.answer ≡ true → s.sampled o.id ≡ true
+      → (slice_index buckets o.id ≡ n) ↔ ((s.stack o.id ≡ b.stack) × (o.need.slot ≡ b.slot))
 
 -- The calls of a cycle count, worker by worker, the samples that each processor placed.
 pub record CountsByWorkers (s : Samples) (calls : Calls) (e : CycleSoFar) (workers : ℕ) (by : ℕ → Bucket → ℕ) : Type 0 where

@@ -1,5 +1,5 @@
 -- A state of span ownership together with the cycle that is under way.
-use Rattle.std.specs.Prelude.{◌≡◌, ℕ, ◌+◌, ◌<◌, Bool, true, ◌&&◌, not, List, [], length}
+use Rattle.std.specs.Prelude.{◌≡◌, ℕ, ◌+◌, ◌<◌, Bool, true, false, ◌&&◌, not, List, [], length}
 use Rattle.page_alloc.specs.Lists.{In}
 use Rattle.page_alloc.specs.Journal.{IsBy}
 use Rattle.span_state.specs.Bits.{count_below}
@@ -46,3 +46,7 @@ has_mark marks p k = has k (marks_at p marks)
 -- The cycle that a mark end begins.
 abbrev pub after_mark_end : CycleSoFar → List (ℕ × ℕ) → CycleSoFar
 after_mark_end e marks = record { cycle = e.cycle + 1; before = past_after e; lines = []; carried = e.bits; marks = has_mark marks; bits = e.bits; logs = λ w. []; news = []; notes = [] }
+
+-- The cycle that a run begins with: nothing is written, marked or allocated, and all logs are empty.
+abbrev pub first_cycle : CycleSoFar
+first_cycle = record { cycle = 0; before = []; lines = []; carried = λ p k. false; marks = λ p k. false; bits = λ p k. false; logs = λ w. []; news = []; notes = [] }

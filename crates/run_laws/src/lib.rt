@@ -9,27 +9,32 @@
 //! end and for the end of a cycle, and `proofs/Law.antt` and `proofs/Ends.antt` lead from the facts to a sound report.
 #![tactic(auto)]
 
-ghost use Rattle.std.specs.Prelude.{◌≡◌, ℕ, suc, ◌≤◌, Bool, List, [], ◌++◌, reverse, None};
+ghost use Rattle.std.specs.Prelude.{◌≡◌, ℕ, suc, ◌<◌, ◌≤◌, Bool, ◌&&◌, ◌==◌, List, [], ◌++◌, length, reverse, None};
 ghost use Rattle.page_bitmap.specs.declared.line.Line.{Line};
-ghost use Rattle.page_alloc.specs.Lists.{In};
+ghost use Rattle.page_alloc.specs.Lists.{In, count};
+ghost use Rattle.page_alloc.specs.Journal.{Life, open_lives};
+ghost use Rattle.span_state.specs.MarkSet.{MarkSet};
 ghost use Rattle.span_state.specs.declared.sweep.SweepNote.{SweepNote};
 ghost use Rattle.trace_reader.specs.declared.trace.Trace.{Trace};
+ghost use Rattle.cycle_history.specs.declared.Answer.{Answer};
 ghost use Rattle.cycle_history.specs.declared.Report.{Report};
 ghost use Rattle.cycle_history.specs.Requests.{Marking, marked_by, last_cycle, region_of};
 ghost use Rattle.cycle_history.specs.Objects.{Object};
-ghost use Rattle.sound_run.specs.Run.{Lasts};
+ghost use Rattle.cycle_history.specs.Marked.{AreMarksOf, AreObjectsBefore};
+ghost use Rattle.sound_run.specs.Run.{IsRun, Lasts};
 ghost use Rattle.cycle_history.specs.Sweeps.{AreTotals};
 ghost use Rattle.cycle_history.specs.Sound.{past_in, HasAnswers, IsScavenged, IsSoundAndUsed};
 ghost use Rattle.sweep_laws.specs.State.{CoreState};
 ghost use Rattle.sweep_laws.specs.Needs.{refusal, next_needs};
 ghost use Rattle.sweep_laws.specs.Changes.{after_next};
 ghost use Rattle.sweep_laws.specs.Owned.{Owned};
+ghost use Rattle.sweep_laws.specs.Start.{new_state};
 ghost use Rattle.sweep_laws.specs.Step.{needs_of, after};
 ghost use Rattle.sweep_laws.specs.declared.moves.Move.{Move};
 ghost use Rattle.run_laws.specs.CycleSoFar.{CycleSoFar, past_after, with_objects};
 ghost use Rattle.run_laws.specs.Facts.{Facts, Notes, Marks, Objects};
 ghost use Rattle.run_laws.specs.Occupied.{NamedHaveSome};
-ghost use Rattle.run_laws.specs.ShowsCycle.{ShowsCycle, after_mark_end};
+ghost use Rattle.run_laws.specs.ShowsCycle.{ShowsCycle, after_mark_end, first_cycle};
 ghost use Rattle.run_laws.specs.GoesOn.{GoesOn};
 ghost use Rattle.run_laws.specs.Reached.{Began, Reached};
 ghost use Rattle.run_laws.specs.Profile.{
@@ -37,6 +42,9 @@ ghost use Rattle.run_laws.specs.Profile.{
   Bucket,
   Calls,
   AreCalls,
+  KnowsSamples,
+  has_died,
+  dead_in,
   allocs_at,
   frees_at,
   published_allocs,
@@ -73,6 +81,20 @@ pub fn calls_publish_the_profile()
     ensures { (marked : Marking) (s : Samples) (objects : List Object) (calls : Calls) (b : Bucket) (m : ℕ) → ((o : Object) → In o objects → Lasts marked o)
         → ((c : ℕ) → c ≤ m → AreCalls marked s objects calls c)
         → (published_allocs calls (suc m) b ≡ allocs_at s objects m b) × (published_frees calls (suc m) b ≡ frees_at marked s objects m b) }
+{}
+
+/// The deaths that the search for the marks of a mark end left at the page of an open life, with the number of a bucket, are
+/// as many as the samples of the bucket that lived in the life in the cycle before and that the mark end doesn't mark.
+pub fn marks_count_the_dead_of_a_life()
+    ensures { (t : Trace) (s : Samples) (region : ℕ) (goal : ℕ) (m : ℕ) (past : List Line) (objects : List Object) (answers : List Answer) (sampled : List Bool) (buckets : List ℕ)
+        (marks : MarkSet) (b : Bucket) (n : ℕ) (life : Life) → m < length t.cycles → IsRun (marked_by t) region goal m past objects → AreObjectsBefore t (suc m) answers objects
+        → AreMarksOf t (suc m) answers sampled buckets marks → KnowsSamples s objects sampled buckets b n → In life (open_lives past)
+        → dead_in marks n life.page ≡ count (λ (o : Object). has_died (marked_by t) s m b o && o.life == life.number) objects }
+{}
+
+/// At the start, where all pages are free, a state of span ownership shows the first cycle.
+pub fn a_new_state_shows_the_first_cycle()
+    ensures { (region : ℕ) (goal : ℕ) (workers : ℕ) → ShowsCycle region goal (new_state region workers) first_cycle }
 {}
 
 /// Each move of span ownership that may be made keeps a cycle under way, with the line and the entry that come with it.

@@ -5,3 +5,4 @@ pub mod EnteredMoves
 pub mod EnteredRest
 pub mod EachMove
 pub mod OneLaw
+pub mod Start

@@ -6,14 +6,20 @@
 //! keeps the rule, from what the move needs and what its call asks. Nothing here knows a step, a table or a handle.
 #![tactic(auto)]
 
-ghost use Rattle.std.specs.Prelude.{◌≡◌, ℕ, ◌<◌, List, length, None};
+ghost use Rattle.std.specs.Prelude.{◌≡◌, ℕ, ◌<◌, List, [], length, None};
 ghost use Rattle.sweep_laws.specs.declared.moves.Move.{Move};
 ghost use Rattle.sweep_laws.specs.State.{CoreState};
 ghost use Rattle.sweep_laws.specs.Needs.{refusal, set_of, claim_needs};
 ghost use Rattle.sweep_laws.specs.Owned.{Owned};
+ghost use Rattle.sweep_laws.specs.Start.{new_state};
 ghost use Rattle.sweep_laws.specs.Step.{needs_of, after};
 ghost use Rattle.worker_log.specs.declared.Entry.{Entry};
-ghost use Rattle.swept_set_laws.specs.Entered.{EnteredIn, MayClaim, NamesGoOn};
+ghost use Rattle.swept_set_laws.specs.Entered.{EnteredIn, MayClaim, NamesGoOn, log_of};
+
+/// At the start the swept sets name nothing, so any names serve, where all logs are empty.
+pub fn a_new_state_names_nothing()
+    ensures { (pages : ℕ) (workers : ℕ) (logs : List (List Entry)) (names : ℕ → ℕ → ℕ) → ((n : ℕ) → log_of logs n ≡ []) → EnteredIn (new_state pages workers) logs names }
+{}
 
 /// Each move of span ownership that may be made keeps what the swept sets name.
 pub fn a_move_keeps_what_swept_sets_name()

@@ -1,11 +1,8 @@
--- A run of two processors: in cycle 0 one places an object, and the other fills a span and places a large object; a mark end
--- marks an object of each span. In cycle 1 the second processor sweeps its own stale span and goes on in it, while the
--- first one's stays cached and stale, and the large span waits. As the cycle ends the driver has the first processor's span
--- flushed, and sweeps the large one and gives it back.
-use Rattle.std.proofs.Common.{◌≡◌, ◌≢◌, ℕ, zero, suc, ◌+◌, ◌*◌, ◌<◌, ◌≤◌, Bool, true, false, ◌&&◌, ◌||◌, not, eqb, List, [], ◌∷◌, ◌++◌, None, refl, sym, ap, arith, ◌⊎◌, inl, inr}
+-- The run of two processors is closed: each cycle has its facts.
+use Rattle.std.proofs.Common.{◌≡◌, ◌≢◌, ℕ, zero, suc, ◌+◌, ◌*◌, ◌<◌, ◌≤◌, true, false, ◌&&◌, ◌||◌, not, eqb, List, [], ◌∷◌, ◌++◌, None, refl, sym, ap, arith, ◌⊎◌, inl, inr}
 use Rattle.std.proofs.lemmas.Bool.{eqb-true, ne_eqb, and_parts, or_cases, or_right}
 use Rattle.page_bitmap.specs.declared.line.Line.{Line}
-use Rattle.page_bitmap.specs.declared.line.Line.TheVariants.{Take, Give}
+use Rattle.page_bitmap.specs.declared.line.Line.TheVariants.{Take}
 use Rattle.size_classes.specs.Classes.{pages_of, slot_of, objects_of}
 use Rattle.page_alloc.specs.Lists.{In, AllApart}
 use Rattle.page_alloc.specs.Journal.{Life, life_of, open_lives, owner, Legal, IsSpanSize, IsFirstFit, cycle_of}
@@ -13,73 +10,29 @@ use Rattle.page_alloc.proofs.Lives.{within-false}
 use Rattle.span_state.specs.Bits.{count_below}
 use Rattle.span_state.specs.declared.sweep.SweepNote.{SweepNote}
 use Rattle.cycle_history.specs.declared.Answer.TheVariants.{Placed}
-use Rattle.cycle_history.specs.Requests.{Marking}
 use Rattle.cycle_history.specs.Needs.{Need}
 use Rattle.cycle_history.specs.Objects.{Object}
 use Rattle.sound_run.specs.Run.{count_for, Fits, Lasts}
 use Rattle.sound_run.specs.Spans.{AreMarks}
 use Rattle.cycle_history.proofs.Plain.{scavenged-roomy}
 use Rattle.run_laws.specs.Lists.{ArePaired}
-use Rattle.worker_log.specs.declared.Entry.{Entry}
-use Rattle.worker_log.specs.declared.Entry.TheVariants.{Allocated, Swept, Pushed}
 use Rattle.worker_log.specs.declared.Placing.{Placing}
 use Rattle.worker_log.specs.declared.Sweeping.{Sweeping}
 use Rattle.worker_log.specs.Logs.{Refusal, placings, sweepings, refusals}
-use Rattle.run_laws.specs.CycleSoFar.{CycleSoFar, past_after}
+use Rattle.run_laws.specs.CycleSoFar.{past_after}
 use Rattle.run_laws.specs.Facts.{Writes, Sweeps, Notes, Places, Holdings, Objects, Fills, Facts, IsPlacing, IsRefusal, IsPlacedAt, IsIn, TellsOf, IsSweptEmpty, placed_by, missed_by}
 use Rattle.run_laws.specs.Reached.{Began, Reached}
 use Rattle.run_laws.proofs.Law.{cycle-law}
 use Rattle.run_laws.proofs.Ends.{began-first, began-next}
+use Rattle.run_rows.specs.TwoWorkers.{All, marked, small, large, object, first, lines0, logs0, bits0, none, cycle0, Open0, lines1, logs1, marks1, bits1, second, note, notes1, cycle1, Open1}
 
 -- ---- all items of a list
 
-abbrev All : {X : Type 0} → (X → Type 0) → List X → Type 0
-All P [] = Unit {0}
-All P (x ∷ xs) = P x × All P xs
-
-each : {X : Type 0} (P : X → Type 0) (xs : List X) → All P xs → (x : X) → In x xs → P x
+pub each : {X : Type 0} (P : X → Type 0) (xs : List X) → All P xs → (x : X) → In x xs → P x
 each P [] all x h = absurd h
 each P (y ∷ xs) all x h = elim h [ inl here ↦ rw (sym here) all.0 | inr there ↦ each P xs all.1 x there ]
 
 -- ---- cycle 0
-
-abbrev marked : Marking
-marked m id = eqb m 1 && (eqb id 0 || eqb id 2)
-
-abbrev small : Need
-small = record { class = 88; pages = 1; slot = 4096; count = 2 }
-
-abbrev large : Need
-large = record { class = 1; pages = 5; slot = 40960; count = 1 }
-
-abbrev object : ℕ → ℕ → ℕ → Need → ℕ → ℕ → ℕ → Object
-object id proc cycle need page life index = record { id = id; proc = proc; cycle = cycle; need = need; answer = Placed (0xc000000000 + 8192 * page + need.slot * index); life = life; index = index }
-
-abbrev at : ℕ → ℕ → ℕ → ℕ → Entry
-at page index number class = Allocated record { page = page; index = index; number = number; class = class }
-
-abbrev first : List Object
-first = object 3 1 0 large 2 2 0 ∷ object 2 1 0 small 1 1 1 ∷ object 1 1 0 small 1 1 0 ∷ object 0 0 0 small 0 0 0 ∷ []
-
-abbrev lines0 : List Line
-lines0 = Take 0 2 5 1 ∷ Take 0 1 1 88 ∷ Take 0 0 1 88 ∷ []
-
-abbrev logs0 : ℕ → List Entry
-logs0 zero = at 0 0 0 88 ∷ Pushed 0 0 ∷ []
-logs0 (suc zero) = at 2 0 2 1 ∷ at 1 1 1 88 ∷ at 1 0 1 88 ∷ []
-logs0 (suc (suc w)) = []
-
-abbrev bits0 : ℕ → ℕ → Bool
-bits0 zero k = eqb k 0
-bits0 (suc zero) k = eqb k 0 || eqb k 1
-bits0 (suc (suc zero)) k = eqb k 0
-bits0 (suc (suc (suc n))) k = false
-
-abbrev none : ℕ → ℕ → Bool
-none n k = false
-
-abbrev cycle0 : CycleSoFar
-cycle0 = record { cycle = 0; before = []; lines = lines0; carried = none; marks = none; bits = bits0; logs = logs0; news = first; notes = [] }
 
 small_size : IsSpanSize 88 1
 unfolding pages_of
@@ -118,16 +71,13 @@ no_refusals0 zero x h = h
 no_refusals0 (suc zero) x h = h
 no_refusals0 (suc (suc w)) x h = h
 
-abbrev Open0 : Life → Type 0
-Open0 life = In life (open_lives (past_after cycle0))
-
 each0 : (P : (w : ℕ) → Placing → Type 0) → P 0 (record { page = 0; index = 0; number = 0; class = 88 }) → P 1 (record { page = 2; index = 0; number = 2; class = 1 })
     → P 1 (record { page = 1; index = 1; number = 1; class = 88 }) → P 1 (record { page = 1; index = 0; number = 1; class = 88 }) → (w : ℕ) (a : Placing) → In a (placings (logs0 w)) → P w a
 each0 P p q r s zero a h = each (P 0) (placings (logs0 0)) (p, tt) a h
 each0 P p q r s (suc zero) a h = each (P 1) (placings (logs0 1)) (q, (r, (s, tt))) a h
 each0 P p q r s (suc (suc w)) a h = absurd h
 
-lives0 : (P : Life → Type 0) → P (life_of 0 0 0 1 88) → P (life_of 1 0 1 1 88) → P (life_of 2 0 2 5 1) → (life : Life) → Open0 life → P life
+pub lives0 : (P : Life → Type 0) → P (life_of 0 0 0 1 88) → P (life_of 1 0 1 1 88) → P (life_of 2 0 2 5 1) → (life : Life) → Open0 life → P life
 lives0 P p q r life h = each P (open_lives (past_after cycle0)) (r, (q, (p, tt))) life h
 
 legal0 : Legal 512 512 lines0
@@ -268,60 +218,25 @@ facts0 = record {
     apart (suc zero) = tt
     apart (suc (suc w)) = tt
 
-began1 : Began marked 512 512 1 lines0 first [] bits0
+pub began1 : Began marked 512 512 1 lines0 first [] bits0
 began1 = began-next marked 512 512 0 lines0 first [] bits0 (cycle-law marked 512 512 [] [] cycle0 (began-first marked 512 512 none) facts0)
 
 -- ---- cycle 1
 
-abbrev lines1 : List Line
-lines1 = Give 1 2 5 ∷ []
-
--- Worker 2 stands for the driver.
-abbrev logs1 : ℕ → List Entry
-logs1 zero = Swept record { page = 0; pages = 1; kept = 1; freed = 0 } ∷ []
-logs1 (suc zero) = at 1 0 1 88 ∷ Swept record { page = 1; pages = 1; kept = 1; freed = 1 } ∷ []
-logs1 (suc (suc zero)) = Pushed 0 0 ∷ Swept record { page = 2; pages = 1; kept = 0; freed = 1 } ∷ []
-logs1 (suc (suc (suc w))) = []
-
-abbrev marks1 : ℕ → ℕ → Bool
-marks1 zero k = eqb k 0
-marks1 (suc zero) k = eqb k 1
-marks1 (suc (suc p)) k = false
-
-abbrev bits1 : ℕ → ℕ → Bool
-bits1 zero k = eqb k 0
-bits1 (suc zero) k = eqb k 0 || eqb k 1
-bits1 (suc (suc n)) k = false
-
-abbrev second : List Object
-second = object 4 1 1 small 1 1 0 ∷ []
-
-abbrev note : ℕ → ℕ → ℕ → SweepNote
-note page kept freed = record { cycle = 1; page = page; kept = kept; freed = freed }
-
-abbrev notes1 : List SweepNote
-notes1 = note 2 0 1 ∷ note 1 1 1 ∷ note 0 1 0 ∷ []
-
-abbrev cycle1 : CycleSoFar
-cycle1 = record { cycle = 1; before = lines0; lines = lines1; carried = bits0; marks = marks1; bits = bits1; logs = logs1; news = second; notes = notes1 }
-
-abbrev Open1 : Life → Type 0
-Open1 life = In life (open_lives (past_after cycle1))
-
-placings1 : (P : (w : ℕ) → Placing → Type 0) → P 1 (record { page = 1; index = 0; number = 1; class = 88 }) → (w : ℕ) (a : Placing) → In a (placings (logs1 w)) → P w a
+pub placings1 : (P : (w : ℕ) → Placing → Type 0) → P 1 (record { page = 1; index = 0; number = 1; class = 88 }) → (w : ℕ) (a : Placing) → In a (placings (logs1 w)) → P w a
 placings1 P p zero a h = absurd h
 placings1 P p (suc zero) a h = each (P 1) (placings (logs1 1)) (p, tt) a h
 placings1 P p (suc (suc zero)) a h = absurd h
 placings1 P p (suc (suc (suc w))) a h = absurd h
 
-sweeps1 : (P : (w : ℕ) → Sweeping → Type 0) → P 0 (record { page = 0; pages = 1; kept = 1; freed = 0 }) → P 1 (record { page = 1; pages = 1; kept = 1; freed = 1 }) → P 2 (record { page = 2; pages = 1; kept = 0; freed = 1 })
+pub sweeps1 : (P : (w : ℕ) → Sweeping → Type 0) → P 0 (record { page = 0; pages = 1; kept = 1; freed = 0 }) → P 1 (record { page = 1; pages = 1; kept = 1; freed = 1 }) → P 2 (record { page = 2; pages = 1; kept = 0; freed = 1 })
     → (w : ℕ) (s : Sweeping) → In s (sweepings (logs1 w)) → P w s
 sweeps1 P p q r zero s h = each (P 0) (sweepings (logs1 0)) (p, tt) s h
 sweeps1 P p q r (suc zero) s h = each (P 1) (sweepings (logs1 1)) (q, tt) s h
 sweeps1 P p q r (suc (suc zero)) s h = each (P 2) (sweepings (logs1 2)) (r, tt) s h
 sweeps1 P p q r (suc (suc (suc w))) s h = absurd h
 
-lives1 : (P : Life → Type 0) → P (life_of 0 0 0 1 88) → P (life_of 1 0 1 1 88) → (life : Life) → Open1 life → P life
+pub lives1 : (P : Life → Type 0) → P (life_of 0 0 0 1 88) → P (life_of 1 0 1 1 88) → (life : Life) → Open1 life → P life
 lives1 P p q life h = each P (open_lives (past_after cycle1)) (q, (p, tt)) life h
 
 no_refusals1 : (w : ℕ) (x : Refusal) → In x (refusals (logs1 w)) → ⊥
@@ -433,7 +348,7 @@ objects1 = record {
     missed (suc (suc zero)) = tt
     missed (suc (suc (suc w))) = (let a : eqb 0 (suc (suc (suc w))) ≡ false = ne_eqb 0 (suc (suc (suc w))) (λ q. omega arith) in let b : eqb 1 (suc (suc (suc w))) ≡ false = ne_eqb 1 (suc (suc (suc w))) (λ q. omega arith) in rw b tt)
 
-facts1 : Facts marked 512 512 first cycle1
+pub facts1 : Facts marked 512 512 first cycle1
 facts1 = record {
   writes = record {
     legal = ((life_of 2 0 2 5 1, inl refl, refl, refl), omega arith, legal0);
@@ -458,5 +373,5 @@ facts1 = record {
     apart (suc (suc (suc w))) = tt
 
 -- the run has reached the end of cycle 1
-reached1 : Reached marked 512 512 1 (lines1 ++ lines0) (second ++ first) (notes1 ++ []) bits1
+pub reached1 : Reached marked 512 512 1 (lines1 ++ lines0) (second ++ first) (notes1 ++ []) bits1
 reached1 = cycle-law marked 512 512 first [] cycle1 began1 facts1

@@ -1,0 +1,4 @@
+pub mod TwoWorkers
+mod Reused
+pub mod Slips
+pub mod Broken
