@@ -15,7 +15,7 @@ use std::test::Fail;
 use trace_reader::{Trace, read_trace};
 
 /// A trace of one processor and one chunk with these lines, and the answers and the journal of a report of it, which meets
-/// the rules 1 to 3.
+/// the rules 1 to 4.
 struct Case {
     lines: &'static str,
     answers: &'static [Answer],
@@ -72,7 +72,7 @@ fn judge<R: Abort + AllocGlobal>(rt: &R, number: usize, row: &Row) -> Result<(),
     let trace = read(alloc, case)?;
     let report = report(alloc, case, sweeps, totals)?;
     if check_first_rules(alloc, &trace, &report).is_err() {
-        return Err("the rules 1 to 3 are broken".into());
+        return Err("the rules 1 to 4 are broken".into());
     }
     let found = match judge_totals(alloc, &trace, &report) {
         Ok(()) => None,
