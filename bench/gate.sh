@@ -14,7 +14,7 @@ import time
 
 log, *words = sys.argv[1:]
 ticks = os.sysconf("SC_CLK_TCK")
-KINDS = ("proof", "tests", "edits", "other")
+KINDS = ("proof", "tests", "edits")
 
 
 def processes():
@@ -38,16 +38,18 @@ def words_of(pid):
         return []
 
 
-def role(words):
-    """The crate that a prover is at, and what for; nothing for another process."""
+def role(pid, words):
+    """The crate that a prover is at, and what for; nothing for another process. A wrong body is tried in a folder of its own."""
     if "--crate-name" not in words or os.path.basename(words[0]) != "rattle":
         return None
     crate = words[words.index("--crate-name") + 1]
-    if words[1] == "check":
+    try:
+        folder = os.readlink(f"/proc/{pid}/cwd")
+    except OSError:
+        folder = ""
+    if "rt-edit" in folder:
         return crate, "edits"
-    if words[1] == "build":
-        return crate, "tests" if "--test" in words else "proof"
-    return crate, "other"
+    return crate, "tests" if "--test" in words else "proof"
 
 
 def is_below(pid, root, found):
@@ -68,7 +70,7 @@ def watch(run):
             if key not in roles and is_below(pid, run.pid, found):
                 at = words_of(pid)
                 if at[:1] and os.path.basename(at[0]) == "rattle":
-                    roles[key] = role(at)
+                    roles[key] = role(pid, at)
             if roles.get(key):
                 used[key] = spent
         time.sleep(0.5)
@@ -85,7 +87,7 @@ def main():
         crate, kind = roles[key]
         row = table.setdefault(crate, dict.fromkeys(KINDS, 0.0))
         row[kind] += spent / ticks / 60
-    kinds = [kind for kind in KINDS if any(row[kind] for row in table.values()) or kind != "other"]
+    kinds = list(KINDS)
     line = "| {:<18} |" + " {:>7} |" * (len(kinds) + 1)
     print(line.format("crate", *kinds, "all"))
     print("|---|" + "---:|" * (len(kinds) + 1))
