@@ -10,9 +10,9 @@ use Rattle.span_laws.specs.Logs.{is_look, is_placing_at}
 use Rattle.worker_log.specs.Logs.{many, is_seen_empty}
 use Rattle.span_laws.specs.Views.{has_cell}
 
--- each cell below the tail of a set is filled
+-- each cell below the tail of a set is filled, by a page of a region of at most 65536 pages
 abbrev pub IsFilled : SetState → Type 0
-IsFilled s = (i : ℕ) → i < s.tail → 0 < cell_of s i
+IsFilled s = (i : ℕ) → i < s.tail → (0 < cell_of s i) × (cell_of s i ≤ 65536)
 
 -- a placed object is allocated in a swept span
 abbrev pub IsPlaced : ℕ → List ℕ → List LifeState → ℕ → ℕ → Type 0

@@ -1,4 +1,4 @@
-ghost use Rattle.std.specs.Prelude.{◌≡◌, ℕ, ◌+◌, ◌<◌, true, false, None, Some, length};
+ghost use Rattle.std.specs.Prelude.{◌≡◌, ℕ, ◌+◌, ◌<◌, ◌≤◌, true, false, None, Some, length};
 ghost use Rattle.sweep_laws.specs.Lists.{has};
 ghost use Rattle.sweep_laws.specs.Needs.{cell_of, class_of_set, is_swept_set, set_of};
 ghost use Rattle.span_laws.specs.Answers.{IsAhead, IsOfSet, RaisesSwept, RaisesUnswept};
@@ -66,6 +66,7 @@ impl Lent {
         requires set { set < 544 }
         ensures view { self.new ≡ after_said (Said.LooksCell set index result) self.old }
         ensures filled { is_swept_set self.old.view.generation set ≡ false → (h t : ℕ) → 0 < many (is_look set h t) self.old.view.own.log → index < t → 0 < result }
+        ensures low { result ≤ 65536 }
     {
         let found = cell(&self.core, set, index);
         note(

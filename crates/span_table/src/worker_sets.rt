@@ -1,4 +1,4 @@
-ghost use Rattle.std.specs.Prelude.{◌≡◌, ℕ, ◌<◌, true, false, None, Some};
+ghost use Rattle.std.specs.Prelude.{◌≡◌, ℕ, ◌<◌, ◌≤◌, true, false, None, Some};
 ghost use Rattle.sweep_laws.specs.Lists.{has};
 ghost use Rattle.sweep_laws.specs.Needs.{is_swept_set};
 ghost use Rattle.span_laws.specs.Answers.{IsAhead, IsOfSet, RaisesSwept, RaisesUnswept};
@@ -36,6 +36,7 @@ impl Shared {
         requires set { set < 544 }
         ensures view { w.new ≡ after_said (Said.LooksCell set index result) w.old }
         ensures filled { is_swept_set w.old.view.generation set ≡ false → (h t : ℕ) → 0 < many (is_look set h t) w.old.view.own.log → index < t → 0 < result }
+        ensures low { result ≤ 65536 }
     {
         let Some(lent) = &mut w.lent else {
             unreachable!()
