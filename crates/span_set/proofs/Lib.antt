@@ -1,1 +1,4 @@
+pub mod Looking
 pub mod Numbers
+pub mod Pushing
+pub mod Sweeping

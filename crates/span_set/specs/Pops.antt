@@ -1,9 +1,8 @@
 -- What a pop did, by its answer.
-use Rattle.std.specs.Prelude.{◌≡◌, ℕ, suc, ◌+◌, ◌<◌, ◌≤◌, ⊥, List, ◌++◌, Result, Ok, Err}
+use Rattle.std.specs.Prelude.{◌≡◌, ℕ, suc, ◌+◌, ◌<◌, ◌≤◌, List, ◌++◌, Result, Ok, Err}
 use Rattle.std.specs.List.{AllByRecursion}
 use Rattle.worker_log.specs.declared.Entry.{Entry}
 use Rattle.worker_log.specs.declared.Entry.TheVariants.{Looked}
-use Rattle.span_state.specs.declared.body.Body.{Body}
 use Rattle.span_laws.specs.declared.said.Said.TheVariants.{Looks, LooksCell, PopsEntry, Reads}
 use Rattle.span_laws.specs.declared.said.SaidOf.TheVariants.{Pops}
 use Rattle.span_laws.specs.declared.view.Cell.{Cell}

@@ -1,7 +1,6 @@
 -- Which set of a span class is meant, and what a push asks.
 use Rattle.std.specs.Prelude.{◌≡◌, ℕ, true, false}
 use Rattle.page_bitmap.specs.Counts.{one_if}
-use Rattle.sweep_laws.specs.Lists.{has}
 use Rattle.span_state.specs.declared.body.Body.{Body}
 use Rattle.worker_log.specs.Logs.{is_placing_in, is_pop_of, many, swept_set, unswept_set}
 use Rattle.span_laws.specs.Asks.{HasRoom, IsFullBody, IsUsed}

@@ -1,6 +1,5 @@
 -- What a sweep in hand did.
-use Rattle.std.specs.Prelude.{◌≡◌, ℕ, ◌<◌, ◌≤◌, ◌&&◌, not, true, List, [], ◌∷◌, ◌++◌, length}
-use Rattle.page_bitmap.specs.Counts.{one_if}
+use Rattle.std.specs.Prelude.{◌≡◌, ℕ, ◌&&◌, not, true, ◌∷◌}
 use Rattle.span_state.specs.Bits.{count_below}
 use Rattle.span_state.specs.MarkSet.{MarkSet, is_marked}
 use Rattle.span_state.specs.Spans.{IsSameSpan, allocated}
@@ -17,15 +16,15 @@ use Rattle.span_laws.specs.Views.{Seen, after_of, after_said, span_of}
 
 -- a worker may sweep a body by marks: it sweeps the span and was lent the body, the marks are those of the last mark end, and each marked
 -- index of the page is allocated
-pub record MaySweep (marks : MarkSet) (b : Body) (w : Seen) : Type 0 where
+pub record MaySweep (m : MarkSet) (b : Body) (w : Seen) : Type 0 where
   pub sweeping : has b.page w.view.own.sweeping ≡ true
   pub lent : HasBody w.view.own b
-  pub marks : marks.pairs ≡ w.view.marks
+  pub marks : m.pairs ≡ w.view.marks
   pub marked : HasMarked w.view.marks b
 
 -- the body has just the marked objects, and the free index 0; so many were kept and freed
 pub record SweepsBody (marks : MarkSet) (old new : Body) (n : Swept) : Type 0 where
-  pub allocated : (k : ℕ) → allocated new k ≡ is_marked marks old.page k
+  pub marked : (k : ℕ) → allocated new k ≡ is_marked marks old.page k
   pub next : new.next ≡ 0
   pub same : IsSameSpan old new
   pub kept : n.kept ≡ count_below old.count (is_marked marks old.page)
