@@ -1,7 +1,5 @@
-use Rattle.std.proofs.Common.{◌≡◌, ℕ, ◌<◌, true, List, [], ◌++◌, length, set, take, drop, ap, sym, subst, ◌∙◌, arith}
+use Rattle.std.proofs.Common.{◌≡◌, ℕ, ◌<◌, List, length, set, ap, sym, subst, ◌∙◌, arith}
 use Rattle.std.specs.Prelude.{Some, Option}
-use Rattle.std.proofs.Math.ListN.{length-set}
-use Rattle.std.proofs.lemmas.List.{append-nil, drop_all, take_all}
 use Rattle.span_state.specs.declared.body.Body.{Body}
 use Rattle.sweep_laws.specs.Lists.{has}
 use Rattle.sweep_laws.specs.Needs.{is_swept_set, set_of}

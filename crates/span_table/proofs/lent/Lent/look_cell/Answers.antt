@@ -1,4 +1,4 @@
-use Rattle.std.proofs.Common.{◌≡◌, ℕ, ◌<◌, ◌≤◌, false, ap, sym, subst, ◌∙◌}
+use Rattle.std.proofs.Common.{ℕ, ◌<◌, ◌≤◌, ap, sym, subst, ◌∙◌}
 use Rattle.sweep_laws.specs.Needs.{is_swept_set}
 use Rattle.span_laws.specs.Logs.{is_look}
 use Rattle.span_laws.specs.Views.{Seen}

@@ -1,4 +1,4 @@
-use Rattle.std.proofs.Common.{rules, ap, sym, subst}
+use Rattle.std.proofs.Common.{sym, subst}
 use Rattle.span_laws.specs.Asks.{MayMark}
 use Rattle.span_laws.specs.Views.{Seen}
 use Rattle.span_laws.proofs.MarkEnd.{next_allowed, next_keeps}

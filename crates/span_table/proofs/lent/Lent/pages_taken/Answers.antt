@@ -1,4 +1,4 @@
-use Rattle.std.proofs.Common.{◌≡◌, ℕ, ap, sym, subst, ◌∙◌}
+use Rattle.std.proofs.Common.{ℕ, ap, sym, subst, ◌∙◌}
 use Rattle.page_alloc.specs.Journal.{Legal, taken}
 use Rattle.span_laws.specs.Views.{Seen}
 use Rattle.span_table.proofs.lent.Lent.pages_taken.Goals as goal

@@ -1,18 +1,13 @@
-use Rattle.std.proofs.Common.{inl, inr, ◌≡◌, ◌≢◌, ℕ, ◌+◌, ◌<◌, true, false, List, [], ◌++◌, length, get_or, set, take, drop, refl, ap, sym, subst, ◌∙◌, arith}
-use Rattle.std.specs.Prelude.{None, Some, Option}
-use Rattle.std.proofs.Math.ListN.{length-set}
-use Rattle.std.proofs.lemmas.List.{append-nil, drop_all, take_all}
-use Rattle.page_alloc.specs.Heap.{PageHeap}
+use Rattle.std.proofs.Common.{inl, inr, ◌≡◌, ℕ, ◌<◌, List, length, get_or, set, refl, ap, sym, subst, ◌∙◌, arith}
+use Rattle.std.specs.Prelude.{None, Option}
 use Rattle.span_state.specs.declared.body.Body.{Body}
-use Rattle.sweep_laws.specs.Needs.{cell_of, is_swept_set, set_of}
-use Rattle.sweep_laws.specs.State.{CoreState}
-use Rattle.span_laws.specs.Rule.{Rule}
+use Rattle.sweep_laws.specs.Needs.{is_swept_set, set_of}
 use Rattle.span_laws.specs.declared.view.View.{View}
 use Rattle.span_laws.specs.Views.{Seen, has_cell}
 use Rattle.span_laws.proofs.Allowed.{pop_swept_allowed}
 use Rattle.span_laws.proofs.Calls.{head_filled, pop_rule, taken_page, taken_set, written_at}
 use Rattle.span_laws.specs.Answers.{IsAhead}
-use Rattle.span_laws.proofs.RuleKept.{low_number, part_at}
+use Rattle.span_laws.proofs.RuleKept.{low_number}
 use Rattle.span_laws.proofs.Uses.{ahead, popped_home, popped_low}
 use Rattle.span_table.proofs.lent.Lent.raise_swept.Goals as goal
 use Rattle.span_table.proofs.lent.Lent.raise_swept.Goals.{then-found-head-via-then-found-head, then-found-head-via-else-found-head+then-found-tail}
@@ -69,7 +64,7 @@ returns c = let i = c.self.inside in let v : View = i.seat.me.0 in let k = c.sel
 
 pub returns-then-found-head : goal.returns-then-found-head
 returns-then-found-head c = let i = c.self.inside in let e = c.head_and_tail-found.ensures in (
-  elim c.then-found-head.branch [ then-found-head-via-then-found-head w ↦ inl w.if-found-head | then-found-head-via-else-found-head+then-found-tail w ↦ inr w.if-found-tail ],
+  elim c.then-found-head.branch [ then-found-head-via-then-found-head w ↦ inl w.if-found-head.true | then-found-head-via-else-found-head+then-found-tail w ↦ inr w.if-found-tail.true ],
   rw (← c.self.view_is, c.note.ensures.table, c.note.ensures.view) refl,
   subst (λ (w : Seen). IsAhead c.args.set c.head_and_tail-found.result.0 c.head_and_tail-found.result.1 w.view.own.log) c.self.view_is
   (ahead i.core i.pages i.homes.items i.number i.seat.me.0 c.self.invariant c.args.set c.head_and_tail-found.result.0 c.head_and_tail-found.result.1 c.requires.set e.head e.tail),

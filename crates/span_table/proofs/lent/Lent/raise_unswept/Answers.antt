@@ -1,11 +1,5 @@
-use Rattle.std.proofs.Common.{inl, inr, ◌≡◌, ℕ, ◌+◌, ◌<◌, true, false, List, length, refl, ap, sym, subst, ◌∙◌, arith}
-use Rattle.std.specs.Prelude.{Option}
-use Rattle.page_alloc.specs.Heap.{PageHeap}
-use Rattle.span_state.specs.declared.body.Body.{Body}
-use Rattle.sweep_laws.specs.Needs.{cell_of, is_swept_set, set_of}
-use Rattle.sweep_laws.specs.State.{CoreState}
-use Rattle.span_laws.specs.Rule.{Rule}
-use Rattle.span_laws.specs.declared.view.View.{View}
+use Rattle.std.proofs.Common.{inl, inr, ◌≡◌, ℕ, ◌<◌, refl, ap, sym, subst, ◌∙◌, arith}
+use Rattle.sweep_laws.specs.Needs.{is_swept_set}
 use Rattle.span_laws.specs.Views.{Seen, has_cell}
 use Rattle.span_laws.specs.Answers.{IsAhead}
 use Rattle.span_laws.proofs.Calls.{head_filled}
@@ -39,7 +33,7 @@ returns c = let i = c.self.inside in let k = c.self.invariant in let r = c.requi
 
 pub returns-then-found-head : goal.returns-then-found-head
 returns-then-found-head c = let i = c.self.inside in let e = c.head_and_tail-found.ensures in (
-  elim c.then-found-head.branch [ then-found-head-via-then-found-head w ↦ inl w.if-found-head | then-found-head-via-else-found-head+then-found-tail w ↦ inr w.if-found-tail ],
+  elim c.then-found-head.branch [ then-found-head-via-then-found-head w ↦ inl w.if-found-head.true | then-found-head-via-else-found-head+then-found-tail w ↦ inr w.if-found-tail.true ],
   rw (← c.self.view_is, c.note.ensures.table, c.note.ensures.view) refl,
   subst (λ (w : Seen). IsAhead c.args.set c.head_and_tail-found.result.0 c.head_and_tail-found.result.1 w.view.own.log) c.self.view_is
   (ahead i.core i.pages i.homes.items i.number i.seat.me.0 c.self.invariant c.args.set c.head_and_tail-found.result.0 c.head_and_tail-found.result.1 c.requires.set e.head e.tail),
