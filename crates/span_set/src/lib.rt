@@ -9,7 +9,7 @@ mod answers;
 mod hand;
 mod pops;
 mod pushes;
-mod reset;
+mod resets;
 mod sets;
 mod sweep;
 
@@ -17,6 +17,6 @@ pub use answers::{Pop, PopBase};
 pub use hand::{Hand, Shop};
 pub use pops::{pop_swept, pop_unswept};
 pub use pushes::{claim, fill, push};
-pub use reset::reset;
+pub use resets::reset;
 pub use sets::{Claim, SetId};
 pub use sweep::sweep_in_hand;
