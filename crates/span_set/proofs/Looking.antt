@@ -1,5 +1,5 @@
 -- A pop looks until it is done: what each look and each lost try leave.
-use Rattle.std.proofs.Common.{◌≡◌, ◌≢◌, ℕ, suc, ◌+◌, ◌<◌, ◌⊎◌, ⊎_elim, true, eq-eqb, List, [], ◌∷◌, ◌++◌, refl, ap, sym, subst, ◌∙◌, arith}
+use Rattle.std.proofs.Common.{◌≡◌, ◌≢◌, ℕ, suc, ◌+◌, ◌^◌, ◌<◌, ◌⊎◌, ⊎_elim, true, eq-eqb, List, [], ◌∷◌, ◌++◌, refl, ap, sym, subst, ◌∙◌, arith}
 use Rattle.std.specs.Prelude.{Ok, Err}
 use Rattle.worker_log.specs.declared.Entry.{Entry}
 use Rattle.worker_log.specs.declared.Entry.TheVariants.{Looked}
@@ -50,7 +50,7 @@ module _ (set head tail : ℕ) (old now : Seen) where
     }
 
 -- a cell was read at the head, and then the exchange made
-module _ (set head tail cell page : ℕ) (old mid new : Seen) (look : mid ≡ after_said (LooksCell set head cell) old) (is : cell ≡ suc page) (less : head < tail) where
+module _ (set head tail cell page : ℕ) (old mid new : Seen) (look : mid ≡ after_said (LooksCell set head cell) old) (is : cell ≡ suc page) (less : head < tail) (low : tail < 2 ^ 32) where
   read_page : mid ≡ after_said (LooksCell set head (suc page)) old
   read_page = look ∙ ap (λ (x : ℕ). after_said (LooksCell set head x) old) is
 
@@ -65,6 +65,7 @@ module _ (set head tail cell page : ℕ) (old mid new : Seen) (look : mid ≡ af
     cell = page;
     view = view ∙ ap (after_said (Looks set found.0 found.1)) read_page;
     order = ahead.order;
+    low = low;
     rose = (let g = ahead.grown head tail (subst (λ (w : Seen). 0 < many (is_look set head tail) w.view.own.log) (sym read_page) seen) in let a = g.0 in let b = g.1 in
         ⊎_elim (λ (d : found.0 ≢ head). let z : head + tail < found.0 + found.1 = omega arith in z) (λ (d : found.1 ≢ tail). omega arith) other);
   }

@@ -1,5 +1,5 @@
 -- What a pop did, by its answer.
-use Rattle.std.specs.Prelude.{◌≡◌, ℕ, suc, ◌+◌, ◌<◌, ◌≤◌, List, ◌++◌, Result, Ok, Err}
+use Rattle.std.specs.Prelude.{◌≡◌, ℕ, suc, ◌+◌, ◌^◌, ◌<◌, ◌≤◌, List, ◌++◌, Result, Ok, Err}
 use Rattle.std.specs.List.{AllByRecursion}
 use Rattle.worker_log.specs.declared.Entry.{Entry}
 use Rattle.worker_log.specs.declared.Entry.TheVariants.{Looked}
@@ -43,11 +43,12 @@ PopsUnswept set old new (Popped page) = (head : ℕ) × (tail : ℕ) × (now : S
     × (new ≡ after_said (PopsEntry set page) (after_said (LooksCell set head (suc page)) now)) × (page < old.view.region)
 PopsUnswept set old new (EmptyBase head tail) = (head ≡ tail) × LooksLast set head tail old new
 
--- a lost try found head or tail risen
+-- a lost try, of numbers of 32 bits, found head or tail risen
 pub record LosesTry (set head tail : ℕ) (old new : Seen) (found : ℕ × ℕ) : Type 0 where
   pub cell : ℕ
   pub view : new ≡ after_said (Looks set found.0 found.1) (after_said (LooksCell set head (suc cell)) old)
   pub order : found.0 ≤ found.1
+  pub low : tail < 2 ^ 32
   pub rose : head + tail < found.0 + found.1
 
 -- one try of a pop, where head and tail were seen last

@@ -6,5 +6,6 @@ abbrev pub invariant-loop : goal.invariant-loop
 invariant-loop l = record {
   looks : LooksLast l.number l.head l.tail l.fn.w l.w;
   order : l.head ≤ l.tail;
+  few : l.counter ≤ 8589934593;
   tries : l.counter ≤ l.head + l.tail;
 }
