@@ -160,10 +160,10 @@ module _ (c : CoreState) (heap : PageHeap) (homes : List (Option Body)) (n : ℕ
   filled_before j part i l = let a = at_low c.sets j no_set (tail_in c.sets j (omega arith)) in
       dite (dec_le (suc i) (set_of c j).head)
       (λ z. let m = k.entered.sets_name j (set_of c j) a part in let f = m.gone i (omega arith) in let low = (m.entry i l).low in let most = k.small in
-          ⊎_elim (λ (q : cell_of (set_of c j) i ≡ 0). absurd (omega arith)) (λ (q : cell_of (set_of c j) i ≡ k.names j i + 1). (f, omega arith)) (m.cell i l))
+      ⊎_elim (λ (q : cell_of (set_of c j) i ≡ 0). absurd (omega arith)) (λ (q : cell_of (set_of c j) i ≡ k.names j i + 1). (f, omega arith)) (m.cell i l))
       (λ z. ⊎_elim (λ (q : IsPage (length c.words) (λ p. is_class p (class_of_set j) c.lives ≡ true) (cell_of (set_of c j) i)). let y = q.1 in let low = q.2 in let most = k.small in (omega arith, omega arith))
-          (λ (q : (cell_of (set_of c j) i ≡ 0) × (claimers j i c.hands ≡ 1)). let y = none i in absurd (omega arith))
-          ((kept c heap homes n v k).sets_fit.swept_cell j (set_of c j) a part i (omega arith) l))
+      (λ (q : (cell_of (set_of c j) i ≡ 0) × (claimers j i c.hands ≡ 1)). let y = none i in absurd (omega arith))
+      ((kept c heap homes n v k).sets_fit.swept_cell j (set_of c j) a part i (omega arith) l))
     where
       none : (i : ℕ) → claimers j i c.hands ≡ 0
       none i = total_none (λ (h : HandState). one_if (is_claim j i h.claimed)) c.hands (λ m h a. ap (λ (o : Option Claimed). one_if (is_claim j i o)) (idle m h a).3)

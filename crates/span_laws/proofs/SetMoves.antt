@@ -75,7 +75,7 @@ module _ (c : CoreState) (heap : PageHeap) (homes : List (Option Body)) (n : ℕ
           (λ d. subst IsFilled (sym (set_is m d)) f);
       grow = λ m. dite (ℕ_discrete m j)
           (λ z. subst (λ (y : ℕ). ((set_of c y).head ≤ (get_or (set c.sets j s') y no_set).head) × ((set_of c y).tail ≤ (get_or (set c.sets j s') y no_set).tail)) (sym z)
-              (subst (λ (y : SetState). ((set_of c j).head ≤ y.head) × ((set_of c j).tail ≤ y.tail)) (sym set_new) grow))
+          (subst (λ (y : SetState). ((set_of c j).head ≤ y.head) × ((set_of c j).tail ≤ y.tail)) (sym set_new) grow))
           (λ d. subst (λ (y : SetState). ((set_of c m).head ≤ y.head) × ((set_of c m).tail ≤ y.tail)) (sym (set_is m d)) (omega arith, omega arith));
     }
 

@@ -9,16 +9,15 @@ ghost use Rattle.span_laws.specs.Logs.{EndsSweptEmpty};
 ghost use Rattle.span_laws.specs.Rule.{Rule};
 ghost use Rattle.span_laws.specs.Views.{acts, after_said, span_of, told, told_of};
 
-use span_laws::{Refused, Step};
 use crate::lent::Lent;
 use crate::make::{give_run, take_run};
-use span_laws::{Said, SaidOf};
 use crate::seat::{tell, tell_of};
 use crate::shared::Shared;
 use fallible_list::{List, NoMemory};
 use page_alloc::Pages;
 use page_bitmap::Line;
 use size_classes::{PAGE_SIZE, slot_size, span_objects};
+use span_laws::{Refused, Said, SaidOf, Step};
 use span_state::Body;
 use std::alloc::Global;
 use sweep_generation::Core;
@@ -140,11 +139,7 @@ impl Lent {
         let cycle = ((self.core.generation() - 4) / 2) as u32;
         self.pages.give(cycle, body.page);
         give_run(&mut self.core, self.number, body.page);
-        tell(
-            shared,
-            &mut self.seat,
-            &Said::Gives(body.page, body.pages),
-        );
+        tell(shared, &mut self.seat, &Said::Gives(body.page, body.pages));
     }
 
     // See `Shared::scavenge_step`.

@@ -10,9 +10,9 @@ ghost use Rattle.span_laws.specs.Views.{after_of, after_said, has_cell, span_of}
 use crate::homes::{put_home, take_home};
 use crate::lent::{Lent, apply, note};
 use crate::make::make;
-use span_laws::{Said, SaidOf};
 use crate::seat::{tell, tell_of};
 use crate::shared::Shared;
+use span_laws::{Said, SaidOf};
 use span_state::Body;
 use sweep_generation::{Core, Move, Reply};
 
@@ -32,11 +32,7 @@ fn cell(core: &Core, set: u32, index: u32) -> u64
     ensures { result ≡ cell_of (set_of core.now set) index }
 {
     let s = &core.sets()[set as usize];
-    s.cells
-        .as_slice()
-        .get(index as usize)
-        .copied()
-        .unwrap_or(0)
+    s.cells.as_slice().get(index as usize).copied().unwrap_or(0)
 }
 
 impl Lent {

@@ -7,13 +7,12 @@ ghost use Rattle.span_laws.specs.Asks.{HasBody, IsEmptyBody, MayMark};
 ghost use Rattle.span_laws.specs.Logs.{EndsSweptEmpty};
 ghost use Rattle.span_laws.specs.Views.{after_next, after_said};
 
-use span_laws::{Refused, Step};
-use span_laws::Said;
 use crate::shared::Shared;
 use crate::worker::Worker;
 use fallible_list::{List, NoMemory};
 use page_alloc::Pages;
 use page_bitmap::Line;
+use span_laws::{Refused, Said, Step};
 use span_state::Body;
 use std::alloc::Global;
 
@@ -112,11 +111,7 @@ impl Shared {
     }
 
     /// A copy of the whole journal, which is legal. No worker is out.
-    pub fn journal_copy(
-        &self,
-        alloc: Global,
-        driver: &mut Worker,
-    ) -> Result<List<Line>, NoMemory>
+    pub fn journal_copy(&self, alloc: Global, driver: &mut Worker) -> Result<List<Line>, NoMemory>
         requires here { driver.old.here ≡ true }
         requires table { driver.old.table ≡ self.now }
         ensures same { driver.new ≡ driver.old }

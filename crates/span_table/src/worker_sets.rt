@@ -7,9 +7,9 @@ ghost use Rattle.span_laws.specs.Logs.{is_look};
 ghost use Rattle.worker_log.specs.Logs.{is_full_set, is_placing_in, is_pop_of, is_seen_empty, many};
 ghost use Rattle.span_laws.specs.Views.{after_said, has_cell};
 
-use span_laws::Said;
 use crate::shared::Shared;
 use crate::worker::Worker;
+use span_laws::Said;
 use span_state::Body;
 
 impl Shared {
@@ -81,7 +81,14 @@ impl Shared {
 
     /// Pops the span at the head of a swept set, where head and tail are these still: the worker holds it and gets its body. It asks for
     /// the page that the worker read in the cell at that head. Else the head and the tail that were found. Takes no memory.
-    pub fn raise_swept(&self, w: &mut Worker, set: u32, head: u32, tail: u32, page: u32) -> Result<Body, (u32, u32)>
+    pub fn raise_swept(
+        &self,
+        w: &mut Worker,
+        set: u32,
+        head: u32,
+        tail: u32,
+        page: u32,
+    ) -> Result<Body, (u32, u32)>
         requires here { w.old.here ≡ true }
         requires table { w.old.table ≡ self.now }
         requires set { set < 544 }
@@ -98,7 +105,14 @@ impl Shared {
 
     /// Pops the entry at the head of an unswept set, where head and tail are these still. It asks for the page that the worker read
     /// in the cell at that head. Else the head and the tail that were found. Takes no memory.
-    pub fn raise_unswept(&self, w: &mut Worker, set: u32, head: u32, tail: u32, page: u32) -> Result<(), (u32, u32)>
+    pub fn raise_unswept(
+        &self,
+        w: &mut Worker,
+        set: u32,
+        head: u32,
+        tail: u32,
+        page: u32,
+    ) -> Result<(), (u32, u32)>
         requires here { w.old.here ≡ true }
         requires table { w.old.table ≡ self.now }
         requires set { set < 544 }

@@ -55,8 +55,7 @@ returns c = let i = c.self.inside in let v : View = i.seat.me.0 in let k = c.sel
     let part = ap (λ (g : ℕ). is_swept_set g c.args.set) (sym k.generation) ∙ ap (λ (w : Seen). is_swept_set w.view.generation c.args.set) c.self.view_is ∙ r.part in
     let at = head_filled i.core i.pages i.homes.items i.number v k c.args.set c.args.head c.args.page (sym x ∙ e.head) (ap (λ (w : Seen). has_cell c.args.set c.args.head c.args.page w.view.own.read) c.self.view_is ∙ r.read) in
     let more : (set_of i.core c.args.set).head < (set_of i.core c.args.set).tail = (let a = e.head in let b = e.tail in let o = r.order in omega arith) in
-    let body = ap (λ (l : List (Option Body)). get_or l c.args.page None) (sym c.as_mut_slice.ensures.value) ∙ c.take_home-body.ensures.body in
-    (
+    let body = ap (λ (l : List (Option Body)). get_or l c.args.page None) (sym c.as_mut_slice.ensures.value) ∙ c.take_home-body.ensures.body in (
       taken_page i.core i.pages i.homes.items i.number v k c.args.set c.args.page r.set part more at c.take_home-body.result body,
       rw (← c.self.view_is, c.tell_of.ensures.table, c.tell_of.ensures.view) refl,
       taken_set i.core i.pages i.homes.items i.number v k c.args.set c.args.page r.set part more at c.take_home-body.result body,
@@ -67,5 +66,5 @@ returns-then-found-head c = let i = c.self.inside in let e = c.head_and_tail-fou
   elim c.then-found-head.branch [ then-found-head-via-then-found-head w ↦ inl w.if-found-head.true | then-found-head-via-else-found-head+then-found-tail w ↦ inr w.if-found-tail.true ],
   rw (← c.self.view_is, c.note.ensures.table, c.note.ensures.view) refl,
   subst (λ (w : Seen). IsAhead c.args.set c.head_and_tail-found.result.0 c.head_and_tail-found.result.1 w.view.own.log) c.self.view_is
-  (ahead i.core i.pages i.homes.items i.number i.seat.me.0 c.self.invariant c.args.set c.head_and_tail-found.result.0 c.head_and_tail-found.result.1 c.requires.set e.head e.tail),
+      (ahead i.core i.pages i.homes.items i.number i.seat.me.0 c.self.invariant c.args.set c.head_and_tail-found.result.0 c.head_and_tail-found.result.1 c.requires.set e.head e.tail),
 )

@@ -35,13 +35,12 @@ invariant_of-self-2 c = let i = c.self.inside in let v : View = i.seat.me.0 in l
 pub returns : goal.returns
 returns c = let i = c.self.inside in let v : View = i.seat.me.0 in let k = room_keeps i.core i.pages i.homes.items i.number v c.self.invariant c.reserve_line.new.self c.reserve_line.ensures.same in
     let region = k.heap_region ∙ sym k.region ∙ ap (λ (w : Seen). w.view.region) c.self.view_is in
-    let goal = sym k.goal ∙ ap (λ (w : Seen). w.view.goal) c.self.view_is in
-    (
+    let goal = sym k.goal ∙ ap (λ (w : Seen). w.view.goal) c.self.view_is in (
       c.self.view_is,
       (
         c.reserve_line.new.self.past,
         subst (λ (z : ℕ × ℕ). Legal z.0 z.1 c.reserve_line.new.self.past) (λ j. (region j, goal j)) k.legal,
         subst (λ (z : ℕ × ℕ). Released z.0 z.1 c.reserve_line.new.self.past c.backed-backed.result c.scavenge-run.result) (λ j. (region j, goal j))
-        (released c.reserve_line.new.self c.scavenge-run.new.self ((c.generation.result - 4) / 2) c.backed-backed.result c.scavenge-run.result c.scavenge-run.ensures.released c.scavenge-run.ensures.done c.scavenge-run.ensures.same c.backed-backed.ensures),
+            (released c.reserve_line.new.self c.scavenge-run.new.self ((c.generation.result - 4) / 2) c.backed-backed.result c.scavenge-run.result c.scavenge-run.ensures.released c.scavenge-run.ensures.done c.scavenge-run.ensures.same c.backed-backed.ensures),
       ),
     )
