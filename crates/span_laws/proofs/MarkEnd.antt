@@ -17,9 +17,10 @@ use Rattle.span_state.specs.declared.body.Body.{Body}
 use Rattle.sweep_laws.specs.Changes.{after_next, empty_unswept, forget_swept, mark_life, marks_at}
 use Rattle.sweep_laws.specs.Counts.{one_if, times, total, total_from}
 use Rattle.sweep_laws.specs.Lists.{has, rises}
-use Rattle.sweep_laws.specs.Named.{begins, is_class, names_in, only, poppers, sweepers, unswept_own}
+use Rattle.sweep_laws.specs.Named.{begins, claimers, is_claim, is_class, names_in, only, poppers, sweepers, unswept_own}
 use Rattle.sweep_laws.specs.Needs.{cell_of, class_of_set, first_unpopped, is_allocated, is_idle, is_settled, is_swept_set, life_in, next_needs, no_life, no_set, refusal, set_of}
-use Rattle.sweep_laws.specs.Owned.{EachAt, Owned}
+use Rattle.sweep_laws.specs.Owned.{EachAt, IsPage, Owned}
+use Rattle.sweep_laws.specs.declared.moves.Claimed.{Claimed}
 use Rattle.sweep_laws.specs.Standing.{Standing, is_free, is_unswept, is_sweeping, is_swept, is_stale, is_cached, Tally, tally}
 use Rattle.sweep_laws.specs.State.{CoreState, HandState, LifeState, SetState}
 use Rattle.sweep_laws.specs.Tidy.{IsTidy, HasSpace}
@@ -34,7 +35,7 @@ use Rattle.span_laws.specs.Asks.{IsKnown, MayMark}
 use Rattle.span_laws.specs.Bodies.{Bodies, Fits, IsAway, IsBody, IsHome, IsLent, lends}
 use Rattle.span_laws.specs.Logs.{is_placing_at}
 use Rattle.span_laws.specs.Rule.{Rule, logs_of}
-use Rattle.span_laws.specs.Tells.{Tells}
+use Rattle.span_laws.specs.Tells.{IsFilled, Tells}
 use Rattle.span_laws.specs.Views.{hand_state, marked, parts_of, rested, span_of}
 use Rattle.span_laws.specs.declared.view.Part.{Part}
 use Rattle.span_laws.specs.declared.view.Span.{Span}
@@ -88,6 +89,16 @@ emptied_at g k [] n x e u = absurd (some-ne-none x (sym e))
 emptied_at g k (s ∷ ss) zero x e u = let b : is_swept_set g k ≡ false = subst (λ (z : ℕ). is_swept_set g z ≡ false) (let z : k + 0 ≡ k = omega arith in z) u in
     let y : record s { head = 0; tail = 0; cells = [] } ≡ x = some-injective _ x (rw b at e) in (sym (ap (λ (z : SetState). z.head) y), sym (ap (λ (z : SetState). z.tail) y))
 emptied_at g k (s ∷ ss) (suc n) x e u = emptied_at g (k + 1) ss n x e (subst (λ (z : ℕ). is_swept_set g z ≡ false) (let z : k + suc n ≡ k + 1 + n = omega arith in z) u)
+
+kept_at : (g k : ℕ) (ss : List SetState) (j : ℕ) → is_swept_set g (k + j) ≡ true → get_or (empty_unswept g k ss) j no_set ≡ get_or ss j no_set
+kept_at g k [] j e = refl
+kept_at g k (s ∷ ss) zero e = let b : is_swept_set g k ≡ true = subst (λ (z : ℕ). is_swept_set g z ≡ true) (let z : k + 0 ≡ k = omega arith in z) e in rw b refl
+kept_at g k (s ∷ ss) (suc j) e = kept_at g (k + 1) ss j (subst (λ (z : ℕ). is_swept_set g z ≡ true) (let z : k + suc j ≡ k + 1 + j = omega arith in z) e)
+
+tail_in : (ss : List SetState) (j : ℕ) → 0 < (get_or ss j no_set).tail → j < length ss
+tail_in [] j l = absurd (omega arith)
+tail_in (s ∷ ss) zero l = omega arith
+tail_in (s ∷ ss) (suc j) l = let t = tail_in ss j l in omega arith
 
 length_emptied : (g k : ℕ) (ss : List SetState) → length (empty_unswept g k ss) ≡ length ss
 length_emptied g k [] = refl
@@ -143,6 +154,27 @@ module _ (c : CoreState) (heap : PageHeap) (homes : List (Option Body)) (n : ℕ
       zero : (b w : Bool) → {w' : Bool} → w' ≡ w → (s : SetState) → (w ≡ false → s.head ≡ s.tail) → only b (only (not w) (names_in p s)) ≡ 0
       zero b true e s f = zero_only b
       zero b false e s f = ap (only b) (unpopped_none s (f refl)) ∙ zero_only b
+
+  -- no index is claimed, so the swept sets are filled
+  filled_before : (j : ℕ) → is_swept_set c.generation j ≡ true → IsFilled (set_of c j)
+  filled_before j part i l = let a = at_low c.sets j no_set (tail_in c.sets j (omega arith)) in
+      dite (dec_le (suc i) (set_of c j).head)
+      (λ z. let m = k.entered.sets_name j (set_of c j) a part in let f = m.gone i (omega arith) in let low = (m.entry i l).low in let most = k.small in
+      ⊎_elim (λ (q : cell_of (set_of c j) i ≡ 0). absurd (omega arith)) (λ (q : cell_of (set_of c j) i ≡ k.names j i + 1). (f, omega arith)) (m.cell i l))
+      (λ z. ⊎_elim (λ (q : IsPage (length c.words) (λ p. is_class p (class_of_set j) c.lives ≡ true) (cell_of (set_of c j) i)). let y = q.1 in let low = q.2 in let most = k.small in (omega arith, omega arith))
+      (λ (q : (cell_of (set_of c j) i ≡ 0) × (claimers j i c.hands ≡ 1)). let y = none i in absurd (omega arith))
+      ((kept c heap homes n v k).sets_fit.swept_cell j (set_of c j) a part i (omega arith) l))
+    where
+      none : (i : ℕ) → claimers j i c.hands ≡ 0
+      none i = total_none (λ (h : HandState). one_if (is_claim j i h.claimed)) c.hands (λ m h a. ap (λ (o : Option Claimed). one_if (is_claim j i o)) (idle m h a).3)
+
+  filled_after : (j : ℕ) → is_swept_set (c.generation + 2) j ≡ false → IsFilled (get_or (empty_unswept c.generation 0 c.sets) j no_set)
+  filled_after j u = let part : is_swept_set c.generation j ≡ true = turned_part (is_swept_set c.generation j) refl in
+      subst IsFilled (sym (kept_at c.generation 0 c.sets j (let z : 0 + j ≡ j = omega arith in ap (is_swept_set c.generation) z ∙ part))) (filled_before j part)
+    where
+      turned_part : (b : Bool) → is_swept_set c.generation j ≡ b → is_swept_set c.generation j ≡ true
+      turned_part true e = e
+      turned_part false e = absurd (true≢false (let t = turns c.generation j in ap not (sym e) ∙ sym t ∙ u))
 
   -- each word is 0, G or G+3
   settled : (p : ℕ) → p < length c.words → is_settled c.generation (get_or c.words p 0) ≡ true
@@ -310,5 +342,7 @@ module _ (c : CoreState) (heap : PageHeap) (homes : List (Option Body)) (n : ℕ
           placed = λ p i l. absurd (omega arith);
           emptied = λ s u l. absurd (omega arith);
           read = λ s i p l. absurd (true≢false (sym l));
+          filled = λ s u. filled_after s u;
+          grown = λ s x y l. absurd (omega arith);
         }));
   })

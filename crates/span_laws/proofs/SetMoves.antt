@@ -1,5 +1,5 @@
 -- The steps on sets keep the rule: Claim, Fill, and both pops.
-use Rattle.std.proofs.Common.{◌≡◌, ◌≢◌, ℕ, ◌+◌, ◌<◌, inl, inr, ⊎_elim, Bool, ◌&&◌, not, eqb, eq-eqb, ne_eqb, true, false, true≢false, List, set, get_or, length, refl, ap, sym, subst, ◌∙◌, arith}
+use Rattle.std.proofs.Common.{◌≡◌, ◌≢◌, ℕ, ◌+◌, ◌<◌, ◌≤◌, inl, inr, ⊎_elim, Bool, ◌&&◌, not, eqb, eq-eqb, ne_eqb, true, false, true≢false, List, set, get_or, length, refl, ap, sym, subst, ◌∙◌, arith}
 use Rattle.std.specs.Prelude.{None, Some, Option}
 use mathlib.Core.Logic.{dite}
 use mathlib.Core.Option.{some, some-injective}
@@ -30,7 +30,7 @@ use Rattle.swept_set_laws.proofs.EnteredMoves.{fill_enters, pop_swept_enters}
 use Rattle.swept_set_laws.proofs.EnteredRest.{unswept_enters}
 use Rattle.worker_log.specs.declared.Entry.{Entry}
 use Rattle.worker_log.specs.Logs.{is_full_set, is_pop_of, is_seen_empty, many}
-use Rattle.span_laws.specs.Logs.{is_placing_at}
+use Rattle.span_laws.specs.Logs.{is_look, is_placing_at}
 use Rattle.span_laws.specs.declared.view.Cell.{Cell}
 use Rattle.span_laws.specs.declared.said.Said.TheVariants.{Claims, Fills, PopsEntry}
 use Rattle.span_laws.specs.declared.said.SaidOf.TheVariants.{Pops}
@@ -38,7 +38,7 @@ use Rattle.span_laws.specs.declared.view.Part.{Part}
 use Rattle.span_laws.specs.declared.view.View.{View}
 use Rattle.span_laws.specs.Bodies.{Fits, IsAway, IsHome, is_claimed, lends}
 use Rattle.span_laws.specs.Rule.{Rule, logs_of}
-use Rattle.span_laws.specs.Tells.{Tells}
+use Rattle.span_laws.specs.Tells.{IsFilled, Tells}
 use Rattle.span_laws.specs.Views.{acts, hand_state, has_cell, parts_of, span_at, span_of, told, told_of}
 use Rattle.span_laws.proofs.BodiesKept.{bodies_stay}
 use Rattle.page_bitmap.specs.Counts.{one_if}
@@ -51,7 +51,7 @@ use Rattle.span_laws.proofs.WordMoves.{as_own, held_lent, kept, lent_now, once, 
 module _ (c : CoreState) (heap : PageHeap) (homes : List (Option Body)) (n : ℕ) (v : View) (k : Rule c heap homes n v) where
   -- a set changes, and neither words nor lives
   module _ (j : ℕ) (s' : SetState) (there : j < length c.sets) (empty : is_swept_set c.generation j ≡ false → (set_of c j).head ≡ (set_of c j).tail → s'.head ≡ s'.tail)
-      (cells : (i q : ℕ) → cell_of (set_of c j) i ≡ q + 1 → cell_of s' i ≡ q + 1) where
+      (cells : (i q : ℕ) → cell_of (set_of c j) i ≡ q + 1 → cell_of s' i ≡ q + 1) (grow : ((set_of c j).head ≤ s'.head) × ((set_of c j).tail ≤ s'.tail)) (fill : is_swept_set c.generation j ≡ false → IsFilled (set_of c j) → IsFilled s') where
     set_is : (m : ℕ) → m ≢ j → get_or (set c.sets j s') m no_set ≡ get_or c.sets m no_set
     set_is m d = get_or-set_other c.sets j m s' no_set d
 
@@ -69,15 +69,23 @@ module _ (c : CoreState) (heap : PageHeap) (homes : List (Option Body)) (n : ℕ
       cells = λ m i q e. dite (ℕ_discrete m j)
           (λ z. subst (λ (y : ℕ). cell_of (get_or (set c.sets j s') y no_set) i ≡ q + 1) (sym z) (subst (λ (y : SetState). cell_of y i ≡ q + 1) (sym set_new) (cells i q (subst (λ (y : ℕ). cell_of (set_of c y) i ≡ q + 1) z e))))
           (λ d. subst (λ (y : SetState). cell_of y i ≡ q + 1) (sym (set_is m d)) e);
+      filled = λ m u f. dite (ℕ_discrete m j)
+          (λ z. let x : IsFilled s' = fill (subst (λ (y : ℕ). is_swept_set c.generation y ≡ false) z u) (subst (λ (y : ℕ). IsFilled (set_of c y)) z f) in
+          subst (λ (y : ℕ). IsFilled (get_or (set c.sets j s') y no_set)) (sym z) (subst IsFilled (sym set_new) x))
+          (λ d. subst IsFilled (sym (set_is m d)) f);
+      grow = λ m. dite (ℕ_discrete m j)
+          (λ z. subst (λ (y : ℕ). ((set_of c y).head ≤ (get_or (set c.sets j s') y no_set).head) × ((set_of c y).tail ≤ (get_or (set c.sets j s') y no_set).tail)) (sym z)
+          (subst (λ (y : SetState). ((set_of c j).head ≤ y.head) × ((set_of c j).tail ≤ y.tail)) (sym set_new) grow))
+          (λ d. subst (λ (y : SetState). ((set_of c m).head ≤ y.head) × ((set_of c m).tail ≤ y.tail)) (sym (set_is m d)) (omega arith, omega arith));
     }
 
   -- what the own part tells stays where its cached and fresh spans do, and words and lives
   module _ (h : Part) (fresh : h.fresh ≡ v.own.fresh) (cached : h.cached ≡ v.own.cached) (log : (q i : ℕ) → 0 < many (is_placing_at q i) h.log → 0 < many (is_placing_at q i) v.own.log)
-      (seen : (s : ℕ) → 0 < many (is_seen_empty s) h.log → 0 < many (is_seen_empty s) v.own.log) (read : h.read ≡ v.own.read) where
+      (seen : (s : ℕ) → 0 < many (is_seen_empty s) h.log → 0 < many (is_seen_empty s) v.own.log) (look : (s x y : ℕ) → 0 < many (is_look s x y) h.log → 0 < many (is_look s x y) v.own.log) (read : h.read ≡ v.own.read) where
     pub set_tells : (ss' : List SetState) (p : ℕ) → Leads c.generation c.words c.lives c.sets c.words c.lives ss' p → Tells c.generation c.words c.lives ss' h
     set_tells ss' p lead = own_tells c.generation c.words c.lives c.sets c.words c.lives ss' p lead v.own h (own_tells_of c heap homes n v k)
         (λ q. ap (has q) fresh ∙ (own_tells_of c heap homes n v k).fresh q ∙ ap (λ (l : List ℕ). has q l && eqb (get_or c.words q 0) (c.generation + 3)) (sym cached))
-        (λ q i m. inl (log q i m)) (λ s u m. inl (seen s m)) (λ s i q m. inl (subst (λ (l : List Cell). has_cell s i q l ≡ true) read m))
+        (λ q i m. inl (log q i m)) (λ s u m. inl (seen s m)) (λ s i q m. inl (subst (λ (l : List Cell). has_cell s i q l ≡ true) read m)) (λ s x y m. inl (look s x y m))
 
   -- an index is claimed for a span that the worker holds, and its body comes home
   module _ (b : Body) (j : ℕ) (there : j < 544) (part : is_swept_set c.generation j ≡ true) (held : has b.page v.own.held ≡ true) (free : v.own.claimed ≡ None) (lent : span_at b.page v.own.spans ≡ Some (span_of b)) (low : b.page < length c.words)
@@ -89,7 +97,7 @@ module _ (c : CoreState) (heap : PageHeap) (homes : List (Option Body)) (n : ℕ
     claim_keeps c' e o t r =
         let p = b.page in let s = set_of c j in let h = told (Claims j s.tail p) v.own in let g = c.generation in let have = has_times p v.own.held held in let once₁ = once c heap homes n v k p low in
         let d : CoreState = after_claim c n j p in
-        let lead = set_leads j (raise_tail s) low_set (λ u x. absurd (true≢false (sym part ∙ u))) (λ i q x. x) p in
+        let lead = set_leads j (raise_tail s) low_set (λ u x. absurd (true≢false (sym part ∙ u))) (λ i q x. x) (omega arith, omega arith) (λ u. absurd (true≢false (sym part ∙ u))) p in
         let was = lent_now c heap homes n v k p (held_lent c heap homes n v k p held free) in
         let same : was.0 ≡ span_of b = some_same was.0 (span_of b) (sym was.1 ∙ lent) in
         let fits : Fits heap.past c.lives p (span_of b) = subst (Fits heap.past c.lives p) same was.2 in
@@ -105,7 +113,7 @@ module _ (c : CoreState) (heap : PageHeap) (homes : List (Option Body)) (n : ℕ
         (λ l. absurd (let z : lends p h ≡ times p v.own.sweeping + times p v.own.cached + 0 = ap (λ (y : Bool). times p v.own.sweeping + times p v.own.cached + only (not y) (times p v.own.held)) claimed in omega arith))
         (λ y. inr (b, get_or-set_same homes p (Some b) None (let z = k.bodies.many in omega arith), fits))
         (λ y. k.marks.kept p low y) (λ i a m. a)
-        (set_tells h refl refl (λ q i m. m) (λ q m. m) refl (set c.sets j (raise_tail s)) p lead))
+        (set_tells h refl refl (λ q i m. m) (λ q m. m) (λ s x y m. m) refl (set c.sets j (raise_tail s)) p lead))
       where
         some_same : {A : Type 0} (x y : A) → Some x ≡ Some y → x ≡ y
         some_same x y z = cc
@@ -147,7 +155,7 @@ module _ (c : CoreState) (heap : PageHeap) (homes : List (Option Body)) (n : ℕ
         let d' : CoreState = after_fill_of (Some d) c n in
         let blank : cell_of s d.index ≡ 0 = subst (λ (y : SetState). cell_of y d.index ≡ 0) set_at_is mine.blank in
         let lead = set_leads d.set (name_page d.index p s) claim_set (λ u x. absurd (true≢false (sym mine.is_swept ∙ u)))
-        (λ i q x. dite (ℕ_discrete i d.index) (λ z. let y : cell_of s d.index ≡ q + 1 = subst (λ (w : ℕ). cell_of s w ≡ q + 1) z x in absurd (omega arith)) (λ z. put_cell_else s.cells d.index i (p + 1) z ∙ x)) p in
+        (λ i q x. dite (ℕ_discrete i d.index) (λ z. let y : cell_of s d.index ≡ q + 1 = subst (λ (w : ℕ). cell_of s w ≡ q + 1) z x in absurd (omega arith)) (λ z. put_cell_else s.cells d.index i (p + 1) z ∙ x)) (omega arith, omega arith) (λ u. absurd (true≢false (sym mine.is_swept ∙ u))) p in
         let entered = fill_enters g c.words c.owners c.lives c.sets c.hands (kept c heap homes n v k) (logs_of n v) k.names k.entered n (hand_state v.own) (own_at c heap homes n v k) d claimed s (at_low c.sets d.set no_set claim_set) in
         subst (λ (y : CoreState). Rule y heap homes n (acts v h)) (sym e)
         (turned c heap homes n v k d' heap homes h (subst Owned e o) (subst IsTidy e t) (subst HasSpace e r) refl refl refl (as_own c heap homes n v k h (fill_cell p) refl) (length-set c.sets d.set _) refl refl k.legal k.cycle k.heap_owner
@@ -156,7 +164,7 @@ module _ (c : CoreState) (heap : PageHeap) (homes : List (Option Body)) (n : ℕ
         (sym (ap (λ (y : Option Claimed). times q v.own.sweeping + times q v.own.cached + only (not (is_claimed q y)) (times q v.own.held)) claimed ∙ ap (λ (y : Bool). times q v.own.sweeping + times q v.own.cached + only (not y) (times q v.own.held)) (ne_eqb p q (λ z. x (sym z))))))
         (λ q x. refl) (λ l. absurd (omega arith)) (λ y. inr (filled_home y))
         (λ y. k.marks.kept p low y) (λ i a m. a)
-        (set_tells h refl refl (λ q i m. omega arith) (λ q m. omega arith) refl (set c.sets d.set (name_page d.index p s)) p lead))
+        (set_tells h refl refl (λ q i m. omega arith) (λ q m. omega arith) (λ s x y m. omega arith) refl (set c.sets d.set (name_page d.index p s)) p lead))
       where
         -- the logs may gain entries that are no pops
         log_entered : (h : Part) → ((j q : ℕ) → many (is_pop_of j q) h.log ≡ many (is_pop_of j q) v.own.log) → {ws : List ℕ} {ls : List LifeState} {ss : List SetState} {hs : List HandState}
@@ -191,7 +199,7 @@ module _ (c : CoreState) (heap : PageHeap) (homes : List (Option Body)) (n : ℕ
         let a₃ = part_le (λ (y : HandState). times p y.cached) c.hands n (hand_state v.own) (own_at c heap homes n v k) in
         let z₂ = single.2 in let grows = times_end p v.own.held in
         let d : CoreState = after_pop_swept c n j in
-        let lead = set_leads j (raise_head s) pop_set (λ u x. absurd (true≢false (sym part ∙ u))) (λ i q x. x) p in
+        let lead = set_leads j (raise_head s) pop_set (λ u x. absurd (true≢false (sym part ∙ u))) (λ i q x. x) (omega arith, omega arith) (λ u. absurd (true≢false (sym part ∙ u))) p in
         let entered = pop_swept_enters g c.words c.owners c.lives c.sets c.hands (kept c heap homes n v k) (logs_of n v) k.names k.entered n (hand_state v.own) (own_at c heap homes n v k) j s (at_low c.sets j no_set pop_set) part more p low filled (logs_of n (acts v h))
         (λ m q. let x = ap (many (is_pop_of m q)) (log_own c heap homes n v k h) in let y = ap (many (is_pop_of m q)) (log_own c heap homes n v k v.own) in omega arith)
         (λ m x. log_else c heap homes n v k h m x) in
@@ -203,7 +211,7 @@ module _ (c : CoreState) (heap : PageHeap) (homes : List (Option Body)) (n : ℕ
         (λ l. (span_of b, span_here (span_of b) v.own.spans, fits))
         (λ y. inl (rw (unclaimed c heap homes n v k p (omega arith)) (omega arith)))
         (λ y. k.marks.kept p low y) (λ i a m. a)
-        (set_tells h refl refl (λ q i m. omega arith) (λ q m. omega arith) refl (set c.sets j (raise_head s)) p lead))
+        (set_tells h refl refl (λ q i m. omega arith) (λ q m. omega arith) (λ s x y m. omega arith) refl (set c.sets j (raise_head s)) p lead))
 
   -- no part names a page beyond the region
   beyond : (m : ℕ) (x : Part) → get_elem? (parts_of n v) m ≡ some x → has3 (length c.words) x ≡ 0
@@ -218,14 +226,14 @@ module _ (c : CoreState) (heap : PageHeap) (homes : List (Option Body)) (n : ℕ
         let low_set : j < length c.sets = (let x = k.sets in omega arith) in
         let base : head_base c j ≡ p = base_is (length c.words) (cell_of s s.head) p filled low in
         let d : CoreState = after_pop_unswept c n j in
-        let lead = set_leads j (raise_head s) low_set (λ u x. absurd (omega arith)) (λ i q x. x) (length c.words) in
+        let lead = set_leads j (raise_head s) low_set (λ u x. absurd (omega arith)) (λ i q x. x) (omega arith, omega arith) (λ u f. f) (length c.words) in
         subst (λ (y : CoreState). Rule y heap homes n (acts v h)) (sym e)
         (moved c heap homes n v k d heap homes h (subst Owned e o) (subst IsTidy e t) (subst HasSpace e r) refl refl refl
         (ap (λ (q : ℕ). set c.hands n (pop_entry q (hand_of c n))) base ∙ as_own c heap homes n v k h (pop_entry p) refl) (length-set c.sets j _) refl refl k.legal k.cycle k.heap_owner k.names
         (unswept_enters g c.words c.owners c.lives c.sets c.hands (kept c heap homes n v k) (logs_of n v) k.names k.entered j (raise_head s) part n (hand_state v.own) (hand_state h) (own_at c heap homes n v k) refl refl refl (logs_of n (acts v h)) pops)
         (bodies_stay (length c.words) heap.past c.lives homes (parts_of n v) k.bodies n v.own (part_at c heap homes n v k) h (λ q. refl) refl) k.marks
         (tells_turn g c.words c.lives c.sets c.words c.lives (set c.sets j (raise_head s)) (length c.words) lead (parts_of n v) n h k.tells (λ m x y z. beyond m x z)
-        (set_tells h refl refl (λ q i m. omega arith) (λ q m. omega arith) refl (set c.sets j (raise_head s)) (length c.words) lead)))
+        (set_tells h refl refl (λ q i m. omega arith) (λ q m. omega arith) (λ s x y m. omega arith) refl (set c.sets j (raise_head s)) (length c.words) lead)))
       where
         pops : (m i q : ℕ) → is_swept_set c.generation i ≡ true → many (is_pop_of i q) (log_of (logs_of n (acts v (told (PopsEntry j p) v.own))) m) ≡ many (is_pop_of i q) (log_of (logs_of n v) m)
         pops m i q sw = dite (ℕ_discrete m n)

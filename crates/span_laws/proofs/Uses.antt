@@ -31,9 +31,9 @@ use Rattle.worker_log.specs.declared.Entry.{Entry}
 use Rattle.worker_log.specs.declared.Entry.TheVariants.{Looked, LookedEmptyCell, Popped, Pushed, Swept, Took, Missed, Gave, Allocated, Found, Read, Added}
 use Rattle.worker_log.specs.Logs.{is_full_set, is_placing_in, is_pop_of, many}
 use Rattle.span_laws.specs.Asks.{HasBody, HasMarked, IsUntouched, MayPlace}
-use Rattle.span_laws.specs.Answers.{IsOfSet}
+use Rattle.span_laws.specs.Answers.{IsAhead, IsOfSet}
 use Rattle.span_laws.specs.Bodies.{Fits, IsAway, IsHome, lends}
-use Rattle.span_laws.specs.Logs.{is_placing_at}
+use Rattle.span_laws.specs.Logs.{is_look, is_placing_at}
 use Rattle.span_laws.specs.Rule.{Rule, logs_of}
 use Rattle.span_laws.specs.Views.{hand_state, parts_of, span_of}
 use Rattle.span_laws.specs.declared.view.Part.{Part}
@@ -83,6 +83,28 @@ module _ (c : CoreState) (heap : PageHeap) (homes : List (Option Body)) (n : ℕ
     placings = dite (dec_le (many (is_placing_in p) v.own.log) 0) (λ z. omega arith)
         (λ z. let i = some_index p v.own.log (omega arith) in absurd (none ((k.tells n v.own (part_at c heap homes n v k)).placed p i.0 i.1).1));
   }
+
+  -- head and tail of a set are not before those that the own log tells
+  pub ahead : (j head tail : ℕ) → j < 544 → head ≡ (set_of c j).head → tail ≡ (set_of c j).tail → IsAhead j head tail v.own.log
+  ahead j head tail low e f = record {
+    order = (let o = k.owned.sets.order j (set_of c j) (at_low c.sets j no_set (let x = k.sets in omega arith)) in omega arith);
+    grown = λ h t m. let g = (k.tells n v.own (part_at c heap homes n v k)).grown j h t m in let a = g.0 in let b = g.1 in (omega arith, omega arith);
+  }
+
+  -- a cell of an unswept set is filled below a tail that was seen
+  pub seen_filled : (j i : ℕ) → is_swept_set c.generation j ≡ false → (h t : ℕ) → 0 < many (is_look j h t) v.own.log → i < t → 0 < cell_of (set_of c j) i
+  seen_filled j i u h t m l = let y = k.tells n v.own (part_at c heap homes n v k) in let g = (y.grown j h t m).1 in (y.filled j u i (omega arith)).0
+
+  -- a cell is no more than 65536
+  pub cell_low : (j i : ℕ) → j < 544 → cell_of (set_of c j) i ≤ 65536
+  cell_low j i low = let a = at_low c.sets j no_set (let x = k.sets in omega arith) in let most = k.small in
+      dite (dec_le (suc i) (set_of c j).tail) (λ l. by_part a (omega arith) (is_swept_set c.generation j) refl)
+      (λ l. let b = (kept c heap homes n v k).sets_fit.beyond j (set_of c j) a i (omega arith) in omega arith)
+    where
+      by_part : get_elem? c.sets j ≡ some (set_of c j) → i < (set_of c j).tail → (b : Bool) → is_swept_set c.generation j ≡ b → cell_of (set_of c j) i ≤ 65536
+      by_part a l true e = let m = k.entered.sets_name j (set_of c j) a e in let p = (m.entry i l).low in let most = k.small in
+          ⊎_elim (λ (q : cell_of (set_of c j) i ≡ 0). let z : cell_of (set_of c j) i ≤ 65536 = omega arith in z) (λ (q : cell_of (set_of c j) i ≡ k.names j i + 1). omega arith) (m.cell i l)
+      by_part a l false e = ((k.tells n v.own (part_at c heap homes n v k)).filled j e i l).1
 
   -- each marked index of a body's page is allocated
   pub has_marked : (b : Body) → Fits heap.past c.lives b.page (span_of b) → HasMarked v.marks b

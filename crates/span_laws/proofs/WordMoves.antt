@@ -33,7 +33,7 @@ use Rattle.span_laws.specs.declared.view.Part.{Part}
 use Rattle.span_laws.specs.declared.view.Span.{Span}
 use Rattle.span_laws.specs.declared.view.View.{View}
 use Rattle.span_laws.specs.Bodies.{Fits, IsLent, IsWaiting, is_claimed, lends}
-use Rattle.span_laws.specs.Logs.{is_placing_at}
+use Rattle.span_laws.specs.Logs.{is_look, is_placing_at}
 use Rattle.span_laws.specs.Rule.{Rule, logs_of}
 use Rattle.span_laws.specs.Tells.{IsPlaced, Tells}
 use Rattle.span_laws.specs.Views.{acts, hand_state, has_cell, parts_of, span_at, span_of, told, told_of, without}
@@ -113,6 +113,8 @@ module _ (c : CoreState) (heap : PageHeap) (homes : List (Option Body)) (n : ℕ
           (λ d. (subst (λ (z : ℕ). q < z) (sym (length-set c.words p x)) m.0, subst (IsSettled c.generation) (sym (word_else q d)) m.1, m.2));
       empty = λ s u e. e;
       cells = λ s i q e. e;
+      grow = λ s. (omega arith, omega arith);
+      filled = λ s u f. f;
     }
 
     -- the fresh pages, where neither list changes and the page is not cached
@@ -138,7 +140,7 @@ module _ (c : CoreState) (heap : PageHeap) (homes : List (Option Body)) (n : ℕ
         (λ q d. let s = times_end_else q p v.own.sweeping d in omega arith) (λ q d. span_else (span_of b) v.own.spans q d)
         (λ l. (span_of b, span_here (span_of b) v.own.spans, fits)) (λ g. inl (omega arith)) (λ x. k.marks.kept p low (inl w)) (λ i x y. x)
         (own_tells c.generation c.words c.lives c.sets (set c.words p (c.generation - 1)) c.lives c.sets p (word_leads p (c.generation - 1) low (λ i m. absurd (unsettled _ (inl w) m.1))) v.own h own_tells_of
-        (fresh_stays p (c.generation - 1) low h refl refl (has_none p v.own.cached (omega arith))) (λ q i m. inl m) (λ s u m. inl m) (λ s i q m. inl m)))
+        (fresh_stays p (c.generation - 1) low h refl refl (has_none p v.own.cached (omega arith))) (λ q i m. inl m) (λ s u m. inl m) (λ s i q m. inl m) (λ s x y m. inl m)))
 
   -- the body that the own part has is that of its life
   pub lent_now : (p : ℕ) → 0 < lends p v.own → IsLent heap.past c.lives v.own p
@@ -166,7 +168,7 @@ module _ (c : CoreState) (heap : PageHeap) (homes : List (Option Body)) (n : ℕ
         (λ y. k.marks.kept p low (waits (subst (IsWaiting c.generation) (word_here p x low) y))) (λ i a b. a)
         (own_tells c.generation c.words c.lives c.sets (set c.words p x) c.lives c.sets p lead v.own h own_tells_of fresh
         (λ q i m. inl (subst (λ (y : List Entry). 0 < many (is_placing_at q i) y) log m)) (λ s u m. inl (subst (λ (y : List Entry). 0 < many (is_seen_empty s) y) log m))
-        (λ s i q m. inl (subst (λ (y : List Cell). has_cell s i q y ≡ true) read m))))
+        (λ s i q m. inl (subst (λ (y : List Cell). has_cell s i q y ≡ true) read m)) (λ s x z m. inl (subst (λ (y : List Entry). 0 < many (is_look s x z) y) log m))))
 
   -- a page that is held and not claimed for is lent
   pub held_lent : (p : ℕ) → has p v.own.held ≡ true → v.own.claimed ≡ None → 0 < lends p v.own

@@ -19,7 +19,9 @@ use Rattle.span_laws.specs.declared.answers.Step.{Step}
 use Rattle.span_laws.specs.declared.said.Said.TheVariants.{Finds, Uncaches, UncachesStale, Misses, Looks, PopsEntry}
 use Rattle.span_laws.specs.declared.said.SaidOf.TheVariants.{Acquires, Takes, Pops}
 use Rattle.span_laws.specs.Asks.{IsUsed, HasRoom, IsFullBody, IsEmptyBody, HasMarked, IsUntouched}
-use Rattle.worker_log.specs.Logs.{is_full_set}
+use Rattle.span_laws.specs.Logs.{is_look}
+use Rattle.worker_log.specs.declared.Entry.{Entry}
+use Rattle.worker_log.specs.Logs.{is_full_set, many}
 use Rattle.span_laws.specs.Views.{Seen, after_of, after_said, span_of}
 
 -- the cycle of a generation
@@ -76,14 +78,19 @@ pub record IsOfSet (set : ℕ) (b : Body) : Type 0 where
   pub full : is_full_set set ≡ true → IsFullBody b
   pub room : is_full_set set ≡ false → HasRoom b
 
+-- head and tail of a set are in order, and not before those of any look at the set that the log tells
+pub record IsAhead (set head tail : ℕ) (log : List Entry) : Type 0 where
+  pub order : head ≤ tail
+  pub grown : (h t : ℕ) → 0 < many (is_look set h t) log → (h ≤ head) × (t ≤ tail)
+
 -- the exchange found head and tail as given, and the worker holds the popped span; or it found others
 abbrev pub RaisesSwept : ℕ → ℕ → ℕ → ℕ → Seen → Seen → Result Body (ℕ × ℕ) → Type 0
 RaisesSwept set head tail page old new (Ok body) = (body.page ≡ page) × (new ≡ after_of (Pops set) (span_of body) old) × IsOfSet set body
-RaisesSwept set head tail page old new (Err found) = ((found.0 ≢ head) ⊎ (found.1 ≢ tail)) × (new ≡ after_said (Looks set found.0 found.1) old)
+RaisesSwept set head tail page old new (Err found) = ((found.0 ≢ head) ⊎ (found.1 ≢ tail)) × (new ≡ after_said (Looks set found.0 found.1) old) × IsAhead set found.0 found.1 old.view.own.log
 
 abbrev pub RaisesUnswept : ℕ → ℕ → ℕ → ℕ → Seen → Seen → Result (Unit {0}) (ℕ × ℕ) → Type 0
 RaisesUnswept set head tail page old new (Ok done) = (page < old.view.region) × (new ≡ after_said (PopsEntry set page) old)
-RaisesUnswept set head tail page old new (Err found) = ((found.0 ≢ head) ⊎ (found.1 ≢ tail)) × (new ≡ after_said (Looks set found.0 found.1) old)
+RaisesUnswept set head tail page old new (Err found) = ((found.0 ≢ head) ⊎ (found.1 ≢ tail)) × (new ≡ after_said (Looks set found.0 found.1) old) × IsAhead set found.0 found.1 old.view.own.log
 
 -- a scavenging step behind a journal: it released a run by a line that may follow, or backed pages were at most the goal or no free page was
 -- backed; with the backed pages after it

@@ -1,7 +1,7 @@
 -- What contracts of the shared spans read in logs, besides the counts of worker_log. A log has its newest entry first.
 use Rattle.std.specs.Prelude.{◌≡◌, ℕ, true, false, ◌==◌, ◌&&◌, Bool, List, ◌∷◌, ◌++◌}
 use Rattle.worker_log.specs.declared.Entry.{Entry}
-use Rattle.worker_log.specs.declared.Entry.TheVariants.{Swept, Took, Allocated}
+use Rattle.worker_log.specs.declared.Entry.TheVariants.{Looked, Swept, Took, Allocated}
 use Rattle.worker_log.specs.declared.Sweeping.{Sweeping}
 use Rattle.worker_log.specs.Logs.{many}
 
@@ -9,6 +9,11 @@ use Rattle.worker_log.specs.Logs.{many}
 abbrev pub is_placing_at : ℕ → ℕ → Entry → Bool
 is_placing_at page index (Allocated a) = (a.page == page) && (a.index == index)
 is_placing_at page index _ = false
+
+-- the entry saw this head and this tail of this set
+abbrev pub is_look : ℕ → ℕ → ℕ → Entry → Bool
+is_look set head tail (Looked s h t) = (s == set) && ((h == head) && (t == tail))
+is_look set head tail _ = false
 
 -- the entry takes a run
 abbrev pub is_taking : Entry → Bool

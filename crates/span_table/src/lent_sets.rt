@@ -1,8 +1,9 @@
-ghost use Rattle.std.specs.Prelude.{◌≡◌, ℕ, ◌+◌, ◌<◌, true, false, None, Some, length};
+ghost use Rattle.std.specs.Prelude.{◌≡◌, ℕ, ◌+◌, ◌<◌, ◌≤◌, true, false, None, Some, length};
 ghost use Rattle.sweep_laws.specs.Lists.{has};
 ghost use Rattle.sweep_laws.specs.Needs.{cell_of, class_of_set, is_swept_set, set_of};
-ghost use Rattle.span_laws.specs.Answers.{IsOfSet, RaisesSwept, RaisesUnswept};
+ghost use Rattle.span_laws.specs.Answers.{IsAhead, IsOfSet, RaisesSwept, RaisesUnswept};
 ghost use Rattle.span_laws.specs.Asks.{HasBody};
+ghost use Rattle.span_laws.specs.Logs.{is_look};
 ghost use Rattle.worker_log.specs.Logs.{is_full_set, is_placing_in, is_pop_of, is_seen_empty, many};
 ghost use Rattle.span_laws.specs.Views.{after_of, after_said, has_cell, span_of};
 
@@ -39,7 +40,8 @@ impl Lent {
     pub(crate) fn look(&mut self, shared: &Shared, set: u32) -> (u32, u32)
         requires table { self.old.table ≡ shared.now }
         requires set { set < 544 }
-        ensures { self.new ≡ after_said (Said.Looks set result.0 result.1) self.old }
+        ensures view { self.new ≡ after_said (Said.Looks set result.0 result.1) self.old }
+        ensures ahead { IsAhead set result.0 result.1 self.old.view.own.log }
     {
         let (head, tail) = head_and_tail(&self.core, set);
         note(
@@ -58,7 +60,9 @@ impl Lent {
     pub(crate) fn look_cell(&mut self, shared: &Shared, set: u32, index: u32) -> u64
         requires table { self.old.table ≡ shared.now }
         requires set { set < 544 }
-        ensures { self.new ≡ after_said (Said.LooksCell set index result) self.old }
+        ensures view { self.new ≡ after_said (Said.LooksCell set index result) self.old }
+        ensures filled { is_swept_set self.old.view.generation set ≡ false → (h t : ℕ) → 0 < many (is_look set h t) self.old.view.own.log → index < t → 0 < result }
+        ensures low { result ≤ 65536 }
     {
         let found = cell(&self.core, set, index);
         note(

@@ -179,6 +179,7 @@ impl Lent {
     pub(crate) fn generation(&mut self, shared: &Shared) -> u64
         requires table { self.old.table ≡ shared.now }
         ensures value { result ≡ self.old.view.generation }
+        ensures range { (4 ≤ result) × (result ≤ 8589934592) }
         ensures view { self.new ≡ after_said (Said.Reads 1 result) self.old }
     {
         let generation = self.core.generation();

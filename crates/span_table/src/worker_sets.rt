@@ -1,8 +1,9 @@
-ghost use Rattle.std.specs.Prelude.{◌≡◌, ◌<◌, true, false, None, Some};
+ghost use Rattle.std.specs.Prelude.{◌≡◌, ℕ, ◌<◌, ◌≤◌, true, false, None, Some};
 ghost use Rattle.sweep_laws.specs.Lists.{has};
 ghost use Rattle.sweep_laws.specs.Needs.{is_swept_set};
-ghost use Rattle.span_laws.specs.Answers.{IsOfSet, RaisesSwept, RaisesUnswept};
+ghost use Rattle.span_laws.specs.Answers.{IsAhead, IsOfSet, RaisesSwept, RaisesUnswept};
 ghost use Rattle.span_laws.specs.Asks.{HasBody};
+ghost use Rattle.span_laws.specs.Logs.{is_look};
 ghost use Rattle.worker_log.specs.Logs.{is_full_set, is_placing_in, is_pop_of, is_seen_empty, many};
 ghost use Rattle.span_laws.specs.Views.{after_said, has_cell};
 
@@ -13,12 +14,13 @@ use span_state::Body;
 
 impl Shared {
     /// Head and tail of a set, from 0 to 543: four times the span class, plus 2 for a full set, plus its part. The part
-    /// `(G/2) % 2` is the swept one. Takes no memory.
+    /// `(G/2) % 2` is the swept one. Within a cycle neither goes back. Takes no memory.
     pub fn look(&self, w: &mut Worker, set: u32) -> (u32, u32)
         requires here { w.old.here ≡ true }
         requires table { w.old.table ≡ self.now }
         requires set { set < 544 }
-        ensures { w.new ≡ after_said (Said.Looks set result.0 result.1) w.old }
+        ensures view { w.new ≡ after_said (Said.Looks set result.0 result.1) w.old }
+        ensures ahead { IsAhead set result.0 result.1 w.old.view.own.log }
     {
         let Some(lent) = &mut w.lent else {
             unreachable!()
@@ -26,12 +28,15 @@ impl Shared {
         lent.look(self, set)
     }
 
-    /// A cell of a set: a first page plus 1, or 0 where it is not filled. Takes no memory.
+    /// A cell of a set: a first page plus 1, or 0 where it is not filled. Below a tail that the worker saw, the cells of an unswept
+    /// set are filled. Takes no memory.
     pub fn look_cell(&self, w: &mut Worker, set: u32, index: u32) -> u64
         requires here { w.old.here ≡ true }
         requires table { w.old.table ≡ self.now }
         requires set { set < 544 }
-        ensures { w.new ≡ after_said (Said.LooksCell set index result) w.old }
+        ensures view { w.new ≡ after_said (Said.LooksCell set index result) w.old }
+        ensures filled { is_swept_set w.old.view.generation set ≡ false → (h t : ℕ) → 0 < many (is_look set h t) w.old.view.own.log → index < t → 0 < result }
+        ensures low { result ≤ 65536 }
     {
         let Some(lent) = &mut w.lent else {
             unreachable!()

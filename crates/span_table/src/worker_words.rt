@@ -1,4 +1,4 @@
-ghost use Rattle.std.specs.Prelude.{◌≡◌, ℕ, ◌+◌, ◌<◌, true, None};
+ghost use Rattle.std.specs.Prelude.{◌≡◌, ℕ, ◌+◌, ◌<◌, ◌≤◌, true, None};
 ghost use Rattle.sweep_laws.specs.Lists.{has};
 ghost use Rattle.span_state.specs.Bits.{HasFree, with_bit};
 ghost use Rattle.span_state.specs.Spans.{allocated, IsSameSpan};
@@ -12,11 +12,12 @@ use span_laws::{Acquired, Said, SaidOf, Uncached};
 use span_state::Body;
 
 impl Shared {
-    /// The heap generation, which a log entry tells (word 1).
+    /// The heap generation, from 4 to 2^33, which a log entry tells (word 1).
     pub fn generation(&self, w: &mut Worker) -> u64
         requires here { w.old.here ≡ true }
         requires table { w.old.table ≡ self.now }
         ensures value { result ≡ w.old.view.generation }
+        ensures range { (4 ≤ result) × (result ≤ 8589934592) }
         ensures view { w.new ≡ after_said (Said.Reads 1 result) w.old }
     {
         let Some(lent) = &mut w.lent else {

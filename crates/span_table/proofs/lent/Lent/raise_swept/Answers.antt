@@ -1,4 +1,4 @@
-use Rattle.std.proofs.Common.{◌≡◌, ℕ, ◌<◌, List, length, get_or, set, refl, ap, sym, subst, ◌∙◌, arith}
+use Rattle.std.proofs.Common.{inl, inr, ◌≡◌, ℕ, ◌<◌, List, length, get_or, set, refl, ap, sym, subst, ◌∙◌, arith}
 use Rattle.std.specs.Prelude.{None, Option}
 use Rattle.span_state.specs.declared.body.Body.{Body}
 use Rattle.sweep_laws.specs.Needs.{is_swept_set, set_of}
@@ -6,9 +6,11 @@ use Rattle.span_laws.specs.declared.view.View.{View}
 use Rattle.span_laws.specs.Views.{Seen, has_cell}
 use Rattle.span_laws.proofs.Allowed.{pop_swept_allowed}
 use Rattle.span_laws.proofs.Calls.{head_filled, pop_rule, taken_page, taken_set, written_at}
+use Rattle.span_laws.specs.Answers.{IsAhead}
 use Rattle.span_laws.proofs.RuleKept.{low_number}
-use Rattle.span_laws.proofs.Uses.{popped_home, popped_low}
+use Rattle.span_laws.proofs.Uses.{ahead, popped_home, popped_low}
 use Rattle.span_table.proofs.lent.Lent.raise_swept.Goals as goal
+use Rattle.span_table.proofs.lent.Lent.raise_swept.Goals.{then-found-head-via-then-found-head, then-found-head-via-else-found-head+then-found-tail}
 
 pub take_home-body-requires-clause-page : goal.take_home-body-requires-clause-page
 take_home-body-requires-clause-page c = let i = c.self.inside in let v : View = i.seat.me.0 in let k = c.self.invariant in let r = c.requires in let e = c.head_and_tail-found.ensures in
@@ -58,3 +60,11 @@ returns c = let i = c.self.inside in let v : View = i.seat.me.0 in let k = c.sel
       rw (← c.self.view_is, c.tell_of.ensures.table, c.tell_of.ensures.view) refl,
       taken_set i.core i.pages i.homes.items i.number v k c.args.set c.args.page r.set part more at c.take_home-body.result body,
     )
+
+pub returns-then-found-head : goal.returns-then-found-head
+returns-then-found-head c = let i = c.self.inside in let e = c.head_and_tail-found.ensures in (
+  elim c.then-found-head.branch [ then-found-head-via-then-found-head w ↦ inl w.if-found-head.true | then-found-head-via-else-found-head+then-found-tail w ↦ inr w.if-found-tail.true ],
+  rw (← c.self.view_is, c.note.ensures.table, c.note.ensures.view) refl,
+  subst (λ (w : Seen). IsAhead c.args.set c.head_and_tail-found.result.0 c.head_and_tail-found.result.1 w.view.own.log) c.self.view_is
+      (ahead i.core i.pages i.homes.items i.number i.seat.me.0 c.self.invariant c.args.set c.head_and_tail-found.result.0 c.head_and_tail-found.result.1 c.requires.set e.head e.tail),
+)

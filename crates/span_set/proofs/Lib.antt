@@ -1,0 +1,5 @@
+pub mod Looking
+pub mod Numbers
+pub mod Pushing
+pub mod Resetting
+pub mod Sweeping

@@ -1,0 +1,81 @@
+-- A pop looks until it is done: what each look and each lost try leave.
+use Rattle.std.proofs.Common.{◌≡◌, ◌≢◌, ℕ, suc, ◌+◌, ◌^◌, ◌<◌, ◌⊎◌, ⊎_elim, true, eq-eqb, List, [], ◌∷◌, ◌++◌, refl, ap, sym, subst, ◌∙◌, arith}
+use Rattle.std.specs.Prelude.{Ok, Err}
+use Rattle.worker_log.specs.declared.Entry.{Entry}
+use Rattle.worker_log.specs.declared.Entry.TheVariants.{Looked}
+use Rattle.worker_log.specs.Logs.{many}
+use Rattle.span_state.specs.declared.body.Body.{Body}
+use Rattle.span_laws.specs.declared.said.Said.TheVariants.{Looks, LooksCell, PopsEntry, Reads}
+use Rattle.span_laws.specs.declared.said.SaidOf.TheVariants.{Pops}
+use Rattle.span_laws.specs.declared.view.Cell.{Cell}
+use Rattle.span_laws.specs.Answers.{IsAhead, RaisesSwept, RaisesUnswept}
+use Rattle.span_laws.specs.Logs.{is_look}
+use Rattle.span_laws.specs.Views.{Seen, after_of, after_said, cells_read, has_cell, span_of}
+use Rattle.span_set.specs.declared.answers.Pop.TheVariants.{Taken}
+use Rattle.span_set.specs.declared.answers.PopBase.TheVariants.{Popped}
+use Rattle.span_set.specs.Pops.{LooksLast, LosesTry, TriesSwept, TriesUnswept}
+
+pub look_seen : (set h t : ℕ) (log : List Entry) → 0 < many (is_look set h t) (Looked set h t ∷ log)
+look_seen set h t log = rw (eq-eqb set set refl, eq-eqb h h refl, eq-eqb t t refl) (omega arith)
+
+pub cell_seen : (set index page : ℕ) (cells : List Cell) → has_cell set index page (cells_read set index (suc page) ++ cells) ≡ true
+cell_seen set index page cells = rw (eq-eqb set set refl, eq-eqb index index refl, eq-eqb page page refl) refl
+
+module _ (set head tail : ℕ) (old now : Seen) where
+  pub first_look : now ≡ after_said (Looks set head tail) (after_said (Reads 1 old.view.generation) old) → LooksLast set head tail old now
+  first_look e = record { said = []; cells = []; looks = tt; view = e }
+
+  module _ (l : LooksLast set head tail old now) where
+    pub still_here : old.here ≡ true → now.here ≡ true
+    still_here h = ap (λ (w : Seen). w.here) l.view ∙ h
+
+    pub same_table : now.table ≡ old.table
+    same_table = ap (λ (w : Seen). w.table) l.view
+
+    pub same_generation : now.view.generation ≡ old.view.generation
+    same_generation = ap (λ (w : Seen). w.view.generation) l.view
+
+    pub same_region : now.view.region ≡ old.view.region
+    same_region = ap (λ (w : Seen). w.view.region) l.view
+
+    pub last_seen : 0 < many (is_look set head tail) now.view.own.log
+    last_seen = subst (λ (w : Seen). 0 < many (is_look set head tail) w.view.own.log) (sym l.view) (look_seen set head tail (l.said ++ Rattle.worker_log.specs.declared.Entry.TheVariants.Read 1 old.view.generation ∷ old.view.own.log))
+
+    pub again : (new : Seen) (found : ℕ × ℕ) → LosesTry set head tail now new found → LooksLast set found.0 found.1 old new
+    again new found t = record {
+      said = Looked set head tail ∷ l.said;
+      cells = record { set = set; index = head; page = t.cell } ∷ l.cells;
+      looks = (refl, l.looks);
+      view = t.view ∙ ap (λ (w : Seen). after_said (Looks set found.0 found.1) (after_said (LooksCell set head (suc t.cell)) w)) l.view;
+    }
+
+-- a cell was read at the head, and then the exchange made
+module _ (set head tail cell page : ℕ) (old mid new : Seen) (look : mid ≡ after_said (LooksCell set head cell) old) (is : cell ≡ suc page) (less : head < tail) (low : tail < 2 ^ 32) where
+  read_page : mid ≡ after_said (LooksCell set head (suc page)) old
+  read_page = look ∙ ap (λ (x : ℕ). after_said (LooksCell set head x) old) is
+
+  pub read_now : has_cell set head page mid.view.own.read ≡ true
+  read_now = subst (λ (w : Seen). has_cell set head page w.view.own.read ≡ true) (sym read_page) (cell_seen set head page old.view.own.read)
+
+  pub took : (body : Body) → RaisesSwept set head tail page mid new (Ok body) → TriesSwept set head tail old new (Ok (Taken body))
+  took body r = (less, r.1 ∙ ap (after_of (Pops set) (span_of body)) (read_page ∙ ap (λ (x : ℕ). after_said (LooksCell set head (suc x)) old) (sym r.0)), r.2)
+
+  lost : (found : ℕ × ℕ) → 0 < many (is_look set head tail) old.view.own.log → (found.0 ≢ head) ⊎ (found.1 ≢ tail) → new ≡ after_said (Looks set found.0 found.1) mid → IsAhead set found.0 found.1 mid.view.own.log → LosesTry set head tail old new found
+  lost found seen other view ahead = record {
+    cell = page;
+    view = view ∙ ap (after_said (Looks set found.0 found.1)) read_page;
+    order = ahead.order;
+    low = low;
+    rose = (let g = ahead.grown head tail (subst (λ (w : Seen). 0 < many (is_look set head tail) w.view.own.log) (sym read_page) seen) in let a = g.0 in let b = g.1 in
+        ⊎_elim (λ (d : found.0 ≢ head). let z : head + tail < found.0 + found.1 = omega arith in z) (λ (d : found.1 ≢ tail). omega arith) other);
+  }
+
+  pub lost_swept : (found : ℕ × ℕ) → 0 < many (is_look set head tail) old.view.own.log → RaisesSwept set head tail page mid new (Err found) → TriesSwept set head tail old new (Err found)
+  lost_swept found seen r = lost found seen r.0 r.1 r.2
+
+  pub popped : (page' : ℕ) → page' ≡ page → RaisesUnswept set head tail page mid new (Ok tt) → TriesUnswept set head tail old new (Ok (Popped page'))
+  popped page' e r = subst (λ (x : ℕ). TriesUnswept set head tail old new (Ok (Popped x))) (sym e)
+      (less, r.1 ∙ ap (after_said (PopsEntry set page)) read_page, subst (λ (w : Seen). page < w.view.region) read_page r.0)
+
+  pub lost_unswept : (found : ℕ × ℕ) → 0 < many (is_look set head tail) old.view.own.log → RaisesUnswept set head tail page mid new (Err found) → TriesUnswept set head tail old new (Err found)
+  lost_unswept found seen r = lost found seen r.0 r.1 r.2

@@ -1,0 +1,25 @@
+use Rattle.std.proofs.Common.{ap, ◌∙◌, arith}
+use Rattle.span_laws.specs.declared.said.Said.TheVariants.{Looks, Reads}
+use Rattle.span_laws.specs.Views.{Seen, after_said}
+use Rattle.span_set.proofs.Looking.{again, first_look}
+use Rattle.span_set.proofs.pops.pop_unswept.Goals as goal
+
+pub loop-init : goal.loop-init
+loop-init c = let n = c.unswept_number-number.result in let r = c.look-head.result in let w : Seen = c.args.w.now in record {
+  looks = first_look n r.0 r.1 w c.look-head.new.w
+      (c.look-head.ensures.view ∙ ap (after_said (Looks n r.0 r.1)) (c.generation-generation.ensures.view ∙ ap (λ g. after_said (Reads 1 g) w) c.generation-generation.ensures.value));
+  order = c.look-head.ensures.ahead.order;
+  few = omega arith;
+  tries = omega arith;
+}
+
+pub loop-preserved : goal.loop-preserved
+loop-preserved c = let n = c.unswept_number-number.result in let f = c.in-Err.found in let i = c.loop.invariant in let t = c.in-Err.ensures in record {
+  looks = again n c.loop.head c.loop.tail c.args.w.now c.loop.w i.looks c.try_unswept.new.w f t;
+  order = t.order;
+  few = (let a = t.low in let b = i.tries in let d = i.order in omega arith);
+  tries = (let a = t.rose in let b = i.tries in omega arith);
+}
+
+pub unreachable-requires : goal.unreachable-requires
+unreachable-requires c = let i = c.loop.invariant in let a = i.few in let e = c.loop-test.false in omega arith

@@ -1,0 +1,4 @@
+pub mod Pops
+pub mod Resets
+pub mod Sets
+pub mod Sweeps

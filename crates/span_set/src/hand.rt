@@ -1,0 +1,52 @@
+ghost use Rattle.std.specs.Prelude.{◌≡◌, ◌<◌, ◌≤◌, [], length, OnOk, OnErr};
+
+use fallible_list::NoMemory;
+use span_state::{Marks, SweepNote};
+use span_table::{Shared, Worker};
+use std::alloc::Global;
+use sweep_lists::Entries;
+
+/// What workers sweep by.
+pub struct Shop<'a> {
+    /// The shared spans.
+    pub shared: &'a Shared,
+    /// The marks of the last mark end.
+    pub marks: &'a Marks,
+    /// The bytes from one payment for sweeping to the next, at least 8192.
+    pub distance: u64,
+    /// The pages that were to be swept at the last mark end.
+    pub pages: u32,
+}
+
+/// A worker, and the notes of its sweeps with room for more.
+#[derive(Drop)]
+pub struct Hand {
+    /// The worker.
+    pub worker: Worker,
+    /// Its sweeps of this cycle, the oldest first.
+    pub notes: Entries<SweepNote>,
+}
+
+impl Hand {
+    /// A worker's hand, without notes, and without room for one.
+    pub fn new(alloc: Global, worker: Worker) -> Hand
+        ensures worker { result.worker ≡ worker }
+        ensures notes { result.notes ≡ record { items = []; space = 0 } }
+    {
+        Hand {
+            worker,
+            notes: Entries::new(alloc),
+        }
+    }
+
+    /// Makes room for a note, which a sweep takes. It fails only where memory runs out, and then changes nothing.
+    pub fn reserve_note(&mut self) -> Result<(), NoMemory>
+        ensures room { OnOk result (length self.new.notes.items < self.new.notes.space) }
+        ensures notes { self.new.notes.items ≡ self.old.notes.items }
+        ensures grows { self.old.notes.space ≤ self.new.notes.space }
+        ensures worker { self.new.worker ≡ self.old.worker }
+        ensures err { OnErr result (self.new ≡ self.old) }
+    {
+        self.notes.reserve_one()
+    }
+}
