@@ -67,8 +67,9 @@ wants "a folder as input" 5 $? "goheap: read fault"
 wants "a closed input" 5 $? "goheap: read fault"
 
 "$goheap" run <span-reused.trace >/dev/full 2>/dev/full
+status=$?
 : >"$folder/said"
-wants "both outputs full" 6 $? ""
+wants "both outputs full" 6 $status ""
 
 mkfifo "$folder/fifo"
 awk '{ for (i = 1; i <= length($0); i++) { printf "%s", substr($0, i, 1); fflush() } print ""; fflush() }' span-reused.trace >"$folder/fifo" &
