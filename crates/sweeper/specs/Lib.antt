@@ -1,0 +1,6 @@
+pub mod Entries
+pub mod NewSpans
+pub mod Pays
+pub mod Reclaims
+pub mod Sweeps
+pub mod Work
