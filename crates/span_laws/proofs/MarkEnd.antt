@@ -344,5 +344,6 @@ module _ (c : CoreState) (heap : PageHeap) (homes : List (Option Body)) (n : ℕ
           read = λ s i p l. absurd (true≢false (sym l));
           filled = λ s u. filled_after s u;
           grown = λ s x y l. absurd (omega arith);
+          passed = λ k. omega arith;
         }));
   })

@@ -30,7 +30,7 @@ use Rattle.swept_set_laws.proofs.EnteredKept.{claim_room, queued_by}
 use Rattle.worker_log.specs.declared.Entry.{Entry}
 use Rattle.worker_log.specs.declared.Entry.TheVariants.{Looked, LookedEmptyCell, Popped, Pushed, Swept, Took, Missed, Gave, Allocated, Found, Read, Added}
 use Rattle.worker_log.specs.Logs.{is_full_set, is_placing_in, is_pop_of, many}
-use Rattle.span_laws.specs.Asks.{HasBody, HasMarked, IsUntouched, MayPlace}
+use Rattle.span_laws.specs.Asks.{HasBody, HasMarked, IsApart, IsUntouched, MayPlace}
 use Rattle.span_laws.specs.Answers.{IsAhead, IsOfSet}
 use Rattle.span_laws.specs.Bodies.{Fits, IsAway, IsHome, lends}
 use Rattle.span_laws.specs.Logs.{is_look, is_placing_at}
@@ -40,7 +40,7 @@ use Rattle.span_laws.specs.declared.view.Part.{Part}
 use Rattle.span_laws.specs.declared.view.View.{View}
 use Rattle.span_laws.proofs.Lives.{full_life, least_free, marks_has}
 use Rattle.span_laws.proofs.LifeMoves.{begin_at}
-use Rattle.span_laws.proofs.Parts.{has3, lends-le, nobodys}
+use Rattle.span_laws.proofs.Parts.{has3, has_none, lends-le, nobodys}
 use Rattle.span_laws.proofs.Ready.{all_in, class_found, class_is, first_in, free_in, has_room, is_full, life_found, some_in}
 use Rattle.span_laws.proofs.RuleKept.{low_number, log_own, own_at, own_hand, own_never, part_at}
 use Rattle.span_laws.proofs.WordMoves.{cached_lent, four, held_lent, kept, lent_now}
@@ -89,6 +89,7 @@ module _ (c : CoreState) (heap : PageHeap) (homes : List (Option Body)) (n : ℕ
   ahead j head tail low e f = record {
     order = (let o = k.owned.sets.order j (set_of c j) (at_low c.sets j no_set (let x = k.sets in omega arith)) in omega arith);
     grown = λ h t m. let g = (k.tells n v.own (part_at c heap homes n v k)).grown j h t m in let a = g.0 in let b = g.1 in (omega arith, omega arith);
+    passed = let g = (k.tells n v.own (part_at c heap homes n v k)).passed j in omega arith;
   }
 
   -- a cell of an unswept set is filled below a tail that was seen
@@ -113,6 +114,14 @@ module _ (c : CoreState) (heap : PageHeap) (homes : List (Option Body)) (n : ℕ
   -- nobody has a page at which a life begins, so its body is at home
   home_now : (p : ℕ) → p < length c.words → begins p c.lives ≡ true → ((m : ℕ) (x : Part) → get_elem? (parts_of n v) m ≡ some x → has3 p x ≡ 0) → IsHome heap.past c.lives homes p
   home_now p low b none = ⊎_elim (λ (a : IsAway (parts_of n v) p). let z = none a.0 a.1 a.2 in let y = lends-le p a.1 in let l = a.3 in absurd (omega arith)) (λ (x : IsHome heap.past c.lives homes p). x) (k.bodies.home p low b)
+
+  -- what nobody has, the worker does not have
+  pub apart : (p : ℕ) → has3 p v.own ≡ 0 → IsApart v.own p
+  apart p z = record { sweeping = has_none p v.own.sweeping (omega arith); held = has_none p v.own.held (omega arith); cached = has_none p v.own.cached (omega arith) }
+
+  pub waiting_apart : (p : ℕ) → p < length c.words → get_or c.words p 0 + 2 ≡ c.generation → IsApart v.own p
+  waiting_apart p low w = let z = (unswept_word c.generation (tally c.generation c.words c.lives c.sets c.hands p) (four c heap homes n v k) ((kept c heap homes n v k).page p low).standing w).0 in
+      apart p (nobodys c (parts_of n v) k.hands p (omega arith) n v.own (part_at c heap homes n v k))
 
   pub waiting_home : (p : ℕ) → p < length c.words → get_or c.words p 0 + 2 ≡ c.generation → IsHome heap.past c.lives homes p
   waiting_home p low w = let z = (unswept_word c.generation (tally c.generation c.words c.lives c.sets c.hands p) (four c heap homes n v k) ((kept c heap homes n v k).page p low).standing w).0 in
@@ -192,6 +201,11 @@ module _ (c : CoreState) (heap : PageHeap) (homes : List (Option Body)) (n : ℕ
     popped_home = let q = queued_by c.generation c.words c.owners c.lives c.sets c.hands (kept c heap homes n v k) (logs_of n v) k.names k.entered n (hand_state v.own) (own_at c heap homes n v k) j (set_of c j) (at_low c.sets j no_set (let x = k.sets in omega arith)) part (set_of c j).head (omega arith) more p filled in
         let x = queued_list c.generation (tally c.generation c.words c.lives c.sets c.hands p) ((kept c heap homes n v k).page p entry.low).standing q in let x₂ = x.2 in
         home_now p entry.low (begin_at c heap homes n v k p entry.low (λ e. let f = four c heap homes n v k in let w = x.0 in omega arith)) (nobodys c (parts_of n v) k.hands p (omega arith))
+
+    pub popped_apart : IsApart v.own p
+    popped_apart = let q = queued_by c.generation c.words c.owners c.lives c.sets c.hands (kept c heap homes n v k) (logs_of n v) k.names k.entered n (hand_state v.own) (own_at c heap homes n v k) j (set_of c j) (at_low c.sets j no_set (let x = k.sets in omega arith)) part (set_of c j).head (omega arith) more p filled in
+        let x = queued_list c.generation (tally c.generation c.words c.lives c.sets c.hands p) ((kept c heap homes n v k).page p entry.low).standing q in let x₂ = x.2 in
+        apart p (nobodys c (parts_of n v) k.hands p (omega arith) n v.own (part_at c heap homes n v k))
 
     entry_begins : begins p c.lives ≡ true
     entry_begins = begin_at c heap homes n v k p entry.low (λ e. let f = four c heap homes n v k in

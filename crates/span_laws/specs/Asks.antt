@@ -62,6 +62,12 @@ pub record IsUntouched (generation : ℕ) (h : Part) (page : ℕ) : Type 0 where
   pub pops : (j : ℕ) → j < 544 → is_swept_set generation j ≡ true → many (is_pop_of j page) h.log ≡ 0
   pub placings : many (is_placing_in page) h.log ≡ 0
 
+-- the worker neither sweeps nor holds the span of the page, nor has it cached
+pub record IsApart (h : Part) (page : ℕ) : Type 0 where
+  pub sweeping : has page h.sweeping ≡ false
+  pub held : has page h.held ≡ false
+  pub cached : has page h.cached ≡ false
+
 -- objects may be placed in the body: the worker cached it in this cycle, and has no other span of its class cached; or it holds it,
 -- claims nothing, and the body is of one object
 abbrev pub MayPlace : Part → Body → Type 0

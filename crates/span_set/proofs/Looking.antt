@@ -1,14 +1,16 @@
 -- A pop looks until it is done: what each look and each lost try leave.
-use Rattle.std.proofs.Common.{◌≡◌, ◌≢◌, ℕ, suc, ◌+◌, ◌^◌, ◌<◌, ◌⊎◌, ⊎_elim, true, eq-eqb, List, [], ◌∷◌, ◌++◌, refl, ap, sym, subst, ◌∙◌, arith}
+use Rattle.std.proofs.Common.{◌≡◌, ◌≢◌, ℕ, suc, ◌+◌, ◌^◌, ◌<◌, ◌≤◌, ◌⊎◌, ⊎_elim, true, eq-eqb, List, [], ◌∷◌, ◌++◌, refl, ap, sym, subst, ◌∙◌, arith}
 use Rattle.std.specs.Prelude.{Ok, Err}
 use Rattle.worker_log.specs.declared.Entry.{Entry}
 use Rattle.worker_log.specs.declared.Entry.TheVariants.{Looked}
-use Rattle.worker_log.specs.Logs.{many}
+use Rattle.worker_log.specs.Logs.{is_pop, many}
+use Rattle.worker_log.proofs.Logs.{many-append}
 use Rattle.span_state.specs.declared.body.Body.{Body}
 use Rattle.span_laws.specs.declared.said.Said.TheVariants.{Looks, LooksCell, PopsEntry, Reads}
 use Rattle.span_laws.specs.declared.said.SaidOf.TheVariants.{Pops}
 use Rattle.span_laws.specs.declared.view.Cell.{Cell}
 use Rattle.span_laws.specs.Answers.{IsAhead, RaisesSwept, RaisesUnswept}
+use Rattle.span_laws.specs.Asks.{IsApart}
 use Rattle.span_laws.specs.Logs.{is_look}
 use Rattle.span_laws.specs.Views.{Seen, after_of, after_said, cells_read, has_cell, span_of}
 use Rattle.span_set.specs.declared.answers.Pop.TheVariants.{Taken}
@@ -22,8 +24,8 @@ pub cell_seen : (set index page : ℕ) (cells : List Cell) → has_cell set inde
 cell_seen set index page cells = rw (eq-eqb set set refl, eq-eqb index index refl, eq-eqb page page refl) refl
 
 module _ (set head tail : ℕ) (old now : Seen) where
-  pub first_look : now ≡ after_said (Looks set head tail) (after_said (Reads 1 old.view.generation) old) → LooksLast set head tail old now
-  first_look e = record { said = []; cells = []; looks = tt; view = e }
+  pub first_look : now ≡ after_said (Looks set head tail) (after_said (Reads 1 old.view.generation) old) → many (is_pop set) old.view.own.log ≤ head → LooksLast set head tail old now
+  first_look e passed = record { said = []; cells = []; looks = tt; view = e; passed = passed }
 
   module _ (l : LooksLast set head tail old now) where
     pub still_here : old.here ≡ true → now.here ≡ true
@@ -41,12 +43,17 @@ module _ (set head tail : ℕ) (old now : Seen) where
     pub last_seen : 0 < many (is_look set head tail) now.view.own.log
     last_seen = subst (λ (w : Seen). 0 < many (is_look set head tail) w.view.own.log) (sym l.view) (look_seen set head tail (l.said ++ Rattle.worker_log.specs.declared.Entry.TheVariants.Read 1 old.view.generation ∷ old.view.own.log))
 
+    pops_before : many (is_pop set) old.view.own.log ≤ many (is_pop set) now.view.own.log
+    pops_before = subst (λ (w : Seen). many (is_pop set) old.view.own.log ≤ many (is_pop set) w.view.own.log) (sym l.view)
+        (let a = many-append (is_pop set) l.said (Rattle.worker_log.specs.declared.Entry.TheVariants.Read 1 old.view.generation ∷ old.view.own.log) in omega arith)
+
     pub again : (new : Seen) (found : ℕ × ℕ) → LosesTry set head tail now new found → LooksLast set found.0 found.1 old new
     again new found t = record {
       said = Looked set head tail ∷ l.said;
       cells = record { set = set; index = head; page = t.cell } ∷ l.cells;
       looks = (refl, l.looks);
       view = t.view ∙ ap (λ (w : Seen). after_said (Looks set found.0 found.1) (after_said (LooksCell set head (suc t.cell)) w)) l.view;
+      passed = (let a = pops_before in let b = t.passed in omega arith);
     }
 
 -- a cell was read at the head, and then the exchange made
@@ -58,7 +65,10 @@ module _ (set head tail cell page : ℕ) (old mid new : Seen) (look : mid ≡ af
   read_now = subst (λ (w : Seen). has_cell set head page w.view.own.read ≡ true) (sym read_page) (cell_seen set head page old.view.own.read)
 
   pub took : (body : Body) → RaisesSwept set head tail page mid new (Ok body) → TriesSwept set head tail old new (Ok (Taken body))
-  took body r = (less, r.1 ∙ ap (after_of (Pops set) (span_of body)) (read_page ∙ ap (λ (x : ℕ). after_said (LooksCell set head (suc x)) old) (sym r.0)), r.2)
+  took body r = (less, r.1 ∙ ap (after_of (Pops set) (span_of body)) (read_page ∙ ap (λ (x : ℕ). after_said (LooksCell set head (suc x)) old) (sym r.0)), r.2, apart)
+    where
+      apart : IsApart old.view.own body.page
+      apart = subst (λ (p : ℕ). IsApart old.view.own p) (sym r.0) (let a = subst (λ (w : Seen). IsApart w.view.own page) read_page r.3 in record { sweeping = a.sweeping; held = a.held; cached = a.cached })
 
   lost : (found : ℕ × ℕ) → 0 < many (is_look set head tail) old.view.own.log → (found.0 ≢ head) ⊎ (found.1 ≢ tail) → new ≡ after_said (Looks set found.0 found.1) mid → IsAhead set found.0 found.1 mid.view.own.log → LosesTry set head tail old new found
   lost found seen other view ahead = record {
@@ -66,6 +76,7 @@ module _ (set head tail cell page : ℕ) (old mid new : Seen) (look : mid ≡ af
     view = view ∙ ap (after_said (Looks set found.0 found.1)) read_page;
     order = ahead.order;
     low = low;
+    passed = subst (λ (w : Seen). many (is_pop set) w.view.own.log ≤ found.0) read_page ahead.passed;
     rose = (let g = ahead.grown head tail (subst (λ (w : Seen). 0 < many (is_look set head tail) w.view.own.log) (sym read_page) seen) in let a = g.0 in let b = g.1 in
         ⊎_elim (λ (d : found.0 ≢ head). let z : head + tail < found.0 + found.1 = omega arith in z) (λ (d : found.1 ≢ tail). omega arith) other);
   }

@@ -13,7 +13,7 @@ use Rattle.span_laws.specs.Asks.{HasBody, IsApart, IsUntouched}
 use Rattle.span_set.specs.declared.hand.Hand.{Hand}
 use Rattle.sweeper.specs.Entries.{is_added}
 use Rattle.sweeper.specs.Reclaims.{HasReclaimed, chunks_of}
-use Rattle.sweeper.specs.Work.{SawAllEmpty, TakesNone, Works}
+use Rattle.sweeper.specs.Work.{IsPlain, SawAllEmpty, TakesNone, Works}
 
 -- the log ends with the line that took the span, behind what a reclaim of its pages needs
 pub record TookAtLast (old : Hand) (n : ℕ) (b : Body) (said : List Entry) : Type 0 where
@@ -42,3 +42,20 @@ abbrev pub MakesSpan : ℕ → ℕ → Hand → Hand → Result Body Refused →
 MakesSpan n class old new (Ok b) = HasNew n class old new b × Works (b.page ∷ []) (TookAtLast old n b) old new
 MakesSpan n class old new (Err (NoRun line)) = ((past : List Line) × (length past ≡ line) × NoRunFree n old.worker past) × Works [] (MissedAtLast old n class line) old new
 MakesSpan n class old new (Err WantsMemory) = Works [] (λ said. TakesNone said × (many (is_added 4) said ≤ chunks_of old.worker.view.region)) old new
+
+-- the same without a reclaim before: each unswept set was seen empty, and then a run was taken or missed
+pub record TookThen (g : ℕ) (b : Body) (said : List Entry) : Type 0 where
+  pub before : List Entry
+  pub log : said ≡ Took b.life (TakeLine (cycle_at g) b.page b.pages b.class) ∷ before
+  pub plain : IsPlain before
+
+pub record MissedThen (g n class line : ℕ) (said : List Entry) : Type 0 where
+  pub before : List Entry
+  pub log : said ≡ Missed line (MissLine (cycle_at g) n class) ∷ before
+  pub plain : IsPlain before
+  pub saw_empty : SawAllEmpty g before
+
+abbrev pub SweepsAndTakes : ℕ → ℕ → Hand → Hand → Result Body Refused → Type 0
+SweepsAndTakes n class old new (Ok b) = HasNew n class old new b × Works (b.page ∷ []) (TookThen old.worker.view.generation b) old new
+SweepsAndTakes n class old new (Err (NoRun line)) = ((past : List Line) × (length past ≡ line) × NoRunFree n old.worker past) × Works [] (MissedThen old.worker.view.generation n class line) old new
+SweepsAndTakes n class old new (Err WantsMemory) = Works [] IsPlain old new

@@ -32,8 +32,8 @@ pub record OnlySweeps (g : ℕ) (said : List Entry) : Type 0 where
   pub unpopped : (j p : ℕ) → is_swept_set g j ≡ true → many (is_pop_of j p) said ≡ 0
   pub untouched : (p : ℕ) → many (is_placing_in p) said ≡ 0
 
--- What a worker has stays: all that others agree on, what it has cached, sweeps, popped and claims, and the bodies of the spans that it
--- holds or has cached.
+-- What a worker has stays: all that others agree on, what it has cached, sweeps and claims, and the bodies of the spans that it holds or has
+-- cached.
 pub record Stays (old new : Seen) : Type 0 where
   pub here : new.here ≡ old.here
   pub table : new.table ≡ old.table
@@ -45,21 +45,26 @@ pub record Stays (old new : Seen) : Type 0 where
   pub parts : new.view.parts ≡ old.view.parts
   pub sweeping : new.view.own.sweeping ≡ old.view.own.sweeping
   pub cached : new.view.own.cached ≡ old.view.own.cached
-  pub popped : new.view.own.popped ≡ old.view.own.popped
   pub claimed : new.view.own.claimed ≡ old.view.own.claimed
   pub fresh : new.view.own.fresh ≡ old.view.own.fresh
   pub reset : new.view.own.reset ≡ old.view.own.reset
   pub bodies : (q : ℕ) → (has q old.view.own.held ≡ true) ⊎ (has q old.view.own.cached ≡ true) → span_at q new.view.own.spans ≡ span_at q old.view.own.spans
 
--- A call added these entries to the log, which have the property P, and just their notes to the notes; the worker holds these pages more.
+-- A worker's steps added these entries to the log, and it holds these pages more.
+pub record Does (more : List ℕ) (said : List Entry) (old new : Seen) : Type 0 where
+  pub log : new.view.own.log ≡ said ++ old.view.own.log
+  pub sweeps : OnlySweeps old.view.generation said
+  pub held : new.view.own.held ≡ old.view.own.held ++ more
+  pub stays : Stays old new
+
+-- What a call did that begins and ends without a popped entry: what it added to the log has the property P, the notes got just the notes of its
+-- sweeps, and the worker holds these pages more.
 pub record Works (more : List ℕ) (P : List Entry → Type 0) (old new : Hand) : Type 0 where
   pub said : List Entry
-  pub log : new.worker.view.own.log ≡ said ++ old.worker.view.own.log
   pub did : P said
-  pub sweeps : OnlySweeps old.worker.view.generation said
+  pub does : Does more said old.worker new.worker
   pub notes : new.notes.items ≡ old.notes.items ++ notes_of (cycle_at old.worker.view.generation) said
-  pub held : new.worker.view.own.held ≡ old.worker.view.own.held ++ more
-  pub stays : Stays old.worker new.worker
+  pub popped : new.worker.view.own.popped ≡ []
 
 -- no run is taken or missed
 pub record TakesNone (said : List Entry) : Type 0 where

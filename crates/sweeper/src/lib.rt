@@ -5,15 +5,15 @@
 #![tactic(auto)]
 
 mod answers;
-mod new_span;
-mod pay;
-mod reclaim;
+mod payments;
+mod reclaimer;
 mod settle;
+mod spans;
 mod sweep;
 
 pub use answers::{One, Paid};
-pub use new_span::new_span;
-pub use pay::{finish, pay};
-pub use reclaim::reclaim;
+pub use payments::{finish, pay};
+pub use reclaimer::reclaim;
 pub use span_table::Refused;
+pub use spans::new_span;
 pub use sweep::sweep_one;

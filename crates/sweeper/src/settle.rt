@@ -1,7 +1,7 @@
 ghost use Rattle.std.specs.Prelude.{◌≡◌, ◌<◌, ◌≤◌, None, length};
 ghost use Rattle.span_laws.specs.Asks.{IsUntouched};
 ghost use Rattle.span_set.specs.Sweeps.{MaySweep};
-ghost use Rattle.sweeper.specs.Steps.{SettlesSpan};
+ghost use Rattle.sweeper.specs.Steps.{Settles};
 
 use span_set::{Hand, SetId, Shop, push, sweep_in_hand};
 use span_state::{Body, SweepNote};
@@ -17,7 +17,7 @@ pub(crate) fn settle(shop: &Shop, hand: &mut Hand, body: Body) -> SweepNote
     requires class { body.class < 136 }
     requires may { MaySweep shop.now.marks.now body hand.old.worker }
     requires untouched { IsUntouched hand.old.worker.view.generation hand.old.worker.view.own body.page }
-    ensures { SettlesSpan body hand.old hand.new result }
+    ensures { Settles shop.now.marks.now body hand.old hand.new result }
 {
     let generation = shop.shared.generation(&mut hand.worker);
     let mut body = body;
