@@ -86,7 +86,7 @@ module _ (set head tail cell page : ℕ) (old mid new : Seen) (look : mid ≡ af
 
   pub popped : (page' : ℕ) → page' ≡ page → RaisesUnswept set head tail page mid new (Ok tt) → TriesUnswept set head tail old new (Ok (Popped page'))
   popped page' e r = subst (λ (x : ℕ). TriesUnswept set head tail old new (Ok (Popped x))) (sym e)
-      (less, r.1 ∙ ap (after_said (PopsEntry set page)) read_page, subst (λ (w : Seen). page < w.view.region) read_page r.0)
+      (less, r.1 ∙ ap (after_said (PopsEntry set page)) read_page, subst (λ (w : Seen). page < w.view.region) read_page r.0, low)
 
   pub lost_unswept : (found : ℕ × ℕ) → 0 < many (is_look set head tail) old.view.own.log → RaisesUnswept set head tail page mid new (Err found) → TriesUnswept set head tail old new (Err found)
   lost_unswept found seen r = lost found seen r.0 r.1 r.2

@@ -41,10 +41,10 @@ PopsSwept set old new (Taken body) = (head : ℕ) × (tail : ℕ) × (now : Seen
 PopsSwept set old new (Empty head tail) = (head ≡ tail) × LooksLast set head tail old new
 PopsSwept set old new (NotYet head) = (tail : ℕ) × (now : Seen) × (LooksLast set head tail old now) × (head < tail) × (new ≡ after_said (LooksCell set head 0) now)
 
--- the same of an unswept set, whose cells are filled
+-- the same of an unswept set, whose cells are filled, and whose tail has 32 bits
 abbrev pub PopsUnswept : ℕ → Seen → Seen → PopBase → Type 0
 PopsUnswept set old new (Popped page) = (head : ℕ) × (tail : ℕ) × (now : Seen) × (LooksLast set head tail old now) × (head < tail)
-    × (new ≡ after_said (PopsEntry set page) (after_said (LooksCell set head (suc page)) now)) × (page < old.view.region)
+    × (new ≡ after_said (PopsEntry set page) (after_said (LooksCell set head (suc page)) now)) × (page < old.view.region) × (tail < 2 ^ 32)
 PopsUnswept set old new (EmptyBase head tail) = (head ≡ tail) × LooksLast set head tail old new
 
 -- a lost try, of numbers of 32 bits, found head or tail risen, and the head no less than the pops from the set before
@@ -64,6 +64,6 @@ TriesSwept set head tail old new (Ok (NotYet h)) = (h ≡ head) × (head < tail)
 TriesSwept set head tail old new (Err found) = LosesTry set head tail old new found
 
 abbrev pub TriesUnswept : ℕ → ℕ → ℕ → Seen → Seen → Result PopBase (ℕ × ℕ) → Type 0
-TriesUnswept set head tail old new (Ok (Popped page)) = (head < tail) × (new ≡ after_said (PopsEntry set page) (after_said (LooksCell set head (suc page)) old)) × (page < old.view.region)
+TriesUnswept set head tail old new (Ok (Popped page)) = (head < tail) × (new ≡ after_said (PopsEntry set page) (after_said (LooksCell set head (suc page)) old)) × (page < old.view.region) × (tail < 2 ^ 32)
 TriesUnswept set head tail old new (Ok (EmptyBase h t)) = (h ≡ head) × (t ≡ tail) × (head ≡ tail) × (new ≡ old)
 TriesUnswept set head tail old new (Err found) = LosesTry set head tail old new found

@@ -18,7 +18,7 @@ target_of generation pages distance spent bytes credit = if generation == 4 then
 pub record HasPaid (generation pages distance bytes credit seen target : ℕ) (said : List Entry) : Type 0 where
   pub spent : ℕ
   pub read_spent : 0 < many (is_read 3 spent) said
-  pub target : target ≡ target_of generation pages distance spent bytes credit
+  pub target_is : target ≡ target_of generation pages distance spent bytes credit
   pub read_swept : 0 < many (is_read 2 seen) said
   pub reached : target ≤ seen
 

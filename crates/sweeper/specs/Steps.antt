@@ -37,7 +37,7 @@ pub record Settles (marks : MarkSet) (b : Body) (old new : Hand) (note : SweepNo
   pub before : ℕ
   pub mid : Seen
   pub swept : SweepsBody marks b body counts
-  pub note : note ≡ note_of old.worker.view.generation body counts
+  pub note_is : note ≡ note_of old.worker.view.generation body counts
   pub notes : new.notes.items ≡ old.notes.items ++ note_of old.worker.view.generation body counts ∷ []
   pub view : mid ≡ after_of Releases (span_of body) (after_said (Adds 2 before body.pages) (after_said (Reads 1 old.worker.view.generation) (after_said (Reads 1 old.worker.view.generation) old.worker)))
   pub log : mid.view.own.log ≡ SweptEntry (record { page = body.page; pages = body.pages; kept = counts.kept; freed = counts.freed })
@@ -105,7 +105,7 @@ CoversPage marks p said = IsUnmarked marks p → 0 < many (is_sweep_of p) said +
 -- so of the pages from one to another; so many pages were given back, and only spans without a mark swept
 pub record CoversPages (marks : List (ℕ × ℕ)) (from to given : ℕ) (said : List Entry) : Type 0 where
   pub covers : (p : ℕ) → from ≤ p → p < to → CoversPage marks p said
-  pub given : given ≡ min (total pages_given said) (2 ^ 32 - 1)
+  pub given_is : given ≡ min (total pages_given said) (2 ^ 32 - 1)
   pub spares : SparesMarked marks said
   pub plain : IsPlain said
 
@@ -123,6 +123,6 @@ ReclaimsChunk chunk old new (Err none) = Works [] (λ said. IsPlain said × Spar
 pub record CoversChunks (marks : List (ℕ × ℕ)) (region claims given : ℕ) (said : List Entry) : Type 0 where
   pub claimed : many (is_added 4) said ≡ claims
   pub whole : (i p : ℕ) → 0 < many (is_read 4 i) said → p / 512 ≡ i → p < region → CoversPage marks p said
-  pub given : given ≡ min (total pages_given said) (2 ^ 32 - 1)
+  pub given_is : given ≡ min (total pages_given said) (2 ^ 32 - 1)
   pub spares : SparesMarked marks said
   pub takes_none : TakesNone said

@@ -1,6 +1,5 @@
 -- What the calls of this crate leave of a hand, and what the log of such a call has.
 use Rattle.std.specs.Prelude.{◌≡◌, ◌⊎◌, ℕ, ◌<◌, true, false, List, [], ◌∷◌, ◌++◌, map, reverse}
-use Rattle.atomic_table.specs.Seated.{TableId}
 use Rattle.span_state.specs.declared.sweep.SweepNote.{SweepNote}
 use Rattle.sweep_laws.specs.Lists.{has}
 use Rattle.sweep_laws.specs.Needs.{is_swept_set}
