@@ -1,13 +1,14 @@
-ghost use Rattle.std.specs.Prelude.{◌≡◌};
+ghost use Rattle.std.specs.Prelude.{◌≡◌, ◌≤◌};
 
 use crate::lent::Lent;
 
 impl Lent {
     // See `Shared::region`.
     pub(crate) fn region(&self) -> u32
-        ensures { result ≡ self.now.view.region }
+        ensures pages { result ≡ self.now.view.region }
+        ensures few { result ≤ 65536 }
     {
-        self.homes.len() as u32
+        self.core.words().len() as u32
     }
 
     // See `Shared::goal`.
