@@ -5,10 +5,11 @@ use crate::lent::Lent;
 impl Lent {
     // See `Shared::region`.
     pub(crate) fn region(&self) -> u32
-        ensures pages { result ≡ self.now.view.region }
-        ensures few { result ≤ 65536 }
+        ensures region { result ≡ self.now.view.region }
+        ensures some { 512 ≤ result }
+        ensures most { result ≤ 65536 }
     {
-        self.core.words().len() as u32
+        self.pages.region()
     }
 
     // See `Shared::goal`.

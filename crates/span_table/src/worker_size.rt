@@ -4,12 +4,13 @@ use crate::shared::Shared;
 use crate::worker::Worker;
 
 impl Shared {
-    /// The pages of the region, at most 65536.
+    /// The number of pages of the region: 512 to 65536.
     pub fn region(&self, w: &Worker) -> u32
         requires here { w.now.here ≡ true }
         requires table { w.now.table ≡ self.now }
-        ensures pages { result ≡ w.now.view.region }
-        ensures few { result ≤ 65536 }
+        ensures region { result ≡ w.now.view.region }
+        ensures some { 512 ≤ result }
+        ensures most { result ≤ 65536 }
     {
         let Some(lent) = &w.lent else { unreachable!() };
         lent.region()
