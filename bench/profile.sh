@@ -32,7 +32,6 @@ while read -r work number; do
         printf "%-36s %8.1f %14.1f\n", m, (w - o) / c * 1e9, (i - a) / (c / 10)
     }'
 done <<'WORDS'
-sample 0
 sample 1
 sample 512
 sample 524288
