@@ -51,7 +51,7 @@ built_cycles [] = tt
 built_cycles (c ∷ cs) = built_append (cycle_statements c) (flat_map cycle_statements cs) (built_append (map alloc_of c.events) (mark_statements c.mark) (built_events c.events) (built_mark c.mark)) (built_cycles cs)
 
 built_plain : (t : Trace) → IsPlain t → Built (statements_of t)
-built_plain t plain = (refl, (plain_header t.header (plain.procs, plain.rate, plain.goal), built_append (flat_map cycle_statements t.cycles) (End ∷ []) (built_cycles t.cycles) (refl, tt)))
+built_plain t plain = (refl, (plain_header t.header plain.rate, built_append (flat_map cycle_statements t.cycles) (End ∷ []) (built_cycles t.cycles) (refl, tt)))
 
 -- Completeness
 

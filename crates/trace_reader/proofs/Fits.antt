@@ -1,5 +1,5 @@
 -- Lines that nothing is wrong with are within the limits.
-use Rattle.std.proofs.Common.{◌≡◌, ◌⊎◌, ℕ, zero, suc, ◌+◌, ◌-◌, ◌*◌, ◌^◌, ◌<◌, ◌≤◌, ◌==◌, Bool, true, false, not, ◌&&◌, ◌||◌, List, [], ◌∷◌, ◌++◌, length, map, Option, Some, None, find, nat_lt, nat_le, sum_by, refl, sym, ap, ◌∙◌, subst, inl, inr, arith, length-append}
+use Rattle.std.proofs.Common.{◌≡◌, ◌⊎◌, ℕ, zero, suc, ◌+◌, ◌-◌, ◌^◌, ◌<◌, ◌≤◌, ◌==◌, Bool, true, false, not, ◌&&◌, ◌||◌, List, [], ◌∷◌, ◌++◌, length, map, Option, Some, None, find, nat_lt, nat_le, sum_by, refl, sym, ap, ◌∙◌, subst, inl, inr, arith, length-append}
 use Rattle.std.specs.List.{AllByRecursion, flat_map, range_with_len}
 use Rattle.std.specs.Option.{option_map}
 use Rattle.std.proofs.lemmas.Bool.{cases_lt, cases_Bool}
@@ -323,11 +323,11 @@ takes_trace left a b c d h cs first second rest =
     TakesLines-trans left a b d (Title ∷ []) (heap_of h ∷ (flat_map cycle_statements cs ++ End ∷ [])) first (TakesLines-trans left b c d (heap_of h ∷ []) (flat_map cycle_statements cs ++ End ∷ []) second rest)
 
 pub reads_trace : {S : Type 0} (left : S → Option (List ℕ)) (a d : Lines S) (h : Header) (cs : List Cycle) → TakesLines left a d (statements_of (trace_of h cs))
-    → WithinLimits (trace_of h cs) → ((h.procs ≡ 1) × (h.rate ≡ 0) × (512 * h.chunks ≤ h.goal)) → Reads left a d (trace_of h cs)
+    → WithinLimits (trace_of h cs) → h.rate ≡ 0 → Reads left a d (trace_of h cs)
 reads_trace left a d h cs takes limits simple =
     let room = takes.bytes.room in (
       spelled (statements_of (trace_of h cs)),
       takes.bytes.taken,
       record { lines = refl; limits = limits; room = omega arith },
-      record { procs = simple.0; rate = simple.1; goal = simple.2 },
+      record { rate = simple },
     )

@@ -1,5 +1,5 @@
 -- Lines that nothing is wrong with.
-use Rattle.std.proofs.Common.{◌≡◌, ◌≢◌, ◌==◌, ℕ, ◌+◌, ◌*◌, ◌^◌, ◌<◌, ◌≤◌, Bool, true, false, not, ◌||◌, List, [], ◌∷◌, ◌++◌, length, map, codes, decimal, Option, None, nat_lt, nat_le, refl, ap, subst, arith, length-append}
+use Rattle.std.proofs.Common.{◌≡◌, ◌≢◌, ◌==◌, ℕ, ◌+◌, ◌^◌, ◌<◌, ◌≤◌, Bool, true, false, not, List, [], ◌∷◌, ◌++◌, length, map, codes, decimal, Option, None, nat_le, refl, ap, subst, arith, length-append}
 use Rattle.std.specs.List.{AllByRecursion, list_all}
 use Rattle.std.specs.Option.{option_map}
 use Rattle.std.proofs.lemmas.Bool.Decides.{nat_tests}
@@ -21,7 +21,7 @@ use Rattle.trace_reader.specs.Refusal.{fault_if, first_of, needs_later, statemen
 use Rattle.trace_reader.specs.Good.{AreGood}
 use Rattle.trace_reader.proofs.Digits.{digits_decimal}
 use Rattle.trace_reader.proofs.Saying.{AllByRecursion-map, Short, both, of_both, said_line}
-use Rattle.trace_reader.proofs.Judging.{below_false, below_true}
+use Rattle.trace_reader.proofs.Judging.{below_true}
 use Rattle.trace_reader.proofs.Reading.{All-append}
 
 -- Lengths, and no line feed
@@ -141,11 +141,11 @@ header_good later h fits built =
       tt,
     )
 
-later_false : (p r g c : ℕ) → p ≡ 1 → r ≡ 0 → 512 * c ≤ g → (not (p == 1) || (not (r == 0) || nat_lt g (512 * c))) ≡ false
-later_false p r g c e f l = rw (e, f) (below_false g (512 * c) l)
+later_false : (r : ℕ) → r ≡ 0 → not (r == 0) ≡ false
+later_false r f = rw f refl
 
-pub plain_header : (h : Header) → (h.procs ≡ 1) × (h.rate ≡ 0) × (512 * h.chunks ≤ h.goal) → needs_later (heap_of h) ≡ false
-plain_header h plain = later_false h.procs h.rate h.goal h.chunks plain.0 plain.1 plain.2
+pub plain_header : (h : Header) → h.rate ≡ 0 → needs_later (heap_of h) ≡ false
+plain_header h plain = later_false h.rate plain
 
 -- An event
 

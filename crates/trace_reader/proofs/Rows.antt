@@ -121,6 +121,6 @@ later : map refusal_now (map with_line (codes "gc 1" ∷ codes "gc 0" ∷ codes 
     ++ map with_header (codes "heap 1 procs 2 rate 0 seed 1 goal 512" ∷ codes "heap 1 procs 1 rate 1 seed 1 goal 512" ∷ codes "heap 1 procs 1 rate 0 seed 1 goal 511" ∷ codes "heap 2 procs 1 rate 0 seed 1 goal 1024" ∷ codes "heap 1 procs 64 rate 0 seed 1 goal 65537" ∷ [])
     ++ whole (codes "a 0 24 s 1" ∷ codes "gc 1" ∷ codes "x" ∷ []) ∷ whole (codes "x" ∷ codes "gc 1" ∷ []) ∷ [])
     ≡ None ∷ Some (Limit 3 Distance) ∷ Some (Malformed 3) ∷ None ∷ None ∷ Some (Limit 3 Stack) ∷ Some (Limit 3 Proc) ∷ Some (Malformed 3)
-    ∷ Some (Later 2) ∷ Some (Later 2) ∷ Some (Later 2) ∷ None ∷ Some (Limit 2 Goal) ∷ Some (Malformed 5) ∷ Some (Malformed 3) ∷ []
+    ∷ None ∷ Some (Later 2) ∷ None ∷ None ∷ Some (Limit 2 Goal) ∷ Some (Malformed 5) ∷ Some (Malformed 3) ∷ []
 unfolding digits said lines_fault
 later = refl

@@ -1,5 +1,5 @@
 -- What a trace may hold.
-use Rattle.std.specs.Prelude.{◌≡◌, ℕ, ◌+◌, ◌-◌, ◌*◌, ◌^◌, ◌<◌, ◌≤◌, ◌⊎◌, List, [], ◌∷◌, length, sum_by, Option, Some, None, MatchOption}
+use Rattle.std.specs.Prelude.{◌≡◌, ℕ, ◌+◌, ◌-◌, ◌^◌, ◌<◌, ◌≤◌, ◌⊎◌, List, [], ◌∷◌, length, sum_by, Option, Some, None, MatchOption}
 use Rattle.std.specs.List.{AllByRecursion, flat_map}
 use Rattle.trace_reader.specs.declared.trace.Trace.{Trace}
 use Rattle.trace_reader.specs.declared.trace.Header.{Header}
@@ -71,8 +71,6 @@ pub record SpellsWithin (limit : ℕ) (bytes : List ℕ) (t : Trace) : Type 0 wh
 abbrev pub Spells : List ℕ → Trace → Type 0
 Spells bytes t = SpellsWithin 67108864 bytes t
 
--- one processor, no samples and no scavenging
+-- no samples
 pub record IsPlain (t : Trace) : Type 0 where
-  pub procs : t.header.procs ≡ 1
   pub rate : t.header.rate ≡ 0
-  pub goal : 512 * t.header.chunks ≤ t.header.goal

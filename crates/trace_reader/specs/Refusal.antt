@@ -1,5 +1,5 @@
 -- The first offending line of a trace, and why. Lines are read in turn: `past` is what the lines before said, newest first.
-use Rattle.std.specs.Prelude.{◌≡◌, ℕ, ◌+◌, ◌-◌, ◌*◌, ◌^◌, ◌==◌, Bool, true, false, not, cond, ◌||◌, List, [], ◌∷◌, length, min, nat_lt, Option, Some, None}
+use Rattle.std.specs.Prelude.{◌≡◌, ℕ, ◌+◌, ◌-◌, ◌^◌, ◌==◌, Bool, true, false, not, cond, List, [], ◌∷◌, length, min, nat_lt, Option, Some, None}
 use Rattle.std.specs.Option.{option_map}
 use Rattle.std.specs.List.{slice_split}
 use Rattle.trace_reader.specs.declared.fault.Which.TheVariants.{Bytes}
@@ -87,9 +87,9 @@ nothing_behind number rest = Some (Malformed number)
 abbrev pub needs_nothing : Statement → Bool
 needs_nothing s = false
 
--- more than one processor, sampling and scavenging are not built yet
+-- sampling is not built yet
 abbrev pub needs_later : Statement → Bool
-needs_later (Heap h) = not (h.procs == 1) || (not (h.rate == 0) || nat_lt h.goal (512 * h.chunks))
+needs_later (Heap h) = not (h.rate == 0)
 needs_later s = false
 
 -- why the bytes are no trace, if they are none

@@ -43,7 +43,7 @@ pub(crate) fn is_title(line: &[u8]) -> bool
 pub(crate) fn header_of(line: &[u8], number: u64) -> Result<Header, TraceFault>
     ensures says { IfOk result (λ h. said line.now ≡ Some (heap_of h)) }
     ensures fits { IfOk result (λ h. HeaderFits h) }
-    ensures plain { IfOk result (λ h. (h.procs ≡ 1) × (h.rate ≡ 0) × (512 * h.chunks ≤ h.goal)) }
+    ensures plain { IfOk result (λ h. h.rate ≡ 0) }
     ensures no_read { NoReadFault result }
     ensures fault { IfErr result (λ fault. said_fault needs_later number (Title ∷ []) (said line.now) ≡ Some fault) }
 {
@@ -51,7 +51,7 @@ pub(crate) fn header_of(line: &[u8], number: u64) -> Result<Header, TraceFault>
         return Err(TraceFault::Malformed(number));
     };
     let header = limited_header(form, number)?;
-    if header.procs != 1 || header.rate != 0 || header.goal < 512 * header.chunks {
+    if header.rate != 0 {
         return Err(TraceFault::Later(number));
     }
     Ok(header)

@@ -93,7 +93,7 @@ fn read_header<S: Source>(lines: &mut Lines<'_, S>) -> Result<Header, TraceFault
     ensures same_source { IsSameSource lines.old lines.new }
     ensures lines { IfOk result (λ h. TakesLines S.left lines.old lines.new (heap_of h ∷ [])) }
     ensures fits { IfOk result (λ h. HeaderFits h) }
-    ensures plain { IfOk result (λ h. (h.procs ≡ 1) × (h.rate ≡ 0) × (512 * h.chunks ≤ h.goal)) }
+    ensures plain { IfOk result (λ h. h.rate ≡ 0) }
     ensures refused { TellsFirstFault S.left lines.old lines.new (Title ∷ []) result }
     ensures stands { StandsInLine S.left lines.old lines.new }
     ensures cause { HasReadCause (S.faults (source_of lines.old)) (S.faults (source_of lines.new)) result }

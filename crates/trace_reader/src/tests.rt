@@ -126,9 +126,11 @@ fn nothing_is_read_behind_the_end(rt: HostRuntime) -> Result<(), Fail> {
 #[test]
 fn headers_that_are_not_built(rt: HostRuntime) -> Result<(), Fail> {
     let rows = [
-        ("procs 2 rate 0 seed 1 goal 512", Some(TraceFault::Later(2))),
         ("procs 1 rate 1 seed 1 goal 512", Some(TraceFault::Later(2))),
-        ("procs 1 rate 0 seed 1 goal 511", Some(TraceFault::Later(2))),
+        (
+            "procs 2 rate 0 seed 1 goal 511",
+            Some(TraceFault::BadMark(4, 0)),
+        ),
         (
             "procs 1 rate 0 seed 0 goal 512",
             Some(TraceFault::BadMark(4, 0)),
