@@ -1,13 +1,3 @@
-pub mod Spots
-pub mod Given
-pub mod Waiting
-pub mod Serving
-pub mod Next
-pub mod Views
-pub mod Noted
-pub mod Sweeping
-pub mod Asked
-pub mod Cycled
 pub mod Behind
 pub mod Complete
 pub mod Ended

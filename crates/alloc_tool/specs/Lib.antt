@@ -1,9 +1,3 @@
-pub mod Bodies
-pub mod Listed
-pub mod Tied
-pub mod Sweeping
-pub mod Runs
-pub mod Come
 pub mod Texts
 pub mod Told
 pub mod Top

@@ -4,9 +4,6 @@
 #![tactic(auto)]
 
 mod generate;
-mod heap;
-mod need;
-mod run;
 mod tell;
 mod top;
 

@@ -19,10 +19,10 @@ ghost use Rattle.alloc_tool.specs.WholeInput.{ReadsAll};
 ghost use Rattle.alloc_tool.specs.Words.{IsRun, IsWord};
 
 use crate::generate::{generate, wanted_by};
-use crate::run::report;
 use crate::tell::{refuse_trace, refuse_words, stop_writing};
 use class_lines::write_classes;
 use edge_io::{Gate, Lines, Sink, Source};
+use heap_run::{Options, run_trace};
 use report_text::write_report;
 use std::alloc::Global;
 use std::sync::Wait;
@@ -31,6 +31,12 @@ use trace_reader::{Trace, TraceFault, expect_end, read_trace};
 
 /// The most bytes of a trace.
 const MAX_BYTES: u64 = 67_108_864;
+
+// How traces are run until `run` has options: without background sweepers.
+const OPTIONS: Options = Options {
+    background: 0,
+    each: false,
+};
 
 /// Does what the words say, and answers the exit status. It runs `run` itself; all other words go to [`goheap_plain`].
 ///
@@ -43,7 +49,7 @@ pub fn goheap<R: Threads + Wait + Sync, S: Source, K: Sink, E: Sink, G: Gate>(
     input: &mut S,
     output: &mut K,
     errors: &mut E,
-    _gate: &G,
+    gate: &G,
 ) -> u8
     ensures outcome { IsRun words.now → Outcome S.left S.faults K.held K.faults E.held E.faults input.old input.new output.old output.new errors.old errors.new result }
     ensures run_words { IsRun words.now → IsStatusOfRun result }
@@ -52,7 +58,7 @@ pub fn goheap<R: Threads + Wait + Sync, S: Source, K: Sink, E: Sink, G: Gate>(
         → IsUndisturbed S.left S.faults K.faults input.old input.new output.old output.new bytes → IsComplete bytes result }
 {
     if is_word(words, "run") {
-        run(alloc, input, output, errors)
+        run(alloc, input, output, errors, gate)
     } else {
         goheap_plain(alloc, words, input, output, errors)
     }
@@ -98,11 +104,12 @@ fn classes<K: Sink, E: Sink>(output: &mut K, errors: &mut E) -> u8
 }
 
 // Reads a trace, and writes its report.
-fn run<S: Source, K: Sink, E: Sink>(
+fn run<S: Source, K: Sink, E: Sink, G: Gate>(
     alloc: Global,
     input: &mut S,
     output: &mut K,
     errors: &mut E,
+    gate: &G,
 ) -> u8
     ensures outcome { Outcome S.left S.faults K.held K.faults E.held E.faults input.old input.new output.old output.new errors.old errors.new result }
     ensures status { IsStatusOfRun result }
@@ -112,10 +119,10 @@ fn run<S: Source, K: Sink, E: Sink>(
         Ok(trace) => trace,
         Err(fault) => return refuse_trace(errors, fault),
     };
-    let Ok(report) = report(alloc, &trace) else {
+    let Ok(ran) = run_trace(alloc, &trace, OPTIONS, gate) else {
         return refuse_trace(errors, TraceFault::NoMemory);
     };
-    match write_report(output, &report) {
+    match write_report(output, &ran.report) {
         Ok(()) => 0,
         Err(_) => stop_writing(errors),
     }

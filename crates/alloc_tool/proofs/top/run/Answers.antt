@@ -18,7 +18,7 @@ returns-in_default-clause-outcome g c =
 pub returns-clause-outcome : goal.returns-clause-outcome
 returns-clause-outcome g c =
     written_outcome g.S.Source.left g.S.Source.faults g.K.Sink.held g.K.Sink.faults g.E.Sink.held g.E.Sink.faults c.args.input.now c.read_all.new.input c.args.output.now c.write_report.new.out c.args.errors.now c.stop_writing.new.errors
-    c.in-Ok.trace c.in-Ok-report.report c.stop_writing.result c.stop_writing.ensures.status c.in-Ok.ensures.trace (record { sound = c.in-Ok-report.ensures.sound; no_profile = c.in-Ok-report.ensures.no_profile })
+    c.in-Ok.trace c.in-Ok-run_trace.ran.report c.stop_writing.result c.stop_writing.ensures.status c.in-Ok.ensures.trace (record { sound = c.in-Ok-run_trace.ensures.sound; no_profile = c.in-Ok-run_trace.ensures.no_profile })
     c.in-Err-write_report.ensures.front c.in-Err-write_report.ensures.cause.failed c.stop_writing.ensures.told
 
 pub returns-in-Err-clause-complete : goal.returns-in-Err-clause-complete
