@@ -1,33 +1,43 @@
 -- One work follows another: what both did.
-use Rattle.std.proofs.Common.{◌≡◌, ℕ, ◌+◌, ◌-◌, ◌<◌, ◌≤◌, ◌⊎◌, inl, inr, ⊎_elim, List, [], ◌∷◌, ◌++◌, refl, sym, ap, subst, ◌∙◌, append_assoc, arith}
+use Rattle.std.proofs.Common.{◌≡◌, ℕ, ◌+◌, ◌-◌, ◌<◌, ◌≤◌, inl, inr, ⊎_elim, List, [], ◌++◌, refl, sym, ap, subst, ◌∙◌, append_assoc, arith}
 use Rattle.std.proofs.lemmas.List.{append-nil}
 use Rattle.std.specs.Prelude.{Result, Ok, Err}
 use Rattle.fallible_list.specs.declared.list.NoMemory.{NoMemory}
 use Rattle.sweep_laws.specs.Counts.{times}
 use Rattle.worker_log.specs.declared.Entry.{Entry}
-use Rattle.worker_log.specs.Logs.{many, is_seen_empty, is_sweep_of, swept_set, unswept_set}
+use Rattle.worker_log.specs.Logs.{is_seen_empty, is_sweep_of, swept_set, unswept_set}
 use Rattle.worker_log.proofs.Logs.{many-append}
 use Rattle.span_state.specs.MarkSet.{has_pair}
 use Rattle.span_state.specs.declared.body.Body.{Body}
 use Rattle.span_state.specs.declared.sweep.SweepNote.{SweepNote}
 use Rattle.span_laws.specs.declared.view.View.{View}
 use Rattle.span_laws.specs.Views.{Seen}
-use Rattle.span_laws.specs.Asks.{HasMarks, mine}
+use Rattle.span_laws.specs.Asks.{mine}
 use Rattle.span_laws.specs.Calls.{Keeps, notes_of}
 use Rattle.span_laws.proofs.CallLogs.{keeps-refl, keeps-trans, notes-append}
 use Rattle.span_set.specs.declared.hand.Hand.{Hand}
-use Rattle.central_lists.specs.declared.answers.FromSets.TheVariants.{SweptPartial, SweptHere, NeedFresh}
+use Rattle.central_lists.specs.declared.answers.FromSets.TheVariants.{SweptHere, NeedFresh}
 use Rattle.central_lists.specs.declared.answers.Look.{Look}
+use Rattle.central_lists.specs.declared.answers.One.{One}
 use Rattle.central_lists.specs.declared.answers.Search.{Search}
 use Rattle.central_lists.specs.declared.answers.Search.TheVariants.{Gave, Tried}
-use Rattle.central_lists.specs.declared.answers.Through.{Through}
-use Rattle.central_lists.specs.declared.answers.Through.TheVariants.{AllTried, Enough, OneKept}
-use Rattle.central_lists.specs.Lists.{Caches, Does, HandsOut, LooksFirst, Saw, SawEmpty, SawNone, SweptIt, Then, TriedEnough, Whatever, just, nothing}
-use Rattle.central_lists.specs.Tries.{GivesOne, GivesUp, Searches, SearchesFull, SweepsOut, TriedSome, TriesAll}
+use Rattle.central_lists.specs.declared.answers.Through.TheVariants.{AllTried}
+use Rattle.central_lists.specs.Lists.{Caches, Does, LooksFirst, Saw, SawEmpty, SweptIt, TriedEnough, Whatever, just, nothing}
+use Rattle.central_lists.specs.Tries.{GivesOne, GivesUp, Searches, SearchesFull, SweepsOut, TriedSome, TriesAll, TriesOne}
 use Rattle.central_lists.proofs.Saying.{says-nil, says-trans}
 
 pub same_generation : (a b : Seen) → Keeps a b → b.view.generation ≡ a.view.generation
 same_generation a b k = ap (λ (v : View). v.generation) k.view
+
+-- what was told of a generation, where it is another's too
+pub tries_at : (h g class full : ℕ) (b d : Hand) (r : Result One NoMemory) → h ≡ g → TriesOne h class full b d r → TriesOne g class full b d r
+tries_at h g class full b d r e x = subst (λ (z : ℕ). TriesOne z class full b d r) e x
+
+pub full_at : (h g class before : ℕ) (b d : Hand) (r : Result Search NoMemory) → h ≡ g → SearchesFull h class before b d r → SearchesFull g class before b d r
+full_at h g class before b d r e x = subst (λ (z : ℕ). SearchesFull z class before b d r) e x
+
+pub searches_at : (h g class : ℕ) (b d : Hand) (r : Result Search NoMemory) → h ≡ g → Searches h class b d r → Searches g class b d r
+searches_at h g class b d r e x = subst (λ (z : ℕ). Searches z class b d r) e x
 
 module _ (g class : ℕ) where
   -- what the worker had before some work it has behind it

@@ -1,10 +1,9 @@
 -- What a look into the swept partial set did.
-use Rattle.std.proofs.Common.{◌≡◌, ℕ, suc, ◌<◌, true, eq-eqb, List, [], ◌∷◌, ◌++◌, refl, sym, ap, ◌∙◌, append_assoc, arith}
+use Rattle.std.proofs.Common.{◌≡◌, ℕ, suc, eq-eqb, List, [], ◌∷◌, ◌++◌, refl, sym, ap, ◌∙◌, append_assoc, arith}
 use Rattle.std.proofs.lemmas.List.{append-nil}
 use Rattle.std.specs.Prelude.{Ok, Err}
 use Rattle.sweep_laws.specs.Counts.{times}
 use Rattle.sweep_laws.specs.Lists.{has}
-use Rattle.sweep_laws.specs.Needs.{is_swept_set}
 use Rattle.worker_log.specs.declared.Entry.{Entry}
 use Rattle.worker_log.specs.declared.Entry.TheVariants.{Looked, LookedEmptyCell, Popped, Read}
 use Rattle.worker_log.specs.Logs.{is_pop_of, many, swept_set}
@@ -23,7 +22,7 @@ use Rattle.span_set.specs.declared.answers.Pop.TheVariants.{Taken, Empty as Empt
 use Rattle.span_set.specs.Pops.{PopsSwept, with_looks}
 use Rattle.span_set.proofs.Numbers.{class_is, partial_is}
 use Rattle.central_lists.specs.declared.answers.Look.TheVariants.{Empty, NotYet}
-use Rattle.central_lists.specs.Lists.{LooksFirst, Says, just, nothing}
+use Rattle.central_lists.specs.Lists.{LooksFirst, Says, nothing}
 use Rattle.central_lists.proofs.Saying.{blank, last_look, looks_note, says-trans, taken}
 use Rattle.central_lists.proofs.Trying.{keeps_by, times_more}
 

@@ -1,21 +1,21 @@
 -- What the log of a call says, put together from what its parts say.
-use Rattle.std.proofs.Common.{◌≡◌, ℕ, zero, suc, ◌+◌, ◌/◌, ◌%◌, ◌<◌, ◌≤◌, ◌&&◌, Bool, true, false, true≢false, eqb, eq-eqb, ne_eqb, List, [], ◌∷◌, ◌++◌, refl, sym, ap, subst, ◌∙◌, arith}
+use Rattle.std.proofs.Common.{◌≡◌, ℕ, zero, suc, ◌+◌, ◌<◌, ◌&&◌, Bool, true, false, true≢false, eqb, eq-eqb, ne_eqb, List, [], ◌∷◌, ◌++◌, refl, sym, ap, ◌∙◌, arith}
 use Rattle.std.specs.List.{AllByRecursion}
 use Rattle.page_bitmap.specs.Counts.{one_if}
-use Rattle.sweep_laws.specs.Counts.{one_if as count_if, total}
+use Rattle.sweep_laws.specs.Counts.{one_if as count_if}
 use Rattle.sweep_laws.specs.Needs.{class_of_set, is_swept_set}
 use Rattle.worker_log.specs.declared.Entry.{Entry}
 use Rattle.worker_log.specs.declared.Entry.TheVariants.{Looked, LookedEmptyCell, Popped, Pushed, Swept, Found, Read, Added}
 use Rattle.worker_log.specs.declared.Sweeping.{Sweeping}
-use Rattle.worker_log.specs.Logs.{is_full_set, is_partial_push, is_pop, is_pop_of, is_push_of, is_sweep_of, many, swept_set, unswept_set}
+use Rattle.worker_log.specs.Logs.{is_full_set, is_partial_push, is_pop, is_pop_of, is_push_of, is_sweep_of, swept_set, unswept_set}
 use Rattle.worker_log.proofs.Logs.{many-append}
 use Rattle.span_state.specs.declared.sweep.SweepNote.{SweepNote}
 use Rattle.span_laws.specs.Calls.{is_giving, is_missing, is_placing, note_in, notes_of, number_added, pages_swept}
 use Rattle.span_laws.specs.Logs.{is_taking}
-use Rattle.span_laws.proofs.CallLogs.{notes-append, total-append}
+use Rattle.span_laws.proofs.CallLogs.{total-append}
 use Rattle.span_set.specs.Pops.{IsLookAt}
-use Rattle.span_set.proofs.Numbers.{full_is, partial_is, swept_is, unswept_is}
-use Rattle.central_lists.specs.Lists.{Says, just, nothing, tries}
+use Rattle.span_set.proofs.Numbers.{full_is, partial_is, unswept_is}
+use Rattle.central_lists.specs.Lists.{Says, just, nothing}
 
 pub same_if : (b : Bool) → one_if b ≡ count_if b
 same_if true = refl

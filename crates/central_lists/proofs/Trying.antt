@@ -1,22 +1,19 @@
 -- What one try of an unswept set did, from its steps.
-use Rattle.std.proofs.Common.{◌≡◌, ◌≢◌, ℕ, suc, ◌+◌, ◌<◌, ◌≤◌, Bool, true, false, eqb, eq-eqb, List, [], ◌∷◌, ◌++◌, refl, sym, ap, subst, ◌∙◌, append_assoc, arith}
-use Rattle.std.specs.Prelude.{Option, None, Some, Ok}
+use Rattle.std.proofs.Common.{◌≡◌, ◌≢◌, ℕ, suc, ◌+◌, ◌<◌, eqb, eq-eqb, List, [], ◌∷◌, ◌++◌, refl, sym, ap, subst, ◌∙◌, append_assoc, arith}
+use Rattle.std.specs.Prelude.{None}
 use Rattle.std.proofs.lemmas.List.{append-nil}
 use mathlib.Core.Logic.{dite}
 use native.Mathlib.Decide.{ℕ_discrete}
-use Rattle.page_bitmap.specs.Counts.{one_if}
 use Rattle.sweep_laws.specs.Counts.{one_if as count_if, times}
 use Rattle.sweep_laws.specs.Lists.{erase, has}
-use Rattle.sweep_laws.specs.Needs.{class_of_set, is_swept_set}
-use Rattle.sweep_laws.specs.declared.moves.Claimed.{Claimed}
+use Rattle.sweep_laws.specs.Needs.{is_swept_set}
 use Rattle.sweep_laws.proofs.Totals.{same_one, other_one, times_end, times_end_else}
 use Rattle.sweep_laws.proofs.Naming.{times_erase, times_erase_else}
 use Rattle.worker_log.specs.declared.Entry.{Entry}
 use Rattle.worker_log.specs.declared.Entry.TheVariants.{Looked, Popped, Pushed, Swept as SweptEntry, Found, Read, Added}
-use Rattle.worker_log.specs.Logs.{is_full_set, is_placing_in, is_pop_of, is_seen_empty, is_sweep_of, many, swept_set, unswept_set}
+use Rattle.worker_log.specs.Logs.{is_placing_in, is_pop_of, many, swept_set, unswept_set}
 use Rattle.worker_log.proofs.Logs.{many-append}
 use Rattle.span_state.specs.MarkSet.{MarkSet, has_pair}
-use Rattle.span_state.specs.Spans.{IsSameSpan}
 use Rattle.span_state.specs.declared.body.Body.{Body}
 use Rattle.span_state.specs.declared.sweep.SweepNote.{SweepNote}
 use Rattle.span_laws.specs.declared.view.Cell.{Cell}
@@ -25,10 +22,9 @@ use Rattle.span_laws.specs.declared.said.Said.TheVariants.{Adds, Fills, Finds, L
 use Rattle.span_laws.specs.declared.said.SaidOf.TheVariants.{Acquires, Releases}
 use Rattle.span_laws.specs.declared.answers.Acquired.TheVariants.{Got}
 use Rattle.span_laws.specs.Answers.{AcquiresSpan}
-use Rattle.span_laws.specs.Asks.{HasBody, HasMarks, HasRoom, IsUntouched, mine}
+use Rattle.span_laws.specs.Asks.{HasRoom, IsUntouched, mine}
 use Rattle.span_laws.specs.Calls.{Keeps, notes_of}
 use Rattle.span_laws.specs.Views.{Seen, acts, after_of, after_said, span_at, span_of}
-use Rattle.span_laws.proofs.CallLogs.{notes-append}
 use Rattle.span_laws.proofs.Has.{has_last}
 use Rattle.span_laws.proofs.WordMoves.{span_else, span_here}
 use Rattle.span_set.specs.declared.hand.Hand.{Hand}
@@ -36,7 +32,7 @@ use Rattle.span_set.specs.declared.answers.PopBase.TheVariants.{Popped as Popped
 use Rattle.span_set.specs.Pops.{PopsUnswept}
 use Rattle.span_set.specs.Sweeps.{note_of}
 use Rattle.span_set.proofs.Numbers.{swept_is, swept_low, unswept_is}
-use Rattle.central_lists.specs.Lists.{Does, HandsOut, Says, SawEmpty, SweptIt, Whatever, just, nothing}
+use Rattle.central_lists.specs.Lists.{Does, Says, SawEmpty, SweptIt, Whatever, just, nothing}
 use Rattle.central_lists.specs.Tries.{Sweeping, SweepsOut}
 use Rattle.central_lists.proofs.Saying.{class_here, found, last_look, looks_note, pushed, says-trans, swept, tried}
 

@@ -1,5 +1,4 @@
 use Rattle.std.proofs.Common.{refl}
-use Rattle.span_set.specs.declared.hand.Hand.{Hand}
 use Rattle.central_lists.proofs.Looking.{looked_blank, looked_empty, looked_taken}
 use Rattle.central_lists.proofs.lists.look_first.Goals as goal
 

@@ -1,4 +1,4 @@
-use Rattle.std.proofs.Common.{◌-◌, ◌≡◌}
+use Rattle.std.proofs.Common.{◌-◌}
 use Rattle.central_lists.specs.Tries.{TriedSome}
 use Rattle.central_lists.proofs.lists.look_through.Given as goal
 
