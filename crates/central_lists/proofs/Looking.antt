@@ -84,7 +84,7 @@ module _ (class : ℕ) (a d : Hand) (notes : d.notes.items ≡ a.notes.items) wh
     )
 
   pub looked_empty : (head tail : ℕ) → PopsSwept set a.worker d.worker (EmptySet head tail) → LooksFirst g class a d (Err (Empty head))
-  looked_empty head tail (same, l) = record {
+  looked_empty head tail pops = let same = pops.0 in let l = pops.1 in record {
     said = Looked set head tail ∷ (l.said ++ Read 1 g ∷ []);
     log = ap (λ (w : Seen). w.view.own.log) l.view ∙ ap (λ (x : List Entry). Looked set head tail ∷ x) (sym (append_assoc l.said (Read 1 g ∷ []) a.worker.view.own.log));
     says = last_look g class set head tail g l.said l.looks;
@@ -95,7 +95,7 @@ module _ (class : ℕ) (a d : Hand) (notes : d.notes.items ≡ a.notes.items) wh
   }
 
   pub looked_blank : (head : ℕ) → PopsSwept set a.worker d.worker (NotFilled head) → LooksFirst g class a d (Err (NotYet head))
-  looked_blank head (tail, now, l, less, e) = let whole = e ∙ ap (after_said (LooksCell set head 0)) l.view in let looks = Looked set head tail ∷ (l.said ++ Read 1 g ∷ []) in record {
+  looked_blank head pops = let tail = pops.0 in let l = pops.2 in let e = pops.4 in let whole = e ∙ ap (after_said (LooksCell set head 0)) l.view in let looks = Looked set head tail ∷ (l.said ++ Read 1 g ∷ []) in record {
     said = LookedEmptyCell set head ∷ looks;
     log = ap (λ (w : Seen). w.view.own.log) whole ∙ ap (λ (x : List Entry). LookedEmptyCell set head ∷ Looked set head tail ∷ x) (sym (append_assoc l.said (Read 1 g ∷ []) a.worker.view.own.log));
     says = says-trans g class 0 0 0 nothing nothing nothing looks (LookedEmptyCell set head ∷ []) (last_look g class set head tail g l.said l.looks) (blank g class set head) (omega arith) (λ p. omega arith);

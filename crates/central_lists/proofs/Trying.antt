@@ -84,7 +84,7 @@ module _ (g class full : ℕ) where
     pub view : new ≡ popped_by page said cells old
 
   pub popping : full < 2 → (page : ℕ) (old new : Seen) → PopsUnswept (unswept_set g class full) old new (PoppedBase page) → Popping page old new
-  popping small page old new (head, tail, now, l, less, e, low) = let set = unswept_set g class full in let looks = Looked set head tail ∷ (l.said ++ Read 1 old.view.generation ∷ []) in record {
+  popping small page old new pops = let head = pops.0 in let tail = pops.1 in let l = pops.3 in let e = pops.5 in let set = unswept_set g class full in let looks = Looked set head tail ∷ (l.said ++ Read 1 old.view.generation ∷ []) in record {
     said = Popped set page ∷ looks;
     cells = record { set = set; index = head; page = page } ∷ l.cells;
     says = says-trans g class 0 1 1 nothing nothing nothing looks (Popped set page ∷ []) (last_look g class set head tail old.view.generation l.said l.looks) (tried g class full page small) (omega arith) (λ p. omega arith);
@@ -98,7 +98,7 @@ module _ (g class full : ℕ) where
   -- the set was seen empty
   pub none_left : (a d : Hand) (head tail : ℕ) → PopsUnswept (unswept_set g class full) a.worker d.worker (EmptyBase head tail) → d.notes.items ≡ a.notes.items
       → Does g class 0 nothing nothing (SawEmpty (unswept_set g class full)) a d
-  none_left a d head tail (same, l) notes = let set = unswept_set g class full in let value = a.worker.view.generation in let said = Looked set head tail ∷ (l.said ++ Read 1 value ∷ []) in
+  none_left a d head tail pops notes = let same = pops.0 in let l = pops.1 in let set = unswept_set g class full in let value = a.worker.view.generation in let said = Looked set head tail ∷ (l.said ++ Read 1 value ∷ []) in
       let h : Part = record a.worker.view.own { log = Looked set head tail ∷ (l.said ++ Read 1 value ∷ a.worker.view.own.log); read = l.cells ++ a.worker.view.own.read } in record {
         said = said;
         log = ap (λ (w : Seen). w.view.own.log) l.view ∙ ap (λ (x : List Entry). Looked set head tail ∷ x) (sym (append_assoc l.said (Read 1 value ∷ []) a.worker.view.own.log));
