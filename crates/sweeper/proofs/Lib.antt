@@ -1,3 +1,4 @@
 pub mod Counting
 pub mod Working
 pub mod Settling
+pub mod Popping
