@@ -2,3 +2,4 @@ pub mod Counting
 pub mod Working
 pub mod Settling
 pub mod Popping
+pub mod Sweeping

@@ -1,4 +1,4 @@
-ghost use Rattle.std.specs.Prelude.{◌≡◌, ◌<◌, ◌≤◌, [], None};
+ghost use Rattle.std.specs.Prelude.{◌≡◌, ◌<◌, ◌≤◌, [], true, None};
 ghost use Rattle.span_set.specs.Sets.{unswept_of};
 ghost use Rattle.sweeper.specs.Pays.{Pays, target_of};
 ghost use Rattle.sweeper.specs.Steps.{SweepsSet, SweepsUntil};

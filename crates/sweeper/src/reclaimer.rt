@@ -1,4 +1,4 @@
-ghost use Rattle.std.specs.Prelude.{◌≡◌, ◌*◌, ◌<◌, ◌≤◌, [], None};
+ghost use Rattle.std.specs.Prelude.{◌≡◌, ◌*◌, ◌<◌, ◌≤◌, [], true, None};
 ghost use Rattle.sweeper.specs.Reclaims.{Reclaims};
 ghost use Rattle.sweeper.specs.Steps.{ReclaimsChunk, ReclaimsPage};
 
