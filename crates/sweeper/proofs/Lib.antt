@@ -3,3 +3,4 @@ pub mod Working
 pub mod Settling
 pub mod Popping
 pub mod Sweeping
+pub mod Searching

@@ -16,6 +16,7 @@ use Rattle.worker_log.specs.Logs.{is_placing_in, is_pop, is_pop_of, is_seen_empt
 use Rattle.worker_log.proofs.Logs.{many-append}
 use Rattle.span_laws.specs.Logs.{is_taking}
 use Rattle.span_laws.specs.Answers.{AcquiresSpan, cycle_at}
+use Rattle.span_laws.specs.Asks.{IsUntouched}
 use Rattle.span_laws.specs.declared.answers.Acquired.TheVariants.{Got, Other}
 use Rattle.span_laws.specs.declared.said.Said.TheVariants.{Finds, Looks, LooksCell, PopsEntry, Reads}
 use Rattle.span_laws.specs.declared.view.Cell.{Cell}
@@ -214,3 +215,8 @@ module _ (set : ℕ) (h : Hand) (unswept : is_swept_set h.worker.view.generation
           },
           few_pops [] (z.said ++ said₀) h2.worker r.0 r.1 d one r.3.passed r.4 r.7,
         )
+
+-- what an acquire tells of its page is so behind it
+pub still_untouched : (page : ℕ) (mid new : Seen) (got : Body) → AcquiresSpan page mid new (Got got) → IsUntouched new.view.generation new.view.own got.page
+still_untouched page mid new got a = subst (λ (w : Seen). IsUntouched w.view.generation w.view.own got.page) (sym a.1)
+    (let u = subst (λ (p : ℕ). IsUntouched mid.view.generation mid.view.own p) (sym a.0) a.3 in record { pops = u.pops; placings = u.placings })
