@@ -4,3 +4,4 @@ pub mod Settling
 pub mod Popping
 pub mod Sweeping
 pub mod Searching
+pub mod Paying

@@ -56,9 +56,9 @@ fn sweep_set(
             return Ok(Some(seen));
         }
         hand.reserve_note()?;
-        if sweep_next(shop, hand, set).is_none() {
+        let Some(_) = sweep_next(shop, hand, set) else {
             return Ok(None);
-        }
+        };
     }
     unreachable!()
 }
