@@ -5,3 +5,4 @@ pub mod Popping
 pub mod Sweeping
 pub mod Searching
 pub mod Paying
+pub mod Covering

@@ -14,7 +14,7 @@ use Rattle.sweep_laws.specs.Lists.{erase, has}
 use Rattle.worker_log.specs.declared.Entry.{Entry}
 use Rattle.worker_log.specs.declared.Entry.TheVariants.{Added, Gave, Pushed, Read, Swept}
 use Rattle.worker_log.specs.declared.Sweeping.{Sweeping}
-use Rattle.worker_log.specs.Logs.{is_pop, is_push_of, many, swept_set}
+use Rattle.worker_log.specs.Logs.{is_pop, is_push_of, is_sweep_of, many, swept_set}
 use Rattle.span_laws.specs.Answers.{AcquiresSpan, cycle_at}
 use Rattle.span_laws.specs.Asks.{HasRoom, IsApart, IsFullBody}
 use Rattle.span_laws.specs.declared.answers.Acquired.TheVariants.{Got}
@@ -23,7 +23,7 @@ use Rattle.span_laws.specs.declared.said.SaidOf.TheVariants.{Acquires, Releases}
 use Rattle.span_laws.specs.declared.view.Span.{Span}
 use Rattle.span_laws.specs.Views.{Seen, after_of, after_said, span_at, span_of}
 use Rattle.span_set.specs.declared.hand.Hand.{Hand}
-use Rattle.sweeper.specs.Entries.{is_giving_of}
+use Rattle.sweeper.specs.Entries.{is_giving_of, is_read, pages_given, total}
 use Rattle.sweeper.specs.Steps.{GoesHome, Settles}
 use Rattle.sweeper.specs.Sweeps.{SweepsSpan}
 use Rattle.sweeper.specs.Work.{Does, IsPlain, OnlySweeps, Stays, note_by, notes_of}
@@ -121,7 +121,7 @@ module _ (w : Seen) (got b : Body) (before : ℕ) (same : b.page ≡ got.page) (
   pushed_stays set free = record { here = refl; table = refl; number = refl; region = refl; goal = refl; generation = refl; marks = refl; parts = refl; sweeping = swept_back; cached = refl; claimed = sym free; fresh = refl; reset = refl; bodies = bodies_else }
 
 -- what the whole did to the worker, from before the acquire
-pub record Swings (w : Seen) (h1 h2 : Hand) (got_page : ℕ) (note : SweepNote) : Type 0 where
+pub record Swings (w : Seen) (h1 h2 : Hand) (marks : MarkSet) (got : Body) (note : SweepNote) : Type 0 where
   pub s : Sweeping
   pub said : List Entry
   pub note_is : note ≡ note_by (cycle_at w.view.generation) s
@@ -130,7 +130,12 @@ pub record Swings (w : Seen) (h1 h2 : Hand) (got_page : ℕ) (note : SweepNote) 
   pub popped : h2.worker.view.own.popped ≡ []
   pub sweeps : SweepsSpan w.view.generation s said
   pub pops : (k : ℕ) → many (is_pop k) said ≡ 0
-  pub of_page : s.page ≡ got_page
+  pub of_page : s.page ≡ got.page
+  pub of_pages : s.pages ≡ got.pages
+  pub of_kept : s.kept ≡ count_below got.count (is_marked marks got.page)
+  pub swept : (p : ℕ) → many (is_sweep_of p) said ≡ one_if (eqb s.page p)
+  pub unread : (i : ℕ) → many (is_read 4 i) said ≡ 0
+  pub gives : s.kept ≡ 0 → total pages_given said ≡ s.pages
 
 module _ (marks : MarkSet) (page : ℕ) (w : Seen) (got : Body) (h1 h2 : Hand) (note : SweepNote) (a : AcquiresSpan page w h1.worker (Got got)) (t : Settles marks got h1 h2 note)
     (none : erase got.page w.view.own.popped ≡ []) (free : w.view.own.claimed ≡ None) where
@@ -170,7 +175,7 @@ module _ (marks : MarkSet) (page : ℕ) (w : Seen) (got : Body) (h1 h2 : Hand) (
   counted : s.kept ≡ count_below b.count (allocated b)
   counted = sym (ap (λ (m : ℕ). count_below m (bit_of b.bits)) t.swept.same.count ∙ (λ i. count_below got.count (λ k. t.swept.marked k i)) ∙ sym t.swept.kept)
 
-  given_swings : t.counts.kept ≡ 0 → h2.worker ≡ after_said (Gives b.page b.pages) t.mid → Swings w h1 h2 got.page note
+  given_swings : t.counts.kept ≡ 0 → h2.worker ≡ after_said (Gives b.page b.pages) t.mid → Swings w h1 h2 marks got note
   given_swings e view =
       let now : h2.worker ≡ given_after got b t.before w = view ∙ ap (after_said (Gives b.page b.pages)) mid_is in record {
         s = s;
@@ -194,10 +199,15 @@ module _ (marks : MarkSet) (page : ℕ) (w : Seen) (got : Body) (h1 h2 : Hand) (
         };
         pops = λ k. refl;
         of_page = same;
+        of_pages = t.swept.same.pages;
+        of_kept = t.swept.kept;
+        swept = λ p. omega arith;
+        unread = λ i. refl;
+        gives = λ z. omega arith;
       }
 
   pushed_swings : 0 < t.counts.kept → (full : Bool) → (full ≡ true → IsFullBody b) → (full ≡ false → HasRoom b)
-      → h2.worker ≡ after_said (Fills (swept_set t.mid.view.generation b.class (one_if full)) b.page) (after_said (Reads 1 t.mid.view.generation) t.mid) → Swings w h1 h2 got.page note
+      → h2.worker ≡ after_said (Fills (swept_set t.mid.view.generation b.class (one_if full)) b.page) (after_said (Reads 1 t.mid.view.generation) t.mid) → Swings w h1 h2 marks got note
   pushed_swings l full is_full has_room view =
       let g = w.view.generation in let set = swept_set g b.class (one_if full) in
       let view' : h2.worker ≡ after_said (Fills set b.page) (after_said (Reads 1 g) t.mid) = view ∙ ap (λ (x : ℕ). after_said (Fills (swept_set x b.class (one_if full)) b.page) (after_said (Reads 1 x) t.mid)) mid_gen in
@@ -223,6 +233,11 @@ module _ (marks : MarkSet) (page : ℕ) (w : Seen) (got : Body) (h1 h2 : Hand) (
         };
         pops = λ k. refl;
         of_page = same;
+        of_pages = t.swept.same.pages;
+        of_kept = t.swept.kept;
+        swept = λ p. omega arith;
+        unread = λ i. refl;
+        gives = λ z. absurd (omega arith);
       }
     where
       by_full : (f : Bool) → (f ≡ true → IsFullBody b) → (f ≡ false → HasRoom b)
@@ -231,9 +246,9 @@ module _ (marks : MarkSet) (page : ℕ) (w : Seen) (got : Body) (h1 h2 : Hand) (
       by_full true i h = inl (l, i refl, rw (eq-eqb (swept_set w.view.generation b.class 1) (swept_set w.view.generation b.class 1) refl, eq-eqb b.page b.page refl) (omega arith))
       by_full false i h = inr (l, h refl, rw (eq-eqb (swept_set w.view.generation b.class 0) (swept_set w.view.generation b.class 0) refl, eq-eqb b.page b.page refl) (omega arith))
 
-  pub swings : Swings w h1 h2 got.page note
+  pub swings : Swings w h1 h2 marks got note
   swings = go t.goes
     where
-      go : GoesHome b t.counts t.mid h2.worker → Swings w h1 h2 got.page note
+      go : GoesHome b t.counts t.mid h2.worker → Swings w h1 h2 marks got note
       go (inl x) = given_swings x.0 x.1
       go (inr x) = pushed_swings x.0 x.1.0 x.1.1 x.1.2 x.1.3

@@ -9,7 +9,7 @@ loop-init c = let h = c.args.hand.now in sweeps_none (unswept_of h.worker.view.g
 
 pub returns-then-target-from : goal.returns-then-target-from
 returns-then-target-from c = let h = c.args.hand.now in let s = c.swept-seen in let f = c.from.ensures in let l = c.if-target-from.true in let r = s.type_inv in
-    set_reached (unswept_of h.worker.view.generation c.args.set) h c.loop.counter c.loop.hand c.loop.invariant s.new.w s.result s.ensures c.args.target (omega arith) ?
+    set_reached (unswept_of h.worker.view.generation c.args.set) h c.loop.counter c.loop.hand c.loop.invariant s.new.w s.result s.ensures c.args.target (omega arith) r
 
 pub returns-in_err-reserve_note : goal.returns-in_err-reserve_note
 returns-in_err-reserve_note c = let h = c.args.hand.now in let s = c.swept-seen in let e = c.in_err-reserve_note.ensures in
