@@ -9,7 +9,7 @@ use Rattle.worker_log.specs.declared.Sweeping.{Sweeping}
 use Rattle.worker_log.specs.Logs.{is_placing_in, is_pop_of, many, sweepings}
 use Rattle.worker_log.proofs.Logs.{many-append}
 use Rattle.span_laws.specs.Logs.{is_taking}
-use Rattle.sweeper.specs.Entries.{added_to, is_added, is_emptying_of, is_giving_of, is_keeping_of, is_missing, is_placing, is_push_at, pages_swept, total}
+use Rattle.sweeper.specs.Entries.{added_to, is_added, is_emptying_of, is_giving_of, is_keeping_of, is_missing, is_placing, is_push_at, is_read, pages_swept, total}
 use Rattle.sweeper.specs.Work.{IsPlain, OnlySweeps, TakesNone, note_by, notes_of}
 use Rattle.sweeper.specs.Steps.{SweepsNone}
 
@@ -69,7 +69,7 @@ pub takes-append : (xs ys : List Entry) → TakesNone xs → TakesNone ys → Ta
 takes-append xs ys a b = record { untaken = none-both is_taking xs ys a.untaken b.untaken; unmissed = none-both is_missing xs ys a.unmissed b.unmissed }
 
 pub plain-append : (xs ys : List Entry) → IsPlain xs → IsPlain ys → IsPlain (xs ++ ys)
-plain-append xs ys a b = record { takes_none = takes-append xs ys a.takes_none b.takes_none; unclaimed = none-both (is_added 4) xs ys a.unclaimed b.unclaimed }
+plain-append xs ys a b = record { takes_none = takes-append xs ys a.takes_none b.takes_none; unclaimed = none-both (is_added 4) xs ys a.unclaimed b.unclaimed; unread = λ i. none-both (is_read 4 i) xs ys (a.unread i) (b.unread i) }
 
 pub none-append : (xs ys : List Entry) → SweepsNone xs → SweepsNone ys → SweepsNone (xs ++ ys)
 none-append xs ys a b = record { none = sweepings-append xs ys ∙ ap (λ (l : List Sweeping). l ++ sweepings ys) a.none ∙ b.none; plain = plain-append xs ys a.plain b.plain }
@@ -79,4 +79,4 @@ pub nothing-sweeps : (g : ℕ) → OnlySweeps g []
 nothing-sweeps g = record { unplaced = refl; unspent = refl; swept_pages = refl; given = λ p. refl; pushed = λ p. refl; unpopped = λ j p s. refl; untouched = λ p. refl }
 
 pub nothing-none : SweepsNone []
-nothing-none = record { none = refl; plain = record { takes_none = record { untaken = refl; unmissed = refl }; unclaimed = refl } }
+nothing-none = record { none = refl; plain = record { takes_none = record { untaken = refl; unmissed = refl }; unclaimed = refl; unread = λ i. refl } }

@@ -2,7 +2,7 @@
 use Rattle.std.proofs.Common.{◌≡◌, ◌≢◌, ◌↔◌, ℕ, zero, suc, ◌+◌, ◌*◌, ◌-◌, ◌/◌, ◌%◌, ◌^◌, ◌<◌, ◌≤◌, ◌⊎◌, inl, inr, ⊎_elim, Bool, ◌&&◌, eqb, eq-eqb, ne_eqb, true, false, true≢false, List, [], ◌∷◌, ◌++◌, length, min, refl, ap, sym, subst, ◌∙◌, arith}
 use Rattle.std.proofs.lemmas.List.{append-nil}
 use Rattle.std.proofs.lemmas.Bool.{eqb-true}
-use Rattle.std.specs.Prelude.{Ok, Err}
+use Rattle.std.specs.Prelude.{Ok, Err, None}
 use Rattle.fallible_list.specs.declared.list.NoMemory.{NoMemory}
 use mathlib.Core.Logic.{dite}
 use native.Mathlib.Decide.{ℕ_discrete, dec_le}
@@ -26,7 +26,7 @@ use Rattle.sweeper.specs.Entries.{is_added, is_finding_at, is_read, pages_given,
 use Rattle.sweeper.specs.Reclaims.{HasPassed, HasReclaimed, IsUnmarked, Reclaims, SparesMarked, chunks_of}
 use Rattle.sweeper.specs.Steps.{CoversChunks, CoversPage, CoversPages, ReclaimsChunk, ReclaimsPage, Settles}
 use Rattle.sweeper.specs.Work.{Does, IsPlain, Stays, TakesNone, Works, notes_of}
-use Rattle.sweeper.proofs.Counting.{none-both, plain-append, some-new, some-old, takes-append, total-append}
+use Rattle.sweeper.proofs.Counting.{plain-append, some-new, some-old, takes-append, total-append}
 use Rattle.sweeper.proofs.Paying.{plain-nothing, works-room}
 use Rattle.sweeper.proofs.Settling.{Swings, swings}
 use Rattle.sweeper.proofs.Working.{works-as, works-both, works-nothing, works-step}
@@ -36,7 +36,7 @@ use Rattle.sweeper.proofs.Working.{works-as, works-both, works-nothing, works-st
 none_counted : (n : ℕ) (f : ℕ → Bool) → ((k : ℕ) → f k ≡ false) → count_below n f ≡ 0
 unfolding count_below
 none_counted zero f h = refl
-none_counted (suc n) f h = let r = none_counted n f h in rw h n (omega arith)
+none_counted (suc n) f h = let r = none_counted n f h in let z = ap Rattle.span_state.specs.Bits.one_if (h n) in omega arith
 
 spares-append : (marks : List (ℕ × ℕ)) (xs ys : List Entry) → SparesMarked marks xs → SparesMarked marks ys → SparesMarked marks (xs ++ ys)
 spares-append marks xs ys a b p l = dite (dec_le 1 (many (is_sweep_of p) xs)) (λ z. a p (omega arith)) (λ z. b p (let m = many-append (is_sweep_of p) xs ys in omega arith))
@@ -55,7 +55,6 @@ module _ (old : Hand) (none : old.worker.view.own.popped ≡ []) (page : ℕ) wh
     given_is = refl;
     spares = λ p l. absurd (omega arith);
     plain = plain-nothing;
-    unread = λ i. refl;
   })
 
   -- no room for a note
@@ -79,8 +78,7 @@ module _ (old : Hand) (none : old.worker.view.own.popped ≡ []) (page : ℕ) wh
           covers = λ p l m u. subst (λ (x : ℕ). 0 < many (is_sweep_of x) (Found page word ∷ []) + many (is_finding_at x) (Found page word ∷ [])) (let e : page ≡ p = omega arith in e) (rw (eq-eqb page page refl) (omega arith));
           given_is = refl;
           spares = λ p l. absurd (omega arith);
-          plain = record { takes_none = record { untaken = refl; unmissed = refl }; unclaimed = refl };
-          unread = λ i. refl;
+          plain = record { takes_none = record { untaken = refl; unmissed = refl }; unclaimed = refl; unread = λ i. refl };
         })
 
     -- its span was swept, without a mark
@@ -98,7 +96,6 @@ module _ (old : Hand) (none : old.worker.view.own.popped ≡ []) (page : ℕ) wh
             given_is = (let g = z.gives kept in let q = z.of_pages in omega arith);
             spares = λ p l. subst (IsUnmarked old.worker.view.marks) (sym at ∙ is_page z.s.page p (let y = z.swept p in omega arith)) clear;
             plain = z.sweeps.plain;
-            unread = z.unread;
           };
           does = z.does;
           notes = z.notes ∙ ap (λ (x : List SweepNote). x ++ notes_of (cycle_at old.worker.view.generation) z.said) (same ∙ notes);
@@ -116,12 +113,11 @@ covers-append marks from to given more xs ys a b = record {
   given_is = (let x = a.given_is in let y = b.given_is in let t = total-append pages_given ys xs in omega arith);
   spares = spares-append marks ys xs b.spares a.spares;
   plain = plain-append ys xs b.plain a.plain;
-  unread = λ i. none-both (is_read 4 i) ys xs (b.unread i) (a.unread i);
 }
 
 module _ (old : Hand) (from : ℕ) where
   pub chunk_none : old.worker.view.own.popped ≡ [] → Works [] (CoversPages old.worker.view.marks from from 0) old old
-  chunk_none none = works-nothing (CoversPages old.worker.view.marks from from 0) old old refl refl none (record { covers = λ p l m. absurd (omega arith); given_is = refl; spares = λ p l. absurd (omega arith); plain = plain-nothing; unread = λ i. refl })
+  chunk_none none = works-nothing (CoversPages old.worker.view.marks from from 0) old old refl refl none (record { covers = λ p l m. absurd (omega arith); given_is = refl; spares = λ p l. absurd (omega arith); plain = plain-nothing })
 
   module _ (to given : ℕ) (now new : Hand) (w : Works [] (CoversPages old.worker.view.marks from to given) old now) where
     pub chunk_more : (more total : ℕ) → total ≡ min (given + more) (2 ^ 32 - 1) → ReclaimsPage to now new (Ok more) → Works [] (CoversPages old.worker.view.marks from (to + 1) total) old new
@@ -200,7 +196,7 @@ module _ (old : Hand) (region asked : ℕ) (size : region ≡ old.worker.view.re
         whole = λ j p l at low. ⊎_elim
             (λ (s : i ≡ j). covers-new old.worker.view.marks p ys (Added 4 1 ∷ Read 4 i ∷ xs) (d.covers p (let q = at in omega arith) (let q = at in omega arith)))
             (λ (z : 0 < many (is_read 4 j) xs). covers-old old.worker.view.marks p ys (Added 4 1 ∷ Read 4 i ∷ xs) (covers-old old.worker.view.marks p (Added 4 1 ∷ Read 4 i ∷ []) xs (c.whole j p z at low)))
-            (which j xs (let a = many-append (is_read 4 j) ys (Added 4 1 ∷ Read 4 i ∷ xs) in let q = d.unread j in omega arith));
+            (which j xs (let a = many-append (is_read 4 j) ys (Added 4 1 ∷ Read 4 i ∷ xs) in let q = d.plain.unread j in omega arith));
         given_is = (let a = total-append pages_given ys (Added 4 1 ∷ Read 4 i ∷ xs) in let b = c.given_is in let f = d.given_is in omega arith);
         spares = spares-append old.worker.view.marks ys (Added 4 1 ∷ Read 4 i ∷ xs) d.spares (λ p l. c.spares p (omega arith));
         takes_none = takes-append ys (Added 4 1 ∷ Read 4 i ∷ xs) d.plain.takes_none (record { untaken = (let a = c.takes_none.untaken in omega arith); unmissed = (let a = c.takes_none.unmissed in omega arith) });
@@ -245,3 +241,19 @@ module _ (old : Hand) (region asked : ℕ) (size : region ≡ old.worker.view.re
               subst (λ (r : ℕ). many (is_added 4) (y ++ (Added 4 1 ∷ Read 4 i ∷ xs)) ≤ chunks_of r) size (let a = many-append (is_added 4) y (Added 4 1 ∷ Read 4 i ∷ xs) in let b = plain.unclaimed in let d = c.claimed in omega arith),
               spares-append old.worker.view.marks y (Added 4 1 ∷ Read 4 i ∷ xs) spares (λ p l. c.spares p (omega arith)),
             )
+
+-- a quotient rounded up
+pub rounded : (x : ℕ) → x / 512 + min 1 (x % 512) ≡ chunks_of x
+rounded x = omega arith
+
+-- what was reclaimed stays so behind what claims no chunk
+pub reclaimed-more : (marks : List (ℕ × ℕ)) (region n : ℕ) (xs ys : List Entry) → IsPlain xs → HasReclaimed marks region n ys → HasReclaimed marks region n (xs ++ ys)
+reclaimed-more marks region n xs ys plain r = record {
+  enough = ⊎_elim (λ (l : n ≤ total pages_given ys). inl (let a = total-append pages_given xs ys in omega arith)) (λ (z : HasPassed region ys). inr (passed z)) r.enough;
+  few = (let a = many-append (is_added 4) xs ys in let b = plain.unclaimed in let c = r.few in omega arith);
+  whole = λ i p l at low. covers-old marks p xs ys (r.whole i p (let a = many-append (is_read 4 i) xs ys in let b = plain.unread i in omega arith) at low);
+}
+  where
+    passed : HasPassed region ys → HasPassed region (xs ++ ys)
+    passed (inl z) = inl (z.0, z.1, some-old (is_read 4 z.0) xs ys z.2)
+    passed (inr l) = inr (let a = many-append (is_added 4) xs ys in omega arith)

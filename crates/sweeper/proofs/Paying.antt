@@ -1,5 +1,5 @@
 -- Spans are swept until a number of swept pages is reached, or nothing is left.
-use Rattle.std.proofs.Common.{◌≡◌, ℕ, zero, suc, ◌+◌, ◌*◌, ◌-◌, ◌/◌, ◌%◌, ◌^◌, ◌<◌, ◌≤◌, Bool, eq-eqb, true, false, List, [], ◌∷◌, ◌++◌, length, refl, ap, sym, subst, ◌∙◌, arith}
+use Rattle.std.proofs.Common.{◌≡◌, ℕ, zero, suc, ◌+◌, ◌*◌, ◌-◌, ◌/◌, ◌%◌, ◌^◌, ◌<◌, ◌≤◌, Bool, eqb, eq-eqb, true, false, List, [], ◌∷◌, ◌++◌, length, refl, ap, sym, subst, ◌∙◌, arith}
 use Rattle.std.proofs.lemmas.List.{append-nil}
 use Rattle.std.specs.Prelude.{Some, None, Option, Ok, Err, Result}
 use Rattle.fallible_list.specs.declared.list.NoMemory.{NoMemory}
@@ -27,8 +27,8 @@ pub plain-nothing : IsPlain []
 plain-nothing = nothing-none.plain
 
 -- a word is read
-pub read_works : (word value : ℕ) (a : Hand) (new : Seen) → new ≡ after_said (Reads word value) a.worker → a.worker.view.own.popped ≡ [] → Works [] (λ said. IsPlain said × (0 < many (is_read word value) said)) a (record a { worker = new })
-read_works word value a new e none = works-step (λ said. IsPlain said × (0 < many (is_read word value) said)) [] (Read word value ∷ []) a (record a { worker = new })
+pub read_works : (word value : ℕ) (a : Hand) (new : Seen) → eqb word 4 ≡ false → new ≡ after_said (Reads word value) a.worker → a.worker.view.own.popped ≡ [] → Works [] (λ said. IsPlain said × (0 < many (is_read word value) said)) a (record a { worker = new })
+read_works word value a new other e none = works-step (λ said. IsPlain said × (0 < many (is_read word value) said)) [] (Read word value ∷ []) a (record a { worker = new })
     (record {
       log = ap (λ (x : Seen). x.view.own.log) e;
       sweeps = record { unplaced = refl; unspent = refl; swept_pages = refl; given = λ p. refl; pushed = λ p. refl; unpopped = λ j p s. refl; untouched = λ p. refl };
@@ -36,7 +36,7 @@ read_works word value a new e none = works-step (λ said. IsPlain said × (0 < m
       stays = subst (Stays a.worker) (sym e) (record { here = refl; table = refl; number = refl; region = refl; goal = refl; generation = refl; marks = refl; parts = refl; sweeping = refl; cached = refl; claimed = refl; fresh = refl; reset = refl; bodies = λ q h. refl });
     })
     refl refl (ap (λ (x : Seen). x.view.own.popped) e ∙ none)
-    (record { takes_none = record { untaken = refl; unmissed = refl }; unclaimed = refl }, rw (eq-eqb word word refl, eq-eqb value value refl) (omega arith))
+    (record { takes_none = record { untaken = refl; unmissed = refl }; unclaimed = refl; unread = λ i. rw other refl }, rw (eq-eqb word word refl, eq-eqb value value refl) (omega arith))
 
 -- room for notes tells nothing
 pub works-room : (P : List Entry → Type 0) (more : List ℕ) (a b b' : Hand) → b'.worker ≡ b.worker → b'.notes.items ≡ b.notes.items → Works more P a b → Works more P a b'
@@ -55,7 +55,7 @@ module _ (k : ℕ) (old : Hand) where
 
   module _ (n : ℕ) (now : Hand) (d : SweepsSome k n old now) (w1 : Seen) (seen : ℕ) (read : w1 ≡ after_said (Reads 2 seen) now.worker) where
     read_it : Works [] (λ said. IsPlain said × (0 < many (is_read 2 seen) said)) now (record now { worker = w1 })
-    read_it = read_works 2 seen now w1 read d.works.popped
+    read_it = read_works 2 seen now w1 refl read d.works.popped
 
     pub set_reached : (target : ℕ) → target ≤ seen → seen < 2 ^ 64 → SweepsSet k target old (record now { worker = w1 }) (Ok (Some seen))
     set_reached target l low = (l, low, works-both (λ said. IsPlain said × (n ≤ many (is_pop k) said)) (λ said. IsPlain said × (0 < many (is_read 2 seen) said)) (λ said. IsPlain said × (0 < many (is_read 2 seen) said)) [] old now (record now { worker = w1 }) d.works read_it
@@ -108,7 +108,7 @@ finished old new None target l u = works-as (λ said. IsPlain said × SawSome ol
 module _ (pages distance bytes credit : ℕ) (old : Hand) (none : old.worker.view.own.popped ≡ []) (w1 w2 : Seen) (spent : ℕ) (g : ℕ) (first : w1 ≡ after_said (Reads 1 g) old.worker) (second : w2 ≡ after_said (Reads 3 spent) w1) (mid : Hand) (at : mid ≡ record old { worker = w2 }) where
   both_read : Works [] (λ said. IsPlain said × (0 < many (is_read 3 spent) said)) old mid
   both_read = subst (Works [] (λ said. IsPlain said × (0 < many (is_read 3 spent) said)) old) (sym at)
-      (let a = read_works 1 g old w1 first none in let b = read_works 3 spent (record old { worker = w1 }) w2 second a.popped in
+      (let a = read_works 1 g old w1 refl first none in let b = read_works 3 spent (record old { worker = w1 }) w2 refl second a.popped in
       works-both (λ said. IsPlain said × (0 < many (is_read 1 g) said)) (λ said. IsPlain said × (0 < many (is_read 3 spent) said)) (λ said. IsPlain said × (0 < many (is_read 3 spent) said)) [] old (record old { worker = w1 }) (record old { worker = w2 }) a b
       (λ x y p q. (plain-append y x q.0 p.0, some-new (is_read 3 spent) y x q.1)))
 

@@ -54,7 +54,7 @@ module _ (set : ℕ) where
   one_quiet h t g = record { unplaced = refl; unspent = refl; swept_pages = refl; given = λ p. refl; pushed = λ p. refl; unpopped = λ j p s. refl; untouched = λ p. refl }
 
   one_none : (h t : ℕ) → SweepsNone (Looked set h t ∷ [])
-  one_none h t = record { none = refl; plain = record { takes_none = record { untaken = refl; unmissed = refl }; unclaimed = refl } }
+  one_none h t = record { none = refl; plain = record { takes_none = record { untaken = refl; unmissed = refl }; unclaimed = refl; unread = λ i. refl } }
 
   read_quiet : (v g : ℕ) → OnlySweeps g (Read 1 v ∷ [])
   read_quiet v g = record { unplaced = refl; unspent = refl; swept_pages = refl; given = λ p. refl; pushed = λ p. refl; unpopped = λ j p s. refl; untouched = λ p. refl }
@@ -65,7 +65,7 @@ module _ (set : ℕ) where
       sweeps-append g (e ∷ []) (said ++ Read 1 v ∷ []) (subst (λ (y : Entry). OnlySweeps g (y ∷ [])) (sym x.2) (one_quiet x.0 x.1 g)) (looks_sweeps v g said a.1)
 
   looks_none : (v : ℕ) (said : List Entry) → AllByRecursion (IsLookAt set) said → SweepsNone (said ++ Read 1 v ∷ [])
-  looks_none v [] a = record { none = refl; plain = record { takes_none = record { untaken = refl; unmissed = refl }; unclaimed = refl } }
+  looks_none v [] a = record { none = refl; plain = record { takes_none = record { untaken = refl; unmissed = refl }; unclaimed = refl; unread = λ i. refl } }
   looks_none v (e ∷ said) a = let x = look_is e a.0 in
       none-append (e ∷ []) (said ++ Read 1 v ∷ []) (subst (λ (y : Entry). SweepsNone (y ∷ [])) (sym x.2) (one_none x.0 x.1)) (looks_none v said a.1)
 
@@ -121,7 +121,7 @@ module _ (set : ℕ) where
       pop_does = does-both w now new [] [] looks_said (Popped set page ∷ []) looks_does pop_step
 
       pub pop_none : SweepsNone pop_said
-      pop_none = none-append (Popped set page ∷ []) looks_said (record { none = refl; plain = record { takes_none = record { untaken = refl; unmissed = refl }; unclaimed = refl } }) looks_are
+      pop_none = none-append (Popped set page ∷ []) looks_said (record { none = refl; plain = record { takes_none = record { untaken = refl; unmissed = refl }; unclaimed = refl; unread = λ i. refl } }) looks_are
 
       pub pop_once : many (is_pop set) pop_said ≡ 1
       pop_once = let z = looks_unpopped set w.view.generation l.said l.looks in rw (eq-eqb set set refl) (omega arith)
@@ -182,7 +182,7 @@ module _ (set : ℕ) (h : Hand) (unswept : is_swept_set h.worker.view.generation
           stays = subst (Stays mid) (sym a.1) (record { here = refl; table = refl; number = refl; region = refl; goal = refl; generation = refl; marks = refl; parts = refl; sweeping = refl; cached = refl; claimed = refl; fresh = refl; reset = refl; bodies = λ q h. refl });
         } in
         let d = does-both h.worker mid new [] [] said₀ (Found page word ∷ []) does₀ step in
-        let n : SweepsNone (Found page word ∷ said₀) = none-append (Found page word ∷ []) said₀ (record { none = refl; plain = record { takes_none = record { untaken = refl; unmissed = refl }; unclaimed = refl } }) none₀ in
+        let n : SweepsNone (Found page word ∷ said₀) = none-append (Found page word ∷ []) said₀ (record { none = refl; plain = record { takes_none = record { untaken = refl; unmissed = refl }; unclaimed = refl; unread = λ i. refl } }) none₀ in
         let one : many (is_pop set) (Found page word ∷ said₀) ≡ 1 = (let z = once₀ in omega arith) in (
           record {
             said = Found page word ∷ said₀;

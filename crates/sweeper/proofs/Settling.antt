@@ -23,7 +23,7 @@ use Rattle.span_laws.specs.declared.said.SaidOf.TheVariants.{Acquires, Releases}
 use Rattle.span_laws.specs.declared.view.Span.{Span}
 use Rattle.span_laws.specs.Views.{Seen, after_of, after_said, span_at, span_of}
 use Rattle.span_set.specs.declared.hand.Hand.{Hand}
-use Rattle.sweeper.specs.Entries.{is_giving_of, is_read, pages_given, total}
+use Rattle.sweeper.specs.Entries.{is_giving_of, pages_given, total}
 use Rattle.sweeper.specs.Steps.{GoesHome, Settles}
 use Rattle.sweeper.specs.Sweeps.{SweepsSpan}
 use Rattle.sweeper.specs.Work.{Does, IsPlain, OnlySweeps, Stays, note_by, notes_of}
@@ -134,7 +134,6 @@ pub record Swings (w : Seen) (h1 h2 : Hand) (marks : MarkSet) (got : Body) (note
   pub of_pages : s.pages ≡ got.pages
   pub of_kept : s.kept ≡ count_below got.count (is_marked marks got.page)
   pub swept : (p : ℕ) → many (is_sweep_of p) said ≡ one_if (eqb s.page p)
-  pub unread : (i : ℕ) → many (is_read 4 i) said ≡ 0
   pub gives : s.kept ≡ 0 → total pages_given said ≡ s.pages
 
 module _ (marks : MarkSet) (page : ℕ) (w : Seen) (got : Body) (h1 h2 : Hand) (note : SweepNote) (a : AcquiresSpan page w h1.worker (Got got)) (t : Settles marks got h1 h2 note)
@@ -195,14 +194,13 @@ module _ (marks : MarkSet) (page : ℕ) (w : Seen) (got : Body) (h1 h2 : Hand) (
           page = refl;
           kept = counted;
           settled = inl (e, rw (eq-eqb b.page b.page refl) (omega arith));
-          plain = record { takes_none = record { untaken = refl; unmissed = refl }; unclaimed = refl };
+          plain = record { takes_none = record { untaken = refl; unmissed = refl }; unclaimed = refl; unread = λ i. refl };
         };
         pops = λ k. refl;
         of_page = same;
         of_pages = t.swept.same.pages;
         of_kept = t.swept.kept;
         swept = λ p. omega arith;
-        unread = λ i. refl;
         gives = λ z. omega arith;
       }
 
@@ -229,14 +227,13 @@ module _ (marks : MarkSet) (page : ℕ) (w : Seen) (got : Body) (h1 h2 : Hand) (
           page = refl;
           kept = counted;
           settled = inr (by_full full is_full has_room);
-          plain = record { takes_none = record { untaken = refl; unmissed = refl }; unclaimed = refl };
+          plain = record { takes_none = record { untaken = refl; unmissed = refl }; unclaimed = refl; unread = λ i. refl };
         };
         pops = λ k. refl;
         of_page = same;
         of_pages = t.swept.same.pages;
         of_kept = t.swept.kept;
         swept = λ p. omega arith;
-        unread = λ i. refl;
         gives = λ z. absurd (omega arith);
       }
     where

@@ -102,13 +102,12 @@ SweepsUntil n target old new (Err none) = Works [] IsPlain old new
 abbrev pub CoversPage : List (ℕ × ℕ) → ℕ → List Entry → Type 0
 CoversPage marks p said = IsUnmarked marks p → 0 < many (is_sweep_of p) said + many (is_finding_at p) said
 
--- so of the pages from one to another; so many pages were given back, only spans without a mark swept, and no claim of a chunk was read
+-- so of the pages from one to another; so many pages were given back, and only spans without a mark swept
 pub record CoversPages (marks : List (ℕ × ℕ)) (from to given : ℕ) (said : List Entry) : Type 0 where
   pub covers : (p : ℕ) → from ≤ p → p < to → CoversPage marks p said
   pub given_is : given ≡ min (total pages_given said) (2 ^ 32 - 1)
   pub spares : SparesMarked marks said
   pub plain : IsPlain said
-  pub unread : (i : ℕ) → many (is_read 4 i) said ≡ 0
 
 -- one page; or memory ran out
 abbrev pub ReclaimsPage : ℕ → Hand → Hand → Result ℕ NoMemory → Type 0

@@ -10,7 +10,7 @@ use Rattle.span_laws.specs.Answers.{cycle_at}
 use Rattle.span_laws.specs.Logs.{is_taking}
 use Rattle.span_laws.specs.Views.{Seen, span_at}
 use Rattle.span_set.specs.declared.hand.Hand.{Hand}
-use Rattle.sweeper.specs.Entries.{added_to, is_added, is_emptying_of, is_giving_of, is_keeping_of, is_missing, is_placing, is_push_at, pages_swept, total}
+use Rattle.sweeper.specs.Entries.{added_to, is_added, is_emptying_of, is_giving_of, is_keeping_of, is_missing, is_placing, is_push_at, is_read, pages_swept, total}
 
 -- the note of a sweep in a cycle
 abbrev pub note_by : ℕ → Sweeping → SweepNote
@@ -70,10 +70,11 @@ pub record TakesNone (said : List Entry) : Type 0 where
   pub untaken : many is_taking said ≡ 0
   pub unmissed : many is_missing said ≡ 0
 
--- nor is a chunk claimed
+-- nor is a chunk claimed, or the index of one read
 pub record IsPlain (said : List Entry) : Type 0 where
   pub takes_none : TakesNone said
   pub unclaimed : many (is_added 4) said ≡ 0
+  pub unread : (i : ℕ) → many (is_read 4 i) said ≡ 0
 
 -- each unswept set was seen empty
 abbrev pub SawAllEmpty : ℕ → List Entry → Type 0
