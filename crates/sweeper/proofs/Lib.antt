@@ -6,3 +6,4 @@ pub mod Sweeping
 pub mod Searching
 pub mod Paying
 pub mod Covering
+pub mod Making
