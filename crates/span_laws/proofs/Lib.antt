@@ -4,6 +4,7 @@ pub mod Parts
 pub mod BodiesKept
 pub mod TellsKept
 pub mod MarkedKept
+pub mod Waiting
 pub mod RuleKept
 pub mod WordMoves
 pub mod Lives
@@ -19,3 +20,4 @@ pub mod Uses
 pub mod Calls
 pub mod Allowed
 pub mod Start
+pub mod CallLogs

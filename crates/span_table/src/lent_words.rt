@@ -175,14 +175,6 @@ impl Lent {
         );
     }
 
-    // See `Shared::region`.
-    pub(crate) fn region(&self) -> u32
-        ensures pages { result ≡ self.now.view.region }
-        ensures few { result ≤ 65536 }
-    {
-        self.core.words().len() as u32
-    }
-
     // See `Shared::generation`.
     pub(crate) fn generation(&mut self, shared: &Shared) -> u64
         requires table { self.old.table ≡ shared.now }

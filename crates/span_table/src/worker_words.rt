@@ -12,17 +12,6 @@ use span_laws::{Acquired, Said, SaidOf, Uncached};
 use span_state::Body;
 
 impl Shared {
-    /// The pages of the region, at most 65536.
-    pub fn region(&self, w: &Worker) -> u32
-        requires here { w.now.here ≡ true }
-        requires table { w.now.table ≡ self.now }
-        ensures pages { result ≡ w.now.view.region }
-        ensures few { result ≤ 65536 }
-    {
-        let Some(lent) = &w.lent else { unreachable!() };
-        lent.region()
-    }
-
     /// The heap generation, from 4 to 2^33, which a log entry tells (word 1).
     pub fn generation(&self, w: &mut Worker) -> u64
         requires here { w.old.here ≡ true }
