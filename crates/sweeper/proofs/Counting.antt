@@ -9,7 +9,9 @@ use Rattle.worker_log.specs.declared.Sweeping.{Sweeping}
 use Rattle.worker_log.specs.Logs.{is_placing_in, is_pop_of, many, sweepings}
 use Rattle.worker_log.proofs.Logs.{many-append}
 use Rattle.span_laws.specs.Logs.{is_taking}
-use Rattle.sweeper.specs.Entries.{added_to, is_added, is_emptying_of, is_giving_of, is_keeping_of, is_missing, is_placing, is_push_at, is_read, pages_swept, total}
+use Rattle.span_laws.specs.Calls.{is_missing, is_placing, number_added, pages_swept}
+use Rattle.sweep_laws.specs.Counts.{total}
+use Rattle.sweeper.specs.Entries.{is_added, is_emptying_of, is_giving_of, is_keeping_of, is_push_at, is_read}
 use Rattle.sweeper.specs.Work.{IsPlain, OnlySweeps, TakesNone, note_by, notes_of}
 use Rattle.sweeper.specs.Steps.{SweepsNone}
 
@@ -58,7 +60,7 @@ pub sweeps-append : (g : ℕ) (xs ys : List Entry) → OnlySweeps g xs → OnlyS
 sweeps-append g xs ys a b = record {
   unplaced = none-both is_placing xs ys a.unplaced b.unplaced;
   unspent = none-both (is_added 3) xs ys a.unspent b.unspent;
-  swept_pages = (let c = total-append (added_to 2) xs ys in let d = total-append pages_swept xs ys in let e = a.swept_pages in let f = b.swept_pages in omega arith);
+  swept_pages = (let c = total-append (number_added 2) xs ys in let d = total-append pages_swept xs ys in let e = a.swept_pages in let f = b.swept_pages in omega arith);
   given = λ p. let c = many-append (is_giving_of p) xs ys in let d = many-append (is_emptying_of p) xs ys in let e = a.given p in let f = b.given p in omega arith;
   pushed = λ p. let c = many-append (is_push_at p) xs ys in let d = many-append (is_keeping_of p) xs ys in let e = a.pushed p in let f = b.pushed p in omega arith;
   unpopped = λ j p s. none-both (is_pop_of j p) xs ys (a.unpopped j p s) (b.unpopped j p s);

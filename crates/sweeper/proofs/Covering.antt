@@ -22,7 +22,8 @@ use Rattle.span_laws.specs.declared.answers.Acquired.TheVariants.{Got, Other}
 use Rattle.span_laws.specs.declared.said.Said.TheVariants.{Adds, Finds}
 use Rattle.span_laws.specs.Views.{Seen, after_said}
 use Rattle.span_set.specs.declared.hand.Hand.{Hand}
-use Rattle.sweeper.specs.Entries.{is_added, is_finding_at, is_read, pages_given, total}
+use Rattle.sweep_laws.specs.Counts.{total}
+use Rattle.sweeper.specs.Entries.{is_added, is_finding_at, is_read, pages_given}
 use Rattle.sweeper.specs.Reclaims.{HasPassed, HasReclaimed, IsUnmarked, Reclaims, SparesMarked, chunks_of}
 use Rattle.sweeper.specs.Steps.{CoversChunks, CoversPage, CoversPages, ReclaimsChunk, ReclaimsPage, Settles}
 use Rattle.sweeper.specs.Work.{Does, IsPlain, Stays, TakesNone, Works, notes_of}

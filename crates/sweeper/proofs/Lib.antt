@@ -7,3 +7,4 @@ pub mod Searching
 pub mod Paying
 pub mod Covering
 pub mod Making
+pub mod Bridging

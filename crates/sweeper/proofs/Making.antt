@@ -7,46 +7,38 @@ use Rattle.page_alloc.specs.Journal.{HasNoRun, Legal}
 use Rattle.page_bitmap.specs.declared.line.Line.{Line}
 use Rattle.page_bitmap.specs.declared.line.Line.TheVariants.{Take as TakeLine, Miss as MissLine}
 use Rattle.span_state.specs.declared.body.Body.{Body}
-use Rattle.sweep_laws.specs.Lists.{has}
 use Rattle.sweep_laws.specs.Needs.{is_swept_set}
 use Rattle.worker_log.specs.declared.Entry.{Entry}
 use Rattle.worker_log.specs.declared.Entry.TheVariants.{Took, Missed}
 use Rattle.worker_log.specs.Logs.{is_placing_in, is_pop_of, is_seen_empty, many}
 use Rattle.worker_log.proofs.Logs.{many-append}
 use Rattle.span_laws.specs.Answers.{NoRunFree, TakesNew, TakesSpan, cycle_at}
-use Rattle.span_laws.specs.Asks.{IsApart, IsUntouched}
+use Rattle.span_laws.specs.Asks.{IsUntouched, mine}
 use Rattle.span_laws.specs.declared.answers.Refused.{Refused}
 use Rattle.span_laws.specs.declared.answers.Refused.TheVariants.{NoRun, NoMemory as WantsMemory}
 use Rattle.span_laws.specs.declared.said.Said.TheVariants.{Misses}
 use Rattle.span_laws.specs.declared.said.SaidOf.TheVariants.{Takes}
 use Rattle.span_laws.specs.Views.{Seen, after_of, after_said, span_at, span_of}
 use Rattle.span_set.specs.declared.hand.Hand.{Hand}
-use Rattle.sweeper.specs.Entries.{is_added, pages_given, total}
+use Rattle.sweep_laws.specs.Counts.{times, total}
+use Rattle.sweeper.specs.Entries.{is_added, pages_given}
 use Rattle.sweeper.specs.NewSpans.{HasNew, MakesSpan, MissedAtLast, MissedThen, SweepsAndTakes, TookAtLast, TookThen}
 use Rattle.sweeper.specs.Reclaims.{HasReclaimed, Reclaims, SparesMarked, chunks_of}
 use Rattle.sweeper.specs.Sweeps.{Finishes}
 use Rattle.sweeper.specs.Work.{Does, IsPlain, SawAllEmpty, Stays, TakesNone, Works}
 use Rattle.sweeper.proofs.Counting.{some-new, some-old, takes-append}
 use Rattle.sweeper.proofs.Covering.{reclaimed-more}
+use Rattle.sweeper.proofs.Settling.{apart_else}
 use Rattle.sweeper.proofs.Working.{works-as, works-both, works-step}
 
--- the parts of the worker by which a page is apart are the same
-apart_before : (old mid : Seen) (more : List ℕ) (said : List Entry) (page : ℕ) → Does more said old mid → more ≡ [] → IsApart mid.view.own page → IsApart old.view.own page
-apart_before old mid more said page d none a = record {
-  sweeping = ap (has page) (sym d.stays.sweeping) ∙ a.sweeping;
-  held = ap (has page) (sym (d.held ∙ ap (λ (l : List ℕ). old.view.own.held ++ l) none ∙ append-nil old.view.own.held)) ∙ a.held;
-  cached = ap (has page) (sym d.stays.cached) ∙ a.cached;
-}
+-- what the worker had nothing of, it had nothing of before
+nothing_before : (old mid : Seen) (said : List Entry) (page : ℕ) → Does [] said old mid → mine page mid.view.own ≡ 0 → mine page old.view.own ≡ 0
+nothing_before old mid said page d z = let s = ap (times page) d.stays.sweeping in let h = ap (times page) (d.held ∙ append-nil old.view.own.held) in let c = ap (times page) d.stays.cached in omega arith
 
 -- a run was taken
 module _ (n class : ℕ) (mid : Hand) (new : Seen) (b : Body) (t : TakesNew n class mid.worker new b) (none : mid.worker.view.own.popped ≡ []) where
   abbrev took : Entry
   took = Took b.life (TakeLine (cycle_at mid.worker.view.generation) b.page b.pages b.class)
-
-  other_page : (q : ℕ) → (has q mid.worker.view.own.held ≡ true) ⊎ (has q mid.worker.view.own.cached ≡ true) → b.page ≢ q
-  other_page q h e = ⊎_elim
-      (λ (x : has q mid.worker.view.own.held ≡ true). true≢false (sym x ∙ ap (λ (m : ℕ). has m mid.worker.view.own.held) (sym e) ∙ t.apart.held))
-      (λ (x : has q mid.worker.view.own.cached ≡ true). true≢false (sym x ∙ ap (λ (m : ℕ). has m mid.worker.view.own.cached) (sym e) ∙ t.apart.cached)) h
 
   pub take_works : Works (b.page ∷ []) (λ said. said ≡ took ∷ []) mid (record mid { worker = new })
   take_works = works-step (λ said. said ≡ took ∷ []) (b.page ∷ []) (took ∷ []) mid (record mid { worker = new })
@@ -55,7 +47,7 @@ module _ (n class : ℕ) (mid : Hand) (new : Seen) (b : Body) (t : TakesNew n cl
         sweeps = record { unplaced = refl; unspent = refl; swept_pages = refl; given = λ p. refl; pushed = λ p. refl; unpopped = λ j p s. refl; untouched = λ p. refl };
         held = ap (λ (x : Seen). x.view.own.held) t.view;
         stays = subst (Stays mid.worker) (sym t.view) (record { here = refl; table = refl; number = refl; region = refl; goal = refl; generation = refl; marks = refl; parts = refl; sweeping = refl; cached = refl; claimed = refl; fresh = refl; reset = refl;
-          bodies = λ q h. rw (ne_eqb b.page q (other_page q h)) refl });
+          bodies = λ q h. rw (ne_eqb b.page q (apart_else mid.worker b.page q t.nothing h)) refl });
       })
       refl refl (ap (λ (x : Seen). x.view.own.popped) t.view ∙ none) refl
 
@@ -63,7 +55,7 @@ module _ (n class : ℕ) (mid : Hand) (new : Seen) (b : Body) (t : TakesNew n cl
   has_new old said d = record {
     is_new = t.is_new;
     lent = ap (λ (x : Seen). span_at b.page x.view.own.spans) t.view ∙ rw (eq-eqb b.page b.page refl) refl;
-    apart = apart_before old.worker mid.worker [] said b.page d refl t.apart;
+    nothing = nothing_before old.worker mid.worker said b.page d t.nothing;
     untouched = record {
       pops = λ j l s. ap (λ (x : Seen). many (is_pop_of j b.page) x.view.own.log) t.view ∙ (let z = t.untouched.pops j l (ap (λ (g : ℕ). is_swept_set g j) d.stays.generation ∙ s) in omega arith);
       placings = ap (λ (x : Seen). many (is_placing_in b.page) x.view.own.log) t.view ∙ (let z = t.untouched.placings in omega arith);
@@ -148,7 +140,7 @@ module _ (n class r : ℕ) (old mid : Hand) (w : Reclaims n old mid (Ok r)) wher
     record {
       is_new = s.0.is_new;
       lent = s.0.lent;
-      apart = apart_before old.worker mid.worker [] w.said b.page w.does refl s.0.apart;
+      nothing = nothing_before old.worker mid.worker w.said b.page w.does s.0.nothing;
       untouched = record { pops = λ j l z. s.0.untouched.pops j l (ap (λ (g : ℕ). is_swept_set g j) w.does.stays.generation ∙ z); placings = s.0.untouched.placings };
     },
     works-both RP (TookThen mid.worker.view.generation b) (TookAtLast old n b) (b.page ∷ []) old mid new w s.1

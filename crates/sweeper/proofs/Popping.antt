@@ -24,7 +24,9 @@ use Rattle.span_laws.specs.Views.{Seen, after_said}
 use Rattle.span_set.specs.Pops.{IsLookAt, LooksLast, PopsUnswept, with_looks}
 use Rattle.span_set.specs.declared.answers.PopBase.TheVariants.{Popped as PoppedBase, Empty as EmptyBase}
 use Rattle.span_set.specs.declared.hand.Hand.{Hand}
-use Rattle.sweeper.specs.Entries.{added_to, is_added, is_emptying_of, is_giving_of, is_keeping_of, is_missing, is_placing, is_push_at, pages_swept, total}
+use Rattle.span_laws.specs.Calls.{is_missing, is_placing, number_added, pages_swept}
+use Rattle.sweep_laws.specs.Counts.{total}
+use Rattle.sweeper.specs.Entries.{is_added, is_emptying_of, is_giving_of, is_keeping_of, is_push_at}
 use Rattle.sweeper.specs.Steps.{Settles, SweepsNone, TriesEntry}
 use Rattle.sweeper.specs.Sweeps.{SweepsSpan}
 use Rattle.sweeper.specs.Work.{Does, IsPlain, OnlySweeps, Stays, TakesNone, Works, note_by, notes_of}

@@ -16,14 +16,16 @@ use Rattle.worker_log.specs.declared.Entry.TheVariants.{Added, Gave, Pushed, Rea
 use Rattle.worker_log.specs.declared.Sweeping.{Sweeping}
 use Rattle.worker_log.specs.Logs.{is_pop, is_push_of, is_sweep_of, many, swept_set}
 use Rattle.span_laws.specs.Answers.{AcquiresSpan, cycle_at}
-use Rattle.span_laws.specs.Asks.{HasRoom, IsApart, IsFullBody}
+use Rattle.span_laws.specs.Asks.{HasRoom, IsApart, IsFullBody, mine}
 use Rattle.span_laws.specs.declared.answers.Acquired.TheVariants.{Got}
 use Rattle.span_laws.specs.declared.said.Said.TheVariants.{Adds, Fills, Gives, Reads}
 use Rattle.span_laws.specs.declared.said.SaidOf.TheVariants.{Acquires, Releases}
 use Rattle.span_laws.specs.declared.view.Span.{Span}
 use Rattle.span_laws.specs.Views.{Seen, after_of, after_said, span_at, span_of}
+use Rattle.span_laws.proofs.Uses.{apart_of}
 use Rattle.span_set.specs.declared.hand.Hand.{Hand}
-use Rattle.sweeper.specs.Entries.{is_giving_of, pages_given, total}
+use Rattle.sweep_laws.specs.Counts.{total}
+use Rattle.sweeper.specs.Entries.{is_giving_of, pages_given}
 use Rattle.sweeper.specs.Steps.{GoesHome, Settles}
 use Rattle.sweeper.specs.Sweeps.{SweepsSpan}
 use Rattle.sweeper.specs.Work.{Does, IsPlain, OnlySweeps, Stays, note_by, notes_of}
@@ -39,10 +41,8 @@ erase_back p q (x ∷ xs) e h = dite (ℕ_discrete x p)
 span_other : (s : Span) (spans : List Span) (q : ℕ) → s.page ≢ q → span_at q (s ∷ spans) ≡ span_at q spans
 span_other s spans q d = rw (ne_eqb s.page q d) refl
 
-apart_else : (w : Seen) (p q : ℕ) → IsApart w.view.own p → (has q w.view.own.held ≡ true) ⊎ (has q w.view.own.cached ≡ true) → p ≢ q
-apart_else w p q a h e = ⊎_elim
-    (λ (x : has q w.view.own.held ≡ true). true≢false (sym x ∙ ap (λ (n : ℕ). has n w.view.own.held) (sym e) ∙ a.held))
-    (λ (x : has q w.view.own.cached ≡ true). true≢false (sym x ∙ ap (λ (n : ℕ). has n w.view.own.cached) (sym e) ∙ a.cached)) h
+pub apart_else : (w : Seen) (p q : ℕ) → mine p w.view.own ≡ 0 → 0 < mine q w.view.own → p ≢ q
+apart_else w p q a h e = let x = ap (λ (n : ℕ). mine n w.view.own) e in omega arith
 
 and_true : (b : Bool) → (b && true) ≡ b
 and_true true = refl
@@ -104,9 +104,12 @@ given_after got b before w = after_said (Gives b.page b.pages) (swept_after b be
 abbrev pub pushed_after : ℕ → Body → Body → ℕ → Seen → Seen
 pushed_after set got b before w = after_said (Fills set b.page) (after_said (Reads 1 w.view.generation) (swept_after b before (after_of Acquires (span_of got) w)))
 
-module _ (w : Seen) (got b : Body) (before : ℕ) (same : b.page ≡ got.page) (apart : IsApart w.view.own b.page) where
-  bodies_else : (q : ℕ) → (has q w.view.own.held ≡ true) ⊎ (has q w.view.own.cached ≡ true) → span_at q (span_of b ∷ span_of got ∷ w.view.own.spans) ≡ span_at q w.view.own.spans
-  bodies_else q h = let d = apart_else w b.page q apart h in span_other (span_of b) (span_of got ∷ w.view.own.spans) q d ∙ span_other (span_of got) w.view.own.spans q (λ e. d (same ∙ e))
+module _ (w : Seen) (got b : Body) (before : ℕ) (same : b.page ≡ got.page) (nothing : mine b.page w.view.own ≡ 0) where
+  apart : IsApart w.view.own b.page
+  apart = apart_of w.view.own b.page nothing
+
+  bodies_else : (q : ℕ) → 0 < mine q w.view.own → span_at q (span_of b ∷ span_of got ∷ w.view.own.spans) ≡ span_at q w.view.own.spans
+  bodies_else q h = let d = apart_else w b.page q nothing h in span_other (span_of b) (span_of got ∷ w.view.own.spans) q d ∙ span_other (span_of got) w.view.own.spans q (λ e. d (same ∙ e))
 
   swept_back : erase b.page (w.view.own.sweeping ++ got.page ∷ []) ≡ w.view.own.sweeping
   swept_back = erase_back b.page got.page w.view.own.sweeping same apart.sweeping
@@ -144,8 +147,8 @@ module _ (marks : MarkSet) (page : ℕ) (w : Seen) (got : Body) (h1 h2 : Hand) (
   same : b.page ≡ got.page
   same = t.swept.same.page
 
-  apart : IsApart w.view.own b.page
-  apart = subst (IsApart w.view.own) (sym (same ∙ a.0)) a.4
+  nothing : mine b.page w.view.own ≡ 0
+  nothing = ap (λ (p : ℕ). mine p w.view.own) (same ∙ a.0) ∙ a.4
 
   acquired : h1.worker ≡ after_of Acquires (span_of got) w
   acquired = a.1
@@ -183,8 +186,8 @@ module _ (marks : MarkSet) (page : ℕ) (w : Seen) (got : Body) (h1 h2 : Hand) (
         does = record {
           log = ap (λ (x : Seen). x.view.own.log) view ∙ ap (λ (l : List Entry). Gave b.page b.pages ∷ l) mid_log;
           sweeps = given_sweeps w.view.generation w.view.generation t.before s e;
-          held = ap (λ (x : Seen). x.view.own.held) now ∙ held_back w got b t.before same apart;
-          stays = subst (Stays w) (sym now) (given_stays w got b t.before same apart);
+          held = ap (λ (x : Seen). x.view.own.held) now ∙ held_back w got b t.before same nothing;
+          stays = subst (Stays w) (sym now) (given_stays w got b t.before same nothing);
         };
         notes = noted;
         popped = ap (λ (x : Seen). x.view.own.popped) now ∙ none;
@@ -216,8 +219,8 @@ module _ (marks : MarkSet) (page : ℕ) (w : Seen) (got : Body) (h1 h2 : Hand) (
         does = record {
           log = ap (λ (x : Seen). x.view.own.log) view' ∙ ap (λ (l : List Entry). Pushed set b.page ∷ Read 1 g ∷ l) mid_log;
           sweeps = pushed_sweeps g g set t.before s l;
-          held = ap (λ (x : Seen). x.view.own.held) now ∙ held_back w got b t.before same apart;
-          stays = subst (Stays w) (sym now) (pushed_stays w got b t.before same apart set free);
+          held = ap (λ (x : Seen). x.view.own.held) now ∙ held_back w got b t.before same nothing;
+          stays = subst (Stays w) (sym now) (pushed_stays w got b t.before same nothing set free);
         };
         notes = noted;
         popped = ap (λ (x : Seen). x.view.own.popped) now ∙ none;

@@ -19,9 +19,6 @@ times_front : (q : ℕ) (xs ys : List ℕ) → times q (xs ++ ys) ≡ times q xs
 times_front q [] ys = omega arith
 times_front q (x ∷ xs) ys = let r = times_front q xs ys in omega arith
 
-has_front : (q : ℕ) (xs ys : List ℕ) → has q xs ≡ true → has q (xs ++ ys) ≡ true
-has_front q xs ys h = let a = has_times q xs h in let b = times_front q xs ys in times_has q (xs ++ ys) (omega arith)
-
 module _ (a b d : Seen) (more also : List ℕ) (said then : List Entry) (x : Does more said a b) (y : Does also then b d) where
   stays-both : Stays a d
   stays-both = let s = x.stays in let t = y.stays in record {
@@ -38,9 +35,7 @@ module _ (a b d : Seen) (more also : List ℕ) (said then : List Entry) (x : Doe
     claimed = t.claimed ∙ s.claimed;
     fresh = t.fresh ∙ s.fresh;
     reset = t.reset ∙ s.reset;
-    bodies = λ q h. t.bodies q (⊎_elim
-        (λ (z : has q a.view.own.held ≡ true). inl (subst (λ (l : List ℕ). has q l ≡ true) (sym x.held) (has_front q a.view.own.held more z)))
-        (λ (z : has q a.view.own.cached ≡ true). inr (subst (λ (l : List ℕ). has q l ≡ true) (sym s.cached) z)) h) ∙ s.bodies q h;
+    bodies = λ q h. t.bodies q (let c = times_front q a.view.own.held more in let x₁ = ap (times q) x.held in let x₂ = ap (times q) s.sweeping in let x₃ = ap (times q) s.cached in omega arith) ∙ s.bodies q h;
   }
 
   pub does-both : Does (more ++ also) (then ++ said) a d

@@ -17,7 +17,8 @@ use Rattle.span_laws.specs.Asks.{HasRoom, IsFullBody}
 use Rattle.span_laws.specs.Views.{Seen, after_of, after_said, span_of}
 use Rattle.span_set.specs.Sweeps.{SweepsBody, note_of}
 use Rattle.span_set.specs.declared.hand.Hand.{Hand}
-use Rattle.sweeper.specs.Entries.{is_added, is_finding_at, is_read, pages_given, total}
+use Rattle.sweep_laws.specs.Counts.{total}
+use Rattle.sweeper.specs.Entries.{is_added, is_finding_at, is_read, pages_given}
 use Rattle.sweeper.specs.Reclaims.{IsUnmarked, SparesMarked}
 use Rattle.sweeper.specs.Sweeps.{SweepsSpan}
 use Rattle.sweeper.specs.Work.{IsPlain, TakesNone, Works, note_by}
