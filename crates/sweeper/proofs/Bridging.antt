@@ -5,12 +5,10 @@ use Rattle.span_state.specs.declared.sweep.SweepNote.{SweepNote}
 use Rattle.sweep_laws.specs.Counts.{times}
 use Rattle.worker_log.specs.declared.Entry.{Entry}
 use Rattle.worker_log.specs.declared.Entry.TheVariants.{Looked, LookedEmptyCell, Popped, Pushed, Swept, Took, Missed, Gave, Allocated, Found, Read, Added}
-use Rattle.worker_log.specs.declared.Sweeping.{Sweeping}
 use Rattle.worker_log.specs.Logs.{sweepings}
 use Rattle.span_laws.specs.Answers.{cycle_at}
 use Rattle.span_laws.specs.Calls.{Keeps, notes_of as notes_in}
-use Rattle.span_laws.specs.Views.{Seen, acts}
-use Rattle.span_laws.specs.declared.view.View.{View}
+use Rattle.span_laws.specs.Views.{Seen}
 use Rattle.sweeper.specs.Work.{Stays, note_by, notes_of}
 
 -- what the worker has is kept

@@ -1,7 +1,6 @@
 -- The reclaimer covers pages, chunks and what was asked.
-use Rattle.std.proofs.Common.{◌≡◌, ◌≢◌, ◌↔◌, ℕ, zero, suc, ◌+◌, ◌*◌, ◌-◌, ◌/◌, ◌%◌, ◌^◌, ◌<◌, ◌≤◌, ◌⊎◌, inl, inr, ⊎_elim, Bool, ◌&&◌, eqb, eq-eqb, ne_eqb, true, false, true≢false, List, [], ◌∷◌, ◌++◌, length, min, refl, ap, sym, subst, ◌∙◌, arith}
+use Rattle.std.proofs.Common.{◌≡◌, ℕ, zero, suc, ◌+◌, ◌*◌, ◌-◌, ◌/◌, ◌%◌, ◌^◌, ◌<◌, ◌≤◌, ◌⊎◌, inl, inr, ⊎_elim, Bool, eqb, eq-eqb, ne_eqb, true, false, List, [], ◌∷◌, ◌++◌, min, refl, ap, sym, subst, ◌∙◌, arith}
 use Rattle.std.proofs.lemmas.List.{append-nil}
-use Rattle.std.proofs.lemmas.Bool.{eqb-true}
 use Rattle.std.specs.Prelude.{Ok, Err, None}
 use Rattle.fallible_list.specs.declared.list.NoMemory.{NoMemory}
 use mathlib.Core.Logic.{dite}
@@ -9,7 +8,6 @@ use native.Mathlib.Decide.{ℕ_discrete, dec_le}
 use Rattle.page_bitmap.specs.Counts.{one_if}
 use Rattle.span_state.specs.Bits.{count_below}
 use Rattle.span_state.specs.MarkSet.{MarkSet, has_pair, is_marked}
-use Rattle.span_state.specs.Spans.{allocated}
 use Rattle.span_state.specs.declared.body.Body.{Body}
 use Rattle.span_state.specs.declared.sweep.SweepNote.{SweepNote}
 use Rattle.sweep_laws.specs.Lists.{erase}
@@ -26,10 +24,10 @@ use Rattle.sweep_laws.specs.Counts.{total}
 use Rattle.sweeper.specs.Entries.{is_added, is_finding_at, is_read, pages_given}
 use Rattle.sweeper.specs.Reclaims.{HasPassed, HasReclaimed, IsUnmarked, Reclaims, SparesMarked, chunks_of}
 use Rattle.sweeper.specs.Steps.{CoversChunks, CoversPage, CoversPages, ReclaimsChunk, ReclaimsPage, Settles}
-use Rattle.sweeper.specs.Work.{Does, IsPlain, Stays, TakesNone, Works, notes_of}
-use Rattle.sweeper.proofs.Counting.{plain-append, some-new, some-old, takes-append, total-append}
-use Rattle.sweeper.proofs.Paying.{plain-nothing, works-room}
-use Rattle.sweeper.proofs.Settling.{Swings, swings}
+use Rattle.sweeper.specs.Work.{IsPlain, Stays, TakesNone, Works, notes_of}
+use Rattle.sweeper.proofs.Counting.{plain-append, some-old, takes-append, total-append}
+use Rattle.sweeper.proofs.Paying.{plain-nothing}
+use Rattle.sweeper.proofs.Settling.{swings}
 use Rattle.sweeper.proofs.Working.{works-as, works-both, works-nothing, works-step}
 
 -- ---- one page

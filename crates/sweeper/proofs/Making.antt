@@ -1,7 +1,7 @@
 -- A new span is made, behind a reclaim and perhaps a full sweep.
-use Rattle.std.proofs.Common.{◌≡◌, ◌≢◌, ℕ, ◌+◌, ◌<◌, ◌≤◌, ◌⊎◌, ⊎_elim, Bool, eqb, eq-eqb, ne_eqb, true, false, true≢false, List, [], ◌∷◌, ◌++◌, length, min, refl, ap, sym, subst, ◌∙◌, arith}
+use Rattle.std.proofs.Common.{◌≡◌, ℕ, ◌≤◌, eq-eqb, ne_eqb, List, [], ◌∷◌, ◌++◌, length, min, refl, ap, sym, subst, ◌∙◌, arith}
 use Rattle.std.proofs.lemmas.List.{append-nil}
-use Rattle.std.specs.Prelude.{Ok, Err, Some, None, Result}
+use Rattle.std.specs.Prelude.{Ok, Err, Result}
 use Rattle.fallible_list.specs.declared.list.NoMemory.{NoMemory}
 use Rattle.page_alloc.specs.Journal.{HasNoRun, Legal}
 use Rattle.page_bitmap.specs.declared.line.Line.{Line}
@@ -13,12 +13,10 @@ use Rattle.worker_log.specs.declared.Entry.TheVariants.{Took, Missed}
 use Rattle.worker_log.specs.Logs.{is_placing_in, is_pop_of, is_seen_empty, many}
 use Rattle.worker_log.proofs.Logs.{many-append}
 use Rattle.span_laws.specs.Answers.{NoRunFree, TakesNew, TakesSpan, cycle_at}
-use Rattle.span_laws.specs.Asks.{IsUntouched, mine}
+use Rattle.span_laws.specs.Asks.{mine}
 use Rattle.span_laws.specs.declared.answers.Refused.{Refused}
 use Rattle.span_laws.specs.declared.answers.Refused.TheVariants.{NoRun, NoMemory as WantsMemory}
-use Rattle.span_laws.specs.declared.said.Said.TheVariants.{Misses}
-use Rattle.span_laws.specs.declared.said.SaidOf.TheVariants.{Takes}
-use Rattle.span_laws.specs.Views.{Seen, after_of, after_said, span_at, span_of}
+use Rattle.span_laws.specs.Views.{Seen, span_at}
 use Rattle.span_set.specs.declared.hand.Hand.{Hand}
 use Rattle.sweep_laws.specs.Counts.{times, total}
 use Rattle.sweeper.specs.Entries.{is_added, pages_given}
@@ -26,7 +24,7 @@ use Rattle.sweeper.specs.NewSpans.{HasNew, MakesSpan, MissedAtLast, MissedThen, 
 use Rattle.sweeper.specs.Reclaims.{HasReclaimed, Reclaims, SparesMarked, chunks_of}
 use Rattle.sweeper.specs.Sweeps.{Finishes}
 use Rattle.sweeper.specs.Work.{Does, IsPlain, SawAllEmpty, Stays, TakesNone, Works}
-use Rattle.sweeper.proofs.Counting.{some-new, some-old, takes-append}
+use Rattle.sweeper.proofs.Counting.{some-new, takes-append}
 use Rattle.sweeper.proofs.Covering.{reclaimed-more}
 use Rattle.sweeper.proofs.Settling.{apart_else}
 use Rattle.sweeper.proofs.Working.{works-as, works-both, works-step}
@@ -46,8 +44,22 @@ module _ (n class : ℕ) (mid : Hand) (new : Seen) (b : Body) (t : TakesNew n cl
         log = ap (λ (x : Seen). x.view.own.log) t.view;
         sweeps = record { unplaced = refl; unspent = refl; swept_pages = refl; given = λ p. refl; pushed = λ p. refl; unpopped = λ j p s. refl; untouched = λ p. refl };
         held = ap (λ (x : Seen). x.view.own.held) t.view;
-        stays = subst (Stays mid.worker) (sym t.view) (record { here = refl; table = refl; number = refl; region = refl; goal = refl; generation = refl; marks = refl; parts = refl; sweeping = refl; cached = refl; claimed = refl; fresh = refl; reset = refl;
-          bodies = λ q h. rw (ne_eqb b.page q (apart_else mid.worker b.page q t.nothing h)) refl });
+        stays = subst (Stays mid.worker) (sym t.view) (record {
+          here = refl;
+          table = refl;
+          number = refl;
+          region = refl;
+          goal = refl;
+          generation = refl;
+          marks = refl;
+          parts = refl;
+          sweeping = refl;
+          cached = refl;
+          claimed = refl;
+          fresh = refl;
+          reset = refl;
+          bodies = λ q h. rw (ne_eqb b.page q (apart_else mid.worker b.page q t.nothing h)) refl;
+        });
       })
       refl refl (ap (λ (x : Seen). x.view.own.popped) t.view ∙ none) refl
 

@@ -1,14 +1,13 @@
 -- Spans are swept until a number of swept pages is reached, or nothing is left.
-use Rattle.std.proofs.Common.{◌≡◌, ℕ, zero, suc, ◌+◌, ◌*◌, ◌-◌, ◌/◌, ◌%◌, ◌^◌, ◌<◌, ◌≤◌, Bool, eqb, eq-eqb, true, false, List, [], ◌∷◌, ◌++◌, length, refl, ap, sym, subst, ◌∙◌, arith}
+use Rattle.std.proofs.Common.{◌≡◌, ℕ, ◌+◌, ◌^◌, ◌<◌, ◌≤◌, eqb, eq-eqb, false, List, [], ◌∷◌, refl, ap, sym, subst, ◌∙◌, arith}
 use Rattle.std.proofs.lemmas.List.{append-nil}
-use Rattle.std.specs.Prelude.{Some, None, Option, Ok, Err, Result}
+use Rattle.std.specs.Prelude.{Some, None, Option, Ok, Err}
 use Rattle.fallible_list.specs.declared.list.NoMemory.{NoMemory}
 use Rattle.span_state.specs.declared.sweep.SweepNote.{SweepNote}
 use Rattle.worker_log.specs.declared.Entry.{Entry}
 use Rattle.worker_log.specs.declared.Entry.TheVariants.{Read}
 use Rattle.worker_log.specs.Logs.{is_pop, is_seen_empty, many}
 use Rattle.worker_log.proofs.Logs.{many-append}
-use Rattle.span_laws.specs.Answers.{cycle_at}
 use Rattle.span_laws.specs.declared.said.Said.TheVariants.{Reads}
 use Rattle.span_laws.specs.Views.{Seen, after_said}
 use Rattle.span_set.specs.declared.hand.Hand.{Hand}
@@ -17,7 +16,6 @@ use Rattle.sweeper.specs.Pays.{HasPaid, Pays, target_of}
 use Rattle.sweeper.specs.Steps.{SawSome, SweepsNext, SweepsNone, SweepsSet, SweepsSome, SweepsUntil, nth_unswept}
 use Rattle.sweeper.specs.Sweeps.{Finishes, SweepsSpan}
 use Rattle.sweeper.specs.Work.{Does, IsPlain, SawAllEmpty, Stays, Works}
-use Rattle.sweeper.specs.declared.answers.Paid.{Paid}
 use Rattle.sweeper.specs.declared.answers.Paid.TheVariants.{Reached, NothingLeft}
 use Rattle.sweeper.proofs.Counting.{nothing-none, plain-append, some-new, some-old}
 use Rattle.sweeper.proofs.Searching.{many_below, saw_all, saw_more}
@@ -58,8 +56,12 @@ module _ (k : ℕ) (old : Hand) where
     read_it = read_works 2 seen now w1 refl read d.works.popped
 
     pub set_reached : (target : ℕ) → target ≤ seen → seen < 2 ^ 64 → SweepsSet k target old (record now { worker = w1 }) (Ok (Some seen))
-    set_reached target l low = (l, low, works-both (λ said. IsPlain said × (n ≤ many (is_pop k) said)) (λ said. IsPlain said × (0 < many (is_read 2 seen) said)) (λ said. IsPlain said × (0 < many (is_read 2 seen) said)) [] old now (record now { worker = w1 }) d.works read_it
-        (λ x y p q. (plain-append y x q.0 p.0, some-new (is_read 2 seen) y x q.1)))
+    set_reached target l low = (
+      l,
+      low,
+      works-both (λ said. IsPlain said × (n ≤ many (is_pop k) said)) (λ said. IsPlain said × (0 < many (is_read 2 seen) said)) (λ said. IsPlain said × (0 < many (is_read 2 seen) said)) [] old now (record now { worker = w1 }) d.works read_it
+          (λ x y p q. (plain-append y x q.0 p.0, some-new (is_read 2 seen) y x q.1)),
+    )
 
     module _ (mid : Hand) (worker : mid.worker ≡ w1) (notes : mid.notes.items ≡ now.notes.items) where
       pub so_far : Works [] (λ said. IsPlain said × (n ≤ many (is_pop k) said)) old mid
@@ -93,8 +95,12 @@ module _ (old : Hand) (target : ℕ) where
         (λ x y p q. (plain-append y x q.0 p.0, saw_more old.worker.view.generation n y x p.1 (subst (λ (z : ℕ). 0 < many (is_seen_empty z) y) same q.1)))
 
     pub until_reached : (m seen : ℕ) → SweepsSet k target now new (Ok (Some seen)) → SweepsUntil m target old new (Ok (Some seen))
-    until_reached m seen t = (t.0, t.1, works-both (λ said. IsPlain said × SawSome old.worker.view.generation n said) (λ said. IsPlain said × (0 < many (is_read 2 seen) said)) (λ said. IsPlain said × (0 < many (is_read 2 seen) said)) [] old now new d t.2
-        (λ x y p q. (plain-append y x q.0 p.0, some-new (is_read 2 seen) y x q.1)))
+    until_reached m seen t = (
+      t.0,
+      t.1,
+      works-both (λ said. IsPlain said × SawSome old.worker.view.generation n said) (λ said. IsPlain said × (0 < many (is_read 2 seen) said)) (λ said. IsPlain said × (0 < many (is_read 2 seen) said)) [] old now new d t.2
+          (λ x y p q. (plain-append y x q.0 p.0, some-new (is_read 2 seen) y x q.1)),
+    )
 
     pub until_wants : (m : ℕ) (e : NoMemory) → SweepsSet k target now new (Err e) → SweepsUntil m target old new (Err e)
     until_wants m e t = works-both (λ said. IsPlain said × SawSome old.worker.view.generation n said) IsPlain IsPlain [] old now new d t (λ x y p q. plain-append y x q p.0)

@@ -1,9 +1,8 @@
 -- An entry of an unswept set is popped, and its span acquired and swept, or found to wait no more.
-use Rattle.std.proofs.Common.{◌≡◌, ◌≢◌, ℕ, zero, suc, ◌+◌, ◌^◌, ◌<◌, ◌≤◌, inl, inr, ⊎_elim, Bool, ◌&&◌, eqb, eq-eqb, ne_eqb, true, false, true≢false, List, [], ◌∷◌, ◌++◌, refl, ap, sym, subst, ◌∙◌, append_assoc, arith}
+use Rattle.std.proofs.Common.{◌≡◌, ℕ, suc, ◌^◌, ◌<◌, ◌≤◌, inl, inr, ⊎_elim, eq-eqb, ne_eqb, false, true≢false, List, [], ◌∷◌, ◌++◌, refl, ap, sym, subst, ◌∙◌, append_assoc, arith}
 use Rattle.std.proofs.lemmas.List.{append-nil}
-use Rattle.std.specs.Prelude.{Some, None, Option}
+use Rattle.std.specs.Prelude.{None}
 use Rattle.std.specs.List.{AllByRecursion}
-use Rattle.page_bitmap.specs.Counts.{one_if}
 use Rattle.span_state.specs.MarkSet.{MarkSet}
 use Rattle.span_state.specs.declared.body.Body.{Body}
 use Rattle.span_state.specs.declared.sweep.SweepNote.{SweepNote}
@@ -12,28 +11,23 @@ use Rattle.sweep_laws.specs.Needs.{is_swept_set}
 use Rattle.worker_log.specs.declared.Entry.{Entry}
 use Rattle.worker_log.specs.declared.Entry.TheVariants.{Looked, LookedEmptyCell, Popped, Pushed, Swept, Took, Missed, Gave, Allocated, Found, Read, Added}
 use Rattle.worker_log.specs.declared.Sweeping.{Sweeping}
-use Rattle.worker_log.specs.Logs.{is_placing_in, is_pop, is_pop_of, is_seen_empty, many, sweepings}
+use Rattle.worker_log.specs.Logs.{is_pop, many, sweepings}
 use Rattle.worker_log.proofs.Logs.{many-append}
-use Rattle.span_laws.specs.Logs.{is_taking}
 use Rattle.span_laws.specs.Answers.{AcquiresSpan, cycle_at}
 use Rattle.span_laws.specs.Asks.{IsUntouched}
 use Rattle.span_laws.specs.declared.answers.Acquired.TheVariants.{Got, Other}
-use Rattle.span_laws.specs.declared.said.Said.TheVariants.{Finds, Looks, LooksCell, PopsEntry, Reads}
-use Rattle.span_laws.specs.declared.view.Cell.{Cell}
+use Rattle.span_laws.specs.declared.said.Said.TheVariants.{LooksCell, PopsEntry}
 use Rattle.span_laws.specs.Views.{Seen, after_said}
-use Rattle.span_set.specs.Pops.{IsLookAt, LooksLast, PopsUnswept, with_looks}
+use Rattle.span_set.specs.Pops.{IsLookAt, LooksLast, PopsUnswept}
 use Rattle.span_set.specs.declared.answers.PopBase.TheVariants.{Popped as PoppedBase, Empty as EmptyBase}
 use Rattle.span_set.specs.declared.hand.Hand.{Hand}
-use Rattle.span_laws.specs.Calls.{is_missing, is_placing, number_added, pages_swept}
-use Rattle.sweep_laws.specs.Counts.{total}
-use Rattle.sweeper.specs.Entries.{is_added, is_emptying_of, is_giving_of, is_keeping_of, is_push_at}
 use Rattle.sweeper.specs.Steps.{Settles, SweepsNone, TriesEntry}
 use Rattle.sweeper.specs.Sweeps.{SweepsSpan}
-use Rattle.sweeper.specs.Work.{Does, IsPlain, OnlySweeps, Stays, TakesNone, Works, note_by, notes_of}
+use Rattle.sweeper.specs.Work.{Does, OnlySweeps, Stays, note_by, notes_of}
 use Rattle.sweeper.specs.declared.sweep.Tried.TheVariants.{Swept as WasSwept, Gone, Empty}
-use Rattle.sweeper.proofs.Counting.{none-append, none-both, notes-append, notes-none, plain-append, some-new, some-old, sweepings-append, sweeps-append}
-use Rattle.sweeper.proofs.Working.{does-both, does-nothing}
-use Rattle.sweeper.proofs.Settling.{Swings, swings}
+use Rattle.sweeper.proofs.Counting.{none-append, none-both, notes-append, notes-none, plain-append, some-new, sweepings-append, sweeps-append}
+use Rattle.sweeper.proofs.Working.{does-both}
+use Rattle.sweeper.proofs.Settling.{swings}
 
 -- what is no look is not among looks
 module _ (set : ℕ) where
@@ -151,13 +145,16 @@ module _ (set : ℕ) (h : Hand) (unswept : is_swept_set h.worker.view.generation
   erased page = rw (eq-eqb page page refl) refl
 
   pub tried_empty : (head tail : ℕ) (new : Seen) → PopsUnswept set h.worker new (EmptyBase head tail) → TriesEntry set h (record h { worker = new }) Empty
-  tried_empty head tail new r = (record {
-    said = looks_said set head tail h.worker new r.1;
-    did = (looks_are set head tail h.worker new r.1, rw (eq-eqb set set refl, eq-eqb head tail r.0) (omega arith));
-    does = looks_does set head tail h.worker new r.1;
-    notes = sym (append-nil h.notes.items) ∙ ap (λ (n : List SweepNote). h.notes.items ++ n) (sym (notes-none (cycle_at h.worker.view.generation) (looks_said set head tail h.worker new r.1) (looks_are set head tail h.worker new r.1).none));
-    popped = looks_popped set head tail h.worker new r.1 ∙ none;
-  }, refl)
+  tried_empty head tail new r = (
+    record {
+      said = looks_said set head tail h.worker new r.1;
+      did = (looks_are set head tail h.worker new r.1, rw (eq-eqb set set refl, eq-eqb head tail r.0) (omega arith));
+      does = looks_does set head tail h.worker new r.1;
+      notes = sym (append-nil h.notes.items) ∙ ap (λ (n : List SweepNote). h.notes.items ++ n) (sym (notes-none (cycle_at h.worker.view.generation) (looks_said set head tail h.worker new r.1) (looks_are set head tail h.worker new r.1).none));
+      popped = looks_popped set head tail h.worker new r.1 ∙ none;
+    },
+    refl,
+  )
 
   module _ (page : ℕ) (mid : Seen) (r : PopsUnswept set h.worker mid (PoppedBase page)) where
     abbrev said₀ : List Entry

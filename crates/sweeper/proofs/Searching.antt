@@ -1,27 +1,22 @@
 -- Entries are popped one after another, and sets gone through one after another.
 use Rattle.std.proofs.Common.{◌≡◌, ℕ, zero, suc, ◌+◌, ◌*◌, ◌-◌, ◌/◌, ◌%◌, ◌^◌, ◌<◌, ◌≤◌, Bool, eq-eqb, ne_eqb, eqb, true, false, List, [], ◌∷◌, ◌++◌, length, refl, ap, sym, subst, ◌∙◌, arith}
-use Rattle.std.specs.Prelude.{Some, None, Option, Ok, Err}
+use Rattle.std.specs.Prelude.{Some, None, Ok}
 use mathlib.Core.Logic.{dite}
 use native.Mathlib.Decide.{ℕ_discrete}
 use Rattle.page_bitmap.specs.Counts.{one_if}
 use Rattle.span_state.specs.declared.sweep.SweepNote.{SweepNote}
 use Rattle.sweep_laws.specs.Needs.{is_swept_set}
-use Rattle.std.proofs.lemmas.Bool.{eqb-true}
 use Rattle.worker_log.specs.declared.Entry.{Entry}
-use Rattle.worker_log.specs.declared.Entry.TheVariants.{Read}
-use Rattle.worker_log.specs.declared.Sweeping.{Sweeping}
 use Rattle.worker_log.specs.Logs.{is_pop, is_seen_empty, many, sweepings}
 use Rattle.worker_log.proofs.Logs.{many-append}
 use Rattle.span_laws.specs.Answers.{cycle_at}
-use Rattle.span_laws.specs.Views.{Seen}
 use Rattle.span_set.specs.declared.hand.Hand.{Hand}
-use Rattle.sweeper.specs.Entries.{is_read}
-use Rattle.sweeper.specs.Steps.{DropsSome, FindsNone, SawSome, SweepsNext, SweepsNone, SweepsSome, TriesEntry, nth_unswept}
+use Rattle.sweeper.specs.Steps.{DropsSome, SawSome, SweepsNext, SweepsNone, TriesEntry, nth_unswept}
 use Rattle.sweeper.specs.Sweeps.{SweepsOne, SweepsSpan}
-use Rattle.sweeper.specs.Work.{Does, IsPlain, SawAllEmpty, Works, note_by}
+use Rattle.sweeper.specs.Work.{IsPlain, SawAllEmpty, Works, note_by}
 use Rattle.sweeper.specs.declared.answers.One.TheVariants.{Swept, NothingLeft}
 use Rattle.sweeper.specs.declared.sweep.Tried.TheVariants.{Swept as WasSwept, Gone, Empty}
-use Rattle.sweeper.proofs.Counting.{none-append, nothing-none, plain-append, some-new, some-old}
+use Rattle.sweeper.proofs.Counting.{none-append, nothing-none, some-new, some-old}
 use Rattle.sweeper.proofs.Popping.{swept_more}
 use Rattle.sweeper.proofs.Working.{works-as, works-both, works-nothing}
 
@@ -44,7 +39,7 @@ module _ (k : ℕ) (old : Hand) where
     drops_more t =
         let t' : TriesEntry k now new Gone = subst (λ (x : ℕ). TriesEntry x now new Gone) same t in
         let w = works-both (λ said. SweepsNone said × (n ≤ many (is_pop k) said)) (λ said. SweepsNone said × (0 < many (is_pop k) said)) (λ said. SweepsNone said × (n + 1 ≤ many (is_pop k) said)) [] old now new d.works t'.0
-            (λ x y p q. (none-append y x q.0 p.0, let a = many-append (is_pop k) y x in let b = p.1 in let e = q.1 in omega arith)) in
+        (λ x y p q. (none-append y x q.0 p.0, let a = many-append (is_pop k) y x in let b = p.1 in let e = q.1 in omega arith)) in
         record { works = w; notes = t'.1 ∙ d.notes; few = many_below (λ said. SweepsNone said × (n + 1 ≤ many (is_pop k) said)) old new w k (n + 1) w.did.1 t'.2 }
 
     pub next_swept : (note : SweepNote) → TriesEntry k' now new (WasSwept note) → SweepsNext k old new (Some note)

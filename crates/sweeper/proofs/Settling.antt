@@ -1,7 +1,7 @@
 -- A span is acquired, swept and put where it belongs.
-use Rattle.std.proofs.Common.{◌≡◌, ◌≢◌, ℕ, zero, suc, ◌+◌, ◌<◌, ◌≤◌, ◌⊎◌, inl, inr, ⊎_elim, Bool, ◌&&◌, not, eqb, eq-eqb, ne_eqb, true, false, true≢false, List, [], ◌∷◌, ◌++◌, refl, ap, sym, subst, ◌∙◌, arith}
+use Rattle.std.proofs.Common.{◌≡◌, ◌≢◌, ℕ, ◌<◌, ◌⊎◌, inl, inr, Bool, ◌&&◌, eqb, eq-eqb, ne_eqb, true, false, true≢false, List, [], ◌∷◌, ◌++◌, refl, ap, sym, subst, ◌∙◌, arith}
 use Rattle.std.proofs.lemmas.List.{append-nil}
-use Rattle.std.specs.Prelude.{Some, None, Option}
+use Rattle.std.specs.Prelude.{None}
 use mathlib.Core.Logic.{dite}
 use native.Mathlib.Decide.{ℕ_discrete}
 use Rattle.page_bitmap.specs.Counts.{one_if}
@@ -25,10 +25,10 @@ use Rattle.span_laws.specs.Views.{Seen, after_of, after_said, span_at, span_of}
 use Rattle.span_laws.proofs.Uses.{apart_of}
 use Rattle.span_set.specs.declared.hand.Hand.{Hand}
 use Rattle.sweep_laws.specs.Counts.{total}
-use Rattle.sweeper.specs.Entries.{is_giving_of, pages_given}
+use Rattle.sweeper.specs.Entries.{pages_given}
 use Rattle.sweeper.specs.Steps.{GoesHome, Settles}
 use Rattle.sweeper.specs.Sweeps.{SweepsSpan}
-use Rattle.sweeper.specs.Work.{Does, IsPlain, OnlySweeps, Stays, note_by, notes_of}
+use Rattle.sweeper.specs.Work.{Does, OnlySweeps, Stays, note_by, notes_of}
 
 -- a page that came last and was not there before goes without a trace
 pub erase_back : (p q : ℕ) (xs : List ℕ) → p ≡ q → has p xs ≡ false → erase p (xs ++ q ∷ []) ≡ xs

@@ -1,5 +1,5 @@
 -- What a sweep in hand leaves: where the span may go, and what is told of it.
-use Rattle.std.proofs.Common.{◌≡◌, ℕ, zero, suc, ◌+◌, ◌-◌, ◌/◌, ◌<◌, ◌≤◌, ◌⊎◌, inl, inr, Bool, not, true, false, true≢false, List, [], ◌∷◌, ◌++◌, refl, ap, sym, subst, ◌∙◌, arith}
+use Rattle.std.proofs.Common.{◌≡◌, ℕ, zero, suc, ◌<◌, Bool, not, true, false, true≢false, [], ◌∷◌, ◌++◌, refl, ap, sym, subst, ◌∙◌, arith}
 use Rattle.std.specs.Prelude.{Some, None, Option, MatchOption}
 use Rattle.std.specs.Option.{is_some}
 use mathlib.Core.Logic.{dite}
@@ -11,8 +11,6 @@ use Rattle.span_state.specs.Spans.{allocated}
 use Rattle.span_state.specs.declared.body.Body.{Body}
 use Rattle.span_state.specs.declared.sweep.SweepNote.{SweepNote}
 use Rattle.span_state.specs.declared.sweep.Swept.{Swept}
-use Rattle.sweep_laws.specs.Needs.{is_swept_set}
-use Rattle.worker_log.specs.declared.Entry.{Entry}
 use Rattle.worker_log.specs.declared.Entry.TheVariants.{Added, Read, Swept as SweptEntry}
 use Rattle.worker_log.specs.Logs.{is_placing_in, is_pop_of, many, swept_set}
 use Rattle.span_laws.specs.Asks.{HasRoom, IsEmptyBody, IsFullBody, IsUntouched, IsUsed}

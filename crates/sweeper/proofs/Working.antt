@@ -1,16 +1,14 @@
 -- What one part of a call did and then another, is what both did.
-use Rattle.std.proofs.Common.{◌≡◌, ℕ, ◌+◌, ◌<◌, ◌≤◌, ◌⊎◌, inl, inr, ⊎_elim, true, List, [], ◌∷◌, ◌++◌, refl, ap, sym, ◌∙◌, subst, append_assoc, arith}
+use Rattle.std.proofs.Common.{◌≡◌, ℕ, ◌+◌, List, [], ◌∷◌, ◌++◌, refl, ap, sym, ◌∙◌, subst, append_assoc, arith}
 use Rattle.std.proofs.lemmas.List.{append-nil}
 use Rattle.span_state.specs.declared.sweep.SweepNote.{SweepNote}
 use Rattle.sweep_laws.specs.Counts.{times}
-use Rattle.sweep_laws.specs.Lists.{has}
-use Rattle.sweep_laws.proofs.Naming.{has_times, times_has}
 use Rattle.worker_log.specs.declared.Entry.{Entry}
 use Rattle.span_laws.specs.Answers.{cycle_at}
 use Rattle.span_laws.specs.Views.{Seen}
 use Rattle.span_set.specs.declared.hand.Hand.{Hand}
 use Rattle.sweeper.specs.Work.{Does, OnlySweeps, Stays, Works, notes_of}
-use Rattle.sweeper.proofs.Counting.{notes-append, notes-none, nothing-sweeps, sweeps-append}
+use Rattle.sweeper.proofs.Counting.{notes-append, nothing-sweeps, sweeps-append}
 
 pub stays-same : (a : Seen) → Stays a a
 stays-same a = record { here = refl; table = refl; number = refl; region = refl; goal = refl; generation = refl; marks = refl; parts = refl; sweeping = refl; cached = refl; claimed = refl; fresh = refl; reset = refl; bodies = λ q h. refl }

@@ -1,5 +1,5 @@
 -- What the calls of this crate leave of a hand, and what the log of such a call has.
-use Rattle.std.specs.Prelude.{◌≡◌, ℕ, ◌<◌, true, false, List, [], ◌∷◌, ◌++◌, map, reverse}
+use Rattle.std.specs.Prelude.{◌≡◌, ℕ, ◌<◌, true, false, List, [], ◌++◌, map, reverse}
 use Rattle.span_state.specs.declared.sweep.SweepNote.{SweepNote}
 use Rattle.sweep_laws.specs.Needs.{is_swept_set}
 use Rattle.worker_log.specs.declared.Entry.{Entry}

@@ -16,14 +16,7 @@ const ALL: u128 = u128::MAX;
 const FIRST: u64 = 4;
 
 // The pages to be swept before so many bytes more are allocated, with a credit of pages. It fits for all numbers.
-fn target(
-    generation: u64,
-    pages: u32,
-    distance: u64,
-    spent: u64,
-    bytes: u64,
-    credit: u32,
-) -> u128
+fn target(generation: u64, pages: u32, distance: u64, spent: u64, bytes: u64, credit: u32) -> u128
     requires { 1 ≤ distance }
     ensures { result ≡ target_of generation pages distance spent bytes credit }
 {

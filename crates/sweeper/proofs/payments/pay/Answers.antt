@@ -1,4 +1,4 @@
-use Rattle.std.proofs.Common.{[], refl, ap, sym, subst, ◌∙◌, ◌<◌, ◌≤◌, ◌≡◌, ℕ, length, arith}
+use Rattle.std.proofs.Common.{refl, ap, ◌∙◌, ℕ}
 use Rattle.std.proofs.lemmas.Result.{err_from_is_err_and}
 use Rattle.sweeper.specs.Pays.{target_of}
 use Rattle.sweeper.proofs.Paying.{paid_all, paid_reached, paid_wants}
@@ -19,4 +19,3 @@ returns-in_err-seen c = let h = c.args.hand.now in let g = c.generation-generati
     let p = err_from_is_err_and c.from_residual.result c.from_residual.ensures.1 in
     rw p.1 (paid_wants a.shop.now.pages a.shop.now.distance a.bytes a.credit h c.requires.unpopped g.new.w s.new.w s.result g.result g.ensures.view s.ensures (record h { worker = s.new.w }) refl c.target-target.result
     (c.target-target.ensures ∙ ap (λ (x : ℕ). target_of x a.shop.now.pages a.shop.now.distance s.result a.bytes a.credit) g.ensures.value) c.sweep_until.new.hand _ c.in_err-seen.ensures)
-

@@ -1,4 +1,4 @@
-use Rattle.std.proofs.Common.{[], refl, ap, sym, subst, ◌∙◌, ◌<◌, ◌≤◌, ℕ, length, arith}
+use Rattle.std.proofs.Common.{ap, ℕ, arith}
 use Rattle.std.proofs.lemmas.Result.{err_from_is_err_and}
 use Rattle.span_set.specs.Sets.{unswept_of}
 use Rattle.sweeper.proofs.Paying.{set_empty, set_more, set_reached, set_wants, so_far, sweeps_none}

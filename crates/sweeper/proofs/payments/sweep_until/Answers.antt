@@ -1,4 +1,4 @@
-use Rattle.std.proofs.Common.{[], refl, ap, sym, subst, ◌∙◌, ◌<◌, ◌≤◌, ◌≡◌, ℕ, length, arith}
+use Rattle.std.proofs.Common.{ap, subst, ◌∙◌, ℕ, arith}
 use Rattle.std.specs.Prelude.{Ok, None}
 use Rattle.std.proofs.lemmas.Result.{err_from_is_err_and}
 use Rattle.sweeper.specs.Steps.{SweepsUntil, nth_unswept}

@@ -1,4 +1,4 @@
-use Rattle.std.proofs.Common.{[], List, ℕ, ◌≡◌, ◌*◌, ◌+◌, ◌/◌, ◌<◌, ◌≤◌, min, ap, refl, sym, subst, ◌∙◌, arith, false, true}
+use Rattle.std.proofs.Common.{◌≡◌, ◌∙◌, arith}
 use Rattle.std.proofs.lemmas.Result.{err_from_is_err_and}
 use Rattle.sweeper.specs.Reclaims.{chunks_of}
 use Rattle.sweeper.proofs.Covering.{chunks_none, reclaimed_all, reclaimed_enough, reclaimed_past, reclaims_more, reclaims_wants, rounded}

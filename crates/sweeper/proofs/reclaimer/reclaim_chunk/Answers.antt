@@ -1,4 +1,4 @@
-use Rattle.std.proofs.Common.{[], List, ℕ, ◌≡◌, ◌*◌, ◌+◌, ◌<◌, min, ap, refl, sym, subst, ◌∙◌, arith, false, true}
+use Rattle.std.proofs.Common.{[], ℕ, ◌*◌, subst, arith}
 use Rattle.std.proofs.lemmas.Result.{err_from_is_err_and}
 use Rattle.sweeper.specs.Steps.{CoversPages}
 use Rattle.sweeper.specs.Work.{Works}

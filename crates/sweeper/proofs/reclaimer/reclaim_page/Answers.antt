@@ -1,9 +1,8 @@
-use Rattle.std.proofs.Common.{List, ℕ, ◌≡◌, ◌<◌, ap, refl, subst, sym, ◌∙◌, arith, false, true}
+use Rattle.std.proofs.Common.{List, ℕ, ap, refl, subst, sym, ◌∙◌, arith}
 use Rattle.std.specs.Prelude.{Ok}
 use Rattle.sweeper.specs.Steps.{ReclaimsPage}
 use Rattle.std.proofs.lemmas.Result.{err_from_is_err_and}
-use Rattle.span_state.specs.MarkSet.{has_pair, is_marked}
-use Rattle.sweeper.specs.Reclaims.{IsUnmarked}
+use Rattle.span_state.specs.MarkSet.{has_pair}
 use Rattle.sweeper.proofs.Covering.{page_found, page_left, page_swept, page_wants}
 use Rattle.sweeper.proofs.reclaimer.reclaim_page.Goals as goal
 

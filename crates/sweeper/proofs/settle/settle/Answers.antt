@@ -1,7 +1,5 @@
-use Rattle.std.proofs.Common.{◌≡◌, ◌<◌, ℕ, inl, inr, true, false, refl, ap, sym, subst, ◌∙◌, arith}
+use Rattle.std.proofs.Common.{◌<◌, ℕ, inl, inr, refl, ap, sym, subst, arith}
 use Rattle.span_laws.specs.Asks.{IsUntouched}
-use Rattle.span_laws.specs.declared.said.Said.TheVariants.{Fills, Reads}
-use Rattle.span_laws.specs.Views.{after_said}
 use Rattle.sweeper.proofs.Sweeping.{emptied, ends_empty, may_push, none_full, settles, some_room}
 use Rattle.sweeper.proofs.settle.settle.Goals as goal
 

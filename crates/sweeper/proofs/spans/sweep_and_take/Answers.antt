@@ -1,4 +1,3 @@
-use Rattle.std.proofs.Common.{refl}
 use Rattle.sweeper.proofs.Making.{then_takes}
 use Rattle.sweeper.proofs.spans.sweep_and_take.Goals as goal
 

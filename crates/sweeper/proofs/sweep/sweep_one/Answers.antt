@@ -1,5 +1,4 @@
-use Rattle.std.proofs.Common.{[], refl, ap, sym, subst, ◌∙◌, ◌<◌, ℕ, length, arith}
-use Rattle.span_set.specs.Sets.{unswept_of}
+use Rattle.std.proofs.Common.{[], ap, sym, subst, ◌∙◌, ◌<◌, ℕ, length, arith}
 use Rattle.sweeper.specs.Steps.{SawSome, SweepsNone, nth_unswept}
 use Rattle.sweeper.specs.Work.{Works}
 use Rattle.sweeper.proofs.Searching.{all_seen, finds_more, finds_none, one_swept}
