@@ -8,3 +8,5 @@ pub mod Suits
 pub mod Truth
 pub mod Asks
 pub mod Answers
+pub mod Cycle
+pub mod Settles
