@@ -18,3 +18,8 @@ pub mod Uses
 pub mod Calls
 pub mod Allowed
 pub mod Start
+pub mod CycleKept
+pub mod CycleSteps
+pub mod CycleLives
+pub mod CyclePairs
+pub mod CycleTurns

@@ -61,7 +61,7 @@ module _ {A : Type 0} (test : A → Bool) where
       not_below : (n : ℕ) → ltb n n ≡ false
       not_below n = grind arith
 
-map_at : {A B : Type 0} (f : A → B) (l : List A) (n : ℕ) (b : B) → get_elem? (map f l) n ≡ some b → (a : A) × (get_elem? l n ≡ some a) × (f a ≡ b)
+pub map_at : {A B : Type 0} (f : A → B) (l : List A) (n : ℕ) (b : B) → get_elem? (map f l) n ≡ some b → (a : A) × (get_elem? l n ≡ some a) × (f a ≡ b)
 map_at f [] n b e = absurd (some-ne-none b (sym e))
 map_at f (x ∷ l) zero b e = (x, refl, some-injective (f x) b e)
 map_at f (x ∷ l) (suc n) b e = map_at f l n b e
@@ -251,7 +251,7 @@ module _ (c : CoreState) (heap : PageHeap) (homes : List (Option Body)) (n : ℕ
   same_map f g h r e [] = refl
   same_map f g h r e (x ∷ xs) = λ i. e x i ∷ same_map f g h r e xs i
 
-  silent : (xs : List Part) (m : ℕ) → get_or (map (λ (h : Part). h.log) (map rested xs)) m [] ≡ []
+  pub silent : (xs : List Part) (m : ℕ) → get_or (map (λ (h : Part). h.log) (map rested xs)) m [] ≡ []
   silent [] m = refl
   silent (x ∷ xs) zero = refl
   silent (x ∷ xs) (suc m) = silent xs m
@@ -259,7 +259,7 @@ module _ (c : CoreState) (heap : PageHeap) (homes : List (Option Body)) (n : ℕ
   abbrev ls' : List LifeState
   ls' = map (mark_life marks) c.lives
 
-  parts' : parts_of n (marked n marks v) ≡ map rested ps
+  pub parts' : parts_of n (marked n marks v) ≡ map rested ps
   parts' = sym (map-set rested v.parts n v.own)
 
   -- what a mark end leaves of a life
