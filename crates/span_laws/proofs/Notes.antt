@@ -58,7 +58,7 @@ module _ (c : CoreState) (heap : PageHeap) (homes : List (Option Body)) (n : ℕ
     tells : Tells c.generation c.words c.lives c.sets h
     tells = own_tells c.generation c.words c.lives c.sets c.words c.lives c.sets 0 (same_leads c.generation c.words c.lives c.sets 0) v.own h (own_tells_of c heap homes n v k)
         (λ q. ap (has q) fresh ∙ (own_tells_of c heap homes n v k).fresh q ∙ ap (λ (l : List ℕ). has q l && eqb (get_or c.words q 0) (c.generation + 3)) (sym cached))
-        (λ q i m. inl (subst (λ (z : ℕ). 0 < z) (log q i) m)) seen read look
+        (λ q i m. inl (subst (λ (z : ℕ). 0 < z) (log q i) m)) (λ s q u m. inl (subst (λ (z : ℕ). 0 < z) (pops s q) m)) seen read look
 
     module _ (held : h.held ≡ v.own.held) (sweeping : h.sweeping ≡ v.own.sweeping) (claimed : h.claimed ≡ v.own.claimed) where
       lend : (q : ℕ) → lends q h ≡ lends q v.own
