@@ -25,3 +25,4 @@ pub mod CycleSteps
 pub mod CycleLives
 pub mod CyclePairs
 pub mod CycleTurns
+pub mod Kept
