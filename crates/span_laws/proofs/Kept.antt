@@ -1,11 +1,11 @@
 -- All that holds of the lent state stays at each call's step: the rule, and the cycle under way.
-use Rattle.std.proofs.Common.{◌≡◌, ℕ, ◌+◌, ◌-◌, ◌/◌, ◌<◌, ◌≤◌, ⊎_elim, ◌⊎◌, inl, inr, Bool, ltb, not, true, false, List, [], ◌∷◌, length, get_or, set, refl, ap, sym, subst, ◌∙◌, arith}
+use Rattle.std.proofs.Common.{◌≡◌, ℕ, ◌+◌, ◌-◌, ◌/◌, ◌<◌, ◌≤◌, ⊎_elim, ◌⊎◌, inl, inr, ltb, true, false, List, [], length, get_or, set, refl, ap, sym, subst, ◌∙◌, arith}
 use Rattle.std.specs.Prelude.{None, Some, Option, IfNone, IfSome}
 use Rattle.std.specs.List.{AllByRecursion}
 use Rattle.std.proofs.lemmas.Bool.{cases_lt, lt-ltb, ltb-true}
 use Rattle.page_alloc.specs.Heap.{AddsLine, HasMoreRoom, PageHeap}
 use Rattle.size_classes.proofs.Bounds.{objects_bounds}
-use Rattle.page_alloc.specs.Journal.{IsBy, IsSpanSize, Legal, MayFollow, open_lives, owner}
+use Rattle.page_alloc.specs.Journal.{IsBy, IsSpanSize, MayFollow, open_lives, owner}
 use Rattle.page_alloc.proofs.Lives.{span_pages}
 use Rattle.page_bitmap.specs.declared.line.Line.{Line}
 use Rattle.page_bitmap.specs.declared.line.Line.TheVariants.{Take as TakeLine, Miss as MissLine, Give as GiveLine, Scav}
@@ -28,7 +28,6 @@ use Rattle.span_laws.specs.Answers.{IsNew, IsOfSet, cycle_at}
 use Rattle.span_laws.specs.Asks.{HasBody, IsAtRest, IsKnown, KnowsJournal}
 use Rattle.span_laws.specs.Cycle.{KeepsCycle, Kept}
 use Rattle.span_laws.specs.Moves.{move_of, move_on}
-use Rattle.span_laws.specs.Rule.{Rule}
 use Rattle.span_laws.specs.Suits.{IsQuiet, PlacesAlone, Suits, SuitsOf}
 use Rattle.span_laws.specs.Truth.{IsSo}
 use Rattle.span_laws.specs.Views.{acts, first_view, hand_state, handed, knowing, marked, span_of, told, told_of}
@@ -39,7 +38,7 @@ use Rattle.span_laws.specs.declared.said.SaidOf.TheVariants.{Acquires, Releases,
 use Rattle.span_laws.specs.declared.view.Span.{Span}
 use Rattle.span_laws.specs.declared.view.View.{View}
 use Rattle.span_laws.proofs.Allowed.{acquire_allowed, give_allowed, lock_allowed, pop_swept_allowed, take_allowed}
-use Rattle.span_laws.proofs.Calls.{acquire_rule, acquired_page, claim_rule, pop_rule, ready_rule, run_rule}
+use Rattle.span_laws.proofs.Calls.{acquire_rule, claim_rule, pop_rule, ready_rule, run_rule}
 use Rattle.span_laws.proofs.CycleLives.{give_cycle, place_cycle, release_cycle, take_cycle}
 use Rattle.span_laws.proofs.CycleSteps.{acquire_cycle, claim_cycle, note_cycle, pop_cycle, said_cycle}
 use Rattle.span_laws.proofs.CycleTurns.{hand_cycle, journal_keeps, life_cycle, miss_cycle, next_cycle, room_cycle, scav_cycle, start_cycle, told_cycle}

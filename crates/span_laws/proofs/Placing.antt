@@ -87,9 +87,12 @@ module _ (c : CoreState) (heap : PageHeap) (homes : List (Option Body)) (n : ℕ
         let d : CoreState = after_allocate c p i in
         let lead : Leads g c.words c.lives c.sets c.words ls' c.sets p = record {
           words = λ q x. refl;
-          waits = λ q w. (w, dite (ℕ_discrete q p)
-              (λ z. subst (λ (y : ℕ). (life_in y ls').class ≡ (life_in y c.lives).class) (sym z) (ap (λ (y : LifeState). y.class) now))
-              (λ z. ap (λ (y : LifeState). y.class) (life q z)));
+          waits = λ q w. (
+            w,
+            dite (ℕ_discrete q p)
+                (λ z. subst (λ (y : ℕ). (life_in y ls').class ≡ (life_in y c.lives).class) (sym z) (ap (λ (y : LifeState). y.class) now))
+                (λ z. ap (λ (y : LifeState). y.class) (life q z)),
+          );
           placed = λ q j m. (
             m.0,
             m.1,
