@@ -69,7 +69,7 @@ known_is past known z = cc
 module _ (c : CoreState) (heap : PageHeap) (homes : List (Option Body)) (n : ℕ) (v : View) (k : Rule c heap homes n v) where
   -- what the own part knows of the journal is no matter of the rule
   pub journal_keeps : (o : Option (List Line)) → Rule c heap homes n (acts v (record v.own { journal = o }))
-  journal_keeps o = log_changes c heap homes n v k (record v.own { journal = o }) refl refl refl (λ j q. refl) (λ q i. refl) (λ s u m. inl m) (λ s i q m. inl m) (λ s x y m. inl m) refl refl refl refl heap refl refl k.legal k.cycle (λ q. refl) refl
+  journal_keeps o = log_changes c heap homes n v k (record v.own { journal = o }) refl refl refl (λ j q. refl) (λ q i. refl) (λ s u m. inl m) (λ s i q m. inl m) (λ s x y m. inl m) (λ s. refl) refl refl refl refl heap refl refl k.legal k.cycle (λ q. refl) refl
 
 module _ (c : CoreState) (heap : PageHeap) (homes : List (Option Body)) (n : ℕ) (v : View) (k : Rule c heap homes n v) (y : KeepsCycle c heap n v) where
   -- more room for lines, and for lives

@@ -9,7 +9,7 @@ use Rattle.span_state.specs.declared.body.Body.{Body}
 use Rattle.span_laws.specs.Asks.{HasMarked, IsOfPops, IsUntouched, mine}
 use Rattle.span_laws.specs.Cycle.{Kept}
 use Rattle.span_laws.specs.Views.{Seen}
-use Rattle.span_laws.proofs.Calls.{acquired_marked, acquired_mine, acquired_page, acquired_pops, acquired_untouched}
+use Rattle.span_laws.proofs.Calls.{acquired_class, acquired_marked, acquired_mine, acquired_page, acquired_pops, acquired_untouched}
 use Rattle.span_laws.proofs.Kept.{kept_acquire}
 use Rattle.span_laws.proofs.RuleKept.{own_hand, low_number}
 use Rattle.span_laws.proofs.Uses.{waiting_home}
@@ -56,4 +56,5 @@ returns c =
       subst (λ (s : Seen). IsUntouched s.view.generation s.view.own c.args.page) c.self.view_is (acquired_untouched i.core i.pages i.homes.items i.number i.seat.me.0 k c.args.page low w t.result at),
       subst (λ (s : Seen). mine c.args.page s.view.own ≡ 0) c.self.view_is (acquired_mine i.core i.pages i.homes.items i.number i.seat.me.0 k c.args.page low w t.result at),
       subst (λ (s : Seen). IsOfPops s.view.generation s.view.own t.result) c.self.view_is (acquired_pops i.core i.pages i.homes.items i.number i.seat.me.0 k c.args.page low w t.result at),
+      acquired_class i.core i.pages i.homes.items i.number i.seat.me.0 k c.args.page low w t.result at,
     )

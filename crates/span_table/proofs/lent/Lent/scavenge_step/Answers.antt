@@ -22,6 +22,11 @@ past_is : (heap heap' : PageHeap) (cycle : ℕ) (o : Option Run) → IfSome o (�
 past_is heap heap' cycle (Some run) a s = a.past
 past_is heap heap' cycle None a s = s.past
 
+-- which is legal
+legal_behind : (heap heap' : PageHeap) (cycle : ℕ) (o : Option Run) → IfSome o (λ run. AddsLine heap heap' (Scav cycle run.page run.pages)) → IfNone o (HasMoreRoom heap heap') → Legal heap.region heap.goal heap.past → Legal heap.region heap.goal heap'.past
+legal_behind heap heap' cycle (Some run) a s l = subst (λ (z : ℕ × ℕ). Legal z.0 z.1 heap'.past) (λ i. (a.region i, a.goal i)) a.legal
+legal_behind heap heap' cycle None a s l = subst (Legal heap.region heap.goal) (sym s.past) l
+
 pub invariant_of-self-2 : goal.invariant_of-self-2
 invariant_of-self-2 c = let i = c.self.inside in let v : View = i.seat.me.0 in let k = kept_room i.core i.pages i.homes.items i.number v c.self.invariant c.reserve_line.new.self c.reserve_line.ensures.same in
     rw c.tell_journal.ensures.view (kept_scav i.core c.reserve_line.new.self i.homes.items i.number v k ((c.generation.result - 4) / 2) (ap (λ (g : ℕ). (g - 4) / 2) c.generation.ensures) c.scavenge-run.new.self
@@ -32,11 +37,12 @@ returns c = let i = c.self.inside in let v : View = i.seat.me.0 in let kept = ke
     let region = k.heap_region ∙ sym k.region ∙ ap (λ (w : Seen). w.view.region) c.self.view_is in
     let goal = sym k.goal ∙ ap (λ (w : Seen). w.view.goal) c.self.view_is in
     let now : (c.generation.result - 4) / 2 ≡ (c.args.self.now.view.generation - 4) / 2 = ap (λ (g : ℕ). (g - 4) / 2) (c.generation.ensures ∙ sym k.generation ∙ ap (λ (w : Seen). w.view.generation) c.self.view_is) in
-    let past = past_is c.reserve_line.new.self c.scavenge-run.new.self ((c.generation.result - 4) / 2) c.scavenge-run.result c.scavenge-run.ensures.released c.scavenge-run.ensures.same in (
+    let past = past_is c.reserve_line.new.self c.scavenge-run.new.self ((c.generation.result - 4) / 2) c.scavenge-run.result c.scavenge-run.ensures.released c.scavenge-run.ensures.same in
+    let behind = past ∙ ap (λ (z : ℕ). past_scavenged z c.reserve_line.new.self.past c.scavenge-run.result) now in (
       c.reserve_line.new.self.past,
-      subst (λ (z : ℕ × ℕ). Legal z.0 z.1 c.reserve_line.new.self.past) (λ j. (region j, goal j)) k.legal,
+      subst (λ (z : ℕ × ℕ × List Line). Legal z.0 z.1 z.2) (λ j. (region j, goal j, behind j)) (legal_behind c.reserve_line.new.self c.scavenge-run.new.self ((c.generation.result - 4) / 2) c.scavenge-run.result c.scavenge-run.ensures.released c.scavenge-run.ensures.same k.legal),
       subst (λ (w : Seen). IsToldOf w.view.own c.reserve_line.new.self.past) c.self.view_is (λ known is. kept.cycle.told known is),
       subst (λ (z : ℕ × ℕ × ℕ). Released z.0 z.1 z.2 c.reserve_line.new.self.past c.backed-backed.result c.scavenge-run.result) (λ j. (now j, region j, goal j))
           (released c.reserve_line.new.self c.scavenge-run.new.self ((c.generation.result - 4) / 2) c.backed-backed.result c.scavenge-run.result c.scavenge-run.ensures.released c.scavenge-run.ensures.done c.scavenge-run.ensures.same c.backed-backed.ensures),
-      rw (c.tell_journal.ensures.table, c.tell_journal.ensures.view) (λ j. knows ((past ∙ ap (λ (z : ℕ). past_scavenged z c.reserve_line.new.self.past c.scavenge-run.result) now) j) (c.self.view_is j)),
+      rw (c.tell_journal.ensures.table, c.tell_journal.ensures.view) (λ j. knows (behind j) (c.self.view_is j)),
     )
