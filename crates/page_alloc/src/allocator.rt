@@ -258,6 +258,13 @@ impl Pages {
         self.backed
     }
 
+    /// The goal for backed pages, in pages: scavenging steps are made only while more pages are backed.
+    pub fn goal(&self) -> u32
+        ensures { result ≡ self.now.goal }
+    {
+        self.goal
+    }
+
     /// The number of pages that spans have.
     pub fn taken(&self) -> u32
         ensures { result ≡ taken self.now.region self.now.past }
