@@ -258,6 +258,15 @@ impl Pages {
         self.backed
     }
 
+    /// The number of pages of the region: 512 a chunk.
+    pub fn region(&self) -> u32
+        ensures region { result ≡ self.now.region }
+        ensures some { 512 ≤ result }
+        ensures most { result ≤ 65536 }
+    {
+        CHUNK_PAGES * self.chunks.len() as u32
+    }
+
     /// The goal for backed pages, in pages: scavenging steps are made only while more pages are backed.
     pub fn goal(&self) -> u32
         ensures { result ≡ self.now.goal }

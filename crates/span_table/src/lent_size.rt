@@ -1,13 +1,15 @@
-ghost use Rattle.std.specs.Prelude.{◌≡◌};
+ghost use Rattle.std.specs.Prelude.{◌≡◌, ◌≤◌};
 
 use crate::lent::Lent;
 
 impl Lent {
     // See `Shared::region`.
     pub(crate) fn region(&self) -> u32
-        ensures { result ≡ self.now.view.region }
+        ensures region { result ≡ self.now.view.region }
+        ensures some { 512 ≤ result }
+        ensures most { result ≤ 65536 }
     {
-        self.homes.len() as u32
+        self.pages.region()
     }
 
     // See `Shared::goal`.
