@@ -4,6 +4,7 @@ pub mod Parts
 pub mod BodiesKept
 pub mod TellsKept
 pub mod MarkedKept
+pub mod Waiting
 pub mod RuleKept
 pub mod WordMoves
 pub mod Lives
@@ -18,3 +19,9 @@ pub mod Uses
 pub mod Calls
 pub mod Allowed
 pub mod Start
+pub mod CallLogs
+pub mod CycleKept
+pub mod CycleSteps
+pub mod CycleLives
+pub mod CyclePairs
+pub mod CycleTurns

@@ -1,10 +1,12 @@
 -- What calls ask of a worker's part and of a body.
-use Rattle.std.specs.Prelude.{◌≡◌, ◌⊎◌, ℕ, ◌<◌, true, false, List, [], Some, None}
+use Rattle.std.specs.Prelude.{◌≡◌, ◌⊎◌, ℕ, ◌+◌, ◌<◌, true, false, List, [], Some, None}
 use Rattle.std.specs.List.{AllByRecursion}
 use lib.ListN.{get_elem?}
 use mathlib.Core.Option.{some}
+use Rattle.page_bitmap.specs.declared.line.Line.{Line}
 use Rattle.sweep_laws.specs.Lists.{has}
-use Rattle.sweep_laws.specs.Needs.{is_swept_set}
+use Rattle.sweep_laws.specs.Counts.{times}
+use Rattle.sweep_laws.specs.Needs.{class_of_set, is_swept_set}
 use Rattle.sweep_laws.specs.Owned.{EachAt}
 use Rattle.span_state.specs.Bits.{IsFull}
 use Rattle.span_state.specs.MarkSet.{has_pair}
@@ -14,8 +16,12 @@ use Rattle.span_laws.specs.declared.view.Part.{Part}
 use Rattle.span_laws.specs.declared.view.Span.{Span}
 use Rattle.span_laws.specs.declared.view.View.{View}
 use Rattle.span_laws.specs.Logs.{is_placing_at}
-use Rattle.worker_log.specs.Logs.{many, is_placing_in, is_pop_of, is_seen_empty}
+use Rattle.worker_log.specs.Logs.{is_full_set, many, is_placing_in, is_pop_of, is_seen_empty}
 use Rattle.span_laws.specs.Views.{parts_of, span_at, span_of}
+
+-- how often the worker sweeps, holds or has cached a page
+abbrev pub mine : ℕ → Part → ℕ
+mine p h = times p h.sweeping + times p h.held + times p h.cached
 
 -- the body is the one that was lent to the worker last for its page, unchanged
 abbrev pub HasBody : Part → Body → Type 0
@@ -62,11 +68,21 @@ pub record IsUntouched (generation : ℕ) (h : Part) (page : ℕ) : Type 0 where
   pub pops : (j : ℕ) → j < 544 → is_swept_set generation j ≡ true → many (is_pop_of j page) h.log ≡ 0
   pub placings : many (is_placing_in page) h.log ≡ 0
 
--- objects may be placed in the body: the worker cached it in this cycle, and has no other span of its class cached; or it holds it,
--- claims nothing, and the body is of one object
+-- the worker had nothing of a page that it took from a set; and from a full set it has popped none that it took from a partial one
+pub record IsTaken (generation set : ℕ) (h : Part) (page : ℕ) : Type 0 where
+  pub nothing : mine page h ≡ 0
+  pub unpopped : is_full_set set ≡ false → (j : ℕ) → j < 544 → is_swept_set generation j ≡ true → is_full_set j ≡ true → many (is_pop_of j page) h.log ≡ 0
+
+-- the body is of the class of each unswept set from which the log tells that its page was popped
+abbrev pub IsOfPops : ℕ → Part → Body → Type 0
+IsOfPops generation h b = (j : ℕ) → is_swept_set generation j ≡ false → 0 < many (is_pop_of j b.page) h.log → class_of_set j ≡ b.class
+
+-- objects may be placed in the body: the worker cached it in this cycle, has no other span of its class cached, and holds no other
+-- one in which it placed objects; or it holds it, claims nothing, and the body is of one object
 abbrev pub MayPlace : Part → Body → Type 0
 MayPlace h b = ((has b.page h.cached ≡ true) × (has b.page h.fresh ≡ true)
-    × ((q : ℕ) (s : Span) → has q h.cached ≡ true → span_at q h.spans ≡ Some s → s.class ≡ b.class → q ≡ b.page))
+    × ((q : ℕ) (s : Span) → has q h.cached ≡ true → span_at q h.spans ≡ Some s → s.class ≡ b.class → q ≡ b.page)
+    × ((q : ℕ) → has q h.held ≡ true → 0 < many (is_placing_in q) h.log → q ≡ b.page))
     ⊎ ((has b.page h.held ≡ true) × (h.claimed ≡ None) × (b.count ≡ 1))
 
 -- the worker sweeps and holds nothing, has popped nothing and claims nothing
@@ -80,15 +96,31 @@ pub record IsIdle (h : Part) : Type 0 where
 abbrev pub IsFresh : Part → Type 0
 IsFresh h = (p : ℕ) → has p h.cached ≡ true → has p h.fresh ≡ true
 
+-- the worker was told the whole journal, and nothing was written since
+abbrev pub KnowsJournal : Part → Type 0
+KnowsJournal h = (past : List Line) × (h.journal ≡ Some past)
+
 -- a pair is a mark that the views carry, or an object that a log placed
 abbrev pub IsKnown : ℕ → View → ℕ × ℕ → Type 0
 IsKnown n v m = (has_pair v.marks m.0 m.1 ≡ true) ⊎ ((i : ℕ) × (h : Part) × (get_elem? (parts_of n v) i ≡ some h) × (0 < many (is_placing_at m.0 m.1) h.log))
 
--- what a mark end asks of the driver
-pub record MayMark (n : ℕ) (v : View) (marks : List (ℕ × ℕ)) : Type 0 where
+-- the driver knows that nothing is left to sweep: each worker is idle, each cached span was cached since the last mark end, and each
+-- unswept set was seen empty
+pub record IsAtRest (n : ℕ) (v : View) : Type 0 where
   pub driver : n ≡ 69
   pub idle : EachAt (parts_of n v) (λ i h. IsIdle h)
   pub fresh : EachAt (parts_of n v) (λ i h. IsFresh h)
+  pub empty : (k : ℕ) → k < 544 → is_swept_set v.generation k ≡ false → 0 < many (is_seen_empty k) v.own.log
+
+-- what a mark end asks of the driver
+pub record MayMark (n : ℕ) (v : View) (marks : List (ℕ × ℕ)) : Type 0 where
+  pub rest : IsAtRest n v
+  pub reset : (k : ℕ) → k < 544 → is_swept_set v.generation k ≡ false → has k v.own.reset ≡ true
   pub early : v.generation < 8589934592
-  pub empty : (k : ℕ) → k < 544 → is_swept_set v.generation k ≡ false → (0 < many (is_seen_empty k) v.own.log) × (has k v.own.reset ≡ true)
   pub known : AllByRecursion (IsKnown n v) marks
+  pub told : KnowsJournal v.own
+
+-- what the end of a cycle asks of the driver: in each span that a worker has cached it placed an object since the last mark end
+pub record MaySettle (n : ℕ) (v : View) : Type 0 where
+  pub rest : IsAtRest n v
+  pub used : EachAt (parts_of n v) (λ i h. (p : ℕ) → has p h.cached ≡ true → 0 < many (is_placing_in p) h.log)

@@ -8,3 +8,6 @@ pub mod Suits
 pub mod Truth
 pub mod Asks
 pub mod Answers
+pub mod Calls
+pub mod Cycle
+pub mod Settles
