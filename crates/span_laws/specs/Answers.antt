@@ -113,6 +113,6 @@ IsToldOf h past = (known : List Line) → h.journal ≡ Some known → past ≡ 
 
 -- so it did behind a legal journal, which the worker is told of with the new line; or memory ran out
 abbrev pub StepsOnce : Seen → Seen → Result Step NoMemory → Type 0
-StepsOnce old new (Ok step) = (past : List Line) × Legal old.view.region old.view.goal past × IsToldOf old.view.own past
+StepsOnce old new (Ok step) = (past : List Line) × Legal old.view.region old.view.goal (past_scavenged (cycle_at old.view.generation) past step.run) × IsToldOf old.view.own past
     × Released (cycle_at old.view.generation) old.view.region old.view.goal past step.backed step.run × (new ≡ knows (past_scavenged (cycle_at old.view.generation) past step.run) old)
 StepsOnce old new (Err none) = new ≡ old
