@@ -1,5 +1,5 @@
 -- The steps of a call, one after another.
-use Rattle.std.proofs.Common.{◌≡◌, ◌⊎◌, ℕ, ◌+◌, ◌<◌, ◌≤◌, List, [], ◌∷◌, length, Option, Some, None, Ok, Err, inl, inr, refl, sym, ◌∙◌, ap, subst, arith}
+use Rattle.std.proofs.Common.{◌≡◌, ◌⊎◌, ℕ, ◌+◌, ◌<◌, ◌≤◌, List, [], ◌∷◌, length, Option, Some, None, is_some, true, false, Ok, Err, inl, inr, refl, sym, ◌∙◌, ap, subst, arith}
 use Rattle.fallible_list.specs.declared.list.NoMemory.{NoMemory}
 use Rattle.page_alloc.specs.Journal.{IsLoose, Legal, MayFollow, backed}
 use Rattle.page_bitmap.specs.declared.line.Line.{Line}
@@ -12,6 +12,14 @@ use Rattle.scavenger.specs.declared.scavenge.Reason.{Reason}
 use Rattle.scavenger.specs.declared.scavenge.Reason.TheVariants.{AtGoal, NoCandidate, TurnsSpent}
 use Rattle.scavenger.specs.declared.scavenge.Stopped.{Stopped}
 use Rattle.scavenger.specs.Scavenges.{IsReason, Releases, Scavenges, StopsFor, behind}
+
+pub none-of : (o : Option Run) → is_some o ≡ false → o ≡ None
+none-of None h = refl
+none-of (Some run) h = cc
+
+pub some-of : (o : Option Run) → is_some o ≡ true → (run : Run) × (o ≡ Some run)
+some-of None h = cc
+some-of (Some run) h = (run, refl)
 
 -- after n steps that all released a run: none was made, or the journal has their lines, with so many backed pages
 abbrev pub Turned : ℕ → Seen → Seen → ℕ → Type 0
@@ -39,7 +47,7 @@ next-turn past runs old new step run legal told is made =
         told = told;
         legal = (let P : List Line → Type 0 = λ l. Legal old.view.region old.view.goal (line ∷ l) in subst P here (subst L is made.1));
         view = subst N is made.4 ∙ ap (λ (l : List Line). knows (line ∷ l) old) here;
-      }, ?, (subst R is made.3).1 ∙ ap (λ (l : List Line). backed old.view.region (line ∷ l)) here)
+      }, omega arith, (subst R is made.3).1 ∙ ap (λ (l : List Line). backed old.view.region (line ∷ l)) here)
 
 pub turns : (n count : ℕ) (old mid new : Seen) (step : Step) (run : Run) → Turned n old mid count → step.run ≡ Some run → StepsOnce mid new (Ok step) → Turned (n + 1) old new step.backed
 turns n count old mid new step run turned is made =
