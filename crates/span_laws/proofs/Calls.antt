@@ -30,6 +30,7 @@ use Rattle.span_laws.proofs.Notes.{life_keeps, room_keeps}
 use Rattle.span_laws.proofs.RuleKept.{part_at}
 use Rattle.span_laws.proofs.SetMoves.{claim_keeps, pop_keeps}
 use Rattle.span_laws.proofs.Uses.{claim_class, claim_full, claim_used, has_marked, held_low, popped_fits, popped_full, popped_home, popped_low, popped_mine, untouched, waiting_home, waiting_mine}
+use Rattle.span_laws.proofs.Classes.{fits_class}
 use Rattle.span_laws.proofs.WordMoves.{acquire_keeps, unsettled}
 use Rattle.std.proofs.Common.{inl}
 
@@ -73,6 +74,9 @@ module _ (c : CoreState) (heap : PageHeap) (homes : List (Option Body)) (n : ℕ
     -- the entry that was popped tells the class
     pub acquired_pops : IsOfPops v.generation v.own b
     acquired_pops j part m = sym ((k.tells n v.own (part_at c heap homes n v k)).waits j b.page (subst (λ (g : ℕ). is_swept_set g j ≡ false) k.generation part) m (subst (λ (q : ℕ). get_or c.words q 0 + 2 ≡ c.generation) (sym acquired_page) w)) ∙ sym acquired_own.body.class
+
+    pub acquired_class : b.class < 136
+    acquired_class = fits_class c heap homes n v k p (span_of b) acquired_fits
 
     pub acquire_rule : (c' : CoreState) → c' ≡ after_acquire c n p → Owned c' → IsTidy c' → HasSpace c' → Rule c' heap (set homes p None) n (acts v (told_of Acquires (span_of b) v.own))
     acquire_rule c' e o t r = subst (λ (q : ℕ). Rule c' heap (set homes q None) n (acts v (told_of Acquires (span_of b) v.own))) acquired_page

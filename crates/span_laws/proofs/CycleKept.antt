@@ -1,9 +1,9 @@
 -- The cycle under way stays as the own part and the core change: what all steps share, and the steps that write no line and change no
 -- life.
-use Rattle.std.proofs.Common.{◌≡◌, ◌≢◌, ℕ, ◌+◌, ◌<◌, inl, inr, ⊎_elim, Bool, true, false, List, [], ◌∷◌, ◌++◌, length, get_or, set, refl, ap, sym, subst, ◌∙◌, arith}
-use Rattle.std.specs.Prelude.{None, Some, Option}
+use Rattle.std.proofs.Common.{◌≡◌, ℕ, Bool, List, [], ◌∷◌, ◌++◌, set, refl, ap, sym, subst, ◌∙◌}
+use Rattle.std.specs.Prelude.{Some, Option}
 use mathlib.Core.Logic.{dite}
-use mathlib.Core.Option.{some, some-injective}
+use mathlib.Core.Option.{some-injective}
 use lib.ListN.{get_elem?}
 use native.Mathlib.Decide.{ℕ_discrete}
 use Rattle.page_alloc.specs.Heap.{PageHeap}
@@ -11,7 +11,6 @@ use Rattle.page_bitmap.specs.declared.line.Line.{Line}
 use Rattle.span_state.specs.MarkSet.{has_pair}
 use Rattle.span_state.specs.declared.body.Body.{Body}
 use Rattle.sweep_laws.specs.State.{CoreState}
-use Rattle.sweep_laws.specs.declared.moves.Claimed.{Claimed}
 use Rattle.sweep_laws.proofs.Naming.{set_here}
 use Rattle.swept_set_laws.specs.Entered.{log_of}
 use Rattle.worker_log.specs.declared.Entry.{Entry}
@@ -26,7 +25,7 @@ use Rattle.run_laws.proofs.Underway.{put_here, put_else}
 use Rattle.span_laws.specs.Answers.{cycle_at}
 use Rattle.span_laws.specs.Cycle.{IsClaimUnplaced, KeepsCycle, cycle_seen}
 use Rattle.span_laws.specs.Rule.{Rule, logs_of}
-use Rattle.span_laws.specs.Views.{acts, parts_of}
+use Rattle.span_laws.specs.Views.{acts}
 use Rattle.span_laws.specs.declared.view.Part.{Part}
 use Rattle.span_laws.specs.declared.view.View.{View}
 use Rattle.span_laws.proofs.Parts.{set_else}

@@ -1,9 +1,8 @@
 -- The steps that change a life keep the cycle under way: Release, Allocate, Take and Give.
-use Rattle.std.proofs.Common.{◌≡◌, ℕ, ◌+◌, ◌<◌, ◌≤◌, ◌⊎◌, inl, inr, ⊎_elim, Bool, ◌&&◌, not, true, false, true≢false, List, [], ◌∷◌, ◌++◌, length, get_or, refl, ap, sym, subst, ◌∙◌, arith, ne_eqb}
+use Rattle.std.proofs.Common.{◌≡◌, ℕ, ◌+◌, ◌<◌, inl, inr, ⊎_elim, ◌&&◌, not, true, true≢false, List, ◌∷◌, ◌++◌, length, get_or, refl, ap, sym, subst, ◌∙◌, arith, ne_eqb}
 use Rattle.std.specs.Prelude.{None, Some, Option, unwrap_or}
 use mathlib.Core.Logic.{dite}
-use mathlib.Core.Option.{some, some-injective}
-use lib.ListN.{get_elem?}
+use mathlib.Core.Option.{some-injective}
 use native.Mathlib.Decide.{dec_le}
 use Rattle.page_alloc.specs.Heap.{PageHeap}
 use Rattle.page_alloc.specs.Journal.{Life, MayFollow, life_of, open_lives}
@@ -16,10 +15,10 @@ use Rattle.span_state.specs.Bits.{bit_of, count_below}
 use Rattle.span_state.specs.Counts.{count_below-same}
 use Rattle.span_state.specs.MarkSet.{has_pair}
 use Rattle.span_state.specs.declared.body.Body.{Body}
-use Rattle.sweep_laws.specs.Changes.{after_allocate, after_give, after_lock, after_release, after_take, marks_at}
+use Rattle.sweep_laws.specs.Changes.{after_allocate, after_give, after_lock, after_release, after_take}
 use Rattle.sweep_laws.specs.Counts.{times}
 use Rattle.sweep_laws.specs.Lists.{has}
-use Rattle.sweep_laws.specs.Needs.{allocate_needs, allocated_at, give_needs, hand_of, life_in, lock_needs, refusal, release_needs, take_needs}
+use Rattle.sweep_laws.specs.Needs.{allocate_needs, give_needs, life_in, lock_needs, refusal, release_needs, take_needs}
 use Rattle.sweep_laws.specs.Owned.{Owned}
 use Rattle.sweep_laws.specs.Standing.{tally}
 use Rattle.sweep_laws.specs.State.{CoreState, HandState}
@@ -32,7 +31,7 @@ use Rattle.sweep_laws.proofs.Totals.{part_le}
 use Rattle.worker_log.specs.declared.Entry.TheVariants.{Swept, Took, Gave, Allocated}
 use Rattle.worker_log.specs.declared.Placing.{Placing}
 use Rattle.worker_log.specs.declared.Sweeping.{Sweeping}
-use Rattle.worker_log.specs.Logs.{is_placing_in, is_swept_last, many, placings}
+use Rattle.worker_log.specs.Logs.{is_placing_in, is_swept_last, many}
 use Rattle.run_laws.specs.Facts.{IsIn}
 use Rattle.run_laws.specs.Keeping.{HasOneOf}
 use Rattle.run_laws.specs.Shown.{bits_of, has_of, marks_of}
@@ -52,7 +51,7 @@ use Rattle.span_laws.specs.declared.view.View.{View}
 use Rattle.span_laws.proofs.CycleKept.{cycle_moved, e, put_log, seen_by, still_unplaced}
 use Rattle.span_laws.proofs.CycleSteps.{own_placing, placed_in}
 use Rattle.span_laws.proofs.Lives.{marks_has}
-use Rattle.span_laws.proofs.RuleKept.{log_own, own_at, own_hand}
+use Rattle.span_laws.proofs.RuleKept.{log_own, own_at}
 use Rattle.span_laws.proofs.WordMoves.{cached_lent, kept, lent_now}
 
 some_same : (a b : Span) → Some a ≡ Some b → a ≡ b

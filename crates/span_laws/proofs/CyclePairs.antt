@@ -1,5 +1,5 @@
 -- The pairs of a first page and an index that are allocated as a cycle ends, by the marks and the logs.
-use Rattle.std.proofs.Common.{◌≡◌, ℕ, zero, suc, ◌⊎◌, inl, inr, ⊎_elim, Bool, ◌&&◌, ◌||◌, eqb, eq-eqb, true, false, List, [], ◌∷◌, ◌++◌, map, get_or, refl, sym, ap, subst, ◌∙◌}
+use Rattle.std.proofs.Common.{◌≡◌, ℕ, zero, suc, inl, inr, ⊎_elim, Bool, ◌&&◌, ◌||◌, eqb, eq-eqb, true, false, List, [], ◌∷◌, ◌++◌, map, get_or, refl, sym, ap, subst, ◌∙◌}
 use Rattle.std.proofs.lemmas.Bool.{cases_Bool, eqb-true}
 use Rattle.page_alloc.specs.Journal.{Life, open_lives}
 use Rattle.page_alloc.specs.Lists.{In}
@@ -10,7 +10,6 @@ use Rattle.worker_log.specs.declared.Entry.{Entry}
 use Rattle.worker_log.specs.declared.Placing.{Placing}
 use Rattle.worker_log.specs.Logs.{placings}
 use Rattle.run_laws.specs.CycleSoFar.{CycleSoFar, past_after}
-use Rattle.run_laws.specs.Lists.{begins_at}
 use Rattle.run_laws.specs.Shown.{bits_of, waits_of}
 use Rattle.run_laws.specs.ShowsCycle.{ShowsCycle}
 use Rattle.run_laws.proofs.Lines.{page-there}
@@ -102,7 +101,7 @@ module _ (region goal : ℕ) (c : CoreState) (e : CycleSoFar) (s : ShowsCycle re
             let same : seat.0 ≡ life = same_number (past_after e) seat.0 life seat.1 here (seat.2.number ∙ placed.3) in
             let page : a.page ≡ p = sym seat.2.page ∙ ap (λ (l : Life). l.page) same ∙ at in
             or_right (has_pair marks p j) (has_pair (placed_pairs parts) p j)
-                ((λ i. has_pair (placed_pairs parts) (sym page i) (sym placed.4 i)) ∙ parts_have parts placed.0 a (subst (λ (l : List Entry). In a (placings l)) (logs_are placed.0) placed.2)))
+            ((λ i. has_pair (placed_pairs parts) (sym page i) (sym placed.4 i)) ∙ parts_have parts placed.0 a (subst (λ (l : List Entry). In a (placings l)) (logs_are placed.0) placed.2)))
       ]
 
   pub pairs_are_bits : (p j : ℕ) → bits_of c p j ≡ has_pair (marks ++ placed_pairs parts) p j

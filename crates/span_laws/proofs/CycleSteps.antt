@@ -1,19 +1,15 @@
 -- The steps that change no life keep the cycle under way: those on words, on sets and in the log.
-use Rattle.std.proofs.Common.{◌≡◌, ◌≢◌, ℕ, zero, suc, ◌+◌, ◌<◌, inl, inr, ⊎_elim, Bool, true, false, List, [], ◌∷◌, ◌++◌, length, get_or, refl, ap, sym, subst, ◌∙◌, arith, eq-eqb}
+use Rattle.std.proofs.Common.{◌≡◌, ℕ, zero, suc, ◌<◌, ⊎_elim, Bool, true, false, List, [], ◌∷◌, length, refl, ap, sym, subst, ◌∙◌, arith, eq-eqb}
 use Rattle.std.specs.Prelude.{None, Some, Option}
-use Rattle.std.proofs.lemmas.Bool.{cases_Bool}
-use mathlib.Core.Option.{some}
-use lib.ListN.{get_elem?}
 use Rattle.page_alloc.specs.Heap.{PageHeap}
 use Rattle.page_alloc.specs.Lists.{In}
 use Rattle.page_bitmap.specs.Counts.{one_if}
 use Rattle.span_state.specs.declared.body.Body.{Body}
 use Rattle.sound_run.specs.Run.{count_for}
-use Rattle.sweep_laws.specs.Lists.{has}
 use Rattle.sweep_laws.specs.Changes.{after_acquire, after_claim, after_pop_swept}
-use Rattle.sweep_laws.specs.Needs.{acquire_needs, claim_needs, hand_of, life_in, pop_swept_needs, refusal, set_of}
+use Rattle.sweep_laws.specs.Needs.{acquire_needs, claim_needs, hand_of, life_in, pop_swept_needs, refusal}
 use Rattle.sweep_laws.specs.Owned.{ClaimFits}
-use Rattle.sweep_laws.specs.State.{CoreState, HandState, LifeState}
+use Rattle.sweep_laws.specs.State.{CoreState, HandState}
 use Rattle.sweep_laws.specs.Step.{after, needs_of}
 use Rattle.sweep_laws.specs.declared.moves.Claimed.{Claimed}
 use Rattle.swept_set_laws.specs.Entered.{is_full_life}
@@ -21,11 +17,11 @@ use Rattle.worker_log.specs.declared.Entry.{Entry}
 use Rattle.worker_log.specs.declared.Entry.TheVariants.{Looked, LookedEmptyCell, Popped, Pushed, Swept, Took, Missed, Gave, Allocated, Found, Read, Added}
 use Rattle.worker_log.specs.declared.Placing.{Placing}
 use Rattle.worker_log.specs.Logs.{is_full_set, is_placing_in, many, placings}
-use Rattle.worker_log.proofs.Logs.{LookAlike, all-alike, quiet-alike}
+use Rattle.worker_log.proofs.Logs.{all-alike, quiet-alike}
 use Rattle.run_laws.specs.Shown.{bits_of}
 use Rattle.run_laws.specs.ShowsCycle.{MayLetGo}
 use Rattle.run_laws.proofs.Moves.{acquire-shows, cache-shows, claim-shows, drop_popped-shows, fill-shows, pop_swept-shows, pop_unswept-shows, stale_uncache-shows, uncache-shows}
-use Rattle.span_laws.specs.Cycle.{IsClaimUnplaced, KeepsCycle}
+use Rattle.span_laws.specs.Cycle.{KeepsCycle}
 use Rattle.span_laws.specs.Moves.{move_of}
 use Rattle.span_laws.specs.Rule.{Rule}
 use Rattle.span_laws.specs.Suits.{IsQuiet, Suits}

@@ -1,5 +1,5 @@
 -- The cycle under way at lines without a move, as the state goes from worker to worker, at the start, at a mark end and as it ends.
-use Rattle.std.proofs.Common.{◌≡◌, ◌≢◌, ℕ, zero, suc, ◌+◌, ◌-◌, ◌/◌, ◌<◌, ◌≤◌, inl, inr, ⊎_elim, Bool, true, false, List, [], ◌∷◌, ◌++◌, length, map, set, get_or, refl, ap, sym, subst, ◌∙◌, arith}
+use Rattle.std.proofs.Common.{◌≡◌, ◌≢◌, ℕ, zero, suc, ◌+◌, ◌<◌, ◌≤◌, inl, inr, Bool, true, false, List, [], ◌∷◌, ◌++◌, length, map, get_or, refl, ap, sym, subst, ◌∙◌, arith}
 use Rattle.std.specs.Prelude.{None, Some, Option, slice_index, unwrap_or}
 use Rattle.std.specs.List.{AllByRecursion}
 use Rattle.std.proofs.Math.ListN.{length-set}
@@ -18,29 +18,27 @@ use Rattle.span_state.specs.declared.body.Body.{Body}
 use Rattle.sweep_laws.specs.Changes.{after_next}
 use Rattle.sweep_laws.specs.Counts.{times}
 use Rattle.sweep_laws.specs.Lists.{has, rises}
-use Rattle.sweep_laws.specs.Needs.{cell_of, is_swept_set, next_needs, refusal}
+use Rattle.sweep_laws.specs.Needs.{next_needs, refusal}
 use Rattle.sweep_laws.specs.Owned.{EachAt}
 use Rattle.sweep_laws.specs.Start.{new_state}
-use Rattle.sweep_laws.specs.State.{CoreState, HandState, SetState}
-use Rattle.sweep_laws.specs.declared.moves.Claimed.{Claimed}
+use Rattle.sweep_laws.specs.State.{CoreState, HandState}
 use Rattle.sweep_laws.proofs.Naming.{at_low, set_here, times_has}
 use Rattle.sweep_laws.proofs.NeedsMet.{some_none}
 use Rattle.swept_set_laws.proofs.EachMove.{entered_some}
 use Rattle.swept_set_laws.specs.Entered.{log_of}
 use Rattle.worker_log.specs.declared.Entry.{Entry}
 use Rattle.worker_log.specs.declared.Entry.TheVariants.{Missed}
-use Rattle.worker_log.specs.Logs.{is_full_set, is_placing_in, many}
+use Rattle.worker_log.specs.Logs.{is_placing_in, many}
 use Rattle.run_laws.specs.CycleSoFar.{CycleSoFar}
-use Rattle.run_laws.specs.Occupied.{HasSome, NamedHaveSome}
+use Rattle.run_laws.specs.Occupied.{NamedHaveSome}
 use Rattle.run_laws.specs.Shown.{bits_of, waits_of}
-use Rattle.run_laws.specs.ShowsCycle.{ShowsCycle, after_mark_end, first_cycle, has_mark}
-use Rattle.run_laws.specs.Underway.{after_line, after_missed}
+use Rattle.run_laws.specs.ShowsCycle.{ShowsCycle}
 use Rattle.run_laws.proofs.Shown.{settled-word}
 use Rattle.run_laws.proofs.Start.{new-shows}
 use Rattle.run_laws.proofs.Steps.{ended-holdings, ended-sweeps}
 use Rattle.run_laws.proofs.Turns.{missed-shows, next-settled, next-shows, scav-shows, shows-ended}
 use Rattle.span_laws.specs.Answers.{cycle_at}
-use Rattle.span_laws.specs.Asks.{IsAtRest, IsKnown, MaySettle}
+use Rattle.span_laws.specs.Asks.{IsAtRest, IsKnown}
 use Rattle.span_laws.specs.Cycle.{EndsCycle, IsClaimUnplaced, KeepsCycle, cycle_ended, cycle_seen}
 use Rattle.span_laws.specs.Rule.{Rule, logs_of}
 use Rattle.span_laws.specs.Views.{acts, allocated_pairs, first_view, hand_state, handed, knowing, marked, no_part, parts_left, parts_of, rested, told}
@@ -53,7 +51,7 @@ use Rattle.span_laws.proofs.Lives.{marks_has}
 use Rattle.span_laws.proofs.MarkEnd.{map_at, next_allowed, parts', silent}
 use Rattle.span_laws.proofs.Notes.{log_changes}
 use Rattle.span_laws.proofs.Parts.{set_else}
-use Rattle.span_laws.proofs.RuleKept.{log_own, logs_same}
+use Rattle.span_laws.proofs.RuleKept.{logs_same}
 use Rattle.span_laws.proofs.Start.{at_here, set_here as copy_here}
 use Rattle.span_laws.proofs.Uses.{some_index}
 use Rattle.span_laws.proofs.WordMoves.{four}
@@ -71,7 +69,7 @@ known_is past known z = cc
 module _ (c : CoreState) (heap : PageHeap) (homes : List (Option Body)) (n : ℕ) (v : View) (k : Rule c heap homes n v) where
   -- what the own part knows of the journal is no matter of the rule
   pub journal_keeps : (o : Option (List Line)) → Rule c heap homes n (acts v (record v.own { journal = o }))
-  journal_keeps o = log_changes c heap homes n v k (record v.own { journal = o }) refl refl refl (λ j q. refl) (λ q i. refl) (λ s u m. inl m) (λ s i q m. inl m) (λ s x y m. inl m) refl refl refl refl heap refl refl k.legal k.cycle (λ q. refl) refl
+  journal_keeps o = log_changes c heap homes n v k (record v.own { journal = o }) refl refl refl (λ j q. refl) (λ q i. refl) (λ s u m. inl m) (λ s i q m. inl m) (λ s x y m. inl m) (λ s. refl) refl refl refl refl heap refl refl k.legal k.cycle (λ q. refl) refl
 
 module _ (c : CoreState) (heap : PageHeap) (homes : List (Option Body)) (n : ℕ) (v : View) (k : Rule c heap homes n v) (y : KeepsCycle c heap n v) where
   -- more room for lines, and for lives

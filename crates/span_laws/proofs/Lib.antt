@@ -15,6 +15,7 @@ pub mod Placing
 pub mod SaidKept
 pub mod MarkEnd
 pub mod Ready
+pub mod Classes
 pub mod Uses
 pub mod Calls
 pub mod Allowed
@@ -25,3 +26,4 @@ pub mod CycleSteps
 pub mod CycleLives
 pub mod CyclePairs
 pub mod CycleTurns
+pub mod Kept

@@ -120,7 +120,7 @@ module _ (c : CoreState) (heap : PageHeap) (homes : List (Option Body)) (n : ℕ
         (λ y. absurd (not_waiting c heap homes n v k _ (inl (word_here c heap homes n v k p g low)) y))
         (λ i a m. subst (λ (l : LifeState). 0 < times i l.allocated) (sym now) (subst (λ (z : List ℕ). 0 < times i z) (sym marks) m))
         (own_tells g c.words c.lives c.sets (set c.words p g) ls' c.sets p lead v.own h (own_tells_of c heap homes n v k)
-        (fresh_stays c heap homes n v k p g low h refl refl (has_none p v.own.cached (omega arith))) (λ q i m. inl (omega arith)) (λ s q u m. inl (omega arith)) (λ s u m. inl (omega arith)) (λ s i q m. inl m) (λ s x y m. inl (omega arith))))
+        (fresh_stays c heap homes n v k p g low h refl refl (has_none p v.own.cached (omega arith))) (λ q i m. inl (omega arith)) (λ s q u m. inl (omega arith)) (λ s u m. inl (omega arith)) (λ s i q m. inl m) (λ s x y m. inl (omega arith)) (λ s. let a = (own_tells_of c heap homes n v k).passed s in omega arith)))
       where
         only_more : 0 < lends b.page v.own
         only_more = let have = has_times b.page v.own.sweeping sweeping in let s = only (not (is_claimed b.page v.own.claimed)) (times b.page v.own.held) in omega arith
@@ -178,7 +178,7 @@ module _ (c : CoreState) (heap : PageHeap) (homes : List (Option Body)) (n : ℕ
         (λ y. absurd (not_waiting c heap homes n v k _ (inl (word_here c heap homes n v k p g low)) y))
         (λ i a m. let z : 0 < times i no_life.allocated = subst (λ (l : LifeState). 0 < times i l.allocated) was a in absurd (omega arith))
         (own_tells g c.words c.lives c.sets (set c.words p g) ls' c.sets p lead v.own h (own_tells_of c heap homes n v k)
-        (fresh_stays c heap homes n v k p g low h refl refl (has_none p v.own.cached (omega arith))) (λ q i m. inl (omega arith)) (λ s q u m. inl (omega arith)) (λ s u m. inl (omega arith)) (λ s i q m. inl m) (λ s x y m. inl (omega arith))))
+        (fresh_stays c heap homes n v k p g low h refl refl (has_none p v.own.cached (omega arith))) (λ q i m. inl (omega arith)) (λ s q u m. inl (omega arith)) (λ s u m. inl (omega arith)) (λ s i q m. inl m) (λ s x y m. inl (omega arith)) (λ s. let a = (own_tells_of c heap homes n v k).passed s in omega arith)))
 
   -- a span without objects is given back
   module _ (p pages : ℕ) (low : p < length c.words) (held : has p v.own.held ≡ true) (free : v.own.claimed ≡ None) (empty : length (life_in p c.lives).allocated ≡ 0) (size : (life_in p c.lives).pages ≡ pages) (cycle : ℕ) (heap' : PageHeap)
@@ -226,7 +226,7 @@ module _ (c : CoreState) (heap : PageHeap) (homes : List (Option Body)) (n : ℕ
         (λ y. let w = word_here c heap homes n v k p 0 low in let f = four c heap homes n v k in absurd (zero_waits (get_or (set c.words p 0) p 0) w y))
         (λ i a m. let z = nothing (life_in p c.lives).allocated empty i in absurd (omega arith))
         (own_tells g c.words c.lives c.sets (set c.words p 0) ls' c.sets p lead v.own h (own_tells_of c heap homes n v k)
-        (fresh_stays c heap homes n v k p 0 low h refl refl (has_none p v.own.cached (omega arith))) (λ q i m. inl (omega arith)) (λ s q u m. inl (omega arith)) (λ s u m. inl (omega arith)) (λ s i q m. inl m) (λ s x y m. inl (omega arith))))
+        (fresh_stays c heap homes n v k p 0 low h refl refl (has_none p v.own.cached (omega arith))) (λ q i m. inl (omega arith)) (λ s q u m. inl (omega arith)) (λ s u m. inl (omega arith)) (λ s i q m. inl m) (λ s x y m. inl (omega arith)) (λ s. let a = (own_tells_of c heap homes n v k).passed s in omega arith)))
       where
         only_none : (b : Bool) → only b 0 ≡ 0
         only_none true = refl

@@ -345,5 +345,6 @@ module _ (c : CoreState) (heap : PageHeap) (homes : List (Option Body)) (n : ℕ
           filled = λ s u. filled_after s u;
           waits = λ s p u l w. absurd (omega arith);
           grown = λ s x y l. absurd (omega arith);
+          passed = λ k. omega arith;
         }));
   })

@@ -11,7 +11,7 @@ use Rattle.sweep_laws.specs.State.{LifeState, SetState}
 use Rattle.sweep_laws.proofs.Naming.{at_set}
 use Rattle.span_laws.specs.declared.view.Part.{Part}
 use Rattle.span_laws.specs.Logs.{is_look, is_placing_at}
-use Rattle.worker_log.specs.Logs.{many, is_pop_of, is_seen_empty}
+use Rattle.worker_log.specs.Logs.{many, is_pop, is_pop_of, is_seen_empty}
 use Rattle.span_laws.specs.Tells.{IsFilled, IsPlaced, Tells}
 use Rattle.span_laws.specs.Views.{has_cell}
 use Rattle.span_laws.proofs.Parts.{has3, has_none}
@@ -48,6 +48,7 @@ module _ (g : ℕ) (ws : List ℕ) (ls : List LifeState) (ss : List SetState) (w
     read = λ k i q r. lead.cells k i q (t.read k i q r);
     filled = λ k u. lead.filled k u (t.filled k u);
     grown = λ k x y m. further k x y (t.grown k x y m);
+    passed = λ k. let a = t.passed k in let b = (lead.grow k).0 in omega arith;
   }
 
   -- the part that changes
@@ -56,7 +57,8 @@ module _ (g : ℕ) (ws : List ℕ) (ls : List LifeState) (ss : List SetState) (w
       (pops : (k q : ℕ) → is_swept_set g k ≡ false → 0 < many (is_pop_of k q) h'.log → (0 < many (is_pop_of k q) h.log) ⊎ (get_or ws' q 0 + 2 ≡ g → (life_in q ls').class ≡ class_of_set k))
       (seen : (k : ℕ) → is_swept_set g k ≡ false → 0 < many (is_seen_empty k) h'.log → (0 < many (is_seen_empty k) h.log) ⊎ ((get_or ss' k no_set).head ≡ (get_or ss' k no_set).tail))
       (read : (k i q : ℕ) → has_cell k i q h'.read ≡ true → (has_cell k i q h.read ≡ true) ⊎ (cell_of (get_or ss' k no_set) i ≡ q + 1))
-      (look : (k x y : ℕ) → 0 < many (is_look k x y) h'.log → (0 < many (is_look k x y) h.log) ⊎ ((x ≤ (get_or ss' k no_set).head) × (y ≤ (get_or ss' k no_set).tail))) where
+      (look : (k x y : ℕ) → 0 < many (is_look k x y) h'.log → (0 < many (is_look k x y) h.log) ⊎ ((x ≤ (get_or ss' k no_set).head) × (y ≤ (get_or ss' k no_set).tail)))
+      (pop : (k : ℕ) → many (is_pop k) h'.log ≤ (get_or ss' k no_set).head) where
     pub own_tells : Tells g ws' ls' ss' h'
     own_tells = record {
       fresh = fresh;
@@ -66,6 +68,7 @@ module _ (g : ℕ) (ws : List ℕ) (ls : List LifeState) (ss : List SetState) (w
       read = λ k i q r. ⊎_elim (λ (a : has_cell k i q h.read ≡ true). lead.cells k i q (t.read k i q a)) (λ (a : cell_of (get_or ss' k no_set) i ≡ q + 1). a) (read k i q r);
       filled = λ k u. lead.filled k u (t.filled k u);
       grown = λ k x y m. ⊎_elim (λ (a : 0 < many (is_look k x y) h.log). further k x y (t.grown k x y a)) (λ (a : (x ≤ (get_or ss' k no_set).head) × (y ≤ (get_or ss' k no_set).tail)). a) (look k x y m);
+      passed = pop;
     }
 
   -- so all parts

@@ -30,7 +30,7 @@ use Rattle.swept_set_laws.proofs.EnteredKept.{claim_room, queued_by}
 use Rattle.worker_log.specs.declared.Entry.{Entry}
 use Rattle.worker_log.specs.declared.Entry.TheVariants.{Looked, LookedEmptyCell, Popped, Pushed, Swept, Took, Missed, Gave, Allocated, Found, Read, Added}
 use Rattle.worker_log.specs.Logs.{is_full_set, is_placing_in, is_pop_of, many}
-use Rattle.span_laws.specs.Asks.{HasBody, HasMarked, IsUntouched, MayPlace}
+use Rattle.span_laws.specs.Asks.{HasBody, HasMarked, IsApart, IsUntouched, MayPlace, mine}
 use Rattle.span_laws.specs.Answers.{IsAhead, IsOfSet}
 use Rattle.span_laws.specs.Bodies.{Fits, IsAway, IsHome, lends}
 use Rattle.span_laws.specs.Logs.{is_look, is_placing_at}
@@ -40,7 +40,7 @@ use Rattle.span_laws.specs.declared.view.Part.{Part}
 use Rattle.span_laws.specs.declared.view.View.{View}
 use Rattle.span_laws.proofs.Lives.{full_life, least_free, marks_has}
 use Rattle.span_laws.proofs.LifeMoves.{begin_at}
-use Rattle.span_laws.proofs.Parts.{has3, lends-le, nobodys}
+use Rattle.span_laws.proofs.Parts.{has3, has_none, lends-le, nobodys}
 use Rattle.span_laws.proofs.Ready.{all_in, class_found, class_is, first_in, free_in, has_room, is_full, life_found, some_in}
 use Rattle.span_laws.proofs.RuleKept.{low_number, log_own, own_at, own_hand, own_never, part_at}
 use Rattle.span_laws.proofs.WordMoves.{cached_lent, four, held_lent, kept, lent_now}
@@ -89,6 +89,7 @@ module _ (c : CoreState) (heap : PageHeap) (homes : List (Option Body)) (n : ℕ
   ahead j head tail low e f = record {
     order = (let o = k.owned.sets.order j (set_of c j) (at_low c.sets j no_set (let x = k.sets in omega arith)) in omega arith);
     grown = λ h t m. let g = (k.tells n v.own (part_at c heap homes n v k)).grown j h t m in let a = g.0 in let b = g.1 in (omega arith, omega arith);
+    passed = let g = (k.tells n v.own (part_at c heap homes n v k)).passed j in omega arith;
   }
 
   -- a cell of an unswept set is filled below a tail that was seen
@@ -292,3 +293,7 @@ module _ (c : CoreState) (heap : PageHeap) (homes : List (Option Body)) (n : ℕ
             (λ x. let w = held_word b x.0 x.1 lent in let e : (has b.page v.own.held && (eqb (get_or c.words b.page 0) c.generation && eqb (life_in b.page c.lives).count 1)) ≡ true = rw (x.0, eq-eqb _ _ w, eq-eqb _ _ (sym place_fits.body.count ∙ x.2)) refl in
             ap (λ (y : Bool). (has b.page v.own.cached && eqb (get_or c.words b.page 0) (c.generation + 3)) || y) e ∙ or_right (has b.page v.own.cached && eqb (get_or c.words b.page 0) (c.generation + 3)))
             may
+
+-- a part that has nothing of a page neither sweeps nor holds it, nor has it cached
+pub apart_of : (h : Part) (p : ℕ) → mine p h ≡ 0 → IsApart h p
+apart_of h p z = record { sweeping = has_none p h.sweeping (omega arith); held = has_none p h.held (omega arith); cached = has_none p h.cached (omega arith) }

@@ -12,7 +12,7 @@ use Rattle.sweep_laws.specs.Counts.{times}
 use Rattle.sweep_laws.specs.declared.moves.Claimed.{Claimed}
 use Rattle.sweep_laws.specs.Lists.{erase, has}
 use Rattle.sweep_laws.specs.Named.{only}
-use Rattle.sweep_laws.specs.Needs.{hand_of, life_in}
+use Rattle.sweep_laws.specs.Needs.{hand_of, life_in, no_set}
 use Rattle.sweep_laws.specs.Owned.{Owned}
 use Rattle.sweep_laws.specs.Standing.{tally, Kept}
 use Rattle.sweep_laws.specs.State.{CoreState, HandState, LifeState}
@@ -25,7 +25,7 @@ use Rattle.swept_set_laws.specs.Entered.{Entered, IsSettled}
 use Rattle.swept_set_laws.proofs.EnteredKept.{turned_enters}
 use Rattle.swept_set_laws.proofs.Stays.{Stays, word_stays}
 use Rattle.worker_log.specs.declared.Entry.{Entry}
-use Rattle.worker_log.specs.Logs.{many, is_pop_of, is_seen_empty}
+use Rattle.worker_log.specs.Logs.{many, is_pop, is_pop_of, is_seen_empty}
 use Rattle.span_laws.specs.declared.said.Said.TheVariants.{Caches, Uncaches, UncachesStale}
 use Rattle.span_laws.specs.declared.said.SaidOf.TheVariants.{Acquires}
 use Rattle.span_laws.specs.declared.view.Cell.{Cell}
@@ -143,7 +143,7 @@ module _ (c : CoreState) (heap : PageHeap) (homes : List (Option Body)) (n : ℕ
         (λ q d. let s = times_end_else q p v.own.sweeping d in omega arith) (λ q d. span_else (span_of b) v.own.spans q d)
         (λ l. (span_of b, span_here (span_of b) v.own.spans, fits)) (λ g. inl (omega arith)) (λ x. k.marks.kept p low (inl w)) (λ i x y. x)
         (own_tells c.generation c.words c.lives c.sets (set c.words p (c.generation - 1)) c.lives c.sets p (word_leads p (c.generation - 1) low (λ y. omega arith) (λ i m. absurd (unsettled _ (inl w) m.1))) v.own h own_tells_of
-        (fresh_stays p (c.generation - 1) low h refl refl (has_none p v.own.cached (omega arith))) (λ q i m. inl m) (λ s q u m. inl m) (λ s u m. inl m) (λ s i q m. inl m) (λ s x y m. inl m)))
+        (fresh_stays p (c.generation - 1) low h refl refl (has_none p v.own.cached (omega arith))) (λ q i m. inl m) (λ s q u m. inl m) (λ s u m. inl m) (λ s i q m. inl m) (λ s x y m. inl m) own_tells_of.passed))
 
   -- the body that the own part has is that of its life
   pub lent_now : (p : ℕ) → 0 < lends p v.own → IsLent heap.past c.lives v.own p
@@ -171,7 +171,8 @@ module _ (c : CoreState) (heap : PageHeap) (homes : List (Option Body)) (n : ℕ
         (λ y. k.marks.kept p low (waits (subst (IsWaiting c.generation) (word_here p x low) y))) (λ i a b. a)
         (own_tells c.generation c.words c.lives c.sets (set c.words p x) c.lives c.sets p lead v.own h own_tells_of fresh
         (λ q i m. inl (subst (λ (y : List Entry). 0 < many (is_placing_at q i) y) log m)) (λ s q u m. inl (subst (λ (y : List Entry). 0 < many (is_pop_of s q) y) log m)) (λ s u m. inl (subst (λ (y : List Entry). 0 < many (is_seen_empty s) y) log m))
-        (λ s i q m. inl (subst (λ (y : List Cell). has_cell s i q y ≡ true) read m)) (λ s x z m. inl (subst (λ (y : List Entry). 0 < many (is_look s x z) y) log m))))
+        (λ s i q m. inl (subst (λ (y : List Cell). has_cell s i q y ≡ true) read m)) (λ s x z m. inl (subst (λ (y : List Entry). 0 < many (is_look s x z) y) log m))
+        (λ s. subst (λ (y : List Entry). many (is_pop s) y ≤ (get_or c.sets s no_set).head) (sym log) (own_tells_of.passed s))))
 
   -- a page that is held and not claimed for is lent
   pub held_lent : (p : ℕ) → has p v.own.held ≡ true → v.own.claimed ≡ None → 0 < lends p v.own

@@ -1,5 +1,5 @@
 -- The cycle under way, as a view has it, and what is so of it as it ends.
-use Rattle.std.specs.Prelude.{◌≡◌, ◌≢◌, ℕ, ◌<◌, Bool, true, false, List, [], ◌++◌, length, Option, Some, None}
+use Rattle.std.specs.Prelude.{◌≡◌, ◌≢◌, ℕ, Bool, true, false, List, [], ◌++◌, Option, Some, None}
 use Rattle.page_alloc.specs.Heap.{PageHeap}
 use Rattle.page_alloc.specs.Journal.{IsBy, Life, open_lives}
 use Rattle.page_alloc.specs.Lists.{AllApart, In, IsNumber}

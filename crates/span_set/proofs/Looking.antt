@@ -1,10 +1,10 @@
 -- A pop looks until it is done: what each look and each lost try leave.
-use Rattle.std.proofs.Common.{◌≡◌, ◌≢◌, ℕ, suc, ◌+◌, ◌^◌, ◌<◌, ◌⊎◌, ⊎_elim, true, eq-eqb, List, [], ◌∷◌, ◌++◌, refl, ap, sym, subst, ◌∙◌, arith}
+use Rattle.std.proofs.Common.{◌≡◌, ◌≢◌, ℕ, suc, ◌+◌, ◌^◌, ◌<◌, ◌≤◌, ◌⊎◌, ⊎_elim, true, eq-eqb, List, [], ◌∷◌, ◌++◌, refl, ap, sym, subst, ◌∙◌, arith}
 use Rattle.std.specs.Prelude.{Ok, Err}
 use Rattle.std.specs.List.{AllByRecursion}
 use Rattle.worker_log.specs.declared.Entry.{Entry}
 use Rattle.worker_log.specs.declared.Entry.TheVariants.{Looked, Read}
-use Rattle.worker_log.specs.Logs.{is_pop_of, many}
+use Rattle.worker_log.specs.Logs.{is_pop, is_pop_of, many}
 use Rattle.worker_log.proofs.Logs.{many-append}
 use Rattle.span_state.specs.declared.body.Body.{Body}
 use Rattle.span_laws.specs.declared.said.Said.TheVariants.{Looks, LooksCell, PopsEntry, Reads}
@@ -26,8 +26,8 @@ pub cell_seen : (set index page : ℕ) (cells : List Cell) → has_cell set inde
 cell_seen set index page cells = rw (eq-eqb set set refl, eq-eqb index index refl, eq-eqb page page refl) refl
 
 module _ (set head tail : ℕ) (old now : Seen) where
-  pub first_look : now ≡ after_said (Looks set head tail) (after_said (Reads 1 old.view.generation) old) → LooksLast set head tail old now
-  first_look e = record { said = []; cells = []; looks = tt; view = e }
+  pub first_look : now ≡ after_said (Looks set head tail) (after_said (Reads 1 old.view.generation) old) → many (is_pop set) old.view.own.log ≤ head → LooksLast set head tail old now
+  first_look e passed = record { said = []; cells = []; looks = tt; view = e; passed = passed }
 
   module _ (l : LooksLast set head tail old now) where
     pub still_here : old.here ≡ true → now.here ≡ true
@@ -67,12 +67,17 @@ module _ (set head tail : ℕ) (old now : Seen) where
     all_tries new (Empty h u) t = (t.0 ∙ t.2 ∙ sym t.1, subst (λ (z : ℕ × ℕ × Seen). LooksLast set z.0 z.1 old z.2) (λ i. (sym t.0 i, sym t.1 i, sym t.3 i)) l)
     all_tries new (NotYet h) t = (tail, now, subst (λ (z : ℕ). LooksLast set z tail old now) (sym t.0) l, subst (λ (z : ℕ). z < tail) (sym t.0) t.1, t.2 ∙ ap (λ (z : ℕ). after_said (LooksCell set z 0) now) (sym t.0))
 
+    pops_before : many (is_pop set) old.view.own.log ≤ many (is_pop set) now.view.own.log
+    pops_before = subst (λ (w : Seen). many (is_pop set) old.view.own.log ≤ many (is_pop set) w.view.own.log) (sym l.view)
+        (let a = many-append (is_pop set) l.said (Rattle.worker_log.specs.declared.Entry.TheVariants.Read 1 old.view.generation ∷ old.view.own.log) in omega arith)
+
     pub again : (new : Seen) (found : ℕ × ℕ) → LosesTry set head tail now new found → LooksLast set found.0 found.1 old new
     again new found t = record {
       said = Looked set head tail ∷ l.said;
       cells = record { set = set; index = head; page = t.cell } ∷ l.cells;
       looks = (refl, l.looks);
       view = t.view ∙ ap (λ (w : Seen). after_said (Looks set found.0 found.1) (after_said (LooksCell set head (suc t.cell)) w)) l.view;
+      passed = (let a = pops_before in let b = t.passed in omega arith);
     }
 
 -- a cell was read at the head, and then the exchange made
@@ -96,6 +101,7 @@ module _ (set head tail cell page : ℕ) (old mid new : Seen) (look : mid ≡ af
     view = view ∙ ap (after_said (Looks set found.0 found.1)) read_page;
     order = ahead.order;
     low = low;
+    passed = subst (λ (w : Seen). many (is_pop set) w.view.own.log ≤ found.0) read_page ahead.passed;
     rose = (let g = ahead.grown head tail (subst (λ (w : Seen). 0 < many (is_look set head tail) w.view.own.log) (sym read_page) seen) in let a = g.0 in let b = g.1 in
         ⊎_elim (λ (d : found.0 ≢ head). let z : head + tail < found.0 + found.1 = omega arith in z) (λ (d : found.1 ≢ tail). omega arith) other);
   }
@@ -105,7 +111,7 @@ module _ (set head tail cell page : ℕ) (old mid new : Seen) (look : mid ≡ af
 
   pub popped : (page' : ℕ) → page' ≡ page → RaisesUnswept set head tail page mid new (Ok tt) → TriesUnswept set head tail old new (Ok (Popped page'))
   popped page' e r = subst (λ (x : ℕ). TriesUnswept set head tail old new (Ok (Popped x))) (sym e)
-      (less, r.1 ∙ ap (after_said (PopsEntry set page)) read_page, subst (λ (w : Seen). page < w.view.region) read_page r.0)
+      (less, r.1 ∙ ap (after_said (PopsEntry set page)) read_page, subst (λ (w : Seen). page < w.view.region) read_page r.0, low)
 
   pub lost_unswept : (found : ℕ × ℕ) → 0 < many (is_look set head tail) old.view.own.log → RaisesUnswept set head tail page mid new (Err found) → TriesUnswept set head tail old new (Err found)
   lost_unswept found seen r = lost found seen r.0 r.1 r.2
