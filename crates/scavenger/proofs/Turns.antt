@@ -43,11 +43,17 @@ next-turn past runs old new step run legal told is made =
     let N : Option Run → Type 0 = λ o. new ≡ knows (past_scavenged (cycle_at old.view.generation) made.0 o) old in
     let here : made.0 ≡ behind old past runs = made.2 (behind old past runs) refl in
     let line : Line = Scav (cycle_at old.view.generation) run.page run.pages in
-    inr (past, run ∷ runs, record {
+    inr (
+      past,
+      run ∷ runs,
+      record {
         told = told;
         legal = (let P : List Line → Type 0 = λ l. Legal old.view.region old.view.goal (line ∷ l) in subst P here (subst L is made.1));
         view = subst N is made.4 ∙ ap (λ (l : List Line). knows (line ∷ l) old) here;
-      }, omega arith, (subst R is made.3).1 ∙ ap (λ (l : List Line). backed old.view.region (line ∷ l)) here)
+      },
+      omega arith,
+      (subst R is made.3).1 ∙ ap (λ (l : List Line). backed old.view.region (line ∷ l)) here,
+    )
 
 pub turns : (n count : ℕ) (old mid new : Seen) (step : Step) (run : Run) → Turned n old mid count → step.run ≡ Some run → StepsOnce mid new (Ok step) → Turned (n + 1) old new step.backed
 turns n count old mid new step run turned is made =
@@ -74,7 +80,7 @@ last-turn past runs old new step reason few why told legal released view =
     stops : (region goal : ℕ) (past : List Line) (b n : ℕ) (reason : Reason) → n < region → IsReason b goal reason → b ≡ backed region past
         → (b ≤ goal) ⊎ ((p : ℕ) → p < region → ¬ IsLoose past p) → StopsFor region goal past n reason
     stops region goal past b n AtGoal few why is cause = (rw (← is) why, few)
-    stops region goal past b n NoCandidate few why is cause = (rw (← is) why, elim cause [ | inl at_goal ↦ absurd (omega arith) | inr none ↦ none ], few)
+    stops region goal past b n NoCandidate few why is cause = (rw (← is) why, elim cause [ inl at_goal ↦ absurd (omega arith) | inr none ↦ none ], few)
     stops region goal past b n TurnsSpent few why is cause = absurd why
 
 pub stopped : (n count : ℕ) (old mid new : Seen) (step : Step) (reason : Reason) → Turned n old mid count → n < old.view.region → step.run ≡ None → StepsOnce mid new (Ok step)

@@ -1,6 +1,7 @@
 -- What a call of the scavenger did, by its answer.
-use Rattle.std.specs.Prelude.{◌≡◌, ◌⊎◌, ℕ, ◌<◌, ◌≤◌, List, [], ◌∷◌, ◌++◌, length, Result, Ok, Err}
+use Rattle.std.specs.Prelude.{◌≡◌, ◌⊎◌, ℕ, ◌<◌, ◌≤◌, List, [], ◌∷◌, ◌++◌, length, Some, Result, Ok, Err}
 use Rattle.fallible_list.specs.declared.list.NoMemory.{NoMemory}
+use Rattle.cycle_history.specs.Sound.{IsScavenged}
 use Rattle.page_alloc.specs.Journal.{IsLoose, Legal, backed}
 use Rattle.page_bitmap.specs.declared.line.Line.{Line}
 use Rattle.page_bitmap.specs.declared.line.Line.TheVariants.{Scav}
@@ -45,3 +46,7 @@ abbrev pub Scavenges : Seen → Seen → Result Stopped NoMemory → Type 0
 Scavenges old new (Ok stopped) = (past : List Line) × (runs : List Run) × Releases past runs old new
     × (stopped.backed ≡ backed old.view.region (behind old past runs)) × StopsFor old.view.region old.view.goal (behind old past runs) (length runs) stopped.reason
 Scavenges old new (Err none) = (new ≡ old) ⊎ ((past : List Line) × (runs : List Run) × Releases past runs old new × (length runs < old.view.region))
+
+-- the worker knows the whole journal, behind which backed pages are at most the goal or no free page is backed
+abbrev pub EndsScavenged : Seen → Type 0
+EndsScavenged w = (past : List Line) × (w.view.own.journal ≡ Some past) × IsScavenged w.view.region w.view.goal past

@@ -7,3 +7,5 @@ mod scavenge;
 
 pub use scavenge::{Reason, Stopped, scavenge_to};
 
+#[cfg(test)]
+mod tests;

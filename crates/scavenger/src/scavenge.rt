@@ -1,5 +1,5 @@
-ghost use Rattle.std.specs.Prelude.{◌≡◌, true};
-ghost use Rattle.scavenger.specs.Scavenges.{IsReason, Scavenges};
+ghost use Rattle.std.specs.Prelude.{◌≡◌, IfOk, true};
+ghost use Rattle.scavenger.specs.Scavenges.{EndsScavenged, IsReason, Scavenges};
 
 use fallible_list::NoMemory;
 use span_table::{Shared, Worker};
@@ -41,11 +41,13 @@ fn reason_of(backed: u32, goal: u32) -> Reason
 pub fn scavenge_to(shared: &Shared, w: &mut Worker) -> Result<Stopped, NoMemory>
     requires here { w.old.here ≡ true }
     requires table { w.old.table ≡ shared.now }
-    ensures { Scavenges w.old w.new result }
+    ensures steps { Scavenges w.old w.new result }
+    ensures scavenged { IfOk result (λ _. EndsScavenged w.new) }
 {
     let goal = shared.goal(w);
+    let region = shared.region(w);
     let mut backed = 0;
-    for _turn in 0..shared.region(w) {
+    for _turn in 0..region {
         let step = shared.scavenge_step(w)?;
         backed = step.backed;
         if step.run.is_none() {
