@@ -1,11 +1,11 @@
 #!/usr/bin/env bash
 # Microseconds, of processor time, that it takes to release a whole region of 128 chunks in scavenging steps of 64 pages, which
 # are 1024, and nanoseconds of one step; with those of a take and a give of all its pages. All are measured in this one run. Each
-# figure is the least of five; what the takes and gives cost is taken off the release. CALLS (default 1000) is the number of rounds.
+# figure is the least of five; what the takes and gives cost is taken off the release. CALLS (default 3000) is the number of rounds.
 set -euo pipefail
 cd "$(dirname "$0")/../crates/bench"
 rt run <stdin >/dev/null 2>&1
-calls=${CALLS:-1000}
+calls=${CALLS:-3000}
 TIMEFORMAT=%U
 
 # seconds WORDS..: the least processor time of five runs.
