@@ -2,11 +2,13 @@
 //! until this percentage of the pages is taken, and then give a random span back and take one in turn, so many
 //! calls in all. `finds PERCENT CALLS` does so a hundred thousand times, and then looks for runs of mixed sizes. `last CALLS`
 //! takes all pages but the last one, and then looks for one page so many times; `ends CALLS` takes that page and gives it
-//! back in turn. The word `before` in front does the same with the search that stood before the levels of sums. The sum of
-//! the pages that were answered is answered.
+//! back in turn. `refills CALLS` takes all pages and gives them back so many times, and `releases CALLS` releases them each time
+//! besides, run by run (`bench/scavenge.sh`). The word `before` in front does the same with the search that stood before the levels of sums. The sum of
+//! the pages that were answered is answered, or the number of runs that were released.
 
 mod before;
 mod churn;
+mod release;
 mod steps;
 
 use crate::stop::Stop;
@@ -20,6 +22,26 @@ enum Work {
     Finds { percent: u32 },
     Last,
     Ends,
+}
+
+/// Rounds of a take and a give of all pages, each with their release or without.
+#[derive(Clone, Copy)]
+struct Rounds {
+    releases: bool,
+    calls: u64,
+}
+
+fn rounds_of(words: &[String]) -> Option<Rounds> {
+    let [name, calls] = words else {
+        return None;
+    };
+    let releases = match name.as_str() {
+        "refills" => false,
+        "releases" => true,
+        _ => return None,
+    };
+    let calls = calls.as_str().parse::<u64>().ok()?;
+    Some(Rounds { releases, calls })
 }
 
 fn work_of(words: &[String]) -> Option<(Work, u64)> {
@@ -74,6 +96,9 @@ pub fn few(alloc: Global) -> Result<u64, NoMemory> {
 }
 
 pub fn asked(alloc: Global, words: &[String]) -> Result<u64, Stop> {
+    if let Some(Rounds { releases, calls }) = rounds_of(words) {
+        return Ok(release::rounds(alloc, calls, releases)?);
+    }
     match words {
         [first, rest @ ..] if first.as_str() == "before" => {
             let (work, calls) = work_of(rest).ok_or(Stop::Words)?;

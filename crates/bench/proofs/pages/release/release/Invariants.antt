@@ -1,0 +1,6 @@
+use Rattle.std.proofs.Common.{◌≡◌}
+use Rattle.page_alloc.specs.Journal.{IsBy}
+use Rattle.bench.proofs.pages.release.release.Given as goal
+
+abbrev pub invariant-loop-run : goal.invariant-loop-run
+invariant-loop-run l = IsBy 0 l.pages.past × (l.pages.region ≡ l.fn.pages.region)

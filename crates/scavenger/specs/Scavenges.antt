@@ -1,0 +1,52 @@
+-- What a call of the scavenger did, by its answer.
+use Rattle.std.specs.Prelude.{◌≡◌, ◌⊎◌, ℕ, ◌<◌, ◌≤◌, List, [], ◌∷◌, ◌++◌, length, Some, Result, Ok, Err}
+use Rattle.fallible_list.specs.declared.list.NoMemory.{NoMemory}
+use Rattle.cycle_history.specs.Sound.{IsScavenged}
+use Rattle.page_alloc.specs.Journal.{IsLoose, Legal, backed}
+use Rattle.page_bitmap.specs.declared.line.Line.{Line}
+use Rattle.page_bitmap.specs.declared.line.Line.TheVariants.{Scav}
+use Rattle.page_bitmap.specs.declared.line.Run.{Run}
+use Rattle.span_laws.specs.Answers.{IsToldOf, cycle_at}
+use Rattle.span_laws.specs.Views.{Seen, knows}
+use Rattle.scavenger.specs.declared.scavenge.Reason.{Reason}
+use Rattle.scavenger.specs.declared.scavenge.Reason.TheVariants.{AtGoal, NoCandidate, TurnsSpent}
+use Rattle.scavenger.specs.declared.scavenge.Stopped.{Stopped}
+
+-- the lines of runs that were released in cycle c, the newest first
+abbrev pub scav_lines : ℕ → List Run → List Line
+scav_lines c [] = []
+scav_lines c (run ∷ runs) = Scav c run.page run.pages ∷ scav_lines c runs
+
+-- the journal with the lines of runs that a worker released in its cycle
+abbrev pub behind : Seen → List Line → List Run → List Line
+behind w past runs = scav_lines (cycle_at w.view.generation) runs ++ past
+
+-- behind a journal, which is that of which the worker was told if nothing was written since, these runs were released, each by a
+-- line that the rules let stand; the worker knows the whole journal then, and nothing else changed
+pub record Releases (past : List Line) (runs : List Run) (old new : Seen) : Type 0 where
+  pub told : IsToldOf old.view.own past
+  pub legal : Legal old.view.region old.view.goal (behind old past runs)
+  pub view : new ≡ knows (behind old past runs) old
+
+-- why no further step was made behind a journal, after n runs: backed pages were at most the goal; or more were, and no free page was
+-- backed; or as many runs were released as the region has pages
+abbrev pub StopsFor : ℕ → ℕ → List Line → ℕ → Reason → Type 0
+StopsFor region goal past n AtGoal = (backed region past ≤ goal) × (n < region)
+StopsFor region goal past n NoCandidate = (goal < backed region past) × ((p : ℕ) → p < region → ¬ IsLoose past p) × (n < region)
+StopsFor region goal past n TurnsSpent = n ≡ region
+
+-- the reason of a step that released nothing, with so many backed pages
+abbrev pub IsReason : ℕ → ℕ → Reason → Type 0
+IsReason n goal AtGoal = n ≤ goal
+IsReason n goal NoCandidate = goal < n
+IsReason n goal TurnsSpent = ⊥
+
+-- it released runs and stopped for its reason, with so many backed pages; or memory ran out, at its first step or behind some runs
+abbrev pub Scavenges : Seen → Seen → Result Stopped NoMemory → Type 0
+Scavenges old new (Ok stopped) = (past : List Line) × (runs : List Run) × Releases past runs old new
+    × (stopped.backed ≡ backed old.view.region (behind old past runs)) × StopsFor old.view.region old.view.goal (behind old past runs) (length runs) stopped.reason
+Scavenges old new (Err none) = (new ≡ old) ⊎ ((past : List Line) × (runs : List Run) × Releases past runs old new × (length runs < old.view.region))
+
+-- the worker knows the whole journal, behind which backed pages are at most the goal or no free page is backed
+abbrev pub EndsScavenged : Seen → Type 0
+EndsScavenged w = (past : List Line) × (w.view.own.journal ≡ Some past) × IsScavenged w.view.region w.view.goal past

@@ -1,0 +1,104 @@
+//! Where scavenging stops, over one chunk.
+
+ghost use Rattle.std.specs.Prelude.{◌≡◌, true, IfOk};
+ghost use Rattle.page_alloc.specs.Journal.{IsBy};
+
+use super::*;
+use page_alloc::Pages;
+use page_bitmap::Run;
+use span_table::{Shared, Worker};
+use std::alloc::Global;
+use std::test::Fail;
+
+/// A region of one chunk with its driver.
+fn fresh(alloc: Global, goal: u32) -> Result<(Shared, Worker), Fail>
+    ensures here { IfOk result (λ made. made.1.here ≡ true) }
+    ensures table { IfOk result (λ made. made.1.table ≡ made.0) }
+{
+    Ok(Shared::new(alloc, 1, goal)?)
+}
+
+/// Takes a span of so many pages, from 5 on.
+fn take(shared: &Shared, w: &mut Worker, pages: u32) -> Result<(), Fail>
+    requires here { w.old.here ≡ true }
+    requires table { w.old.table ≡ shared.now }
+    ensures here { w.new.here ≡ true }
+    ensures table { w.new.table ≡ shared.now }
+{
+    if pages < 5 {
+        return Err("no span is that small".into());
+    }
+    match shared.take_span(w, pages, 1) {
+        Ok(_) => Ok(()),
+        Err(_) => Err("no run is free".into()),
+    }
+}
+
+// The goal, the pages of the only span, which stay backed, and why the scavenger stops.
+const TAKEN: [(u32, u32, Reason); 5] = [
+    (0, 5, Reason::NoCandidate),
+    (4, 5, Reason::NoCandidate),
+    (5, 5, Reason::AtGoal),
+    (511, 512, Reason::NoCandidate),
+    (512, 512, Reason::AtGoal),
+];
+
+#[test]
+fn taken_pages_stay_backed(rt: HostRuntime) -> Result<(), Fail> {
+    for (goal, pages, reason) in TAKEN {
+        let (shared, mut driver) = fresh(rt.alloc(), goal)?;
+        take(&shared, &mut driver, pages)?;
+        let stopped = scavenge_to(&shared, &mut driver)?;
+        let answer = Stopped {
+            backed: pages,
+            reason,
+        };
+        assert_eq!(rt; stopped, answer, "goal {goal}, {pages} pages");
+    }
+    Ok(())
+}
+
+/// Pages 0 to 127 of one chunk, taken and given back.
+fn freed(alloc: Global, goal: u32) -> Result<Pages, Fail>
+    ensures { IfOk result (λ pages. IsBy 0 pages.past) }
+{
+    let mut pages = Pages::new(alloc, 1, goal)?;
+    pages.reserve_line()?;
+    let Ok(page) = pages.take(0, 128, 1) else {
+        return Err("no run is free".into());
+    };
+    if pages.owner(page) != Some(page) {
+        return Err("the span begins elsewhere".into());
+    }
+    pages.give(0, page);
+    Ok(pages)
+}
+
+// The goal, and the first pages of the runs of 64 pages that are released of these 128.
+const FREED: [(u32, &[u32]); 7] = [
+    (0, &[64, 0]),
+    (63, &[64, 0]),
+    (64, &[64]),
+    (100, &[64]),
+    (127, &[64]),
+    (128, &[]),
+    (512, &[]),
+];
+
+#[test]
+fn freed_pages_are_released_to_the_goal(rt: HostRuntime) -> Result<(), Fail> {
+    for (goal, firsts) in FREED {
+        let mut pages = freed(rt.alloc(), goal)?;
+        for first in firsts {
+            pages.reserve_line()?;
+            let run = Run {
+                page: *first,
+                pages: 64,
+            };
+            assert_eq!(rt; pages.scavenge(0), Some(run), "goal {goal}");
+        }
+        pages.reserve_line()?;
+        assert_eq!(rt; pages.scavenge(0), None, "goal {goal}");
+    }
+    Ok(())
+}
