@@ -1,83 +1,122 @@
+ghost use Rattle.std.specs.Prelude.{◌≡◌, ◌<◌, ◌≤◌, [], IfOk};
+ghost use Rattle.page_alloc.specs.Journal.{IsSpanSize};
+ghost use Rattle.sweeper_rows.specs.Rows.{IsReady};
+
 use fallible_list::NoMemory;
-use span_set::{Hand, SetId, Shop, push, reset};
-use span_state::{Marks, SweepNote};
+use span_set::{Hand, Shop};
+use span_state::Marks;
 use span_table::Shared;
 use std::alloc::Global;
 use std::process::Abort;
 use std::test::Fail;
-use sweeper::{One, Paid, finish, new_span, pay, reclaim, sweep_one};
+use sweeper::{One, Paid, Refused, finish, new_span, pay, reclaim, sweep_one};
 
-fn four(rt: &impl Abort, shop: &Shop, hand: &mut Hand) {
-    for _ in 0..4 {
-        let Ok(mut body) = new_span(shop, hand, 128, 1) else {
-            panic!(rt; "no span");
-        };
-        shop.shared.note_alloc(&mut hand.worker, &mut body, 0);
-        push(shop.shared, &mut hand.worker, SetId { class: 1, full: true }, body);
-    }
-    let Ok(()) = finish(shop, hand) else { panic!(rt; "memory") };
+// A region of one chunk without spans, and the driver's hand.
+fn start(alloc: Global) -> Result<(Shared, Hand), NoMemory>
+    ensures { IfOk result (λ made. IsReady made.0 made.1) }
+{
+    let (shared, driver) = Shared::new(alloc, 1, 512)?;
+    Ok((shared, Hand::new(alloc, driver)))
 }
 
-fn ready(rt: &impl Abort, alloc: Global) -> Result<(Shared, Hand, Marks), NoMemory> {
-    let (mut shared, driver) = Shared::new(alloc, 1, 512)?;
-    let mut hand = Hand::new(alloc, driver);
-    let none = Marks::empty(alloc);
-    let shop = Shop { shared: &shared, marks: &none, distance: 8192, pages: 0 };
-    four(rt, &shop, &mut hand);
-    reset(&shared, &mut hand.worker);
-    let mut marks = Marks::empty(alloc);
-    marks.add(128, 0)?;
-    marks.add(384, 0)?;
-    let pairs = marks.pairs()?;
-    shared.next_generation(&mut hand.worker, pairs);
-    Ok((shared, hand, marks))
+// No span waits.
+fn sweeps_none(rt: &impl Abort, shop: &Shop, hand: &mut Hand) -> Result<(), NoMemory>
+    requires ready { IsReady shop.now.shared.now hand.old }
+    requires marks { shop.now.marks.now.pairs ≡ [] }
+    requires distance { 8192 ≤ shop.now.distance }
+    ensures { IfOk result (λ _. IsReady shop.now.shared.now hand.new) }
+{
+    let One::NothingLeft = sweep_one(shop, hand)? else {
+        panic!(rt; "a span waits");
+    };
+    Ok(())
+}
+
+// Paying ends at once.
+fn pays_none(rt: &impl Abort, shop: &Shop, hand: &mut Hand, bytes: u64) -> Result<(), NoMemory>
+    requires ready { IsReady shop.now.shared.now hand.old }
+    requires marks { shop.now.marks.now.pairs ≡ [] }
+    requires distance { 8192 ≤ shop.now.distance }
+    ensures { IfOk result (λ _. IsReady shop.now.shared.now hand.new) }
+{
+    let Paid::Reached { seen, target } = pay(shop, hand, bytes, 0)? else {
+        panic!(rt; "nothing is left");
+    };
+    assert_eq!(rt; seen, 0);
+    assert_eq!(rt; target, 0);
+    Ok(())
+}
+
+// Nothing is given back.
+fn reclaims_none(rt: &impl Abort, shop: &Shop, hand: &mut Hand, pages: u32) -> Result<(), NoMemory>
+    requires ready { IsReady shop.now.shared.now hand.old }
+    requires marks { shop.now.marks.now.pairs ≡ [] }
+    requires distance { 8192 ≤ shop.now.distance }
+    ensures { IfOk result (λ _. IsReady shop.now.shared.now hand.new) }
+{
+    let given = reclaim(shop, hand, pages)?;
+    assert_eq!(rt; given, 0);
+    Ok(())
+}
+
+// A new span is made at this page, or refused by the journal's line of this number.
+fn makes(
+    rt: &impl Abort,
+    shop: &Shop,
+    hand: &mut Hand,
+    pages: u32,
+    class: u8,
+    want: Result<u32, u64>,
+) -> Result<(), NoMemory>
+    requires ready { IsReady shop.now.shared.now hand.old }
+    requires marks { shop.now.marks.now.pairs ≡ [] }
+    requires distance { 8192 ≤ shop.now.distance }
+    requires size { IsSpanSize class pages }
+    requires class { class < 136 }
+    ensures { IfOk result (λ _. IsReady shop.now.shared.now hand.new) }
+{
+    match new_span(shop, hand, pages, class) {
+        Ok(body) => assert_eq!(rt; Ok(body.page), want),
+        Err(Refused::NoRun { line }) => assert_eq!(rt; Err(line), want),
+        Err(Refused::NoMemory) => return Err(NoMemory),
+    }
+    Ok(())
 }
 
 #[test]
-fn four_large_spans(rt: HostRuntime) -> Result<(), Fail> {
+fn nothing_waits_in_a_new_table(rt: HostRuntime) -> Result<(), Fail> {
     let alloc = rt.alloc();
-    let (shared, mut hand, marks) = ready(&rt, alloc)?;
-    let shop = Shop { shared: &shared, marks: &marks, distance: 8192, pages: 512 };
+    let (shared, mut hand) = start(alloc)?;
+    let marks = Marks::empty(alloc);
+    let shop = Shop {
+        shared: &shared,
+        marks: &marks,
+        distance: 8192,
+        pages: 512,
+    };
+    sweeps_none(&rt, &shop, &mut hand)?;
+    // the first cycle pays nothing
+    pays_none(&rt, &shop, &mut hand, 1 << 40)?;
+    reclaims_none(&rt, &shop, &mut hand, 1)?;
     finish(&shop, &mut hand)?;
-    let want = [(0, 0, 1), (128, 1, 0), (256, 0, 1), (384, 1, 0)];
-    assert_eq!(rt; hand.notes.len(), 4);
-    for (i, (page, kept, freed)) in want.into_iter().enumerate() {
-        assert_eq!(rt; hand.notes.as_slice()[i], SweepNote { cycle: 1, page, kept, freed });
-    }
+    assert_eq!(rt; hand.notes.len(), 0);
     Ok(())
 }
 
 #[test]
-fn pays(rt: HostRuntime) -> Result<(), Fail> {
+fn spans_are_made_at_first_fit_until_none_fits(rt: HostRuntime) -> Result<(), Fail> {
     let alloc = rt.alloc();
-    for (bytes, credit, seen, target) in [(0u64, 0u32, 0u64, 0u64), (15, 0, 0, 0), (16, 0, 128, 1), (16, 1, 0, 0), (2048, 0, 128, 128), (2064, 0, 256, 129), (2064, 1, 128, 128), (8192, 0, 512, 512), (8192, 600, 0, 0)] {
-        let (shared, mut hand, marks) = ready(&rt, alloc)?;
-        let shop = Shop { shared: &shared, marks: &marks, distance: 8192, pages: 512 };
-        let paid = pay(&shop, &mut hand, bytes, credit)?;
-        assert_eq!(rt; paid, Paid::Reached { seen, target }, "{bytes} {credit}");
-    }
-    let (shared, mut hand, marks) = ready(&rt, alloc)?;
-    let shop = Shop { shared: &shared, marks: &marks, distance: 8192, pages: 512 };
-    assert_eq!(rt; pay(&shop, &mut hand, 8208, 0)?, Paid::NothingLeft);
-    assert_eq!(rt; hand.notes.len(), 4);
-    shared.add_spent(&mut hand.worker, 8192);
-    assert_eq!(rt; pay(&shop, &mut hand, 0, 0)?, Paid::Reached { seen: 512, target: 512 });
-    assert_eq!(rt; pay(&shop, &mut hand, 18446744073709551615, 0)?, Paid::NothingLeft);
-    Ok(())
-}
-
-#[test]
-fn reclaims(rt: HostRuntime) -> Result<(), Fail> {
-    let alloc = rt.alloc();
-    for (pages, given) in [(0u32, 0u32), (1, 256), (256, 256), (257, 256)] {
-        let (shared, mut hand, marks) = ready(&rt, alloc)?;
-        let shop = Shop { shared: &shared, marks: &marks, distance: 8192, pages: 512 };
-        assert_eq!(rt; reclaim(&shop, &mut hand, pages)?, given);
-        // the chunk was claimed
-        assert_eq!(rt; reclaim(&shop, &mut hand, 1)?, if pages == 0 { 256 } else { 0 });
-        assert_eq!(rt; hand.notes.len(), 2);
-        let One::Swept(note) = sweep_one(&shop, &mut hand)? else { panic!(rt; "none left") };
-        assert_eq!(rt; note.page, 128);
-    }
+    let (shared, mut hand) = start(alloc)?;
+    let marks = Marks::empty(alloc);
+    let shop = Shop {
+        shared: &shared,
+        marks: &marks,
+        distance: 8192,
+        pages: 0,
+    };
+    makes(&rt, &shop, &mut hand, 507, 0, Ok(0))?;
+    makes(&rt, &shop, &mut hand, 6, 1, Err(1))?;
+    makes(&rt, &shop, &mut hand, 5, 1, Ok(507))?;
+    makes(&rt, &shop, &mut hand, 5, 1, Err(3))?;
     Ok(())
 }
