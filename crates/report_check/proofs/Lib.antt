@@ -12,3 +12,7 @@ pub mod Seated
 pub mod Settled
 pub mod Carried
 pub mod Summed
+pub mod Rows
+pub mod Lasting
+pub mod Clearing
+pub mod Filled

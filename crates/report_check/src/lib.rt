@@ -6,15 +6,20 @@
 //! `report_rules`.
 #![tactic(auto)]
 
+mod apart;
 mod asked;
 mod check;
 mod fault;
+mod filling;
 mod items;
 mod journal;
+mod lasts;
 mod lines;
 mod lives;
 mod misses;
+mod objects;
 mod places;
+mod tops;
 mod totals;
 
 pub use check::check_first_rules;

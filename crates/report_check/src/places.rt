@@ -58,8 +58,8 @@ pub(crate) fn judge_places(
     Ok(())
 }
 
-// The spans that a mark end marks.
-fn spans_at(trace: &Trace, mark: u32) -> &[Span]
+/// The spans that a mark end marks.
+pub(crate) fn spans_at(trace: &Trace, mark: u32) -> &[Span]
     requires { mark ≤ last_cycle trace.now }
     ensures { result.now ≡ marks_at trace.now mark }
 {
