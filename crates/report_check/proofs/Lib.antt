@@ -16,3 +16,6 @@ pub mod Rows
 pub mod Lasting
 pub mod Clearing
 pub mod Filled
+pub mod Tallying
+pub mod Ledgers
+pub mod Keyed

@@ -242,7 +242,7 @@ seated-has marked past bound o life is all = (
 )
 
 -- the lives that the table has
-table-has : (region : ℕ) (past : List Line) (lives : List (Option OpenLife)) (life : Life) (n c d : ℕ) → AreLives region (at_end c past) lives → In life (open_lives (at_end d past)) → life.number ≡ n → HasNumber lives life.page n
+pub table-has : (region : ℕ) (past : List Line) (lives : List (Option OpenLife)) (life : Life) (n c d : ℕ) → AreLives region (at_end c past) lives → In life (open_lives (at_end d past)) → life.number ≡ n → HasNumber lives life.page n
     → In life (open_lives (at_end c past))
 table-has region past lives life n c d are there e has =
     let l = has.life in

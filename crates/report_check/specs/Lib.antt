@@ -9,3 +9,5 @@ pub mod Lasts
 pub mod Tops
 pub mod Known
 pub mod Filling
+pub mod Sweeping
+pub mod Keys

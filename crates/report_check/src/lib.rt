@@ -9,16 +9,21 @@
 mod apart;
 mod asked;
 mod check;
+mod cycle_lives;
 mod fault;
 mod filling;
+mod gives;
 mod items;
 mod journal;
+mod keys;
 mod lasts;
+mod ledger;
 mod lines;
 mod lives;
 mod misses;
 mod objects;
 mod places;
+mod sweeps;
 mod tops;
 mod totals;
 
