@@ -78,7 +78,7 @@ keys-same c d p q lp lq e = elim (cases_order c d) [
   | inr order ↦ elim order [ inl lt ↦ absurd (omega arith) | inr gt ↦ absurd (omega arith) ]
 ]
 
-in-get : (sweeps : List SweepNote) (note : SweepNote) → In note sweeps → (k : ℕ) × (slice_get sweeps k ≡ Some note)
+pub in-get : (sweeps : List SweepNote) (note : SweepNote) → In note sweeps → (k : ℕ) × (slice_get sweeps k ≡ Some note)
 in-get [] note i = absurd i
 in-get (x ∷ sweeps) note i = elim i [
   | inl here ↦ (0, ap Some here)

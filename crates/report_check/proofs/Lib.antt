@@ -19,3 +19,4 @@ pub mod Filled
 pub mod Tallying
 pub mod Ledgers
 pub mod Keyed
+pub mod Righting

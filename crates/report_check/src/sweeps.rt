@@ -1,6 +1,6 @@
 //! Rule 7: the sweeps of the lives that the mark ends find alive.
 
-ghost use Rattle.std.specs.Prelude.{◌≡◌, ◌≤◌, ◌<◌, ◌^◌, ℕ, false, length, slice_index_or, List as Notes, IfErr, IfOk, MatchBool, MatchOption, OnOk, Some as Just, None as Nothing};
+ghost use Rattle.std.specs.Prelude.{◌≡◌, ◌≤◌, ◌<◌, ◌^◌, ℕ, false, length, slice_index_or, List as Notes, IfErr, IfOk, IfSome, MatchBool, MatchOption, OnOk, Some as Just, None as Nothing};
 ghost use Rattle.std.specs.List.{slice_get};
 ghost use Rattle.cycle_history.specs.Orders.{IsSweepBefore};
 ghost use Rattle.cycle_history.specs.Requests.{last_cycle, marked_by};
@@ -62,7 +62,8 @@ impl Objects<'_> {
     // The first sweep that isn't right, or is out of order.
     fn first_wrong(&self, alloc: Global) -> Result<Option<usize>, NoMemory>
         requires known { AreKnown self.now.trace.now self.now.report.now self.now.items.now self.now.lasts.now }
-        ensures { IfOk result (λ place. MatchOption place (AreRightTo self.now.trace.now self.now.report.now (objects_of self.now.items.now) (length self.now.report.now.sweeps)) (IsFirstWrong self.now.trace.now self.now.report.now (objects_of self.now.items.now))) }
+        ensures few { IfOk result (λ place. IfSome place (λ place. place < 2 ^ 62)) }
+        ensures wrong { IfOk result (λ place. MatchOption place (AreRightTo self.now.trace.now self.now.report.now (objects_of self.now.items.now) (length self.now.report.now.sweeps)) (IsFirstWrong self.now.trace.now self.now.report.now (objects_of self.now.items.now))) }
     {
         let sweeps = self.report.sweeps.as_slice();
         let end = in_order(sweeps);
