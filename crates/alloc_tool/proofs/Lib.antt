@@ -16,3 +16,4 @@ pub mod OneWord
 pub mod Outcomes
 pub mod Broken
 pub mod Plain
+pub mod Checked

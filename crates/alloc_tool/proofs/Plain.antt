@@ -1,46 +1,44 @@
 -- Each way in which a call that needs no runtime ends.
-use Rattle.std.proofs.Common.{◌≡◌, ◌⊎◌, ℕ, List, Option, String, inl, inr, refl, sym, ◌∙◌, subst}
+use Rattle.std.proofs.Common.{◌≡◌, ◌≢◌, ◌⊎◌, ℕ, List, Option, String, ◌∷◌, [], codes, inl, inr, refl, sym, ◌∙◌, subst}
 use Rattle.std.specs.declared.alloc.Global.{Global}
 use Rattle.std.specs.Io.KnownBytes.{Appends}
 use Rattle.edge_io.specs.Causes.{Rose}
 use Rattle.edge_io.specs.Front.{AppendsFront}
 use Rattle.class_lines.specs.Text.{classes_text}
-use Rattle.alloc_tool.specs.Plain.{Plain}
+use Rattle.alloc_tool.specs.Checked.{Checked}
+use Rattle.alloc_tool.specs.Plain.{Listed, Plain, Unknown}
 use Rattle.alloc_tool.specs.Texts.{status_text, usage}
 use Rattle.alloc_tool.specs.Told.{Tells}
-use Rattle.alloc_tool.specs.Words.{IsClasses}
+use Rattle.alloc_tool.specs.Words.{IsCheck, IsClasses}
+
+-- one word isn't the other
+both : (words : List (String Global)) → IsClasses words → IsCheck words → ⊥
+both words is other = (let e : codes "classes" ∷ [] ≡ codes "check" ∷ [] = sym is ∙ other in cc)
 
 -- the table was written, or a write failed
-pub table_plain : {S K E : Type 0} (held : K → Option (List ℕ)) (writes : K → ℕ) (shown : E → Option (List ℕ)) (tells : E → ℕ) (words : List (String Global)) (input : S) (output output' : K) (errors errors' : E) (status : ℕ)
+pub table_plain : {S K E : Type 0} (left : S → Option (List ℕ)) (reads : S → ℕ) (held : K → Option (List ℕ)) (writes : K → ℕ) (shown : E → Option (List ℕ)) (tells : E → ℕ) (words : List (String Global)) (input : S) (output output' : K) (errors errors' : E) (status : ℕ)
     → IsClasses words → (status ≡ 0) ⊎ (status ≡ 6) → (status ≡ 0 → Appends (held output) (held output') classes_text) → (status ≡ 0 → errors' ≡ errors) → (status ≡ 6 → Rose (writes output) (writes output'))
-    → (status ≡ 6 → AppendsFront (held output) (held output') classes_text) → (status ≡ 6 → Tells shown tells errors errors' (status_text 6)) → Plain held writes shown tells words input input output output' errors errors' status
-table_plain held writes shown tells words input output output' errors errors' status is ends answered silent rose front told = record {
-  classes = λ _. ends;
-  others = λ other. absurd (other is);
-  unread = refl;
-  answered = answered;
-  silent = silent;
-  unwritten = λ two. absurd (elim ends [ inl zero ↦ clash 0 (λ e. cc) zero two | inr six ↦ clash 6 (λ e. cc) six two ]);
-  write_fault = rose;
-  partly_written = front;
-  told = λ some. elim ends [ inl zero ↦ absurd (some zero) | inr six ↦ subst (λ (k : ℕ). Tells shown tells errors errors' (status_text k)) (sym six) (told six) ];
-} where
-  clash : (k : ℕ) → (k ≡ 2 → ⊥) → status ≡ k → status ≡ 2 → ⊥
-  clash k apart e f = apart (sym e ∙ f)
+    → (status ≡ 6 → AppendsFront (held output) (held output') classes_text) → (status ≡ 6 → Tells shown tells errors errors' (status_text 6)) → Plain left reads held writes shown tells words input input output output' errors errors' status
+table_plain left reads held writes shown tells words input output output' errors errors' status is ends answered silent rose front told = record {
+  classes = λ _. record { ends = ends; unread = refl; answered = answered; silent = silent; write_fault = rose; partly_written = front; told = told };
+  check = λ other. absurd (both words is other);
+  others = λ other _. absurd (other is);
+}
+
+-- a report was judged
+pub checked_plain : {S K E : Type 0} (left : S → Option (List ℕ)) (reads : S → ℕ) (held : K → Option (List ℕ)) (writes : K → ℕ) (shown : E → Option (List ℕ)) (tells : E → ℕ) (words : List (String Global)) (input input' : S) (output output' : K) (errors errors' : E) (status : ℕ)
+    → IsCheck words → Checked left reads held writes shown tells input input' output output' errors errors' status → Plain left reads held writes shown tells words input input' output output' errors errors' status
+checked_plain left reads held writes shown tells words input input' output output' errors errors' status is checked = record {
+  classes = λ other. absurd (both words other is);
+  check = λ _. checked;
+  others = λ _ other. absurd (other is);
+}
 
 -- other words
-pub usage_plain : {S K E : Type 0} (held : K → Option (List ℕ)) (writes : K → ℕ) (shown : E → Option (List ℕ)) (tells : E → ℕ) (words : List (String Global)) (input : S) (output : K) (errors errors' : E) (status : ℕ)
-    → (IsClasses words → ⊥) → status ≡ 2 → Tells shown tells errors errors' usage → Plain held writes shown tells words input input output output errors errors' status
-usage_plain held writes shown tells words input output errors errors' status other is told = record {
+pub usage_plain : {S K E : Type 0} (left : S → Option (List ℕ)) (reads : S → ℕ) (held : K → Option (List ℕ)) (writes : K → ℕ) (shown : E → Option (List ℕ)) (tells : E → ℕ) (words : List (String Global)) (input : S) (output : K) (errors errors' : E) (status : ℕ)
+    → (IsClasses words → ⊥) → (IsCheck words → ⊥) → status ≡ 2 → Tells shown tells errors errors' usage → Plain left reads held writes shown tells words input input output output errors errors' status
+usage_plain left reads held writes shown tells words input output errors errors' status other another is told = record {
   classes = λ classes. absurd (other classes);
-  others = λ _. is;
-  unread = refl;
-  answered = λ e. absurd (clash 0 (λ f. cc) e);
-  silent = λ e. absurd (clash 0 (λ f. cc) e);
-  unwritten = λ _. refl;
-  write_fault = λ e. absurd (clash 6 (λ f. cc) e);
-  partly_written = λ e. absurd (clash 6 (λ f. cc) e);
-  told = λ _. subst (λ (k : ℕ). Tells shown tells errors errors' (status_text k)) (sym is) told;
-} where
-  clash : (k : ℕ) → (2 ≡ k → ⊥) → status ≡ k → ⊥
-  clash k apart e = apart (sym is ∙ e)
+  check = λ check. absurd (another check);
+  others = λ _ _. record { status_is = is; unread = refl; unwritten = refl; told = told };
+}

@@ -13,3 +13,7 @@ IsRun words = IsWord (codes "run") words
 -- the one word `classes`
 abbrev pub IsClasses : List (String Global) → Type 0
 IsClasses words = IsWord (codes "classes") words
+
+-- the one word `check`
+abbrev pub IsCheck : List (String Global) → Type 0
+IsCheck words = IsWord (codes "check") words

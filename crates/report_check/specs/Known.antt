@@ -5,7 +5,7 @@ use Rattle.trace_reader.specs.declared.trace.Trace.{Trace}
 use Rattle.cycle_history.specs.declared.Report.{Report}
 use Rattle.cycle_history.specs.Requests.{marked_by}
 use Rattle.cycle_history.specs.Objects.{is_placed}
-use Rattle.cycle_history.specs.Rules.{AreSeated}
+use Rattle.cycle_history.specs.Rules.{AreMissed, AreSeated}
 use Rattle.cycle_history.specs.Marked.{IsLimited}
 use Rattle.cycle_history.specs.Sound.{past_in, HasAnswers, HasJournal}
 use Rattle.report_check.specs.declared.items.Item.{Item}
@@ -45,3 +45,10 @@ AreTops items lasts n tops = (life index cycle : ℕ) → (cycle < top_at tops l
 abbrev pub AreClear : List Item → List ℕ → ℕ → Type 0
 AreClear items lasts n = (i j : ℕ) (a b : Item) → i < j → j < n → slice_get items i ≡ Some a → slice_get items j ≡ Some b → is_placed a.answer ≡ true → is_placed b.answer ≡ true
     → AreTogether a b → last_at lasts i < b.cycle
+
+-- The items are the objects of a report that meets the rules 1 to 4, in their seats.
+pub record AreSettledItems (t : Trace) (report : Report) (items : List Item) : Type 0 where
+  pub answers : HasAnswers t report (objects_of items)
+  pub journal : HasJournal t report
+  pub misses : AreMissed (past_in report) (objects_of items)
+  pub places : AreSeated (marked_by t) (past_in report) (objects_of items)
