@@ -1,5 +1,5 @@
 -- Rule 5 by seats: of two objects in one seat the first is dead when the other comes.
-use Rattle.std.proofs.Common.{◌≡◌, ◌≢◌, ℕ, suc, ◌+◌, ◌-◌, ◌*◌, ◌/◌, ◌<◌, ◌≤◌, Bool, true, false, ltb, max, List, reverse, length, Some, refl, sym, ◌∙◌, ap, subst, arith, ◌⊎◌, inl, inr, ◌↔◌}
+use Rattle.std.proofs.Common.{◌≡◌, ℕ, ◌+◌, ◌*◌, ◌/◌, ◌<◌, ◌≤◌, Bool, true, false, ltb, max, List, reverse, length, Some, refl, sym, ◌∙◌, ap, subst, arith, ◌⊎◌, inl, inr}
 use Rattle.std.specs.List.{slice_get}
 use Rattle.std.proofs.lemmas.Bool.{cases_lt, cases_eq, cases_order, le-ltb}
 use Rattle.std.proofs.lemmas.List.{length-reverse}
@@ -9,18 +9,18 @@ use Rattle.size_classes.proofs.Bounds.{slot_bounds, objects_whole, objects_bound
 use Rattle.page_bitmap.specs.declared.line.Line.{Line}
 use Rattle.page_bitmap.specs.declared.line.Line.TheVariants.{Take}
 use Rattle.page_alloc.specs.Lists.{In, IsNumber}
-use Rattle.page_alloc.specs.Journal.{Life, open_lives, at_end, Legal}
+use Rattle.page_alloc.specs.Journal.{Life, open_lives, at_end}
 use Rattle.trace_reader.specs.declared.trace.Trace.{Trace}
 use Rattle.trace_reader.specs.Limits.{EventFits, events_of}
-use Rattle.cycle_history.specs.declared.Answer.TheVariants.{Placed, Zero}
+use Rattle.cycle_history.specs.declared.Answer.TheVariants.{Zero}
 use Rattle.cycle_history.specs.declared.Report.{Report}
 use Rattle.cycle_history.specs.Needs.{Need, IsNeed}
 use Rattle.cycle_history.specs.Requests.{marked_by, region_of, requests_of}
-use Rattle.cycle_history.specs.Objects.{Object, is_placed, live, start_of, Sits, IsSeated, IsApart}
+use Rattle.cycle_history.specs.Objects.{Object, is_placed, live, start_of, IsSeated, IsApart}
 use Rattle.cycle_history.specs.Rules.{AreApart}
-use Rattle.cycle_history.specs.Sound.{past_in, HasAnswers}
+use Rattle.cycle_history.specs.Sound.{past_in}
 use Rattle.cycle_history.proofs.OfObjects.{request-of, number-get}
-use Rattle.sound_run.specs.Run.{Fits, slot_for, count_for}
+use Rattle.sound_run.specs.Run.{Fits, slot_for}
 use Rattle.sound_run.proofs.Live.{legal-at_end, live-cases, live-placed, live-of, live-marked}
 use Rattle.sound_run.proofs.Seats.{apart}
 use Rattle.report_rules.specs.Lines.{IsLeast}

@@ -1,13 +1,13 @@
 -- The keys of sweeps.
-use Rattle.std.proofs.Common.{◌≡◌, ◌≢◌, ℕ, zero, suc, ◌+◌, ◌*◌, ◌^◌, ◌<◌, ◌≤◌, Bool, true, false, cond, eqb, List, [], ◌∷◌, take, length, get_or, Option, Some, None, refl, sym, ◌∙◌, ap, subst, arith, ◌⊎◌, inl, inr, ◌↔◌}
+use Rattle.std.proofs.Common.{◌≡◌, ℕ, suc, ◌+◌, ◌^◌, ◌<◌, ◌≤◌, Bool, true, false, cond, eqb, List, [], ◌∷◌, length, Some, refl, sym, ◌∙◌, ap, subst, arith, inl, inr}
 use Rattle.std.specs.List.{slice_get, list_any}
-use Rattle.std.proofs.lemmas.Bool.{cases_lt, cases_eq, cases_order, cases_Bool, eqb-true, eq-eqb, ne_eqb}
-use Rattle.std.proofs.lemmas.Option.{slice_get_within, slice_get-get_or}
+use Rattle.std.proofs.lemmas.Bool.{cases_eq, cases_order, cases_Bool, eq-eqb, ne_eqb}
+use Rattle.std.proofs.lemmas.Option.{slice_get_within}
 use Rattle.page_alloc.specs.Lists.{In}
 use Rattle.span_state.specs.declared.sweep.SweepNote.{SweepNote}
 use Rattle.report_check.specs.declared.keys.Keys.{Keys}
-use Rattle.report_check.specs.Keys.{AreKeys, has_key}
-use Rattle.report_check.specs.Sweeping.{HasNote, key_of}
+use Rattle.report_check.specs.Keys.{AreKeys}
+use Rattle.report_check.specs.Sweeping.{key_of}
 use Rattle.report_rules.proofs.Counts.{get-in}
 
 -- a wanted sweep of the first n has the key

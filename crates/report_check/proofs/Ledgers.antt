@@ -1,12 +1,12 @@
 -- The ledger, one mark end more at a time.
-use Rattle.std.proofs.Common.{◌≡◌, ◌≢◌, ℕ, zero, suc, ◌+◌, ◌-◌, ◌<◌, ◌≤◌, Bool, true, false, ◌&&◌, ◌||◌, not, eqb, leb, List, [], ◌∷◌, ◌++◌, take, drop, replicate, length, Some, get_or, refl, sym, ◌∙◌, ap, subst, arith, ◌⊎◌, inl, inr, ◌↔◌}
+use Rattle.std.proofs.Common.{◌≡◌, ℕ, zero, suc, ◌+◌, ◌-◌, ◌<◌, ◌≤◌, Bool, true, false, ◌&&◌, not, eqb, leb, List, [], ◌++◌, take, drop, replicate, length, Some, get_or, refl, sym, ◌∙◌, ap, subst, arith, inl, inr, ◌↔◌}
 use Rattle.std.specs.List.{slice_get}
 use Rattle.std.specs.Global.{Vec}
 use Rattle.std.proofs.Math.Seq.{take-append_seam}
-use Rattle.std.proofs.lemmas.Bool.{cases_lt, cases_eq, cases_Bool, and_parts, and_from, le-leb, lt-leb, leb-true, leb-false, eq-eqb, ne_eqb}
-use Rattle.std.proofs.lemmas.Option.{slice_get_within, slice_get-get_or}
-use Rattle.page_alloc.specs.Lists.{In, count, one_if}
-use Rattle.page_alloc.specs.Journal.{IsBy, Life, past_of}
+use Rattle.std.proofs.lemmas.Bool.{cases_lt, and_parts, and_from, le-leb, lt-leb, leb-true}
+use Rattle.std.proofs.lemmas.Option.{slice_get-get_or}
+use Rattle.page_alloc.specs.Lists.{count, one_if}
+use Rattle.page_alloc.specs.Journal.{Life, past_of}
 use Rattle.trace_reader.specs.declared.trace.Cycle.{Cycle}
 use Rattle.trace_reader.specs.declared.trace.Trace.{Trace}
 use Rattle.cycle_history.specs.declared.Report.{Report}
@@ -23,11 +23,11 @@ use Rattle.report_check.specs.Lasts.{last_at}
 use Rattle.report_check.specs.Known.{AreKnown}
 use Rattle.report_check.specs.Sweeping.{AddsItems, AreUsed, AscendTo, CountsAlive, IsOpenTo, added, alive_of, is_freed, is_kept, used_at}
 use Rattle.report_check.proofs.Numbered.{item-of, object-in}
-use Rattle.report_check.proofs.Settled.{IsAsked, asked-at, count-items}
+use Rattle.report_check.proofs.Settled.{asked-at, count-items}
 use Rattle.report_check.proofs.Lasting.{cycle-at, cycles-rise}
 use Rattle.report_check.proofs.Clearing.{lives-then, lives-when}
 use Rattle.report_check.proofs.Upto.{by-on}
-use Rattle.report_check.proofs.Tallying.{IsFront, bool-same, count-all, count-front, count-none, count-same, front-more, front-of}
+use Rattle.report_check.proofs.Tallying.{bool-same, count-all, count-none, count-same, front-more, front-of}
 use Rattle.sound_run.proofs.Live.{live-placed}
 
 off-on : (b : Bool) → b ≡ false → b ≡ true → ⊥

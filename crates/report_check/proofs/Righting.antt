@@ -1,14 +1,14 @@
 -- Rule 7, by what the ledger tells.
 use Rattle.std.specs.Prelude.{MatchBool}
-use Rattle.std.proofs.Common.{◌≡◌, ◌≢◌, ℕ, zero, suc, ◌+◌, ◌-◌, ◌<◌, ◌≤◌, ◌^◌, Bool, true, false, leb, List, [], ◌∷◌, take, length, get_or, Option, Some, None, refl, sym, ◌∙◌, ap, subst, arith, ◌⊎◌, inl, inr, ◌↔◌}
+use Rattle.std.proofs.Common.{◌≡◌, ℕ, zero, suc, ◌+◌, ◌-◌, ◌<◌, ◌≤◌, Bool, true, false, leb, List, [], ◌∷◌, take, length, get_or, Option, Some, None, refl, sym, ◌∙◌, ap, subst, arith, ◌⊎◌, inl, inr}
 use Rattle.std.specs.List.{slice_get}
 use Rattle.std.proofs.lemmas.Bool.{cases_lt, cases_eq, cases_Bool, leb-false}
-use Rattle.std.proofs.lemmas.List.{take_all, length-reverse, get_or_past}
+use Rattle.std.proofs.lemmas.List.{take_all, length-reverse}
 use Rattle.std.proofs.lemmas.Option.{slice_get_within, slice_get-get_or, get_or_from_slice_get}
 use Rattle.page_bitmap.specs.declared.line.Line.{Line}
 use Rattle.page_bitmap.specs.declared.line.Line.TheVariants.{Take, Miss, Give, Scav}
 use Rattle.page_alloc.specs.Lists.{In, AllApart}
-use Rattle.page_alloc.specs.Journal.{Life, Legal, at_end, cycle_of, life_of, open_lives, others, past_of}
+use Rattle.page_alloc.specs.Journal.{Life, at_end, cycle_of, life_of, open_lives, past_of}
 use Rattle.page_alloc.proofs.Lives.{from_others, same_page}
 use Rattle.span_state.specs.declared.sweep.SweepNote.{SweepNote}
 use Rattle.trace_reader.specs.declared.trace.Trace.{Trace}
@@ -20,16 +20,15 @@ use Rattle.cycle_history.specs.Sweeps.{AreSwept, GivesWhenEmpty, IsNote, IsOpenA
 use Rattle.cycle_history.specs.Sound.{past_in}
 use Rattle.sound_run.proofs.Live.{legal-at_end}
 use Rattle.report_rules.specs.Lines.{IsLeast, end_of, sweep_at}
-use Rattle.report_rules.specs.Closing.{BreaksSweeps, IsOutOfOrder, IsRightSweep, IsUnswept, MayGive}
-use Rattle.report_rules.proofs.Counts.{get-in}
+use Rattle.report_rules.specs.Closing.{BreaksSweeps, IsOutOfOrder, IsRightSweep, MayGive}
 use Rattle.report_check.specs.declared.items.Item.{Item}
 use Rattle.report_check.specs.declared.lives.OpenLife.{OpenLife}
 use Rattle.report_check.specs.declared.ledger.Ledger.{Ledger}
-use Rattle.report_check.specs.Lives.{AreLives, HasNumber, entry_of}
+use Rattle.report_check.specs.Lives.{AreLives, entry_of}
 use Rattle.report_check.specs.Items.{objects_of}
 use Rattle.report_check.specs.Known.{AreKnown}
-use Rattle.report_check.specs.Sweeping.{AllMayGive, AllSwept, AreRightTo, CanGive, HasNote, IsDisorder, IsFirstWrong, IsSettledLife, LacksSweep, SaysRight, Tells, freed_in, kept_in, tally_at, used_at}
-use Rattle.report_check.proofs.Settled.{one-life, table-has}
+use Rattle.report_check.specs.Sweeping.{AllMayGive, AllSwept, AreRightTo, CanGive, HasNote, IsDisorder, IsFirstWrong, IsSettledLife, LacksSweep, SaysRight, Tells, freed_in, kept_in, tally_at}
+use Rattle.report_check.proofs.Settled.{table-has}
 use Rattle.report_check.proofs.Clearing.{life-inside}
 use Rattle.report_check.proofs.Keyed.{in-get}
 use Rattle.report_check.proofs.Upto.{later, legal-front, line-more}

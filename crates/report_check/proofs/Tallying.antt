@@ -1,31 +1,18 @@
 -- What is counted of the objects that live, mark end by mark end.
-use Rattle.std.proofs.Common.{◌≡◌, ◌≢◌, ℕ, zero, suc, ◌+◌, ◌-◌, ◌*◌, ◌<◌, ◌≤◌, Bool, true, false, ◌&&◌, ◌||◌, not, eqb, leb, List, [], ◌∷◌, ◌++◌, reverse, take, set, length, get_or, Option, Some, None, refl, sym, ◌∙◌, ap, subst, arith, ◌⊎◌, inl, inr, ◌↔◌}
+use Rattle.std.proofs.Common.{◌≡◌, ◌≢◌, ℕ, zero, suc, ◌+◌, ◌-◌, ◌<◌, ◌≤◌, Bool, true, false, ◌&&◌, not, eqb, leb, List, [], ◌∷◌, ◌++◌, reverse, take, set, length, get_or, Some, refl, sym, ◌∙◌, ap, subst, arith, inl, inr}
 use Rattle.std.specs.List.{slice_get}
-use Rattle.std.proofs.lemmas.Bool.{cases_lt, cases_eq, cases_Bool, and_parts, and_from, le-leb, lt-leb, leb-true, leb-false, eq-eqb, ne_eqb, eqb-true}
+use Rattle.std.proofs.lemmas.Bool.{cases_eq, le-leb, lt-leb, eq-eqb, ne_eqb}
 use Rattle.std.proofs.lemmas.List.{take_more, take_all, reverse-append, length-reverse, length-take-le, get_or-set_same, get_or-set_other, length-set}
 use Rattle.std.proofs.lemmas.Option.{slice_get_within, get_or_from_slice_get, slice_get-get_or}
 use Rattle.page_alloc.specs.Lists.{In, count, one_if}
-use Rattle.page_alloc.specs.Journal.{IsBy, Life}
-use Rattle.trace_reader.specs.declared.trace.Trace.{Trace}
-use Rattle.cycle_history.specs.declared.Report.{Report}
-use Rattle.cycle_history.specs.Requests.{marked_by, last_cycle}
-use Rattle.cycle_history.specs.Objects.{Object, freed, is_placed, kept, live}
-use Rattle.cycle_history.specs.Marked.{objects_before}
-use Rattle.cycle_history.specs.Sweeps.{IsUsedAgain}
-use Rattle.cycle_history.proofs.Firsts.{before-rise}
+use Rattle.cycle_history.specs.Objects.{Object, freed, is_placed, kept}
 use Rattle.report_check.specs.declared.items.Item.{Item}
-use Rattle.report_check.specs.declared.cycle_lives.Opened.{Opened}
 use Rattle.report_check.specs.declared.ledger.Alive.{Alive}
 use Rattle.report_check.specs.declared.ledger.Tally.{Tally}
 use Rattle.report_check.specs.Items.{object_of, objects_from, objects_of}
 use Rattle.report_check.specs.Lasts.{last_at}
-use Rattle.report_check.specs.Known.{AreKnown}
-use Rattle.report_check.specs.Sweeping.{AddsItems, AreBefore, AreTallied, AreUsed, AscendTo, CountsAlive, IsOpenTo, added, alive_of, freed_in, is_freed, is_kept, kept_in, tally_at, used_at}
-use Rattle.report_check.proofs.Numbered.{item-of, object-in}
-use Rattle.report_check.proofs.Settled.{IsAsked, asked-at, count-items}
-use Rattle.report_check.proofs.Lasting.{cycle-at, cycles-rise}
-use Rattle.report_check.proofs.Clearing.{lives-then, lives-when}
-use Rattle.report_check.proofs.Upto.{by-on}
+use Rattle.report_check.specs.Sweeping.{AddsItems, AreBefore, AreTallied, AreUsed, AscendTo, added, alive_of, freed_in, is_freed, is_kept, kept_in, tally_at, used_at}
+use Rattle.report_check.proofs.Numbered.{item-of}
 
 off-on : (b : Bool) → b ≡ false → b ≡ true → ⊥
 off-on b off on = cc

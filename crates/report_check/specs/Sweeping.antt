@@ -1,9 +1,6 @@
 -- What is counted of the lives from mark end to mark end, and which sweeps are printed.
 use Rattle.std.specs.Prelude.{◌≡◌, ℕ, suc, ◌+◌, ◌-◌, ◌*◌, ◌^◌, ◌<◌, ◌≤◌, ◌==◌, ◌&&◌, not, nat_le, if◌then◌else◌, Bool, true, List, length, take, Option, Some, None, slice_index_or, ◌⊎◌, ◌↔◌}
 use Rattle.std.specs.List.{slice_get}
-use Rattle.std.specs.Bool.{MatchBool}
-use Rattle.std.specs.HashSet.{contains_by}
-use Rattle.page_bitmap.specs.declared.line.Line.{Line}
 use Rattle.page_bitmap.specs.declared.line.Line.TheVariants.{Give}
 use Rattle.page_alloc.specs.Lists.{In, count}
 use Rattle.page_alloc.specs.Journal.{IsBy, Life, at_end, past_of}

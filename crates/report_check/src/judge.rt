@@ -37,6 +37,16 @@ pub fn check(alloc: Global, trace: &Trace, report: &Report) -> Result<(), CheckF
     Ok(())
 }
 
+/// Tries the rules 1 to 4 alone, on answers, the journal, misses and places.
+pub fn check_first_rules(alloc: Global, trace: &Trace, report: &Report) -> Result<(), CheckFault>
+    requires limited { IsLimited trace.now }
+    ensures met { OnOk result ((objects : Things Object) × MeetsUpTo 4 trace.now report.now objects) }
+    ensures broken { IfErr result (IsFault trace.now report.now) }
+{
+    settled(alloc, trace, report)?;
+    Ok(())
+}
+
 // The rules 1 to 8.
 fn judge_rules(alloc: Global, trace: &Trace, report: &Report) -> Result<(), CheckFault>
     requires limited { IsLimited trace.now }

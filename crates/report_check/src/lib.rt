@@ -29,6 +29,6 @@ mod sweeps;
 mod tops;
 mod totals;
 
-pub use judge::check;
 pub use fault::CheckFault;
+pub use judge::{check, check_first_rules};
 pub use totals::judge_totals;

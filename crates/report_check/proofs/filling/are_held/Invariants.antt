@@ -1,4 +1,4 @@
-use Rattle.std.proofs.Common.{◌<◌, ◌≤◌}
+use Rattle.std.proofs.Common.{◌≤◌}
 use Rattle.report_check.specs.Filling.{AreHeld}
 use Rattle.report_check.proofs.filling.are_held.Given as goal
 

@@ -1,4 +1,4 @@
-use Rattle.std.proofs.Common.{◌≡◌, true, sym, ◌∙◌}
+use Rattle.std.proofs.Common.{true}
 use Rattle.report_check.proofs.Righting.{may-give}
 use Rattle.report_check.proofs.gives.may_give.Goals as goal
 

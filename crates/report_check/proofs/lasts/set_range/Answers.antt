@@ -1,4 +1,4 @@
-use Rattle.std.proofs.Common.{◌≤◌, arith, inl, inr}
+use Rattle.std.proofs.Common.{arith, inl, inr}
 use Rattle.report_check.proofs.Rows.{set-none, set-more, set-end}
 use Rattle.report_check.proofs.lasts.set_range.Goals as goal
 

@@ -1,4 +1,4 @@
-use Rattle.std.proofs.Common.{◌≡◌, List, ◌∙◌, ap}
+use Rattle.std.proofs.Common.{List, ◌∙◌, ap}
 use Rattle.page_alloc.specs.Lists.{count}
 use Rattle.report_check.specs.declared.ledger.Alive.{Alive}
 use Rattle.report_check.proofs.Tallying.{survivors-more, survivors-other}

@@ -1,4 +1,4 @@
-use Rattle.std.proofs.Common.{◌≡◌, List, set, take, ◌+◌, sym, ◌∙◌, subst, arith}
+use Rattle.std.proofs.Common.{List, take, ◌+◌, sym, subst, arith}
 use Rattle.report_check.specs.declared.ledger.Tally.{Tally}
 use Rattle.report_check.specs.Sweeping.{AreTallied}
 use Rattle.report_check.proofs.Tallying.{tallied-none, tallied-more, tallied-other, tallied-room}

@@ -1,4 +1,4 @@
-use Rattle.std.proofs.Common.{◌≡◌, ℕ, List, Option, None, Some, get_or, sym, ◌∙◌, ap, subst, arith}
+use Rattle.std.proofs.Common.{List, Option, None, get_or, sym, ◌∙◌, ap, arith}
 use Rattle.report_check.specs.declared.lives.OpenLife.{OpenLife}
 use Rattle.report_check.specs.declared.ledger.Tally.{Tally}
 use Rattle.report_check.specs.Sweeping.{freed_in, kept_in, tally_at}

@@ -1,4 +1,4 @@
-use Rattle.std.proofs.Common.{◌≡◌, ℕ, sym, ◌∙◌, ap}
+use Rattle.std.proofs.Common.{ℕ, sym, ◌∙◌, ap}
 use Rattle.report_check.specs.Keys.{has_key}
 use Rattle.report_check.proofs.Righting.{match-of}
 use Rattle.report_check.proofs.keys.Keys.has.Goals as goal

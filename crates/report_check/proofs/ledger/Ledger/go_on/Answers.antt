@@ -1,4 +1,4 @@
-use Rattle.std.proofs.Common.{◌≡◌, ℕ, ◌+◌, ◌-◌, ◌≤◌, ◌↔◌, ◌&&◌, Bool, leb, List, [], length, get_or, take, drop, ◌++◌, refl, sym, ◌∙◌, ap, subst, arith}
+use Rattle.std.proofs.Common.{◌≡◌, ℕ, ◌+◌, ◌-◌, ◌≤◌, ◌↔◌, ◌&&◌, Bool, leb, List, length, refl, sym, ◌∙◌, ap, subst, arith}
 use Rattle.cycle_history.specs.Marked.{objects_before}
 use Rattle.cycle_history.proofs.Firsts.{before-le, before-rise}
 use Rattle.trace_reader.specs.declared.trace.Cycle.{Cycle}

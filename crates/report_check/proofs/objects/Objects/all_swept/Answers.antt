@@ -1,4 +1,4 @@
-use Rattle.std.proofs.Common.{◌≡◌, ℕ, suc, ◌+◌, ◌-◌, ◌<◌, ◌≤◌, false, List, length, Option, refl, sym, ◌∙◌, ap, subst, arith}
+use Rattle.std.proofs.Common.{◌+◌, ◌-◌, false, List, Option, sym, subst, arith}
 use Rattle.page_alloc.specs.Journal.{at_end}
 use Rattle.cycle_history.specs.Requests.{region_of}
 use Rattle.cycle_history.specs.Sound.{past_in}
@@ -6,7 +6,6 @@ use Rattle.span_state.specs.declared.sweep.SweepNote.{SweepNote}
 use Rattle.report_check.specs.declared.lives.OpenLife.{OpenLife}
 use Rattle.report_check.specs.Keys.{AreKeys}
 use Rattle.report_check.specs.Lives.{AreLives}
-use Rattle.report_check.specs.Sweeping.{IsOpenTo}
 use Rattle.report_check.proofs.Ledgers.{open-later}
 use Rattle.report_check.proofs.Righting.{lacks-sweep, on-false, on-true, swept-more}
 use Rattle.report_check.proofs.objects.Objects.all_swept.Goals as goal

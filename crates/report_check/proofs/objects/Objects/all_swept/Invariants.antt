@@ -1,4 +1,4 @@
-use Rattle.std.proofs.Common.{◌≡◌, ℕ, suc, ◌+◌, ◌-◌, ◌<◌, ◌≤◌}
+use Rattle.std.proofs.Common.{ℕ, suc, ◌-◌, ◌<◌, ◌≤◌}
 use Rattle.page_alloc.specs.Journal.{Life}
 use Rattle.cycle_history.specs.Sweeps.{IsOpenAfter}
 use Rattle.cycle_history.specs.Sound.{past_in}

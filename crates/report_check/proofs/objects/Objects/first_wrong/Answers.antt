@@ -1,9 +1,9 @@
-use Rattle.std.proofs.Common.{◌≡◌, ℕ, ◌+◌, ◌-◌, ◌<◌, ◌≤◌, List, length, Some, sym, ◌∙◌, ap, subst, arith, inl}
+use Rattle.std.proofs.Common.{◌≡◌, ℕ, ◌+◌, ◌-◌, ◌<◌, List, length, Some, ap, subst, arith}
 use Rattle.std.specs.List.{slice_get}
 use Rattle.span_state.specs.declared.sweep.SweepNote.{SweepNote}
 use Rattle.cycle_history.specs.Marked.{objects_before}
 use Rattle.report_check.specs.Sweeping.{AreSaidRight, IsDisorder, IsLedger, IsNoteOf, SaysRight}
-use Rattle.report_check.proofs.Righting.{ahead-first, ahead-more, never-right, right-all, right-more, right-says, wrong-at, wrong-last}
+use Rattle.report_check.proofs.Righting.{ahead-first, ahead-more, right-more, right-says, wrong-at, wrong-last}
 use Rattle.report_check.proofs.objects.Objects.first_wrong.Goals as goal
 
 -- nothing of the cycle stands there

@@ -1,11 +1,10 @@
-use Rattle.std.proofs.Common.{◌≡◌, ◌+◌, length, get_or, Some, refl, sym, ◌∙◌, ap, subst, arith}
-use Rattle.std.specs.List.{slice_get}
+use Rattle.std.proofs.Common.{◌+◌, length, refl, sym, ◌∙◌, ap, subst, arith}
 use Rattle.std.proofs.lemmas.Option.{slice_get-get_or}
 use Rattle.cycle_history.specs.Objects.{is_placed}
 use Rattle.report_check.specs.declared.tops.Tops.{Tops}
 use Rattle.report_check.specs.Known.{AreTops}
 use Rattle.report_check.proofs.Lost.{not-placed}
-use Rattle.report_check.proofs.Clearing.{tops-none, tops-more, tops-other, clear-none, clear-more, clear-other, clear-breaks, clear-all, placed-inside}
+use Rattle.report_check.proofs.Clearing.{tops-more, tops-other, clear-more, clear-other, clear-breaks, clear-all, placed-inside}
 use Rattle.report_check.proofs.objects.Objects.judge_apart.Goals.{in-Placed+else-at-item+in_ok-raise, in_default}
 use Rattle.report_check.proofs.objects.Objects.judge_apart.Goals as goal
 

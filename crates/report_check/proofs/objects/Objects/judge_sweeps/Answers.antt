@@ -1,11 +1,9 @@
 use Rattle.std.specs.Prelude.{IfSome, MatchOption}
-use Rattle.std.proofs.Common.{◌≡◌, ◌≢◌, ℕ, ◌^◌, ◌<◌, Option, None, Some, refl, sym, subst, arith}
-use Rattle.std.proofs.lemmas.Option.{slice_get_within}
+use Rattle.std.proofs.Common.{◌≡◌, ◌≢◌, ℕ, ◌^◌, ◌<◌, Option, None, Some, refl, sym, subst}
 use Rattle.cycle_history.specs.Requests.{last_cycle, marked_by}
 use Rattle.report_rules.specs.Lines.{IsLeast}
 use Rattle.report_rules.specs.Closing.{BreaksSweeps}
 use Rattle.report_check.specs.Items.{objects_of}
-use Rattle.report_check.specs.Sweeping.{AreRightTo, IsFirstWrong}
 use Rattle.report_check.proofs.Righting.{end-fault, on-false, on-true, sweep-fault, swept-all}
 use Rattle.report_check.proofs.objects.Objects.judge_sweeps.Goals as goal
 
