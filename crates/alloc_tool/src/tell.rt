@@ -1,6 +1,7 @@
 //! Telling why the program stops without its answer. It takes no memory.
 
 ghost use Rattle.std.specs.Prelude.{◌≡◌, ◌≤◌, [], length};
+ghost use Rattle.check_input.specs.declared.stop.Stop.TheVariants.{Verdict as OfVerdict};
 ghost use Rattle.alloc_tool.specs.Checked.{stop_status, stop_text};
 ghost use Rattle.alloc_tool.specs.Texts.{fault_status, fault_text, limit_name, place, report_fault_text, report_place, report_status, rule_text, usage, write_fault};
 ghost use Rattle.alloc_tool.specs.Told.{Tells, TellsAll};
@@ -52,10 +53,18 @@ pub(crate) fn refuse_pair<E: Sink>(errors: &mut E, stop: Stop) -> u8
     match stop {
         Stop::Trace(fault) => refuse_trace(errors, fault),
         Stop::Report(fault) => refuse_report(errors, fault),
-        Stop::Verdict(verdict) => match verdict {
-            Verdict::Broken { rule, line } => refuse_rule(errors, rule, line),
-            Verdict::NoMemory => refuse_trace(errors, TraceFault::NoMemory),
-        },
+        Stop::Verdict(verdict) => refuse_verdict(errors, verdict),
+    }
+}
+
+// A report that breaks a rule, or want of memory: tells so, and answers the status.
+fn refuse_verdict<E: Sink>(errors: &mut E, verdict: Verdict) -> u8
+    ensures status { result ≡ stop_status (OfVerdict verdict) }
+    ensures told { Tells E.held E.faults errors.old errors.new (stop_text (OfVerdict verdict)) }
+{
+    match verdict {
+        Verdict::Broken { rule, line } => refuse_rule(errors, rule, line),
+        Verdict::NoMemory => refuse_trace(errors, TraceFault::NoMemory),
     }
 }
 
@@ -88,12 +97,21 @@ fn refuse_rule<E: Sink>(errors: &mut E, rule: u8, number: u64) -> u8
     ensures told { Tells E.held E.faults errors.old errors.new (rule_text rule number) }
 {
     let mut line = TextLine::new();
-    push_report_place(&mut line, number);
-    line.push(b"rule ");
-    line.push_decimal(u64::from(rule));
+    push_rule(&mut line, rule, number);
     line.push(b"\n");
     tell(errors, line.as_slice());
     4
+}
+
+// Puts the line of a broken rule together.
+fn push_rule(line: &mut TextLine, rule: u8, number: u64)
+    requires { line.old ≡ [] }
+    ensures text { line.new ≡ rule_text rule number }
+    ensures short { length line.new ≤ 127 }
+{
+    push_report_place(line, number);
+    line.push(b"rule ");
+    line.push_decimal(u64::from(rule));
 }
 
 // Puts the line of a report's fault together.
