@@ -96,7 +96,7 @@ seven_way left reads held writes shown tells input input' output errors errors' 
 
 four_way : {S K E : Type 0} (left : S → Option (List ℕ)) (reads : S → ℕ) (held : K → Option (List ℕ)) (writes : K → ℕ) (shown : E → Option (List ℕ)) (tells : E → ℕ) (input input' : S) (output : K) (errors errors' : E) (stop : Stop) (status : ℕ) → status ≡ 4
     → (((fault : ReportFault) × IsOfReport fault × Refuses (left input) (OfReport fault) × Tells shown tells errors errors' (report_fault_text fault))
-      ⊎ ((rule : ℕ) × (line : ℕ) × BreaksAt (left input) (left input') rule line × Tells shown tells errors errors' (rule_text rule line)))
+    ⊎ ((rule : ℕ) × (line : ℕ) × BreaksAt (left input) (left input') rule line × Tells shown tells errors errors' (rule_text rule line)))
     → Checked left reads held writes shown tells input input' output output errors errors' status
 four_way left reads held writes shown tells input input' output errors errors' stop status four why = record {
   ends = inr (inr (inl four));

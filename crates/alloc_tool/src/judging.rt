@@ -22,6 +22,7 @@ struct Rules;
 
 impl Judge for Rules {
     ghost Sound = { MeetsChecked };
+
     ghost Broken = { BreaksRules };
 
     fn judge(&self, alloc: Global, trace: &Trace, report: &Report) -> Result<(), Verdict> {

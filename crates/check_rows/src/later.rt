@@ -231,11 +231,7 @@ const ROWS: [Row; 42] = [
         "o 0 0xc000000000\nj 0 0 take 0 1 6\nj 1 1 give 0 1\nt 3 1 1\n",
         Some((7, 3)),
     ),
-    (
-        "",
-        "j 0 0 take 0 1 6\nj 1 0 give 0 1\n",
-        Some((7, 2)),
-    ),
+    ("", "j 0 0 take 0 1 6\nj 1 0 give 0 1\n", Some((7, 2))),
     // a life of which nothing is kept and that is neither given back nor used again, or too late
     (
         DEAD,

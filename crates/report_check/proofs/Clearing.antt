@@ -330,12 +330,12 @@ clear-pair : (t : Trace) (report : Report) (items : List Item) (lasts : List ℕ
 clear-pair t report items lasts n i j c a b known clear lt less ia jb la lb =
     seats-apart t report items lasts i j c a b known ia jb la lb
     (λ one. (
-        let dead = clear i j a b lt less ia jb (live-placed (marked_by t) c (object_of i a) la) (live-placed (marked_by t) c (object_of j b) lb) one in
-        let wa = lives-when t report items lasts i c a known ia la in
-        let wb = lives-when t report items lasts j c b known jb lb in
-        let p = wa.1 in
-        let q = wb.0 in
-        omega arith))
+    let dead = clear i j a b lt less ia jb (live-placed (marked_by t) c (object_of i a) la) (live-placed (marked_by t) c (object_of j b) lb) one in
+    let wa = lives-when t report items lasts i c a known ia la in
+    let wb = lives-when t report items lasts j c b known jb lb in
+    let p = wa.1 in
+    let q = wb.0 in
+    omega arith))
 
 apart-turned : (a b : Object) → IsApart a b → IsApart b a
 apart-turned a b is x y bx ay = elim (is y x ay bx) [ inl le ↦ inr le | inr le ↦ inl le ]

@@ -165,11 +165,14 @@ misplaced t report items lasts n item filling known at small tops fills newest u
   | inl others ↦ (
       let s = fills.some item.life others.its others.is in
       let proc = s.7 in
-      inl (object_of s.0 s.1, record {
-        earlier = record { among = object-in items s.0 s.1 s.3; small = s.4; before = s.2; cycle = s.6 ∙ others.now };
-        life = s.5;
-        other = λ e. others.other (sym proc ∙ e);
-      }))
+      inl (
+        object_of s.0 s.1,
+        record {
+          earlier = record { among = object-in items s.0 s.1 s.3; small = s.4; before = s.2; cycle = s.6 ∙ others.now };
+          life = s.5;
+          other = λ e. others.other (sym proc ∙ e);
+        },
+      ))
   | inr rest ↦ elim rest [
     | inl free ↦ inr (inl (free.0, record { below = free.2; free = not-held t report items lasts n item.life free.0 item filling.tops known at tops free.3 }))
     | inr left ↦ (
@@ -183,14 +186,18 @@ misplaced t report items lasts n item filling known at small tops fills newest u
         let j = free.0 in
         let lt = free.2 in
         let life : left.0 ≡ s.1.life = is.life ∙ sym s.7 in
-        inr (inr (object_of s.0 s.1, j, record {
-          earlier = record { among = object-in items s.0 s.1 s.3; small = s.4; before = s.2; cycle = s.6 ∙ is.now };
-          proc = same.0;
-          class = same.1;
-          other = λ e. is.other (sym s.7 ∙ e);
-          inside = (let l : j < s.1.count = omega arith in l);
-          free = subst (λ (k : ℕ). ¬ IsHeld (marked_by t) (objects_of items) item.cycle n k j) life (not-held t report items lasts n left.0 j item filling.tops known at tops free.3);
-        })))
+        inr (inr (
+          object_of s.0 s.1,
+          j,
+          record {
+            earlier = record { among = object-in items s.0 s.1 s.3; small = s.4; before = s.2; cycle = s.6 ∙ is.now };
+            proc = same.0;
+            class = same.1;
+            other = λ e. is.other (sym s.7 ∙ e);
+            inside = (let l : j < s.1.count = omega arith in l);
+            free = subst (λ (k : ℕ). ¬ IsHeld (marked_by t) (objects_of items) item.cycle n k j) life (not-held t report items lasts n left.0 j item filling.tops known at tops free.3);
+          },
+        )))
   ]
 ]
 
@@ -264,11 +271,11 @@ fills-more t report items lasts n item old new known at small room place e are =
         (filled_by (fill_at old item.life) item, subst (λ (k : ℕ). fill_at new k ≡ Some (filled_by (fill_at old item.life) item)) (sym life) (fill-here old new item 0 room e), omega arith, λ same. proc))
     | inl before ↦ elim (cases_eq a.life item.life) [
       | inl same ↦ (
-          filled_by (fill_at old item.life) item,
-          subst (λ (k : ℕ). fill_at new k ≡ Some (filled_by (fill_at old item.life) item)) (sym same) (fill-here old new item 0 room e),
-          rises t report items lasts i n a item known ia at (omega arith),
-          λ cycle. place.one i a before ia sa cycle same,
-        )
+        filled_by (fill_at old item.life) item,
+        subst (λ (k : ℕ). fill_at new k ≡ Some (filled_by (fill_at old item.life) item)) (sym same) (fill-here old new item 0 room e),
+        rises t report items lasts i n a item known ia at (omega arith),
+        λ cycle. place.one i a before ia sa cycle same,
+      )
       | inr other ↦ (let s = are.each i a before ia sa in (s.0, fill-other old new item a.life other e ∙ s.1, s.2, s.3))
     ]
   ];
@@ -291,11 +298,15 @@ newest-more t report items lasts n item old new known at small room in-place e a
         (newest_by item, subst (λ (k : ℕ). newest_at new k ≡ Some (newest_by item)) (sym place) (newest-here old new item room e), omega arith, λ same. inl (ap (λ (x : Item). x.life) new'.1)))
     | inl before ↦ elim (cases_eq (place_of a.proc a.class) (place_of item.proc item.class)) [
       | inr other ↦ (
-          let s = are.each i a before ia sa in
-          (s.0, newest-other old new item (place_of a.proc a.class) other e ∙ s.1, s.2, λ cycle. elim (s.3 cycle) [
-            | inl life ↦ inl life
-            | inr full ↦ inr (λ j inside. sat-on items lasts n (n + 1) a.life j s.0.cycle (omega arith) (full j inside))
-          ]))
+          let s = are.each i a before ia sa in (
+            s.0,
+            newest-other old new item (place_of a.proc a.class) other e ∙ s.1,
+            s.2,
+            λ cycle. elim (s.3 cycle) [
+              | inl life ↦ inl life
+              | inr full ↦ inr (λ j inside. sat-on items lasts n (n + 1) a.life j s.0.cycle (omega arith) (full j inside))
+            ],
+          ))
       | inl same ↦ (
           let pa = placed-item t report items lasts i a known ia sa.0 in
           let pb = placed-item t report items lasts n item known at small.0 in
@@ -331,11 +342,15 @@ newest-same items lasts n item old new at off e are = record {
   each = λ i a lt ia sa. elim (item-cases items i n a item lt ia at) [
     | inr new' ↦ absurd (off (subst (λ (x : Item). IsSmallItem x) new'.1 sa))
     | inl before ↦ (
-        let s = are.each i a before ia sa in
-        (s.0, same (place_of a.proc a.class) ∙ s.1, s.2, λ cycle. elim (s.3 cycle) [
-          | inl life ↦ inl life
-          | inr full ↦ inr (λ j inside. sat-on items lasts n (n + 1) a.life j s.0.cycle (omega arith) (full j inside))
-        ]))
+        let s = are.each i a before ia sa in (
+          s.0,
+          same (place_of a.proc a.class) ∙ s.1,
+          s.2,
+          λ cycle. elim (s.3 cycle) [
+            | inl life ↦ inl life
+            | inr full ↦ inr (λ j inside. sat-on items lasts n (n + 1) a.life j s.0.cycle (omega arith) (full j inside))
+          ],
+        ))
   ];
 }
   where

@@ -152,9 +152,9 @@ lasts-next t report items m spans old new limited answers marks are was = record
         let e = same i off in
         elim (cases_eq c (m + 1)) [
           | inl last ↦ (
-              λ marked. absurd (off-on (marked_by t (m + 1) i) (as-marked i false off) (subst (λ (n : ℕ). marked_by t n i ≡ true) last marked)),
-              λ within. (let lt = within.0 in let up = within.1 in absurd (elim (was.few i item at) [ inl few ↦ omega arith | inr own ↦ omega arith ])),
-            )
+            λ marked. absurd (off-on (marked_by t (m + 1) i) (as-marked i false off) (subst (λ (n : ℕ). marked_by t n i ≡ true) last marked)),
+            λ within. (let lt = within.0 in let up = within.1 in absurd (elim (was.few i item at) [ inl few ↦ omega arith | inr own ↦ omega arith ])),
+          )
           | inr other ↦ (
               let w = was.marked i c item at (omega arith) in (
                 λ marked. (let r = w.0 marked in let lt = r.0 in let up = r.1 in (lt, omega arith)),
@@ -178,14 +178,14 @@ lasts-all t report items lasts m limited answers some ge lt are = record {
   marked = λ i c item at. elim (cases_lt m c) [
     | inr le ↦ are.marked i c item at le
     | inl late ↦ (
-        λ marked. absurd (unmarked-late t c i limited.cycles (omega arith) marked),
-        λ within. (
-            let asked = asked-at t report items i item answers at in
-            let few = cycle-few t i item asked in
-            let a = within.0 in
-            let b = within.1 in
-            absurd (elim (are.few i item at) [ inl f ↦ omega arith | inr own ↦ omega arith ])),
-      )
+      λ marked. absurd (unmarked-late t c i limited.cycles (omega arith) marked),
+      λ within. (
+          let asked = asked-at t report items i item answers at in
+          let few = cycle-few t i item asked in
+          let a = within.0 in
+          let b = within.1 in
+          absurd (elim (are.few i item at) [ inl f ↦ omega arith | inr own ↦ omega arith ])),
+    )
   ];
 }
 

@@ -83,12 +83,12 @@ front-live : (t : Trace) (report : Report) (items : List Item) (lasts : List ℕ
     → live (marked_by t) c (object_of i item) ≡ (is_placed item.answer && leb c (last_at lasts i))
 front-live t report items lasts i c item known at le = bool-same (live (marked_by t) c (object_of i item)) (is_placed item.answer && leb c (last_at lasts i))
     (λ alive. (
-        let w = lives-when t report items lasts i c item known at alive in
-        let up = w.1 in
-        and_from (is_placed item.answer) (leb c (last_at lasts i)) (live-placed (marked_by t) c (object_of i item) alive) (le-leb c (last_at lasts i) up)))
+    let w = lives-when t report items lasts i c item known at alive in
+    let up = w.1 in
+    and_from (is_placed item.answer) (leb c (last_at lasts i)) (live-placed (marked_by t) c (object_of i item) alive) (le-leb c (last_at lasts i) up)))
     (λ on. (
-        let p = and_parts (is_placed item.answer) (leb c (last_at lasts i)) on in
-        lives-then t report items lasts i c item known at p.0 le (leb-true c (last_at lasts i) p.1)))
+    let p = and_parts (is_placed item.answer) (leb c (last_at lasts i)) on in
+    lives-then t report items lasts i c item known at p.0 le (leb-true c (last_at lasts i) p.1)))
 
 -- ---- the objects that live
 
@@ -116,11 +116,11 @@ living-more t report items lasts c m zero test known room first high =
     let e : m + 0 ≡ m = omega arith in
     let none : added items lasts m (m + 0) test ≡ 0 = count-none (λ (o : Object). leb m o.id && (is_placed o.answer && test (alive_of lasts o))) (objects_of (take (m + 0) items))
     (λ o among. (
-        let f = front-of items (m + 0) o among in
-        let id : o.id ≡ f.number = ap (λ (x : Object). x.id) f.is in
-        let lt = f.before in
-        let off = lt-leb m o.id (omega arith) in
-        rw off refl)) in
+    let f = front-of items (m + 0) o among in
+    let id : o.id ≡ f.number = ap (λ (x : Object). x.id) f.is in
+    let lt = f.before in
+    let off = lt-leb m o.id (omega arith) in
+    rw off refl)) in
     let same = ap (λ (n : ℕ). count (Living t lasts c test) (objects_of (take n items))) e in
     omega arith
 living-more t report items lasts c m (suc k) test known room first high =
@@ -154,14 +154,14 @@ living-next : (t : Trace) (report : Report) (items : List Item) (lasts : List �
     → count (λ (o : Object). live (marked_by t) c o && (leb (c + 1) (last_at lasts o.id) && test (alive_of lasts o))) (objects_of (take (objects_before t (c + 1)) items)) ≡ count (Living t lasts (c + 1) test) (objects_of (take (objects_before t (c + 1)) items))
 living-next t report items lasts c test known = count-same (λ (o : Object). live (marked_by t) c o && (leb (c + 1) (last_at lasts o.id) && test (alive_of lasts o))) (Living t lasts (c + 1) test) (objects_of (take (objects_before t (c + 1)) items))
     (λ o among. (
-        let f = front-of items (objects_before t (c + 1)) o among in
-        let le = front-cycle t report items lasts f.number c f.item known f.at f.before in
-        let here = front-live t report items lasts f.number c f.item known f.at le in
-        let next = front-live t report items lasts f.number (c + 1) f.item known f.at (omega arith) in
-        subst (λ (x : Object). (live (marked_by t) c x && (leb (c + 1) (last_at lasts x.id) && test (alive_of lasts x))) ≡ Living t lasts (c + 1) test x) (sym f.is)
-        (ap (λ (b : Bool). b && (leb (c + 1) (last_at lasts f.number) && test (alive_of lasts (object_of f.number f.item)))) here
-        ∙ (joined (is_placed f.item.answer) c (last_at lasts f.number) (test (alive_of lasts (object_of f.number f.item)))
-        ∙ sym (ap (λ (b : Bool). b && test (alive_of lasts (object_of f.number f.item))) next)))))
+    let f = front-of items (objects_before t (c + 1)) o among in
+    let le = front-cycle t report items lasts f.number c f.item known f.at f.before in
+    let here = front-live t report items lasts f.number c f.item known f.at le in
+    let next = front-live t report items lasts f.number (c + 1) f.item known f.at (omega arith) in
+    subst (λ (x : Object). (live (marked_by t) c x && (leb (c + 1) (last_at lasts x.id) && test (alive_of lasts x))) ≡ Living t lasts (c + 1) test x) (sym f.is)
+    (ap (λ (b : Bool). b && (leb (c + 1) (last_at lasts f.number) && test (alive_of lasts (object_of f.number f.item)))) here
+    ∙ (joined (is_placed f.item.answer) c (last_at lasts f.number) (test (alive_of lasts (object_of f.number f.item)))
+    ∙ sym (ap (λ (b : Bool). b && test (alive_of lasts (object_of f.number f.item))) next)))))
   where
     joined : (p : Bool) (c l : ℕ) (b : Bool) → ((p && leb c l) && (leb (c + 1) l && b)) ≡ ((p && leb (c + 1) l) && b)
     joined false c l b = refl

@@ -249,11 +249,11 @@ tallied-room cycle k life alive tallies lt inside are =
 added-none : (items : List Item) (lasts : List ℕ) (m : ℕ) (test : Alive → Bool) → added items lasts m m test ≡ 0
 added-none items lasts m test = count-none (λ (o : Object). leb m o.id && (is_placed o.answer && test (alive_of lasts o))) (objects_of (take m items))
     (λ o among. (
-        let f = front-of items m o among in
-        let id : o.id ≡ f.number = ap (λ (x : Object). x.id) f.is in
-        let lt = f.before in
-        let off = lt-leb m o.id (omega arith) in
-        rw off refl))
+    let f = front-of items m o among in
+    let id : o.id ≡ f.number = ap (λ (x : Object). x.id) f.is in
+    let lt = f.before in
+    let off = lt-leb m o.id (omega arith) in
+    rw off refl))
 
 added-more : (items : List Item) (lasts : List ℕ) (m n : ℕ) (item : Item) (test : Alive → Bool) → m ≤ n → slice_get items n ≡ Some item
     → added items lasts m (n + 1) test ≡ one_if (is_placed item.answer && test (alive_of lasts (object_of n item))) + added items lasts m n test

@@ -162,13 +162,7 @@ fn next_in(fill: Option<Fill>, cycle: u32) -> u32
     ensures { result ≡ next_of fill cycle }
 {
     match fill {
-        Some(fill) => {
-            if fill.cycle == cycle {
-                fill.next
-            } else {
-                0
-            }
-        }
+        Some(fill) => { if fill.cycle == cycle { fill.next } else { 0 } }
         None => 0,
     }
 }

@@ -9,8 +9,8 @@ ghost use Rattle.report_check.specs.Known.{AreKnown};
 ghost use Rattle.report_check.specs.declared.ledger.Alive.{Alive as AnAlive};
 ghost use Rattle.report_check.specs.Sweeping.{AddsItems, AreBefore, AreTallied, freed_in, kept_in};
 
-use crate::objects::Objects;
 use crate::cycle_lives::Opened;
+use crate::objects::Objects;
 use cycle_history::Answer;
 use edge_io::NoMemory;
 use std::alloc::Global;
@@ -82,11 +82,14 @@ impl Ledger {
         ensures ledger { OnOk result (IsLedger objects.now.trace.now objects.now.report.now objects.now.items.now objects.now.lasts.now cycle (objects_before objects.now.trace.now (cycle + 1)) self.new) }
         ensures tells { OnOk result (Tells objects.now.trace.now objects.now.report.now (objects_of objects.now.items.now) cycle self.new) }
     {
-        self.before.take_up(objects.trace, objects.report, cycle - 1);
+        self.before
+            .take_up(objects.trace, objects.report, cycle - 1);
         self.after.take_up(objects.trace, objects.report, cycle);
         tally_all(&self.alive, &mut self.tallies, cycle);
         self.alive = survivors(alloc, &self.alive, cycle)?;
-        let events = objects.trace.cycles.as_slice()[cycle as usize].events.as_slice();
+        let events = objects.trace.cycles.as_slice()[cycle as usize]
+            .events
+            .as_slice();
         let last = self.seen + events.len();
         add_all(objects, self.seen, last, &mut self.alive, &mut self.used)?;
         self.seen = last;
@@ -115,7 +118,11 @@ fn tally_all(alive: &[Alive], tallies: &mut [Tally], cycle: u32)
 {
     for object in alive {
         if object.life < tallies.len() as u64 {
-            add(&mut tallies[object.life as usize], cycle, cycle <= object.last);
+            add(
+                &mut tallies[object.life as usize],
+                cycle,
+                cycle <= object.last,
+            );
         }
     }
 }

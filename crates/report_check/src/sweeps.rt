@@ -131,13 +131,7 @@ fn is_of(sweeps: &[SweepNote], place: usize, end: usize, cycle: u32) -> bool
 }
 
 // Up to which place, from one on and before the end, the sweeps are of the cycle and right.
-fn right_from(
-    ledger: &Ledger,
-    sweeps: &[SweepNote],
-    from: usize,
-    end: usize,
-    cycle: u32,
-) -> usize
+fn right_from(ledger: &Ledger, sweeps: &[SweepNote], from: usize, end: usize, cycle: u32) -> usize
     requires end { end ≤ length sweeps.now }
     requires from { from ≤ end }
     ensures from { from ≤ result }

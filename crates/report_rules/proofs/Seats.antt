@@ -85,11 +85,11 @@ apart-met t report objects others line here there breaks met =
     let ib = tb.2.id in
     let off : IsApart ta.0 tb.0 = met breaks.cycle ta.0 tb.0 ta.1 tb.1 (λ e. absurd (omega arith)) (live-twin (marked_by t) breaks.cycle a ta.0 ta.2 ∙ breaks.alive.0) (live-twin (marked_by t) breaks.cycle b tb.0 tb.2 ∙ breaks.alive.1) in
     breaks.wrong (λ x y ax by. (
-        let na : ta.0.need ≡ a.need = ta.2.need (λ z. clash x a.answer ax z) in
-        let nb : tb.0.need ≡ b.need = tb.2.need (λ z. clash y b.answer by z) in
-        let sa = ap (λ (n : Need). n.slot) na in
-        let sb = ap (λ (n : Need). n.slot) nb in
-        elim (off x y (ta.2.answer ∙ ax) (tb.2.answer ∙ by)) [ inl le ↦ inl (omega arith) | inr le ↦ inr (omega arith) ]))
+    let na : ta.0.need ≡ a.need = ta.2.need (λ z. clash x a.answer ax z) in
+    let nb : tb.0.need ≡ b.need = tb.2.need (λ z. clash y b.answer by z) in
+    let sa = ap (λ (n : Need). n.slot) na in
+    let sb = ap (λ (n : Need). n.slot) nb in
+    elim (off x y (ta.2.answer ∙ ax) (tb.2.answer ∙ by)) [ inl le ↦ inl (omega arith) | inr le ↦ inr (omega arith) ]))
   where
     clash : (x : ℕ) (a : Answer) → a ≡ Placed x → a ≡ Zero → ⊥
     clash x a p z = cc
@@ -186,7 +186,7 @@ filling-met t report objects others line here there seats seats' breaks met =
             let held = met.no_gap twin.0 twin.1 small gap.0 (omega arith) in
             let back = held-on t report objects others twin.0.cycle twin.0.id twin.0.life gap.0 here there seats seats' held in
             gap.1.free (subst (λ (c : ℕ). IsHeld (marked_by t) objects c o.id o.life gap.0) is.cycle
-                (subst (λ (i : ℕ). IsHeld (marked_by t) objects twin.0.cycle i o.life gap.0) is.id (subst (λ (n : ℕ). IsHeld (marked_by t) objects twin.0.cycle twin.0.id n gap.0) seat.0 back))))
+            (subst (λ (i : ℕ). IsHeld (marked_by t) objects twin.0.cycle i o.life gap.0) is.id (subst (λ (n : ℕ). IsHeld (marked_by t) objects twin.0.cycle twin.0.id n gap.0) seat.0 back))))
         | inr left ↦ (
             let a = left.0 in
             let j = left.1 in
@@ -204,6 +204,6 @@ filling-met t report objects others line here there seats seats' breaks met =
             (λ e. w.other (sym sa.0 ∙ (e ∙ seat.0))) j inside in
             let back = held-on t report objects others ta.0.cycle twin.0.id ta.0.life j here there seats seats' held in
             w.free (subst (λ (c : ℕ). IsHeld (marked_by t) objects c o.id a.life j) (ta.2.cycle ∙ w.earlier.cycle)
-                (subst (λ (i : ℕ). IsHeld (marked_by t) objects ta.0.cycle i a.life j) is.id (subst (λ (n : ℕ). IsHeld (marked_by t) objects ta.0.cycle twin.0.id n j) sa.0 back))))
+            (subst (λ (i : ℕ). IsHeld (marked_by t) objects ta.0.cycle i a.life j) is.id (subst (λ (n : ℕ). IsHeld (marked_by t) objects ta.0.cycle twin.0.id n j) sa.0 back))))
       ]
     ]

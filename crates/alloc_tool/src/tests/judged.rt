@@ -21,7 +21,12 @@ const ROWS: [Row; 12] = [
         "goheap: report line 1: rule 4\n",
     ),
     ("", "end\n", 0, ""),
-    ("", "p 1 1 8 1 0\nend\n", 4, "goheap: report line 1: rule 9\n"),
+    (
+        "",
+        "p 1 1 8 1 0\nend\n",
+        4,
+        "goheap: report line 1: rule 9\n",
+    ),
     ("", "", 4, "goheap: report line 1: ends early\n"),
     ("", "end", 4, "goheap: report line 1: ends early\n"),
     ("", "end\nend\n", 4, "goheap: report line 2: malformed\n"),
@@ -60,7 +65,11 @@ fn reports_are_judged(rt: HostRuntime) -> Result<(), Fail> {
         let found = call(&rt, &["check"], input.as_bytes(), &[], &[])?;
         assert_eq!(rt; found.status, status, "at {report}");
         assert_eq!(rt; found.told.as_slice(), told.as_bytes(), "at {report}");
-        let written = if status == 0 { b"check ok\n".as_slice() } else { b"".as_slice() };
+        let written = if status == 0 {
+            b"check ok\n".as_slice()
+        } else {
+            b"".as_slice()
+        };
         assert_eq!(rt; found.written.as_slice(), written, "at {report}");
     }
     Ok(())
@@ -73,7 +82,11 @@ fn answers_are_judged(rt: HostRuntime) -> Result<(), Fail> {
         let input = format!(in rt.alloc(); "{HEAD}{lines}end\n{report}end\n")?;
         let found = call(&rt, &["check"], input.as_bytes(), &[], &[])?;
         assert_eq!(rt; found.status, 0, "at {lines}");
-        assert_eq!(rt; found.written.as_slice(), b"check ok\n".as_slice(), "at {lines}");
+        assert_eq!(rt;
+            found.written.as_slice(),
+            b"check ok\n".as_slice(),
+            "at {lines}"
+        );
     }
     Ok(())
 }

@@ -34,6 +34,6 @@ returns-clause-broken c =
     (λ fault. (objects : List Object) → HasAnswers c.args.trace.now c.args.report.now objects → IsFaultOf 8 (BreaksTotals (marked_by c.args.trace.now) (last_cycle c.args.trace.now) c.args.report.now objects) fault)
     (IsFault c.args.trace.now c.args.report.now)
     (λ (fault : CheckFault) is.
-        fault-8 c.args.trace.now c.args.report.now (objects_of c.args.items.now) fault s.answers s.journal s.misses s.places c.in_ok-judge_apart.ensures.apart c.in_ok-judge_filling.ensures.filling c.in_ok-judge_sweeps.ensures.sweeps
-        (is (objects_of c.args.items.now) s.answers))
+    fault-8 c.args.trace.now c.args.report.now (objects_of c.args.items.now) fault s.answers s.journal s.misses s.places c.in_ok-judge_apart.ensures.apart c.in_ok-judge_filling.ensures.filling c.in_ok-judge_sweeps.ensures.sweeps
+    (is (objects_of c.args.items.now) s.answers))
     c.judge_totals.ensures.fault

@@ -126,11 +126,11 @@ returns-clause-tells c =
       kept_is = λ life lt. subst (λ (ts : List Tally). kept_in (tally_at ts life) cycle ≡ kept (marked_by t) (objects_of items) cycle life) (sym tallies)
           (are.kept life (omega arith)
           ∙ subst (λ (j : ℕ). count (is_kept j life) c.args.self.now.alive.items ≡ kept (marked_by t) (objects_of items) j life) e
-              (kept-counted t report items lasts k (objects_before t cycle) life c.args.self.now.alive.items c.requires.known (ap (λ (j : ℕ). objects_before t j) (sym e)) was.alive));
+          (kept-counted t report items lasts k (objects_before t cycle) life c.args.self.now.alive.items c.requires.known (ap (λ (j : ℕ). objects_before t j) (sym e)) was.alive));
       freed_is = λ life lt. subst (λ (ts : List Tally). freed_in (tally_at ts life) cycle ≡ freed (marked_by t) (objects_of items) cycle life) (sym tallies)
           (are.freed life (omega arith)
           ∙ subst (λ (j : ℕ). count (is_freed j life) c.args.self.now.alive.items ≡ freed (marked_by t) (objects_of items) j life) e
-              (freed-counted t report items lasts k (objects_before t cycle) life c.args.self.now.alive.items c.requires.known (ap (λ (j : ℕ). objects_before t j) (sym e)) was.alive));
+          (freed-counted t report items lasts k (objects_before t cycle) life c.args.self.now.alive.items c.requires.known (ap (λ (j : ℕ). objects_before t j) (sym e)) was.alive));
       used_is = λ life lt. subst (λ (us : List ℕ). (used_at us life.number ≡ cycle) ↔ IsUsedAgain (objects_of items) cycle life) (sym used)
           (used-again t report items lasts cycle n life c.add_all.new.used c.requires.known some refl (omega arith) uses);
     }
