@@ -1,12 +1,12 @@
 -- Each way in which a call that needs no runtime ends.
-use Rattle.std.proofs.Common.{◌≡◌, ◌≢◌, ◌⊎◌, ℕ, List, Option, String, ◌∷◌, [], codes, inl, inr, refl, sym, ◌∙◌, subst}
+use Rattle.std.proofs.Common.{◌≡◌, ◌⊎◌, ℕ, List, Option, String, ◌∷◌, [], codes, refl, sym, ◌∙◌}
 use Rattle.std.specs.declared.alloc.Global.{Global}
 use Rattle.std.specs.Io.KnownBytes.{Appends}
 use Rattle.edge_io.specs.Causes.{Rose}
 use Rattle.edge_io.specs.Front.{AppendsFront}
 use Rattle.class_lines.specs.Text.{classes_text}
 use Rattle.alloc_tool.specs.Checked.{Checked}
-use Rattle.alloc_tool.specs.Plain.{Listed, Plain, Unknown}
+use Rattle.alloc_tool.specs.Plain.{Plain}
 use Rattle.alloc_tool.specs.Texts.{status_text, usage}
 use Rattle.alloc_tool.specs.Told.{Tells}
 use Rattle.alloc_tool.specs.Words.{IsCheck, IsClasses}

@@ -1,4 +1,4 @@
-use Rattle.std.proofs.Common.{◌≡◌, [], ◌∷◌, ◌++◌, sym, subst}
+use Rattle.std.proofs.Common.{[], ◌∷◌, ◌++◌, sym, subst}
 use Rattle.check_input.specs.declared.stop.Stop.TheVariants.{Verdict as OfVerdict}
 use Rattle.check_input.specs.declared.stop.Verdict.{Verdict}
 use Rattle.alloc_tool.specs.Checked.{stop_text}

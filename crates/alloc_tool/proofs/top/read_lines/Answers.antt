@@ -1,10 +1,9 @@
-use Rattle.std.proofs.Common.{◌≡◌, [], ap, inl, sym, ◌∙◌}
+use Rattle.std.proofs.Common.{[], ap, inl, sym, ◌∙◌}
 use Rattle.std.proofs.lemmas.List.{append-nil}
 use Rattle.std.proofs.lemmas.Result.{err_from_is_err_and}
 use Rattle.edge_io.specs.Text.{text}
 use Rattle.trace_reader.specs.declared.trace.Trace.{Trace}
 use Rattle.trace_reader.specs.Spelling.{lines_of}
-use Rattle.trace_reader.specs.declared.fault.TraceFault.TheVariants.{ReadFault}
 use Rattle.alloc_tool.proofs.Behind.{refused_behind}
 use Rattle.alloc_tool.proofs.Broken.{broken_behind, broken_in_trace}
 use Rattle.alloc_tool.proofs.Complete.{nothing_left}
