@@ -1,6 +1,6 @@
 #!/usr/bin/env bash
-# Runs goheap on each trace of this folder, and compares what it prints with the report beside the trace. Of the recorded trace
-# of a real program it compares the totals.
+# Runs goheap on each trace of this folder, and compares what it prints with the report beside the trace, which it then has
+# judged; a report with exchanged addresses must be refused. Of the recorded trace of a real program it compares the totals.
 set -u
 cd "$(dirname "$0")" || exit 1
 failed=0
@@ -9,7 +9,15 @@ for trace in *.trace; do
     echo "$trace: another report" >&2
     failed=1
   fi
+  if [ "$(cat "$trace" "${trace%.trace}.report" | ../goheap check)" != "check ok" ]; then
+    echo "$trace: its report is refused" >&2
+    failed=1
+  fi
 done
+if [ "$(cat pointers-apart.trace pointers-apart.exchanged | ../goheap check 2>&1)" != "goheap: report line 1: rule 4" ]; then
+  echo "pointers-apart.exchanged: not refused by rule 4" >&2
+  failed=1
+fi
 unpacked() { python3 -c 'import lzma, shutil, sys; shutil.copyfileobj(lzma.open(sys.argv[1]), sys.stdout.buffer)' "$1"; }
 for packed in real/*.trace.xz; do
   if ! diff <(unpacked "$packed" | ../goheap run | grep '^t ') "${packed%.trace.xz}.totals" >/dev/null; then

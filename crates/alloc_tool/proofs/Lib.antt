@@ -7,3 +7,4 @@ pub mod OneGen
 pub mod Outcomes
 pub mod Broken
 pub mod Plain
+pub mod Checked

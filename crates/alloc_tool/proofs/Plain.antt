@@ -6,10 +6,11 @@ use Rattle.edge_io.specs.Front.{AppendsFront}
 use Rattle.trace_reader.proofs.Digits.{decimal_injective_wide}
 use Rattle.class_lines.specs.Text.{classes_text}
 use Rattle.made_lines.specs.Asks.{made_text}
+use Rattle.alloc_tool.specs.Checked.{Checked}
 use Rattle.alloc_tool.specs.Plain.{Plain, Writes}
 use Rattle.alloc_tool.specs.Texts.{status_text, usage, write_fault}
 use Rattle.alloc_tool.specs.Told.{Tells}
-use Rattle.alloc_tool.specs.Words.{IsClasses, IsGen}
+use Rattle.alloc_tool.specs.Words.{IsCheck, IsClasses, IsGen}
 
 clash : (s k l : ℕ) → (k ≡ l → ⊥) → s ≡ k → s ≡ l → ⊥
 clash s k l apart e f = apart (sym e ∙ f)
@@ -45,6 +46,13 @@ spent_writes held writes shown tells written output output' errors errors' statu
 lengths : (a x y z : List ℕ) → a ∷ [] ≡ x ∷ y ∷ z ∷ [] → ⊥
 lengths a x y z e = cc
 
+check_or_gen : (words : List (String Global)) (seed objects : ℕ) → IsCheck words → IsGen words seed objects → ⊥
+check_or_gen words seed objects is made = lengths _ _ _ _ (sym is ∙ made.spelled)
+
+-- one word isn't the other
+classes_or_check : (words : List (String Global)) → IsClasses words → IsCheck words → ⊥
+classes_or_check words is other = (let e : codes "classes" ∷ [] ≡ codes "check" ∷ [] = sym is ∙ other in cc)
+
 classes_or_gen : (words : List (String Global)) (seed objects : ℕ) → IsClasses words → IsGen words seed objects → ⊥
 classes_or_gen words seed objects is made = lengths _ _ _ _ (sym is ∙ made.spelled)
 
@@ -62,37 +70,52 @@ one_gen words s o s' o' a b =
     (decimal_injective_wide s s' (omega arith) (omega arith) both.0, decimal_injective_wide o o' (omega arith) (omega arith) both.1)
 
 -- the word `classes`
-pub classes_plain : {S K E : Type 0} (held : K → Option (List ℕ)) (writes : K → ℕ) (shown : E → Option (List ℕ)) (tells : E → ℕ) (words : List (String Global)) (input : S) (output output' : K) (errors errors' : E) (status : ℕ)
-    → IsClasses words → Writes held writes shown tells classes_text output output' errors errors' status → status ≢ 7 → Plain held writes shown tells words input input output output' errors errors' status
-classes_plain held writes shown tells words input output output' errors errors' status is written memory = record {
+pub classes_plain : {S K E : Type 0} (left : S → Option (List ℕ)) (reads : S → ℕ) (held : K → Option (List ℕ)) (writes : K → ℕ) (shown : E → Option (List ℕ)) (tells : E → ℕ) (words : List (String Global)) (input : S) (output output' : K) (errors errors' : E) (status : ℕ)
+    → IsClasses words → Writes held writes shown tells classes_text output output' errors errors' status → status ≢ 7 → Plain left reads held writes shown tells words input input output output' errors errors' status
+classes_plain left reads held writes shown tells words input output output' errors errors' status is written memory = record {
   classes = λ _. written;
   no_memory = λ _. memory;
   made = λ seed objects made. absurd (classes_or_gen words seed objects is made);
-  others = λ other _. absurd (other is);
-  unread = refl;
+  check = λ other. absurd (classes_or_check words is other);
+  others = λ other _ _. absurd (other is);
+  unread = λ _. refl;
 }
 
 -- the word `gen`
-pub gen_plain : {S K E : Type 0} (held : K → Option (List ℕ)) (writes : K → ℕ) (shown : E → Option (List ℕ)) (tells : E → ℕ) (words : List (String Global)) (input : S) (output output' : K) (errors errors' : E) (status seed objects : ℕ)
-    → IsGen words seed objects → Writes held writes shown tells (made_text seed objects) output output' errors errors' status → Plain held writes shown tells words input input output output' errors errors' status
-gen_plain held writes shown tells words input output output' errors errors' status seed objects is written = record {
+pub gen_plain : {S K E : Type 0} (left : S → Option (List ℕ)) (reads : S → ℕ) (held : K → Option (List ℕ)) (writes : K → ℕ) (shown : E → Option (List ℕ)) (tells : E → ℕ) (words : List (String Global)) (input : S) (output output' : K) (errors errors' : E) (status seed objects : ℕ)
+    → IsGen words seed objects → Writes held writes shown tells (made_text seed objects) output output' errors errors' status → Plain left reads held writes shown tells words input input output output' errors errors' status
+gen_plain left reads held writes shown tells words input output output' errors errors' status seed objects is written = record {
   classes = λ classes. absurd (classes_or_gen words seed objects classes is);
   no_memory = λ classes. absurd (classes_or_gen words seed objects classes is);
   made = λ s o made.
       let same = one_gen words seed objects s o is made in
       subst (λ (k : ℕ). Writes held writes shown tells (made_text k o) output output' errors errors' status) same.0
       (subst (λ (k : ℕ). Writes held writes shown tells (made_text seed k) output output' errors errors' status) same.1 written);
-  others = λ _ other. absurd (other seed objects is);
-  unread = refl;
+  check = λ other. absurd (check_or_gen words seed objects other is);
+  others = λ _ _ other. absurd (other seed objects is);
+  unread = λ _. refl;
 }
 
 -- other words
-pub usage_plain : {S K E : Type 0} (held : K → Option (List ℕ)) (writes : K → ℕ) (shown : E → Option (List ℕ)) (tells : E → ℕ) (words : List (String Global)) (input : S) (output : K) (errors errors' : E) (status : ℕ)
-    → (IsClasses words → ⊥) → ((seed objects : ℕ) → IsGen words seed objects → ⊥) → status ≡ 2 → Tells shown tells errors errors' usage → Plain held writes shown tells words input input output output errors errors' status
-usage_plain held writes shown tells words input output errors errors' status no_classes no_gen is told = record {
+pub usage_plain : {S K E : Type 0} (left : S → Option (List ℕ)) (reads : S → ℕ) (held : K → Option (List ℕ)) (writes : K → ℕ) (shown : E → Option (List ℕ)) (tells : E → ℕ) (words : List (String Global)) (input : S) (output : K) (errors errors' : E) (status : ℕ)
+    → (IsClasses words → ⊥) → (IsCheck words → ⊥) → ((seed objects : ℕ) → IsGen words seed objects → ⊥) → status ≡ 2 → Tells shown tells errors errors' usage → Plain left reads held writes shown tells words input input output output errors errors' status
+usage_plain left reads held writes shown tells words input output errors errors' status no_classes no_check no_gen is told = record {
   classes = λ classes. absurd (no_classes classes);
   no_memory = λ classes. absurd (no_classes classes);
   made = λ seed objects made. absurd (no_gen seed objects made);
-  others = λ _ _. record { refused = is; unwritten = refl; told = told };
-  unread = refl;
+  check = λ check. absurd (no_check check);
+  others = λ _ _ _. record { refused = is; unwritten = refl; told = told };
+  unread = λ _. refl;
+}
+
+-- the word `check`
+pub check_plain : {S K E : Type 0} (left : S → Option (List ℕ)) (reads : S → ℕ) (held : K → Option (List ℕ)) (writes : K → ℕ) (shown : E → Option (List ℕ)) (tells : E → ℕ) (words : List (String Global)) (input input' : S) (output output' : K) (errors errors' : E) (status : ℕ)
+    → IsCheck words → Checked left reads held writes shown tells input input' output output' errors errors' status → Plain left reads held writes shown tells words input input' output output' errors errors' status
+check_plain left reads held writes shown tells words input input' output output' errors errors' status is checked = record {
+  classes = λ classes. absurd (classes_or_check words classes is);
+  no_memory = λ classes. absurd (classes_or_check words classes is);
+  made = λ seed objects made. absurd (check_or_gen words seed objects is made);
+  check = λ _. checked;
+  others = λ _ other _. absurd (other is);
+  unread = λ other. absurd (other is);
 }

@@ -5,3 +5,4 @@ pub mod Outcome
 pub mod WholeInput
 pub mod Words
 pub mod Plain
+pub mod Checked

@@ -6,12 +6,13 @@ use Rattle.edge_io.specs.Causes.{Rose}
 use Rattle.edge_io.specs.Front.{AppendsFront}
 use Rattle.class_lines.specs.Text.{classes_text}
 use Rattle.made_lines.specs.Asks.{made_text}
+use Rattle.alloc_tool.specs.Checked.{Checked}
 use Rattle.alloc_tool.specs.Texts.{status_text, usage}
 use Rattle.alloc_tool.specs.Told.{Tells}
-use Rattle.alloc_tool.specs.Words.{IsClasses, IsGen}
+use Rattle.alloc_tool.specs.Words.{IsCheck, IsClasses, IsGen}
 
--- In all of these `held` and `shown` give the bytes of the two sinks where they tell them, and `writes` and `tells` count
--- their faults.
+-- In all of these `left`, `held` and `shown` give the bytes of the three streams where they tell them, and `reads`, `writes` and
+-- `tells` count their faults.
 
 -- A text is written, or a write failed, or memory ran out.
 pub record Writes {K E : Type 0} (held : K → Option (List ℕ)) (writes : K → ℕ) (shown : E → Option (List ℕ)) (tells : E → ℕ) (written : List ℕ)
@@ -34,14 +35,16 @@ pub record IsUnknown {K E : Type 0} (shown : E → Option (List ℕ)) (tells : E
   pub unwritten : output' ≡ output
   pub told : Tells shown tells errors errors' usage
 
-pub record Plain {S K E : Type 0} (held : K → Option (List ℕ)) (writes : K → ℕ) (shown : E → Option (List ℕ)) (tells : E → ℕ)
+pub record Plain {S K E : Type 0} (left : S → Option (List ℕ)) (reads : S → ℕ) (held : K → Option (List ℕ)) (writes : K → ℕ) (shown : E → Option (List ℕ)) (tells : E → ℕ)
     (words : List (String Global)) (input input' : S) (output output' : K) (errors errors' : E) (status : ℕ) : Type 0 where
   -- `classes` writes the lines of the size classes, and takes no memory
   pub classes : IsClasses words → Writes held writes shown tells classes_text output output' errors errors' status
   pub no_memory : IsClasses words → status ≢ 7
   -- `gen` writes the made trace
   pub made : (seed objects : ℕ) → IsGen words seed objects → Writes held writes shown tells (made_text seed objects) output output' errors errors' status
+  -- `check` judges a report
+  pub check : IsCheck words → Checked left reads held writes shown tells input input' output output' errors errors' status
   -- all other words are not known
-  pub others : (IsClasses words → ⊥) → ((seed objects : ℕ) → IsGen words seed objects → ⊥) → IsUnknown shown tells output output' errors errors' status
-  -- nothing is read
-  pub unread : input' ≡ input
+  pub others : (IsClasses words → ⊥) → (IsCheck words → ⊥) → ((seed objects : ℕ) → IsGen words seed objects → ⊥) → IsUnknown shown tells output output' errors errors' status
+  -- only `check` reads
+  pub unread : (IsCheck words → ⊥) → input' ≡ input

@@ -2,6 +2,8 @@
 use Rattle.std.specs.Prelude.{ℕ, List, ◌++◌, ◌==◌, if◌then◌else◌, codes, decimal}
 use Rattle.trace_reader.specs.declared.fault.TraceFault.{TraceFault}
 use Rattle.trace_reader.specs.declared.fault.TraceFault.TheVariants.{ReadFault, Malformed, Truncated, Limit, BadMark, NoMemory, Later}
+use Rattle.report_text.specs.declared.fault.ReportFault.{ReportFault}
+use Rattle.report_text.specs.declared.fault.ReportFault.TheVariants.{ReadFault as Unread, Malformed as OddLine, Truncated as EndsEarly, Limit as TooLong, NoMemory as OutOfMemory}
 use Rattle.trace_reader.specs.declared.fault.Which.{Which}
 use Rattle.trace_reader.specs.declared.fault.Which.TheVariants.{Bytes, Chunks, Procs, Rate, Seed, Goal, Proc, Size, Stack, Distance, Id, Objects, MarkEnds, Marks}
 
@@ -53,6 +55,34 @@ fault_status (Limit line which) = 3
 fault_status (BadMark line object) = 3
 fault_status NoMemory = 7
 fault_status (Later line) = 3
+
+-- the line of `check` where the report is sound
+abbrev pub check_ok : List ℕ
+check_ok = codes "check ok"
+
+-- names a line of the report
+abbrev pub report_place : ℕ → List ℕ
+report_place line = codes "goheap: report line " ++ decimal line ++ codes ": "
+
+-- the line for a report that was not taken
+abbrev pub report_fault_text : ReportFault → List ℕ
+report_fault_text Unread = codes "goheap: read fault"
+report_fault_text (OddLine line) = report_place line ++ codes "malformed"
+report_fault_text (EndsEarly line) = report_place line ++ codes "ends early"
+report_fault_text (TooLong line) = report_place line ++ codes "limit bytes"
+report_fault_text OutOfMemory = codes "goheap: out of memory"
+
+-- the line for a report that breaks a rule at a line
+abbrev pub rule_text : ℕ → ℕ → List ℕ
+rule_text rule line = report_place line ++ codes "rule " ++ decimal rule
+
+-- the status for a report that was not taken
+abbrev pub report_status : ReportFault → ℕ
+report_status Unread = 5
+report_status (OddLine line) = 4
+report_status (EndsEarly line) = 4
+report_status (TooLong line) = 4
+report_status OutOfMemory = 7
 
 -- the line for a status that has but one: words that are not known, a read or a write that failed, want of memory
 abbrev pub status_text : ℕ → List ℕ

@@ -20,3 +20,7 @@ pub record IsGen (words : List (String Global)) (seed objects : ℕ) : Type 0 wh
   pub seed_limit : seed < 2 ^ 64
   pub some : 1 ≤ objects
   pub few : objects ≤ 1000000
+
+-- the one word `check`
+abbrev pub IsCheck : List (String Global) → Type 0
+IsCheck words = IsWord (codes "check") words

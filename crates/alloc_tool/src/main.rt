@@ -1,9 +1,11 @@
 //! `goheap`: Go's memory allocator, driven by a trace.
 //!
-//! `goheap run` reads a trace from standard input and writes its report to standard output.
+//! `goheap run` reads a trace from standard input and writes its report to standard output. `goheap check` reads a trace and
+//! behind it a report, and says whether the report is sound.
 #![tactic(auto)]
 
 mod generate;
+mod judging;
 mod tell;
 mod top;
 

@@ -7,6 +7,7 @@ use std::test::Fail;
 use std::thread::Threads;
 
 mod faults;
+mod judged;
 mod streams;
 
 const HEAD: &str = "goheap 1\nheap 1 procs 1 rate 0 seed 1 goal 512\n";

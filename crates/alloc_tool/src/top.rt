@@ -19,6 +19,7 @@ ghost use Rattle.alloc_tool.specs.WholeInput.{ReadsAll};
 ghost use Rattle.alloc_tool.specs.Words.{IsRun, IsWord};
 
 use crate::generate::{generate, wanted_by};
+use crate::judging::judge_report;
 use crate::tell::{refuse_trace, refuse_words, stop_writing};
 use class_lines::write_classes;
 use edge_io::{Gate, Lines, Sink, Source};
@@ -53,7 +54,7 @@ pub fn goheap<R: Threads + Wait + Sync, S: Source, K: Sink, E: Sink, G: Gate>(
 ) -> u8
     ensures outcome { IsRun words.now → Outcome S.left S.faults K.held K.faults E.held E.faults input.old input.new output.old output.new errors.old errors.new result }
     ensures run_words { IsRun words.now → IsStatusOfRun result }
-    ensures other_words { (IsRun words.now → ⊥) → Plain K.held K.faults E.held E.faults words.now input.old input.new output.old output.new errors.old errors.new result }
+    ensures other_words { (IsRun words.now → ⊥) → Plain S.left S.faults K.held K.faults E.held E.faults words.now input.old input.new output.old output.new errors.old errors.new result }
     ensures complete { IsRun words.now → (bytes : List ℕ)
         → IsUndisturbed S.left S.faults K.faults input.old input.new output.old output.new bytes → IsComplete bytes result }
 {
@@ -65,19 +66,23 @@ pub fn goheap<R: Threads + Wait + Sync, S: Source, K: Sink, E: Sink, G: Gate>(
 }
 
 /// Does what the words say where that needs no runtime, and answers the exit status. `classes` writes the table of size
-/// classes to `output`, and `gen SEED OBJECTS` a made trace. All other words are not known yet, and `run` and `demo` need the
-/// runtime. Nothing is read.
+/// classes to `output`, and `gen SEED OBJECTS` a made trace. `check` reads a trace from `input` and directly behind it a report to
+/// the end, judges the report, and writes `check ok` where it is sound. All other words are not known yet, and `run` and `demo`
+/// need the runtime.
 pub fn goheap_plain<S: Source, K: Sink, E: Sink>(
     alloc: Global,
     words: &[String],
-    _input: &mut S,
+    input: &mut S,
     output: &mut K,
     errors: &mut E,
 ) -> u8
-    ensures { Plain K.held K.faults E.held E.faults words.now _input.old _input.new output.old output.new errors.old errors.new result }
+    ensures { Plain S.left S.faults K.held K.faults E.held E.faults words.now input.old input.new output.old output.new errors.old errors.new result }
 {
     if is_word(words, "classes") {
         return classes(output, errors);
+    }
+    if is_word(words, "check") {
+        return judge_report(alloc, input, output, errors);
     }
     match wanted_by(words) {
         Some(wanted) => generate(alloc, wanted, output, errors),

@@ -187,7 +187,7 @@ done-all t report asked answers items i k are same done le number all =
     let printed : reverse (take i answers) ≡ reverse report.answers = ap (λ (xs : List Answer). reverse xs) (all-of answers i (omega arith) ∙ same) in
     record { asked = rw requests at done.answered; printed = done.printed ∙ printed }
 
-all-at : (P : Event → Type 0) (xs : List Event) (k : ℕ) (x : Event) → AllByRecursion P xs → slice_get xs k ≡ Some x → P x
+pub all-at : (P : Event → Type 0) (xs : List Event) (k : ℕ) (x : Event) → AllByRecursion P xs → slice_get xs k ≡ Some x → P x
 all-at P [] k x all is = cc
 all-at P (y ∷ xs) zero x all is = (let same : y ≡ x = cc in subst P same all.0)
 all-at P (y ∷ xs) (suc k) x all is = all-at P xs k x all.1 is

@@ -12,3 +12,11 @@ pub mod Seated
 pub mod Settled
 pub mod Carried
 pub mod Summed
+pub mod Rows
+pub mod Lasting
+pub mod Clearing
+pub mod Filled
+pub mod Tallying
+pub mod Ledgers
+pub mod Keyed
+pub mod Righting

@@ -71,7 +71,7 @@ within-append : (xs : List Span) (s : Span) (i : ℕ) → is_within (xs ++ s ∷
 within-append [] s i = or-none (leb s.lo i && leb i s.hi)
 within-append (x ∷ xs) s i = ap (λ (b : Bool). (leb x.lo i && leb i x.hi) || b) (within-append xs s i) ∙ or-assoc (leb x.lo i && leb i x.hi) (is_within xs i) (leb s.lo i && leb i s.hi)
 
-within-more : (spans : List Span) (n i : ℕ) (d : Span) → n < length spans → is_within (take (n + 1) spans) i ≡ (is_within (take n spans) i || (leb (get_or spans n d).lo i && leb i (get_or spans n d).hi))
+pub within-more : (spans : List Span) (n i : ℕ) (d : Span) → n < length spans → is_within (take (n + 1) spans) i ≡ (is_within (take n spans) i || (leb (get_or spans n d).lo i && leb i (get_or spans n d).hi))
 within-more spans n i d lt = ap (λ (xs : List Span). is_within xs i) (take_more spans n d lt) ∙ within-append (take n spans) (get_or spans n d) i
 
 more-cases : (spans : List Span) (n i : ℕ) (d : Span) → n < length spans → is_within (take (n + 1) spans) i ≡ true → (is_within (take n spans) i ≡ true) ⊎ Range (get_or spans n d).lo ((get_or spans n d).hi + 1) i

@@ -129,7 +129,7 @@ asked-new t report old new i item answers same at =
 
 -- ---- one life at two times
 
-life-line : (past : List Line) (life : Life) → In life (open_lives past) → IsNumber life.number (Take life.cycle life.page life.pages life.class) past
+pub life-line : (past : List Line) (life : Life) → In life (open_lives past) → IsNumber life.number (Take life.cycle life.page life.pages life.class) past
 life-line [] life i = absurd i
 life-line (Take cycle page pages class ∷ past) life i = elim i [
   | inl here ↦ inl (ap (λ (l : Life). l.number) here, ap (λ (l : Life). Take l.cycle l.page l.pages l.class) here)
@@ -139,7 +139,7 @@ life-line (Miss cycle pages class ∷ past) life i = inr (life-line past life i)
 life-line (Give cycle page pages ∷ past) life i = inr (life-line past life (from_others page (open_lives past) life i).0)
 life-line (Scav cycle page pages ∷ past) life i = inr (life-line past life i)
 
-number-on : (c n : ℕ) (past : List Line) (line : Line) → IsNumber n line (at_end c past) → IsNumber n line past
+pub number-on : (c n : ℕ) (past : List Line) (line : Line) → IsNumber n line (at_end c past) → IsNumber n line past
 number-on c n [] line h = h
 number-on c n (newest ∷ past) line h = elim (cases_Bool (leb (cycle_of newest) c)) [
   | inl is ↦ rw is at h
@@ -183,7 +183,7 @@ no-spans first alive (x ∷ y ∷ cs) (suc c) h le =
     let m = extract (λ m. (1 ≤ m.distance) × (m.distance ≤ 2 ^ 40) × AreSpans 0 m.marks × ((i : ℕ) → IsMarked m.marks i → alive i ⊎ ((first ≤ i) × (i < first + length x.events))) × AreCycles (first + length x.events) (IsMarked m.marks) (y ∷ cs)) x.mark h in
     no-spans (first + length x.events) (IsMarked m.0.marks) (y ∷ cs) c m.1.4 (omega arith)
 
-unmarked-late : (t : Trace) (m i : ℕ) → AreCycles 0 (λ _. ⊥) t.cycles → length t.cycles ≤ m → marked_by t m i ≡ true → ⊥
+pub unmarked-late : (t : Trace) (m i : ℕ) → AreCycles 0 (λ _. ⊥) t.cycles → length t.cycles ≤ m → marked_by t m i ≡ true → ⊥
 unmarked-late t zero i are le h = cc
 unmarked-late t (suc m) i are le h =
     let e = no-spans 0 (λ _. ⊥) t.cycles m are le in
@@ -242,7 +242,7 @@ seated-has marked past bound o life is all = (
 )
 
 -- the lives that the table has
-table-has : (region : ℕ) (past : List Line) (lives : List (Option OpenLife)) (life : Life) (n c d : ℕ) → AreLives region (at_end c past) lives → In life (open_lives (at_end d past)) → life.number ≡ n → HasNumber lives life.page n
+pub table-has : (region : ℕ) (past : List Line) (lives : List (Option OpenLife)) (life : Life) (n c d : ℕ) → AreLives region (at_end c past) lives → In life (open_lives (at_end d past)) → life.number ≡ n → HasNumber lives life.page n
     → In life (open_lives (at_end c past))
 table-has region past lives life n c d are there e has =
     let l = has.life in
@@ -419,7 +419,7 @@ settled-slots t report old new c bound i item answers is at placed = (asked-new 
 
 -- ---- once all cycles are done
 
-all-alive : (t : Trace) (i c : ℕ) (item : Item) → IsLimited t → IsAsked t i item → live (marked_by t) c (object_of i item) ≡ true → c < length t.cycles
+pub all-alive : (t : Trace) (i c : ℕ) (item : Item) → IsLimited t → IsAsked t i item → live (marked_by t) c (object_of i item) ≡ true → c < length t.cycles
 all-alive t i c item limited asked alive = elim (cases_lt c (length t.cycles)) [
   | inl lt ↦ lt
   | inr ge ↦ absurd (elim (live-cases (marked_by t) c (object_of i item) alive) [
@@ -434,7 +434,7 @@ all-alive t i c item limited asked alive = elim (cases_lt c (length t.cycles)) [
   ])
 ]
 
-before-end : (t : Trace) (i : ℕ) (item : Item) → IsAsked t i item → i < objects_before t (length t.cycles)
+pub before-end : (t : Trace) (i : ℕ) (item : Item) → IsAsked t i item → i < objects_before t (length t.cycles)
 before-end t i item asked =
     let high = asked.high in
     let all = before-all t (length t.cycles) (omega arith) in

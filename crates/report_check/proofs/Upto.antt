@@ -34,7 +34,7 @@ at_end-by c [] by = refl
 at_end-by c (line ∷ past) by = let e = le-leb (cycle_of line) c by in rw e refl
 
 -- the lines behind the first of a later cycle are of later cycles too
-later : (region goal : ℕ) (journal : List Line) (n k c : ℕ) (d : Line) → n + k < length journal → Legal region goal (past_of journal) → c < cycle_of (get_or journal n d)
+pub later : (region goal : ℕ) (journal : List Line) (n k c : ℕ) (d : Line) → n + k < length journal → Legal region goal (past_of journal) → c < cycle_of (get_or journal n d)
     → (c < cycle_of (get_or journal (n + k) d)) × (at_end c (past_of (take ((n + k) + 1) journal)) ≡ at_end c (past_of (take n journal)))
 later region goal journal n zero c d lt legal behind =
     let e : n + 0 ≡ n = omega arith in

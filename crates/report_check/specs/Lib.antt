@@ -5,3 +5,9 @@ pub mod Journal
 pub mod Lives
 pub mod Seats
 pub mod Totals
+pub mod Lasts
+pub mod Tops
+pub mod Known
+pub mod Filling
+pub mod Sweeping
+pub mod Keys

@@ -58,8 +58,8 @@ pub(crate) fn judge_places(
     Ok(())
 }
 
-// The spans that a mark end marks.
-fn spans_at(trace: &Trace, mark: u32) -> &[Span]
+/// The spans that a mark end marks.
+pub(crate) fn spans_at(trace: &Trace, mark: u32) -> &[Span]
     requires { mark ≤ last_cycle trace.now }
     ensures { result.now ≡ marks_at trace.now mark }
 {
@@ -72,8 +72,8 @@ fn spans_at(trace: &Trace, mark: u32) -> &[Span]
     }
 }
 
-// Takes up the journal's lines up to the end of a cycle, from the next one on, and answers how many there are then.
-fn take_up_to(
+/// Takes up the journal's lines up to the end of a cycle, from the next one on, and answers how many there are then.
+pub(crate) fn take_up_to(
     lives: &mut [Option<OpenLife>],
     trace: &Trace,
     report: &Report,

@@ -78,12 +78,12 @@ total-same marked last t report objects others total here there is =
           there.asked here.asked answers;
     }
 
-get-in : {X : Type 0} (xs : List X) (i : ℕ) (x : X) → slice_get xs i ≡ Some x → In x xs
+pub get-in : {X : Type 0} (xs : List X) (i : ℕ) (x : X) → slice_get xs i ≡ Some x → In x xs
 get-in [] i x h = absurd (let e : None ≡ Some x = h in cc)
 get-in (y ∷ xs) zero x h = inl (let e : Some y ≡ Some x = h in cc)
 get-in (y ∷ xs) (suc i) x h = inr (get-in xs i x h)
 
-apart-at : {X : Type 0} (R : X → X → Type 0) (xs : List X) (i j : ℕ) (x y : X) → AllApart R xs → i < j → slice_get xs i ≡ Some x → slice_get xs j ≡ Some y → R x y
+pub apart-at : {X : Type 0} (R : X → X → Type 0) (xs : List X) (i j : ℕ) (x y : X) → AllApart R xs → i < j → slice_get xs i ≡ Some x → slice_get xs j ≡ Some y → R x y
 apart-at R [] i j x y all lt atx aty = absurd (let e : None ≡ Some x = atx in cc)
 apart-at R (z ∷ xs) i zero x y all lt atx aty = absurd (omega arith)
 apart-at R (z ∷ xs) zero (suc j) x y all lt atx aty = (let e : z ≡ x = (let s : Some z ≡ Some x = atx in cc) in subst (λ w. R w y) e (all.0 y (get-in xs j y aty)))

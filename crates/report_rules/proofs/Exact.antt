@@ -1,4 +1,4 @@
--- A line that breaks one of the rules 1 to 3, or rule 8, shows that the rule isn't met.
+-- A line that breaks one of the rules 1 to 6, or rule 8, shows that the rule isn't met.
 use Rattle.std.proofs.Common.{◌≡◌, ◌≢◌, ℕ, ◌+◌, ◌-◌, ◌≤◌, List, [], ◌∷◌, ◌++◌, map, reverse, take, drop, Some, sym, ◌∙◌, ap, subst, ◌⊎◌, arith, inl, inr}
 use Rattle.std.specs.List.{slice_get}
 use Rattle.std.proofs.lemmas.Bool.{cases_lt}
@@ -21,6 +21,7 @@ use Rattle.cycle_history.proofs.OfObjects.{request-of, object-of, get-number}
 use Rattle.report_rules.specs.Answers.{IsRightAnswer, BreaksAnswers, IsJournalTo, BreaksMisses}
 use Rattle.report_rules.specs.Broken.{Breaks, IsBroken}
 use Rattle.report_rules.proofs.Counts.{totals-unmet}
+use Rattle.report_rules.proofs.Seats.{apart-met, filling-met, places-met}
 use Rattle.report_rules.proofs.Twins.{twin-of, answers-length, event-at}
 
 -- ---- rule 1
@@ -97,7 +98,7 @@ misses-met t report objects others line here there breaks met =
 -- ---- the law
 
 abbrev IsShown : ℕ → Type 0
-IsShown n = (n ≤ 3) ⊎ (n ≡ 8)
+IsShown n = (n ≤ 6) ⊎ (n ≡ 8)
 
 abbrev BreaksRule : Trace → Report → ℕ → Type 0
 BreaksRule t report n = ¬ MeetsRules n t report
@@ -112,7 +113,16 @@ unmet t report objects n line shown before breaks met =
       | inr more ↦ elim (cases_lt n 3) [
         | inl two ↦ (let b = breaks.journal (omega arith) in b.wrong (journal-to t report (b.number + 1) (m.journal (omega arith))))
         | inr rest ↦ elim shown [
-          | inl few ↦ misses-met t report objects others line (before.answers (omega arith)) (m.answers (omega arith)) (breaks.misses (omega arith)) (m.misses (omega arith))
+          | inl few ↦ elim (cases_lt n 4) [
+            | inl three ↦ misses-met t report objects others line (before.answers (omega arith)) (m.answers (omega arith)) (breaks.misses (omega arith)) (m.misses (omega arith))
+            | inr later ↦ elim (cases_lt n 5) [
+              | inl four ↦ places-met t report objects others line (before.answers (omega arith)) (m.answers (omega arith)) (breaks.places (omega arith)) (m.places (omega arith))
+              | inr behind ↦ elim (cases_lt n 6) [
+                | inl five ↦ apart-met t report objects others line (before.answers (omega arith)) (m.answers (omega arith)) (breaks.apart (omega arith)) (m.apart (omega arith))
+                | inr six ↦ filling-met t report objects others line (before.answers (omega arith)) (m.answers (omega arith)) (before.places (omega arith)) (m.places (omega arith)) (breaks.filling (omega arith)) (m.filling (omega arith))
+              ]
+            ]
+          ]
           | inr eight ↦ totals-unmet (marked_by t) (last_cycle t) t report objects others line (before.answers (omega arith)) (m.answers (omega arith)) (breaks.totals eight) (m.totals (omega arith))
         ]
       ]

@@ -1,3 +1,4 @@
 pub mod Twins
 pub mod Counts
+pub mod Seats
 pub mod Exact

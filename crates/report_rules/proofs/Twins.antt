@@ -53,6 +53,7 @@ pub record IsTwin (o twin : Object) : Type 0 where
   pub id : twin.id ≡ o.id
   pub answer : twin.answer ≡ o.answer
   pub cycle : twin.cycle ≡ o.cycle
+  pub proc : twin.proc ≡ o.proc
   pub need : o.answer ≢ Zero → twin.need ≡ o.need
 
 abbrev pub HasTwin : List Object → Object → Type 0
@@ -75,6 +76,7 @@ twin-of t report objects others o here there i =
         id = found.2;
         answer = found.3;
         cycle = is.cycle ∙ sym asks.answers.cycle;
+        proc = is.proc ∙ sym asks.answers.proc;
         need = λ sized. (
             let some : 1 ≤ asks.request.event.size = sized_from asks.request.event.size (λ none. sized (asks.answers.zero.1 none)) in
             need-one asks.request found.0.need o.need (is.need some) (asks.answers.need some));

@@ -213,7 +213,7 @@ fn good_headers_are_taken(rt: HostRuntime) -> Result<(), Fail> {
     Ok(())
 }
 
-// Of all words but `run` or `classes` alone and `gen` with two numbers, the usage is told, and nothing is read or written.
+// Of all words but `run`, `check` or `classes` alone and `gen` with two numbers, the usage is told, and nothing is read or written.
 #[test]
 fn other_words_are_refused(rt: HostRuntime) -> Result<(), Fail> {
     let rows: [&[&str]; 22] = [
@@ -227,7 +227,7 @@ fn other_words_are_refused(rt: HostRuntime) -> Result<(), Fail> {
         &["run", "--each"],
         &["run", "--background=5"],
         &["run", "--each", "--each"],
-        &["check"],
+        &["check", ""],
         &["classes", ""],
         &["gen", "1", "0"],
         &["gen", "1", "1000001"],
@@ -291,7 +291,7 @@ fn made_traces_are_written(rt: HostRuntime) -> Result<(), Fail> {
 fn plain_words_are_refused(rt: HostRuntime) -> Result<(), Fail> {
     let alloc = rt.alloc();
     let input = format!(in alloc; "{HEAD}a 0 24 s 1\nend\n")?;
-    for word in ["run", "demo", "check"] {
+    for word in ["run", "demo"] {
         let words = words_of(alloc, &[word])?;
         let bytes = List::from_vec(input.as_bytes().to_vec(alloc)?);
         let mut source = MemorySource::new(bytes, List::from_vec(vec![in alloc; 0]?));

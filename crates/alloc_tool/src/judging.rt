@@ -1,0 +1,65 @@
+//! Judging a report that stands behind its trace.
+
+ghost use Rattle.std.specs.Prelude.{◌≡◌, ◌⊎◌};
+ghost use Rattle.std.specs.Io.KnownBytes.{Appends};
+ghost use Rattle.edge_io.specs.Causes.{Rose};
+ghost use Rattle.edge_io.specs.Front.{AppendsFront};
+ghost use Rattle.report_check.specs.Fault.{BreaksRules, MeetsChecked};
+ghost use Rattle.alloc_tool.specs.Checked.{Checked, check_text};
+ghost use Rattle.alloc_tool.specs.Texts.{status_text};
+ghost use Rattle.alloc_tool.specs.Told.{Tells};
+
+use crate::tell::{refuse_pair, stop_writing};
+use check_input::{Judge, Verdict, check_input};
+use cycle_history::Report;
+use edge_io::{Sink, Source, write_all};
+use report_check::CheckFault;
+use std::alloc::Global;
+use trace_reader::Trace;
+
+/// The rules of a sound report.
+struct Rules;
+
+impl Judge for Rules {
+    ghost Sound = { MeetsChecked };
+
+    ghost Broken = { BreaksRules };
+
+    fn judge(&self, alloc: Global, trace: &Trace, report: &Report) -> Result<(), Verdict> {
+        match report_check::check(alloc, trace, report) {
+            Ok(()) => Ok(()),
+            Err(CheckFault::Broken { rule, line }) => Err(Verdict::Broken { rule, line }),
+            Err(CheckFault::NoMemory) => Err(Verdict::NoMemory),
+        }
+    }
+}
+
+/// Reads a trace, and behind it a report, judges the report, and writes `check ok` where it is sound.
+pub(crate) fn judge_report<S: Source, K: Sink, E: Sink>(
+    alloc: Global,
+    input: &mut S,
+    output: &mut K,
+    errors: &mut E,
+) -> u8
+    ensures { Checked S.left S.faults K.held K.faults E.held E.faults input.old input.new output.old output.new errors.old errors.new result }
+{
+    match check_input(alloc, input, &Rules) {
+        Ok(()) => say_ok(output, errors),
+        Err(stop) => refuse_pair(errors, stop),
+    }
+}
+
+// Writes that the report is sound.
+fn say_ok<K: Sink, E: Sink>(output: &mut K, errors: &mut E) -> u8
+    ensures status { (result ≡ 0) ⊎ (result ≡ 6) }
+    ensures answered { result ≡ 0 → Appends (K.held output.old) (K.held output.new) check_text }
+    ensures silent { result ≡ 0 → errors.new ≡ errors.old }
+    ensures write_fault { result ≡ 6 → Rose (K.faults output.old) (K.faults output.new) }
+    ensures partly_written { result ≡ 6 → AppendsFront (K.held output.old) (K.held output.new) check_text }
+    ensures told { result ≡ 6 → Tells E.held E.faults errors.old errors.new (status_text 6) }
+{
+    match write_all(output, b"check ok\n") {
+        Ok(()) => 0,
+        Err(_) => stop_writing(errors),
+    }
+}

@@ -1,0 +1,15 @@
+use Rattle.std.proofs.Common.{◌≡◌, ℕ, ◌<◌, take, Some}
+use Rattle.std.specs.List.{slice_get}
+use Rattle.page_bitmap.specs.declared.line.Line.TheVariants.{Give}
+use Rattle.page_alloc.specs.Journal.{past_of}
+use Rattle.cycle_history.specs.Requests.{region_of}
+use Rattle.report_rules.specs.Closing.{MayGive}
+use Rattle.report_check.specs.Lives.{AreLives}
+use Rattle.report_check.proofs.objects.Objects.judge_gives.Given as goal
+
+-- the Gives so far may be
+abbrev pub invariant-loop-number : goal.invariant-loop-number
+invariant-loop-number l = record {
+  lives : AreLives (region_of l.self.trace.now) (past_of (take l.number l.self.report.now.journal)) l.lives.items;
+  gives : (n cycle page pages : ℕ) → n < l.number → slice_get l.self.report.now.journal n ≡ Some (Give cycle page pages) → MayGive l.self.report.now n cycle page;
+}

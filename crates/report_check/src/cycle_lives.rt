@@ -1,0 +1,46 @@
+//! The lives that are open, cycle by cycle.
+
+ghost use Rattle.std.specs.Prelude.{◌≤◌, ℕ, IfOk};
+ghost use Rattle.page_alloc.specs.Journal.{at_end};
+ghost use Rattle.trace_reader.specs.declared.trace.Trace.{Trace as ATrace};
+ghost use Rattle.cycle_history.specs.declared.Report.{Report as AReport};
+ghost use Rattle.cycle_history.specs.Requests.{region_of};
+ghost use Rattle.cycle_history.specs.Sound.{HasJournal, past_in};
+ghost use Rattle.report_check.specs.Lives.{AreLives};
+
+use crate::lives::{OpenLife, no_lives};
+use crate::places::take_up_to;
+use cycle_history::Report;
+use edge_io::NoMemory;
+use std::alloc::Global;
+use trace_reader::Trace;
+
+/// The lives that are open, by their first pages, once so many lines of the journal are taken up.
+#[derive(Drop)]
+pub(crate) struct Opened {
+    pub lives: Vec<Option<OpenLife>>,
+    pub read: usize,
+}
+
+impl Opened {
+    ghost use Rattle.report_check.specs.Sweeping.{IsOpenTo};
+
+    /// No line is taken up.
+    pub(crate) fn new(alloc: Global, trace: &Trace) -> Result<Opened, NoMemory>
+        requires { trace.now.header.chunks ≤ 128 }
+        ensures { IfOk result (λ opened. (report : AReport) (c : ℕ) → IsOpenTo trace.now report c opened) }
+    {
+        let lives = no_lives(alloc, 512 * trace.header.chunks as usize)?;
+        Ok(Opened { lives, read: 0 })
+    }
+
+    /// Takes up the lines up to the end of a cycle.
+    pub(crate) fn take_up(&mut self, trace: &Trace, report: &Report, cycle: u32)
+        requires journal { HasJournal trace.now report.now }
+        requires open { IsOpenTo trace.now report.now cycle self.old }
+        ensures open { IsOpenTo trace.now report.now cycle self.new }
+        ensures lives { AreLives (region_of trace.now) (at_end cycle (past_in report.now)) self.new.lives.items }
+    {
+        self.read = take_up_to(&mut self.lives, trace, report, self.read, cycle);
+    }
+}

@@ -1,0 +1,62 @@
+//! The last cycle in which each object lives.
+
+ghost use Rattle.std.specs.Prelude.{◌≡◌, ◌<◌, ◌≤◌, true, List as Numbers, length, take, map, IfOk};
+ghost use Rattle.cycle_history.specs.declared.Report.{Report as AReport};
+ghost use Rattle.cycle_history.specs.Marked.{IsLimited};
+ghost use Rattle.cycle_history.specs.Requests.{is_within};
+ghost use Rattle.cycle_history.specs.Sound.{HasAnswers};
+ghost use Rattle.report_check.specs.declared.items.Item.{Item as Entry};
+ghost use Rattle.report_check.specs.Items.{objects_of};
+ghost use Rattle.report_check.specs.Lasts.{AreLasts, AreSet};
+
+use crate::items::Item;
+use crate::places::spans_at;
+use edge_io::NoMemory;
+use std::alloc::Global;
+use trace_reader::{Span, Trace};
+
+/// The last cycle in which each object lives if it is placed: its own, or the last one whose mark end marks it. It takes
+/// time in the objects and the marks.
+pub(crate) fn lasts_of(alloc: Global, trace: &Trace, items: &[Item]) -> Result<Vec<u32>, NoMemory>
+    requires limited { IsLimited trace.now }
+    requires answers { (report : AReport) × HasAnswers trace.now report (objects_of items.now) }
+    ensures { IfOk result (λ lasts. AreLasts trace.now items.now lasts.items) }
+{
+    let mut lasts = own_cycles(alloc, items)?;
+    for mark in 1..trace.cycles.len() as u32 {
+        note_marks(&mut lasts, spans_at(trace, mark), mark);
+    }
+    Ok(lasts)
+}
+
+// The cycle of each object.
+fn own_cycles(alloc: Global, items: &[Item]) -> Result<Vec<u32>, NoMemory>
+    ensures { IfOk result (λ cycles. cycles.items ≡ map (λ (item : Entry). item.cycle) items.now) }
+{
+    let mut cycles = Vec::new(alloc);
+    for item in items {
+        cycles.push(item.cycle)?;
+    }
+    Ok(cycles)
+}
+
+// Notes for each object that the spans have that this mark end marks it.
+fn note_marks(lasts: &mut [u32], spans: &[Span], mark: u32)
+    ensures { AreSet (λ i. is_within spans.now i ≡ true) mark lasts.old lasts.new }
+{
+    for span in spans {
+        set_range(lasts, span.lo as usize, span.hi as usize + 1, mark);
+    }
+}
+
+// Sets the entries from low up to high to the number.
+fn set_range(numbers: &mut [u32], low: usize, high: usize, value: u32)
+    ensures { AreSet (λ i. (low ≤ i) × (i < high)) value numbers.old numbers.new }
+{
+    for place in low..high {
+        if place >= numbers.len() {
+            return;
+        }
+        numbers[place] = value;
+    }
+}

@@ -1,0 +1,15 @@
+//! What is known of a report that meets the rules 1 to 4.
+
+use crate::items::Item;
+use cycle_history::Report;
+use trace_reader::Trace;
+
+/// The objects of a report that meets the rules 1 to 4, in their seats.
+#[derive(Drop)]
+pub(crate) struct Objects<'a> {
+    pub trace: &'a Trace,
+    pub report: &'a Report,
+    pub items: &'a [Item],
+    /// The last cycle in which each item lives, if it is placed.
+    pub lasts: &'a [u32],
+}
