@@ -71,12 +71,12 @@ pub fn goheap_plain<S: Source, K: Sink, E: Sink>(
     ensures { Plain S.left S.faults K.held K.faults E.held E.faults words.now input.old input.new output.old output.new errors.old errors.new result }
 {
     if is_word(words, "classes") {
-        classes(output, errors)
-    } else if is_word(words, "check") {
-        judge_report(alloc, input, output, errors)
-    } else {
-        refuse_words(errors)
+        return classes(output, errors);
     }
+    if is_word(words, "check") {
+        return judge_report(alloc, input, output, errors);
+    }
+    refuse_words(errors)
 }
 
 // Whether the words are this one word.

@@ -10,10 +10,10 @@ returns-then-is_word g c =
 pub returns-then-is_word-2 : goal.returns-then-is_word-2
 returns-then-is_word-2 g c =
     checked_plain g.S.Source.left g.S.Source.faults g.K.Sink.held g.K.Sink.faults g.E.Sink.held g.E.Sink.faults c.args.words.now c.args.input.now c.judge_report.new.input c.args.output.now c.judge_report.new.output c.args.errors.now
-    c.judge_report.new.errors c.judge_report.result (c.is_word-else-is_word.ensures.0 c.if-is_word-2.true) c.judge_report.ensures
+    c.judge_report.new.errors c.judge_report.result (c.is_word-2.ensures.0 c.if-is_word-2.true) c.judge_report.ensures
 
-pub returns-else-is_word-2 : goal.returns-else-is_word-2
-returns-else-is_word-2 g c =
+pub returns : goal.returns
+returns g c =
     usage_plain g.S.Source.left g.S.Source.faults g.K.Sink.held g.K.Sink.faults g.E.Sink.held g.E.Sink.faults c.args.words.now c.args.input.now c.args.output.now c.args.errors.now c.refuse_words.new.errors c.refuse_words.result
-    (λ is. let e : false ≡ true = sym c.if-is_word.false ∙ c.is_word.ensures.1 is in absurd cc) (λ is. let e : false ≡ true = sym c.if-is_word-2.false ∙ c.is_word-else-is_word.ensures.1 is in absurd cc)
+    (λ is. let e : false ≡ true = sym c.if-is_word.false ∙ c.is_word.ensures.1 is in absurd cc) (λ is. let e : false ≡ true = sym c.if-is_word-2.false ∙ c.is_word-2.ensures.1 is in absurd cc)
     c.refuse_words.ensures.status c.refuse_words.ensures.told
