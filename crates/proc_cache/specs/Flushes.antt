@@ -1,0 +1,2 @@
+-- What a flush did.
+use Rattle.std.specs.Prelude.{ℕ}

@@ -1,0 +1,4 @@
+pub mod Cache
+pub mod Serves
+pub mod Hits
+pub mod Flushes
