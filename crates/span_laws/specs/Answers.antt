@@ -18,7 +18,7 @@ use Rattle.span_laws.specs.declared.answers.Refused.TheVariants.{NoRun, NoMemory
 use Rattle.span_laws.specs.declared.answers.Step.{Step}
 use Rattle.span_laws.specs.declared.said.Said.TheVariants.{Finds, Uncaches, UncachesStale, Misses, Looks, PopsEntry}
 use Rattle.span_laws.specs.declared.said.SaidOf.TheVariants.{Acquires, Takes, Pops}
-use Rattle.span_laws.specs.Asks.{IsUsed, HasRoom, IsFullBody, IsEmptyBody, HasMarked, IsUntouched}
+use Rattle.span_laws.specs.Asks.{IsUsed, HasRoom, IsFullBody, IsEmptyBody, HasMarked, IsOfPops, IsTaken, IsUntouched, mine}
 use Rattle.span_laws.specs.Logs.{is_look}
 use Rattle.worker_log.specs.declared.Entry.{Entry}
 use Rattle.worker_log.specs.Logs.{is_full_set, many}
@@ -28,10 +28,12 @@ use Rattle.span_laws.specs.Views.{Seen, after_of, after_said, span_of}
 abbrev pub cycle_at : ℕ → ℕ
 cycle_at g = (g - 4) / 2
 
--- it sweeps the page's span, whose marked indices are allocated, and of which its log has no pop from a swept set and no placing; or it found
+-- it sweeps the page's span, whose marked indices are allocated, of which its log has no pop from a swept set and no placing, of which it had nothing,
+-- and whose class is that of the unswept set from which it popped the page; or it found
 -- another word than that of a span that waits, and an entry of the page that it popped is dropped
 abbrev pub AcquiresSpan : ℕ → Seen → Seen → Acquired → Type 0
 AcquiresSpan page old new (Got body) = (body.page ≡ page) × (new ≡ after_of Acquires (span_of body) old) × HasMarked old.view.marks body × IsUntouched old.view.generation old.view.own page
+    × (mine page old.view.own ≡ 0) × IsOfPops old.view.generation old.view.own body
 AcquiresSpan page old new (Other word) = (word + 2 ≢ old.view.generation) × (new ≡ after_said (Finds page word) old)
 
 -- it holds the span, which was cached in this cycle; or it sweeps the span, which was not, and of which it knows what an acquire tells
@@ -48,11 +50,12 @@ pub record IsNew (n k : ℕ) (b : Body) : Type 0 where
   pub large : k < 2 → (b.count ≡ 1) × (b.slot ≡ 8192 * n)
   pub small : 2 ≤ k → (b.count ≡ objects_of (k / 2)) × (b.slot ≡ slot_of (k / 2))
 
--- it holds a new span, and its log has the line that took it
+-- it holds a new span, of which it had nothing, and its log has the line that took it
 pub record TakesNew (n k : ℕ) (old new : Seen) (b : Body) : Type 0 where
   pub is_new : IsNew n k b
   pub view : new ≡ after_of (Takes (cycle_at old.view.generation)) (span_of b) old
   pub untouched : IsUntouched old.view.generation old.view.own b.page
+  pub nothing : mine b.page old.view.own ≡ 0
 
 -- behind some legal journal no run of n pages is free
 abbrev pub NoRunFree : ℕ → Seen → List Line → Type 0
@@ -85,7 +88,7 @@ pub record IsAhead (set head tail : ℕ) (log : List Entry) : Type 0 where
 
 -- the exchange found head and tail as given, and the worker holds the popped span; or it found others
 abbrev pub RaisesSwept : ℕ → ℕ → ℕ → ℕ → Seen → Seen → Result Body (ℕ × ℕ) → Type 0
-RaisesSwept set head tail page old new (Ok body) = (body.page ≡ page) × (new ≡ after_of (Pops set) (span_of body) old) × IsOfSet set body
+RaisesSwept set head tail page old new (Ok body) = (body.page ≡ page) × (new ≡ after_of (Pops set) (span_of body) old) × IsOfSet set body × IsTaken old.view.generation set old.view.own page
 RaisesSwept set head tail page old new (Err found) = ((found.0 ≢ head) ⊎ (found.1 ≢ tail)) × (new ≡ after_said (Looks set found.0 found.1) old) × IsAhead set found.0 found.1 old.view.own.log
 
 abbrev pub RaisesUnswept : ℕ → ℕ → ℕ → ℕ → Seen → Seen → Result (Unit {0}) (ℕ × ℕ) → Type 0

@@ -1,10 +1,11 @@
 -- What calls ask of a worker's part and of a body.
-use Rattle.std.specs.Prelude.{◌≡◌, ◌⊎◌, ℕ, ◌<◌, true, false, List, [], Some, None}
+use Rattle.std.specs.Prelude.{◌≡◌, ◌⊎◌, ℕ, ◌+◌, ◌<◌, true, false, List, [], Some, None}
 use Rattle.std.specs.List.{AllByRecursion}
 use lib.ListN.{get_elem?}
 use mathlib.Core.Option.{some}
 use Rattle.sweep_laws.specs.Lists.{has}
-use Rattle.sweep_laws.specs.Needs.{is_swept_set}
+use Rattle.sweep_laws.specs.Counts.{times}
+use Rattle.sweep_laws.specs.Needs.{class_of_set, is_swept_set}
 use Rattle.sweep_laws.specs.Owned.{EachAt}
 use Rattle.span_state.specs.Bits.{IsFull}
 use Rattle.span_state.specs.MarkSet.{has_pair}
@@ -14,8 +15,12 @@ use Rattle.span_laws.specs.declared.view.Part.{Part}
 use Rattle.span_laws.specs.declared.view.Span.{Span}
 use Rattle.span_laws.specs.declared.view.View.{View}
 use Rattle.span_laws.specs.Logs.{is_placing_at}
-use Rattle.worker_log.specs.Logs.{many, is_placing_in, is_pop_of, is_seen_empty}
+use Rattle.worker_log.specs.Logs.{is_full_set, many, is_placing_in, is_pop_of, is_seen_empty}
 use Rattle.span_laws.specs.Views.{parts_of, span_at, span_of}
+
+-- how often the worker sweeps, holds or has cached a page
+abbrev pub mine : ℕ → Part → ℕ
+mine p h = times p h.sweeping + times p h.held + times p h.cached
 
 -- the body is the one that was lent to the worker last for its page, unchanged
 abbrev pub HasBody : Part → Body → Type 0
@@ -61,6 +66,15 @@ HasMarked marks b = (k : ℕ) → has_pair marks b.page k ≡ true → allocated
 pub record IsUntouched (generation : ℕ) (h : Part) (page : ℕ) : Type 0 where
   pub pops : (j : ℕ) → j < 544 → is_swept_set generation j ≡ true → many (is_pop_of j page) h.log ≡ 0
   pub placings : many (is_placing_in page) h.log ≡ 0
+
+-- the worker had nothing of a page that it took from a set; and from a full set it has popped none that it took from a partial one
+pub record IsTaken (generation set : ℕ) (h : Part) (page : ℕ) : Type 0 where
+  pub nothing : mine page h ≡ 0
+  pub unpopped : is_full_set set ≡ false → (j : ℕ) → j < 544 → is_swept_set generation j ≡ true → is_full_set j ≡ true → many (is_pop_of j page) h.log ≡ 0
+
+-- the body is of the class of each unswept set from which the log tells that its page was popped
+abbrev pub IsOfPops : ℕ → Part → Body → Type 0
+IsOfPops generation h b = (j : ℕ) → is_swept_set generation j ≡ false → 0 < many (is_pop_of j b.page) h.log → class_of_set j ≡ b.class
 
 -- objects may be placed in the body: the worker cached it in this cycle, and has no other span of its class cached; or it holds it,
 -- claims nothing, and the body is of one object

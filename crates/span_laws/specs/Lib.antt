@@ -8,3 +8,4 @@ pub mod Suits
 pub mod Truth
 pub mod Asks
 pub mod Answers
+pub mod Calls

@@ -7,6 +7,7 @@ use Rattle.span_laws.specs.declared.said.Said.TheVariants.{Looks, LooksCell, Pop
 use Rattle.span_laws.specs.declared.said.SaidOf.TheVariants.{Pops}
 use Rattle.span_laws.specs.declared.view.Cell.{Cell}
 use Rattle.span_laws.specs.Answers.{IsOfSet}
+use Rattle.span_laws.specs.Asks.{IsTaken}
 use Rattle.span_laws.specs.Views.{Seen, acts, after_of, after_said, span_of}
 use Rattle.span_set.specs.declared.answers.Pop.{Pop}
 use Rattle.span_set.specs.declared.answers.Pop.TheVariants.{Taken, Empty, NotYet}
@@ -29,11 +30,12 @@ pub record LooksLast (set head tail : ℕ) (old now : Seen) : Type 0 where
   pub looks : AllByRecursion (IsLookAt set) said
   pub view : now ≡ after_said (Looks set head tail) (with_looks said cells (after_said (Reads 1 old.view.generation) old))
 
--- it saw the cell at the head name the page, popped that span while head and tail were the same, and holds it; or it saw head and tail equal;
+-- it saw the cell at the head name the page, popped that span, of which it had nothing, while head and tail were the same, and holds it; or it saw head and tail equal;
 -- or it saw the cell at the head not filled
 abbrev pub PopsSwept : ℕ → Seen → Seen → Pop → Type 0
 PopsSwept set old new (Taken body) = (head : ℕ) × (tail : ℕ) × (now : Seen) × (LooksLast set head tail old now) × (head < tail)
     × (new ≡ after_of (Pops set) (span_of body) (after_said (LooksCell set head (suc body.page)) now)) × IsOfSet set body
+    × IsTaken old.view.generation set old.view.own body.page
 PopsSwept set old new (Empty head tail) = (head ≡ tail) × LooksLast set head tail old new
 PopsSwept set old new (NotYet head) = (tail : ℕ) × (now : Seen) × (LooksLast set head tail old now) × (head < tail) × (new ≡ after_said (LooksCell set head 0) now)
 
@@ -54,6 +56,7 @@ pub record LosesTry (set head tail : ℕ) (old new : Seen) (found : ℕ × ℕ) 
 -- one try of a pop, where head and tail were seen last
 abbrev pub TriesSwept : ℕ → ℕ → ℕ → Seen → Seen → Result Pop (ℕ × ℕ) → Type 0
 TriesSwept set head tail old new (Ok (Taken body)) = (head < tail) × (new ≡ after_of (Pops set) (span_of body) (after_said (LooksCell set head (suc body.page)) old)) × IsOfSet set body
+    × IsTaken old.view.generation set old.view.own body.page
 TriesSwept set head tail old new (Ok (Empty h t)) = (h ≡ head) × (t ≡ tail) × (head ≡ tail) × (new ≡ old)
 TriesSwept set head tail old new (Ok (NotYet h)) = (h ≡ head) × (head < tail) × (new ≡ after_said (LooksCell set head 0) old)
 TriesSwept set head tail old new (Err found) = LosesTry set head tail old new found

@@ -1,0 +1,12 @@
+//! A span with room for a processor's cache, of one span class: from the swept partial set, or swept here out of the unswept sets;
+//! else the reason why a new one is needed.
+//!
+//! `specs/Lists.antt` says by the answer what the call did, by the worker's own log, and what it has afterwards. No call waits for
+//! another worker.
+#![tactic(auto)]
+
+mod answers;
+mod lists;
+
+pub use answers::{FromSets, Look};
+pub use lists::cache_span;

@@ -1,0 +1,157 @@
+ghost use Rattle.std.specs.Prelude.{◌≡◌, ◌<◌, ◌≤◌, length, true, None};
+ghost use Rattle.page_bitmap.specs.Counts.{one_if};
+ghost use Rattle.worker_log.specs.Logs.{is_pop_of, many, swept_set};
+ghost use Rattle.span_set.specs.Sweeps.{MaySweep};
+ghost use Rattle.central_lists.specs.Lists.{Caches, LooksFirst};
+ghost use Rattle.central_lists.specs.Tries.{Searches, SearchesFull, SweepsOne, TriesAll, TriesOne};
+
+use crate::answers::{FromSets, Look, One, Search, Through};
+use fallible_list::NoMemory;
+use span_laws::Acquired;
+use span_set::{Hand, Pop, PopBase, SetId, Shop, pop_swept, pop_unswept, push, sweep_in_hand};
+use span_state::Body;
+
+// The most entries that one call pops from unswept sets.
+const TRIES: u32 = 100;
+
+/// A span of a class, from 0 to 135, for a cache: the worker holds it, and it has a free index. First the swept partial set is
+/// looked into; then entries of the unswept partial set are popped, and each span that waits for its sweep is swept; then
+/// those of the unswept full set, where a span that stays full is pushed to the swept full set (`mcentral.go`, `cacheSpan`). In all at
+/// most 100 entries of unswept sets are popped, those of spans that were swept or taken meanwhile among them.
+///
+/// `NeedFresh` comes only where the swept partial set was seen as it says, and then both unswept sets were seen empty or `tried` is
+/// 100. `NoMemory` comes only where a note of a sweep found no memory: what was swept and pushed before stands, and the worker holds
+/// no span more.
+pub fn cache_span(shop: &Shop, hand: &mut Hand, class: u8) -> Result<FromSets, NoMemory>
+    requires here { hand.old.worker.here ≡ true }
+    requires table { hand.old.worker.table ≡ shop.now.shared.now }
+    requires distance { 8192 ≤ shop.now.distance }
+    requires marks { shop.now.marks.now.pairs ≡ hand.old.worker.view.marks }
+    requires class { class < 136 }
+    requires unclaimed { hand.old.worker.view.own.claimed ≡ None }
+    ensures { Caches hand.old.worker.view.generation class hand.old hand.new result }
+{
+    match look_first(shop, hand, class) {
+        Ok(body) => Ok(FromSets::SweptPartial(body)),
+        Err(swept) => match search_unswept(shop, hand, class)? {
+            Search::Gave(body) => Ok(FromSets::SweptHere(body)),
+            Search::Tried(tried) => Ok(FromSets::NeedFresh { swept, tried }),
+        },
+    }
+}
+
+// Looks into the swept partial set.
+fn look_first(shop: &Shop, hand: &mut Hand, class: u8) -> Result<Body, Look>
+    requires here { hand.old.worker.here ≡ true }
+    requires table { hand.old.worker.table ≡ shop.now.shared.now }
+    requires class { class < 136 }
+    ensures { LooksFirst hand.old.worker.view.generation class hand.old hand.new result }
+{
+    match pop_swept(shop.shared, &mut hand.worker, SetId { class, full: false }) {
+        Pop::Taken(body) => Ok(body),
+        Pop::Empty { head, .. } => Err(Look::Empty { at: head }),
+        Pop::NotYet { head } => Err(Look::NotYet { at: head }),
+    }
+}
+
+// Goes through the unswept sets of the class.
+fn search_unswept(shop: &Shop, hand: &mut Hand, class: u8) -> Result<Search, NoMemory>
+    requires here { hand.old.worker.here ≡ true }
+    requires table { hand.old.worker.table ≡ shop.now.shared.now }
+    requires distance { 8192 ≤ shop.now.distance }
+    requires marks { shop.now.marks.now.pairs ≡ hand.old.worker.view.marks }
+    requires class { class < 136 }
+    requires unclaimed { hand.old.worker.view.own.claimed ≡ None }
+    ensures { Searches hand.old.worker.view.generation class hand.old hand.new result }
+{
+    match look_through(shop, hand, class, false, 0)? {
+        Through::AllTried(tried) => search_full(shop, hand, class, tried),
+        Through::Enough => Ok(Search::Tried(TRIES)),
+        Through::OneKept(body) => Ok(Search::Gave(body)),
+    }
+}
+
+// Goes through the unswept full set, after so many tries of the partial one.
+fn search_full(shop: &Shop, hand: &mut Hand, class: u8, before: u32) -> Result<Search, NoMemory>
+    requires here { hand.old.worker.here ≡ true }
+    requires table { hand.old.worker.table ≡ shop.now.shared.now }
+    requires distance { 8192 ≤ shop.now.distance }
+    requires marks { shop.now.marks.now.pairs ≡ hand.old.worker.view.marks }
+    requires class { class < 136 }
+    requires unclaimed { hand.old.worker.view.own.claimed ≡ None }
+    requires before { before ≤ 100 }
+    ensures { SearchesFull hand.old.worker.view.generation class before hand.old hand.new result }
+{
+    match look_through(shop, hand, class, true, before)? {
+        Through::AllTried(tried) => Ok(Search::Tried(tried)),
+        Through::Enough => Ok(Search::Tried(TRIES)),
+        Through::OneKept(body) => Ok(Search::Gave(body)),
+    }
+}
+
+// Pops entries of an unswept set until a span is kept, none is left, or there were a hundred with those before.
+fn look_through(shop: &Shop, hand: &mut Hand, class: u8, full: bool, before: u32) -> Result<Through, NoMemory>
+    requires here { hand.old.worker.here ≡ true }
+    requires table { hand.old.worker.table ≡ shop.now.shared.now }
+    requires distance { 8192 ≤ shop.now.distance }
+    requires marks { shop.now.marks.now.pairs ≡ hand.old.worker.view.marks }
+    requires class { class < 136 }
+    requires unclaimed { hand.old.worker.view.own.claimed ≡ None }
+    requires before { before ≤ 100 }
+    ensures { TriesAll hand.old.worker.view.generation class (one_if full) before hand.old hand.new result }
+{
+    let mut tried = before;
+    while tried < TRIES {
+        match try_one(shop, hand, class, full)? {
+            One::NoneLeft => return Ok(Through::AllTried(tried)),
+            One::Gone => tried += 1,
+            One::Kept(body) => return Ok(Through::OneKept(body)),
+        }
+    }
+    Ok(Through::Enough)
+}
+
+// Pops one entry of an unswept set, and sweeps its span where that waits for its sweep.
+fn try_one(shop: &Shop, hand: &mut Hand, class: u8, full: bool) -> Result<One, NoMemory>
+    requires here { hand.old.worker.here ≡ true }
+    requires table { hand.old.worker.table ≡ shop.now.shared.now }
+    requires distance { 8192 ≤ shop.now.distance }
+    requires marks { shop.now.marks.now.pairs ≡ hand.old.worker.view.marks }
+    requires class { class < 136 }
+    requires unclaimed { hand.old.worker.view.own.claimed ≡ None }
+    ensures { TriesOne hand.old.worker.view.generation class (one_if full) hand.old hand.new result }
+{
+    hand.reserve_note()?;
+    match pop_unswept(shop.shared, &mut hand.worker, SetId { class, full }) {
+        PopBase::Empty { .. } => Ok(One::NoneLeft),
+        PopBase::Popped(page) => match shop.shared.acquire(&mut hand.worker, page) {
+            Acquired::Other(_) => Ok(One::Gone),
+            Acquired::Got(body) => match sweep_one(shop, hand, class, body) {
+                Some(body) => Ok(One::Kept(body)),
+                None => Ok(One::Gone),
+            },
+        },
+    }
+}
+
+// Sweeps a span of the class that the worker acquired: it is kept where it has a free index, else it goes to the full set.
+fn sweep_one(shop: &Shop, hand: &mut Hand, class: u8, body: Body) -> Option<Body>
+    requires here { hand.old.worker.here ≡ true }
+    requires table { hand.old.worker.table ≡ shop.now.shared.now }
+    requires distance { 8192 ≤ shop.now.distance }
+    requires room { length hand.old.notes.items < hand.old.notes.space }
+    requires may { MaySweep shop.now.marks.now body hand.old.worker }
+    requires class { class < 136 }
+    requires of_class { body.class ≡ class }
+    requires unclaimed { hand.old.worker.view.own.claimed ≡ None }
+    requires unpopped { many (is_pop_of (swept_set hand.old.worker.view.generation class 1) body.page) hand.old.worker.view.own.log ≡ 0 }
+    ensures { SweepsOne shop.now.marks.now class body hand.old hand.new result }
+{
+    let mut body = body;
+    sweep_in_hand(shop, hand, &mut body);
+    if body.next_free().is_some() {
+        return Some(body);
+    }
+    push(shop.shared, &mut hand.worker, SetId { class, full: true }, body);
+    None
+}
