@@ -1,5 +1,5 @@
 -- What contracts see of a processor.
-use Rattle.std.specs.Prelude.{ℕ, ◌+◌, ◌*◌, List, [], ◌∷◌, Option, Some, None, slice_index_or, slice_set}
+use Rattle.std.specs.Prelude.{ℕ, ◌+◌, ◌*◌, List, map, Option, Some, None, slice_index_or, slice_set}
 use Rattle.span_state.specs.declared.body.Body.{Body}
 use Rattle.span_laws.specs.declared.view.Span.{Span}
 use Rattle.span_laws.specs.Views.{span_of}
@@ -11,10 +11,12 @@ pub record Cache : Type 0 where
   pub slots : List (Option Span)
 
 -- the bodies of a cache as spans
+abbrev pub span_in : Option Body → Option Span
+span_in None = None
+span_in (Some b) = Some (span_of b)
+
 abbrev pub spans_of : List (Option Body) → List (Option Span)
-spans_of [] = []
-spans_of (None ∷ bodies) = None ∷ spans_of bodies
-spans_of (Some b ∷ bodies) = Some (span_of b) ∷ spans_of bodies
+spans_of bodies = map span_in bodies
 
 -- the cached span of a class
 abbrev pub slot_at : Cache → ℕ → Option Span

@@ -21,14 +21,14 @@ pub record IsPlacedIn (index : ℕ) (old new : Span) : Type 0 where
   pub bits : (k : ℕ) → bit_of new.bits k ≡ with_bit index (bit_of old.bits) k
 
 -- an object was placed in the cached span of class k, at the lowest index that was free, and has the address of that place
-pub record HitsAt (k address : ℕ) (c d : Cache) (old new : Seen) : Type 0 where
+pub record HitsAt (k at : ℕ) (c d : Cache) (old new : Seen) : Type 0 where
   pub before : Span
   pub after : Span
   pub index : ℕ
   pub cached : slot_at c k ≡ Some before
   pub lowest : HasFree before.count (bit_of before.bits) index
   pub placed : IsPlacedIn index before after
-  pub address : address ≡ address_of after.page (slot_of (k / 2)) index
+  pub address : at ≡ address_of after.page (slot_of (k / 2)) index
   pub cache : d ≡ with_slot k (Some after) c
   pub worker : new ≡ after_of (Places index) after old
 

@@ -1,4 +1,5 @@
 pub mod Cache
 pub mod Serves
 pub mod Hits
+pub mod Leaves
 pub mod Flushes
