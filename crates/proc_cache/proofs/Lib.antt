@@ -1,2 +1,4 @@
 pub mod Slots
 pub mod Serving
+pub mod Leaving
+pub mod Flushing

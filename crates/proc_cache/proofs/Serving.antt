@@ -1,16 +1,21 @@
 -- A cache serves its worker, and goes on to serve it as one of its spans changes.
-use Rattle.std.proofs.Common.{◌≡◌, ◌≢◌, ℕ, ◌+◌, ◌<◌, ◌≤◌, Bool, true, List, ◌∷◌, refl, ap, sym, subst, ◌∙◌, arith, inl, eq-eqb}
-use Rattle.std.specs.Prelude.{None, Some, Option}
+use Rattle.std.proofs.Common.{◌≡◌, ◌≢◌, ℕ, ◌+◌, ◌<◌, ◌≤◌, Bool, true, false, true≢false, List, ◌∷◌, ◌++◌, refl, ap, sym, subst, ◌∙◌, arith, inl, eq-eqb, ne_eqb}
+use Rattle.std.specs.Prelude.{None, Some, Option, ◌==◌, if◌then◌else◌}
 use mathlib.Core.Logic.{dite}
 use native.Mathlib.Decide.{ℕ_discrete}
-use Rattle.sweep_laws.specs.Lists.{has}
+use Rattle.sweep_laws.specs.Counts.{times}
+use Rattle.sweep_laws.specs.Lists.{erase, has}
+use Rattle.sweep_laws.proofs.Naming.{has_times, times_erase, times_erase_else, times_erase_le}
 use Rattle.span_state.specs.declared.body.Body.{Body}
+use Rattle.worker_log.specs.declared.Entry.{Entry}
 use Rattle.worker_log.specs.Logs.{is_pop_of, many, swept_set}
+use Rattle.worker_log.proofs.Logs.{many-append}
 use Rattle.span_laws.specs.Asks.{HasBody, MayPlace}
 use Rattle.span_laws.specs.Views.{span_at, span_of, told_of}
 use Rattle.span_laws.specs.declared.said.SaidOf.TheVariants.{Places}
 use Rattle.span_laws.specs.declared.view.Part.{Part}
 use Rattle.span_laws.specs.declared.view.Span.{Span}
+use Rattle.span_laws.proofs.Parts.{has_erase_else, has_none}
 use Rattle.span_laws.proofs.WordMoves.{span_else, span_here}
 use Rattle.proc_cache.specs.Cache.{Cache, slot_at, with_slot}
 use Rattle.proc_cache.specs.Hits.{IsPlacedIn}
@@ -71,3 +76,64 @@ module _ (g : ℕ) (h : Part) (c : Cache) (v : Serves g h c) where
           class = x.class;
           unpopped = let z = x.unpopped in omega arith;
         }
+
+  -- a span leaves the cache, and nothing is popped meanwhile
+  module _ (k : ℕ) (s : Span) (at : slot_at c k ≡ Some s) (h' : Part) (d : Cache) (said : List Entry) (log : h'.log ≡ said ++ h.log) (cached : h'.cached ≡ erase s.page h.cached) (fresh : h'.fresh ≡ h.fresh)
+      (bodies : (q : ℕ) → q ≢ s.page → span_at q h'.spans ≡ span_at q h.spans) (unpopped : (j p : ℕ) → many (is_pop_of j p) said ≡ 0)
+      (same : d.flushed ≡ c.flushed) (slots : (j : ℕ) → slot_at d j ≡ (if j == k then None else slot_at c j)) where
+    gone : has s.page h'.cached ≡ false
+    gone = has_none s.page h'.cached (let t = v.once s.page in let e = times_erase s.page h.cached (has_times s.page h.cached (v.slots k s at).cached) in
+        subst (λ (l : List ℕ). times s.page l ≡ 0) (sym cached) (omega arith))
+
+    other : (p : ℕ) → has p h'.cached ≡ true → (p ≢ s.page) × (has p h.cached ≡ true)
+    other p hp =
+        let d : p ≢ s.page = λ (e : p ≡ s.page). true≢false (sym hp ∙ ap (λ (q : ℕ). has q h'.cached) e ∙ gone) in
+        (d, sym (has_erase_else p s.page h.cached d) ∙ ap (has p) (sym cached) ∙ hp)
+
+    left : (j : ℕ) → j ≢ k → slot_at d j ≡ slot_at c j
+    left j d = slots j ∙ rw (ne_eqb j k d) refl
+
+    pub serves_without : Serves g h' d
+    serves_without = record {
+      slots = λ j u e. dite (ℕ_discrete j k)
+          (λ q. absurd (let z : None ≡ Some u = sym (slots j ∙ rw (eq-eqb j k q) refl) ∙ e in cc))
+          (λ n.
+            let b = sym (left j n) ∙ e in let x = v.slots j u b in
+            let far : u.page ≢ s.page = λ (q : u.page ≡ s.page). n (one_slot j k u s b at q) in
+            record {
+              cached = ap (has u.page) cached ∙ has_erase_else u.page s.page h.cached far ∙ x.cached;
+              lent = bodies u.page far ∙ x.lent;
+              class = x.class;
+              unpopped = let a = many-append (is_pop_of (swept_set g j 1) u.page) said h.log in let y = x.unpopped in let z = unpopped (swept_set g j 1) u.page in
+                  ap (many (is_pop_of (swept_set g j 1) u.page)) log ∙ omega arith;
+            });
+      all = λ p hp. let o = other p hp in let a = v.all p o.1 in
+          let n : a.0 ≢ k = λ (q : a.0 ≡ k). o.0 (sym a.3 ∙ ap (λ (u : Span). u.page) (same_some a.1 s (sym a.2 ∙ ap (slot_at c) q ∙ at))) in
+          (a.0, a.1, left a.0 n ∙ a.2, a.3);
+      once = λ p. subst (λ (l : List ℕ). times p l ≤ 1) (sym cached) (dite (ℕ_discrete p s.page)
+          (λ e. subst (λ (q : ℕ). times q (erase s.page h.cached) ≤ 1) (sym e) (let t = times_erase_le s.page h.cached in let o = v.once s.page in omega arith))
+          (λ n. let t = times_erase_else p s.page h.cached n in let o = v.once p in omega arith));
+      fresh = λ p hp. ap (has p) fresh ∙ v.fresh p (other p hp).1 ∙ ap (λ (f : ℕ). f == g) (sym same);
+      early = let e = v.early in omega arith;
+    }
+
+-- what a cache rests on stays
+pub serves_through : (g : ℕ) (h h' : Part) (c : Cache) → Serves g h c → h'.cached ≡ h.cached → h'.fresh ≡ h.fresh → ((q : ℕ) → has q h.cached ≡ true → span_at q h'.spans ≡ span_at q h.spans)
+    → ((k : ℕ) (s : Span) → slot_at c k ≡ Some s → many (is_pop_of (swept_set g k 1) s.page) h'.log ≡ 0) → Serves g h' c
+serves_through g h h' c v cached fresh bodies unpopped = record {
+  slots = λ k s at. let x = v.slots k s at in record { cached = ap (has s.page) cached ∙ x.cached; lent = bodies s.page x.cached ∙ x.lent; class = x.class; unpopped = unpopped k s at };
+  all = λ p hp. v.all p (sym (ap (has p) cached) ∙ hp);
+  once = λ p. subst (λ (l : List ℕ). times p l ≤ 1) (sym cached) (v.once p);
+  fresh = λ p hp. ap (has p) fresh ∙ v.fresh p (sym (ap (has p) cached) ∙ hp);
+  early = v.early;
+}
+
+-- a processor without a cached span serves a worker that has none cached
+pub serves_nothing : (g : ℕ) (h : Part) (c : Cache) → ((k : ℕ) → slot_at c k ≡ None) → ((p : ℕ) → has p h.cached ≡ false) → ((p : ℕ) → times p h.cached ≤ 1) → c.flushed ≤ g → Serves g h c
+serves_nothing g h c none nothing once early = record {
+  slots = λ k s at. absurd (let z : None ≡ Some s = sym (none k) ∙ at in cc);
+  all = λ p hp. absurd (true≢false (sym hp ∙ nothing p));
+  once = once;
+  fresh = λ p hp. absurd (true≢false (sym hp ∙ nothing p));
+  early = early;
+}
