@@ -4,15 +4,15 @@
 # for runs of 32 pages. All are measured in this one run. Each figure is the least of five, less the least of the loop
 # alone. ROUNDS (default 2000000) is the number of searches of each.
 set -euo pipefail
-cd "$(dirname "$0")/../crates/bitmap_bench"
-rt run >/dev/null 2>&1
+cd "$(dirname "$0")/../crates/bench"
+rt run <stdin >/dev/null 2>&1
 rounds=${ROUNDS:-2000000}
 TIMEFORMAT=%U
 
 # seconds FILLING N: the least processor time of that many rounds.
 seconds() {
     for _ in 1 2 3 4 5; do
-        { time ./out/bitmap_bench "$1" "$2" "$rounds" >/dev/null; } 2>&1
+        { time ./out/bench bitmap "$1" "$2" "$rounds" >/dev/null; } 2>&1
     done | sort -n | head -n 1
 }
 

@@ -3,14 +3,14 @@
 # All is measured in this run; look at the ratios, since the seconds are this machine's.
 set -eu
 cd "$(dirname "$0")/.."
-bin=crates/core_bench/out/core_bench
-(cd crates/core_bench && rt run -- 1 1 fill > /dev/null)
+bin=crates/bench/out/bench
+(cd crates/bench && rt run < stdin > /dev/null)
 
 # the least processor seconds of five runs
 seconds() {
   local best=1000000 one TIMEFORMAT=%3U
   for _ in 1 2 3 4 5; do
-    one=$({ time "$bin" "$@" > /dev/null; } 2>&1)
+    one=$({ time "$bin" core "$@" > /dev/null; } 2>&1)
     best=$(awk -v a="$best" -v b="$one" 'BEGIN { print (a < b ? a : b) }')
   done
   echo "$best"

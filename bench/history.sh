@@ -8,8 +8,8 @@ set -euo pipefail
 cd "$(dirname "$0")/.."
 objects=${OBJECTS:-1000000}
 ends=${ENDS:-10000}
-bin=crates/history_bench/out/history_bench
-(cd crates/history_bench && rt run < stdin > /dev/null)
+bin=crates/bench/out/bench
+(cd crates/bench && rt run < stdin > /dev/null)
 input=$(mktemp)
 trap 'rm -f "$input"' EXIT
 
@@ -35,7 +35,7 @@ trace() {
 seconds() {
   local best=1000000 one TIMEFORMAT=%U
   for _ in 1 2 3; do
-    one=$({ time "$bin" "$1" < "$input" > /dev/null; } 2>&1)
+    one=$({ time "$bin" history "$1" < "$input" > /dev/null; } 2>&1)
     best=$(awk -v a="$best" -v b="$one" 'BEGIN { print (a < b ? a : b) }')
   done
   echo "$best"

@@ -3,21 +3,21 @@
 # All is measured in this run; look at the ratios, since the seconds are this machine's.
 set -eu
 cd "$(dirname "$0")/.."
-bin=crates/marks_bench/out/marks_bench
-(cd crates/marks_bench && rt run -- 1 1 1 add > /dev/null)
+bin=crates/bench/out/bench
+(cd crates/bench && rt run < stdin > /dev/null)
 
 # the least processor seconds of nine runs
 seconds() {
   local best=1000000 one TIMEFORMAT=%3U
   for _ in 1 2 3 4 5 6 7 8 9; do
-    one=$({ time "$bin" "$@" > /dev/null; } 2>&1)
+    one=$({ time "$bin" marks "$@" > /dev/null; } 2>&1)
     best=$(awk -v a="$best" -v b="$one" 'BEGIN { print (a < b ? a : b) }')
   done
   echo "$best"
 }
 
 # the kilobytes of a run
-kilobytes() { /usr/bin/time -f '%M' "$bin" "$@" 2>&1 > /dev/null; }
+kilobytes() { /usr/bin/time -f '%M' "$bin" marks "$@" 2>&1 > /dev/null; }
 
 empty=$(kilobytes 1 1 1 add)
 rising=$(seconds 65536 16 1 add)

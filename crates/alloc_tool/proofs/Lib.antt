@@ -13,6 +13,7 @@ pub mod Complete
 pub mod Ended
 pub mod Faults
 pub mod OneWord
+pub mod OneGen
 pub mod Outcomes
 pub mod Broken
 pub mod Plain

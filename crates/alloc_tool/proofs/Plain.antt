@@ -1,46 +1,98 @@
 -- Each way in which a call that needs no runtime ends.
-use Rattle.std.proofs.Common.{◌≡◌, ◌⊎◌, ℕ, List, Option, String, inl, inr, refl, sym, ◌∙◌, subst}
+use Rattle.std.proofs.Common.{◌≡◌, ◌≢◌, ◌⊎◌, ℕ, ◌^◌, ◌<◌, ◌≤◌, List, [], ◌∷◌, map, Option, String, string_bytes, codes, decimal, inl, inr, refl, sym, ◌∙◌, subst, arith}
 use Rattle.std.specs.declared.alloc.Global.{Global}
-use Rattle.std.specs.Io.KnownBytes.{Appends}
 use Rattle.edge_io.specs.Causes.{Rose}
 use Rattle.edge_io.specs.Front.{AppendsFront}
+use Rattle.trace_reader.proofs.Digits.{decimal_injective_wide}
 use Rattle.class_lines.specs.Text.{classes_text}
-use Rattle.alloc_tool.specs.Plain.{Plain}
-use Rattle.alloc_tool.specs.Texts.{status_text, usage}
+use Rattle.made_lines.specs.Asks.{made_text}
+use Rattle.alloc_tool.specs.Plain.{IsUnknown, Plain, Writes}
+use Rattle.alloc_tool.specs.Texts.{status_text, usage, write_fault}
 use Rattle.alloc_tool.specs.Told.{Tells}
-use Rattle.alloc_tool.specs.Words.{IsClasses}
+use Rattle.alloc_tool.specs.Words.{IsClasses, IsGen}
 
--- the table was written, or a write failed
-pub table_plain : {S K E : Type 0} (held : K → Option (List ℕ)) (writes : K → ℕ) (shown : E → Option (List ℕ)) (tells : E → ℕ) (words : List (String Global)) (input : S) (output output' : K) (errors errors' : E) (status : ℕ)
-    → IsClasses words → (status ≡ 0) ⊎ (status ≡ 6) → (status ≡ 0 → Appends (held output) (held output') classes_text) → (status ≡ 0 → errors' ≡ errors) → (status ≡ 6 → Rose (writes output) (writes output'))
-    → (status ≡ 6 → AppendsFront (held output) (held output') classes_text) → (status ≡ 6 → Tells shown tells errors errors' (status_text 6)) → Plain held writes shown tells words input input output output' errors errors' status
-table_plain held writes shown tells words input output output' errors errors' status is ends answered silent rose front told = record {
-  classes = λ _. ends;
-  others = λ other. absurd (other is);
+clash : (s k l : ℕ) → (k ≡ l → ⊥) → s ≡ k → s ≡ l → ⊥
+clash s k l apart e f = apart (sym e ∙ f)
+
+-- a write failed
+pub failed_writes : {K E : Type 0} (held : K → Option (List ℕ)) (writes : K → ℕ) (shown : E → Option (List ℕ)) (tells : E → ℕ) (written : List ℕ) (output output' : K) (errors errors' : E) (status : ℕ)
+    → status ≡ 6 → Rose (writes output) (writes output') → AppendsFront (held output) (held output') written → Tells shown tells errors errors' write_fault
+    → Writes held writes shown tells written output output' errors errors' status
+failed_writes held writes shown tells written output output' errors errors' status six rose front told = record {
+  ends = inr (inl six);
+  answered = λ zero. absurd (clash status 6 0 (λ e. cc) six zero);
+  silent = λ zero. absurd (clash status 6 0 (λ e. cc) six zero);
+  write_fault = λ _. rose;
+  partly_written = λ _. front;
+  unwritten = λ seven. absurd (clash status 6 7 (λ e. cc) six seven);
+  told = λ _. subst (λ (k : ℕ). Tells shown tells errors errors' (status_text k)) (sym six) told;
+}
+
+-- memory ran out
+pub spent_writes : {K E : Type 0} (held : K → Option (List ℕ)) (writes : K → ℕ) (shown : E → Option (List ℕ)) (tells : E → ℕ) (written : List ℕ) (output output' : K) (errors errors' : E) (status : ℕ)
+    → status ≡ 7 → output' ≡ output → Tells shown tells errors errors' (codes "goheap: out of memory") → Writes held writes shown tells written output output' errors errors' status
+spent_writes held writes shown tells written output output' errors errors' status seven same told = record {
+  ends = inr (inr seven);
+  answered = λ zero. absurd (clash status 7 0 (λ e. cc) seven zero);
+  silent = λ zero. absurd (clash status 7 0 (λ e. cc) seven zero);
+  write_fault = λ six. absurd (clash status 7 6 (λ e. cc) seven six);
+  partly_written = λ six. absurd (clash status 7 6 (λ e. cc) seven six);
+  unwritten = λ _. same;
+  told = λ _. subst (λ (k : ℕ). Tells shown tells errors errors' (status_text k)) (sym seven) told;
+}
+
+-- one word is not three
+lengths : (a x y z : List ℕ) → a ∷ [] ≡ x ∷ y ∷ z ∷ [] → ⊥
+lengths a x y z e = cc
+
+classes_or_gen : (words : List (String Global)) (seed objects : ℕ) → IsClasses words → IsGen words seed objects → ⊥
+classes_or_gen words seed objects is made = lengths _ _ _ _ (sym is ∙ made.spelled)
+
+-- words ask for one made trace
+one_pair : (a b c x y : List ℕ) → a ∷ b ∷ c ∷ [] ≡ a ∷ x ∷ y ∷ [] → (b ≡ x) × (c ≡ y)
+one_pair a b c x y e = (cc, cc)
+
+one_gen : (words : List (String Global)) (s o s' o' : ℕ) → IsGen words s o → IsGen words s' o' → (s ≡ s') × (o ≡ o')
+one_gen words s o s' o' a b =
+    let both = one_pair _ _ _ _ _ (sym a.spelled ∙ b.spelled) in
+    let sa = a.seed_limit in
+    let sb = b.seed_limit in
+    let oa = a.few in
+    let ob = b.few in
+    (decimal_injective_wide s s' (omega arith) (omega arith) both.0, decimal_injective_wide o o' (omega arith) (omega arith) both.1)
+
+-- the word `classes`
+pub classes_plain : {S K E : Type 0} (held : K → Option (List ℕ)) (writes : K → ℕ) (shown : E → Option (List ℕ)) (tells : E → ℕ) (words : List (String Global)) (input : S) (output output' : K) (errors errors' : E) (status : ℕ)
+    → IsClasses words → Writes held writes shown tells classes_text output output' errors errors' status → status ≢ 7 → Plain held writes shown tells words input input output output' errors errors' status
+classes_plain held writes shown tells words input output output' errors errors' status is written memory = record {
+  classes = λ _. written;
+  no_memory = λ _. memory;
+  made = λ seed objects made. absurd (classes_or_gen words seed objects is made);
+  others = λ other _. absurd (other is);
   unread = refl;
-  answered = answered;
-  silent = silent;
-  unwritten = λ two. absurd (elim ends [ inl zero ↦ clash 0 (λ e. cc) zero two | inr six ↦ clash 6 (λ e. cc) six two ]);
-  write_fault = rose;
-  partly_written = front;
-  told = λ some. elim ends [ inl zero ↦ absurd (some zero) | inr six ↦ subst (λ (k : ℕ). Tells shown tells errors errors' (status_text k)) (sym six) (told six) ];
-} where
-  clash : (k : ℕ) → (k ≡ 2 → ⊥) → status ≡ k → status ≡ 2 → ⊥
-  clash k apart e f = apart (sym e ∙ f)
+}
+
+-- the word `gen`
+pub gen_plain : {S K E : Type 0} (held : K → Option (List ℕ)) (writes : K → ℕ) (shown : E → Option (List ℕ)) (tells : E → ℕ) (words : List (String Global)) (input : S) (output output' : K) (errors errors' : E) (status seed objects : ℕ)
+    → IsGen words seed objects → Writes held writes shown tells (made_text seed objects) output output' errors errors' status → Plain held writes shown tells words input input output output' errors errors' status
+gen_plain held writes shown tells words input output output' errors errors' status seed objects is written = record {
+  classes = λ classes. absurd (classes_or_gen words seed objects classes is);
+  no_memory = λ classes. absurd (classes_or_gen words seed objects classes is);
+  made = λ s o made.
+      let same = one_gen words seed objects s o is made in
+      subst (λ (k : ℕ). Writes held writes shown tells (made_text k o) output output' errors errors' status) same.0
+      (subst (λ (k : ℕ). Writes held writes shown tells (made_text seed k) output output' errors errors' status) same.1 written);
+  others = λ _ other. absurd (other seed objects is);
+  unread = refl;
+}
 
 -- other words
 pub usage_plain : {S K E : Type 0} (held : K → Option (List ℕ)) (writes : K → ℕ) (shown : E → Option (List ℕ)) (tells : E → ℕ) (words : List (String Global)) (input : S) (output : K) (errors errors' : E) (status : ℕ)
-    → (IsClasses words → ⊥) → status ≡ 2 → Tells shown tells errors errors' usage → Plain held writes shown tells words input input output output errors errors' status
-usage_plain held writes shown tells words input output errors errors' status other is told = record {
-  classes = λ classes. absurd (other classes);
-  others = λ _. is;
+    → (IsClasses words → ⊥) → ((seed objects : ℕ) → IsGen words seed objects → ⊥) → status ≡ 2 → Tells shown tells errors errors' usage → Plain held writes shown tells words input input output output errors errors' status
+usage_plain held writes shown tells words input output errors errors' status no_classes no_gen is told = record {
+  classes = λ classes. absurd (no_classes classes);
+  no_memory = λ classes. absurd (no_classes classes);
+  made = λ seed objects made. absurd (no_gen seed objects made);
+  others = λ _ _. record { refused = is; unwritten = refl; told = told };
   unread = refl;
-  answered = λ e. absurd (clash 0 (λ f. cc) e);
-  silent = λ e. absurd (clash 0 (λ f. cc) e);
-  unwritten = λ _. refl;
-  write_fault = λ e. absurd (clash 6 (λ f. cc) e);
-  partly_written = λ e. absurd (clash 6 (λ f. cc) e);
-  told = λ _. subst (λ (k : ℕ). Tells shown tells errors errors' (status_text k)) (sym is) told;
-} where
-  clash : (k : ℕ) → (2 ≡ k → ⊥) → status ≡ k → ⊥
-  clash k apart e = apart (sym is ∙ e)
+}

@@ -9,7 +9,7 @@ use Rattle.page_alloc.specs.Journal.{Life, life_of, Legal, MayFollow}
 use Rattle.page_alloc.proofs.Lives.{span_pages}
 use Rattle.span_state.specs.declared.body.Body.{Body}
 use Rattle.span_state.specs.Spans.{allocated, IsSameSpan}
-use Rattle.span_state.specs.Bits.{HasFree as HasFreeIndex}
+use Rattle.span_state.specs.Bits.{HasFree, with_bit}
 use Rattle.cycle_history.specs.declared.Answer.{Answer}
 use Rattle.cycle_history.specs.declared.Answer.TheVariants.{Placed, Zero, Missed}
 use Rattle.cycle_history.specs.Needs.{Need}
@@ -19,7 +19,7 @@ use Rattle.cycle_history.specs.Rules.{IsSmall}
 use Rattle.sound_run.specs.Run.{count_for, Fits, IsRun}
 use Rattle.swept_run_laws.specs.Steps.{IsNext, MayMiss, MayPlace}
 use Rattle.sound_run.specs.Spans.{AreBits}
-use Rattle.swept_run_laws.specs.Served.{AreServed, HasFree, IsFull, with_bit}
+use Rattle.swept_run_laws.specs.Served.{AreServed, IsFull}
 use Rattle.sound_run.proofs.Live.{live-of, live-placed}
 use Rattle.sound_run.proofs.Seats.{number-below, same_number}
 use Rattle.swept_run_laws.proofs.Keeps.{line-keeps, take-may, miss-may, object-keeps}
@@ -120,7 +120,7 @@ next-placed marked c n page life index need past objects at may place = record {
 
 pub in-current : (marked : Marking) (region goal c n : ℕ) (past : List Line) (bodies : List (Option Body)) (current : List (Option ℕ)) (objects : List Object) (need : Need) (page index : ℕ) (body new : Body)
     → AreBodies past bodies → AreCurrent bodies current → IsSpanNeed need → page_of current need.class ≡ Some page → body_at bodies page ≡ Some body
-    → HasFreeIndex body.count (allocated body) index → IsSameSpan body new → ((k : ℕ) → allocated new k ≡ with_bit index (allocated body) k)
+    → HasFree body.count (allocated body) index → IsSameSpan body new → ((k : ℕ) → allocated new k ≡ with_bit index (allocated body) k)
     → Serves marked region goal c past bodies current objects → MayCome marked c n objects
     → (o : Object) × HasAnswer c n need (answer_at page need index) o × Serves marked region goal c past (set bodies page (Some new)) current (o ∷ objects)
 in-current marked region goal c n past bodies current objects need page index body new are currents span now here gap same more serves may =

@@ -3,6 +3,7 @@
 //! `goheap run` reads a trace from standard input and writes its report to standard output.
 #![tactic(auto)]
 
+mod generate;
 mod heap;
 mod need;
 mod run;

@@ -11,13 +11,14 @@ ghost use Rattle.trace_reader.specs.Limits.{IsPlain, Spells};
 ghost use Rattle.trace_reader.specs.Told.{HasReadCause, IsOfTrace};
 ghost use Rattle.class_lines.specs.Text.{classes_text};
 ghost use Rattle.alloc_tool.specs.Outcome.{Outcome};
-ghost use Rattle.alloc_tool.specs.Plain.{Plain};
+ghost use Rattle.alloc_tool.specs.Plain.{Plain, Writes};
 ghost use Rattle.alloc_tool.specs.Texts.{status_text};
 ghost use Rattle.alloc_tool.specs.Told.{Tells};
 ghost use Rattle.alloc_tool.specs.Top.{BreaksOff, IsComplete, IsRefused, IsStatusOfRun, IsUndisturbed};
 ghost use Rattle.alloc_tool.specs.WholeInput.{ReadsAll};
 ghost use Rattle.alloc_tool.specs.Words.{IsRun, IsWord};
 
+use crate::generate::{generate, wanted_by};
 use crate::run::report;
 use crate::tell::{refuse_trace, refuse_words, stop_writing};
 use class_lines::write_classes;
@@ -58,9 +59,10 @@ pub fn goheap<R: Threads + Wait + Sync, S: Source, K: Sink, E: Sink, G: Gate>(
 }
 
 /// Does what the words say where that needs no runtime, and answers the exit status. `classes` writes the table of size
-/// classes to `output`. All other words are not known yet, and `run` and `demo` need the runtime. Nothing is read.
+/// classes to `output`, and `gen SEED OBJECTS` a made trace. All other words are not known yet, and `run` and `demo` need the
+/// runtime. Nothing is read.
 pub fn goheap_plain<S: Source, K: Sink, E: Sink>(
-    _alloc: Global,
+    alloc: Global,
     words: &[String],
     _input: &mut S,
     output: &mut K,
@@ -69,9 +71,11 @@ pub fn goheap_plain<S: Source, K: Sink, E: Sink>(
     ensures { Plain K.held K.faults E.held E.faults words.now _input.old _input.new output.old output.new errors.old errors.new result }
 {
     if is_word(words, "classes") {
-        classes(output, errors)
-    } else {
-        refuse_words(errors)
+        return classes(output, errors);
+    }
+    match wanted_by(words) {
+        Some(wanted) => generate(alloc, wanted, output, errors),
+        None => refuse_words(errors),
     }
 }
 
@@ -84,12 +88,8 @@ fn is_word(words: &[String], word: &str) -> bool
 
 // Writes the size classes.
 fn classes<K: Sink, E: Sink>(output: &mut K, errors: &mut E) -> u8
-    ensures status { (result ≡ 0) ⊎ (result ≡ 6) }
-    ensures answered { result ≡ 0 → Appends (K.held output.old) (K.held output.new) classes_text }
-    ensures silent { result ≡ 0 → errors.new ≡ errors.old }
-    ensures write_fault { result ≡ 6 → Rose (K.faults output.old) (K.faults output.new) }
-    ensures partly_written { result ≡ 6 → AppendsFront (K.held output.old) (K.held output.new) classes_text }
-    ensures told { result ≡ 6 → Tells E.held E.faults errors.old errors.new (status_text 6) }
+    ensures writes { Writes K.held K.faults E.held E.faults classes_text output.old output.new errors.old errors.new result }
+    ensures no_memory { result ≢ 7 }
 {
     match write_classes(output) {
         Ok(()) => 0,

@@ -5,7 +5,7 @@ use Rattle.page_bitmap.specs.declared.chunk.Chunk.{Chunk}
 use Rattle.page_bitmap.specs.declared.line.Line.{Line}
 use Rattle.page_alloc.specs.declared.allocator.Pages.TheInside.{Inside}
 use Rattle.page_alloc.specs.Journal.{open_lives, owner, IsBy, IsFirstFit, IsSpanSize, Legal}
-use Rattle.page_alloc.specs.Region.{free_in, scavenged_in, pages_in}
+use Rattle.page_alloc.specs.Region.{free_in, loose_in, scavenged_in, pages_in}
 use Rattle.page_alloc.specs.Levels.{AreRight}
 use Rattle.page_alloc.specs.Heap.{PageHeap, AddsLine}
 use Rattle.page_alloc.specs.Kept.{IsKept, IsSound, region_of, past_in, heap_of}
@@ -16,8 +16,9 @@ pub sound-after : (a b : Inside) (chunks : List Chunk) (maps : List Bitmap) (len
     → past_in b ≡ line ∷ past_in a
     → IsKept (region_of a) b.goal (line ∷ past_in a) (free_in chunks) (scavenged_in chunks) (pages_in maps) lengths b.live b.taken b.backed
     → b.live + vec_len b.journal ≤ vec_capacity b.journal
-    → AreRight (free_in chunks) (length chunks) b.levels → ((p : ℕ) → p < b.search → free_in chunks p ≡ false) → IsSound b
-sound-after a b chunks maps lengths line sound is_chunks is_maps is_lengths same_chunks same_maps same_lengths past kept room right below = record {
+    → AreRight (free_in chunks) (length chunks) b.levels → ((p : ℕ) → p < b.search → free_in chunks p ≡ false)
+    → b.top ≤ length chunks → ((p : ℕ) → 512 * b.top ≤ p → loose_in chunks p ≡ false) → IsSound b
+sound-after a b chunks maps lengths line sound is_chunks is_maps is_lengths same_chunks same_maps same_lengths past kept room right below top above = record {
   some_chunks = rw (is_chunks, same_chunks) sound.some_chunks;
   few_chunks = rw (is_chunks, same_chunks) sound.few_chunks;
   maps = rw (is_maps, is_chunks, same_chunks, same_maps) sound.maps;
@@ -25,6 +26,8 @@ sound-after a b chunks maps lengths line sound is_chunks is_maps is_lengths same
   kept = rw (is_chunks, is_maps, is_lengths, same_chunks, past) kept;
   levels = rw is_chunks right;
   below_search = λ p lt. rw is_chunks (below p lt);
+  top_within = rw is_chunks top;
+  above_top = λ p le. rw is_chunks (above p le);
   room = room;
 }
 

@@ -3,3 +3,4 @@ pub mod Walks
 pub mod Keeping
 pub mod Adding
 pub mod Sums
+pub mod Tops

@@ -4,7 +4,7 @@ use Rattle.page_bitmap.specs.declared.line.Line.{Line}
 use Rattle.page_alloc.specs.declared.allocator.Pages.TheInside.{Inside}
 use Rattle.page_alloc.specs.Lists.{In}
 use Rattle.page_alloc.specs.Journal.{past_of, owner, unscavenged, taken, backed, Life, open_lives, Legal}
-use Rattle.page_alloc.specs.Region.{free_in, scavenged_in, pages_in}
+use Rattle.page_alloc.specs.Region.{free_in, loose_in, scavenged_in, pages_in}
 use Rattle.page_alloc.specs.Levels.{AreRight}
 use Rattle.page_alloc.specs.Heap.{PageHeap}
 
@@ -41,4 +41,6 @@ pub record IsSound (inside : Inside) : Type 0 where
   pub kept : IsKept (region_of inside) inside.goal (past_in inside) (free_in inside.chunks.items) (scavenged_in inside.chunks.items) (pages_in inside.starts.items) inside.lengths.items inside.live inside.taken inside.backed
   pub levels : AreRight (free_in inside.chunks.items) (length inside.chunks.items) inside.levels
   pub below_search : (p : ℕ) → p < inside.search → free_in inside.chunks.items p ≡ false
+  pub top_within : inside.top ≤ length inside.chunks.items
+  pub above_top : (p : ℕ) → 512 * inside.top ≤ p → loose_in inside.chunks.items p ≡ false
   pub room : inside.live + vec_len inside.journal ≤ vec_capacity inside.journal

@@ -41,7 +41,7 @@ ghost use Rattle.page_alloc.specs.Journal.{
 };
 
 use crate::levels::Levels;
-use crate::runs::{CHUNK_PAGES, free_run, scavenge_run, take_run, top_run};
+use crate::runs::{CHUNK_PAGES, chunk_behind, free_run, scavenge_run, take_run, top_run};
 use crate::starts::{last_start, mark_start};
 use fallible_list::NoMemory;
 use page_bitmap::{Bitmap, Chunk, Line, Run};
@@ -61,6 +61,8 @@ pub struct Pages {
     levels: Levels,
     // No page below this one is free.
     search: u32,
+    // No chunk from this one on has a page that is free and backed.
+    top: usize,
     starts: Vec<Bitmap>,
     lengths: Vec<u32>,
     journal: Vec<Line>,
@@ -99,6 +101,7 @@ impl Pages {
             chunks,
             levels,
             search: 0,
+            top: 0,
             starts: vec![in alloc; Bitmap::empty(); count]?,
             lengths: vec![in alloc; 0; 512 * count]?,
             journal: Vec::new(alloc),
@@ -198,6 +201,7 @@ impl Pages {
             ((page + pages - 1) / CHUNK_PAGES) as usize,
         );
         self.search = self.search.min(page);
+        self.top = self.top.max(chunk_behind(Run { page, pages }));
         self.taken -= pages;
         self.live -= 1;
         mark_start(self.starts.as_mut_slice(), page, false);
@@ -206,7 +210,8 @@ impl Pages {
 
     /// One scavenging step: the highest free and backed page, with those directly below it in its chunk, at
     /// most 64 in all, is no longer backed, and a Scav line says so. None exactly where the backed pages are
-    /// at most the goal, or no free page is backed (ours; Go's is `mgcscavenge.go`, `scavengeOne`).
+    /// at most the goal, or no free page is backed (ours; Go's is `mgcscavenge.go`, `scavengeOne`). It looks at no chunk
+    /// above the highest one that a give or a step touched since, as Go's index does (`scavengeIndex`).
     pub fn scavenge(&mut self, cycle: u32) -> Option<Run>
         requires cycle { IsBy cycle self.old.past }
         requires spare { length (open_lives self.old.past) < self.old.spare }
@@ -217,8 +222,12 @@ impl Pages {
         if self.backed <= self.goal {
             return None;
         }
-        let run = top_run(self.chunks.as_slice())?;
+        let Some(run) = top_run(self.chunks.as_slice(), self.top) else {
+            self.top = 0;
+            return None;
+        };
         scavenge_run(self.chunks.as_mut_slice(), run);
+        self.top = chunk_behind(run);
         self.backed -= run.pages;
         append(
             &mut self.journal,
@@ -256,6 +265,22 @@ impl Pages {
         ensures { result ≡ backed self.now.region self.now.past }
     {
         self.backed
+    }
+
+    /// The number of pages of the region: 512 a chunk.
+    pub fn region(&self) -> u32
+        ensures region { result ≡ self.now.region }
+        ensures some { 512 ≤ result }
+        ensures most { result ≤ 65536 }
+    {
+        CHUNK_PAGES * self.chunks.len() as u32
+    }
+
+    /// The goal for backed pages, in pages: scavenging steps are made only while more pages are backed.
+    pub fn goal(&self) -> u32
+        ensures { result ≡ self.now.goal }
+    {
+        self.goal
     }
 
     /// The number of pages that spans have.

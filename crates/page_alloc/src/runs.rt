@@ -84,13 +84,25 @@ fn piece(run: Run, done: u32) -> (usize, u32, u32)
     ((at / CHUNK_PAGES) as usize, page, n)
 }
 
-/// The run that a scavenging step releases: None where every free page is scavenged.
-pub(crate) fn top_run(chunks: &[Chunk]) -> Option<Run>
-    requires { length chunks.now ≤ 128 }
+/// The number of the chunk behind the last one that a run has pages of.
+pub(crate) fn chunk_behind(run: Run) -> usize
+    requires { run.page + run.pages ≤ 65536 }
+    ensures behind { run.page + run.pages ≤ 512 * result }
+    ensures least { 512 * result < run.page + run.pages + 512 }
+{
+    (run.page + run.pages).div_ceil(CHUNK_PAGES) as usize
+}
+
+/// The run that a scavenging step releases, where no chunk from the number `end` on has a page that is free and backed: None
+/// where no chunk has one.
+pub(crate) fn top_run(chunks: &[Chunk], end: usize) -> Option<Run>
+    requires few { length chunks.now ≤ 128 }
+    requires end { end ≤ length chunks.now }
+    requires above { (p : ℕ) → 512 * end ≤ p → loose_in chunks.now p ≡ false }
     ensures found { IfSome result (λ run. IsTopRunIn (loose_in chunks.now) (512 * length chunks.now) run.page run.pages) }
     ensures none { IfNone result ((p : ℕ) → p < 512 * length chunks.now → loose_in chunks.now p ≡ false) }
 {
-    for index in (0..chunks.len()).rev() {
+    for index in (0..end).rev() {
         if let Some(run) = chunks[index].scavenge_candidate(SCAVENGE_PAGES) {
             let page = CHUNK_PAGES * index as u32 + run.page;
             return Some(Run {

@@ -1,5 +1,5 @@
 -- The calls that lend a body or bring it home, from what they have at hand.
-use Rattle.std.proofs.Common.{◌≡◌, ℕ, ◌+◌, ◌-◌, ◌/◌, ◌<◌, ◌≤◌, true, List, [], ◌∷◌, ◌++◌, set, take, drop, length, get_or, ap, sym, subst, ◌∙◌, arith}
+use Rattle.std.proofs.Common.{◌≡◌, ℕ, ◌+◌, ◌-◌, ◌/◌, ◌<◌, ◌≤◌, true, false, List, [], ◌∷◌, ◌++◌, set, take, drop, length, get_or, ap, sym, subst, ◌∙◌, arith}
 use Rattle.std.specs.Prelude.{None, Some, Option}
 use Rattle.std.proofs.Math.ListN.{length-set}
 use Rattle.std.proofs.lemmas.List.{append-nil, drop_all, take_all}
@@ -17,7 +17,7 @@ use Rattle.sweep_laws.specs.State.{CoreState}
 use Rattle.sweep_laws.specs.Tidy.{IsTidy, HasSpace}
 use Rattle.worker_log.specs.Logs.{is_pop_of, many}
 use Rattle.span_laws.specs.Answers.{IsNew, IsOfSet}
-use Rattle.span_laws.specs.Asks.{HasBody, HasMarked, IsUntouched}
+use Rattle.span_laws.specs.Asks.{HasBody, HasMarked, IsOfPops, IsTaken, IsUntouched, mine}
 use Rattle.span_laws.specs.Bodies.{Fits}
 use Rattle.span_laws.specs.Rule.{Rule}
 use Rattle.span_laws.specs.Truth.{IsSoOf}
@@ -25,11 +25,12 @@ use Rattle.span_laws.specs.declared.said.Said.TheVariants.{Claims}
 use Rattle.span_laws.specs.declared.said.SaidOf.TheVariants.{Acquires, Pops, Takes}
 use Rattle.span_laws.specs.declared.view.View.{View}
 use Rattle.span_laws.specs.Views.{acts, has_cell, span_of, told, told_of}
-use Rattle.span_laws.proofs.LifeMoves.{free_unsettled, take_keeps}
+use Rattle.span_laws.proofs.LifeMoves.{free_has, free_unsettled, take_keeps}
 use Rattle.span_laws.proofs.Notes.{life_keeps, room_keeps}
 use Rattle.span_laws.proofs.RuleKept.{part_at}
 use Rattle.span_laws.proofs.SetMoves.{claim_keeps, pop_keeps}
-use Rattle.span_laws.proofs.Uses.{claim_class, claim_full, claim_used, has_marked, held_low, popped_fits, popped_home, popped_low, untouched, waiting_home}
+use Rattle.span_laws.proofs.Uses.{claim_class, claim_full, claim_used, has_marked, held_low, popped_fits, popped_full, popped_home, popped_low, popped_mine, untouched, waiting_home, waiting_mine}
+use Rattle.span_laws.proofs.Classes.{fits_class}
 use Rattle.span_laws.proofs.WordMoves.{acquire_keeps, unsettled}
 use Rattle.std.proofs.Common.{inl}
 
@@ -67,6 +68,16 @@ module _ (c : CoreState) (heap : PageHeap) (homes : List (Option Body)) (n : ℕ
     pub acquired_untouched : IsUntouched v.generation v.own p
     acquired_untouched = untouched c heap homes n v k p low (unsettled c heap homes n v k _ (inl w))
 
+    pub acquired_mine : mine p v.own ≡ 0
+    acquired_mine = waiting_mine c heap homes n v k p low w
+
+    -- the entry that was popped tells the class
+    pub acquired_pops : IsOfPops v.generation v.own b
+    acquired_pops j part m = sym ((k.tells n v.own (part_at c heap homes n v k)).waits j b.page (subst (λ (g : ℕ). is_swept_set g j ≡ false) k.generation part) m (subst (λ (q : ℕ). get_or c.words q 0 + 2 ≡ c.generation) (sym acquired_page) w)) ∙ sym acquired_own.body.class
+
+    pub acquired_class : b.class < 136
+    acquired_class = fits_class c heap homes n v k p (span_of b) acquired_fits
+
     pub acquire_rule : (c' : CoreState) → c' ≡ after_acquire c n p → Owned c' → IsTidy c' → HasSpace c' → Rule c' heap (set homes p None) n (acts v (told_of Acquires (span_of b) v.own))
     acquire_rule c' e o t r = subst (λ (q : ℕ). Rule c' heap (set homes q None) n (acts v (told_of Acquires (span_of b) v.own))) acquired_page
         (acquire_keeps c heap homes n v k b (subst (λ (q : ℕ). q < length c.words) (sym acquired_page) low) (subst (λ (q : ℕ). get_or c.words q 0 + 2 ≡ c.generation) (sym acquired_page) w) acquired_own c' (e ∙ ap (after_acquire c n) (sym acquired_page)) o t r)
@@ -81,6 +92,12 @@ module _ (c : CoreState) (heap : PageHeap) (homes : List (Option Body)) (n : ℕ
 
     pub taken_set : IsOfSet j b
     taken_set = popped_fits c heap homes n v k j p there part more filled b taken_fits
+
+    pub taken_mine : IsTaken v.generation j v.own p
+    taken_mine = record {
+      nothing = popped_mine c heap homes n v k j p there part more filled;
+      unpopped = popped_full c heap homes n v k j p there part more filled;
+    }
 
     pub pop_rule : (c' : CoreState) → c' ≡ after_pop_swept c n j → Owned c' → IsTidy c' → HasSpace c' → Rule c' heap (set homes p None) n (acts v (told_of (Pops j) (span_of b) v.own))
     pop_rule c' e o t r = subst (λ (q : ℕ). Rule c' heap (set homes q None) n (acts v (told_of (Pops j) (span_of b) v.own))) taken_page
@@ -113,6 +130,9 @@ module _ (c : CoreState) (heap : PageHeap) (homes : List (Option Body)) (n : ℕ
 
       pub run_untouched : IsUntouched v.generation v.own b.page
       run_untouched = untouched c₁ heap₁ homes n v ready_rule b.page run_low (free_unsettled c₁ heap₁ homes n v ready_rule b.page run_low run_free)
+
+      pub run_mine : mine b.page v.own ≡ 0
+      run_mine = free_has c₁ heap₁ homes n v ready_rule b.page run_low run_free
 
       pub run_line : heap'.past ≡ TakeLine cycle b.page b.pages b.class ∷ heap₁.past
       run_line = line.past ∙ same_line cycle page b.page pages b.pages class b.class heap₁.past (sym at) (sym is_new.pages) (sym is_new.class)

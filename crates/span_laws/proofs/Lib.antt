@@ -4,6 +4,7 @@ pub mod Parts
 pub mod BodiesKept
 pub mod TellsKept
 pub mod MarkedKept
+pub mod Waiting
 pub mod RuleKept
 pub mod WordMoves
 pub mod Lives
@@ -14,7 +15,9 @@ pub mod Placing
 pub mod SaidKept
 pub mod MarkEnd
 pub mod Ready
+pub mod Classes
 pub mod Uses
 pub mod Calls
 pub mod Allowed
 pub mod Start
+pub mod CallLogs

@@ -65,10 +65,13 @@ module _ (c : CoreState) (heap : PageHeap) (homes : List (Option Body)) (n : ℕ
           (λ s. ne_eqb d.page p s)
 
   -- where the word of a page was not settled, its life may change
-  life_leads : (p x : ℕ) (ls' : List LifeState) → p < length c.words → (IsSettled c.generation (get_or c.words p 0) → ⊥) → ((q : ℕ) → q ≢ p → life_in q ls' ≡ life_in q c.lives)
+  life_leads : (p x : ℕ) (ls' : List LifeState) → p < length c.words → (x + 2 ≡ c.generation → ⊥) → (IsSettled c.generation (get_or c.words p 0) → ⊥) → ((q : ℕ) → q ≢ p → life_in q ls' ≡ life_in q c.lives)
       → Leads c.generation c.words c.lives c.sets (set c.words p x) ls' c.sets p
-  life_leads p x ls' low none life = record {
+  life_leads p x ls' low off none life = record {
     words = word_else c heap homes n v k p x low;
+    waits = λ q w. dite (ℕ_discrete q p)
+        (λ e. absurd (off (ap (λ (z : ℕ). z + 2) (sym (word_here c heap homes n v k p x low) ∙ ap (λ (z : ℕ). get_or (set c.words p x) z 0) (sym e)) ∙ w)))
+        (λ d. (ap (λ (z : ℕ). z + 2) (sym (word_else c heap homes n v k p x low q d)) ∙ w, ap (λ (l : LifeState). l.class) (life q d)));
     placed = λ q i m. dite (ℕ_discrete q p)
         (λ e. absurd (none (subst (λ (z : ℕ). IsSettled c.generation (get_or c.words z 0)) e m.1)))
         (λ d. (subst (λ (z : ℕ). q < z) (sym (length-set c.words p x)) m.0, subst (IsSettled c.generation) (sym (word_else c heap homes n v k p x low q d)) m.1, subst (λ (l : LifeState). 0 < times i l.allocated) (sym (life q d)) m.2));
@@ -95,7 +98,7 @@ module _ (c : CoreState) (heap : PageHeap) (homes : List (Option Body)) (n : ℕ
         let same : lent.0 ≡ was.0 = some_same lent.0 was.0 (sym lent.1 ∙ was.1) in
         let fits : Fits heap.past c.lives p was.0 = subst (Fits heap.past c.lives p) same lent.2 in
         let place = was.2 in
-        let lead = life_leads p g ls' low none life in
+        let lead = life_leads p g ls' low (λ y. omega arith) none life in
         let d : CoreState = after_release c n p in
         subst (λ (s : CoreState). Rule s heap homes n (acts v h)) (sym e)
         (turned c heap homes n v k d heap homes h (subst Owned e o) (subst IsTidy e t) (subst HasSpace e r) refl (length-set c.words p _) refl (as_own c heap homes n v k h (end_sweep p) refl) refl refl refl k.legal k.cycle k.heap_owner
@@ -117,7 +120,7 @@ module _ (c : CoreState) (heap : PageHeap) (homes : List (Option Body)) (n : ℕ
         (λ y. absurd (not_waiting c heap homes n v k _ (inl (word_here c heap homes n v k p g low)) y))
         (λ i a m. subst (λ (l : LifeState). 0 < times i l.allocated) (sym now) (subst (λ (z : List ℕ). 0 < times i z) (sym marks) m))
         (own_tells g c.words c.lives c.sets (set c.words p g) ls' c.sets p lead v.own h (own_tells_of c heap homes n v k)
-        (fresh_stays c heap homes n v k p g low h refl refl (has_none p v.own.cached (omega arith))) (λ q i m. inl (omega arith)) (λ s u m. inl (omega arith)) (λ s i q m. inl m) (λ s x y m. inl (omega arith))))
+        (fresh_stays c heap homes n v k p g low h refl refl (has_none p v.own.cached (omega arith))) (λ q i m. inl (omega arith)) (λ s q u m. inl (omega arith)) (λ s u m. inl (omega arith)) (λ s i q m. inl m) (λ s x y m. inl (omega arith)) (λ s. let a = (own_tells_of c heap homes n v k).passed s in omega arith)))
       where
         only_more : 0 < lends b.page v.own
         only_more = let have = has_times b.page v.own.sweeping sweeping in let s = only (not (is_claimed b.page v.own.claimed)) (times b.page v.own.held) in omega arith
@@ -151,7 +154,7 @@ module _ (c : CoreState) (heap : PageHeap) (homes : List (Option Body)) (n : ℕ
         let now : life_in p ls' ≡ m = appended_here p m refl c.lives (free_begins p low free) in
         let was : life_in p c.lives ≡ no_life = none_here p c.lives (free_begins p low free) in
         let life : (q : ℕ) → q ≢ p → life_in q ls' ≡ life_in q c.lives = (λ q d. append_else q m c.lives (λ z. d (sym z))) in
-        let lead = life_leads p g ls' low none life in
+        let lead = life_leads p g ls' low (λ y. omega arith) none life in
         let d : CoreState = record (after_take c n p b.pages b.count b.class) { lock = None } in
         subst (λ (s : CoreState). Rule s heap' homes n (acts v h)) (sym e)
         (turned c heap homes n v k d heap' homes h (subst Owned e o) (subst IsTidy e t) (subst HasSpace e r) (sym k.unlocked) (length-set c.words p _) refl (as_own c heap homes n v k h (hold p) refl) refl region goal legal by
@@ -175,7 +178,7 @@ module _ (c : CoreState) (heap : PageHeap) (homes : List (Option Body)) (n : ℕ
         (λ y. absurd (not_waiting c heap homes n v k _ (inl (word_here c heap homes n v k p g low)) y))
         (λ i a m. let z : 0 < times i no_life.allocated = subst (λ (l : LifeState). 0 < times i l.allocated) was a in absurd (omega arith))
         (own_tells g c.words c.lives c.sets (set c.words p g) ls' c.sets p lead v.own h (own_tells_of c heap homes n v k)
-        (fresh_stays c heap homes n v k p g low h refl refl (has_none p v.own.cached (omega arith))) (λ q i m. inl (omega arith)) (λ s u m. inl (omega arith)) (λ s i q m. inl m) (λ s x y m. inl (omega arith))))
+        (fresh_stays c heap homes n v k p g low h refl refl (has_none p v.own.cached (omega arith))) (λ q i m. inl (omega arith)) (λ s q u m. inl (omega arith)) (λ s u m. inl (omega arith)) (λ s i q m. inl m) (λ s x y m. inl (omega arith)) (λ s. let a = (own_tells_of c heap homes n v k).passed s in omega arith)))
 
   -- a span without objects is given back
   module _ (p pages : ℕ) (low : p < length c.words) (held : has p v.own.held ≡ true) (free : v.own.claimed ≡ None) (empty : length (life_in p c.lives).allocated ≡ 0) (size : (life_in p c.lives).pages ≡ pages) (cycle : ℕ) (heap' : PageHeap)
@@ -192,8 +195,12 @@ module _ (c : CoreState) (heap : PageHeap) (homes : List (Option Body)) (n : ℕ
         let d : CoreState = record (after_give c n p) { lock = None } in
         let kept' = kept_of d (subst Owned e o) in
         let gone : begins p ls' ≡ false = kept'.lives_fit.begin p (subst (λ (z : ℕ). p < z) (sym (length-set c.words p 0)) low) ∙ ap not (eq-eqb _ _ (word_here c heap homes n v k p 0 low)) in
+        let four₁ = four c heap homes n v k in
         let lead : Leads g c.words c.lives c.sets (set c.words p 0) ls' c.sets p = record {
           words = word_else c heap homes n v k p 0 low;
+          waits = λ q w. dite (ℕ_discrete q p)
+              (λ s. let y : get_or (set c.words p 0) q 0 ≡ 0 = ap (λ (z : ℕ). get_or (set c.words p 0) z 0) s ∙ word_here c heap homes n v k p 0 low in absurd (omega arith))
+              (λ y. (ap (λ (z : ℕ). z + 2) (sym (word_else c heap homes n v k p 0 low q y)) ∙ w, ap (λ (l : LifeState). l.class) (life q y)));
           placed = λ q i m. dite (ℕ_discrete q p)
               (λ s. let y : 0 < times i (life_in p c.lives).allocated = subst (λ (z : ℕ). 0 < times i (life_in z c.lives).allocated) s m.2 in let z = nothing (life_in p c.lives).allocated empty i in absurd (omega arith))
               (λ y. (subst (λ (z : ℕ). q < z) (sym (length-set c.words p 0)) m.0, subst (IsSettled g) (sym (word_else c heap homes n v k p 0 low q y)) m.1, subst (λ (l : LifeState). 0 < times i l.allocated) (sym (life q y)) m.2));
@@ -219,7 +226,7 @@ module _ (c : CoreState) (heap : PageHeap) (homes : List (Option Body)) (n : ℕ
         (λ y. let w = word_here c heap homes n v k p 0 low in let f = four c heap homes n v k in absurd (zero_waits (get_or (set c.words p 0) p 0) w y))
         (λ i a m. let z = nothing (life_in p c.lives).allocated empty i in absurd (omega arith))
         (own_tells g c.words c.lives c.sets (set c.words p 0) ls' c.sets p lead v.own h (own_tells_of c heap homes n v k)
-        (fresh_stays c heap homes n v k p 0 low h refl refl (has_none p v.own.cached (omega arith))) (λ q i m. inl (omega arith)) (λ s u m. inl (omega arith)) (λ s i q m. inl m) (λ s x y m. inl (omega arith))))
+        (fresh_stays c heap homes n v k p 0 low h refl refl (has_none p v.own.cached (omega arith))) (λ q i m. inl (omega arith)) (λ s q u m. inl (omega arith)) (λ s u m. inl (omega arith)) (λ s i q m. inl m) (λ s x y m. inl (omega arith)) (λ s. let a = (own_tells_of c heap homes n v k).passed s in omega arith)))
       where
         only_none : (b : Bool) → only b 0 ≡ 0
         only_none true = refl

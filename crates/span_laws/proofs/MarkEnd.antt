@@ -343,6 +343,8 @@ module _ (c : CoreState) (heap : PageHeap) (homes : List (Option Body)) (n : ℕ
           emptied = λ s u l. absurd (omega arith);
           read = λ s i p l. absurd (true≢false (sym l));
           filled = λ s u. filled_after s u;
+          waits = λ s p u l w. absurd (omega arith);
           grown = λ s x y l. absurd (omega arith);
+          passed = λ k. omega arith;
         }));
   })

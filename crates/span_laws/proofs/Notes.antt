@@ -23,7 +23,7 @@ use Rattle.sweep_laws.specs.Tidy.{IsTidy, HasSpace}
 use Rattle.sweep_laws.proofs.Forms.{kept_of, owned_of}
 use Rattle.sweep_laws.proofs.NeedsMet.{both}
 use Rattle.worker_log.specs.declared.Entry.TheVariants.{Looked}
-use Rattle.worker_log.specs.Logs.{many, is_pop_of, is_seen_empty}
+use Rattle.worker_log.specs.Logs.{many, is_pop, is_pop_of, is_seen_empty}
 use Rattle.swept_set_laws.specs.Entered.{Entered}
 use Rattle.span_laws.specs.declared.said.Said.{Said}
 use Rattle.span_laws.specs.declared.said.Said.TheVariants.{Finds, Misses, Looks, LooksCell, Reads, Adds, Resets}
@@ -54,11 +54,13 @@ module _ (c : CoreState) (heap : PageHeap) (homes : List (Option Body)) (n : ℕ
       (log : (q i : ℕ) → many (is_placing_at q i) h.log ≡ many (is_placing_at q i) v.own.log)
       (seen : (s : ℕ) → is_swept_set c.generation s ≡ false → 0 < many (is_seen_empty s) h.log → (0 < many (is_seen_empty s) v.own.log) ⊎ ((set_of c s).head ≡ (set_of c s).tail))
       (read : (s i q : ℕ) → has_cell s i q h.read ≡ true → (has_cell s i q v.own.read ≡ true) ⊎ (cell_of (set_of c s) i ≡ q + 1))
-      (look : (s x y : ℕ) → 0 < many (is_look s x y) h.log → (0 < many (is_look s x y) v.own.log) ⊎ ((x ≤ (set_of c s).head) × (y ≤ (set_of c s).tail))) where
+      (look : (s x y : ℕ) → 0 < many (is_look s x y) h.log → (0 < many (is_look s x y) v.own.log) ⊎ ((x ≤ (set_of c s).head) × (y ≤ (set_of c s).tail)))
+      (pop : (s : ℕ) → many (is_pop s) h.log ≡ many (is_pop s) v.own.log) where
     tells : Tells c.generation c.words c.lives c.sets h
     tells = own_tells c.generation c.words c.lives c.sets c.words c.lives c.sets 0 (same_leads c.generation c.words c.lives c.sets 0) v.own h (own_tells_of c heap homes n v k)
         (λ q. ap (has q) fresh ∙ (own_tells_of c heap homes n v k).fresh q ∙ ap (λ (l : List ℕ). has q l && eqb (get_or c.words q 0) (c.generation + 3)) (sym cached))
-        (λ q i m. inl (subst (λ (z : ℕ). 0 < z) (log q i) m)) seen read look
+        (λ q i m. inl (subst (λ (z : ℕ). 0 < z) (log q i) m)) (λ s q u m. inl (subst (λ (z : ℕ). 0 < z) (pops s q) m)) seen read look
+        (λ s. let a = (own_tells_of c heap homes n v k).passed s in let b = pop s in omega arith)
 
     module _ (held : h.held ≡ v.own.held) (sweeping : h.sweeping ≡ v.own.sweeping) (claimed : h.claimed ≡ v.own.claimed) where
       lend : (q : ℕ) → lends q h ≡ lends q v.own
@@ -98,10 +100,10 @@ module _ (c : CoreState) (heap : PageHeap) (homes : List (Option Body)) (n : ℕ
   -- an entry without a move
   pub note_keeps : (s : Said) → IsQuiet v.own s → IsSo c heap s → Rule c heap homes n (acts v (told s v.own))
   note_keeps (Finds p w) q o = let h = told (Finds p w) v.own in
-      log_changes h refl refl refl (λ j q. omega arith) (λ q i. omega arith) (λ s u m. inl (omega arith)) (λ s i q m. inl m) (λ s x y m. inl (omega arith)) refl refl refl
+      log_changes h refl refl refl (λ j q. omega arith) (λ q i. omega arith) (λ s u m. inl (omega arith)) (λ s i q m. inl m) (λ s x y m. inl (omega arith)) (λ s. omega arith) refl refl refl
       (ap (λ (l : List ℕ). record (hand_state v.own) { popped = l }) (erase_none p v.own.popped q)) heap refl refl k.legal k.cycle (λ q. refl) refl
   note_keeps (Looks set head tail) q o = let h = told (Looks set head tail) v.own in
-      log_changes h refl refl refl (λ j q. omega arith) (λ q i. omega arith) (λ s u m. looked s m) (λ s i q m. inl m) (λ s x y m. ahead s x y m) refl refl refl refl heap refl refl k.legal k.cycle (λ q. refl) refl
+      log_changes h refl refl refl (λ j q. omega arith) (λ q i. omega arith) (λ s u m. looked s m) (λ s i q m. inl m) (λ s x y m. ahead s x y m) (λ s. omega arith) refl refl refl refl heap refl refl k.legal k.cycle (λ q. refl) refl
     where
       ahead : (s x y : ℕ) → 0 < many (is_look s x y) (Looked set head tail ∷ v.own.log) → (0 < many (is_look s x y) v.own.log) ⊎ ((x ≤ (set_of c s).head) × (y ≤ (set_of c s).tail))
       ahead s x y m = go (eqb set s && (eqb head x && eqb tail y)) refl
@@ -121,9 +123,9 @@ module _ (c : CoreState) (heap : PageHeap) (homes : List (Option Body)) (n : ℕ
     where
       by_cell : (x : ℕ) → x ≡ cell_of (set_of c set) index → Rule c heap homes n (acts v (told (LooksCell set index x) v.own))
       by_cell zero e = let h = told (LooksCell set index 0) v.own in
-          log_changes h refl refl refl (λ j q. omega arith) (λ q i. omega arith) (λ s u m. inl (omega arith)) (λ s i q m. inl m) (λ s x y m. inl (omega arith)) refl refl refl refl heap refl refl k.legal k.cycle (λ q. refl) refl
+          log_changes h refl refl refl (λ j q. omega arith) (λ q i. omega arith) (λ s u m. inl (omega arith)) (λ s i q m. inl m) (λ s x y m. inl (omega arith)) (λ s. omega arith) refl refl refl refl heap refl refl k.legal k.cycle (λ q. refl) refl
       by_cell (suc page) e = let h = told (LooksCell set index (suc page)) v.own in
-          log_changes h refl refl refl (λ j q. refl) (λ q i. refl) (λ s u m. inl m) (λ s i q m. seen s i q m) (λ s x y m. inl m) refl refl refl refl heap refl refl k.legal k.cycle (λ q. refl) refl
+          log_changes h refl refl refl (λ j q. refl) (λ q i. refl) (λ s u m. inl m) (λ s i q m. seen s i q m) (λ s x y m. inl m) (λ s. refl) refl refl refl refl heap refl refl k.legal k.cycle (λ q. refl) refl
         where
           seen : (s i q : ℕ) → ((eqb set s && (eqb index i && eqb page q)) || has_cell s i q v.own.read) ≡ true → (has_cell s i q v.own.read ≡ true) ⊎ (cell_of (set_of c s) i ≡ q + 1)
           seen s i q m = go (eqb set s && (eqb index i && eqb page q)) refl
@@ -133,30 +135,30 @@ module _ (c : CoreState) (heap : PageHeap) (homes : List (Option Body)) (n : ℕ
                   inr (subst (λ (z : ℕ × ℕ). cell_of (set_of c z.0) z.1 ≡ q + 1) (λ j. (eqb-true set s t.0 j, eqb-true index i u.0 j)) (sym e ∙ (let w = eqb-true page q u.1 in omega arith)))
               go false f = inl (rw f at m)
   note_keeps (Reads word value) q o = let h = told (Reads word value) v.own in
-      log_changes h refl refl refl (λ j q. omega arith) (λ q i. omega arith) (λ s u m. inl (omega arith)) (λ s i q m. inl m) (λ s x y m. inl (omega arith)) refl refl refl refl heap refl refl k.legal k.cycle (λ q. refl) refl
+      log_changes h refl refl refl (λ j q. omega arith) (λ q i. omega arith) (λ s u m. inl (omega arith)) (λ s i q m. inl m) (λ s x y m. inl (omega arith)) (λ s. omega arith) refl refl refl refl heap refl refl k.legal k.cycle (λ q. refl) refl
   note_keeps (Adds word value number) q o = let h = told (Adds word value number) v.own in
-      log_changes h refl refl refl (λ j q. omega arith) (λ q i. omega arith) (λ s u m. inl (omega arith)) (λ s i q m. inl m) (λ s x y m. inl (omega arith)) refl refl refl refl heap refl refl k.legal k.cycle (λ q. refl) refl
+      log_changes h refl refl refl (λ j q. omega arith) (λ q i. omega arith) (λ s u m. inl (omega arith)) (λ s i q m. inl m) (λ s x y m. inl (omega arith)) (λ s. omega arith) refl refl refl refl heap refl refl k.legal k.cycle (λ q. refl) refl
   note_keeps (Resets set) q o = let h = told (Resets set) v.own in
-      log_changes h refl refl refl (λ j q. refl) (λ q i. refl) (λ s u m. inl m) (λ s i q m. inl m) (λ s x y m. inl m) refl refl refl refl heap refl refl k.legal k.cycle (λ q. refl) refl
+      log_changes h refl refl refl (λ j q. refl) (λ q i. refl) (λ s u m. inl m) (λ s i q m. inl m) (λ s x y m. inl m) (λ s. refl) refl refl refl refl heap refl refl k.legal k.cycle (λ q. refl) refl
   note_keeps _ q o = absurd q
 
   -- a popped entry is dropped, since its page has another word
   pub drop_keeps : (p w : ℕ) → (c' : CoreState) → c' ≡ after_drop_popped c n p → Owned c' → IsTidy c' → HasSpace c' → Rule c' heap homes n (acts v (told (Finds p w) v.own))
   drop_keeps p w c' e o t r = let h = told (Finds p w) v.own in
-      hand_changes h refl refl refl (λ j q. omega arith) (λ q i. omega arith) (λ s u m. inl (omega arith)) (λ s i q m. inl m) (λ s x y m. inl (omega arith)) refl refl refl (drop_entry p) refl c' e o t r
+      hand_changes h refl refl refl (λ j q. omega arith) (λ q i. omega arith) (λ s u m. inl (omega arith)) (λ s i q m. inl m) (λ s x y m. inl (omega arith)) (λ s. omega arith) refl refl refl (drop_entry p) refl c' e o t r
 
   -- no run was free
   pub miss_keeps : (line cycle pages class : ℕ) (heap' : PageHeap) → heap'.region ≡ heap.region → heap'.goal ≡ heap.goal → Legal heap'.region heap'.goal heap'.past → IsBy ((c.generation - 4) / 2) heap'.past
       → heap'.past ≡ MissLine cycle pages class ∷ heap.past → Rule c heap' homes n (acts v (told (Misses line cycle pages class) v.own))
   miss_keeps line cycle pages class heap' region goal legal by past = let h = told (Misses line cycle pages class) v.own in
-      log_changes h refl refl refl (λ j q. omega arith) (λ q i. omega arith) (λ s u m. inl (omega arith)) (λ s i q m. inl m) (λ s x y m. inl (omega arith)) refl refl refl refl heap' region goal legal by
+      log_changes h refl refl refl (λ j q. omega arith) (λ q i. omega arith) (λ s u m. inl (omega arith)) (λ s i q m. inl m) (λ s x y m. inl (omega arith)) (λ s. omega arith) refl refl refl refl heap' region goal legal by
       (λ q. ap (λ (z : List Line). owner z q) past) (ap open_lives past)
 
   -- the journal and its room change, and neither owners nor lives
   pub heap_keeps : (heap' : PageHeap) → heap'.region ≡ heap.region → heap'.goal ≡ heap.goal → Legal heap'.region heap'.goal heap'.past → IsBy ((c.generation - 4) / 2) heap'.past
       → ((q : ℕ) → owner heap'.past q ≡ owner heap.past q) → (open_lives heap'.past ≡ open_lives heap.past) → Rule c heap' homes n v
   heap_keeps heap' region goal legal by owners opens =
-      log_changes v.own refl refl refl (λ j q. refl) (λ q i. refl) (λ s u m. inl m) (λ s i q m. inl m) (λ s x y m. inl m) refl refl refl refl heap' region goal legal by owners opens
+      log_changes v.own refl refl refl (λ j q. refl) (λ q i. refl) (λ s u m. inl m) (λ s i q m. inl m) (λ s x y m. inl m) (λ s. refl) refl refl refl refl heap' region goal legal by owners opens
 
   pub room_keeps : (heap' : PageHeap) → HasMoreRoom heap heap' → Rule c heap' homes n v
   room_keeps heap' m = heap_keeps heap' m.region m.goal (subst (λ (z : ℕ × ℕ × List Line). Legal z.0 z.1 z.2) (λ i. (sym m.region i, sym m.goal i, sym m.past i)) k.legal) (subst (IsBy ((c.generation - 4) / 2)) (sym m.past) k.cycle)

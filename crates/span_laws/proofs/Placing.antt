@@ -87,6 +87,12 @@ module _ (c : CoreState) (heap : PageHeap) (homes : List (Option Body)) (n : ℕ
         let d : CoreState = after_allocate c p i in
         let lead : Leads g c.words c.lives c.sets c.words ls' c.sets p = record {
           words = λ q x. refl;
+          waits = λ q w. (
+            w,
+            dite (ℕ_discrete q p)
+                (λ z. subst (λ (y : ℕ). (life_in y ls').class ≡ (life_in y c.lives).class) (sym z) (ap (λ (y : LifeState). y.class) now))
+                (λ z. ap (λ (y : LifeState). y.class) (life q z)),
+          );
           placed = λ q j m. (
             m.0,
             m.1,
@@ -122,7 +128,7 @@ module _ (c : CoreState) (heap : PageHeap) (homes : List (Option Body)) (n : ℕ
         (λ y. ap (λ (z : LifeState). z.kept) now ∙ k.marks.kept p low y)
         (λ j a m. subst (λ (z : LifeState). 0 < times j z.allocated) (sym now) (more_times j i l.allocated a))
         (own_tells g c.words c.lives c.sets c.words ls' c.sets p lead v.own h (own_tells_of c heap homes n v k) (own_tells_of c heap homes n v k).fresh
-        (λ q j m. placed q j m (eqb p q && eqb i j) refl now) (λ m u y. inl (omega arith)) (λ m j q y. inl y) (λ m x z y. inl (omega arith))))
+        (λ q j m. placed q j m (eqb p q && eqb i j) refl now) (λ m q u y. inl (omega arith)) (λ m u y. inl (omega arith)) (λ m j q y. inl y) (λ m x z y. inl (omega arith)) (λ m. let a = (own_tells_of c heap homes n v k).passed m in omega arith)))
       where
         placed : (q j : ℕ) → 0 < one_if (eqb b.page q && eqb i j) + many (is_placing_at q j) v.own.log → (x : Bool) → (eqb b.page q && eqb i j) ≡ x
             → life_in b.page (change_life b.page (allocate_index i) c.lives) ≡ allocate_index i (life_in b.page c.lives)

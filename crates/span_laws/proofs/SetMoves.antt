@@ -1,5 +1,5 @@
 -- The steps on sets keep the rule: Claim, Fill, and both pops.
-use Rattle.std.proofs.Common.{◌≡◌, ◌≢◌, ℕ, ◌+◌, ◌<◌, ◌≤◌, inl, inr, ⊎_elim, Bool, ◌&&◌, not, eqb, eq-eqb, ne_eqb, true, false, true≢false, List, set, get_or, length, refl, ap, sym, subst, ◌∙◌, arith}
+use Rattle.std.proofs.Common.{◌≡◌, ◌≢◌, ℕ, ◌+◌, ◌<◌, ◌≤◌, ◌⊎◌, inl, inr, ⊎_elim, Bool, ◌&&◌, not, eqb, eq-eqb, ne_eqb, true, false, true≢false, List, ◌∷◌, set, get_or, length, refl, ap, sym, subst, ◌∙◌, arith}
 use Rattle.std.specs.Prelude.{None, Some, Option}
 use mathlib.Core.Logic.{dite}
 use mathlib.Core.Option.{some, some-injective}
@@ -29,7 +29,8 @@ use Rattle.swept_set_laws.proofs.EnteredKept.{claim_enters, queued_by}
 use Rattle.swept_set_laws.proofs.EnteredMoves.{fill_enters, pop_swept_enters}
 use Rattle.swept_set_laws.proofs.EnteredRest.{unswept_enters}
 use Rattle.worker_log.specs.declared.Entry.{Entry}
-use Rattle.worker_log.specs.Logs.{is_full_set, is_pop_of, is_seen_empty, many}
+use Rattle.worker_log.specs.declared.Entry.TheVariants.{Popped}
+use Rattle.worker_log.specs.Logs.{is_full_set, is_pop, is_pop_of, is_seen_empty, many}
 use Rattle.span_laws.specs.Logs.{is_look, is_placing_at}
 use Rattle.span_laws.specs.declared.view.Cell.{Cell}
 use Rattle.span_laws.specs.declared.said.Said.TheVariants.{Claims, Fills, PopsEntry}
@@ -40,6 +41,10 @@ use Rattle.span_laws.specs.Bodies.{Fits, IsAway, IsHome, is_claimed, lends}
 use Rattle.span_laws.specs.Rule.{Rule, logs_of}
 use Rattle.span_laws.specs.Tells.{IsFilled, Tells}
 use Rattle.span_laws.specs.Views.{acts, hand_state, has_cell, parts_of, span_at, span_of, told, told_of}
+use Rattle.std.proofs.lemmas.Bool.{eqb-true}
+use Rattle.sweep_laws.proofs.NeedsMet.{both}
+use Rattle.span_laws.proofs.Waiting.{queued_class}
+use Rattle.span_laws.proofs.Ready.{class_is}
 use Rattle.span_laws.proofs.BodiesKept.{bodies_stay}
 use Rattle.page_bitmap.specs.Counts.{one_if}
 use Rattle.span_laws.proofs.Parts.{alone, at_map, has3, lends-le}
@@ -62,6 +67,7 @@ module _ (c : CoreState) (heap : PageHeap) (homes : List (Option Body)) (n : ℕ
     set_leads p = record {
       words = λ q d. refl;
       placed = λ q i m. m;
+      waits = λ q w. (w, refl);
       empty = λ m u e. dite (ℕ_discrete m j)
           (λ z. let x : s'.head ≡ s'.tail = empty (subst (λ (y : ℕ). is_swept_set c.generation y ≡ false) z u) (subst (λ (y : ℕ). (set_of c y).head ≡ (set_of c y).tail) z e) in
           subst (λ (y : ℕ). (get_or (set c.sets j s') y no_set).head ≡ (get_or (set c.sets j s') y no_set).tail) (sym z) (subst (λ (y : SetState). y.head ≡ y.tail) (sym set_new) x))
@@ -79,13 +85,21 @@ module _ (c : CoreState) (heap : PageHeap) (homes : List (Option Body)) (n : ℕ
           (λ d. subst (λ (y : SetState). ((set_of c m).head ≤ y.head) × ((set_of c m).tail ≤ y.tail)) (sym (set_is m d)) (omega arith, omega arith));
     }
 
+  -- a pop raises the head of its set
+  pop_passed : (j : ℕ) (s' : SetState) → j < length c.sets → s'.head ≡ (set_of c j).head + 1 → (p m : ℕ) → many (is_pop m) (Popped j p ∷ v.own.log) ≤ (get_or (set c.sets j s') m no_set).head
+  pop_passed j s' there raised p m = let t = (own_tells_of c heap homes n v k).passed m in dite (ℕ_discrete m j)
+      (λ e. subst (λ (y : ℕ). many (is_pop y) (Popped j p ∷ v.own.log) ≤ (get_or (set c.sets j s') y no_set).head) (sym e)
+      (let u = subst (λ (y : ℕ). many (is_pop y) v.own.log ≤ (get_or c.sets y no_set).head) e t in rw (eq-eqb j j refl, get_or-set_same c.sets j s' no_set there) (omega arith)))
+      (λ d. rw (ne_eqb j m (λ z. d (sym z)), get_or-set_other c.sets j m s' no_set d) (omega arith))
+
   -- what the own part tells stays where its cached and fresh spans do, and words and lives
   module _ (h : Part) (fresh : h.fresh ≡ v.own.fresh) (cached : h.cached ≡ v.own.cached) (log : (q i : ℕ) → 0 < many (is_placing_at q i) h.log → 0 < many (is_placing_at q i) v.own.log)
+      (pops : (s q : ℕ) → is_swept_set c.generation s ≡ false → 0 < many (is_pop_of s q) h.log → (0 < many (is_pop_of s q) v.own.log) ⊎ (get_or c.words q 0 + 2 ≡ c.generation → (life_in q c.lives).class ≡ class_of_set s))
       (seen : (s : ℕ) → 0 < many (is_seen_empty s) h.log → 0 < many (is_seen_empty s) v.own.log) (look : (s x y : ℕ) → 0 < many (is_look s x y) h.log → 0 < many (is_look s x y) v.own.log) (read : h.read ≡ v.own.read) where
-    pub set_tells : (ss' : List SetState) (p : ℕ) → Leads c.generation c.words c.lives c.sets c.words c.lives ss' p → Tells c.generation c.words c.lives ss' h
-    set_tells ss' p lead = own_tells c.generation c.words c.lives c.sets c.words c.lives ss' p lead v.own h (own_tells_of c heap homes n v k)
+    pub set_tells : (ss' : List SetState) (p : ℕ) → Leads c.generation c.words c.lives c.sets c.words c.lives ss' p → ((s : ℕ) → many (is_pop s) h.log ≤ (get_or ss' s no_set).head) → Tells c.generation c.words c.lives ss' h
+    set_tells ss' p lead pop = own_tells c.generation c.words c.lives c.sets c.words c.lives ss' p lead v.own h (own_tells_of c heap homes n v k)
         (λ q. ap (has q) fresh ∙ (own_tells_of c heap homes n v k).fresh q ∙ ap (λ (l : List ℕ). has q l && eqb (get_or c.words q 0) (c.generation + 3)) (sym cached))
-        (λ q i m. inl (log q i m)) (λ s u m. inl (seen s m)) (λ s i q m. inl (subst (λ (l : List Cell). has_cell s i q l ≡ true) read m)) (λ s x y m. inl (look s x y m))
+        (λ q i m. inl (log q i m)) pops (λ s u m. inl (seen s m)) (λ s i q m. inl (subst (λ (l : List Cell). has_cell s i q l ≡ true) read m)) (λ s x y m. inl (look s x y m)) pop
 
   -- an index is claimed for a span that the worker holds, and its body comes home
   module _ (b : Body) (j : ℕ) (there : j < 544) (part : is_swept_set c.generation j ≡ true) (held : has b.page v.own.held ≡ true) (free : v.own.claimed ≡ None) (lent : span_at b.page v.own.spans ≡ Some (span_of b)) (low : b.page < length c.words)
@@ -113,7 +127,7 @@ module _ (c : CoreState) (heap : PageHeap) (homes : List (Option Body)) (n : ℕ
         (λ l. absurd (let z : lends p h ≡ times p v.own.sweeping + times p v.own.cached + 0 = ap (λ (y : Bool). times p v.own.sweeping + times p v.own.cached + only (not y) (times p v.own.held)) claimed in omega arith))
         (λ y. inr (b, get_or-set_same homes p (Some b) None (let z = k.bodies.many in omega arith), fits))
         (λ y. k.marks.kept p low y) (λ i a m. a)
-        (set_tells h refl refl (λ q i m. m) (λ q m. m) (λ s x y m. m) refl (set c.sets j (raise_tail s)) p lead))
+        (set_tells h refl refl (λ q i m. m) (λ s q u m. inl m) (λ q m. m) (λ s x y m. m) refl (set c.sets j (raise_tail s)) p lead (λ m. let a = (own_tells_of c heap homes n v k).passed m in let b = (lead.grow m).0 in omega arith)))
       where
         some_same : {A : Type 0} (x y : A) → Some x ≡ Some y → x ≡ y
         some_same x y z = cc
@@ -164,7 +178,7 @@ module _ (c : CoreState) (heap : PageHeap) (homes : List (Option Body)) (n : ℕ
         (sym (ap (λ (y : Option Claimed). times q v.own.sweeping + times q v.own.cached + only (not (is_claimed q y)) (times q v.own.held)) claimed ∙ ap (λ (y : Bool). times q v.own.sweeping + times q v.own.cached + only (not y) (times q v.own.held)) (ne_eqb p q (λ z. x (sym z))))))
         (λ q x. refl) (λ l. absurd (omega arith)) (λ y. inr (filled_home y))
         (λ y. k.marks.kept p low y) (λ i a m. a)
-        (set_tells h refl refl (λ q i m. omega arith) (λ q m. omega arith) (λ s x y m. omega arith) refl (set c.sets d.set (name_page d.index p s)) p lead))
+        (set_tells h refl refl (λ q i m. omega arith) (λ s q u m. inl (omega arith)) (λ q m. omega arith) (λ s x y m. omega arith) refl (set c.sets d.set (name_page d.index p s)) p lead (λ m. let a = (own_tells_of c heap homes n v k).passed m in let b = (lead.grow m).0 in omega arith)))
       where
         -- the logs may gain entries that are no pops
         log_entered : (h : Part) → ((j q : ℕ) → many (is_pop_of j q) h.log ≡ many (is_pop_of j q) v.own.log) → {ws : List ℕ} {ls : List LifeState} {ss : List SetState} {hs : List HandState}
@@ -211,7 +225,12 @@ module _ (c : CoreState) (heap : PageHeap) (homes : List (Option Body)) (n : ℕ
         (λ l. (span_of b, span_here (span_of b) v.own.spans, fits))
         (λ y. inl (rw (unclaimed c heap homes n v k p (omega arith)) (omega arith)))
         (λ y. k.marks.kept p low y) (λ i a m. a)
-        (set_tells h refl refl (λ q i m. omega arith) (λ q m. omega arith) (λ s x y m. omega arith) refl (set c.sets j (raise_head s)) p lead))
+        (set_tells h refl refl (λ q i m. omega arith) swept_pop (λ q m. omega arith) (λ s x y m. omega arith) refl (set c.sets j (raise_head s)) p lead (pop_passed j (raise_head s) pop_set refl p)))
+      where
+        -- it is no pop from an unswept set
+        swept_pop : (s q : ℕ) → is_swept_set c.generation s ≡ false → 0 < one_if (eqb j s && eqb b.page q) + many (is_pop_of s q) v.own.log
+            → (0 < many (is_pop_of s q) v.own.log) ⊎ (get_or c.words q 0 + 2 ≡ c.generation → (life_in q c.lives).class ≡ class_of_set s)
+        swept_pop s q u m = inl (let z = ap (λ (x : Bool). one_if (x && eqb b.page q)) (ne_eqb j s (λ e. true≢false (sym part ∙ ap (is_swept_set c.generation) e ∙ u))) in omega arith)
 
   -- no part names a page beyond the region
   beyond : (m : ℕ) (x : Part) → get_elem? (parts_of n v) m ≡ some x → has3 (length c.words) x ≡ 0
@@ -233,8 +252,19 @@ module _ (c : CoreState) (heap : PageHeap) (homes : List (Option Body)) (n : ℕ
         (unswept_enters g c.words c.owners c.lives c.sets c.hands (kept c heap homes n v k) (logs_of n v) k.names k.entered j (raise_head s) part n (hand_state v.own) (hand_state h) (own_at c heap homes n v k) refl refl refl (logs_of n (acts v h)) pops)
         (bodies_stay (length c.words) heap.past c.lives homes (parts_of n v) k.bodies n v.own (part_at c heap homes n v k) h (λ q. refl) refl) k.marks
         (tells_turn g c.words c.lives c.sets c.words c.lives (set c.sets j (raise_head s)) (length c.words) lead (parts_of n v) n h k.tells (λ m x y z. beyond m x z)
-        (set_tells h refl refl (λ q i m. omega arith) (λ q m. omega arith) (λ s x y m. omega arith) refl (set c.sets j (raise_head s)) (length c.words) lead)))
+        (set_tells h refl refl (λ q i m. omega arith) (λ s q u m. entry_pop s q m (eqb j s && eqb p q) refl) (λ q m. omega arith) (λ s x y m. omega arith) refl (set c.sets j (raise_head s)) (length c.words) lead (pop_passed j (raise_head s) low_set refl p))))
       where
+        -- the page of the entry, where it waits, is of the set's class
+        of_class : get_or c.words p 0 + 2 ≡ c.generation → (life_in p c.lives).class ≡ class_of_set j
+        of_class w = class_is p (class_of_set j) c.lives (queued_class c.generation c.words c.owners c.lives c.sets c.hands (kept c heap homes n v k) p low j (set_of c j)
+            (at_low c.sets j no_set (let x = k.sets in omega arith)) part more filled w)
+
+        entry_pop : (s q : ℕ) → 0 < one_if (eqb j s && eqb p q) + many (is_pop_of s q) v.own.log → (x : Bool) → (eqb j s && eqb p q) ≡ x
+            → (0 < many (is_pop_of s q) v.own.log) ⊎ (get_or c.words q 0 + 2 ≡ c.generation → (life_in q c.lives).class ≡ class_of_set s)
+        entry_pop s q m false e = inl (let z = ap one_if e in omega arith)
+        entry_pop s q m true e = let t = both (eqb j s) (eqb p q) e in
+            inr (subst (λ (z : ℕ × ℕ). get_or c.words z.1 0 + 2 ≡ c.generation → (life_in z.1 c.lives).class ≡ class_of_set z.0) (λ i. (eqb-true j s t.0 i, eqb-true p q t.1 i)) of_class)
+
         pops : (m i q : ℕ) → is_swept_set c.generation i ≡ true → many (is_pop_of i q) (log_of (logs_of n (acts v (told (PopsEntry j p) v.own))) m) ≡ many (is_pop_of i q) (log_of (logs_of n v) m)
         pops m i q sw = dite (ℕ_discrete m n)
             (λ s. subst (λ (x : ℕ). many (is_pop_of i q) (log_of (logs_of n (acts v (told (PopsEntry j p) v.own))) x) ≡ many (is_pop_of i q) (log_of (logs_of n v) x)) (sym s)

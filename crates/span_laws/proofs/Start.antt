@@ -87,7 +87,9 @@ starts c heap homes workers n o t f low g lock owners lives sets hands region pa
         emptied = λ k u l. absurd (omega arith);
         read = λ k i p l. absurd (true≢false (sym l));
         filled = λ k u i l. absurd (let z = ap (λ (y : List SetState). (get_or y k no_set).tail) sets ∙ ap (λ (y : SetState). y.tail) (get_here no_set (range_with_len 0 544) k) in omega arith);
+        waits = λ k p u l w. absurd (omega arith);
         grown = λ k x y l. absurd (omega arith);
+        passed = λ k. omega arith;
       });
 }
 

@@ -1,5 +1,5 @@
 -- What calls need and tell, from the rule.
-use Rattle.std.proofs.Common.{◌≡◌, ℕ, suc, ◌+◌, ◌<◌, ◌≤◌, ◌⊎◌, inl, inr, ⊎_elim, Bool, ◌||◌, ◌&&◌, not, eqb, eq-eqb, ne_eqb, true, false, List, [], ◌∷◌, length, get_or, refl, ap, sym, subst, ◌∙◌, arith, lt-ltb}
+use Rattle.std.proofs.Common.{◌≡◌, ℕ, suc, ◌+◌, ◌<◌, ◌≤◌, ◌⊎◌, inl, inr, ⊎_elim, Bool, ◌||◌, ◌&&◌, not, eqb, eq-eqb, ne_eqb, true, false, true≢false, List, [], ◌∷◌, length, get_or, refl, ap, sym, subst, ◌∙◌, arith, lt-ltb}
 use Rattle.std.specs.Prelude.{None, Some, Option}
 use Rattle.std.specs.Option.{is_some}
 use mathlib.Core.Logic.{dite}
@@ -30,7 +30,7 @@ use Rattle.swept_set_laws.proofs.EnteredKept.{claim_room, queued_by}
 use Rattle.worker_log.specs.declared.Entry.{Entry}
 use Rattle.worker_log.specs.declared.Entry.TheVariants.{Looked, LookedEmptyCell, Popped, Pushed, Swept, Took, Missed, Gave, Allocated, Found, Read, Added}
 use Rattle.worker_log.specs.Logs.{is_full_set, is_placing_in, is_pop_of, many}
-use Rattle.span_laws.specs.Asks.{HasBody, HasMarked, IsUntouched, MayPlace}
+use Rattle.span_laws.specs.Asks.{HasBody, HasMarked, IsApart, IsUntouched, MayPlace, mine}
 use Rattle.span_laws.specs.Answers.{IsAhead, IsOfSet}
 use Rattle.span_laws.specs.Bodies.{Fits, IsAway, IsHome, lends}
 use Rattle.span_laws.specs.Logs.{is_look, is_placing_at}
@@ -40,7 +40,7 @@ use Rattle.span_laws.specs.declared.view.Part.{Part}
 use Rattle.span_laws.specs.declared.view.View.{View}
 use Rattle.span_laws.proofs.Lives.{full_life, least_free, marks_has}
 use Rattle.span_laws.proofs.LifeMoves.{begin_at}
-use Rattle.span_laws.proofs.Parts.{has3, lends-le, nobodys}
+use Rattle.span_laws.proofs.Parts.{has3, has_none, lends-le, nobodys}
 use Rattle.span_laws.proofs.Ready.{all_in, class_found, class_is, first_in, free_in, has_room, is_full, life_found, some_in}
 use Rattle.span_laws.proofs.RuleKept.{low_number, log_own, own_at, own_hand, own_never, part_at}
 use Rattle.span_laws.proofs.WordMoves.{cached_lent, four, held_lent, kept, lent_now}
@@ -89,6 +89,7 @@ module _ (c : CoreState) (heap : PageHeap) (homes : List (Option Body)) (n : ℕ
   ahead j head tail low e f = record {
     order = (let o = k.owned.sets.order j (set_of c j) (at_low c.sets j no_set (let x = k.sets in omega arith)) in omega arith);
     grown = λ h t m. let g = (k.tells n v.own (part_at c heap homes n v k)).grown j h t m in let a = g.0 in let b = g.1 in (omega arith, omega arith);
+    passed = let g = (k.tells n v.own (part_at c heap homes n v k)).passed j in omega arith;
   }
 
   -- a cell of an unswept set is filled below a tail that was seen
@@ -113,6 +114,11 @@ module _ (c : CoreState) (heap : PageHeap) (homes : List (Option Body)) (n : ℕ
   -- nobody has a page at which a life begins, so its body is at home
   home_now : (p : ℕ) → p < length c.words → begins p c.lives ≡ true → ((m : ℕ) (x : Part) → get_elem? (parts_of n v) m ≡ some x → has3 p x ≡ 0) → IsHome heap.past c.lives homes p
   home_now p low b none = ⊎_elim (λ (a : IsAway (parts_of n v) p). let z = none a.0 a.1 a.2 in let y = lends-le p a.1 in let l = a.3 in absurd (omega arith)) (λ (x : IsHome heap.past c.lives homes p). x) (k.bodies.home p low b)
+
+  -- a worker has nothing of a page that waits
+  pub waiting_mine : (p : ℕ) → p < length c.words → get_or c.words p 0 + 2 ≡ c.generation → has3 p v.own ≡ 0
+  waiting_mine p low w = let z = (unswept_word c.generation (tally c.generation c.words c.lives c.sets c.hands p) (four c heap homes n v k) ((kept c heap homes n v k).page p low).standing w).0 in
+      nobodys c (parts_of n v) k.hands p (omega arith) n v.own (part_at c heap homes n v k)
 
   pub waiting_home : (p : ℕ) → p < length c.words → get_or c.words p 0 + 2 ≡ c.generation → IsHome heap.past c.lives homes p
   waiting_home p low w = let z = (unswept_word c.generation (tally c.generation c.words c.lives c.sets c.hands p) (four c heap homes n v k) ((kept c heap homes n v k).page p low).standing w).0 in
@@ -193,6 +199,27 @@ module _ (c : CoreState) (heap : PageHeap) (homes : List (Option Body)) (n : ℕ
         let x = queued_list c.generation (tally c.generation c.words c.lives c.sets c.hands p) ((kept c heap homes n v k).page p entry.low).standing q in let x₂ = x.2 in
         home_now p entry.low (begin_at c heap homes n v k p entry.low (λ e. let f = four c heap homes n v k in let w = x.0 in omega arith)) (nobodys c (parts_of n v) k.hands p (omega arith))
 
+    -- the worker has nothing of it
+    pub popped_mine : has3 p v.own ≡ 0
+    popped_mine = let q = queued_by c.generation c.words c.owners c.lives c.sets c.hands (kept c heap homes n v k) (logs_of n v) k.names k.entered n (hand_state v.own) (own_at c heap homes n v k) j (set_of c j) (at_low c.sets j no_set (let x = k.sets in omega arith)) part (set_of c j).head (omega arith) more p filled in
+        let x = queued_list c.generation (tally c.generation c.words c.lives c.sets c.hands p) ((kept c heap homes n v k).page p entry.low).standing q in let x₂ = x.2 in
+        nobodys c (parts_of n v) k.hands p (omega arith) n v.own (part_at c heap homes n v k)
+
+    head_names : k.names j (set_of c j).head ≡ p
+    head_names = let m = k.entered.sets_name j (set_of c j) (at_low c.sets j no_set (let x = k.sets in omega arith)) part in
+        ⊎_elim (λ (z : cell_of (set_of c j) (set_of c j).head ≡ 0). absurd (omega arith)) (λ (z : cell_of (set_of c j) (set_of c j).head ≡ k.names j (set_of c j).head + 1). let y : k.names j (set_of c j).head ≡ p = omega arith in y) (m.cell (set_of c j).head more)
+
+    -- a span of a partial set has room, and one that was popped from a full set has none
+    pub popped_full : is_full_set j ≡ false → (i : ℕ) → i < 544 → is_swept_set v.generation i ≡ true → is_full_set i ≡ true → many (is_pop_of i p) v.own.log ≡ 0
+    popped_full room i below part' full = let mine = subst (λ (g : ℕ). is_swept_set g i ≡ true) k.generation part' in
+        dite (dec_le (many (is_pop_of i p) v.own.log) 0) (λ z. omega arith)
+        (λ z. let s = at_low c.sets i no_set (let x = k.sets in omega arith) in let o = ap (many (is_pop_of i p)) (log_own c heap homes n v k v.own) in
+        let t = k.entered.told n (hand_state v.own) (own_at c heap homes n v k) i (get_or c.sets i no_set) s mine p (omega arith) in
+        let r = (k.entered.sets_name i (get_or c.sets i no_set) s mine).entry t.0 (let x = t.1 in let y = k.owned.sets.order i (get_or c.sets i no_set) s in omega arith) in
+        let m = k.entered.sets_name j (set_of c j) (at_low c.sets j no_set (let x = k.sets in omega arith)) part in
+        let some : is_full_life (life_in p c.lives) ≡ false = ap (λ (y : ℕ). is_full_life (life_in y c.lives)) (sym head_names) ∙ m.room room (set_of c j).head (omega arith) more in
+        absurd (true≢false (sym (r.full full) ∙ ap (λ (y : ℕ). is_full_life (life_in y c.lives)) t.2 ∙ some)))
+
     entry_begins : begins p c.lives ≡ true
     entry_begins = begin_at c heap homes n v k p entry.low (λ e. let f = four c heap homes n v k in
         ⊎_elim (λ (y : get_or c.words p 0 ≡ c.generation). let u : ⊥ = omega arith in u) (λ (y : get_or c.words p 0 ≡ c.generation + 3). let u : ⊥ = omega arith in u) entry.word)
@@ -266,3 +293,7 @@ module _ (c : CoreState) (heap : PageHeap) (homes : List (Option Body)) (n : ℕ
             (λ x. let w = held_word b x.0 x.1 lent in let e : (has b.page v.own.held && (eqb (get_or c.words b.page 0) c.generation && eqb (life_in b.page c.lives).count 1)) ≡ true = rw (x.0, eq-eqb _ _ w, eq-eqb _ _ (sym place_fits.body.count ∙ x.2)) refl in
             ap (λ (y : Bool). (has b.page v.own.cached && eqb (get_or c.words b.page 0) (c.generation + 3)) || y) e ∙ or_right (has b.page v.own.cached && eqb (get_or c.words b.page 0) (c.generation + 3)))
             may
+
+-- a part that has nothing of a page neither sweeps nor holds it, nor has it cached
+pub apart_of : (h : Part) (p : ℕ) → mine p h ≡ 0 → IsApart h p
+apart_of h p z = record { sweeping = has_none p h.sweeping (omega arith); held = has_none p h.held (omega arith); cached = has_none p h.cached (omega arith) }

@@ -12,7 +12,7 @@ use Rattle.sweep_laws.specs.Counts.{times}
 use Rattle.sweep_laws.specs.declared.moves.Claimed.{Claimed}
 use Rattle.sweep_laws.specs.Lists.{erase, has}
 use Rattle.sweep_laws.specs.Named.{only}
-use Rattle.sweep_laws.specs.Needs.{hand_of, life_in}
+use Rattle.sweep_laws.specs.Needs.{hand_of, life_in, no_set}
 use Rattle.sweep_laws.specs.Owned.{Owned}
 use Rattle.sweep_laws.specs.Standing.{tally, Kept}
 use Rattle.sweep_laws.specs.State.{CoreState, HandState, LifeState}
@@ -25,7 +25,7 @@ use Rattle.swept_set_laws.specs.Entered.{Entered, IsSettled}
 use Rattle.swept_set_laws.proofs.EnteredKept.{turned_enters}
 use Rattle.swept_set_laws.proofs.Stays.{Stays, word_stays}
 use Rattle.worker_log.specs.declared.Entry.{Entry}
-use Rattle.worker_log.specs.Logs.{many, is_pop_of, is_seen_empty}
+use Rattle.worker_log.specs.Logs.{many, is_pop, is_pop_of, is_seen_empty}
 use Rattle.span_laws.specs.declared.said.Said.TheVariants.{Caches, Uncaches, UncachesStale}
 use Rattle.span_laws.specs.declared.said.SaidOf.TheVariants.{Acquires}
 use Rattle.span_laws.specs.declared.view.Cell.{Cell}
@@ -103,9 +103,12 @@ module _ (c : CoreState) (heap : PageHeap) (homes : List (Option Body)) (n : ℕ
     word_here = get_or-set_same c.words p x 0 low
 
     -- a word changes; an object placed in the page stays so
-    pub word_leads : ((i : ℕ) → IsPlaced c.generation c.words c.lives p i → IsSettled c.generation x) → Leads c.generation c.words c.lives c.sets (set c.words p x) c.lives c.sets p
-    word_leads still = record {
+    pub word_leads : (x + 2 ≡ c.generation → ⊥) → ((i : ℕ) → IsPlaced c.generation c.words c.lives p i → IsSettled c.generation x) → Leads c.generation c.words c.lives c.sets (set c.words p x) c.lives c.sets p
+    word_leads off still = record {
       words = word_else;
+      waits = λ q w. dite (ℕ_discrete q p)
+          (λ e. absurd (off (ap (λ (z : ℕ). z + 2) (sym word_here ∙ ap (λ (z : ℕ). get_or (set c.words p x) z 0) (sym e)) ∙ w)))
+          (λ d. (ap (λ (z : ℕ). z + 2) (sym (word_else q d)) ∙ w, refl));
       placed = λ q i m. dite (ℕ_discrete q p)
           (λ e. let m' : IsPlaced c.generation c.words c.lives p i = subst (λ (z : ℕ). IsPlaced c.generation c.words c.lives z i) e m in
           let r : IsPlaced c.generation (set c.words p x) c.lives p i = (subst (λ (z : ℕ). p < z) (sym (length-set c.words p x)) low, subst (IsSettled c.generation) (sym word_here) (still i m'), m'.2) in
@@ -136,11 +139,11 @@ module _ (c : CoreState) (heap : PageHeap) (homes : List (Option Body)) (n : ℕ
         (turned c heap homes n v k (after_acquire c n p) heap (set homes p None) h (subst Owned e o) (subst IsTidy e t) (subst HasSpace e r) refl (length-set c.words p _) refl (as_own h (start_sweep p) refl) refl refl refl k.legal k.cycle k.heap_owner
         p low (inr (omega arith)) k.names
         (enters _ _ h (word_stays c.generation c.words c.lives p _ low (λ y. absurd (unsettled _ (inl w) y))) refl (λ q l x y s. s) (λ j q. refl))
-        (word_leads p (c.generation - 1) low (λ i m. absurd (unsettled _ (inl w) m.1))) (λ q d. refl) (λ q d. refl) (length-set homes p None) (λ s d x. x) (λ q d. get_or-set_other homes p q None None d)
+        (word_leads p (c.generation - 1) low (λ y. omega arith) (λ i m. absurd (unsettled _ (inl w) m.1))) (λ q d. refl) (λ q d. refl) (length-set homes p None) (λ s d x. x) (λ q d. get_or-set_other homes p q None None d)
         (λ q d. let s = times_end_else q p v.own.sweeping d in omega arith) (λ q d. span_else (span_of b) v.own.spans q d)
         (λ l. (span_of b, span_here (span_of b) v.own.spans, fits)) (λ g. inl (omega arith)) (λ x. k.marks.kept p low (inl w)) (λ i x y. x)
-        (own_tells c.generation c.words c.lives c.sets (set c.words p (c.generation - 1)) c.lives c.sets p (word_leads p (c.generation - 1) low (λ i m. absurd (unsettled _ (inl w) m.1))) v.own h own_tells_of
-        (fresh_stays p (c.generation - 1) low h refl refl (has_none p v.own.cached (omega arith))) (λ q i m. inl m) (λ s u m. inl m) (λ s i q m. inl m) (λ s x y m. inl m)))
+        (own_tells c.generation c.words c.lives c.sets (set c.words p (c.generation - 1)) c.lives c.sets p (word_leads p (c.generation - 1) low (λ y. omega arith) (λ i m. absurd (unsettled _ (inl w) m.1))) v.own h own_tells_of
+        (fresh_stays p (c.generation - 1) low h refl refl (has_none p v.own.cached (omega arith))) (λ q i m. inl m) (λ s q u m. inl m) (λ s u m. inl m) (λ s i q m. inl m) (λ s x y m. inl m) own_tells_of.passed))
 
   -- the body that the own part has is that of its life
   pub lent_now : (p : ℕ) → 0 < lends p v.own → IsLent heap.past c.lives v.own p
@@ -154,21 +157,22 @@ module _ (c : CoreState) (heap : PageHeap) (homes : List (Option Body)) (n : ℕ
   -- a step that changes a word, and neither lives nor bodies nor sets
   module _ (p x : ℕ) (low : p < length c.words) (h : Part) (f : HandState → HandState) (same : hand_state h ≡ f (hand_state v.own)) (c' : CoreState)
       (e : c' ≡ record c { words = set c.words p x; hands = set c.hands n (f (hand_of c n)) }) (o : Owned c') (t : IsTidy c') (r : HasSpace c') where
-    word_keeps : 0 < has3 p v.own → (IsSettled c.generation (get_or c.words p 0) → IsSettled c.generation x) → (IsWaiting c.generation x → IsWaiting c.generation (get_or c.words p 0)) → h.claimed ≡ v.own.claimed
+    word_keeps : (x + 2 ≡ c.generation → ⊥) → 0 < has3 p v.own → (IsSettled c.generation (get_or c.words p 0) → IsSettled c.generation x) → (IsWaiting c.generation x → IsWaiting c.generation (get_or c.words p 0)) → h.claimed ≡ v.own.claimed
         → ((q : ℕ) → q < length c.words → IsSettled c.generation (get_or c.words q 0) → 0 < length (life_in q c.lives).allocated → 0 < times q h.held + times q h.cached → 0 < times q v.own.held + times q v.own.cached)
         → h.log ≡ v.own.log → h.read ≡ v.own.read → h.spans ≡ v.own.spans → ((q : ℕ) → q ≢ p → lends q h ≡ lends q v.own) → 0 < lends p v.own → 0 < lends p h
         → ((q : ℕ) → has q h.fresh ≡ (has q h.cached && eqb (get_or (set c.words p x) q 0) (c.generation + 3))) → Rule c' heap homes n (acts v h)
-    word_keeps mine still waits claims has log read spans lend was is fresh =
+    word_keeps off mine still waits claims has log read spans lend was is fresh =
         let d : CoreState = record c { words = set c.words p x; hands = set c.hands n (f (hand_of c n)) } in
-        let lead = word_leads p x low (λ i m. still m.1) in
+        let lead = word_leads p x low off (λ i m. still m.1) in
         subst (λ (s : CoreState). Rule s heap homes n (acts v h)) (sym e)
         (turned c heap homes n v k d heap homes h (subst Owned e o) (subst IsTidy e t) (subst HasSpace e r) refl (length-set c.words p x) refl (as_own h f same) refl refl refl k.legal k.cycle k.heap_owner
         p low (inl mine) k.names (word_entered p x h low still claims has log) lead (λ q d. refl) (λ q d. refl) refl (λ s d x. x) (λ q d. refl) lend (λ q d. ap (span_at q) spans)
         (λ l. let y = lent_now p was in let z : IsLent heap.past c.lives h p = (y.0, ap (span_at p) spans ∙ y.1, y.2) in z) (λ g. inl is)
         (λ y. k.marks.kept p low (waits (subst (IsWaiting c.generation) (word_here p x low) y))) (λ i a b. a)
         (own_tells c.generation c.words c.lives c.sets (set c.words p x) c.lives c.sets p lead v.own h own_tells_of fresh
-        (λ q i m. inl (subst (λ (y : List Entry). 0 < many (is_placing_at q i) y) log m)) (λ s u m. inl (subst (λ (y : List Entry). 0 < many (is_seen_empty s) y) log m))
-        (λ s i q m. inl (subst (λ (y : List Cell). has_cell s i q y ≡ true) read m)) (λ s x z m. inl (subst (λ (y : List Entry). 0 < many (is_look s x z) y) log m))))
+        (λ q i m. inl (subst (λ (y : List Entry). 0 < many (is_placing_at q i) y) log m)) (λ s q u m. inl (subst (λ (y : List Entry). 0 < many (is_pop_of s q) y) log m)) (λ s u m. inl (subst (λ (y : List Entry). 0 < many (is_seen_empty s) y) log m))
+        (λ s i q m. inl (subst (λ (y : List Cell). has_cell s i q y ≡ true) read m)) (λ s x z m. inl (subst (λ (y : List Entry). 0 < many (is_look s x z) y) log m))
+        (λ s. subst (λ (y : List Entry). many (is_pop s) y ≤ (get_or c.sets s no_set).head) (sym log) (own_tells_of.passed s))))
 
   -- a page that is held and not claimed for is lent
   pub held_lent : (p : ℕ) → has p v.own.held ≡ true → v.own.claimed ≡ None → 0 < lends p v.own
@@ -180,7 +184,7 @@ module _ (c : CoreState) (heap : PageHeap) (homes : List (Option Body)) (n : ℕ
       let h = told (Caches p) v.own in let g = c.generation in let have = has_times p v.own.held held in let more = times_end p v.own.cached in
       let once = once p low in
       let w = (held_list g (tally g c.words c.lives c.sets c.hands p) (kept.page p low).standing (let y = part_le (λ (y : HandState). times p y.held) c.hands n (hand_state v.own) (own_at c heap homes n v k) in omega arith)).0 in
-      word_keeps p (g + 3) low h (put_in_cache p) refl c' e o t r (omega arith) (λ y. inr refl) (λ y. absurd (not_waiting _ (inr refl) y)) refl
+      word_keeps p (g + 3) low h (put_in_cache p) refl c' e o t r (λ y. omega arith) (omega arith) (λ y. inr refl) (λ y. absurd (not_waiting _ (inr refl) y)) refl
       (λ q l x y z. dite (ℕ_discrete q p) (λ s. subst (λ (i : ℕ). 0 < times i v.own.held + times i v.own.cached) (sym s) (omega arith))
       (λ d. let a = times_erase_else q p v.own.held d in let b = times_end_else q p v.own.cached d in omega arith))
       refl refl refl
@@ -216,7 +220,7 @@ module _ (c : CoreState) (heap : PageHeap) (homes : List (Option Body)) (n : ℕ
     pub uncache_keeps : get_or c.words p 0 ≡ c.generation + 3 → (c' : CoreState) → c' ≡ after_uncache c n p → Owned c' → IsTidy c' → HasSpace c' → Rule c' heap homes n (acts v (told (Uncaches p) v.own))
     uncache_keeps w c' e o t r =
         let h = told (Uncaches p) v.own in let g = c.generation in let have = has_times p v.own.cached cached in let more = times_end p v.own.held in let free = not_claimed p low have in
-        word_keeps p g low h (take_from_cache p) refl c' e o t r (omega arith) (λ y. inl refl) (λ y. absurd (not_waiting _ (inl refl) y)) refl
+        word_keeps p g low h (take_from_cache p) refl c' e o t r (λ y. omega arith) (omega arith) (λ y. inl refl) (λ y. absurd (not_waiting _ (inl refl) y)) refl
         (λ q l x y z. dite (ℕ_discrete q p) (λ s. subst (λ (i : ℕ). 0 < times i v.own.held + times i v.own.cached) (sym s) (omega arith))
         (λ d. let a = times_erase_else q p v.own.cached d in let b = times_end_else q p v.own.held d in omega arith))
         refl refl refl
@@ -228,7 +232,7 @@ module _ (c : CoreState) (heap : PageHeap) (homes : List (Option Body)) (n : ℕ
     stale_keeps w c' e o t r =
         let h = told (UncachesStale p) v.own in let g = c.generation in let have = has_times p v.own.cached cached in let more = times_end p v.own.sweeping in let l = four in
         let stale : has p v.own.fresh ≡ false = own_tells_of.fresh p ∙ rw (w, ne_eqb (g + 1) (g + 3) (λ y. omega arith)) (and_false (has p v.own.cached)) in
-        word_keeps p (g - 1) low h (sweep_from_cache p) refl c' e o t r (omega arith) (λ y. absurd (unsettled _ (inr (inr w)) y)) (λ y. inr (inr w)) refl
+        word_keeps p (g - 1) low h (sweep_from_cache p) refl c' e o t r (λ y. omega arith) (omega arith) (λ y. absurd (unsettled _ (inr (inr w)) y)) (λ y. inr (inr w)) refl
         (λ q l x y z. dite (ℕ_discrete q p) (λ s. subst (λ (i : ℕ). 0 < times i v.own.held + times i v.own.cached) (sym s) (omega arith))
         (λ d. let a = times_erase_else q p v.own.cached d in omega arith))
         refl refl refl

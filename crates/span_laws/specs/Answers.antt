@@ -21,7 +21,7 @@ use Rattle.span_laws.specs.declared.said.SaidOf.TheVariants.{Acquires, Takes, Po
 use Rattle.span_laws.specs.Asks.{IsUsed, HasRoom, IsFullBody, IsEmptyBody, HasMarked, IsOfPops, IsTaken, IsUntouched, mine}
 use Rattle.span_laws.specs.Logs.{is_look}
 use Rattle.worker_log.specs.declared.Entry.{Entry}
-use Rattle.worker_log.specs.Logs.{is_full_set, many}
+use Rattle.worker_log.specs.Logs.{is_full_set, is_pop, many}
 use Rattle.span_laws.specs.Views.{Seen, after_of, after_said, span_of}
 
 -- the cycle of a generation
@@ -33,7 +33,7 @@ cycle_at g = (g - 4) / 2
 -- another word than that of a span that waits, and an entry of the page that it popped is dropped
 abbrev pub AcquiresSpan : ℕ → Seen → Seen → Acquired → Type 0
 AcquiresSpan page old new (Got body) = (body.page ≡ page) × (new ≡ after_of Acquires (span_of body) old) × HasMarked old.view.marks body × IsUntouched old.view.generation old.view.own page
-    × (mine page old.view.own ≡ 0) × IsOfPops old.view.generation old.view.own body
+    × (mine page old.view.own ≡ 0) × IsOfPops old.view.generation old.view.own body × (body.class < 136)
 AcquiresSpan page old new (Other word) = (word + 2 ≢ old.view.generation) × (new ≡ after_said (Finds page word) old)
 
 -- it holds the span, which was cached in this cycle; or it sweeps the span, which was not, and of which it knows what an acquire tells
@@ -81,12 +81,13 @@ pub record IsOfSet (set : ℕ) (b : Body) : Type 0 where
   pub full : is_full_set set ≡ true → IsFullBody b
   pub room : is_full_set set ≡ false → HasRoom b
 
--- head and tail of a set are in order, and not before those of any look at the set that the log tells
+-- head and tail of a set are in order, and not before those of any look at the set that the log tells; the log tells no more pops than the head
 pub record IsAhead (set head tail : ℕ) (log : List Entry) : Type 0 where
   pub order : head ≤ tail
   pub grown : (h t : ℕ) → 0 < many (is_look set h t) log → (h ≤ head) × (t ≤ tail)
+  pub passed : many (is_pop set) log ≤ head
 
--- the exchange found head and tail as given, and the worker holds the popped span; or it found others
+-- the exchange found head and tail as given, and the worker holds the popped span, which it did not have before; or it found others
 abbrev pub RaisesSwept : ℕ → ℕ → ℕ → ℕ → Seen → Seen → Result Body (ℕ × ℕ) → Type 0
 RaisesSwept set head tail page old new (Ok body) = (body.page ≡ page) × (new ≡ after_of (Pops set) (span_of body) old) × IsOfSet set body × IsTaken old.view.generation set old.view.own page
 RaisesSwept set head tail page old new (Err found) = ((found.0 ≢ head) ⊎ (found.1 ≢ tail)) × (new ≡ after_said (Looks set found.0 found.1) old) × IsAhead set found.0 found.1 old.view.own.log

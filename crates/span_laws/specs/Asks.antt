@@ -76,6 +76,12 @@ pub record IsTaken (generation set : ℕ) (h : Part) (page : ℕ) : Type 0 where
 abbrev pub IsOfPops : ℕ → Part → Body → Type 0
 IsOfPops generation h b = (j : ℕ) → is_swept_set generation j ≡ false → 0 < many (is_pop_of j b.page) h.log → class_of_set j ≡ b.class
 
+-- the worker neither sweeps nor holds the span of the page, nor has it cached
+pub record IsApart (h : Part) (page : ℕ) : Type 0 where
+  pub sweeping : has page h.sweeping ≡ false
+  pub held : has page h.held ≡ false
+  pub cached : has page h.cached ≡ false
+
 -- objects may be placed in the body: the worker cached it in this cycle, and has no other span of its class cached; or it holds it,
 -- claims nothing, and the body is of one object
 abbrev pub MayPlace : Part → Body → Type 0

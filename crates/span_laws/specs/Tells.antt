@@ -7,7 +7,7 @@ use Rattle.sweep_laws.specs.State.{LifeState, SetState}
 use Rattle.span_laws.specs.declared.view.Part.{Part}
 use Rattle.swept_set_laws.specs.Entered.{IsSettled}
 use Rattle.span_laws.specs.Logs.{is_look, is_placing_at}
-use Rattle.worker_log.specs.Logs.{many, is_pop_of, is_seen_empty}
+use Rattle.worker_log.specs.Logs.{many, is_pop, is_pop_of, is_seen_empty}
 use Rattle.span_laws.specs.Views.{has_cell}
 
 -- each cell below the tail of a set is filled, by a page of a region of at most 65536 pages
@@ -20,7 +20,7 @@ IsPlaced g words lives p i = (p < length words) × IsSettled g (slice_index word
 
 -- the cached pages that are told as fresh are those with the word G+3; the log's placings are of allocated objects of swept spans; a
 -- page that was popped from an unswept set and waits still is of its class; an unswept set that was seen empty is empty; a cell that was read as filled still names its page; no set has an earlier head or tail than
--- was seen; and the unswept sets are filled
+-- was seen, or an earlier head than the entries that the worker popped from it; and the unswept sets are filled
 pub record Tells (g : ℕ) (words : List ℕ) (lives : List LifeState) (sets : List SetState) (h : Part) : Type 0 where
   pub fresh : (p : ℕ) → has p h.fresh ≡ (has p h.cached && (slice_index words p == g + 3))
   pub placed : (p i : ℕ) → 0 < many (is_placing_at p i) h.log → IsPlaced g words lives p i
@@ -29,3 +29,4 @@ pub record Tells (g : ℕ) (words : List ℕ) (lives : List LifeState) (sets : L
   pub read : (k i p : ℕ) → has_cell k i p h.read ≡ true → cell_of (slice_index_or sets k no_set) i ≡ p + 1
   pub filled : (k : ℕ) → is_swept_set g k ≡ false → IsFilled (slice_index_or sets k no_set)
   pub grown : (k s t : ℕ) → 0 < many (is_look k s t) h.log → (s ≤ (slice_index_or sets k no_set).head) × (t ≤ (slice_index_or sets k no_set).tail)
+  pub passed : (k : ℕ) → many (is_pop k) h.log ≤ (slice_index_or sets k no_set).head

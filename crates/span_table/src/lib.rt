@@ -10,6 +10,7 @@ mod lent;
 mod lent_next;
 mod lent_pages;
 mod lent_sets;
+mod lent_size;
 mod lent_words;
 mod make;
 mod seat;
@@ -17,6 +18,7 @@ mod shared;
 mod worker;
 mod worker_pages;
 mod worker_sets;
+mod worker_size;
 mod worker_words;
 
 pub use shared::Shared;

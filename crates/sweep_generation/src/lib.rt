@@ -1,4 +1,9 @@
 //! Who may touch a span: the states of its generation word, and the moves between them over plain lists.
+//!
+//! A span is touched by one worker at a time: who holds, sweeps or has cached it. The generation word of its first page
+//! tells which of these it is, and each move writes the word last. What is of no worker is written under the heap lock
+//! (lives and owners), by whoever has an index of it (sets), or by a mark end, while no worker has anything in hand.
+//! `docs/ownership-core.md` states the rules.
 #![tactic(auto)]
 
 mod mark_end;

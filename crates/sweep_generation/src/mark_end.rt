@@ -1,3 +1,7 @@
+//! A mark end: the one move that touches what is of no worker. All hands must be idle and all spans of the generation before
+//! swept; then the marks become what each life keeps, the sets of the other part become those to sweep, and the generation rises
+//! by 2, so that each word means something else without being written.
+
 ghost use Rattle.std.specs.Prelude.{◌≡◌, ◌≤◌, ℕ, map};
 ghost use Rattle.std.specs.List.{All};
 ghost use Rattle.sweep_laws.specs.Changes.{empty_unswept as unswept_emptied, forget_swept as swept_forgotten};

@@ -1,3 +1,7 @@
+//! The caches. A worker puts a span that it holds into its cache, and allocates in it; nobody else may touch the span until it is
+//! taken out again (`mcache.go`, `refill`; `mcentral.go`, `cacheSpan` and `uncacheSpan`). Over a mark end the span stays cached with
+//! the word G+1, and only its worker may begin to sweep it.
+
 ghost use Rattle.std.specs.Prelude.{◌≡◌};
 ghost use Rattle.sweep_laws.specs.Step.{Steps};
 

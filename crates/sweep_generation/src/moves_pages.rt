@@ -1,3 +1,7 @@
+//! Take and Give: the moves that begin and end a life. Only the holder of the heap lock makes them (`mheap.go`, `allocSpan` and
+//! `freeSpan`). Take writes the word of a page that no span has, and Give that of a span that its worker holds: so nobody else
+//! looks at the word meanwhile.
+
 ghost use Rattle.std.specs.Prelude.{◌≡◌};
 ghost use Rattle.sweep_laws.specs.Step.{Steps};
 

@@ -1,3 +1,7 @@
+//! The sets (`mspanset.go`, `push` and `pop`). A push has two moves, since its index is given away before its cell is written:
+//! Claim raises the tail, and Fill writes the cell and lets go of the span. Of swept sets an entry is the span itself, so
+//! PopSwept holds it; of unswept ones it is a hint alone, so PopUnswept notes the entry, and the word decides who sweeps.
+
 ghost use Rattle.std.specs.Prelude.{◌≡◌};
 ghost use Rattle.sweep_laws.specs.Step.{Steps};
 

@@ -1,3 +1,7 @@
+//! A sweep. Who moves a word from G-2 to G-1 has the span alone, until that worker moves it to G (`mgcsweep.go`, `tryAcquire`):
+//! a worker that popped the span's entry, or one that had it cached over a mark end. Only Release writes what is allocated, since
+//! only then is it known that nobody else has the span.
+
 ghost use Rattle.std.specs.Prelude.{◌≡◌};
 ghost use Rattle.sweep_laws.specs.Step.{Steps};
 

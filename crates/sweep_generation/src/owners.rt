@@ -1,3 +1,5 @@
+//! The owner of each page. Only Take and Give write it, by the worker that has the heap lock.
+
 ghost use Rattle.std.specs.Prelude.{◌≡◌};
 ghost use Rattle.sweep_laws.specs.Lists.{put_run};
 

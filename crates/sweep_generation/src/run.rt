@@ -1,3 +1,6 @@
+//! Moves one after another. What holds behind each step holds behind them all; that each span is swept once between two mark
+//! ends is a law of whole runs, and stands here for that reason.
+
 ghost use Rattle.std.specs.Prelude.{◌≡◌, ◌≢◌, Ok, Err};
 ghost use Rattle.sweep_laws.specs.Owned.{Owned};
 ghost use Rattle.sweep_laws.specs.Once.{Once};

@@ -1,3 +1,5 @@
+//! Searches that needs ask for. They read, and write nothing.
+
 ghost use Rattle.std.specs.Prelude.{◌≡◌, option_copied};
 ghost use Rattle.std.specs.List.{find, position};
 ghost use Rattle.std.specs.Option.{is_some};

@@ -1,3 +1,6 @@
+//! New cores, and room for later moves. Memory is asked for here, so that no step needs to: `make_room` once, and
+//! `make_life_room` before each Take. Neither changes what contracts see of the state but the two numbers of the room.
+
 ghost use Rattle.std.specs.Prelude.{◌≡◌, ℕ, ◌≤◌, ◌<◌, ◌+◌, ◌^◌, map, length, max, None, IfOk, OnOk, OnErr};
 ghost use Rattle.std.specs.List.{All};
 ghost use Rattle.sweep_laws.specs.Owned.{Owned};

@@ -1,3 +1,6 @@
+//! The state of span ownership. Its fields are written by the files of the moves alone, each only what its move's definition
+//! names, and by `start.rt`; callers read them through the methods below. The type keeps that tables and lists agree.
+
 ghost use Rattle.std.specs.Prelude.{◌≡◌, map};
 ghost use Rattle.sweep_lists.specs.Views.{hand_view, life_view, set_view};
 

@@ -1,3 +1,6 @@
+//! One move: the only way by which a core changes. A move first tries all its needs, which write nothing, then makes room, and
+//! writes last; so a refused move, and one without memory, leaves the core as it was.
+
 ghost use Rattle.std.specs.Prelude.{◌≡◌, ◌≢◌, Err};
 ghost use Rattle.sweep_laws.specs.Owned.{Owned};
 ghost use Rattle.sweep_laws.specs.Step.{Steps};

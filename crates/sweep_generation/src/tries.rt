@@ -1,3 +1,6 @@
+//! The needs of moves, tried in their order: the first that fails is told, with what was found. They read, and write nothing.
+//! Here are the parts that all moves share, and the needs of the lock, of sweeps and of caches.
+
 ghost use Rattle.std.specs.Prelude.{◌≡◌, ◌<◌, ◌^◌, OnOk, IfSome, length, option_map, IsTrue, [], ◌∷◌};
 ghost use Rattle.sweep_laws.specs.Needs.{
   need,

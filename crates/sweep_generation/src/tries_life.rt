@@ -1,3 +1,5 @@
+//! The needs of Take, Give and Allocate, in their order. They read, and write nothing.
+
 ghost use Rattle.std.specs.Prelude.{◌≡◌, ◌<◌, ◌≤◌, ◌+◌, OnOk, length, [], ◌∷◌};
 ghost use Rattle.sweep_laws.specs.Needs.{
   need,

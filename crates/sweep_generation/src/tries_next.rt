@@ -1,3 +1,5 @@
+//! The needs of a mark end, in their order. They read, and write nothing.
+
 ghost use Rattle.std.specs.Prelude.{◌≡◌, ◌==◌, ◌<◌, ◌+◌, ◌^◌, OnOk, true, not, map, option_map, option_copied, [], ◌∷◌};
 ghost use Rattle.std.specs.List.{find, position};
 ghost use Rattle.std.specs.Option.{is_some};

@@ -1,3 +1,5 @@
+//! The needs of pushes and pops, in their order. They read, and write nothing.
+
 ghost use Rattle.std.specs.Prelude.{◌≡◌, ◌<◌, OnOk, IfOk, length, Some, [], ◌∷◌};
 ghost use Rattle.sweep_laws.specs.Needs.{
   hand_of,

@@ -1,3 +1,5 @@
+//! What a generation word says of its span (`mheap.go`, `mspan.sweepgen`). Nothing is written here.
+
 ghost use Rattle.std.specs.Prelude.{◌≡◌, ℕ, ◌≤◌, ◌^◌};
 ghost use Rattle.sweep_laws.specs.Roles.{role_of};
 

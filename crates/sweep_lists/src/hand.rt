@@ -1,3 +1,6 @@
+//! What one worker has. Its moves alone write its hand, but for a mark end, which empties `swept` of each. A page is handed
+//! from list to list by one call that needs room in the new list first: so a page is never lost where memory runs out.
+
 ghost use Rattle.std.specs.Prelude.{◌≡◌, ◌≤◌, ◌<◌, ◌⊎◌, ℕ, [], ◌∷◌, ◌++◌, length, None, IfOk, OnOk, OnErr};
 ghost use Rattle.sweep_laws.specs.Lists.{erase};
 ghost use Rattle.sweep_laws.specs.Needs.{listed, is_idle as no_pages};

@@ -1,3 +1,6 @@
+//! The allocated indices of a life, with the least free one beside them. Only the methods here write the two: an index that comes
+//! raises the least free one, and a sweep finds it anew.
+
 ghost use Rattle.std.specs.Prelude.{◌≡◌, ◌<◌, ◌≤◌, ◌==◌, [], ◌∷◌, ◌++◌, length, IfOk, OnOk, OnErr};
 ghost use Rattle.sweep_laws.specs.Lists.{has, least_outside};
 ghost use Rattle.sweep_lists.specs.Tables.{AreMembers, IsLeastOutside};

@@ -1,4 +1,7 @@
 //! The lists that the state of span ownership is made of, with room for more, and with indices by page beside them.
+//!
+//! Contracts see the lists alone, in the order in which things came. The tables beside them are private, and each is written
+//! by the same call as its list. Room is made before a move, so that a move takes no memory.
 #![tactic(auto)]
 
 mod entries;

@@ -1,3 +1,6 @@
+//! One span. What is allocated is written by the worker that has the span: it allocates in its cache, and ends its sweep. What is
+//! kept is written by a mark end alone, and read by the sweep behind it.
+
 ghost use Rattle.std.specs.Prelude.{◌≡◌, ◌≤◌, ◌<◌, true, length, OnOk, OnErr};
 ghost use Rattle.sweep_laws.specs.Changes.{marks_at, keep_marked as kept_marked, allocate_index as allocated_too};
 ghost use Rattle.sweep_laws.specs.Lists.{rises};

@@ -1,3 +1,6 @@
+//! All spans, with a table by page beside them. Only the methods here write the two, always both. A life comes and goes under the
+//! heap lock; a mark end writes what each keeps.
+
 ghost use Rattle.std.specs.Prelude.{◌≡◌, ◌==◌, ◌≤◌, ◌<◌, ℕ, true, map, length, OnOk, OnErr, IfOk, option_map, None, Some, if◌then◌else◌, slice_index_or, slice_set, [], ◌∷◌, ◌++◌, drop};
 ghost use Rattle.std.specs.List.{All, find, position};
 ghost use Rattle.sweep_laws.specs.Changes.{marks_at, mark_life, change_life, drop_life as dropped_life, keep_marked as kept_marked, allocate_index as allocated_too};

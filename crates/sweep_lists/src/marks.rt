@@ -1,3 +1,5 @@
+//! The marks of one page, out of marks that rise. Nothing is written here.
+
 ghost use Rattle.std.specs.Prelude.{◌≡◌, ◌<◌, ◌≤◌, ℕ, true, length, slice_index_or};
 ghost use Rattle.sweep_laws.specs.Lists.{rises};
 ghost use Rattle.sweep_laws.specs.Changes.{marks_at};

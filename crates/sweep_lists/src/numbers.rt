@@ -1,3 +1,6 @@
+//! A list of pages or indices with a table beside it. Only the methods here write the two, always both, so that the table says
+//! what the list says.
+
 ghost use Rattle.std.specs.Prelude.{◌≡◌, ◌<◌, ◌≤◌, ◌==◌, ◌||◌, ℕ, false, [], ◌∷◌, ◌++◌, length, IfOk, OnOk, OnErr, slice_index_or};
 ghost use Rattle.sweep_laws.specs.Lists.{has, erase};
 

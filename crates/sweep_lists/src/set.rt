@@ -1,3 +1,6 @@
+//! A queue of spans. Any worker pushes and pops: the tail rises as an index is given away, the head as an entry is taken, and a
+//! cell is written once, by the worker that has its index. A mark end empties the sets that are to be filled next.
+
 ghost use Rattle.std.specs.Prelude.{◌≡◌, ◌≤◌, ◌<◌, ◌+◌, ℕ, map, length, OnOk, OnErr, slice_set, slice_index_or};
 ghost use Rattle.std.specs.List.{All};
 ghost use Rattle.sweep_laws.specs.Needs.{no_set};

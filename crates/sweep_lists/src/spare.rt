@@ -1,3 +1,5 @@
+//! The life that the next Take uses: its lists are made before, so that a Take takes no memory.
+
 ghost use Rattle.std.specs.Prelude.{◌≡◌, ◌≤◌, ◌<◌, [], OnOk, OnErr, IfOk, max};
 ghost use Rattle.sweep_laws.specs.Changes.{new_life, left_prepared};
 ghost use Rattle.sweep_lists.specs.KeptSpare.{IsPrepared};

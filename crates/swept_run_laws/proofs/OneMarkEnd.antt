@@ -4,11 +4,10 @@ use Rattle.page_bitmap.specs.declared.line.Line.{Line}
 use Rattle.page_bitmap.specs.declared.line.Line.TheVariants.{Give}
 use Rattle.size_classes.specs.Classes.{objects_of}
 use Rattle.page_alloc.specs.Journal.{life_of}
-use Rattle.span_state.specs.Bits.{count_below}
+use Rattle.span_state.specs.Bits.{count_below, with_bit}
 use Rattle.span_state.specs.declared.sweep.SweepNote.{SweepNote}
 use Rattle.cycle_history.specs.Sweeps.{AreSwept}
 use Rattle.sound_run.specs.Spans.{AreBits, AreMarks}
-use Rattle.swept_run_laws.specs.Served.{with_bit}
 use Rattle.sound_run.specs.Run.{IsRun}
 use Rattle.sound_run.specs.Notes.{HasNotes}
 use Rattle.swept_run_laws.specs.Walked.{IsSweptTo}

@@ -10,7 +10,8 @@ use Rattle.cycle_history.specs.Rules.{IsSmall}
 use Rattle.sound_run.specs.Run.{count_for, Fits, IsRun}
 use Rattle.swept_run_laws.specs.Steps.{MayPlace}
 use Rattle.sound_run.specs.Spans.{AreBits}
-use Rattle.swept_run_laws.specs.Served.{IsFull, AreServed, with_bit, HasFree}
+use Rattle.span_state.specs.Bits.{HasFree, with_bit}
+use Rattle.swept_run_laws.specs.Served.{IsFull, AreServed}
 use Rattle.sound_run.proofs.Live.{at_end-now, live-placed, live-cases, live-of}
 use Rattle.sound_run.proofs.Seats.{same_number, number-below}
 

@@ -1,5 +1,5 @@
--- What processors' caches say of a run's objects, and the lowest free index of a span.
-use Rattle.std.specs.Prelude.{◌≡◌, ℕ, ◌<◌, Bool, true, false, ◌==◌, ◌||◌, List, ◌⊎◌, Option, Some}
+-- What processors' caches say of a run's objects.
+use Rattle.std.specs.Prelude.{◌≡◌, ℕ, ◌<◌, List, ◌⊎◌, Option, Some}
 use Rattle.page_alloc.specs.Lists.{In}
 use Rattle.cycle_history.specs.Requests.{Marking}
 use Rattle.cycle_history.specs.Objects.{Object}
@@ -15,13 +15,3 @@ IsFull marked c objects n count = (j : ℕ) → j < count → HasIndex marked c 
 pub record AreServed (marked : Marking) (c : ℕ) (objects : List Object) (cached : ℕ → ℕ → Option ℕ) : Type 0 where
   pub serves : (o : Object) → In o objects → IsSmall o → o.cycle ≡ c → (cached o.proc o.need.class ≡ Some o.life) ⊎ IsFull marked c objects o.life o.need.count
   pub alone : (p q k l n : ℕ) → cached p k ≡ Some n → cached q l ≡ Some n → p ≡ q
-
--- The bits with one more set.
-abbrev pub with_bit : ℕ → (ℕ → Bool) → ℕ → Bool
-with_bit i bits k = (k == i) || bits k
-
--- An index is the lowest of a span's that isn't set.
-pub record HasFree (count : ℕ) (bits : ℕ → Bool) (k : ℕ) : Type 0 where
-  pub inside : k < count
-  pub free : bits k ≡ false
-  pub lowest : (j : ℕ) → j < k → bits j ≡ true

@@ -213,10 +213,10 @@ fn good_headers_are_taken(rt: HostRuntime) -> Result<(), Fail> {
     Ok(())
 }
 
-// Of all words but `run` or `classes` alone, the usage is told, and nothing is read or written.
+// Of all words but `run` or `classes` alone and `gen` with two numbers, the usage is told, and nothing is read or written.
 #[test]
 fn other_words_are_refused(rt: HostRuntime) -> Result<(), Fail> {
-    let rows: [&[&str]; 16] = [
+    let rows: [&[&str]; 22] = [
         &[],
         &[""],
         &["Run"],
@@ -230,6 +230,12 @@ fn other_words_are_refused(rt: HostRuntime) -> Result<(), Fail> {
         &["check"],
         &["classes", ""],
         &["gen", "1", "0"],
+        &["gen", "1", "1000001"],
+        &["gen", "18446744073709551616", "1"],
+        &["gen", "1", "+1"],
+        &["gen", "1"],
+        &["gen", "1", "1", "1"],
+        &["Gen", "1", "1"],
         &["demo", "1", "2"],
         &["--help"],
         &["--", "run"],
@@ -256,6 +262,24 @@ fn classes_are_written(rt: HostRuntime) -> Result<(), Fail> {
     assert!(rt; found.written.as_slice().starts_with(b"c 1 8 1 1024\n"));
     assert!(rt; found.written.as_slice().ends_with(b"\nc 67 32768 4 1\n"));
     let found = call(&rt, &["classes"], b"", &[], &[0])?;
+    assert_eq!(rt; found.status, 6);
+    assert_eq!(rt; found.told.as_slice(), b"goheap: write fault\n".as_slice());
+    assert!(rt; found.written.is_empty());
+    Ok(())
+}
+
+// A made trace is written, and nothing is read. Its event is that of a generator that was written apart.
+#[test]
+fn made_traces_are_written(rt: HostRuntime) -> Result<(), Fail> {
+    // A read would fail.
+    let found = call(&rt, &["gen", "1", "1"], b"goheap 1\n", &[0], &[])?;
+    assert_eq!(rt; found.status, 0);
+    assert!(rt; found.told.is_empty());
+    assert_eq!(rt;
+        found.written.as_slice(),
+        b"goheap 1\nheap 128 procs 8 rate 524288 seed 1 goal 65536\na 6 758 s 6\nend\n".as_slice()
+    );
+    let found = call(&rt, &["gen", "1", "1"], b"", &[], &[0])?;
     assert_eq!(rt; found.status, 6);
     assert_eq!(rt; found.told.as_slice(), b"goheap: write fault\n".as_slice());
     assert!(rt; found.written.is_empty());

@@ -16,7 +16,7 @@ loop-index-preserved c p low high =
       | inr above ↦ c.loop-index.invariant p above high
       | inl here ↦ (
           let k = c.loop-index.index - 1 in
-          let at = (ties-loose c.args.chunks.now k _ (omega arith)).at (p - 512 * k) (omega arith) in
           let place : 512 * k + (p - 512 * k) ≡ p = omega arith in
+          let at = (ties-loose c.args.chunks.now k _ (omega arith)).at (p - 512 * k) (omega arith) in
           sym (ap (loose_in c.args.chunks.now) place) ∙ (at ∙ c.in_default.ensures.none (p - 512 * k)))
     ]

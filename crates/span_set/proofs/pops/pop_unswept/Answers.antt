@@ -1,4 +1,5 @@
-use Rattle.std.proofs.Common.{ap, ◌∙◌, arith}
+use Rattle.std.proofs.Common.{◌≤◌, ap, subst, ◌∙◌, arith}
+use Rattle.worker_log.specs.Logs.{is_pop, many}
 use Rattle.span_laws.specs.declared.said.Said.TheVariants.{Looks, Reads}
 use Rattle.span_laws.specs.Views.{Seen, after_said}
 use Rattle.span_set.proofs.Looking.{again, first_look}
@@ -7,7 +8,8 @@ use Rattle.span_set.proofs.pops.pop_unswept.Goals as goal
 pub loop-init : goal.loop-init
 loop-init c = let n = c.unswept_number-number.result in let r = c.look-head.result in let w : Seen = c.args.w.now in record {
   looks = first_look n r.0 r.1 w c.look-head.new.w
-      (c.look-head.ensures.view ∙ ap (after_said (Looks n r.0 r.1)) (c.generation-generation.ensures.view ∙ ap (λ g. after_said (Reads 1 g) w) c.generation-generation.ensures.value));
+      (c.look-head.ensures.view ∙ ap (after_said (Looks n r.0 r.1)) (c.generation-generation.ensures.view ∙ ap (λ g. after_said (Reads 1 g) w) c.generation-generation.ensures.value))
+      (let p = subst (λ (x : Seen). many (is_pop n) x.view.own.log ≤ r.0) c.generation-generation.ensures.view c.look-head.ensures.ahead.passed in omega arith);
   order = c.look-head.ensures.ahead.order;
   few = omega arith;
   tries = omega arith;

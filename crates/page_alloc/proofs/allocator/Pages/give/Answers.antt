@@ -3,6 +3,8 @@ use Rattle.std.proofs.lemmas.List.{get_or_read, with_items_is}
 use Rattle.page_alloc.proofs.Keeping.{given, kept-give}
 use Rattle.page_alloc.proofs.Adding.{adds-line, sound-after, owner-view, by-view}
 use Rattle.page_alloc.proofs.Sums.{right-but}
+use Rattle.page_alloc.proofs.Tops.{give-loose}
+use Rattle.page_alloc.specs.Region.{free_in, scavenged_in}
 use Rattle.page_alloc.proofs.allocator.Pages.give.Goals as goal
 
 pub index-pages-requires : goal.index-pages-requires
@@ -38,6 +40,15 @@ overflow_sub-page c =
     let read : c.index-pages.result.now ≡ life.0.pages = get_or_read c.self.inside.lengths.items _ _ lt c.index-pages.ensures 0 ∙ life.1.pages in
     let inside = life.1.run.inside in
     let some = life.1.some in
+    let few = c.self.invariant.few_chunks in
+    omega arith
+
+pub chunk_behind-requires : goal.chunk_behind-requires
+chunk_behind-requires c =
+    let life = given c.self.invariant.kept (owner-view c.self.inside c.args.self.now c.args.page c.args.page c.self.view_is c.requires.begins) in
+    let lt : c.args.page < length c.self.inside.lengths.items = (let i = life.1.run.inside in let s = life.1.some in let n = c.self.invariant.numbers in omega arith) in
+    let read : c.index-pages.result.now ≡ life.0.pages = get_or_read c.self.inside.lengths.items _ _ lt c.index-pages.ensures 0 ∙ life.1.pages in
+    let inside = life.1.run.inside in
     let few = c.self.invariant.few_chunks in
     omega arith
 
@@ -116,6 +127,10 @@ invariant_of-self c =
     (rw c.as_mut_slice.ensures.value at c.free_run.ensures.free) (rw c.as_mut_slice.ensures.value at c.free_run.ensures.scavenged) (rw c.as_mut_slice-2.ensures.value at c.mark_start.ensures))
     (omega arith) (rw with_chunks at c.update.ensures)
     (λ p lt. (rw c.as_mut_slice.ensures.value at c.free_run.ensures.free).below p (omega arith) ∙ sound.below_search p (omega arith))
+    (let within = sound.top_within in let inside = life.1.run.inside in let some = life.1.some in let least = c.chunk_behind.ensures.least in let most = c.max-self-inside.ensures in omega arith)
+    (λ p le. give-loose (free_in c.self.inside.chunks.items) (free_in c.free_run.new.chunks) (scavenged_in c.self.inside.chunks.items) (scavenged_in c.free_run.new.chunks) c.args.page c.index-pages.result.now p
+    (rw c.as_mut_slice.ensures.value at c.free_run.ensures.free) (rw c.as_mut_slice.ensures.value at c.free_run.ensures.scavenged)
+    (let behind = c.chunk_behind.ensures.behind in let most = c.max-self-inside.ensures in omega arith) (sound.above_top p (let most = c.max-self-inside.ensures in omega arith)))
 
 pub returns : goal.returns
 returns c =

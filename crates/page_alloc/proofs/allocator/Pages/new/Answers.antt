@@ -1,11 +1,13 @@
-use Rattle.std.proofs.Common.{◌≡◌, ℕ, ◌<◌, true, false, get_or, ◌∙◌, ap, arith}
+use Rattle.std.proofs.Common.{◌≡◌, ℕ, ◌*◌, ◌<◌, true, false, get_or, ◌∙◌, ap, arith, inl, inr}
+use Rattle.std.proofs.lemmas.Bool.{cases_lt}
 use Rattle.std.proofs.lemmas.List.{get_or-replicate}
 use Rattle.page_bitmap.specs.declared.bitmap.Bitmap.{Bitmap}
 use Rattle.page_bitmap.specs.declared.chunk.Chunk.{Chunk}
 use Rattle.page_bitmap.specs.Pages.{is_free, is_scavenged}
-use Rattle.page_alloc.specs.Region.{pages_of_map}
+use Rattle.page_alloc.specs.Region.{free_in, pages_of_map, scavenged_in}
 use Rattle.page_alloc.proofs.Keeping.{kept-new}
-use Rattle.page_alloc.proofs.Walks.{over-each}
+use Rattle.page_alloc.proofs.Tops.{new-loose, out-loose}
+use Rattle.page_alloc.proofs.Walks.{over-each, over-past}
 use Rattle.page_alloc.proofs.allocator.Pages.new.Goals as goal
 
 pub invariant_of-result : goal.invariant_of-result
@@ -25,6 +27,7 @@ invariant_of-result c =
     let map : (k : ℕ) (d : Bitmap) → k < c.args.chunks → get_or c.in_ok-vec.field-0.items k d ≡ c.empty.result =
     λ k d lt. rw maps (get_or-replicate {A = Bitmap} c.args.chunks k c.empty.result d lt) in
     let free = over-each is_free c.in_ok-chunks.chunks.items c.new.result true (λ k j lt low. ap (λ (x : Chunk). is_free x j) (chunk k c.new.result (omega arith)) ∙ c.new.ensures.free.each j (omega arith) low) in
+    let scavenged = over-each is_scavenged c.in_ok-chunks.chunks.items c.new.result true (λ k j lt low. ap (λ (x : Chunk). is_scavenged x j) (chunk k c.new.result (omega arith)) ∙ c.new.ensures.scavenged.each j (omega arith) low) in
     record {
       some_chunks = omega arith;
       few_chunks = omega arith;
@@ -32,9 +35,14 @@ invariant_of-result c =
       numbers = omega arith;
       kept = rw c.new-3.ensures.items (kept-new _ _ _ _ _ _
           free
-          (over-each is_scavenged c.in_ok-chunks.chunks.items c.new.result true (λ k j lt low. ap (λ (x : Chunk). is_scavenged x j) (chunk k c.new.result (omega arith)) ∙ c.new.ensures.scavenged.each j (omega arith) low))
+          scavenged
           (λ p lt. over-each pages_of_map c.in_ok-vec.field-0.items c.empty.result false (λ k j ltk low. ap (λ (x : Bitmap). pages_of_map x j) (map k c.empty.result (omega arith)) ∙ c.empty.ensures j) p (omega arith)));
       levels = rw c.as_slice.ensures.value at c.in_ok-levels.ensures;
       below_search = λ p lt. absurd (omega arith);
+      top_within = omega arith;
+      above_top = λ p le. elim (cases_lt p (512 * c.args.chunks)) [
+        | inl low ↦ new-loose (free_in c.in_ok-chunks.chunks.items) (scavenged_in c.in_ok-chunks.chunks.items) p (scavenged p (omega arith))
+        | inr high ↦ out-loose (free_in c.in_ok-chunks.chunks.items) (scavenged_in c.in_ok-chunks.chunks.items) p (over-past is_free c.in_ok-chunks.chunks.items p (omega arith))
+      ];
       room = omega arith;
     }

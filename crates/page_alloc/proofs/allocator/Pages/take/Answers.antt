@@ -3,6 +3,8 @@ use Rattle.std.proofs.lemmas.List.{with_items_is}
 use Rattle.page_bitmap.specs.CountLaws.{count_below-le}
 use Rattle.page_alloc.specs.Journal.{IsFirstFit}
 use Rattle.page_alloc.specs.Kept.{region_of, past_in}
+use Rattle.page_alloc.specs.Region.{free_in, scavenged_in}
+use Rattle.page_alloc.proofs.Tops.{take-loose}
 use Rattle.page_alloc.proofs.Keeping.{first-fit, kept-miss, kept-take, kept_small, no-run}
 use Rattle.page_alloc.proofs.Adding.{adds-line, sound-after, by-view, size-view, spare-view}
 use Rattle.page_alloc.proofs.Sums.{right-but, search-after}
@@ -18,7 +20,7 @@ invariant_of-self c =
     sound-after c.self.inside _ c.self.inside.chunks.items c.self.inside.starts.items c.self.inside.lengths.items _ sound refl refl refl refl refl refl append.past
     (kept-miss sound.kept (by-view c.self.inside c.args.self.now c.args.cycle c.self.view_is c.requires.cycle) c.requires.some
     (no-run sound.kept (rw c.as_slice.ensures.value at c.in_default.ensures.none)))
-    (omega arith) sound.levels sound.below_search
+    (omega arith) sound.levels sound.below_search sound.top_within sound.above_top
 
 pub returns-in_default-clause-missed : goal.returns-in_default-clause-missed
 returns-in_default-clause-missed c =
@@ -69,7 +71,10 @@ invariant_of-self-2 c =
     (rw c.as_mut_slice.ensures.value at c.take_run.ensures.free) (rw c.as_mut_slice.ensures.value at c.take_run.ensures.scavenged) (rw c.as_mut_slice-2.ensures.value at c.mark_start.ensures))
     (omega arith) (rw with_chunks at c.update.ensures)
     (search-after _ _ (region_of c.self.inside) c.in-Some.page c.args.n c.self.inside.search _ c.requires.some inside (rw c.as_mut_slice.ensures.value at c.take_run.ensures.free) sound.below_search
-    (rw c.as_slice.ensures.value at c.in-Some.ensures.found) c.raised-self-inside.ensures))
+    (rw c.as_slice.ensures.value at c.in-Some.ensures.found) c.raised-self-inside.ensures)
+    (let within = sound.top_within in omega arith)
+    (λ p le. take-loose (free_in c.self.inside.chunks.items) (free_in c.take_run.new.chunks) (scavenged_in c.self.inside.chunks.items) (scavenged_in c.take_run.new.chunks) c.in-Some.page c.args.n p
+    (rw c.as_mut_slice.ensures.value at c.take_run.ensures.free) (rw c.as_mut_slice.ensures.value at c.take_run.ensures.scavenged) (sound.above_top p le)))
 
 pub returns-clause-taken : goal.returns-clause-taken
 returns-clause-taken c =

@@ -6,10 +6,10 @@ use Rattle.sweep_laws.specs.Needs.{hand_of, no_hand}
 use Rattle.sweep_laws.specs.State.{HandState}
 use Rattle.sweep_lists.specs.Views.{hand_view}
 use Rattle.span_state.specs.declared.body.Body.{Body}
-use Rattle.span_laws.specs.Asks.{HasMarked, IsUntouched}
+use Rattle.span_laws.specs.Asks.{HasMarked, IsOfPops, IsUntouched, mine}
 use Rattle.span_laws.specs.Rule.{Rule}
 use Rattle.span_laws.specs.Views.{Seen}
-use Rattle.span_laws.proofs.Calls.{acquire_rule, acquired_marked, acquired_page, acquired_untouched}
+use Rattle.span_laws.proofs.Calls.{acquire_rule, acquired_class, acquired_marked, acquired_mine, acquired_page, acquired_pops, acquired_untouched}
 use Rattle.span_laws.proofs.RuleKept.{own_hand, low_number}
 use Rattle.span_laws.proofs.Uses.{waiting_home}
 use Rattle.span_table.proofs.lent.Lent.acquire.Goals as goal
@@ -53,4 +53,7 @@ returns c =
       rw (← c.self.view_is, c.tell_of.ensures.view, c.tell_of.ensures.table) refl,
       subst (λ (s : Seen). HasMarked s.view.marks t.result) c.self.view_is (acquired_marked i.core i.pages i.homes.items i.number i.seat.me.0 k c.args.page low w t.result at),
       subst (λ (s : Seen). IsUntouched s.view.generation s.view.own c.args.page) c.self.view_is (acquired_untouched i.core i.pages i.homes.items i.number i.seat.me.0 k c.args.page low w t.result at),
+      subst (λ (s : Seen). mine c.args.page s.view.own ≡ 0) c.self.view_is (acquired_mine i.core i.pages i.homes.items i.number i.seat.me.0 k c.args.page low w t.result at),
+      subst (λ (s : Seen). IsOfPops s.view.generation s.view.own t.result) c.self.view_is (acquired_pops i.core i.pages i.homes.items i.number i.seat.me.0 k c.args.page low w t.result at),
+      acquired_class i.core i.pages i.homes.items i.number i.seat.me.0 k c.args.page low w t.result at,
     )

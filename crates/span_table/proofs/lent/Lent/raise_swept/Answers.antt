@@ -5,8 +5,9 @@ use Rattle.sweep_laws.specs.Needs.{is_swept_set, set_of}
 use Rattle.span_laws.specs.declared.view.View.{View}
 use Rattle.span_laws.specs.Views.{Seen, has_cell}
 use Rattle.span_laws.proofs.Allowed.{pop_swept_allowed}
-use Rattle.span_laws.proofs.Calls.{head_filled, pop_rule, taken_page, taken_set, written_at}
+use Rattle.span_laws.proofs.Calls.{head_filled, pop_rule, taken_mine, taken_page, taken_set, written_at}
 use Rattle.span_laws.specs.Answers.{IsAhead}
+use Rattle.span_laws.specs.Asks.{IsTaken}
 use Rattle.span_laws.proofs.RuleKept.{low_number}
 use Rattle.span_laws.proofs.Uses.{ahead, popped_home, popped_low}
 use Rattle.span_table.proofs.lent.Lent.raise_swept.Goals as goal
@@ -59,6 +60,7 @@ returns c = let i = c.self.inside in let v : View = i.seat.me.0 in let k = c.sel
       taken_page i.core i.pages i.homes.items i.number v k c.args.set c.args.page r.set part more at c.take_home-body.result body,
       rw (← c.self.view_is, c.tell_of.ensures.table, c.tell_of.ensures.view) refl,
       taken_set i.core i.pages i.homes.items i.number v k c.args.set c.args.page r.set part more at c.take_home-body.result body,
+      subst (λ (w : Seen). IsTaken w.view.generation c.args.set w.view.own c.args.page) c.self.view_is (taken_mine i.core i.pages i.homes.items i.number v k c.args.set c.args.page r.set part more at c.take_home-body.result body),
     )
 
 pub returns-then-found-head : goal.returns-then-found-head

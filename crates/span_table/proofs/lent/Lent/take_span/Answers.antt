@@ -1,13 +1,13 @@
-use Rattle.std.proofs.Common.{ℕ, ◌-◌, ◌/◌, ◌≤◌, List, length, refl, sym, ap, ◌∙◌, subst, arith}
+use Rattle.std.proofs.Common.{◌≡◌, ℕ, ◌-◌, ◌/◌, ◌≤◌, List, length, refl, sym, ap, ◌∙◌, subst, arith}
 use Rattle.std.proofs.lemmas.List.{length-reverse}
 use Rattle.page_alloc.specs.Journal.{HasNoRun, IsBy, Legal}
 use Rattle.page_alloc.proofs.Lives.{span_pages}
 use Rattle.page_bitmap.specs.declared.line.Line.{Line}
 use Rattle.sweep_laws.specs.State.{CoreState}
-use Rattle.span_laws.specs.Asks.{IsUntouched}
+use Rattle.span_laws.specs.Asks.{IsUntouched, mine}
 use Rattle.span_laws.specs.declared.view.View.{View}
 use Rattle.span_laws.specs.Views.{Seen}
-use Rattle.span_laws.proofs.Calls.{ready_rule, run_last, run_rule, run_untouched}
+use Rattle.span_laws.proofs.Calls.{ready_rule, run_last, run_mine, run_rule, run_untouched}
 use Rattle.span_laws.proofs.Notes.{miss_keeps}
 use Rattle.span_table.proofs.lent.Lent.take_span.Goals as goal
 
@@ -44,6 +44,9 @@ returns-in-Ok-take c = let i = c.self.inside in let v : View = i.seat.me.0 in le
   view = rw (← c.self.view_is, c.tell_taken.ensures.table, c.tell_taken.ensures.view, c.generation.ensures, k.generation) refl;
   untouched = subst (λ (w : Seen). IsUntouched w.view.generation w.view.own c.new_body-body.result.page) c.self.view_is
       (run_untouched i.core i.pages i.homes.items i.number v k c.reserve_line.new.self c.reserve_line.ensures.same c.make_life_room.new.self _ c.in-Ok-make_life_room.ensures.ok
+      ((c.generation.result - 4) / 2) c.in-Ok-take.page c.args.n c.args.class c.take.new.self c.in-Ok-take.ensures.taken c.new_body-body.result nb.is_new nb.page);
+  nothing = subst (λ (w : Seen). mine c.new_body-body.result.page w.view.own ≡ 0) c.self.view_is
+      (run_mine i.core i.pages i.homes.items i.number v k c.reserve_line.new.self c.reserve_line.ensures.same c.make_life_room.new.self _ c.in-Ok-make_life_room.ensures.ok
       ((c.generation.result - 4) / 2) c.in-Ok-take.page c.args.n c.args.class c.take.new.self c.in-Ok-take.ensures.taken c.new_body-body.result nb.is_new nb.page);
 }
 

@@ -5,10 +5,10 @@ use Rattle.std.proofs.lemmas.List.{length-reverse}
 use Rattle.page_alloc.specs.Journal.{HasNoRun, IsFirstFit, IsFree, Legal}
 use Rattle.page_alloc.proofs.Lives.{span_pages}
 use Rattle.page_bitmap.specs.declared.line.Line.{Line}
-use Rattle.span_laws.specs.Asks.{IsUntouched}
+use Rattle.span_laws.specs.Asks.{IsUntouched, mine}
 use Rattle.span_laws.specs.declared.view.View.{View}
 use Rattle.span_laws.specs.Views.{Seen}
-use Rattle.span_laws.proofs.Calls.{ready_rule, run_last, run_rule, run_untouched}
+use Rattle.span_laws.proofs.Calls.{ready_rule, run_last, run_mine, run_rule, run_untouched}
 use Rattle.span_table.proofs.lent.Lent.try_span.Goals as goal
 
 pub take-requires-clause-some : goal.take-requires-clause-some
@@ -37,6 +37,9 @@ returns c = let i = c.self.inside in let v : View = i.seat.me.0 in let nb = c.ne
   view = rw (← c.self.view_is, c.tell_taken.ensures.table, c.tell_taken.ensures.view, c.generation.ensures, k.generation) refl;
   untouched = subst (λ (w : Seen). IsUntouched w.view.generation w.view.own c.new_body-body.result.page) c.self.view_is
       (run_untouched i.core i.pages i.homes.items i.number v k c.reserve_line.new.self c.reserve_line.ensures.same c.make_life_room.new.self _ c.in-Ok-make_life_room.ensures.ok
+      ((c.generation.result - 4) / 2) c.in-Ok-take.page c.args.n c.args.class c.take.new.self c.in-Ok-take.ensures.taken c.new_body-body.result nb.is_new nb.page);
+  nothing = subst (λ (w : Seen). mine c.new_body-body.result.page w.view.own ≡ 0) c.self.view_is
+      (run_mine i.core i.pages i.homes.items i.number v k c.reserve_line.new.self c.reserve_line.ensures.same c.make_life_room.new.self _ c.in-Ok-make_life_room.ensures.ok
       ((c.generation.result - 4) / 2) c.in-Ok-take.page c.args.n c.args.class c.take.new.self c.in-Ok-take.ensures.taken c.new_body-body.result nb.is_new nb.page);
 }
 

@@ -1,0 +1,38 @@
+//! The word `gen`: a made trace in place of one that is read.
+
+ghost use Rattle.std.specs.Prelude.{ℕ, MatchOption};
+ghost use Rattle.made_lines.specs.Asks.{made_text};
+ghost use Rattle.alloc_tool.specs.Plain.{Writes};
+ghost use Rattle.alloc_tool.specs.Words.{IsGen};
+
+use crate::tell::{refuse_trace, stop_writing};
+use edge_io::Sink;
+use made_lines::{MadeFault, Wanted, read_words, write_made};
+use std::alloc::Global;
+use trace_reader::TraceFault;
+
+/// The made trace that the words ask for, if they are `gen SEED OBJECTS`.
+pub(crate) fn wanted_by(words: &[String]) -> Option<Wanted>
+    ensures { MatchOption result ((seed objects : ℕ) → ¬ IsGen words.now seed objects) (λ wanted. IsGen words.now wanted.seed wanted.objects) }
+{
+    if words.len() != 3 || words[0].as_str() != "gen" {
+        return None;
+    }
+    read_words(words[1].as_str().as_bytes(), words[2].as_str().as_bytes())
+}
+
+/// Writes the made trace.
+pub(crate) fn generate<K: Sink, E: Sink>(
+    alloc: Global,
+    wanted: Wanted,
+    output: &mut K,
+    errors: &mut E,
+) -> u8
+    ensures { Writes K.held K.faults E.held E.faults (made_text wanted.seed wanted.objects) output.old output.new errors.old errors.new result }
+{
+    match write_made(alloc, output, wanted) {
+        Ok(()) => 0,
+        Err(MadeFault::Failed) => stop_writing(errors),
+        Err(MadeFault::NoMemory) => refuse_trace(errors, TraceFault::NoMemory),
+    }
+}

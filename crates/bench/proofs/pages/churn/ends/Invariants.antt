@@ -1,0 +1,6 @@
+use Rattle.std.proofs.Common.{◌≡◌}
+use Rattle.page_alloc.specs.Journal.{IsBy}
+use Rattle.bench.proofs.pages.churn.ends.Given as goal
+
+abbrev pub invariant-loop : goal.invariant-loop
+invariant-loop l = IsBy 0 l.pages.past × (l.pages.region ≡ 65536)

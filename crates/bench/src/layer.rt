@@ -1,0 +1,69 @@
+use crate::found::Found;
+use crate::stop::Stop;
+use crate::{bitmap, history, marks, ownership, pages, profile};
+use edge_io::{Lines, Source};
+use std::alloc::Global;
+
+/// What is timed.
+#[derive(Clone, Copy, Debug, PartialEq, Eq)]
+pub enum Layer {
+    Core,
+    Bitmap,
+    Pages,
+    Marks,
+    History,
+    Profile,
+}
+
+impl Layer {
+    /// All of them, in the order in which few calls of each are made.
+    pub const ALL: [Layer; 6] = [
+        Layer::Core,
+        Layer::Bitmap,
+        Layer::Pages,
+        Layer::Marks,
+        Layer::History,
+        Layer::Profile,
+    ];
+
+    pub fn named(word: &str) -> Option<Layer> {
+        match word {
+            "core" => Some(Layer::Core),
+            "bitmap" => Some(Layer::Bitmap),
+            "pages" => Some(Layer::Pages),
+            "marks" => Some(Layer::Marks),
+            "history" => Some(Layer::History),
+            "profile" => Some(Layer::Profile),
+            _ => None,
+        }
+    }
+
+    /// What the words behind the layer's say. A trace is read from the lines, where it is wanted.
+    pub fn asked<S: Source>(
+        self,
+        alloc: Global,
+        words: &[String],
+        lines: &mut Lines<'_, S>,
+    ) -> Result<Found, Stop> {
+        match self {
+            Layer::Core => Ok(Found::Core(ownership::asked(alloc, words)?)),
+            Layer::Bitmap => Ok(Found::Bitmap(bitmap::asked(words)?)),
+            Layer::Pages => Ok(Found::Pages(pages::asked(alloc, words)?)),
+            Layer::Marks => Ok(Found::Marks(marks::asked(alloc, words)?)),
+            Layer::History => Ok(Found::History(history::asked(alloc, words, lines)?)),
+            Layer::Profile => Ok(Found::Profile(profile::asked(alloc, words)?)),
+        }
+    }
+
+    /// A few calls.
+    pub fn few<S: Source>(self, alloc: Global, lines: &mut Lines<'_, S>) -> Result<Found, Stop> {
+        match self {
+            Layer::Core => Ok(Found::Core(ownership::few(alloc)?)),
+            Layer::Bitmap => Ok(Found::Bitmap(bitmap::few())),
+            Layer::Pages => Ok(Found::Pages(pages::few(alloc)?)),
+            Layer::Marks => Ok(Found::Marks(marks::few(alloc)?)),
+            Layer::History => Ok(Found::History(history::few(alloc, lines)?)),
+            Layer::Profile => Ok(Found::Profile(profile::few(alloc)?)),
+        }
+    }
+}

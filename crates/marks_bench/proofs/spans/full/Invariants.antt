@@ -1,8 +1,0 @@
-use Rattle.std.proofs.Common.{◌≡◌, ◌-◌}
-use Rattle.marks_bench.proofs.spans.full.Given as goal
-
-abbrev pub invariant-loop-index : goal.invariant-loop-index
-invariant-loop-index l = (l.body.page ≡ l.page) × (l.body.count ≡ l.size.objects)
-
-abbrev pub decreases-loop-index : goal.decreases-loop-index
-decreases-loop-index l = l.body.count - l.body.next

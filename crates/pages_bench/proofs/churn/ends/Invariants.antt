@@ -1,6 +1,0 @@
-use Rattle.std.proofs.Common.{◌≡◌}
-use Rattle.page_alloc.specs.Journal.{IsBy}
-use Rattle.pages_bench.proofs.churn.ends.Given as goal
-
-abbrev pub invariant-loop : goal.invariant-loop
-invariant-loop l = IsBy 0 l.pages.past × (l.pages.region ≡ 65536)

@@ -1,0 +1,90 @@
+-- What one part of a call did and then another, is what both did.
+use Rattle.std.proofs.Common.{◌≡◌, ℕ, ◌+◌, ◌<◌, ◌≤◌, ◌⊎◌, inl, inr, ⊎_elim, true, List, [], ◌∷◌, ◌++◌, refl, ap, sym, ◌∙◌, subst, append_assoc, arith}
+use Rattle.std.proofs.lemmas.List.{append-nil}
+use Rattle.span_state.specs.declared.sweep.SweepNote.{SweepNote}
+use Rattle.sweep_laws.specs.Counts.{times}
+use Rattle.sweep_laws.specs.Lists.{has}
+use Rattle.sweep_laws.proofs.Naming.{has_times, times_has}
+use Rattle.worker_log.specs.declared.Entry.{Entry}
+use Rattle.span_laws.specs.Answers.{cycle_at}
+use Rattle.span_laws.specs.Views.{Seen}
+use Rattle.span_set.specs.declared.hand.Hand.{Hand}
+use Rattle.sweeper.specs.Work.{Does, OnlySweeps, Stays, Works, notes_of}
+use Rattle.sweeper.proofs.Counting.{notes-append, notes-none, nothing-sweeps, sweeps-append}
+
+pub stays-same : (a : Seen) → Stays a a
+stays-same a = record { here = refl; table = refl; number = refl; region = refl; goal = refl; generation = refl; marks = refl; parts = refl; sweeping = refl; cached = refl; claimed = refl; fresh = refl; reset = refl; bodies = λ q h. refl }
+
+times_front : (q : ℕ) (xs ys : List ℕ) → times q (xs ++ ys) ≡ times q xs + times q ys
+times_front q [] ys = omega arith
+times_front q (x ∷ xs) ys = let r = times_front q xs ys in omega arith
+
+has_front : (q : ℕ) (xs ys : List ℕ) → has q xs ≡ true → has q (xs ++ ys) ≡ true
+has_front q xs ys h = let a = has_times q xs h in let b = times_front q xs ys in times_has q (xs ++ ys) (omega arith)
+
+module _ (a b d : Seen) (more also : List ℕ) (said then : List Entry) (x : Does more said a b) (y : Does also then b d) where
+  stays-both : Stays a d
+  stays-both = let s = x.stays in let t = y.stays in record {
+    here = t.here ∙ s.here;
+    table = t.table ∙ s.table;
+    number = t.number ∙ s.number;
+    region = t.region ∙ s.region;
+    goal = t.goal ∙ s.goal;
+    generation = t.generation ∙ s.generation;
+    marks = t.marks ∙ s.marks;
+    parts = t.parts ∙ s.parts;
+    sweeping = t.sweeping ∙ s.sweeping;
+    cached = t.cached ∙ s.cached;
+    claimed = t.claimed ∙ s.claimed;
+    fresh = t.fresh ∙ s.fresh;
+    reset = t.reset ∙ s.reset;
+    bodies = λ q h. t.bodies q (⊎_elim
+        (λ (z : has q a.view.own.held ≡ true). inl (subst (λ (l : List ℕ). has q l ≡ true) (sym x.held) (has_front q a.view.own.held more z)))
+        (λ (z : has q a.view.own.cached ≡ true). inr (subst (λ (l : List ℕ). has q l ≡ true) (sym s.cached) z)) h) ∙ s.bodies q h;
+  }
+
+  pub does-both : Does (more ++ also) (then ++ said) a d
+  does-both = record {
+    log = y.log ∙ ap (λ (l : List Entry). then ++ l) x.log ∙ sym (append_assoc then said a.view.own.log);
+    sweeps = sweeps-append a.view.generation then said (subst (λ (g : ℕ). OnlySweeps g then) x.stays.generation y.sweeps) x.sweeps;
+    held = y.held ∙ ap (λ (l : List ℕ). l ++ also) x.held ∙ append_assoc a.view.own.held more also;
+    stays = stays-both;
+  }
+
+pub does-nothing : (a : Seen) → Does [] [] a a
+does-nothing a = record { log = refl; sweeps = nothing-sweeps a.view.generation; held = sym (append-nil a.view.own.held); stays = stays-same a }
+
+module _ (P Q : List Entry → Type 0) where
+  pub works-as : (more : List ℕ) (a b : Hand) → Works more P a b → ((s : List Entry) → P s → Q s) → Works more Q a b
+  works-as more a b w f = record { said = w.said; did = f w.said w.did; does = w.does; notes = w.notes; popped = w.popped }
+
+  pub works-both : (R : List Entry → Type 0) (more : List ℕ) (a b d : Hand) → Works [] P a b → Works more Q b d → ((s t : List Entry) → P s → Q t → R (t ++ s)) → Works more R a d
+  works-both R more a b d x y both = record {
+    said = y.said ++ x.said;
+    did = both x.said y.said x.did y.did;
+    does = does-both a.worker b.worker d.worker [] more x.said y.said x.does y.does;
+    notes = y.notes ∙ ap (λ (l : List SweepNote). l ++ notes_of (cycle_at b.worker.view.generation) y.said) x.notes ∙ append_assoc a.notes.items (notes_of (cycle_at a.worker.view.generation) x.said) (notes_of (cycle_at b.worker.view.generation) y.said)
+        ∙ ap (λ (g : ℕ). a.notes.items ++ (notes_of (cycle_at a.worker.view.generation) x.said ++ notes_of (cycle_at g) y.said)) x.does.stays.generation
+        ∙ ap (λ (l : List SweepNote). a.notes.items ++ l) (sym (notes-append (cycle_at a.worker.view.generation) y.said x.said));
+    popped = y.popped;
+  }
+
+-- a call that has not done anything yet
+pub works-nothing : (P : List Entry → Type 0) (a b : Hand) → b.worker ≡ a.worker → b.notes.items ≡ a.notes.items → a.worker.view.own.popped ≡ [] → P [] → Works [] P a b
+works-nothing P a b same notes none p = record {
+  said = [];
+  did = p;
+  does = subst (λ (w : Seen). Does [] [] a.worker w) (sym same) (does-nothing a.worker);
+  notes = notes ∙ sym (append-nil a.notes.items);
+  popped = ap (λ (w : Seen). w.view.own.popped) same ∙ none;
+}
+
+-- a step of the worker alone, without a sweep
+pub works-step : (P : List Entry → Type 0) (more : List ℕ) (said : List Entry) (a b : Hand) → Does more said a.worker b.worker → notes_of (cycle_at a.worker.view.generation) said ≡ [] → b.notes.items ≡ a.notes.items → b.worker.view.own.popped ≡ [] → P said → Works more P a b
+works-step P more said a b d none notes popped p = record {
+  said = said;
+  did = p;
+  does = d;
+  notes = notes ∙ sym (append-nil a.notes.items) ∙ ap (λ (l : List SweepNote). a.notes.items ++ l) (sym none);
+  popped = popped;
+}

@@ -1,0 +1,69 @@
+-- Tests and sums of the entries of a log, besides those of worker_log and span_laws.
+use Rattle.std.specs.Prelude.{ℕ, ◌+◌, ◌==◌, ◌&&◌, not, Bool, true, false, List, [], ◌∷◌, if◌then◌else◌}
+use Rattle.worker_log.specs.declared.Entry.{Entry}
+use Rattle.worker_log.specs.declared.Entry.TheVariants.{Looked, LookedEmptyCell, Popped, Pushed, Swept, Took, Missed, Gave, Allocated, Found, Read, Added}
+
+-- the sum of a number that each entry has
+abbrev pub total : (Entry → ℕ) → List Entry → ℕ
+total number [] = 0
+total number (e ∷ log) = number e + total number log
+
+-- the pages of the span that an entry sweeps
+abbrev pub pages_swept : Entry → ℕ
+pages_swept (Swept s) = s.pages
+pages_swept _ = 0
+
+-- the pages that an entry gives back
+abbrev pub pages_given : Entry → ℕ
+pages_given (Gave page pages) = pages
+pages_given _ = 0
+
+-- what an entry adds to a word
+abbrev pub added_to : ℕ → Entry → ℕ
+added_to word (Added w number) = if w == word then number else 0
+added_to word _ = 0
+
+-- the entry adds to the word
+abbrev pub is_added : ℕ → Entry → Bool
+is_added word (Added w number) = w == word
+is_added word _ = false
+
+-- the entry read this value of the word
+abbrev pub is_read : ℕ → ℕ → Entry → Bool
+is_read word value (Read w v) = (w == word) && (v == value)
+is_read word value _ = false
+
+-- the entry places an object
+abbrev pub is_placing : Entry → Bool
+is_placing (Allocated a) = true
+is_placing _ = false
+
+-- the entry tells that no run was free
+abbrev pub is_missing : Entry → Bool
+is_missing (Missed number line) = true
+is_missing _ = false
+
+-- the entry found another word than that of a waiting span at the page
+abbrev pub is_finding_at : ℕ → Entry → Bool
+is_finding_at page (Found p word) = p == page
+is_finding_at page _ = false
+
+-- the entry gives the span of the page back
+abbrev pub is_giving_of : ℕ → Entry → Bool
+is_giving_of page (Gave p pages) = p == page
+is_giving_of page _ = false
+
+-- the entry pushes the page to some set
+abbrev pub is_push_at : ℕ → Entry → Bool
+is_push_at page (Pushed set p) = p == page
+is_push_at page _ = false
+
+-- the entry sweeps the span of the page, and keeps nothing of it
+abbrev pub is_emptying_of : ℕ → Entry → Bool
+is_emptying_of page (Swept s) = (s.page == page) && (s.kept == 0)
+is_emptying_of page _ = false
+
+-- the entry sweeps the span of the page, and keeps some of it
+abbrev pub is_keeping_of : ℕ → Entry → Bool
+is_keeping_of page (Swept s) = (s.page == page) && not (s.kept == 0)
+is_keeping_of page _ = false

@@ -1,0 +1,80 @@
+-- What the calls of this crate leave of a hand, and what the log of such a call has.
+use Rattle.std.specs.Prelude.{◌≡◌, ◌⊎◌, ℕ, ◌<◌, true, false, List, [], ◌∷◌, ◌++◌, map, reverse}
+use Rattle.span_state.specs.declared.sweep.SweepNote.{SweepNote}
+use Rattle.sweep_laws.specs.Lists.{has}
+use Rattle.sweep_laws.specs.Needs.{is_swept_set}
+use Rattle.worker_log.specs.declared.Entry.{Entry}
+use Rattle.worker_log.specs.declared.Sweeping.{Sweeping}
+use Rattle.worker_log.specs.Logs.{is_placing_in, is_pop_of, is_seen_empty, many, sweepings}
+use Rattle.span_laws.specs.Answers.{cycle_at}
+use Rattle.span_laws.specs.Logs.{is_taking}
+use Rattle.span_laws.specs.Views.{Seen, span_at}
+use Rattle.span_set.specs.declared.hand.Hand.{Hand}
+use Rattle.sweeper.specs.Entries.{added_to, is_added, is_emptying_of, is_giving_of, is_keeping_of, is_missing, is_placing, is_push_at, pages_swept, total}
+
+-- the note of a sweep in a cycle
+abbrev pub note_by : ℕ → Sweeping → SweepNote
+note_by cycle s = record { cycle = cycle; page = s.page; kept = s.kept; freed = s.freed }
+
+-- the notes of the sweeps that a log has, the oldest first
+abbrev pub notes_of : ℕ → List Entry → List SweepNote
+notes_of cycle said = map (note_by cycle) (reverse (sweepings said))
+
+-- Nothing is placed and no bytes are spent; the numbers that are added to the swept pages sum to the pages of the spans that are swept; a
+-- span is given back for each sweep that keeps nothing of it, and pushed for each that keeps some; and no swept set is popped.
+pub record OnlySweeps (g : ℕ) (said : List Entry) : Type 0 where
+  pub unplaced : many is_placing said ≡ 0
+  pub unspent : many (is_added 3) said ≡ 0
+  pub swept_pages : total (added_to 2) said ≡ total pages_swept said
+  pub given : (p : ℕ) → many (is_giving_of p) said ≡ many (is_emptying_of p) said
+  pub pushed : (p : ℕ) → many (is_push_at p) said ≡ many (is_keeping_of p) said
+  pub unpopped : (j p : ℕ) → is_swept_set g j ≡ true → many (is_pop_of j p) said ≡ 0
+  pub untouched : (p : ℕ) → many (is_placing_in p) said ≡ 0
+
+-- What a worker has stays: all that others agree on, what it has cached, sweeps and claims, and the bodies of the spans that it holds or has
+-- cached.
+pub record Stays (old new : Seen) : Type 0 where
+  pub here : new.here ≡ old.here
+  pub table : new.table ≡ old.table
+  pub number : new.number ≡ old.number
+  pub region : new.view.region ≡ old.view.region
+  pub goal : new.view.goal ≡ old.view.goal
+  pub generation : new.view.generation ≡ old.view.generation
+  pub marks : new.view.marks ≡ old.view.marks
+  pub parts : new.view.parts ≡ old.view.parts
+  pub sweeping : new.view.own.sweeping ≡ old.view.own.sweeping
+  pub cached : new.view.own.cached ≡ old.view.own.cached
+  pub claimed : new.view.own.claimed ≡ old.view.own.claimed
+  pub fresh : new.view.own.fresh ≡ old.view.own.fresh
+  pub reset : new.view.own.reset ≡ old.view.own.reset
+  pub bodies : (q : ℕ) → (has q old.view.own.held ≡ true) ⊎ (has q old.view.own.cached ≡ true) → span_at q new.view.own.spans ≡ span_at q old.view.own.spans
+
+-- A worker's steps added these entries to the log, and it holds these pages more.
+pub record Does (more : List ℕ) (said : List Entry) (old new : Seen) : Type 0 where
+  pub log : new.view.own.log ≡ said ++ old.view.own.log
+  pub sweeps : OnlySweeps old.view.generation said
+  pub held : new.view.own.held ≡ old.view.own.held ++ more
+  pub stays : Stays old new
+
+-- What a call did that begins and ends without a popped entry: what it added to the log has the property P, the notes got just the notes of its
+-- sweeps, and the worker holds these pages more.
+pub record Works (more : List ℕ) (P : List Entry → Type 0) (old new : Hand) : Type 0 where
+  pub said : List Entry
+  pub did : P said
+  pub does : Does more said old.worker new.worker
+  pub notes : new.notes.items ≡ old.notes.items ++ notes_of (cycle_at old.worker.view.generation) said
+  pub popped : new.worker.view.own.popped ≡ []
+
+-- no run is taken or missed
+pub record TakesNone (said : List Entry) : Type 0 where
+  pub untaken : many is_taking said ≡ 0
+  pub unmissed : many is_missing said ≡ 0
+
+-- nor is a chunk claimed
+pub record IsPlain (said : List Entry) : Type 0 where
+  pub takes_none : TakesNone said
+  pub unclaimed : many (is_added 4) said ≡ 0
+
+-- each unswept set was seen empty
+abbrev pub SawAllEmpty : ℕ → List Entry → Type 0
+SawAllEmpty g said = (k : ℕ) → k < 544 → is_swept_set g k ≡ false → 0 < many (is_seen_empty k) said

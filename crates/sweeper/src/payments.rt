@@ -1,0 +1,123 @@
+ghost use Rattle.std.specs.Prelude.{◌≡◌, ◌<◌, ◌≤◌, [], None};
+ghost use Rattle.span_set.specs.Sets.{unswept_of};
+ghost use Rattle.sweeper.specs.Pays.{Pays, target_of};
+ghost use Rattle.sweeper.specs.Steps.{SweepsSet, SweepsUntil};
+ghost use Rattle.sweeper.specs.Sweeps.{Finishes};
+
+use crate::answers::Paid;
+use crate::sweep::{SETS, set_at, sweep_next};
+use fallible_list::NoMemory;
+use span_set::{Hand, SetId, Shop};
+
+// No number of swept pages reaches it.
+const ALL: u128 = u128::MAX;
+
+// The first cycle's generation.
+const FIRST: u64 = 4;
+
+// The pages to be swept before so many bytes more are allocated, with a credit of pages. It fits for all numbers.
+fn target(
+    generation: u64,
+    pages: u32,
+    distance: u64,
+    spent: u64,
+    bytes: u64,
+    credit: u32,
+) -> u128
+    requires { 1 ≤ distance }
+    ensures { result ≡ target_of generation pages distance spent bytes credit }
+{
+    if generation == FIRST {
+        return 0;
+    }
+    let bytes = u128::from(bytes) + u128::from(spent);
+    (u128::from(pages) * bytes / u128::from(distance)).saturating_sub(u128::from(credit))
+}
+
+// Sweeps the spans of an unswept set until the swept pages, which it answers, reach the target; none where the set was seen empty.
+fn sweep_set(
+    shop: &Shop,
+    hand: &mut Hand,
+    set: SetId,
+    target: u128,
+) -> Result<Option<u64>, NoMemory>
+    requires here { hand.old.worker.here ≡ true }
+    requires table { hand.old.worker.table ≡ shop.now.shared.now }
+    requires distance { 8192 ≤ shop.now.distance }
+    requires marks { shop.now.marks.now.pairs ≡ hand.old.worker.view.marks }
+    requires unclaimed { hand.old.worker.view.own.claimed ≡ None }
+    requires unpopped { hand.old.worker.view.own.popped ≡ [] }
+    requires class { set.class < 136 }
+    ensures { SweepsSet (unswept_of hand.old.worker.view.generation set) target hand.old hand.new result }
+{
+    for _ in 0..u64::MAX {
+        let seen = shop.shared.swept(&mut hand.worker);
+        if target <= u128::from(seen) {
+            return Ok(Some(seen));
+        }
+        hand.reserve_note()?;
+        if sweep_next(shop, hand, set).is_none() {
+            return Ok(None);
+        }
+    }
+    unreachable!()
+}
+
+// The same through all unswept sets.
+fn sweep_until(shop: &Shop, hand: &mut Hand, target: u128) -> Result<Option<u64>, NoMemory>
+    requires here { hand.old.worker.here ≡ true }
+    requires table { hand.old.worker.table ≡ shop.now.shared.now }
+    requires distance { 8192 ≤ shop.now.distance }
+    requires marks { shop.now.marks.now.pairs ≡ hand.old.worker.view.marks }
+    requires unclaimed { hand.old.worker.view.own.claimed ≡ None }
+    requires unpopped { hand.old.worker.view.own.popped ≡ [] }
+    ensures { SweepsUntil 272 target hand.old hand.new result }
+{
+    for index in 0..SETS {
+        if let Some(seen) = sweep_set(shop, hand, set_at(index), target)? {
+            return Ok(Some(seen));
+        }
+    }
+    Ok(None)
+}
+
+/// Pays for so many bytes, with a credit of so many pages, by sweeping until the swept pages of this cycle reach the target or
+/// nothing is left (`mgcsweep.go`, `deductSweepCredit`). The target is `pages * (bytes + spent) / distance - credit` by the shop's
+/// pages and distance and the bytes spent in this cycle; 0 where that is below 0, and in the first cycle.
+///
+/// `Reached` only where the swept pages, read in this call, were at least the target, and `NothingLeft` only where each unswept
+/// set was seen empty in this call. After NoMemory the sweeps before stand.
+pub fn pay(shop: &Shop, hand: &mut Hand, bytes: u64, credit: u32) -> Result<Paid, NoMemory>
+    requires here { hand.old.worker.here ≡ true }
+    requires table { hand.old.worker.table ≡ shop.now.shared.now }
+    requires distance { 8192 ≤ shop.now.distance }
+    requires marks { shop.now.marks.now.pairs ≡ hand.old.worker.view.marks }
+    requires unclaimed { hand.old.worker.view.own.claimed ≡ None }
+    requires unpopped { hand.old.worker.view.own.popped ≡ [] }
+    ensures { Pays shop.now.pages shop.now.distance bytes credit hand.old hand.new result }
+{
+    let generation = shop.shared.generation(&mut hand.worker);
+    let spent = shop.shared.spent(&mut hand.worker);
+    let target = target(generation, shop.pages, shop.distance, spent, bytes, credit);
+    match sweep_until(shop, hand, target)? {
+        Some(seen) => Ok(Paid::Reached {
+            seen,
+            target: target as u64,
+        }),
+        None => Ok(Paid::NothingLeft),
+    }
+}
+
+/// Sweeps until each unswept set was seen empty in this call. After NoMemory the sweeps before stand.
+pub fn finish(shop: &Shop, driver: &mut Hand) -> Result<(), NoMemory>
+    requires here { driver.old.worker.here ≡ true }
+    requires table { driver.old.worker.table ≡ shop.now.shared.now }
+    requires distance { 8192 ≤ shop.now.distance }
+    requires marks { shop.now.marks.now.pairs ≡ driver.old.worker.view.marks }
+    requires unclaimed { driver.old.worker.view.own.claimed ≡ None }
+    requires unpopped { driver.old.worker.view.own.popped ≡ [] }
+    ensures { Finishes driver.old driver.new result }
+{
+    sweep_until(shop, driver, ALL)?;
+    Ok(())
+}

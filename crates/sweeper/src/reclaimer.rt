@@ -1,0 +1,89 @@
+ghost use Rattle.std.specs.Prelude.{◌≡◌, ◌*◌, ◌<◌, ◌≤◌, [], None};
+ghost use Rattle.sweeper.specs.Reclaims.{Reclaims};
+ghost use Rattle.sweeper.specs.Steps.{ReclaimsChunk, ReclaimsPage};
+
+use crate::settle::settle;
+use fallible_list::NoMemory;
+use span_set::{Hand, Shop};
+use span_table::Acquired;
+
+// The pages of a chunk.
+const CHUNK: u32 = 512;
+
+// Sweeps the span of a page where it waits and no object of it is marked, by its word and without popping it. Answers the pages
+// given back.
+fn reclaim_page(shop: &Shop, hand: &mut Hand, page: u32) -> Result<u32, NoMemory>
+    requires here { hand.old.worker.here ≡ true }
+    requires table { hand.old.worker.table ≡ shop.now.shared.now }
+    requires distance { 8192 ≤ shop.now.distance }
+    requires marks { shop.now.marks.now.pairs ≡ hand.old.worker.view.marks }
+    requires unclaimed { hand.old.worker.view.own.claimed ≡ None }
+    requires unpopped { hand.old.worker.view.own.popped ≡ [] }
+    requires page { page < hand.old.worker.view.region }
+    ensures { ReclaimsPage page hand.old hand.new result }
+{
+    if shop.marks.count(page) > 0 {
+        return Ok(0);
+    }
+    hand.reserve_note()?;
+    match shop.shared.acquire(&mut hand.worker, page) {
+        Acquired::Got(body) => {
+            let pages = body.pages;
+            settle(shop, hand, body);
+            Ok(pages)
+        }
+        Acquired::Other(_) => Ok(0),
+    }
+}
+
+// The same of the pages of a chunk, in rising order.
+fn reclaim_chunk(shop: &Shop, hand: &mut Hand, chunk: u32, region: u32) -> Result<u32, NoMemory>
+    requires here { hand.old.worker.here ≡ true }
+    requires table { hand.old.worker.table ≡ shop.now.shared.now }
+    requires distance { 8192 ≤ shop.now.distance }
+    requires marks { shop.now.marks.now.pairs ≡ hand.old.worker.view.marks }
+    requires unclaimed { hand.old.worker.view.own.claimed ≡ None }
+    requires unpopped { hand.old.worker.view.own.popped ≡ [] }
+    requires region { region ≡ hand.old.worker.view.region }
+    requires few { region ≤ 65536 }
+    requires chunk { 512 * chunk < region }
+    ensures { ReclaimsChunk chunk hand.old hand.new result }
+{
+    let first = CHUNK * chunk;
+    let mut given: u32 = 0;
+    for page in first..region.min(first + CHUNK) {
+        given = given.saturating_add(reclaim_page(shop, hand, page)?);
+    }
+    Ok(given)
+}
+
+/// Gives at least so many pages back before a new span is made, as far as it finds them (`mheap.go`, `reclaim`): it claims chunks of
+/// 512 pages, and in each sweeps every span that waits and has no marked object, which goes back to the heap. It stops between
+/// chunks: where it gave back as many pages as asked, where the claimed index passed the last chunk, or where it claimed as many
+/// chunks as the region has.
+///
+/// Answers the pages given back, or 2^32 - 1 where there are more. After NoMemory the sweeps and the claims of chunks before stand.
+pub fn reclaim(shop: &Shop, hand: &mut Hand, pages: u32) -> Result<u32, NoMemory>
+    requires here { hand.old.worker.here ≡ true }
+    requires table { hand.old.worker.table ≡ shop.now.shared.now }
+    requires distance { 8192 ≤ shop.now.distance }
+    requires marks { shop.now.marks.now.pairs ≡ hand.old.worker.view.marks }
+    requires unclaimed { hand.old.worker.view.own.claimed ≡ None }
+    requires unpopped { hand.old.worker.view.own.popped ≡ [] }
+    ensures { Reclaims pages hand.old hand.new result }
+{
+    let region = shop.shared.region(&hand.worker);
+    let chunks = region.div_ceil(CHUNK);
+    let mut given: u32 = 0;
+    for _ in 0..chunks {
+        if given >= pages {
+            return Ok(given);
+        }
+        let chunk = shop.shared.claim_chunk(&mut hand.worker);
+        if chunk >= u64::from(chunks) {
+            return Ok(given);
+        }
+        given = given.saturating_add(reclaim_chunk(shop, hand, chunk as u32, region)?);
+    }
+    Ok(given)
+}

@@ -1,0 +1,41 @@
+ghost use Rattle.std.specs.Prelude.{◌≡◌, ◌<◌, ◌≤◌, None, length};
+ghost use Rattle.span_laws.specs.Asks.{IsUntouched};
+ghost use Rattle.span_set.specs.Sweeps.{MaySweep};
+ghost use Rattle.sweeper.specs.Steps.{Settles};
+
+use span_set::{Hand, SetId, Shop, push, sweep_in_hand};
+use span_state::{Body, SweepNote};
+
+// Sweeps a span in hand, and puts it where it belongs: an emptied one goes back to the heap, a full one to the swept full set of
+// its class, and any other to the swept partial set (`mgcsweep.go`, `sweep`). Answers the note of the sweep.
+pub(crate) fn settle(shop: &Shop, hand: &mut Hand, body: Body) -> SweepNote
+    requires here { hand.old.worker.here ≡ true }
+    requires table { hand.old.worker.table ≡ shop.now.shared.now }
+    requires distance { 8192 ≤ shop.now.distance }
+    requires room { length hand.old.notes.items < hand.old.notes.space }
+    requires unclaimed { hand.old.worker.view.own.claimed ≡ None }
+    requires class { body.class < 136 }
+    requires may { MaySweep shop.now.marks.now body hand.old.worker }
+    requires untouched { IsUntouched hand.old.worker.view.generation hand.old.worker.view.own body.page }
+    ensures { Settles shop.now.marks.now body hand.old hand.new result }
+{
+    let generation = shop.shared.generation(&mut hand.worker);
+    let mut body = body;
+    let swept = sweep_in_hand(shop, hand, &mut body);
+    let note = SweepNote {
+        cycle: ((generation - 4) / 2) as u32,
+        page: body.page,
+        kept: swept.kept,
+        freed: swept.freed,
+    };
+    if swept.kept == 0 {
+        shop.shared.give_span(&mut hand.worker, body);
+        return note;
+    }
+    let set = SetId {
+        class: body.class,
+        full: body.next_free().is_none(),
+    };
+    push(shop.shared, &mut hand.worker, set, body);
+    note
+}

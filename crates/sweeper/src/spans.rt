@@ -1,0 +1,55 @@
+ghost use Rattle.std.specs.Prelude.{◌≡◌, ◌<◌, ◌≤◌, [], None};
+ghost use Rattle.page_alloc.specs.Journal.{IsSpanSize};
+ghost use Rattle.sweeper.specs.NewSpans.{MakesSpan, SweepsAndTakes};
+
+use crate::payments::finish;
+use crate::reclaimer::reclaim;
+use fallible_list::NoMemory;
+use span_set::{Hand, Shop};
+use span_state::Body;
+use span_table::Refused;
+
+/// Makes a span of n pages and this span class, which the worker then holds (`mheap.go`, `alloc` and `allocSpan`): it reclaims n
+/// pages and takes a run at first fit. Where no run fits, it sweeps all that is left in the unswept sets and takes again. n is the
+/// pages of the small class, or at least 5 for span class 0 or 1.
+///
+/// NoRun where no run of n pages is free then, with the Miss line that says so. After NoMemory the sweeps and the claims of chunks
+/// before stand, and the worker holds no further span.
+pub fn new_span(shop: &Shop, hand: &mut Hand, n: u32, class: u8) -> Result<Body, Refused>
+    requires here { hand.old.worker.here ≡ true }
+    requires table { hand.old.worker.table ≡ shop.now.shared.now }
+    requires distance { 8192 ≤ shop.now.distance }
+    requires marks { shop.now.marks.now.pairs ≡ hand.old.worker.view.marks }
+    requires unclaimed { hand.old.worker.view.own.claimed ≡ None }
+    requires unpopped { hand.old.worker.view.own.popped ≡ [] }
+    requires size { IsSpanSize class n }
+    requires class { class < 136 }
+    ensures { MakesSpan n class hand.old hand.new result }
+{
+    let Ok(_) = reclaim(shop, hand, n) else {
+        return Err(Refused::NoMemory);
+    };
+    match shop.shared.try_span(&mut hand.worker, n, class) {
+        Ok(Some(body)) => Ok(body),
+        Ok(None) => sweep_and_take(shop, hand, n, class),
+        Err(NoMemory) => Err(Refused::NoMemory),
+    }
+}
+
+// Sweeps all that is left, and then takes.
+fn sweep_and_take(shop: &Shop, hand: &mut Hand, n: u32, class: u8) -> Result<Body, Refused>
+    requires here { hand.old.worker.here ≡ true }
+    requires table { hand.old.worker.table ≡ shop.now.shared.now }
+    requires distance { 8192 ≤ shop.now.distance }
+    requires marks { shop.now.marks.now.pairs ≡ hand.old.worker.view.marks }
+    requires unclaimed { hand.old.worker.view.own.claimed ≡ None }
+    requires unpopped { hand.old.worker.view.own.popped ≡ [] }
+    requires size { IsSpanSize class n }
+    requires class { class < 136 }
+    ensures { SweepsAndTakes n class hand.old hand.new result }
+{
+    let Ok(()) = finish(shop, hand) else {
+        return Err(Refused::NoMemory);
+    };
+    shop.shared.take_span(&mut hand.worker, n, class)
+}

@@ -1,0 +1,106 @@
+ghost use Rattle.std.specs.Prelude.{◌≡◌, ◌<◌, ◌≤◌, [], None, length};
+ghost use Rattle.span_set.specs.Sets.{unswept_of};
+ghost use Rattle.sweeper.specs.Steps.{SweepsNext, TriesEntry, nth_unswept};
+ghost use Rattle.sweeper.specs.Sweeps.{SweepsOne};
+
+use crate::answers::One;
+use crate::settle::settle;
+use fallible_list::NoMemory;
+use span_set::{Hand, PopBase, SetId, Shop, pop_unswept};
+use span_state::SweepNote;
+use span_table::Acquired;
+
+// How many unswept sets there are: for each span class a full and a partial one.
+pub(crate) const SETS: u32 = 272;
+
+// What one entry of an unswept set gave.
+#[derive(Drop)]
+pub(crate) enum Tried {
+    // Its span was swept.
+    Swept(SweepNote),
+    // Its span did not wait any more.
+    Gone,
+    // There was none.
+    Empty,
+}
+
+// The unswept sets in the order in which they are swept: by span class, the full set before the partial one.
+pub(crate) fn set_at(index: u32) -> SetId
+    requires { index < 272 }
+    ensures number { (g : Rattle.std.specs.Prelude.ℕ) → unswept_of g result ≡ nth_unswept g index }
+    ensures class { result.class < 136 }
+{
+    SetId {
+        class: (index / 2) as u8,
+        full: index % 2 == 0,
+    }
+}
+
+// Pops one entry of an unswept set, and sweeps its span where it waits; else the entry is dropped.
+fn try_entry(shop: &Shop, hand: &mut Hand, set: SetId) -> Tried
+    requires here { hand.old.worker.here ≡ true }
+    requires table { hand.old.worker.table ≡ shop.now.shared.now }
+    requires distance { 8192 ≤ shop.now.distance }
+    requires marks { shop.now.marks.now.pairs ≡ hand.old.worker.view.marks }
+    requires room { length hand.old.notes.items < hand.old.notes.space }
+    requires unclaimed { hand.old.worker.view.own.claimed ≡ None }
+    requires unpopped { hand.old.worker.view.own.popped ≡ [] }
+    requires class { set.class < 136 }
+    ensures { TriesEntry (unswept_of hand.old.worker.view.generation set) hand.old hand.new result }
+{
+    let page = match pop_unswept(shop.shared, &mut hand.worker, set) {
+        PopBase::Popped(page) => page,
+        PopBase::Empty { .. } => return Tried::Empty,
+    };
+    match shop.shared.acquire(&mut hand.worker, page) {
+        Acquired::Got(body) => Tried::Swept(settle(shop, hand, body)),
+        Acquired::Other(_) => Tried::Gone,
+    }
+}
+
+// Sweeps the next span of an unswept set; none where the set was seen empty. Each try pops an entry, and a head has 32 bits, so
+// the call ends.
+pub(crate) fn sweep_next(shop: &Shop, hand: &mut Hand, set: SetId) -> Option<SweepNote>
+    requires here { hand.old.worker.here ≡ true }
+    requires table { hand.old.worker.table ≡ shop.now.shared.now }
+    requires distance { 8192 ≤ shop.now.distance }
+    requires marks { shop.now.marks.now.pairs ≡ hand.old.worker.view.marks }
+    requires room { length hand.old.notes.items < hand.old.notes.space }
+    requires unclaimed { hand.old.worker.view.own.claimed ≡ None }
+    requires unpopped { hand.old.worker.view.own.popped ≡ [] }
+    requires class { set.class < 136 }
+    ensures { SweepsNext (unswept_of hand.old.worker.view.generation set) hand.old hand.new result }
+{
+    for _ in 0..u64::MAX {
+        match try_entry(shop, hand, set) {
+            Tried::Swept(note) => return Some(note),
+            Tried::Gone => {}
+            Tried::Empty => return None,
+        }
+    }
+    unreachable!()
+}
+
+/// Sweeps the next span that waits: through the span classes in rising order, in each the full set before the partial one; an
+/// entry whose span does not wait any more is dropped (`mgcsweep.go`, `sweepone` and `nextSpanForSweep`). An emptied span goes
+/// back to the heap, a full one to the swept full set of its class, and any other to the swept partial set.
+///
+/// `NothingLeft` only where each unswept set was seen empty in this call. NoMemory where there was no room for a note: nothing
+/// changes then.
+pub fn sweep_one(shop: &Shop, hand: &mut Hand) -> Result<One, NoMemory>
+    requires here { hand.old.worker.here ≡ true }
+    requires table { hand.old.worker.table ≡ shop.now.shared.now }
+    requires distance { 8192 ≤ shop.now.distance }
+    requires marks { shop.now.marks.now.pairs ≡ hand.old.worker.view.marks }
+    requires unclaimed { hand.old.worker.view.own.claimed ≡ None }
+    requires unpopped { hand.old.worker.view.own.popped ≡ [] }
+    ensures { SweepsOne hand.old hand.new result }
+{
+    hand.reserve_note()?;
+    for index in 0..SETS {
+        if let Some(note) = sweep_next(shop, hand, set_at(index)) {
+            return Ok(One::Swept(note));
+        }
+    }
+    Ok(One::NothingLeft)
+}
