@@ -3,3 +3,5 @@ pub mod Serves
 pub mod Hits
 pub mod Leaves
 pub mod Flushes
+pub mod Refills
+pub mod Allocs
