@@ -28,7 +28,7 @@ returns-clause-serves c =
     let e : Cache = record { number = i.number; flushed = c.generation-generation.result; slots = spans_of i.slots.items } in
     let end : c.loop-class.class ≡ 136 = omega arith in
     let x : FlushedSome 136 c.args.proc.now d old new = subst (λ (m : ℕ). FlushedSome m c.args.proc.now d old new) end c.loop-class.invariant in
-    let few : length d.slots ≡ 136 = sym (ap (λ (z : Cache). length z.slots) c.proc-2.view_is) ∙ length-map span_in i.slots.items ∙ c.proc-2.invariant in
+    let few : length d.slots ≡ 136 = sym (ap (λ (z : Cache). length z.slots) c.proc-2.view_is) ∙ length-map i.slots.items span_in ∙ c.proc-2.invariant in
     all_serves c.args.proc.now old d e new x few (ap (λ (z : Cache). z.slots) c.proc-2.view_is) (ap (λ (z : Cache). z.number) c.proc-2.view_is)
         (c.generation-generation.ensures.value ∙ sym (ap (λ (v : View). v.generation) x.flushes.leaves.view))
 
@@ -38,7 +38,7 @@ returns-clause-flushes c =
     let e : Cache = record { number = i.number; flushed = c.generation-generation.result; slots = spans_of i.slots.items } in
     let end : c.loop-class.class ≡ 136 = omega arith in
     let x : FlushedSome 136 c.args.proc.now d old new = subst (λ (m : ℕ). FlushedSome m c.args.proc.now d old new) end c.loop-class.invariant in
-    let few : length d.slots ≡ 136 = sym (ap (λ (z : Cache). length z.slots) c.proc-2.view_is) ∙ length-map span_in i.slots.items ∙ c.proc-2.invariant in
+    let few : length d.slots ≡ 136 = sym (ap (λ (z : Cache). length z.slots) c.proc-2.view_is) ∙ length-map i.slots.items span_in ∙ c.proc-2.invariant in
     let fresh : is_flushed g c.args.proc.now ≡ false = ne_eqb c.args.proc.now.flushed g (λ f. c.if-proc-generation.false (ap (λ (z : Cache). z.flushed) c.proc.view_is ∙ f ∙ sym c.generation-generation.ensures.value)) in
     (c.generation-generation.ensures.value, flushes_by (λ k. true) (λ k. not (is_flushed g c.args.proc.now)) c.args.proc.now e old new (λ k. sym (ap not fresh))
         (all_flushed c.args.proc.now old d e new x few (ap (λ (z : Cache). z.slots) c.proc-2.view_is) (ap (λ (z : Cache). z.number) c.proc-2.view_is)))
