@@ -35,7 +35,7 @@ use Rattle.proc_cache.proofs.Leaving.{all-append, leaves-trans, leaves_from}
 use Rattle.proc_cache.proofs.Serving.{serves_nothing, serves_through, serves_without}
 use Rattle.proc_cache.proofs.Slots.{slot_else, slot_here, slot_low}
 
-erase_only : (p : ℕ) (xs : List ℕ) → xs ≡ [] → erase p (xs ++ p ∷ []) ≡ []
+pub erase_only : (p : ℕ) (xs : List ℕ) → xs ≡ [] → erase p (xs ++ p ∷ []) ≡ []
 erase_only p xs e = subst (λ (l : List ℕ). erase p (l ++ p ∷ []) ≡ []) (sym e) (rw (eq-eqb p p refl) refl)
 
 abbrev swept_in : (g before n : ℕ) → Span → Seen → Seen
@@ -170,7 +170,7 @@ class_serves k s c d old mid new v at w x e =
     subst (λ (g : ℕ). Serves g new.worker.view.own d) (sym gen) (serves_without old.worker.view.generation old.worker.view.own c v k s at new.worker.view.own d x.said
         (x.leaves.log ∙ ap (λ (u : Seen). x.said ++ u.view.own.log) w)
         (x.cached ∙ ap (λ (u : Seen). erase s.page u.view.own.cached) w)
-        (x.fresh ∙ ap (λ (u : Seen). u.view.own.fresh) w)
+        (λ q n. ap (has q) (x.fresh ∙ ap (λ (u : Seen). u.view.own.fresh) w))
         (λ q n. x.bodies q n ∙ ap (λ (u : Seen). span_at q u.view.own.spans) w)
         (pops_none x.said x.flushing)
         (ap (λ (z : Cache). z.flushed) e)

@@ -5,3 +5,4 @@ pub mod Flushing
 pub mod Logging
 pub mod Holding
 pub mod Finding
+pub mod Filling

@@ -1,11 +1,12 @@
 -- A cache serves its worker, and goes on to serve it as one of its spans changes.
-use Rattle.std.proofs.Common.{◌≡◌, ◌≢◌, ℕ, ◌+◌, ◌<◌, ◌≤◌, Bool, true, false, true≢false, List, ◌∷◌, ◌++◌, refl, ap, sym, subst, ◌∙◌, arith, inl, eq-eqb, ne_eqb}
+use Rattle.std.proofs.Common.{◌≡◌, ◌≢◌, ℕ, ◌+◌, ◌<◌, ◌≤◌, Bool, true, false, true≢false, List, [], ◌∷◌, ◌++◌, length, ◌⊎◌, inr, refl, ap, sym, subst, ◌∙◌, arith, inl, eq-eqb, ne_eqb}
 use Rattle.std.specs.Prelude.{None, Some, Option, ◌==◌, if◌then◌else◌}
 use mathlib.Core.Logic.{dite}
 use native.Mathlib.Decide.{ℕ_discrete}
 use Rattle.sweep_laws.specs.Counts.{times}
 use Rattle.sweep_laws.specs.Lists.{erase, has}
-use Rattle.sweep_laws.proofs.Naming.{has_times, times_erase, times_erase_else, times_erase_le}
+use Rattle.sweep_laws.proofs.Naming.{has_times, times_erase, times_erase_else, times_erase_le, times_has}
+use Rattle.sweep_laws.proofs.Totals.{times_end, times_end_else}
 use Rattle.span_state.specs.declared.body.Body.{Body}
 use Rattle.worker_log.specs.declared.Entry.{Entry}
 use Rattle.worker_log.specs.Logs.{is_pop_of, many, swept_set}
@@ -15,7 +16,7 @@ use Rattle.span_laws.specs.Views.{span_at, span_of, told_of}
 use Rattle.span_laws.specs.declared.said.SaidOf.TheVariants.{Places}
 use Rattle.span_laws.specs.declared.view.Part.{Part}
 use Rattle.span_laws.specs.declared.view.Span.{Span}
-use Rattle.span_laws.proofs.Parts.{has_erase_else, has_none}
+use Rattle.span_laws.proofs.Parts.{has_end_else, has_end_here, has_erase_else, has_none}
 use Rattle.span_laws.proofs.WordMoves.{span_else, span_here}
 use Rattle.proc_cache.specs.Cache.{Cache, slot_at, with_slot}
 use Rattle.proc_cache.specs.Hits.{IsPlacedIn}
@@ -78,7 +79,7 @@ module _ (g : ℕ) (h : Part) (c : Cache) (v : Serves g h c) where
         }
 
   -- a span leaves the cache, and nothing is popped meanwhile
-  module _ (k : ℕ) (s : Span) (at : slot_at c k ≡ Some s) (h' : Part) (d : Cache) (said : List Entry) (log : h'.log ≡ said ++ h.log) (cached : h'.cached ≡ erase s.page h.cached) (fresh : h'.fresh ≡ h.fresh)
+  module _ (k : ℕ) (s : Span) (at : slot_at c k ≡ Some s) (h' : Part) (d : Cache) (said : List Entry) (log : h'.log ≡ said ++ h.log) (cached : h'.cached ≡ erase s.page h.cached) (fresh : (q : ℕ) → q ≢ s.page → has q h'.fresh ≡ has q h.fresh)
       (bodies : (q : ℕ) → q ≢ s.page → span_at q h'.spans ≡ span_at q h.spans) (unpopped : (j p : ℕ) → many (is_pop_of j p) said ≡ 0)
       (same : d.flushed ≡ c.flushed) (slots : (j : ℕ) → slot_at d j ≡ (if j == k then None else slot_at c j)) where
     gone : has s.page h'.cached ≡ false
@@ -113,7 +114,7 @@ module _ (g : ℕ) (h : Part) (c : Cache) (v : Serves g h c) where
       once = λ p. subst (λ (l : List ℕ). times p l ≤ 1) (sym cached) (dite (ℕ_discrete p s.page)
           (λ e. subst (λ (q : ℕ). times q (erase s.page h.cached) ≤ 1) (sym e) (let t = times_erase_le s.page h.cached in let o = v.once s.page in omega arith))
           (λ n. let t = times_erase_else p s.page h.cached n in let o = v.once p in omega arith));
-      fresh = λ p hp. ap (has p) fresh ∙ v.fresh p (other p hp).1 ∙ ap (λ (f : ℕ). f == g) (sym same);
+      fresh = λ p hp. fresh p (other p hp).0 ∙ v.fresh p (other p hp).1 ∙ ap (λ (f : ℕ). f == g) (sym same);
       early = let e = v.early in omega arith;
     }
 
@@ -137,3 +138,45 @@ serves_nothing g h c none nothing once early = record {
   fresh = λ p hp. absurd (true≢false (sym hp ∙ nothing p));
   early = early;
 }
+
+has_not : (p : ℕ) (xs : List ℕ) → has p xs ≡ false → times p xs ≡ 0
+has_not p xs e = elim (zero_or (times p xs)) [ inl z ↦ z | inr l ↦ absurd (true≢false (sym (times_has p xs l) ∙ e)) ]
+  where
+    zero_or : (n : ℕ) → (n ≡ 0) ⊎ (0 < n)
+    zero_or n = grind arith
+
+-- a span comes into the cache
+module _ (g : ℕ) (h h' : Part) (c : Cache) (v : Serves g h c) (k : ℕ) (s : Span) (low : k < length c.slots) (empty : slot_at c k ≡ None) (stamp : c.flushed ≡ g)
+    (cached : h'.cached ≡ h.cached ++ s.page ∷ []) (fresh : h'.fresh ≡ h.fresh ++ s.page ∷ []) (spans : h'.spans ≡ h.spans) (log : (j p : ℕ) → many (is_pop_of j p) h'.log ≡ many (is_pop_of j p) h.log)
+    (before : has s.page h.cached ≡ false) (lent : span_at s.page h.spans ≡ Some s) (class : s.class ≡ k) (unpopped : many (is_pop_of (swept_set g k 1) s.page) h.log ≡ 0) where
+  pub serves_with : Serves g h' (with_slot k (Some s) c)
+  serves_with = record {
+    slots = λ j u e. dite (ℕ_discrete j k)
+        (λ q. subst (λ (i : ℕ). IsCachedAt g h' i u) (sym q) (subst (IsCachedAt g h' k) (same_some s u (sym (slot_here c k (Some s) low) ∙ ap (slot_at (with_slot k (Some s) c)) (sym q) ∙ e)) (record {
+          cached = ap (has s.page) cached ∙ has_end_here s.page h.cached;
+          lent = ap (span_at s.page) spans ∙ lent;
+          class = class;
+          unpopped = log (swept_set g k 1) s.page ∙ unpopped;
+        })))
+        (λ d. let x = v.slots j u (sym (slot_else c k j (Some s) d) ∙ e) in record {
+          cached = ap (has u.page) cached ∙ has_end_else u.page s.page h.cached (far u.page x.cached) ∙ x.cached;
+          lent = ap (span_at u.page) spans ∙ x.lent;
+          class = x.class;
+          unpopped = log (swept_set g j 1) u.page ∙ x.unpopped;
+        });
+    all = λ p hp. dite (ℕ_discrete p s.page)
+        (λ q. (k, s, slot_here c k (Some s) low, sym q))
+        (λ d. let a = v.all p (sym (has_end_else p s.page h.cached d) ∙ ap (has p) (sym cached) ∙ hp) in
+          let n : a.0 ≢ k = λ (q : a.0 ≡ k). (let z : None ≡ Some a.1 = sym empty ∙ ap (slot_at c) (sym q) ∙ a.2 in let w : ⊥ = cc in w) in
+          (a.0, a.1, slot_else c k a.0 (Some s) n ∙ a.2, a.3));
+    once = λ p. subst (λ (l : List ℕ). times p l ≤ 1) (sym cached) (dite (ℕ_discrete p s.page)
+        (λ q. subst (λ (x : ℕ). times x (h.cached ++ s.page ∷ []) ≤ 1) (sym q) (let t = times_end s.page h.cached in let z = has_not s.page h.cached before in omega arith))
+        (λ d. let t = times_end_else p s.page h.cached d in let o = v.once p in omega arith));
+    fresh = λ p hp. dite (ℕ_discrete p s.page)
+        (λ q. ap (has p) fresh ∙ subst (λ (x : ℕ). has x (h.fresh ++ s.page ∷ []) ≡ true) (sym q) (has_end_here s.page h.fresh) ∙ sym (eq-eqb c.flushed g stamp))
+        (λ d. ap (has p) fresh ∙ has_end_else p s.page h.fresh d ∙ v.fresh p (sym (has_end_else p s.page h.cached d) ∙ ap (has p) (sym cached) ∙ hp));
+    early = v.early;
+  }
+    where
+      far : (q : ℕ) → has q h.cached ≡ true → q ≢ s.page
+      far q hq e = true≢false (sym hq ∙ ap (λ (x : ℕ). has x h.cached) e ∙ before)
