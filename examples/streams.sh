@@ -71,6 +71,34 @@ status=$?
 : >"$folder/said"
 wants "both outputs full" 6 $status ""
 
+# The words that read nothing: a closed pipe, a full disk, both outputs full, and an input that cannot be read.
+for words in classes "gen 1 100000"; do
+  # shellcheck disable=SC2086 # the words are several
+  {
+    # A text that fits into the pipe is written before the other end is closed.
+    "$goheap" $words 2>"$folder/said" | true
+    status=${PIPESTATUS[0]}
+    if [ "$words" != classes ] || [ "$status" -ne 0 ]; then
+      wants "$words into a closed pipe" 6 "$status" "goheap: write fault"
+    fi
+    "$goheap" $words >/dev/full 2>"$folder/said"
+    wants "$words onto a full disk" 6 $? "goheap: write fault"
+    "$goheap" $words >/dev/full 2>/dev/full
+    status=$?
+    : >"$folder/said"
+    wants "$words with both outputs full" 6 $status ""
+    "$goheap" $words <&- >"$folder/wrote" 2>"$folder/said"
+    wants "$words with a closed input" 0 $? ""
+    "$goheap" $words <"$folder" 2>"$folder/said" | cmp -s - "$folder/wrote" || { echo "$words: another text at each run" >&2; failed=1; }
+    wants "$words with a folder as input" 0 "${PIPESTATUS[0]}" ""
+  }
+done
+"$goheap" gen 1 1000000 >"$folder/made"
+[ "$(grep -c '^a ' "$folder/made")" -eq 1000000 ] || { echo "gen 1 1000000: other objects" >&2; failed=1; }
+"$goheap" gen 1 1000001 >"$folder/wrote" 2>"$folder/said"
+wants "a million objects and one" 2 $? "usage: goheap run [--background=N] [--each] / check / gen SEED OBJECTS / demo SEED OBJECTS / classes"
+[ -s "$folder/wrote" ] && { echo "a million objects and one: something was written" >&2; failed=1; }
+
 mkfifo "$folder/fifo"
 awk '{ for (i = 1; i <= length($0); i++) { printf "%s", substr($0, i, 1); fflush() } print ""; fflush() }' span-reused.trace >"$folder/fifo" &
 "$goheap" run <"$folder/fifo" >"$folder/wrote" 2>"$folder/said"

@@ -7,7 +7,7 @@ use Rattle.span_state.specs.declared.sweep.Swept.{Swept}
 use Rattle.worker_log.specs.Logs.{swept_set, unswept_set}
 use Rattle.span_laws.specs.declared.said.Said.TheVariants.{Fills, Reads}
 use Rattle.span_laws.specs.Asks.{HasMarks, HasRoom, IsUntouched}
-use Rattle.span_laws.specs.Views.{Seen, after_said}
+use Rattle.span_laws.specs.Views.{after_said}
 use Rattle.span_set.specs.declared.hand.Hand.{Hand}
 use Rattle.span_set.specs.Sweeps.{SweepsBody, SweepsInHand, note_of}
 use Rattle.central_lists.specs.declared.answers.One.{One}

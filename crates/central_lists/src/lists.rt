@@ -90,7 +90,13 @@ fn search_full(shop: &Shop, hand: &mut Hand, class: u8, before: u32) -> Result<S
 }
 
 // Pops entries of an unswept set until a span is kept, none is left, or there were a hundred with those before.
-fn look_through(shop: &Shop, hand: &mut Hand, class: u8, full: bool, before: u32) -> Result<Through, NoMemory>
+fn look_through(
+    shop: &Shop,
+    hand: &mut Hand,
+    class: u8,
+    full: bool,
+    before: u32,
+) -> Result<Through, NoMemory>
     requires here { hand.old.worker.here ≡ true }
     requires table { hand.old.worker.table ≡ shop.now.shared.now }
     requires distance { 8192 ≤ shop.now.distance }
@@ -152,6 +158,11 @@ fn sweep_one(shop: &Shop, hand: &mut Hand, class: u8, body: Body) -> Option<Body
     if body.next_free().is_some() {
         return Some(body);
     }
-    push(shop.shared, &mut hand.worker, SetId { class, full: true }, body);
+    push(
+        shop.shared,
+        &mut hand.worker,
+        SetId { class, full: true },
+        body,
+    );
     None
 }

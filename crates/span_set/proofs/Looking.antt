@@ -89,8 +89,12 @@ module _ (set head tail cell page : ℕ) (old mid new : Seen) (look : mid ≡ af
   read_now = subst (λ (w : Seen). has_cell set head page w.view.own.read ≡ true) (sym read_page) (cell_seen set head page old.view.own.read)
 
   pub took : (body : Body) → RaisesSwept set head tail page mid new (Ok body) → TriesSwept set head tail old new (Ok (Taken body))
-  took body r = (less, r.1 ∙ ap (after_of (Pops set) (span_of body)) (read_page ∙ ap (λ (x : ℕ). after_said (LooksCell set head (suc x)) old) (sym r.0)), r.2,
-    before (subst (λ (z : Seen × ℕ). IsTaken z.0.view.generation set z.0.view.own z.1) (λ i. (read_page i, sym r.0 i)) r.3))
+  took body r = (
+    less,
+    r.1 ∙ ap (after_of (Pops set) (span_of body)) (read_page ∙ ap (λ (x : ℕ). after_said (LooksCell set head (suc x)) old) (sym r.0)),
+    r.2,
+    before (subst (λ (z : Seen × ℕ). IsTaken z.0.view.generation set z.0.view.own z.1) (λ i. (read_page i, sym r.0 i)) r.3),
+  )
     where
       before : IsTaken old.view.generation set (after_said (LooksCell set head (suc page)) old).view.own body.page → IsTaken old.view.generation set old.view.own body.page
       before t = record { nothing = t.nothing; unpopped = t.unpopped }

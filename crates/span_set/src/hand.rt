@@ -7,6 +7,7 @@ use std::alloc::Global;
 use sweep_lists::Entries;
 
 /// What workers sweep by.
+#[derive(Drop)]
 pub struct Shop<'a> {
     /// The shared spans.
     pub shared: &'a Shared,

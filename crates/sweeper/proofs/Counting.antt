@@ -1,15 +1,15 @@
 -- Sums and counts of logs that are put together.
-use Rattle.std.proofs.Common.{◌≡◌, ℕ, zero, suc, ◌+◌, ◌<◌, ◌≤◌, Bool, true, false, List, [], ◌∷◌, ◌++◌, map, reverse, refl, ap, sym, ◌∙◌, append_assoc, arith}
-use Rattle.std.proofs.lemmas.List.{append-nil, reverse-append, map-append}
-use Rattle.span_state.specs.declared.sweep.SweepNote.{SweepNote}
-use Rattle.sweep_laws.specs.Needs.{is_swept_set}
+use Rattle.std.proofs.Common.{◌≡◌, ℕ, ◌+◌, ◌<◌, Bool, List, [], ◌∷◌, ◌++◌, map, reverse, refl, ap, ◌∙◌, arith}
+use Rattle.std.proofs.lemmas.List.{reverse-append, map-append}
 use Rattle.worker_log.specs.declared.Entry.{Entry}
 use Rattle.worker_log.specs.declared.Entry.TheVariants.{Looked, LookedEmptyCell, Popped, Pushed, Swept, Took, Missed, Gave, Allocated, Found, Read, Added}
 use Rattle.worker_log.specs.declared.Sweeping.{Sweeping}
 use Rattle.worker_log.specs.Logs.{is_placing_in, is_pop_of, many, sweepings}
 use Rattle.worker_log.proofs.Logs.{many-append}
 use Rattle.span_laws.specs.Logs.{is_taking}
-use Rattle.sweeper.specs.Entries.{added_to, is_added, is_emptying_of, is_giving_of, is_keeping_of, is_missing, is_placing, is_push_at, pages_swept, total}
+use Rattle.span_laws.specs.Calls.{is_missing, is_placing, number_added, pages_swept}
+use Rattle.sweep_laws.specs.Counts.{total}
+use Rattle.sweeper.specs.Entries.{is_added, is_emptying_of, is_giving_of, is_keeping_of, is_push_at, is_read}
 use Rattle.sweeper.specs.Work.{IsPlain, OnlySweeps, TakesNone, note_by, notes_of}
 use Rattle.sweeper.specs.Steps.{SweepsNone}
 
@@ -58,7 +58,7 @@ pub sweeps-append : (g : ℕ) (xs ys : List Entry) → OnlySweeps g xs → OnlyS
 sweeps-append g xs ys a b = record {
   unplaced = none-both is_placing xs ys a.unplaced b.unplaced;
   unspent = none-both (is_added 3) xs ys a.unspent b.unspent;
-  swept_pages = (let c = total-append (added_to 2) xs ys in let d = total-append pages_swept xs ys in let e = a.swept_pages in let f = b.swept_pages in omega arith);
+  swept_pages = (let c = total-append (number_added 2) xs ys in let d = total-append pages_swept xs ys in let e = a.swept_pages in let f = b.swept_pages in omega arith);
   given = λ p. let c = many-append (is_giving_of p) xs ys in let d = many-append (is_emptying_of p) xs ys in let e = a.given p in let f = b.given p in omega arith;
   pushed = λ p. let c = many-append (is_push_at p) xs ys in let d = many-append (is_keeping_of p) xs ys in let e = a.pushed p in let f = b.pushed p in omega arith;
   unpopped = λ j p s. none-both (is_pop_of j p) xs ys (a.unpopped j p s) (b.unpopped j p s);
@@ -69,7 +69,7 @@ pub takes-append : (xs ys : List Entry) → TakesNone xs → TakesNone ys → Ta
 takes-append xs ys a b = record { untaken = none-both is_taking xs ys a.untaken b.untaken; unmissed = none-both is_missing xs ys a.unmissed b.unmissed }
 
 pub plain-append : (xs ys : List Entry) → IsPlain xs → IsPlain ys → IsPlain (xs ++ ys)
-plain-append xs ys a b = record { takes_none = takes-append xs ys a.takes_none b.takes_none; unclaimed = none-both (is_added 4) xs ys a.unclaimed b.unclaimed }
+plain-append xs ys a b = record { takes_none = takes-append xs ys a.takes_none b.takes_none; unclaimed = none-both (is_added 4) xs ys a.unclaimed b.unclaimed; unread = λ i. none-both (is_read 4 i) xs ys (a.unread i) (b.unread i) }
 
 pub none-append : (xs ys : List Entry) → SweepsNone xs → SweepsNone ys → SweepsNone (xs ++ ys)
 none-append xs ys a b = record { none = sweepings-append xs ys ∙ ap (λ (l : List Sweeping). l ++ sweepings ys) a.none ∙ b.none; plain = plain-append xs ys a.plain b.plain }
@@ -79,4 +79,4 @@ pub nothing-sweeps : (g : ℕ) → OnlySweeps g []
 nothing-sweeps g = record { unplaced = refl; unspent = refl; swept_pages = refl; given = λ p. refl; pushed = λ p. refl; unpopped = λ j p s. refl; untouched = λ p. refl }
 
 pub nothing-none : SweepsNone []
-nothing-none = record { none = refl; plain = record { takes_none = record { untaken = refl; unmissed = refl }; unclaimed = refl } }
+nothing-none = record { none = refl; plain = record { takes_none = record { untaken = refl; unmissed = refl }; unclaimed = refl; unread = λ i. refl } }

@@ -1,16 +1,14 @@
 -- What one part of a call did and then another, is what both did.
-use Rattle.std.proofs.Common.{◌≡◌, ℕ, ◌+◌, ◌<◌, ◌≤◌, ◌⊎◌, inl, inr, ⊎_elim, true, List, [], ◌∷◌, ◌++◌, refl, ap, sym, ◌∙◌, subst, append_assoc, arith}
+use Rattle.std.proofs.Common.{◌≡◌, ℕ, ◌+◌, List, [], ◌∷◌, ◌++◌, refl, ap, sym, ◌∙◌, subst, append_assoc, arith}
 use Rattle.std.proofs.lemmas.List.{append-nil}
 use Rattle.span_state.specs.declared.sweep.SweepNote.{SweepNote}
 use Rattle.sweep_laws.specs.Counts.{times}
-use Rattle.sweep_laws.specs.Lists.{has}
-use Rattle.sweep_laws.proofs.Naming.{has_times, times_has}
 use Rattle.worker_log.specs.declared.Entry.{Entry}
 use Rattle.span_laws.specs.Answers.{cycle_at}
 use Rattle.span_laws.specs.Views.{Seen}
 use Rattle.span_set.specs.declared.hand.Hand.{Hand}
 use Rattle.sweeper.specs.Work.{Does, OnlySweeps, Stays, Works, notes_of}
-use Rattle.sweeper.proofs.Counting.{notes-append, notes-none, nothing-sweeps, sweeps-append}
+use Rattle.sweeper.proofs.Counting.{notes-append, nothing-sweeps, sweeps-append}
 
 pub stays-same : (a : Seen) → Stays a a
 stays-same a = record { here = refl; table = refl; number = refl; region = refl; goal = refl; generation = refl; marks = refl; parts = refl; sweeping = refl; cached = refl; claimed = refl; fresh = refl; reset = refl; bodies = λ q h. refl }
@@ -18,9 +16,6 @@ stays-same a = record { here = refl; table = refl; number = refl; region = refl;
 times_front : (q : ℕ) (xs ys : List ℕ) → times q (xs ++ ys) ≡ times q xs + times q ys
 times_front q [] ys = omega arith
 times_front q (x ∷ xs) ys = let r = times_front q xs ys in omega arith
-
-has_front : (q : ℕ) (xs ys : List ℕ) → has q xs ≡ true → has q (xs ++ ys) ≡ true
-has_front q xs ys h = let a = has_times q xs h in let b = times_front q xs ys in times_has q (xs ++ ys) (omega arith)
 
 module _ (a b d : Seen) (more also : List ℕ) (said then : List Entry) (x : Does more said a b) (y : Does also then b d) where
   stays-both : Stays a d
@@ -38,9 +33,7 @@ module _ (a b d : Seen) (more also : List ℕ) (said then : List Entry) (x : Doe
     claimed = t.claimed ∙ s.claimed;
     fresh = t.fresh ∙ s.fresh;
     reset = t.reset ∙ s.reset;
-    bodies = λ q h. t.bodies q (⊎_elim
-        (λ (z : has q a.view.own.held ≡ true). inl (subst (λ (l : List ℕ). has q l ≡ true) (sym x.held) (has_front q a.view.own.held more z)))
-        (λ (z : has q a.view.own.cached ≡ true). inr (subst (λ (l : List ℕ). has q l ≡ true) (sym s.cached) z)) h) ∙ s.bodies q h;
+    bodies = λ q h. t.bodies q (let c = times_front q a.view.own.held more in let x₁ = ap (times q) x.held in let x₂ = ap (times q) s.sweeping in let x₃ = ap (times q) s.cached in omega arith) ∙ s.bodies q h;
   }
 
   pub does-both : Does (more ++ also) (then ++ said) a d

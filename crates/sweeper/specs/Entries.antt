@@ -1,27 +1,12 @@
--- Tests and sums of the entries of a log, besides those of worker_log and span_laws.
-use Rattle.std.specs.Prelude.{ℕ, ◌+◌, ◌==◌, ◌&&◌, not, Bool, true, false, List, [], ◌∷◌, if◌then◌else◌}
+-- Tests of the entries of a log, besides those of worker_log and span_laws.
+use Rattle.std.specs.Prelude.{ℕ, ◌==◌, ◌&&◌, not, Bool, false}
 use Rattle.worker_log.specs.declared.Entry.{Entry}
-use Rattle.worker_log.specs.declared.Entry.TheVariants.{Looked, LookedEmptyCell, Popped, Pushed, Swept, Took, Missed, Gave, Allocated, Found, Read, Added}
-
--- the sum of a number that each entry has
-abbrev pub total : (Entry → ℕ) → List Entry → ℕ
-total number [] = 0
-total number (e ∷ log) = number e + total number log
-
--- the pages of the span that an entry sweeps
-abbrev pub pages_swept : Entry → ℕ
-pages_swept (Swept s) = s.pages
-pages_swept _ = 0
+use Rattle.worker_log.specs.declared.Entry.TheVariants.{Pushed, Swept, Gave, Found, Read, Added}
 
 -- the pages that an entry gives back
 abbrev pub pages_given : Entry → ℕ
 pages_given (Gave page pages) = pages
 pages_given _ = 0
-
--- what an entry adds to a word
-abbrev pub added_to : ℕ → Entry → ℕ
-added_to word (Added w number) = if w == word then number else 0
-added_to word _ = 0
 
 -- the entry adds to the word
 abbrev pub is_added : ℕ → Entry → Bool
@@ -32,16 +17,6 @@ is_added word _ = false
 abbrev pub is_read : ℕ → ℕ → Entry → Bool
 is_read word value (Read w v) = (w == word) && (v == value)
 is_read word value _ = false
-
--- the entry places an object
-abbrev pub is_placing : Entry → Bool
-is_placing (Allocated a) = true
-is_placing _ = false
-
--- the entry tells that no run was free
-abbrev pub is_missing : Entry → Bool
-is_missing (Missed number line) = true
-is_missing _ = false
 
 -- the entry found another word than that of a waiting span at the page
 abbrev pub is_finding_at : ℕ → Entry → Bool

@@ -9,7 +9,7 @@ use Rattle.worker_log.specs.Logs.{many}
 use Rattle.span_laws.specs.declared.answers.Refused.{Refused}
 use Rattle.span_laws.specs.declared.answers.Refused.TheVariants.{NoRun, NoMemory as WantsMemory}
 use Rattle.span_laws.specs.Answers.{IsNew, NoRunFree, cycle_at}
-use Rattle.span_laws.specs.Asks.{HasBody, IsApart, IsUntouched}
+use Rattle.span_laws.specs.Asks.{HasBody, IsUntouched, mine}
 use Rattle.span_set.specs.declared.hand.Hand.{Hand}
 use Rattle.sweeper.specs.Entries.{is_added}
 use Rattle.sweeper.specs.Reclaims.{HasReclaimed, chunks_of}
@@ -30,11 +30,11 @@ pub record MissedAtLast (old : Hand) (n class line : ℕ) (said : List Entry) : 
   pub reclaimed : HasReclaimed old.worker.view.marks old.worker.view.region n before
   pub saw_empty : SawAllEmpty old.worker.view.generation before
 
--- the worker holds a new span that it has not had before, and has its body, which its log neither popped from a swept set nor placed in
+-- the worker holds a new span, of which it had nothing, and has its body, which its log neither popped from a swept set nor placed in
 pub record HasNew (n class : ℕ) (old new : Hand) (b : Body) : Type 0 where
   pub is_new : IsNew n class b
   pub lent : HasBody new.worker.view.own b
-  pub apart : IsApart old.worker.view.own b.page
+  pub nothing : mine b.page old.worker.view.own ≡ 0
   pub untouched : IsUntouched old.worker.view.generation new.worker.view.own b.page
 
 -- it made a span; or no run was free, as the line of this number says; or memory ran out, and the sweeps and claims before stand

@@ -5,7 +5,8 @@ use Rattle.span_state.specs.MarkSet.{has_pair}
 use Rattle.worker_log.specs.declared.Entry.{Entry}
 use Rattle.worker_log.specs.Logs.{is_sweep_of, many}
 use Rattle.span_set.specs.declared.hand.Hand.{Hand}
-use Rattle.sweeper.specs.Entries.{is_added, is_finding_at, is_read, pages_given, total}
+use Rattle.sweep_laws.specs.Counts.{total}
+use Rattle.sweeper.specs.Entries.{is_added, is_finding_at, is_read, pages_given}
 use Rattle.sweeper.specs.Work.{TakesNone, Works}
 
 -- the chunks of 512 pages of a region

@@ -1,5 +1,5 @@
 -- What the steps of these calls do.
-use Rattle.std.specs.Prelude.{◌≡◌, ◌⊎◌, ℕ, ◌+◌, ◌*◌, ◌-◌, ◌/◌, ◌%◌, ◌^◌, ◌<◌, ◌≤◌, Bool, true, false, List, [], ◌∷◌, ◌++◌, min, Option, Some, None, Result, Ok, Err}
+use Rattle.std.specs.Prelude.{◌≡◌, ◌⊎◌, ℕ, ◌+◌, ◌*◌, ◌-◌, ◌/◌, ◌%◌, ◌^◌, ◌<◌, ◌≤◌, Bool, true, false, List, [], ◌∷◌, ◌++◌, length, min, Option, Some, None, Result, Ok, Err}
 use Rattle.fallible_list.specs.declared.list.NoMemory.{NoMemory}
 use Rattle.page_bitmap.specs.Counts.{one_if}
 use Rattle.span_state.specs.MarkSet.{MarkSet}
@@ -17,7 +17,8 @@ use Rattle.span_laws.specs.Asks.{HasRoom, IsFullBody}
 use Rattle.span_laws.specs.Views.{Seen, after_of, after_said, span_of}
 use Rattle.span_set.specs.Sweeps.{SweepsBody, note_of}
 use Rattle.span_set.specs.declared.hand.Hand.{Hand}
-use Rattle.sweeper.specs.Entries.{is_added, is_finding_at, is_read, pages_given, total}
+use Rattle.sweep_laws.specs.Counts.{total}
+use Rattle.sweeper.specs.Entries.{is_added, is_finding_at, is_read, pages_given}
 use Rattle.sweeper.specs.Reclaims.{IsUnmarked, SparesMarked}
 use Rattle.sweeper.specs.Sweeps.{SweepsSpan}
 use Rattle.sweeper.specs.Work.{IsPlain, TakesNone, Works, note_by}
@@ -76,10 +77,10 @@ nth_unswept g i = 4 * (i / 2) + 2 * (1 - i % 2) + (g / 2 + 1) % 2
 abbrev pub SawSome : ℕ → ℕ → List Entry → Type 0
 SawSome g n said = (i : ℕ) → i < n → 0 < many (is_seen_empty (nth_unswept g i)) said
 
--- the first n were seen empty, and nothing was swept
+-- the first n were seen empty, and nothing was swept; there is room for a note
 pub record FindsNone (n : ℕ) (old new : Hand) : Type 0 where
   pub works : Works [] (λ said. SweepsNone said × SawSome old.worker.view.generation n said) old new
-  pub notes : new.notes ≡ old.notes
+  pub room : length new.notes.items < new.notes.space
 
 -- spans of one set were swept
 pub record SweepsSome (set tries : ℕ) (old new : Hand) : Type 0 where
@@ -88,13 +89,13 @@ pub record SweepsSome (set tries : ℕ) (old new : Hand) : Type 0 where
 
 -- spans of one set were swept until the swept pages reached the target, or the set was seen empty; or memory ran out
 abbrev pub SweepsSet : ℕ → ℕ → Hand → Hand → Result (Option ℕ) NoMemory → Type 0
-SweepsSet set target old new (Ok (Some seen)) = (target ≤ seen) × Works [] (λ said. IsPlain said × (0 < many (is_read 2 seen) said)) old new
+SweepsSet set target old new (Ok (Some seen)) = (target ≤ seen) × (seen < 2 ^ 64) × Works [] (λ said. IsPlain said × (0 < many (is_read 2 seen) said)) old new
 SweepsSet set target old new (Ok None) = Works [] (λ said. IsPlain said × (0 < many (is_seen_empty set) said)) old new
 SweepsSet set target old new (Err none) = Works [] IsPlain old new
 
 -- the same through all unswept sets, of which the first n are done
 abbrev pub SweepsUntil : ℕ → ℕ → Hand → Hand → Result (Option ℕ) NoMemory → Type 0
-SweepsUntil n target old new (Ok (Some seen)) = (target ≤ seen) × Works [] (λ said. IsPlain said × (0 < many (is_read 2 seen) said)) old new
+SweepsUntil n target old new (Ok (Some seen)) = (target ≤ seen) × (seen < 2 ^ 64) × Works [] (λ said. IsPlain said × (0 < many (is_read 2 seen) said)) old new
 SweepsUntil n target old new (Ok None) = Works [] (λ said. IsPlain said × SawSome old.worker.view.generation n said) old new
 SweepsUntil n target old new (Err none) = Works [] IsPlain old new
 

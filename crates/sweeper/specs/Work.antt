@@ -1,16 +1,18 @@
 -- What the calls of this crate leave of a hand, and what the log of such a call has.
-use Rattle.std.specs.Prelude.{◌≡◌, ◌⊎◌, ℕ, ◌<◌, true, false, List, [], ◌∷◌, ◌++◌, map, reverse}
+use Rattle.std.specs.Prelude.{◌≡◌, ℕ, ◌<◌, true, false, List, [], ◌++◌, map, reverse}
 use Rattle.span_state.specs.declared.sweep.SweepNote.{SweepNote}
-use Rattle.sweep_laws.specs.Lists.{has}
 use Rattle.sweep_laws.specs.Needs.{is_swept_set}
 use Rattle.worker_log.specs.declared.Entry.{Entry}
 use Rattle.worker_log.specs.declared.Sweeping.{Sweeping}
 use Rattle.worker_log.specs.Logs.{is_placing_in, is_pop_of, is_seen_empty, many, sweepings}
 use Rattle.span_laws.specs.Answers.{cycle_at}
+use Rattle.span_laws.specs.Asks.{mine}
 use Rattle.span_laws.specs.Logs.{is_taking}
 use Rattle.span_laws.specs.Views.{Seen, span_at}
 use Rattle.span_set.specs.declared.hand.Hand.{Hand}
-use Rattle.sweeper.specs.Entries.{added_to, is_added, is_emptying_of, is_giving_of, is_keeping_of, is_missing, is_placing, is_push_at, pages_swept, total}
+use Rattle.span_laws.specs.Calls.{is_missing, is_placing, number_added, pages_swept}
+use Rattle.sweep_laws.specs.Counts.{total}
+use Rattle.sweeper.specs.Entries.{is_added, is_emptying_of, is_giving_of, is_keeping_of, is_push_at, is_read}
 
 -- the note of a sweep in a cycle
 abbrev pub note_by : ℕ → Sweeping → SweepNote
@@ -25,14 +27,13 @@ notes_of cycle said = map (note_by cycle) (reverse (sweepings said))
 pub record OnlySweeps (g : ℕ) (said : List Entry) : Type 0 where
   pub unplaced : many is_placing said ≡ 0
   pub unspent : many (is_added 3) said ≡ 0
-  pub swept_pages : total (added_to 2) said ≡ total pages_swept said
+  pub swept_pages : total (number_added 2) said ≡ total pages_swept said
   pub given : (p : ℕ) → many (is_giving_of p) said ≡ many (is_emptying_of p) said
   pub pushed : (p : ℕ) → many (is_push_at p) said ≡ many (is_keeping_of p) said
   pub unpopped : (j p : ℕ) → is_swept_set g j ≡ true → many (is_pop_of j p) said ≡ 0
   pub untouched : (p : ℕ) → many (is_placing_in p) said ≡ 0
 
--- What a worker has stays: all that others agree on, what it has cached, sweeps and claims, and the bodies of the spans that it holds or has
--- cached.
+-- What a worker has stays: all that others agree on, what it has cached, sweeps and claims, and the bodies of the spans that it had.
 pub record Stays (old new : Seen) : Type 0 where
   pub here : new.here ≡ old.here
   pub table : new.table ≡ old.table
@@ -47,7 +48,7 @@ pub record Stays (old new : Seen) : Type 0 where
   pub claimed : new.view.own.claimed ≡ old.view.own.claimed
   pub fresh : new.view.own.fresh ≡ old.view.own.fresh
   pub reset : new.view.own.reset ≡ old.view.own.reset
-  pub bodies : (q : ℕ) → (has q old.view.own.held ≡ true) ⊎ (has q old.view.own.cached ≡ true) → span_at q new.view.own.spans ≡ span_at q old.view.own.spans
+  pub bodies : (q : ℕ) → 0 < mine q old.view.own → span_at q new.view.own.spans ≡ span_at q old.view.own.spans
 
 -- A worker's steps added these entries to the log, and it holds these pages more.
 pub record Does (more : List ℕ) (said : List Entry) (old new : Seen) : Type 0 where
@@ -70,10 +71,11 @@ pub record TakesNone (said : List Entry) : Type 0 where
   pub untaken : many is_taking said ≡ 0
   pub unmissed : many is_missing said ≡ 0
 
--- nor is a chunk claimed
+-- nor is a chunk claimed, or the index of one read
 pub record IsPlain (said : List Entry) : Type 0 where
   pub takes_none : TakesNone said
   pub unclaimed : many (is_added 4) said ≡ 0
+  pub unread : (i : ℕ) → many (is_read 4 i) said ≡ 0
 
 -- each unswept set was seen empty
 abbrev pub SawAllEmpty : ℕ → List Entry → Type 0

@@ -1,4 +1,4 @@
-ghost use Rattle.std.specs.Prelude.{◌≡◌, ◌<◌, ◌≤◌, [], None};
+ghost use Rattle.std.specs.Prelude.{◌≡◌, ◌<◌, ◌≤◌, [], true, None};
 ghost use Rattle.span_set.specs.Sets.{unswept_of};
 ghost use Rattle.sweeper.specs.Pays.{Pays, target_of};
 ghost use Rattle.sweeper.specs.Steps.{SweepsSet, SweepsUntil};
@@ -16,14 +16,7 @@ const ALL: u128 = u128::MAX;
 const FIRST: u64 = 4;
 
 // The pages to be swept before so many bytes more are allocated, with a credit of pages. It fits for all numbers.
-fn target(
-    generation: u64,
-    pages: u32,
-    distance: u64,
-    spent: u64,
-    bytes: u64,
-    credit: u32,
-) -> u128
+fn target(generation: u64, pages: u32, distance: u64, spent: u64, bytes: u64, credit: u32) -> u128
     requires { 1 ≤ distance }
     ensures { result ≡ target_of generation pages distance spent bytes credit }
 {
@@ -56,9 +49,9 @@ fn sweep_set(
             return Ok(Some(seen));
         }
         hand.reserve_note()?;
-        if sweep_next(shop, hand, set).is_none() {
+        let Some(_) = sweep_next(shop, hand, set) else {
             return Ok(None);
-        }
+        };
     }
     unreachable!()
 }

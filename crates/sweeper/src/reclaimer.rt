@@ -1,14 +1,22 @@
-ghost use Rattle.std.specs.Prelude.{◌≡◌, ◌*◌, ◌<◌, ◌≤◌, [], None};
+ghost use Rattle.std.specs.Prelude.{◌≡◌, ◌*◌, ◌<◌, ◌≤◌, [], true, None};
 ghost use Rattle.sweeper.specs.Reclaims.{Reclaims};
 ghost use Rattle.sweeper.specs.Steps.{ReclaimsChunk, ReclaimsPage};
 
 use crate::settle::settle;
 use fallible_list::NoMemory;
 use span_set::{Hand, Shop};
+use span_state::Body;
 use span_table::Acquired;
 
 // The pages of a chunk.
 const CHUNK: u32 = 512;
+
+// How many pages the span of a body has.
+fn pages_of(body: &Body) -> u32
+    ensures { result ≡ body.now.pages }
+{
+    body.pages
+}
 
 // Sweeps the span of a page where it waits and no object of it is marked, by its word and without popping it. Answers the pages
 // given back.
@@ -28,7 +36,7 @@ fn reclaim_page(shop: &Shop, hand: &mut Hand, page: u32) -> Result<u32, NoMemory
     hand.reserve_note()?;
     match shop.shared.acquire(&mut hand.worker, page) {
         Acquired::Got(body) => {
-            let pages = body.pages;
+            let pages = pages_of(&body);
             settle(shop, hand, body);
             Ok(pages)
         }

@@ -1,4 +1,4 @@
-ghost use Rattle.std.specs.Prelude.{◌≡◌, ◌<◌, ◌≤◌, None, length};
+ghost use Rattle.std.specs.Prelude.{◌≡◌, ◌<◌, ◌≤◌, true, None, length};
 ghost use Rattle.span_laws.specs.Asks.{IsUntouched};
 ghost use Rattle.span_set.specs.Sweeps.{MaySweep};
 ghost use Rattle.sweeper.specs.Steps.{Settles};

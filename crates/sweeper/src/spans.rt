@@ -1,4 +1,4 @@
-ghost use Rattle.std.specs.Prelude.{◌≡◌, ◌<◌, ◌≤◌, [], None};
+ghost use Rattle.std.specs.Prelude.{◌≡◌, ◌<◌, ◌≤◌, [], true, None};
 ghost use Rattle.page_alloc.specs.Journal.{IsSpanSize};
 ghost use Rattle.sweeper.specs.NewSpans.{MakesSpan, SweepsAndTakes};
 

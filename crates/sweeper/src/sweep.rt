@@ -1,4 +1,4 @@
-ghost use Rattle.std.specs.Prelude.{◌≡◌, ◌<◌, ◌≤◌, [], None, length};
+ghost use Rattle.std.specs.Prelude.{◌≡◌, ◌<◌, ◌≤◌, [], true, None, length};
 ghost use Rattle.span_set.specs.Sets.{unswept_of};
 ghost use Rattle.sweeper.specs.Steps.{SweepsNext, TriesEntry, nth_unswept};
 ghost use Rattle.sweeper.specs.Sweeps.{SweepsOne};

@@ -1,0 +1,90 @@
+#!/usr/bin/env bash
+# Refuses each allocation of `goheap` in turn, from the first until a run asks for no more, on the traces under examples/ and
+# for the words that read nothing. Each run must end by itself: with status 7, nothing written and the one line for it, or with
+# what it answers when nothing is refused (a list that cannot double may still grow). It prints the number of runs, and ends
+# with status 1 where one ended otherwise. It takes a C compiler, for the few lines that stand between the program and the
+# allocator of the C library.
+set -euo pipefail
+cd "$(dirname "$(readlink -f "$0")")/.."
+folder=$(mktemp -d)
+trap 'rm -rf "$folder"' EXIT
+
+# Passes calls on, but for the one whose number REFUSED has, counted from 1; then it writes a byte to descriptor 9.
+cat >"$folder/refuse.c" <<'C'
+#define _GNU_SOURCE
+#include <dlfcn.h>
+#include <stdlib.h>
+#include <unistd.h>
+
+static long calls;
+
+static int refuses(void) {
+  const char *number = getenv("REFUSED");
+  if (++calls != (number ? atol(number) : 0)) return 0;
+  return write(9, "x", 1) == 1;
+}
+
+void *malloc(size_t size) {
+  static void *(*real)(size_t);
+  if (!real) real = dlsym(RTLD_NEXT, "malloc");
+  return refuses() ? NULL : real(size);
+}
+
+void *realloc(void *block, size_t size) {
+  static void *(*real)(void *, size_t);
+  if (!real) real = dlsym(RTLD_NEXT, "realloc");
+  return refuses() ? NULL : real(block, size);
+}
+C
+cc -shared -fPIC -O1 -o "$folder/refuse.so" "$folder/refuse.c" -ldl
+
+./goheap run <examples/one-object.trace >/dev/null # built, if need be, before anything is refused
+program=crates/alloc_tool/out/alloc_tool
+runs=0
+told=0
+failed=0
+
+# A run with the allocation of that number refused. What it wrote, what it said and whether it came to that call stand in files.
+run() {
+  local number=$1 input=$2
+  shift 2
+  set +e
+  timeout 60 env REFUSED="$number" LD_PRELOAD="$folder/refuse.so" "$program" "$@" <"$input" >"$folder/wrote" 2>"$folder/said" 9>"$folder/refused"
+  status=$?
+  set -e
+}
+
+# each NAME INPUT WORDS..: refuses each allocation of these words in turn.
+each() {
+  local name=$1 input=$2 number=0
+  shift 2
+  run 0 "$input" "$@"
+  local whole=$status
+  cp "$folder/wrote" "$folder/whole"
+  cp "$folder/said" "$folder/whole_said"
+  while :; do
+    number=$((number + 1))
+    run $number "$input" "$@"
+    [ -s "$folder/refused" ] || break
+    runs=$((runs + 1))
+    if [ $status -eq 7 ] && [ ! -s "$folder/wrote" ] && [ "$(cat "$folder/said"; echo .)" = "goheap: out of memory
+." ]; then
+      told=$((told + 1))
+    elif [ $status -ne $whole ] || ! cmp -s "$folder/wrote" "$folder/whole" || ! cmp -s "$folder/said" "$folder/whole_said"; then
+      echo "$name: allocation $number refused: status $status, $(wc -c <"$folder/wrote") bytes written, it said: $(head -c 200 "$folder/said")" >&2
+      failed=1
+    fi
+  done
+  echo "$name: $((number - 1)) allocations refused in turn"
+}
+
+for trace in examples/*.trace; do
+  each "$(basename "$trace")" "$trace" run
+done
+each classes /dev/null classes
+for objects in 1 20001; do
+  each "gen 1 $objects" /dev/null gen 1 $objects
+done
+each 'gen 1 0' /dev/null gen 1 0
+echo "$runs runs: $told ended with status 7 and nothing written, $((runs - told)) with their answer"
+exit $failed

@@ -1,0 +1,4 @@
+pub mod Saying
+pub mod Trying
+pub mod Looking
+pub mod Joining

@@ -1,0 +1,14 @@
+use Rattle.std.proofs.Common.{refl, ap, ◌∙◌}
+use Rattle.worker_log.specs.Logs.{swept_set}
+use Rattle.span_laws.specs.declared.said.Said.TheVariants.{Fills, Reads}
+use Rattle.span_laws.specs.Views.{after_said}
+use Rattle.central_lists.proofs.lists.sweep_one.Goals as goal
+
+pub returns : goal.returns
+returns c = let e = c.sweep_in_hand.ensures in let b = c.sweep_in_hand.new.body in let mid = c.sweep_in_hand.new.hand in (
+  b,
+  mid,
+  record { numbers = c.sweep_in_hand.result; body = e.body; worker = e.worker; notes = ap (λ r. r.items) e.notes },
+  refl,
+  c.push.ensures ∙ ap (λ g. after_said (Fills (swept_set g c.args.class 1) b.page) (after_said (Reads 1 g) mid.worker)) (ap (λ s. s.view.generation) e.worker.view),
+)

@@ -1,0 +1,7 @@
+use Rattle.std.proofs.Common.{[]}
+use Rattle.sweeper.specs.Steps.{CoversChunks}
+use Rattle.sweeper.specs.Work.{Works}
+use Rattle.sweeper.proofs.reclaimer.reclaim.Given as goal
+
+abbrev pub invariant-loop : goal.invariant-loop
+invariant-loop l = Works [] (CoversChunks l.fn.hand.worker.view.marks l.region l.counter l.given) l.fn.hand l.hand

@@ -1,0 +1,7 @@
+use Rattle.std.proofs.Common.{[], ◌*◌}
+use Rattle.sweeper.specs.Steps.{CoversPages}
+use Rattle.sweeper.specs.Work.{Works}
+use Rattle.sweeper.proofs.reclaimer.reclaim_chunk.Given as goal
+
+abbrev pub invariant-loop-page : goal.invariant-loop-page
+invariant-loop-page l = Works [] (CoversPages l.fn.hand.worker.view.marks (512 * l.chunk) l.page l.given) l.fn.hand l.hand
