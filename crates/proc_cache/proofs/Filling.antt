@@ -227,3 +227,15 @@ module _ (pages distance k : ℕ) (c c1 : Cache) (old m1 : Hand) (left : LeavesF
       (z ++ s, left.2.0, sym (append_assoc z s left.2.0), left.2.2, (z ++ t.0, t.1, ap (λ (l : List Entry). z ++ l) t.2 ∙ sym (append_assoc z t.0 t.1), paid_from t.1 t.3, (z, t.0, refl, comes_from old m1 left.2.1.view k b from t.0 t.4, kept.1.2))),
     ),
   )
+
+-- a processor serves its worker whatever was found
+module _ (pages distance k : ℕ) (old new : Hand) where
+  pub find_serves : (r : Result (Body × CacheFrom) Refused) → FindsSpan pages distance k old new r → (c : Cache) → Serves old.worker.view.generation old.worker.view.own c → Serves new.worker.view.generation new.worker.view.own c
+  find_serves (Ok found) f c v = holds_serves (found.0.page ∷ []) f.1.0 old new c f.1.1 v
+  find_serves (Err (NoRun line)) f c v = holds_serves [] f.1.0 old new c f.1.1 v
+  find_serves (Err WantsMemory) f c v = holds_serves [] f.0 old new c f.1 v
+
+  pub find_used : (r : Result (Body × CacheFrom) Refused) → FindsSpan pages distance k old new r → IsUsedCache old.worker.view.own → IsUsedCache new.worker.view.own
+  find_used (Ok found) f u = holds_used (found.0.page ∷ []) f.1.0 old new f.1.1 u
+  find_used (Err (NoRun line)) f u = holds_used [] f.1.0 old new f.1.1 u
+  find_used (Err WantsMemory) f u = holds_used [] f.0 old new f.1 u

@@ -37,7 +37,7 @@ use Rattle.proc_cache.specs.declared.refills.CacheFrom.TheVariants.{SweptPartial
 use Rattle.proc_cache.specs.Leaves.{Holds, Sums}
 use Rattle.proc_cache.specs.Refills.{Comes, ComesFrom, FindsSpan, HasPaidFor, IsFor, LookedFor, WasNoRun, bytes_of, taken_for}
 use Rattle.proc_cache.proofs.Holding.{holds-trans, holds_none, holds_one, idle_after, of_sweeper, sums_of, sums_of_lists}
-use Rattle.proc_cache.proofs.Logging.{many-same, no_refusals, refusals-append, same_missing, sums-append}
+use Rattle.proc_cache.proofs.Logging.{no_refusals, refusals-append, sums-append}
 
 -- ---- what does not depend on the own part
 
@@ -75,20 +75,20 @@ module _ (old mid : Hand) (v : mid.worker.view ≡ acts old.worker.view mid.work
 -- the log of a refused request has its one refusal
 module _ (mid : Hand) (n k line : ℕ) (said : List Entry) (t : MissedAtLast mid n k line said) where
   no_refusal_before : refusals t.before ≡ []
-  no_refusal_before = no_refusals t.before (sym (many-same _ _ same_missing t.before) ∙ t.takes_none.unmissed)
+  no_refusal_before = no_refusals t.before t.takes_none.unmissed
 
   pub one_refusal : refusals said ≡ record { number = line; pages = n; class = k } ∷ []
   one_refusal = ap refusals t.log ∙ ap (λ (l : List Refusal). let r : Refusal = record { number = line; pages = n; class = k } in r ∷ l) no_refusal_before
 
-  pub one_missed : many Rattle.sweeper.specs.Entries.is_missing said ≡ 1
-  one_missed = ap (many Rattle.sweeper.specs.Entries.is_missing) t.log ∙ (let z = t.takes_none.unmissed in omega arith)
+  pub one_missed : many Rattle.span_laws.specs.Calls.is_missing said ≡ 1
+  one_missed = ap (many Rattle.span_laws.specs.Calls.is_missing) t.log ∙ (let z = t.takes_none.unmissed in omega arith)
 
   pub missed_takes : many is_taking said ≡ 0
   missed_takes = ap (many is_taking) t.log ∙ (let z = t.takes_none.untaken in omega arith)
 
 module _ (mid : Hand) (n : ℕ) (b : Body) (said : List Entry) (t : TookAtLast mid n b said) where
-  pub took_misses : many Rattle.sweeper.specs.Entries.is_missing said ≡ 0
-  took_misses = ap (many Rattle.sweeper.specs.Entries.is_missing) t.log ∙ (let z = t.takes_none.unmissed in omega arith)
+  pub took_misses : many Rattle.span_laws.specs.Calls.is_missing said ≡ 0
+  took_misses = ap (many Rattle.span_laws.specs.Calls.is_missing) t.log ∙ (let z = t.takes_none.unmissed in omega arith)
 
   pub took_one : many is_taking said ≡ 1
   took_one = ap (many is_taking) t.log ∙ (let z = t.takes_none.untaken in omega arith)
@@ -159,7 +159,7 @@ module _ (k : ℕ) (old mid : Hand) (low : k < 136) where
         class = h.is_new.class;
         room = (0, b.some_object, h.is_new.empty 0);
         lent = h.lent;
-        before = ap (has b.page) (sym looked_holds.cached) ∙ h.apart.cached;
+        before = ap (has b.page) (sym looked_holds.cached) ∙ has_none b.page mid.worker.view.own.cached (let z = h.nothing in omega arith);
         unpopped = let g = old.worker.view.generation in
             h.untouched.pops (swept_set g k 1) (swept_low g k 1 (omega arith) low) (ap (λ (z : View). Rattle.sweep_laws.specs.Needs.is_swept_set z.generation (swept_set g k 1)) v ∙ swept_is g k 1 (omega arith));
       },

@@ -22,7 +22,8 @@ use Rattle.central_lists.specs.Lists as lists
 use Rattle.sweeper.specs.Work as work
 use Rattle.proc_cache.specs.Leaves.{Holds, Leaves, Sums}
 use Rattle.proc_cache.proofs.Leaving.{notes_of-append, total-append}
-use Rattle.proc_cache.proofs.Logging.{adds_none, many-same, same_added, same_missing, same_notes, same_pages, same_placing}
+use Rattle.sweeper.proofs.Bridging.{notes-same}
+use Rattle.proc_cache.proofs.Logging.{adds_none}
 
 none_in : (xs : List ℕ) → ((q : ℕ) → times q xs ≡ 0) → xs ≡ []
 none_in [] e = refl
@@ -50,19 +51,19 @@ module _ (more : List ℕ) (P : List Entry → Type 0) (old new : Hand) (idle : 
     claimed = s.claimed ∙ idle.claimed;
     cached = s.cached;
     fresh = s.fresh;
-    bodies = λ q h. s.bodies q (inr h);
+    bodies = λ q h. s.bodies q (let t = has_times q old.worker.view.own.cached h in omega arith);
     unpopped = λ j p part full. o.unpopped j p part;
-    swept = sym (same_added 2 w.said) ∙ o.swept_pages ∙ same_pages w.said;
-    notes = w.notes ∙ ap (λ (l : List SweepNote). old.notes.items ++ l) (same_notes old.worker.view.generation w.said);
+    swept = o.swept_pages;
+    notes = w.notes ∙ ap (λ (l : List SweepNote). old.notes.items ++ l) (notes-same old.worker.view.generation w.said);
   }
 
   -- and what its log sums up to
-  pub sums_of : (took missed : ℕ) → many Rattle.span_laws.specs.Logs.is_taking w.said ≡ took → many Rattle.sweeper.specs.Entries.is_missing w.said ≡ missed → Sums 0 took missed 0 w.said
+  pub sums_of : (took missed : ℕ) → many Rattle.span_laws.specs.Logs.is_taking w.said ≡ took → many Rattle.span_laws.specs.Calls.is_missing w.said ≡ missed → Sums 0 took missed 0 w.said
   sums_of took missed t m = let o = w.does.sweeps in record {
     spends = adds_none 3 w.said o.unspent;
     takes = t;
-    misses = sym (many-same _ _ same_missing w.said) ∙ m;
-    places = sym (many-same _ _ same_placing w.said) ∙ o.unplaced;
+    misses = m;
+    places = o.unplaced;
   }
 
 -- and after a call for a cached span

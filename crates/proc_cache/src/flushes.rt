@@ -9,7 +9,7 @@ use fallible_list::NoMemory;
 use span_set::{Hand, Shop};
 use span_state::Body;
 use span_table::Uncached;
-use sweeper::settle;
+use sweeper::settle_span;
 
 // The span classes.
 const CLASSES: u8 = 136;
@@ -80,7 +80,7 @@ fn flush_span(shop: &Shop, hand: &mut Hand, body: Body)
     match shop.shared.uncache(&mut hand.worker, &body) {
         Uncached::Fresh => unreachable!(),
         Uncached::Stale => {
-            settle(shop, hand, body);
+            settle_span(shop, hand, body);
         }
     }
 }

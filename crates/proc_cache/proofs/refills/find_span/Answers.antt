@@ -6,9 +6,6 @@ use Rattle.proc_cache.proofs.Finding.{finds, paid, paid_nothing}
 use Rattle.proc_cache.proofs.Holding.{idle_after}
 use Rattle.proc_cache.proofs.refills.find_span.Goals as goal
 
-pub pay-requires-clause-stub : goal.pay-requires-clause-stub
-pay-requires-clause-stub c = ?
-
 pub returns-in_default : goal.returns-in_default
 returns-in_default c = paid_nothing c.args.shop.now.pages c.args.shop.now.distance (c.from.result * 8192) 0 c.args.hand.now c.pay.new.hand c.requires.idle c.in_default.ensures
 

@@ -1,8 +1,10 @@
-use Rattle.std.proofs.Common.{◌≡◌, ℕ, true, refl, ap, sym, subst, ◌∙◌, get_or, set, arith}
+use Rattle.std.proofs.Common.{◌≡◌, ℕ, true, refl, ap, sym, subst, ◌∙◌, get_or, set, [], ◌∷◌, arith}
 use Rattle.std.specs.Prelude.{None, Some, Option}
 use Rattle.span_state.specs.declared.body.Body.{Body}
 use Rattle.span_laws.specs.Views.{span_of}
 use Rattle.worker_log.specs.Logs.{swept_set}
+use Rattle.worker_log.specs.declared.Entry.TheVariants.{Pushed, Read}
+use Rattle.span_laws.specs.declared.view.Span.{Span}
 use Rattle.proc_cache.specs.Cache.{Cache, spans_of, with_slot}
 use Rattle.proc_cache.specs.Refills.{HasLeft}
 use Rattle.proc_cache.proofs.Filling.{full_leaves, full_serves, full_used}
@@ -23,7 +25,7 @@ returns-clause-leaves c =
     (
       ap (λ (o : Option Body). let z : Cache = record { number = i.number; flushed = i.flushed; slots = spans_of (set i.slots.items k o) } in z) c.take.ensures.after ∙ slot_written i.number i.flushed i.slots.items c.args.proc.now c.proc.view_is k None,
       c.push_full.ensures.notes,
-      (_, full_leaves k b.page (swept_set g k 1) g old new c.requires.idle c.push_full.ensures.view c.push_full.ensures.notes, subst (λ o. HasLeft g k o _) (sym at) refl),
+      (Pushed (swept_set g k 1) b.page ∷ Read 1 g ∷ [], full_leaves k b.page (swept_set g k 1) g old new c.requires.idle c.push_full.ensures.view c.push_full.ensures.notes, subst (λ (o : Option Span). HasLeft g k o (Pushed (swept_set g k 1) b.page ∷ Read 1 g ∷ [])) (sym at) refl),
     )
 
 pub returns-clause-serves : goal.returns-clause-serves

@@ -5,14 +5,8 @@ use Rattle.central_lists.specs.declared.answers.FromSets.{FromSets}
 use Rattle.proc_cache.proofs.Finding.{from_here, from_partial, looked_holds, no_memory, then_made, then_refused}
 use Rattle.proc_cache.proofs.refills.take_span.Goals as goal
 
-pub cache_span-requires-clause-stub : goal.cache_span-requires-clause-stub
-cache_span-requires-clause-stub c = ?
-
 pub new_span-requires-clause-unpopped : goal.new_span-requires-clause-unpopped
 new_span-requires-clause-unpopped c = (looked_holds c.args.class c.args.hand.now c.cache_span.new.hand c.requires.class c.requires.idle c.in-Ok-NeedFresh.swept c.in-Ok-NeedFresh.tried (rw c.in-Ok-NeedFresh.field-0-is at c.in-Ok-NeedFresh.ensures)).popped
-
-pub new_span-requires-clause-stub : goal.new_span-requires-clause-stub
-new_span-requires-clause-stub c = ?
 
 pub returns-in_err-body-in-Ok-NeedFresh : goal.returns-in_err-body-in-Ok-NeedFresh
 returns-in_err-body-in-Ok-NeedFresh c =
