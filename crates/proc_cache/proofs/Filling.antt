@@ -216,15 +216,16 @@ module _ (pages distance k : ℕ) (c c1 : Cache) (old m1 : Hand) (left : LeavesF
 
   -- a span behind it, which is kept
   pub refill_done : (m2 new : Hand) (d : Cache) (b : Body) (from : CacheFrom) → FindsSpan pages distance k m1 m2 (Ok (b, from)) → KeepsSpan k (bytes_of k) b c1 d m2 new → RefillsCache pages distance k c d old new (Ok from)
-  refill_done m2 new d b from f kept = let s = f.1.0 in let t = f.1.3 in let z = kept.1.0 in (
+  refill_done m2 new d b from f kept = let s = f.1.0 in let t = f.1.3 in let z = kept.2.0 in (
     b,
     kept.0 ∙ ap (with_slot k (Some (span_of b))) left.0 ∙ twice k (Some (span_of b)) c,
+    kept.1,
     f.0.room,
     (
       z ++ (s ++ left.2.0),
-      subst (λ (l : List Entry). Leaves l old new) (append_assoc z s left.2.0) (leaves-trans (z ++ s) left.2.0 old m1 new left.2.1 (leaves_after (b.page ∷ []) z s m1 m2 new f.1.1 kept.1.1)),
-      all_sums from s z f.1.2 kept.1.2,
-      (z ++ s, left.2.0, sym (append_assoc z s left.2.0), left.2.2, (z ++ t.0, t.1, ap (λ (l : List Entry). z ++ l) t.2 ∙ sym (append_assoc z t.0 t.1), paid_from t.1 t.3, (z, t.0, refl, comes_from old m1 left.2.1.view k b from t.0 t.4, kept.1.2))),
+      subst (λ (l : List Entry). Leaves l old new) (append_assoc z s left.2.0) (leaves-trans (z ++ s) left.2.0 old m1 new left.2.1 (leaves_after (b.page ∷ []) z s m1 m2 new f.1.1 kept.2.1)),
+      all_sums from s z f.1.2 kept.2.2,
+      (z ++ s, left.2.0, sym (append_assoc z s left.2.0), left.2.2, (z ++ t.0, t.1, ap (λ (l : List Entry). z ++ l) t.2 ∙ sym (append_assoc z t.0 t.1), paid_from t.1 t.3, (z, t.0, refl, comes_from old m1 left.2.1.view k b from t.0 t.4, kept.2.2))),
     ),
   )
 

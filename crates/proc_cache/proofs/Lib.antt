@@ -6,3 +6,4 @@ pub mod Logging
 pub mod Holding
 pub mod Finding
 pub mod Filling
+pub mod Placing

@@ -1,10 +1,11 @@
 -- A cache serves its worker, and goes on to serve it as one of its spans changes.
-use Rattle.std.proofs.Common.{◌≡◌, ◌≢◌, ℕ, ◌+◌, ◌<◌, ◌≤◌, Bool, true, false, true≢false, List, [], ◌∷◌, ◌++◌, length, ◌⊎◌, inr, refl, ap, sym, subst, ◌∙◌, arith, inl, eq-eqb, ne_eqb}
+use Rattle.std.proofs.Common.{◌≡◌, ◌≢◌, ℕ, zero, suc, get_or, ◌+◌, ◌<◌, ◌≤◌, Bool, true, false, true≢false, List, [], ◌∷◌, ◌++◌, length, ◌⊎◌, inr, refl, ap, sym, subst, ◌∙◌, arith, inl, eq-eqb, ne_eqb}
 use Rattle.std.specs.Prelude.{None, Some, Option, ◌==◌, if◌then◌else◌}
 use mathlib.Core.Logic.{dite}
 use native.Mathlib.Decide.{ℕ_discrete}
 use Rattle.sweep_laws.specs.Counts.{times}
 use Rattle.sweep_laws.specs.Lists.{erase, has}
+use Rattle.sweep_laws.specs.Start.{copies}
 use Rattle.sweep_laws.proofs.Naming.{has_times, times_erase, times_erase_else, times_erase_le, times_has}
 use Rattle.sweep_laws.proofs.Totals.{times_end, times_end_else}
 use Rattle.span_state.specs.declared.body.Body.{Body}
@@ -12,7 +13,7 @@ use Rattle.worker_log.specs.declared.Entry.{Entry}
 use Rattle.worker_log.specs.Logs.{is_pop_of, many, swept_set}
 use Rattle.worker_log.proofs.Logs.{many-append}
 use Rattle.span_laws.specs.Asks.{HasBody, MayPlace}
-use Rattle.span_laws.specs.Views.{span_at, span_of, told_of}
+use Rattle.span_laws.specs.Views.{rested, span_at, span_of, told_of}
 use Rattle.span_laws.specs.declared.said.SaidOf.TheVariants.{Places}
 use Rattle.span_laws.specs.declared.view.Part.{Part}
 use Rattle.span_laws.specs.declared.view.Span.{Span}
@@ -20,7 +21,7 @@ use Rattle.span_laws.proofs.Parts.{has_end_else, has_end_here, has_erase_else, h
 use Rattle.span_laws.proofs.WordMoves.{span_else, span_here}
 use Rattle.proc_cache.specs.Cache.{Cache, slot_at, with_slot}
 use Rattle.proc_cache.specs.Hits.{IsPlacedIn}
-use Rattle.proc_cache.specs.Serves.{IsCachedAt, Serves, is_flushed}
+use Rattle.proc_cache.specs.Serves.{IsCachedAt, IsUsedCache, Serves}
 use Rattle.proc_cache.proofs.Slots.{slot_else, slot_here, slot_low}
 
 pub same_some : {A : Type 0} (a b : A) → Some a ≡ Some b → a ≡ b
@@ -180,3 +181,32 @@ module _ (g : ℕ) (h h' : Part) (c : Cache) (v : Serves g h c) (k : ℕ) (s : S
     where
       far : (q : ℕ) → has q h.cached ≡ true → q ≢ s.page
       far q hq e = true≢false (sym hq ∙ ap (λ (x : ℕ). has x h.cached) e ∙ before)
+
+-- ---- for a run
+
+-- a new processor serves a worker without a cached span
+pub serves_start : (g n m : ℕ) (h : Part) → h.cached ≡ [] → Serves g h (record { number = n; flushed = 0; slots = copies m None })
+serves_start g n m h e = serves_nothing g h (record { number = n; flushed = 0; slots = copies m None }) (none_copied m) (λ p. ap (has p) e) (λ p. subst (λ (l : List ℕ). times p l ≤ 1) (sym e) (omega arith)) (omega arith)
+  where
+    none_copied : (m k : ℕ) → get_or (copies m (let o : Option Span = None in o)) k None ≡ None
+    none_copied zero k = refl
+    none_copied (suc m) zero = refl
+    none_copied (suc m) (suc k) = none_copied m k
+
+-- a processor serves its worker over a mark end
+pub serves_rested : (g : ℕ) (h : Part) (c : Cache) → Serves g h c → Serves (g + 2) (rested h) c
+serves_rested g h c v = record {
+  slots = λ k s at. let x = v.slots k s at in record { cached = x.cached; lent = x.lent; class = x.class; unpopped = refl };
+  all = v.all;
+  once = v.once;
+  fresh = λ p hp. sym (ne_eqb c.flushed (g + 2) (λ e. let z = v.early in let w : ⊥ = omega arith in w));
+  early = let z = v.early in omega arith;
+}
+
+-- then it has no span that was cached since, and none that was is unused
+pub used_rested : (h : Part) → IsUsedCache (rested h)
+used_rested h p hp fp = absurd (true≢false (sym fp))
+
+-- the same where nothing is cached
+pub used_start : (h : Part) → h.cached ≡ [] → IsUsedCache h
+used_start h e p hp fp = absurd (true≢false (sym hp ∙ ap (has p) e))

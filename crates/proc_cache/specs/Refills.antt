@@ -86,7 +86,7 @@ WasNoRun old n line = (past : List Line) × (length past ≡ line) × NoRunFree 
 -- a span with a free index is cached in the slot of class k; or there is none, as the line says; or memory ran out. The slot is empty after each
 -- refusal, and the others are as they were
 abbrev pub RefillsCache : (pages distance : ℕ) → ℕ → Cache → Cache → Hand → Hand → Result CacheFrom Refused → Type 0
-RefillsCache pages distance k c d old new (Ok from) = (b : Body) × (d ≡ with_slot k (Some (span_of b)) c) × HasRoom b
+RefillsCache pages distance k c d old new (Ok from) = (b : Body) × (d ≡ with_slot k (Some (span_of b)) c) × (slot_at d k ≡ Some (span_of b)) × HasRoom b
     × ((said : List Entry) × Leaves said old new × Sums (bytes_of k) (taken_for from) 0 0 said × HasFilled old pages distance k (slot_at c k) b from said)
 RefillsCache pages distance k c d old new (Err (NoRun line)) = (d ≡ with_slot k None c) × WasNoRun old (pages_of (k / 2)) line
     × ((said : List Entry) × Leaves said old new × Sums 0 0 1 0 said × (refusals said ≡ record { number = line; pages = pages_of (k / 2); class = k } ∷ [])
@@ -126,7 +126,7 @@ FindsSpan pages distance k old new (Err WantsMemory) = (said : List Entry) × Ho
 
 -- the body is cached in the slot of its class
 abbrev pub KeepsSpan : (k bytes : ℕ) → Body → Cache → Cache → Hand → Hand → Type 0
-KeepsSpan k bytes b c d old new = (d ≡ with_slot k (Some (span_of b)) c) × ((said : List Entry) × Leaves said old new × HasSpent bytes said)
+KeepsSpan k bytes b c d old new = (d ≡ with_slot k (Some (span_of b)) c) × (slot_at d k ≡ Some (span_of b)) × ((said : List Entry) × Leaves said old new × HasSpent bytes said)
 
 -- the worker holds just one page
 pub record IsHolding (h : Part) (page : ℕ) : Type 0 where

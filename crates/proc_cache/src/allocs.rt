@@ -40,6 +40,7 @@ pub fn alloc(proc: &mut Proc, shop: &Shop, hand: &mut Hand, event: Event, bucket
     requires serves { Serves hand.old.worker.view.generation hand.old.worker.view.own proc.old }
     requires used { IsUsedCache hand.old.worker.view.own }
     ensures allocates { (class : Rattle.std.specs.Prelude.ℕ) × IsLeastClass event.size class × AllocatesIn shop.now.pages shop.now.distance (span_class_of class event.scan) proc.old proc.new hand.old hand.new (addr_of result) }
+    ensures number { proc.new.number ≡ proc.old.number }
     ensures sampled { IfOk result (λ placed. placed.sampled ≡ false) }
     ensures serves { Serves hand.new.worker.view.generation hand.new.worker.view.own proc.new }
     ensures used { IsUsedCache hand.new.worker.view.own }
@@ -67,6 +68,7 @@ fn alloc_in(proc: &mut Proc, shop: &Shop, hand: &mut Hand, class: u8) -> Result<
     requires serves { Serves hand.old.worker.view.generation hand.old.worker.view.own proc.old }
     requires used { IsUsedCache hand.old.worker.view.own }
     ensures allocates { AllocatesIn shop.now.pages shop.now.distance class proc.old proc.new hand.old hand.new result }
+    ensures number { proc.new.number ≡ proc.old.number }
     ensures serves { Serves hand.new.worker.view.generation hand.new.worker.view.own proc.new }
     ensures used { IsUsedCache hand.new.worker.view.own }
 {
@@ -93,6 +95,7 @@ fn alloc_missed(proc: &mut Proc, shop: &Shop, hand: &mut Hand, class: u8) -> Res
     requires used { IsUsedCache hand.old.worker.view.own }
     requires missing { IsMissing proc.old class }
     ensures allocates { AllocatesIn shop.now.pages shop.now.distance class proc.old proc.new hand.old hand.new result }
+    ensures number { proc.new.number ≡ proc.old.number }
     ensures serves { Serves hand.new.worker.view.generation hand.new.worker.view.own proc.new }
     ensures used { IsUsedCache hand.new.worker.view.own }
 {

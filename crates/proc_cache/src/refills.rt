@@ -160,7 +160,7 @@ fn keep_span(proc: &mut Proc, shop: &Shop, hand: &mut Hand, class: u8, body: Bod
     requires empty { slot_at proc.old class ≡ None }
     ensures keeps { KeepsSpan class (bytes_of class) body proc.old proc.new hand.old hand.new }
     ensures serves { Serves hand.new.worker.view.generation hand.new.worker.view.own proc.new }
-    ensures notes { hand.new.notes ≡ hand.old.notes }
+    ensures used { IsUsedCache hand.old.worker.view.own → IsUsedBut class hand.new.worker.view.own proc.new }
 {
     let bytes = u64::from(span_pages(class / 2)) * PAGE_SIZE;
     shop.shared.add_spent(&mut hand.worker, bytes);

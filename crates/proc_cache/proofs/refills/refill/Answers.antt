@@ -1,4 +1,3 @@
-use Rattle.std.proofs.Common.{◌≡◌, ℕ, ap, sym, subst, ◌∙◌}
 use Rattle.std.proofs.lemmas.Result.{err_from_is_err_and}
 use Rattle.proc_cache.proofs.Filling.{find_serves, find_used, refill_done, refill_refused, used_but}
 use Rattle.proc_cache.proofs.refills.refill.Goals as goal
@@ -24,4 +23,4 @@ returns-clause-refills c = refill_done c.args.shop.now.pages c.args.shop.now.dis
     c.in_ok-body.body c.in_ok-body.from c.in_ok-body.ensures c.keep_span.ensures.keeps
 
 pub returns-clause-used : goal.returns-clause-used
-returns-clause-used c = let a = c.keep_span.ensures.keeps in ?
+returns-clause-used c = c.keep_span.ensures.used (find_used c.args.shop.now.pages c.args.shop.now.distance c.args.class c.leave_full.new.hand c.find_span.new.hand c.find_span.result c.find_span.ensures c.leave_full.ensures.used)
