@@ -8,10 +8,16 @@ use Rattle.worker_log.specs.declared.Placing.{Placing}
 use Rattle.worker_log.specs.Logs.{Refusal, Taking, placings, refusals, swept_set, takings}
 use Rattle.span_laws.specs.declared.answers.Refused.{Refused}
 use Rattle.span_laws.specs.declared.answers.Refused.TheVariants.{NoRun, NoMemory as WantsMemory}
+use Rattle.span_laws.specs.declared.said.Said.TheVariants.{Fills, Reads}
+use Rattle.span_laws.specs.declared.said.SaidOf.TheVariants.{Places}
+use Rattle.span_laws.specs.declared.view.Span.{Span}
 use Rattle.span_laws.specs.Answers.{cycle_at}
+use Rattle.span_laws.specs.Asks.{HasBody, IsEmptyBody, IsUntouched}
+use Rattle.span_laws.specs.Views.{Seen, after_of, after_said, span_of}
 use Rattle.span_set.specs.declared.hand.Hand.{Hand}
 use Rattle.central_lists.specs.Lists.{Then}
 use Rattle.sweeper.specs.NewSpans.{MissedAtLast, TookAtLast}
+use Rattle.proc_cache.specs.Hits.{IsPlacedIn}
 use Rattle.proc_cache.specs.Leaves.{Holds, Sums}
 use Rattle.proc_cache.specs.Refills.{HasPaidFor, HasSpent, WasNoRun}
 
@@ -39,3 +45,17 @@ AllocatesLarge pages distance n k old new (Err (NoRun line)) = WasNoRun old n li
     × (refusals said ≡ record { number = line; pages = n; class = k } ∷ [])
     × Then (HasPaidFor old.worker.view.generation pages distance (8192 * n) n) (MissedAtLast old n k line) said)
 AllocatesLarge pages distance n k old new (Err WantsMemory) = (said : List Entry) × Holds [] said old new × Sums 0 0 0 0 said
+
+-- the object was placed in a span that the worker holds, which went to the swept full set
+abbrev pub PutsObject : ℕ → Body → Hand → Hand → ℕ → Type 0
+PutsObject k b old new at = (at ≡ 0xc000000000 + 8192 * b.page) × (new.notes ≡ old.notes)
+    × ((after : Span) × IsPlacedIn 0 (span_of b) after
+    × (new.worker ≡ after_said (Fills (swept_set old.worker.view.generation k 1) b.page) (after_said (Reads 1 old.worker.view.generation) (after_of (Places 0) after old.worker))))
+
+-- a body of a new span of one object, which the worker holds: it has the body, and has not popped the span from a swept set
+pub record IsForOne (k : ℕ) (b : Body) (w : Seen) : Type 0 where
+  pub class : b.class ≡ k
+  pub count : b.count ≡ 1
+  pub empty : IsEmptyBody b
+  pub lent : HasBody w.view.own b
+  pub untouched : IsUntouched w.view.generation w.view.own b.page

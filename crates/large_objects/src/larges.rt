@@ -1,6 +1,6 @@
 ghost use Rattle.std.specs.Prelude.{◌≡◌, ◌<◌, ◌≤◌, true};
 ghost use Rattle.span_laws.specs.Asks.{IsIdle};
-ghost use Rattle.large_objects.specs.Larges.{AllocatesLarge, PutsObject};
+ghost use Rattle.large_objects.specs.Larges.{AllocatesLarge, IsForOne, PutsObject};
 ghost use Rattle.proc_cache.specs.Refills.{IsHolding};
 
 use size_classes::PAGE_SIZE;
@@ -33,4 +33,21 @@ pub fn alloc_large(shop: &Shop, hand: &mut Hand, pages: u32, class: u8) -> Resul
     let body = new_span(shop, hand, pages, class)?;
     shop.shared.add_spent(&mut hand.worker, bytes);
     Ok(put_object(shop, hand, class, body))
+}
+
+// Places the object at index 0 of its new span, and lets the span go to the swept full set. Takes no memory.
+fn put_object(shop: &Shop, hand: &mut Hand, class: u8, body: Body) -> u64
+    requires here { hand.old.worker.here ≡ true }
+    requires table { hand.old.worker.table ≡ shop.now.shared.now }
+    requires large { class < 2 }
+    requires holds { IsHolding hand.old.worker.view.own body.page }
+    requires body { IsForOne class body hand.old.worker }
+    ensures { PutsObject class body hand.old hand.new result }
+{
+    let mut body = body;
+    shop.shared.note_alloc(&mut hand.worker, &mut body, 0);
+    let addr = BASE + PAGE_SIZE * u64::from(body.page);
+    let set = SetId { class, full: true };
+    push(shop.shared, &mut hand.worker, set, body);
+    addr
 }

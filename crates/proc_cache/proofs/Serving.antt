@@ -1,5 +1,6 @@
 -- A cache serves its worker, and goes on to serve it as one of its spans changes.
-use Rattle.std.proofs.Common.{◌≡◌, ◌≢◌, ℕ, zero, suc, get_or, ◌+◌, ◌<◌, ◌≤◌, Bool, true, false, true≢false, List, [], ◌∷◌, ◌++◌, length, ◌⊎◌, inr, refl, ap, sym, subst, ◌∙◌, arith, inl, eq-eqb, ne_eqb}
+use Rattle.std.proofs.Common.{◌≡◌, ◌≢◌, ℕ, zero, suc, map, get_or, ◌+◌, ◌<◌, ◌≤◌, Bool, true, false, true≢false, List, [], ◌∷◌, ◌++◌, length, ◌⊎◌, inr, refl, ap, sym, subst, ◌∙◌, arith, inl, eq-eqb, ne_eqb}
+use Rattle.std.specs.List.{range_with_len}
 use Rattle.std.specs.Prelude.{None, Some, Option, ◌==◌, if◌then◌else◌}
 use mathlib.Core.Logic.{dite}
 use native.Mathlib.Decide.{ℕ_discrete}
@@ -186,12 +187,12 @@ module _ (g : ℕ) (h h' : Part) (c : Cache) (v : Serves g h c) (k : ℕ) (s : S
 
 -- a new processor serves a worker without a cached span
 pub serves_start : (g n m : ℕ) (h : Part) → h.cached ≡ [] → Serves g h (record { number = n; flushed = 0; slots = copies m None })
-serves_start g n m h e = serves_nothing g h (record { number = n; flushed = 0; slots = copies m None }) (none_copied m) (λ p. ap (has p) e) (λ p. subst (λ (l : List ℕ). times p l ≤ 1) (sym e) (omega arith)) (omega arith)
+serves_start g n m h e = serves_nothing g h (record { number = n; flushed = 0; slots = copies m None }) (none_copied (range_with_len 0 m)) (λ p. ap (has p) e) (λ p. subst (λ (l : List ℕ). times p l ≤ 1) (sym e) (omega arith)) (omega arith)
   where
-    none_copied : (m k : ℕ) → get_or (copies m (let o : Option Span = None in o)) k None ≡ None
-    none_copied zero k = refl
-    none_copied (suc m) zero = refl
-    none_copied (suc m) (suc k) = none_copied m k
+    none_copied : (xs : List ℕ) (k : ℕ) → get_or (map (λ _. let o : Option Span = None in o) xs) k None ≡ None
+    none_copied [] k = refl
+    none_copied (x ∷ xs) zero = refl
+    none_copied (x ∷ xs) (suc k) = none_copied xs k
 
 -- a processor serves its worker over a mark end
 pub serves_rested : (g : ℕ) (h : Part) (c : Cache) → Serves g h c → Serves (g + 2) (rested h) c

@@ -1,0 +1,1 @@
+use Rattle.large_objects.proofs.larges.alloc_large.Goals as goal
