@@ -50,7 +50,7 @@ may-allocate region goal e waits has w life a now room ones here is swept below 
           ones v w a.page theirs mine);
       left_full = λ b h class other j lt. elim (cases_Bool (e.bits b.page j)) [
         | inl on ↦ on
-        | inr off ↦ absurd (other (number_of b h (one b h class (room w b j h lt off))))
+        | inr off ↦ absurd (other (number_of b h (one b j h class (room w b j h lt off) lt off)))
       ];
     }
 

@@ -20,7 +20,7 @@ use Rattle.run_laws.specs.Underway.{after_sweep, after_allocate, after_took, aft
 use Rattle.run_laws.specs.ShowsCycle.{MayLetGo, IsSweepOf, after_mark_end}
 
 -- The cycle goes on from e to `next` at a move, where its call may make it: a Release comes with the entry of its sweep, an
--- Allocate with that of its object in a span beside which the worker has no other of the class with objects of this cycle,
+-- Allocate with that of its object in a span beside which the worker has no other of the class with room and objects of this cycle,
 -- a Take with its first-fit line and its entry, a Give by the worker that swept the span last with both, and a Fill where
 -- the worker may let the page go. At a mark end the next cycle begins, and at all other moves nothing is written.
 abbrev pub GoesOn : ℕ → ℕ → CoreState → CycleSoFar → Move → CycleSoFar → Type 0

@@ -18,6 +18,6 @@ IsOnes has = (v w p : ℕ) → has v p → has w p → v ≡ w
 abbrev pub KeepsRoom : CycleSoFar → Having → Type 0
 KeepsRoom e has = (w : ℕ) (a : Placing) (j : ℕ) → In a (placings (e.logs w)) → j < count_for a.class → e.bits a.page j ≡ false → has w a.page
 
--- Of a span class, worker w has no span but the one of this page, among those in which it placed objects.
+-- Of a span class, worker w has no span with room but the one of this page, among those in which it placed objects.
 abbrev pub HasOneOf : CycleSoFar → Having → ℕ → ℕ → ℕ → Type 0
-HasOneOf e has w class page = (b : Placing) → In b (placings (e.logs w)) → b.class ≡ class → has w b.page → b.page ≡ page
+HasOneOf e has w class page = (b : Placing) (j : ℕ) → In b (placings (e.logs w)) → b.class ≡ class → has w b.page → j < count_for b.class → e.bits b.page j ≡ false → b.page ≡ page

@@ -21,3 +21,9 @@ pub mod Calls
 pub mod Allowed
 pub mod Start
 pub mod CallLogs
+pub mod CycleKept
+pub mod CycleSteps
+pub mod CycleLives
+pub mod CyclePairs
+pub mod CycleTurns
+pub mod Kept

@@ -31,7 +31,7 @@ use Rattle.sweep_laws.proofs.NeedsMet.{none_refuses, not_true}
 use Rattle.sweep_laws.proofs.Totals.{inside_at, total_none}
 use Rattle.swept_set_laws.proofs.EnteredRest.{empty_enters}
 use Rattle.worker_log.specs.Logs.{many}
-use Rattle.span_laws.specs.Asks.{IsKnown, MayMark}
+use Rattle.span_laws.specs.Asks.{IsAtRest, IsKnown}
 use Rattle.span_laws.specs.Bodies.{Bodies, Fits, IsAway, IsBody, IsHome, IsLent, lends}
 use Rattle.span_laws.specs.Logs.{is_placing_at}
 use Rattle.span_laws.specs.Rule.{Rule, logs_of}
@@ -61,7 +61,7 @@ module _ {A : Type 0} (test : A → Bool) where
       not_below : (n : ℕ) → ltb n n ≡ false
       not_below n = grind arith
 
-map_at : {A B : Type 0} (f : A → B) (l : List A) (n : ℕ) (b : B) → get_elem? (map f l) n ≡ some b → (a : A) × (get_elem? l n ≡ some a) × (f a ≡ b)
+pub map_at : {A B : Type 0} (f : A → B) (l : List A) (n : ℕ) (b : B) → get_elem? (map f l) n ≡ some b → (a : A) × (get_elem? l n ≡ some a) × (f a ≡ b)
 map_at f [] n b e = absurd (some-ne-none b (sym e))
 map_at f (x ∷ l) zero b e = (x, refl, some-injective (f x) b e)
 map_at f (x ∷ l) (suc n) b e = map_at f l n b e
@@ -117,7 +117,7 @@ marked_none : (marks : List (ℕ × ℕ)) (p : ℕ) (ls : List LifeState) → be
 marked_none marks p [] b = (refl, refl)
 marked_none marks p (l ∷ ls) b = dite (ℕ_discrete l.page p) (λ s. let x : true ≡ false = rw (eq-eqb l.page p s) at b in absurd (true≢false x)) (λ s. let a = ne_eqb l.page p s in let j : begins p ls ≡ false = rw a at b in let t = marked_none marks p ls j in (rw a t.0, rw a t.1))
 
-module _ (c : CoreState) (heap : PageHeap) (homes : List (Option Body)) (n : ℕ) (v : View) (k : Rule c heap homes n v) (marks : List (ℕ × ℕ)) (rising : rises marks ≡ true) (may : MayMark n v marks) where
+module _ (c : CoreState) (heap : PageHeap) (homes : List (Option Body)) (n : ℕ) (v : View) (k : Rule c heap homes n v) (marks : List (ℕ × ℕ)) (rising : rises marks ≡ true) (rest : IsAtRest n v) (known : AllByRecursion (IsKnown n v) marks) where
   abbrev ps : List Part
   ps = parts_of n v
 
@@ -125,7 +125,7 @@ module _ (c : CoreState) (heap : PageHeap) (homes : List (Option Body)) (n : ℕ
   hand_part m h a = map_at hand_state ps m h (subst (λ (l : List HandState). get_elem? l m ≡ some h) k.hands a)
 
   idle : (m : ℕ) (h : HandState) → get_elem? c.hands m ≡ some h → (h.sweeping ≡ []) × (h.held ≡ []) × (h.popped ≡ []) × (h.claimed ≡ None)
-  idle m h a = let x = hand_part m h a in let i = may.idle m x.0 x.1 in
+  idle m h a = let x = hand_part m h a in let i = rest.idle m x.0 x.1 in
       (ap (λ (y : HandState). y.sweeping) (sym x.2) ∙ i.sweeping, ap (λ (y : HandState). y.held) (sym x.2) ∙ i.held, ap (λ (y : HandState). y.popped) (sym x.2) ∙ i.popped, ap (λ (y : HandState). y.claimed) (sym x.2) ∙ i.claimed)
 
   no_popper : (p : ℕ) → poppers p c.hands ≡ 0
@@ -137,8 +137,8 @@ module _ (c : CoreState) (heap : PageHeap) (homes : List (Option Body)) (n : ℕ
   -- the unswept sets are empty
   level : (j : ℕ) (s : SetState) → get_elem? c.sets j ≡ some s → is_swept_set c.generation j ≡ false → s.head ≡ s.tail
   level j s a u = let low = inside_at c.sets j s a in let is : set_of c j ≡ s = some-injective (set_of c j) s (sym (at_low c.sets j no_set low) ∙ a) in
-      let e = may.empty j (let x = k.sets in omega arith) (subst (λ (g : ℕ). is_swept_set g j ≡ false) (sym k.generation) u) in
-      let t = (k.tells n v.own (part_at c heap homes n v k)).emptied j u e.0 in subst (λ (y : SetState). y.head ≡ y.tail) is t
+      let e = rest.empty j (let x = k.sets in omega arith) (subst (λ (g : ℕ). is_swept_set g j ≡ false) (sym k.generation) u) in
+      let t = (k.tells n v.own (part_at c heap homes n v k)).emptied j u e in subst (λ (y : SetState). y.head ≡ y.tail) is t
 
   no_waiting : (p : ℕ) → unswept_own c.generation p c.lives c.sets ≡ 0
   no_waiting p = from_none (λ j s. only (is_class p (class_of_set j) c.lives) (only (not (is_swept_set c.generation j)) (names_in p s))) 0 c.sets
@@ -195,7 +195,7 @@ module _ (c : CoreState) (heap : PageHeap) (homes : List (Option Body)) (n : ℕ
       stale : t.word ≡ c.generation + 1 → t.cached ≡ 1 → ⊥
       stale w one = let s = some_part (λ (y : HandState). times p y.cached) c.hands (omega arith) in let x = hand_part s.0 s.1 s.2 in
           let h : has p x.0.cached ≡ true = times_has p x.0.cached (subst (λ (y : HandState). 0 < times p y.cached) (sym x.2) s.3) in
-          let f = may.fresh s.0 x.0 x.1 p h in let e = (k.tells s.0 x.0 x.1).fresh p in
+          let f = rest.fresh s.0 x.0 x.1 p h in let e = (k.tells s.0 x.0 x.1).fresh p in
           let z : (true && eqb (get_or c.words p 0) (c.generation + 3)) ≡ true = subst (λ (b : Bool). (b && eqb (get_or c.words p 0) (c.generation + 3)) ≡ true) h (sym e ∙ f) in
           let y = eqb-true (get_or c.words p 0) (c.generation + 3) z in omega arith
 
@@ -224,7 +224,7 @@ module _ (c : CoreState) (heap : PageHeap) (homes : List (Option Body)) (n : ℕ
     (
       ap (λ (o : Option ℕ). not (is_some o)) k.unlocked,
       (
-        lt-ltb c.generation (2 ^ 63) (let e = may.early in let g = k.generation in omega arith),
+        lt-ltb c.generation (2 ^ 63) (let e = k.early in omega arith),
         (
           ap (λ (o : Option ℕ). not (is_some o)) (none_placed (λ (h : HandState). not (is_idle h)) c.hands (λ m h a. let i = idle m h a in rw (i.0, i.1, i.2) refl)),
           (
@@ -234,7 +234,7 @@ module _ (c : CoreState) (heap : PageHeap) (homes : List (Option Body)) (n : ℕ
                   (λ m w a. let low = inside_at c.words m w a in let is : get_or c.words m 0 ≡ w = some-injective _ w (sym (at_low c.words m 0 low) ∙ a) in ap not (subst (λ (y : ℕ). is_settled c.generation y ≡ true) is (settled m low)))),
               (
                 ap (λ (o : Option SetState). not (is_some o)) (none_unpopped c.generation 0 c.sets (λ m s a u. level m s a (subst (λ (z : ℕ). is_swept_set c.generation z ≡ false) (let z : 0 + m ≡ m = omega arith in z) u))),
-                (ap (λ (o : Option (ℕ × ℕ)). not (is_some (option_map (λ (m : ℕ × ℕ). m.1) o))) (none_wrong marks may.known), tt),
+                (ap (λ (o : Option (ℕ × ℕ)). not (is_some (option_map (λ (m : ℕ × ℕ). m.1) o))) (none_wrong marks known), tt),
               ),
             ),
           ),
@@ -251,7 +251,7 @@ module _ (c : CoreState) (heap : PageHeap) (homes : List (Option Body)) (n : ℕ
   same_map f g h r e [] = refl
   same_map f g h r e (x ∷ xs) = λ i. e x i ∷ same_map f g h r e xs i
 
-  silent : (xs : List Part) (m : ℕ) → get_or (map (λ (h : Part). h.log) (map rested xs)) m [] ≡ []
+  pub silent : (xs : List Part) (m : ℕ) → get_or (map (λ (h : Part). h.log) (map rested xs)) m [] ≡ []
   silent [] m = refl
   silent (x ∷ xs) zero = refl
   silent (x ∷ xs) (suc m) = silent xs m
@@ -259,7 +259,7 @@ module _ (c : CoreState) (heap : PageHeap) (homes : List (Option Body)) (n : ℕ
   abbrev ls' : List LifeState
   ls' = map (mark_life marks) c.lives
 
-  parts' : parts_of n (marked marks v) ≡ map rested ps
+  pub parts' : parts_of n (marked n marks v) ≡ map rested ps
   parts' = sym (map-set rested v.parts n v.own)
 
   -- what a mark end leaves of a life
@@ -298,8 +298,8 @@ module _ (c : CoreState) (heap : PageHeap) (homes : List (Option Body)) (n : ℕ
       word_of l e = let s = settled p l in let x : is_settled c.generation (c.generation + 2 + 3) ≡ true = subst (λ (z : ℕ). is_settled c.generation z ≡ true) e s in
           true≢false (sym x ∙ (let f = four c heap homes n v k in rw (ne_eqb (c.generation + 2 + 3) 0 (λ z. omega arith), ne_eqb (c.generation + 2 + 3) c.generation (λ z. omega arith), ne_eqb (c.generation + 2 + 3) (c.generation + 3) (λ z. omega arith)) refl))
 
-  pub next_keeps : (c' : CoreState) → c' ≡ after_next c marks → Owned c' → IsTidy c' → HasSpace c' → Rule c' heap homes n (marked marks v)
-  next_keeps c' e o t r = subst (λ (s : CoreState). Rule s heap homes n (marked marks v)) (sym e) (record {
+  pub next_keeps : v.generation < 8589934592 → (c' : CoreState) → c' ≡ after_next c marks → Owned c' → IsTidy c' → HasSpace c' → Rule c' heap homes n (marked n marks v)
+  next_keeps low c' e o t r = subst (λ (s : CoreState). Rule s heap homes n (marked n marks v)) (sym e) (record {
     owned = subst Owned e o;
     tidy = subst IsTidy e t;
     space = subst HasSpace e r;
@@ -315,9 +315,9 @@ module _ (c : CoreState) (heap : PageHeap) (homes : List (Option Body)) (n : ℕ
     heap_owner = k.heap_owner;
     legal = k.legal;
     cycle = is_by_more ((c.generation - 4) / 2) ((c.generation + 2 - 4) / 2) heap.past (omega arith) k.cycle;
-    early = (let x = may.early in let g = k.generation in let y = (kept c heap homes n v k).generation.even in omega arith);
+    early = (let x = low in let g = k.generation in let y = (kept c heap homes n v k).generation.even in omega arith);
     names = λ s i. 0;
-    entered = empty_enters (c.generation + 2) (length c.words) c.words ls' (empty_unswept c.generation 0 c.sets) (map forget_swept c.hands) (logs_of n (marked marks v)) (λ s i. 0)
+    entered = empty_enters (c.generation + 2) (length c.words) c.words ls' (empty_unswept c.generation 0 c.sets) (map forget_swept c.hands) (logs_of n (marked n marks v)) (λ s i. 0)
         (λ s x a part. emptied_at c.generation 0 c.sets s x a (let z : 0 + s ≡ s = omega arith in ap (is_swept_set c.generation) z ∙ not_true (is_swept_set c.generation s) (sym (turns c.generation s) ∙ part)))
         (λ m h a. let x = map_at forget_swept c.hands m h a in ap (λ (z : HandState). z.claimed) (sym x.2) ∙ (idle m x.0 x.1).3)
         (λ m. ap (λ (l : List Part). get_or (map (λ (h : Part). h.log) l) m []) parts' ∙ silent ps m);
@@ -333,7 +333,7 @@ module _ (c : CoreState) (heap : PageHeap) (homes : List (Option Body)) (n : ℕ
           ⊎_elim (λ (y : get_or c.words p 0 + 2 ≡ c.generation + 2). let u : ⊥ = omega arith in u)
           (λ (y : (get_or c.words p 0 + 1 ≡ c.generation + 2) ⊎ (get_or c.words p 0 ≡ c.generation + 2 + 1)). ⊎_elim (λ (q : get_or c.words p 0 + 1 ≡ c.generation + 2). let u : ⊥ = omega arith in u) (λ (q : get_or c.words p 0 ≡ c.generation + 2 + 1). let u : ⊥ = omega arith in u) y) w) in
           ap (λ (l : LifeState). l.kept) (marked_here marks p c.lives b) ∙ ap (λ (z : ℕ). marks_at z marks) (life_page p c.lives b);
-      allocated = λ p i m. let x = from_marks (IsKnown n v) p i marks may.known m in let y = is_known x.0 x.1 in
+      allocated = λ p i m. let x = from_marks (IsKnown n v) p i marks known m in let y = is_known x.0 x.1 in
           (subst (λ (z : ℕ). z < length c.words) x.2 y.0, life_after (λ (l : LifeState). 0 < times i l.allocated) p (λ l h. h) (subst (λ (z : ℕ × ℕ). 0 < times z.1 (life_in z.0 c.lives).allocated) (λ j. (x.2 j, x.3 j)) y.1));
     };
     tells = subst (λ (l : List Part). EachAt l (λ i h. Tells (c.generation + 2) c.words ls' (empty_unswept c.generation 0 c.sets) h)) (sym parts')

@@ -1,6 +1,6 @@
 -- Steps without a change of words, lives and sets keep the rule: entries of the log, dropped entries, lines of the journal, more room, and the way of the state from worker to worker.
 use Rattle.std.proofs.Common.{◌≡◌, ℕ, zero, suc, ◌+◌, ◌-◌, ◌/◌, ◌<◌, ◌≤◌, ◌⊎◌, inl, inr, ⊎_elim, Bool, ◌&&◌, ◌||◌, eqb, eq-eqb, ne_eqb, true, false, true≢false, List, [], ◌∷◌, set, map, get_or, length, refl, ap, sym, subst, ◌∙◌, arith}
-use Rattle.std.specs.Prelude.{Option}
+use Rattle.std.specs.Prelude.{None, Option}
 use mathlib.Core.Logic.{dite}
 use native.Mathlib.Decide.{ℕ_discrete}
 use Rattle.std.proofs.lemmas.Bool.{eqb-true}
@@ -36,7 +36,7 @@ use Rattle.span_laws.specs.Rule.{Rule, logs_of}
 use Rattle.span_laws.specs.Suits.{IsQuiet}
 use Rattle.span_laws.specs.Tells.{Tells}
 use Rattle.span_laws.specs.Truth.{IsSo}
-use Rattle.span_laws.specs.Views.{acts, hand_state, handed, has_cell, no_part, parts_of, span_of, told}
+use Rattle.span_laws.specs.Views.{acts, hand_state, handed, has_cell, no_part, parts_left, parts_of, span_of, told}
 use Rattle.span_laws.proofs.BodiesKept.{bodies_stay}
 use Rattle.span_laws.proofs.RuleKept.{moved, own_hand, part_at}
 use Rattle.span_laws.proofs.TellsKept.{own_tells, same_leads, tells_stay}
@@ -191,12 +191,12 @@ module _ (c : CoreState) (heap : PageHeap) (homes : List (Option Body)) (n : ℕ
 
   -- the state goes to another worker
   pub hand_keeps : (m : ℕ) → m < length v.parts → Rule c heap homes m (handed n m v)
-  hand_keeps m low = record {
+  hand_keeps m low = let k = left_keeps in record {
     owned = k.owned;
     tidy = k.tidy;
     space = k.space;
     unlocked = k.unlocked;
-    number = subst (λ (x : ℕ). m < x) (sym (length-set v.parts n v.own)) low;
+    number = subst (λ (x : ℕ). m < x) (sym (length-set v.parts n left)) low;
     hands = k.hands ∙ ap (λ (l : List Part). map hand_state l) (sym same);
     region = k.region;
     small = k.small;
@@ -215,5 +215,11 @@ module _ (c : CoreState) (heap : PageHeap) (homes : List (Option Body)) (n : ℕ
     tells = subst (λ (l : List Part). EachAt l (λ i h. Tells c.generation c.words c.lives c.sets h)) (sym same) k.tells;
   }
     where
-      same : parts_of m (handed n m v) ≡ parts_of n v
-      same = set-get_or (parts_of n v) m no_part
+      left : Part
+      left = record v.own { journal = None }
+
+      left_keeps : Rule c heap homes n (acts v left)
+      left_keeps = log_changes left refl refl refl (λ j q. refl) (λ q i. refl) (λ s u m. inl m) (λ s i q m. inl m) (λ s x y m. inl m) (λ s. refl) refl refl refl refl heap refl refl k.legal k.cycle (λ q. refl) refl
+
+      same : parts_of m (handed n m v) ≡ parts_left n v
+      same = set-get_or (parts_left n v) m no_part

@@ -27,21 +27,21 @@ use Rattle.sweep_laws.specs.Named.{begins}
 use Rattle.span_laws.specs.Views.{first_view, hand_state, no_part}
 
 module _ {A : Type 0} (a : A) where
-  get_here : (xs : List ℕ) (i : ℕ) → get_or (map (λ _. a) xs) i a ≡ a
+  pub get_here : (xs : List ℕ) (i : ℕ) → get_or (map (λ _. a) xs) i a ≡ a
   get_here [] i = refl
   get_here (x ∷ xs) zero = refl
   get_here (x ∷ xs) (suc i) = get_here xs i
 
-  at_here : (xs : List ℕ) (i : ℕ) (b : A) → get_elem? (map (λ _. a) xs) i ≡ some b → a ≡ b
+  pub at_here : (xs : List ℕ) (i : ℕ) (b : A) → get_elem? (map (λ _. a) xs) i ≡ some b → a ≡ b
   at_here [] i b e = absurd (some-ne-none b (sym e))
   at_here (x ∷ xs) zero b e = some-injective a b e
   at_here (x ∷ xs) (suc i) b e = at_here xs i b e
 
-  map_here : {B : Type 0} (f : A → B) (xs : List ℕ) → map f (map (λ _. a) xs) ≡ map (λ _. f a) xs
+  pub map_here : {B : Type 0} (f : A → B) (xs : List ℕ) → map f (map (λ _. a) xs) ≡ map (λ _. f a) xs
   map_here f [] = refl
   map_here f (x ∷ xs) = ap (λ ys. f a ∷ ys) (map_here f xs)
 
-  set_here : (n i : ℕ) → set (copies n a) i a ≡ copies n a
+  pub set_here : (n i : ℕ) → set (copies n a) i a ≡ copies n a
   set_here n i = ap (λ (z : A). set (copies n a) i z) (sym (get_here (range_with_len 0 n) i)) ∙ set-get_or (copies n a) i a
 
 -- the rule of a core whose parts are those of a new one

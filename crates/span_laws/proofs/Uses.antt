@@ -49,7 +49,7 @@ some_same : {A : Type 0} (a b : A) → Some a ≡ Some b → a ≡ b
 some_same a b e = cc
 
 -- a log that places in a page places at an index of it
-some_index : (p : ℕ) (log : List Entry) → 0 < many (is_placing_in p) log → (i : ℕ) × (0 < many (is_placing_at p i) log)
+pub some_index : (p : ℕ) (log : List Entry) → 0 < many (is_placing_in p) log → (i : ℕ) × (0 < many (is_placing_at p i) log)
 some_index p [] l = absurd (omega arith)
 some_index p (Allocated a ∷ log) l = dite (ℕ_discrete a.page p)
     (λ e. (a.index, let z = ap one_if (let y : (eqb a.page p && eqb a.index a.index) ≡ true = rw (eq-eqb a.page p e, eq-eqb a.index a.index refl) refl in y) in omega arith))

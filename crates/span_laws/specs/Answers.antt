@@ -22,7 +22,8 @@ use Rattle.span_laws.specs.Asks.{IsUsed, HasRoom, IsFullBody, IsEmptyBody, HasMa
 use Rattle.span_laws.specs.Logs.{is_look}
 use Rattle.worker_log.specs.declared.Entry.{Entry}
 use Rattle.worker_log.specs.Logs.{is_full_set, is_pop, many}
-use Rattle.span_laws.specs.Views.{Seen, after_of, after_said, span_of}
+use Rattle.span_laws.specs.declared.view.Part.{Part}
+use Rattle.span_laws.specs.Views.{Seen, after_of, after_said, knows, span_of}
 
 -- the cycle of a generation
 abbrev pub cycle_at : ℕ → ℕ
@@ -96,13 +97,23 @@ abbrev pub RaisesUnswept : ℕ → ℕ → ℕ → ℕ → Seen → Seen → Res
 RaisesUnswept set head tail page old new (Ok done) = (page < old.view.region) × (new ≡ after_said (PopsEntry set page) old)
 RaisesUnswept set head tail page old new (Err found) = ((found.0 ≢ head) ⊎ (found.1 ≢ tail)) × (new ≡ after_said (Looks set found.0 found.1) old) × IsAhead set found.0 found.1 old.view.own.log
 
--- a scavenging step behind a journal: it released a run by a line that may follow, or backed pages were at most the goal or no free page was
+-- a scavenging step of cycle c behind a journal: it released a run by a line that may follow, or backed pages were at most the goal or no free page was
 -- backed; with the backed pages after it
-abbrev pub Released : ℕ → ℕ → List Line → ℕ → Option Run → Type 0
-Released region goal past n None = (n ≡ backed region past) × ((n ≤ goal) ⊎ ((p : ℕ) → p < region → ¬ IsLoose past p))
-Released region goal past n (Some run) = (c : ℕ) × MayFollow region goal past (Scav c run.page run.pages) × (n ≡ backed region (Scav c run.page run.pages ∷ past))
+abbrev pub Released : ℕ → ℕ → ℕ → List Line → ℕ → Option Run → Type 0
+Released c region goal past n None = (n ≡ backed region past) × ((n ≤ goal) ⊎ ((p : ℕ) → p < region → ¬ IsLoose past p))
+Released c region goal past n (Some run) = MayFollow region goal past (Scav c run.page run.pages) × (n ≡ backed region (Scav c run.page run.pages ∷ past))
 
--- so it did behind some legal journal, and no worker has anything else by it; or memory ran out
+-- the journal behind a scavenging step in cycle c
+abbrev pub past_scavenged : ℕ → List Line → Option Run → List Line
+past_scavenged c past None = past
+past_scavenged c past (Some run) = Scav c run.page run.pages ∷ past
+
+-- a journal is the one that the worker was told of, if nothing was written since
+abbrev pub IsToldOf : Part → List Line → Type 0
+IsToldOf h past = (known : List Line) → h.journal ≡ Some known → past ≡ known
+
+-- so it did behind a journal, which the worker is told of with the new line, and which is legal with it; or memory ran out
 abbrev pub StepsOnce : Seen → Seen → Result Step NoMemory → Type 0
-StepsOnce old new (Ok step) = (new ≡ old) × ((past : List Line) × Legal old.view.region old.view.goal past × Released old.view.region old.view.goal past step.backed step.run)
+StepsOnce old new (Ok step) = (past : List Line) × Legal old.view.region old.view.goal (past_scavenged (cycle_at old.view.generation) past step.run) × IsToldOf old.view.own past
+    × Released (cycle_at old.view.generation) old.view.region old.view.goal past step.backed step.run × (new ≡ knows (past_scavenged (cycle_at old.view.generation) past step.run) old)
 StepsOnce old new (Err none) = new ≡ old

@@ -3,6 +3,7 @@ use Rattle.std.specs.Prelude.{◌≡◌, ◌⊎◌, ℕ, ◌+◌, ◌<◌, true,
 use Rattle.std.specs.List.{AllByRecursion}
 use lib.ListN.{get_elem?}
 use mathlib.Core.Option.{some}
+use Rattle.page_bitmap.specs.declared.line.Line.{Line}
 use Rattle.sweep_laws.specs.Lists.{has}
 use Rattle.sweep_laws.specs.Counts.{times}
 use Rattle.sweep_laws.specs.Needs.{class_of_set, is_swept_set}
@@ -82,11 +83,12 @@ pub record IsApart (h : Part) (page : ℕ) : Type 0 where
   pub held : has page h.held ≡ false
   pub cached : has page h.cached ≡ false
 
--- objects may be placed in the body: the worker cached it in this cycle, and has no other span of its class cached; or it holds it,
--- claims nothing, and the body is of one object
+-- objects may be placed in the body: the worker cached it in this cycle, has no other span of its class cached, and holds no other
+-- one in which it placed objects; or it holds it, claims nothing, and the body is of one object
 abbrev pub MayPlace : Part → Body → Type 0
 MayPlace h b = ((has b.page h.cached ≡ true) × (has b.page h.fresh ≡ true)
-    × ((q : ℕ) (s : Span) → has q h.cached ≡ true → span_at q h.spans ≡ Some s → s.class ≡ b.class → q ≡ b.page))
+    × ((q : ℕ) (s : Span) → has q h.cached ≡ true → span_at q h.spans ≡ Some s → s.class ≡ b.class → q ≡ b.page)
+    × ((q : ℕ) → has q h.held ≡ true → 0 < many (is_placing_in q) h.log → q ≡ b.page))
     ⊎ ((has b.page h.held ≡ true) × (h.claimed ≡ None) × (b.count ≡ 1))
 
 -- the worker sweeps and holds nothing, has popped nothing and claims nothing
@@ -100,15 +102,31 @@ pub record IsIdle (h : Part) : Type 0 where
 abbrev pub IsFresh : Part → Type 0
 IsFresh h = (p : ℕ) → has p h.cached ≡ true → has p h.fresh ≡ true
 
+-- the worker was told the whole journal, and nothing was written since
+abbrev pub KnowsJournal : Part → Type 0
+KnowsJournal h = (past : List Line) × (h.journal ≡ Some past)
+
 -- a pair is a mark that the views carry, or an object that a log placed
 abbrev pub IsKnown : ℕ → View → ℕ × ℕ → Type 0
 IsKnown n v m = (has_pair v.marks m.0 m.1 ≡ true) ⊎ ((i : ℕ) × (h : Part) × (get_elem? (parts_of n v) i ≡ some h) × (0 < many (is_placing_at m.0 m.1) h.log))
 
--- what a mark end asks of the driver
-pub record MayMark (n : ℕ) (v : View) (marks : List (ℕ × ℕ)) : Type 0 where
+-- the driver knows that nothing is left to sweep: each worker is idle, each cached span was cached since the last mark end, and each
+-- unswept set was seen empty
+pub record IsAtRest (n : ℕ) (v : View) : Type 0 where
   pub driver : n ≡ 69
   pub idle : EachAt (parts_of n v) (λ i h. IsIdle h)
   pub fresh : EachAt (parts_of n v) (λ i h. IsFresh h)
+  pub empty : (k : ℕ) → k < 544 → is_swept_set v.generation k ≡ false → 0 < many (is_seen_empty k) v.own.log
+
+-- what a mark end asks of the driver
+pub record MayMark (n : ℕ) (v : View) (marks : List (ℕ × ℕ)) : Type 0 where
+  pub rest : IsAtRest n v
+  pub reset : (k : ℕ) → k < 544 → is_swept_set v.generation k ≡ false → has k v.own.reset ≡ true
   pub early : v.generation < 8589934592
-  pub empty : (k : ℕ) → k < 544 → is_swept_set v.generation k ≡ false → (0 < many (is_seen_empty k) v.own.log) × (has k v.own.reset ≡ true)
   pub known : AllByRecursion (IsKnown n v) marks
+  pub told : KnowsJournal v.own
+
+-- what the end of a cycle asks of the driver: in each span that a worker has cached it placed an object since the last mark end
+pub record MaySettle (n : ℕ) (v : View) : Type 0 where
+  pub rest : IsAtRest n v
+  pub used : EachAt (parts_of n v) (λ i h. (p : ℕ) → has p h.cached ≡ true → 0 < many (is_placing_in p) h.log)

@@ -9,3 +9,5 @@ pub mod Truth
 pub mod Asks
 pub mod Answers
 pub mod Calls
+pub mod Cycle
+pub mod Settles

@@ -1,5 +1,5 @@
 -- What a step must suit besides the needs of its move, so that the rule is kept.
-use Rattle.std.specs.Prelude.{◌≡◌, ◌⊎◌, ℕ, ◌+◌, ◌<◌, false, length, Some, None}
+use Rattle.std.specs.Prelude.{◌≡◌, ◌⊎◌, ℕ, ◌+◌, ◌<◌, true, false, length, Some, None}
 use Rattle.page_alloc.specs.Heap.{PageHeap}
 use Rattle.sweep_laws.specs.Lists.{has}
 use Rattle.sweep_laws.specs.Needs.{cell_of, set_of}
@@ -16,6 +16,7 @@ use Rattle.span_laws.specs.declared.view.View.{View}
 use Rattle.span_laws.specs.Views.{span_at}
 use Rattle.span_laws.specs.Bodies.{lends}
 use Rattle.sweep_laws.specs.Counts.{times}
+use Rattle.worker_log.specs.Logs.{is_placing_in, many}
 
 -- two spans are one but for what is allocated and the free index
 pub record IsPlaceOf (s b : Span) : Type 0 where
@@ -45,6 +46,13 @@ SuitsOf c heap v Releases b = WasLent v.own b × ((k : ℕ) → bit_of b.bits k 
 SuitsOf c heap v (Places index) b = (s : Span) × (span_at b.page v.own.spans ≡ Some s) × IsPlaceOf s b × ((k : ℕ) → bit_of b.bits k ≡ with_bit index (bit_of s.bits) k) × (0 < lends b.page v.own)
     × ((0 < times b.page v.own.cached) ⊎ ((0 < times b.page v.own.held) × (v.own.claimed ≡ None)))
 SuitsOf c heap v _ b = ⊥
+
+-- an object is placed in a span of one object, or in one beside which the worker has cached no other of the class, and holds no other
+-- in which it placed objects
+abbrev pub PlacesAlone : Part → SaidOf → Span → Type 0
+PlacesAlone h (Places index) b = (((q : ℕ) (s : Span) → has q h.cached ≡ true → span_at q h.spans ≡ Some s → s.class ≡ b.class → q ≡ b.page)
+    × ((q : ℕ) → has q h.held ≡ true → 0 < many (is_placing_in q) h.log → q ≡ b.page)) ⊎ (b.count ≡ 1)
+PlacesAlone h _ b = Unit {0}
 
 -- an entry comes without a move; one of a page that was popped does not
 abbrev pub IsQuiet : Part → Said → Type 0

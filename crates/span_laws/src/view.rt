@@ -1,3 +1,4 @@
+use page_bitmap::Line;
 use std::collections::LinkedList;
 use sweep_laws::Claimed;
 use worker_log::Entry;
@@ -54,6 +55,8 @@ pub struct Part {
     pub read: LinkedList<Cell>,
     /// The unswept sets that it has reset for the next mark end.
     pub reset: LinkedList<u64>,
+    /// The whole journal, the newest line first, where the worker was told of it and nothing was written since.
+    pub journal: Option<LinkedList<Line>>,
 }
 
 /// What a seat knows: its own part, the parts that wait, by number, and what all seats agree on.
@@ -66,6 +69,10 @@ pub struct View {
     pub generation: u64,
     /// The pairs of first page and index that the last mark end marked.
     pub marks: LinkedList<(u64, u64)>,
+    /// The journal as it was at the last mark end, the newest line first.
+    pub before: LinkedList<Line>,
+    /// The pairs of first page and index that were allocated at the last mark end.
+    pub carried: LinkedList<(u64, u64)>,
     pub own: Part,
     pub parts: LinkedList<Part>,
 }

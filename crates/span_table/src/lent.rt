@@ -3,9 +3,9 @@ ghost use Rattle.sweep_laws.specs.Needs.{refusal};
 ghost use Rattle.sweep_laws.specs.Step.{needs_of, after, reply_of};
 ghost use Rattle.sweep_laws.specs.Tidy.{IsProvided};
 ghost use Rattle.span_laws.specs.Moves.{move_of, move_on};
-ghost use Rattle.span_laws.specs.Rule.{Rule};
+ghost use Rattle.span_laws.specs.Cycle.{Kept};
 ghost use Rattle.span_laws.specs.Truth.{IsSo, IsSoOf};
-ghost use Rattle.span_laws.specs.Suits.{Suits, SuitsOf, IsQuiet};
+ghost use Rattle.span_laws.specs.Suits.{Suits, SuitsOf, PlacesAlone, IsQuiet};
 ghost use Rattle.span_laws.specs.Views.{acts, as_number, span_of, told, told_of};
 
 use crate::make::make;
@@ -44,13 +44,13 @@ pub struct Counts {
 impl Model for Lent {
     ghost use Rattle.std.specs.Prelude.{true};
     ghost use Rattle.span_laws.specs.Views.{Seen};
-    ghost use Rattle.span_laws.specs.Rule.{Rule};
+    ghost use Rattle.span_laws.specs.Cycle.{Kept};
 
     ghost Value = { Seen };
 
     ghost view = { λ l. record { here = true; table = l.seat.table_id; number = l.number; view = l.seat.me.0 } };
 
-    ghost invariant = { λ l. Rule l.core l.pages l.homes.items l.number l.seat.me.0 };
+    ghost invariant = { λ l. Kept l.core l.pages l.homes.items l.number l.seat.me.0 };
 }
 
 // Makes a step that changes no body: the core's move of it, which is allowed and provided for, and the change of the view.
@@ -65,7 +65,7 @@ pub(crate) fn apply(
     mv: Move,
 ) -> Reply
     requires table { seat.old.table_id ≡ shared.now }
-    requires rule { Rule core.old pages.now homes.now number seat.old.me.0 }
+    requires rule { Kept core.old pages.now homes.now number seat.old.me.0 }
     requires mv { mv ≡ move_of number said.now }
     requires so { IsSo core.old pages.now said.now }
     requires suits { Suits core.old seat.old.me.0.own said.now }
@@ -73,7 +73,7 @@ pub(crate) fn apply(
     requires provided { IsProvided core.old mv }
     ensures table { seat.new.table_id ≡ seat.old.table_id }
     ensures view { seat.new.me.0 ≡ acts seat.old.me.0 (told said.now seat.old.me.0.own) }
-    ensures rule { Rule core.new pages.now homes.now number seat.new.me.0 }
+    ensures rule { Kept core.new pages.now homes.now number seat.new.me.0 }
     ensures state { core.new ≡ after core.old (move_of number said.now) }
     ensures reply { result ≡ reply_of core.old (move_of number said.now) }
 {
@@ -96,14 +96,15 @@ pub(crate) fn apply_of(
     mv: Move,
 ) -> Reply
     requires table { seat.old.table_id ≡ shared.now }
-    requires rule { Rule core.old pages.now homes.now number seat.old.me.0 }
+    requires rule { Kept core.old pages.now homes.now number seat.old.me.0 }
     requires mv { mv ≡ move_on number said.now (span_of body.now) }
     requires suits { SuitsOf core.old pages.now seat.old.me.0 said.now (span_of body.now) }
+    requires alone { PlacesAlone seat.old.me.0.own said.now (span_of body.now) }
     requires allowed { refusal (needs_of core.old mv) ≡ None }
     requires provided { IsProvided core.old mv }
     ensures table { seat.new.table_id ≡ seat.old.table_id }
     ensures view { seat.new.me.0 ≡ acts seat.old.me.0 (told_of said.now (span_of body.now) seat.old.me.0.own) }
-    ensures rule { Rule core.new pages.now homes.now number seat.new.me.0 }
+    ensures rule { Kept core.new pages.now homes.now number seat.new.me.0 }
 {
     let _pages = pages;
     let _homes = homes;
@@ -122,12 +123,12 @@ pub(crate) fn note(
     said: &Said,
 )
     requires table { seat.old.table_id ≡ shared.now }
-    requires rule { Rule core.now pages.now homes.now number seat.old.me.0 }
+    requires rule { Kept core.now pages.now homes.now number seat.old.me.0 }
     requires so { IsSo core.now pages.now said.now }
     requires quiet { IsQuiet seat.old.me.0.own said.now }
     ensures table { seat.new.table_id ≡ seat.old.table_id }
     ensures view { seat.new.me.0 ≡ acts seat.old.me.0 (told said.now seat.old.me.0.own) }
-    ensures rule { Rule core.now pages.now homes.now number seat.new.me.0 }
+    ensures rule { Kept core.now pages.now homes.now number seat.new.me.0 }
 {
     let _core = core;
     let _pages = pages;
@@ -144,7 +145,7 @@ impl Lent {
         homes: Vec<Option<Body>>,
         seat: Seat<(), View>,
     ) -> Lent
-        requires { Rule core pages homes.items number seat.me.0 }
+        requires { Kept core pages homes.items number seat.me.0 }
         ensures { result ≡ record { here = true; table = seat.table_id; number = number; view = seat.me.0 } }
     {
         let counts = Counts {

@@ -1,17 +1,27 @@
-ghost use Rattle.std.specs.Prelude.{◌≡◌, true};
+ghost use Rattle.std.specs.Prelude.{◌≡◌, true, Some};
 ghost use Rattle.sweep_laws.specs.Lists.{rises};
-ghost use Rattle.span_laws.specs.Asks.{MayMark};
+ghost use Rattle.span_laws.specs.Asks.{KnowsJournal, MayMark, MaySettle};
+ghost use Rattle.span_laws.specs.Settles.{SettlesCycle};
 ghost use Rattle.span_laws.specs.Views.{after_next};
 
 use crate::lent::{Counts, Lent};
 use crate::make::make;
-use crate::seat::mark;
+use crate::seat::{mark, tell_journal};
 use crate::shared::Shared;
 use fallible_list::List;
 use page_alloc::Pages;
 use sweep_generation::Move;
 
 impl Lent {
+    // See `Shared::settle`.
+    pub(crate) fn settle(&mut self, shared: &Shared)
+        requires table { self.old.table ≡ shared.now }
+        requires may { MaySettle self.old.number self.old.view }
+        ensures { SettlesCycle self.old self.new }
+    {
+        tell_journal(shared, &mut self.seat, &self.pages);
+    }
+
     // See `Shared::next_generation`.
     pub(crate) fn next_generation(&mut self, shared: &Shared, marks: List<(u32, u32)>)
         requires table { self.old.table ≡ shared.now }
@@ -19,7 +29,7 @@ impl Lent {
         requires may { MayMark self.old.number self.old.view marks }
         ensures { self.new ≡ after_next marks self.old }
     {
-        mark(shared, &mut self.seat, &marks);
+        mark(shared, &mut self.seat, self.number, &marks);
         make(&mut self.core, Move::Next(marks));
         self.counts = Counts {
             swept: 0,
@@ -30,8 +40,10 @@ impl Lent {
 
     // The pages, without the rest of the state.
     pub(crate) fn into_pages(self) -> Pages
+        requires told { KnowsJournal self.view.own }
         ensures region { result.region ≡ self.view.region }
         ensures goal { result.goal ≡ self.view.goal }
+        ensures journal { self.view.own.journal ≡ Some result.past }
     {
         let Lent { pages, .. } = self;
         pages

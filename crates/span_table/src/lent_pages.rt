@@ -3,16 +3,16 @@ ghost use Rattle.page_alloc.specs.Journal.{HasNoRun, IsBy, IsSpanSize, Legal, op
 ghost use Rattle.page_alloc.specs.Heap.{HasMoreRoom};
 ghost use Rattle.size_classes.specs.Classes.{IsClass, objects_of, slot_of};
 ghost use Rattle.sweep_laws.specs.Lists.{has};
-ghost use Rattle.span_laws.specs.Answers.{IsNew, NoRunFree, StepsOnce, TakesNew, TakesSpan, TriesSpan, cycle_at};
-ghost use Rattle.span_laws.specs.Asks.{HasBody, IsEmptyBody};
+ghost use Rattle.span_laws.specs.Answers.{IsNew, IsToldOf, NoRunFree, StepsOnce, TakesNew, TakesSpan, TriesSpan, cycle_at};
+ghost use Rattle.span_laws.specs.Asks.{HasBody, IsEmptyBody, KnowsJournal};
 ghost use Rattle.span_laws.specs.Logs.{EndsSweptEmpty};
-ghost use Rattle.span_laws.specs.Rule.{Rule};
+ghost use Rattle.worker_log.specs.Logs.{is_swept_last};
 ghost use Rattle.span_laws.specs.Truth.{IsSo, IsSoOf};
 ghost use Rattle.span_laws.specs.Views.{acts, after_said, span_of, told, told_of};
 
 use crate::lent::Lent;
 use crate::make::{give_run, take_run};
-use crate::seat::{tell, tell_of};
+use crate::seat::{tell, tell_journal, tell_of};
 use crate::shared::Shared;
 use atomic_table::Seat;
 use fallible_list::{List, NoMemory};
@@ -158,6 +158,7 @@ impl Lent {
         requires lent { HasBody self.old.view.own body }
         requires empty { IsEmptyBody body }
         requires swept { EndsSweptEmpty body.page self.old.view.own.log }
+        requires last { is_swept_last body.page self.old.view.own.log ≡ true }
         ensures { self.new ≡ after_said (Said.Gives body.page body.pages) self.old }
     {
         let cycle = ((self.core.generation() - 4) / 2) as u32;
@@ -168,7 +169,8 @@ impl Lent {
     }
 
     // See `Shared::scavenge_step`.
-    pub(crate) fn scavenge_step(&mut self) -> Result<Step, NoMemory>
+    pub(crate) fn scavenge_step(&mut self, shared: &Shared) -> Result<Step, NoMemory>
+        requires table { self.old.table ≡ shared.now }
         ensures { StepsOnce self.old self.new result }
     {
         let cycle = ((self.core.generation() - 4) / 2) as u32;
@@ -177,19 +179,22 @@ impl Lent {
         };
         let run = self.pages.scavenge(cycle);
         let backed = self.pages.backed();
+        tell_journal(shared, &mut self.seat, &self.pages);
         Ok(Step { run, backed })
     }
 
     // See `Shared::pages_taken`.
     pub(crate) fn pages_taken(&self) -> u32
-        ensures { (past : List Line) × Legal self.now.view.region self.now.view.goal past × (result ≡ taken self.now.view.region past) }
+        ensures { (past : List Line) × Legal self.now.view.region self.now.view.goal past × IsToldOf self.now.view.own past × (result ≡ taken self.now.view.region past) }
     {
         self.pages.taken()
     }
 
     // See `Shared::journal_copy`.
     pub(crate) fn journal_copy(&self, alloc: Global) -> Result<List<Line>, NoMemory>
-        ensures { IfOk result (λ lines. Legal self.now.view.region self.now.view.goal (past_of lines)) }
+        requires told { KnowsJournal self.now.view.own }
+        ensures legal { IfOk result (λ lines. Legal self.now.view.region self.now.view.goal (past_of lines)) }
+        ensures journal { IfOk result (λ lines. self.now.view.own.journal ≡ Some (past_of lines)) }
     {
         let mut lines = Vec::new(alloc);
         lines.extend_from_slice(self.pages.journal())?;

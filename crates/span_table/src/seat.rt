@@ -1,9 +1,10 @@
 ghost use Rattle.std.specs.Prelude.{◌≡◌};
-ghost use Rattle.span_laws.specs.Views.{acts, handed, marked, span_of, told, told_of};
+ghost use Rattle.span_laws.specs.Views.{acts, handed, knowing, marked, span_of, told, told_of};
 
 use crate::shared::Shared;
 use atomic_table::{Play, Seat};
 use fallible_list::List;
+use page_alloc::Pages;
 use span_laws::{Said, SaidOf, View};
 use span_state::Body;
 use std::marker::{Brand, PhantomData};
@@ -88,15 +89,19 @@ impl<J: Hands> Play<(), View> for Handing<J> {
     ghost then = { λ _ m _ w. w ≡ (handed J.from J.to m.0, m.1) };
 }
 
-/// What a mark end marks, which a call of the program picks.
+/// Whose mark end it is and what it marks, which a call of the program picks.
 pub trait Marking {
     ghost use Rattle.std.specs.Prelude.{ℕ, List};
+
+    ghost number: { ℕ };
 
     ghost marks: { List (ℕ × ℕ) };
 }
 
 impl Marking for Brand {
     ghost use Rattle.std.specs.Prelude.{[]};
+
+    ghost number = { 0 };
 
     ghost marks = { [] };
 }
@@ -109,7 +114,7 @@ impl<J: Marking> Play<(), View> for MarkingBy<J> {
     ghost use Rattle.std.specs.Prelude.{◌≡◌};
     ghost use Rattle.span_laws.specs.Views.{marked};
 
-    ghost then = { λ _ m _ w. w ≡ (marked J.marks m.0, m.1) };
+    ghost then = { λ _ m _ w. w ≡ (marked J.number J.marks m.0, m.1) };
 }
 
 fn tell_as<J: Tells>(shared: &Shared, seat: &mut Seat<(), View>, _said: &Said)
@@ -163,19 +168,71 @@ pub(crate) fn hand(shared: &Shared, seat: &mut Seat<(), View>, from: u32, to: u3
     hand_as::<Brand>(shared, seat, from, to);
 }
 
-fn mark_as<J: Marking>(shared: &Shared, seat: &mut Seat<(), View>, _marks: &List<(u32, u32)>)
+fn mark_as<J: Marking>(
+    shared: &Shared,
+    seat: &mut Seat<(), View>,
+    _number: u32,
+    _marks: &List<(u32, u32)>,
+)
     requires { seat.old.table_id ≡ shared.now }
     ensures table { seat.new.table_id ≡ seat.old.table_id }
-    ensures view { seat.new.me.0 ≡ marked J.marks seat.old.me.0 }
+    ensures view { seat.new.me.0 ≡ marked J.number J.marks seat.old.me.0 }
 {
     shared.table.shared.load::<MarkingBy<J>>(seat, 0);
 }
 
-// The view goes over a mark end.
-pub(crate) fn mark(shared: &Shared, seat: &mut Seat<(), View>, marks: &List<(u32, u32)>)
+// The view of a worker goes over a mark end.
+pub(crate) fn mark(
+    shared: &Shared,
+    seat: &mut Seat<(), View>,
+    number: u32,
+    marks: &List<(u32, u32)>,
+)
     requires { seat.old.table_id ≡ shared.now }
     ensures table { seat.new.table_id ≡ seat.old.table_id }
-    ensures view { seat.new.me.0 ≡ marked marks.now seat.old.me.0 }
+    ensures view { seat.new.me.0 ≡ marked number marks.now seat.old.me.0 }
 {
-    mark_as::<Brand>(shared, seat, marks);
+    mark_as::<Brand>(shared, seat, number, marks);
+}
+
+/// The whole journal, which a call of the program picks.
+pub trait Journals {
+    ghost use Rattle.std.specs.Prelude.{List};
+    ghost use Rattle.page_bitmap.specs.declared.line.Line.{Line};
+
+    ghost past: { List Line };
+}
+
+impl Journals for Brand {
+    ghost use Rattle.std.specs.Prelude.{[]};
+
+    ghost past = { [] };
+}
+
+struct TellingJournal<J> {
+    past: PhantomData<J>,
+}
+
+impl<J: Journals> Play<(), View> for TellingJournal<J> {
+    ghost use Rattle.std.specs.Prelude.{◌≡◌};
+    ghost use Rattle.span_laws.specs.Views.{knowing};
+
+    ghost then = { λ _ m _ w. w ≡ (knowing J.past m.0, m.1) };
+}
+
+fn tell_journal_as<J: Journals>(shared: &Shared, seat: &mut Seat<(), View>, _pages: &Pages)
+    requires { seat.old.table_id ≡ shared.now }
+    ensures table { seat.new.table_id ≡ seat.old.table_id }
+    ensures view { seat.new.me.0 ≡ knowing J.past seat.old.me.0 }
+{
+    shared.table.shared.load::<TellingJournal<J>>(seat, 0);
+}
+
+// The view is told the whole journal.
+pub(crate) fn tell_journal(shared: &Shared, seat: &mut Seat<(), View>, pages: &Pages)
+    requires { seat.old.table_id ≡ shared.now }
+    ensures table { seat.new.table_id ≡ seat.old.table_id }
+    ensures view { seat.new.me.0 ≡ knowing pages.now.past seat.old.me.0 }
+{
+    tell_journal_as::<Brand>(shared, seat, pages);
 }

@@ -1,10 +1,12 @@
-ghost use Rattle.std.specs.Prelude.{◌≡◌, ◌<◌, true, None, List, IfOk};
+ghost use Rattle.std.specs.Prelude.{◌≡◌, ◌<◌, true, None, Some, List, IfOk};
 ghost use Rattle.page_alloc.specs.Journal.{IsSpanSize, Legal, past_of, taken};
 ghost use Rattle.page_bitmap.specs.declared.line.Line.{Line};
 ghost use Rattle.sweep_laws.specs.Lists.{has, rises};
-ghost use Rattle.span_laws.specs.Answers.{StepsOnce, TakesSpan, TriesSpan};
-ghost use Rattle.span_laws.specs.Asks.{HasBody, IsEmptyBody, MayMark};
+ghost use Rattle.span_laws.specs.Answers.{IsToldOf, StepsOnce, TakesSpan, TriesSpan};
+ghost use Rattle.span_laws.specs.Asks.{HasBody, IsEmptyBody, KnowsJournal, MayMark, MaySettle};
 ghost use Rattle.span_laws.specs.Logs.{EndsSweptEmpty};
+ghost use Rattle.span_laws.specs.Settles.{SettlesCycle};
+ghost use Rattle.worker_log.specs.Logs.{is_swept_last};
 ghost use Rattle.span_laws.specs.Views.{after_next, after_said};
 
 use crate::shared::Shared;
@@ -49,8 +51,8 @@ impl Shared {
     }
 
     /// Gives a span back to the heap (`mheap.go`, `freeSpan`): the worker holds it at G, has claimed nothing, and nothing is
-    /// allocated in it; the last sweep of its log is of this span with nothing kept, and it took no run behind that. Takes no
-    /// memory.
+    /// allocated in it; the last sweep of its log is of this span with nothing kept, it took no run behind that, and it has not given
+    /// back the span since. Takes no memory.
     pub fn give_span(&self, w: &mut Worker, body: Body)
         requires here { w.old.here ≡ true }
         requires table { w.old.table ≡ self.now }
@@ -59,6 +61,7 @@ impl Shared {
         requires lent { HasBody w.old.view.own body }
         requires empty { IsEmptyBody body }
         requires swept { EndsSweptEmpty body.page w.old.view.own.log }
+        requires last { is_swept_last body.page w.old.view.own.log ≡ true }
         ensures { w.new ≡ after_said (Said.Gives body.page body.pages) w.old }
     {
         let Some(lent) = &mut w.lent else {
@@ -68,7 +71,7 @@ impl Shared {
     }
 
     /// One scavenging step under the heap lock. Its run is None where backed pages were at most the goal, or no free page was
-    /// backed; `backed` is the number of backed pages after the step.
+    /// backed; `backed` is the number of backed pages after the step. The worker knows the whole journal then.
     pub fn scavenge_step(&self, w: &mut Worker) -> Result<Step, NoMemory>
         requires here { w.old.here ≡ true }
         requires table { w.old.table ≡ self.now }
@@ -77,7 +80,7 @@ impl Shared {
         let Some(lent) = &mut w.lent else {
             unreachable!()
         };
-        lent.scavenge_step()
+        lent.scavenge_step(self)
     }
 
     /// The number of pages that spans have. Takes no memory.
@@ -85,7 +88,7 @@ impl Shared {
         requires here { w.old.here ≡ true }
         requires table { w.old.table ≡ self.now }
         ensures same { w.new ≡ w.old }
-        ensures taken { (past : List Line) × Legal w.old.view.region w.old.view.goal past × (result ≡ taken w.old.view.region past) }
+        ensures taken { (past : List Line) × Legal w.old.view.region w.old.view.goal past × IsToldOf w.old.view.own past × (result ≡ taken w.old.view.region past) }
     {
         let Some(lent) = &mut w.lent else {
             unreachable!()
@@ -93,9 +96,24 @@ impl Shared {
         lent.pages_taken()
     }
 
+    /// Ends the sweeping of a cycle before its mark end: no worker is out, none sweeps or holds a span, each cached span was cached
+    /// in this cycle and has an object of it, and the driver saw each unswept set empty. The driver is told the whole journal, and
+    /// what is so of the cycle. Takes no memory.
+    pub fn settle(&self, driver: &mut Worker)
+        requires here { driver.old.here ≡ true }
+        requires table { driver.old.table ≡ self.now }
+        requires may { MaySettle driver.old.number driver.old.view }
+        ensures { SettlesCycle driver.old driver.new }
+    {
+        let Some(lent) = &mut driver.lent else {
+            unreachable!()
+        };
+        lent.settle(self);
+    }
+
     /// Ends a mark phase (`mgc.go`, `gcMarkTermination`): the generation rises by 2, each span waits for its sweep, the
     /// unswept sets become the swept ones, and all logs and the words 2 to 4 begin anew. `marks` has pairs of a first page
-    /// and an index, in rising order. No worker is out.
+    /// and an index, in rising order. No worker is out, and nothing was written since the driver was told of the journal.
     pub fn next_generation(&mut self, driver: &mut Worker, marks: List<(u32, u32)>)
         requires here { driver.old.here ≡ true }
         requires table { driver.old.table ≡ self.old }
@@ -110,12 +128,14 @@ impl Shared {
         lent.next_generation(self, marks);
     }
 
-    /// A copy of the whole journal, which is legal. No worker is out.
+    /// A copy of the whole journal, which is legal. No worker is out, and nothing was written since the driver was told of it.
     pub fn journal_copy(&self, alloc: Global, driver: &mut Worker) -> Result<List<Line>, NoMemory>
         requires here { driver.old.here ≡ true }
         requires table { driver.old.table ≡ self.now }
+        requires told { KnowsJournal driver.old.view.own }
         ensures same { driver.new ≡ driver.old }
         ensures legal { IfOk result (λ lines. Legal driver.old.view.region driver.old.view.goal (past_of lines)) }
+        ensures journal { IfOk result (λ lines. driver.old.view.own.journal ≡ Some (past_of lines)) }
     {
         let Some(lent) = &mut driver.lent else {
             unreachable!()
@@ -123,12 +143,15 @@ impl Shared {
         lent.journal_copy(alloc)
     }
 
-    /// The pages with their journal, as all workers left them. No worker is out.
+    /// The pages with their journal, as all workers left them. No worker is out, and nothing was written since the driver was
+    /// told of the journal.
     pub fn close(self, driver: Worker) -> Pages
         requires here { driver.here ≡ true }
         requires table { driver.table ≡ self }
+        requires told { KnowsJournal driver.view.own }
         ensures region { result.region ≡ driver.view.region }
         ensures goal { result.goal ≡ driver.view.goal }
+        ensures journal { driver.view.own.journal ≡ Some result.past }
     {
         let Worker { lent } = driver;
         let Some(lent) = lent else { unreachable!() };

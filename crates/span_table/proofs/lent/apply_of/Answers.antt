@@ -7,11 +7,11 @@ use Rattle.sweep_laws.specs.Step.{after, needs_of}
 use Rattle.sweep_laws.specs.Needs.{refusal}
 use Rattle.span_laws.specs.Moves.{move_on}
 use Rattle.span_laws.specs.Views.{span_of}
-use Rattle.span_laws.proofs.SaidKept.{of_keeps}
+use Rattle.span_laws.proofs.Kept.{kept_of}
 use Rattle.span_table.proofs.lent.apply_of.Goals as goal
 
 pub returns-clause-rule : goal.returns-clause-rule
 returns-clause-rule c =
     let e : c.make.new.core ≡ after c.args.core.now (move_on c.args.number c.args.said.now (span_of c.args.body.now)) = c.make.ensures.state ∙ ap (after c.args.core.now) c.requires.mv in
     rw (c.tell_of.ensures.view, e)
-    (of_keeps c.args.core.now c.args.pages.now c.args.homes.now c.args.number c.args.seat.now.me.0 c.requires.rule c.args.said.now (span_of c.args.body.now) c.requires.suits (subst (λ (z : Move). refusal (needs_of c.args.core.now z) ≡ None) c.requires.mv c.requires.allowed) (subst Owned e c.make.ensures.owned) (subst IsTidy e c.make.ensures.tidy) (subst HasSpace e c.make.ensures.space))
+    (kept_of c.args.core.now c.args.pages.now c.args.homes.now c.args.number c.args.seat.now.me.0 c.requires.rule c.args.said.now (span_of c.args.body.now) c.requires.suits c.requires.alone (subst (λ (z : Move). refusal (needs_of c.args.core.now z) ≡ None) c.requires.mv c.requires.allowed) (subst Owned e c.make.ensures.owned) (subst IsTidy e c.make.ensures.tidy) (subst HasSpace e c.make.ensures.space))

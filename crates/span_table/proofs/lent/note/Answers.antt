@@ -1,5 +1,5 @@
-use Rattle.span_laws.proofs.Notes.{note_keeps}
+use Rattle.span_laws.proofs.Kept.{kept_note}
 use Rattle.span_table.proofs.lent.note.Goals as goal
 
 pub returns-clause-rule : goal.returns-clause-rule
-returns-clause-rule c = rw c.tell.ensures.view (note_keeps c.args.core.now c.args.pages.now c.args.homes.now c.args.number c.args.seat.now.me.0 c.requires.rule c.args.said.now c.requires.quiet c.requires.so)
+returns-clause-rule c = rw c.tell.ensures.view (kept_note c.args.core.now c.args.pages.now c.args.homes.now c.args.number c.args.seat.now.me.0 c.requires.rule c.args.said.now c.requires.quiet c.requires.so)

@@ -1,6 +1,6 @@
 use Rattle.span_laws.specs.declared.said.Said.TheVariants.{Adds}
-use Rattle.span_laws.proofs.Notes.{note_keeps}
+use Rattle.span_laws.proofs.Kept.{kept_note}
 use Rattle.span_table.proofs.lent.Lent.add_swept.Goals as goal
 
 pub invariant_of-self : goal.invariant_of-self
-invariant_of-self c = let i = c.self.inside in rw c.count.ensures.view (note_keeps i.core i.pages i.homes.items i.number i.seat.me.0 c.self.invariant (Adds 2 c.count.result c.from.result) tt tt)
+invariant_of-self c = let i = c.self.inside in rw c.count.ensures.view (kept_note i.core i.pages i.homes.items i.number i.seat.me.0 c.self.invariant (Adds 2 c.count.result c.from.result) tt tt)

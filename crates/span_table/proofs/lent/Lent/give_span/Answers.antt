@@ -1,9 +1,9 @@
-use Rattle.std.proofs.Common.{◌≡◌, ℕ, ◌-◌, ◌/◌, ◌≤◌, true≢false, List, ◌∷◌, length, refl, sym, ap, ◌∙◌, subst, arith}
+use Rattle.std.proofs.Common.{◌≡◌, ℕ, ◌-◌, ◌/◌, true≢false, List, ◌∷◌, length, refl, sym, ap, ◌∙◌, subst, arith}
 use Rattle.std.specs.Prelude.{Some, Option}
 use mathlib.Core.Logic.{dite}
 use native.Mathlib.Decide.{dec_le}
-use Rattle.page_alloc.specs.Heap.{PageHeap}
-use Rattle.page_alloc.specs.Journal.{IsBy, Life, life_of, open_lives, owner}
+use Rattle.page_alloc.specs.Heap.{AddsLine, PageHeap}
+use Rattle.page_alloc.specs.Journal.{Life, life_of, open_lives, owner}
 use Rattle.page_alloc.specs.Lists.{In}
 use Rattle.page_alloc.proofs.Lives.{covers, lies, same_page}
 use Rattle.page_bitmap.specs.declared.line.Line.{Line}
@@ -12,12 +12,13 @@ use Rattle.span_state.specs.declared.body.Body.{Body}
 use Rattle.sweep_laws.specs.Lists.{has}
 use Rattle.sweep_laws.specs.Needs.{life_in}
 use Rattle.sweep_laws.specs.State.{CoreState, HandState}
+use Rattle.worker_log.specs.Logs.{is_swept_last}
 use Rattle.span_laws.specs.Asks.{HasBody, IsEmptyBody}
 use Rattle.span_laws.specs.Bodies.{Fits}
 use Rattle.span_laws.specs.Rule.{Rule}
 use Rattle.span_laws.specs.declared.view.View.{View}
 use Rattle.span_laws.specs.Views.{Seen, span_of}
-use Rattle.span_laws.proofs.LifeMoves.{give_keeps}
+use Rattle.span_laws.proofs.Kept.{kept_give}
 use Rattle.span_laws.proofs.Ready.{first_in}
 use Rattle.span_laws.proofs.RuleKept.{own_hand}
 use Rattle.span_laws.proofs.Uses.{held_fits, held_low}
@@ -35,42 +36,42 @@ nothing c past b f empty = dite (dec_le (length (life_in b.page c.lives).allocat
     (λ z. let i = first_in (life_in b.page c.lives).allocated (omega arith) in absurd (true≢false (sym i.1 ∙ sym (f.body.bits i.0) ∙ empty i.0)))
 
 pub give-requires-clause-begins : goal.give-requires-clause-begins
-give-requires-clause-begins c = let i = c.self.inside in let v : View = i.seat.me.0 in let k = c.self.invariant in let r = c.requires in let b = c.args.body in
+give-requires-clause-begins c = let i = c.self.inside in let v : View = i.seat.me.0 in let k = c.self.invariant.rule in let r = c.requires in let b = c.args.body in
     owned_here i.core i.pages i.homes.items i.number v k b (held_fits i.core i.pages i.homes.items i.number v k b (ap (λ (w : Seen). has c.args.body.page w.view.own.held) c.self.view_is ∙ r.held) (ap (λ (w : Seen). w.view.own.claimed) c.self.view_is ∙ r.unclaimed)
     (subst (λ (w : Seen). HasBody w.view.own c.args.body) (sym c.self.view_is) r.lent))
 
 pub give_run-requires-clause-page : goal.give_run-requires-clause-page
-give_run-requires-clause-page c = let i = c.self.inside in let v : View = i.seat.me.0 in let k = c.self.invariant in let r = c.requires in let b = c.args.body in
+give_run-requires-clause-page c = let i = c.self.inside in let v : View = i.seat.me.0 in let k = c.self.invariant.rule in let r = c.requires in let b = c.args.body in
     held_low i.core i.pages i.homes.items i.number v k b (ap (λ (w : Seen). has c.args.body.page w.view.own.held) c.self.view_is ∙ r.held) (ap (λ (w : Seen). w.view.own.claimed) c.self.view_is ∙ r.unclaimed)
     (subst (λ (w : Seen). HasBody w.view.own c.args.body) (sym c.self.view_is) r.lent)
 
 pub give_run-requires-clause-held : goal.give_run-requires-clause-held
 give_run-requires-clause-held c = let i = c.self.inside in
-    ap (λ (s : HandState). has c.args.body.page s.held) (own_hand i.core i.pages i.homes.items i.number i.seat.me.0 c.self.invariant) ∙ ap (λ (w : Seen). has c.args.body.page w.view.own.held) c.self.view_is ∙ c.requires.held
+    ap (λ (s : HandState). has c.args.body.page s.held) (own_hand i.core i.pages i.homes.items i.number i.seat.me.0 c.self.invariant.rule) ∙ ap (λ (w : Seen). has c.args.body.page w.view.own.held) c.self.view_is ∙ c.requires.held
 
 pub give_run-requires-clause-unclaimed : goal.give_run-requires-clause-unclaimed
 give_run-requires-clause-unclaimed c = let i = c.self.inside in
-    ap (λ (s : HandState). s.claimed) (own_hand i.core i.pages i.homes.items i.number i.seat.me.0 c.self.invariant) ∙ ap (λ (w : Seen). w.view.own.claimed) c.self.view_is ∙ c.requires.unclaimed
+    ap (λ (s : HandState). s.claimed) (own_hand i.core i.pages i.homes.items i.number i.seat.me.0 c.self.invariant.rule) ∙ ap (λ (w : Seen). w.view.own.claimed) c.self.view_is ∙ c.requires.unclaimed
 
 pub give_run-requires-clause-empty : goal.give_run-requires-clause-empty
-give_run-requires-clause-empty c = let i = c.self.inside in let v : View = i.seat.me.0 in let k = c.self.invariant in let r = c.requires in let b = c.args.body in
+give_run-requires-clause-empty c = let i = c.self.inside in let v : View = i.seat.me.0 in let k = c.self.invariant.rule in let r = c.requires in let b = c.args.body in
     nothing i.core i.pages.past b (held_fits i.core i.pages i.homes.items i.number v k b (ap (λ (w : Seen). has c.args.body.page w.view.own.held) c.self.view_is ∙ r.held) (ap (λ (w : Seen). w.view.own.claimed) c.self.view_is ∙ r.unclaimed)
     (subst (λ (w : Seen). HasBody w.view.own c.args.body) (sym c.self.view_is) r.lent)) r.empty
 
 pub invariant_of-self : goal.invariant_of-self
-invariant_of-self c = let i = c.self.inside in let v : View = i.seat.me.0 in let k = c.self.invariant in let r = c.requires in let b = c.args.body in let t = c.give.ensures.given in let m = c.give_run.ensures in
+invariant_of-self c = let i = c.self.inside in let v : View = i.seat.me.0 in let k = c.self.invariant.rule in let r = c.requires in let b = c.args.body in let t = c.give.ensures.given in let m = c.give_run.ensures in
     let held = ap (λ (w : Seen). has c.args.body.page w.view.own.held) c.self.view_is ∙ r.held in let free = ap (λ (w : Seen). w.view.own.claimed) c.self.view_is ∙ r.unclaimed in
     let lent = subst (λ (w : Seen). HasBody w.view.own c.args.body) (sym c.self.view_is) r.lent in
     let fits = held_fits i.core i.pages i.homes.items i.number v k b held free lent in
-    let past = t.3.past ∙ ap (λ (x : ℕ). GiveLine ((c.generation.result - 4) / 2) b.page x ∷ i.pages.past) (pages_are i.core i.pages i.homes.items i.number v k b fits t.0 t.1 t.2) in
+    let line = subst (λ (x : ℕ). AddsLine i.pages c.give.new.self (GiveLine ((c.generation.result - 4) / 2) b.page x)) (pages_are i.core i.pages i.homes.items i.number v k b fits t.0 t.1 t.2) t.3 in
+    let last = ap (λ (w : Seen). is_swept_last c.args.body.page w.view.own.log) c.self.view_is ∙ r.last in
     rw c.tell_line.ensures.view
-    (give_keeps i.core i.pages i.homes.items i.number v k b.page b.pages (held_low i.core i.pages i.homes.items i.number v k b held free lent) held free (nothing i.core i.pages.past b fits r.empty) (sym fits.body.pages)
-    ((c.generation.result - 4) / 2) c.give.new.self t.3.region t.3.goal t.3.legal
-    (subst (IsBy ((i.core.generation - 4) / 2)) (sym past) (subst (λ (g : ℕ). (g - 4) / 2 ≤ (i.core.generation - 4) / 2) (sym c.generation.ensures) (omega arith))) past
+    (kept_give i.core i.pages i.homes.items i.number v c.self.invariant b.page b.pages (held_low i.core i.pages i.homes.items i.number v k b held free lent) held free (nothing i.core i.pages.past b fits r.empty) (sym fits.body.pages) last
+    ((c.generation.result - 4) / 2) (ap (λ (g : ℕ). (g - 4) / 2) c.generation.ensures) c.give.new.self line
     c.give_run.new.core m.state m.owned m.tidy m.space)
 
 pub tell_line-requires-clause-so : goal.tell_line-requires-clause-so
-tell_line-requires-clause-so c = let i = c.self.inside in let v : View = i.seat.me.0 in let k = c.self.invariant in let r = c.requires in let t = c.give.ensures.given in
+tell_line-requires-clause-so c = let i = c.self.inside in let v : View = i.seat.me.0 in let k = c.self.invariant.rule in let r = c.requires in let t = c.give.ensures.given in
     let fits = held_fits i.core i.pages i.homes.items i.number v k c.args.body (ap (λ (w : Seen). has c.args.body.page w.view.own.held) c.self.view_is ∙ r.held) (ap (λ (w : Seen). w.view.own.claimed) c.self.view_is ∙ r.unclaimed)
     (subst (λ (w : Seen). HasBody w.view.own c.args.body) (sym c.self.view_is) r.lent) in (
       length i.pages.past,

@@ -11,7 +11,7 @@ use Rattle.span_table.proofs.lent.Lent.note_alloc.Goals as goal
 
 pub apply_of-requires-clause-suits : goal.apply_of-requires-clause-suits
 apply_of-requires-clause-suits c =
-    let i = c.self.inside in let k = c.self.invariant in let b = c.args.body.now in let same = c.take_index.ensures.same in let own : Part = i.seat.me.0.own in
+    let i = c.self.inside in let k = c.self.invariant.rule in let b = c.args.body.now in let same = c.take_index.ensures.same in let own : Part = i.seat.me.0.own in
     let lent : HasBody own b = subst (λ (s : Seen). HasBody s.view.own b) (sym c.self.view_is) c.requires.lent in
     let may : MayPlace own b = subst (λ (s : Seen). MayPlace s.view.own b) (sym c.self.view_is) c.requires.place in (
       span_of b,
@@ -28,4 +28,4 @@ apply_of-requires-clause-allowed c =
     let lent : HasBody i.seat.me.0.own b = subst (λ (s : Seen). HasBody s.view.own b) (sym c.self.view_is) c.requires.lent in
     let may : MayPlace i.seat.me.0.own b = subst (λ (s : Seen). MayPlace s.view.own b) (sym c.self.view_is) c.requires.place in
     subst (λ (q : ℕ). refusal (allocate_needs i.core i.number q c.args.index) ≡ None) (sym c.take_index.ensures.same.page)
-    (place_allowed i.core i.pages i.homes.items i.number i.seat.me.0 c.self.invariant b c.args.index lent may c.requires.free)
+    (place_allowed i.core i.pages i.homes.items i.number i.seat.me.0 c.self.invariant.rule b c.args.index lent may c.requires.free)

@@ -12,13 +12,13 @@ use Rattle.span_laws.proofs.WordMoves.{cached_lent, lent_now, own_tells_of, unse
 use Rattle.span_table.proofs.lent.Lent.uncache.Goals as goal
 
 pub bounds-words-page : goal.bounds-words-page
-bounds-words-page c = let i = c.self.inside in subst (λ (l : List ℕ). c.args.body.now.page < length l) (sym c.words.ensures) (cached_low i.core i.pages i.homes.items i.number i.seat.me.0 c.self.invariant c.args.body.now.page (search rules))
+bounds-words-page c = let i = c.self.inside in subst (λ (l : List ℕ). c.args.body.now.page < length l) (sym c.words.ensures) (cached_low i.core i.pages i.homes.items i.number i.seat.me.0 c.self.invariant.rule c.args.body.now.page (search rules))
 
 pub apply-requires-clause-allowed : goal.apply-requires-clause-allowed
-apply-requires-clause-allowed c = let i = c.self.inside in uncache_allowed i.core i.pages i.homes.items i.number i.seat.me.0 c.self.invariant c.args.body.now.page (search rules) (search rules)
+apply-requires-clause-allowed c = let i = c.self.inside in uncache_allowed i.core i.pages i.homes.items i.number i.seat.me.0 c.self.invariant.rule c.args.body.now.page (search rules) (search rules)
 
 pub apply-requires-2-clause-allowed : goal.apply-requires-2-clause-allowed
-apply-requires-2-clause-allowed c = let i = c.self.inside in stale_allowed i.core i.pages i.homes.items i.number i.seat.me.0 c.self.invariant c.args.body.now.page (search rules) (search rules)
+apply-requires-2-clause-allowed c = let i = c.self.inside in stale_allowed i.core i.pages i.homes.items i.number i.seat.me.0 c.self.invariant.rule c.args.body.now.page (search rules) (search rules)
 
 pub returns-then-words-page : goal.returns-then-words-page
 returns-then-words-page c =
@@ -26,7 +26,7 @@ returns-then-words-page c =
     let cached : has p i.seat.me.0.own.cached ≡ true = search rules in
     let w : get_or i.core.words p 0 ≡ i.core.generation + 3 = search rules in (
       subst (λ (s : Seen). has p s.view.own.fresh ≡ true) c.self.view_is
-          ((own_tells_of i.core i.pages i.homes.items i.number i.seat.me.0 c.self.invariant).fresh p ∙ ap (λ (b : Bool). b && eqb (get_or i.core.words p 0) (i.core.generation + 3)) cached ∙ eq-eqb _ _ w),
+          ((own_tells_of i.core i.pages i.homes.items i.number i.seat.me.0 c.self.invariant.rule).fresh p ∙ ap (λ (b : Bool). b && eqb (get_or i.core.words p 0) (i.core.generation + 3)) cached ∙ eq-eqb _ _ w),
       rw (← c.self.view_is, c.apply.ensures.view, c.apply.ensures.table) refl,
     )
 
@@ -35,7 +35,7 @@ some_same a b e = cc
 
 pub returns : goal.returns
 returns c =
-    let i = c.self.inside in let k = c.self.invariant in let b = c.args.body.now in
+    let i = c.self.inside in let k = c.self.invariant.rule in let b = c.args.body.now in
     let cached : has b.page i.seat.me.0.own.cached ≡ true = search rules in
     let d : get_or i.core.words b.page 0 ≢ i.core.generation + 3 = search rules in
     let lent : HasBody i.seat.me.0.own b = subst (λ (s : Seen). HasBody s.view.own b) (sym c.self.view_is) c.requires.lent in

@@ -1,8 +1,8 @@
 use Rattle.std.proofs.Common.{◌*◌, ap, lit<, arith}
-use Rattle.span_laws.proofs.Start.{start_rule}
+use Rattle.span_laws.proofs.Kept.{start_kept}
 use Rattle.span_table.proofs.shared.Shared.new.Goals as goal
 
 pub of-lent-requires : goal.of-lent-requires
 of-lent-requires c = let e = c.in_ok-core.ensures in
-    start_rule c.in_ok-core.core c.make_room.new.self c.in_ok-pages.pages c.in_ok-homes.homes.items c.in_ok-table.seat.me.0 (512 * c.args.chunks) c.args.goal 70 69 e.state e.owned e.tidy e.tails c.in_ok-make_room.ensures.ok (lit< tt)
+    start_kept c.in_ok-core.core c.make_room.new.self c.in_ok-pages.pages c.in_ok-homes.homes.items c.in_ok-table.seat.me.0 (512 * c.args.chunks) c.args.goal 70 69 e.state e.owned e.tidy e.tails c.in_ok-make_room.ensures.ok (lit< tt)
     c.in_ok-pages.ensures.region c.in_ok-pages.ensures.goal c.in_ok-pages.ensures.empty c.in_ok-homes.ensures (let f = c.requires.few in omega arith) (ap (λ m. m.0) c.in_ok-table.ensures.4)
