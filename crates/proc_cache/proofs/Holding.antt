@@ -22,7 +22,7 @@ use Rattle.central_lists.specs.Lists as lists
 use Rattle.sweeper.specs.Work as work
 use Rattle.proc_cache.specs.Leaves.{Holds, Leaves, Sums}
 use Rattle.proc_cache.proofs.Leaving.{notes_of-append, total-append}
-use Rattle.sweeper.proofs.Bridging.{notes-same}
+use Rattle.sweeper.proofs.Bridging.{keeps_of, notes-same}
 use Rattle.proc_cache.proofs.Logging.{adds_none}
 
 none_in : (xs : List ℕ) → ((q : ℕ) → times q xs ≡ 0) → xs ≡ []
@@ -43,7 +43,7 @@ module _ (more : List ℕ) (P : List Entry → Type 0) (old new : Hand) (idle : 
     here = s.here;
     table = s.table;
     number = s.number;
-    view = λ i. record { region = s.region i; goal = s.goal i; generation = s.generation i; marks = s.marks i; own = new.worker.view.own; parts = s.parts i };
+    view = (keeps_of old.worker new.worker s (w.popped ∙ sym idle.popped)).view;
     reset = s.reset;
     sweeping = s.sweeping ∙ idle.sweeping;
     held = w.does.held ∙ ap (λ (l : List ℕ). l ++ more) idle.held;
