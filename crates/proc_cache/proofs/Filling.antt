@@ -1,18 +1,16 @@
 -- A cache is refilled: the full span leaves, and another comes.
 use Rattle.std.proofs.Common.{◌≡◌, ◌≢◌, ℕ, zero, suc, ◌+◌, ◌/◌, ◌<◌, ◌≤◌, Bool, ◌||◌, true, false, true≢false, not, List, [], ◌∷◌, ◌++◌, length, refl, ap, sym, subst, ◌∙◌, arith, eqb, eq-eqb, ne_eqb, append_assoc}
-use Rattle.std.specs.Prelude.{None, Some, Option, ◌==◌, if◌then◌else◌, Result, Ok, Err}
+use Rattle.std.specs.Prelude.{None, Some, Option, Result, Ok, Err}
 use Rattle.std.proofs.lemmas.List.{append-nil}
 use mathlib.Core.Logic.{dite}
 use native.Mathlib.Decide.{ℕ_discrete}
 use Rattle.size_classes.specs.Classes.{pages_of}
 use Rattle.span_state.specs.declared.body.Body.{Body}
 use Rattle.span_state.specs.declared.sweep.SweepNote.{SweepNote}
-use Rattle.sweep_laws.specs.Counts.{times}
 use Rattle.sweep_laws.specs.Lists.{erase, has}
-use Rattle.sweep_laws.specs.Needs.{is_swept_set}
 use Rattle.worker_log.specs.declared.Entry.{Entry}
 use Rattle.worker_log.specs.declared.Entry.TheVariants.{Added, Pushed, Read}
-use Rattle.worker_log.specs.Logs.{Refusal, is_placing_in, is_pop_of, many, refusals, swept_set}
+use Rattle.worker_log.specs.Logs.{is_placing_in, is_pop_of, many, swept_set}
 use Rattle.worker_log.proofs.Logs.{many-append}
 use Rattle.span_laws.specs.declared.answers.Refused.{Refused}
 use Rattle.span_laws.specs.declared.answers.Refused.TheVariants.{NoRun, NoMemory as WantsMemory}
@@ -26,12 +24,10 @@ use Rattle.span_laws.specs.Views.{Seen, acts, after_said, span_at, span_of, with
 use Rattle.span_laws.proofs.Parts.{has_end_else}
 use Rattle.span_set.specs.declared.hand.Hand.{Hand}
 use Rattle.span_set.proofs.Numbers.{full_is, swept_is}
-use Rattle.central_lists.specs.Lists.{Then}
 use Rattle.proc_cache.specs.declared.refills.CacheFrom.{CacheFrom}
-use Rattle.proc_cache.specs.declared.refills.CacheFrom.TheVariants.{SweptPartial, SweptHere, Fresh}
 use Rattle.proc_cache.specs.Cache.{Cache, slot_at, with_slot}
 use Rattle.proc_cache.specs.Leaves.{Holds, Leaves, Sums}
-use Rattle.proc_cache.specs.Refills.{ComesFrom, FindsSpan, HasFilled, HasLeft, HasPaidFor, HasSpent, IsFor, IsHolding, KeepsSpan, LeavesFull, RefillsCache, bytes_of, taken_for}
+use Rattle.proc_cache.specs.Refills.{FindsSpan, HasLeft, HasPaidFor, HasSpent, IsFor, IsHolding, KeepsSpan, LeavesFull, RefillsCache, bytes_of, taken_for}
 use Rattle.proc_cache.specs.Serves.{IsUsedBut, IsUsedCache, Serves}
 use Rattle.proc_cache.proofs.Finding.{comes_from, looked_from, missed_from, no_run_from, refusal_behind}
 use Rattle.proc_cache.proofs.Flushing.{erase_only}
@@ -73,15 +69,15 @@ module _ (k p set g : ℕ) (old new : Hand) (idle : IsIdle old.worker.view.own)
   full_serves c d s is v at e =
       let gen : new.worker.view.generation ≡ old.worker.view.generation = ap (λ (w : Seen). w.view.generation) view in
       subst (λ (x : ℕ). Serves x new.worker.view.own d) (sym gen) (serves_without old.worker.view.generation old.worker.view.own c v k s at new.worker.view.own d (Pushed set p ∷ Read 1 g ∷ [])
-          full_leaves.log
-          (ap (λ (w : Seen). w.view.own.cached) view ∙ ap (λ (q : ℕ). erase q old.worker.view.own.cached) (sym is))
-          (λ q n. ap (λ (w : Seen). has q w.view.own.fresh) view ∙ without_else q p old.worker.view.own.fresh (λ z. n (z ∙ sym is)))
-          (λ q n. ap (λ (w : Seen). span_at q w.view.own.spans) view)
-          (λ j q. refl)
-          (ap (λ (z : Cache). z.flushed) e)
-          (λ j. ap (λ (z : Cache). slot_at z j) e ∙ dite (ℕ_discrete j k)
-          (λ q. ap (slot_at (with_slot k None c)) q ∙ slot_here c k None (slot_low c k s at) ∙ rw (eq-eqb j k q) refl)
-          (λ f. slot_else c k j None f ∙ rw (ne_eqb j k f) refl)))
+      full_leaves.log
+      (ap (λ (w : Seen). w.view.own.cached) view ∙ ap (λ (q : ℕ). erase q old.worker.view.own.cached) (sym is))
+      (λ q n. ap (λ (w : Seen). has q w.view.own.fresh) view ∙ without_else q p old.worker.view.own.fresh (λ z. n (z ∙ sym is)))
+      (λ q n. ap (λ (w : Seen). span_at q w.view.own.spans) view)
+      (λ j q. refl)
+      (ap (λ (z : Cache). z.flushed) e)
+      (λ j. ap (λ (z : Cache). slot_at z j) e ∙ dite (ℕ_discrete j k)
+      (λ q. ap (slot_at (with_slot k None c)) q ∙ slot_here c k None (slot_low c k s at) ∙ rw (eq-eqb j k q) refl)
+      (λ f. slot_else c k j None f ∙ rw (ne_eqb j k f) refl)))
 
   pub full_used : (c d : Cache) → Serves old.worker.view.generation old.worker.view.own c → Serves new.worker.view.generation new.worker.view.own d → (s : Span) → s.page ≡ p → slot_at c k ≡ Some s → d ≡ with_slot k None c
       → IsUsedCache old.worker.view.own → IsUsedCache new.worker.view.own
@@ -147,9 +143,9 @@ holds_serves pages said a b c x v =
     let g = a.worker.view.generation in
     let gen : b.worker.view.generation ≡ g = ap (λ (z : View). z.generation) x.view in
     subst (λ (n : ℕ). Serves n b.worker.view.own c) (sym gen) (serves_through g a.worker.view.own b.worker.view.own c v x.cached x.fresh x.bodies (λ k s at.
-        let u = (v.slots k s at).unpopped in let z = x.unpopped (swept_set g k 1) s.page (swept_is g k 1 (omega arith)) (full_is g k) in
-        let m = many-append (is_pop_of (swept_set g k 1) s.page) said a.worker.view.own.log in
-        ap (many (is_pop_of (swept_set g k 1) s.page)) x.log ∙ omega arith))
+    let u = (v.slots k s at).unpopped in let z = x.unpopped (swept_set g k 1) s.page (swept_is g k 1 (omega arith)) (full_is g k) in
+    let m = many-append (is_pop_of (swept_set g k 1) s.page) said a.worker.view.own.log in
+    ap (many (is_pop_of (swept_set g k 1) s.page)) x.log ∙ omega arith))
 
 pub holds_used : (pages : List ℕ) (said : List Entry) (a b : Hand) → Holds pages said a b → IsUsedCache a.worker.view.own → IsUsedCache b.worker.view.own
 holds_used pages said a b x u p hp fp =
@@ -199,11 +195,14 @@ module _ (pages distance k : ℕ) (c c1 : Cache) (old m1 : Hand) (left : LeavesF
       (s, left.2.0, refl, left.2.2, (t.0, t.1, t.2, paid_from t.1 t.3, (t.4.0, (t.4.1.0, (y.0, y.1, y.2, looked_from old m1 v k t.4.0 t.4.1.0 y.1 y.3, missed_from old m1 v (pages_of (k / 2)) k line y.0 y.4))))),
     ),
   )
-  refill_refused new WantsMemory f = (left.0, (
-    f.0 ++ left.2.0,
-    leaves-trans f.0 left.2.0 old m1 new left.2.1 (holds_nothing f.0 m1 new f.1),
-    sums-append 0 0 0 0 0 0 0 0 f.0 left.2.0 (left_sums old.worker.view.generation (slot_at c k) left.2.0 left.2.2) f.2,
-  ))
+  refill_refused new WantsMemory f = (
+    left.0,
+    (
+      f.0 ++ left.2.0,
+      leaves-trans f.0 left.2.0 old m1 new left.2.1 (holds_nothing f.0 m1 new f.1),
+      sums-append 0 0 0 0 0 0 0 0 f.0 left.2.0 (left_sums old.worker.view.generation (slot_at c k) left.2.0 left.2.2) f.2,
+    ),
+  )
 
   spent_sums : (bytes : ℕ) (said : List Entry) → HasSpent bytes said → Sums bytes 0 0 0 said
   spent_sums bytes said h = subst (Sums bytes 0 0 0) (sym h.1) (record { spends = omega arith; takes = refl; misses = refl; places = refl })

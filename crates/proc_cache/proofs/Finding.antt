@@ -1,37 +1,34 @@
 -- A span for the cache is found, or refused.
-use Rattle.std.proofs.Common.{◌≡◌, ℕ, ◌+◌, ◌/◌, ◌<◌, ◌≤◌, ◌⊎◌, inl, inr, true, false, List, [], ◌∷◌, ◌++◌, length, refl, ap, sym, subst, ◌∙◌, arith, ⊎_elim}
+use Rattle.std.proofs.Common.{◌≡◌, ℕ, ◌/◌, ◌<◌, inl, inr, List, [], ◌∷◌, ◌++◌, refl, ap, sym, subst, ◌∙◌, arith}
 use Rattle.std.specs.Prelude.{Result, Ok, Err}
 use Rattle.page_alloc.specs.Journal.{HasNoRun, Legal}
-use Rattle.page_bitmap.specs.declared.line.Line.{Line}
 use Rattle.page_bitmap.specs.declared.line.Line.TheVariants.{Take as TakeLine, Miss as MissLine}
 use Rattle.size_classes.specs.Classes.{pages_of}
 use Rattle.span_state.specs.declared.body.Body.{Body}
-use Rattle.sweep_laws.specs.Counts.{one_if, times}
 use Rattle.sweep_laws.specs.Lists.{has}
 use Rattle.worker_log.specs.declared.Entry.{Entry}
 use Rattle.worker_log.specs.declared.Entry.TheVariants.{Took, Missed}
 use Rattle.worker_log.specs.Logs.{Refusal, is_pop_of, many, refusals, swept_set}
 use Rattle.span_laws.specs.declared.answers.Refused.{Refused}
 use Rattle.span_laws.specs.declared.answers.Refused.TheVariants.{NoRun, NoMemory as WantsMemory}
-use Rattle.span_laws.specs.declared.view.Part.{Part}
 use Rattle.span_laws.specs.declared.view.View.{View}
-use Rattle.span_laws.specs.Answers.{NoRunFree, cycle_at}
+use Rattle.span_laws.specs.Answers.{cycle_at}
 use Rattle.span_laws.specs.Asks.{IsIdle}
 use Rattle.span_laws.specs.Logs.{is_taking}
-use Rattle.span_laws.specs.Views.{Seen, acts}
+use Rattle.span_laws.specs.Views.{acts}
 use Rattle.span_laws.proofs.Parts.{has_none}
 use Rattle.span_set.specs.declared.hand.Hand.{Hand}
 use Rattle.span_set.proofs.Numbers.{full_is, swept_is, swept_low}
 use Rattle.fallible_list.specs.declared.list.NoMemory.{NoMemory}
 use Rattle.central_lists.specs.declared.answers.Look.{Look}
 use Rattle.central_lists.specs.declared.answers.FromSets.TheVariants.{SweptPartial as FromPartial, SweptHere as FromHere, NeedFresh}
-use Rattle.central_lists.specs.Lists.{Caches, Does, HandsOut, Saw, SawNone, Then, TriedEnough, Whatever, just, nothing}
+use Rattle.central_lists.specs.Lists.{Caches, HandsOut, SawNone, Then, just, nothing}
 use Rattle.sweeper.specs.declared.answers.Paid.{Paid}
 use Rattle.sweeper.specs.declared.answers.Paid.TheVariants.{Reached, NothingLeft}
-use Rattle.sweeper.specs.NewSpans.{HasNew, MakesSpan, MissedAtLast, TookAtLast}
+use Rattle.sweeper.specs.NewSpans.{MakesSpan, MissedAtLast, TookAtLast}
 use Rattle.sweeper.specs.Pays.{Pays}
 use Rattle.sweeper.specs.Reclaims.{HasReclaimed}
-use Rattle.sweeper.specs.Work.{IsPlain, SawAllEmpty, TakesNone, Works}
+use Rattle.sweeper.specs.Work.{IsPlain, SawAllEmpty, Works}
 use Rattle.proc_cache.specs.declared.refills.CacheFrom.{CacheFrom}
 use Rattle.proc_cache.specs.declared.refills.CacheFrom.TheVariants.{SweptPartial, SweptHere, Fresh}
 use Rattle.proc_cache.specs.Leaves.{Holds, Sums}

@@ -1,5 +1,5 @@
 -- One span is flushed.
-use Rattle.std.proofs.Common.{◌≡◌, ◌≢◌, ℕ, zero, suc, ◌+◌, ◌<◌, ◌≤◌, ◌⊎◌, inl, inr, lt-ltb, length, get_or, ⊎_elim, Bool, true, false, ◌||◌, nat_lt, List, [], ◌∷◌, ◌++◌, refl, ap, sym, subst, ◌∙◌, arith, eq-eqb, ne_eqb}
+use Rattle.std.proofs.Common.{◌≡◌, ℕ, zero, suc, ◌+◌, ◌<◌, ◌≤◌, ◌⊎◌, inl, inr, lt-ltb, length, get_or, ⊎_elim, Bool, true, false, ◌||◌, nat_lt, List, [], ◌∷◌, ◌++◌, refl, ap, sym, subst, ◌∙◌, arith, eq-eqb, ne_eqb}
 use Rattle.std.specs.Prelude.{None, Some, Option, ◌==◌, if◌then◌else◌}
 use Rattle.std.proofs.lemmas.Bool.{cases_Bool}
 use Rattle.std.proofs.lemmas.Bool.Decides.{nat_tests}
@@ -111,10 +111,10 @@ span_flushed marks b old new now told idle e x =
     let view : x.mid ≡ swept_in g x.before s.pages s old.worker = x.view ∙ ap (λ (w : Seen). after_of Releases s (after_said (Adds 2 x.before s.pages) (after_said (Reads 1 g) (after_said (Reads 1 g) w)))) e' in
     let log = x.log ∙ ap (λ (w : Seen). SweptEntry (record { page = s.page; pages = s.pages; kept = x.counts.kept; freed = x.counts.freed }) ∷ Added 2 s.pages ∷ Read 2 x.before ∷ Read 1 g ∷ Read 1 g ∷ w.view.own.log) e' in
     subst (λ (p : ℕ). FlushesSpan p old new) at
-        (⊎_elim
-        (λ (y : (x.counts.kept ≡ 0) × (new.worker ≡ after_said (Gives s.page s.pages) x.mid)). gives_back old new idle s g x.before s.pages x.counts.kept x.counts.freed x.mid same view log x.notes y.1)
-        (λ y. goes_to old new idle s g x.before s.pages x.counts.kept x.counts.freed x.mid same view log x.notes _ _ y.1.3)
-        x.goes)
+    (⊎_elim
+    (λ (y : (x.counts.kept ≡ 0) × (new.worker ≡ after_said (Gives s.page s.pages) x.mid)). gives_back old new idle s g x.before s.pages x.counts.kept x.counts.freed x.mid same view log x.notes y.1)
+    (λ y. goes_to old new idle s g x.before s.pages x.counts.kept x.counts.freed x.mid same view log x.notes _ _ y.1.3)
+    x.goes)
 
 -- a test that no entry of a flush passes counts none of them
 pub none_passes : (test : Entry → Bool) → ((e : Entry) → IsFlushing e → test e ≡ false) → (said : List Entry) → AllByRecursion IsFlushing said → many test said ≡ 0
@@ -168,15 +168,15 @@ pub class_serves : (k : ℕ) (s : Span) (c d : Cache) (old mid new : Hand) → S
 class_serves k s c d old mid new v at w x e =
     let gen : new.worker.view.generation ≡ old.worker.view.generation = ap (λ (z : View). z.generation) x.leaves.view ∙ ap (λ (u : Seen). u.view.generation) w in
     subst (λ (g : ℕ). Serves g new.worker.view.own d) (sym gen) (serves_without old.worker.view.generation old.worker.view.own c v k s at new.worker.view.own d x.said
-        (x.leaves.log ∙ ap (λ (u : Seen). x.said ++ u.view.own.log) w)
-        (x.cached ∙ ap (λ (u : Seen). erase s.page u.view.own.cached) w)
-        (λ q n. ap (has q) (x.fresh ∙ ap (λ (u : Seen). u.view.own.fresh) w))
-        (λ q n. x.bodies q n ∙ ap (λ (u : Seen). span_at q u.view.own.spans) w)
-        (pops_none x.said x.flushing)
-        (ap (λ (z : Cache). z.flushed) e)
-        (λ j. ap (λ (z : Cache). slot_at z j) e ∙ dite (ℕ_discrete j k)
-        (λ q. ap (slot_at (with_slot k None c)) q ∙ slot_here c k None (slot_low c k s at) ∙ rw (eq-eqb j k q) refl)
-        (λ f. slot_else c k j None f ∙ rw (ne_eqb j k f) refl)))
+    (x.leaves.log ∙ ap (λ (u : Seen). x.said ++ u.view.own.log) w)
+    (x.cached ∙ ap (λ (u : Seen). erase s.page u.view.own.cached) w)
+    (λ q n. ap (has q) (x.fresh ∙ ap (λ (u : Seen). u.view.own.fresh) w))
+    (λ q n. x.bodies q n ∙ ap (λ (u : Seen). span_at q u.view.own.spans) w)
+    (pops_none x.said x.flushing)
+    (ap (λ (z : Cache). z.flushed) e)
+    (λ j. ap (λ (z : Cache). slot_at z j) e ∙ dite (ℕ_discrete j k)
+    (λ q. ap (slot_at (with_slot k None c)) q ∙ slot_here c k None (slot_low c k s at) ∙ rw (eq-eqb j k q) refl)
+    (λ f. slot_else c k j None f ∙ rw (ne_eqb j k f) refl)))
 
 or_test : (b d : Bool) (o : Option Span) → (if b then None else (if d then None else o)) ≡ (if d || b then None else o)
 or_test true true o = refl

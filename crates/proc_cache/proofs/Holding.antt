@@ -1,7 +1,6 @@
 -- What the calls beneath leave of a hand that holds nothing.
-use Rattle.std.proofs.Common.{◌≡◌, ℕ, ◌+◌, ◌<◌, ◌⊎◌, inl, inr, Bool, true, false, List, [], ◌∷◌, ◌++◌, refl, ap, sym, subst, ◌∙◌, arith, eq-eqb, ne_eqb, append_assoc}
-use Rattle.std.specs.Prelude.{None, Some, ◌==◌}
-use Rattle.std.proofs.lemmas.List.{append-nil}
+use Rattle.std.proofs.Common.{◌≡◌, ℕ, ◌+◌, List, [], ◌∷◌, ◌++◌, refl, ap, sym, subst, ◌∙◌, arith, append_assoc}
+use Rattle.std.specs.Prelude.{◌==◌}
 use Rattle.sweep_laws.specs.Counts.{one_if, times}
 use Rattle.sweep_laws.specs.Lists.{has}
 use Rattle.sweep_laws.proofs.Naming.{has_times}
@@ -13,10 +12,9 @@ use Rattle.worker_log.specs.declared.Entry.{Entry}
 use Rattle.worker_log.specs.Logs.{is_pop_of, many}
 use Rattle.worker_log.proofs.Logs.{many-append}
 use Rattle.span_laws.specs.declared.view.View.{View}
-use Rattle.span_laws.specs.Answers.{cycle_at}
 use Rattle.span_laws.specs.Asks.{IsIdle}
 use Rattle.span_laws.specs.Calls.{notes_of, number_added, pages_swept}
-use Rattle.span_laws.specs.Views.{Seen, acts}
+use Rattle.span_laws.specs.Views.{acts}
 use Rattle.span_set.specs.declared.hand.Hand.{Hand}
 use Rattle.central_lists.specs.Lists as lists
 use Rattle.sweeper.specs.Work as work

@@ -6,7 +6,7 @@ use Rattle.span_state.specs.declared.sweep.SweepNote.{SweepNote}
 use Rattle.sweep_laws.specs.Counts.{total}
 use Rattle.worker_log.specs.declared.Entry.{Entry}
 use Rattle.span_laws.specs.Asks.{IsIdle}
-use Rattle.span_laws.specs.Calls.{added, note_in, notes_of, number_added, pages_swept, swept_pages}
+use Rattle.span_laws.specs.Calls.{note_in, notes_of, number_added, pages_swept}
 use Rattle.span_laws.specs.Views.{Seen, acts}
 use Rattle.span_set.specs.declared.hand.Hand.{Hand}
 use Rattle.proc_cache.specs.Leaves.{Leaves}

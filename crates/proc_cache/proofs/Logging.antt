@@ -1,20 +1,15 @@
 -- What logs sum up to, and in which words.
-use Rattle.std.proofs.Common.{◌≡◌, ℕ, ◌+◌, Bool, true, false, List, [], ◌∷◌, ◌++◌, map, reverse, refl, ap, sym, ◌∙◌, arith, append_assoc}
-use Rattle.std.proofs.lemmas.List.{append-nil, map-append, reverse-append}
+use Rattle.std.proofs.Common.{◌≡◌, ℕ, ◌+◌, Bool, true, false, List, [], ◌∷◌, ◌++◌, refl, ap, ◌∙◌, arith}
 use Rattle.page_bitmap.specs.Counts.{one_if}
 use Rattle.page_bitmap.specs.declared.line.Line.{Line}
 use Rattle.page_bitmap.specs.declared.line.Line.TheVariants.{Take, Miss, Give, Scav}
-use Rattle.span_state.specs.declared.sweep.SweepNote.{SweepNote}
-use Rattle.sweep_laws.specs.Counts.{total}
 use Rattle.sweep_laws.specs.Named.{only}
 use Rattle.worker_log.specs.declared.Entry.{Entry}
 use Rattle.worker_log.specs.declared.Entry.TheVariants.{Looked, LookedEmptyCell, Popped, Pushed, Swept, Took, Missed, Gave, Allocated, Found, Read, Added}
 use Rattle.worker_log.specs.declared.Placing.{Placing}
-use Rattle.worker_log.specs.declared.Sweeping.{Sweeping}
-use Rattle.worker_log.specs.Logs.{Refusal, many, placings, refusals, refused, sweepings}
+use Rattle.worker_log.specs.Logs.{Refusal, many, placings, refusals, refused}
 use Rattle.worker_log.proofs.Logs.{many-append}
-use Rattle.span_laws.specs.Answers.{cycle_at}
-use Rattle.span_laws.specs.Calls.{added, is_missing, is_placing, note_in, notes_of, number_added, pages_swept, swept_pages}
+use Rattle.span_laws.specs.Calls.{added, is_missing, is_placing, number_added}
 use Rattle.span_laws.specs.Logs.{is_taking}
 use Rattle.sweeper.specs.Entries.{is_added}
 use Rattle.proc_cache.specs.Leaves.{Sums}

@@ -1,40 +1,37 @@
 -- An object is placed: from the cache, or after a refill, or after a flush besides.
-use Rattle.std.proofs.Common.{◌≡◌, ◌≢◌, ℕ, zero, suc, ◌+◌, ◌/◌, ◌<◌, ◌⊎◌, inl, inr, ⊎_elim, Bool, true, false, true≢false, not, List, [], ◌∷◌, ◌++◌, set, get_or, refl, ap, sym, subst, ◌∙◌, arith, eq-eqb, append_assoc}
-use Rattle.std.specs.Prelude.{None, Some, Option, ◌==◌, if◌then◌else◌, nat_lt, Result, Ok, Err}
+use Rattle.std.proofs.Common.{◌≡◌, ◌≢◌, ℕ, zero, suc, ◌+◌, ◌/◌, ◌<◌, inl, inr, ⊎_elim, Bool, true, false, true≢false, not, List, [], ◌∷◌, ◌++◌, set, get_or, refl, ap, sym, subst, ◌∙◌, arith, eq-eqb, append_assoc}
+use Rattle.std.specs.Prelude.{None, Some, Option, if◌then◌else◌, nat_lt, Result, Ok, Err}
 use Rattle.std.specs.List.{AllByRecursion}
 use Rattle.std.proofs.lemmas.List.{append-nil}
 use mathlib.Core.Logic.{dite}
 use native.Mathlib.Decide.{ℕ_discrete}
 use Rattle.fallible_list.specs.declared.list.NoMemory.{NoMemory}
 use Rattle.page_bitmap.specs.Counts.{one_if}
-use Rattle.size_classes.specs.Classes.{pages_of, slot_of}
+use Rattle.size_classes.specs.Classes.{pages_of}
 use Rattle.span_state.specs.Bits.{IsFull, bit_of}
 use Rattle.span_state.specs.declared.body.Body.{Body}
-use Rattle.sweep_laws.specs.Counts.{total}
 use Rattle.sweep_laws.specs.Lists.{has}
 use Rattle.worker_log.specs.declared.Entry.{Entry}
 use Rattle.worker_log.specs.declared.Entry.TheVariants.{Looked, LookedEmptyCell, Popped, Pushed, Swept, Took, Missed, Gave, Allocated, Found, Read, Added}
 use Rattle.worker_log.specs.declared.Placing.{Placing}
-use Rattle.worker_log.specs.Logs.{Refusal, is_placing_in, many, placings, refusals}
+use Rattle.worker_log.specs.Logs.{is_placing_in, many, placings, refusals}
 use Rattle.span_laws.specs.declared.answers.Refused.{Refused}
 use Rattle.span_laws.specs.declared.answers.Refused.TheVariants.{NoRun, NoMemory as WantsMemory}
-use Rattle.span_laws.specs.declared.said.SaidOf.TheVariants.{Places}
-use Rattle.span_laws.specs.declared.view.Part.{Part}
 use Rattle.span_laws.specs.declared.view.Span.{Span}
 use Rattle.span_laws.specs.declared.view.View.{View}
 use Rattle.span_laws.specs.Asks.{HasRoom, IsIdle}
 use Rattle.span_laws.specs.Calls.{added, is_missing, is_placing, number_added}
 use Rattle.span_laws.specs.Logs.{is_taking}
-use Rattle.span_laws.specs.Views.{Seen, acts, after_of, span_of}
+use Rattle.span_laws.specs.Views.{Seen, acts, span_of}
 use Rattle.span_set.specs.declared.hand.Hand.{Hand}
 use Rattle.central_lists.specs.Lists.{Then}
 use Rattle.proc_cache.specs.declared.refills.CacheFrom.{CacheFrom}
-use Rattle.proc_cache.specs.Allocs.{AllocatesIn, IsPartly, IsPlaced, JustPlaces, KeepsOthers, PlacesOne, flushed_slot}
-use Rattle.proc_cache.specs.Cache.{Cache, address_of, slot_at, with_slot}
-use Rattle.proc_cache.specs.Flushes.{Flushes, FlushesCache, IsFlushing}
+use Rattle.proc_cache.specs.Allocs.{AllocatesIn, IsPlaced, JustPlaces, KeepsOthers, PlacesOne, flushed_slot}
+use Rattle.proc_cache.specs.Cache.{Cache, slot_at, with_slot}
+use Rattle.proc_cache.specs.Flushes.{FlushesCache, IsFlushing}
 use Rattle.proc_cache.specs.Hits.{HitsAt, IsMissing}
 use Rattle.proc_cache.specs.Leaves.{Leaves, Sums}
-use Rattle.proc_cache.specs.Refills.{ComesFrom, HasFilled, HasLeft, HasMissed, HasPaidFor, RefillsCache, WasNoRun, bytes_of, taken_for}
+use Rattle.proc_cache.specs.Refills.{HasFilled, HasLeft, HasMissed, HasPaidFor, RefillsCache, bytes_of, taken_for}
 use Rattle.proc_cache.specs.Serves.{IsUsedBut, IsUsedCache, Serves, is_flushed}
 use Rattle.proc_cache.proofs.Finding.{comes_from, looked_from, missed_from, no_run_from}
 use Rattle.proc_cache.proofs.Flushing.{none_passes}
@@ -99,10 +96,10 @@ module _ (k at : ℕ) (c d : Cache) (old : Hand) (w : Seen) (idle : IsIdle old.w
       let fresh : has p old.worker.view.own.fresh ≡ true = ap (λ (s : Seen). has p s.view.own.fresh) (sym e) ∙ fp in
       let a = v.all p was in
       subst (λ (s : Seen). 0 < many (is_placing_in p) s.view.own.log) (sym e) (dite (ℕ_discrete a.0 k)
-          (λ q. let same = same_some a.1 h.before (sym a.2 ∙ ap (slot_at c) q ∙ h.cached) in
-            let page : h.after.page ≡ p = h.placed.page ∙ ap (λ (s : Span). s.page) (sym same) ∙ a.3 in
-            let o = ap one_if (eq-eqb h.after.page p page) in omega arith)
-          (λ n. let z = subst (λ (x : ℕ). 0 < many (is_placing_in x) old.worker.view.own.log) a.3 (u a.0 a.1 n a.2 (subst (λ (x : ℕ). has x old.worker.view.own.fresh ≡ true) (sym a.3) fresh)) in omega arith))
+      (λ q. let same = same_some a.1 h.before (sym a.2 ∙ ap (slot_at c) q ∙ h.cached) in
+      let page : h.after.page ≡ p = h.placed.page ∙ ap (λ (s : Span). s.page) (sym same) ∙ a.3 in
+      let o = ap one_if (eq-eqb h.after.page p page) in omega arith)
+      (λ n. let z = subst (λ (x : ℕ). 0 < many (is_placing_in x) old.worker.view.own.log) a.3 (u a.0 a.1 n a.2 (subst (λ (x : ℕ). has x old.worker.view.own.fresh ≡ true) (sym a.3) fresh)) in omega arith))
 
   pub placing_others : (j : ℕ) → j ≢ k → slot_at d j ≡ slot_at c j
   placing_others j n = ap (λ (z : Cache). slot_at z j) h.cache ∙ slot_else c k j (Some h.after) n
@@ -308,9 +305,15 @@ module _ (pages distance k : ℕ) (c c1 : Cache) (old mid : Hand) where
     placed_now : (said : List Entry) → IsPlaced mid pages distance k c1 said → IsPlaced old pages distance k c (said ++ f.1.said)
     placed_now said (inl p) = inl (sums-append 0 0 0 0 0 0 0 1 said f.1.said (flush_sums f.1.said f.1.flushing) p.0, flush_first JustPlaces said p.1)
     placed_now said (inr p) = let b = p.0 in let from = p.1.0 in let y = sums-append 0 0 0 0 (bytes_of k) (taken_for from) 0 1 said f.1.said (flush_sums f.1.said f.1.flushing) p.1.1 in let t = p.1.2 in
-        inr (b, (from, record { spends = y.spends ∙ omega arith; takes = y.takes ∙ omega arith; misses = y.misses; places = y.places },
-          flush_first (Then (HasFilled old pages distance k (flushed_slot old.worker.view.generation c k) b from) JustPlaces) said
-          (t.0, t.1, t.2, t.3, (t.4.0, t.4.1, t.4.2, filled_from (flushed_slot mid.worker.view.generation c1 k) (flushed_slot old.worker.view.generation c k) (slots_now k) b from t.4.1 t.4.3, t.4.4))))
+        inr (
+          b,
+          (
+            from,
+            record { spends = y.spends ∙ omega arith; takes = y.takes ∙ omega arith; misses = y.misses; places = y.places },
+            flush_first (Then (HasFilled old pages distance k (flushed_slot old.worker.view.generation c k) b from) JustPlaces) said
+                (t.0, t.1, t.2, t.3, (t.4.0, t.4.1, t.4.2, filled_from (flushed_slot mid.worker.view.generation c1 k) (flushed_slot old.worker.view.generation c k) (slots_now k) b from t.4.1 t.4.3, t.4.4)),
+          ),
+        )
 
     one_now : (at : ℕ) (said : List Entry) → PlacesOne k at said → PlacesOne k at (said ++ f.1.said)
     one_now at said p = let u = flush_sums f.1.said f.1.flushing in record {

@@ -1,5 +1,5 @@
 -- A cache serves its worker, and goes on to serve it as one of its spans changes.
-use Rattle.std.proofs.Common.{◌≡◌, ◌≢◌, ℕ, zero, suc, map, get_or, ◌+◌, ◌<◌, ◌≤◌, Bool, true, false, true≢false, List, [], ◌∷◌, ◌++◌, length, ◌⊎◌, inr, refl, ap, sym, subst, ◌∙◌, arith, inl, eq-eqb, ne_eqb}
+use Rattle.std.proofs.Common.{◌≡◌, ◌≢◌, ℕ, zero, suc, map, get_or, ◌+◌, ◌<◌, ◌≤◌, true, false, true≢false, List, [], ◌∷◌, ◌++◌, length, ◌⊎◌, inr, refl, ap, sym, subst, ◌∙◌, arith, inl, eq-eqb, ne_eqb}
 use Rattle.std.specs.List.{range_with_len}
 use Rattle.std.specs.Prelude.{None, Some, Option, ◌==◌, if◌then◌else◌}
 use mathlib.Core.Logic.{dite}
@@ -37,12 +37,20 @@ module _ (g : ℕ) (h : Part) (c : Cache) (v : Serves g h c) where
       sym x.class ∙ ap (λ (u : Span). u.class) same ∙ y.class
 
   -- objects may be placed in a cached span
-  pub may_place : c.flushed ≡ g → (k : ℕ) (b : Body) → slot_at c k ≡ Some (span_of b) → HasBody h b × MayPlace h b
-  may_place f k b at = let x = v.slots k (span_of b) at in (x.lent, inl (x.cached, v.fresh b.page x.cached ∙ eq-eqb c.flushed g f, λ q s hq lent same.
-      let a = v.all q hq in let t = a.1 in let y = v.slots a.0 t a.2 in
-      let is : t ≡ s = same_some t s (sym y.lent ∙ ap (λ (p : ℕ). span_at p h.spans) a.3 ∙ lent) in
-      let e : a.0 ≡ k = sym y.class ∙ ap (λ (u : Span). u.class) is ∙ same ∙ x.class in
-      sym a.3 ∙ ap (λ (u : Span). u.page) (same_some t (span_of b) (sym a.2 ∙ ap (slot_at c) e ∙ at))))
+  pub may_place : h.held ≡ [] → c.flushed ≡ g → (k : ℕ) (b : Body) → slot_at c k ≡ Some (span_of b) → HasBody h b × MayPlace h b
+  may_place none f k b at = let x = v.slots k (span_of b) at in (
+    x.lent,
+    inl (
+      x.cached,
+      v.fresh b.page x.cached ∙ eq-eqb c.flushed g f,
+      λ q s hq lent same.
+          let a = v.all q hq in let t = a.1 in let y = v.slots a.0 t a.2 in
+          let is : t ≡ s = same_some t s (sym y.lent ∙ ap (λ (p : ℕ). span_at p h.spans) a.3 ∙ lent) in
+          let e : a.0 ≡ k = sym y.class ∙ ap (λ (u : Span). u.class) is ∙ same ∙ x.class in
+          sym a.3 ∙ ap (λ (u : Span). u.page) (same_some t (span_of b) (sym a.2 ∙ ap (slot_at c) e ∙ at)),
+      λ q hq placed. absurd (true≢false (sym hq ∙ ap (has q) none)),
+    ),
+  )
 
   module _ (k index : ℕ) (s t : Span) (at : slot_at c k ≡ Some s) (is : IsPlacedIn index s t) where
     placed : Part
@@ -101,15 +109,15 @@ module _ (g : ℕ) (h : Part) (c : Cache) (v : Serves g h c) where
       slots = λ j u e. dite (ℕ_discrete j k)
           (λ q. absurd (let z : None ≡ Some u = sym (slots j ∙ rw (eq-eqb j k q) refl) ∙ e in cc))
           (λ n.
-            let b = sym (left j n) ∙ e in let x = v.slots j u b in
-            let far : u.page ≢ s.page = λ (q : u.page ≡ s.page). n (one_slot j k u s b at q) in
-            record {
-              cached = ap (has u.page) cached ∙ has_erase_else u.page s.page h.cached far ∙ x.cached;
-              lent = bodies u.page far ∙ x.lent;
-              class = x.class;
-              unpopped = let a = many-append (is_pop_of (swept_set g j 1) u.page) said h.log in let y = x.unpopped in let z = unpopped (swept_set g j 1) u.page in
-                  ap (many (is_pop_of (swept_set g j 1) u.page)) log ∙ omega arith;
-            });
+          let b = sym (left j n) ∙ e in let x = v.slots j u b in
+          let far : u.page ≢ s.page = λ (q : u.page ≡ s.page). n (one_slot j k u s b at q) in
+          record {
+            cached = ap (has u.page) cached ∙ has_erase_else u.page s.page h.cached far ∙ x.cached;
+            lent = bodies u.page far ∙ x.lent;
+            class = x.class;
+            unpopped = let a = many-append (is_pop_of (swept_set g j 1) u.page) said h.log in let y = x.unpopped in let z = unpopped (swept_set g j 1) u.page in
+                ap (many (is_pop_of (swept_set g j 1) u.page)) log ∙ omega arith;
+          });
       all = λ p hp. let o = other p hp in let a = v.all p o.1 in
           let n : a.0 ≢ k = λ (q : a.0 ≡ k). o.0 (sym a.3 ∙ ap (λ (u : Span). u.page) (same_some a.1 s (sym a.2 ∙ ap (slot_at c) q ∙ at))) in
           (a.0, a.1, left a.0 n ∙ a.2, a.3);
@@ -169,8 +177,8 @@ module _ (g : ℕ) (h h' : Part) (c : Cache) (v : Serves g h c) (k : ℕ) (s : S
     all = λ p hp. dite (ℕ_discrete p s.page)
         (λ q. (k, s, slot_here c k (Some s) low, sym q))
         (λ d. let a = v.all p (sym (has_end_else p s.page h.cached d) ∙ ap (has p) (sym cached) ∙ hp) in
-          let n : a.0 ≢ k = λ (q : a.0 ≡ k). (let z : None ≡ Some a.1 = sym empty ∙ ap (slot_at c) (sym q) ∙ a.2 in let w : ⊥ = cc in w) in
-          (a.0, a.1, slot_else c k a.0 (Some s) n ∙ a.2, a.3));
+        let n : a.0 ≢ k = λ (q : a.0 ≡ k). (let z : None ≡ Some a.1 = sym empty ∙ ap (slot_at c) (sym q) ∙ a.2 in let w : ⊥ = cc in w) in
+        (a.0, a.1, slot_else c k a.0 (Some s) n ∙ a.2, a.3));
     once = λ p. subst (λ (l : List ℕ). times p l ≤ 1) (sym cached) (dite (ℕ_discrete p s.page)
         (λ q. subst (λ (x : ℕ). times x (h.cached ++ s.page ∷ []) ≤ 1) (sym q) (let t = times_end s.page h.cached in let z = has_not s.page h.cached before in omega arith))
         (λ d. let t = times_end_else p s.page h.cached d in let o = v.once p in omega arith));

@@ -1,5 +1,5 @@
 -- What an allocation from the cache did, by its answer.
-use Rattle.std.specs.Prelude.{◌≡◌, ◌⊎◌, ℕ, ◌+◌, ◌/◌, Option, Some, None}
+use Rattle.std.specs.Prelude.{◌≡◌, ◌⊎◌, ℕ, ◌+◌, ◌/◌, Some, None}
 use Rattle.size_classes.specs.Classes.{slot_of}
 use Rattle.span_state.specs.Bits.{HasFree, IsFull, bit_of, with_bit}
 use Rattle.span_laws.specs.declared.said.SaidOf.TheVariants.{Places}

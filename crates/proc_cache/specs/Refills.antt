@@ -1,11 +1,11 @@
 -- What a refill of a cache did, by its answer and by the log of the call. A log has its newest entry first.
-use Rattle.std.specs.Prelude.{◌≡◌, ◌⊎◌, ℕ, ◌*◌, ◌/◌, ◌≤◌, true, false, List, [], ◌∷◌, length, Option, Some, None, Result, Ok, Err}
+use Rattle.std.specs.Prelude.{◌≡◌, ◌⊎◌, ℕ, ◌*◌, ◌/◌, ◌≤◌, false, List, [], ◌∷◌, length, Option, Some, None, Result, Ok, Err}
 use Rattle.page_bitmap.specs.declared.line.Line.{Line}
 use Rattle.size_classes.specs.Classes.{pages_of}
 use Rattle.span_state.specs.declared.body.Body.{Body}
 use Rattle.worker_log.specs.declared.Entry.{Entry}
 use Rattle.worker_log.specs.declared.Entry.TheVariants.{Pushed, Read, Added}
-use Rattle.worker_log.specs.Logs.{Refusal, is_partial_push, is_pop_of, many, refusals, swept_set}
+use Rattle.worker_log.specs.Logs.{is_partial_push, is_pop_of, many, refusals, swept_set}
 use Rattle.span_laws.specs.declared.answers.Refused.{Refused}
 use Rattle.span_laws.specs.declared.answers.Refused.TheVariants.{NoRun, NoMemory as WantsMemory}
 use Rattle.span_laws.specs.declared.view.Part.{Part}

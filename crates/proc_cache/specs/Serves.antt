@@ -1,5 +1,5 @@
 -- How a processor's cache agrees with the part of the worker that it runs on.
-use Rattle.std.specs.Prelude.{◌≡◌, ◌≢◌, ℕ, ◌<◌, ◌≤◌, ◌==◌, Bool, true, Option, Some}
+use Rattle.std.specs.Prelude.{◌≡◌, ◌≢◌, ℕ, ◌<◌, ◌≤◌, ◌==◌, Bool, true, Some}
 use Rattle.sweep_laws.specs.Counts.{times}
 use Rattle.sweep_laws.specs.Lists.{has}
 use Rattle.worker_log.specs.Logs.{is_placing_in, is_pop_of, many, swept_set}

@@ -29,7 +29,13 @@ pub struct Placed {
 ///
 /// NoRun comes with the Miss line of this call, as `refill` says. After NoMemory a cached span that was not flushed or pushed yet stays
 /// cached.
-pub fn alloc(proc: &mut Proc, shop: &Shop, hand: &mut Hand, event: Event, bucket: u32) -> Result<Placed, Refused>
+pub fn alloc(
+    proc: &mut Proc,
+    shop: &Shop,
+    hand: &mut Hand,
+    event: Event,
+    bucket: u32,
+) -> Result<Placed, Refused>
     requires here { hand.old.worker.here ≡ true }
     requires table { hand.old.worker.table ≡ shop.now.shared.now }
     requires distance { 8192 ≤ shop.now.distance }

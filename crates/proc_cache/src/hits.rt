@@ -1,4 +1,4 @@
-ghost use Rattle.std.specs.Prelude.{◌≡◌, ℕ, ◌+◌, ◌*◌, ◌/◌, ◌<◌, ◌≤◌, true};
+ghost use Rattle.std.specs.Prelude.{◌≡◌, ℕ, ◌+◌, ◌*◌, ◌/◌, ◌<◌, ◌≤◌, [], true};
 ghost use Rattle.proc_cache.specs.Cache.{address_of};
 ghost use Rattle.proc_cache.specs.Hits.{HitsCache};
 ghost use Rattle.proc_cache.specs.Serves.{Serves};
@@ -29,13 +29,14 @@ fn address(page: u32, slot: u32, index: u32) -> u64
 }
 
 /// Places an object of a span class, from 2 to 135, at the lowest free index of the cached span (`malloc.go`, `nextFreeFast`). The
-/// processor has flushed in this cycle. Miss exactly where no span is cached or the cached one has no free index; then nothing
+/// processor has flushed in this cycle, and the worker holds no span. Miss exactly where no span is cached or the cached one has no free index; then nothing
 /// changes. Takes no memory, and waits for nobody.
 pub fn alloc_hit(proc: &mut Proc, shared: &Shared, w: &mut Worker, class: u8) -> Hit
     requires here { w.old.here ≡ true }
     requires table { w.old.table ≡ shared.now }
     requires small { 2 ≤ class }
     requires class { class < 136 }
+    requires held { w.old.view.own.held ≡ [] }
     requires serves { Serves w.old.view.generation w.old.view.own proc.old }
     requires flushed { proc.old.flushed ≡ w.old.view.generation }
     ensures hits { HitsCache class proc.old proc.new w.old w.new result }

@@ -40,7 +40,12 @@ pub enum CacheFrom {
 ///
 /// After each refusal the slot of the class is empty, and the other classes are as they were. NoRun comes with the Miss line of
 /// this call, only after each unswept set was seen empty.
-pub fn refill(proc: &mut Proc, shop: &Shop, hand: &mut Hand, class: u8) -> Result<CacheFrom, Refused>
+pub fn refill(
+    proc: &mut Proc,
+    shop: &Shop,
+    hand: &mut Hand,
+    class: u8,
+) -> Result<CacheFrom, Refused>
     requires here { hand.old.worker.here ≡ true }
     requires table { hand.old.worker.table ≡ shop.now.shared.now }
     requires distance { 8192 ≤ shop.now.distance }
@@ -125,7 +130,12 @@ fn find_span(shop: &Shop, hand: &mut Hand, class: u8) -> Result<(Body, CacheFrom
 }
 
 // Finds a span of a class that has so many pages: from the central lists, or a new one.
-fn take_span(shop: &Shop, hand: &mut Hand, class: u8, pages: u32) -> Result<(Body, CacheFrom), Refused>
+fn take_span(
+    shop: &Shop,
+    hand: &mut Hand,
+    class: u8,
+    pages: u32,
+) -> Result<(Body, CacheFrom), Refused>
     requires here { hand.old.worker.here ≡ true }
     requires table { hand.old.worker.table ≡ shop.now.shared.now }
     requires distance { 8192 ≤ shop.now.distance }

@@ -1,12 +1,9 @@
 use Rattle.std.proofs.Common.{◌≡◌, ℕ, inl, inr, refl, ap, sym, subst, ◌∙◌, get_or, set, arith}
-use Rattle.std.specs.Prelude.{None, Some, Option}
-use Rattle.size_classes.specs.Classes.{slot_of}
-use Rattle.span_state.specs.declared.body.Body.{Body}
-use Rattle.span_laws.specs.declared.view.Span.{Span}
+use Rattle.std.specs.Prelude.{None, Some}
 use Rattle.span_laws.specs.declared.said.SaidOf.TheVariants.{Places}
-use Rattle.span_laws.specs.Views.{Seen, after_of, span_of, told_of}
+use Rattle.span_laws.specs.Views.{Seen, span_of, told_of}
 use Rattle.proc_cache.specs.Cache.{Cache, address_of, spans_of}
-use Rattle.proc_cache.specs.Hits.{HitsAt, IsMissing, IsPlacedIn}
+use Rattle.proc_cache.specs.Hits.{IsPlacedIn}
 use Rattle.proc_cache.specs.Serves.{Serves}
 use Rattle.proc_cache.proofs.Serving.{may_place, serves_placed}
 use Rattle.proc_cache.proofs.Slots.{other_default, slot_is, slot_kept, slot_written}
@@ -29,13 +26,13 @@ pub note_alloc-requires-clause-lent : goal.note_alloc-requires-clause-lent
 note_alloc-requires-clause-lent c =
     let i = c.proc.inside in let k = c.args.class in let b = c.in-Some.body in
     let e : get_or i.slots.items k None ≡ Some b = other_default i.slots.items k None c.index_mut.result.now (let z = c.proc.invariant in let y = c.requires.class in omega arith) ∙ sym c.index_mut.ensures.value ∙ c.in-Some.is in
-    (may_place c.args.w.now.view.generation c.args.w.now.view.own c.args.proc.now c.requires.serves c.requires.flushed k b (slot_is i.number i.flushed i.slots.items c.args.proc.now c.proc.view_is k (Some b) e)).0
+    (may_place c.args.w.now.view.generation c.args.w.now.view.own c.args.proc.now c.requires.serves c.requires.held c.requires.flushed k b (slot_is i.number i.flushed i.slots.items c.args.proc.now c.proc.view_is k (Some b) e)).0
 
 pub note_alloc-requires-clause-place : goal.note_alloc-requires-clause-place
 note_alloc-requires-clause-place c =
     let i = c.proc.inside in let k = c.args.class in let b = c.in-Some.body in
     let e : get_or i.slots.items k None ≡ Some b = other_default i.slots.items k None c.index_mut.result.now (let z = c.proc.invariant in let y = c.requires.class in omega arith) ∙ sym c.index_mut.ensures.value ∙ c.in-Some.is in
-    (may_place c.args.w.now.view.generation c.args.w.now.view.own c.args.proc.now c.requires.serves c.requires.flushed k b (slot_is i.number i.flushed i.slots.items c.args.proc.now c.proc.view_is k (Some b) e)).1
+    (may_place c.args.w.now.view.generation c.args.w.now.view.own c.args.proc.now c.requires.serves c.requires.held c.requires.flushed k b (slot_is i.number i.flushed i.slots.items c.args.proc.now c.proc.view_is k (Some b) e)).1
 
 pub returns-clause-hits : goal.returns-clause-hits
 returns-clause-hits c =
@@ -61,4 +58,4 @@ returns-clause-serves c =
     let kept = serves_placed w.view.generation w.view.own c.args.proc.now c.requires.serves k x (span_of b) (span_of d) (slot_is i.number i.flushed i.slots.items c.args.proc.now c.proc.view_is k (Some b) e) placed in
     let now : Cache = record { number = i.number; flushed = i.flushed; slots = spans_of (set i.slots.items k (Some d)) } in
     subst (λ (s : Seen). Serves s.view.generation s.view.own now) (sym c.note_alloc.ensures.view)
-        (subst (λ (z : Cache). Serves w.view.generation (told_of (Places x) (span_of d) w.view.own) z) (sym (slot_written i.number i.flushed i.slots.items c.args.proc.now c.proc.view_is k (Some d))) kept)
+    (subst (λ (z : Cache). Serves w.view.generation (told_of (Places x) (span_of d) w.view.own) z) (sym (slot_written i.number i.flushed i.slots.items c.args.proc.now c.proc.view_is k (Some d))) kept)

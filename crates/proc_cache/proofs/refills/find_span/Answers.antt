@@ -3,7 +3,6 @@ use Rattle.std.specs.Prelude.{Ok}
 use Rattle.sweeper.specs.Pays.{Pays}
 use Rattle.proc_cache.specs.Refills.{bytes_of}
 use Rattle.proc_cache.proofs.Finding.{finds, paid, paid_nothing}
-use Rattle.proc_cache.proofs.Holding.{idle_after}
 use Rattle.proc_cache.proofs.refills.find_span.Goals as goal
 
 pub returns-in_default : goal.returns-in_default

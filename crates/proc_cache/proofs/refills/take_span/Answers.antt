@@ -1,7 +1,4 @@
-use Rattle.std.proofs.Common.{subst}
 use Rattle.std.proofs.lemmas.Result.{err_from_is_err_and}
-use Rattle.central_lists.specs.Lists.{Caches}
-use Rattle.central_lists.specs.declared.answers.FromSets.{FromSets}
 use Rattle.proc_cache.proofs.Finding.{from_here, from_partial, looked_holds, no_memory, then_made, then_refused}
 use Rattle.proc_cache.proofs.refills.take_span.Goals as goal
 
@@ -12,7 +9,7 @@ pub returns-in_err-body-in-Ok-NeedFresh : goal.returns-in_err-body-in-Ok-NeedFre
 returns-in_err-body-in-Ok-NeedFresh c =
     let p = err_from_is_err_and c.from_residual.result c.from_residual.ensures.1 in
     rw (p.1, p.2) (then_refused c.args.class c.args.hand.now c.cache_span.new.hand c.requires.class c.requires.idle c.in-Ok-NeedFresh.swept c.in-Ok-NeedFresh.tried (rw c.in-Ok-NeedFresh.field-0-is at c.in-Ok-NeedFresh.ensures)
-        c.args.pages c.requires.pages c.new_span.new.hand c.in_err-body-in-Ok-NeedFresh.field-0.0 c.in_err-body-in-Ok-NeedFresh.ensures)
+    c.args.pages c.requires.pages c.new_span.new.hand c.in_err-body-in-Ok-NeedFresh.field-0.0 c.in_err-body-in-Ok-NeedFresh.ensures)
 
 pub returns-in-Ok-SweptPartial : goal.returns-in-Ok-SweptPartial
 returns-in-Ok-SweptPartial c = from_partial c.args.class c.args.hand.now c.cache_span.new.hand c.requires.class c.requires.idle c.in-Ok-SweptPartial.body (rw c.in-Ok-SweptPartial.field-0-is at c.in-Ok-SweptPartial.ensures)
