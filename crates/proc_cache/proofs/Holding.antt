@@ -99,8 +99,8 @@ module _ (class tried : ℕ) (more kept : ℕ → ℕ) (P : List Entry → Type 
   sums_of_lists = record { spends = d.says.spends_nothing; takes = d.says.takes_nothing; misses = d.says.misses_nothing; places = d.says.places_nothing }
 
 -- one call after another
-pub holds-trans : (pages : List ℕ) (later first : List Entry) (a b d : Hand) → Holds [] first a b → Holds pages later b d → Holds pages (later ++ first) a d
-holds-trans pages later first a b d x y = record {
+pub holds-then : (held pages : List ℕ) (later first : List Entry) (a b d : Hand) → Holds held first a b → Holds pages later b d → Holds pages (later ++ first) a d
+holds-then held pages later first a b d x y = record {
   log = y.log ∙ ap (λ (l : List Entry). later ++ l) x.log ∙ sym (append_assoc later first a.worker.view.own.log);
   here = y.here ∙ x.here;
   table = y.table ∙ x.table;
@@ -121,6 +121,9 @@ holds-trans pages later first a b d x y = record {
       ∙ append_assoc a.notes.items (notes_of a.worker.view.generation first) (notes_of a.worker.view.generation later)
       ∙ ap (λ (l : List SweepNote). a.notes.items ++ l) (sym (notes_of-append a.worker.view.generation later first));
 }
+
+pub holds-trans : (pages : List ℕ) (later first : List Entry) (a b d : Hand) → Holds [] first a b → Holds pages later b d → Holds pages (later ++ first) a d
+holds-trans pages later first a b d x y = holds-then [] pages later first a b d x y
 
 pub holds_nothing : (said : List Entry) (a b : Hand) → Holds [] said a b → Leaves said a b
 holds_nothing said a b x = record {
