@@ -14,6 +14,7 @@ mod sweep;
 pub use answers::{One, Paid};
 pub use payments::{finish, pay};
 pub use reclaimer::reclaim;
+pub use settle::settle as settle_span;
 pub use span_table::Refused;
 pub use spans::new_span;
 pub use sweep::sweep_one;

@@ -6,9 +6,9 @@ ghost use Rattle.sweeper.specs.Steps.{Settles};
 use span_set::{Hand, SetId, Shop, push, sweep_in_hand};
 use span_state::{Body, SweepNote};
 
-// Sweeps a span in hand, and puts it where it belongs: an emptied one goes back to the heap, a full one to the swept full set of
-// its class, and any other to the swept partial set (`mgcsweep.go`, `sweep`). Answers the note of the sweep.
-pub(crate) fn settle(shop: &Shop, hand: &mut Hand, body: Body) -> SweepNote
+/// Sweeps a span in hand, and puts it where it belongs: an emptied one goes back to the heap, a full one to the swept full set of
+/// its class, and any other to the swept partial set (`mgcsweep.go`, `sweep`). Answers the note of the sweep.
+pub fn settle(shop: &Shop, hand: &mut Hand, body: Body) -> SweepNote
     requires here { hand.old.worker.here ≡ true }
     requires table { hand.old.worker.table ≡ shop.now.shared.now }
     requires distance { 8192 ≤ shop.now.distance }

@@ -1,0 +1,61 @@
+-- What an allocation of a large object did, by its answer and by the log of the call. A log has its newest entry first.
+use Rattle.std.specs.Prelude.{◌≡◌, ℕ, ◌+◌, ◌*◌, List, [], ◌∷◌, Result, Ok, Err}
+use Rattle.page_bitmap.specs.declared.line.Line.TheVariants.{Take}
+use Rattle.span_state.specs.declared.body.Body.{Body}
+use Rattle.worker_log.specs.declared.Entry.{Entry}
+use Rattle.worker_log.specs.declared.Entry.TheVariants.{Allocated, Pushed, Read}
+use Rattle.worker_log.specs.declared.Placing.{Placing}
+use Rattle.worker_log.specs.Logs.{placings, refusals, swept_set, takings}
+use Rattle.span_laws.specs.declared.answers.Refused.{Refused}
+use Rattle.span_laws.specs.declared.answers.Refused.TheVariants.{NoRun, NoMemory as WantsMemory}
+use Rattle.span_laws.specs.declared.said.Said.TheVariants.{Fills, Reads}
+use Rattle.span_laws.specs.declared.said.SaidOf.TheVariants.{Places}
+use Rattle.span_laws.specs.declared.view.Span.{Span}
+use Rattle.span_laws.specs.Answers.{cycle_at}
+use Rattle.span_laws.specs.Asks.{HasBody, IsEmptyBody, IsUntouched}
+use Rattle.span_laws.specs.Views.{Seen, after_of, after_said, span_of}
+use Rattle.span_set.specs.declared.hand.Hand.{Hand}
+use Rattle.central_lists.specs.Lists.{Then}
+use Rattle.sweeper.specs.NewSpans.{MissedAtLast, TookAtLast}
+use Rattle.proc_cache.specs.Hits.{IsPlacedIn}
+use Rattle.proc_cache.specs.Leaves.{Holds, Sums}
+use Rattle.proc_cache.specs.Refills.{HasPaidFor, HasSpent, WasNoRun}
+
+-- one object is placed, at index 0 of a span that was taken for it, and no request is refused
+pub record PlacesLarge (n k at g : ℕ) (said : List Entry) : Type 0 where
+  pub placing : Placing
+  pub only : placings said ≡ placing ∷ []
+  pub class : placing.class ≡ k
+  pub index : placing.index ≡ 0
+  pub address : at ≡ 0xc000000000 + 8192 * placing.page
+  pub refused : refusals said ≡ []
+  pub taken : takings said ≡ record { number = placing.number; line = Take (cycle_at g) placing.page n k } ∷ []
+
+-- the object is placed in the span of the body, which is pushed to the swept full set
+abbrev pub HasPut : ℕ → ℕ → Body → List Entry → Type 0
+HasPut g k b said = said ≡ Pushed (swept_set g k 1) b.page ∷ Read 1 g ∷ Allocated (record { page = b.page; index = 0; number = b.life; class = k }) ∷ []
+
+-- a large object was placed in a span of its own, which was paid for with the credit of its own pages; or no run is free, as the line says; or
+-- memory ran out. The cached spans are as they were
+abbrev pub AllocatesLarge : (pages distance n k : ℕ) → Hand → Hand → Result ℕ Refused → Type 0
+AllocatesLarge pages distance n k old new (Ok at) = (b : Body) × ((said : List Entry) × Holds [] said old new × Sums (8192 * n) 1 0 1 said
+    × PlacesLarge n k at old.worker.view.generation said
+    × Then (HasPaidFor old.worker.view.generation pages distance (8192 * n) n) (Then (TookAtLast old n b) (Then (HasSpent (8192 * n)) (HasPut old.worker.view.generation k b))) said)
+AllocatesLarge pages distance n k old new (Err (NoRun line)) = WasNoRun old n line × ((said : List Entry) × Holds [] said old new × Sums 0 0 1 0 said × (placings said ≡ [])
+    × (refusals said ≡ record { number = line; pages = n; class = k } ∷ [])
+    × Then (HasPaidFor old.worker.view.generation pages distance (8192 * n) n) (MissedAtLast old n k line) said)
+AllocatesLarge pages distance n k old new (Err WantsMemory) = (said : List Entry) × Holds [] said old new × Sums 0 0 0 0 said
+
+-- the object was placed in a span that the worker holds, which went to the swept full set
+abbrev pub PutsObject : ℕ → Body → Hand → Hand → ℕ → Type 0
+PutsObject k b old new at = (at ≡ 0xc000000000 + 8192 * b.page) × (new.notes ≡ old.notes)
+    × ((after : Span) × IsPlacedIn 0 (span_of b) after
+    × (new.worker ≡ after_said (Fills (swept_set old.worker.view.generation k 1) b.page) (after_said (Reads 1 old.worker.view.generation) (after_of (Places 0) after old.worker))))
+
+-- a body of a new span of one object, which the worker holds: it has the body, and has not popped the span from a swept set
+pub record IsForOne (k : ℕ) (b : Body) (w : Seen) : Type 0 where
+  pub class : b.class ≡ k
+  pub count : b.count ≡ 1
+  pub empty : IsEmptyBody b
+  pub lent : HasBody w.view.own b
+  pub untouched : IsUntouched w.view.generation w.view.own b.page

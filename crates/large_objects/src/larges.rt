@@ -1,0 +1,53 @@
+ghost use Rattle.std.specs.Prelude.{◌≡◌, ◌<◌, ◌≤◌, true};
+ghost use Rattle.span_laws.specs.Asks.{IsIdle};
+ghost use Rattle.large_objects.specs.Larges.{AllocatesLarge, IsForOne, PutsObject};
+ghost use Rattle.proc_cache.specs.Refills.{IsHolding};
+
+use size_classes::PAGE_SIZE;
+use span_set::{Hand, SetId, Shop, push};
+use span_state::Body;
+use sweeper::{Refused, new_span, pay};
+
+// The address at which the region begins.
+const BASE: u64 = 0xc000000000;
+
+/// Allocates a large object in a span of its own, of so many pages, at least 5, and span class 0 or 1 (`mcache.go`, `allocLarge`): the span's
+/// bytes are paid for by sweeping, with the credit of its own pages; a span is made; the object is placed at index 0; and the
+/// span goes to the swept full set. Answers the address. The cached spans stay as they are, whatever the call answers.
+///
+/// NoRun comes with the Miss line of this call, only after each unswept set was seen empty.
+pub fn alloc_large(shop: &Shop, hand: &mut Hand, pages: u32, class: u8) -> Result<u64, Refused>
+    requires here { hand.old.worker.here ≡ true }
+    requires table { hand.old.worker.table ≡ shop.now.shared.now }
+    requires distance { 8192 ≤ shop.now.distance }
+    requires marks { shop.now.marks.now.pairs ≡ hand.old.worker.view.marks }
+    requires large { class < 2 }
+    requires pages { 5 ≤ pages }
+    requires idle { IsIdle hand.old.worker.view.own }
+    ensures { AllocatesLarge shop.now.pages shop.now.distance pages class hand.old hand.new result }
+{
+    let bytes = u64::from(pages) * PAGE_SIZE;
+    let Ok(_) = pay(shop, hand, bytes, pages) else {
+        return Err(Refused::NoMemory);
+    };
+    let body = new_span(shop, hand, pages, class)?;
+    shop.shared.add_spent(&mut hand.worker, bytes);
+    Ok(put_object(shop, hand, class, body))
+}
+
+// Places the object at index 0 of its new span, and lets the span go to the swept full set. Takes no memory.
+fn put_object(shop: &Shop, hand: &mut Hand, class: u8, body: Body) -> u64
+    requires here { hand.old.worker.here ≡ true }
+    requires table { hand.old.worker.table ≡ shop.now.shared.now }
+    requires large { class < 2 }
+    requires holds { IsHolding hand.old.worker.view.own body.page }
+    requires body { IsForOne class body hand.old.worker }
+    ensures { PutsObject class body hand.old hand.new result }
+{
+    let mut body = body;
+    shop.shared.note_alloc(&mut hand.worker, &mut body, 0);
+    let addr = BASE + PAGE_SIZE * u64::from(body.page);
+    let set = SetId { class, full: true };
+    push(shop.shared, &mut hand.worker, set, body);
+    addr
+}

@@ -1,0 +1,9 @@
+//! Large objects: each has a span of its own.
+//!
+//! `specs/Larges.antt` says what a call did, by its answer and by the worker's own log.
+#![tactic(auto)]
+
+mod larges;
+
+pub use larges::alloc_large;
+pub use sweeper::Refused;

@@ -1,0 +1,218 @@
+-- A span for the cache is found, or refused.
+use Rattle.std.proofs.Common.{◌≡◌, ℕ, ◌/◌, ◌<◌, inl, inr, List, [], ◌∷◌, ◌++◌, refl, ap, sym, subst, ◌∙◌, arith}
+use Rattle.std.specs.Prelude.{Result, Ok, Err}
+use Rattle.page_alloc.specs.Journal.{HasNoRun, Legal}
+use Rattle.page_bitmap.specs.declared.line.Line.TheVariants.{Take as TakeLine, Miss as MissLine}
+use Rattle.size_classes.specs.Classes.{pages_of}
+use Rattle.span_state.specs.declared.body.Body.{Body}
+use Rattle.sweep_laws.specs.Lists.{has}
+use Rattle.worker_log.specs.declared.Entry.{Entry}
+use Rattle.worker_log.specs.declared.Entry.TheVariants.{Took, Missed}
+use Rattle.worker_log.specs.Logs.{Refusal, is_pop_of, many, refusals, swept_set}
+use Rattle.span_laws.specs.declared.answers.Refused.{Refused}
+use Rattle.span_laws.specs.declared.answers.Refused.TheVariants.{NoRun, NoMemory as WantsMemory}
+use Rattle.span_laws.specs.declared.view.View.{View}
+use Rattle.span_laws.specs.Answers.{cycle_at}
+use Rattle.span_laws.specs.Asks.{IsIdle}
+use Rattle.span_laws.specs.Logs.{is_taking}
+use Rattle.span_laws.specs.Views.{acts}
+use Rattle.span_laws.proofs.Parts.{has_none}
+use Rattle.span_set.specs.declared.hand.Hand.{Hand}
+use Rattle.span_set.proofs.Numbers.{full_is, swept_is, swept_low}
+use Rattle.fallible_list.specs.declared.list.NoMemory.{NoMemory}
+use Rattle.central_lists.specs.declared.answers.Look.{Look}
+use Rattle.central_lists.specs.declared.answers.FromSets.TheVariants.{SweptPartial as FromPartial, SweptHere as FromHere, NeedFresh}
+use Rattle.central_lists.specs.Lists.{Caches, HandsOut, SawNone, Then, just, nothing}
+use Rattle.sweeper.specs.declared.answers.Paid.{Paid}
+use Rattle.sweeper.specs.declared.answers.Paid.TheVariants.{Reached, NothingLeft}
+use Rattle.sweeper.specs.NewSpans.{MakesSpan, MissedAtLast, TookAtLast}
+use Rattle.sweeper.specs.Pays.{Pays}
+use Rattle.sweeper.specs.Reclaims.{HasReclaimed}
+use Rattle.sweeper.specs.Work.{IsPlain, SawAllEmpty, Works}
+use Rattle.proc_cache.specs.declared.refills.CacheFrom.{CacheFrom}
+use Rattle.proc_cache.specs.declared.refills.CacheFrom.TheVariants.{SweptPartial, SweptHere, Fresh}
+use Rattle.proc_cache.specs.Leaves.{Holds, Sums}
+use Rattle.proc_cache.specs.Refills.{Comes, ComesFrom, FindsSpan, HasPaidFor, IsFor, LookedFor, WasNoRun, bytes_of, taken_for}
+use Rattle.proc_cache.proofs.Holding.{holds-trans, holds_none, holds_one, idle_after, of_sweeper, sums_of, sums_of_lists}
+use Rattle.proc_cache.proofs.Logging.{no_refusals, refusals-append, sums-append}
+
+-- ---- what does not depend on the own part
+
+module _ (old mid : Hand) (v : mid.worker.view ≡ acts old.worker.view mid.worker.view.own) where
+  pub no_run_from : (n line : ℕ) → WasNoRun mid n line → WasNoRun old n line
+  no_run_from n line w = (w.0, w.1, subst (λ (z : View). Legal z.region z.goal w.0 × HasNoRun z.region w.0 n) v w.2)
+
+  pub took_from : (n : ℕ) (b : Body) (said : List Entry) → TookAtLast mid n b said → TookAtLast old n b said
+  took_from n b said t = record {
+    before = t.before;
+    log = t.log ∙ ap (λ (z : View). Took b.life (TakeLine (cycle_at z.generation) b.page b.pages b.class) ∷ t.before) v;
+    takes_none = t.takes_none;
+    reclaimed = subst (λ (z : View). HasReclaimed z.marks z.region n t.before) v t.reclaimed;
+  }
+
+  pub missed_from : (n class line : ℕ) (said : List Entry) → MissedAtLast mid n class line said → MissedAtLast old n class line said
+  missed_from n class line said t = record {
+    before = t.before;
+    log = t.log ∙ ap (λ (z : View). Missed line (MissLine (cycle_at z.generation) n class) ∷ t.before) v;
+    takes_none = t.takes_none;
+    reclaimed = subst (λ (z : View). HasReclaimed z.marks z.region n t.before) v t.reclaimed;
+    saw_empty = subst (λ (z : View). SawAllEmpty z.generation t.before) v t.saw_empty;
+  }
+
+  pub looked_from : (k : ℕ) (look : Look) (tried : ℕ) (said : List Entry) → LookedFor mid.worker.view.generation k look tried said → LookedFor old.worker.view.generation k look tried said
+  looked_from k look tried said x = subst (λ (z : View). LookedFor z.generation k look tried said) v x
+
+  pub comes_from : (k : ℕ) (b : Body) (from : CacheFrom) (said : List Entry) → ComesFrom mid k b from said → ComesFrom old k b from said
+  comes_from k b SweptPartial said x = subst (λ (z : View). 0 < many (is_pop_of (swept_set z.generation k 0) b.page) said) v x
+  comes_from k b SweptHere said x = (x.0, x.1, x.2, subst (λ (z : View). SawNone (swept_set z.generation k 0) x.1) v x.3, x.4)
+  comes_from k b (Fresh look tried) said x = (x.0, x.1, x.2, looked_from k look tried x.1 x.3, took_from (pages_of (k / 2)) b x.0 x.4)
+
+-- ---- refusals
+
+-- the log of a refused request has its one refusal
+module _ (mid : Hand) (n k line : ℕ) (said : List Entry) (t : MissedAtLast mid n k line said) where
+  no_refusal_before : refusals t.before ≡ []
+  no_refusal_before = no_refusals t.before t.takes_none.unmissed
+
+  pub one_refusal : refusals said ≡ record { number = line; pages = n; class = k } ∷ []
+  one_refusal = ap refusals t.log ∙ ap (λ (l : List Refusal). let r : Refusal = record { number = line; pages = n; class = k } in r ∷ l) no_refusal_before
+
+  pub one_missed : many Rattle.span_laws.specs.Calls.is_missing said ≡ 1
+  one_missed = ap (many Rattle.span_laws.specs.Calls.is_missing) t.log ∙ (let z = t.takes_none.unmissed in omega arith)
+
+  pub missed_takes : many is_taking said ≡ 0
+  missed_takes = ap (many is_taking) t.log ∙ (let z = t.takes_none.untaken in omega arith)
+
+module _ (mid : Hand) (n : ℕ) (b : Body) (said : List Entry) (t : TookAtLast mid n b said) where
+  pub took_misses : many Rattle.span_laws.specs.Calls.is_missing said ≡ 0
+  took_misses = ap (many Rattle.span_laws.specs.Calls.is_missing) t.log ∙ (let z = t.takes_none.unmissed in omega arith)
+
+  pub took_one : many is_taking said ≡ 1
+  took_one = ap (many is_taking) t.log ∙ (let z = t.takes_none.untaken in omega arith)
+
+-- a refusal behind a log without any
+pub refusal_behind : (r : Refusal) (later first : List Entry) → refusals later ≡ r ∷ [] → refusals first ≡ [] → refusals (later ++ first) ≡ r ∷ []
+refusal_behind r later first e f = refusals-append later first ∙ (λ i. e i ++ f i)
+
+-- ---- a span from the sets, or a new one
+
+module _ (k : ℕ) (old mid : Hand) (low : k < 136) where
+  handed : (b : Body) → HandsOut old.worker.view.generation k b old.worker mid.worker → IsFor k b old mid
+  handed b h = record {
+    class = h.of_class;
+    room = h.room;
+    lent = h.lent;
+    before = has_none b.page old.worker.view.own.cached (let z = h.before in omega arith);
+    unpopped = let g = old.worker.view.generation in h.unpopped (swept_set g k 1) (swept_low g k 1 (omega arith) low) (swept_is g k 1 (omega arith)) (full_is g k);
+  }
+
+  pub from_partial : IsIdle old.worker.view.own → (b : Body) → Caches old.worker.view.generation k old mid (Ok (FromPartial b)) → Comes k old mid (Ok (b, SweptPartial))
+  from_partial idle b c = (handed b c.0, (c.2.said, holds_one k 0 (just b.page) nothing _ old mid idle c.2 b.page (λ q. refl), sums_of_lists k 0 (just b.page) nothing _ old mid idle c.2, c.2.property))
+
+  pub from_here : IsIdle old.worker.view.own → (b : Body) → Caches old.worker.view.generation k old mid (Ok (FromHere b)) → Comes k old mid (Ok (b, SweptHere))
+  from_here idle b c = let d = c.3.2 in let t = c.3.0 in
+      (handed b c.0, (d.said, holds_one k t (just b.page) (just b.page) _ old mid idle d b.page (λ q. refl), sums_of_lists k t (just b.page) (just b.page) _ old mid idle d, d.property))
+
+  pub no_memory : IsIdle old.worker.view.own → (e : NoMemory) → Caches old.worker.view.generation k old mid (Err e) → Comes k old mid (Err WantsMemory)
+  no_memory idle e c = let d = c.2 in let t = c.0 in (d.said, holds_none k t nothing nothing _ old mid idle d (λ q. refl), sums_of_lists k t nothing nothing _ old mid idle d)
+
+  -- the sets have none
+  module _ (idle : IsIdle old.worker.view.own) (look : Look) (tried : ℕ) (c : Caches old.worker.view.generation k old mid (Ok (NeedFresh look tried))) where
+    pub looked_holds : Holds [] c.1.said old mid
+    looked_holds = holds_none k tried nothing nothing _ old mid idle c.1 (λ q. refl)
+
+    looked_for : LookedFor old.worker.view.generation k look tried c.1.said
+    looked_for = record { hides_nothing = c.1.says.hides_nothing; looked = c.1.property; tries_are = c.1.says.tried_is; few = c.0 }
+
+    looked_sums : Sums 0 0 0 0 c.1.said
+    looked_sums = sums_of_lists k tried nothing nothing _ old mid idle c.1
+
+    looked_refuses : refusals c.1.said ≡ []
+    looked_refuses = no_refusals c.1.said c.1.says.misses_nothing
+
+    pub then_refused : (n : ℕ) → n ≡ pages_of (k / 2) → (new : Hand) (e : Refused) → MakesSpan n k mid new (Err e) → Comes k old new (Err e)
+    then_refused n same new (NoRun line) m = subst (λ (p : ℕ). WasNoRun old p line × ((said : List Entry) × Holds [] said old new × Sums 0 0 1 0 said
+        × (refusals said ≡ record { number = line; pages = p; class = k } ∷ [])
+        × ((look : Look) × ((tried : ℕ) × Then (LookedFor old.worker.view.generation k look tried) (MissedAtLast old p k line) said)))) same
+        (let w = m.1 in let v = looked_holds.view in let i = idle_after c.1.said old mid looked_holds in (
+          no_run_from old mid v n line m.0,
+          (
+            w.said ++ c.1.said,
+            holds-trans [] w.said c.1.said old mid new looked_holds (of_sweeper [] _ mid new i w),
+            sums-append 0 0 0 0 0 0 1 0 w.said c.1.said looked_sums (sums_of [] _ mid new i w 0 1 (missed_takes mid n k line w.said w.did) (one_missed mid n k line w.said w.did)),
+            refusal_behind _ w.said c.1.said (one_refusal mid n k line w.said w.did) looked_refuses,
+            (look, (tried, (w.said, c.1.said, refl, looked_for, missed_from old mid v n k line w.said w.did))),
+          ),
+        ))
+    then_refused n same new WantsMemory w = let i = idle_after c.1.said old mid looked_holds in (
+      w.said ++ c.1.said,
+      holds-trans [] w.said c.1.said old mid new looked_holds (of_sweeper [] _ mid new i w),
+      sums-append 0 0 0 0 0 0 0 0 w.said c.1.said looked_sums (sums_of [] _ mid new i w 0 0 w.did.0.untaken w.did.0.unmissed),
+    )
+
+    pub then_made : (n : ℕ) → n ≡ pages_of (k / 2) → (new : Hand) (b : Body) → MakesSpan n k mid new (Ok b) → Comes k old new (Ok (b, Fresh look tried))
+    then_made n same new b m = let h = m.0 in let w = m.1 in let v = looked_holds.view in let i = idle_after c.1.said old mid looked_holds in (
+      record {
+        class = h.is_new.class;
+        room = (0, b.some_object, h.is_new.empty 0);
+        lent = h.lent;
+        before = ap (has b.page) (sym looked_holds.cached) ∙ has_none b.page mid.worker.view.own.cached (let z = h.nothing in omega arith);
+        unpopped = let g = old.worker.view.generation in
+            h.untouched.pops (swept_set g k 1) (swept_low g k 1 (omega arith) low) (ap (λ (z : View). Rattle.sweep_laws.specs.Needs.is_swept_set z.generation (swept_set g k 1)) v ∙ swept_is g k 1 (omega arith));
+      },
+      (
+        w.said ++ c.1.said,
+        holds-trans (b.page ∷ []) w.said c.1.said old mid new looked_holds (of_sweeper (b.page ∷ []) _ mid new i w),
+        sums-append 0 0 0 0 0 1 0 0 w.said c.1.said looked_sums (sums_of (b.page ∷ []) _ mid new i w 1 0 (took_one mid n b w.said w.did) (took_misses mid n b w.said w.did)),
+        (w.said, c.1.said, refl, looked_for, subst (λ (p : ℕ). TookAtLast old p b w.said) same (took_from old mid v n b w.said w.did)),
+      ),
+    )
+
+-- ---- after a payment
+
+module _ (pages distance bytes credit : ℕ) (old mid : Hand) (idle : IsIdle old.worker.view.own) where
+  -- what a payment leaves, and what its log has
+  pub paid_nothing : Works [] IsPlain old mid → (said : List Entry) × Holds [] said old mid × Sums 0 0 0 0 said
+  paid_nothing w = (w.said, of_sweeper [] _ old mid idle w, sums_of [] _ old mid idle w 0 0 w.did.takes_none.untaken w.did.takes_none.unmissed)
+
+  pub paid : (p : Paid) → Pays pages distance bytes credit old mid (Ok p) → (said : List Entry) × Holds [] said old mid × Sums 0 0 0 0 said × HasPaidFor old.worker.view.generation pages distance bytes credit said
+  paid (Reached seen target) w = (w.said, of_sweeper [] _ old mid idle w, sums_of [] _ old mid idle w 0 0 w.did.0.takes_none.untaken w.did.0.takes_none.unmissed, (w.did.0, inl (seen, (target, w.did.1))))
+  paid NothingLeft w = (w.said, of_sweeper [] _ old mid idle w, sums_of [] _ old mid idle w 0 0 w.did.0.takes_none.untaken w.did.0.takes_none.unmissed, (w.did.0, inr w.did.1))
+
+-- a span that was found behind a payment
+module _ (pages distance k : ℕ) (old mid : Hand) (first : List Entry) (x : Holds [] first old mid) (sums : Sums 0 0 0 0 first) (paid : HasPaidFor old.worker.view.generation pages distance (bytes_of k) 0 first) where
+  for_from : (b : Body) (new : Hand) → IsFor k b mid new → IsFor k b old new
+  for_from b new f = record {
+    class = f.class;
+    room = f.room;
+    lent = f.lent;
+    before = ap (has b.page) (sym x.cached) ∙ f.before;
+    unpopped = subst (λ (z : View). many (is_pop_of (swept_set z.generation k 1) b.page) new.worker.view.own.log ≡ 0) x.view f.unpopped;
+  }
+
+  pub finds : (new : Hand) (r : Result (Body × CacheFrom) Refused) → Comes k mid new r → FindsSpan pages distance k old new r
+  finds new (Ok found) c = let s = c.1.0 in (
+    for_from found.0 new c.0,
+    (
+      s ++ first,
+      holds-trans (found.0.page ∷ []) s first old mid new x c.1.1,
+      sums_behind found.1 s c.1.2,
+      (s, first, refl, paid, comes_from old mid x.view k found.0 found.1 s c.1.3),
+    ),
+  )
+    where
+      sums_behind : (from : CacheFrom) (s : List Entry) → Sums 0 (taken_for from) 0 0 s → Sums 0 (taken_for from) 0 0 (s ++ first)
+      sums_behind SweptPartial s y = sums-append 0 0 0 0 0 0 0 0 s first sums y
+      sums_behind SweptHere s y = sums-append 0 0 0 0 0 0 0 0 s first sums y
+      sums_behind (Fresh look tried) s y = sums-append 0 0 0 0 0 1 0 0 s first sums y
+  finds new (Err (NoRun line)) c = let s = c.1.0 in let t = c.1.4.1.1 in (
+    no_run_from old mid x.view (pages_of (k / 2)) line c.0,
+    (
+      s ++ first,
+      holds-trans [] s first old mid new x c.1.1,
+      sums-append 0 0 0 0 0 0 1 0 s first sums c.1.2,
+      refusal_behind _ s first c.1.3 (no_refusals first sums.misses),
+      (s, first, refl, paid, (c.1.4.0, (c.1.4.1.0, (t.0, t.1, t.2, looked_from old mid x.view k c.1.4.0 c.1.4.1.0 t.1 t.3, missed_from old mid x.view (pages_of (k / 2)) k line t.0 t.4)))),
+    ),
+  )
+  finds new (Err WantsMemory) c = (c.0 ++ first, holds-trans [] c.0 first old mid new x c.1, sums-append 0 0 0 0 0 0 0 0 c.0 first sums c.2)

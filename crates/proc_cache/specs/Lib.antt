@@ -1,0 +1,7 @@
+pub mod Cache
+pub mod Serves
+pub mod Hits
+pub mod Leaves
+pub mod Flushes
+pub mod Refills
+pub mod Allocs

@@ -1,0 +1,113 @@
+ghost use Rattle.std.specs.Prelude.{◌≡◌, ◌<◌, ◌≤◌, true, false, IfOk};
+ghost use Rattle.size_classes.specs.Classes.{IsLeastClass, span_class_of};
+ghost use Rattle.span_laws.specs.Asks.{IsIdle};
+ghost use Rattle.proc_cache.specs.Allocs.{AllocatesIn, addr_of};
+ghost use Rattle.proc_cache.specs.Hits.{IsMissing};
+ghost use Rattle.proc_cache.specs.Serves.{IsUsedCache, Serves};
+
+use crate::flushes::flush;
+use crate::hits::{Hit, alloc_hit};
+use crate::proc::Proc;
+use crate::refills::refill;
+use size_classes::{Kind, class_of, span_class};
+use span_set::{Hand, Shop};
+use sweeper::Refused;
+use trace_reader::Event;
+
+/// A small object that was placed.
+#[derive(Clone, Copy, Debug, PartialEq, Eq)]
+pub struct Placed {
+    /// Its address.
+    pub addr: u64,
+    /// Whether it is sampled.
+    pub sampled: bool,
+}
+
+/// Allocates an object of a small size, from 1 to 32768 bytes, for an event (`malloc.go`, `mallocgc`): where it is the processor's first one
+/// since the last mark end, the cache is flushed; then the object takes the lowest free index of the cached span, after a refill
+/// where there is none. No object is sampled, and the bucket is not read.
+///
+/// NoRun comes with the Miss line of this call, as `refill` says. After NoMemory a cached span that was not flushed or pushed yet stays
+/// cached.
+pub fn alloc(
+    proc: &mut Proc,
+    shop: &Shop,
+    hand: &mut Hand,
+    event: Event,
+    bucket: u32,
+) -> Result<Placed, Refused>
+    requires here { hand.old.worker.here ≡ true }
+    requires table { hand.old.worker.table ≡ shop.now.shared.now }
+    requires distance { 8192 ≤ shop.now.distance }
+    requires marks { shop.now.marks.now.pairs ≡ hand.old.worker.view.marks }
+    requires some { 1 ≤ event.size }
+    requires small { event.size ≤ 32768 }
+    requires idle { IsIdle hand.old.worker.view.own }
+    requires serves { Serves hand.old.worker.view.generation hand.old.worker.view.own proc.old }
+    requires used { IsUsedCache hand.old.worker.view.own }
+    ensures allocates { (class : Rattle.std.specs.Prelude.ℕ) × IsLeastClass event.size class × AllocatesIn shop.now.pages shop.now.distance (span_class_of class event.scan) proc.old proc.new hand.old hand.new (addr_of result) }
+    ensures number { proc.new.number ≡ proc.old.number }
+    ensures sampled { IfOk result (λ placed. placed.sampled ≡ false) }
+    ensures serves { Serves hand.new.worker.view.generation hand.new.worker.view.own proc.new }
+    ensures used { IsUsedCache hand.new.worker.view.own }
+{
+    let _bucket = bucket;
+    let Kind::Small(class) = class_of(event.size) else {
+        unreachable!()
+    };
+    let addr = alloc_in(proc, shop, hand, span_class(class, event.scan))?;
+    Ok(Placed {
+        addr,
+        sampled: false,
+    })
+}
+
+// The same for a span class, from 2 to 135.
+fn alloc_in(proc: &mut Proc, shop: &Shop, hand: &mut Hand, class: u8) -> Result<u64, Refused>
+    requires here { hand.old.worker.here ≡ true }
+    requires table { hand.old.worker.table ≡ shop.now.shared.now }
+    requires distance { 8192 ≤ shop.now.distance }
+    requires marks { shop.now.marks.now.pairs ≡ hand.old.worker.view.marks }
+    requires small { 2 ≤ class }
+    requires class { class < 136 }
+    requires idle { IsIdle hand.old.worker.view.own }
+    requires serves { Serves hand.old.worker.view.generation hand.old.worker.view.own proc.old }
+    requires used { IsUsedCache hand.old.worker.view.own }
+    ensures allocates { AllocatesIn shop.now.pages shop.now.distance class proc.old proc.new hand.old hand.new result }
+    ensures number { proc.new.number ≡ proc.old.number }
+    ensures serves { Serves hand.new.worker.view.generation hand.new.worker.view.own proc.new }
+    ensures used { IsUsedCache hand.new.worker.view.own }
+{
+    let Ok(()) = flush(proc, shop, hand) else {
+        return Err(Refused::NoMemory);
+    };
+    match alloc_hit(proc, shop.shared, &mut hand.worker, class) {
+        Hit::At(addr) => Ok(addr),
+        Hit::Miss => alloc_missed(proc, shop, hand, class),
+    }
+}
+
+// The same where the processor has flushed and the cached span is absent or full.
+fn alloc_missed(proc: &mut Proc, shop: &Shop, hand: &mut Hand, class: u8) -> Result<u64, Refused>
+    requires here { hand.old.worker.here ≡ true }
+    requires table { hand.old.worker.table ≡ shop.now.shared.now }
+    requires distance { 8192 ≤ shop.now.distance }
+    requires marks { shop.now.marks.now.pairs ≡ hand.old.worker.view.marks }
+    requires small { 2 ≤ class }
+    requires class { class < 136 }
+    requires idle { IsIdle hand.old.worker.view.own }
+    requires serves { Serves hand.old.worker.view.generation hand.old.worker.view.own proc.old }
+    requires flushed { proc.old.flushed ≡ hand.old.worker.view.generation }
+    requires used { IsUsedCache hand.old.worker.view.own }
+    requires missing { IsMissing proc.old class }
+    ensures allocates { AllocatesIn shop.now.pages shop.now.distance class proc.old proc.new hand.old hand.new result }
+    ensures number { proc.new.number ≡ proc.old.number }
+    ensures serves { Serves hand.new.worker.view.generation hand.new.worker.view.own proc.new }
+    ensures used { IsUsedCache hand.new.worker.view.own }
+{
+    refill(proc, shop, hand, class)?;
+    match alloc_hit(proc, shop.shared, &mut hand.worker, class) {
+        Hit::At(addr) => Ok(addr),
+        Hit::Miss => unreachable!(),
+    }
+}

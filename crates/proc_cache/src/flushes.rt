@@ -1,0 +1,86 @@
+ghost use Rattle.std.specs.Prelude.{◌≡◌, ◌<◌, ◌≤◌, true, false, length};
+ghost use Rattle.sweep_laws.specs.Lists.{has};
+ghost use Rattle.span_laws.specs.Asks.{HasBody, IsIdle};
+ghost use Rattle.proc_cache.specs.Flushes.{FlushesCache, FlushesClass, FlushesSpan};
+ghost use Rattle.proc_cache.specs.Serves.{IsUsedCache, Serves, is_flushed};
+
+use crate::proc::Proc;
+use fallible_list::NoMemory;
+use span_set::{Hand, Shop};
+use span_state::Body;
+use span_table::Uncached;
+use sweeper::settle_span;
+
+// The span classes.
+const CLASSES: u8 = 136;
+
+/// Empties the processor's cache where it has not done so since the last mark end (`mcache.go`, `prepareForSweep`): through the span
+/// classes in rising order, each span that was cached before is swept and put where it belongs, an emptied one goes back
+/// to the heap. After NoMemory the classes flushed so far are flushed, and the rest is cached.
+pub fn flush(proc: &mut Proc, shop: &Shop, hand: &mut Hand) -> Result<(), NoMemory>
+    requires here { hand.old.worker.here ≡ true }
+    requires table { hand.old.worker.table ≡ shop.now.shared.now }
+    requires distance { 8192 ≤ shop.now.distance }
+    requires marks { shop.now.marks.now.pairs ≡ hand.old.worker.view.marks }
+    requires idle { IsIdle hand.old.worker.view.own }
+    requires serves { Serves hand.old.worker.view.generation hand.old.worker.view.own proc.old }
+    ensures flushes { FlushesCache proc.old proc.new hand.old hand.new result }
+    ensures serves { Serves hand.new.worker.view.generation hand.new.worker.view.own proc.new }
+    ensures used { IsUsedCache hand.old.worker.view.own → IsUsedCache hand.new.worker.view.own }
+{
+    let generation = shop.shared.generation(&mut hand.worker);
+    if proc.flushed == generation {
+        return Ok(());
+    }
+    for class in 0..CLASSES {
+        flush_class(proc, shop, hand, class)?;
+    }
+    proc.flushed = generation;
+    Ok(())
+}
+
+// Flushes one span class of a processor that has not flushed in this cycle.
+fn flush_class(proc: &mut Proc, shop: &Shop, hand: &mut Hand, class: u8) -> Result<(), NoMemory>
+    requires here { hand.old.worker.here ≡ true }
+    requires table { hand.old.worker.table ≡ shop.now.shared.now }
+    requires distance { 8192 ≤ shop.now.distance }
+    requires marks { shop.now.marks.now.pairs ≡ hand.old.worker.view.marks }
+    requires class { class < 136 }
+    requires idle { IsIdle hand.old.worker.view.own }
+    requires serves { Serves hand.old.worker.view.generation hand.old.worker.view.own proc.old }
+    requires stale { is_flushed hand.old.worker.view.generation proc.old ≡ false }
+    ensures flushes { FlushesClass class proc.old proc.new hand.old hand.new result }
+    ensures serves { Serves hand.new.worker.view.generation hand.new.worker.view.own proc.new }
+{
+    if proc.slots[class as usize].is_none() {
+        return Ok(());
+    }
+    hand.reserve_note()?;
+    let Some(body) = proc.slots[class as usize].take() else {
+        return Ok(());
+    };
+    flush_span(shop, hand, body);
+    Ok(())
+}
+
+// Takes a stale span out of the cache, sweeps it, and puts it where it belongs.
+fn flush_span(shop: &Shop, hand: &mut Hand, body: Body)
+    requires here { hand.old.worker.here ≡ true }
+    requires table { hand.old.worker.table ≡ shop.now.shared.now }
+    requires distance { 8192 ≤ shop.now.distance }
+    requires marks { shop.now.marks.now.pairs ≡ hand.old.worker.view.marks }
+    requires room { length hand.old.notes.items < hand.old.notes.space }
+    requires class { body.class < 136 }
+    requires idle { IsIdle hand.old.worker.view.own }
+    requires cached { has body.page hand.old.worker.view.own.cached ≡ true }
+    requires stale { has body.page hand.old.worker.view.own.fresh ≡ false }
+    requires lent { HasBody hand.old.worker.view.own body }
+    ensures { FlushesSpan body.page hand.old hand.new }
+{
+    match shop.shared.uncache(&mut hand.worker, &body) {
+        Uncached::Fresh => unreachable!(),
+        Uncached::Stale => {
+            settle_span(shop, hand, body);
+        }
+    }
+}

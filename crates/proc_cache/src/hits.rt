@@ -1,0 +1,53 @@
+ghost use Rattle.std.specs.Prelude.{◌≡◌, ℕ, ◌+◌, ◌*◌, ◌/◌, ◌<◌, ◌≤◌, [], true};
+ghost use Rattle.proc_cache.specs.Cache.{address_of};
+ghost use Rattle.proc_cache.specs.Hits.{HitsCache};
+ghost use Rattle.proc_cache.specs.Serves.{Serves};
+
+use crate::proc::Proc;
+use size_classes::slot_size;
+use span_state::Body;
+use span_table::{Shared, Worker};
+
+/// What an allocation from the cache answers.
+#[derive(Clone, Copy, Debug, PartialEq, Eq)]
+pub enum Hit {
+    /// The address of the object.
+    At(u64),
+    /// No span of the class is cached, or the one that is has no free index.
+    Miss,
+}
+
+// The address at which the region begins.
+const BASE: u64 = 0xc000000000;
+
+// The address of an object of at most 32768 bytes.
+fn address(page: u32, slot: u32, index: u32) -> u64
+    requires { slot ≤ 32768 }
+    ensures { result ≡ address_of page slot index }
+{
+    BASE + 8192 * u64::from(page) + u64::from(slot) * u64::from(index)
+}
+
+/// Places an object of a span class, from 2 to 135, at the lowest free index of the cached span (`malloc.go`, `nextFreeFast`). The
+/// processor has flushed in this cycle, and the worker holds no span. Miss exactly where no span is cached or the cached one has no free index; then nothing
+/// changes. Takes no memory, and waits for nobody.
+pub fn alloc_hit(proc: &mut Proc, shared: &Shared, w: &mut Worker, class: u8) -> Hit
+    requires here { w.old.here ≡ true }
+    requires table { w.old.table ≡ shared.now }
+    requires small { 2 ≤ class }
+    requires class { class < 136 }
+    requires held { w.old.view.own.held ≡ [] }
+    requires serves { Serves w.old.view.generation w.old.view.own proc.old }
+    requires flushed { proc.old.flushed ≡ w.old.view.generation }
+    ensures hits { HitsCache class proc.old proc.new w.old w.new result }
+    ensures serves { Serves w.new.view.generation w.new.view.own proc.new }
+{
+    let Some(body) = &mut proc.slots[class as usize] else {
+        return Hit::Miss;
+    };
+    let Some(index) = body.next_free() else {
+        return Hit::Miss;
+    };
+    shared.note_alloc(w, body, index);
+    Hit::At(address(body.page, slot_size(class / 2), index))
+}

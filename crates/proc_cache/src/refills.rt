@@ -1,0 +1,179 @@
+ghost use Rattle.std.specs.Prelude.{◌≡◌, ◌/◌, ◌<◌, ◌≤◌, true, None};
+ghost use Rattle.sweep_laws.specs.Lists.{has};
+ghost use Rattle.size_classes.specs.Classes.{pages_of};
+ghost use Rattle.worker_log.specs.Logs.{swept_set};
+ghost use Rattle.span_laws.specs.Asks.{IsFullBody, IsIdle};
+ghost use Rattle.span_laws.specs.Views.{after_said, span_of};
+ghost use Rattle.proc_cache.specs.Hits.{IsMissing};
+ghost use Rattle.proc_cache.specs.Cache.{slot_at};
+ghost use Rattle.proc_cache.specs.Refills.{Comes, FindsSpan, IsFor, IsHolding, KeepsSpan, LeavesFull, RefillsCache, bytes_of};
+ghost use Rattle.proc_cache.specs.Serves.{IsCachedAt, IsUsedBut, IsUsedCache, Serves};
+
+use crate::proc::Proc;
+use central_lists::{FromSets, Look, cache_span};
+use fallible_list::NoMemory;
+use size_classes::{PAGE_SIZE, span_pages};
+use span_set::{Hand, SetId, Shop, push};
+use span_state::Body;
+use span_table::{Said, Uncached};
+use sweeper::{Refused, new_span, pay};
+
+/// Where the span of a refilled cache comes from.
+#[derive(Clone, Copy, Debug, PartialEq, Eq)]
+pub enum CacheFrom {
+    /// From the swept partial set of the class.
+    SweptPartial,
+    /// From an unswept set of the class: this call swept it.
+    SweptHere,
+    /// It is a new one.
+    Fresh {
+        /// What was seen of the swept partial set.
+        swept: Look,
+        /// How many entries were popped from the unswept sets, at most 100.
+        tried: u32,
+    },
+}
+
+/// Gets a span with a free index for a span class, from 2 to 135, into the cache (`mcache.go`, `refill`): a full span goes to the swept
+/// full set; the span's bytes are paid for by sweeping; and a span comes from the central lists, or is made. The processor has flushed in this
+/// cycle, and the cached span of the class is absent or full.
+///
+/// After each refusal the slot of the class is empty, and the other classes are as they were. NoRun comes with the Miss line of
+/// this call, only after each unswept set was seen empty.
+pub fn refill(
+    proc: &mut Proc,
+    shop: &Shop,
+    hand: &mut Hand,
+    class: u8,
+) -> Result<CacheFrom, Refused>
+    requires here { hand.old.worker.here ≡ true }
+    requires table { hand.old.worker.table ≡ shop.now.shared.now }
+    requires distance { 8192 ≤ shop.now.distance }
+    requires marks { shop.now.marks.now.pairs ≡ hand.old.worker.view.marks }
+    requires small { 2 ≤ class }
+    requires class { class < 136 }
+    requires idle { IsIdle hand.old.worker.view.own }
+    requires serves { Serves hand.old.worker.view.generation hand.old.worker.view.own proc.old }
+    requires flushed { proc.old.flushed ≡ hand.old.worker.view.generation }
+    requires used { IsUsedCache hand.old.worker.view.own }
+    requires missing { IsMissing proc.old class }
+    ensures refills { RefillsCache shop.now.pages shop.now.distance class proc.old proc.new hand.old hand.new result }
+    ensures serves { Serves hand.new.worker.view.generation hand.new.worker.view.own proc.new }
+    ensures used { IsUsedBut class hand.new.worker.view.own proc.new }
+{
+    leave_full(proc, shop, hand, class);
+    let (body, from) = find_span(shop, hand, class)?;
+    keep_span(proc, shop, hand, class, body);
+    Ok(from)
+}
+
+// Lets the full span of a class, if there is one, go to the swept full set. Takes no memory.
+fn leave_full(proc: &mut Proc, shop: &Shop, hand: &mut Hand, class: u8)
+    requires here { hand.old.worker.here ≡ true }
+    requires table { hand.old.worker.table ≡ shop.now.shared.now }
+    requires class { class < 136 }
+    requires idle { IsIdle hand.old.worker.view.own }
+    requires serves { Serves hand.old.worker.view.generation hand.old.worker.view.own proc.old }
+    requires flushed { proc.old.flushed ≡ hand.old.worker.view.generation }
+    requires used { IsUsedCache hand.old.worker.view.own }
+    requires missing { IsMissing proc.old class }
+    ensures leaves { LeavesFull class proc.old proc.new hand.old hand.new }
+    ensures serves { Serves hand.new.worker.view.generation hand.new.worker.view.own proc.new }
+    ensures used { IsUsedCache hand.new.worker.view.own }
+{
+    let Some(body) = proc.slots[class as usize].take() else {
+        return;
+    };
+    push_full(shop, hand, class, body);
+}
+
+// Takes a full span out of the cache, in which it is since this cycle, and pushes it.
+fn push_full(shop: &Shop, hand: &mut Hand, class: u8, body: Body)
+    requires here { hand.old.worker.here ≡ true }
+    requires table { hand.old.worker.table ≡ shop.now.shared.now }
+    requires class { class < 136 }
+    requires idle { IsIdle hand.old.worker.view.own }
+    requires cached { IsCachedAt hand.old.worker.view.generation hand.old.worker.view.own class (span_of body) }
+    requires fresh { has body.page hand.old.worker.view.own.fresh ≡ true }
+    requires full { IsFullBody body }
+    ensures view { hand.new.worker ≡ after_said (Said.Fills (swept_set hand.old.worker.view.generation class 1) body.page)
+        (after_said (Said.Reads 1 hand.old.worker.view.generation) (after_said (Said.Uncaches body.page) hand.old.worker)) }
+    ensures notes { hand.new.notes ≡ hand.old.notes }
+{
+    match shop.shared.uncache(&mut hand.worker, &body) {
+        Uncached::Fresh => push(
+            shop.shared,
+            &mut hand.worker,
+            SetId { class, full: true },
+            body,
+        ),
+        Uncached::Stale => unreachable!(),
+    }
+}
+
+// Pays for a span of a class, and finds one, which the worker holds.
+fn find_span(shop: &Shop, hand: &mut Hand, class: u8) -> Result<(Body, CacheFrom), Refused>
+    requires here { hand.old.worker.here ≡ true }
+    requires table { hand.old.worker.table ≡ shop.now.shared.now }
+    requires distance { 8192 ≤ shop.now.distance }
+    requires marks { shop.now.marks.now.pairs ≡ hand.old.worker.view.marks }
+    requires small { 2 ≤ class }
+    requires class { class < 136 }
+    requires idle { IsIdle hand.old.worker.view.own }
+    ensures { FindsSpan shop.now.pages shop.now.distance class hand.old hand.new result }
+{
+    let pages = span_pages(class / 2);
+    let Ok(_) = pay(shop, hand, u64::from(pages) * PAGE_SIZE, 0) else {
+        return Err(Refused::NoMemory);
+    };
+    take_span(shop, hand, class, pages)
+}
+
+// Finds a span of a class that has so many pages: from the central lists, or a new one.
+fn take_span(
+    shop: &Shop,
+    hand: &mut Hand,
+    class: u8,
+    pages: u32,
+) -> Result<(Body, CacheFrom), Refused>
+    requires here { hand.old.worker.here ≡ true }
+    requires table { hand.old.worker.table ≡ shop.now.shared.now }
+    requires distance { 8192 ≤ shop.now.distance }
+    requires marks { shop.now.marks.now.pairs ≡ hand.old.worker.view.marks }
+    requires small { 2 ≤ class }
+    requires class { class < 136 }
+    requires pages { pages ≡ pages_of (class / 2) }
+    requires idle { IsIdle hand.old.worker.view.own }
+    ensures { Comes class hand.old hand.new result }
+{
+    match cache_span(shop, hand, class) {
+        Ok(FromSets::SweptPartial(body)) => Ok((body, CacheFrom::SweptPartial)),
+        Ok(FromSets::SweptHere(body)) => Ok((body, CacheFrom::SweptHere)),
+        Ok(FromSets::NeedFresh { swept, tried }) => {
+            let body = new_span(shop, hand, pages, class)?;
+            Ok((body, CacheFrom::Fresh { swept, tried }))
+        }
+        Err(NoMemory) => Err(Refused::NoMemory),
+    }
+}
+
+// Caches a span that the worker holds, in the empty slot of its class, and adds its bytes to the spent ones. Takes no memory.
+fn keep_span(proc: &mut Proc, shop: &Shop, hand: &mut Hand, class: u8, body: Body)
+    requires here { hand.old.worker.here ≡ true }
+    requires table { hand.old.worker.table ≡ shop.now.shared.now }
+    requires small { 2 ≤ class }
+    requires class { class < 136 }
+    requires holds { IsHolding hand.old.worker.view.own body.page }
+    requires body { IsFor class body hand.old hand.old }
+    requires serves { Serves hand.old.worker.view.generation hand.old.worker.view.own proc.old }
+    requires flushed { proc.old.flushed ≡ hand.old.worker.view.generation }
+    requires empty { slot_at proc.old class ≡ None }
+    ensures keeps { KeepsSpan class (bytes_of class) body proc.old proc.new hand.old hand.new }
+    ensures serves { Serves hand.new.worker.view.generation hand.new.worker.view.own proc.new }
+    ensures used { IsUsedCache hand.old.worker.view.own → IsUsedBut class hand.new.worker.view.own proc.new }
+{
+    let bytes = u64::from(span_pages(class / 2)) * PAGE_SIZE;
+    shop.shared.add_spent(&mut hand.worker, bytes);
+    shop.shared.mark_cached(&mut hand.worker, &body);
+    proc.slots[class as usize] = Some(body);
+}
