@@ -1,0 +1,327 @@
+#!/usr/bin/env python3
+"""A plain model of `goheap run` at rate 0, with its workers one after another and no background sweepers.
+
+It was written from the rules of docs/addresses.md, docs/central-lists.md, docs/sweeping.md and docs/pages.md, and shares no code with
+the program. It reads a trace from standard input and writes its report. It checks nothing of the trace, searches pages one by
+one, and is meant to be read beside the rules and to be compared with the program (`model/test`), not to be used.
+"""
+import sys
+from collections import deque
+
+BASE, PAGE, CHUNK = 0xC000000000, 8192, 512
+
+
+def load_classes():
+    sizes = [8, 16, 24, 32, 48, 64, 80, 96, 112, 128, 144, 160, 176, 192, 208, 224, 240, 256, 288, 320, 352, 384, 416, 448, 480, 512, 576, 640, 704, 768, 896, 1024, 1152, 1280, 1408, 1536, 1792, 2048, 2304, 2688, 3072, 3200, 3456, 4096, 4864, 5376, 6144, 6528, 6784, 6912, 8192, 9472, 9728, 10240, 10880, 12288, 13568, 14336, 16384, 18432, 19072, 20480, 21760, 24576, 27264, 28672, 32768]
+    pages = [1, 1, 1, 1, 1, 1, 1, 1, 1, 1, 1, 1, 1, 1, 1, 1, 1, 1, 1, 1, 1, 1, 1, 1, 1, 1, 1, 1, 1, 1, 1, 1, 1, 1, 2, 1, 2, 1, 2, 1, 3, 2, 3, 1, 3, 2, 3, 4, 5, 6, 1, 7, 6, 5, 4, 3, 5, 7, 2, 9, 7, 5, 8, 3, 10, 7, 4]
+    return [None] + list(zip(sizes, pages))
+
+
+CLASSES = load_classes()
+
+
+class Span:
+    __slots__ = ("page", "pages", "cls", "slot", "count", "bits", "next", "word", "order")
+
+
+class Heap:
+    def __init__(self, chunks, goal, procs):
+        self.pages, self.goal = chunks * CHUNK, goal
+        self.owner = [None] * self.pages
+        self.unscav = [False] * self.pages
+        self.backed = 0
+        self.cycle = 0
+        self.spans = {}
+        self.swept = {}
+        self.unswept = {}
+        self.cache = [dict() for _ in range(procs)]
+        self.flushed = [True] * procs
+        self.marks = {}
+        self.notes = []
+        self.swept_pages = self.spent = self.chunk = 0
+        self.P = self.D = 0
+
+    # -- pages
+    def find(self, n):
+        run = 0
+        for p in range(self.pages):
+            run = 0 if self.owner[p] else run + 1
+            if run == n:
+                return p - n + 1
+        return None
+
+    def take(self, n, cls):
+        if n > self.pages:
+            at = None
+        else:
+            at = self.find(n)
+        if at is None:
+            return None
+        s = Span()
+        s.page, s.pages, s.cls, s.next, s.word = at, n, cls, 0, "held"
+        if cls < 2:
+            s.slot, s.count = n * PAGE, 1
+        else:
+            s.slot = CLASSES[cls // 2][0]
+            s.count = n * PAGE // s.slot
+        s.bits = [False] * s.count
+        for p in range(at, at + n):
+            self.owner[p] = s
+            if not self.unscav[p]:
+                self.unscav[p] = True
+                self.backed += 1
+        self.spans[at] = s
+        self.lines.append((self.cycle, f"take {at} {n} {cls}"))
+        return s
+
+    lines = None
+
+    def give(self, s):
+        for p in range(s.page, s.page + s.pages):
+            self.owner[p] = None
+        del self.spans[s.page]
+        s.word = "gone"
+        self.lines.append((self.cycle, f"give {s.page} {s.pages}"))
+
+    def scavenge(self):
+        while self.backed > self.goal:
+            top = next((p for p in range(self.pages - 1, -1, -1) if self.owner[p] is None and self.unscav[p]), None)
+            if top is None:
+                return
+            low = top
+            while low % CHUNK and top - low + 1 < 64 and self.owner[low - 1] is None and self.unscav[low - 1]:
+                low -= 1
+            for p in range(low, top + 1):
+                self.unscav[p] = False
+            self.backed -= top - low + 1
+            self.lines.append((self.cycle, f"scav {low} {top - low + 1}"))
+
+    # -- sets
+    def push(self, s, full):
+        s.word = "swept"
+        self.swept.setdefault((s.cls, full), deque()).append(s)
+
+    def sweep(self, s):
+        marked = self.marks.get(s.page, set())
+        kept = len(marked)
+        freed = sum(s.bits) - kept
+        s.bits = [i in marked for i in range(s.count)]
+        s.next = 0
+        self.swept_pages += s.pages
+        self.notes.append((self.cycle, s.page, kept, freed))
+        return kept
+
+    def settle(self, s):
+        kept = self.sweep(s)
+        if kept == 0:
+            self.give(s)
+            return s.pages
+        self.push(s, s.cls < 2 or kept == s.count)
+        return 0
+
+    def sweep_one(self):
+        for cls in range(136):
+            for full in (True, False):
+                q = self.unswept.get((cls, full))
+                while q:
+                    s = q.popleft()
+                    if s.word == "unswept":
+                        self.settle(s)
+                        return True
+        return False
+
+    def sweep_all(self):
+        while self.sweep_one():
+            pass
+
+    def pay(self, b, credit):
+        if self.cycle == 0:
+            return
+        target = self.P * (b + self.spent) // self.D - credit
+        while self.swept_pages < target:
+            if not self.sweep_one():
+                return
+
+    def reclaim(self, n):
+        given, claimed = 0, 0
+        chunks = self.pages // CHUNK
+        while given < n and claimed < chunks:
+            i, self.chunk, claimed = self.chunk, self.chunk + 1, claimed + 1
+            if i >= chunks:
+                return
+            for p in range(i * CHUNK, (i + 1) * CHUNK):
+                s = self.spans.get(p)
+                if s and s.word == "unswept" and not self.marks.get(p):
+                    given += self.settle(s)
+
+    def new_span(self, n, cls):
+        self.reclaim(n)
+        s = self.take(n, cls)
+        if s is None:
+            self.sweep_all()
+            s = self.take(n, cls)
+        if s is None:
+            self.lines.append((self.cycle, f"miss {n} {cls}"))
+            return len(self.lines) - 1
+        return s
+
+    def flush(self, p):
+        if self.flushed[p]:
+            return
+        self.flushed[p] = True
+        for cls in sorted(self.cache[p]):
+            s = self.cache[p].pop(cls)
+            self.settle(s)
+
+    def cache_span(self, cls):
+        q = self.swept.get((cls, False))
+        if q:
+            return q.popleft()
+        tried = 0
+        for full in (False, True):
+            q = self.unswept.get((cls, full))
+            while q and tried < 100:
+                s = q.popleft()
+                tried += 1
+                if s.word != "unswept":
+                    continue
+                kept = self.sweep(s)
+                if kept < s.count:
+                    return s
+                self.push(s, True)
+        return None
+
+    @staticmethod
+    def lowest(s):
+        for i in range(s.next, s.count):
+            if not s.bits[i]:
+                return i
+        return None
+
+    def place(self, s, i):
+        s.bits[i] = True
+        s.next = i + 1
+        return ("at", s, i, BASE + PAGE * s.page + s.slot * i)
+
+    def alloc(self, p, size, scan):
+        if size == 0:
+            return ("zero",)
+        self.flush(p)
+        if size > 32768:
+            n = -(-size // PAGE)
+            cls = 0 if scan else 1
+            self.pay(n * PAGE, n)
+            s = self.new_span(n, cls)
+            if isinstance(s, int):
+                return ("miss", s)
+            self.spent += n * PAGE
+            got = self.place(s, 0)
+            self.push(s, True)
+            return got
+        k = next(c for c in range(1, 68) if CLASSES[c][0] >= size)
+        cls = 2 * k + (0 if scan else 1)
+        s = self.cache[p].get(cls)
+        if s:
+            i = self.lowest(s)
+            if i is not None:
+                return self.place(s, i)
+            del self.cache[p][cls]
+            self.push(s, True)
+        n = CLASSES[k][1]
+        self.pay(n * PAGE, 0)
+        s = self.cache_span(cls)
+        if s is None:
+            s = self.new_span(n, cls)
+            if isinstance(s, int):
+                return ("miss", s)
+        self.spent += n * PAGE
+        s.word = "cached"
+        self.cache[p][cls] = s
+        return self.place(s, self.lowest(s))
+
+    def end_cycle(self):
+        self.scavenge()
+        if self.cycle > 0:
+            self.sweep_all()
+            for p in range(len(self.cache)):
+                self.flush(p)
+        self.scavenge()
+
+    def mark_end(self, distance, marks):
+        self.P = sum(s.pages for s in self.spans.values())
+        self.D = max(distance - 1048576, 8192)
+        self.marks = marks
+        self.unswept, self.swept = self.swept, {}
+        for s in self.spans.values():
+            s.word = "stale" if s.word == "cached" else "unswept"
+        self.flushed = [False] * len(self.cache)
+        self.swept_pages = self.spent = self.chunk = 0
+        self.cycle += 1
+
+
+def main():
+    lines = sys.stdin.read().split("\n")
+    head = lines[1].split()
+    chunks, procs, rate, goal = int(head[1]), int(head[3]), int(head[5]), int(head[9])
+    assert rate == 0
+    heap = Heap(chunks, goal, procs)
+    heap.lines = []
+    answers, need, live = [], [], set()
+    queues = [[] for _ in range(procs)]
+    at = 2
+    ids = 0
+    cyc = []
+    out = {}
+
+    def run_cycle():
+        for p in range(procs):
+            for (i, size, scan) in queues[p]:
+                out[i] = heap.alloc(p, size, scan)
+            queues[p].clear()
+        heap.end_cycle()
+
+    while True:
+        f = lines[at].split()
+        at += 1
+        if f[0] == "a":
+            queues[int(f[1])].append((ids, int(f[2]), f[3] == "s"))
+            need.append(int(f[2]))
+            cyc.append(heap.cycle)
+            ids += 1
+        elif f[0] in ("gc", "end"):
+            run_cycle()
+            if f[0] == "end":
+                break
+            marked, marks = set(), {}
+            while lines[at].startswith("m "):
+                _, lo, hi = lines[at].split()
+                marked.update(range(int(lo), int(hi) + 1))
+                at += 1
+            live = {i for i in marked if out[i][0] == "at"}
+            for i in live:
+                marks.setdefault(out[i][1].page, set()).add(out[i][2])
+            heap.mark_end(int(f[1]), marks)
+    w = sys.stdout.write
+    totals = {}
+    for i in range(ids):
+        a = out[i]
+        if a[0] == "zero":
+            w(f"o {i} zero\n")
+        elif a[0] == "miss":
+            w(f"o {i} miss {a[1]}\n")
+        else:
+            w(f"o {i} {a[3]:#x}\n")
+            t = totals.setdefault(a[1].cls // 2, [0, 0])
+            t[0] += 1
+            if cyc[i] != heap.cycle and i not in live:
+                t[1] += 1
+    for n, (c, text) in enumerate(heap.lines):
+        w(f"j {n} {c} {text}\n")
+    for c, p, k, fr in sorted(heap.notes):
+        w(f"s {c} {p} {k} {fr}\n")
+    for c in sorted(totals):
+        w(f"t {c} {totals[c][0]} {totals[c][1]}\n")
+    w("end\n")
+
+
+main()
