@@ -1,5 +1,5 @@
 -- The words of the command `gen`.
-use Rattle.std.proofs.Common.{◌≡◌, ℕ, ◌^◌, ◌<◌, ◌≤◌, List, [], ◌∷◌, length, map, get_or, codes, decimal, Option, Some, None, MatchOption, refl, arith, String, string_bytes}
+use Rattle.std.proofs.Common.{◌≡◌, ℕ, List, [], ◌∷◌, length, get_or, codes, Option, Some, None, MatchOption, refl, arith, String, string_bytes}
 use Rattle.std.specs.declared.alloc.Global.{Global}
 use Rattle.made_lines.specs.Asks.{Asks}
 use Rattle.made_lines.specs.declared.wanted.Wanted.{Wanted}

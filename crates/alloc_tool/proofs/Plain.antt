@@ -1,12 +1,12 @@
 -- Each way in which a call that needs no runtime ends.
-use Rattle.std.proofs.Common.{◌≡◌, ◌≢◌, ◌⊎◌, ℕ, ◌^◌, ◌<◌, ◌≤◌, List, [], ◌∷◌, map, Option, String, string_bytes, codes, decimal, inl, inr, refl, sym, ◌∙◌, subst, arith}
+use Rattle.std.proofs.Common.{◌≡◌, ◌≢◌, ℕ, List, [], ◌∷◌, Option, String, codes, inl, inr, refl, sym, ◌∙◌, subst, arith}
 use Rattle.std.specs.declared.alloc.Global.{Global}
 use Rattle.edge_io.specs.Causes.{Rose}
 use Rattle.edge_io.specs.Front.{AppendsFront}
 use Rattle.trace_reader.proofs.Digits.{decimal_injective_wide}
 use Rattle.class_lines.specs.Text.{classes_text}
 use Rattle.made_lines.specs.Asks.{made_text}
-use Rattle.alloc_tool.specs.Plain.{IsUnknown, Plain, Writes}
+use Rattle.alloc_tool.specs.Plain.{Plain, Writes}
 use Rattle.alloc_tool.specs.Texts.{status_text, usage, write_fault}
 use Rattle.alloc_tool.specs.Told.{Tells}
 use Rattle.alloc_tool.specs.Words.{IsClasses, IsGen}
