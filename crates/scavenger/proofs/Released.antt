@@ -1,15 +1,14 @@
 -- How many pages are backed behind the lines of scavenging steps.
-use Rattle.std.proofs.Common.{◌≡◌, ◌⊎◌, ℕ, ◌+◌, ◌<◌, ◌≤◌, Bool, true, false, ◌||◌, List, [], ◌∷◌, ◌++◌, length, is_some, Some, Ok, refl, sym, ◌∙◌, ap, subst, arith, inl, inr}
+use Rattle.std.proofs.Common.{◌≡◌, ◌⊎◌, ℕ, ◌+◌, ◌<◌, ◌≤◌, Bool, true, false, ◌||◌, List, [], ◌∷◌, ◌++◌, length, is_some, Ok, refl, sym, subst, arith, inl, inr}
 use Rattle.page_bitmap.specs.Counts.{count_run}
 use Rattle.page_bitmap.specs.CountLaws.{count_below-all, count_below-le, count_below-none, count_below-run}
 use Rattle.page_bitmap.specs.declared.line.Line.{Line}
 use Rattle.page_bitmap.specs.declared.line.Line.TheVariants.{Scav}
 use Rattle.page_bitmap.specs.declared.line.Run.{Run}
-use Rattle.page_alloc.specs.Lists.{count_below}
-use Rattle.page_alloc.specs.Journal.{IsLoose, IsScavengeRun, Legal, backed, owner, unscavenged, within}
+use Rattle.page_alloc.specs.Journal.{IsScavengeRun, Legal, backed, owner, unscavenged, within}
 use Rattle.page_alloc.proofs.Lives.{within-false, within-true}
 use Rattle.cycle_history.specs.Sound.{IsScavenged}
-use Rattle.span_laws.specs.Views.{Seen, knows}
+use Rattle.span_laws.specs.Views.{Seen}
 use Rattle.scavenger.specs.declared.scavenge.Reason.{Reason}
 use Rattle.scavenger.specs.declared.scavenge.Reason.TheVariants.{AtGoal, NoCandidate, TurnsSpent}
 use Rattle.scavenger.specs.declared.scavenge.Stopped.{Stopped}

@@ -1,7 +1,7 @@
 -- The steps of a call, one after another.
-use Rattle.std.proofs.Common.{◌≡◌, ◌⊎◌, ℕ, ◌+◌, ◌<◌, ◌≤◌, List, [], ◌∷◌, length, Option, Some, None, is_some, true, false, Ok, Err, inl, inr, refl, sym, ◌∙◌, ap, subst, arith}
+use Rattle.std.proofs.Common.{◌≡◌, ◌⊎◌, ℕ, ◌+◌, ◌<◌, ◌≤◌, List, [], ◌∷◌, length, Option, Some, None, is_some, true, false, Ok, Err, inl, inr, refl, ◌∙◌, ap, subst, arith}
 use Rattle.fallible_list.specs.declared.list.NoMemory.{NoMemory}
-use Rattle.page_alloc.specs.Journal.{IsLoose, Legal, MayFollow, backed}
+use Rattle.page_alloc.specs.Journal.{IsLoose, Legal, backed}
 use Rattle.page_bitmap.specs.declared.line.Line.{Line}
 use Rattle.page_bitmap.specs.declared.line.Line.TheVariants.{Scav}
 use Rattle.page_bitmap.specs.declared.line.Run.{Run}
@@ -10,7 +10,6 @@ use Rattle.span_laws.specs.Answers.{IsToldOf, Released, StepsOnce, cycle_at, pas
 use Rattle.span_laws.specs.Views.{Seen, knows}
 use Rattle.scavenger.specs.declared.scavenge.Reason.{Reason}
 use Rattle.scavenger.specs.declared.scavenge.Reason.TheVariants.{AtGoal, NoCandidate, TurnsSpent}
-use Rattle.scavenger.specs.declared.scavenge.Stopped.{Stopped}
 use Rattle.scavenger.specs.Scavenges.{IsReason, Releases, Scavenges, StopsFor, behind}
 
 pub none-of : (o : Option Run) → is_some o ≡ false → o ≡ None

@@ -74,31 +74,33 @@ fn freed(alloc: Global, goal: u32) -> Result<Pages, Fail>
     Ok(pages)
 }
 
-// The goal, and the first pages of the runs of 64 pages that are released of these 128.
-const FREED: [(u32, &[u32]); 7] = [
-    (0, &[64, 0]),
-    (63, &[64, 0]),
-    (64, &[64]),
-    (100, &[64]),
-    (127, &[64]),
-    (128, &[]),
-    (512, &[]),
+// The two runs of these pages.
+const HIGH: Option<Run> = Some(Run {
+    page: 64,
+    pages: 64,
+});
+
+const LOW: Option<Run> = Some(Run { page: 0, pages: 64 });
+
+// The goal, and what three steps release.
+const FREED: [(u32, [Option<Run>; 3]); 7] = [
+    (0, [HIGH, LOW, None]),
+    (63, [HIGH, LOW, None]),
+    (64, [HIGH, None, None]),
+    (100, [HIGH, None, None]),
+    (127, [HIGH, None, None]),
+    (128, [None, None, None]),
+    (512, [None, None, None]),
 ];
 
 #[test]
 fn freed_pages_are_released_to_the_goal(rt: HostRuntime) -> Result<(), Fail> {
-    for (goal, firsts) in FREED {
+    for (goal, runs) in FREED {
         let mut pages = freed(rt.alloc(), goal)?;
-        for first in firsts {
+        for run in runs {
             pages.reserve_line()?;
-            let run = Run {
-                page: *first,
-                pages: 64,
-            };
-            assert_eq!(rt; pages.scavenge(0), Some(run), "goal {goal}");
+            assert_eq!(rt; pages.scavenge(0), run, "goal {goal}");
         }
-        pages.reserve_line()?;
-        assert_eq!(rt; pages.scavenge(0), None, "goal {goal}");
     }
     Ok(())
 }
