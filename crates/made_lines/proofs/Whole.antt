@@ -1,10 +1,9 @@
 -- A word that is a number.
-use Rattle.std.proofs.Common.{◌≡◌, ℕ, ◌^◌, ◌<◌, ◌≤◌, List, [], ◌++◌, length, false, ◌==◌, decimal, sym, ◌∙◌, refl, arith}
+use Rattle.std.proofs.Common.{◌≡◌, ℕ, ◌^◌, ◌<◌, List, [], length, false, ◌==◌, decimal, sym, ◌∙◌, arith}
 use Rattle.std.proofs.lemmas.List.{append-nil}
 use Rattle.trace_reader.specs.Words.{IsField}
 use Rattle.trace_reader.proofs.Digits.{one_number, decimal_injective_wide}
 use Rattle.trace_reader.proofs.Forms.{not_empty}
-use Rattle.made_lines.specs.Asks.{Asks}
 
 field : (word : List ℕ) (n : ℕ) → n < 10 ^ 20 → word ≡ decimal n → IsField [] word n []
 field word n small is = record { spelled = is ∙ sym (append-nil (decimal n)); small = small; ended = tt }

@@ -11,7 +11,7 @@ use Rattle.sweeper.specs.Work.{Does, OnlySweeps, Stays, Works, notes_of}
 use Rattle.sweeper.proofs.Counting.{notes-append, nothing-sweeps, sweeps-append}
 
 pub stays-same : (a : Seen) → Stays a a
-stays-same a = record { here = refl; table = refl; number = refl; region = refl; goal = refl; generation = refl; marks = refl; parts = refl; sweeping = refl; cached = refl; claimed = refl; fresh = refl; reset = refl; bodies = λ q h. refl }
+stays-same a = record { here = refl; table = refl; number = refl; region = refl; goal = refl; generation = refl; marks = refl; before = refl; carried = refl; parts = refl; sweeping = refl; cached = refl; claimed = refl; fresh = refl; reset = refl; bodies = λ q h. refl }
 
 times_front : (q : ℕ) (xs ys : List ℕ) → times q (xs ++ ys) ≡ times q xs + times q ys
 times_front q [] ys = omega arith
@@ -27,6 +27,8 @@ module _ (a b d : Seen) (more also : List ℕ) (said then : List Entry) (x : Doe
     goal = t.goal ∙ s.goal;
     generation = t.generation ∙ s.generation;
     marks = t.marks ∙ s.marks;
+    before = t.before ∙ s.before;
+    carried = t.carried ∙ s.carried;
     parts = t.parts ∙ s.parts;
     sweeping = t.sweeping ∙ s.sweeping;
     cached = t.cached ∙ s.cached;

@@ -42,6 +42,8 @@ pub record Stays (old new : Seen) : Type 0 where
   pub goal : new.view.goal ≡ old.view.goal
   pub generation : new.view.generation ≡ old.view.generation
   pub marks : new.view.marks ≡ old.view.marks
+  pub before : new.view.before ≡ old.view.before
+  pub carried : new.view.carried ≡ old.view.carried
   pub parts : new.view.parts ≡ old.view.parts
   pub sweeping : new.view.own.sweeping ≡ old.view.own.sweeping
   pub cached : new.view.own.cached ≡ old.view.own.cached
