@@ -1,14 +1,18 @@
 -- What the rows' helpers tell of a worker.
-use Rattle.std.specs.Prelude.{◌≡◌, ℕ, ◌<◌, true, None}
+use Rattle.std.specs.Prelude.{◌≡◌, ℕ, ◌<◌, Bool, true, false, None, List, [], ◌∷◌, ◌++◌, length}
 use Rattle.atomic_table.specs.Seated.{TableId}
 use Rattle.sweep_laws.specs.Lists.{has}
 use Rattle.sweep_laws.specs.Needs.{is_swept_set}
 use Rattle.span_state.specs.declared.body.Body.{Body}
-use Rattle.span_laws.specs.Asks.{HasBody, IsFullBody, IsUsed}
-use Rattle.span_laws.specs.Views.{Seen}
+use Rattle.sweep_laws.specs.Owned.{EachAt}
+use Rattle.span_laws.specs.Asks.{HasBody, IsFullBody, IsIdle, IsUsed}
+use Rattle.span_laws.specs.Logs.{is_placing_at}
+use Rattle.span_laws.specs.declared.said.Said.TheVariants.{Reads}
+use Rattle.worker_log.specs.declared.Entry.{Entry}
+use Rattle.span_laws.specs.Views.{Seen, acts, after_said, parts_of}
 use Rattle.span_set.specs.declared.answers.Pop.{Pop}
 use Rattle.span_set.specs.declared.answers.Pop.TheVariants.{Taken, Empty, NotYet}
-use Rattle.worker_log.specs.Logs.{is_pop_of, many}
+use Rattle.worker_log.specs.Logs.{is_pop_of, is_seen_empty, many}
 
 -- The worker has the state of this table, and has claimed nothing.
 pub record IsReady (t : TableId) (w : Seen) : Type 0 where
@@ -30,3 +34,38 @@ abbrev pub LeavesClaim : Seen → Seen → Pop → Type 0
 LeavesClaim old new (Taken body) = Unit {0}
 LeavesClaim old new (Empty head tail) = new.view.own.claimed ≡ old.view.own.claimed
 LeavesClaim old new (NotYet head) = new.view.own.claimed ≡ old.view.own.claimed
+
+-- The driver of this table, with the state and in a region of one chunk, where no worker has anything of a span.
+pub record IsFreeDriver (t : TableId) (w : Seen) : Type 0 where
+  pub here : w.here ≡ true
+  pub table : w.table ≡ t
+  pub number : w.number ≡ 69
+  pub region : w.view.region ≡ 512
+  pub many : length w.view.parts ≡ 70
+  pub idle : EachAt (parts_of w.number w.view) (λ m h. IsIdle h)
+  pub uncached : EachAt (parts_of w.number w.view) (λ m h. h.cached ≡ [])
+
+-- It placed the first object of the span of this page.
+abbrev pub HasPlaced : ℕ → Seen → Type 0
+HasPlaced page w = 0 < many (is_placing_at page 0) w.view.own.log
+
+-- A worker whose log has these entries more.
+abbrev pub with_log : List Entry → Seen → Seen
+with_log said w = record w { view = acts w.view (record w.view.own { log = said ++ w.view.own.log }) }
+
+-- It read the generation and looked at sets, and saw each unswept set below n empty.
+pub record SeesBelow (n : ℕ) (old new : Seen) : Type 0 where
+  pub said : List Entry
+  pub seen : (k : ℕ) → k < n → is_swept_set old.view.generation k ≡ false → 0 < many (is_seen_empty k) said
+  pub view : new ≡ with_log said (after_said (Reads 1 old.view.generation) old)
+
+-- So it saw all of them, where the answer is true.
+abbrev pub SeesEmpty : Seen → Seen → Bool → Type 0
+SeesEmpty old new false = Unit {0}
+SeesEmpty old new true = SeesBelow 544 old new
+
+-- The driver behind a mark end of generation 4 that marked the first object of the page.
+pub record HasTurned (t : TableId) (page : ℕ) (w : Seen) : Type 0 where
+  pub free : IsFreeDriver t w
+  pub generation : w.view.generation ≡ 6
+  pub marks : w.view.marks ≡ (page, 0) ∷ []

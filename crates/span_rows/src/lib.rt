@@ -2,6 +2,10 @@
 #![tactic(auto)]
 
 #[cfg(test)]
+mod calls;
+#[cfg(test)]
 mod helpers;
 #[cfg(test)]
 mod tests;
+#[cfg(test)]
+mod turns;

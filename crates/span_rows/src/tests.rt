@@ -1,5 +1,7 @@
 use crate::helpers::{LARGE, claim_large, large, pop, start};
+use crate::{calls, turns};
 use span_set::{Pop, SetId, fill};
+use span_table::{Acquired, Uncached};
 use std::test::Fail;
 
 #[test]
@@ -30,5 +32,31 @@ fn a_claimed_cell_is_not_filled_yet(rt: HostRuntime) -> Result<(), Fail> {
         panic!(rt; "the filled cell was not popped");
     };
     assert_eq!(rt; body.page, page);
+    Ok(())
+}
+
+#[test]
+fn a_swept_span_is_not_acquired_again(rt: HostRuntime) -> Result<(), Fail> {
+    let alloc = rt.alloc();
+    let (mut shared, mut driver) = turns::start(alloc)?;
+    let page = turns::place(&shared, &mut driver)?;
+    turns::turn(alloc, &mut shared, &mut driver, page)?;
+    turns::sweep(&shared, &mut driver, page)?;
+    let mut other = shared.hand_out(&mut driver, 1)?;
+    let Acquired::Other(6) = shared.acquire(&mut other, page) else {
+        panic!(rt; "the span was acquired again");
+    };
+    Ok(())
+}
+
+#[test]
+fn calls_answer_by_the_state(rt: HostRuntime) -> Result<(), Fail> {
+    let (shared, mut w) = turns::start(rt.alloc())?;
+    assert_eq!(rt; calls::found(&shared, &mut w), Some(0));
+    assert_eq!(rt; calls::cached(&shared, &mut w)?, Uncached::Fresh);
+    let step = shared.scavenge_step(&mut w)?;
+    assert_eq!(rt; (step.run, step.backed), (None, 512));
+    assert_eq!(rt; shared.pages_taken(&mut w), 512);
+    assert_eq!(rt; calls::missed(&shared, &mut w), Some(1));
     Ok(())
 }

@@ -1,0 +1,219 @@
+-- A driver beside whom no worker has anything of a span: it places an object, looks at sets and ends a mark phase.
+use Rattle.std.proofs.Common.{◌≡◌, ℕ, ◌+◌, ◌<◌, inr, ◌&&◌, eqb, eq-eqb, true, false, true≢false, List, [], ◌∷◌, ◌++◌, map, length, refl, ap, sym, subst, ◌∙◌, arith}
+use Rattle.std.specs.List.{range_with_len}
+use Rattle.std.proofs.lemmas.List.FromFn.{length-map-range_with_len}
+use Rattle.std.proofs.lemmas.List.{length-map, map-set}
+use mathlib.Core.Logic.{dite}
+use mathlib.Core.Option.{some, some-injective}
+use lib.ListN.{get_elem?}
+use native.Mathlib.Decide.{ℕ_discrete}
+use Rattle.atomic_table.specs.Seated.{TableId}
+use Rattle.page_bitmap.specs.declared.line.Line.{Line}
+use Rattle.page_bitmap.specs.Counts.{one_if}
+use Rattle.sweep_laws.specs.Lists.{erase, has}
+use Rattle.sweep_laws.specs.Needs.{is_swept_set}
+use Rattle.sweep_laws.specs.Owned.{EachAt}
+use Rattle.sweep_laws.proofs.Naming.{set_here}
+use Rattle.worker_log.specs.declared.Entry.TheVariants.{Looked}
+use Rattle.worker_log.specs.Logs.{is_pop_of, is_seen_empty, many, swept_set}
+use Rattle.worker_log.proofs.Logs.{many-append}
+use Rattle.span_state.specs.MarkSet.{has_pair}
+use Rattle.span_set.proofs.Numbers.{swept_is, swept_low}
+use Rattle.span_laws.specs.Asks.{IsUntouched, IsAtRest, IsIdle, MayMark, MaySettle}
+use Rattle.span_laws.specs.Logs.{is_placing_at}
+use Rattle.span_laws.specs.declared.said.Said.TheVariants.{Claims, Fills, Looks, Reads}
+use Rattle.span_laws.specs.declared.said.SaidOf.TheVariants.{Acquires, Places, Releases, Takes}
+use Rattle.span_laws.specs.declared.view.Part.{Part}
+use Rattle.span_laws.specs.declared.view.Span.{Span}
+use Rattle.span_laws.specs.Views.{Seen, acts, after_next, after_of, after_said, first_view, knows, no_part, parts_of, rested}
+use Rattle.span_laws.proofs.MarkEnd.{map_at}
+use Rattle.span_laws.proofs.Parts.{set_else}
+use Rattle.span_laws.proofs.Start.{at_here, set_here as copy_here}
+use Rattle.span_set.specs.Resets.{ResetsBelow}
+use Rattle.span_rows.specs.Rows.{HasPlaced, HasTurned, IsFreeDriver, SeesBelow}
+
+idle_part : IsIdle no_part
+idle_part = record { sweeping = refl; held = refl; popped = refl; claimed = refl }
+
+-- at the start no worker has anything; over variables, so that no list of parts is written out
+free_start : (t : TableId) (workers n pages goal : ℕ) (w : Seen) → w ≡ record { here = true; table = t; number = n; view = first_view pages goal workers } → n ≡ 69 → pages ≡ 512 → workers ≡ 70 → IsFreeDriver t w
+free_start t workers n pages goal w e is size many_is = subst (IsFreeDriver t) (sym e) (record {
+  here = refl;
+  table = refl;
+  number = is;
+  region = size;
+  many = length-map-range_with_len (λ _. no_part) 0 workers ∙ many_is;
+  idle = λ m x a. subst IsIdle (at_here no_part (range_with_len 0 workers) m x (subst (λ (l : List Part). get_elem? l m ≡ some x) (copy_here no_part workers n) a)) idle_part;
+  uncached = λ m x a. ap (λ (h : Part). h.cached) (sym (at_here no_part (range_with_len 0 workers) m x (subst (λ (l : List Part). get_elem? l m ≡ some x) (copy_here no_part workers n) a)));
+})
+
+pub starts : (t : TableId) (pages : ℕ) (w : Seen) → w ≡ record { here = true; table = t; number = 69; view = first_view pages 512 70 } → pages ≡ 512 → IsFreeDriver t w
+starts t pages w e size = free_start t 70 69 pages 512 w e refl size refl
+
+module _ (t : TableId) (w : Seen) (f : IsFreeDriver t w) where
+  low : w.number < length w.view.parts
+  low = let m = f.many in let n = f.number in omega arith
+
+  own_at : get_elem? (parts_of w.number w.view) w.number ≡ some w.view.own
+  own_at = set_here w.view.parts w.number w.view.own low
+
+  pub own_idle : IsIdle w.view.own
+  own_idle = f.idle w.number w.view.own own_at
+
+  pub own_uncached : w.view.own.cached ≡ []
+  own_uncached = f.uncached w.number w.view.own own_at
+
+  -- the own part changes, and has nothing
+  pub still_free : (h : Part) (new : Seen) → new ≡ record w { view = acts w.view h } → IsIdle h → h.cached ≡ [] → IsFreeDriver t new
+  still_free h new e idle uncached = subst (IsFreeDriver t) (sym e) (record {
+    here = f.here;
+    table = f.table;
+    number = f.number;
+    region = f.region;
+    many = f.many;
+    idle = λ m x a. each IsIdle idle f.idle m x a;
+    uncached = λ m x a. each (λ p. p.cached ≡ []) uncached f.uncached m x a;
+  })
+    where
+      each : (P : Part → Type 0) → P h → EachAt (parts_of w.number w.view) (λ m x. P x) → (m : ℕ) (x : Part) → get_elem? (parts_of w.number (acts w.view h)) m ≡ some x → P x
+      each P own all m x a = dite (ℕ_discrete m w.number)
+          (λ s. subst P (some-injective h x (sym (set_here w.view.parts w.number h low) ∙ ap (get_elem? (parts_of w.number (acts w.view h))) (sym s) ∙ a)) own)
+          (λ d. all m x (set_else w.view.parts w.number w.view.own m d ∙ sym (set_else w.view.parts w.number h m d) ∙ a))
+
+  -- a span is taken, gets its object and is pushed
+  pub placed_free : (c j i p g : ℕ) (s b : Span) (w1 w2 w3 w4 : Seen) → w1 ≡ after_of (Takes c) s w → w2 ≡ after_of (Places 0) b w1 → w3 ≡ after_said (Claims j i p) (after_said (Reads 1 g) w2) → w4 ≡ after_said (Fills j p) w3 → s.page ≡ p → b.page ≡ p
+      → IsFreeDriver t w4 × HasPlaced p w4 × (w4.view.generation ≡ w.view.generation)
+  placed_free c j i p g s b w1 w2 w3 w4 e1 e2 e3 e4 sp bp =
+      let all : w4 ≡ after_said (Fills j p) (after_said (Claims j i p) (after_said (Reads 1 g) (after_of (Places 0) b (after_of (Takes c) s w)))) = e4 ∙ ap (after_said (Fills j p)) (e3 ∙ ap (λ (x : Seen). after_said (Claims j i p) (after_said (Reads 1 g) x)) (e2 ∙ ap (after_of (Places 0) b) e1)) in
+      let o = own_idle in (
+        still_free _ w4 all
+            (record { sweeping = o.sweeping; held = ap (λ (xs : List ℕ). erase p (xs ++ s.page ∷ [])) o.held ∙ ap (λ (q : ℕ). erase p (q ∷ [])) sp ∙ gone p; popped = o.popped; claimed = refl }) own_uncached,
+        subst (HasPlaced p) (sym all) (let z = ap one_if (let y : (eqb b.page p && eqb 0 0) ≡ true = rw (eq-eqb b.page p bp, eq-eqb 0 0 refl) refl in y) in omega arith),
+        ap (λ (x : Seen). x.view.generation) all,
+      )
+    where
+      gone : (q : ℕ) → erase q (q ∷ []) ≡ []
+      gone q = rw (eq-eqb q q refl) refl
+
+-- one look more
+module _ (old now : Seen) (n : ℕ) (s : SeesBelow n old now) where
+  pub sees_skips : is_swept_set old.view.generation n ≡ true → SeesBelow (n + 1) old now
+  sees_skips part = record {
+    said = s.said;
+    seen = λ k l u. dite (ℕ_discrete k n) (λ e. absurd (true≢false (sym part ∙ ap (is_swept_set old.view.generation) (sym e) ∙ u))) (λ d. s.seen k (omega arith) u);
+    view = s.view;
+  }
+
+  pub sees_more : (h t : ℕ) (new : Seen) → h ≡ t → new ≡ after_said (Looks n h t) now → SeesBelow (n + 1) old new
+  sees_more h t new same e = record {
+    said = Looked n h t ∷ s.said;
+    seen = λ k l u. dite (ℕ_discrete k n)
+        (λ q. let z = ap one_if (let y : (eqb n k && eqb h t) ≡ true = rw (eq-eqb n k (sym q), eq-eqb h t same) refl in y) in omega arith)
+        (λ d. let z = s.seen k (omega arith) u in omega arith);
+    view = e ∙ ap (after_said (Looks n h t)) s.view;
+  }
+
+pub sees_none : (old now : Seen) → now ≡ after_said (Reads 1 old.view.generation) old → SeesBelow 0 old now
+sees_none old now e = record { said = []; seen = λ k l u. absurd (omega arith); view = e }
+
+-- the log has no pop of a new span's page from the full set of large spans, after its object was placed
+pub untouched_pops : (w w1 w2 : Seen) (s b : Span) (i c : ℕ) → w1 ≡ after_of (Takes c) s w → w2 ≡ after_of (Places i) b w1 → (p q : ℕ) → q ≡ p → IsUntouched w.view.generation w.view.own p → many (is_pop_of (swept_set w2.view.generation 0 1) q) w2.view.own.log ≡ 0
+untouched_pops w w1 w2 s b i c e1 e2 p q same u =
+    let all : w2 ≡ after_of (Places i) b (after_of (Takes c) s w) = e2 ∙ ap (after_of (Places i) b) e1 in
+    subst (λ (x : Seen). many (is_pop_of (swept_set x.view.generation 0 1) q) x.view.own.log ≡ 0) (sym all)
+    (let z = subst (λ (r : ℕ). many (is_pop_of (swept_set w.view.generation 0 1) r) w.view.own.log ≡ 0) (sym same) (u.pops (swept_set w.view.generation 0 1) (swept_low w.view.generation 0 1 (omega arith) (omega arith)) (swept_is w.view.generation 0 1 (omega arith))) in omega arith)
+
+-- all unswept sets were seen empty
+module _ (t : TableId) (page : ℕ) (w w1 : Seen) (f : IsFreeDriver t w) (s : SeesBelow 544 w w1) where
+  pub seen_here : w1.here ≡ true
+  seen_here = ap (λ (x : Seen). x.here) s.view ∙ f.here
+
+  pub seen_table : w1.table ≡ t
+  seen_table = ap (λ (x : Seen). x.table) s.view ∙ f.table
+
+  pub seen_empty : (k : ℕ) → k < 544 → is_swept_set w1.view.generation k ≡ false → 0 < many (is_seen_empty k) w1.view.own.log
+  seen_empty k l u = let z = s.seen k l (ap (λ (x : Seen). is_swept_set x.view.generation k) (sym s.view) ∙ u) in
+      subst (λ (x : Seen). 0 < many (is_seen_empty k) x.view.own.log) (sym s.view) (let y = many-append (is_seen_empty k) s.said (after_said (Reads 1 w.view.generation) w).view.own.log in omega arith)
+
+  pub seen_free : IsFreeDriver t w1
+  seen_free = let o = own_idle t w f in still_free t w f _ w1 s.view (record { sweeping = o.sweeping; held = o.held; popped = o.popped; claimed = o.claimed }) (own_uncached t w f)
+
+-- and all of them were reset
+module _ (t : TableId) (page : ℕ) (w w1 w2 : Seen) (f : IsFreeDriver t w) (s : SeesBelow 544 w w1) (r : ResetsBelow 544 w1 w2) where
+  pub reset_free : IsFreeDriver t w2
+  reset_free = let o = own_idle t w1 (seen_free t page w w1 f s) in still_free t w1 (seen_free t page w w1 f s) _ w2 r.view (record { sweeping = o.sweeping; held = o.held; popped = o.popped; claimed = o.claimed }) (own_uncached t w1 (seen_free t page w w1 f s))
+
+  reset_generation : w2.view.generation ≡ w1.view.generation
+  reset_generation = ap (λ (x : Seen). x.view.generation) r.view
+
+  at_rest : IsAtRest w2.number w2.view
+  at_rest = record {
+    driver = reset_free.number;
+    idle = reset_free.idle;
+    fresh = λ m x a p h. absurd (true≢false (sym h ∙ ap (has p) (reset_free.uncached m x a)));
+    empty = λ k l u. subst (λ (x : Seen). 0 < many (is_seen_empty k) x.view.own.log) (sym r.view)
+        (let z = seen_empty t page w w1 f s k l (ap (λ (x : Seen). is_swept_set x.view.generation k) (sym r.view) ∙ u) in omega arith);
+  }
+
+  pub may_settle : MaySettle w2.number w2.view
+  may_settle = record { rest = at_rest; used = λ m x a p h. absurd (true≢false (sym h ∙ ap (has p) (reset_free.uncached m x a))) }
+
+  pub may_mark : (w3 : Seen) → HasPlaced page w → w.view.generation ≡ 4 → (past : List Line) → w3 ≡ knows past w2 → MayMark w3.number w3.view ((page, 0) ∷ [])
+  may_mark w3 placed four past e = subst (λ (x : Seen). MayMark x.number x.view ((page, 0) ∷ [])) (sym e) (record {
+    rest = record {
+      driver = told.number;
+      idle = told.idle;
+      fresh = λ m x a p h. absurd (true≢false (sym h ∙ ap (has p) (told.uncached m x a)));
+      empty = at_rest.empty;
+    };
+    reset = λ k l u. r.unswept k l (ap (λ (x : Seen). is_swept_set x.view.generation k) (sym r.view) ∙ u);
+    early = (let z = generation in omega arith);
+    known = (inr (w2.number, (knows past w2).view.own, set_here w2.view.parts w2.number _ low_two, now), tt);
+    told = (past, refl);
+  })
+    where
+      told : IsFreeDriver t (knows past w2)
+      told = let o = own_idle t w2 reset_free in still_free t w2 reset_free _ (knows past w2) refl (record { sweeping = o.sweeping; held = o.held; popped = o.popped; claimed = o.claimed }) (own_uncached t w2 reset_free)
+
+      low_two : w2.number < length w2.view.parts
+      low_two = let m = reset_free.many in let n = reset_free.number in omega arith
+
+      generation : w2.view.generation ≡ 4
+      generation = reset_generation ∙ ap (λ (x : Seen). x.view.generation) s.view ∙ four
+
+      now : 0 < many (is_placing_at page 0) w2.view.own.log
+      now = subst (λ (x : Seen). 0 < many (is_placing_at page 0) x.view.own.log) (sym r.view)
+          (let z = subst (λ (x : Seen). 0 < many (is_placing_at page 0) x.view.own.log) (sym s.view) (let y = many-append (is_placing_at page 0) s.said (after_said (Reads 1 w.view.generation) w).view.own.log in omega arith) in omega arith)
+
+  pub turned : (w3 : Seen) → w.view.generation ≡ 4 → (past : List Line) → w3 ≡ knows past w2 → (w4 : Seen) → w4 ≡ after_next ((page, 0) ∷ []) w3 → HasTurned t page w4
+  turned w3 four past e w4 e4 = subst (HasTurned t page) (sym (e4 ∙ ap (after_next ((page, 0) ∷ [])) e)) (record {
+    free = record {
+      here = reset_free.here;
+      table = reset_free.table;
+      number = reset_free.number;
+      region = reset_free.region;
+      many = length-map w2.view.parts rested ∙ reset_free.many;
+      idle = λ m x a. (let z = map_at rested (parts_of w2.number (knows past w2).view) m x (subst (λ (l : List Part). get_elem? l m ≡ some x) parts_map a) in let i = told.idle m z.0 z.1 in
+          subst IsIdle z.2 (record { sweeping = i.sweeping; held = i.held; popped = i.popped; claimed = i.claimed }));
+      uncached = λ m x a. (let z = map_at rested (parts_of w2.number (knows past w2).view) m x (subst (λ (l : List Part). get_elem? l m ≡ some x) parts_map a) in ap (λ (h : Part). h.cached) (sym z.2) ∙ told.uncached m z.0 z.1);
+    };
+    generation = ap (λ (g : ℕ). g + 2) (reset_generation ∙ ap (λ (x : Seen). x.view.generation) s.view ∙ four);
+    marks = refl;
+  })
+    where
+      told : IsFreeDriver t (knows past w2)
+      told = let o = own_idle t w2 reset_free in still_free t w2 reset_free _ (knows past w2) refl (record { sweeping = o.sweeping; held = o.held; popped = o.popped; claimed = o.claimed }) (own_uncached t w2 reset_free)
+
+      parts_map : parts_of w2.number (after_next ((page, 0) ∷ []) (knows past w2)).view ≡ map rested (parts_of w2.number (knows past w2).view)
+      parts_map = sym (map-set rested w2.view.parts w2.number (knows past w2).view.own)
+
+-- nor has it after the span was acquired and released
+pub unpopped_swept : (w w1 w2 : Seen) (s b : Span) → w1 ≡ after_of Acquires s w → w2 ≡ after_of Releases b w1 → (p q : ℕ) → q ≡ p → IsUntouched w.view.generation w.view.own p → many (is_pop_of (swept_set w2.view.generation 0 1) q) w2.view.own.log ≡ 0
+unpopped_swept w w1 w2 s b e1 e2 p q same u =
+    let all : w2 ≡ after_of Releases b (after_of Acquires s w) = e2 ∙ ap (after_of Releases b) e1 in
+    subst (λ (x : Seen). many (is_pop_of (swept_set x.view.generation 0 1) q) x.view.own.log ≡ 0) (sym all)
+    (let z = subst (λ (r : ℕ). many (is_pop_of (swept_set w.view.generation 0 1) r) w.view.own.log ≡ 0) (sym same) (u.pops (swept_set w.view.generation 0 1) (swept_low w.view.generation 0 1 (omega arith) (omega arith)) (swept_is w.view.generation 0 1 (omega arith))) in omega arith)
+
+-- the pair of the marked page
+pub marked_first : (marks : List (ℕ × ℕ)) (page q : ℕ) → marks ≡ (page, 0) ∷ [] → q ≡ page → has_pair marks q 0 ≡ true
+marked_first marks page q e same = ap (λ (l : List (ℕ × ℕ)). has_pair l q 0) e ∙ rw (eq-eqb page q (sym same)) refl
