@@ -1,0 +1,16 @@
+pub mod Needs
+pub mod Served
+pub mod Swept
+pub mod Sorted
+pub mod Ended
+pub mod Cycles
+pub mod Parts
+pub mod Acted
+pub mod Queued
+pub mod Driving
+pub mod Reaching
+pub mod Settling
+pub mod Running
+pub mod MarkEnds
+pub mod Begins
+pub mod Answering

@@ -1,0 +1,6 @@
+pub mod Parts
+pub mod Served
+pub mod Swept
+pub mod Turns
+pub mod Settled
+pub mod Runs

@@ -1,0 +1,481 @@
+-- What the turns of workers leave behind.
+use Rattle.std.proofs.Common.{◌≡◌, ◌≢◌, ℕ, zero, suc, ◌+◌, ◌<◌, ◌≤◌, Bool, true, false, eqb, List, [], ◌∷◌, ◌++◌, map, reverse, take, length, get_or, Result, Ok, Err, OnOk, refl, sym, ◌∙◌, ap, arith, ◌⊎◌, inl, inr, subst}
+use Rattle.std.proofs.lemmas.Bool.{cases_eq, cases_lt}
+use Rattle.std.proofs.lemmas.List.{append_assoc, append-nil, reverse-append, take_more}
+use Rattle.page_alloc.specs.Lists.{In}
+use Rattle.span_state.specs.declared.sweep.SweepNote.{SweepNote}
+use Rattle.trace_reader.specs.declared.trace.Event.{Event}
+use Rattle.cycle_history.specs.declared.Answer.{Answer}
+use Rattle.cycle_history.specs.declared.Answer.TheVariants.{Placed, Zero, Missed}
+use Rattle.worker_log.specs.declared.Entry.{Entry}
+use Rattle.worker_log.specs.declared.Entry.TheVariants.{Looked, LookedEmptyCell, Popped, Pushed, Swept, Took, Missed as MissedEntry, Gave, Allocated, Found, Read, Added}
+use Rattle.worker_log.specs.declared.Placing.{Placing}
+use Rattle.worker_log.specs.declared.Sweeping.{Sweeping}
+use Rattle.page_bitmap.specs.declared.line.Line.{Line}
+use Rattle.page_bitmap.specs.declared.line.Line.TheVariants.{Take, Miss, Give, Scav}
+use Rattle.worker_log.specs.Logs.{Refusal, Taking, placings, refusals, sweepings, takings}
+use Rattle.run_laws.proofs.Lists.{in-left, in-right}
+use Rattle.span_laws.specs.Answers.{cycle_at}
+use Rattle.span_laws.specs.Asks.{IsIdle}
+use Rattle.span_laws.specs.Calls.{note_in, notes_of}
+use Rattle.span_laws.specs.Views.{Seen, acts, as_number}
+use Rattle.span_laws.specs.declared.view.Part.{Part}
+use Rattle.span_laws.specs.declared.view.View.{View}
+use Rattle.span_set.specs.declared.hand.Hand.{Hand}
+use Rattle.std.specs.List.{AllByRecursion}
+use Rattle.std.proofs.lemmas.List.{map-append}
+use Rattle.worker_log.specs.Logs.{many}
+use Rattle.span_laws.specs.Calls.{is_missing, is_placing}
+use Rattle.sweeper.specs.Work.{Works, note_by}
+use Rattle.proc_cache.specs.Cache.{Cache}
+use Rattle.proc_cache.specs.Flushes.{Flushes, IsFlushing}
+use Rattle.heap_run.specs.Parts.{IsSameRun, part_at, unheard}
+use Rattle.heap_run.specs.Served.{IsPlacedBy, IsRefusedBy, IsTakenFor, LogTells, Tells, events_by}
+use Rattle.heap_run.specs.Swept.{AreCollected, note_at}
+use Rattle.heap_run.specs.Turns.{HasActed, IsCaching, SaysAnswers, SaysNone, TookTurn}
+use Rattle.heap_run.proofs.Parts.{others-stay, own-part, parts-handed, same-handed, same-trans}
+use Rattle.heap_run.proofs.Swept.{collected-more}
+
+-- ---- logs behind logs
+
+pub placings-append : (xs ys : List Entry) → placings (xs ++ ys) ≡ placings xs ++ placings ys
+placings-append [] ys = refl
+placings-append (Allocated a ∷ xs) ys = ap (λ (l : List Placing). a ∷ l) (placings-append xs ys)
+placings-append (Swept s ∷ xs) ys = placings-append xs ys
+placings-append (MissedEntry n line ∷ xs) ys = placings-append xs ys
+placings-append (Looked a b c ∷ xs) ys = placings-append xs ys
+placings-append (LookedEmptyCell a b ∷ xs) ys = placings-append xs ys
+placings-append (Popped a b ∷ xs) ys = placings-append xs ys
+placings-append (Pushed a b ∷ xs) ys = placings-append xs ys
+placings-append (Took n line ∷ xs) ys = placings-append xs ys
+placings-append (Gave a b ∷ xs) ys = placings-append xs ys
+placings-append (Found a b ∷ xs) ys = placings-append xs ys
+placings-append (Read a b ∷ xs) ys = placings-append xs ys
+placings-append (Added a b ∷ xs) ys = placings-append xs ys
+
+pub sweepings-append : (xs ys : List Entry) → sweepings (xs ++ ys) ≡ sweepings xs ++ sweepings ys
+sweepings-append [] ys = refl
+sweepings-append (Allocated a ∷ xs) ys = sweepings-append xs ys
+sweepings-append (Swept s ∷ xs) ys = ap (λ (l : List Sweeping). s ∷ l) (sweepings-append xs ys)
+sweepings-append (MissedEntry n line ∷ xs) ys = sweepings-append xs ys
+sweepings-append (Looked a b c ∷ xs) ys = sweepings-append xs ys
+sweepings-append (LookedEmptyCell a b ∷ xs) ys = sweepings-append xs ys
+sweepings-append (Popped a b ∷ xs) ys = sweepings-append xs ys
+sweepings-append (Pushed a b ∷ xs) ys = sweepings-append xs ys
+sweepings-append (Took n line ∷ xs) ys = sweepings-append xs ys
+sweepings-append (Gave a b ∷ xs) ys = sweepings-append xs ys
+sweepings-append (Found a b ∷ xs) ys = sweepings-append xs ys
+sweepings-append (Read a b ∷ xs) ys = sweepings-append xs ys
+sweepings-append (Added a b ∷ xs) ys = sweepings-append xs ys
+
+pub takings-append : (xs ys : List Entry) → takings (xs ++ ys) ≡ takings xs ++ takings ys
+takings-append [] ys = refl
+takings-append (Allocated a ∷ xs) ys = takings-append xs ys
+takings-append (Swept s ∷ xs) ys = takings-append xs ys
+takings-append (MissedEntry n line ∷ xs) ys = takings-append xs ys
+takings-append (Looked a b c ∷ xs) ys = takings-append xs ys
+takings-append (LookedEmptyCell a b ∷ xs) ys = takings-append xs ys
+takings-append (Popped a b ∷ xs) ys = takings-append xs ys
+takings-append (Pushed a b ∷ xs) ys = takings-append xs ys
+takings-append (Took n line ∷ xs) ys = ap (λ (l : List Taking). record { number = n; line = line } ∷ l) (takings-append xs ys)
+takings-append (Gave a b ∷ xs) ys = takings-append xs ys
+takings-append (Found a b ∷ xs) ys = takings-append xs ys
+takings-append (Read a b ∷ xs) ys = takings-append xs ys
+takings-append (Added a b ∷ xs) ys = takings-append xs ys
+
+pub refusals-append : (xs ys : List Entry) → refusals (xs ++ ys) ≡ refusals xs ++ refusals ys
+refusals-append [] ys = refl
+refusals-append (Allocated a ∷ xs) ys = refusals-append xs ys
+refusals-append (Swept s ∷ xs) ys = refusals-append xs ys
+refusals-append (MissedEntry n (Miss c p k) ∷ xs) ys = ap (λ (l : List Refusal). record { number = n; pages = p; class = k } ∷ l) (refusals-append xs ys)
+refusals-append (MissedEntry n (Take c p q k) ∷ xs) ys = refusals-append xs ys
+refusals-append (MissedEntry n (Give c p q) ∷ xs) ys = refusals-append xs ys
+refusals-append (MissedEntry n (Scav c p q) ∷ xs) ys = refusals-append xs ys
+refusals-append (Looked a b c ∷ xs) ys = refusals-append xs ys
+refusals-append (LookedEmptyCell a b ∷ xs) ys = refusals-append xs ys
+refusals-append (Popped a b ∷ xs) ys = refusals-append xs ys
+refusals-append (Pushed a b ∷ xs) ys = refusals-append xs ys
+refusals-append (Took n line ∷ xs) ys = refusals-append xs ys
+refusals-append (Gave a b ∷ xs) ys = refusals-append xs ys
+refusals-append (Found a b ∷ xs) ys = refusals-append xs ys
+refusals-append (Read a b ∷ xs) ys = refusals-append xs ys
+refusals-append (Added a b ∷ xs) ys = refusals-append xs ys
+
+-- the notes of a log are those of its sweeps
+pub notes-told : (g : ℕ) (said : List Entry) → notes_of g said ≡ reverse (map (note_at (cycle_at g)) (sweepings said))
+notes-told g [] = refl
+notes-told g (Swept s ∷ said) = rw (reverse-append (note_at (cycle_at g) s ∷ []) (map (note_at (cycle_at g)) (sweepings said))) (ap (λ (l : List SweepNote). l ++ note_at (cycle_at g) s ∷ []) (notes-told g said))
+notes-told g (Allocated a ∷ said) = append-nil (notes_of g said) ∙ notes-told g said
+notes-told g (MissedEntry n line ∷ said) = append-nil (notes_of g said) ∙ notes-told g said
+notes-told g (Looked a b c ∷ said) = append-nil (notes_of g said) ∙ notes-told g said
+notes-told g (LookedEmptyCell a b ∷ said) = append-nil (notes_of g said) ∙ notes-told g said
+notes-told g (Popped a b ∷ said) = append-nil (notes_of g said) ∙ notes-told g said
+notes-told g (Pushed a b ∷ said) = append-nil (notes_of g said) ∙ notes-told g said
+notes-told g (Took n line ∷ said) = append-nil (notes_of g said) ∙ notes-told g said
+notes-told g (Gave a b ∷ said) = append-nil (notes_of g said) ∙ notes-told g said
+notes-told g (Found a b ∷ said) = append-nil (notes_of g said) ∙ notes-told g said
+notes-told g (Read a b ∷ said) = append-nil (notes_of g said) ∙ notes-told g said
+notes-told g (Added a b ∷ said) = append-nil (notes_of g said) ∙ notes-told g said
+
+notes-append : (g : ℕ) (later first : List Entry) → notes_of g (later ++ first) ≡ notes_of g first ++ notes_of g later
+notes-append g [] first = sym (append-nil (notes_of g first))
+notes-append g (e ∷ later) first = ap (λ (l : List SweepNote). l ++ note_in g e) (notes-append g later first) ∙ append_assoc (notes_of g first) (notes_of g later) (note_in g e)
+
+-- ---- answers behind answers
+
+-- with more runs taken the log tells the same
+taken-more : (taken taken' : List Taking) (events : List Event) (answers : List Answer) (placed : List Placing) (refused : List Refusal) → ((x : Taking) → In x taken → In x taken')
+    → Tells taken events answers placed refused → Tells taken' events answers placed refused
+taken-more taken taken' [] [] [] [] more h = tt
+taken-more taken taken' [] [] [] (x ∷ refused) more h = absurd h
+taken-more taken taken' [] [] (a ∷ placed) refused more h = absurd h
+taken-more taken taken' [] (answer ∷ answers) placed refused more h = absurd h
+taken-more taken taken' (e ∷ events) [] placed refused more h = absurd h
+taken-more taken taken' (e ∷ events) (Zero ∷ answers) placed refused more h = (h.0, taken-more taken taken' events answers placed refused more h.1)
+taken-more taken taken' (e ∷ events) (Placed address ∷ answers) [] refused more h = absurd h
+taken-more taken taken' (e ∷ events) (Placed address ∷ answers) (a ∷ placed) refused more h = (
+  record {
+    some = h.0.some;
+    need = h.0.need;
+    fits = h.0.fits;
+    class = h.0.class;
+    address_is = h.0.address_is;
+    large = λ low. (let t = h.0.large low in (t.0, t.1, t.2, more t.0 t.3, t.4, t.5));
+  },
+  taken-more taken taken' events answers placed refused more h.1,
+)
+taken-more taken taken' (e ∷ events) (Missed line ∷ answers) placed [] more h = absurd h
+taken-more taken taken' (e ∷ events) (Missed line ∷ answers) placed (x ∷ refused) more h = (h.0, taken-more taken taken' events answers placed refused more h.1)
+
+tells-append : (taken : List Taking) (es fs : List Event) (ans bs : List Answer) (ps qs : List Placing) (rs us : List Refusal) → Tells taken es ans ps rs → Tells taken fs bs qs us → Tells taken (es ++ fs) (ans ++ bs) (ps ++ qs) (rs ++ us)
+tells-append taken [] fs [] bs [] qs [] us h k = k
+tells-append taken [] fs [] bs [] qs (x ∷ rs) us h k = absurd h
+tells-append taken [] fs [] bs (a ∷ ps) qs rs us h k = absurd h
+tells-append taken [] fs (answer ∷ ans) bs ps qs rs us h k = absurd h
+tells-append taken (e ∷ es) fs [] bs ps qs rs us h k = absurd h
+tells-append taken (e ∷ es) fs (Zero ∷ ans) bs ps qs rs us h k = (h.0, tells-append taken es fs ans bs ps qs rs us h.1 k)
+tells-append taken (e ∷ es) fs (Placed address ∷ ans) bs [] qs rs us h k = absurd h
+tells-append taken (e ∷ es) fs (Placed address ∷ ans) bs (a ∷ ps) qs rs us h k = (h.0, tells-append taken es fs ans bs ps qs rs us h.1 k)
+tells-append taken (e ∷ es) fs (Missed line ∷ ans) bs ps qs [] us h k = absurd h
+tells-append taken (e ∷ es) fs (Missed line ∷ ans) bs ps qs (x ∷ rs) us h k = (h.0, tells-append taken es fs ans bs ps qs rs us h.1 k)
+
+-- what two logs tell, the later in front
+pub answers-then : (es fs : List Event) (ans bs : List Answer) (later first : List Entry) → SaysAnswers es ans later → SaysAnswers fs bs first → SaysAnswers (es ++ fs) (ans ++ bs) (later ++ first)
+answers-then es fs ans bs later first h k =
+    let a = taken-more (takings later) (takings later ++ takings first) es ans (placings later) (refusals later) (λ x i. in-left (takings later) (takings first) x i) h in
+    let b = taken-more (takings first) (takings later ++ takings first) fs bs (placings first) (refusals first) (λ x i. in-right (takings later) (takings first) x i) k in
+    rw (placings-append later first, refusals-append later first, takings-append later first) (tells-append (takings later ++ takings first) es fs ans bs (placings later) (placings first) (refusals later) (refusals first) a b)
+
+-- entries that answer no event are those with no answers
+pub none-answers : (said : List Entry) → SaysNone said → SaysAnswers [] [] said
+none-answers said none = rw (none.0, none.1) tt
+
+pub answers-none : (said : List Entry) → SaysAnswers [] [] said → SaysNone said
+answers-none said h = go (placings said) (refusals said) h
+  where
+    go : (ps : List Placing) (rs : List Refusal) → Tells (takings said) [] [] ps rs → (ps ≡ []) × (rs ≡ [])
+    go [] [] h = (refl, refl)
+    go [] (x ∷ rs) h = absurd h
+    go (a ∷ ps) rs h = absurd h
+
+pub none-then : (later first : List Entry) → SaysNone later → SaysNone first → SaysNone (later ++ first)
+none-then later first h k = (
+  placings-append later first ∙ ap (λ (l : List Placing). l ++ placings first) h.0 ∙ k.0,
+  refusals-append later first ∙ ap (λ (l : List Refusal). l ++ refusals first) h.1 ∙ k.1,
+)
+
+-- as many answers as events
+pub tells-length : (taken : List Taking) (events : List Event) (answers : List Answer) (placed : List Placing) (refused : List Refusal) → Tells taken events answers placed refused → length answers ≡ length events
+tells-length taken [] [] placed refused h = refl
+tells-length taken [] (answer ∷ answers) placed refused h = absurd h
+tells-length taken (e ∷ events) [] placed refused h = absurd h
+tells-length taken (e ∷ events) (Zero ∷ answers) placed refused h = ap suc (tells-length taken events answers placed refused h.1)
+tells-length taken (e ∷ events) (Placed address ∷ answers) [] refused h = absurd h
+tells-length taken (e ∷ events) (Placed address ∷ answers) (a ∷ placed) refused h = ap suc (tells-length taken events answers placed refused h.1)
+tells-length taken (e ∷ events) (Missed line ∷ answers) placed [] h = absurd h
+tells-length taken (e ∷ events) (Missed line ∷ answers) placed (x ∷ refused) h = ap suc (tells-length taken events answers placed refused h.1)
+
+-- ---- one call behind another
+
+pub acted-then : (P Q R : List Entry → Type 0) (a b c : Hand) → HasActed P a b → HasActed Q b c → ((first later : List Entry) → P first → Q later → R (later ++ first)) → HasActed R a c
+acted-then P Q R a b c ab bc both =
+    let g : b.worker.view.generation ≡ a.worker.view.generation = ap (λ (v : View). v.generation) ab.view in
+    record {
+      said = bc.said ++ ab.said;
+      did = both ab.said bc.said ab.did bc.did;
+      log = bc.log ∙ ap (λ (l : List Entry). bc.said ++ l) ab.log ∙ sym (append_assoc bc.said ab.said a.worker.view.own.log);
+      here = bc.here ∙ ab.here;
+      table = bc.table ∙ ab.table;
+      number = bc.number ∙ ab.number;
+      view = bc.view ∙ ap (λ (v : View). acts v c.worker.view.own) ab.view;
+      idle = bc.idle;
+      notes =
+          let now : c.notes.items ≡ b.notes.items ++ notes_of a.worker.view.generation bc.said = bc.notes ∙ ap (λ (k : ℕ). b.notes.items ++ notes_of k bc.said) g in
+          now ∙ ap (λ (l : List SweepNote). l ++ notes_of a.worker.view.generation bc.said) ab.notes
+          ∙ append_assoc a.notes.items (notes_of a.worker.view.generation ab.said) (notes_of a.worker.view.generation bc.said)
+          ∙ ap (λ (l : List SweepNote). a.notes.items ++ l) (sym (notes-append a.worker.view.generation bc.said ab.said));
+    }
+
+pub acted-none : (P : List Entry → Type 0) (a : Hand) → IsIdle a.worker.view.own → P [] → HasActed P a a
+acted-none P a idle p = record {
+  said = [];
+  did = p;
+  log = refl;
+  here = refl;
+  table = refl;
+  number = refl;
+  view = refl;
+  idle = idle;
+  notes = sym (append-nil a.notes.items);
+}
+
+pub acted-as : (P Q : List Entry → Type 0) (a b : Hand) → HasActed P a b → ((said : List Entry) → P said → Q said) → HasActed Q a b
+acted-as P Q a b ab f = record { said = ab.said; did = f ab.said ab.did; log = ab.log; here = ab.here; table = ab.table; number = ab.number; view = ab.view; idle = ab.idle; notes = ab.notes }
+
+same-acted : (P : List Entry → Type 0) (a b : Hand) → HasActed P a b → IsSameRun a.worker b.worker
+same-acted P a b ab = record {
+  here = ab.here;
+  table = ab.table;
+  parts = ap (λ (v : View). length v.parts) ab.view;
+  region = ap (λ (v : View). v.region) ab.view;
+  goal = ap (λ (v : View). v.goal) ab.view;
+  generation = ap (λ (v : View). v.generation) ab.view;
+  marks = ap (λ (v : View). v.marks) ab.view;
+  before = ap (λ (v : View). v.before) ab.view;
+  carried = ap (λ (v : View). v.carried) ab.view;
+}
+
+-- ---- turns
+
+-- of a worker with the state, what its own calls did
+pub turn-own : (P : List Entry → Type 0) (a b : Hand) → a.worker.number < length a.worker.view.parts → HasActed P a b → TookTurn a.worker.number P a b
+turn-own P a b lt ab =
+    let long : length b.worker.view.parts ≡ length a.worker.view.parts = ap (λ (v : View). length v.parts) ab.view in
+    let old : part_at a.worker a.worker.number ≡ unheard a.worker.view.own = own-part a.worker lt in
+    let new : part_at b.worker b.worker.number ≡ unheard b.worker.view.own = own-part b.worker (let n = ab.number in omega arith) in
+    let now : part_at b.worker a.worker.number ≡ unheard b.worker.view.own = ap (λ (k : ℕ). part_at b.worker k) (sym ab.number) ∙ new in
+    record {
+      said = ab.said;
+      did = ab.did;
+      log = ap (λ (h : Part). h.log) now ∙ ab.log ∙ ap (λ (h : Part). ab.said ++ h.log) (sym old);
+      number = ab.number;
+      same = same-acted P a b ab;
+      idle = rw now (record { sweeping = ab.idle.sweeping; held = ab.idle.held; popped = ab.idle.popped; claimed = ab.idle.claimed });
+      others = λ j other. others-stay a.worker b.worker j ab.number (ap (λ (v : View). v.parts) ab.view) other;
+      notes = ab.notes;
+    }
+
+-- a worker that was handed out and taken in again, with its notes
+pub turn-out : (P : List Entry → Type 0) (i : ℕ) (old start end new : Hand) → old.worker.number ≡ 69 → length old.worker.view.parts ≡ 70 → i < 69 → start.worker ≡ as_number i old.worker → start.notes.items ≡ []
+    → HasActed P start end → new.worker ≡ as_number 69 end.worker → new.notes.items ≡ old.notes.items ++ end.notes.items → TookTurn i P old new
+turn-out P i old start end new number long lt out none acted back notes =
+    let room : old.worker.number < length old.worker.view.parts = omega arith in
+    let sn : start.worker.number ≡ i = ap (λ (w : Seen). w.number) out in
+    let same-start : IsSameRun old.worker start.worker = subst (λ (w : Seen). IsSameRun old.worker w) (sym out) (same-handed old.worker i) in
+    let at-start : (j : ℕ) → part_at start.worker j ≡ part_at old.worker j = λ j. ap (λ (w : Seen). part_at w j) out ∙ parts-handed old.worker i j room in
+    let inside : start.worker.number < length start.worker.view.parts = (let p = same-start.parts in omega arith) in
+    let turn = turn-own P start end inside acted in
+    let en : end.worker.number ≡ i = turn.number ∙ sn in
+    let inside-end : end.worker.number < length end.worker.view.parts = (let p = turn.same.parts in let q = same-start.parts in omega arith) in
+    let at-end : (j : ℕ) → part_at new.worker j ≡ part_at end.worker j = λ j. ap (λ (w : Seen). part_at w j) back ∙ parts-handed end.worker 69 j inside-end in
+    let same-end : IsSameRun end.worker new.worker = subst (λ (w : Seen). IsSameRun end.worker w) (sym back) (same-handed end.worker 69) in
+    let there : (part_at end.worker i).log ≡ turn.said ++ (part_at start.worker i).log = subst (λ (k : ℕ). (part_at end.worker k).log ≡ turn.said ++ (part_at start.worker k).log) sn turn.log in
+    let idle : IsIdle (part_at end.worker i) = subst (λ (k : ℕ). IsIdle (part_at end.worker k)) sn turn.idle in
+    record {
+      said = turn.said;
+      did = turn.did;
+      log = ap (λ (h : Part). h.log) (at-end i) ∙ there ∙ ap (λ (h : Part). turn.said ++ h.log) (at-start i);
+      number = ap (λ (w : Seen). w.number) back ∙ sym number;
+      same = same-trans old.worker start.worker new.worker same-start (same-trans start.worker end.worker new.worker turn.same same-end);
+      idle = rw (at-end i) idle;
+      others = λ j other. at-end j ∙ turn.others j (λ e. other (e ∙ sn)) ∙ at-start j;
+      notes = notes ∙ ap (λ (l : List SweepNote). old.notes.items ++ l) (turn.notes ∙ ap (λ (l : List SweepNote). l ++ notes_of start.worker.view.generation turn.said) none)
+          ∙ ap (λ (g : ℕ). old.notes.items ++ notes_of g turn.said) same-start.generation;
+    }
+
+-- ---- caches
+
+pub serves-heard : (g : ℕ) (h k : Part) (c : Cache) → k ≡ unheard h → IsCaching g h c → IsCaching g k c
+serves-heard g h k c is are = rw is (record {
+  serves = record {
+    slots = λ j s at. (let one = are.serves.slots j s at in record { cached = one.cached; lent = one.lent; class = one.class; unpopped = one.unpopped });
+    all = are.serves.all;
+    once = are.serves.once;
+    fresh = are.serves.fresh;
+    early = are.serves.early;
+  };
+  used = are.used;
+})
+
+pub heard-serves : (g : ℕ) (h k : Part) (c : Cache) → k ≡ unheard h → IsCaching g k c → IsCaching g h c
+heard-serves g h k c is are =
+    let at : IsCaching g (unheard h) c = rw is at are in
+    record {
+      serves = record {
+        slots = λ j s there. (let one = at.serves.slots j s there in record { cached = one.cached; lent = one.lent; class = one.class; unpopped = one.unpopped });
+        all = at.serves.all;
+        once = at.serves.once;
+        fresh = at.serves.fresh;
+        early = at.serves.early;
+      };
+      used = at.used;
+    }
+
+pub idle-heard : (h k : Part) → k ≡ unheard h → IsIdle h → IsIdle k
+idle-heard h k is idle = rw is (record { sweeping = idle.sweeping; held = idle.held; popped = idle.popped; claimed = idle.claimed })
+
+pub heard-idle : (h k : Part) → k ≡ unheard h → IsIdle k → IsIdle h
+heard-idle h k is idle =
+    let at : IsIdle (unheard h) = rw is at idle in
+    record { sweeping = at.sweeping; held = at.held; popped = at.popped; claimed = at.claimed }
+
+-- ---- calls of the layers beneath
+
+-- a flush answers nothing
+flushing-none : (said : List Entry) → AllByRecursion IsFlushing said → SaysNone said
+flushing-none [] all = (refl, refl)
+flushing-none (Read a b ∷ said) all = flushing-none said all.1
+flushing-none (Added a b ∷ said) all = flushing-none said all.1
+flushing-none (Swept s ∷ said) all = flushing-none said all.1
+flushing-none (Pushed a b ∷ said) all = flushing-none said all.1
+flushing-none (Gave a b ∷ said) all = flushing-none said all.1
+flushing-none (Allocated a ∷ said) all = absurd all.0
+flushing-none (MissedEntry n line ∷ said) all = absurd all.0
+flushing-none (Took n line ∷ said) all = absurd all.0
+flushing-none (Looked a b c ∷ said) all = absurd all.0
+flushing-none (LookedEmptyCell a b ∷ said) all = absurd all.0
+flushing-none (Popped a b ∷ said) all = absurd all.0
+flushing-none (Found a b ∷ said) all = absurd all.0
+
+pub flush-acted : (test : ℕ → Bool) (c d : Cache) (old new : Hand) → Flushes test c d old new → HasActed SaysNone old new
+flush-acted test c d old new f = record {
+  said = f.said;
+  did = flushing-none f.said f.flushing;
+  log = f.leaves.log;
+  here = f.leaves.here;
+  table = f.leaves.table;
+  number = f.leaves.number;
+  view = f.leaves.view;
+  idle = f.leaves.idle;
+  notes = f.leaves.notes;
+}
+
+-- entries of which none places an object or tells of a miss
+few-none : (said : List Entry) → many is_placing said ≡ 0 → many is_missing said ≡ 0 → SaysNone said
+few-none [] p m = (refl, refl)
+few-none (Allocated a ∷ said) p m = absurd (omega arith)
+few-none (MissedEntry n line ∷ said) p m = absurd (omega arith)
+few-none (Read a b ∷ said) p m = few-none said (omega arith) (omega arith)
+few-none (Added a b ∷ said) p m = few-none said (omega arith) (omega arith)
+few-none (Swept s ∷ said) p m = few-none said (omega arith) (omega arith)
+few-none (Pushed a b ∷ said) p m = few-none said (omega arith) (omega arith)
+few-none (Gave a b ∷ said) p m = few-none said (omega arith) (omega arith)
+few-none (Took n line ∷ said) p m = few-none said (omega arith) (omega arith)
+few-none (Looked a b c ∷ said) p m = few-none said (omega arith) (omega arith)
+few-none (LookedEmptyCell a b ∷ said) p m = few-none said (omega arith) (omega arith)
+few-none (Popped a b ∷ said) p m = few-none said (omega arith) (omega arith)
+few-none (Found a b ∷ said) p m = few-none said (omega arith) (omega arith)
+
+-- the notes of sweeps, as the sweeper and the caches count them
+notes-by : (c : ℕ) (sweeps : List Sweeping) → map (note_by c) (reverse sweeps) ≡ reverse (map (note_at c) sweeps)
+notes-by c [] = refl
+notes-by c (s ∷ sweeps) =
+    ap (λ (l : List Sweeping). map (note_by c) l) (reverse-append (s ∷ []) sweeps) ∙ map-append (note_by c) (reverse sweeps) (s ∷ [])
+    ∙ ap (λ (l : List SweepNote). l ++ note_at c s ∷ []) (notes-by c sweeps) ∙ sym (reverse-append (note_at c s ∷ []) (map (note_at c) sweeps))
+
+-- what all agree on stays, so that only the worker's own part changed
+view-stays : (u v : View) → v.region ≡ u.region → v.goal ≡ u.goal → v.generation ≡ u.generation → v.marks ≡ u.marks → v.before ≡ u.before → v.carried ≡ u.carried → v.parts ≡ u.parts → v ≡ acts u v.own
+view-stays u v region goal generation marks before carried parts =
+    ap (λ (x : ℕ). record v { region = x }) region
+    ∙ ap (λ (x : ℕ). record v { region = u.region; goal = x }) goal
+    ∙ ap (λ (x : ℕ). record v { region = u.region; goal = u.goal; generation = x }) generation
+    ∙ ap (λ (x : List (ℕ × ℕ)). record v { region = u.region; goal = u.goal; generation = u.generation; marks = x }) marks
+    ∙ ap (λ (x : List Line). record u { marks = u.marks; before = x; carried = v.carried; own = v.own; parts = v.parts }) before
+    ∙ ap (λ (x : List (ℕ × ℕ)). record u { carried = x; own = v.own; parts = v.parts }) carried
+    ∙ ap (λ (x : List Part). record u { own = v.own; parts = x }) parts
+
+pub works-acted : (P : List Entry → Type 0) (old new : Hand) → Works [] P old new → ((said : List Entry) → P said → many is_missing said ≡ 0) → IsIdle old.worker.view.own → HasActed (λ said. SaysNone said × P said) old new
+works-acted P old new w no_miss idle = record {
+  said = w.said;
+  did = (few-none w.said w.does.sweeps.unplaced (no_miss w.said w.did), w.did);
+  log = w.does.log;
+  here = w.does.stays.here;
+  table = w.does.stays.table;
+  number = w.does.stays.number;
+  view = (let k = w.does.stays in view-stays old.worker.view new.worker.view k.region k.goal k.generation k.marks k.before k.carried k.parts);
+  idle = record {
+    sweeping = w.does.stays.sweeping ∙ idle.sweeping;
+    held = w.does.held ∙ append-nil old.worker.view.own.held ∙ idle.held;
+    popped = w.popped;
+    claimed = w.does.stays.claimed ∙ idle.claimed;
+  };
+  notes = w.notes ∙ ap (λ (l : List SweepNote). old.notes.items ++ l) (notes-by (cycle_at old.worker.view.generation) (sweepings w.said) ∙ sym (notes-told old.worker.view.generation w.said));
+}
+
+-- ---- a worker that is handed out
+
+-- The driver handed out worker i, whose hand has no notes yet.
+pub record HandsOut (i : ℕ) (old start : Hand) : Type 0 where
+  pub number : old.worker.number ≡ 69
+  pub parts : length old.worker.view.parts ≡ 70
+  pub low : i < 69
+  pub out : start.worker ≡ as_number i old.worker
+  pub none : start.notes.items ≡ []
+
+out-part : (i : ℕ) (old start : Hand) → HandsOut i old start → part_at old.worker i ≡ unheard start.worker.view.own
+out-part i old start o =
+    let room : old.worker.number < length old.worker.view.parts = (let a = o.number in let b = o.parts in omega arith) in
+    let long : length (as_number i old.worker).view.parts ≡ length old.worker.view.parts = (same-handed old.worker i).parts in
+    let at : part_at (as_number i old.worker) i ≡ unheard (as_number i old.worker).view.own = own-part (as_number i old.worker) (let a = o.parts in let b = o.low in omega arith) in
+    sym (parts-handed old.worker i i room) ∙ at ∙ ap (λ (w : Seen). unheard w.view.own) (sym o.out)
+
+pub out-idle : (i : ℕ) (old start : Hand) → HandsOut i old start → IsIdle (part_at old.worker i) → IsIdle start.worker.view.own
+out-idle i old start o idle = heard-idle start.worker.view.own (part_at old.worker i) (out-part i old start o) idle
+
+pub out-caching : (i : ℕ) (old start : Hand) (c : Cache) → HandsOut i old start → IsCaching old.worker.view.generation (part_at old.worker i) c → IsCaching start.worker.view.generation start.worker.view.own c
+out-caching i old start c o caching =
+    let g : start.worker.view.generation ≡ old.worker.view.generation = ap (λ (w : Seen). w.view.generation) o.out in
+    rw g (heard-serves old.worker.view.generation start.worker.view.own (part_at old.worker i) c (out-part i old start o) caching)
+
+pub out-marks : (i : ℕ) (old start : Hand) → HandsOut i old start → start.worker.view.marks ≡ old.worker.view.marks
+out-marks i old start o = ap (λ (w : Seen). w.view.marks) o.out
+
+-- and taken in again
+pub turn-back : (P : List Entry → Type 0) (i : ℕ) (old start end new : Hand) → HandsOut i old start → HasActed P start end → new.worker ≡ as_number 69 end.worker → new.notes.items ≡ old.notes.items ++ end.notes.items → TookTurn i P old new
+turn-back P i old start end new o acted back notes = turn-out P i old start end new o.number o.parts o.low o.out o.none acted back notes
+
+back-part : (P : List Entry → Type 0) (i : ℕ) (old start end new : Hand) → HandsOut i old start → HasActed P start end → new.worker ≡ as_number 69 end.worker → part_at new.worker i ≡ unheard end.worker.view.own
+back-part P i old start end new o acted back =
+    let en : end.worker.number ≡ i = acted.number ∙ ap (λ (w : Seen). w.number) o.out in
+    let long : length end.worker.view.parts ≡ length old.worker.view.parts =
+    ap (λ (v : View). length v.parts) acted.view ∙ ap (λ (w : Seen). length w.view.parts) o.out ∙ (same-handed old.worker i).parts in
+    let room : end.worker.number < length end.worker.view.parts = (let a = o.parts in let b = o.low in omega arith) in
+    let at : part_at end.worker end.worker.number ≡ unheard end.worker.view.own = own-part end.worker room in
+    let at' : part_at end.worker i ≡ unheard end.worker.view.own = ap (λ (k : ℕ). part_at end.worker k) (sym en) ∙ at in
+    ap (λ (w : Seen). part_at w i) back ∙ parts-handed end.worker 69 i room ∙ at'
+
+pub back-caching : (P : List Entry → Type 0) (i : ℕ) (old start end new : Hand) (c : Cache) → HandsOut i old start → HasActed P start end → new.worker ≡ as_number 69 end.worker
+    → IsCaching start.worker.view.generation end.worker.view.own c → IsCaching old.worker.view.generation (part_at new.worker i) c
+back-caching P i old start end new c o acted back caching =
+    let g : start.worker.view.generation ≡ old.worker.view.generation = ap (λ (w : Seen). w.view.generation) o.out in
+    let now : IsCaching old.worker.view.generation end.worker.view.own c = rw g at caching in
+    serves-heard old.worker.view.generation end.worker.view.own (part_at new.worker i) c (back-part P i old start end new o acted back) now
+
+-- what was cached stays cached where the calls left it so
+pub back-cached : (P : List Entry → Type 0) (i : ℕ) (old start end new : Hand) → HandsOut i old start → HasActed P start end → new.worker ≡ as_number 69 end.worker → end.worker.view.own.cached ≡ start.worker.view.own.cached
+    → (part_at new.worker i).cached ≡ (part_at old.worker i).cached
+back-cached P i old start end new o acted back same =
+    ap (λ (h : Part). h.cached) (back-part P i old start end new o acted back) ∙ same ∙ ap (λ (h : Part). h.cached) (sym (out-part i old start o))
+
+-- ---- one event after another
+
+pub answers-more : (events : List Event) (answers : List Answer) (t : ℕ) (d : Event) (a : Answer) (first later : List Entry) → t < length events → SaysAnswers (reverse (take t events)) (reverse answers) first
+    → SaysAnswers (get_or events t d ∷ []) (a ∷ []) later → SaysAnswers (reverse (take (t + 1) events)) (reverse (answers ++ a ∷ [])) (later ++ first)
+answers-more events answers t d a first later lt was now =
+    let es : reverse (take (t + 1) events) ≡ get_or events t d ∷ reverse (take t events) = ap (λ (l : List Event). reverse l) (take_more events t d lt) ∙ reverse-append (take t events) (get_or events t d ∷ []) in
+    let turned : reverse (answers ++ a ∷ []) ≡ a ∷ reverse answers = reverse-append answers (a ∷ []) in
+    rw (es, turned) (answers-then (get_or events t d ∷ []) (reverse (take t events)) (a ∷ []) (reverse answers) later first now was)
+
+pub ok-map : {T E : Type 0} (result : Result T E) (P Q : Type 0) → (P → Q) → OnOk result P → OnOk result Q
+ok-map (Ok x) P Q f h = f h
+ok-map (Err e) P Q f h = h

@@ -1,0 +1,41 @@
+use Rattle.std.proofs.Common.{◌≡◌, ◌∙◌, ◌<◌, length, get_or, refl, sym, arith}
+use Rattle.std.proofs.lemmas.List.{get_or_default}
+use Rattle.heap_run.specs.Turns.{SaysNone, TookTurn, no_cache}
+use Rattle.heap_run.proofs.Driving.{collecting-turn, driving-turn, flushed-more, keeps-trans, keeps-turn, placed-caching, placed-turn, proc-caching, proc-number}
+use Rattle.heap_run.proofs.cycle.flush_processors.Goals as goal
+
+pub loop-p-init : goal.loop-p-init
+loop-p-init c = record {
+  driving = c.requires.driving;
+  long = refl;
+  collecting = c.requires.collecting;
+  keeps = λ w events answers was. was;
+  flushed = λ i low. absurd (omega arith);
+  own = refl;
+}
+
+pub flush_processor-requires-clause-caching : goal.flush_processor-requires-clause-caching
+flush_processor-requires-clause-caching c =
+    let i = c.loop-p.invariant in
+    let inside : c.loop-p.p < length c.loop-p.procs.items = (let l = i.long in let t = c.loop-p-test.true in omega (arith, c.loop-p.procs.ok.0)) in
+    let is : c.index_mut.result.now ≡ get_or c.loop-p.procs.items c.loop-p.p no_cache = c.index_mut.ensures.value ∙ get_or_default c.loop-p.procs.items c.loop-p.p _ no_cache inside in
+    proc-caching c.args.driver.now.worker c.loop-p.procs.items c.loop-p.driver c.index_mut.result.now c.loop-p.p i.driving inside is
+
+pub loop-p-preserved : goal.loop-p-preserved
+loop-p-preserved c =
+    let i = c.loop-p.invariant in
+    let inside : c.loop-p.p < length c.loop-p.procs.items = (let l = i.long in let t = c.loop-p-test.true in omega (arith, c.loop-p.procs.ok.0)) in
+    let is : c.index_mut.result.now ≡ get_or c.loop-p.procs.items c.loop-p.p no_cache = c.index_mut.ensures.value ∙ get_or_default c.loop-p.procs.items c.loop-p.p _ no_cache inside in
+    let number = proc-number c.args.driver.now.worker c.loop-p.procs.items c.loop-p.driver c.index_mut.result.now c.loop-p.p i.driving inside is in
+    let turn : TookTurn c.loop-p.p SaysNone c.loop-p.driver c.flush_processor.new.driver
+    = placed-turn SaysNone c.args.driver.now.worker c.loop-p.procs.items c.loop-p.driver c.flush_processor.new.driver c.index_mut.result.now c.loop-p.p i.driving inside is c.in_ok-flush_processor.ensures.turn in
+    let caching = placed-caching c.args.driver.now.worker c.loop-p.procs.items c.loop-p.driver c.flush_processor.new.driver c.index_mut.result.now c.flush_processor.new.proc c.loop-p.p i.driving inside is c.in_ok-flush_processor.ensures.caching in
+    record {
+      driving = driving-turn SaysNone c.args.driver.now.worker c.loop-p.procs.items c.loop-p.p c.flush_processor.new.proc c.loop-p.driver c.flush_processor.new.driver i.driving turn inside
+          (c.in_ok-flush_processor.ensures.number ∙ number) caching;
+      long = i.long;
+      collecting = collecting-turn SaysNone c.loop-p.p c.loop-p.driver c.flush_processor.new.driver turn i.collecting;
+      keeps = keeps-trans c.args.driver.now.worker c.loop-p.driver.worker c.flush_processor.new.driver.worker i.keeps (keeps-turn c.loop-p.p c.loop-p.driver c.flush_processor.new.driver turn);
+      flushed = flushed-more c.loop-p.procs.items c.args.driver.now.worker.view.generation c.loop-p.p c.flush_processor.new.proc inside i.flushed (c.in_ok-flush_processor.ensures.flushed ∙ i.driving.same.generation);
+      own = turn.others 69 (λ q. (let f = c.requires.few in let l = i.long in let t = c.loop-p-test.true in omega arith)) ∙ i.own;
+    }

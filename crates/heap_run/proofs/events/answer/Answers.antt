@@ -1,0 +1,68 @@
+use Rattle.std.proofs.Common.{◌≡◌, ℕ, [], ◌∷◌, Err, ap, sym, subst}
+use Rattle.size_classes.specs.Classes.{span_class_of}
+use Rattle.span_laws.specs.declared.answers.Refused.{Refused}
+use Rattle.span_laws.specs.declared.answers.Refused.TheVariants.{NoRun}
+use Rattle.span_laws.specs.declared.view.View.{View}
+use Rattle.cycle_history.specs.declared.Answer.TheVariants.{Placed, Missed}
+use Rattle.proc_cache.specs.Allocs.{AllocatesIn}
+use Rattle.large_objects.specs.Larges.{AllocatesLarge}
+use Rattle.heap_run.specs.Turns.{SaysAnswers}
+use Rattle.heap_run.proofs.Answering.{caching-of, flushed-then, holds-acted, holds-caching, large-placed, large-refused, leaves-acted, small-placed, small-refused}
+use Rattle.heap_run.proofs.events.answer.Goals as goal
+
+pub returns-in-Ok-clause-acted : goal.returns-in-Ok-clause-acted
+returns-in-Ok-clause-acted c =
+    let e = c.args.event.now in
+    let class = c.in-Ok.ensures.allocates.0 in
+    let least = c.in-Ok.ensures.allocates.1 in
+    let did = c.in-Ok.ensures.allocates.2 in
+    let at = c.in-Ok.placed.addr in
+    let said = did.2.0 in
+    leaves-acted (SaysAnswers (e ∷ []) (Placed at ∷ [])) said c.args.hand.now c.alloc.new.hand did.2.1 (small-placed e class at said c.in-Small.ensures.0 c.in-Small.ensures.1 least did.2.2)
+
+pub returns-in-Err-NoRun-clause-acted : goal.returns-in-Err-NoRun-clause-acted
+returns-in-Err-NoRun-clause-acted c =
+    let e = c.args.event.now in
+    let class = c.in-Err-NoRun.ensures.allocates.0 in
+    let least = c.in-Err-NoRun.ensures.allocates.1 in
+    let line = c.in-Err-NoRun.line in
+    let did : AllocatesIn c.args.shop.now.pages c.args.shop.now.distance (span_class_of class e.scan) c.args.proc.now c.alloc.new.proc c.args.hand.now c.alloc.new.hand (Err (NoRun line)) =
+    subst (λ (r : Refused). AllocatesIn c.args.shop.now.pages c.args.shop.now.distance (span_class_of class e.scan) c.args.proc.now c.alloc.new.proc c.args.hand.now c.alloc.new.hand (Err r)) c.in-Err-NoRun.field-0-is c.in-Err-NoRun.ensures.allocates.2 in
+    let said = did.4.0 in
+    leaves-acted (SaysAnswers (e ∷ []) (Missed line ∷ [])) said c.args.hand.now c.alloc.new.hand did.4.1 (small-refused e class line said c.in-Small.ensures.0 c.in-Small.ensures.1 least did.4.3 did.4.4)
+
+pub returns-in-Ok-alloc_large-clause-acted : goal.returns-in-Ok-alloc_large-clause-acted
+returns-in-Ok-alloc_large-clause-acted c =
+    let e = c.args.event.now in
+    let at = c.in-Ok-alloc_large.addr in
+    let did = c.in-Ok-alloc_large.ensures.1 in
+    let said = did.0 in
+    flushed-then _ c.args.proc.now c.flush.new.proc e (Placed at) c.args.hand.now c.flush.new.hand c.alloc_large.new.hand c.in_ok-flush-in-Large.ensures.flushes.1
+    (holds-acted (SaysAnswers (e ∷ []) (Placed at ∷ [])) said c.flush.new.hand c.alloc_large.new.hand did.1 (large-placed e c.in-Large.pages c.span_class.result at c.flush.new.hand.worker.view.generation said c.in-Large.ensures.0 c.in-Large.ensures.1 c.span_class.ensures did.3))
+
+pub returns-in-Ok-alloc_large-clause-caching : goal.returns-in-Ok-alloc_large-clause-caching
+returns-in-Ok-alloc_large-clause-caching c =
+    let did = c.in-Ok-alloc_large.ensures.1 in
+    let g : c.flush.new.hand.worker.view.generation ≡ c.args.hand.now.worker.view.generation = ap (λ (v : View). v.generation) c.in_ok-flush-in-Large.ensures.flushes.1.leaves.view in
+    holds-caching c.args.hand.now.worker.view.generation did.0 c.flush.new.hand c.alloc_large.new.hand c.flush.new.proc (sym g) did.1
+    (caching-of c.args.hand.now.worker.view.generation c.flush.new.hand.worker.view.generation c.flush.new.hand.worker.view.own c.flush.new.proc g c.in_ok-flush-in-Large.ensures.serves (c.in_ok-flush-in-Large.ensures.used c.requires.caching.used))
+
+pub returns-in-Err-NoRun-alloc_large-clause-acted : goal.returns-in-Err-NoRun-alloc_large-clause-acted
+returns-in-Err-NoRun-alloc_large-clause-acted c =
+    let e = c.args.event.now in
+    let line = c.in-Err-NoRun-alloc_large.line in
+    let refused : AllocatesLarge c.args.shop.now.pages c.args.shop.now.distance c.in-Large.pages c.span_class.result c.flush.new.hand c.alloc_large.new.hand (Err (NoRun c.in-Err-NoRun-alloc_large.line)) =
+    subst (λ (r : Refused). AllocatesLarge c.args.shop.now.pages c.args.shop.now.distance c.in-Large.pages c.span_class.result c.flush.new.hand c.alloc_large.new.hand (Err r)) c.in-Err-NoRun-alloc_large.field-0-is c.in-Err-NoRun-alloc_large.ensures in
+    let did = refused.1 in
+    let said = did.0 in
+    flushed-then _ c.args.proc.now c.flush.new.proc e (Missed line) c.args.hand.now c.flush.new.hand c.alloc_large.new.hand c.in_ok-flush-in-Large.ensures.flushes.1
+    (holds-acted (SaysAnswers (e ∷ []) (Missed line ∷ [])) said c.flush.new.hand c.alloc_large.new.hand did.1 (large-refused e c.in-Large.pages c.span_class.result line said c.in-Large.ensures.0 c.in-Large.ensures.1 c.span_class.ensures did.3 did.4))
+
+pub returns-in-Err-NoRun-alloc_large-clause-caching : goal.returns-in-Err-NoRun-alloc_large-clause-caching
+returns-in-Err-NoRun-alloc_large-clause-caching c =
+    let refused : AllocatesLarge c.args.shop.now.pages c.args.shop.now.distance c.in-Large.pages c.span_class.result c.flush.new.hand c.alloc_large.new.hand (Err (NoRun c.in-Err-NoRun-alloc_large.line)) =
+    subst (λ (r : Refused). AllocatesLarge c.args.shop.now.pages c.args.shop.now.distance c.in-Large.pages c.span_class.result c.flush.new.hand c.alloc_large.new.hand (Err r)) c.in-Err-NoRun-alloc_large.field-0-is c.in-Err-NoRun-alloc_large.ensures in
+    let did = refused.1 in
+    let g : c.flush.new.hand.worker.view.generation ≡ c.args.hand.now.worker.view.generation = ap (λ (v : View). v.generation) c.in_ok-flush-in-Large.ensures.flushes.1.leaves.view in
+    holds-caching c.args.hand.now.worker.view.generation did.0 c.flush.new.hand c.alloc_large.new.hand c.flush.new.proc (sym g) did.1
+    (caching-of c.args.hand.now.worker.view.generation c.flush.new.hand.worker.view.generation c.flush.new.hand.worker.view.own c.flush.new.proc g c.in_ok-flush-in-Large.ensures.serves (c.in_ok-flush-in-Large.ensures.used c.requires.caching.used))

@@ -1,0 +1,58 @@
+-- How far a run of a trace has come.
+use Rattle.std.specs.Prelude.{◌≡◌, ℕ, suc, ◌+◌, ◌*◌, ◌≤◌, List, [], length, reverse, true, Some}
+use Rattle.page_bitmap.specs.declared.line.Line.{Line}
+use Rattle.span_state.specs.MarkSet.{has_pair}
+use Rattle.trace_reader.specs.declared.trace.Trace.{Trace}
+use Rattle.cycle_history.specs.Requests.{marked_by, region_of}
+use Rattle.cycle_history.specs.Objects.{Object}
+use Rattle.cycle_history.specs.Marked.{AreObjectsBefore, objects_before}
+use Rattle.cycle_history.specs.Found.{AreFound}
+use Rattle.run_laws.specs.CycleSoFar.{CycleSoFar}
+use Rattle.run_laws.specs.Facts.{Marks}
+use Rattle.run_laws.specs.Reached.{Began, Reached}
+use Rattle.span_laws.specs.Views.{Seen, allocated_pairs}
+use Rattle.heap_run.specs.Parts.{part_at}
+use Rattle.heap_run.specs.Settled.{HasFlushed}
+use Rattle.heap_run.specs.Turns.{IsDriving}
+use Rattle.heap_run.specs.declared.run.Run.{Run}
+
+-- The run has its table and its workers, in cycle c of the trace; no note waits to be filed, and the lists that the next mark end asks for go as
+-- far as the last one.
+pub record IsSet (t : Trace) (c : ℕ) (run : Run) : Type 0 where
+  pub here : run.driver.worker.here ≡ true
+  pub table : run.driver.worker.table ≡ run.shared
+  pub parts : length run.driver.worker.view.parts ≡ 70
+  pub region : run.driver.worker.view.region ≡ region_of t
+  pub goal : run.driver.worker.view.goal ≡ t.header.goal
+  pub generation : run.driver.worker.view.generation ≡ 2 * c + 4
+  pub driving : IsDriving run.driver.worker run.procs.items run.driver
+  pub procs : length run.procs.items ≡ t.header.procs
+  pub notes : run.driver.notes.items ≡ []
+  pub sampled : length run.sampled ≤ length run.answers
+  pub buckets : length run.buckets ≡ length run.sampled
+  pub kept : length run.places ≡ objects_before t c
+  pub found : AreFound t run.answers run.places
+
+-- The marks of the view, of the journal as the cycle began, are those of the objects so far.
+abbrev pub AreMarked : Trace → ℕ → List Object → Seen → Type 0
+AreMarked t c objects d = (e : CycleSoFar) → e.cycle ≡ c → e.before ≡ d.view.before → e.marks ≡ has_pair d.view.marks → Marks (marked_by t) objects e
+
+-- Cycle c of the trace begins: nothing of it is in the logs yet.
+pub record HasBegun (t : Trace) (c : ℕ) (run : Run) : Type 0 where
+  pub set : IsSet t c run
+  pub objects : List Object
+  pub asked : AreObjectsBefore t c run.answers objects
+  pub began : Began (marked_by t) (region_of t) t.header.goal c run.driver.worker.view.before objects (reverse run.sweeps) (has_pair run.driver.worker.view.carried)
+  pub marked : AreMarked t c objects run.driver.worker
+  pub marks : run.marks.pairs ≡ run.driver.worker.view.marks
+  pub blank : (w : ℕ) → (part_at run.driver.worker w).log ≡ []
+
+-- Cycle c of the trace has ended: the run is sound so far, and the driver knows the whole journal.
+pub record HasRun (t : Trace) (c : ℕ) (run : Run) : Type 0 where
+  pub set : IsSet t c run
+  pub objects : List Object
+  pub past : List Line
+  pub asked : AreObjectsBefore t (suc c) run.answers objects
+  pub reached : Reached (marked_by t) (region_of t) t.header.goal c past objects (reverse run.sweeps) (has_pair (allocated_pairs run.driver.worker.number run.driver.worker.view))
+  pub journal : run.driver.worker.view.own.journal ≡ Some past
+  pub flushed : HasFlushed run.procs.items run.driver.worker

@@ -1,0 +1,172 @@
+//! One cycle of a run: the turns of all workers, and its end.
+
+ghost use Rattle.std.specs.Prelude.{◌≡◌, ℕ, ◌^◌, ◌<◌, ◌≤◌, [], All, List as Items, length, slice_index_or, vec_len, true, IfOk, OnOk};
+ghost use Rattle.span_laws.specs.Asks.{IsIdle};
+ghost use Rattle.proc_cache.specs.Cache.{Cache};
+ghost use Rattle.heap_run.specs.Parts.{part_at};
+ghost use Rattle.heap_run.specs.Settled.{HasFlushed, HasSettled, HasWorked};
+ghost use Rattle.heap_run.specs.Turns.{HaveAnswered, IsCollecting, IsDriving, KeepsAnswers, SaysNone, no_cache};
+
+use crate::turns::{flush_processor, run_processor, run_scavenger, run_sweeper};
+use cycle_history::Answer;
+use edge_io::{Gate, List, NoMemory};
+use proc_cache::Proc;
+use scavenger::scavenge_to;
+use span_set::{Hand, Shop};
+use std::alloc::Global;
+use sweeper::finish;
+use trace_reader::Event;
+
+// The number of the first background sweeper.
+const SWEEPERS: u32 = 64;
+
+/// Each processor answers its events of the cycle, in rising order of the processors.
+pub(crate) fn run_processors<G: Gate>(
+    alloc: Global,
+    shop: &Shop,
+    driver: &mut Hand,
+    procs: &mut Vec<Proc>,
+    queues: &[List<Event>],
+    gate: &G,
+) -> Result<Vec<List<Answer>>, NoMemory>
+    requires here { driver.old.worker.here ≡ true }
+    requires table { driver.old.worker.table ≡ shop.now.shared.now }
+    requires distance { 8192 ≤ shop.now.distance }
+    requires marks { shop.now.marks.now.pairs ≡ driver.old.worker.view.marks }
+    requires parts { length driver.old.worker.view.parts ≡ 70 }
+    requires count { length queues.now ≡ vec_len procs.old }
+    requires few { vec_len procs.old ≤ 64 }
+    requires sizes { (w : ℕ) → All (λ e. e.size ≤ 2 ^ 40) (slice_index_or queues.now w []) }
+    requires driving { IsDriving driver.old.worker procs.old.items driver.old }
+    requires collecting { IsCollecting driver.old }
+    requires quiet { (w : ℕ) → SaysNone (part_at driver.old.worker w).log }
+    ensures driving { OnOk result (IsDriving driver.old.worker procs.new.items driver.new) }
+    ensures procs { OnOk result (vec_len procs.new ≡ vec_len procs.old) }
+    ensures collecting { OnOk result (IsCollecting driver.new) }
+    ensures answered { IfOk result (λ given. HaveAnswered queues.now given.items driver.new.worker) }
+    ensures size { IfOk result (λ given. vec_len given ≡ vec_len procs.old) }
+{
+    let mut given = Vec::new(alloc);
+    for p in 0..queues.len() {
+        let events = queues[p].as_slice();
+        given.push(run_processor(alloc, shop, driver, &mut procs[p], events, gate)?)?;
+    }
+    Ok(given)
+}
+
+/// Each processor flushes its cache, where it has not done so in this cycle.
+pub(crate) fn flush_processors(
+    alloc: Global,
+    shop: &Shop,
+    driver: &mut Hand,
+    procs: &mut Vec<Proc>,
+) -> Result<(), NoMemory>
+    requires here { driver.old.worker.here ≡ true }
+    requires table { driver.old.worker.table ≡ shop.now.shared.now }
+    requires distance { 8192 ≤ shop.now.distance }
+    requires marks { shop.now.marks.now.pairs ≡ driver.old.worker.view.marks }
+    requires parts { length driver.old.worker.view.parts ≡ 70 }
+    requires few { vec_len procs.old ≤ 64 }
+    requires driving { IsDriving driver.old.worker procs.old.items driver.old }
+    requires collecting { IsCollecting driver.old }
+    ensures driving { OnOk result (IsDriving driver.old.worker procs.new.items driver.new) }
+    ensures procs { OnOk result (vec_len procs.new ≡ vec_len procs.old) }
+    ensures collecting { OnOk result (IsCollecting driver.new) }
+    ensures keeps { OnOk result (KeepsAnswers driver.old.worker driver.new.worker) }
+    ensures flushed { OnOk result ((i : ℕ) → i < vec_len procs.new → (slice_index_or procs.new.items i no_cache).flushed ≡ driver.old.worker.view.generation) }
+    ensures own { OnOk result (part_at driver.new.worker 69 ≡ part_at driver.old.worker 69) }
+{
+    for p in 0..procs.len() {
+        flush_processor(alloc, shop, driver, &mut procs[p])?;
+    }
+    Ok(())
+}
+
+/// The background sweepers sweep.
+pub(crate) fn run_sweepers<G: Gate>(
+    alloc: Global,
+    shop: &Shop,
+    driver: &mut Hand,
+    background: u32,
+    gate: &G,
+) -> Result<(), NoMemory>
+    requires here { driver.old.worker.here ≡ true }
+    requires table { driver.old.worker.table ≡ shop.now.shared.now }
+    requires distance { 8192 ≤ shop.now.distance }
+    requires marks { shop.now.marks.now.pairs ≡ driver.old.worker.view.marks }
+    requires parts { length driver.old.worker.view.parts ≡ 70 }
+    requires few { background ≤ 4 }
+    requires driver { driver.old.worker.number ≡ 69 }
+    requires idle { (i : ℕ) → IsIdle (part_at driver.old.worker i) }
+    requires collecting { IsCollecting driver.old }
+    ensures driving { OnOk result ((procs : Items Cache) → length procs ≤ 64 → IsDriving driver.old.worker procs driver.old → IsDriving driver.old.worker procs driver.new) }
+    ensures collecting { OnOk result (IsCollecting driver.new) }
+    ensures keeps { OnOk result (KeepsAnswers driver.old.worker driver.new.worker) }
+{
+    for number in SWEEPERS..SWEEPERS + background {
+        run_sweeper(alloc, shop, driver, number, gate)?;
+    }
+    Ok(())
+}
+
+/// Ends a cycle: sweeps what is left, has the processors flush that have not done so, scavenges to the goal, and settles.
+pub(crate) fn end_cycle(
+    alloc: Global,
+    shop: &Shop,
+    driver: &mut Hand,
+    procs: &mut Vec<Proc>,
+) -> Result<(), NoMemory>
+    requires here { driver.old.worker.here ≡ true }
+    requires table { driver.old.worker.table ≡ shop.now.shared.now }
+    requires distance { 8192 ≤ shop.now.distance }
+    requires marks { shop.now.marks.now.pairs ≡ driver.old.worker.view.marks }
+    requires parts { length driver.old.worker.view.parts ≡ 70 }
+    requires few { vec_len procs.old ≤ 64 }
+    requires driving { IsDriving driver.old.worker procs.old.items driver.old }
+    requires collecting { IsCollecting driver.old }
+    ensures driving { OnOk result (IsDriving driver.old.worker procs.new.items driver.new) }
+    ensures procs { OnOk result (vec_len procs.new ≡ vec_len procs.old) }
+    ensures collecting { OnOk result (IsCollecting driver.new) }
+    ensures keeps { OnOk result (KeepsAnswers driver.old.worker driver.new.worker) }
+    ensures flushed { OnOk result (HasFlushed procs.new.items driver.new.worker) }
+    ensures settled { OnOk result (HasSettled driver.new.worker) }
+{
+    finish(shop, driver)?;
+    flush_processors(alloc, shop, driver, procs)?;
+    scavenge_to(shop.shared, &mut driver.worker)?;
+    shop.shared.settle(&mut driver.worker);
+    Ok(())
+}
+
+/// All of a cycle: the processors answer their events, the background sweepers sweep, the scavenger scavenges, and the cycle ends.
+pub(crate) fn run_workers<G: Gate>(
+    alloc: Global,
+    shop: &Shop,
+    driver: &mut Hand,
+    procs: &mut Vec<Proc>,
+    queues: &[List<Event>],
+    background: u32,
+    gate: &G,
+) -> Result<Vec<List<Answer>>, NoMemory>
+    requires here { driver.old.worker.here ≡ true }
+    requires table { driver.old.worker.table ≡ shop.now.shared.now }
+    requires distance { 8192 ≤ shop.now.distance }
+    requires marks { shop.now.marks.now.pairs ≡ driver.old.worker.view.marks }
+    requires parts { length driver.old.worker.view.parts ≡ 70 }
+    requires count { length queues.now ≡ vec_len procs.old }
+    requires few { vec_len procs.old ≤ 64 }
+    requires background { background ≤ 4 }
+    requires sizes { (w : ℕ) → All (λ e. e.size ≤ 2 ^ 40) (slice_index_or queues.now w []) }
+    requires driving { IsDriving driver.old.worker procs.old.items driver.old }
+    requires collecting { IsCollecting driver.old }
+    requires quiet { (w : ℕ) → SaysNone (part_at driver.old.worker w).log }
+    ensures ran { IfOk result (λ given. HasWorked queues.now given.items driver.old procs.new.items driver.new) }
+    ensures procs { OnOk result (vec_len procs.new ≡ vec_len procs.old) }
+    ensures size { IfOk result (λ given. vec_len given ≡ vec_len procs.old) }
+{
+    let given = run_processors(alloc, shop, driver, procs, queues, gate)?;
+    run_sweepers(alloc, shop, driver, background, gate)?;
+    run_scavenger(alloc, shop, driver, gate)?;
+    end_cycle(alloc, shop, driver, procs)?;
+    Ok(given)
+}

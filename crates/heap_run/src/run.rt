@@ -1,0 +1,249 @@
+//! The run of a whole trace.
+
+ghost use Rattle.std.specs.Prelude.{◌≡◌, ℕ, suc, ◌+◌, ◌<◌, ◌≤◌, [], length, slice_index_or, vec_len, IfOk, OnOk};
+ghost use Rattle.trace_reader.specs.Limits.{WithinLimits};
+ghost use Rattle.cycle_history.specs.Requests.{last_cycle};
+ghost use Rattle.cycle_history.specs.Sound.{IsSoundAndUsed};
+ghost use Rattle.heap_run.specs.Turns.{no_cache};
+ghost use Rattle.sweep_laws.specs.Start.{copies};
+ghost use Rattle.std.specs.Prelude.{None};
+
+use crate::cycle::run_workers;
+use crate::merge::merge;
+use crate::queues::queues_of;
+use crate::sorting::file_notes;
+use cycle_history::{Answer, Place, Report, marks_of, totals_of};
+use edge_io::{Gate, List, NoMemory};
+use proc_cache::Proc;
+use span_set::{Hand, Shop, reset};
+use span_state::{Marks, SweepNote};
+use span_table::{Shared, Worker};
+use std::alloc::Global;
+use trace_reader::Trace;
+
+// The bytes of a mark end's distance that are left for the marking itself (`mgcpacer.go`, the heap's least trigger distance); what
+// is left paces the sweeping.
+const MARKING: u64 = 1048576;
+
+// The least distance by which sweeping is paced, a page.
+const LEAST: u64 = 8192;
+
+/// What is asked of a run besides its trace.
+#[derive(Clone, Copy, Debug, PartialEq, Eq)]
+pub struct Options {
+    /// How many background sweepers there are, from 0 to 4.
+    pub background: u32,
+    /// Whether the profile of each mark end is told, and not that of the last one alone. It is not read until there is a profile.
+    pub each: bool,
+}
+
+/// What a run leaves.
+#[derive(Drop)]
+pub struct Ran {
+    /// The report.
+    pub report: Report,
+    /// The shared spans.
+    pub shared: Shared,
+    /// The driver's worker; no other is out.
+    pub driver: Worker,
+}
+
+/// Runs a trace within its limits, without samples: each processor's events by its own worker, in the order of the trace. Before
+/// each event a processor passes the gate with its number and the event's place among its own of the cycle, and before their
+/// first steps in a cycle the background sweepers (64 to 67) and the scavenger (68) pass it with turn 0.
+pub fn run_trace<G: Gate>(
+    alloc: Global,
+    trace: &Trace,
+    options: Options,
+    gate: &G,
+) -> Result<Ran, NoMemory>
+    requires limits { WithinLimits trace.now }
+    requires background { options.background ≤ 4 }
+    ensures sound { IfOk result (λ ran. IsSoundAndUsed trace.now ran.report) }
+    ensures no_profile { IfOk result (λ ran. ran.report.profile ≡ []) }
+{
+    let mut run = Run::new(alloc, trace)?;
+    let last = trace.cycles.len() as u32 - 1;
+    for cycle in 0..last {
+        run.run_cycle(alloc, trace, cycle, options.background, gate)?;
+        run.mark_end(alloc, trace, cycle)?;
+    }
+    run.run_cycle(alloc, trace, last, options.background, gate)?;
+    run.into_ran(alloc, trace)
+}
+
+/// The shared spans with their driver and processors, and what was answered and swept so far.
+#[derive(Drop)]
+pub(crate) struct Run {
+    pub(crate) shared: Shared,
+    // The driver, with the notes of the cycle's sweeps.
+    pub(crate) driver: Hand,
+    pub(crate) procs: Vec<Proc>,
+    // The marks of the last mark end.
+    pub(crate) marks: Marks,
+    pub(crate) answers: List<Answer>,
+    pub(crate) sweeps: List<SweepNote>,
+    // Whether each object is sampled, and its bucket if it is, as far as a mark end has asked. None is sampled yet.
+    pub(crate) sampled: List<bool>,
+    pub(crate) buckets: List<u32>,
+    // Where each object before the last mark end lies.
+    pub(crate) places: List<Option<Place>>,
+}
+
+impl Run {
+    ghost use Rattle.heap_run.specs.Runs.{HasBegun, HasRun};
+
+    // Nothing is asked yet.
+    fn new(alloc: Global, trace: &Trace) -> Result<Run, NoMemory>
+        requires limits { WithinLimits trace.now }
+        ensures { IfOk result (λ run. HasBegun trace.now 0 run) }
+    {
+        let (shared, driver) = Shared::new(alloc, trace.header.chunks, trace.header.goal)?;
+        let procs = processors(alloc, trace.header.procs)?;
+        Ok(Run {
+            shared,
+            driver: Hand::new(alloc, driver),
+            procs,
+            marks: Marks::empty(alloc),
+            answers: List::new(alloc),
+            sweeps: List::new(alloc),
+            sampled: List::new(alloc),
+            buckets: List::new(alloc),
+            places: List::new(alloc),
+        })
+    }
+
+    // Runs a cycle to its end.
+    fn run_cycle<G: Gate>(
+        &mut self,
+        alloc: Global,
+        trace: &Trace,
+        cycle: u32,
+        background: u32,
+        gate: &G,
+    ) -> Result<(), NoMemory>
+        requires limits { WithinLimits trace.now }
+        requires background { background ≤ 4 }
+        requires inside { cycle ≤ last_cycle trace.now }
+        requires begun { HasBegun trace.now cycle self.old }
+        ensures { OnOk result (HasRun trace.now cycle self.new) }
+    {
+        let events = trace.cycles.as_slice()[cycle as usize].events.as_slice();
+        let queues = queues_of(alloc, trace.header.procs, events)?;
+        let pages = self.shared.pages_taken(&mut self.driver.worker);
+        let shop = Shop {
+            shared: &self.shared,
+            marks: &self.marks,
+            distance: distance_before(trace, cycle),
+            pages,
+        };
+        let given = run_workers(
+            alloc,
+            &shop,
+            &mut self.driver,
+            &mut self.procs,
+            queues.as_slice(),
+            background,
+            gate,
+        )?;
+        merge(alloc, events, given.as_slice(), &mut self.answers)?;
+        file_notes(alloc, &mut self.driver.notes, &mut self.sweeps)
+    }
+
+    // The mark end behind a cycle comes, and the next cycle begins.
+    fn mark_end(&mut self, alloc: Global, trace: &Trace, cycle: u32) -> Result<(), NoMemory>
+        requires limits { WithinLimits trace.now }
+        requires before { cycle < last_cycle trace.now }
+        requires ran { HasRun trace.now cycle self.old }
+        ensures { OnOk result (HasBegun trace.now (cycle + 1) self.new) }
+    {
+        let fresh = self.answers.len() - self.sampled.len();
+        sample_none(fresh, &mut self.sampled, &mut self.buckets)?;
+        let marks = marks_of(
+            alloc,
+            trace,
+            cycle + 1,
+            &self.answers,
+            &self.sampled,
+            &self.buckets,
+            &mut self.places,
+        )?;
+        let pairs = marks.pairs()?;
+        reset(&self.shared, &mut self.driver.worker);
+        self.shared.next_generation(&mut self.driver.worker, pairs);
+        self.marks = marks;
+        Ok(())
+    }
+
+    // The report, where all is answered.
+    fn into_ran(self, alloc: Global, trace: &Trace) -> Result<Ran, NoMemory>
+        requires limits { WithinLimits trace.now }
+        requires ran { HasRun trace.now (last_cycle trace.now) self }
+        ensures sound { IfOk result (λ ran. IsSoundAndUsed trace.now ran.report) }
+        ensures no_profile { IfOk result (λ ran. ran.report.profile ≡ []) }
+    {
+        let Run {
+            shared,
+            driver,
+            answers,
+            sweeps,
+            ..
+        } = self;
+        let Hand { worker, .. } = driver;
+        let mut driver = worker;
+        let report = Report {
+            journal: shared.journal_copy(alloc, &mut driver)?,
+            totals: totals_of(alloc, trace, &answers)?,
+            sweeps,
+            answers,
+            profile: List::new(alloc),
+        };
+        Ok(Ran {
+            report,
+            shared,
+            driver,
+        })
+    }
+}
+
+// The processors, with empty caches.
+fn processors(alloc: Global, count: u32) -> Result<Vec<Proc>, NoMemory>
+    ensures length { IfOk result (λ procs. vec_len procs ≡ count) }
+    ensures empty { IfOk result (λ procs. (i : ℕ) → i < count → slice_index_or procs.items i no_cache ≡ record { number = i; flushed = 0; slots = copies 136 None }) }
+{
+    let mut procs = Vec::new(alloc);
+    for number in 0..count {
+        procs.push(Proc::new(alloc, number)?)?;
+    }
+    Ok(procs)
+}
+
+// By how many bytes sweeping is paced in a cycle: by the distance of the mark end before it.
+fn distance_before(trace: &Trace, cycle: u32) -> u64
+    requires { cycle < length trace.now.cycles }
+    ensures { 8192 ≤ result }
+{
+    if cycle == 0 {
+        return LEAST;
+    }
+    match &trace.cycles.as_slice()[cycle as usize - 1].mark {
+        Some(end) => end.distance.saturating_sub(MARKING).max(LEAST),
+        None => LEAST,
+    }
+}
+
+// Of so many more objects none is sampled.
+fn sample_none(
+    count: usize,
+    sampled: &mut List<bool>,
+    buckets: &mut List<u32>,
+) -> Result<(), NoMemory>
+    ensures sampled { OnOk result (length sampled.new ≡ length sampled.old + count) }
+    ensures buckets { OnOk result (length buckets.new ≡ length buckets.old + count) }
+{
+    for _object in 0..count {
+        sampled.push(false)?;
+        buckets.push(0)?;
+    }
+    Ok(())
+}
