@@ -1,4 +1,5 @@
 use Rattle.std.proofs.Common.{◌≡◌, ◌∙◌, List, ap}
+use Rattle.std.proofs.lemmas.Result.{err_from_is_err_and}
 use Rattle.span_state.specs.declared.sweep.SweepNote.{SweepNote}
 use Rattle.span_laws.specs.Views.{as_number}
 use Rattle.sweep_lists.specs.Room.{Roomy}
@@ -33,3 +34,6 @@ returns-clause-cached g c =
     let idle = out-idle c.args.number c.args.driver.now c.new-hand.result o c.requires.idle in
     let works = works-acted _ c.new-hand.result c.finish.new.driver c.in_ok-finish.ensures (λ said p. p.0.takes_none.unmissed) idle in
     ok-map c.bring_back.result _ _ (λ notes. back-cached _ c.args.number c.args.driver.now c.new-hand.result c.finish.new.driver c.bring_back.new.driver o works c.bring_back.ensures.worker c.in_ok-finish.ensures.does.stays.cached) c.bring_back.ensures.notes
+
+pub returns-in_err-finish-clause-cached : goal.returns-in_err-finish-clause-cached
+returns-in_err-finish-clause-cached g c = let p = err_from_is_err_and c.from_residual-in_err-finish.result c.from_residual-in_err-finish.ensures.1 in rw p.1 tt
