@@ -1,0 +1,5 @@
+//! What processors and large objects answer, row by row, through the public calls of `proc_cache` and `large_objects`.
+#![tactic(auto)]
+
+#[cfg(test)]
+mod tests;
