@@ -122,7 +122,8 @@ const ANSWERED: [(&str, &str); 15] = [
         "a 0 8 n 1\ngc 1\nm 0 0\ngc 1\ngc 1\n",
         "o 0 0xc000000000\nj 0 0 take 0 1 3\nj 1 2 give 0 1\ns 1 0 1 0\ns 2 0 0 1\nt 1 1 1\n",
     ),
-    // Three spans of four objects: the middle one stays full, and the lowest indices of the others are taken again.
+    // Three spans of four objects. The cached one is flushed first, so that it is first among those with room; the sweeps that are
+    // paid for go on with the full ones, and the middle one stays full. The next mark end leaves two of four spans.
     (
         "a 0 2048 n 1\na 0 2048 n 1\na 0 2048 n 1\na 0 2048 n 1\na 0 2048 n 1\na 0 2048 n 1\na 0 2048 n 1\na 0 2048 n 1\n\
          a 0 2048 n 1\na 0 2048 n 1\na 0 2048 n 1\na 0 2048 n 1\ngc 1\nm 1 1\nm 3 7\nm 9 10\n\
@@ -130,12 +131,42 @@ const ANSWERED: [(&str, &str); 15] = [
          a 0 2048 n 1\na 0 2048 n 1\na 0 2048 n 1\n",
         "o 0 0xc000000000\no 1 0xc000000800\no 2 0xc000001000\no 3 0xc000001800\no 4 0xc000002000\no 5 0xc000002800\no 6 0xc000003000\n\
          o 7 0xc000003800\no 8 0xc000004000\no 9 0xc000004800\no 10 0xc000005000\no 11 0xc000005800\n\
-         o 12 0xc000000000\no 13 0xc000001000\no 14 0xc000004000\no 15 0xc000005800\no 16 0xc000006000\no 17 0xc000006800\no 18 0xc000007000\n\
-         o 19 0xc000001000\no 20 0xc000001800\no 21 0xc000002000\n\
-         j 0 0 take 0 1 77\nj 1 0 take 1 1 77\nj 2 0 take 2 1 77\nj 3 1 take 3 1 77\nj 4 2 give 1 1\nj 5 2 give 2 1\nj 6 2 give 3 1\nj 7 2 take 1 1 77\n\
-         s 1 0 2 2\ns 1 1 4 0\ns 1 2 2 2\ns 2 0 2 2\ns 2 1 0 4\ns 2 2 0 4\ns 2 3 0 3\nt 38 22 17\n",
+         o 12 0xc000004000\no 13 0xc000005800\no 14 0xc000000000\no 15 0xc000001000\no 16 0xc000006000\no 17 0xc000006800\no 18 0xc000007000\n\
+         o 19 0xc000004800\no 20 0xc000005000\no 21 0xc000005800\n\
+         j 0 0 take 0 1 77\nj 1 0 take 1 1 77\nj 2 0 take 2 1 77\nj 3 1 take 3 1 77\nj 4 2 give 3 1\nj 5 2 give 1 1\n\
+         s 1 0 2 2\ns 1 1 4 0\ns 1 2 2 2\ns 2 0 1 3\ns 2 1 0 4\ns 2 2 1 3\ns 2 3 0 3\nt 38 22 17\n",
     ),
 ];
+
+// The second line and the lines behind it, and the report of them without its last line: of two processors each has a span of its own, and takes
+// no slot of the other's; 64 processors without an event print nothing; a freed run is scavenged 64 pages at a
+// time.
+const WITH_HEADS: [(&str, &str, &str); 3] = [
+    (
+        "heap 1 procs 2 rate 0 seed 1 goal 512",
+        "a 0 8 s 1\na 1 8 s 1\ngc 1\nm 0 0\na 1 8 s 1\n",
+        "o 0 0xc000000000\no 1 0xc000002000\no 2 0xc000002000\nj 0 0 take 0 1 2\nj 1 0 take 1 1 2\nj 2 1 give 1 1\nj 3 1 take 1 1 2\n\
+         s 1 0 1 0\ns 1 1 0 1\nt 1 3 1\n",
+    ),
+    ("heap 1 procs 64 rate 0 seed 1 goal 512", "", ""),
+    (
+        "heap 1 procs 1 rate 0 seed 1 goal 0",
+        "a 0 1048576 n 1\ngc 1\n",
+        "o 0 0xc000000000\nj 0 0 take 0 128 1\nj 1 1 give 0 128\nj 2 1 scav 64 64\nj 3 1 scav 0 64\ns 1 0 0 1\nt 0 1 1\n",
+    ),
+];
+
+#[test]
+fn processors_and_goals_are_served(rt: HostRuntime) -> Result<(), Fail> {
+    for (head, lines, text) in WITH_HEADS {
+        let input = format!(in rt.alloc(); "goheap 1\n{head}\n{lines}end\n")?;
+        let report = format!(in rt.alloc(); "{text}end\n")?;
+        let found = call(&rt, &["run"], input.as_bytes(), &[], &[])?;
+        assert_eq!(rt; found.status, 0, "at {head}");
+        assert_eq!(rt; found.written.as_slice(), report.as_bytes(), "at {head}");
+    }
+    Ok(())
+}
 
 #[test]
 fn traces_are_answered(rt: HostRuntime) -> Result<(), Fail> {

@@ -1,6 +1,5 @@
 -- What the turns of workers leave behind.
-use Rattle.std.proofs.Common.{◌≡◌, ◌≢◌, ℕ, zero, suc, ◌+◌, ◌<◌, ◌≤◌, Bool, true, false, eqb, List, [], ◌∷◌, ◌++◌, map, reverse, take, length, get_or, Result, Ok, Err, OnOk, refl, sym, ◌∙◌, ap, arith, ◌⊎◌, inl, inr, subst}
-use Rattle.std.proofs.lemmas.Bool.{cases_eq, cases_lt}
+use Rattle.std.proofs.Common.{◌≡◌, ℕ, suc, ◌+◌, ◌<◌, Bool, List, [], ◌∷◌, ◌++◌, map, reverse, take, length, get_or, Result, Ok, Err, OnOk, refl, sym, ◌∙◌, ap, arith, subst}
 use Rattle.std.proofs.lemmas.List.{append_assoc, append-nil, reverse-append, take_more}
 use Rattle.page_alloc.specs.Lists.{In}
 use Rattle.span_state.specs.declared.sweep.SweepNote.{SweepNote}
@@ -30,11 +29,10 @@ use Rattle.sweeper.specs.Work.{Works, note_by}
 use Rattle.proc_cache.specs.Cache.{Cache}
 use Rattle.proc_cache.specs.Flushes.{Flushes, IsFlushing}
 use Rattle.heap_run.specs.Parts.{IsSameRun, part_at, unheard}
-use Rattle.heap_run.specs.Served.{IsPlacedBy, IsRefusedBy, IsTakenFor, LogTells, Tells, events_by}
-use Rattle.heap_run.specs.Swept.{AreCollected, note_at}
+use Rattle.heap_run.specs.Served.{Tells}
+use Rattle.heap_run.specs.Swept.{note_at}
 use Rattle.heap_run.specs.Turns.{HasActed, IsCaching, SaysAnswers, SaysNone, TookTurn}
 use Rattle.heap_run.proofs.Parts.{others-stay, own-part, parts-handed, same-handed, same-trans}
-use Rattle.heap_run.proofs.Swept.{collected-more}
 
 -- ---- logs behind logs
 

@@ -1,7 +1,5 @@
 -- The answer to one event.
-use Rattle.std.proofs.Common.{◌≡◌, ℕ, zero, suc, ◌+◌, ◌*◌, ◌/◌, ◌%◌, ◌<◌, ◌≤◌, Bool, true, false, List, [], ◌∷◌, ◌++◌, refl, sym, ◌∙◌, ap, arith, inl, inr, subst, eq-eqb}
-use Rattle.std.specs.Prelude.{Option, Some, None}
-use Rattle.page_bitmap.specs.declared.line.Line.TheVariants.{Take}
+use Rattle.std.proofs.Common.{◌≡◌, ℕ, ◌+◌, ◌*◌, ◌/◌, ◌%◌, ◌<◌, ◌≤◌, Bool, true, false, List, [], ◌∷◌, ◌++◌, refl, sym, ◌∙◌, ap, arith, inl, subst, eq-eqb}
 use Rattle.page_alloc.specs.Lists.{In}
 use Rattle.size_classes.specs.Classes.{IsLeastClass, objects_of, pages_of, slot_of, span_class_of}
 use Rattle.sweep_laws.specs.Lists.{has}
@@ -11,17 +9,12 @@ use Rattle.cycle_history.specs.declared.Answer.{Answer}
 use Rattle.cycle_history.specs.declared.Answer.TheVariants.{Placed, Missed}
 use Rattle.cycle_history.specs.Needs.{IsNeed, Need}
 use Rattle.worker_log.specs.declared.Entry.{Entry}
-use Rattle.worker_log.specs.declared.Placing.{Placing}
 use Rattle.worker_log.specs.Logs.{Refusal, Taking, is_full_set, is_placing_in, is_pop_of, many, placings, refusals, swept_set, takings}
 use Rattle.worker_log.proofs.Logs.{many-append}
-use Rattle.span_laws.specs.Asks.{IsIdle}
-use Rattle.span_laws.specs.Views.{span_at}
 use Rattle.span_laws.specs.declared.view.Part.{Part}
-use Rattle.span_laws.specs.declared.view.Span.{Span}
-use Rattle.span_laws.specs.declared.view.View.{View}
 use Rattle.span_set.specs.declared.hand.Hand.{Hand}
 use Rattle.proc_cache.specs.Allocs.{PlacesOne}
-use Rattle.proc_cache.specs.Cache.{Cache, slot_at}
+use Rattle.proc_cache.specs.Cache.{Cache}
 use Rattle.proc_cache.specs.Flushes.{Flushes}
 use Rattle.proc_cache.specs.Leaves.{Holds, Leaves}
 use Rattle.proc_cache.specs.Serves.{IsUsedCache, Serves}
@@ -171,14 +164,14 @@ holds-caching g said old new c now h are =
     record {
       serves = serves_through g old.worker.view.own new.worker.view.own c v h.cached h.fresh h.bodies
           (λ k s at. (
-              let j = swept_set g k 1 in
-              let part : is_swept_set old.worker.view.generation j ≡ true = subst (λ (n : ℕ). is_swept_set n j ≡ true) now (eq-eqb (j % 2) ((g / 2) % 2) (swept-parity k ((g / 2) % 2) (bit-low (g / 2)))) in
-              let full : is_full_set j ≡ true = eq-eqb ((j / 2) % 2) 1 (full-parity k ((g / 2) % 2) (bit-low (g / 2))) in
-              let before = (v.slots k s at).unpopped in
-              let later = h.unpopped j s.page part full in
-              let both = many-append (is_pop_of j s.page) said old.worker.view.own.log in
-              let all : many (is_pop_of j s.page) (said ++ old.worker.view.own.log) ≡ 0 = omega arith in
-              subst (λ (l : List Entry). many (is_pop_of j s.page) l ≡ 0) (sym h.log) all));
+          let j = swept_set g k 1 in
+          let part : is_swept_set old.worker.view.generation j ≡ true = subst (λ (n : ℕ). is_swept_set n j ≡ true) now (eq-eqb (j % 2) ((g / 2) % 2) (swept-parity k ((g / 2) % 2) (bit-low (g / 2)))) in
+          let full : is_full_set j ≡ true = eq-eqb ((j / 2) % 2) 1 (full-parity k ((g / 2) % 2) (bit-low (g / 2))) in
+          let before = (v.slots k s at).unpopped in
+          let later = h.unpopped j s.page part full in
+          let both = many-append (is_pop_of j s.page) said old.worker.view.own.log in
+          let all : many (is_pop_of j s.page) (said ++ old.worker.view.own.log) ≡ 0 = omega arith in
+          subst (λ (l : List Entry). many (is_pop_of j s.page) l ≡ 0) (sym h.log) all));
       used = λ p hc hf. (
           let before = are.used p (sym (ap (has p) h.cached) ∙ hc) (sym (ap (has p) h.fresh) ∙ hf) in
           let both = many-append (is_placing_in p) said old.worker.view.own.log in

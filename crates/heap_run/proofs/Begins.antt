@@ -1,5 +1,5 @@
 -- A run as its first cycle begins.
-use Rattle.std.proofs.Common.{◌≡◌, ◌≢◌, ℕ, zero, suc, ◌+◌, ◌*◌, ◌<◌, ◌≤◌, Bool, true, false, List, [], ◌∷◌, map, set, reverse, length, get_or, Option, Some, None, refl, sym, ◌∙◌, ap, arith, subst}
+use Rattle.std.proofs.Common.{◌≡◌, ℕ, zero, suc, ◌<◌, Bool, true, false, List, [], ◌∷◌, map, set, reverse, length, get_or, Option, Some, None, refl, sym, ◌∙◌, ap, arith, subst}
 use Rattle.std.specs.List.{range_with_len}
 use Rattle.std.proofs.lemmas.List.FromFn.{length-map-range_with_len}
 use Rattle.std.proofs.lemmas.Option.{slice_get_within}
@@ -12,9 +12,7 @@ use Rattle.cycle_history.specs.declared.Answer.{Answer}
 use Rattle.cycle_history.specs.declared.places.Place.{Place}
 use Rattle.cycle_history.specs.Found.{AreFound}
 use Rattle.cycle_history.specs.Marked.{AreObjectsBefore}
-use Rattle.cycle_history.specs.Objects.{Object}
 use Rattle.cycle_history.specs.Requests.{marked_by, region_of}
-use Rattle.run_laws.specs.Facts.{Marks}
 use Rattle.run_laws.specs.Reached.{Began}
 use Rattle.run_laws.proofs.Ends.{began-first}
 use Rattle.span_laws.specs.Asks.{IsIdle}
@@ -23,7 +21,7 @@ use Rattle.span_laws.specs.declared.view.Part.{Part}
 use Rattle.proc_cache.specs.Cache.{Cache}
 use Rattle.heap_run.specs.Parts.{part_at, unheard}
 use Rattle.heap_run.specs.Runs.{HasBegun}
-use Rattle.heap_run.specs.Turns.{IsCaching, IsDriving, no_cache}
+use Rattle.heap_run.specs.Turns.{IsCaching, no_cache}
 use Rattle.heap_run.specs.declared.run.Run.{Run}
 use Rattle.heap_run.proofs.Driving.{same-refl}
 

@@ -1,17 +1,16 @@
 -- A run from cycle to cycle.
-use Rattle.std.proofs.Common.{◌≡◌, ◌≢◌, ℕ, suc, ◌+◌, ◌-◌, ◌<◌, ◌≤◌, Bool, true, false, ◌&&◌, ◌||◌, eqb, List, [], ◌∷◌, ◌++◌, reverse, map, length, refl, sym, ◌∙◌, ap, arith, ◌⊎◌, inl, inr, subst}
-use Rattle.std.proofs.lemmas.Bool.{eq-eqb, or_right}
+use Rattle.std.proofs.Common.{◌≡◌, ℕ, suc, ◌<◌, Bool, true, List, refl, ◌⊎◌, inl, inr, subst}
+use Rattle.std.proofs.lemmas.Bool.{eq-eqb}
 use Rattle.page_bitmap.specs.declared.line.Line.{Line}
 use Rattle.page_alloc.specs.Lists.{In}
-use Rattle.page_alloc.specs.Journal.{Life, open_lives}
+use Rattle.page_alloc.specs.Journal.{open_lives}
 use Rattle.span_state.specs.declared.sweep.SweepNote.{SweepNote}
 use Rattle.cycle_history.specs.Requests.{Marking}
 use Rattle.cycle_history.specs.Objects.{Object, is_placed, live}
-use Rattle.sound_run.specs.Spans.{AreBits}
 use Rattle.sound_run.proofs.Live.{live-marked}
-use Rattle.run_laws.specs.CycleSoFar.{CycleSoFar, past_after}
+use Rattle.run_laws.specs.CycleSoFar.{CycleSoFar}
 use Rattle.run_laws.specs.Facts.{Marks}
-use Rattle.run_laws.specs.Reached.{Began, Reached}
+use Rattle.run_laws.specs.Reached.{Reached}
 
 -- an object that the next mark end marks lives now
 lives-now : (marked : Marking) (m : ℕ) (o : Object) → is_placed o.answer ≡ true → (o.cycle ≡ m) ⊎ ((o.cycle < m) × (marked m o.id ≡ true)) → live marked m o ≡ true

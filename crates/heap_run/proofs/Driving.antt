@@ -6,21 +6,19 @@ use Rattle.span_state.specs.declared.sweep.SweepNote.{SweepNote}
 use Rattle.trace_reader.specs.declared.trace.Event.{Event}
 use Rattle.cycle_history.specs.declared.Answer.{Answer}
 use Rattle.worker_log.specs.declared.Entry.{Entry}
-use Rattle.worker_log.specs.declared.Sweeping.{Sweeping}
 use Rattle.worker_log.specs.Logs.{sweepings}
 use Rattle.span_laws.specs.Answers.{cycle_at}
 use Rattle.span_laws.specs.Asks.{IsIdle}
-use Rattle.span_laws.specs.Calls.{notes_of}
 use Rattle.span_laws.specs.Views.{Seen}
 use Rattle.span_laws.specs.declared.view.Part.{Part}
 use Rattle.span_set.specs.declared.hand.Hand.{Hand}
 use Rattle.proc_cache.specs.Cache.{Cache}
 use Rattle.heap_run.specs.Parts.{IsSameRun, part_at}
-use Rattle.heap_run.specs.Swept.{AreCollected, note_at}
-use Rattle.heap_run.specs.Turns.{HasNoCache, HaveAnswered, IsCaching, IsCollecting, IsDriving, KeepsAnswers, SaysAnswers, SaysNone, TookTurn, no_cache}
+use Rattle.heap_run.specs.Swept.{note_at}
+use Rattle.heap_run.specs.Turns.{HaveAnswered, IsCaching, IsCollecting, IsDriving, KeepsAnswers, SaysAnswers, SaysNone, TookTurn, no_cache}
 use Rattle.heap_run.proofs.Parts.{same-trans}
 use Rattle.heap_run.proofs.Swept.{collected-more}
-use Rattle.heap_run.proofs.Acted.{answers-none, answers-then, none-answers, none-then, notes-told, sweepings-append}
+use Rattle.heap_run.proofs.Acted.{answers-then, none-answers, notes-told, sweepings-append}
 
 -- ---- one turn
 
@@ -72,7 +70,7 @@ collecting-turn P i d e turn was =
     let notes : e.notes.items ≡ d.notes.items ++ reverse (map (note_at (cycle_at d.worker.view.generation)) (sweepings turn.said)) =
     turn.notes ∙ ap (λ (l : List SweepNote). d.notes.items ++ l) (notes-told d.worker.view.generation turn.said) in
     let more = collected-more (cycle_at d.worker.view.generation) i (λ w. (part_at d.worker w).log) (λ w. (part_at e.worker w).log) d.notes.items (sweepings turn.said) was
-        (ap sweepings turn.log ∙ sweepings-append turn.said (part_at d.worker i).log) (λ v other. ap (λ (h : Part). sweepings h.log) (turn.others v (λ q. other (sym q)))) in
+    (ap sweepings turn.log ∙ sweepings-append turn.said (part_at d.worker i).log) (λ v other. ap (λ (h : Part). sweepings h.log) (turn.others v (λ q. other (sym q)))) in
     rw (g, notes) more
 
 -- a turn in which no event is answered

@@ -1,14 +1,13 @@
 -- From what the shared spans tell of a cycle that has ended, and the answers and notes of the run, to the facts of the cycle.
-use Rattle.std.proofs.Common.{◌≡◌, ◌≢◌, ℕ, zero, suc, ◌+◌, ◌/◌, ◌<◌, ◌≤◌, Bool, true, false, ◌&&◌, eqb, List, [], ◌∷◌, ◌++◌, map, length, refl, sym, ◌∙◌, ap, arith, inl, inr, subst}
+use Rattle.std.proofs.Common.{◌≡◌, ℕ, ◌<◌, true, ◌&&◌, eqb, List, [], ◌∷◌, map, length, refl, sym, ◌∙◌, ap, arith, inl, inr}
 use Rattle.std.proofs.lemmas.Bool.{cases_lt, eq-eqb}
 use Rattle.page_bitmap.specs.declared.line.Line.{Line}
 use Rattle.page_bitmap.specs.declared.line.Line.TheVariants.{Take, Miss, Give, Scav}
 use Rattle.page_alloc.specs.Lists.{In, IsNumber}
-use Rattle.page_alloc.specs.Journal.{Life, open_lives, Legal}
+use Rattle.page_alloc.specs.Journal.{Life, open_lives}
 use Rattle.page_alloc.proofs.Lives.{from_others}
 use Rattle.trace_reader.specs.declared.trace.Event.{Event}
 use Rattle.cycle_history.specs.declared.Answer.{Answer}
-use Rattle.cycle_history.specs.Needs.{Need, IsNeed}
 use Rattle.cycle_history.specs.Requests.{Request, Marking}
 use Rattle.cycle_history.specs.Objects.{Object, is_placed}
 use Rattle.cycle_history.specs.Rules.{AreAnswered}
@@ -16,14 +15,12 @@ use Rattle.cycle_history.specs.Sound.{IsScavenged}
 use Rattle.cycle_history.proofs.Plain.{request_in}
 use Rattle.sound_run.specs.Run.{Lasts}
 use Rattle.sound_run.proofs.Seats.{number-below, same_number}
-use Rattle.worker_log.specs.declared.Entry.{Entry}
 use Rattle.worker_log.specs.Logs.{Taking, placings, refusals, takings}
-use Rattle.run_laws.specs.CycleSoFar.{CycleSoFar, past_after, with_objects}
-use Rattle.run_laws.specs.Facts.{Facts, IsPlacing, Marks, Notes, Objects, Places, placed_by}
+use Rattle.run_laws.specs.CycleSoFar.{CycleSoFar, past_after}
+use Rattle.run_laws.specs.Facts.{Facts, IsPlacing, Marks, Notes, Places, placed_by}
 use Rattle.run_laws.specs.Lists.{ArePaired}
-use Rattle.run_laws.proofs.Lists.{number-one, number-less, paired-right, in-passing}
+use Rattle.run_laws.proofs.Lists.{number-less, paired-right, in-passing}
 use Rattle.run_laws.proofs.Asked.{objects-from, small-pages}
-use Rattle.run_laws.proofs.Here.{placed-parts}
 use Rattle.heap_run.specs.Served.{IsTakenFor}
 use Rattle.span_laws.specs.Cycle.{EndsCycle}
 use Rattle.heap_run.proofs.Needs.{need-pages}

@@ -1,18 +1,16 @@
 -- A mark end: the driver resets the unswept sets, and the next cycle begins.
-use Rattle.std.proofs.Common.{◌≡◌, ◌≢◌, ℕ, zero, suc, ◌+◌, ◌*◌, ◌<◌, ◌≤◌, Bool, true, false, eqb, List, [], ◌∷◌, ◌++◌, map, set, reverse, length, get_or, Option, Some, None, unwrap_or, refl, sym, ◌∙◌, ap, arith, inl, inr, subst}
+use Rattle.std.proofs.Common.{◌≡◌, ℕ, zero, suc, ◌+◌, ◌<◌, ◌≤◌, Bool, true, false, List, [], ◌∷◌, ◌++◌, map, set, reverse, length, get_or, Option, unwrap_or, refl, sym, ◌∙◌, ap, arith, subst}
 use Rattle.std.proofs.lemmas.Bool.{ne_eqb}
 use Rattle.std.proofs.lemmas.List.{append-nil, length-map}
 use Rattle.page_bitmap.specs.declared.line.Line.{Line}
-use Rattle.span_state.specs.MarkSet.{MarkSet, has_pair, is_marked}
+use Rattle.span_state.specs.MarkSet.{MarkSet, has_pair}
 use Rattle.sweep_laws.specs.Lists.{has}
 use Rattle.sweep_laws.specs.Needs.{is_swept_set}
 use Rattle.trace_reader.specs.declared.trace.Trace.{Trace}
-use Rattle.trace_reader.specs.Limits.{WithinLimits}
 use Rattle.worker_log.specs.declared.Entry.{Entry}
 use Rattle.worker_log.specs.declared.Entry.TheVariants.{Read}
 use Rattle.worker_log.specs.Logs.{is_seen_empty, many, placings}
 use Rattle.worker_log.proofs.Logs.{many-append}
-use Rattle.cycle_history.specs.declared.places.Place.{Place}
 use Rattle.cycle_history.specs.Found.{AreFound}
 use Rattle.cycle_history.specs.Marked.{AreMarksOf, AreObjectsBefore, objects_before}
 use Rattle.cycle_history.specs.Objects.{Object}
@@ -20,7 +18,7 @@ use Rattle.cycle_history.specs.Requests.{marked_by, region_of}
 use Rattle.sound_run.specs.Run.{IsRun}
 use Rattle.run_laws.specs.CycleSoFar.{CycleSoFar}
 use Rattle.run_laws.specs.Facts.{Marks}
-use Rattle.run_laws.specs.Reached.{Began, Reached}
+use Rattle.run_laws.specs.Reached.{Began}
 use Rattle.run_laws.proofs.Ends.{began-next}
 use Rattle.run_laws.proofs.MarksOf.{facts-marks}
 use Rattle.span_laws.specs.Asks.{IsIdle, MayMark}
@@ -30,8 +28,8 @@ use Rattle.span_laws.specs.declared.view.View.{View}
 use Rattle.span_set.specs.Resets.{Resets}
 use Rattle.span_set.specs.declared.hand.Hand.{Hand}
 use Rattle.proc_cache.specs.Cache.{Cache}
-use Rattle.heap_run.specs.Parts.{IsSameRun, part_at, unheard}
-use Rattle.heap_run.specs.Runs.{AreMarked, HasBegun, HasRun, IsSet}
+use Rattle.heap_run.specs.Parts.{part_at, unheard}
+use Rattle.heap_run.specs.Runs.{HasBegun, HasRun}
 use Rattle.heap_run.specs.Settled.{HasFlushed}
 use Rattle.heap_run.specs.Turns.{HasActed, IsCaching, IsDriving, SaysNone, TookTurn, no_cache}
 use Rattle.heap_run.specs.declared.run.Run.{Run}
@@ -200,8 +198,8 @@ mark-begins t c old new e marks pairs ran m =
     let next = began-next (marked_by t) (region_of t) t.header.goal c ran.past ran.objects (reverse old.sweeps) (has_pair (allocated_pairs old.driver.worker.number old.driver.worker.view)) ran.reached in
     let began : Began (marked_by t) (region_of t) t.header.goal (suc c) new.driver.worker.view.before ran.objects (reverse new.sweeps) (has_pair new.driver.worker.view.carried) =
     subst (λ (l : List Line). Began (marked_by t) (region_of t) t.header.goal (suc c) l ran.objects (reverse new.sweeps) (has_pair new.driver.worker.view.carried)) (sym before)
-        (subst (λ (l : List (ℕ × ℕ)). Began (marked_by t) (region_of t) t.header.goal (suc c) ran.past ran.objects (reverse new.sweeps) (has_pair l)) (sym carried)
-        (rw m.sweeps next)) in
+    (subst (λ (l : List (ℕ × ℕ)). Began (marked_by t) (region_of t) t.header.goal (suc c) ran.past ran.objects (reverse new.sweeps) (has_pair l)) (sym carried)
+    (rw m.sweeps next)) in
     record {
       set = record {
         here = ap (λ (w : Seen). w.here) m.worker ∙ r.driving.same.here ∙ s.here;

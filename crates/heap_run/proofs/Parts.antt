@@ -1,14 +1,12 @@
 -- What each worker has, as the state goes from worker to worker.
-use Rattle.std.proofs.Common.{◌≡◌, ◌≢◌, ℕ, zero, suc, ◌<◌, List, [], ◌∷◌, map, set, length, get_or, Option, Some, None, refl, sym, ◌∙◌, ap, arith, inl, inr}
+use Rattle.std.proofs.Common.{◌≡◌, ◌≢◌, ℕ, zero, suc, ◌<◌, List, [], ◌∷◌, map, set, length, get_or, refl, sym, ◌∙◌, ap, inl, inr}
 use Rattle.std.proofs.lemmas.Bool.{cases_eq}
 use Rattle.std.proofs.lemmas.List.{get_or-set_same, get_or-set_other, length-set}
 use mathlib.Core.Option.{some, some-injective, some-ne-none}
 use lib.ListN.{get_elem?}
 use Rattle.sweep_laws.specs.Owned.{EachAt}
 use Rattle.swept_set_laws.specs.Entered.{log_of}
-use Rattle.worker_log.specs.declared.Entry.{Entry}
 use Rattle.span_laws.specs.declared.view.Part.{Part}
-use Rattle.span_laws.specs.declared.view.View.{View}
 use Rattle.span_laws.specs.Rule.{logs_of}
 use Rattle.span_laws.specs.Views.{Seen, as_number, no_part, parts_left, parts_of}
 use Rattle.heap_run.specs.Parts.{unheard, part_at, IsSameRun}

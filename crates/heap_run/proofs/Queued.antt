@@ -1,7 +1,7 @@
 -- The events and answers of each processor.
-use Rattle.std.proofs.Common.{◌≡◌, ◌≢◌, ℕ, zero, suc, ◌+◌, ◌<◌, ◌≤◌, Bool, true, false, eqb, cond, List, [], ◌∷◌, ◌++◌, reverse, set, take, drop, length, get_or, refl, sym, ◌∙◌, ap, arith, inl, inr}
-use Rattle.std.proofs.lemmas.Bool.{cases_Bool, cases_eq, cases_lt, eq-eqb, ne_eqb}
-use Rattle.std.proofs.lemmas.List.{append-nil, append_assoc, get_or-set_same, get_or-set_other, get_or_append_left, get_or_push, get_or_past, length-append, length-set, length-take-le, reverse-append, take_all, take_more, take-append-drop, length-reverse}
+use Rattle.std.proofs.Common.{◌≡◌, ◌≢◌, ℕ, zero, suc, ◌+◌, ◌<◌, ◌≤◌, eqb, List, [], ◌∷◌, ◌++◌, reverse, set, take, drop, length, get_or, refl, sym, ◌∙◌, ap, arith, inl, inr}
+use Rattle.std.proofs.lemmas.Bool.{cases_Bool, cases_eq, eq-eqb, ne_eqb}
+use Rattle.std.proofs.lemmas.List.{append-nil, append_assoc, get_or-set_same, get_or-set_other, length-append, length-take-le, reverse-append, take_all, take_more, take-append-drop, length-reverse}
 use Rattle.trace_reader.specs.declared.trace.Event.{Event}
 use Rattle.cycle_history.specs.declared.Answer.{Answer}
 use Rattle.heap_run.specs.Served.{answers_by, events_by}
@@ -181,8 +181,7 @@ merges-more events given i at next more d a lt inside is_at low is_a was =
 pub merged-all : (events : List Event) (given : List (List Answer)) (i : ℕ) (next : List ℕ) (more : List Answer) → length events ≤ i → i ≤ length events → ((w : ℕ) → length (get_or given w []) ≡ length (events_by w events)) → Merges events given i next more
     → (length more ≡ length events) × ((w : ℕ) → answers_by w events more ≡ get_or given w [])
 merged-all events given i next more end low sizes was =
-    let whole : take i events ≡ events = take_all i events end in
-    (
+    let whole : take i events ≡ events = take_all i events end in (
       (let s = was.size in omega arith),
       λ w. (
           let n : get_or next w 0 ≡ length (events_by w events) = was.counts w ∙ ap (λ (l : List Event). length (events_by w l)) whole in
@@ -198,8 +197,7 @@ pub merged-push : (events : List Event) (given : List (List Answer)) (i at : ℕ
 merged-push events given i at next first old now more d a s lt inside is_at sizes slice grown pushed is_a was =
     let low : at < length (get_or given (get_or events i d).proc []) = (let l = events-left events i d lt in let n = was.counts (get_or events i d).proc in let z = sizes (get_or events i d).proc in omega arith) in
     let low' : at < length s = rw slice low in
-    let mine : a ≡ get_or (get_or given (get_or events i d).proc []) at a = is_a low' ∙ ap (λ (l : List Answer). get_or l at a) slice in
-    (
+    let mine : a ≡ get_or (get_or given (get_or events i d).proc []) at a = is_a low' ∙ ap (λ (l : List Answer). get_or l at a) slice in (
       more ++ a ∷ [],
       pushed ∙ ap (λ (l : List Answer). l ++ a ∷ []) grown ∙ append_assoc first more (a ∷ []),
       merges-more events given i at next more d a lt inside is_at low mine was,

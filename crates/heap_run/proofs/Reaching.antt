@@ -1,7 +1,7 @@
 -- A cycle that has ended, with its answers and its notes, goes on with the run.
-use Rattle.std.proofs.Common.{◌≡◌, ◌≢◌, ℕ, suc, ◌+◌, ◌<◌, ◌≤◌, Bool, List, [], ◌∷◌, ◌++◌, map, reverse, take, drop, length, get_or, Some, refl, sym, ◌∙◌, ap, arith, inl, inr, subst}
+use Rattle.std.proofs.Common.{◌≡◌, ◌≢◌, ℕ, suc, ◌+◌, ◌<◌, Bool, List, [], ◌∷◌, ◌++◌, map, reverse, take, drop, length, get_or, Some, refl, sym, ◌∙◌, ap, arith, inl, inr, subst}
 use Rattle.std.specs.List.Sorted.{IsNonDecreasingBy, IsPermutation}
-use Rattle.std.proofs.lemmas.List.{append_assoc, length-append, length-map, length-reverse, length-take-le, map-append, reverse-append, reverse-reverse, take-append-drop, take_more}
+use Rattle.std.proofs.lemmas.List.{length-reverse, length-take-le, map-append, reverse-append, take-append-drop, take_more}
 use lib.Seq.{drop-cons}
 use Rattle.page_bitmap.specs.declared.line.Line.{Line}
 use Rattle.page_alloc.specs.Lists.{AllApart, In}
@@ -135,23 +135,23 @@ goes-on t c d objects answers more queues given sweeps collected sorted driver h
     let of : (o : Object) → In o news → o.cycle ≡ c = λ o i. cycles-from (length older) c (map (request_in c) (reverse events)) news are.asked (λ r j. in-requests c (reverse events) r j) o i in
     let lasts = λ (o : Object) (i : In o news). news-last t done cyc (drop (suc c) t.cycles) news o h.cycles whole turned' (of o i ∙ sym few) i in
     let notes : Notes e = notes-sorted c (λ w. (part_at driver w).log) collected sorted e h.collected_are h.permutation h.rising
-        (λ w. subst (λ (l : List Entry). OnceIn l) (s.logs w) (s.ends.once w))
-        (λ v w a b ha hb same. s.ends.one_sweeper v w a b (subst (λ (l : List Entry). SweptIn a l) (sym (s.logs v)) ha) (subst (λ (l : List Entry). SweptIn b l) (sym (s.logs w)) hb) same)
-        e_cycle s.logs refl in
+    (λ w. subst (λ (l : List Entry). OnceIn l) (s.logs w) (s.ends.once w))
+    (λ v w a b ha hb same. s.ends.one_sweeper v w a b (subst (λ (l : List Entry). SweptIn a l) (sym (s.logs v)) ha) (subst (λ (l : List Entry). SweptIn b l) (sym (s.logs w)) hb) same)
+    e_cycle s.logs refl in
     let marks : Marks (marked_by t) objects e = h.marks e e_cycle s.before s.marks in
     let scavenged = subst (λ (n : ℕ). IsScavenged n t.header.goal (past_after e0)) h.region (subst (λ (n : ℕ). IsScavenged driver.view.region n (past_after e0)) h.goal s.scavenged) in
     let facts : Facts (marked_by t) (region_of t) t.header.goal objects e =
     ended-facts (marked_by t) (region_of t) t.header.goal older objects (reverse events) (reverse more) e ends are' h.asked.asked lasts notes marks scavenged in
     let began : Began (marked_by t) (region_of t) t.header.goal e.cycle e.before objects (reverse sweeps) e.carried =
     subst (λ (n : ℕ). Began (marked_by t) (region_of t) t.header.goal n e0.before objects (reverse sweeps) e0.carried) (sym e_cycle)
-        (subst (λ (l : List Line). Began (marked_by t) (region_of t) t.header.goal c l objects (reverse sweeps) e0.carried) (sym s.before)
-        (subst (λ (f : ℕ → ℕ → Bool). Began (marked_by t) (region_of t) t.header.goal c driver.view.before objects (reverse sweeps) f) (sym s.carried) h.began)) in
+    (subst (λ (l : List Line). Began (marked_by t) (region_of t) t.header.goal c l objects (reverse sweeps) e0.carried) (sym s.before)
+    (subst (λ (f : ℕ → ℕ → Bool). Began (marked_by t) (region_of t) t.header.goal c driver.view.before objects (reverse sweeps) f) (sym s.carried) h.began)) in
     let reached : Reached (marked_by t) (region_of t) t.header.goal e0.cycle (past_after e0) (news ++ objects) (reverse sorted ++ reverse sweeps) e0.bits =
     cycle-law (marked_by t) (region_of t) t.header.goal objects (reverse sweeps) e began facts in
     let reached' : Reached (marked_by t) (region_of t) t.header.goal c (past_after e0) (news ++ objects) (reverse (sweeps ++ sorted)) (has_pair (allocated_pairs driver.number driver.view)) =
     subst (λ (n : ℕ). Reached (marked_by t) (region_of t) t.header.goal n (past_after e0) (news ++ objects) (reverse (sweeps ++ sorted)) (has_pair (allocated_pairs driver.number driver.view))) e_cycle
-        (subst (λ (l : List SweepNote). Reached (marked_by t) (region_of t) t.header.goal e0.cycle (past_after e0) (news ++ objects) l (has_pair (allocated_pairs driver.number driver.view))) (sym (reverse-append sweeps sorted))
-        (subst (λ (f : ℕ → ℕ → Bool). Reached (marked_by t) (region_of t) t.header.goal e0.cycle (past_after e0) (news ++ objects) (reverse sorted ++ reverse sweeps) f) s.bits reached)) in
+    (subst (λ (l : List SweepNote). Reached (marked_by t) (region_of t) t.header.goal e0.cycle (past_after e0) (news ++ objects) l (has_pair (allocated_pairs driver.number driver.view))) (sym (reverse-append sweeps sorted))
+    (subst (λ (f : ℕ → ℕ → Bool). Reached (marked_by t) (region_of t) t.header.goal e0.cycle (past_after e0) (news ++ objects) (reverse sorted ++ reverse sweeps) f) s.bits reached)) in
     let next : take (suc c) t.cycles ≡ done ++ cyc ∷ [] = (let n : c + 1 ≡ suc c = omega arith in ap (λ (k : ℕ). take k t.cycles) (sym n) ∙ take_more t.cycles c d h.inside) in
     record {
       objects = news ++ objects;

@@ -1,27 +1,25 @@
 -- A run from its start over its cycles to its report.
-use Rattle.std.proofs.Common.{◌≡◌, ◌≢◌, ℕ, zero, suc, ◌+◌, ◌-◌, ◌*◌, ◌/◌, ◌<◌, ◌≤◌, Bool, true, false, ◌&&◌, ◌||◌, eqb, ltb, cond, List, [], ◌∷◌, ◌++◌, map, set, reverse, take, length, get_or, Option, Some, None, refl, sym, ◌∙◌, ap, arith, ◌⊎◌, inl, inr, subst}
-use Rattle.std.specs.List.{AllByRecursion, flat_map, list_any}
+use Rattle.std.proofs.Common.{◌≡◌, ℕ, zero, suc, ◌+◌, ◌*◌, ◌<◌, ◌≤◌, Bool, true, false, ◌&&◌, eqb, ltb, cond, List, [], ◌∷◌, ◌++◌, map, reverse, take, length, get_or, Option, Some, refl, sym, ◌∙◌, ap, arith, ◌⊎◌, inl, inr, subst}
+use Rattle.std.specs.List.{AllByRecursion, flat_map}
 use Rattle.std.specs.Prelude.{All, ◌^◌}
 use Rattle.std.specs.List.Sorted.{IsNonDecreasingBy, IsPermutation, IsStrictlySortedBy}
-use Rattle.std.specs.declared.cmp.Ordering.{Ordering}
 use Rattle.std.specs.declared.cmp.Ordering.TheVariants.{Less, Equal, Greater}
 use Rattle.std.specs.Ordering.{nat_cmp, ordering_then}
-use Rattle.std.proofs.lemmas.Bool.{cases_Bool, cases_eq, cases_lt, eq-eqb, eqb-true, and_parts, ne_eqb}
-use Rattle.std.proofs.lemmas.List.{append-nil, length-append, length-reverse, reverse-reverse, take_all}
+use Rattle.std.proofs.lemmas.Bool.{cases_Bool, eq-eqb}
+use Rattle.std.proofs.lemmas.List.{length-append, length-reverse, reverse-reverse, take_all}
 use lib.ListN.{get_elem?}
 use mathlib.Core.Option.{some}
 use Rattle.page_bitmap.specs.Counts.{one_if}
 use Rattle.page_bitmap.specs.declared.line.Line.{Line}
 use Rattle.page_alloc.specs.Lists.{In}
-use Rattle.span_state.specs.MarkSet.{IsRising, MarkSet, has_pair, is_marked, pair_cmp}
-use Rattle.sweep_laws.specs.Lists.{has, is_before, rises, rises_after}
-use Rattle.sweep_laws.specs.Needs.{is_swept_set}
+use Rattle.span_state.specs.MarkSet.{IsRising, has_pair, pair_cmp}
+use Rattle.sweep_laws.specs.Lists.{is_before, rises, rises_after}
 use Rattle.worker_log.specs.declared.Entry.{Entry}
 use Rattle.worker_log.specs.declared.Entry.TheVariants.{Looked, LookedEmptyCell, Popped, Pushed, Swept, Took, Missed as MissedEntry, Gave, Allocated, Found, Read, Added}
 use Rattle.worker_log.specs.declared.Placing.{Placing}
-use Rattle.worker_log.specs.Logs.{is_seen_empty, many, placings, refusals, sweepings, takings}
+use Rattle.worker_log.specs.Logs.{many, placings, refusals, sweepings, takings}
 use Rattle.span_laws.specs.Answers.{cycle_at}
-use Rattle.span_laws.specs.Asks.{IsIdle, IsKnown, MayMark}
+use Rattle.span_laws.specs.Asks.{IsIdle, IsKnown}
 use Rattle.span_laws.specs.Logs.{is_placing_at}
 use Rattle.span_laws.specs.Views.{Seen, allocated_pairs, parts_of, placed_pairs}
 use Rattle.span_laws.specs.declared.view.Part.{Part}
@@ -34,32 +32,27 @@ use Rattle.trace_reader.specs.Limits.{AreCycles, EventFits, WithinLimits, events
 use Rattle.cycle_history.specs.declared.Answer.{Answer}
 use Rattle.cycle_history.specs.declared.Report.{Report}
 use Rattle.cycle_history.specs.declared.places.Place.{Place}
-use Rattle.cycle_history.specs.Counted.{AreObjectsOf, AreZeros}
+use Rattle.cycle_history.specs.Counted.{AreObjectsOf}
 use Rattle.cycle_history.specs.Found.{AreFound}
-use Rattle.cycle_history.specs.Marked.{AreMarksOf, AreObjectsBefore, ArePlaces, IsLimited, objects_before}
+use Rattle.cycle_history.specs.Marked.{AreObjectsBefore, IsLimited}
 use Rattle.cycle_history.specs.Objects.{Object}
 use Rattle.cycle_history.specs.Requests.{last_cycle, marked_by, region_of}
 use Rattle.cycle_history.specs.Sound.{IsSoundAndUsed, past_in}
 use Rattle.cycle_history.specs.Sweeps.{AreTotals}
 use Rattle.cycle_history.proofs.Found.{found-kept}
-use Rattle.cycle_history.proofs.OfObjects.{answers-before, objects-zeros}
-use Rattle.sound_run.proofs.OfObjects.{run-places}
-use Rattle.run_laws.specs.CycleSoFar.{CycleSoFar}
-use Rattle.run_laws.specs.Facts.{Marks}
+use Rattle.cycle_history.proofs.OfObjects.{answers-before}
 use Rattle.run_laws.specs.Reached.{Began, Reached}
-use Rattle.run_laws.proofs.Ends.{began-first, began-next, reached-sound}
-use Rattle.run_laws.proofs.MarksOf.{facts-marks}
+use Rattle.run_laws.proofs.Ends.{reached-sound}
 use Rattle.span_set.specs.declared.hand.Hand.{Hand}
 use Rattle.proc_cache.specs.Cache.{Cache}
-use Rattle.heap_run.specs.Parts.{IsSameRun, part_at, unheard}
-use Rattle.heap_run.specs.Runs.{AreMarked, HasBegun, HasRun, IsSet}
+use Rattle.heap_run.specs.Parts.{part_at}
+use Rattle.heap_run.specs.Runs.{HasBegun, HasRun}
 use Rattle.heap_run.specs.Served.{answers_by, events_by}
 use Rattle.heap_run.specs.Settled.{HasFlushed, HasWorked}
 use Rattle.heap_run.specs.Swept.{AreCollected}
 use Rattle.heap_run.specs.Turns.{HaveAnswered, IsCaching, IsCollecting, IsDriving, SaysNone, no_cache}
 use Rattle.heap_run.specs.declared.run.Run.{Run}
 use Rattle.heap_run.proofs.Acted.{tells-length}
-use Rattle.heap_run.proofs.Cycles.{marks-allocated}
 use Rattle.heap_run.proofs.Driving.{same-refl}
 use Rattle.heap_run.proofs.Reaching.{Ends, goes-on}
 use Rattle.heap_run.proofs.Settling.{driving-now}

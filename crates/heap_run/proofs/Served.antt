@@ -1,20 +1,19 @@
 -- The objects of a cycle, from the requests, the answers and the logs.
-use Rattle.std.proofs.Common.{◌≡◌, ◌≢◌, ℕ, suc, ◌+◌, ◌/◌, ◌<◌, ◌≤◌, Bool, true, false, ◌&&◌, eqb, cond, List, [], ◌∷◌, ◌++◌, map, length, refl, sym, ◌∙◌, ap, arith, inl, inr, subst}
-use Rattle.std.proofs.lemmas.Bool.{cases_Bool, cases_eq, cases_lt, eq-eqb, ne_eqb}
+use Rattle.std.proofs.Common.{◌≡◌, ◌≢◌, ℕ, ◌+◌, ◌<◌, Bool, true, false, ◌&&◌, eqb, cond, List, [], ◌∷◌, map, length, refl, sym, ap, arith, inl, inr, subst}
+use Rattle.std.proofs.lemmas.Bool.{cases_eq, eq-eqb, ne_eqb}
 use Rattle.page_alloc.specs.Lists.{In}
 use Rattle.trace_reader.specs.declared.trace.Event.{Event}
 use Rattle.cycle_history.specs.declared.Answer.{Answer}
 use Rattle.cycle_history.specs.declared.Answer.TheVariants.{Placed, Zero, Missed}
 use Rattle.cycle_history.specs.Needs.{Need, IsNeed}
-use Rattle.cycle_history.specs.Requests.{Request}
 use Rattle.cycle_history.specs.Objects.{Object, is_placed}
 use Rattle.cycle_history.specs.Rules.{IsObject}
 use Rattle.cycle_history.proofs.Plain.{request_in}
 use Rattle.sound_run.specs.Run.{Fits}
 use Rattle.worker_log.specs.declared.Placing.{Placing}
 use Rattle.worker_log.specs.Logs.{Refusal, Taking}
-use Rattle.run_laws.specs.Lists.{passing, ArePaired}
-use Rattle.run_laws.specs.Facts.{is_missed, placed_by, missed_by, IsPlacing, IsRefusal}
+use Rattle.run_laws.specs.Lists.{ArePaired}
+use Rattle.run_laws.specs.Facts.{placed_by, missed_by, IsPlacing, IsRefusal}
 use Rattle.run_laws.specs.Asked.{AreAnsweredFrom}
 use Rattle.heap_run.specs.Served.{events_by, answers_by, IsTakenFor, IsPlacedBy, IsRefusedBy, Tells}
 use Rattle.heap_run.proofs.Needs.{need-fits}
@@ -95,16 +94,18 @@ zero-object c n e events answers taken placed refused news none are =
     let o : Object = record { id = length (map (request_in c) events) + n; proc = e.proc; cycle = c; need = no_need; answer = Zero; life = 0; index = 0 } in
     let one : IsObject (request_in c e) (length (map (request_in c) events) + n) o = record { id = refl; proc = refl; cycle = refl; zero = ((λ z. none), (λ z. refl)); need = λ some. absurd (omega arith) } in
     let off-placed : (w : ℕ) → placed_by w (o ∷ news) ≡ placed_by w news = λ w. skip (eqb e.proc w) o (placed_by w news) in
-    let off-missed : (w : ℕ) → missed_by w (o ∷ news) ≡ missed_by w news = λ w. skip (eqb e.proc w) o (missed_by w news) in
-    (o ∷ news, record {
-      asked = (one, are.asked);
-      printed = ap (λ (xs : List Answer). Zero ∷ xs) are.printed;
-      placed_are = λ w. rw (off-placed w) (are.placed_are w);
-      missed_are = λ w. rw (off-missed w) (are.missed_are w);
-      fits = λ b h is. elim h [ inl here ↦ absurd (never b here is) | inr there ↦ are.fits b there is ];
-      needs = λ b h is. elim h [ inl here ↦ absurd (never b here is) | inr there ↦ are.needs b there is ];
-      large = λ b h is low. elim h [ inl here ↦ absurd (never b here is) | inr there ↦ are.large b there is low ];
-    })
+    let off-missed : (w : ℕ) → missed_by w (o ∷ news) ≡ missed_by w news = λ w. skip (eqb e.proc w) o (missed_by w news) in (
+      o ∷ news,
+      record {
+        asked = (one, are.asked);
+        printed = ap (λ (xs : List Answer). Zero ∷ xs) are.printed;
+        placed_are = λ w. rw (off-placed w) (are.placed_are w);
+        missed_are = λ w. rw (off-missed w) (are.missed_are w);
+        fits = λ b h is. elim h [ inl here ↦ absurd (never b here is) | inr there ↦ are.fits b there is ];
+        needs = λ b h is. elim h [ inl here ↦ absurd (never b here is) | inr there ↦ are.needs b there is ];
+        large = λ b h is low. elim h [ inl here ↦ absurd (never b here is) | inr there ↦ are.large b there is low ];
+      },
+    )
   where
     never : (b : Object) → record { id = length (map (request_in c) events) + n; proc = e.proc; cycle = c; need = no_need; answer = Zero; life = 0; index = 0 } ≡ b → is_placed b.answer ≡ true → ⊥
     never b here is = let f : Zero ≡ b.answer = ap (λ (x : Object). x.answer) here in let g : is_placed Zero ≡ is_placed b.answer = ap is_placed f in let no : ⊥ = cc in no
@@ -115,36 +116,40 @@ placed-object : (c n : ℕ) (e : Event) (events : List Event) (address : ℕ) (a
 placed-object c n e events address answers taken placed refused news a rest is by are =
     let o : Object = record { id = length (map (request_in c) events) + n; proc = e.proc; cycle = c; need = by.need; answer = Placed address; life = a.number; index = a.index } in
     let one : IsObject (request_in c e) (length (map (request_in c) events) + n) o = record {
-      id = refl; proc = refl; cycle = refl;
+      id = refl;
+      proc = refl;
+      cycle = refl;
       zero = ((λ z. (let no : ⊥ = cc in absurd no)), (λ z. (let some = by.some in absurd (omega arith))));
       need = λ some. by.fits;
     } in
     let is_placing : IsPlacing o a = record { life = refl; index = refl; class = by.class; address = ap (λ (k : ℕ). Placed k) by.address_is } in
-    let off-missed : (w : ℕ) → missed_by w (o ∷ news) ≡ missed_by w news = λ w. skip (eqb e.proc w) o (missed_by w news) in
-    (o ∷ news, record {
-      asked = (one, are.asked);
-      printed = ap (λ (xs : List Answer). Placed address ∷ xs) are.printed;
-      placed_are = λ w. elim (cases_eq e.proc w) [
-        | inl same ↦ (
-            let first : placed_by w (o ∷ news) ≡ o ∷ placed_by w news = rw (eq-eqb e.proc w same) refl in
-            let list : placed w ≡ a ∷ rest = subst (λ (k : ℕ). placed k ≡ a ∷ rest) same is in
-            let now : put placed e.proc rest w ≡ rest = rw (eq-eqb w e.proc (sym same)) refl in
-            let tail : ArePaired IsPlacing (placed_by w news) rest = rw now at (are.placed_are w) in
-            rw (first, list) (is_placing, tail))
-        | inr other ↦ (
-            let first : placed_by w (o ∷ news) ≡ placed_by w news = rw (ne_eqb e.proc w other) refl in
-            let now : put placed e.proc rest w ≡ placed w = rw (ne_eqb w e.proc (λ q. other (sym q))) refl in
-            let tail : ArePaired IsPlacing (placed_by w news) (placed w) = rw now at (are.placed_are w) in
-            rw first tail)
-      ];
-      missed_are = λ w. rw (off-missed w) (are.missed_are w);
-      fits = λ b h is_b. elim h [ inl here ↦ rw (sym here) (need-fits e.size e.scan by.need by.some by.fits) | inr there ↦ are.fits b there is_b ];
-      needs = λ b h is_b. elim h [ inl here ↦ (e.size, e.scan, rw (sym here) by.fits) | inr there ↦ are.needs b there is_b ];
-      large = λ b h is_b low. elim h [
-        | inl here ↦ (let low' : by.need.class < 2 = subst (λ (x : Object). x.need.class < 2) (sym here) low in rw (sym here) (by.large low'))
-        | inr there ↦ are.large b there is_b low
-      ];
-    })
+    let off-missed : (w : ℕ) → missed_by w (o ∷ news) ≡ missed_by w news = λ w. skip (eqb e.proc w) o (missed_by w news) in (
+      o ∷ news,
+      record {
+        asked = (one, are.asked);
+        printed = ap (λ (xs : List Answer). Placed address ∷ xs) are.printed;
+        placed_are = λ w. elim (cases_eq e.proc w) [
+          | inl same ↦ (
+              let first : placed_by w (o ∷ news) ≡ o ∷ placed_by w news = rw (eq-eqb e.proc w same) refl in
+              let list : placed w ≡ a ∷ rest = subst (λ (k : ℕ). placed k ≡ a ∷ rest) same is in
+              let now : put placed e.proc rest w ≡ rest = rw (eq-eqb w e.proc (sym same)) refl in
+              let tail : ArePaired IsPlacing (placed_by w news) rest = rw now at (are.placed_are w) in
+              rw (first, list) (is_placing, tail))
+          | inr other ↦ (
+              let first : placed_by w (o ∷ news) ≡ placed_by w news = rw (ne_eqb e.proc w other) refl in
+              let now : put placed e.proc rest w ≡ placed w = rw (ne_eqb w e.proc (λ q. other (sym q))) refl in
+              let tail : ArePaired IsPlacing (placed_by w news) (placed w) = rw now at (are.placed_are w) in
+              rw first tail)
+        ];
+        missed_are = λ w. rw (off-missed w) (are.missed_are w);
+        fits = λ b h is_b. elim h [ inl here ↦ rw (sym here) (need-fits e.size e.scan by.need by.some by.fits) | inr there ↦ are.fits b there is_b ];
+        needs = λ b h is_b. elim h [ inl here ↦ (e.size, e.scan, rw (sym here) by.fits) | inr there ↦ are.needs b there is_b ];
+        large = λ b h is_b low. elim h [
+          | inl here ↦ (let low' : by.need.class < 2 = subst (λ (x : Object). x.need.class < 2) (sym here) low in rw (sym here) (by.large low'))
+          | inr there ↦ are.large b there is_b low
+        ];
+      },
+    )
 
 missed-object : (c n : ℕ) (e : Event) (events : List Event) (line : ℕ) (answers : List Answer) (taken : ℕ → List Taking) (placed : ℕ → List Placing) (refused : ℕ → List Refusal) (news : List Object) (x : Refusal) (rest : List Refusal)
     → refused e.proc ≡ x ∷ rest → IsRefusedBy e line x → AreObjects c n events answers taken placed (put refused e.proc rest) news
@@ -152,7 +157,9 @@ missed-object : (c n : ℕ) (e : Event) (events : List Event) (line : ℕ) (answ
 missed-object c n e events line answers taken placed refused news x rest is by are =
     let o : Object = record { id = length (map (request_in c) events) + n; proc = e.proc; cycle = c; need = by.need; answer = Missed line; life = 0; index = 0 } in
     let one : IsObject (request_in c e) (length (map (request_in c) events) + n) o = record {
-      id = refl; proc = refl; cycle = refl;
+      id = refl;
+      proc = refl;
+      cycle = refl;
       zero = ((λ z. (let no : ⊥ = cc in absurd no)), (λ z. (let some = by.some in absurd (omega arith))));
       need = λ some. by.fits;
     } in
@@ -161,28 +168,30 @@ missed-object c n e events line answers taken placed refused news x rest is by a
     let never : (b : Object) → o ≡ b → is_placed b.answer ≡ true → ⊥ = λ b here is_b. (
     let f : Missed line ≡ b.answer = ap (λ (y : Object). y.answer) here in
     let g : is_placed (Missed line) ≡ is_placed b.answer = ap is_placed f in
-    let no : ⊥ = cc in no) in
-    (o ∷ news, record {
-      asked = (one, are.asked);
-      printed = ap (λ (xs : List Answer). Missed line ∷ xs) are.printed;
-      placed_are = λ w. rw (off-placed w) (are.placed_are w);
-      missed_are = λ w. elim (cases_eq e.proc w) [
-        | inl same ↦ (
-            let first : missed_by w (o ∷ news) ≡ o ∷ missed_by w news = rw (eq-eqb e.proc w same) refl in
-            let list : refused w ≡ x ∷ rest = subst (λ (k : ℕ). refused k ≡ x ∷ rest) same is in
-            let now : put refused e.proc rest w ≡ rest = rw (eq-eqb w e.proc (sym same)) refl in
-            let tail : ArePaired IsRefusal (missed_by w news) rest = rw now at (are.missed_are w) in
-            rw (first, list) (is_refusal, tail))
-        | inr other ↦ (
-            let first : missed_by w (o ∷ news) ≡ missed_by w news = rw (ne_eqb e.proc w other) refl in
-            let now : put refused e.proc rest w ≡ refused w = rw (ne_eqb w e.proc (λ q. other (sym q))) refl in
-            let tail : ArePaired IsRefusal (missed_by w news) (refused w) = rw now at (are.missed_are w) in
-            rw first tail)
-      ];
-      fits = λ b h is_b. elim h [ inl here ↦ absurd (never b here is_b) | inr there ↦ are.fits b there is_b ];
-      needs = λ b h is_b. elim h [ inl here ↦ absurd (never b here is_b) | inr there ↦ are.needs b there is_b ];
-      large = λ b h is_b low. elim h [ inl here ↦ absurd (never b here is_b) | inr there ↦ are.large b there is_b low ];
-    })
+    let no : ⊥ = cc in no) in (
+      o ∷ news,
+      record {
+        asked = (one, are.asked);
+        printed = ap (λ (xs : List Answer). Missed line ∷ xs) are.printed;
+        placed_are = λ w. rw (off-placed w) (are.placed_are w);
+        missed_are = λ w. elim (cases_eq e.proc w) [
+          | inl same ↦ (
+              let first : missed_by w (o ∷ news) ≡ o ∷ missed_by w news = rw (eq-eqb e.proc w same) refl in
+              let list : refused w ≡ x ∷ rest = subst (λ (k : ℕ). refused k ≡ x ∷ rest) same is in
+              let now : put refused e.proc rest w ≡ rest = rw (eq-eqb w e.proc (sym same)) refl in
+              let tail : ArePaired IsRefusal (missed_by w news) rest = rw now at (are.missed_are w) in
+              rw (first, list) (is_refusal, tail))
+          | inr other ↦ (
+              let first : missed_by w (o ∷ news) ≡ missed_by w news = rw (ne_eqb e.proc w other) refl in
+              let now : put refused e.proc rest w ≡ refused w = rw (ne_eqb w e.proc (λ q. other (sym q))) refl in
+              let tail : ArePaired IsRefusal (missed_by w news) (refused w) = rw now at (are.missed_are w) in
+              rw first tail)
+        ];
+        fits = λ b h is_b. elim h [ inl here ↦ absurd (never b here is_b) | inr there ↦ are.fits b there is_b ];
+        needs = λ b h is_b. elim h [ inl here ↦ absurd (never b here is_b) | inr there ↦ are.needs b there is_b ];
+        large = λ b h is_b low. elim h [ inl here ↦ absurd (never b here is_b) | inr there ↦ are.large b there is_b low ];
+      },
+    )
 
 -- ---- all objects of the cycle
 
@@ -214,15 +223,18 @@ put-other f n x k other = rw (ne_eqb k n (λ q. other (sym q))) refl
 
 pub objects-of : (c n : ℕ) (events : List Event) (answers : List Answer) (taken : ℕ → List Taking) (placed : ℕ → List Placing) (refused : ℕ → List Refusal) → length answers ≡ length events
     → AllTell events answers taken placed refused → (news : List Object) × AreObjects c n events answers taken placed refused news
-objects-of c n [] [] taken placed refused same h = ([], record {
-  asked = tt;
-  printed = refl;
-  placed_are = λ w. rw ((none-tells (taken w) [] (placed w) (refused w) (h w)).1) tt;
-  missed_are = λ w. rw ((none-tells (taken w) [] (placed w) (refused w) (h w)).2) tt;
-  fits = λ o i. absurd i;
-  needs = λ o i. absurd i;
-  large = λ o i. absurd i;
-})
+objects-of c n [] [] taken placed refused same h = (
+  [],
+  record {
+    asked = tt;
+    printed = refl;
+    placed_are = λ w. rw ((none-tells (taken w) [] (placed w) (refused w) (h w)).1) tt;
+    missed_are = λ w. rw ((none-tells (taken w) [] (placed w) (refused w) (h w)).2) tt;
+    fits = λ o i. absurd i;
+    needs = λ o i. absurd i;
+    large = λ o i. absurd i;
+  },
+)
 objects-of c n [] (a ∷ answers) taken placed refused same h = absurd (omega arith)
 objects-of c n (e ∷ events) [] taken placed refused same h = absurd (omega arith)
 objects-of c n (e ∷ events) (Zero ∷ answers) taken placed refused same h =
@@ -233,11 +245,11 @@ objects-of c n (e ∷ events) (Placed address ∷ answers) taken placed refused 
     let at = placed-first (taken e.proc) e (events_by e.proc events) address (answers_by e.proc events answers) (placed e.proc) (refused e.proc) (first-tells e events (Placed address) answers taken placed refused h) in
     let own : Tells (taken e.proc) (events_by e.proc events) (answers_by e.proc events answers) (put placed e.proc at.rest e.proc) (refused e.proc) = rw (put-same placed e.proc at.rest) at.tells in
     let rest = objects-of c n events answers taken (put placed e.proc at.rest) refused (omega arith)
-        (rest-tell e events (Placed address) answers taken placed (put placed e.proc at.rest) refused refused h (λ w q. put-other placed e.proc at.rest w q) (λ w q. refl) own) in
+    (rest-tell e events (Placed address) answers taken placed (put placed e.proc at.rest) refused refused h (λ w q. put-other placed e.proc at.rest w q) (λ w q. refl) own) in
     placed-object c n e events address answers taken placed refused rest.0 at.a at.rest at.is at.by rest.1
 objects-of c n (e ∷ events) (Missed line ∷ answers) taken placed refused same h =
     let at = missed-first (taken e.proc) e (events_by e.proc events) line (answers_by e.proc events answers) (placed e.proc) (refused e.proc) (first-tells e events (Missed line) answers taken placed refused h) in
     let own : Tells (taken e.proc) (events_by e.proc events) (answers_by e.proc events answers) (placed e.proc) (put refused e.proc at.rest e.proc) = rw (put-same refused e.proc at.rest) at.tells in
     let rest = objects-of c n events answers taken placed (put refused e.proc at.rest) (omega arith)
-        (rest-tell e events (Missed line) answers taken placed placed refused (put refused e.proc at.rest) h (λ w q. refl) (λ w q. put-other refused e.proc at.rest w q) own) in
+    (rest-tell e events (Missed line) answers taken placed placed refused (put refused e.proc at.rest) h (λ w q. refl) (λ w q. put-other refused e.proc at.rest w q) own) in
     missed-object c n e events line answers taken placed refused rest.0 at.x at.rest at.is at.by rest.1

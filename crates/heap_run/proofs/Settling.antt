@@ -1,9 +1,7 @@
 -- The end of a cycle, as the driver knows it.
-use Rattle.std.proofs.Common.{◌≡◌, ◌≢◌, ℕ, zero, suc, ◌+◌, ◌<◌, ◌≤◌, Bool, true, false, eqb, List, [], ◌∷◌, ◌++◌, map, reverse, set, length, get_or, Some, Result, Ok, Err, refl, sym, ◌∙◌, ap, arith, inl, inr, subst}
+use Rattle.std.proofs.Common.{◌≡◌, ℕ, zero, suc, ◌+◌, ◌<◌, ◌≤◌, true, false, List, [], ◌∷◌, ◌++◌, map, reverse, set, length, get_or, Some, refl, sym, ◌∙◌, ap, arith, inl, inr, subst}
 use Rattle.std.proofs.lemmas.Bool.{cases_eq, cases_lt, eq-eqb}
-use Rattle.std.proofs.lemmas.List.{append-nil, get_or-set_same, get_or-set_other}
-use lib.ListN.{get_elem?}
-use mathlib.Core.Option.{some}
+use Rattle.std.proofs.lemmas.List.{append-nil}
 use Rattle.page_bitmap.specs.declared.line.Line.{Line}
 use Rattle.span_state.specs.MarkSet.{has_pair}
 use Rattle.sweep_laws.specs.Lists.{has}
@@ -14,14 +12,12 @@ use Rattle.worker_log.specs.declared.Placing.{Placing}
 use Rattle.worker_log.specs.Logs.{is_placing_in, is_seen_empty, many, placings, sweepings}
 use Rattle.worker_log.proofs.Logs.{many-append}
 use Rattle.cycle_history.specs.Sound.{IsScavenged}
-use Rattle.run_laws.specs.CycleSoFar.{past_after}
 use Rattle.span_laws.specs.Answers.{cycle_at}
 use Rattle.span_laws.specs.Asks.{IsAtRest, IsFresh, IsIdle, MaySettle}
-use Rattle.span_laws.specs.Cycle.{EndsCycle, cycle_ended}
+use Rattle.span_laws.specs.Cycle.{cycle_ended}
 use Rattle.span_laws.specs.Settles.{SettlesCycle}
-use Rattle.span_laws.specs.Views.{Seen, acts, allocated_pairs, knowing, knows, no_part, parts_of, placed_pairs}
+use Rattle.span_laws.specs.Views.{Seen, acts, allocated_pairs, knowing, knows, parts_of, placed_pairs}
 use Rattle.span_laws.specs.declared.view.Part.{Part}
-use Rattle.span_laws.specs.declared.view.View.{View}
 use Rattle.span_state.specs.declared.sweep.SweepNote.{SweepNote}
 use Rattle.sweep_lists.specs.Room.{Roomy}
 use Rattle.span_set.specs.declared.hand.Hand.{Hand}

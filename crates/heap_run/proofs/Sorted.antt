@@ -1,5 +1,5 @@
 -- The notes of a cycle, sorted by page, are those of its sweeps.
-use Rattle.std.proofs.Common.{◌≡◌, ◌≢◌, ℕ, zero, suc, ◌+◌, ◌<◌, ◌≤◌, Bool, true, false, eqb, List, [], ◌∷◌, ◌++◌, map, reverse, length, get_or, refl, sym, ◌∙◌, ap, arith, ◌⊎◌, inl, inr, subst}
+use Rattle.std.proofs.Common.{◌≡◌, ◌≢◌, ℕ, suc, ◌<◌, ◌≤◌, eqb, List, [], ◌∷◌, map, reverse, length, get_or, refl, sym, ◌∙◌, ap, arith, ◌⊎◌, inl, inr, subst}
 use Rattle.std.specs.List.{AllByRecursion, sum_by}
 use Rattle.std.specs.List.Sorted.{IsPermutation, IsNonDecreasingBy}
 use Rattle.std.proofs.lemmas.Bool.{cases_eq, cases_lt, eq-eqb, ne_eqb}
@@ -44,7 +44,7 @@ apart-reverse : {X : Type 0} (R : X → X → Type 0) (xs : List X) → AllApart
 apart-reverse R [] apart = tt
 apart-reverse R (x ∷ xs) apart =
     rw (reverse-append (x ∷ []) xs) (apart-append (λ newer older. R older newer) (reverse xs) (x ∷ []) (apart-reverse R xs apart.1) ((λ y h. absurd h), tt)
-        (λ a b ha hb. elim hb [ inl here ↦ rw (sym here) (apart.0 a (from-reverse a xs ha)) | inr none ↦ absurd none ]))
+    (λ a b ha hb. elim hb [ inl here ↦ rw (sym here) (apart.0 a (from-reverse a xs ha)) | inr none ↦ absurd none ]))
 
 -- ---- items in rising order, of which no two are alike
 

@@ -1,5 +1,5 @@
 -- What each worker has, whoever has the state.
-use Rattle.std.specs.Prelude.{◌≡◌, ℕ, ◌+◌, ◌*◌, length, true, None, slice_index_or}
+use Rattle.std.specs.Prelude.{◌≡◌, ℕ, length, None, slice_index_or}
 use Rattle.span_laws.specs.declared.view.Part.{Part}
 use Rattle.span_laws.specs.Views.{Seen, no_part, parts_of}
 

@@ -1,5 +1,5 @@
 -- What the driver knows as a cycle has ended.
-use Rattle.std.specs.Prelude.{◌≡◌, ℕ, ◌<◌, Bool, false, List, length, slice_index_or, Some}
+use Rattle.std.specs.Prelude.{◌≡◌, ℕ, ◌<◌, false, List, length, slice_index_or, Some}
 use Rattle.span_state.specs.MarkSet.{has_pair}
 use Rattle.sweep_laws.specs.Needs.{is_swept_set}
 use Rattle.worker_log.specs.Logs.{is_seen_empty, many}

@@ -1,6 +1,5 @@
 -- What a worker did while it had the state, and what the driver has when it took all of them in.
-use Rattle.std.specs.Prelude.{◌≡◌, ◌≢◌, ℕ, ◌+◌, ◌*◌, ◌<◌, ◌≤◌, true, List, [], ◌++◌, length, reverse, slice_index_or}
-use Rattle.sweep_laws.specs.Lists.{has}
+use Rattle.std.specs.Prelude.{◌≡◌, ◌≢◌, ℕ, ◌<◌, ◌≤◌, List, [], ◌++◌, length, reverse, slice_index_or}
 use Rattle.trace_reader.specs.declared.trace.Event.{Event}
 use Rattle.cycle_history.specs.declared.Answer.{Answer}
 use Rattle.worker_log.specs.declared.Entry.{Entry}
@@ -14,7 +13,7 @@ use Rattle.span_set.specs.declared.hand.Hand.{Hand}
 use Rattle.proc_cache.specs.Cache.{Cache}
 use Rattle.proc_cache.specs.Serves.{IsUsedCache, Serves}
 use Rattle.heap_run.specs.Parts.{IsSameRun, part_at}
-use Rattle.heap_run.specs.Served.{LogTells, Tells, events_by}
+use Rattle.heap_run.specs.Served.{LogTells}
 use Rattle.heap_run.specs.Swept.{AreCollected}
 
 -- A worker's own calls added these entries to its log, which have the property P, and their notes; it is idle then.

@@ -43,12 +43,7 @@ pub(crate) fn answer_all<G: Gate>(
 }
 
 // Answers one event.
-fn answer(
-    shop: &Shop,
-    proc: &mut Proc,
-    hand: &mut Hand,
-    event: &Event,
-) -> Result<Answer, NoMemory>
+fn answer(shop: &Shop, proc: &mut Proc, hand: &mut Hand, event: &Event) -> Result<Answer, NoMemory>
     requires here { hand.old.worker.here ≡ true }
     requires table { hand.old.worker.table ≡ shop.now.shared.now }
     requires distance { 8192 ≤ shop.now.distance }

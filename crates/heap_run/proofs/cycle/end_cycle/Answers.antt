@@ -1,10 +1,5 @@
-use Rattle.std.proofs.Common.{◌≡◌, ◌∙◌, ◌<◌, ◌≤◌, length, refl, sym, ap, arith}
-use Rattle.span_laws.specs.declared.view.View.{View}
-use Rattle.span_laws.specs.Views.{Seen}
+use Rattle.std.proofs.Common.{◌≤◌, length, refl, arith}
 use Rattle.span_set.specs.declared.hand.Hand.{Hand}
-use Rattle.heap_run.specs.Settled.{HasFlushed}
-use Rattle.heap_run.specs.Turns.{IsDriving}
-use Rattle.heap_run.proofs.Driving.{keeps-trans}
 use Rattle.heap_run.proofs.Settling.{HasFlushedAll, IsToldIn, driver-idle, driving-now, ends-room, ends-swept, may-settle, settled, swept-all, told-ends}
 use Rattle.heap_run.proofs.cycle.end_cycle.Goals as goal
 

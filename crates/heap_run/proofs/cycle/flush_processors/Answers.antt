@@ -1,4 +1,4 @@
-use Rattle.std.proofs.Common.{◌≡◌, ◌∙◌, ◌<◌, length, get_or, refl, sym, arith}
+use Rattle.std.proofs.Common.{◌≡◌, ◌∙◌, ◌<◌, length, get_or, refl, arith}
 use Rattle.std.proofs.lemmas.List.{get_or_default}
 use Rattle.heap_run.specs.Turns.{SaysNone, TookTurn, no_cache}
 use Rattle.heap_run.proofs.Driving.{collecting-turn, driving-turn, flushed-more, keeps-trans, keeps-turn, placed-caching, placed-turn, proc-caching, proc-number}

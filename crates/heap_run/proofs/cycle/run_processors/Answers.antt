@@ -1,7 +1,7 @@
-use Rattle.std.proofs.Common.{◌≡◌, ◌∙◌, ◌<◌, ◌≤◌, ◌^◌, [], All, length, get_or, refl, sym, arith}
+use Rattle.std.proofs.Common.{◌≡◌, ◌∙◌, ◌<◌, ◌≤◌, ◌^◌, [], All, length, get_or, refl, arith}
 use Rattle.std.proofs.lemmas.List.{get_or_default}
 use Rattle.trace_reader.specs.declared.trace.Event.{Event}
-use Rattle.heap_run.specs.Turns.{SaysNone, TookTurn, no_cache}
+use Rattle.heap_run.specs.Turns.{no_cache}
 use Rattle.heap_run.proofs.Driving.{answered-all, answered-none, answered-turn, collecting-turn, driving-turn, placed-caching, placed-turn, proc-caching, proc-number}
 use Rattle.heap_run.proofs.cycle.run_processors.Goals as goal
 

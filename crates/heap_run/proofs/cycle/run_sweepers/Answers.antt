@@ -1,6 +1,4 @@
-use Rattle.std.proofs.Common.{◌≡◌, ◌∙◌, ◌≤◌, length, refl, sym, arith, subst}
-use Rattle.span_laws.specs.Asks.{IsIdle}
-use Rattle.heap_run.specs.Parts.{part_at}
+use Rattle.std.proofs.Common.{◌∙◌, arith}
 use Rattle.heap_run.specs.Turns.{SaysNone, TookTurn}
 use Rattle.heap_run.proofs.Parts.{same-trans}
 use Rattle.heap_run.proofs.Driving.{collecting-turn, driving-other, idle-turn, keeps-trans, keeps-turn, same-refl}

@@ -1,4 +1,4 @@
-use Rattle.std.proofs.Common.{◌≡◌, ℕ, [], ◌∷◌, Err, ap, sym, subst}
+use Rattle.std.proofs.Common.{◌≡◌, [], ◌∷◌, Err, ap, sym, subst}
 use Rattle.size_classes.specs.Classes.{span_class_of}
 use Rattle.span_laws.specs.declared.answers.Refused.{Refused}
 use Rattle.span_laws.specs.declared.answers.Refused.TheVariants.{NoRun}

@@ -1,10 +1,7 @@
-use Rattle.std.proofs.Common.{◌≡◌, ◌∙◌, [], List, refl, reverse, ap, sym, arith}
+use Rattle.std.proofs.Common.{◌∙◌, [], refl, ap, sym}
 use Rattle.std.proofs.lemmas.List.{take_all}
-use Rattle.trace_reader.specs.declared.trace.Event.{Event}
 use Rattle.span_laws.specs.declared.view.View.{View}
-use Rattle.cycle_history.specs.declared.Answer.{Answer}
-use Rattle.worker_log.specs.declared.Entry.{Entry}
-use Rattle.heap_run.specs.Turns.{HasActed, IsCaching, SaysAnswers}
+use Rattle.heap_run.specs.Turns.{SaysAnswers}
 use Rattle.heap_run.proofs.Acted.{acted-none, acted-then, answers-more}
 use Rattle.heap_run.proofs.events.answer_all.Goals as goal
 

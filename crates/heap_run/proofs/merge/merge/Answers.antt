@@ -1,9 +1,9 @@
-use Rattle.std.proofs.Common.{◌≡◌, ℕ, ◌∙◌, ◌<◌, ◌≤◌, ◌++◌, [], ◌∷◌, List, false, length, get_or, set, take, ap, sym, arith}
+use Rattle.std.proofs.Common.{◌≡◌, ℕ, ◌∙◌, ◌<◌, ◌≤◌, [], List, false, length, get_or, take, arith}
 use Rattle.std.proofs.lemmas.List.{get_or_default, length-take-le}
 use Rattle.trace_reader.specs.declared.trace.Event.{Event}
 use Rattle.cycle_history.specs.declared.Answer.{Answer}
 use Rattle.heap_run.specs.Served.{events_by}
-use Rattle.heap_run.proofs.Queued.{events-few, events-left, Merges, merged-all, merged-push}
+use Rattle.heap_run.proofs.Queued.{events-few, events-left, merged-all, merged-push}
 use Rattle.heap_run.proofs.merge.merge.Goals as goal
 
 -- how many answers of a worker are merged is no more than how many are
@@ -60,7 +60,7 @@ loop-event-preserved c =
     let i = c.loop-event.invariant in
     let s = c.as_slice.ensures ∙ c.index-given-proc.is ∙ get_or_default c.args.given.now e.proc _ [] below in
     let all = merged-push c.args.events.now c.args.given.now c.loop-event.event-index c.index-at.result.now c.loop-event.next.items c.args.answers.now c.loop-event.answers c.push.new.self i.more d _ c.as_slice.result.now
-        c.loop-event-test.true inside at c.requires.sizes s i.grown c.in_ok-push.ensures.ok (λ low. get_or_default c.as_slice.result.now c.index-at.result.now _ _ low) (record { counts = i.counts; size = i.size; each = i.each }) in
+    c.loop-event-test.true inside at c.requires.sizes s i.grown c.in_ok-push.ensures.ok (λ low. get_or_default c.as_slice.result.now c.index-at.result.now _ _ low) (record { counts = i.counts; size = i.size; each = i.each }) in
     record { long = i.long; counts = all.2.counts; more = all.0; grown = all.1; size = all.2.size; each = all.2.each }
 
 pub returns : goal.returns

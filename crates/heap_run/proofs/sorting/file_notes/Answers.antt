@@ -1,4 +1,4 @@
-use Rattle.std.proofs.Common.{◌≡◌, ◌++◌, List, ◌∙◌, ap, sym, rules}
+use Rattle.std.proofs.Common.{◌≡◌, ◌++◌, List, ◌∙◌, ap, rules}
 use Rattle.std.specs.List.Sorted.{IsPermutation}
 use Rattle.std.proofs.lemmas.List.{take_all}
 use Rattle.std.proofs.lemmas.List.Sorted.{IsNonDecreasingBy-from_sort, answers_always}
@@ -18,8 +18,7 @@ pub returns : goal.returns
 returns c =
     let k = λ (note : SweepNote). note.page in
     let sorted = IsNonDecreasingBy-from_sort k c.sort_unstable_by_key.new.self.items (c.sort_unstable_by_key.ensures.sorted k (answers_always _ _ _ (λ f a r g h. search rules))) in
-    let now : c.as_slice-note-items.result.now ≡ c.sort_unstable_by_key.new.self.items = c.as_slice-note-items.ensures.value in
-    (
+    let now : c.as_slice-note-items.result.now ≡ c.sort_unstable_by_key.new.self.items = c.as_slice-note-items.ensures.value in (
       ap (λ (r : Roomy SweepNote). r.items) c.clear.ensures,
       (
         c.as_slice-note-items.result.now,

@@ -1,7 +1,7 @@
-use Rattle.std.proofs.Common.{◌≡◌, ◌++◌, ◌∙◌, List, ap, sym, subst}
+use Rattle.std.proofs.Common.{◌∙◌, ap}
 use Rattle.span_state.specs.declared.sweep.SweepNote.{SweepNote}
 use Rattle.span_laws.specs.declared.view.View.{View}
-use Rattle.span_laws.specs.Views.{Seen, as_number}
+use Rattle.span_laws.specs.Views.{as_number}
 use Rattle.sweep_lists.specs.Room.{Roomy}
 use Rattle.proc_cache.specs.Serves.{Serves}
 use Rattle.heap_run.specs.Turns.{HasActed, IsCaching, SaysNone}

@@ -1,8 +1,7 @@
-use Rattle.std.proofs.Common.{◌≡◌, ◌∙◌, ap}
+use Rattle.std.proofs.Common.{◌∙◌, ap}
 use Rattle.span_state.specs.declared.sweep.SweepNote.{SweepNote}
 use Rattle.span_laws.specs.Views.{as_number}
 use Rattle.sweep_lists.specs.Room.{Roomy}
-use Rattle.heap_run.specs.Turns.{HasActed, IsCaching, SaysAnswers}
 use Rattle.heap_run.proofs.Acted.{HandsOut, back-caching, out-caching, out-idle, turn-back}
 use Rattle.heap_run.proofs.turns.run_processor.Goals as goal
 

@@ -1,9 +1,7 @@
-use Rattle.std.proofs.Common.{◌≡◌, ◌∙◌, List, ap}
+use Rattle.std.proofs.Common.{◌∙◌, ap}
 use Rattle.std.proofs.lemmas.Result.{err_from_is_err_and}
 use Rattle.span_state.specs.declared.sweep.SweepNote.{SweepNote}
-use Rattle.span_laws.specs.Views.{as_number}
 use Rattle.sweep_lists.specs.Room.{Roomy}
-use Rattle.worker_log.specs.declared.Entry.{Entry}
 use Rattle.heap_run.specs.Turns.{HasActed, SaysNone}
 use Rattle.heap_run.proofs.Acted.{HandsOut, acted-as, back-cached, ok-map, out-idle, turn-back, works-acted}
 use Rattle.heap_run.proofs.turns.run_sweeper.Goals as goal

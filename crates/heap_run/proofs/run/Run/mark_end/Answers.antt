@@ -1,4 +1,4 @@
-use Rattle.std.proofs.Common.{◌≡◌, ℕ, suc, ◌+◌, ◌-◌, ◌<◌, ◌≤◌, List, length, refl, sym, ◌∙◌, ap, arith, subst}
+use Rattle.std.proofs.Common.{◌≡◌, ℕ, suc, ◌+◌, ◌-◌, ◌<◌, ◌≤◌, length, refl, sym, ◌∙◌, arith, subst}
 use Rattle.cycle_history.proofs.OfObjects.{answers-before}
 use Rattle.cycle_history.specs.Marked.{AreMarksOf, objects_before}
 use Rattle.sound_run.proofs.OfObjects.{run-places}
@@ -7,7 +7,7 @@ use Rattle.span_set.specs.declared.hand.Hand.{Hand}
 use Rattle.heap_run.specs.Runs.{HasBegun}
 use Rattle.heap_run.specs.declared.run.Run.{Run}
 use Rattle.heap_run.proofs.MarkEnds.{has-reset, mark-begins, may-mark}
-use Rattle.heap_run.proofs.Running.{rises-from, some-cycle}
+use Rattle.heap_run.proofs.Running.{rises-from}
 use Rattle.heap_run.proofs.run.Run.mark_end.Goals as goal
 
 -- a list that was behind is as long as the answers, once as many as it left out are put behind it

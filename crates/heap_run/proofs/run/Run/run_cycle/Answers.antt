@@ -1,4 +1,4 @@
-use Rattle.std.proofs.Common.{◌≡◌, ℕ, ◌+◌, ◌<◌, ◌≤◌, [], List, length, get_or, refl, sym, ◌∙◌, ap, arith, subst}
+use Rattle.std.proofs.Common.{◌≡◌, ◌<◌, [], List, length, get_or, refl, sym, ◌∙◌, ap, arith, subst}
 use Rattle.std.specs.List.{AllByRecursion}
 use Rattle.trace_reader.specs.declared.trace.Event.{Event}
 use Rattle.trace_reader.specs.Limits.{EventFits}
@@ -11,7 +11,7 @@ use Rattle.heap_run.specs.Settled.{HasWorked}
 use Rattle.heap_run.specs.Turns.{IsDriving}
 use Rattle.heap_run.specs.declared.run.Run.{Run}
 use Rattle.heap_run.proofs.Acted.{ok-map}
-use Rattle.heap_run.proofs.Running.{CycleRan, blank-collecting, blank-none, cycle-fits, cycle-run, events-of, given-sizes, procs-below, sizes-by, some-cycle}
+use Rattle.heap_run.proofs.Running.{blank-collecting, blank-none, cycle-fits, cycle-run, events-of, given-sizes, procs-below, sizes-by, some-cycle}
 use Rattle.heap_run.proofs.run.Run.run_cycle.Goals as goal
 
 pub queues_of-requires : goal.queues_of-requires
