@@ -1,8 +1,8 @@
 #!/usr/bin/env python3
 """A plain model of `goheap run` at rate 0, with its workers one after another and no background sweepers.
 
-It was written from the rules of docs/addresses.md, docs/central-lists.md, docs/sweeping.md and docs/pages.md, and shares no code with
-the program. It reads a trace from standard input and writes its report. It checks nothing of the trace, searches pages one by
+It follows the rules that docs/addresses.md, docs/run.md, docs/central-lists.md, docs/sweeping.md and docs/pages.md state, and shares no
+code with the program. It reads a trace from standard input and writes its report. It checks nothing of the trace, searches pages one by
 one, and is meant to be read beside the rules and to be compared with the program (`model/test`), not to be used.
 """
 import sys
@@ -21,7 +21,7 @@ CLASSES = load_classes()
 
 
 class Span:
-    __slots__ = ("page", "pages", "cls", "slot", "count", "bits", "next", "word", "order")
+    __slots__ = ("page", "pages", "cls", "slot", "count", "bits", "next", "word")
 
 
 class Heap:
@@ -31,6 +31,8 @@ class Heap:
         self.unscav = [False] * self.pages
         self.backed = 0
         self.cycle = 0
+        # the journal: each line with its cycle
+        self.lines = []
         self.spans = {}
         self.swept = {}
         self.unswept = {}
@@ -73,8 +75,6 @@ class Heap:
         self.spans[at] = s
         self.lines.append((self.cycle, f"take {at} {n} {cls}"))
         return s
-
-    lines = None
 
     def give(self, s):
         for p in range(s.page, s.page + s.pages):
@@ -265,7 +265,6 @@ def main():
     chunks, procs, rate, goal = int(head[1]), int(head[3]), int(head[5]), int(head[9])
     assert rate == 0
     heap = Heap(chunks, goal, procs)
-    heap.lines = []
     answers, need, live = [], [], set()
     queues = [[] for _ in range(procs)]
     at = 2
