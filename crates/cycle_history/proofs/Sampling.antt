@@ -1,9 +1,9 @@
 -- Which objects are sampled, and what the profile says where nothing is, or where two say the same.
-use Rattle.std.proofs.Common.{◌≡◌, ℕ, suc, ◌<◌, ◌≤◌, Bool, true, false, ◌&&◌, not, eqb, ltb, List, [], ◌∷◌, ◌++◌, map, refl, sym, ◌∙◌, ap, subst, arith, ◌⊎◌, inl, inr}
+use Rattle.std.proofs.Common.{◌≡◌, ℕ, suc, ◌≤◌, Bool, true, false, ◌&&◌, not, eqb, ltb, List, [], ◌∷◌, ◌++◌, map, refl, sym, ◌∙◌, ap, arith, inl, inr}
 use Rattle.std.proofs.lemmas.Bool.{cases_Bool, eq-eqb, and_from, and_right}
 use Rattle.page_alloc.specs.Lists.{In, count, one_if}
 use Rattle.trace_reader.specs.declared.trace.Trace.{Trace}
-use Rattle.profile_cycle.specs.Sampling.{Countdown, behind, countdown, drawn, is_sample, sampled, words_of}
+use Rattle.profile_cycle.specs.Sampling.{countdown, drawn, is_sample, sampled}
 use Rattle.cycle_history.specs.declared.Prof.{Prof}
 use Rattle.cycle_history.specs.declared.Report.{Report}
 use Rattle.cycle_history.specs.Requests.{Marking, marked_by, last_cycle}
@@ -85,7 +85,7 @@ samples-alike rate seed f g objects same by p =
 -- ---- two samples that say the same of the placed objects
 
 -- they say the same of each placed object
-pub abbrev AreAlike : Samples → Samples → List Object → Type 0
+abbrev pub AreAlike : Samples → Samples → List Object → Type 0
 AreAlike s s' objects = (o : Object) → In o objects → is_placed o.answer ≡ true → (s.sampled o.id ≡ s'.sampled o.id) × (s.stack o.id ≡ s'.stack o.id)
 
 pub sample-alike : (s s' : Samples) (objects : List Object) (b : Bucket) (o : Object) → AreAlike s s' objects → In o objects → profile.is_sample s b o ≡ profile.is_sample s' b o
