@@ -27,5 +27,5 @@ pub record AreLinesBelow (marked : Marking) (s : Samples) (m : ℕ) (objects : L
 
 -- The lines of the mark ends below m are told, and the numbers that were read last are those of the last of these mark ends.
 pub record HasTold (marked : Marking) (s : Samples) (buckets : List Bucket) (order : List ℕ) (m : ℕ) (objects : List Object) (before : List Count) (lines : List Prof) : Type 0 where
-  pub lines : AreLinesBelow marked s m objects lines
-  pub before : before ≡ counts_at marked s objects (m - 1) buckets order
+  pub told : AreLinesBelow marked s m objects lines
+  pub numbers : before ≡ counts_at marked s objects (m - 1) buckets order
