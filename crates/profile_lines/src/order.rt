@@ -1,0 +1,41 @@
+//! The order in which a report lists the buckets.
+
+ghost use Rattle.std.specs.Prelude.{◌≡◌, IfOk};
+ghost use Rattle.profile_lines.specs.Read.{AreDifferent, IsOrder};
+
+use edge_io::{List, NoMemory};
+use profile_cycle::Buckets;
+use std::alloc::Global;
+
+// A bucket with its number.
+#[derive(Clone, Copy)]
+struct Keyed {
+    stack: u32,
+    slot: u64,
+    number: u32,
+}
+
+/// The numbers of all buckets, by their stacks, and for one stack by their slots.
+pub fn order_of(alloc: Global, buckets: &Buckets) -> Result<List<u32>, NoMemory>
+    requires { AreDifferent buckets.now }
+    ensures { IfOk result (λ order. IsOrder buckets.now order) }
+{
+    let mut keyed = keyed_of(alloc, buckets)?;
+    keyed.sort_unstable_by_key(|one| (one.stack, one.slot));
+    let order = keyed.iter().map(|one| one.number).collect(alloc)?;
+    Ok(List::from_vec(order))
+}
+
+// The buckets in the order of their numbers.
+fn keyed_of(alloc: Global, buckets: &Buckets) -> Result<Vec<Keyed>, NoMemory> {
+    let mut keyed = Vec::new(alloc);
+    for number in 0..buckets.len() {
+        let (stack, slot) = buckets.key(number);
+        keyed.push(Keyed {
+            stack,
+            slot,
+            number,
+        })?;
+    }
+    Ok(keyed)
+}
