@@ -27,7 +27,7 @@ loop-class-preserved c = some_more c.args.proc.now c.args.hand.now c.loop-class.
 pub returns-clause-serves : goal.returns-clause-serves
 returns-clause-serves c =
     let i = c.proc-2.inside in let d = c.loop-class.proc in let new = c.loop-class.hand in let old = c.args.hand.now in
-    let e : Cache = record { number = i.number; flushed = c.generation-generation.result; slots = spans_of i.slots.items } in
+    let e : Cache = record { number = i.number; flushed = c.generation-generation.result; slots = spans_of i.slots.items; countdown = i.sampler } in
     let end : c.loop-class.class ≡ 136 = omega arith in
     let x : FlushedSome 136 c.args.proc.now d old new = subst (λ (m : ℕ). FlushedSome m c.args.proc.now d old new) end c.loop-class.invariant in
     let few : length d.slots ≡ 136 = sym (ap (λ (z : Cache). length z.slots) c.proc-2.view_is) ∙ length-map i.slots.items span_in ∙ c.proc-2.invariant in
@@ -37,7 +37,7 @@ returns-clause-serves c =
 pub returns-clause-flushes : goal.returns-clause-flushes
 returns-clause-flushes c =
     let i = c.proc-2.inside in let d = c.loop-class.proc in let new = c.loop-class.hand in let old = c.args.hand.now in let g = old.worker.view.generation in
-    let e : Cache = record { number = i.number; flushed = c.generation-generation.result; slots = spans_of i.slots.items } in
+    let e : Cache = record { number = i.number; flushed = c.generation-generation.result; slots = spans_of i.slots.items; countdown = i.sampler } in
     let end : c.loop-class.class ≡ 136 = omega arith in
     let x : FlushedSome 136 c.args.proc.now d old new = subst (λ (m : ℕ). FlushedSome m c.args.proc.now d old new) end c.loop-class.invariant in
     let few : length d.slots ≡ 136 = sym (ap (λ (z : Cache). length z.slots) c.proc-2.view_is) ∙ length-map i.slots.items span_in ∙ c.proc-2.invariant in

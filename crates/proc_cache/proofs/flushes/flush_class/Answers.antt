@@ -13,44 +13,44 @@ pub flush_span-requires-clause-class : goal.flush_span-requires-clause-class
 flush_span-requires-clause-class c =
     let i = c.proc.inside in let k = c.args.class in let b = c.in-Some.body in
     let e : get_or i.slots.items k None ≡ Some b = other_default i.slots.items k None c.index_mut.result.now (let z = c.proc.invariant in let y = c.requires.class in omega arith) ∙ sym c.index_mut.ensures.value ∙ sym c.take.ensures.value ∙ c.in-Some.is in
-    let x = c.requires.serves.slots k (span_of b) (slot_is i.number i.flushed i.slots.items c.args.proc.now c.proc.view_is k (Some b) e) in
+    let x = c.requires.serves.slots k (span_of b) (slot_is i.number i.flushed i.slots.items i.sampler c.args.proc.now c.proc.view_is k (Some b) e) in
     let y = x.class in let z = c.requires.class in omega arith
 
 pub flush_span-requires-clause-cached : goal.flush_span-requires-clause-cached
 flush_span-requires-clause-cached c =
     let i = c.proc.inside in let k = c.args.class in let b = c.in-Some.body in
     let e : get_or i.slots.items k None ≡ Some b = other_default i.slots.items k None c.index_mut.result.now (let z = c.proc.invariant in let y = c.requires.class in omega arith) ∙ sym c.index_mut.ensures.value ∙ sym c.take.ensures.value ∙ c.in-Some.is in
-    subst (λ (w : Seen). has b.page w.view.own.cached ≡ true) (sym c.reserve_note.ensures.worker) (c.requires.serves.slots k (span_of b) (slot_is i.number i.flushed i.slots.items c.args.proc.now c.proc.view_is k (Some b) e)).cached
+    subst (λ (w : Seen). has b.page w.view.own.cached ≡ true) (sym c.reserve_note.ensures.worker) (c.requires.serves.slots k (span_of b) (slot_is i.number i.flushed i.slots.items i.sampler c.args.proc.now c.proc.view_is k (Some b) e)).cached
 
 pub flush_span-requires-clause-stale : goal.flush_span-requires-clause-stale
 flush_span-requires-clause-stale c =
     let i = c.proc.inside in let k = c.args.class in let b = c.in-Some.body in
     let e : get_or i.slots.items k None ≡ Some b = other_default i.slots.items k None c.index_mut.result.now (let z = c.proc.invariant in let y = c.requires.class in omega arith) ∙ sym c.index_mut.ensures.value ∙ sym c.take.ensures.value ∙ c.in-Some.is in
     subst (λ (w : Seen). has b.page w.view.own.fresh ≡ false) (sym c.reserve_note.ensures.worker)
-    (c.requires.serves.fresh b.page (c.requires.serves.slots k (span_of b) (slot_is i.number i.flushed i.slots.items c.args.proc.now c.proc.view_is k (Some b) e)).cached ∙ c.requires.stale)
+    (c.requires.serves.fresh b.page (c.requires.serves.slots k (span_of b) (slot_is i.number i.flushed i.slots.items i.sampler c.args.proc.now c.proc.view_is k (Some b) e)).cached ∙ c.requires.stale)
 
 pub flush_span-requires-clause-lent : goal.flush_span-requires-clause-lent
 flush_span-requires-clause-lent c =
     let i = c.proc.inside in let k = c.args.class in let b = c.in-Some.body in
     let e : get_or i.slots.items k None ≡ Some b = other_default i.slots.items k None c.index_mut.result.now (let z = c.proc.invariant in let y = c.requires.class in omega arith) ∙ sym c.index_mut.ensures.value ∙ sym c.take.ensures.value ∙ c.in-Some.is in
-    subst (λ (w : Seen). HasBody w.view.own b) (sym c.reserve_note.ensures.worker) (c.requires.serves.slots k (span_of b) (slot_is i.number i.flushed i.slots.items c.args.proc.now c.proc.view_is k (Some b) e)).lent
+    subst (λ (w : Seen). HasBody w.view.own b) (sym c.reserve_note.ensures.worker) (c.requires.serves.slots k (span_of b) (slot_is i.number i.flushed i.slots.items i.sampler c.args.proc.now c.proc.view_is k (Some b) e)).lent
 
 pub returns-clause-flushes : goal.returns-clause-flushes
 returns-clause-flushes c =
     let i = c.proc.inside in let k = c.args.class in let b = c.in-Some.body in let old = c.args.hand.now in let new = c.flush_span.new.hand in
     let e : get_or i.slots.items k None ≡ Some b = other_default i.slots.items k None c.index_mut.result.now (let z = c.proc.invariant in let y = c.requires.class in omega arith) ∙ sym c.index_mut.ensures.value ∙ sym c.take.ensures.value ∙ c.in-Some.is in
-    let at = slot_is i.number i.flushed i.slots.items c.args.proc.now c.proc.view_is k (Some b) e in
-    let now : Cache = record { number = i.number; flushed = i.flushed; slots = spans_of (set i.slots.items k c.take.new.self) } in
-    let written : now ≡ Rattle.proc_cache.specs.Cache.with_slot k None c.args.proc.now = ap (λ (o : Option Body). let z : Cache = record { number = i.number; flushed = i.flushed; slots = spans_of (set i.slots.items k o) } in z) c.take.ensures.after
-    ∙ slot_written i.number i.flushed i.slots.items c.args.proc.now c.proc.view_is k None in
+    let at = slot_is i.number i.flushed i.slots.items i.sampler c.args.proc.now c.proc.view_is k (Some b) e in
+    let now : Cache = record { number = i.number; flushed = i.flushed; slots = spans_of (set i.slots.items k c.take.new.self); countdown = i.sampler } in
+    let written : now ≡ Rattle.proc_cache.specs.Cache.with_slot k None c.args.proc.now = ap (λ (o : Option Body). let z : Cache = record { number = i.number; flushed = i.flushed; slots = spans_of (set i.slots.items k o); countdown = i.sampler } in z) c.take.ensures.after
+    ∙ slot_written i.number i.flushed i.slots.items i.sampler c.args.proc.now c.proc.view_is k None in
     (ap (λ (z : Cache). z.flushed) c.proc.view_is, class_flushed k (span_of b) c.args.proc.now now old c.reserve_note.new.self new (c.requires.serves.slots k (span_of b) at).cached c.reserve_note.ensures.worker c.reserve_note.ensures.notes c.flush_span.ensures written at)
 
 pub returns-clause-serves : goal.returns-clause-serves
 returns-clause-serves c =
     let i = c.proc.inside in let k = c.args.class in let b = c.in-Some.body in let old = c.args.hand.now in let new = c.flush_span.new.hand in
     let e : get_or i.slots.items k None ≡ Some b = other_default i.slots.items k None c.index_mut.result.now (let z = c.proc.invariant in let y = c.requires.class in omega arith) ∙ sym c.index_mut.ensures.value ∙ sym c.take.ensures.value ∙ c.in-Some.is in
-    let at = slot_is i.number i.flushed i.slots.items c.args.proc.now c.proc.view_is k (Some b) e in
-    let now : Cache = record { number = i.number; flushed = i.flushed; slots = spans_of (set i.slots.items k c.take.new.self) } in
-    let written : now ≡ Rattle.proc_cache.specs.Cache.with_slot k None c.args.proc.now = ap (λ (o : Option Body). let z : Cache = record { number = i.number; flushed = i.flushed; slots = spans_of (set i.slots.items k o) } in z) c.take.ensures.after
-    ∙ slot_written i.number i.flushed i.slots.items c.args.proc.now c.proc.view_is k None in
+    let at = slot_is i.number i.flushed i.slots.items i.sampler c.args.proc.now c.proc.view_is k (Some b) e in
+    let now : Cache = record { number = i.number; flushed = i.flushed; slots = spans_of (set i.slots.items k c.take.new.self); countdown = i.sampler } in
+    let written : now ≡ Rattle.proc_cache.specs.Cache.with_slot k None c.args.proc.now = ap (λ (o : Option Body). let z : Cache = record { number = i.number; flushed = i.flushed; slots = spans_of (set i.slots.items k o); countdown = i.sampler } in z) c.take.ensures.after
+    ∙ slot_written i.number i.flushed i.slots.items i.sampler c.args.proc.now c.proc.view_is k None in
     class_serves k (span_of b) c.args.proc.now now old c.reserve_note.new.self new c.requires.serves at c.reserve_note.ensures.worker c.flush_span.ensures written
