@@ -1,10 +1,10 @@
-use Rattle.std.proofs.Common.{◌≡◌, refl}
+use Rattle.std.proofs.Common.{◌≡◌}
 use Rattle.std.proofs.lemmas.Result.{err_from_is_err_and}
 use Rattle.std.specs.Prelude.{Ok, Err}
 use Rattle.page_bitmap.specs.Counts.{one_if}
 use Rattle.central_lists.specs.declared.answers.One.TheVariants.{NoneLeft, Gone, Kept}
 use Rattle.central_lists.proofs.Joining.{same_generation, tried_all, tried_in_vain, tried_kept, tried_more, tries_at}
-use Rattle.span_set.proofs.Tallies.{frees-both, frees-none, may-still}
+use Rattle.span_set.proofs.Tallies.{frees-both, may-still}
 use Rattle.central_lists.proofs.lists.look_through.Goals as goal
 
 pub returns-in-NoneLeft-clause-tries : goal.returns-in-NoneLeft-clause-tries
