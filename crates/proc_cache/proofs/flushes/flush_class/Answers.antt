@@ -1,4 +1,4 @@
-use Rattle.std.proofs.Common.{◌≡◌, true, false, ap, sym, subst, ◌∙◌, get_or, set, arith}
+use Rattle.std.proofs.Common.{refl, ◌≡◌, true, false, ap, sym, subst, ◌∙◌, get_or, set, arith}
 use Rattle.std.specs.Prelude.{None, Some, Option}
 use Rattle.sweep_laws.specs.Lists.{has}
 use Rattle.span_state.specs.declared.body.Body.{Body}
@@ -7,6 +7,7 @@ use Rattle.span_laws.specs.Views.{Seen, span_of}
 use Rattle.proc_cache.specs.Cache.{Cache, spans_of}
 use Rattle.proc_cache.proofs.Slots.{other_default, slot_is, slot_written}
 use Rattle.proc_cache.proofs.Flushing.{class_flushed, class_serves}
+use Rattle.span_set.proofs.Tallies.{frees-both, frees-none, may-still}
 use Rattle.proc_cache.proofs.flushes.flush_class.Goals as goal
 
 pub flush_span-requires-clause-class : goal.flush_span-requires-clause-class
@@ -43,7 +44,7 @@ returns-clause-flushes c =
     let now : Cache = record { number = i.number; flushed = i.flushed; slots = spans_of (set i.slots.items k c.take.new.self); countdown = i.sampler } in
     let written : now ≡ Rattle.proc_cache.specs.Cache.with_slot k None c.args.proc.now = ap (λ (o : Option Body). let z : Cache = record { number = i.number; flushed = i.flushed; slots = spans_of (set i.slots.items k o); countdown = i.sampler } in z) c.take.ensures.after
     ∙ slot_written i.number i.flushed i.slots.items i.sampler c.args.proc.now c.proc.view_is k None in
-    (ap (λ (z : Cache). z.flushed) c.proc.view_is, class_flushed k (span_of b) c.args.proc.now now old c.reserve_note.new.self new (c.requires.serves.slots k (span_of b) at).cached c.reserve_note.ensures.worker c.reserve_note.ensures.notes c.flush_span.ensures written at)
+    (ap (λ (z : Cache). z.flushed) c.proc.view_is, class_flushed k (span_of b) c.args.proc.now now old c.reserve_note.new.self new (c.requires.serves.slots k (span_of b) at).cached c.reserve_note.ensures.worker c.reserve_note.ensures.notes c.flush_span.ensures.flushes written at)
 
 pub returns-clause-serves : goal.returns-clause-serves
 returns-clause-serves c =
@@ -53,4 +54,16 @@ returns-clause-serves c =
     let now : Cache = record { number = i.number; flushed = i.flushed; slots = spans_of (set i.slots.items k c.take.new.self); countdown = i.sampler } in
     let written : now ≡ Rattle.proc_cache.specs.Cache.with_slot k None c.args.proc.now = ap (λ (o : Option Body). let z : Cache = record { number = i.number; flushed = i.flushed; slots = spans_of (set i.slots.items k o); countdown = i.sampler } in z) c.take.ensures.after
     ∙ slot_written i.number i.flushed i.slots.items i.sampler c.args.proc.now c.proc.view_is k None in
-    class_serves k (span_of b) c.args.proc.now now old c.reserve_note.new.self new c.requires.serves at c.reserve_note.ensures.worker c.flush_span.ensures written
+    class_serves k (span_of b) c.args.proc.now now old c.reserve_note.new.self new c.requires.serves at c.reserve_note.ensures.worker c.flush_span.ensures.flushes written
+
+pub flush_span-requires-clause-counts : goal.flush_span-requires-clause-counts
+flush_span-requires-clause-counts c = may-still c.args.shop.now.marks.now c.args.shop.now.ring.now c.args.hand.now c.reserve_note.new.self c.requires.counts (frees-none c.args.shop.now.marks.now c.args.hand.now c.reserve_note.new.self c.reserve_note.ensures.notes c.reserve_note.ensures.tally)
+
+pub returns-in_err-reserve_note-clause-tally : goal.returns-in_err-reserve_note-clause-tally
+returns-in_err-reserve_note-clause-tally c = frees-none c.args.shop.now.marks.now c.args.hand.now c.reserve_note.new.self c.reserve_note.ensures.notes c.reserve_note.ensures.tally
+
+pub returns-clause-countdown : goal.returns-clause-countdown
+returns-clause-countdown c = ap (λ (z : Cache). z.countdown) c.proc.view_is
+
+pub returns-clause-tally : goal.returns-clause-tally
+returns-clause-tally c = frees-both c.args.shop.now.marks.now c.args.hand.now c.reserve_note.new.self c.flush_span.new.hand (frees-none c.args.shop.now.marks.now c.args.hand.now c.reserve_note.new.self c.reserve_note.ensures.notes c.reserve_note.ensures.tally) c.flush_span.ensures.tally

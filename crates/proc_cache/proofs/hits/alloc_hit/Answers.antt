@@ -59,3 +59,12 @@ returns-clause-serves c =
     let now : Cache = record { number = i.number; flushed = i.flushed; slots = spans_of (set i.slots.items k (Some d)); countdown = i.sampler } in
     subst (λ (s : Seen). Serves s.view.generation s.view.own now) (sym c.note_alloc.ensures.view)
     (subst (λ (z : Cache). Serves w.view.generation (told_of (Places x) (span_of d) w.view.own) z) (sym (slot_written i.number i.flushed i.slots.items i.sampler c.args.proc.now c.proc.view_is k (Some d))) kept)
+
+pub returns-in_default-clause-countdown : goal.returns-in_default-clause-countdown
+returns-in_default-clause-countdown c = ap (λ (z : Cache). z.countdown) c.proc.view_is
+
+pub returns-in_default-next_free-clause-countdown : goal.returns-in_default-next_free-clause-countdown
+returns-in_default-next_free-clause-countdown c = ap (λ (z : Cache). z.countdown) c.proc.view_is
+
+pub returns-clause-countdown : goal.returns-clause-countdown
+returns-clause-countdown c = ap (λ (z : Cache). z.countdown) c.proc.view_is

@@ -47,3 +47,6 @@ returns-clause-used c =
     ∙ slot_written i.number i.flushed i.slots.items i.sampler c.args.proc.now c.proc.view_is k None in
     full_used k b.page (swept_set g k 1) g old new c.requires.idle c.push_full.ensures.view c.push_full.ensures.notes c.args.proc.now now c.requires.serves
     (full_serves k b.page (swept_set g k 1) g old new c.requires.idle c.push_full.ensures.view c.push_full.ensures.notes c.args.proc.now now (span_of b) refl c.requires.serves at written) (span_of b) refl at written c.requires.used
+
+pub returns-clause-countdown : goal.returns-clause-countdown
+returns-clause-countdown c = ap (λ (z : Cache). z.countdown) c.proc.view_is
