@@ -17,7 +17,9 @@ use Rattle.run_laws.proofs.Lists.{in-cases}
 use Rattle.run_laws.specs.Profile.{dead_in, sum_of}
 use Rattle.sample_laws.specs.Counted.{one_count}
 use Rattle.span_set.specs.Tallies.{Frees, MayCount, frees_all, freeing}
+use Rattle.span_set.proofs.Tallies.{frees-both}
 use Rattle.span_set.specs.declared.hand.Hand.{Hand}
+use Rattle.proc_cache.specs.Samples.{CountsOne, counted}
 use Rattle.heap_run.specs.Counts.{Counts, IsOut, dead_at, no_counts, with_calls}
 
 -- ---- calls behind calls
@@ -126,20 +128,6 @@ counts-as m f a b c d x n t n' t' = record {
 pub counts-same : (m : MarkSet) (f g : ℕ → ℕ) (a b : Hand) → Counts m f a b → ((k : ℕ) → g k ≡ f k) → Counts m g a b
 counts-same m f g a b x same = record { more = x.more; notes = x.notes; made = x.made; tally = x.tally; now = x.now; allocs_are = λ k. x.allocs_are k ∙ sym (same k); frees_are = x.frees_are }
 
--- a hand that counted an allocation, or none
-pub counts-one : (m : MarkSet) (sampled : Bool) (bucket : ℕ) (a b : Hand) → b.notes.items ≡ a.notes.items → (sampled ≡ true → b.tally ≡ calls a.tally (Allocated bucket)) → (sampled ≡ false → b.tally ≡ a.tally)
-    → Counts m (one_count sampled bucket) a b
-counts-one m false bucket a b notes on off = counts-same m no_counts (one_count false bucket) a b (counts-none m a b notes (off refl)) (λ k. refl)
-counts-one m true bucket a b notes on off = record {
-  more = [];
-  notes = notes ∙ sym (append-nil a.notes.items);
-  made = record { cycle = a.tally.view.cycle; what = Allocated bucket } ∷ [];
-  tally = on refl;
-  now = λ call i. elim i [ inl here ↦ rw (sym here) (refl, refl) | inr there ↦ absurd there ];
-  allocs_are = λ b. (let s = same-one (eqb bucket b) in omega arith);
-  frees_are = λ b. refl;
-}
-
 -- ---- what may be counted
 
 -- it may still be counted
@@ -182,3 +170,34 @@ out-cycle m f n old away start end out lends x =
 
 pub out-split : (m : MarkSet) (f : ℕ → ℕ) (n : ℕ) (old start end : Hand) → IsOut n old start → Counts m f start end → end.tally.view.drives ≡ false
 out-split m f n old start end out x = ap (λ (s : Standing). s.view.drives) x.tally ∙ ap (λ (s : Standing). s.view.drives) out.tally
+
+-- ---- an event
+
+-- a hand whose tally counted an object, or none
+pub counted-one : (m : MarkSet) (sampled : Bool) (bucket : ℕ) (a b : Hand) → b.notes.items ≡ a.notes.items → b.tally ≡ counted sampled bucket a.tally → Counts m (one_count sampled bucket) a b
+counted-one m false bucket a b notes tally = counts-same m no_counts (one_count false bucket) a b (counts-none m a b notes tally) (λ k. refl)
+counted-one m true bucket a b notes tally = record {
+  more = [];
+  notes = notes ∙ sym (append-nil a.notes.items);
+  made = record { cycle = a.tally.view.cycle; what = Allocated bucket } ∷ [];
+  tally = tally;
+  now = λ call i. elim i [ inl here ↦ rw (sym here) (refl, refl) | inr there ↦ absurd there ];
+  allocs_are = λ b. (let s = same-one (eqb bucket b) in omega arith);
+  frees_are = λ b. refl;
+}
+
+-- what an allocation counted
+pub ones-counts : (m : MarkSet) (bucket : ℕ) (sampled : Bool) (a b : Hand) → CountsOne m bucket sampled a b → Counts m (one_count sampled bucket) a b
+ones-counts m bucket sampled a b h =
+    let mid : Hand = record { worker = a.worker; notes = b.notes; tally = freeing m h.more a.tally } in
+    let swept : Counts m no_counts a mid = frees-counts m a mid (record { more = h.more; notes = h.notes; tally = refl }) in
+    counts-then m no_counts (one_count sampled bucket) (one_count sampled bucket) a mid b swept (counted-one m sampled bucket mid b refl h.tally) (λ k. omega arith)
+
+-- what a refused allocation counted
+pub refused-counts : (m : MarkSet) (bucket : ℕ) (a b : Hand) → Frees m a b → Counts m (one_count false bucket) a b
+refused-counts m bucket a b h = counts-same m no_counts (one_count false bucket) a b (frees-counts m a b h) (λ k. refl)
+
+-- what a large object counted, behind what its processor's flush and the search for its span freed
+pub large-counts : (m : MarkSet) (bucket : ℕ) (sampled : Bool) (a b c d : Hand) → Frees m a b → Frees m b c → d.notes.items ≡ c.notes.items → d.tally ≡ counted sampled bucket c.tally → Counts m (one_count sampled bucket) a d
+large-counts m bucket sampled a b c d x y notes tally =
+    counts-then m no_counts (one_count sampled bucket) (one_count sampled bucket) a c d (frees-counts m a c (frees-both m a b c x y)) (counted-one m sampled bucket c d notes tally) (λ k. omega arith)

@@ -6,7 +6,8 @@ ghost use Rattle.proc_cache.specs.Cache.{Cache};
 ghost use Rattle.heap_run.specs.Parts.{part_at};
 ghost use Rattle.heap_run.specs.Settled.{HasFlushed, HasSettled, HasWorked};
 ghost use Rattle.span_set.specs.Tallies.{MayCount};
-ghost use Rattle.heap_run.specs.Counts.{AreNumbered, Counts, HaveSampled, KeepCountdowns, all_counts, no_counts};
+ghost use Rattle.sample_laws.specs.Counted.{all_counts};
+ghost use Rattle.heap_run.specs.Counts.{AreNumbered, Counts, HaveSampled, KeepCountdowns, no_counts};
 ghost use Rattle.heap_run.specs.Turns.{HaveAnswered, IsCollecting, IsDriving, KeepsAnswers, SaysNone, no_cache};
 
 use crate::queues::Queues;

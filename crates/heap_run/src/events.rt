@@ -1,16 +1,17 @@
 //! The events of a processor in a cycle.
 
-ghost use Rattle.std.specs.Prelude.{◌≡◌, ◌*◌, ◌^◌, ◌<◌, ◌≤◌, [], ◌∷◌, All, length, reverse, true, false, IfOk, OnOk};
+ghost use Rattle.std.specs.Prelude.{◌≡◌, ◌^◌, ◌<◌, ◌≤◌, [], ◌∷◌, All, length, reverse, true, false, IfOk, OnOk};
 ghost use Rattle.span_laws.specs.Asks.{IsIdle};
 ghost use Rattle.span_set.specs.Tallies.{MayCount};
-ghost use Rattle.profile_cycle.specs.Sampling.{behind, is_sample};
-ghost use Rattle.heap_run.specs.Counts.{Counts, flag, flags, one_count, sampled_counts, spends, spent};
+ghost use Rattle.sample_laws.specs.Counted.{one_count, sampled_counts};
+ghost use Rattle.sample_laws.specs.Countdowns.{flag, flags, spends, spent};
+ghost use Rattle.heap_run.specs.Counts.{Counts};
 ghost use Rattle.heap_run.specs.Turns.{HasActed, IsCaching, SaysAnswers};
 
 use cycle_history::Answer;
 use edge_io::{Gate, List, NoMemory};
 use large_objects::alloc_large;
-use proc_cache::{Proc, Refused, alloc, flush};
+use proc_cache::{Proc, Refused, alloc, count_placed, flush};
 use size_classes::{Kind, PAGE_SIZE, class_of, span_class};
 use span_set::{Hand, Shop};
 use std::alloc::Global;
@@ -21,13 +22,6 @@ use trace_reader::Event;
 pub(crate) struct Outcomes {
     pub answers: List<Answer>,
     pub sampled: List<bool>,
-}
-
-// What an event came to.
-#[derive(Clone, Copy)]
-struct Outcome {
-    answer: Answer,
-    sampled: bool,
 }
 
 /// Answers the events of a processor in a cycle, in their order, which have buckets with these numbers. Before each it passes the gate,
@@ -64,21 +58,21 @@ pub(crate) fn answer_all<G: Gate>(
     };
     for (turn, event) in events.iter().enumerate() {
         gate.before(proc.number(), turn as u64);
-        let outcome = answer(shop, proc, hand, event, buckets[turn])?;
-        outcomes.answers.push(outcome.answer)?;
-        outcomes.sampled.push(outcome.sampled)?;
+        let (answer, sampled) = answer(shop, proc, hand, event, buckets[turn])?;
+        outcomes.answers.push(answer)?;
+        outcomes.sampled.push(sampled)?;
     }
     Ok(outcomes)
 }
 
-// Answers one event, which has a bucket of this number.
+// Answers one event, which has a bucket of this number, and says whether its object is sampled.
 fn answer(
     shop: &Shop,
     proc: &mut Proc,
     hand: &mut Hand,
     event: &Event,
     bucket: u32,
-) -> Result<Outcome, NoMemory>
+) -> Result<(Answer, bool), NoMemory>
     requires here { hand.old.worker.here ≡ true }
     requires table { hand.old.worker.table ≡ shop.now.shared.now }
     requires distance { 8192 ≤ shop.now.distance }
@@ -88,61 +82,31 @@ fn answer(
     requires size { event.now.size ≤ 2 ^ 40 }
     requires counts { MayCount shop.now.ring.now shop.now.marks.now hand.old.tally }
     requires bucket { bucket < shop.now.ring.now.buckets }
-    ensures acted { IfOk result (λ o. HasActed (SaysAnswers (event.now ∷ []) (o.answer ∷ [])) hand.old hand.new) }
+    ensures acted { IfOk result (λ o. HasActed (SaysAnswers (event.now ∷ []) (o.0 ∷ [])) hand.old hand.new) }
     ensures caching { OnOk result (IsCaching hand.old.worker.view.generation hand.new.worker.view.own proc.new) }
     ensures number { OnOk result (proc.new.number ≡ proc.old.number) }
-    ensures sampled { IfOk result (λ o. o.sampled ≡ flag proc.old.countdown event.now o.answer) }
-    ensures spent { IfOk result (λ o. proc.new.countdown ≡ spends proc.old.countdown event.now o.answer) }
-    ensures counts { IfOk result (λ o. Counts shop.now.marks.now (one_count o.sampled bucket) hand.old hand.new) }
+    ensures sampled { IfOk result (λ o. o.1 ≡ flag proc.old.countdown event.now o.0) }
+    ensures spent { IfOk result (λ o. proc.new.countdown ≡ spends proc.old.countdown event.now o.0) }
+    ensures counts { IfOk result (λ o. Counts shop.now.marks.now (one_count o.1 bucket) hand.old hand.new) }
 {
     match class_of(event.size) {
-        Kind::Zero => Ok(unsampled(Answer::Zero)),
+        Kind::Zero => Ok((Answer::Zero, false)),
         Kind::Small(_) => match alloc(proc, shop, hand, *event, bucket) {
-            Ok(placed) => Ok(Outcome {
-                answer: Answer::Placed(placed.addr),
-                sampled: placed.sampled,
-            }),
-            Err(Refused::NoRun { line }) => Ok(unsampled(Answer::Missed(line))),
+            Ok(placed) => Ok((Answer::Placed(placed.addr), placed.sampled)),
+            Err(Refused::NoRun { line }) => Ok((Answer::Missed(line), false)),
             Err(Refused::NoMemory) => Err(NoMemory),
         },
         Kind::Large(pages) => {
             flush(proc, shop, hand)?;
             match alloc_large(shop, hand, pages, span_class(0, event.scan)) {
-                Ok(addr) => Ok(Outcome {
-                    answer: Answer::Placed(addr),
-                    sampled: sample_large(shop, proc, hand, pages, bucket),
-                }),
-                Err(Refused::NoRun { line }) => Ok(unsampled(Answer::Missed(line))),
+                Ok(addr) => {
+                    let slot = PAGE_SIZE * u64::from(pages);
+                    let sampled = count_placed(proc, shop, hand, slot, bucket);
+                    Ok((Answer::Placed(addr), sampled))
+                }
+                Err(Refused::NoRun { line }) => Ok((Answer::Missed(line), false)),
                 Err(Refused::NoMemory) => Err(NoMemory),
             }
         }
     }
-}
-
-// An answer to an object that is not sampled.
-fn unsampled(answer: Answer) -> Outcome
-    ensures answer { result.answer ≡ answer }
-    ensures sampled { result.sampled ≡ false }
-{
-    Outcome {
-        answer,
-        sampled: false,
-    }
-}
-
-// Says whether a large object that was placed is sampled, and counts it if it is.
-fn sample_large(shop: &Shop, proc: &mut Proc, hand: &mut Hand, pages: u32, bucket: u32) -> bool
-    requires counts { MayCount shop.now.ring.now shop.now.marks.now hand.old.tally }
-    requires bucket { bucket < shop.now.ring.now.buckets }
-    ensures sampled { result ≡ is_sample proc.old.countdown (8192 * pages) }
-    ensures proc { proc.new ≡ record proc.old { countdown = behind proc.old.countdown (8192 * pages) } }
-    ensures worker { hand.new.worker ≡ hand.old.worker }
-    ensures notes { hand.new.notes ≡ hand.old.notes }
-    ensures counts { Counts shop.now.marks.now (one_count result bucket) hand.old hand.new }
-{
-    let sampled = proc.sample(PAGE_SIZE * u64::from(pages));
-    if sampled {
-        shop.ring.allocated(&mut hand.tally, bucket);
-    }
-    sampled
 }

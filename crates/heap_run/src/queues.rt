@@ -1,8 +1,10 @@
 //! The events of a cycle, processor by processor, with the numbers of their buckets.
 
-ghost use Rattle.std.specs.Prelude.{◌≡◌, ℕ, ◌<◌, ◌++◌, [], All, length, map, max, vec_len, slice_index_or, IfOk, OnOk};
+ghost use Rattle.std.specs.Prelude.{◌≡◌, ℕ, ◌<◌, ◌++◌, [], All, length, map, vec_len, slice_index_or, IfOk, OnOk};
 ghost use Rattle.heap_run.specs.Served.{events_by};
-ghost use Rattle.heap_run.specs.Numbers.{HaveSize, number_of};
+ghost use Rattle.std.specs.List.{AllByRecursion};
+ghost use Rattle.profile_cycle.specs.Naming.{HasSize};
+ghost use Rattle.sample_laws.specs.Numbers.{number_of};
 
 use edge_io::{List, NoMemory};
 use profile_cycle::Buckets;
@@ -26,7 +28,7 @@ pub(crate) fn queues_of(
     numbers: &mut List<u32>,
 ) -> Result<Queues, NoMemory>
     requires below { All (λ e. e.proc < procs) events.now }
-    requires sizes { HaveSize events.now }
+    requires sizes { AllByRecursion HasSize events.now }
     ensures length { IfOk result (λ queues. (vec_len queues.events ≡ procs) × (vec_len queues.buckets ≡ procs)) }
     ensures queues { IfOk result (λ queues. (w : ℕ) → slice_index_or queues.events.items w [] ≡ events_by w events.now) }
     ensures buckets { IfOk result (λ queues. (w : ℕ) → slice_index_or queues.buckets.items w [] ≡ map (number_of known.now) (events_by w events.now)) }

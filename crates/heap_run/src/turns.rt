@@ -7,7 +7,9 @@ ghost use Rattle.span_state.specs.declared.sweep.SweepNote.{SweepNote};
 ghost use Rattle.heap_run.specs.Parts.{part_at};
 ghost use Rattle.profile_cycle.specs.History.{joined, lent};
 ghost use Rattle.span_set.specs.Tallies.{MayCount};
-ghost use Rattle.heap_run.specs.Counts.{Counts, IsOut, flags, no_counts, sampled_counts, spent};
+ghost use Rattle.sample_laws.specs.Counted.{sampled_counts};
+ghost use Rattle.sample_laws.specs.Countdowns.{flags, spent};
+ghost use Rattle.heap_run.specs.Counts.{Counts, IsOut, no_counts};
 ghost use Rattle.heap_run.specs.Turns.{HasActed, IsCaching, SaysAnswers, SaysNone, TookTurn};
 
 use crate::events::{Outcomes, answer_all};
