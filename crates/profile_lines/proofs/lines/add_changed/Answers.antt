@@ -1,5 +1,7 @@
-use Rattle.std.proofs.Common.{◌≡◌, List, [], ◌∷◌, ◌++◌, length, map, get_or, take, drop, set, ◌∙◌, sym, ap, subst}
+use Rattle.std.proofs.Common.{◌≡◌, ℕ, ◌<◌, List, [], ◌∷◌, ◌++◌, length, map, get_or, take, take_all, drop, set, ◌∙◌, sym, ap, subst, arith, append-nil}
 use Rattle.cycle_history.specs.declared.Prof.{Prof}
+use Rattle.profile_cycle.specs.declared.buckets.Bucket.{Bucket}
+use Rattle.profile_cycle.specs.declared.calls.Call.{Call}
 use Rattle.profile_cycle.specs.declared.counts.Count.{Count}
 use Rattle.profile_cycle.specs.History.{Standing}
 use Rattle.profile_lines.specs.Read.{AreFew, changed_lines, count_of}
@@ -13,4 +15,6 @@ pub add_if_changed-requires-clause-few : goal.add_if_changed-requires-clause-few
 add_if_changed-requires-clause-few c = subst (λ (t : Standing). AreFew (length c.args.buckets.now) t.view.calls) (sym c.loop-place.invariant.tally) c.requires.few
 
 pub loop-place-preserved : goal.loop-place-preserved
-loop-place-preserved c = ?
+loop-place-preserved c =
+    let h = c.in_ok-before.ensures.lines in
+    ?
