@@ -1,4 +1,6 @@
-use edge_io::{Lines, Seen, StdSink, StdSource, write_all};
+use edge_io::{
+    Lines, List, MemorySink, MemorySource, NoMemory, Seen, StdSink, StdSource, write_all,
+};
 use std::alloc::Global;
 use std::io;
 use std::io::{Read, Write};
@@ -92,4 +94,76 @@ fn adapters_hand_on_faults_in_mid_stream(rt: HostRuntime) {
     assert_eq!(rt; held_of(alloc, 0, 100), (false, 0));
     assert_eq!(rt; held_of(alloc, 6, 100), (false, 6));
     assert_eq!(rt; held_of(alloc, 100, 7), (false, 7));
+}
+
+// What three calls for a line see of "ab\ncd", read in pieces of at most so many bytes, of which the listed reads fail.
+fn seen_in_pieces(
+    alloc: Global,
+    most: u64,
+    failing: &[u64],
+) -> Result<[Option<Seen>; 3], NoMemory> {
+    let mut source = MemorySource::in_pieces(
+        listed(alloc, b"ab\ncd")?,
+        most,
+        listed(alloc, failing)?,
+    );
+    let mut lines = Lines::new(&mut source, 100);
+    let first = lines.next_line().ok();
+    let second = lines.next_line().ok();
+    Ok([first, second, lines.next_line().ok()])
+}
+
+// Whether a sink that takes at most so many bytes at once, of which the listed writes fail, takes a text of ten whole, and whether it
+// then holds just so many of its bytes.
+fn holds_in_pieces(
+    alloc: Global,
+    most: u64,
+    failing: &[u64],
+    count: usize,
+) -> Result<(bool, bool), NoMemory> {
+    let mut sink = MemorySink::in_pieces(alloc, most, listed(alloc, failing)?);
+    let whole = write_all(&mut sink, b"0123456789").is_ok();
+    Ok((whole, sink.held() == &b"0123456789"[..count]))
+}
+
+// A list of these items.
+fn listed<T: Copy>(alloc: Global, items: &[T]) -> Result<List<T>, NoMemory> {
+    let mut list = List::new(alloc);
+    for item in items {
+        list.push(*item)?;
+    }
+    Ok(list)
+}
+
+#[test]
+fn a_source_in_pieces_gives_the_same_lines(rt: HostRuntime) {
+    let alloc = rt.alloc();
+    let (line, cut, finished) = (Some(Seen::Line), Some(Seen::Cut), Some(Seen::Finished));
+    for most in [1, 2, 3, 5, u64::MAX] {
+        let seen = seen_in_pieces(alloc, most, &[]).ok();
+        assert_eq!(rt; seen, Some([line, cut, finished]));
+    }
+    // A read a byte: reads 0 to 4 give the bytes, and read 5 finds nothing left.
+    let third = seen_in_pieces(alloc, 1, &[2]).ok();
+    assert_eq!(rt; third, Some([None, line, cut]));
+    let fifth = seen_in_pieces(alloc, 1, &[4]).ok();
+    assert_eq!(rt; fifth, Some([line, None, cut]));
+    let last = seen_in_pieces(alloc, 1, &[5]).ok();
+    assert_eq!(rt; last, Some([line, None, cut]));
+    let none = seen_in_pieces(alloc, 1, &[6]).ok();
+    assert_eq!(rt; none, Some([line, cut, finished]));
+}
+
+#[test]
+fn a_sink_in_pieces_holds_what_it_took(rt: HostRuntime) {
+    let alloc = rt.alloc();
+    for most in [1, 3, 10, u64::MAX] {
+        let held = holds_in_pieces(alloc, most, &[], 10).ok();
+        assert_eq!(rt; held, Some((true, true)));
+    }
+    // Three bytes a write: write k begins at byte 3k.
+    for failing in [0u64, 1, 2, 3] {
+        let held = holds_in_pieces(alloc, 3, &[failing], 3 * failing as usize).ok();
+        assert_eq!(rt; held, Some((false, true)));
+    }
 }
