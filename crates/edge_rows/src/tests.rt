@@ -1,3 +1,5 @@
+ghost use Rattle.std.specs.Prelude.{◌<◌};
+
 use edge_io::{
     Lines, List, MemorySink, MemorySource, NoMemory, Seen, StdSink, StdSource, write_all,
 };
@@ -119,11 +121,13 @@ fn holds_in_pieces(
     alloc: Global,
     most: u64,
     failing: &[u64],
-    count: usize,
-) -> Result<(bool, bool), NoMemory> {
+    expected: &[u8],
+) -> Result<(bool, bool), NoMemory>
+    requires { 0 < most }
+{
     let mut sink = MemorySink::in_pieces(alloc, most, listed(alloc, failing)?);
     let whole = write_all(&mut sink, b"0123456789").is_ok();
-    Ok((whole, sink.held() == &b"0123456789"[..count]))
+    Ok((whole, sink.held() == expected))
 }
 
 // A list of these items.
@@ -139,31 +143,57 @@ fn listed<T: Copy>(alloc: Global, items: &[T]) -> Result<List<T>, NoMemory> {
 fn a_source_in_pieces_gives_the_same_lines(rt: HostRuntime) {
     let alloc = rt.alloc();
     let (line, cut, finished) = (Some(Seen::Line), Some(Seen::Cut), Some(Seen::Finished));
-    for most in [1, 2, 3, 5, u64::MAX] {
-        let seen = seen_in_pieces(alloc, most, &[]).ok();
-        assert_eq!(rt; seen, Some([line, cut, finished]));
-    }
-    // A read a byte: reads 0 to 4 give the bytes, and read 5 finds nothing left.
-    let third = seen_in_pieces(alloc, 1, &[2]).ok();
-    assert_eq!(rt; third, Some([None, line, cut]));
-    let fifth = seen_in_pieces(alloc, 1, &[4]).ok();
-    assert_eq!(rt; fifth, Some([line, None, cut]));
-    let last = seen_in_pieces(alloc, 1, &[5]).ok();
-    assert_eq!(rt; last, Some([line, None, cut]));
-    let none = seen_in_pieces(alloc, 1, &[6]).ok();
-    assert_eq!(rt; none, Some([line, cut, finished]));
+    let all = Some([line, cut, finished]);
+    assert_eq!(rt; seen_in_pieces(alloc, 1, &[]).ok(), all);
+    assert_eq!(rt; seen_in_pieces(alloc, 2, &[]).ok(), all);
+    assert_eq!(rt; seen_in_pieces(alloc, 5, &[]).ok(), all);
+    assert_eq!(rt; seen_in_pieces(alloc, u64::MAX, &[]).ok(), all);
+    // A byte a read: the reads 0 to 4 give the bytes, and read 5 finds nothing left.
+    assert_eq!(rt;
+        seen_in_pieces(alloc, 1, &[2]).ok(),
+        Some([None, line, cut])
+    );
+    assert_eq!(rt;
+        seen_in_pieces(alloc, 1, &[4]).ok(),
+        Some([line, None, cut])
+    );
+    assert_eq!(rt;
+        seen_in_pieces(alloc, 1, &[5]).ok(),
+        Some([line, None, cut])
+    );
+    assert_eq!(rt; seen_in_pieces(alloc, 1, &[6]).ok(), all);
 }
 
 #[test]
 fn a_sink_in_pieces_holds_what_it_took(rt: HostRuntime) {
     let alloc = rt.alloc();
-    for most in [1, 3, 10, u64::MAX] {
-        let held = holds_in_pieces(alloc, most, &[], 10).ok();
-        assert_eq!(rt; held, Some((true, true)));
-    }
+    assert_eq!(rt;
+        holds_in_pieces(alloc, 1, &[], b"0123456789").ok(),
+        Some((true, true))
+    );
+    assert_eq!(rt;
+        holds_in_pieces(alloc, 3, &[], b"0123456789").ok(),
+        Some((true, true))
+    );
+    assert_eq!(rt;
+        holds_in_pieces(alloc, u64::MAX, &[], b"0123456789").ok(),
+        Some((true, true))
+    );
     // Three bytes a write: write k begins at byte 3k.
-    for failing in [0u64, 1, 2, 3] {
-        let held = holds_in_pieces(alloc, 3, &[failing], 3 * failing as usize).ok();
-        assert_eq!(rt; held, Some((false, true)));
-    }
+    assert_eq!(rt;
+        holds_in_pieces(alloc, 3, &[0], b"").ok(),
+        Some((false, true))
+    );
+    assert_eq!(rt;
+        holds_in_pieces(alloc, 3, &[1], b"012").ok(),
+        Some((false, true))
+    );
+    assert_eq!(rt;
+        holds_in_pieces(alloc, 3, &[3], b"012345678").ok(),
+        Some((false, true))
+    );
+    assert_eq!(rt;
+        holds_in_pieces(alloc, 3, &[4], b"0123456789").ok(),
+        Some((true, true))
+    );
 }
