@@ -58,9 +58,9 @@ changed-next buckets calls mark order before i d start old new lt same so then =
     let b = length-take-le i before (omega arith) in
     then ∙ ap (λ (l : List Prof). l ++ one) so ∙ append_assoc start (f (take i order) (take i before)) one
     ∙ ap (λ (l : List Prof). start ++ l) (
-        sym (changed-append buckets calls mark (take i order) (get_or order i 0 ∷ []) (take i before) (get_or before i d ∷ []) (omega arith))
-        ∙ ap (λ (l : List ℕ). f l (take i before ++ get_or before i d ∷ [])) (sym (take_more order i 0 lt))
-        ∙ ap (λ (l : List Count). f (take (i + 1) order) l) (sym (take_more before i d (omega arith))))
+    sym (changed-append buckets calls mark (take i order) (get_or order i 0 ∷ []) (take i before) (get_or before i d ∷ []) (omega arith))
+    ∙ ap (λ (l : List ℕ). f l (take i before ++ get_or before i d ∷ [])) (sym (take_more order i 0 lt))
+    ∙ ap (λ (l : List Count). f (take (i + 1) order) l) (sym (take_more before i d (omega arith))))
 
 -- what was read stands in front of what is still as before
 pub before-at : (f : ℕ → Count) (order : List ℕ) (old now : List Count) (i : ℕ) (d : Count) → i < length order → length old ≡ length order

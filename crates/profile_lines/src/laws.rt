@@ -71,7 +71,7 @@ pub fn lines_stay()
 /// The lines that `add_changed` reads, where the ring shows a mark end, are that mark end's.
 pub fn lines_go_on()
     ensures { (marked : Marking) (s : Samples) (buckets : List Bucket) (order : List ℕ) (m : ℕ) (objects : List Object) (calls : List Call) (before : List Count) (lines : List Prof)
-        → ((o : Object) → In o objects → Lasts marked o) → AreNamed s buckets objects → IsOrder buckets order → ShowsMarkEnd marked s buckets m objects calls
+        → AreNamed s buckets objects → IsOrder buckets order → ShowsMarkEnd marked s buckets m objects calls
         → HasTold marked s buckets order m objects before lines
         → HasTold marked s buckets order (suc m) objects (map (count_of calls) order) (lines ++ changed_lines buckets calls m order before) }
 {}

@@ -1,7 +1,9 @@
 //! The order in which a report lists the buckets.
 
-ghost use Rattle.std.specs.Prelude.{◌≡◌, IfOk};
+ghost use Rattle.std.specs.Prelude.{◌≡◌, map, IfOk};
+ghost use Rattle.profile_lines.specs.declared.order.Keyed.{Keyed};
 ghost use Rattle.profile_lines.specs.Read.{AreDifferent, IsOrder};
+ghost use Rattle.profile_lines.specs.Keyed.{keyed_from};
 
 use edge_io::{List, NoMemory};
 use profile_cycle::Buckets;
@@ -22,12 +24,14 @@ pub fn order_of(alloc: Global, buckets: &Buckets) -> Result<List<u32>, NoMemory>
 {
     let mut keyed = keyed_of(alloc, buckets)?;
     keyed.sort_unstable_by_key(|one| (one.stack, one.slot));
-    let order = keyed.iter().map(|one| one.number).collect(alloc)?;
+    let order = numbers_of(alloc, keyed.as_slice())?;
     Ok(List::from_vec(order))
 }
 
 // The buckets in the order of their numbers.
-fn keyed_of(alloc: Global, buckets: &Buckets) -> Result<Vec<Keyed>, NoMemory> {
+fn keyed_of(alloc: Global, buckets: &Buckets) -> Result<Vec<Keyed>, NoMemory>
+    ensures { IfOk result (λ keyed. keyed.items ≡ keyed_from 0 buckets.now) }
+{
     let mut keyed = Vec::new(alloc);
     for number in 0..buckets.len() {
         let (stack, slot) = buckets.key(number);
@@ -38,4 +42,11 @@ fn keyed_of(alloc: Global, buckets: &Buckets) -> Result<Vec<Keyed>, NoMemory> {
         })?;
     }
     Ok(keyed)
+}
+
+// Their numbers alone.
+fn numbers_of(alloc: Global, keyed: &[Keyed]) -> Result<Vec<u32>, NoMemory>
+    ensures { IfOk result (λ numbers. numbers.items ≡ map (λ (k : Keyed). k.number) keyed.now) }
+{
+    Ok(keyed.iter().map(|one| one.number).collect(alloc)?)
 }
