@@ -1,5 +1,5 @@
 -- A run as its first cycle begins.
-use Rattle.std.proofs.Common.{◌≡◌, ℕ, zero, suc, ◌<◌, max, Bool, true, false, List, [], ◌∷◌, map, set, reverse, length, get_or, Option, Some, None, refl, sym, ◌∙◌, ap, arith, subst}
+use Rattle.std.proofs.Common.{◌≡◌, ℕ, zero, suc, ◌<◌, ◌≤◌, Bool, true, false, List, [], ◌∷◌, map, set, reverse, length, get_or, Option, Some, None, refl, sym, ◌∙◌, ap, arith, subst}
 use Rattle.std.specs.List.{range_with_len}
 use Rattle.std.proofs.lemmas.List.FromFn.{length-map-range_with_len}
 use Rattle.std.proofs.lemmas.Option.{slice_get_within}
@@ -64,7 +64,8 @@ pub record HasStarted (t : Trace) (workers slots : ℕ) (run : Run) : Type 0 whe
   pub places : run.places ≡ []
   pub dead : (page : ℕ) → dead_of run.marks page ≡ []
   pub tally : run.driver.tally ≡ record { ring = run.profile.ring; view = first_tally }
-  pub room : run.profile.ring.buckets ≡ max 1 (length run.profile.known)
+  pub some : 1 ≤ run.profile.ring.buckets
+  pub room : length run.profile.known ≤ run.profile.ring.buckets
   pub different : AreDifferent run.profile.known
   pub named : AllByRecursion (IsNamed run.profile.known) (events_of t)
   pub order : IsOrder run.profile.known run.profile.order
@@ -146,6 +147,7 @@ begun-first t workers slots run many s =
       blank = λ i. ap (λ (h : Part). h.log) (part i);
       profiled = record {
         ring = ap (λ (x : Standing). x.ring) s.tally;
+        some = s.some;
         room = s.room;
         drives = ap (λ (x : Standing). x.view.drives) s.tally;
         alone = ap (λ (x : Standing). x.view.out) s.tally;

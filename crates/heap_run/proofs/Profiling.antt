@@ -150,13 +150,13 @@ module _ (t : Trace) (c : ℕ) (d : Cycle) (old new : Run) (queues : List (List 
     (merged : (w : ℕ) → answers_by w (get_or t.cycles c d).events more ≡ get_or given w []) (same_procs : length new.procs.items ≡ length old.procs.items) (permutation : IsPermutation ended.notes.items sorted)
     (grown : new.answers ≡ old.answers ++ more) (driver-before : ended.worker.view.before ≡ old.driver.worker.view.before)
     (tallied : HasTallied t c d old new queues given more ended) (goes : Goes t c d begun.objects old.answers more old.sweeps sorted ended.worker) where
-  events : List Event
+  abbrev events : List Event
   events = (get_or t.cycles c d).events
 
-  names : List Bucket
+  abbrev names : List Bucket
   names = old.profile.known
 
-  older : ℕ
+  abbrev older : ℕ
   older = length (requests_before t c)
 
   older-flags : length old.sampled ≡ older
@@ -230,6 +230,7 @@ module _ (t : Trace) (c : ℕ) (d : Cycle) (old new : Run) (queues : List (List 
       let f = tallied.profile in
       record {
         ring = view-ring ∙ was.ring ∙ ap (λ q. q.ring) (sym f);
+        some = rw f was.some;
         room = rw f was.room;
         drives = view-drives;
         alone = view-alone;
@@ -263,7 +264,7 @@ module _ (t : Trace) (c : ℕ) (d : Cycle) (old new : Run) (queues : List (List 
 
   -- ---- the calls of the cycle
 
-  made : List Call
+  abbrev made : List Call
   made = tallied.counts.made
 
   cycle-is : old.driver.tally.view.cycle ≡ c

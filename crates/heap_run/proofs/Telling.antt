@@ -1,7 +1,7 @@
 -- The profile of a run at a mark end, and at the run's end.
 use Rattle.std.proofs.Common.{◌≡◌, ◌≢◌, ℕ, zero, suc, ◌+◌, ◌^◌, ◌<◌, ◌≤◌, Bool, true, false, ◌&&◌, eqb, max, All, List, [], ◌∷◌, ◌++◌, map, reverse, length, get_or, Option, Some, None, refl, sym, ◌∙◌, ap, subst, arith, inl, inr}
 use Rattle.std.specs.Prelude.{position, slice_index}
-use Rattle.std.proofs.lemmas.Bool.{cases_lt, and_right}
+use Rattle.std.proofs.lemmas.Bool.{cases_Bool}
 use Rattle.std.proofs.lemmas.List.{length-map, length-reverse, reverse-append}
 use Rattle.std.proofs.lemmas.List.Elements.{All-from_recursion}
 use Rattle.std.specs.List.{AllByRecursion}
@@ -94,10 +94,6 @@ pub record HasMarked (t : Trace) (c : ℕ) (old new : Run) (marks : MarkSet) : T
   pub read : old.profile.each ≡ true → (new.profile.lines ≡ old.profile.lines ++ changed_lines old.profile.known (calls old.driver.tally NextCycle).view.calls c old.profile.order old.profile.before.items)
       × (new.profile.before.items ≡ map (count_of (calls old.driver.tally NextCycle).view.calls) old.profile.order)
 
-bool-cases : (b : Bool) → (b ≡ true) × Unit {0} ⊎ (b ≡ false)
-bool-cases true = inl (refl, tt)
-bool-cases false = inr refl
-
 -- numbers below a bound, and 0 beyond
 numbers-below : (bound : ℕ) (xs : List ℕ) (i : ℕ) → 1 ≤ bound → AllByRecursion (λ (x : ℕ). x < bound) xs → get_or xs i 0 < bound
 numbers-below bound [] i some all = some
@@ -130,14 +126,15 @@ module _ (t : Trace) (c : ℕ) (old new : Run) (marks : MarkSet) (past : List Li
   pub profiled-marked : IsProfiled t (suc c) objects new
   pub profiled-marked = record {
     ring = ap (λ (s : Standing). s.ring) m.tally ∙ profiled.ring ∙ sym m.ring;
+    some = rw m.ring profiled.some;
     room = rw (m.ring, m.known) profiled.room;
     drives = ap (λ (s : Standing). s.view.drives) m.tally ∙ profiled.drives;
     alone = ap (λ (s : Standing). s.view.out) m.tally ∙ profiled.alone;
     different = rw m.known profiled.different;
     named = rw m.known profiled.named;
     order = rw (m.known, m.order) profiled.order;
-    before = elim (bool-cases old.profile.each) [
-      | inl on ↦ ap (λ (l : List Count). length l) (m.read on.0).1 ∙ length-map old.profile.order (count_of (calls old.driver.tally NextCycle).view.calls) ∙ ap (λ (l : List ℕ). length l) (sym m.order)
+    before = elim (cases_Bool old.profile.each) [
+      | inl on ↦ ap (λ (l : List Count). length l) (m.read on).1 ∙ length-map old.profile.order (count_of (calls old.driver.tally NextCycle).view.calls) ∙ ap (λ (l : List ℕ). length l) (sym m.order)
       | inr off ↦ ap (λ (l : List Count). length l) (m.unread off).1 ∙ profiled.before ∙ ap (λ (l : List ℕ). length l) (sym m.order)
     ];
     flags = rw (m.sampled, m.answers) profiled.flags;
@@ -154,10 +151,10 @@ module _ (t : Trace) (c : ℕ) (old new : Run) (marks : MarkSet) (past : List Li
     counting = λ which are. rw (m.known, m.tally) (next-counting which (old-flags which are)).0;
     may = λ page. (
         let room = profiled.room in
-        let some : 1 ≤ old.profile.ring.buckets = omega arith in
+        let some = profiled.some in
         let each : (i : ℕ) → get_or old.buckets i 0 < old.profile.ring.buckets = λ i. subst (λ (l : List ℕ). get_or l i 0 < old.profile.ring.buckets) (sym profiled.numbers)
         (numbers-below old.profile.ring.buckets (map (number_of old.profile.known) (events_before t (suc c))) i some
-        (map-below old.profile.ring.buckets (number_of old.profile.known) (events_before t (suc c)) (λ e. number-below old.profile.known e old.profile.ring.buckets some (omega arith)))) in
+        (map-below old.profile.ring.buckets (number_of old.profile.known) (events_before t (suc c)) (λ e. number-below old.profile.known e old.profile.ring.buckets some room))) in
         let list = m.found.dead page in
         let all : AllByRecursion (λ (x : ℕ). x < old.profile.ring.buckets) (dead_of marks page) = subst (λ (l : List ℕ). AllByRecursion (λ (x : ℕ). x < old.profile.ring.buckets) l) (sym list.is)
         (reverse-below old.profile.ring.buckets (map (λ i. slice_index old.buckets i) list.ids) (listed-below old.profile.ring.buckets old.buckets list.ids each)) in

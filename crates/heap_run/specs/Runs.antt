@@ -1,5 +1,5 @@
 -- How far a run of a trace has come.
-use Rattle.std.specs.Prelude.{◌≡◌, ℕ, suc, ◌+◌, ◌*◌, ◌<◌, ◌≤◌, Bool, true, false, ◌&&◌, ◌==◌, max, All, List, [], length, map, position, reverse, Some}
+use Rattle.std.specs.Prelude.{◌≡◌, ℕ, suc, ◌+◌, ◌*◌, ◌<◌, ◌≤◌, Bool, true, false, ◌&&◌, ◌==◌, All, List, [], length, map, position, reverse, Some}
 use Rattle.std.specs.List.{AllByRecursion}
 use Rattle.page_alloc.specs.Lists.{In, count}
 use Rattle.page_alloc.specs.Journal.{Life, open_lives}
@@ -51,7 +51,8 @@ pub record IsSet (t : Trace) (c : ℕ) (run : Run) : Type 0 where
 -- buckets they have, and the processors' countdowns stand where the objects left them.
 pub record IsProfiled (t : Trace) (n : ℕ) (objects : List Object) (run : Run) : Type 0 where
   pub ring : run.driver.tally.ring ≡ run.profile.ring
-  pub room : run.profile.ring.buckets ≡ max 1 (length run.profile.known)
+  pub some : 1 ≤ run.profile.ring.buckets
+  pub room : length run.profile.known ≤ run.profile.ring.buckets
   pub drives : run.driver.tally.view.drives ≡ true
   pub alone : run.driver.tally.view.out ≡ 0
   pub different : AreDifferent run.profile.known

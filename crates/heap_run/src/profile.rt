@@ -1,6 +1,6 @@
 //! The sampled profile of a run.
 
-ghost use Rattle.std.specs.Prelude.{◌≡◌, ◌≤◌, ◌++◌, [], length, map, max, true, false, IfOk, OnOk};
+ghost use Rattle.std.specs.Prelude.{◌≡◌, ◌≤◌, ◌++◌, [], length, map, true, false, IfOk, OnOk};
 ghost use Rattle.std.specs.List.{AllByRecursion};
 ghost use Rattle.trace_reader.specs.Limits.{EventFits, events_of};
 ghost use Rattle.profile_cycle.specs.declared.calls.What.TheVariants.{AfterSweep, NextCycle};
@@ -38,7 +38,8 @@ impl Profile {
         ensures each { IfOk result (λ p. p.0.each ≡ each) }
         ensures different { IfOk result (λ p. AreDifferent p.0.known) }
         ensures named { IfOk result (λ p. AllByRecursion (IsNamed p.0.known) (events_of trace.now)) }
-        ensures ring { IfOk result (λ p. p.0.ring.buckets ≡ max 1 (length p.0.known)) }
+        ensures some { IfOk result (λ p. 1 ≤ p.0.ring.buckets) }
+        ensures room { IfOk result (λ p. length p.0.known ≤ p.0.ring.buckets) }
         ensures tally { IfOk result (λ p. p.1 ≡ record { ring = p.0.ring; view = first_view }) }
         ensures order { IfOk result (λ p. IsOrder p.0.known p.0.order) }
         ensures before { IfOk result (λ p. p.0.before.items ≡ map (λ _. record { allocs = 0; frees = 0 }) p.0.order) }

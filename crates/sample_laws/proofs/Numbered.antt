@@ -16,7 +16,7 @@ same-is a b e =
     let slot = eqb-true a.slot b.slot both.1 in
     λ i. record { stack = stack i; slot = slot i }
 
-is-same : (a b : Bucket) → a ≡ b → is_same a b ≡ true
+pub is-same : (a b : Bucket) → a ≡ b → is_same a b ≡ true
 is-same a b e = rw (eq-eqb a.stack b.stack (ap (λ (x : Bucket). x.stack) e), eq-eqb a.slot b.slot (ap (λ (x : Bucket). x.slot) e)) refl
 
 -- ---- the first place at which a test passes

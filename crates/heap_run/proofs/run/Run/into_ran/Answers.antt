@@ -16,7 +16,7 @@ pub read_last-requires-clause-alone : goal.read_last-requires-clause-alone
 read_last-requires-clause-alone c = c.requires.ran.profiled.alone
 
 pub read_last-requires-clause-room : goal.read_last-requires-clause-room
-read_last-requires-clause-room c = (let r = c.requires.ran.profiled.room in omega arith)
+read_last-requires-clause-room c = c.requires.ran.profiled.room
 
 pub read_last-requires-clause-order : goal.read_last-requires-clause-order
 read_last-requires-clause-order c = c.requires.ran.profiled.order

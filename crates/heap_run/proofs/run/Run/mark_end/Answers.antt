@@ -67,7 +67,7 @@ pub next_cycle-requires-clause-alone : goal.next_cycle-requires-clause-alone
 next_cycle-requires-clause-alone c = c.requires.ran.profiled.alone
 
 pub next_cycle-requires-clause-room : goal.next_cycle-requires-clause-room
-next_cycle-requires-clause-room c = (let r = c.requires.ran.profiled.room in omega arith)
+next_cycle-requires-clause-room c = c.requires.ran.profiled.room
 
 pub next_cycle-requires-clause-order : goal.next_cycle-requires-clause-order
 next_cycle-requires-clause-order c = c.requires.ran.profiled.order

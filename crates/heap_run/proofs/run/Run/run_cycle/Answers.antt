@@ -75,10 +75,10 @@ run_workers-requires-clause-numbered g c κs low = record {
   below = λ w. (
       let room = c.requires.begun.profiled.room in
       let bound = c.args.self.now.profile.ring.buckets in
-      let some : 1 ≤ bound = omega arith in
+      let some = c.requires.begun.profiled.some in
       subst (λ (l : List ℕ). All (λ b. b < bound) l) (sym (c.in_ok-queues.ensures.buckets w))
       (All-from_recursion (λ (b : ℕ). b < bound) (map (number_of c.args.self.now.profile.known) (events_by w c.as_slice-events.result.now))
-      (map-below bound (number_of c.args.self.now.profile.known) (events_by w c.as_slice-events.result.now) (λ e. number-below c.args.self.now.profile.known e bound some (omega arith)))));
+      (map-below bound (number_of c.args.self.now.profile.known) (events_by w c.as_slice-events.result.now) (λ e. number-below c.args.self.now.profile.known e bound some room))));
 }
 
 pub run_workers-requires-clause-collecting : goal.run_workers-requires-clause-collecting
