@@ -40,3 +40,11 @@ module _ (m : MarkSet) where
   -- what may be counted before it may be counted after
   pub may-still : (r : RingId) (a b : Hand) → MayCount r m a.tally → Frees m a b → MayCount r m b.tally
   may-still r a b may x = record { ring = ap (λ (t : Standing). t.ring) x.tally ∙ freeing-ring m x.more a.tally ∙ may.ring; dead = may.dead }
+
+  -- only the notes and the tally of the hands matter
+  pub frees-as : (a b c d : Hand) → Frees m a b → c.notes.items ≡ a.notes.items → c.tally ≡ a.tally → d.notes.items ≡ b.notes.items → d.tally ≡ b.tally → Frees m c d
+  frees-as a b c d x n t n' t' = record {
+    more = x.more;
+    notes = n' ∙ x.notes ∙ ap (λ (l : List SweepNote). l ++ x.more) (sym n);
+    tally = t' ∙ x.tally ∙ ap (freeing m x.more) (sym t);
+  }
