@@ -1,12 +1,12 @@
 -- Buckets that were sorted by their stacks and slots stand in order.
-use Rattle.std.proofs.Common.{◌≡◌, ◌≢◌, ℕ, zero, suc, ◌+◌, ◌<◌, ◌≤◌, Bool, true, false, eqb, List, [], ◌∷◌, ◌++◌, map, length, get_or, take, Some, refl, sym, ◌∙◌, ap, arith, ◌⊎◌, inl, inr, subst}
+use Rattle.std.proofs.Common.{◌≡◌, ◌≢◌, ℕ, zero, suc, ◌+◌, ◌<◌, ◌≤◌, true, false, eqb, List, [], ◌∷◌, ◌++◌, map, length, get_or, take, refl, sym, ◌∙◌, ap, arith, ◌⊎◌, inl, inr, subst}
 use Rattle.std.specs.List.{AllByRecursion, sum_by}
 use Rattle.std.specs.List.Sorted.{IsPermutation, IsSortedByKey}
 use Rattle.std.specs.declared.cmp.Ordering.{Ordering}
 use Rattle.std.specs.Ordering.{nat_cmp, ordering_then, is_lt}
 use Rattle.std.proofs.lemmas.Bool.{cases_lt, cases_eq, lt-ltb, le-ltb, eq-eqb, ne_eqb}
 use Rattle.std.proofs.lemmas.Cmp.{nat_cmp_total, on_total, then_total}
-use Rattle.std.proofs.lemmas.List.{take_more, length-append, length-take-le}
+use Rattle.std.proofs.lemmas.List.{take_more, length-take-le}
 use Rattle.std.proofs.lemmas.List.Sums.{sum_by-cons}
 use Rattle.std.proofs.lemmas.List.Sorted.{All-permutation, IsPermutation-sym, sum_by-IsPermutation, sorted_far, ranks_by}
 use Rattle.std.proofs.lemmas.List.Elements.{All-from_recursion, recursion_from_All}
@@ -15,7 +15,7 @@ use Rattle.profile_cycle.specs.declared.buckets.Bucket.{Bucket}
 use Rattle.profile_cycle.specs.Naming.{is_same}
 use Rattle.profile_lines.specs.declared.order.Keyed.{Keyed}
 use Rattle.profile_lines.specs.Keyed.{keyed_from}
-use Rattle.profile_lines.specs.Read.{AreDifferent, no_bucket, bucket_at, IsBefore, IsOrder}
+use Rattle.profile_lines.specs.Read.{AreDifferent, bucket_at, IsBefore, IsOrder}
 use Rattle.profile_lines.proofs.Named.{differ-at, same-swap}
 
 -- ---- items of lists
