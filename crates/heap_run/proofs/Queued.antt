@@ -1,10 +1,8 @@
 -- The events and answers of each processor.
-use Rattle.std.proofs.Common.{◌≡◌, ◌≢◌, ℕ, zero, suc, ◌+◌, ◌<◌, ◌≤◌, eqb, ◌^◌, List, [], ◌∷◌, ◌++◌, map, reverse, set, take, drop, length, get_or, refl, sym, ◌∙◌, ap, arith, inl, inr}
+use Rattle.std.proofs.Common.{◌≡◌, ◌≢◌, ℕ, zero, suc, ◌+◌, ◌<◌, ◌≤◌, eqb, List, [], ◌∷◌, ◌++◌, map, reverse, set, take, drop, length, get_or, refl, sym, ◌∙◌, ap, arith, inl, inr}
 use Rattle.std.proofs.lemmas.Bool.{cases_Bool, cases_eq, eq-eqb, ne_eqb}
 use Rattle.std.proofs.lemmas.List.{append-nil, append_assoc, get_or-set_same, get_or-set_other, length-append, length-take-le, map-append, reverse-append, take_all, take_more, take-append-drop, length-reverse}
-use Rattle.std.specs.List.{AllByRecursion}
 use Rattle.trace_reader.specs.declared.trace.Event.{Event}
-use Rattle.profile_cycle.specs.Naming.{HasSize}
 use Rattle.cycle_history.specs.declared.Answer.{Answer}
 use Rattle.heap_run.specs.Served.{answers_by, events_by}
 
@@ -206,11 +204,6 @@ merged-push events given i at next first old now more d a s lt inside is_at size
     )
 
 -- ---- numbers, one more
-
-pub size-at : (events : List Event) (i : ℕ) (d : Event) → i < length events → AllByRecursion HasSize events → (get_or events i d).size ≤ 2 ^ 40
-size-at [] i d lt all = absurd (omega arith)
-size-at (e ∷ events) zero d lt all = all.0
-size-at (e ∷ events) (suc i) d lt all = size-at events i d (omega arith) all.1
 
 -- the numbers of a worker's events with one event more
 pub numbers-more : (f : Event → ℕ) (lists : List (List ℕ)) (list : List ℕ) (events : List Event) (i : ℕ) (e : Event) → i < length events → e ≡ get_or events i e → e.proc < length lists

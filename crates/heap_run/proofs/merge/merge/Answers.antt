@@ -59,7 +59,7 @@ loop-event-preserved g c =
     let i = c.loop-event.invariant in
     let s = c.as_slice.ensures ∙ c.index-given-proc.is ∙ get_or_default c.args.given.now e.proc _ [] below in
     let all = merged-push c.args.events.now c.args.given.now c.loop-event.event-index c.index-at.result.now c.loop-event.next.items c.args.merged.now c.loop-event.merged c.push.new.self i.more d _ c.as_slice.result.now
-    c.loop-event-test.true inside at c.requires.sizes s i.grown c.in_ok-push.ensures.ok (λ low. get_or_default c.as_slice.result.now c.index-at.result.now _ _ low) (record { counts = i.counts; size = i.size; each = i.each }) in
+    c.loop-event-test.true inside at c.requires.sizes s i.grown c.in_ok-push.ensures.ok (λ low. c.index-as_slice-at.is ∙ get_or_default c.as_slice.result.now c.index-at.result.now _ _ low) (record { counts = i.counts; size = i.size; each = i.each }) in
     record { long = i.long; counts = all.2.counts; more = all.0; grown = all.1; size = all.2.size; each = all.2.each }
 
 pub returns : goal.returns
