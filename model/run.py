@@ -1,5 +1,6 @@
 #!/usr/bin/env python3
-"""A plain model of `goheap run`, with its workers one after another and no background sweepers. Its one option is `--each`.
+"""A plain model of `goheap run`, with its workers one after another: the processors, the background sweepers, the scavenger, the driver.
+Its options are those of `goheap run` that are one word: `--each` and `--background=N` (1 if it is not said).
 
 It follows the rules that docs/addresses.md, docs/run.md, docs/central-lists.md, docs/sweeping.md, docs/pages.md and docs/profile.md
 state, and shares no code with the program. It reads a trace from standard input and writes its report. It checks nothing of the trace,
@@ -327,7 +328,10 @@ class Heap:
         self.cache[p][cls] = s
         return self.place(s, self.lowest(s))
 
-    def end_cycle(self):
+    def end_cycle(self, background):
+        # Each background sweeper sweeps until nothing is left, so that the first of them leaves nothing to the others.
+        if background and self.cycle > 0:
+            self.sweep_all()
         self.scavenge()
         if self.cycle > 0:
             self.sweep_all()
@@ -376,7 +380,8 @@ def profile_at(m, sampled, cycles, marked):
 
 
 def main():
-    each = sys.argv[1:] == ["--each"]
+    each = "--each" in sys.argv[1:]
+    background = next((int(word.split("=")[1]) for word in sys.argv[1:] if word.startswith("--background=")), 1)
     lines = sys.stdin.read().split("\n")
     head = lines[1].split()
     chunks, procs, rate, seed, goal = (int(head[i]) for i in (1, 3, 5, 7, 9))
@@ -397,7 +402,7 @@ def main():
                 if out[i][0] == "at" and heap.sample(p, stack, out[i]):
                     sampled[i] = (stack, out[i][1].slot)
             queues[p].clear()
-        heap.end_cycle()
+        heap.end_cycle(background)
 
     while True:
         f = lines[at].split()
