@@ -2,5 +2,5 @@ mod Moved
 mod Counted
 mod Publishing
 mod Keeping
-mod Named
-mod Numbered
+pub mod Named
+pub mod Numbered
