@@ -2,5 +2,5 @@ mod Moved
 mod Counted
 mod Publishing
 mod Keeping
-pub mod Named
-pub mod Numbered
+mod Named
+mod Numbered

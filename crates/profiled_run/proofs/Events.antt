@@ -13,7 +13,6 @@ use Rattle.trace_reader.specs.declared.trace.Event.{Event}
 use Rattle.trace_reader.specs.Limits.{events_of}
 use Rattle.profile_cycle.specs.declared.buckets.Bucket.{Bucket}
 use Rattle.profile_cycle.specs.Naming.{buckets_of, is_same, pairs_of, slot_for}
-use Rattle.profile_cycle.proofs.Numbered.{any-buckets}
 use Rattle.cycle_history.specs.declared.Answer.{Answer}
 use Rattle.cycle_history.specs.declared.Answer.TheVariants.{Zero}
 use Rattle.cycle_history.specs.Requests.{Request, requests_from}
@@ -74,9 +73,13 @@ any-pair (x ∷ events) e h some =
     or-true true = refl
     or-true false = refl
 
+-- a pair is a bucket where an event has it
+abbrev pub AreNames : Type 0
+AreNames = (events : List Event) (pair : Bucket) → list_any (is_same pair) (buckets_of (pairs_of events)) ≡ list_any (is_same pair) (pairs_of events)
+
 -- each event of a trace has a bucket
-pub event-named : (t : Trace) (e : Event) → In e (events_of t) → IsNamed (known_in t) e
-event-named t e h some = any-buckets (pairs_of (events_of t)) (pair_of e) ∙ any-pair (events_of t) e h some
+pub event-named : AreNames → (t : Trace) (e : Event) → In e (events_of t) → IsNamed (known_in t) e
+event-named names t e h some = names (events_of t) (pair_of e) ∙ any-pair (events_of t) e h some
 
 in-append-left : {X : Type 0} (xs ys : List X) (x : X) → In x xs → In x (xs ++ ys)
 in-append-left [] ys x h = absurd h
@@ -91,10 +94,10 @@ all-in P [] each = tt
 all-in P (x ∷ xs) each = (each x (inl refl), all-in P xs (λ y h. each y (inr h)))
 
 -- so has each of a cycle
-pub cycle-named : (t : Trace) (c : ℕ) (d : Cycle) → take (suc c) t.cycles ≡ take c t.cycles ++ d ∷ [] → AllByRecursion (IsNamed (known_in t)) d.events
-cycle-named t c d there =
+pub cycle-named : AreNames → (t : Trace) (c : ℕ) (d : Cycle) → take (suc c) t.cycles ≡ take c t.cycles ++ d ∷ [] → AllByRecursion (IsNamed (known_in t)) d.events
+cycle-named names t c d there =
     let split = events-split t (suc c) in
-    all-in (IsNamed (known_in t)) d.events (λ e h. event-named t e (rw split.1 (in-append-left (events_before t (suc c)) split.0 e (rw (events-next t c d there) (in-append-right (events_before t c) d.events e h)))))
+    all-in (IsNamed (known_in t)) d.events (λ e h. event-named names t e (rw split.1 (in-append-left (events_before t (suc c)) split.0 e (rw (events-next t c d there) (in-append-right (events_before t c) d.events e h)))))
 
 -- what holds of all events holds of those of a cycle
 pub cycle-all : (P : Event → Type 0) (t : Trace) (c : ℕ) (d : Cycle) → take (suc c) t.cycles ≡ take c t.cycles ++ d ∷ [] → AllByRecursion P (events_of t) → AllByRecursion P d.events
