@@ -16,3 +16,7 @@ pub mod Begins
 pub mod Answering
 pub mod Counting
 pub mod Sampling
+pub mod Profiling
+pub mod Telling
+pub mod Last
+pub mod Naming

@@ -1,14 +1,14 @@
 -- The processors' samples, one processor after another.
-use Rattle.std.proofs.Common.{◌≡◌, ◌≢◌, ℕ, zero, suc, ◌+◌, ◌<◌, ◌≤◌, Bool, List, [], ◌∷◌, ◌++◌, reverse, set, length, get_or, refl, sym, ◌∙◌, ap, subst, arith, inl, inr}
-use Rattle.std.proofs.lemmas.Bool.{cases_eq}
-use Rattle.std.proofs.lemmas.List.{get_or_push, get_or_append_left, get_or-set_same, get_or-set_other, length-append}
+use Rattle.std.proofs.Common.{◌≡◌, ◌≢◌, ℕ, zero, suc, ◌+◌, ◌<◌, ◌≤◌, Bool, List, [], ◌∷◌, ◌++◌, reverse, set, take, length, get_or, refl, sym, ◌∙◌, ap, subst, arith, inl, inr}
+use Rattle.std.proofs.lemmas.Bool.{cases_eq, cases_lt}
+use Rattle.std.proofs.lemmas.List.{get_or_past, get_or_push, get_or_append_left, get_or-set_same, get_or-set_other, length-append, length-reverse, length-take-le, take_more}
 use Rattle.trace_reader.specs.declared.trace.Event.{Event}
 use Rattle.cycle_history.specs.declared.Answer.{Answer}
 use Rattle.profile_cycle.specs.Sampling.{Countdown}
 use Rattle.run_laws.specs.Profile.{sum_below}
-use Rattle.sample_laws.specs.Counted.{all_counts, sampled_counts}
+use Rattle.sample_laws.specs.Counted.{all_counts, one_count, sampled_counts}
 use Rattle.sample_laws.specs.Countdowns.{flag, flags, spends, spent}
-use Rattle.sample_laws.proofs.Parted.{sum-same}
+use Rattle.sample_laws.proofs.Parted.{counts-append, sum-same}
 use Rattle.proc_cache.specs.Cache.{Cache}
 use Rattle.heap_run.specs.Counts.{HaveSampled, countdown_at}
 use Rattle.heap_run.specs.Turns.{no_cache}
@@ -93,3 +93,39 @@ counts-more k sampled given numbers b long =
 pub flags-more : (c : Countdown) (events : List Event) (answers : List Answer) (given : List Bool) (e : Event) (a : Answer) (f : Bool) → reverse given ≡ flags c (reverse events) (reverse answers) → f ≡ flag (spent c (reverse events) (reverse answers)) e a
     → f ∷ reverse given ≡ flags c (e ∷ reverse events) (a ∷ reverse answers)
 flags-more c events answers given e a f was is = rw (was, is) refl
+
+-- as many flags as events
+flags-length : (c : Countdown) (events : List Event) (answers : List Answer) → length answers ≡ length events → length (flags c events answers) ≡ length events
+flags-length c [] answers long = refl
+flags-length c (e ∷ events) [] long = absurd (omega arith)
+flags-length c (e ∷ events) (a ∷ answers) long = ap suc (flags-length c events answers (omega arith))
+
+pub sampled-sizes : (queues : List (List Event)) (answers : List (List Answer)) (sampled : List (List Bool)) (old new : List Cache) → HaveSampled queues answers sampled old new → length sampled ≡ length old → length queues ≡ length old
+    → ((w : ℕ) → length (get_or answers w []) ≡ length (get_or queues w [])) → (w : ℕ) → length (get_or sampled w []) ≡ length (get_or queues w [])
+sampled-sizes queues answers sampled old new h long longer sizes w =
+    elim (cases_lt w (length old)) [
+      | inl low ↦ (
+          let a = length-reverse (get_or sampled w []) in
+          let b = ap (λ (l : List Bool). length l) (h.flags_are w low) in
+          let e = length-reverse (get_or queues w []) in
+          let f = length-reverse (get_or answers w []) in
+          let s = sizes w in
+          let g = flags-length (countdown_at old w) (reverse (get_or queues w [])) (reverse (get_or answers w [])) (omega arith) in
+          omega arith)
+      | inr high ↦ (
+          let a = ap (λ (l : List Bool). length l) (get_or_past sampled w [] (omega arith)) in
+          let b = ap (λ (l : List Event). length l) (get_or_past queues w [] (omega arith)) in
+          let z : length {A = Bool} [] ≡ 0 = refl in
+          let y : length {A = Event} [] ≡ 0 = refl in
+          omega arith)
+    ]
+
+-- the counts of one object more
+pub counts-next : (given : List Bool) (numbers : List ℕ) (k : ℕ) (f : Bool) (b : ℕ) → k < length numbers → length given ≡ k
+    → sampled_counts (given ++ f ∷ []) (take (k + 1) numbers) b ≡ sampled_counts given (take k numbers) b + one_count f (get_or numbers k 0) b
+counts-next given numbers k f b lt long =
+    let more = take_more numbers k 0 lt in
+    let few = length-take-le k numbers (omega arith) in
+    let split = counts-append given (f ∷ []) (take k numbers) (get_or numbers k 0 ∷ []) b (omega arith) in
+    let there = ap (λ (l : List ℕ). sampled_counts (given ++ f ∷ []) l b) more in
+    omega arith

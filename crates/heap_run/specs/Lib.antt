@@ -4,4 +4,5 @@ pub mod Swept
 pub mod Turns
 pub mod Counts
 pub mod Settled
+pub mod Last
 pub mod Runs

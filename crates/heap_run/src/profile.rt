@@ -1,6 +1,6 @@
 //! The sampled profile of a run.
 
-ghost use Rattle.std.specs.Prelude.{◌≡◌, ◌≤◌, ◌++◌, [], length, map, max, true, false, IfOk, OnOk};
+ghost use Rattle.std.specs.Prelude.{◌≡◌, ◌≤◌, ◌++◌, [], length, map, true, false, IfOk, OnOk};
 ghost use Rattle.std.specs.List.{AllByRecursion};
 ghost use Rattle.trace_reader.specs.Limits.{EventFits, events_of};
 ghost use Rattle.profile_cycle.specs.declared.calls.What.TheVariants.{AfterSweep, NextCycle};
@@ -18,6 +18,8 @@ use trace_reader::Trace;
 /// What is counted, and the lines that were read of it so far.
 #[derive(Drop)]
 pub(crate) struct Profile {
+    /// Whether each mark end is told, and not the last one alone.
+    pub each: bool,
     pub ring: Ring,
     /// The buckets of the trace.
     pub known: Buckets,
@@ -30,12 +32,14 @@ pub(crate) struct Profile {
 
 impl Profile {
     /// Nothing is counted yet. The second of the pair is the driver's tally. The ring has a bucket also where the trace has none.
-    pub fn new(alloc: Global, trace: &Trace) -> Result<(Profile, Tally), NoMemory>
+    pub fn new(alloc: Global, trace: &Trace, each: bool) -> Result<(Profile, Tally), NoMemory>
         requires events { AllByRecursion (EventFits trace.now.header.procs) (events_of trace.now) }
         requires objects { length (events_of trace.now) ≤ 1000000 }
+        ensures each { IfOk result (λ p. p.0.each ≡ each) }
         ensures different { IfOk result (λ p. AreDifferent p.0.known) }
         ensures named { IfOk result (λ p. AllByRecursion (IsNamed p.0.known) (events_of trace.now)) }
-        ensures ring { IfOk result (λ p. p.0.ring.buckets ≡ max 1 (length p.0.known)) }
+        ensures some { IfOk result (λ p. 1 ≤ p.0.ring.buckets) }
+        ensures room { IfOk result (λ p. length p.0.known ≤ p.0.ring.buckets) }
         ensures tally { IfOk result (λ p. p.1 ≡ record { ring = p.0.ring; view = first_view }) }
         ensures order { IfOk result (λ p. IsOrder p.0.known p.0.order) }
         ensures before { IfOk result (λ p. p.0.before.items ≡ map (λ _. record { allocs = 0; frees = 0 }) p.0.order) }
@@ -52,6 +56,7 @@ impl Profile {
         };
         let before = order.as_slice().iter().map(|_| none).collect(alloc)?;
         let profile = Profile {
+            each,
             ring,
             known,
             order,
@@ -75,9 +80,9 @@ impl Profile {
         }
     }
 
-    /// Begins the next cycle, behind a mark end. Where the lines of each mark end are told, those of the mark end before are read,
-    /// which has this number: of the buckets whose numbers changed.
-    pub fn next_cycle(&mut self, tally: &mut Tally, mark: u32, each: bool) -> Result<(), NoMemory>
+    /// Begins the next cycle, behind a mark end. Where each mark end is told, the lines of the mark end before are read, which has
+    /// this number: of the buckets whose numbers changed.
+    pub fn next_cycle(&mut self, tally: &mut Tally, mark: u32) -> Result<(), NoMemory>
         requires ring { tally.old.ring ≡ self.old.ring }
         requires drives { tally.old.view.drives ≡ true }
         requires alone { tally.old.view.out ≡ 0 }
@@ -87,14 +92,15 @@ impl Profile {
         requires few { AreFew (length self.old.known) (calls tally.old NextCycle).view.calls }
         ensures tally { OnOk result (tally.new ≡ calls tally.old NextCycle) }
         ensures ring { OnOk result (self.new.ring ≡ self.old.ring) }
+        ensures each { OnOk result (self.new.each ≡ self.old.each) }
         ensures known { OnOk result (self.new.known ≡ self.old.known) }
         ensures order { OnOk result (self.new.order ≡ self.old.order) }
-        ensures unread { OnOk result (each ≡ false → (self.new.lines ≡ self.old.lines) × (self.new.before.items ≡ self.old.before.items)) }
-        ensures read { OnOk result (each ≡ true → (self.new.lines ≡ self.old.lines ++ changed_lines self.old.known (calls tally.old NextCycle).view.calls mark self.old.order self.old.before.items)
+        ensures unread { OnOk result (self.old.each ≡ false → (self.new.lines ≡ self.old.lines) × (self.new.before.items ≡ self.old.before.items)) }
+        ensures read { OnOk result (self.old.each ≡ true → (self.new.lines ≡ self.old.lines ++ changed_lines self.old.known (calls tally.old NextCycle).view.calls mark self.old.order self.old.before.items)
             × (self.new.before.items ≡ map (count_of (calls tally.old NextCycle).view.calls) self.old.order)) }
     {
         self.ring.next_cycle(tally);
-        if !each {
+        if !self.each {
             return Ok(());
         }
         add_changed(

@@ -1,12 +1,14 @@
 //! The run of a whole trace.
 
-ghost use Rattle.std.specs.Prelude.{◌≡◌, ℕ, suc, ◌+◌, ◌<◌, ◌≤◌, [], length, slice_index_or, vec_len, IfOk, OnOk};
+ghost use Rattle.std.specs.Prelude.{◌≡◌, ℕ, suc, ◌+◌, ◌^◌, ◌<◌, ◌≤◌, [], length, slice_index_or, vec_len, IfOk, OnOk};
 ghost use Rattle.trace_reader.specs.Limits.{WithinLimits};
 ghost use Rattle.cycle_history.specs.Requests.{last_cycle};
-ghost use Rattle.cycle_history.specs.Sound.{IsSoundAndUsed};
+ghost use Rattle.cycle_history.specs.Sound.{HasForm, IsSoundAndUsed};
+ghost use Rattle.heap_run.specs.Last.{IsLeft};
 ghost use Rattle.heap_run.specs.Turns.{no_cache};
 ghost use Rattle.sweep_laws.specs.Start.{copies};
 ghost use Rattle.std.specs.Prelude.{None};
+ghost use Rattle.profile_cycle.specs.Sampling.{countdown};
 
 use crate::cycle::run_workers;
 use crate::merge::merge;
@@ -61,13 +63,14 @@ pub fn run_trace<G: Gate>(
     requires limits { WithinLimits trace.now }
     requires background { options.background ≤ 4 }
     ensures sound { IfOk result (λ ran. IsSoundAndUsed trace.now ran.report) }
-    ensures no_profile { IfOk result (λ ran. ran.report.profile ≡ []) }
+    ensures form { IfOk result (λ ran. HasForm trace.now ran.report options.each) }
+    ensures left { IfOk result (λ ran. IsLeft trace.now ran) }
 {
-    let mut run = Run::new(alloc, trace)?;
+    let mut run = Run::new(alloc, trace, options.each)?;
     let last = trace.cycles.len() as u32 - 1;
     for cycle in 0..last {
         run.run_cycle(alloc, trace, cycle, options.background, gate)?;
-        run.mark_end(alloc, trace, cycle, options.each)?;
+        run.mark_end(alloc, trace, cycle)?;
     }
     run.run_cycle(alloc, trace, last, options.background, gate)?;
     run.into_ran(alloc, trace)
@@ -96,13 +99,14 @@ impl Run {
     ghost use Rattle.heap_run.specs.Runs.{HasBegun, HasRun};
 
     // Nothing is asked yet.
-    fn new(alloc: Global, trace: &Trace) -> Result<Run, NoMemory>
+    fn new(alloc: Global, trace: &Trace, each: bool) -> Result<Run, NoMemory>
         requires limits { WithinLimits trace.now }
-        ensures { IfOk result (λ run. HasBegun trace.now 0 run) }
+        ensures begun { IfOk result (λ run. HasBegun trace.now 0 run) }
+        ensures each { IfOk result (λ run. run.profile.each ≡ each) }
     {
         let (shared, driver) = Shared::new(alloc, trace.header.chunks, trace.header.goal)?;
         let procs = processors(alloc, &trace.header)?;
-        let (profile, tally) = Profile::new(alloc, trace)?;
+        let (profile, tally) = Profile::new(alloc, trace, each)?;
         Ok(Run {
             shared,
             driver: Hand::new(alloc, driver, tally),
@@ -130,7 +134,8 @@ impl Run {
         requires background { background ≤ 4 }
         requires inside { cycle ≤ last_cycle trace.now }
         requires begun { HasBegun trace.now cycle self.old }
-        ensures { OnOk result (HasRun trace.now cycle self.new) }
+        ensures ran { OnOk result (HasRun trace.now cycle self.new) }
+        ensures each { OnOk result (self.new.profile.each ≡ self.old.profile.each) }
     {
         let events = trace.cycles.as_slice()[cycle as usize].events.as_slice();
         let queues = queues_of(
@@ -160,21 +165,17 @@ impl Run {
         self.profile.end_sweep(&mut self.driver.tally, cycle);
         merge(alloc, events, given.answers.as_slice(), &mut self.answers)?;
         merge(alloc, events, given.sampled.as_slice(), &mut self.sampled)?;
-        file_notes(alloc, &mut self.driver.notes, &mut self.sweeps)
+        file_notes(alloc, &mut self.driver.notes, &mut self.sweeps)?;
+        Ok(())
     }
 
     // The mark end behind a cycle comes, and the next cycle begins. Where each mark end is told, the profile of the one before is read.
-    fn mark_end(
-        &mut self,
-        alloc: Global,
-        trace: &Trace,
-        cycle: u32,
-        each: bool,
-    ) -> Result<(), NoMemory>
+    fn mark_end(&mut self, alloc: Global, trace: &Trace, cycle: u32) -> Result<(), NoMemory>
         requires limits { WithinLimits trace.now }
         requires before { cycle < last_cycle trace.now }
         requires ran { HasRun trace.now cycle self.old }
-        ensures { OnOk result (HasBegun trace.now (cycle + 1) self.new) }
+        ensures begun { OnOk result (HasBegun trace.now (cycle + 1) self.new) }
+        ensures each { OnOk result (self.new.profile.each ≡ self.old.profile.each) }
     {
         let marks = marks_of(
             alloc,
@@ -189,8 +190,8 @@ impl Run {
         reset(&self.shared, &mut self.driver.worker);
         self.shared.next_generation(&mut self.driver.worker, pairs);
         self.marks = marks;
-        self.profile
-            .next_cycle(&mut self.driver.tally, cycle, each)
+        self.profile.next_cycle(&mut self.driver.tally, cycle)?;
+        Ok(())
     }
 
     // The report, where all is answered.
@@ -198,7 +199,8 @@ impl Run {
         requires limits { WithinLimits trace.now }
         requires ran { HasRun trace.now (last_cycle trace.now) self }
         ensures sound { IfOk result (λ ran. IsSoundAndUsed trace.now ran.report) }
-        ensures no_profile { IfOk result (λ ran. ran.report.profile ≡ []) }
+        ensures form { IfOk result (λ ran. HasForm trace.now ran.report self.profile.each) }
+        ensures left { IfOk result (λ ran. IsLeft trace.now ran) }
     {
         let Run {
             shared,
@@ -230,8 +232,9 @@ impl Run {
 
 // The processors, with empty caches.
 fn processors(alloc: Global, header: &Header) -> Result<Vec<Proc>, NoMemory>
-    ensures length { IfOk result (λ procs. vec_len procs ≡ count) }
-    ensures empty { IfOk result (λ procs. (i : ℕ) → i < count → slice_index_or procs.items i no_cache ≡ record { number = i; flushed = 0; slots = copies 136 None }) }
+    requires rate { header.now.rate ≤ 2 ^ 30 }
+    ensures length { IfOk result (λ procs. vec_len procs ≡ header.now.procs) }
+    ensures empty { IfOk result (λ procs. (i : ℕ) → i < header.now.procs → slice_index_or procs.items i no_cache ≡ record { number = i; flushed = 0; slots = copies 136 None; countdown = countdown header.now.rate header.now.seed i [] }) }
 {
     let mut procs = Vec::new(alloc);
     for number in 0..header.procs {

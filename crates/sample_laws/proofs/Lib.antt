@@ -3,3 +3,4 @@ pub mod Sampled
 pub mod Numbered
 pub mod Counting
 pub mod Parted
+pub mod Known

@@ -16,7 +16,7 @@ same-is a b e =
     let slot = eqb-true a.slot b.slot both.1 in
     λ i. record { stack = stack i; slot = slot i }
 
-is-same : (a b : Bucket) → a ≡ b → is_same a b ≡ true
+pub is-same : (a b : Bucket) → a ≡ b → is_same a b ≡ true
 is-same a b e = rw (eq-eqb a.stack b.stack (ap (λ (x : Bucket). x.stack) e), eq-eqb a.slot b.slot (ap (λ (x : Bucket). x.slot) e)) refl
 
 -- ---- the first place at which a test passes
@@ -81,3 +81,25 @@ number-none known b e none named some = elim (cases_Bool (is_same (pair_of e) b)
       absurd (cc))
   | inr not ↦ sym not
 ]
+
+-- the numbers of two pairs that are the same
+pub at-number : (a b : Bucket) → is_same a b ≡ true → (a.stack ≡ b.stack) × (a.slot ≡ b.slot)
+at-number a b e = let both = and_parts (eqb a.stack b.stack) (eqb a.slot b.slot) e in (eqb-true a.stack b.stack both.0, eqb-true a.slot b.slot both.1)
+
+-- the bucket of an event
+pub named-place : (known : List Bucket) (e : Event) → 1 ≤ e.size → IsNamed known e
+    → (position_or_len (is_same (pair_of e)) known < length known) × ((d : Bucket) → get_or known (position_or_len (is_same (pair_of e)) known) d ≡ pair_of e)
+named-place known e some named =
+    let lt = some-place (is_same (pair_of e)) known (named some) in
+    (lt, λ d. sym (same-is (pair_of e) (get_or known (position_or_len (is_same (pair_of e)) known) d) (passes-there (is_same (pair_of e)) known d lt)))
+
+-- an event's number is below any bound that is above 0 and no less than how many buckets there are
+pub number-below : (known : List Bucket) (e : Event) (bound : ℕ) → 1 ≤ bound → length known ≤ bound → number_of known e < bound
+number-below known e bound some room = elim (cases_Bool (eqb e.size 0)) [
+  | inl on ↦ rw on some
+  | inr off ↦ rw off (found (position (is_same (pair_of e)) known) refl)
+]
+  where
+    found : (o : Option ℕ) → position (is_same (pair_of e)) known ≡ o → unwrap_or o 0 < bound
+    found None is = some
+    found (Some n) is = (let at = place-found (is_same (pair_of e)) known n is in omega arith)

@@ -1,6 +1,9 @@
 -- How many objects of a cycle count as samples of a bucket.
-use Rattle.std.specs.Prelude.{◌≡◌, ℕ, ◌+◌, Bool, ◌&&◌, ◌==◌, List, [], ◌∷◌, slice_index_or, Option, None, Some}
+use Rattle.std.specs.Prelude.{◌≡◌, ℕ, ◌+◌, ◌<◌, Bool, false, ◌&&◌, ◌==◌, List, [], ◌∷◌, length, take, slice_index_or, Option, None, Some}
+use Rattle.std.specs.List.{flat_map}
 use Rattle.page_alloc.specs.Lists.{one_if}
+use Rattle.trace_reader.specs.declared.trace.Trace.{Trace}
+use Rattle.trace_reader.specs.declared.trace.Cycle.{Cycle}
 use Rattle.trace_reader.specs.declared.trace.Event.{Event}
 use Rattle.cycle_history.specs.Objects.{Object}
 use Rattle.run_laws.specs.Profile.{Samples, sum_below}
@@ -30,3 +33,11 @@ Knows s (e ∷ events) (f ∷ flags) (o ∷ objects) = (s.sampled o.id ≡ f) ×
 abbrev pub of_number : (ℕ → ℕ) → Option ℕ → ℕ
 of_number f None = 0
 of_number f (Some n) = f n
+
+-- These objects are sampled, by their numbers, of which the first have flags.
+abbrev pub Flags : List Bool → (ℕ → Bool) → Type 0
+Flags sampled which = (i : ℕ) → i < length sampled → which i ≡ slice_index_or sampled i false
+
+-- The events of the first m cycles.
+abbrev pub events_before : Trace → ℕ → List Event
+events_before t m = flat_map (λ (c : Cycle). c.events) (take m t.cycles)
