@@ -20,3 +20,4 @@ pub mod Tallying
 pub mod Ledgers
 pub mod Keyed
 pub mod Righting
+pub mod Counting

@@ -11,3 +11,5 @@ pub mod Known
 pub mod Filling
 pub mod Sweeping
 pub mod Keys
+pub mod Order
+pub mod Sampling

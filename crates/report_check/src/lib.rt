@@ -25,6 +25,8 @@ mod lives;
 mod misses;
 mod objects;
 mod places;
+mod sampled;
+mod sorted;
 mod sweeps;
 mod tops;
 mod totals;
