@@ -1,6 +1,6 @@
 //! The samples among the objects of a report, and how many of each bucket there are as of a mark end.
 
-ghost use Rattle.std.specs.Prelude.{◌≡◌, ◌≢◌, ◌+◌, ◌^◌, ◌<◌, ◌≤◌, false, length, map, IfOk, OnOk, List as Items, Some as Just};
+ghost use Rattle.std.specs.Prelude.{◌≡◌, ◌≢◌, ℕ, ◌^◌, ◌<◌, ◌≤◌, true, false, [], ◌++◌, length, map, IfOk, OnOk, Some as Just};
 ghost use Rattle.std.specs.List.{slice_get};
 ghost use Rattle.page_alloc.specs.Lists.{count};
 ghost use Rattle.profile_cycle.specs.Sampling.{Countdown, is_sample, behind};
