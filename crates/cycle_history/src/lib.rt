@@ -15,7 +15,9 @@ mod places;
 mod totals;
 
 use edge_io::List;
-pub use laws::{an_address_has_one_place, an_object_sits_at_its_place};
+pub use laws::{
+    an_address_has_one_place, an_object_sits_at_its_place, rate_0_has_an_empty_profile,
+};
 pub use marks::marks_of;
 use page_bitmap::Line;
 pub use places::Place;
