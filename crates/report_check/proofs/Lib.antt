@@ -21,3 +21,5 @@ pub mod Ledgers
 pub mod Keyed
 pub mod Righting
 pub mod Counting
+pub mod Flagging
+pub mod Bucketing

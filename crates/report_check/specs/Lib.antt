@@ -13,3 +13,4 @@ pub mod Sweeping
 pub mod Keys
 pub mod Order
 pub mod Sampling
+pub mod Printed

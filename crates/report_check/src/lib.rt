@@ -25,6 +25,7 @@ mod lives;
 mod misses;
 mod objects;
 mod places;
+mod profile;
 mod sampled;
 mod sorted;
 mod sweeps;

@@ -10,7 +10,7 @@ ghost use Rattle.cycle_history.specs.Objects.{is_placed};
 ghost use Rattle.report_check.specs.Items.{objects_of};
 ghost use Rattle.report_check.specs.Known.{AreKnown};
 ghost use Rattle.report_check.specs.Order as order;
-ghost use Rattle.report_check.specs.Sampling.{AreCountdowns, AreFlags, ArePlacesBy, AreSamples, is_before};
+ghost use Rattle.report_check.specs.Sampling.{AreCountdowns, AreFlags, AreFew, ArePlacesBy, AreSamples, is_before};
 
 use crate::items::Item;
 use crate::lasts::own_cycles;
@@ -68,6 +68,7 @@ pub(crate) fn place_of(stack: u32, slot: u64, mark: u32) -> u128
 
 // How far the places of two stacks are apart, and those of two slots.
 const STACKS: u128 = 79_228_162_514_264_337_593_543_950_336;
+
 const SLOTS: u128 = 4_294_967_296;
 
 /// How many of the places are of the bucket and before the mark end.
@@ -151,13 +152,14 @@ fn places_by(
     requires flags { length flags.now ≡ length items.now }
     requires stacks { length stacks.now ≡ length items.now }
     requires cycles { length cycles.now ≡ length items.now }
-    ensures { IfOk result (λ places. ArePlacesBy flags.now stacks.now cycles.now (objects_of items.now) places.items) }
+    ensures places { IfOk result (λ places. ArePlacesBy flags.now stacks.now cycles.now (objects_of items.now) places.items) }
+    ensures few { OnOk result (AreFew items.now stacks.now cycles.now (length items.now)) }
 {
     let mut places = Vec::new(alloc);
     for number in 0..items.len() {
+        let place = place_of(stacks[number], items[number].slot, cycles[number]);
         if flags[number] {
-            let slot = items[number].slot;
-            places.push(place_of(stacks[number], slot, cycles[number]))?;
+            places.push(place)?;
         }
     }
     Ok(places)
