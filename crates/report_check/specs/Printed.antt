@@ -1,7 +1,8 @@
 -- The lines of a profile beside those that should be there.
-use Rattle.std.specs.Prelude.{◌≡◌, ℕ, ◌+◌, ◌^◌, ◌<◌, Bool, true, List, length, slice_index, Some, ◌⊎◌, ◌↔◌}
+use Rattle.std.specs.Prelude.{◌≡◌, ℕ, ◌+◌, ◌^◌, ◌<◌, ◌≤◌, Bool, true, List, length, slice_index, Some, ◌⊎◌, ◌↔◌}
 use Rattle.std.specs.List.{slice_get}
 use Rattle.page_alloc.specs.Lists.{In}
+use Rattle.profile_cycle.specs.declared.counts.Count.{Count}
 use Rattle.cycle_history.specs.declared.Prof.{Prof}
 use Rattle.cycle_history.specs.Requests.{Marking}
 use Rattle.cycle_history.specs.Objects.{Object}
@@ -12,6 +13,13 @@ use Rattle.report_rules.specs.Published.{IsDue}
 use Rattle.report_check.specs.declared.items.Item.{Item}
 use Rattle.report_check.specs.Lasts.{last_at}
 use Rattle.report_check.specs.Order.{place_of}
+
+-- A line of some samples has these numbers, and names a mark end.
+pub record HasNumbers (line : Prof) (now : Count) : Type 0 where
+  pub mark : 1 ≤ line.mark
+  pub some : 1 ≤ line.allocs
+  pub allocs : line.allocs ≡ now.allocs
+  pub frees : line.frees ≡ now.frees
 
 -- The first n lines are right, and stand in order.
 pub record AreRightProfs (IsRight : Prof → Type 0) (lines : List Prof) (n : ℕ) : Type 0 where

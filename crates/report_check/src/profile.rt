@@ -1,14 +1,13 @@
 //! Rule 9: the sampled profile.
 
-ghost use Rattle.std.specs.Prelude.{◌≡◌, ℕ, ◌<◌, ◌^◌, Bool, true, length, IfErr, IfOk, MatchBool, MatchOption, OnOk, List as Lines};
-ghost use Rattle.page_alloc.specs.Lists.{In};
+ghost use Rattle.std.specs.Prelude.{◌≡◌, ◌≢◌, ◌<◌, ◌^◌, ◌⊎◌, true, length, IfErr, IfOk, MatchBool, MatchOption, OnOk, List as Lines};
 ghost use Rattle.cycle_history.specs.declared.Prof.{Prof as ALine};
 ghost use Rattle.cycle_history.specs.Orders.{IsProfBefore};
-ghost use Rattle.cycle_history.specs.Profile.{IsChanged, allocs_at, bucket_of, frees_at};
+ghost use Rattle.cycle_history.specs.Profile.{allocs_at, frees_at};
 ghost use Rattle.cycle_history.specs.Requests.{last_cycle, marked_by};
 ghost use Rattle.report_rules.specs.Lines as lines;
 ghost use Rattle.report_rules.specs.Published.{IsRightProf, is_of_each};
-ghost use Rattle.report_check.specs.Printed.{ArePrinted, HasLine, IsFirstWrongProf, IsItemPrinted, LacksOne, AreRightProfs};
+ghost use Rattle.report_check.specs.Printed.{ArePrinted, HasLine, HasNumbers, IsFirstWrongProf, IsItemPrinted, LacksOne, AreRightProfs};
 
 use crate::CheckFault;
 use crate::lines::end_of;
@@ -110,18 +109,17 @@ impl Objects<'_> {
     {
         let last = self.last_mark();
         let now = self.numbers(sampled, line.stack, line.size, line.mark);
-        if line.mark == 0
-            || line.allocs == 0
-            || line.allocs != now.allocs
-            || line.frees != now.frees
-        {
+        if !tells(line, now) {
             return false;
         }
-        if !each || line.mark >= last {
+        if !each {
+            return line.mark == last;
+        }
+        if line.mark >= last {
             return line.mark == last;
         }
         let before = self.numbers(sampled, line.stack, line.size, line.mark - 1);
-        now.allocs != before.allocs || now.frees != before.frees
+        differ(now, before)
     }
 
     // The allocs and frees of a bucket as of a mark end.
@@ -167,13 +165,36 @@ impl Objects<'_> {
         let item = self.items[number];
         let stack = sampled.stacks[number];
         let last = self.last_mark();
+        if !is_shown(printed, stack, item.slot, last, item.cycle < last) {
+            return false;
+        }
+        if !each {
+            return true;
+        }
+        let next = item.cycle + 1;
+        if !is_shown(printed, stack, item.slot, next, next < last) {
+            return false;
+        }
         let end = self.lasts[number] + 1;
-        (item.cycle >= last || has_line(printed, stack, item.slot, last))
-            && (!each
-                || item.cycle + 1 >= last
-                || has_line(printed, stack, item.slot, item.cycle + 1))
-            && (!each || end >= last || has_line(printed, stack, item.slot, end))
+        is_shown(printed, stack, item.slot, end, end < last)
     }
+}
+
+// Whether a line has the numbers of its bucket, of which there are some samples, as of a mark end.
+fn tells(line: Prof, now: Count) -> bool
+    ensures { MatchBool result (HasNumbers line now) (¬ HasNumbers line now) }
+{
+    line.mark != 0
+        && line.allocs != 0
+        && line.allocs == now.allocs
+        && line.frees == now.frees
+}
+
+// Whether a bucket's numbers changed.
+fn differ(a: Count, b: Count) -> bool
+    ensures { MatchBool result ((a.allocs ≢ b.allocs) ⊎ (a.frees ≢ b.frees)) (¬ ((a.allocs ≢ b.allocs) ⊎ (a.frees ≢ b.frees))) }
+{
+    a.allocs != b.allocs || a.frees != b.frees
 }
 
 // Whether a line of the profile comes before another.
@@ -201,4 +222,12 @@ fn has_line(printed: &Sorted, stack: u32, slot: u64, mark: u32) -> bool
         → MatchBool result (HasLine lines mark (record { stack = stack; slot = slot })) (¬ HasLine lines mark (record { stack = stack; slot = slot })) }
 {
     printed.has(place_of(stack, slot, mark))
+}
+
+// Whether the profile has a line of the bucket and the mark end, where that is due.
+fn is_shown(printed: &Sorted, stack: u32, slot: u64, mark: u32, due: bool) -> bool
+    ensures { (lines : Lines ALine) → ArePrinted lines printed.now
+        → MatchBool result (due ≡ true → HasLine lines mark (record { stack = stack; slot = slot })) (¬ (due ≡ true → HasLine lines mark (record { stack = stack; slot = slot }))) }
+{
+    !due || has_line(printed, stack, slot, mark)
 }
