@@ -14,3 +14,5 @@ pub mod Running
 pub mod MarkEnds
 pub mod Begins
 pub mod Answering
+pub mod Counting
+pub mod Sampling

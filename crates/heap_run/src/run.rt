@@ -13,13 +13,14 @@ use crate::merge::merge;
 use crate::queues::queues_of;
 use crate::sorting::file_notes;
 use cycle_history::{Answer, Place, Report, marks_of, totals_of};
+use crate::profile::Profile;
 use edge_io::{Gate, List, NoMemory};
 use proc_cache::Proc;
 use span_set::{Hand, Shop, reset};
 use span_state::{Marks, SweepNote};
 use span_table::{Shared, Worker};
 use std::alloc::Global;
-use trace_reader::Trace;
+use trace_reader::{Header, Trace};
 
 // The bytes of a mark end's distance that are left for the marking itself (`mgcpacer.go`, the heap's least trigger distance); what
 // is left paces the sweeping.
@@ -33,7 +34,7 @@ const LEAST: u64 = 8192;
 pub struct Options {
     /// How many background sweepers there are, from 0 to 4.
     pub background: u32,
-    /// Whether the profile of each mark end is told, and not that of the last one alone. It is not read until there is a profile.
+    /// Whether the profile of each mark end is told, and not that of the last one alone.
     pub each: bool,
 }
 
@@ -48,7 +49,7 @@ pub struct Ran {
     pub driver: Worker,
 }
 
-/// Runs a trace within its limits, without samples: each processor's events by its own worker, in the order of the trace. Before
+/// Runs a trace within its limits: each processor's events by its own worker, in the order of the trace. Before
 /// each event a processor passes the gate with its number and the event's place among its own of the cycle, and before their
 /// first steps in a cycle the background sweepers (64 to 67) and the scavenger (68) pass it with turn 0.
 pub fn run_trace<G: Gate>(
@@ -66,7 +67,7 @@ pub fn run_trace<G: Gate>(
     let last = trace.cycles.len() as u32 - 1;
     for cycle in 0..last {
         run.run_cycle(alloc, trace, cycle, options.background, gate)?;
-        run.mark_end(alloc, trace, cycle)?;
+        run.mark_end(alloc, trace, cycle, options.each)?;
     }
     run.run_cycle(alloc, trace, last, options.background, gate)?;
     run.into_ran(alloc, trace)
@@ -83,9 +84,10 @@ pub(crate) struct Run {
     pub(crate) marks: Marks,
     pub(crate) answers: List<Answer>,
     pub(crate) sweeps: List<SweepNote>,
-    // Whether each object is sampled, and its bucket if it is, as far as a mark end has asked. None is sampled yet.
+    // Whether each object is sampled, and the number of its bucket.
     pub(crate) sampled: List<bool>,
     pub(crate) buckets: List<u32>,
+    pub(crate) profile: Profile,
     // Where each object before the last mark end lies.
     pub(crate) places: List<Option<Place>>,
 }
@@ -99,16 +101,18 @@ impl Run {
         ensures { IfOk result (λ run. HasBegun trace.now 0 run) }
     {
         let (shared, driver) = Shared::new(alloc, trace.header.chunks, trace.header.goal)?;
-        let procs = processors(alloc, trace.header.procs)?;
+        let procs = processors(alloc, &trace.header)?;
+        let (profile, tally) = Profile::new(alloc, trace)?;
         Ok(Run {
             shared,
-            driver: Hand::new(alloc, driver),
+            driver: Hand::new(alloc, driver, tally),
             procs,
             marks: Marks::empty(alloc),
             answers: List::new(alloc),
             sweeps: List::new(alloc),
             sampled: List::new(alloc),
             buckets: List::new(alloc),
+            profile,
             places: List::new(alloc),
         })
     }
@@ -129,11 +133,18 @@ impl Run {
         ensures { OnOk result (HasRun trace.now cycle self.new) }
     {
         let events = trace.cycles.as_slice()[cycle as usize].events.as_slice();
-        let queues = queues_of(alloc, trace.header.procs, events)?;
+        let queues = queues_of(
+            alloc,
+            trace.header.procs,
+            events,
+            &self.profile.known,
+            &mut self.buckets,
+        )?;
         let pages = self.shared.pages_taken(&mut self.driver.worker);
         let shop = Shop {
             shared: &self.shared,
             marks: &self.marks,
+            ring: &self.profile.ring,
             distance: distance_before(trace, cycle),
             pages,
         };
@@ -142,23 +153,31 @@ impl Run {
             &shop,
             &mut self.driver,
             &mut self.procs,
-            queues.as_slice(),
+            &queues,
             background,
             gate,
         )?;
-        merge(alloc, events, given.as_slice(), &mut self.answers)?;
+        if 0 < cycle {
+            self.profile.ring.after_sweep(&mut self.driver.tally);
+        }
+        merge(alloc, events, given.answers.as_slice(), &mut self.answers)?;
+        merge(alloc, events, given.sampled.as_slice(), &mut self.sampled)?;
         file_notes(alloc, &mut self.driver.notes, &mut self.sweeps)
     }
 
-    // The mark end behind a cycle comes, and the next cycle begins.
-    fn mark_end(&mut self, alloc: Global, trace: &Trace, cycle: u32) -> Result<(), NoMemory>
+    // The mark end behind a cycle comes, and the next cycle begins. Where each mark end is told, the profile of the one before is read.
+    fn mark_end(
+        &mut self,
+        alloc: Global,
+        trace: &Trace,
+        cycle: u32,
+        each: bool,
+    ) -> Result<(), NoMemory>
         requires limits { WithinLimits trace.now }
         requires before { cycle < last_cycle trace.now }
         requires ran { HasRun trace.now cycle self.old }
         ensures { OnOk result (HasBegun trace.now (cycle + 1) self.new) }
     {
-        let fresh = self.answers.len() - self.sampled.len();
-        sample_none(fresh, &mut self.sampled, &mut self.buckets)?;
         let marks = marks_of(
             alloc,
             trace,
@@ -172,6 +191,10 @@ impl Run {
         reset(&self.shared, &mut self.driver.worker);
         self.shared.next_generation(&mut self.driver.worker, pairs);
         self.marks = marks;
+        self.profile.ring.next_cycle(&mut self.driver.tally);
+        if each {
+            self.profile.read_changed(&mut self.driver.tally, cycle)?;
+        }
         Ok(())
     }
 
@@ -187,16 +210,20 @@ impl Run {
             driver,
             answers,
             sweeps,
+            mut profile,
             ..
         } = self;
-        let Hand { worker, .. } = driver;
+        let Hand {
+            worker, mut tally, ..
+        } = driver;
         let mut driver = worker;
+        profile.read_all(&mut tally, trace.cycles.len() as u32 - 1)?;
         let report = Report {
             journal: shared.journal_copy(alloc, &mut driver)?,
             totals: totals_of(alloc, trace, &answers)?,
             sweeps,
             answers,
-            profile: List::new(alloc),
+            profile: profile.lines,
         };
         Ok(Ran {
             report,
@@ -207,13 +234,13 @@ impl Run {
 }
 
 // The processors, with empty caches.
-fn processors(alloc: Global, count: u32) -> Result<Vec<Proc>, NoMemory>
+fn processors(alloc: Global, header: &Header) -> Result<Vec<Proc>, NoMemory>
     ensures length { IfOk result (λ procs. vec_len procs ≡ count) }
     ensures empty { IfOk result (λ procs. (i : ℕ) → i < count → slice_index_or procs.items i no_cache ≡ record { number = i; flushed = 0; slots = copies 136 None }) }
 {
     let mut procs = Vec::new(alloc);
-    for number in 0..count {
-        procs.push(Proc::new(alloc, number)?)?;
+    for number in 0..header.procs {
+        procs.push(Proc::new(alloc, number, header)?)?;
     }
     Ok(procs)
 }
@@ -230,20 +257,4 @@ fn distance_before(trace: &Trace, cycle: u32) -> u64
         Some(end) => end.distance.saturating_sub(MARKING).max(LEAST),
         None => LEAST,
     }
-}
-
-// Of so many more objects none is sampled.
-fn sample_none(
-    count: usize,
-    sampled: &mut List<bool>,
-    buckets: &mut List<u32>,
-) -> Result<(), NoMemory>
-    ensures sampled { OnOk result (length sampled.new ≡ length sampled.old + count) }
-    ensures buckets { OnOk result (length buckets.new ≡ length buckets.old + count) }
-{
-    for _object in 0..count {
-        sampled.push(false)?;
-        buckets.push(0)?;
-    }
-    Ok(())
 }

@@ -1,0 +1,2 @@
+pub mod Profiled
+pub mod Sampled
