@@ -23,3 +23,4 @@ pub mod Righting
 pub mod Counting
 pub mod Flagging
 pub mod Bucketing
+pub mod Printing
