@@ -149,7 +149,7 @@ between low high (x ∷ xs) le =
 
 -- ---- what the places count
 
-stack-at : (events : List Event) (i : ℕ) → get_or (map (λ (e : Event). e.stack) events) i 0 ≡ stack_of (slice_get events i)
+pub stack-at : (events : List Event) (i : ℕ) → get_or (map (λ (e : Event). e.stack) events) i 0 ≡ stack_of (slice_get events i)
 stack-at [] zero = refl
 stack-at [] (suc i) = refl
 stack-at (e ∷ events) zero = refl

@@ -24,3 +24,4 @@ pub mod Counting
 pub mod Flagging
 pub mod Bucketing
 pub mod Printing
+pub mod Showing

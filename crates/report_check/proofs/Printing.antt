@@ -2,7 +2,7 @@
 use Rattle.std.proofs.Common.{◌≡◌, ◌≢◌, ℕ, zero, suc, ◌+◌, ◌-◌, ◌^◌, ◌<◌, ◌≤◌, Bool, true, false, ◌&&◌, not, eqb, ltb, List, [], ◌∷◌, ◌++◌, map, take, length, get_or, Some, None, MatchBool, IsPermutation, refl, sym, ◌∙◌, ap, subst, arith, ◌⊎◌, inl, inr, ◌↔◌}
 use Rattle.std.specs.List.{slice_get}
 use Rattle.std.proofs.lemmas.Bool.{cases_Bool, cases_eq, cases_lt, cases_order, eqb-true, eq-eqb, ne_eqb, le-ltb, lt-ltb, ltb-true, and_parts, and_from}
-use Rattle.std.proofs.lemmas.Option.{slice_get_within}
+use Rattle.std.proofs.lemmas.Option.{slice_get_within, slice_get-get_or}
 use Rattle.page_alloc.specs.Lists.{In, AllApart, count, one_if}
 use Rattle.profile_cycle.specs.declared.counts.Count.{Count}
 use Rattle.cycle_history.specs.declared.Prof.{Prof}
@@ -57,11 +57,24 @@ module _ (IsRight : Prof → Type 0) (lines : List Prof) where
             | inr early ↦ (
                 let m = get_or lines (n - 1) b in
                 let within = slice_get_within lines n b at in
-                let here : slice_get lines (n - 1) ≡ Some m = Rattle.std.proofs.lemmas.Option.slice_get-get_or lines (n - 1) b (omega arith) in
+                let here : slice_get lines (n - 1) ≡ Some m = slice_get-get_or lines (n - 1) b (omega arith) in
                 prof-trans x m b (are.order j (n - 1) x m (omega arith) (omega arith) jx here) (after m (omega arith) here))
           ]))
     ];
   }
+
+  pub profs-next : (slice : List Prof) (n : ℕ) (d : Prof) → slice ≡ lines → n < length slice → IsRight (get_or slice n d) → (n ≡ 0) ⊎ IsProfBefore (get_or slice (n - 1) d) (get_or slice n d) → AreRightProfs IsRight lines n
+      → AreRightProfs IsRight lines (n + 1)
+  profs-next slice n d same lt is order are =
+      let at : slice_get lines n ≡ Some (get_or slice n d) = sym (ap (λ (xs : List Prof). slice_get xs n) same) ∙ slice_get-get_or slice n d lt in
+      profs-more n (get_or slice n d) at is
+      (λ a some there. elim order [
+        | inl none ↦ absurd (omega arith)
+        | inr before ↦ (
+            let here : slice_get lines (n - 1) ≡ Some (get_or slice (n - 1) d) = sym (ap (λ (xs : List Prof). slice_get xs (n - 1)) same) ∙ slice_get-get_or slice (n - 1) d (omega arith) in
+            subst (λ (x : Prof). IsProfBefore x (get_or slice n d)) (some-same (sym here ∙ there)) before)
+      ])
+      are
 
   pub profs-wrong : (n : ℕ) (line : Prof) → n < 2 ^ 62 → slice_get lines n ≡ Some line → ¬ IsRight line → AreRightProfs IsRight lines n → IsFirstWrongProf IsRight lines n
   profs-wrong n line few at off are = record { few = few; line = line; here = at; wrong = inl off; before = are }
