@@ -1,7 +1,7 @@
 -- The forms of the options of `run`, by the number of their words.
-use Rattle.std.proofs.Common.{◌≡◌, ◌⊎◌, ◌≤◌, ◌↔◌, ℕ, Bool, true, false, IsTrue, List, [], ◌∷◌, ◌++◌, length, get_or, map, zero, suc, inl, inr, refl, ap, sym, true≢false, ◌∙◌, rules, arith, codes, String, string_bytes}
+use Rattle.std.proofs.Common.{◌≡◌, ◌⊎◌, ◌≤◌, ◌↔◌, ℕ, Bool, true, false, IsTrue, List, [], ◌∷◌, ◌++◌, length, get_or, map, zero, suc, inl, inr, refl, ap, sym, true≢false, ◌∙◌, arith, codes, String, string_bytes}
 use Rattle.std.specs.declared.alloc.Global.{Global}
-use Rattle.run_words.specs.Options.{AreKnown, AreOfRun, AreOptions, HasEach, IsNumber, digit, each_word}
+use Rattle.run_words.specs.Options.{AreKnown, AreOfRun, HasEach, IsNumber, digit, each_word}
 use Rattle.run_words.specs.Words.{IsDigit, IsJoined, IsSplit}
 
 -- a number from 0 to 4

@@ -1,5 +1,5 @@
 -- What the parse of the words of `run` finds.
-use Rattle.std.proofs.Common.{◌≡◌, ◌⊎◌, ◌≤◌, ℕ, Bool, true, false, List, [], ◌∷◌, ◌++◌, Option, Some, None, Result, Ok, Err, inl, inr, refl, ap, ap₂, ◌∙◌, arith, codes}
+use Rattle.std.proofs.Common.{◌≡◌, ◌≤◌, ℕ, Bool, true, false, List, [], ◌∷◌, ◌++◌, Option, Some, None, Result, Ok, Err, inl, inr, refl, ap, ap₂, ◌∙◌, arith, codes}
 use Rattle.std.specs.Str.Parse.{ParsesUnsigned}
 use Rattle.clap.specs.declared.parser.matches.Found.{Found}
 use Rattle.clap.specs.Words.{App, HasMatchesOf, one_text, ReadsOne, Rule, Text, found_of, is_simple, matches_of, new_app, new_rule, one_of, takes, with_rule}

@@ -1,4 +1,4 @@
-use Rattle.std.proofs.Common.{◌≡◌, ◌∙◌, ap, ap₂, rules, refl, true, map, string_bytes, codes}
+use Rattle.std.proofs.Common.{◌≡◌, ◌∙◌, ap₂, rules, refl, map, string_bytes}
 use Rattle.std.proofs.lemmas.Result.{IfErr-weaker, IfOk-weaker}
 use Rattle.clap.specs.Words.{app_of, rule_of, takes, with_rule}
 use Rattle.run_words.proofs.Parsed.{background_rule, each_rule, found_read, run_app, run_reads}
