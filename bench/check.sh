@@ -3,9 +3,7 @@
 # on one of 10000 mark ends over a small heap. Each time is the median of five. It prints the ratio of both.
 set -eu
 
-cd "$(dirname "$(readlink -f "$0")")/.."
-folder=$(mktemp -d)
-trap 'rm -rf "$folder"' EXIT
+. "$(dirname "$(readlink -f "$0")")/timing.sh"
 rounds=5
 
 # make_trace CHUNKS OBJECTS MARK_ENDS: so many objects of 8 to 512 bytes in cycles of one length. A mark end marks every other
@@ -33,15 +31,6 @@ make_trace 1 100000 10000 >"$folder/cycles"
 
 run_run() { ./goheap run <"$folder/$1" >/dev/null; }
 run_check() { ./goheap check <"$folder/$1.pair" >/dev/null; }
-
-# The microseconds that a command takes on a trace.
-time_of() {
-  local start=${EPOCHREALTIME/./}
-  "run_$1" "$2"
-  local end=${EPOCHREALTIME/./}
-  echo $((end - start)) >>"$folder/$1.$2.times"
-}
-median() { sort -n "$folder/$1.$2.times" | sed -n "$(((rounds + 1) / 2))p"; }
 
 for kind in large cycles; do
   ./goheap run <"$folder/$kind" >"$folder/$kind.report"

@@ -3,9 +3,7 @@
 # of five for a trace without objects.
 set -eu
 
-cd "$(dirname "$(readlink -f "$0")")/.."
-folder=$(mktemp -d)
-trap 'rm -rf "$folder"' EXIT
+. "$(dirname "$(readlink -f "$0")")/timing.sh"
 rounds=5
 
 # trace OBJECTS EVERY OLD NEW: objects of 1 to 512 bytes on 128 chunks, with a mark end after each EVERY of them (none for
@@ -31,21 +29,13 @@ trace 1000000 0 0 0 >"$folder/without"
 trace 1000000 10000 1000 4000 >"$folder/hundred"
 trace 1000000 100 10 40 >"$folder/many"
 
-# The microseconds of a run.
-time_of() {
-  local start=${EPOCHREALTIME/./}
-  ./goheap run <"$folder/$1" >/dev/null
-  local end=${EPOCHREALTIME/./}
-  echo $((end - start)) >>"$folder/$1.times"
-}
+run_goheap() { ./goheap run <"$folder/$1" >/dev/null; }
+net() { echo $(($(median goheap "$1") - $(median goheap empty))); }
 
-median() { sort -n "$folder/$1.times" | sed -n "$(((rounds + 1) / 2))p"; }
-net() { echo $(($(median "$1") - $(median empty))); }
-
-./goheap run <"$folder/empty" >/dev/null # built, if need be, before anything is timed
+run_goheap empty # built, if need be, before anything is timed
 for ((round = 0; round < rounds; round++)); do
   for name in empty without hundred many; do
-    time_of $name
+    time_of goheap $name
   done
 done
 

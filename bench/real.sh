@@ -7,9 +7,7 @@ set -eu
 
 [ $# = 1 ] || { echo "usage: bench/real.sh TRACE" >&2; exit 2; }
 trace=$(readlink -f "$1")
-cd "$(dirname "$(readlink -f "$0")")/.."
-folder=$(mktemp -d)
-trap 'rm -rf "$folder"' EXIT
+. "$(dirname "$(readlink -f "$0")")/timing.sh"
 rounds=9
 program=crates/alloc_tool/out/alloc_tool
 
@@ -40,15 +38,6 @@ run_goheap() { ./goheap run <"$folder/$1" >/dev/null; }
 run_wc() { wc -l <"$folder/$1" >/dev/null; }
 run_awk() { awk '{ s += $3 } END { print s }' <"$folder/$1" >/dev/null; }
 
-# The microseconds that a command takes on a trace.
-time_of() {
-  local start=${EPOCHREALTIME/./}
-  "run_$1" "$2"
-  local end=${EPOCHREALTIME/./}
-  echo $((end - start)) >>"$folder/$1.$2.times"
-}
-
-median() { sort -n "$folder/$1.$2.times" | sed -n "$(((rounds + 1) / 2))p"; }
 net() { echo $(($(median "$1" real) - $(median "$1" empty))); }
 
 # The instructions of a run.

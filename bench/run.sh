@@ -3,9 +3,7 @@
 # Each time is the median of nine, less the median of nine for a trace without objects.
 set -eu
 
-cd "$(dirname "$(readlink -f "$0")")/.."
-folder=$(mktemp -d)
-trap 'rm -rf "$folder"' EXIT
+. "$(dirname "$(readlink -f "$0")")/timing.sh"
 rounds=9
 counts='10000 100000 1000000'
 
@@ -39,22 +37,13 @@ for kind in $kinds; do
   done
 done
 
-run_goheap() { ./goheap run <"$1" >/dev/null; }
-run_wc() { wc -l <"$1" >/dev/null; }
-run_awk() { awk '{ s += $3 } END { print s }' <"$1" >/dev/null; }
+run_goheap() { ./goheap run <"$folder/$1" >/dev/null; }
+run_wc() { wc -l <"$folder/$1" >/dev/null; }
+run_awk() { awk '{ s += $3 } END { print s }' <"$folder/$1" >/dev/null; }
 
-# The microseconds that a command takes on a trace.
-time_of() {
-  local start=${EPOCHREALTIME/./}
-  "run_$1" "$folder/$2"
-  local end=${EPOCHREALTIME/./}
-  echo $((end - start)) >>"$folder/$1.$2.times"
-}
-
-median() { sort -n "$folder/$1.$2.times" | sed -n "$(((rounds + 1) / 2))p"; }
 net() { echo $(($(median "$1" "$2.$3") - $(median "$1" "$2.0"))); }
 
-run_goheap "$folder/small_sizes.0" # built, if need be, before anything is timed
+run_goheap small_sizes.0 # built, if need be, before anything is timed
 for ((round = 0; round < rounds; round++)); do
   for tool in wc awk; do
     time_of $tool small_sizes.0

@@ -2,6 +2,7 @@ ghost use Rattle.std.specs.Prelude.{◌≡◌, ◌<◌, ◌≤◌, length, true,
 ghost use Rattle.page_bitmap.specs.Counts.{one_if};
 ghost use Rattle.worker_log.specs.Logs.{is_pop_of, many, swept_set};
 ghost use Rattle.span_set.specs.Sweeps.{MaySweep};
+ghost use Rattle.span_set.specs.Tallies.{Frees, MayCount};
 ghost use Rattle.central_lists.specs.Lists.{Caches, LooksFirst};
 ghost use Rattle.central_lists.specs.Tries.{Searches, SearchesFull, SweepsOne, TriesAll, TriesOne};
 
@@ -26,10 +27,12 @@ pub fn cache_span(shop: &Shop, hand: &mut Hand, class: u8) -> Result<FromSets, N
     requires here { hand.old.worker.here ≡ true }
     requires table { hand.old.worker.table ≡ shop.now.shared.now }
     requires distance { 8192 ≤ shop.now.distance }
+    requires counts { MayCount shop.now.ring.now shop.now.marks.now hand.old.tally }
     requires marks { shop.now.marks.now.pairs ≡ hand.old.worker.view.marks }
     requires class { class < 136 }
     requires unclaimed { hand.old.worker.view.own.claimed ≡ None }
-    ensures { Caches hand.old.worker.view.generation class hand.old hand.new result }
+    ensures caches { Caches hand.old.worker.view.generation class hand.old hand.new result }
+    ensures tally { Frees shop.now.marks.now hand.old hand.new }
 {
     match look_first(shop, hand, class) {
         Ok(body) => Ok(FromSets::SweptPartial(body)),
@@ -45,7 +48,8 @@ fn look_first(shop: &Shop, hand: &mut Hand, class: u8) -> Result<Body, Look>
     requires here { hand.old.worker.here ≡ true }
     requires table { hand.old.worker.table ≡ shop.now.shared.now }
     requires class { class < 136 }
-    ensures { LooksFirst hand.old.worker.view.generation class hand.old hand.new result }
+    ensures looks { LooksFirst hand.old.worker.view.generation class hand.old hand.new result }
+    ensures tally { Frees shop.now.marks.now hand.old hand.new }
 {
     match pop_swept(shop.shared, &mut hand.worker, SetId { class, full: false }) {
         Pop::Taken(body) => Ok(body),
@@ -59,10 +63,12 @@ fn search_unswept(shop: &Shop, hand: &mut Hand, class: u8) -> Result<Search, NoM
     requires here { hand.old.worker.here ≡ true }
     requires table { hand.old.worker.table ≡ shop.now.shared.now }
     requires distance { 8192 ≤ shop.now.distance }
+    requires counts { MayCount shop.now.ring.now shop.now.marks.now hand.old.tally }
     requires marks { shop.now.marks.now.pairs ≡ hand.old.worker.view.marks }
     requires class { class < 136 }
     requires unclaimed { hand.old.worker.view.own.claimed ≡ None }
-    ensures { Searches hand.old.worker.view.generation class hand.old hand.new result }
+    ensures searches { Searches hand.old.worker.view.generation class hand.old hand.new result }
+    ensures tally { Frees shop.now.marks.now hand.old hand.new }
 {
     match look_through(shop, hand, class, false, 0)? {
         Through::AllTried(tried) => search_full(shop, hand, class, tried),
@@ -76,11 +82,13 @@ fn search_full(shop: &Shop, hand: &mut Hand, class: u8, before: u32) -> Result<S
     requires here { hand.old.worker.here ≡ true }
     requires table { hand.old.worker.table ≡ shop.now.shared.now }
     requires distance { 8192 ≤ shop.now.distance }
+    requires counts { MayCount shop.now.ring.now shop.now.marks.now hand.old.tally }
     requires marks { shop.now.marks.now.pairs ≡ hand.old.worker.view.marks }
     requires class { class < 136 }
     requires unclaimed { hand.old.worker.view.own.claimed ≡ None }
     requires before { before ≤ 100 }
-    ensures { SearchesFull hand.old.worker.view.generation class before hand.old hand.new result }
+    ensures searches { SearchesFull hand.old.worker.view.generation class before hand.old hand.new result }
+    ensures tally { Frees shop.now.marks.now hand.old hand.new }
 {
     match look_through(shop, hand, class, true, before)? {
         Through::AllTried(tried) => Ok(Search::Tried(tried)),
@@ -100,11 +108,13 @@ fn look_through(
     requires here { hand.old.worker.here ≡ true }
     requires table { hand.old.worker.table ≡ shop.now.shared.now }
     requires distance { 8192 ≤ shop.now.distance }
+    requires counts { MayCount shop.now.ring.now shop.now.marks.now hand.old.tally }
     requires marks { shop.now.marks.now.pairs ≡ hand.old.worker.view.marks }
     requires class { class < 136 }
     requires unclaimed { hand.old.worker.view.own.claimed ≡ None }
     requires before { before ≤ 100 }
-    ensures { TriesAll hand.old.worker.view.generation class (one_if full) before hand.old hand.new result }
+    ensures tries { TriesAll hand.old.worker.view.generation class (one_if full) before hand.old hand.new result }
+    ensures tally { Frees shop.now.marks.now hand.old hand.new }
 {
     let mut tried = before;
     while tried < TRIES {
@@ -122,10 +132,12 @@ fn try_one(shop: &Shop, hand: &mut Hand, class: u8, full: bool) -> Result<One, N
     requires here { hand.old.worker.here ≡ true }
     requires table { hand.old.worker.table ≡ shop.now.shared.now }
     requires distance { 8192 ≤ shop.now.distance }
+    requires counts { MayCount shop.now.ring.now shop.now.marks.now hand.old.tally }
     requires marks { shop.now.marks.now.pairs ≡ hand.old.worker.view.marks }
     requires class { class < 136 }
     requires unclaimed { hand.old.worker.view.own.claimed ≡ None }
-    ensures { TriesOne hand.old.worker.view.generation class (one_if full) hand.old hand.new result }
+    ensures tries { TriesOne hand.old.worker.view.generation class (one_if full) hand.old hand.new result }
+    ensures tally { Frees shop.now.marks.now hand.old hand.new }
 {
     hand.reserve_note()?;
     match pop_unswept(shop.shared, &mut hand.worker, SetId { class, full }) {
@@ -145,13 +157,15 @@ fn sweep_one(shop: &Shop, hand: &mut Hand, class: u8, body: Body) -> Option<Body
     requires here { hand.old.worker.here ≡ true }
     requires table { hand.old.worker.table ≡ shop.now.shared.now }
     requires distance { 8192 ≤ shop.now.distance }
+    requires counts { MayCount shop.now.ring.now shop.now.marks.now hand.old.tally }
     requires room { length hand.old.notes.items < hand.old.notes.space }
     requires may { MaySweep shop.now.marks.now body hand.old.worker }
     requires class { class < 136 }
     requires of_class { body.class ≡ class }
     requires unclaimed { hand.old.worker.view.own.claimed ≡ None }
     requires unpopped { many (is_pop_of (swept_set hand.old.worker.view.generation class 1) body.page) hand.old.worker.view.own.log ≡ 0 }
-    ensures { SweepsOne shop.now.marks.now class body hand.old hand.new result }
+    ensures sweeps { SweepsOne shop.now.marks.now class body hand.old hand.new result }
+    ensures tally { Frees shop.now.marks.now hand.old hand.new }
 {
     let mut body = body;
     sweep_in_hand(shop, hand, &mut body);

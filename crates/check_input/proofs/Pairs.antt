@@ -35,7 +35,6 @@ reads_pair left a b c d trace report read limit same dry wet room reads =
         rest = rest;
         split = refl;
         spelled = rw limit at read.2;
-        plain = read.3;
         text = reads.text;
         room = rw room at reads.room;
       },

@@ -5,8 +5,8 @@ use Rattle.edge_io.specs.Causes.{Rose}
 use Rattle.trace_reader.specs.declared.trace.Trace.{Trace}
 use Rattle.trace_reader.specs.declared.fault.TraceFault.{TraceFault}
 use Rattle.trace_reader.specs.declared.fault.TraceFault.TheVariants.{ReadFault as TraceReadFault}
-use Rattle.trace_reader.specs.Limits.{IsPlain, Spells}
-use Rattle.trace_reader.specs.Refusal.{fault_in, needs_later}
+use Rattle.trace_reader.specs.Limits.{Spells}
+use Rattle.trace_reader.specs.Refusal.{fault_in}
 use Rattle.trace_reader.specs.Told.{IsOfTrace}
 use Rattle.cycle_history.specs.declared.Report.{Report}
 use Rattle.report_text.specs.declared.fault.ReportFault.{ReportFault}
@@ -16,13 +16,12 @@ use Rattle.report_text.specs.Refusal.{IsRefusal}
 use Rattle.check_input.specs.declared.stop.Stop.{Stop}
 use Rattle.check_input.specs.declared.stop.Stop.TheVariants.{Trace as OfTrace, Report as OfReport, Verdict as OfVerdict}
 
--- The bytes spell a trace that needs nothing later, and behind it stands the text of a report of at most 4294967296 bytes.
+-- The bytes spell a trace, and behind it stands the text of a report of at most 4294967296 bytes.
 pub record ArePair (bytes : List ℕ) (trace : Trace) (report : Report) : Type 0 where
   pub front : List ℕ
   pub rest : List ℕ
   pub split : bytes ≡ front ++ rest
   pub spelled : Spells front trace
-  pub plain : IsPlain trace
   pub text : IsText rest report
   pub room : length rest ≤ 4294967296
 
@@ -32,16 +31,15 @@ ReadsPair left left' trace report = (bytes : List ℕ) × Consumes left left' by
 
 -- The fault of a trace at the front of the bytes, whatever is thought of what stands behind its last line.
 abbrev pub IsTraceFault : List ℕ → TraceFault → Type 0
-IsTraceFault bytes fault = (behind : ℕ → List (List ℕ) → Option TraceFault) → fault_in needs_later behind 0 67108864 bytes ≡ Some fault
+IsTraceFault bytes fault = (behind : ℕ → List (List ℕ) → Option TraceFault) → fault_in behind 0 67108864 bytes ≡ Some fault
 
--- A whole trace that needs nothing later stands at the front of the bytes, and this is the refusal of what stands behind it.
+-- A whole trace stands at the front of the bytes, and this is the refusal of what stands behind it.
 pub record IsReportFault (bytes : List ℕ) (fault : ReportFault) : Type 0 where
   pub front : List ℕ
   pub rest : List ℕ
   pub split : bytes ≡ front ++ rest
   pub trace : Trace
   pub spelled : Spells front trace
-  pub plain : IsPlain trace
   pub refusal : IsRefusal 0 4294967296 rest fault
 
 -- Where the source told its bytes, a fault that is not the source's or memory's is theirs. Nothing was judged yet.

@@ -10,3 +10,4 @@ pub mod Settled
 pub mod Walked
 pub mod OfObjects
 pub mod Counted
+pub mod Sampling

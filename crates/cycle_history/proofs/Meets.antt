@@ -8,8 +8,8 @@ use Rattle.cycle_history.specs.Broken.{MeetsUpTo}
 
 -- ---- the end
 
--- a report that meets the rules up to 8 is sound
-pub meets-sound : (t : Trace) (report : Report) (objects : List Object) → MeetsUpTo 8 t report objects → IsSound t report objects
+-- a report that meets all nine rules is sound
+pub meets-sound : (t : Trace) (report : Report) (objects : List Object) → MeetsUpTo 9 t report objects → IsSound t report objects
 meets-sound t report objects rules = record {
   answers = rules.answers (omega arith);
   journal = rules.journal (omega arith);
@@ -19,4 +19,5 @@ meets-sound t report objects rules = record {
   filling = rules.filling (omega arith);
   sweeps = rules.sweeps (omega arith);
   totals = rules.totals (omega arith);
+  profile = rules.profile (omega arith);
 }

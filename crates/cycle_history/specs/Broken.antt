@@ -6,7 +6,7 @@ use Rattle.cycle_history.specs.Requests.{marked_by, last_cycle}
 use Rattle.cycle_history.specs.Objects.{Object}
 use Rattle.cycle_history.specs.Rules.{AreMissed, AreSeated, AreApart, AreFilled}
 use Rattle.cycle_history.specs.Sweeps.{AreSwept, AreTotals}
-use Rattle.cycle_history.specs.Sound.{past_in, HasAnswers, HasJournal}
+use Rattle.cycle_history.specs.Sound.{past_in, HasAnswers, HasJournal, HasProfile}
 
 -- A report meets the rules up to number n, by these objects with their seats.
 pub record MeetsUpTo (n : ℕ) (t : Trace) (report : Report) (objects : List Object) : Type 0 where
@@ -18,6 +18,7 @@ pub record MeetsUpTo (n : ℕ) (t : Trace) (report : Report) (objects : List Obj
   pub filling : 6 ≤ n → AreFilled (marked_by t) objects
   pub sweeps : 7 ≤ n → AreSwept (marked_by t) (last_cycle t) (past_in report) objects report.sweeps
   pub totals : 8 ≤ n → AreTotals (marked_by t) (last_cycle t) objects report.totals
+  pub profile : 9 ≤ n → HasProfile t report objects
 
 -- Some objects show that a report meets the rules up to number n.
 abbrev pub MeetsRules : ℕ → Trace → Report → Type 0

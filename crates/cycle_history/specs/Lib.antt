@@ -4,6 +4,8 @@ pub mod Objects
 pub mod Orders
 pub mod Rules
 pub mod Sweeps
+pub mod Sampled
+pub mod Profile
 pub mod Sound
 pub mod Broken
 pub mod Text

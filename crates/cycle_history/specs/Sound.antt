@@ -1,5 +1,5 @@
 -- Sound reports, and reports that use what they take.
-use Rattle.std.specs.Prelude.{◌≡◌, ℕ, ◌<◌, ◌≤◌, true, List, map, reverse, ◌⊎◌}
+use Rattle.std.specs.Prelude.{◌≡◌, ℕ, ◌<◌, ◌≤◌, Bool, true, List, map, reverse, ◌⊎◌}
 use Rattle.page_bitmap.specs.declared.line.Line.{Line}
 use Rattle.page_alloc.specs.Lists.{In}
 use Rattle.page_alloc.specs.Journal.{past_of, Life, all_lives, at_end, IsBy, Legal, backed, IsLoose}
@@ -9,6 +9,7 @@ use Rattle.cycle_history.specs.Requests.{requests_of, marked_by, last_cycle, reg
 use Rattle.cycle_history.specs.Objects.{Object, is_placed}
 use Rattle.cycle_history.specs.Rules.{AreAnswered, AreMissed, AreSeated, AreApart, AreFilled}
 use Rattle.cycle_history.specs.Sweeps.{AreSwept, AreTotals}
+use Rattle.cycle_history.specs.Profile.{SamplesBy, samples_in, IsProfileIn}
 
 -- The past that a report's journal tells, with the newest line first.
 abbrev pub past_in : Report → List Line
@@ -24,8 +25,22 @@ pub record HasJournal (t : Trace) (report : Report) : Type 0 where
   pub legal : Legal (region_of t) t.header.goal (past_in report)
   pub cycles : IsBy (last_cycle t) (past_in report)
 
--- A report is sound, by these objects with their seats, where it meets each rule. Rule 9, on the profile, is still to
--- come.
+-- The profile is one of a form: `true` for the profile of each mark end, and `false` for that of the last one. It tells of
+-- the objects that the processors' countdowns sample, at the trace's rate and seed.
+pub record HasProfileIn (each : Bool) (t : Trace) (report : Report) (objects : List Object) : Type 0 where
+  pub which : ℕ → Bool
+  pub sampled : SamplesBy t.header.rate t.header.seed which objects
+  pub lines : IsProfileIn each (marked_by t) (samples_in t which) (last_cycle t) objects report.profile
+
+-- Rule 9. The profile is one of the two forms.
+abbrev pub HasProfile : Trace → Report → List Object → Type 0
+HasProfile t report objects = (each : Bool) × HasProfileIn each t report objects
+
+-- The objects of the trace and the report's answers have a profile of this form.
+abbrev pub HasForm : Trace → Report → Bool → Type 0
+HasForm t report each = (objects : List Object) × HasAnswers t report objects × HasProfileIn each t report objects
+
+-- A report is sound, by these objects with their seats, where it meets each rule.
 pub record IsSound (t : Trace) (report : Report) (objects : List Object) : Type 0 where
   pub answers : HasAnswers t report objects
   pub journal : HasJournal t report
@@ -35,6 +50,7 @@ pub record IsSound (t : Trace) (report : Report) (objects : List Object) : Type 
   pub filling : AreFilled (marked_by t) objects
   pub sweeps : AreSwept (marked_by t) (last_cycle t) (past_in report) objects report.sweeps
   pub totals : AreTotals (marked_by t) (last_cycle t) objects report.totals
+  pub profile : HasProfile t report objects
 
 -- An object of the life's own cycle sits at its index 0.
 abbrev pub IsWanted : List Object → Life → Type 0

@@ -1,11 +1,14 @@
-//! Laws of places.
+//! Laws of places, and of traces that sample nothing.
 
-ghost use Rattle.std.specs.Prelude.{◌≡◌, ℕ, Bool};
+ghost use Rattle.std.specs.Prelude.{◌≡◌, ℕ, Bool, List, []};
 ghost use Rattle.page_alloc.specs.Journal.{Life};
+ghost use Rattle.trace_reader.specs.declared.trace.Trace.{Trace};
+ghost use Rattle.cycle_history.specs.declared.Report.{Report};
 ghost use Rattle.cycle_history.specs.declared.Answer.TheVariants.{Placed};
 ghost use Rattle.cycle_history.specs.Needs.{IsNeed};
 ghost use Rattle.cycle_history.specs.Objects.{Object, Sits};
 ghost use Rattle.cycle_history.specs.Places.{IsPlace};
+ghost use Rattle.cycle_history.specs.Sound.{HasProfileIn};
 
 /// A size and an address determine a page and an index.
 pub fn an_address_has_one_place()
@@ -16,4 +19,9 @@ pub fn an_address_has_one_place()
 pub fn an_object_sits_at_its_place()
     ensures { (size : ℕ) (scan : Bool) (address : ℕ) (o : Object) (life : Life) (k : ℕ) (page : ℕ) (j : ℕ)
         → IsNeed size scan o.need → o.answer ≡ Placed address → Sits o life k → IsPlace size address page j → (life.page ≡ page) × (k ≡ j) }
+{}
+
+/// At rate 0 nothing is sampled: an empty profile is right, in both forms.
+pub fn rate_0_has_an_empty_profile()
+    ensures { (each : Bool) (t : Trace) (report : Report) (objects : List Object) → t.header.rate ≡ 0 → report.profile ≡ [] → HasProfileIn each t report objects }
 {}

@@ -1,8 +1,8 @@
 //! What a run of a trace answers, as a report, and when a report is sound.
 //!
 //! `specs/Sound.antt` has the rules that a report meets, over the words of `specs/Requests.antt`, `Needs.antt`,
-//! `Objects.antt`, `Rules.antt`, `Orders.antt` and `Sweeps.antt`, and `specs/Broken.antt` the first rule that one breaks.
-//! `specs/Text.antt` is the text of a report. How a run stays sound so far is `sound_run`'s.
+//! `Objects.antt`, `Rules.antt`, `Orders.antt`, `Sweeps.antt`, `Sampled.antt` and `Profile.antt`, and `specs/Broken.antt` the
+//! first rule that one breaks. `specs/Text.antt` is the text of a report. How a run stays sound so far is `sound_run`'s.
 //!
 //! `marks_of` finds the places that a mark end marks, and `totals_of` counts the objects of each size class, from a trace
 //! and its answers: `specs/Places.antt`, `Found.antt`, `Marked.antt` and `Counted.antt`.
@@ -15,7 +15,9 @@ mod places;
 mod totals;
 
 use edge_io::List;
-pub use laws::{an_address_has_one_place, an_object_sits_at_its_place};
+pub use laws::{
+    an_address_has_one_place, an_object_sits_at_its_place, rate_0_has_an_empty_profile,
+};
 pub use marks::marks_of;
 use page_bitmap::Line;
 pub use places::Place;

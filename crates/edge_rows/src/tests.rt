@@ -1,4 +1,8 @@
-use edge_io::{Lines, Seen, StdSink, StdSource, write_all};
+ghost use Rattle.std.specs.Prelude.{◌<◌};
+
+use edge_io::{
+    Lines, List, MemorySink, MemorySource, NoMemory, Seen, StdSink, StdSource, write_all,
+};
 use std::alloc::Global;
 use std::io;
 use std::io::{Read, Write};
@@ -92,4 +96,104 @@ fn adapters_hand_on_faults_in_mid_stream(rt: HostRuntime) {
     assert_eq!(rt; held_of(alloc, 0, 100), (false, 0));
     assert_eq!(rt; held_of(alloc, 6, 100), (false, 6));
     assert_eq!(rt; held_of(alloc, 100, 7), (false, 7));
+}
+
+// What three calls for a line see of "ab\ncd", read in pieces of at most so many bytes, of which the listed reads fail.
+fn seen_in_pieces(
+    alloc: Global,
+    most: u64,
+    failing: &[u64],
+) -> Result<[Option<Seen>; 3], NoMemory> {
+    let mut source = MemorySource::in_pieces(
+        listed(alloc, b"ab\ncd")?,
+        most,
+        listed(alloc, failing)?,
+    );
+    let mut lines = Lines::new(&mut source, 100);
+    let first = lines.next_line().ok();
+    let second = lines.next_line().ok();
+    Ok([first, second, lines.next_line().ok()])
+}
+
+// Whether a sink that takes at most so many bytes at once, of which the listed writes fail, takes a text of ten whole, and whether it
+// then holds just so many of its bytes.
+fn holds_in_pieces(
+    alloc: Global,
+    most: u64,
+    failing: &[u64],
+    expected: &[u8],
+) -> Result<(bool, bool), NoMemory>
+    requires { 0 < most }
+{
+    let mut sink = MemorySink::in_pieces(alloc, most, listed(alloc, failing)?);
+    let whole = write_all(&mut sink, b"0123456789").is_ok();
+    Ok((whole, sink.held() == expected))
+}
+
+// A list of these items.
+fn listed<T: Copy>(alloc: Global, items: &[T]) -> Result<List<T>, NoMemory> {
+    let mut list = List::new(alloc);
+    for item in items {
+        list.push(*item)?;
+    }
+    Ok(list)
+}
+
+#[test]
+fn a_source_in_pieces_gives_the_same_lines(rt: HostRuntime) {
+    let alloc = rt.alloc();
+    let (line, cut, finished) = (Some(Seen::Line), Some(Seen::Cut), Some(Seen::Finished));
+    let all = Some([line, cut, finished]);
+    assert_eq!(rt; seen_in_pieces(alloc, 1, &[]).ok(), all);
+    assert_eq!(rt; seen_in_pieces(alloc, 2, &[]).ok(), all);
+    assert_eq!(rt; seen_in_pieces(alloc, 5, &[]).ok(), all);
+    assert_eq!(rt; seen_in_pieces(alloc, u64::MAX, &[]).ok(), all);
+    // A byte a read: the reads 0 to 4 give the bytes, and read 5 finds nothing left.
+    assert_eq!(rt;
+        seen_in_pieces(alloc, 1, &[2]).ok(),
+        Some([None, line, cut])
+    );
+    assert_eq!(rt;
+        seen_in_pieces(alloc, 1, &[4]).ok(),
+        Some([line, None, cut])
+    );
+    assert_eq!(rt;
+        seen_in_pieces(alloc, 1, &[5]).ok(),
+        Some([line, None, cut])
+    );
+    assert_eq!(rt; seen_in_pieces(alloc, 1, &[6]).ok(), all);
+}
+
+#[test]
+fn a_sink_in_pieces_holds_what_it_took(rt: HostRuntime) {
+    let alloc = rt.alloc();
+    assert_eq!(rt;
+        holds_in_pieces(alloc, 1, &[], b"0123456789").ok(),
+        Some((true, true))
+    );
+    assert_eq!(rt;
+        holds_in_pieces(alloc, 3, &[], b"0123456789").ok(),
+        Some((true, true))
+    );
+    assert_eq!(rt;
+        holds_in_pieces(alloc, u64::MAX, &[], b"0123456789").ok(),
+        Some((true, true))
+    );
+    // Three bytes a write: write k begins at byte 3k.
+    assert_eq!(rt;
+        holds_in_pieces(alloc, 3, &[0], b"").ok(),
+        Some((false, true))
+    );
+    assert_eq!(rt;
+        holds_in_pieces(alloc, 3, &[1], b"012").ok(),
+        Some((false, true))
+    );
+    assert_eq!(rt;
+        holds_in_pieces(alloc, 3, &[3], b"012345678").ok(),
+        Some((false, true))
+    );
+    assert_eq!(rt;
+        holds_in_pieces(alloc, 3, &[4], b"0123456789").ok(),
+        Some((true, true))
+    );
 }

@@ -1,5 +1,6 @@
 ghost use Rattle.std.specs.Prelude.{◌≡◌, ◌<◌, ◌≤◌, true};
 ghost use Rattle.span_laws.specs.Asks.{IsIdle};
+ghost use Rattle.span_set.specs.Tallies.{Frees, MayCount};
 ghost use Rattle.large_objects.specs.Larges.{AllocatesLarge, IsForOne, PutsObject};
 ghost use Rattle.proc_cache.specs.Refills.{IsHolding};
 
@@ -13,18 +14,21 @@ const BASE: u64 = 0xc000000000;
 
 /// Allocates a large object in a span of its own, of so many pages, at least 5, and span class 0 or 1 (`mcache.go`, `allocLarge`): the span's
 /// bytes are paid for by sweeping, with the credit of its own pages; a span is made; the object is placed at index 0; and the
-/// span goes to the swept full set. Answers the address. The cached spans stay as they are, whatever the call answers.
+/// span goes to the swept full set. Answers the address. The cached spans stay as they are, whatever the call answers. Whether the object
+/// is sampled is the processor's to say (`proc_cache`, `count_placed`).
 ///
 /// NoRun comes with the Miss line of this call, only after each unswept set was seen empty.
 pub fn alloc_large(shop: &Shop, hand: &mut Hand, pages: u32, class: u8) -> Result<u64, Refused>
     requires here { hand.old.worker.here ≡ true }
     requires table { hand.old.worker.table ≡ shop.now.shared.now }
     requires distance { 8192 ≤ shop.now.distance }
+    requires counts { MayCount shop.now.ring.now shop.now.marks.now hand.old.tally }
     requires marks { shop.now.marks.now.pairs ≡ hand.old.worker.view.marks }
     requires large { class < 2 }
     requires pages { 5 ≤ pages }
     requires idle { IsIdle hand.old.worker.view.own }
-    ensures { AllocatesLarge shop.now.pages shop.now.distance pages class hand.old hand.new result }
+    ensures did { AllocatesLarge shop.now.pages shop.now.distance pages class hand.old hand.new result }
+    ensures tally { Frees shop.now.marks.now hand.old hand.new }
 {
     let bytes = u64::from(pages) * PAGE_SIZE;
     let Ok(_) = pay(shop, hand, bytes, pages) else {
@@ -42,7 +46,8 @@ fn put_object(shop: &Shop, hand: &mut Hand, class: u8, body: Body) -> u64
     requires large { class < 2 }
     requires holds { IsHolding hand.old.worker.view.own body.page }
     requires body { IsForOne class body hand.old.worker }
-    ensures { PutsObject class body hand.old hand.new result }
+    ensures puts { PutsObject class body hand.old hand.new result }
+    ensures counted { hand.new.tally ≡ hand.old.tally }
 {
     let mut body = body;
     shop.shared.note_alloc(&mut hand.worker, &mut body, 0);

@@ -167,7 +167,7 @@ span_used k bytes before b old new c d view v none u e j s n at f =
     subst (λ (w : Seen). 0 < many (is_placing_in s.page) w.view.own.log) (sym view) (let z = u s.page x.cached fresh in omega arith)
 
 twice : (k : ℕ) (o : Option Span) (c : Cache) → with_slot k o (with_slot k None c) ≡ with_slot k o c
-twice k o c = ap (λ (l : List (Option Span)). let z : Cache = record { number = c.number; flushed = c.flushed; slots = l } in z) (set_twice c.slots k None o)
+twice k o c = ap (λ (l : List (Option Span)). let z : Cache = record c { slots = l } in z) (set_twice c.slots k None o)
   where
     set_twice : {A : Type 0} (l : List A) (i : ℕ) (a b : A) → Rattle.std.proofs.Common.set (Rattle.std.proofs.Common.set l i a) i b ≡ Rattle.std.proofs.Common.set l i b
     set_twice [] i a b = refl

@@ -7,3 +7,4 @@ pub mod Holding
 pub mod Finding
 pub mod Filling
 pub mod Placing
+pub mod Sampling

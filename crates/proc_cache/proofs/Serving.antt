@@ -9,6 +9,7 @@ use Rattle.sweep_laws.specs.Lists.{erase, has}
 use Rattle.sweep_laws.specs.Start.{copies}
 use Rattle.sweep_laws.proofs.Naming.{has_times, times_erase, times_erase_else, times_erase_le, times_has}
 use Rattle.sweep_laws.proofs.Totals.{times_end, times_end_else}
+use Rattle.profile_cycle.specs.Sampling.{Countdown}
 use Rattle.span_state.specs.declared.body.Body.{Body}
 use Rattle.worker_log.specs.declared.Entry.{Entry}
 use Rattle.worker_log.specs.Logs.{is_pop_of, many, swept_set}
@@ -194,8 +195,8 @@ module _ (g : ℕ) (h h' : Part) (c : Cache) (v : Serves g h c) (k : ℕ) (s : S
 -- ---- for a run
 
 -- a new processor serves a worker without a cached span
-pub serves_start : (g n m : ℕ) (h : Part) → h.cached ≡ [] → Serves g h (record { number = n; flushed = 0; slots = copies m None })
-serves_start g n m h e = serves_nothing g h (record { number = n; flushed = 0; slots = copies m None }) (none_copied (range_with_len 0 m)) (λ p. ap (has p) e) (λ p. subst (λ (l : List ℕ). times p l ≤ 1) (sym e) (omega arith)) (omega arith)
+pub serves_start : (g n m : ℕ) (t : Countdown) (h : Part) → h.cached ≡ [] → Serves g h (record { number = n; flushed = 0; slots = copies m None; countdown = t })
+serves_start g n m t h e = serves_nothing g h (record { number = n; flushed = 0; slots = copies m None; countdown = t }) (none_copied (range_with_len 0 m)) (λ p. ap (has p) e) (λ p. subst (λ (l : List ℕ). times p l ≤ 1) (sym e) (omega arith)) (omega arith)
   where
     none_copied : (xs : List ℕ) (k : ℕ) → get_or (map (λ _. let o : Option Span = None in o) xs) k None ≡ None
     none_copied [] k = refl

@@ -4,6 +4,7 @@ use Rattle.std.specs.Prelude.{None, Some, Option}
 use Rattle.std.proofs.Math.ListN.{get_or-map}
 use Rattle.std.proofs.Math.Seq.{map-set_same}
 use Rattle.std.proofs.lemmas.List.{map-set, get_or-set_same, get_or-set_other}
+use Rattle.profile_cycle.specs.Sampling.{Countdown}
 use Rattle.span_state.specs.declared.body.Body.{Body}
 use Rattle.span_laws.specs.declared.view.Span.{Span}
 use Rattle.proc_cache.specs.Cache.{Cache, slot_at, span_in, spans_of, with_slot}
@@ -14,18 +15,18 @@ other_default [] i d e h = absurd (omega arith)
 other_default (x ∷ l) zero d e h = refl
 other_default (x ∷ l) (suc i) d e h = other_default l i d e (omega arith)
 
-module _ (n f : ℕ) (items : List (Option Body)) (now : Cache) (view : record { number = n; flushed = f; slots = spans_of items } ≡ now) (k : ℕ) (o : Option Body) where
+module _ (n f : ℕ) (items : List (Option Body)) (t : Countdown) (now : Cache) (view : record { number = n; flushed = f; slots = spans_of items; countdown = t } ≡ now) (k : ℕ) (o : Option Body) where
   -- the slot that is read
   pub slot_is : get_or items k None ≡ o → slot_at now k ≡ span_in o
   slot_is e = subst (λ (c : Cache). slot_at c k ≡ span_in o) view (get_or-map span_in items k None ∙ ap span_in e)
 
   -- the cache with another body there
-  pub slot_written : record { number = n; flushed = f; slots = spans_of (set items k o) } ≡ with_slot k (span_in o) now
-  slot_written = ap (λ (l : List (Option Span)). let c : Cache = record { number = n; flushed = f; slots = l } in c) (map-set span_in items k o) ∙ ap (with_slot k (span_in o)) view
+  pub slot_written : record { number = n; flushed = f; slots = spans_of (set items k o); countdown = t } ≡ with_slot k (span_in o) now
+  slot_written = ap (λ (l : List (Option Span)). let c : Cache = record { number = n; flushed = f; slots = l; countdown = t } in c) (map-set span_in items k o) ∙ ap (with_slot k (span_in o)) view
 
   -- the cache with the same body there
-  pub slot_kept : get_or items k None ≡ o → record { number = n; flushed = f; slots = spans_of (set items k o) } ≡ now
-  slot_kept e = ap (λ (l : List (Option Span)). let c : Cache = record { number = n; flushed = f; slots = l } in c) (map-set_same span_in items k o None (ap span_in (sym e))) ∙ view
+  pub slot_kept : get_or items k None ≡ o → record { number = n; flushed = f; slots = spans_of (set items k o); countdown = t } ≡ now
+  slot_kept e = ap (λ (l : List (Option Span)). let c : Cache = record { number = n; flushed = f; slots = l; countdown = t } in c) (map-set_same span_in items k o None (ap span_in (sym e))) ∙ view
 
 some_low : {A : Type 0} (l : List (Option A)) (i : ℕ) (a : A) → get_or l i None ≡ Some a → i < length l
 some_low [] i a e = absurd (let z : None ≡ Some a = e in cc)

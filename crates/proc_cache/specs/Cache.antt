@@ -1,14 +1,17 @@
 -- What contracts see of a processor.
 use Rattle.std.specs.Prelude.{ℕ, ◌+◌, ◌*◌, List, map, Option, Some, None, slice_index_or, slice_set}
+use Rattle.profile_cycle.specs.Sampling.{Countdown}
 use Rattle.span_state.specs.declared.body.Body.{Body}
 use Rattle.span_laws.specs.declared.view.Span.{Span}
 use Rattle.span_laws.specs.Views.{span_of}
 
--- a processor: its number, the heap generation at which it flushed its cache last, and the cached span of each span class
+-- a processor: its number, the heap generation at which it flushed its cache last, the cached span of each span class, and the countdown
+-- to its next sample
 pub record Cache : Type 0 where
   pub number : ℕ
   pub flushed : ℕ
   pub slots : List (Option Span)
+  pub countdown : Countdown
 
 -- the bodies of a cache as spans
 abbrev pub span_in : Option Body → Option Span

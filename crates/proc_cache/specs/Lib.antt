@@ -1,4 +1,5 @@
 pub mod Cache
+pub mod Samples
 pub mod Serves
 pub mod Hits
 pub mod Leaves

@@ -1,15 +1,20 @@
-ghost use Rattle.std.specs.Prelude.{◌≡◌, ◌<◌, ◌≤◌, true, false, IfOk};
+ghost use Rattle.std.specs.Prelude.{◌≡◌, ◌<◌, ◌≤◌, true, IfOk, OnOk, OnErr};
 ghost use Rattle.size_classes.specs.Classes.{IsLeastClass, span_class_of};
+ghost use Rattle.profile_cycle.specs.Naming.{slot_for};
+ghost use Rattle.profile_cycle.specs.Sampling.{behind, is_sample};
 ghost use Rattle.span_laws.specs.Asks.{IsIdle};
+ghost use Rattle.span_set.specs.Tallies.{Frees, MayCount};
 ghost use Rattle.proc_cache.specs.Allocs.{AllocatesIn, addr_of};
 ghost use Rattle.proc_cache.specs.Hits.{IsMissing};
+ghost use Rattle.proc_cache.specs.Samples.{CountsOne};
 ghost use Rattle.proc_cache.specs.Serves.{IsUsedCache, Serves};
 
 use crate::flushes::flush;
 use crate::hits::{Hit, alloc_hit};
 use crate::proc::Proc;
 use crate::refills::refill;
-use size_classes::{Kind, class_of, span_class};
+use crate::samples::count_placed;
+use size_classes::{Kind, class_of, slot_size, span_class};
 use span_set::{Hand, Shop};
 use sweeper::Refused;
 use trace_reader::Event;
@@ -25,9 +30,10 @@ pub struct Placed {
 
 /// Allocates an object of a small size, from 1 to 32768 bytes, for an event (`malloc.go`, `mallocgc`): where it is the processor's first one
 /// since the last mark end, the cache is flushed; then the object takes the lowest free index of the cached span, after a refill
-/// where there is none. No object is sampled, and the bucket is not read.
+/// where there is none. Where the processor's countdown samples the placed object, the hand's tally counts one allocation of the bucket,
+/// which is the number of the event's stack and slot.
 ///
-/// NoRun comes with the Miss line of this call, as `refill` says. After NoMemory a cached span that was not flushed or pushed yet stays
+/// After a refusal the countdown is as it was, and no allocation is counted. NoRun comes with the Miss line of this call, as `refill` says. After NoMemory a cached span that was not flushed or pushed yet stays
 /// cached.
 pub fn alloc(
     proc: &mut Proc,
@@ -39,6 +45,8 @@ pub fn alloc(
     requires here { hand.old.worker.here ≡ true }
     requires table { hand.old.worker.table ≡ shop.now.shared.now }
     requires distance { 8192 ≤ shop.now.distance }
+    requires counts { MayCount shop.now.ring.now shop.now.marks.now hand.old.tally }
+    requires bucket { bucket < shop.now.ring.now.buckets }
     requires marks { shop.now.marks.now.pairs ≡ hand.old.worker.view.marks }
     requires some { 1 ≤ event.size }
     requires small { event.size ≤ 32768 }
@@ -47,19 +55,21 @@ pub fn alloc(
     requires used { IsUsedCache hand.old.worker.view.own }
     ensures allocates { (class : Rattle.std.specs.Prelude.ℕ) × IsLeastClass event.size class × AllocatesIn shop.now.pages shop.now.distance (span_class_of class event.scan) proc.old proc.new hand.old hand.new (addr_of result) }
     ensures number { proc.new.number ≡ proc.old.number }
-    ensures sampled { IfOk result (λ placed. placed.sampled ≡ false) }
+    ensures sampled { IfOk result (λ placed. placed.sampled ≡ is_sample proc.old.countdown (slot_for event.size)) }
+    ensures countdown { OnOk result (proc.new.countdown ≡ behind proc.old.countdown (slot_for event.size)) }
+    ensures untouched { OnErr result (proc.new.countdown ≡ proc.old.countdown) }
+    ensures counted { IfOk result (λ placed. CountsOne shop.now.marks.now bucket placed.sampled hand.old hand.new) }
+    ensures frees { OnErr result (Frees shop.now.marks.now hand.old hand.new) }
     ensures serves { Serves hand.new.worker.view.generation hand.new.worker.view.own proc.new }
     ensures used { IsUsedCache hand.new.worker.view.own }
 {
-    let _bucket = bucket;
     let Kind::Small(class) = class_of(event.size) else {
         unreachable!()
     };
     let addr = alloc_in(proc, shop, hand, span_class(class, event.scan))?;
-    Ok(Placed {
-        addr,
-        sampled: false,
-    })
+    let slot = u64::from(slot_size(class));
+    let sampled = count_placed(proc, shop, hand, slot, bucket);
+    Ok(Placed { addr, sampled })
 }
 
 // The same for a span class, from 2 to 135.
@@ -67,6 +77,7 @@ fn alloc_in(proc: &mut Proc, shop: &Shop, hand: &mut Hand, class: u8) -> Result<
     requires here { hand.old.worker.here ≡ true }
     requires table { hand.old.worker.table ≡ shop.now.shared.now }
     requires distance { 8192 ≤ shop.now.distance }
+    requires counts { MayCount shop.now.ring.now shop.now.marks.now hand.old.tally }
     requires marks { shop.now.marks.now.pairs ≡ hand.old.worker.view.marks }
     requires small { 2 ≤ class }
     requires class { class < 136 }
@@ -76,6 +87,8 @@ fn alloc_in(proc: &mut Proc, shop: &Shop, hand: &mut Hand, class: u8) -> Result<
     ensures allocates { AllocatesIn shop.now.pages shop.now.distance class proc.old proc.new hand.old hand.new result }
     ensures number { proc.new.number ≡ proc.old.number }
     ensures serves { Serves hand.new.worker.view.generation hand.new.worker.view.own proc.new }
+    ensures countdown { proc.new.countdown ≡ proc.old.countdown }
+    ensures tally { Frees shop.now.marks.now hand.old hand.new }
     ensures used { IsUsedCache hand.new.worker.view.own }
 {
     let Ok(()) = flush(proc, shop, hand) else {
@@ -92,6 +105,7 @@ fn alloc_missed(proc: &mut Proc, shop: &Shop, hand: &mut Hand, class: u8) -> Res
     requires here { hand.old.worker.here ≡ true }
     requires table { hand.old.worker.table ≡ shop.now.shared.now }
     requires distance { 8192 ≤ shop.now.distance }
+    requires counts { MayCount shop.now.ring.now shop.now.marks.now hand.old.tally }
     requires marks { shop.now.marks.now.pairs ≡ hand.old.worker.view.marks }
     requires small { 2 ≤ class }
     requires class { class < 136 }
@@ -103,6 +117,8 @@ fn alloc_missed(proc: &mut Proc, shop: &Shop, hand: &mut Hand, class: u8) -> Res
     ensures allocates { AllocatesIn shop.now.pages shop.now.distance class proc.old proc.new hand.old hand.new result }
     ensures number { proc.new.number ≡ proc.old.number }
     ensures serves { Serves hand.new.worker.view.generation hand.new.worker.view.own proc.new }
+    ensures countdown { proc.new.countdown ≡ proc.old.countdown }
+    ensures tally { Frees shop.now.marks.now hand.old hand.new }
     ensures used { IsUsedCache hand.new.worker.view.own }
 {
     refill(proc, shop, hand, class)?;

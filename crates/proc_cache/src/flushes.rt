@@ -1,6 +1,7 @@
 ghost use Rattle.std.specs.Prelude.{◌≡◌, ◌<◌, ◌≤◌, true, false, length};
 ghost use Rattle.sweep_laws.specs.Lists.{has};
 ghost use Rattle.span_laws.specs.Asks.{HasBody, IsIdle};
+ghost use Rattle.span_set.specs.Tallies.{Frees, MayCount};
 ghost use Rattle.proc_cache.specs.Flushes.{FlushesCache, FlushesClass, FlushesSpan};
 ghost use Rattle.proc_cache.specs.Serves.{IsUsedCache, Serves, is_flushed};
 
@@ -21,11 +22,14 @@ pub fn flush(proc: &mut Proc, shop: &Shop, hand: &mut Hand) -> Result<(), NoMemo
     requires here { hand.old.worker.here ≡ true }
     requires table { hand.old.worker.table ≡ shop.now.shared.now }
     requires distance { 8192 ≤ shop.now.distance }
+    requires counts { MayCount shop.now.ring.now shop.now.marks.now hand.old.tally }
     requires marks { shop.now.marks.now.pairs ≡ hand.old.worker.view.marks }
     requires idle { IsIdle hand.old.worker.view.own }
     requires serves { Serves hand.old.worker.view.generation hand.old.worker.view.own proc.old }
     ensures flushes { FlushesCache proc.old proc.new hand.old hand.new result }
     ensures serves { Serves hand.new.worker.view.generation hand.new.worker.view.own proc.new }
+    ensures countdown { proc.new.countdown ≡ proc.old.countdown }
+    ensures tally { Frees shop.now.marks.now hand.old hand.new }
     ensures used { IsUsedCache hand.old.worker.view.own → IsUsedCache hand.new.worker.view.own }
 {
     let generation = shop.shared.generation(&mut hand.worker);
@@ -44,6 +48,7 @@ fn flush_class(proc: &mut Proc, shop: &Shop, hand: &mut Hand, class: u8) -> Resu
     requires here { hand.old.worker.here ≡ true }
     requires table { hand.old.worker.table ≡ shop.now.shared.now }
     requires distance { 8192 ≤ shop.now.distance }
+    requires counts { MayCount shop.now.ring.now shop.now.marks.now hand.old.tally }
     requires marks { shop.now.marks.now.pairs ≡ hand.old.worker.view.marks }
     requires class { class < 136 }
     requires idle { IsIdle hand.old.worker.view.own }
@@ -51,6 +56,8 @@ fn flush_class(proc: &mut Proc, shop: &Shop, hand: &mut Hand, class: u8) -> Resu
     requires stale { is_flushed hand.old.worker.view.generation proc.old ≡ false }
     ensures flushes { FlushesClass class proc.old proc.new hand.old hand.new result }
     ensures serves { Serves hand.new.worker.view.generation hand.new.worker.view.own proc.new }
+    ensures countdown { proc.new.countdown ≡ proc.old.countdown }
+    ensures tally { Frees shop.now.marks.now hand.old hand.new }
 {
     if proc.slots[class as usize].is_none() {
         return Ok(());
@@ -68,6 +75,7 @@ fn flush_span(shop: &Shop, hand: &mut Hand, body: Body)
     requires here { hand.old.worker.here ≡ true }
     requires table { hand.old.worker.table ≡ shop.now.shared.now }
     requires distance { 8192 ≤ shop.now.distance }
+    requires counts { MayCount shop.now.ring.now shop.now.marks.now hand.old.tally }
     requires marks { shop.now.marks.now.pairs ≡ hand.old.worker.view.marks }
     requires room { length hand.old.notes.items < hand.old.notes.space }
     requires class { body.class < 136 }
@@ -75,7 +83,8 @@ fn flush_span(shop: &Shop, hand: &mut Hand, body: Body)
     requires cached { has body.page hand.old.worker.view.own.cached ≡ true }
     requires stale { has body.page hand.old.worker.view.own.fresh ≡ false }
     requires lent { HasBody hand.old.worker.view.own body }
-    ensures { FlushesSpan body.page hand.old hand.new }
+    ensures flushes { FlushesSpan body.page hand.old hand.new }
+    ensures tally { Frees shop.now.marks.now hand.old hand.new }
 {
     match shop.shared.uncache(&mut hand.worker, &body) {
         Uncached::Fresh => unreachable!(),

@@ -41,6 +41,7 @@ pub fn alloc_hit(proc: &mut Proc, shared: &Shared, w: &mut Worker, class: u8) ->
     requires flushed { proc.old.flushed ≡ w.old.view.generation }
     ensures hits { HitsCache class proc.old proc.new w.old w.new result }
     ensures serves { Serves w.new.view.generation w.new.view.own proc.new }
+    ensures countdown { proc.new.countdown ≡ proc.old.countdown }
 {
     let Some(body) = &mut proc.slots[class as usize] else {
         return Hit::Miss;

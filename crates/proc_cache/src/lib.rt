@@ -2,7 +2,7 @@
 //!
 //! `specs/Cache.antt` has what contracts see of a processor, and `specs/Serves.antt` how it agrees with the worker that it runs on.
 //! `specs/Hits.antt`, `specs/Flushes.antt`, `specs/Refills.antt` and `specs/Allocs.antt` say what each call did, by its answer and by the
-//! worker's own log; `specs/Leaves.antt` says what it leaves.
+//! worker's own log; `specs/Leaves.antt` says what it leaves, and `specs/Samples.antt` what it counts in the profile.
 #![tactic(auto)]
 
 mod allocs;
@@ -10,6 +10,7 @@ mod flushes;
 mod hits;
 mod proc;
 mod refills;
+mod samples;
 
 pub use allocs::{Placed, alloc};
 pub use central_lists::Look;
@@ -17,4 +18,5 @@ pub use flushes::flush;
 pub use hits::{Hit, alloc_hit};
 pub use proc::Proc;
 pub use refills::{CacheFrom, refill};
+pub use samples::count_placed;
 pub use sweeper::Refused;

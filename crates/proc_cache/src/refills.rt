@@ -4,6 +4,7 @@ ghost use Rattle.size_classes.specs.Classes.{pages_of};
 ghost use Rattle.worker_log.specs.Logs.{swept_set};
 ghost use Rattle.span_laws.specs.Asks.{IsFullBody, IsIdle};
 ghost use Rattle.span_laws.specs.Views.{after_said, span_of};
+ghost use Rattle.span_set.specs.Tallies.{Frees, MayCount};
 ghost use Rattle.proc_cache.specs.Hits.{IsMissing};
 ghost use Rattle.proc_cache.specs.Cache.{slot_at};
 ghost use Rattle.proc_cache.specs.Refills.{Comes, FindsSpan, IsFor, IsHolding, KeepsSpan, LeavesFull, RefillsCache, bytes_of};
@@ -49,6 +50,7 @@ pub fn refill(
     requires here { hand.old.worker.here ≡ true }
     requires table { hand.old.worker.table ≡ shop.now.shared.now }
     requires distance { 8192 ≤ shop.now.distance }
+    requires counts { MayCount shop.now.ring.now shop.now.marks.now hand.old.tally }
     requires marks { shop.now.marks.now.pairs ≡ hand.old.worker.view.marks }
     requires small { 2 ≤ class }
     requires class { class < 136 }
@@ -59,6 +61,8 @@ pub fn refill(
     requires missing { IsMissing proc.old class }
     ensures refills { RefillsCache shop.now.pages shop.now.distance class proc.old proc.new hand.old hand.new result }
     ensures serves { Serves hand.new.worker.view.generation hand.new.worker.view.own proc.new }
+    ensures countdown { proc.new.countdown ≡ proc.old.countdown }
+    ensures tally { Frees shop.now.marks.now hand.old hand.new }
     ensures used { IsUsedBut class hand.new.worker.view.own proc.new }
 {
     leave_full(proc, shop, hand, class);
@@ -79,6 +83,8 @@ fn leave_full(proc: &mut Proc, shop: &Shop, hand: &mut Hand, class: u8)
     requires missing { IsMissing proc.old class }
     ensures leaves { LeavesFull class proc.old proc.new hand.old hand.new }
     ensures serves { Serves hand.new.worker.view.generation hand.new.worker.view.own proc.new }
+    ensures countdown { proc.new.countdown ≡ proc.old.countdown }
+    ensures counted { hand.new.tally ≡ hand.old.tally }
     ensures used { IsUsedCache hand.new.worker.view.own }
 {
     let Some(body) = proc.slots[class as usize].take() else {
@@ -99,6 +105,7 @@ fn push_full(shop: &Shop, hand: &mut Hand, class: u8, body: Body)
     ensures view { hand.new.worker ≡ after_said (Said.Fills (swept_set hand.old.worker.view.generation class 1) body.page)
         (after_said (Said.Reads 1 hand.old.worker.view.generation) (after_said (Said.Uncaches body.page) hand.old.worker)) }
     ensures notes { hand.new.notes ≡ hand.old.notes }
+    ensures counted { hand.new.tally ≡ hand.old.tally }
 {
     match shop.shared.uncache(&mut hand.worker, &body) {
         Uncached::Fresh => push(
@@ -116,11 +123,13 @@ fn find_span(shop: &Shop, hand: &mut Hand, class: u8) -> Result<(Body, CacheFrom
     requires here { hand.old.worker.here ≡ true }
     requires table { hand.old.worker.table ≡ shop.now.shared.now }
     requires distance { 8192 ≤ shop.now.distance }
+    requires counts { MayCount shop.now.ring.now shop.now.marks.now hand.old.tally }
     requires marks { shop.now.marks.now.pairs ≡ hand.old.worker.view.marks }
     requires small { 2 ≤ class }
     requires class { class < 136 }
     requires idle { IsIdle hand.old.worker.view.own }
-    ensures { FindsSpan shop.now.pages shop.now.distance class hand.old hand.new result }
+    ensures finds { FindsSpan shop.now.pages shop.now.distance class hand.old hand.new result }
+    ensures tally { Frees shop.now.marks.now hand.old hand.new }
 {
     let pages = span_pages(class / 2);
     let Ok(_) = pay(shop, hand, u64::from(pages) * PAGE_SIZE, 0) else {
@@ -139,12 +148,14 @@ fn take_span(
     requires here { hand.old.worker.here ≡ true }
     requires table { hand.old.worker.table ≡ shop.now.shared.now }
     requires distance { 8192 ≤ shop.now.distance }
+    requires counts { MayCount shop.now.ring.now shop.now.marks.now hand.old.tally }
     requires marks { shop.now.marks.now.pairs ≡ hand.old.worker.view.marks }
     requires small { 2 ≤ class }
     requires class { class < 136 }
     requires pages { pages ≡ pages_of (class / 2) }
     requires idle { IsIdle hand.old.worker.view.own }
-    ensures { Comes class hand.old hand.new result }
+    ensures comes { Comes class hand.old hand.new result }
+    ensures tally { Frees shop.now.marks.now hand.old hand.new }
 {
     match cache_span(shop, hand, class) {
         Ok(FromSets::SweptPartial(body)) => Ok((body, CacheFrom::SweptPartial)),
@@ -170,6 +181,9 @@ fn keep_span(proc: &mut Proc, shop: &Shop, hand: &mut Hand, class: u8, body: Bod
     requires empty { slot_at proc.old class ≡ None }
     ensures keeps { KeepsSpan class (bytes_of class) body proc.old proc.new hand.old hand.new }
     ensures serves { Serves hand.new.worker.view.generation hand.new.worker.view.own proc.new }
+    ensures countdown { proc.new.countdown ≡ proc.old.countdown }
+    ensures counted { hand.new.tally ≡ hand.old.tally }
+    ensures notes { hand.new.notes ≡ hand.old.notes }
     ensures used { IsUsedCache hand.old.worker.view.own → IsUsedBut class hand.new.worker.view.own proc.new }
 {
     let bytes = u64::from(span_pages(class / 2)) * PAGE_SIZE;

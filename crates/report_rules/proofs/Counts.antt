@@ -19,7 +19,7 @@ use Rattle.report_rules.specs.Closing.{BreaksTotals}
 use Rattle.report_rules.proofs.Twins.{need-one, twin-of}
 
 -- a placed object has a size
-sized : (r : Request) (n : ℕ) (o : Object) → IsObject r n o → is_placed o.answer ≡ true → 1 ≤ r.event.size
+pub sized : (r : Request) (n : ℕ) (o : Object) → IsObject r n o → is_placed o.answer ≡ true → 1 ≤ r.event.size
 sized r n o is placed = elim (cases_lt 0 r.event.size) [
   | inl lt ↦ lt
   | inr none ↦ (let zero : o.answer ≡ Zero = is.zero.1 (omega arith) in let off : is_placed o.answer ≡ false = ap is_placed zero in absurd cc)
@@ -46,10 +46,10 @@ live-same marked c r n a b ia ib e =
     ∙ (ap (λ (x : ℕ). is_placed b.answer && (eqb x c || marked c a.id)) cycle ∙ ap (λ (x : ℕ). is_placed b.answer && (eqb b.cycle c || marked c x)) id)
 
 -- a test that objects of one request with one answer pass alike
-abbrev IsAlike : (Object → Bool) → Type 0
+abbrev pub IsAlike : (Object → Bool) → Type 0
 IsAlike test = (r : Request) (n : ℕ) (a b : Object) → IsObject r n a → IsObject r n b → a.answer ≡ b.answer → test a ≡ test b
 
-count-same : (test : Object → Bool) (requests : List Request) (xs ys : List Object) → IsAlike test → AreAnswered requests xs → AreAnswered requests ys
+pub count-same : (test : Object → Bool) (requests : List Request) (xs ys : List Object) → IsAlike test → AreAnswered requests xs → AreAnswered requests ys
     → map (λ (o : Object). o.answer) xs ≡ map (λ (o : Object). o.answer) ys → count test xs ≡ count test ys
 count-same test [] [] [] alike ax ay e = refl
 count-same test [] (x ∷ xs) ys alike ax ay e = absurd ax

@@ -1,4 +1,4 @@
--- A line that breaks one of the rules 1 to 6, or rule 8, shows that the rule isn't met.
+-- A line that breaks one of the rules 1 to 6, or rule 8 or 9, shows that the rule isn't met.
 use Rattle.std.proofs.Common.{◌≡◌, ◌≢◌, ℕ, ◌+◌, ◌-◌, ◌≤◌, List, [], ◌∷◌, ◌++◌, map, reverse, take, drop, Some, sym, ◌∙◌, ap, subst, ◌⊎◌, arith, inl, inr}
 use Rattle.std.specs.List.{slice_get}
 use Rattle.std.proofs.lemmas.Bool.{cases_lt}
@@ -21,6 +21,7 @@ use Rattle.cycle_history.proofs.OfObjects.{request-of, object-of, get-number}
 use Rattle.report_rules.specs.Answers.{IsRightAnswer, BreaksAnswers, IsJournalTo, BreaksMisses}
 use Rattle.report_rules.specs.Broken.{Breaks, IsBroken}
 use Rattle.report_rules.proofs.Counts.{totals-unmet}
+use Rattle.report_rules.proofs.Profiles.{profile-unmet}
 use Rattle.report_rules.proofs.Seats.{apart-met, filling-met, places-met}
 use Rattle.report_rules.proofs.Twins.{twin-of, answers-length, event-at}
 
@@ -98,7 +99,7 @@ misses-met t report objects others line here there breaks met =
 -- ---- the law
 
 abbrev IsShown : ℕ → Type 0
-IsShown n = (n ≤ 6) ⊎ (n ≡ 8)
+IsShown n = (n ≤ 6) ⊎ ((n ≡ 8) ⊎ (n ≡ 9))
 
 abbrev BreaksRule : Trace → Report → ℕ → Type 0
 BreaksRule t report n = ¬ MeetsRules n t report
@@ -123,7 +124,10 @@ unmet t report objects n line shown before breaks met =
               ]
             ]
           ]
-          | inr eight ↦ totals-unmet (marked_by t) (last_cycle t) t report objects others line (before.answers (omega arith)) (m.answers (omega arith)) (breaks.totals eight) (m.totals (omega arith))
+          | inr last ↦ elim last [
+            | inl eight ↦ totals-unmet (marked_by t) (last_cycle t) t report objects others line (before.answers (omega arith)) (m.answers (omega arith)) (breaks.totals eight) (m.totals (omega arith))
+            | inr nine ↦ profile-unmet t report objects others line (before.answers (omega arith)) (m.answers (omega arith)) (breaks.profile nine) (m.profile (omega arith))
+          ]
         ]
       ]
     ]

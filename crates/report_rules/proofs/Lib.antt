@@ -1,4 +1,5 @@
 pub mod Twins
 pub mod Counts
+pub mod Profiles
 pub mod Seats
 pub mod Exact

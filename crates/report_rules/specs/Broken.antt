@@ -10,11 +10,12 @@ use Rattle.report_rules.specs.Lines.{IsLeast}
 use Rattle.report_rules.specs.Answers.{BreaksAnswers, BreaksJournal, BreaksMisses}
 use Rattle.report_rules.specs.Placing.{BreaksPlaces, BreaksApart, BreaksFilling}
 use Rattle.report_rules.specs.Closing.{BreaksSweeps, BreaksTotals}
+use Rattle.report_rules.specs.Published.{BreaksProfile}
 
--- The line breaks rule n, for the rules 1 to 8. Rule 9, on the profile, is still to come.
+-- The line breaks rule n.
 pub record Breaks (n : ℕ) (t : Trace) (report : Report) (objects : List Object) (line : ℕ) : Type 0 where
   pub some : 1 ≤ n
-  pub few : n ≤ 8
+  pub few : n ≤ 9
   pub answers : n ≡ 1 → BreaksAnswers t report line
   pub journal : n ≡ 2 → BreaksJournal t report line
   pub misses : n ≡ 3 → BreaksMisses (past_in report) objects line
@@ -23,6 +24,7 @@ pub record Breaks (n : ℕ) (t : Trace) (report : Report) (objects : List Object
   pub filling : n ≡ 6 → BreaksFilling (marked_by t) objects line
   pub sweeps : n ≡ 7 → BreaksSweeps (marked_by t) (last_cycle t) report objects line
   pub totals : n ≡ 8 → BreaksTotals (marked_by t) (last_cycle t) report objects line
+  pub profile : n ≡ 9 → BreaksProfile t report objects line
 
 -- A report is broken at a line of rule n where it meets the rules before it, by some objects with their seats, and the
 -- line is the least that breaks rule n.

@@ -2,4 +2,5 @@ pub mod Lines
 pub mod Answers
 pub mod Placing
 pub mod Closing
+pub mod Published
 pub mod Broken

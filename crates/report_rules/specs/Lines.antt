@@ -18,6 +18,10 @@ sweep_at report k = length report.answers + length report.journal + k + 1
 abbrev pub total_at : Report → ℕ → ℕ
 total_at report k = length report.answers + length report.journal + length report.sweeps + k + 1
 
+-- The line of the profile at place k, from 0.
+abbrev pub profile_at : Report → ℕ → ℕ
+profile_at report k = length report.answers + length report.journal + length report.sweeps + length report.totals + k + 1
+
 -- The line `end`, which is the last.
 abbrev pub end_of : Report → ℕ
 end_of report = length report.answers + length report.journal + length report.sweeps + length report.totals + length report.profile + 1

@@ -6,7 +6,7 @@ ghost use Rattle.cycle_history.specs.declared.Report.{Report};
 ghost use Rattle.cycle_history.specs.Broken.{IsFirstBroken};
 ghost use Rattle.report_rules.specs.Broken.{IsBroken};
 
-/// A report that is broken at a line of one of the rules 1 to 6, or of rule 8, meets the rules before it, and not that rule.
+/// A report that is broken at a line of one of the rules 1 to 6, or of rule 8 or 9, meets the rules before it, and not that rule.
 pub fn a_broken_report_breaks_its_rule()
-    ensures { (t : Trace) (report : Report) (n : ℕ) (line : ℕ) → (n ≤ 6) ⊎ (n ≡ 8) → IsBroken t report n line → IsFirstBroken n t report }
+    ensures { (t : Trace) (report : Report) (n : ℕ) (line : ℕ) → (n ≤ 6) ⊎ ((n ≡ 8) ⊎ (n ≡ 9)) → IsBroken t report n line → IsFirstBroken n t report }
 {}

@@ -1,8 +1,8 @@
 //! Which line of a report breaks which rule.
 //!
-//! `specs/Lines.antt` numbers the lines of a report. `Answers.antt`, `Placing.antt` and `Closing.antt` say which of them
-//! breaks each rule, and `Broken.antt` which rule is the first and which line the least. `laws` says that where a line of
-//! one of the rules 1 to 6, or of rule 8, is named so, the report doesn't meet that rule.
+//! `specs/Lines.antt` numbers the lines of a report. `Answers.antt`, `Placing.antt`, `Closing.antt` and `Published.antt` say
+//! which of them breaks each rule, and `Broken.antt` which rule is the first and which line the least. `laws` says that where
+//! a line of one of the rules 1 to 6, or of rule 8 or 9, is named so, the report doesn't meet that rule.
 #![tactic(auto)]
 
 mod laws;

@@ -7,9 +7,9 @@ use Rattle.cycle_history.specs.declared.Report.{Report}
 use Rattle.cycle_history.specs.Requests.{Marking, marked_by, region_of, last_cycle}
 use Rattle.cycle_history.specs.Objects.{Object}
 use Rattle.cycle_history.specs.Sweeps.{AreTotals}
-use Rattle.cycle_history.specs.Sound.{past_in, HasAnswers, IsSoundAndUsed}
+use Rattle.cycle_history.specs.Sound.{past_in, HasAnswers, HasProfile, IsSoundAndUsed}
 use Rattle.sound_run.proofs.Ends.{start-run, next-keeps}
-use Rattle.sound_run.proofs.Notes.{notes-start, notes-next, run-sound_to_8}
+use Rattle.sound_run.proofs.Notes.{notes-start, notes-next, run-sound_to_9}
 use Rattle.cycle_history.proofs.Meets.{meets-sound}
 use Rattle.run_laws.specs.Reached.{Began, Reached}
 use Rattle.run_laws.proofs.Lines.{lines-by}
@@ -48,9 +48,9 @@ began-next marked region goal c past objects notes bits reached =
 -- the report of a run that has reached the end of the last cycle
 pub reached-sound : (t : Trace) (report : Report) (objects : List Object) (notes : List SweepNote) (bits : ℕ → ℕ → Bool)
     → Reached (marked_by t) (region_of t) t.header.goal (last_cycle t) (past_in report) objects notes bits → HasAnswers t report objects → report.sweeps ≡ reverse notes
-    → AreTotals (marked_by t) (last_cycle t) objects report.totals → IsSoundAndUsed t report
-reached-sound t report objects notes bits reached answers sweeps totals = (
+    → AreTotals (marked_by t) (last_cycle t) objects report.totals → HasProfile t report objects → IsSoundAndUsed t report
+reached-sound t report objects notes bits reached answers sweeps totals profile = (
   objects,
-  meets-sound t report objects (run-sound_to_8 t report objects notes reached.run answers reached.noted sweeps totals),
+  meets-sound t report objects (run-sound_to_9 t report objects notes reached.run answers reached.noted sweeps totals profile),
   record { wanted = reached.wanted; scavenged = λ c le. reached.scavenged c le },
 )

@@ -13,6 +13,7 @@ use Rattle.cycle_history.specs.Objects.{Object, is_placed}
 use Rattle.sound_run.specs.Run.{count_for, Fits, Lasts}
 use Rattle.sound_run.specs.Spans.{AreMarks}
 use Rattle.cycle_history.specs.Sound.{IsScavenged}
+pub use Rattle.cycle_history.specs.Profile.{placed_by}
 use Rattle.run_laws.specs.Lists.{passing, ArePaired}
 use Rattle.worker_log.specs.declared.Entry.{Entry}
 use Rattle.worker_log.specs.declared.Placing.{Placing}
@@ -129,10 +130,7 @@ is_missed (Placed address) = false
 is_missed Zero = false
 is_missed (Missed line) = true
 
--- The objects that a processor placed, and those that it missed.
-abbrev pub placed_by : ℕ → List Object → List Object
-placed_by w objects = passing (λ o. o.proc == w && is_placed o.answer) objects
-
+-- The objects that a processor missed.
 abbrev pub missed_by : ℕ → List Object → List Object
 missed_by w objects = passing (λ o. o.proc == w && is_missed o.answer) objects
 

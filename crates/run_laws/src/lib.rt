@@ -23,7 +23,7 @@ ghost use Rattle.cycle_history.specs.Objects.{Object};
 ghost use Rattle.cycle_history.specs.Marked.{AreMarksOf, AreObjectsBefore};
 ghost use Rattle.sound_run.specs.Run.{IsRun, Lasts};
 ghost use Rattle.cycle_history.specs.Sweeps.{AreTotals};
-ghost use Rattle.cycle_history.specs.Sound.{past_in, HasAnswers, IsScavenged, IsSoundAndUsed};
+ghost use Rattle.cycle_history.specs.Sound.{past_in, HasAnswers, HasProfile, IsScavenged, IsSoundAndUsed};
 ghost use Rattle.sweep_laws.specs.State.{CoreState};
 ghost use Rattle.sweep_laws.specs.Needs.{refusal, next_needs};
 ghost use Rattle.sweep_laws.specs.Changes.{after_next};
@@ -69,11 +69,13 @@ pub fn a_mark_end_begins_a_cycle()
         → Reached marked region goal c past objects notes bits → Began marked region goal (suc c) past objects notes bits }
 {}
 
-/// The report of a run that has reached the end of the trace's last cycle is sound and used.
+/// The report of a run that has reached the end of the trace's last cycle is sound and used, where its profile is that of
+/// the run's samples.
 pub fn a_reached_run_is_sound()
     ensures { (t : Trace) (report : Report) (objects : List Object) (notes : List SweepNote) (bits : ℕ → ℕ → Bool)
         → Reached (marked_by t) (region_of t) t.header.goal (last_cycle t) (past_in report) objects notes bits → HasAnswers t report objects
-        → report.sweeps ≡ reverse notes → AreTotals (marked_by t) (last_cycle t) objects report.totals → IsSoundAndUsed t report }
+        → report.sweeps ≡ reverse notes → AreTotals (marked_by t) (last_cycle t) objects report.totals
+        → HasProfile t report objects → IsSoundAndUsed t report }
 {}
 
 /// What the tallies' calls of the cycles up to a mark end publish is what the samples of the trace's objects say.

@@ -51,4 +51,5 @@ run-sound t report objects run answers = record {
   filling = λ le. run.filling;
   sweeps = λ le. absurd (omega arith);
   totals = λ le. absurd (omega arith);
+  profile = λ le. absurd (omega arith);
 }

@@ -12,7 +12,7 @@ use Rattle.cycle_history.specs.Requests.{Marking, marked_by, region_of, last_cyc
 use Rattle.cycle_history.specs.Objects.{Object}
 use Rattle.cycle_history.specs.Orders.{IsSweepBefore}
 use Rattle.cycle_history.specs.Sweeps.{IsOpenAfter, AreSwept, AreTotals}
-use Rattle.cycle_history.specs.Sound.{past_in, HasAnswers}
+use Rattle.cycle_history.specs.Sound.{past_in, HasAnswers, HasProfile}
 use Rattle.cycle_history.specs.Broken.{MeetsUpTo}
 use Rattle.sound_run.specs.Run.{IsRun}
 use Rattle.sound_run.specs.Notes.{AllDone, HasNotes}
@@ -112,11 +112,11 @@ notes-swept marked last past objects notes has = record {
   empty = λ m life lt h none. (has.done m lt life h).empty none;
 }
 
--- the rules 1 to 8
-pub run-sound_to_8 : (t : Trace) (report : Report) (objects : List Object) (notes : List SweepNote) → IsRun (marked_by t) (region_of t) t.header.goal (last_cycle t) (past_in report) objects
+-- all nine rules
+pub run-sound_to_9 : (t : Trace) (report : Report) (objects : List Object) (notes : List SweepNote) → IsRun (marked_by t) (region_of t) t.header.goal (last_cycle t) (past_in report) objects
     → HasAnswers t report objects → HasNotes (marked_by t) (last_cycle t) (last_cycle t) (past_in report) objects notes → report.sweeps ≡ reverse notes
-    → AreTotals (marked_by t) (last_cycle t) objects report.totals → MeetsUpTo 8 t report objects
-run-sound_to_8 t report objects notes run answers has sweeps totals =
+    → AreTotals (marked_by t) (last_cycle t) objects report.totals → HasProfile t report objects → MeetsUpTo 9 t report objects
+run-sound_to_9 t report objects notes run answers has sweeps totals profile =
     let six = run-sound t report objects run answers in
     record {
       answers = λ le. answers;
@@ -127,4 +127,5 @@ run-sound_to_8 t report objects notes run answers has sweeps totals =
       filling = λ le. six.filling (omega arith);
       sweeps = λ le. rw sweeps (notes-swept (marked_by t) (last_cycle t) (past_in report) objects notes has);
       totals = λ le. totals;
+      profile = λ le. profile;
     }

@@ -3,3 +3,4 @@ pub mod Numbers
 pub mod Pushing
 pub mod Resetting
 pub mod Sweeping
+pub mod Tallies

@@ -2,3 +2,4 @@ pub mod Pops
 pub mod Resets
 pub mod Sets
 pub mod Sweeps
+pub mod Tallies

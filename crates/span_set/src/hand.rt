@@ -1,6 +1,7 @@
 ghost use Rattle.std.specs.Prelude.{◌≡◌, ◌<◌, ◌≤◌, [], length, OnOk, OnErr};
 
 use fallible_list::NoMemory;
+use profile_cycle::{Ring, Tally};
 use span_state::{Marks, SweepNote};
 use span_table::{Shared, Worker};
 use std::alloc::Global;
@@ -13,30 +14,36 @@ pub struct Shop<'a> {
     pub shared: &'a Shared,
     /// The marks of the last mark end.
     pub marks: &'a Marks,
+    /// The ring of the profile, whose tallies count the sampled objects that sweeps free.
+    pub ring: &'a Ring,
     /// The bytes from one payment for sweeping to the next, at least 8192.
     pub distance: u64,
     /// The pages that were to be swept at the last mark end.
     pub pages: u32,
 }
 
-/// A worker, and the notes of its sweeps with room for more.
+/// A worker, the notes of its sweeps with room for more, and its tally of the profile.
 #[derive(Drop)]
 pub struct Hand {
     /// The worker.
     pub worker: Worker,
     /// Its sweeps of this cycle, the oldest first.
     pub notes: Entries<SweepNote>,
+    /// What it counted of the sampled objects.
+    pub tally: Tally,
 }
 
 impl Hand {
-    /// A worker's hand, without notes, and without room for one.
-    pub fn new(alloc: Global, worker: Worker) -> Hand
+    /// A worker's hand with its tally, without notes, and without room for one.
+    pub fn new(alloc: Global, worker: Worker, tally: Tally) -> Hand
         ensures worker { result.worker ≡ worker }
         ensures notes { result.notes ≡ record { items = []; space = 0 } }
+        ensures tally { result.tally ≡ tally }
     {
         Hand {
             worker,
             notes: Entries::new(alloc),
+            tally,
         }
     }
 
@@ -46,6 +53,7 @@ impl Hand {
         ensures notes { self.new.notes.items ≡ self.old.notes.items }
         ensures grows { self.old.notes.space ≤ self.new.notes.space }
         ensures worker { self.new.worker ≡ self.old.worker }
+        ensures tally { self.new.tally ≡ self.old.tally }
         ensures err { OnErr result (self.new ≡ self.old) }
     {
         self.notes.reserve_one()

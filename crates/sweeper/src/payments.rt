@@ -1,5 +1,6 @@
 ghost use Rattle.std.specs.Prelude.{◌≡◌, ◌<◌, ◌≤◌, [], true, None};
 ghost use Rattle.span_set.specs.Sets.{unswept_of};
+ghost use Rattle.span_set.specs.Tallies.{Frees, MayCount};
 ghost use Rattle.sweeper.specs.Pays.{Pays, target_of};
 ghost use Rattle.sweeper.specs.Steps.{SweepsSet, SweepsUntil};
 ghost use Rattle.sweeper.specs.Sweeps.{Finishes};
@@ -41,7 +42,9 @@ fn sweep_set(
     requires unclaimed { hand.old.worker.view.own.claimed ≡ None }
     requires unpopped { hand.old.worker.view.own.popped ≡ [] }
     requires class { set.class < 136 }
-    ensures { SweepsSet (unswept_of hand.old.worker.view.generation set) target hand.old hand.new result }
+    requires counts { MayCount shop.now.ring.now shop.now.marks.now hand.old.tally }
+    ensures did { SweepsSet (unswept_of hand.old.worker.view.generation set) target hand.old hand.new result }
+    ensures tally { Frees shop.now.marks.now hand.old hand.new }
 {
     for _ in 0..u64::MAX {
         let seen = shop.shared.swept(&mut hand.worker);
@@ -64,7 +67,9 @@ fn sweep_until(shop: &Shop, hand: &mut Hand, target: u128) -> Result<Option<u64>
     requires marks { shop.now.marks.now.pairs ≡ hand.old.worker.view.marks }
     requires unclaimed { hand.old.worker.view.own.claimed ≡ None }
     requires unpopped { hand.old.worker.view.own.popped ≡ [] }
-    ensures { SweepsUntil 272 target hand.old hand.new result }
+    requires counts { MayCount shop.now.ring.now shop.now.marks.now hand.old.tally }
+    ensures did { SweepsUntil 272 target hand.old hand.new result }
+    ensures tally { Frees shop.now.marks.now hand.old hand.new }
 {
     for index in 0..SETS {
         if let Some(seen) = sweep_set(shop, hand, set_at(index), target)? {
@@ -87,7 +92,9 @@ pub fn pay(shop: &Shop, hand: &mut Hand, bytes: u64, credit: u32) -> Result<Paid
     requires marks { shop.now.marks.now.pairs ≡ hand.old.worker.view.marks }
     requires unclaimed { hand.old.worker.view.own.claimed ≡ None }
     requires unpopped { hand.old.worker.view.own.popped ≡ [] }
-    ensures { Pays shop.now.pages shop.now.distance bytes credit hand.old hand.new result }
+    requires counts { MayCount shop.now.ring.now shop.now.marks.now hand.old.tally }
+    ensures did { Pays shop.now.pages shop.now.distance bytes credit hand.old hand.new result }
+    ensures tally { Frees shop.now.marks.now hand.old hand.new }
 {
     let generation = shop.shared.generation(&mut hand.worker);
     let spent = shop.shared.spent(&mut hand.worker);
@@ -109,7 +116,9 @@ pub fn finish(shop: &Shop, driver: &mut Hand) -> Result<(), NoMemory>
     requires marks { shop.now.marks.now.pairs ≡ driver.old.worker.view.marks }
     requires unclaimed { driver.old.worker.view.own.claimed ≡ None }
     requires unpopped { driver.old.worker.view.own.popped ≡ [] }
-    ensures { Finishes driver.old driver.new result }
+    requires counts { MayCount shop.now.ring.now shop.now.marks.now driver.old.tally }
+    ensures did { Finishes driver.old driver.new result }
+    ensures tally { Frees shop.now.marks.now driver.old driver.new }
 {
     sweep_until(shop, driver, ALL)?;
     Ok(())

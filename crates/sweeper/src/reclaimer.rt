@@ -1,4 +1,5 @@
 ghost use Rattle.std.specs.Prelude.{◌≡◌, ◌*◌, ◌<◌, ◌≤◌, [], true, None};
+ghost use Rattle.span_set.specs.Tallies.{Frees, MayCount};
 ghost use Rattle.sweeper.specs.Reclaims.{Reclaims};
 ghost use Rattle.sweeper.specs.Steps.{ReclaimsChunk, ReclaimsPage};
 
@@ -28,7 +29,9 @@ fn reclaim_page(shop: &Shop, hand: &mut Hand, page: u32) -> Result<u32, NoMemory
     requires unclaimed { hand.old.worker.view.own.claimed ≡ None }
     requires unpopped { hand.old.worker.view.own.popped ≡ [] }
     requires page { page < hand.old.worker.view.region }
-    ensures { ReclaimsPage page hand.old hand.new result }
+    requires counts { MayCount shop.now.ring.now shop.now.marks.now hand.old.tally }
+    ensures did { ReclaimsPage page hand.old hand.new result }
+    ensures tally { Frees shop.now.marks.now hand.old hand.new }
 {
     if shop.marks.count(page) > 0 {
         return Ok(0);
@@ -55,7 +58,9 @@ fn reclaim_chunk(shop: &Shop, hand: &mut Hand, chunk: u32, region: u32) -> Resul
     requires region { region ≡ hand.old.worker.view.region }
     requires few { region ≤ 65536 }
     requires chunk { 512 * chunk < region }
-    ensures { ReclaimsChunk chunk hand.old hand.new result }
+    requires counts { MayCount shop.now.ring.now shop.now.marks.now hand.old.tally }
+    ensures did { ReclaimsChunk chunk hand.old hand.new result }
+    ensures tally { Frees shop.now.marks.now hand.old hand.new }
 {
     let first = CHUNK * chunk;
     let mut given: u32 = 0;
@@ -78,7 +83,9 @@ pub fn reclaim(shop: &Shop, hand: &mut Hand, pages: u32) -> Result<u32, NoMemory
     requires marks { shop.now.marks.now.pairs ≡ hand.old.worker.view.marks }
     requires unclaimed { hand.old.worker.view.own.claimed ≡ None }
     requires unpopped { hand.old.worker.view.own.popped ≡ [] }
-    ensures { Reclaims pages hand.old hand.new result }
+    requires counts { MayCount shop.now.ring.now shop.now.marks.now hand.old.tally }
+    ensures did { Reclaims pages hand.old hand.new result }
+    ensures tally { Frees shop.now.marks.now hand.old hand.new }
 {
     let region = shop.shared.region(&hand.worker);
     let chunks = region.div_ceil(CHUNK);

@@ -1,6 +1,7 @@
 ghost use Rattle.std.specs.Prelude.{◌≡◌, ◌<◌, ◌≤◌, true, None, length};
 ghost use Rattle.span_laws.specs.Asks.{IsUntouched};
 ghost use Rattle.span_set.specs.Sweeps.{MaySweep};
+ghost use Rattle.span_set.specs.Tallies.{Frees, MayCount};
 ghost use Rattle.sweeper.specs.Steps.{Settles};
 
 use span_set::{Hand, SetId, Shop, push, sweep_in_hand};
@@ -17,7 +18,9 @@ pub fn settle(shop: &Shop, hand: &mut Hand, body: Body) -> SweepNote
     requires class { body.class < 136 }
     requires may { MaySweep shop.now.marks.now body hand.old.worker }
     requires untouched { IsUntouched hand.old.worker.view.generation hand.old.worker.view.own body.page }
-    ensures { Settles shop.now.marks.now body hand.old hand.new result }
+    requires counts { MayCount shop.now.ring.now shop.now.marks.now hand.old.tally }
+    ensures did { Settles shop.now.marks.now body hand.old hand.new result }
+    ensures tally { Frees shop.now.marks.now hand.old hand.new }
 {
     let generation = shop.shared.generation(&mut hand.worker);
     let mut body = body;

@@ -1,5 +1,6 @@
 ghost use Rattle.std.specs.Prelude.{◌≡◌, ◌<◌, ◌≤◌, [], true, None};
 ghost use Rattle.page_alloc.specs.Journal.{IsSpanSize};
+ghost use Rattle.span_set.specs.Tallies.{Frees, MayCount};
 ghost use Rattle.sweeper.specs.NewSpans.{MakesSpan, SweepsAndTakes};
 
 use crate::payments::finish;
@@ -24,7 +25,9 @@ pub fn new_span(shop: &Shop, hand: &mut Hand, n: u32, class: u8) -> Result<Body,
     requires unpopped { hand.old.worker.view.own.popped ≡ [] }
     requires size { IsSpanSize class n }
     requires class { class < 136 }
-    ensures { MakesSpan n class hand.old hand.new result }
+    requires counts { MayCount shop.now.ring.now shop.now.marks.now hand.old.tally }
+    ensures did { MakesSpan n class hand.old hand.new result }
+    ensures tally { Frees shop.now.marks.now hand.old hand.new }
 {
     let Ok(_) = reclaim(shop, hand, n) else {
         return Err(Refused::NoMemory);
@@ -46,7 +49,9 @@ fn sweep_and_take(shop: &Shop, hand: &mut Hand, n: u32, class: u8) -> Result<Bod
     requires unpopped { hand.old.worker.view.own.popped ≡ [] }
     requires size { IsSpanSize class n }
     requires class { class < 136 }
-    ensures { SweepsAndTakes n class hand.old hand.new result }
+    requires counts { MayCount shop.now.ring.now shop.now.marks.now hand.old.tally }
+    ensures did { SweepsAndTakes n class hand.old hand.new result }
+    ensures tally { Frees shop.now.marks.now hand.old hand.new }
 {
     let Ok(()) = finish(shop, hand) else {
         return Err(Refused::NoMemory);

@@ -1,5 +1,6 @@
 ghost use Rattle.std.specs.Prelude.{◌≡◌, ◌<◌, ◌≤◌, [], true, None, length};
 ghost use Rattle.span_set.specs.Sets.{unswept_of};
+ghost use Rattle.span_set.specs.Tallies.{Frees, MayCount};
 ghost use Rattle.sweeper.specs.Steps.{SweepsNext, TriesEntry, nth_unswept};
 ghost use Rattle.sweeper.specs.Sweeps.{SweepsOne};
 
@@ -46,7 +47,9 @@ fn try_entry(shop: &Shop, hand: &mut Hand, set: SetId) -> Tried
     requires unclaimed { hand.old.worker.view.own.claimed ≡ None }
     requires unpopped { hand.old.worker.view.own.popped ≡ [] }
     requires class { set.class < 136 }
-    ensures { TriesEntry (unswept_of hand.old.worker.view.generation set) hand.old hand.new result }
+    requires counts { MayCount shop.now.ring.now shop.now.marks.now hand.old.tally }
+    ensures did { TriesEntry (unswept_of hand.old.worker.view.generation set) hand.old hand.new result }
+    ensures tally { Frees shop.now.marks.now hand.old hand.new }
 {
     let page = match pop_unswept(shop.shared, &mut hand.worker, set) {
         PopBase::Popped(page) => page,
@@ -69,7 +72,9 @@ pub(crate) fn sweep_next(shop: &Shop, hand: &mut Hand, set: SetId) -> Option<Swe
     requires unclaimed { hand.old.worker.view.own.claimed ≡ None }
     requires unpopped { hand.old.worker.view.own.popped ≡ [] }
     requires class { set.class < 136 }
-    ensures { SweepsNext (unswept_of hand.old.worker.view.generation set) hand.old hand.new result }
+    requires counts { MayCount shop.now.ring.now shop.now.marks.now hand.old.tally }
+    ensures did { SweepsNext (unswept_of hand.old.worker.view.generation set) hand.old hand.new result }
+    ensures tally { Frees shop.now.marks.now hand.old hand.new }
 {
     for _ in 0..u64::MAX {
         match try_entry(shop, hand, set) {
@@ -94,7 +99,9 @@ pub fn sweep_one(shop: &Shop, hand: &mut Hand) -> Result<One, NoMemory>
     requires marks { shop.now.marks.now.pairs ≡ hand.old.worker.view.marks }
     requires unclaimed { hand.old.worker.view.own.claimed ≡ None }
     requires unpopped { hand.old.worker.view.own.popped ≡ [] }
-    ensures { SweepsOne hand.old hand.new result }
+    requires counts { MayCount shop.now.ring.now shop.now.marks.now hand.old.tally }
+    ensures did { SweepsOne hand.old hand.new result }
+    ensures tally { Frees shop.now.marks.now hand.old hand.new }
 {
     hand.reserve_note()?;
     for index in 0..SETS {

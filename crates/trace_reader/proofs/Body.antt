@@ -6,12 +6,12 @@ use Rattle.edge_io.specs.Line.{IsLine}
 use Rattle.edge_io.specs.Reading.{line_of, number_of, room_of}
 use Rattle.trace_reader.specs.declared.draft.Draft.{Draft}
 use Rattle.trace_reader.specs.declared.fault.TraceFault.{TraceFault}
-use Rattle.trace_reader.specs.declared.fault.TraceFault.TheVariants.{ReadFault, Malformed, Truncated, Limit, BadMark, NoMemory, Later}
+use Rattle.trace_reader.specs.declared.fault.TraceFault.TheVariants.{ReadFault, Malformed, Truncated, Limit, BadMark, NoMemory}
 use Rattle.trace_reader.specs.declared.statement.Statement.{Statement}
 use Rattle.trace_reader.specs.declared.statement.Statement.TheVariants.{Title, Heap, End}
 use Rattle.trace_reader.specs.Spelling.{line_for}
 use Rattle.trace_reader.specs.Says.{said}
-use Rattle.trace_reader.specs.Refusal.{needs_later, next_number, said_fault}
+use Rattle.trace_reader.specs.Refusal.{next_number, said_fault}
 use Rattle.trace_reader.specs.Good.{AreGood}
 use Rattle.trace_reader.specs.Taken.{StandsInLine, Takes, TakesLines}
 use Rattle.trace_reader.specs.Told.{IsOfTrace, TellsFault}
@@ -25,13 +25,13 @@ use Rattle.trace_reader.proofs.Cycles.{good_append, onto-append}
 -- the draft has what was read from one place to another
 pub record HasRead {S : Type 0} (left : S → Option (List ℕ)) (a b : Lines S) (procs : ℕ) (d : Draft) : Type 0 where
   pub lines : TakesLines left a b (told_of d)
-  pub good : (past : List Statement) → IsStart past procs → AreGood needs_later past (told_of d)
+  pub good : (past : List Statement) → IsStart past procs → AreGood past (told_of d)
   pub follows : (past : List Statement) → IsStart past procs → Follows (onto (told_of d) past) d
 
 pub read_nothing : {S : Type 0} (left : S → Option (List ℕ)) (a : Lines S) (procs : ℕ) (d : Draft) → told_of d ≡ [] → ((past : List Statement) → IsStart past procs → Follows past d) → HasRead left a a procs d
 read_nothing left a procs d none follows = record {
   lines = subst (TakesLines left a a) (sym none) (TakesLines-nil left a);
-  good = λ past start. subst (AreGood needs_later past) (sym none) tt;
+  good = λ past start. subst (AreGood past) (sym none) tt;
   follows = λ past start. subst (λ (ss : List Statement). Follows (onto ss past) d) (sym none) (follows past start);
 }
 
@@ -49,7 +49,7 @@ read_more left a b c procs d e shown o read takes is_line counted same is took =
     let told = at.2.told in
     record {
       lines = subst (TakesLines left a c) (sym told) (TakesLines-trans left a b c (told_of d) (s ∷ []) read.lines (takes_line left b c (line_of c) s takes counted says));
-      good = λ past start. subst (AreGood needs_later past) (sym told) (good_append needs_later past (told_of d) (s ∷ []) (read.good past start) (
+      good = λ past start. subst (AreGood past) (sym told) (good_append past (told_of d) (s ∷ []) (read.good past start) (
         record { is_line = subst IsLine form is_line; says = ap said (sym form) ∙ says; not_end = at.2.goes_on; no_fault = at.2.faultless (onto (told_of d) past) (read.follows past start) },
         tt,
       ));
@@ -64,20 +64,19 @@ fault_on left a b c procs d past fault read start tells = tells_behind left a b 
 -- the fault of the line behind what was read, which is no read fault
 pub fault_told : {S : Type 0} (left : S → Option (List ℕ)) (a b c : Lines S) (procs : ℕ) (d : Draft) (shown : List ℕ) (number : ℕ) (o : Option Statement) (past : List Statement) (fault : TraceFault) → HasRead left a b procs d → IsStart past procs
     → Takes left b c (line_of c ++ 10 ∷ []) → IsLine (line_of c) → number_of c ≡ next_number (number_of b) → shown ≡ line_of c → o ≡ said shown → number ≡ number_of c → (fault ≡ ReadFault → ⊥)
-    → (IsOfTrace fault → (past : List Statement) → Follows past d → said_fault needs_later number past o ≡ Some fault) → TellsFault left a c past fault
+    → (IsOfTrace fault → (past : List Statement) → Follows past d → said_fault number past o ≡ Some fault) → TellsFault left a c past fault
 fault_told left a b c procs d shown number o past fault read start takes is_line counted same is same_number no_read says =
     fault_on left a b c procs d past fault read start (tells fault no_read (λ of. says of (onto (told_of d) past) (read.follows past start))) where
-      said_here : (fault : TraceFault) → said_fault needs_later number (onto (told_of d) past) o ≡ Some fault → TellsFault left b c (onto (told_of d) past) fault
-      said_here fault e = tells_said left b c shown number (onto (told_of d) past) fault takes is_line counted same same_number (ap (λ (o : Option Statement). said_fault needs_later number (onto (told_of d) past) o) (sym is) ∙ e)
+      said_here : (fault : TraceFault) → said_fault number (onto (told_of d) past) o ≡ Some fault → TellsFault left b c (onto (told_of d) past) fault
+      said_here fault e = tells_said left b c shown number (onto (told_of d) past) fault takes is_line counted same same_number (ap (λ (o : Option Statement). said_fault number (onto (told_of d) past) o) (sym is) ∙ e)
 
-      tells : (fault : TraceFault) → (fault ≡ ReadFault → ⊥) → (IsOfTrace fault → said_fault needs_later number (onto (told_of d) past) o ≡ Some fault) → TellsFault left b c (onto (told_of d) past) fault
+      tells : (fault : TraceFault) → (fault ≡ ReadFault → ⊥) → (IsOfTrace fault → said_fault number (onto (told_of d) past) o ≡ Some fault) → TellsFault left b c (onto (told_of d) past) fault
       tells ReadFault no_read says = absurd (no_read refl)
       tells (Malformed line) no_read says = said_here (Malformed line) (says tt)
       tells (Truncated line) no_read says = said_here (Truncated line) (says tt)
       tells (Limit line which) no_read says = said_here (Limit line which) (says tt)
       tells (BadMark line object) no_read says = said_here (BadMark line object) (says tt)
       tells NoMemory no_read says = tells_memory left b c (onto (told_of d) past)
-      tells (Later line) no_read says = said_here (Later line) (says tt)
 
 -- lines up to a header with so many processors
 header : ℕ → List Statement
@@ -88,7 +87,7 @@ unfolding header
 header_starts procs = (record { chunks = 0; procs = procs; rate = 0; seed = 0; goal = 0 }, refl, refl)
 
 pub stands_on : {S : Type 0} (left : S → Option (List ℕ)) (a b c : Lines S) (procs : ℕ) (d : Draft) → HasRead left a b procs d → StandsInLine left b c → StandsInLine left a c
-stands_on left a b c procs d read stands = stands_behind left a b c (told_of d) read.lines (lines_of_good needs_later (header procs) (told_of d) (read.good (header procs) (header_starts procs))) stands
+stands_on left a b c procs d read stands = stands_behind left a b c (told_of d) read.lines (lines_of_good (header procs) (told_of d) (read.good (header procs) (header_starts procs))) stands
 
 pub all_ended : {S : Type 0} (left : S → Option (List ℕ)) (a b : Lines S) (procs : ℕ) (d : Draft) → HasRead left a b procs d → AllByRecursion HasEnd d.cycles
 all_ended left a b procs d read = (read.follows (header procs) (header_starts procs)).0.ended

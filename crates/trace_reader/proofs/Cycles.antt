@@ -53,17 +53,17 @@ either false b e = elim e [ inl f ↦ absurd cc | inr f ↦ f ]
 
 -- Events
 
-alloc_good : (later : Statement → Bool) (past : List Statement) (procs objects ends marks : ℕ) (e : Event) → procs < 2 ^ 32 → Counts past procs objects ends marks → EventFits procs e → later (alloc_of e) ≡ false
-    → objects < 1000000 → IsGood later past (alloc_of e)
-alloc_good later past procs objects ends marks e low counts fits built few =
+alloc_good : (past : List Statement) (procs objects ends marks : ℕ) (e : Event) → procs < 2 ^ 32 → Counts past procs objects ends marks → EventFits procs e
+    → objects < 1000000 → IsGood past (alloc_of e)
+alloc_good past procs objects ends marks e low counts fits few =
     let short = short_event procs e low fits in
     let proc = fits.proc in
     record {
       is_line = alloc_is_line (form_of e) short;
       says = said_line (alloc_of e) short;
       not_end = refl;
-      no_fault = fault_none later past (alloc_of e) (follows_any past e counts.body)
-          (pass _ _ _ (below_true e.proc (procs_of past) (rw counts.procs_are proc)) (pass _ _ _ (at_most e.size (2 ^ 40) fits.size) (pass _ _ _ (at_most e.stack 999999 fits.stack) refl))) built
+      no_fault = fault_none past (alloc_of e) (follows_any past e counts.body)
+          (pass _ _ _ (below_true e.proc (procs_of past) (rw counts.procs_are proc)) (pass _ _ _ (at_most e.size (2 ^ 40) fits.size) (pass _ _ _ (at_most e.stack 999999 fits.stack) refl)))
           (pass _ _ _ (below_true (objects_of past) 1000000 (rw counts.objects_are few)) refl) refl;
     }
 
@@ -76,12 +76,12 @@ after_alloc past procs objects ends marks e counts = record {
   marks_are = counts.marks_are;
 }
 
-allocs_good : (later : Statement → Bool) (past : List Statement) (procs objects ends marks : ℕ) (es : List Event) → procs < 2 ^ 32 → Counts past procs objects ends marks → AllByRecursion (EventFits procs) es
-    → AllByRecursion (λ s. later s ≡ false) (map alloc_of es) → objects + length es ≤ 1000000 → AreGood later past (map alloc_of es)
-allocs_good later past procs objects ends marks [] low counts fits built few = tt
-allocs_good later past procs objects ends marks (e ∷ es) low counts fits built few = (
-  alloc_good later past procs objects ends marks e low counts fits.0 built.0 (omega arith),
-  allocs_good later (alloc_of e ∷ past) procs (objects + 1) ends marks es low (after_alloc past procs objects ends marks e counts) fits.1 built.1 (omega arith),
+allocs_good : (past : List Statement) (procs objects ends marks : ℕ) (es : List Event) → procs < 2 ^ 32 → Counts past procs objects ends marks → AllByRecursion (EventFits procs) es
+    → objects + length es ≤ 1000000 → AreGood past (map alloc_of es)
+allocs_good past procs objects ends marks [] low counts fits few = tt
+allocs_good past procs objects ends marks (e ∷ es) low counts fits few = (
+  alloc_good past procs objects ends marks e low counts fits.0 (omega arith),
+  allocs_good (alloc_of e ∷ past) procs (objects + 1) ends marks es low (after_alloc past procs objects ends marks e counts) fits.1 (omega arith),
 )
 
 pub after_allocs : (past : List Statement) (procs objects ends marks : ℕ) (es : List Event) → Counts past procs objects ends marks → Counts (onto (map alloc_of es) past) procs (objects + length es) ends marks
@@ -135,17 +135,17 @@ follows_mark [] lo hi body begins rising = absurd body
 follows_mark (a ∷ []) lo hi body begins rising = absurd body
 follows_mark (a ∷ b ∷ past) lo hi body begins rising = both (nat_le lo hi) (may_begin a lo) (at_most lo hi rising) (begins a (b ∷ past) refl)
 
-mark_good : (later : Statement → Bool) (past ended : List Statement) (procs objects ends marks from : ℕ) (s : Span) → Marking past ended procs objects ends marks from → from ≤ s.lo → s.lo ≤ s.hi → s.hi ≤ 999999
-    → later (mark_of s) ≡ false → marks + (s.hi + 1 - s.lo) ≤ 20000000 → ((i : ℕ) → s.lo ≤ i → i ≤ s.hi → is_live ended i ≡ true) → IsGood later past (mark_of s)
-mark_good later past ended procs objects ends marks from s marking low rising high built few live =
+mark_good : (past ended : List Statement) (procs objects ends marks from : ℕ) (s : Span) → Marking past ended procs objects ends marks from → from ≤ s.lo → s.lo ≤ s.hi → s.hi ≤ 999999
+    → marks + (s.hi + 1 - s.lo) ≤ 20000000 → ((i : ℕ) → s.lo ≤ i → i ≤ s.hi → is_live ended i ≡ true) → IsGood past (mark_of s)
+mark_good past ended procs objects ends marks from s marking low rising high few live =
     let counts = marking.counts in
     let short : Short (mark_of s) = (omega arith, (omega arith, tt)) in
     record {
       is_line = mark_is_line s.lo s.hi short;
       says = said_line (mark_of s) short;
       not_end = refl;
-      no_fault = fault_none later past (mark_of s) (follows_mark past s.lo s.hi counts.body (λ t rest e. marking.begins t rest e s.lo low) rising)
-          (pass _ _ _ (at_most s.lo 999999 (omega arith)) (pass _ _ _ (at_most s.hi 999999 high) refl)) built
+      no_fault = fault_none past (mark_of s) (follows_mark past s.lo s.hi counts.body (λ t rest e. marking.begins t rest e s.lo low) rising)
+          (pass _ _ _ (at_most s.lo 999999 (omega arith)) (pass _ _ _ (at_most s.hi 999999 high) refl))
           (pass _ _ _ (at_most (marks_of past + (s.hi + 1 - s.lo)) 20000000 (rw counts.marks_are few)) refl)
           (find_none (λ i. not (is_live (before_mark_end past) i)) s.lo (s.hi + 1 - s.lo) (λ i least most. ap not (ap (λ (lines : List Statement). is_live lines i) marking.before ∙ live i least (omega arith))));
     }
@@ -164,13 +164,13 @@ after_mark past ended procs objects ends marks from s marking = record {
   begins = λ t rest e lo low. let same : t ≡ mark_of s = cc in rw same (below_true s.hi lo (omega arith));
 }
 
-marks_good : (later : Statement → Bool) (past ended : List Statement) (procs objects ends marks from : ℕ) (ss : List Span) → Marking past ended procs objects ends marks from → AreSpans from ss
-    → AllByRecursion (λ s. later s ≡ false) (map mark_of ss) → marks + sum_by (λ s. s.hi + 1 - s.lo) ss ≤ 20000000 → ((i : ℕ) → IsMarked ss i → is_live ended i ≡ true) → AreGood later past (map mark_of ss)
-marks_good later past ended procs objects ends marks from [] marking spans built few live = tt
-marks_good later past ended procs objects ends marks from (s ∷ ss) marking spans built few live =
+marks_good : (past ended : List Statement) (procs objects ends marks from : ℕ) (ss : List Span) → Marking past ended procs objects ends marks from → AreSpans from ss
+    → marks + sum_by (λ s. s.hi + 1 - s.lo) ss ≤ 20000000 → ((i : ℕ) → IsMarked ss i → is_live ended i ≡ true) → AreGood past (map mark_of ss)
+marks_good past ended procs objects ends marks from [] marking spans few live = tt
+marks_good past ended procs objects ends marks from (s ∷ ss) marking spans few live =
     let cons = sum_by-cons (λ (t : Span). t.hi + 1 - t.lo) s ss in (
-      mark_good later past ended procs objects ends marks from s marking spans.0 spans.1 spans.2 built.0 (omega arith) (λ i low high. live i (inl (low, high))),
-      marks_good later (mark_of s ∷ past) ended procs objects ends (marks + (s.hi + 1 - s.lo)) (s.hi + 1) ss (after_mark past ended procs objects ends marks from s marking) spans.3 built.1 (omega arith) (λ i marked. live i (inr marked)),
+      mark_good past ended procs objects ends marks from s marking spans.0 spans.1 spans.2 (omega arith) (λ i low high. live i (inl (low, high))),
+      marks_good (mark_of s ∷ past) ended procs objects ends (marks + (s.hi + 1 - s.lo)) (s.hi + 1) ss (after_mark past ended procs objects ends marks from s marking) spans.3 (omega arith) (λ i marked. live i (inr marked)),
     )
 
 pub after_marks : (past ended : List Statement) (procs objects ends marks from : ℕ) (ss : List Span) → Marking past ended procs objects ends marks from
@@ -198,14 +198,14 @@ marks_live (t ∷ ts) s past marked same all = λ i one.
 
 -- A mark end
 
-gc_good : (later : Statement → Bool) (past : List Statement) (procs objects ends marks d : ℕ) → Counts past procs objects ends marks → 1 ≤ d → d ≤ 2 ^ 40 → later (Gc d) ≡ false → ends < 10000 → IsGood later past (Gc d)
-gc_good later past procs objects ends marks d counts least most built few =
+gc_good : (past : List Statement) (procs objects ends marks d : ℕ) → Counts past procs objects ends marks → 1 ≤ d → d ≤ 2 ^ 40 → ends < 10000 → IsGood past (Gc d)
+gc_good past procs objects ends marks d counts least most few =
     let short : Short (Gc d) = (omega arith, tt) in
     record {
       is_line = gc_is_line d short;
       says = said_line (Gc d) short;
       not_end = refl;
-      no_fault = fault_none later past (Gc d) (follows_gc past d counts.body) (pass _ _ _ (within_true 1 (2 ^ 40) d least most) refl) built
+      no_fault = fault_none past (Gc d) (follows_gc past d counts.body) (pass _ _ _ (within_true 1 (2 ^ 40) d least most) refl)
           (pass _ _ _ (below_true (mark_ends_of past) 10000 (rw counts.ends_are few)) refl) refl;
     }
 
@@ -228,9 +228,9 @@ pub onto-append : (ss ts past : List Statement) → onto (ss ++ ts) past ≡ ont
 onto-append [] ts past = refl
 onto-append (s ∷ ss) ts past = onto-append ss ts (s ∷ past)
 
-pub good_append : (later : Statement → Bool) (past ss ts : List Statement) → AreGood later past ss → AreGood later (onto ss past) ts → AreGood later past (ss ++ ts)
-good_append later past [] ts good more = more
-good_append later past (s ∷ ss) ts good more = (good.0, good_append later (s ∷ past) ss ts good.1 more)
+pub good_append : (past ss ts : List Statement) → AreGood past ss → AreGood (onto ss past) ts → AreGood past (ss ++ ts)
+good_append past [] ts good more = more
+good_append past (s ∷ ss) ts good more = (good.0, good_append (s ∷ past) ss ts good.1 more)
 
 pub all_front : {X : Type 0} (P : X → Type 0) (xs ys : List X) → AllByRecursion P (xs ++ ys) → AllByRecursion P xs
 all_front P [] ys all = tt
@@ -244,55 +244,49 @@ pub body_onto : (ss past : List Statement) → IsBody past → IsBody (onto ss p
 body_onto [] past body = body
 body_onto (s ∷ ss) past body = body_onto ss (s ∷ past) (body_more past s body)
 
-abbrev Built : (Statement → Bool) → List Statement → Type 0
-Built later ss = AllByRecursion (λ s. later s ≡ false) ss
-
 -- a cycle with its mark end
-record CycleDone (later : Statement → Bool) (past : List Statement) (procs first ends marks : ℕ) (es : List Event) (m : MarkEnd) : Type 0 where
-  good : AreGood later past (map alloc_of es ++ mark_statements (Some m))
+record CycleDone (past : List Statement) (procs first ends marks : ℕ) (es : List Event) (m : MarkEnd) : Type 0 where
+  good : AreGood past (map alloc_of es ++ mark_statements (Some m))
   counts : Counts (onto (map alloc_of es ++ mark_statements (Some m)) past) procs (first + length es) (ends + 1) (marks + marked_by (Some m))
   live : AllLive (onto (map alloc_of es ++ mark_statements (Some m)) past) (IsMarked m.marks)
 
-cycle_done : (later : Statement → Bool) (past : List Statement) (procs first ends marks : ℕ) (live : ℕ → Type 0) (es : List Event) (m : MarkEnd) → procs < 2 ^ 32 → Counts past procs first ends marks → AllLive past live
-    → AllByRecursion (EventFits procs) es → Built later (map alloc_of es ++ mark_statements (Some m)) → first + length es ≤ 1000000 → ends < 10000 → marks + marked_by (Some m) ≤ 20000000
-    → 1 ≤ m.distance → m.distance ≤ 2 ^ 40 → AreSpans 0 m.marks → ((i : ℕ) → IsMarked m.marks i → live i ⊎ ((first ≤ i) × (i < first + length es))) → CycleDone later past procs first ends marks es m
-cycle_done later past procs first ends marks live es m low counts alive fits built few rare sparse least most spans marked =
+cycle_done : (past : List Statement) (procs first ends marks : ℕ) (live : ℕ → Type 0) (es : List Event) (m : MarkEnd) → procs < 2 ^ 32 → Counts past procs first ends marks → AllLive past live
+    → AllByRecursion (EventFits procs) es → first + length es ≤ 1000000 → ends < 10000 → marks + marked_by (Some m) ≤ 20000000
+    → 1 ≤ m.distance → m.distance ≤ 2 ^ 40 → AreSpans 0 m.marks → ((i : ℕ) → IsMarked m.marks i → live i ⊎ ((first ≤ i) × (i < first + length es))) → CycleDone past procs first ends marks es m
+cycle_done past procs first ends marks live es m low counts alive fits few rare sparse least most spans marked =
     let allocs = map alloc_of es in
     let past1 = onto allocs past in
-    let built1 = all_front (λ s. later s ≡ false) allocs (mark_statements (Some m)) built in
-    let built2 = all_back (λ s. later s ≡ false) allocs (mark_statements (Some m)) built in
-    let good1 = allocs_good later past procs first ends marks es low counts fits built1 few in
+    let good1 = allocs_good past procs first ends marks es low counts fits few in
     let counts1 = after_allocs past procs first ends marks es counts in
     let live1 = allocs_live es past first live counts.objects_are alive in
-    let gc = gc_good later past1 procs (first + length es) ends marks m.distance counts1 least most built2.0 rare in
+    let gc = gc_good past1 procs (first + length es) ends marks m.distance counts1 least most rare in
     let marking = after_gc past1 procs (first + length es) ends marks m.distance counts1 in
-    let good2 = marks_good later (Gc m.distance ∷ past1) past1 procs (first + length es) (ends + 1) marks 0 m.marks marking spans built2.1 sparse (λ i one. live1 i (marked i one)) in
+    let good2 = marks_good (Gc m.distance ∷ past1) past1 procs (first + length es) (ends + 1) marks 0 m.marks marking spans sparse (λ i one. live1 i (marked i one)) in
     let counts2 = after_marks (Gc m.distance ∷ past1) past1 procs (first + length es) (ends + 1) marks 0 m.marks marking in
     let live2 = marks_live m.marks (Gc m.distance) past1 (λ _. ⊥) (λ rest i. refl) (λ i none. absurd none) in
     let joined = onto-append allocs (mark_statements (Some m)) past in
     record {
-      good = good_append later past allocs (mark_statements (Some m)) good1 (gc, good2);
+      good = good_append past allocs (mark_statements (Some m)) good1 (gc, good2);
       counts = subst (λ (lines : List Statement). Counts lines procs (first + length es) (ends + 1) (marks + marked_by (Some m))) (sym joined) counts2;
       live = subst (λ (lines : List Statement). AllLive lines (IsMarked m.marks)) (sym joined) (λ i one. live2 i (inr one));
     }
 
-abbrev CyclesGood : (Statement → Bool) → ℕ → List Cycle → Type 1
-CyclesGood later procs cs = (past : List Statement) (first ends marks : ℕ) (live : ℕ → Type 0) → Counts past procs first ends marks → AllLive past live → AreCycles first live cs
-    → AllByRecursion (EventFits procs) (flat_map (λ c. c.events) cs) → Built later (flat_map cycle_statements cs) → first + length (flat_map (λ c. c.events) cs) ≤ 1000000 → ends + length cs ≤ 10001
-    → marks + sum_by (λ c. marked_by c.mark) cs ≤ 20000000 → AreGood later past (flat_map cycle_statements cs)
+abbrev CyclesGood : ℕ → List Cycle → Type 1
+CyclesGood procs cs = (past : List Statement) (first ends marks : ℕ) (live : ℕ → Type 0) → Counts past procs first ends marks → AllLive past live → AreCycles first live cs
+    → AllByRecursion (EventFits procs) (flat_map (λ c. c.events) cs) → first + length (flat_map (λ c. c.events) cs) ≤ 1000000 → ends + length cs ≤ 10001
+    → marks + sum_by (λ c. marked_by c.mark) cs ≤ 20000000 → AreGood past (flat_map cycle_statements cs)
 
-cycle_last : (later : Statement → Bool) (procs : ℕ) (c : Cycle) → procs < 2 ^ 32 → CyclesGood later procs (c ∷ [])
-cycle_last later procs c low past first ends marks live counts alive cycles fits built few rare sparse =
+cycle_last : (procs : ℕ) (c : Cycle) → procs < 2 ^ 32 → CyclesGood procs (c ∷ [])
+cycle_last procs c low past first ends marks live counts alive cycles fits few rare sparse =
     let allocs = map alloc_of c.events in
     let len = length-append c.events [] in
-    let built1 = all_front (λ s. later s ≡ false) allocs (mark_statements c.mark) (all_front (λ s. later s ≡ false) (cycle_statements c) [] built) in
-    let good1 = allocs_good later past procs first ends marks c.events low counts (all_front (EventFits procs) c.events [] fits) built1 (omega arith) in
-    let none : AreGood later (onto allocs past) (mark_statements c.mark) = subst (λ (m : Option MarkEnd). AreGood later (onto allocs past) (mark_statements m)) (sym cycles) tt in
-    good_append later past (cycle_statements c) [] (good_append later past allocs (mark_statements c.mark) good1 none) tt
+    let good1 = allocs_good past procs first ends marks c.events low counts (all_front (EventFits procs) c.events [] fits) (omega arith) in
+    let none : AreGood (onto allocs past) (mark_statements c.mark) = subst (λ (m : Option MarkEnd). AreGood (onto allocs past) (mark_statements m)) (sym cycles) tt in
+    good_append past (cycle_statements c) [] (good_append past allocs (mark_statements c.mark) good1 none) tt
 
-cycle_step : (later : Statement → Bool) (procs : ℕ) (c d : Cycle) (cs : List Cycle) → procs < 2 ^ 32 → CyclesGood later procs (d ∷ cs) → CyclesGood later procs (c ∷ d ∷ cs)
-cycle_step later procs c d cs low later_cycles past first ends marks live counts alive cycles fits built few rare sparse = at c.mark refl where
-  at : (mark : Option MarkEnd) → c.mark ≡ mark → AreGood later past (flat_map cycle_statements (c ∷ d ∷ cs))
+cycle_step : (procs : ℕ) (c d : Cycle) (cs : List Cycle) → procs < 2 ^ 32 → CyclesGood procs (d ∷ cs) → CyclesGood procs (c ∷ d ∷ cs)
+cycle_step procs c d cs low later_cycles past first ends marks live counts alive cycles fits few rare sparse = at c.mark refl where
+  at : (mark : Option MarkEnd) → c.mark ≡ mark → AreGood past (flat_map cycle_statements (c ∷ d ∷ cs))
   at None e = absurd (subst (λ (m : Option MarkEnd). MatchOption m ⊥ (λ m. (1 ≤ m.distance) × (m.distance ≤ 2 ^ 40) × AreSpans 0 m.marks
       × ((i : ℕ) → IsMarked m.marks i → live i ⊎ ((first ≤ i) × (i < first + length c.events))) × AreCycles (first + length c.events) (IsMarked m.marks) (d ∷ cs))) e cycles)
   at (Some m) e =
@@ -304,15 +298,14 @@ cycle_step later procs c d cs low later_cycles past first ends marks live counts
       let len = length-append c.events more in
       let cons = sum_by-cons (λ (c : Cycle). marked_by c.mark) c (d ∷ cs) in
       let marked : marked_by c.mark ≡ marked_by (Some m) = ap marked_by e in
-      let built1 = subst (Built later) same (all_front (λ s. later s ≡ false) (cycle_statements c) rest built) in
-      let done = cycle_done later past procs first ends marks live c.events m low counts alive (all_front (EventFits procs) c.events more fits) built1 (omega arith) (omega arith) (omega arith) here.0 here.1 here.2 here.3 in
+      let done = cycle_done past procs first ends marks live c.events m low counts alive (all_front (EventFits procs) c.events more fits) (omega arith) (omega arith) (omega arith) here.0 here.1 here.2 here.3 in
       let after = later_cycles (onto (map alloc_of c.events ++ mark_statements (Some m)) past) (first + length c.events) (ends + 1) (marks + marked_by (Some m)) (IsMarked m.marks) done.counts done.live here.4
-      (all_back (EventFits procs) c.events more fits) (all_back (λ s. later s ≡ false) (cycle_statements c) rest built) (omega arith) (omega arith) (omega arith) in
-      subst (λ (ss : List Statement). AreGood later past (ss ++ rest)) (sym same) (good_append later past (map alloc_of c.events ++ mark_statements (Some m)) rest done.good after)
+      (all_back (EventFits procs) c.events more fits) (omega arith) (omega arith) (omega arith) in
+      subst (λ (ss : List Statement). AreGood past (ss ++ rest)) (sym same) (good_append past (map alloc_of c.events ++ mark_statements (Some m)) rest done.good after)
 
-pub cycles_good : (later : Statement → Bool) (procs : ℕ) (cs : List Cycle) → procs < 2 ^ 32 → CyclesGood later procs cs
-cycles_good later procs [] low past first ends marks live counts alive cycles fits built few rare sparse = absurd cycles
-cycles_good later procs (c ∷ []) low past first ends marks live counts alive cycles fits built few rare sparse = cycle_last later procs c low past first ends marks live counts alive cycles fits built few rare sparse
-cycles_good later procs (c ∷ d ∷ cs) low past first ends marks live counts alive cycles fits built few rare sparse =
-    cycle_step later procs c d cs low (λ past first ends marks live counts alive cycles fits built few rare sparse. cycles_good later procs (d ∷ cs) low past first ends marks live counts alive cycles fits built few rare sparse)
-    past first ends marks live counts alive cycles fits built few rare sparse
+pub cycles_good : (procs : ℕ) (cs : List Cycle) → procs < 2 ^ 32 → CyclesGood procs cs
+cycles_good procs [] low past first ends marks live counts alive cycles fits few rare sparse = absurd cycles
+cycles_good procs (c ∷ []) low past first ends marks live counts alive cycles fits few rare sparse = cycle_last procs c low past first ends marks live counts alive cycles fits few rare sparse
+cycles_good procs (c ∷ d ∷ cs) low past first ends marks live counts alive cycles fits few rare sparse =
+    cycle_step procs c d cs low (λ past first ends marks live counts alive cycles fits few rare sparse. cycles_good procs (d ∷ cs) low past first ends marks live counts alive cycles fits few rare sparse)
+    past first ends marks live counts alive cycles fits few rare sparse

@@ -56,13 +56,12 @@ not_false false e = absurd cc
 
 -- What a statement without a fault has
 
-all_none : (a b c d e : Option TraceFault) → first_of (a ∷ b ∷ c ∷ d ∷ e ∷ []) ≡ None → (a ≡ None) × (b ≡ None) × (d ≡ None) × (e ≡ None)
-all_none (Some x) b c d e f = absurd cc
-all_none None (Some x) c d e f = absurd cc
-all_none None None (Some x) d e f = absurd cc
-all_none None None None (Some x) e f = absurd cc
-all_none None None None None (Some x) f = absurd cc
-all_none None None None None None f = (refl, refl, refl, refl)
+all_none : (a b c d : Option TraceFault) → first_of (a ∷ b ∷ c ∷ d ∷ []) ≡ None → (a ≡ None) × (b ≡ None) × (c ≡ None) × (d ≡ None)
+all_none (Some x) b c d f = absurd cc
+all_none None (Some x) c d f = absurd cc
+all_none None None (Some x) d f = absurd cc
+all_none None None None (Some x) f = absurd cc
+all_none None None None None f = (refl, refl, refl, refl)
 
 pub if_none : (b : Bool) (fault : TraceFault) → fault_if (not b) fault ≡ None → b ≡ true
 if_none true fault e = refl
@@ -86,29 +85,29 @@ pub record IsSound (past : List Statement) (s : Statement) : Type 0 where
   pub few : passed (counts_within past s) ≡ None
   pub live : bad_mark past s ≡ None
 
-pub sound : (later : Statement → Bool) (past : List Statement) (s : Statement) → IsGood later past s → IsSound past s
-sound later past s good =
-    let all = all_none _ _ _ _ _ (good.no_fault 0) in
+pub sound : (past : List Statement) (s : Statement) → IsGood past s → IsSound past s
+sound past s good =
+    let all = all_none _ _ _ _ (good.no_fault 0) in
     record { follows = if_none (may_follow past s) (Malformed 0) all.0; low = which_none 0 _ all.1; few = which_none 0 _ all.2; live = mark_none 0 _ all.3 }
 
-good_front : (later : Statement → Bool) (past ss ts : List Statement) → AreGood later past (ss ++ ts) → AreGood later past ss × AreGood later (onto ss past) ts
-good_front later past [] ts good = (tt, good)
-good_front later past (s ∷ ss) ts good = let more = good_front later (s ∷ past) ss ts good.1 in ((good.0, more.0), more.1)
+good_front : (past ss ts : List Statement) → AreGood past (ss ++ ts) → AreGood past ss × AreGood (onto ss past) ts
+good_front past [] ts good = (tt, good)
+good_front past (s ∷ ss) ts good = let more = good_front (s ∷ past) ss ts good.1 in ((good.0, more.0), more.1)
 
 -- Events
 
-events_fit : (later : Statement → Bool) (past : List Statement) (procs objects ends marks : ℕ) (es : List Event) → Counts past procs objects ends marks → objects ≤ 1000000 → AreGood later past (map alloc_of es)
+events_fit : (past : List Statement) (procs objects ends marks : ℕ) (es : List Event) → Counts past procs objects ends marks → objects ≤ 1000000 → AreGood past (map alloc_of es)
     → AllByRecursion (EventFits procs) es × (objects + length es ≤ 1000000)
-events_fit later past procs objects ends marks [] counts few good = (tt, omega arith)
-events_fit later past procs objects ends marks (e ∷ es) counts few good =
-    let is = sound later past (alloc_of e) good.0 in
+events_fit past procs objects ends marks [] counts few good = (tt, omega arith)
+events_fit past procs objects ends marks (e ∷ es) counts few good =
+    let is = sound past (alloc_of e) good.0 in
     let p1 = passes Proc (nat_lt e.proc (procs_of past)) ((Size, nat_le e.size (2 ^ 40)) ∷ (Stack, nat_le e.stack 999999) ∷ []) is.low in
     let p2 = passes Size (nat_le e.size (2 ^ 40)) ((Stack, nat_le e.stack 999999) ∷ []) p1.1 in
     let p3 = passes Stack (nat_le e.stack 999999) [] p2.1 in
     let c1 = passes Objects (nat_lt (objects_of past) 1000000) [] is.few in
     let proc : e.proc < procs = subst (λ (k : ℕ). e.proc < k) counts.procs_are (lt_of _ _ p1.0) in
     let room : objects < 1000000 = subst (λ (k : ℕ). k < 1000000) counts.objects_are (lt_of _ _ c1.0) in
-    let more = events_fit later (alloc_of e ∷ past) procs (objects + 1) ends marks es (after_alloc past procs objects ends marks e counts) (omega arith) good.1 in
+    let more = events_fit (alloc_of e ∷ past) procs (objects + 1) ends marks es (after_alloc past procs objects ends marks e counts) (omega arith) good.1 in
     let sum = more.1 in
     ((record { proc = proc; size = le_of _ _ p2.0; stack = le_of _ _ p3.0 }, more.0), omega arith)
 
@@ -156,11 +155,11 @@ record AreBehind (past ended : List Statement) (marks from : ℕ) : Type 0 where
   marks_are : marks_of past ≡ marks
   begin : (lo : ℕ) → begins past lo ≡ true → from ≤ lo
 
-marks_fit : (later : Statement → Bool) (past ended : List Statement) (marks from : ℕ) (ss : List Span) → AreBehind past ended marks from → marks ≤ 20000000 → AreGood later past (map mark_of ss)
+marks_fit : (past ended : List Statement) (marks from : ℕ) (ss : List Span) → AreBehind past ended marks from → marks ≤ 20000000 → AreGood past (map mark_of ss)
     → AreSpans from ss × (marks + sum_by (λ s. s.hi + 1 - s.lo) ss ≤ 20000000) × ((i : ℕ) → IsMarked ss i → is_live ended i ≡ true)
-marks_fit later past ended marks from [] behind few good = (tt, omega arith, λ i none. absurd none)
-marks_fit later past ended marks from (s ∷ ss) behind few good =
-    let is = sound later past (mark_of s) good.0 in
+marks_fit past ended marks from [] behind few good = (tt, omega arith, λ i none. absurd none)
+marks_fit past ended marks from (s ∷ ss) behind few good =
+    let is = sound past (mark_of s) good.0 in
     let follows = mark_follows past s.lo s.hi is.follows in
     let rising = follows.0 in
     let p1 = passes Id (nat_le s.lo 999999) ((Id, nat_le s.hi 999999) ∷ []) is.low in
@@ -169,7 +168,7 @@ marks_fit later past ended marks from (s ∷ ss) behind few good =
     let count : marks + (s.hi + 1 - s.lo) ≤ 20000000 = subst (λ (k : ℕ). k + (s.hi + 1 - s.lo) ≤ 20000000) behind.marks_are (le_of _ _ c1.0) in
     let here : (i : ℕ) → s.lo ≤ i → i ≤ s.hi → is_live ended i ≡ true = λ i low high.
     subst (λ (lines : List Statement). is_live lines i ≡ true) behind.before (not_false (is_live (before_mark_end past) i) (none_found _ s.lo (s.hi + 1 - s.lo) is.live i low (omega arith))) in
-    let more = marks_fit later (mark_of s ∷ past) ended (marks + (s.hi + 1 - s.lo)) (s.hi + 1) ss
+    let more = marks_fit (mark_of s ∷ past) ended (marks + (s.hi + 1 - s.lo)) (s.hi + 1) ss
     (record { before = behind.before; marks_are = ap (λ (k : ℕ). k + (s.hi + 1 - s.lo)) behind.marks_are; begin = λ lo e. let less = lt_of s.hi lo e in omega arith }) count good.1 in
     let cons = sum_by-cons (λ (t : Span). t.hi + 1 - t.lo) s ss in
     let sum = more.1 in (
@@ -203,12 +202,12 @@ all_append : {X : Type 0} (P : X → Type 0) (xs ys : List X) → AllByRecursion
 all_append P [] ys all more = more
 all_append P (x ∷ xs) ys all more = (all.0, all_append P xs ys all.1 more)
 
-last_fits : (later : Statement → Bool) (past : List Statement) (procs first ends marks : ℕ) (live : ℕ → Type 0) (c : Cycle) → c.mark ≡ None → Counts past procs first ends marks → first ≤ 1000000 → ends ≤ 10000 → marks ≤ 20000000
-    → AreGood later past (flat_map cycle_statements (c ∷ [])) → AreWithin procs first ends marks live (c ∷ [])
-last_fits later past procs first ends marks live c e counts few rare sparse good =
+last_fits : (past : List Statement) (procs first ends marks : ℕ) (live : ℕ → Type 0) (c : Cycle) → c.mark ≡ None → Counts past procs first ends marks → first ≤ 1000000 → ends ≤ 10000 → marks ≤ 20000000
+    → AreGood past (flat_map cycle_statements (c ∷ [])) → AreWithin procs first ends marks live (c ∷ [])
+last_fits past procs first ends marks live c e counts few rare sparse good =
     let allocs = map alloc_of c.events in
-    let good1 = (good_front later past allocs (mark_statements c.mark) (good_front later past (cycle_statements c) [] good).0).0 in
-    let fit = events_fit later past procs first ends marks c.events counts few good1 in
+    let good1 = (good_front past allocs (mark_statements c.mark) (good_front past (cycle_statements c) [] good).0).0 in
+    let fit = events_fit past procs first ends marks c.events counts few good1 in
     let len = length-append c.events [] in
     let sum = fit.1 in
     let none : marked_by c.mark ≡ 0 = ap marked_by e in
@@ -227,22 +226,22 @@ record IsWithin (past : List Statement) (procs first ends marks : ℕ) (live : �
   counts : Counts (onto (map alloc_of es ++ mark_statements (Some m)) past) procs (first + length es) (ends + 1) (marks + marked_by (Some m))
   only : OnlyLive (onto (map alloc_of es ++ mark_statements (Some m)) past) (IsMarked m.marks)
 
-cycle_fits : (later : Statement → Bool) (past : List Statement) (procs first ends marks : ℕ) (live : ℕ → Type 0) (es : List Event) (m : MarkEnd) → Counts past procs first ends marks → OnlyLive past live → first ≤ 1000000 → marks ≤ 20000000
-    → AreGood later past (map alloc_of es ++ mark_statements (Some m)) → IsWithin past procs first ends marks live es m
-cycle_fits later past procs first ends marks live es m counts only few sparse good =
+cycle_fits : (past : List Statement) (procs first ends marks : ℕ) (live : ℕ → Type 0) (es : List Event) (m : MarkEnd) → Counts past procs first ends marks → OnlyLive past live → first ≤ 1000000 → marks ≤ 20000000
+    → AreGood past (map alloc_of es ++ mark_statements (Some m)) → IsWithin past procs first ends marks live es m
+cycle_fits past procs first ends marks live es m counts only few sparse good =
     let allocs = map alloc_of es in
     let past1 = onto allocs past in
     let gc = Gc m.distance in
-    let parts = good_front later past allocs (mark_statements (Some m)) good in
-    let fit = events_fit later past procs first ends marks es counts few parts.0 in
+    let parts = good_front past allocs (mark_statements (Some m)) good in
+    let fit = events_fit past procs first ends marks es counts few parts.0 in
     let counts1 = after_allocs past procs first ends marks es counts in
-    let is = sound later past1 gc parts.1.0 in
+    let is = sound past1 gc parts.1.0 in
     let p1 = passes Distance (within 1 (2 ^ 40) m.distance) [] is.low in
     let far = and_parts (nat_le 1 m.distance) (nat_le m.distance (2 ^ 40)) p1.0 in
     let c1 = passes MarkEnds (nat_lt (mark_ends_of past1) 10000) [] is.few in
     let rare : ends < 10000 = subst (λ (k : ℕ). k < 10000) counts1.ends_are (lt_of _ _ c1.0) in
     let behind : AreBehind (gc ∷ past1) past1 marks 0 = record { before = refl; marks_are = counts1.marks_are; begin = λ lo e. omega arith } in
-    let spans = marks_fit later (gc ∷ past1) past1 marks 0 m.marks behind sparse parts.1.1 in
+    let spans = marks_fit (gc ∷ past1) past1 marks 0 m.marks behind sparse parts.1.1 in
     let marking = after_gc past1 procs (first + length es) ends marks m.distance counts1 in
     let counts2 = after_marks (gc ∷ past1) past1 procs (first + length es) (ends + 1) marks 0 m.marks marking in
     let live1 = events_live es past first live counts.objects_are only in
@@ -259,12 +258,12 @@ cycle_fits later past procs first ends marks live es m counts only few sparse go
       only = subst (λ (lines : List Statement). OnlyLive lines (IsMarked m.marks)) (sym joined) (λ i is. elim (marks_live m.marks gc past1 i (λ rest. refl) is) [ inl one ↦ one | inr none ↦ absurd cc ]);
     }
 
-abbrev CyclesFit : (Statement → Bool) → ℕ → List Cycle → Type 1
-CyclesFit later procs cs = (past : List Statement) (first ends marks : ℕ) (live : ℕ → Type 0) → AreEnded cs → Counts past procs first ends marks → OnlyLive past live
-    → first ≤ 1000000 → ends ≤ 10000 → marks ≤ 20000000 → AreGood later past (flat_map cycle_statements cs) → AreWithin procs first ends marks live cs
+abbrev CyclesFit : ℕ → List Cycle → Type 1
+CyclesFit procs cs = (past : List Statement) (first ends marks : ℕ) (live : ℕ → Type 0) → AreEnded cs → Counts past procs first ends marks → OnlyLive past live
+    → first ≤ 1000000 → ends ≤ 10000 → marks ≤ 20000000 → AreGood past (flat_map cycle_statements cs) → AreWithin procs first ends marks live cs
 
-cycle_step : (later : Statement → Bool) (procs : ℕ) (c d : Cycle) (cs : List Cycle) → CyclesFit later procs (d ∷ cs) → CyclesFit later procs (c ∷ d ∷ cs)
-cycle_step later procs c d cs later_cycles past first ends marks live ended counts only few rare sparse good = at c.mark refl where
+cycle_step : (procs : ℕ) (c d : Cycle) (cs : List Cycle) → CyclesFit procs (d ∷ cs) → CyclesFit procs (c ∷ d ∷ cs)
+cycle_step procs c d cs later_cycles past first ends marks live ended counts only few rare sparse good = at c.mark refl where
   cycles_at : (m : MarkEnd) → c.mark ≡ Some m → (1 ≤ m.distance) × (m.distance ≤ 2 ^ 40) × AreSpans 0 m.marks × ((i : ℕ) → IsMarked m.marks i → live i ⊎ ((first ≤ i) × (i < first + length c.events)))
       × AreCycles (first + length c.events) (IsMarked m.marks) (d ∷ cs) → AreCycles first live (c ∷ d ∷ cs)
   cycles_at m e all = rw e all
@@ -274,8 +273,8 @@ cycle_step later procs c d cs later_cycles past first ends marks live ended coun
   at (Some m) e =
       let rest = flat_map cycle_statements (d ∷ cs) in
       let same : cycle_statements c ≡ map alloc_of c.events ++ mark_statements (Some m) = ap (λ (m : Option MarkEnd). map alloc_of c.events ++ mark_statements m) e in
-      let parts = good_front later past (map alloc_of c.events ++ mark_statements (Some m)) rest (subst (λ (ss : List Statement). AreGood later past (ss ++ rest)) same good) in
-      let here = cycle_fits later past procs first ends marks live c.events m counts only few sparse parts.0 in
+      let parts = good_front past (map alloc_of c.events ++ mark_statements (Some m)) rest (subst (λ (ss : List Statement). AreGood past (ss ++ rest)) same good) in
+      let here = cycle_fits past procs first ends marks live c.events m counts only few sparse parts.0 in
       let room = here.objects in
       let seldom = here.rare in
       let thin = here.few in
@@ -296,11 +295,11 @@ cycle_step later procs c d cs later_cycles past first ends marks live ended coun
         marked = omega arith;
       }
 
-cycles_fit : (later : Statement → Bool) (procs : ℕ) (cs : List Cycle) → CyclesFit later procs cs
-cycles_fit later procs [] past first ends marks live ended counts only few rare sparse good = absurd ended
-cycles_fit later procs (c ∷ []) past first ends marks live ended counts only few rare sparse good = last_fits later past procs first ends marks live c ended counts few rare sparse good
-cycles_fit later procs (c ∷ d ∷ cs) past first ends marks live ended counts only few rare sparse good =
-    cycle_step later procs c d cs (λ past first ends marks live ended counts only few rare sparse good. cycles_fit later procs (d ∷ cs) past first ends marks live ended counts only few rare sparse good)
+cycles_fit : (procs : ℕ) (cs : List Cycle) → CyclesFit procs cs
+cycles_fit procs [] past first ends marks live ended counts only few rare sparse good = absurd ended
+cycles_fit procs (c ∷ []) past first ends marks live ended counts only few rare sparse good = last_fits past procs first ends marks live c ended counts few rare sparse good
+cycles_fit procs (c ∷ d ∷ cs) past first ends marks live ended counts only few rare sparse good =
+    cycle_step procs c d cs (λ past first ends marks live ended counts only few rare sparse good. cycles_fit procs (d ∷ cs) past first ends marks live ended counts only few rare sparse good)
     past first ends marks live ended counts only few rare sparse good
 
 -- A trace
@@ -308,9 +307,9 @@ cycles_fit later procs (c ∷ d ∷ cs) past first ends marks live ended counts 
 abbrev pub trace_of : Header → List Cycle → Trace
 trace_of h cs = record { header = h; cycles = cs }
 
-pub trace_fits : (later : Statement → Bool) (h : Header) (cs : List Cycle) → HeaderFits h → AreEnded cs → AreGood later (heap_of h ∷ Title ∷ []) (flat_map cycle_statements cs) → WithinLimits (trace_of h cs)
-trace_fits later h cs fits ended good =
-    let all = cycles_fit later h.procs cs (heap_of h ∷ Title ∷ []) 0 0 0 (λ _. ⊥) ended (record { body = tt; procs_are = refl; objects_are = refl; ends_are = refl; marks_are = refl }) (λ i is. absurd cc)
+pub trace_fits : (h : Header) (cs : List Cycle) → HeaderFits h → AreEnded cs → AreGood (heap_of h ∷ Title ∷ []) (flat_map cycle_statements cs) → WithinLimits (trace_of h cs)
+trace_fits h cs fits ended good =
+    let all = cycles_fit h.procs cs (heap_of h ∷ Title ∷ []) 0 0 0 (λ _. ⊥) ended (record { body = tt; procs_are = refl; objects_are = refl; ends_are = refl; marks_are = refl }) (λ i is. absurd cc)
     (omega arith) (omega arith) (omega arith) good in
     let objects = all.objects in
     let mark_ends = all.mark_ends in
@@ -323,11 +322,10 @@ takes_trace left a b c d h cs first second rest =
     TakesLines-trans left a b d (Title ∷ []) (heap_of h ∷ (flat_map cycle_statements cs ++ End ∷ [])) first (TakesLines-trans left b c d (heap_of h ∷ []) (flat_map cycle_statements cs ++ End ∷ []) second rest)
 
 pub reads_trace : {S : Type 0} (left : S → Option (List ℕ)) (a d : Lines S) (h : Header) (cs : List Cycle) → TakesLines left a d (statements_of (trace_of h cs))
-    → WithinLimits (trace_of h cs) → h.rate ≡ 0 → Reads left a d (trace_of h cs)
-reads_trace left a d h cs takes limits simple =
+    → WithinLimits (trace_of h cs) → Reads left a d (trace_of h cs)
+reads_trace left a d h cs takes limits =
     let room = takes.bytes.room in (
       spelled (statements_of (trace_of h cs)),
       takes.bytes.taken,
       record { lines = refl; limits = limits; room = omega arith },
-      record { rate = simple },
     )

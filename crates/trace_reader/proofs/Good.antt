@@ -7,7 +7,7 @@ use Rattle.std.proofs.lemmas.Fmt.{length-decimal-le_wide}
 use Rattle.edge_io.specs.Line.{IsLine}
 use Rattle.trace_reader.specs.declared.fault.Which.{Which}
 use Rattle.trace_reader.specs.declared.fault.TraceFault.{TraceFault}
-use Rattle.trace_reader.specs.declared.fault.TraceFault.TheVariants.{Malformed, Limit, Later, BadMark}
+use Rattle.trace_reader.specs.declared.fault.TraceFault.TheVariants.{Malformed, Limit, BadMark}
 use Rattle.trace_reader.specs.declared.statement.Statement.{Statement}
 use Rattle.trace_reader.specs.declared.statement.Statement.TheVariants.{Title, Alloc, Gc, Mark, End}
 use Rattle.trace_reader.specs.declared.statement.AllocForm.{AllocForm}
@@ -17,7 +17,7 @@ use Rattle.trace_reader.specs.Words.{IsDigit}
 use Rattle.trace_reader.specs.Spelling.{alloc_of, heap_of, kind, line_for}
 use Rattle.trace_reader.specs.Limits.{EventFits, HeaderFits}
 use Rattle.trace_reader.specs.Checks.{bad_mark, counts_within, may_follow, numbers_within, passed, within}
-use Rattle.trace_reader.specs.Refusal.{fault_if, first_of, needs_later, statement_fault}
+use Rattle.trace_reader.specs.Refusal.{fault_if, first_of, statement_fault}
 use Rattle.trace_reader.specs.Good.{AreGood}
 use Rattle.trace_reader.proofs.Digits.{digits_decimal}
 use Rattle.trace_reader.proofs.Saying.{AllByRecursion-map, Short, both, of_both, said_line}
@@ -98,13 +98,13 @@ heap_is_line h fits =
 
 -- No fault
 
-none_of : (a b c d e : Option TraceFault) → a ≡ None → b ≡ None → c ≡ None → d ≡ None → e ≡ None → first_of (a ∷ b ∷ c ∷ d ∷ e ∷ []) ≡ None
-none_of a b c d e p q r s t = rw (p, q, r, s, t) refl
+none_of : (a b c d : Option TraceFault) → a ≡ None → b ≡ None → c ≡ None → d ≡ None → first_of (a ∷ b ∷ c ∷ d ∷ []) ≡ None
+none_of a b c d p q r s = rw (p, q, r, s) refl
 
-pub fault_none : (later : Statement → Bool) (past : List Statement) (s : Statement) → may_follow past s ≡ true → passed (numbers_within past s) ≡ None → later s ≡ false → passed (counts_within past s) ≡ None
-    → bad_mark past s ≡ None → (n : ℕ) → statement_fault later n past s ≡ None
-fault_none later past s follows low built few live n = none_of _ _ _ _ _
-    (ap (λ (b : Bool). fault_if (not b) (Malformed n)) follows) (ap (λ (o : Option Which). option_map (λ which. Limit n which) o) low) (ap (λ (b : Bool). fault_if b (Later n)) built)
+pub fault_none : (past : List Statement) (s : Statement) → may_follow past s ≡ true → passed (numbers_within past s) ≡ None → passed (counts_within past s) ≡ None
+    → bad_mark past s ≡ None → (n : ℕ) → statement_fault n past s ≡ None
+fault_none past s follows low few live n = none_of _ _ _ _
+    (ap (λ (b : Bool). fault_if (not b) (Malformed n)) follows) (ap (λ (o : Option Which). option_map (λ which. Limit n which) o) low)
     (ap (λ (o : Option Which). option_map (λ which. Limit n which) o) few) (ap (λ (o : Option ℕ). option_map (λ i. BadMark n i) o) live)
 
 pub pass : (which : Which) (test : Bool) (rest : List (Which × Bool)) → test ≡ true → passed rest ≡ None → passed ((which, test) ∷ rest) ≡ None
@@ -120,11 +120,11 @@ at_most a b le = grind (arith, nat_tests)
 
 -- The first two lines
 
-pub title_good : (later : Statement → Bool) → later Title ≡ false → AreGood later [] (Title ∷ [])
-title_good later built = (record { is_line = (omega arith, apart_test (codes "goheap 1") refl); says = said_line Title tt; not_end = refl; no_fault = fault_none later [] Title refl refl built refl refl }, tt)
+pub title_good : AreGood [] (Title ∷ [])
+title_good = (record { is_line = (omega arith, apart_test (codes "goheap 1") refl); says = said_line Title tt; not_end = refl; no_fault = fault_none [] Title refl refl refl refl }, tt)
 
-pub header_good : (later : Statement → Bool) (h : Header) → HeaderFits h → later (heap_of h) ≡ false → AreGood later (Title ∷ []) (heap_of h ∷ [])
-header_good later h fits built =
+pub header_good : (h : Header) → HeaderFits h → AreGood (Title ∷ []) (heap_of h ∷ [])
+header_good h fits =
     let chunks = fits.chunks in
     let procs = fits.procs in
     let rate = fits.rate in
@@ -134,18 +134,12 @@ header_good later h fits built =
         is_line = heap_is_line h fits;
         says = said_line (heap_of h) (omega arith, (omega arith, (omega arith, (omega arith, (omega arith, tt)))));
         not_end = refl;
-        no_fault = fault_none later (Title ∷ []) (heap_of h) refl
+        no_fault = fault_none (Title ∷ []) (heap_of h) refl
             (pass _ _ _ (within_true 1 128 h.chunks chunks.0 chunks.1) (pass _ _ _ (within_true 1 64 h.procs procs.0 procs.1) (pass _ _ _ (at_most h.rate (2 ^ 30) rate)
-            (pass _ _ _ (below_true h.seed (2 ^ 64) seed) (pass _ _ _ (at_most h.goal 65536 goal) refl))))) built refl refl;
+            (pass _ _ _ (below_true h.seed (2 ^ 64) seed) (pass _ _ _ (at_most h.goal 65536 goal) refl))))) refl refl;
       },
       tt,
     )
-
-later_false : (r : ℕ) → r ≡ 0 → not (r == 0) ≡ false
-later_false r f = rw f refl
-
-pub plain_header : (h : Header) → h.rate ≡ 0 → needs_later (heap_of h) ≡ false
-plain_header h plain = later_false h.rate plain
 
 -- An event
 
@@ -156,9 +150,9 @@ short_event procs e low fits =
     let stack = fits.stack in
     (omega arith, (omega arith, (omega arith, tt)))
 
-pub lines_of_good : (later : Statement → Bool) (past ss : List Statement) → AreGood later past ss → AllByRecursion IsLine (map line_for ss)
-lines_of_good later past [] good = tt
-lines_of_good later past (s ∷ ss) good = (good.0.is_line, lines_of_good later (s ∷ past) ss good.1)
+pub lines_of_good : (past ss : List Statement) → AreGood past ss → AllByRecursion IsLine (map line_for ss)
+lines_of_good past [] good = tt
+lines_of_good past (s ∷ ss) good = (good.0.is_line, lines_of_good (s ∷ past) ss good.1)
 
 -- Lines of mark ends
 

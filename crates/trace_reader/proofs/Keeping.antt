@@ -10,7 +10,7 @@ use Rattle.trace_reader.specs.declared.draft.Draft.{Draft}
 use Rattle.trace_reader.specs.declared.fault.Which.{Which}
 use Rattle.trace_reader.specs.declared.fault.Which.TheVariants.{Objects, MarkEnds, Marks}
 use Rattle.trace_reader.specs.declared.fault.TraceFault.{TraceFault}
-use Rattle.trace_reader.specs.declared.fault.TraceFault.TheVariants.{Malformed, Limit, BadMark, Later}
+use Rattle.trace_reader.specs.declared.fault.TraceFault.TheVariants.{Malformed, Limit, BadMark}
 use Rattle.trace_reader.specs.declared.statement.Statement.{Statement}
 use Rattle.trace_reader.specs.declared.statement.Statement.TheVariants.{Alloc, Gc, Mark}
 use Rattle.trace_reader.specs.declared.statement.AllocForm.{AllocForm}
@@ -21,7 +21,7 @@ use Rattle.trace_reader.specs.Spelling.{alloc_of, cycle_statements, mark_of}
 use Rattle.trace_reader.specs.Limits.{AreSpans, EventFits}
 use Rattle.trace_reader.specs.Past.{before_mark_end, is_live, mark_ends_of, marks_of, objects_of, procs_of}
 use Rattle.trace_reader.specs.Checks.{bad_mark, counts_within, event_numbers, may_begin, may_follow, numbers_within, passed}
-use Rattle.trace_reader.specs.Refusal.{fault_if, first_of, needs_later, statement_fault}
+use Rattle.trace_reader.specs.Refusal.{fault_if, first_of, statement_fault}
 use Rattle.trace_reader.specs.Kept.{Asked, Passes, in_spans, lives}
 use Rattle.trace_reader.specs.Draft.{AreEnded, Counts, Follows, FollowsAt, HasEnd, IsBody, IsMarking, IsResting, IsStart, Took, begins, behind_spans, ended, ended_at, ending, ends_in, kept_of, marks_in, told_of}
 use Rattle.trace_reader.proofs.Saying.{both}
@@ -133,28 +133,26 @@ fits_numbers n past s low = rw low refl
 fits_counts : (n : ℕ) (past : List Statement) (s : Statement) → passed (counts_within past s) ≡ None → counts n past s ≡ None
 fits_counts n past s few = rw few refl
 
-pub fault_form : (n : ℕ) (past : List Statement) (s : Statement) → may_follow past s ≡ false → statement_fault needs_later n past s ≡ Some (Malformed n)
-fault_form n past s follows = some (form n past s) (numbers n past s ∷ fault_if (needs_later s) (Later n) ∷ counts n past s ∷ marked n past s ∷ []) (Malformed n) (rw follows refl)
+pub fault_form : (n : ℕ) (past : List Statement) (s : Statement) → may_follow past s ≡ false → statement_fault n past s ≡ Some (Malformed n)
+fault_form n past s follows = some (form n past s) (numbers n past s ∷ counts n past s ∷ marked n past s ∷ []) (Malformed n) (rw follows refl)
 
-fault_number : (n : ℕ) (past : List Statement) (s : Statement) (fault : TraceFault) → may_follow past s ≡ true → numbers n past s ≡ Some fault → statement_fault needs_later n past s ≡ Some fault
+fault_number : (n : ℕ) (past : List Statement) (s : Statement) (fault : TraceFault) → may_follow past s ≡ true → numbers n past s ≡ Some fault → statement_fault n past s ≡ Some fault
 fault_number n past s fault follows e =
-    none (form n past s) (numbers n past s ∷ fault_if (needs_later s) (Later n) ∷ counts n past s ∷ marked n past s ∷ []) (fits_form n past s follows)
-    ∙ some (numbers n past s) (fault_if (needs_later s) (Later n) ∷ counts n past s ∷ marked n past s ∷ []) fault e
+    none (form n past s) (numbers n past s ∷ counts n past s ∷ marked n past s ∷ []) (fits_form n past s follows)
+    ∙ some (numbers n past s) (counts n past s ∷ marked n past s ∷ []) fault e
 
-fault_count : (n : ℕ) (past : List Statement) (s : Statement) (which : Which) → may_follow past s ≡ true → passed (numbers_within past s) ≡ None → needs_later s ≡ false → passed (counts_within past s) ≡ Some which
-    → statement_fault needs_later n past s ≡ Some (Limit n which)
-fault_count n past s which follows low built e =
-    none (form n past s) (numbers n past s ∷ fault_if (needs_later s) (Later n) ∷ counts n past s ∷ marked n past s ∷ []) (fits_form n past s follows)
-    ∙ none (numbers n past s) (fault_if (needs_later s) (Later n) ∷ counts n past s ∷ marked n past s ∷ []) (fits_numbers n past s low)
-    ∙ none (fault_if (needs_later s) (Later n)) (counts n past s ∷ marked n past s ∷ []) (ap (λ (b : Bool). fault_if b (Later n)) built)
+fault_count : (n : ℕ) (past : List Statement) (s : Statement) (which : Which) → may_follow past s ≡ true → passed (numbers_within past s) ≡ None → passed (counts_within past s) ≡ Some which
+    → statement_fault n past s ≡ Some (Limit n which)
+fault_count n past s which follows low e =
+    none (form n past s) (numbers n past s ∷ counts n past s ∷ marked n past s ∷ []) (fits_form n past s follows)
+    ∙ none (numbers n past s) (counts n past s ∷ marked n past s ∷ []) (fits_numbers n past s low)
     ∙ some (counts n past s) (marked n past s ∷ []) (Limit n which) (ap (λ (o : Option Which). option_map (λ which. Limit n which) o) e)
 
-fault_mark : (n : ℕ) (past : List Statement) (s : Statement) (i : ℕ) → may_follow past s ≡ true → passed (numbers_within past s) ≡ None → needs_later s ≡ false → passed (counts_within past s) ≡ None
-    → bad_mark past s ≡ Some i → statement_fault needs_later n past s ≡ Some (BadMark n i)
-fault_mark n past s i follows low built few e =
-    none (form n past s) (numbers n past s ∷ fault_if (needs_later s) (Later n) ∷ counts n past s ∷ marked n past s ∷ []) (fits_form n past s follows)
-    ∙ none (numbers n past s) (fault_if (needs_later s) (Later n) ∷ counts n past s ∷ marked n past s ∷ []) (fits_numbers n past s low)
-    ∙ none (fault_if (needs_later s) (Later n)) (counts n past s ∷ marked n past s ∷ []) (ap (λ (b : Bool). fault_if b (Later n)) built)
+fault_mark : (n : ℕ) (past : List Statement) (s : Statement) (i : ℕ) → may_follow past s ≡ true → passed (numbers_within past s) ≡ None → passed (counts_within past s) ≡ None
+    → bad_mark past s ≡ Some i → statement_fault n past s ≡ Some (BadMark n i)
+fault_mark n past s i follows low few e =
+    none (form n past s) (numbers n past s ∷ counts n past s ∷ marked n past s ∷ []) (fits_form n past s follows)
+    ∙ none (numbers n past s) (counts n past s ∷ marked n past s ∷ []) (fits_numbers n past s low)
     ∙ none (counts n past s) (marked n past s ∷ []) (fits_counts n past s few)
     ∙ some (marked n past s) [] (BadMark n i) (ap (λ (o : Option ℕ). option_map (λ i. BadMark n i) o) e)
 
@@ -232,7 +230,7 @@ pub took_event : (d r : Draft) (e : Event) (f : AllocForm) → r ≡ ended d →
 took_event d r e f is form fits few = subst (λ (s : Statement). Took d (record r { events = r.events ++ e ∷ []; objects = r.objects + 1 }) s) form (record {
   goes_on = refl;
   told = told;
-  faultless = λ past follows. fault_none needs_later past (alloc_of e) (follows_any past e follows.0.body) (alloc_numbers past d.procs e follows.0.procs fits) refl
+  faultless = λ past follows. fault_none past (alloc_of e) (follows_any past e follows.0.body) (alloc_numbers past d.procs e follows.0.procs fits)
       (pass _ _ _ (below_true (objects_of past) 1000000 (let o = follows.0.objects in omega arith)) refl) refl;
   follows = λ past follows. next past (subst (Rests past d) (sym is) (rests past d follows));
 }) where
@@ -264,7 +262,7 @@ took_event d r e f is form fits few = subst (λ (s : Statement). Took d (record 
         live i = ap (λ (k : ℕ). (i == k) || is_live past i) rest.counts.objects ∙ ap (λ (b : Bool). (i == r.objects) || b) (rest.resting.live i) ∙ lives_more (kept_of r.cycles) r.first r.objects i rest.counts.order
 
 pub event_number : (d : Draft) (f : AllocForm) (n : ℕ) (fault : TraceFault) → option_map (λ which. Limit n which) (passed (event_numbers d.procs f)) ≡ Some fault
-    → (past : List Statement) → Follows past d → statement_fault needs_later n past (Alloc f) ≡ Some fault
+    → (past : List Statement) → Follows past d → statement_fault n past (Alloc f) ≡ Some fault
 event_number d f n fault told past follows = fault_number n past (Alloc f) fault (any past follows.0.body) (ap (λ (procs : ℕ). option_map (λ which. Limit n which) (passed (event_numbers procs f))) follows.0.procs ∙ told) where
   any : (past : List Statement) → IsBody past → may_follow past (Alloc f) ≡ true
   any [] body = absurd body
@@ -272,11 +270,11 @@ event_number d f n fault told past follows = fault_number n past (Alloc f) fault
   any (a ∷ b ∷ past) body = refl
 
 pub too_many_objects : (d : Draft) (e : Event) (f : AllocForm) (n : ℕ) → alloc_of e ≡ Alloc f → EventFits d.procs e → 1000000 ≤ d.objects
-    → (past : List Statement) → Follows past d → statement_fault needs_later n past (Alloc f) ≡ Some (Limit n Objects)
+    → (past : List Statement) → Follows past d → statement_fault n past (Alloc f) ≡ Some (Limit n Objects)
 too_many_objects d e f n form fits many past follows =
     let o = follows.0.objects in
-    subst (λ (s : Statement). statement_fault needs_later n past s ≡ Some (Limit n Objects)) form
-    (fault_count n past (alloc_of e) Objects (follows_any past e follows.0.body) (alloc_numbers past d.procs e follows.0.procs fits) refl (fails Objects (nat_lt (objects_of past) 1000000) [] (below_false (objects_of past) 1000000 (omega arith))))
+    subst (λ (s : Statement). statement_fault n past s ≡ Some (Limit n Objects)) form
+    (fault_count n past (alloc_of e) Objects (follows_any past e follows.0.body) (alloc_numbers past d.procs e follows.0.procs fits) (fails Objects (nat_lt (objects_of past) 1000000) [] (below_false (objects_of past) 1000000 (omega arith))))
 
 -- A mark end
 
@@ -288,7 +286,7 @@ took_mark_end d r x is least most few = record {
   faultless = λ past follows.
       let rest : Rests past d r = subst (Rests past d) (sym is) (rests past d follows) in
       let ends : mark_ends_of past ≡ length r.cycles + 0 = rest.counts.ends ∙ ap (λ (o : Option ℕ). length r.cycles + ends_in o) rest.none in
-      fault_none needs_later past (Gc x) (follows_gc past x follows.0.body) (pass _ _ _ (within_true 1 (2 ^ 40) x least most) refl) refl (pass _ _ _ (below_true (mark_ends_of past) 10000 (omega arith)) refl) refl;
+      fault_none past (Gc x) (follows_gc past x follows.0.body) (pass _ _ _ (within_true 1 (2 ^ 40) x least most) refl) (pass _ _ _ (below_true (mark_ends_of past) 10000 (omega arith)) refl) refl;
   follows = λ past follows. next past (subst (Rests past d) (sym is) (rests past d follows));
 } where
   empty : r.distance ≡ None
@@ -324,15 +322,15 @@ took_mark_end d r x is least most few = record {
       )
 
 pub distance_number : (d : Draft) (x n : ℕ) (fault : TraceFault) → ((past : List Statement) → numbers n past (Gc x) ≡ Some fault)
-    → (past : List Statement) → Follows past d → statement_fault needs_later n past (Gc x) ≡ Some fault
+    → (past : List Statement) → Follows past d → statement_fault n past (Gc x) ≡ Some fault
 distance_number d x n fault told past follows = fault_number n past (Gc x) fault (follows_gc past x follows.0.body) (told past)
 
 pub too_many_ends : (d r : Draft) (x n : ℕ) → r ≡ ended d → 1 ≤ x → x ≤ 2 ^ 40 → 10000 ≤ length r.cycles
-    → (past : List Statement) → Follows past d → statement_fault needs_later n past (Gc x) ≡ Some (Limit n MarkEnds)
+    → (past : List Statement) → Follows past d → statement_fault n past (Gc x) ≡ Some (Limit n MarkEnds)
 too_many_ends d r x n is least most many past follows =
     let rest : Rests past d r = subst (Rests past d) (sym is) (rests past d follows) in
     let ends : mark_ends_of past ≡ length r.cycles + 0 = rest.counts.ends ∙ ap (λ (o : Option ℕ). length r.cycles + ends_in o) rest.none in
-    fault_count n past (Gc x) MarkEnds (follows_gc past x follows.0.body) (pass _ _ _ (within_true 1 (2 ^ 40) x least most) refl) refl (fails MarkEnds (nat_lt (mark_ends_of past) 10000) [] (below_false (mark_ends_of past) 10000 (omega arith)))
+    fault_count n past (Gc x) MarkEnds (follows_gc past x follows.0.body) (pass _ _ _ (within_true 1 (2 ^ 40) x least most) refl) (fails MarkEnds (nat_lt (mark_ends_of past) 10000) [] (below_false (mark_ends_of past) 10000 (omega arith)))
 
 -- Marks
 
@@ -357,17 +355,17 @@ none_begins : (past : List Statement) (d : Draft) (o : Option ℕ) (lo : ℕ) �
 none_begins past d None lo e at = at.1 lo
 none_begins past d (Some x) lo e at = absurd cc
 
-pub no_marks : (d : Draft) (lo hi n : ℕ) → d.distance ≡ None → (past : List Statement) → Follows past d → statement_fault needs_later n past (Mark lo hi) ≡ Some (Malformed n)
+pub no_marks : (d : Draft) (lo hi n : ℕ) → d.distance ≡ None → (past : List Statement) → Follows past d → statement_fault n past (Mark lo hi) ≡ Some (Malformed n)
 no_marks d lo hi n e past follows = fault_form n past (Mark lo hi) (not_begun past lo hi follows.0.body (inr (none_begins past d d.distance lo e follows.1)))
 
-pub falls : (d : Draft) (lo hi n : ℕ) → hi < lo → (past : List Statement) → Follows past d → statement_fault needs_later n past (Mark lo hi) ≡ Some (Malformed n)
+pub falls : (d : Draft) (lo hi n : ℕ) → hi < lo → (past : List Statement) → Follows past d → statement_fault n past (Mark lo hi) ≡ Some (Malformed n)
 falls d lo hi n less past follows = fault_form n past (Mark lo hi) (not_begun past lo hi follows.0.body (inl (above lo hi less)))
 
 begins_early : (past : List Statement) (d : Draft) (o : Option ℕ) (lo : ℕ) → lo < d.next → FollowsAt past d o → begins past lo ≡ false
 begins_early past d None lo less at = at.1 lo
 begins_early past d (Some x) lo less at = at.begins lo ∙ above d.next lo less
 
-pub too_early : (d : Draft) (lo hi n : ℕ) → lo < d.next → (past : List Statement) → Follows past d → statement_fault needs_later n past (Mark lo hi) ≡ Some (Malformed n)
+pub too_early : (d : Draft) (lo hi n : ℕ) → lo < d.next → (past : List Statement) → Follows past d → statement_fault n past (Mark lo hi) ≡ Some (Malformed n)
 too_early d lo hi n less past follows = fault_form n past (Mark lo hi) (not_begun past lo hi follows.0.body (inr (begins_early past d d.distance lo less follows.1)))
 
 -- the span may stand here
@@ -385,17 +383,17 @@ follows_here : (d : Draft) (x lo hi : ℕ) → d.distance ≡ Some x → lo ≤ 
 follows_here d x lo hi open_ rising behind past follows = begun past lo hi follows.0.body rising ((marking past d x open_ follows).begins lo ∙ at_most d.next lo behind)
 
 pub mark_number : (d : Draft) (x lo hi n : ℕ) (fault : TraceFault) → d.distance ≡ Some x → lo ≤ hi → d.next ≤ lo → ((past : List Statement) → numbers n past (Mark lo hi) ≡ Some fault)
-    → (past : List Statement) → Follows past d → statement_fault needs_later n past (Mark lo hi) ≡ Some fault
+    → (past : List Statement) → Follows past d → statement_fault n past (Mark lo hi) ≡ Some fault
 mark_number d x lo hi n fault open_ rising behind told past follows = fault_number n past (Mark lo hi) fault (follows_here d x lo hi open_ rising behind past follows) (told past)
 
 mark_numbers : (past : List Statement) (lo hi : ℕ) → lo ≤ 999999 → hi ≤ 999999 → passed (numbers_within past (Mark lo hi)) ≡ None
 mark_numbers past lo hi low high = pass _ _ _ (at_most lo 999999 low) (pass _ _ _ (at_most hi 999999 high) refl)
 
 pub too_many_marks : (d : Draft) (x lo hi n : ℕ) → d.distance ≡ Some x → lo ≤ hi → d.next ≤ lo → hi ≤ 999999 → d.marks_left < hi - lo + 1
-    → (past : List Statement) → Follows past d → statement_fault needs_later n past (Mark lo hi) ≡ Some (Limit n Marks)
+    → (past : List Statement) → Follows past d → statement_fault n past (Mark lo hi) ≡ Some (Limit n Marks)
 too_many_marks d x lo hi n open_ rising behind high many past follows =
     let m = follows.0.marks in
-    fault_count n past (Mark lo hi) Marks (follows_here d x lo hi open_ rising behind past follows) (mark_numbers past lo hi (omega arith) high) refl
+    fault_count n past (Mark lo hi) Marks (follows_here d x lo hi open_ rising behind past follows) (mark_numbers past lo hi (omega arith) high)
     (fails Marks (nat_le (marks_of past + (hi + 1 - lo)) 20000000) [] (above (marks_of past + (hi + 1 - lo)) 20000000 (omega arith)))
 
 few_marks : (past : List Statement) (d : Draft) (lo hi : ℕ) → lo ≤ hi → hi - lo + 1 ≤ d.marks_left → marks_of past + d.marks_left ≡ 20000000 → passed (counts_within past (Mark lo hi)) ≡ None
@@ -418,11 +416,11 @@ passes past d x lo open_ behind follows = record { rising = follows.0.kept; skip
 
 pub dead_mark : (d : Draft) (x n : ℕ) (s : Span) (passed_ id : ℕ) → d.distance ≡ Some x → s.lo ≤ s.hi → d.next ≤ s.lo → s.hi ≤ 999999 → s.hi - s.lo + 1 ≤ d.marks_left
     → (Passes (kept_of d.cycles) d.passed s.lo → Asked (kept_of d.cycles) (live_of d) s passed_ (Some id))
-    → (past : List Statement) → Follows past d → statement_fault needs_later n past (mark_of s) ≡ Some (BadMark n id)
+    → (past : List Statement) → Follows past d → statement_fault n past (mark_of s) ≡ Some (BadMark n id)
 dead_mark d x n s passed_ id open_ rising behind high few asked past follows =
     let at = marking past d x open_ follows in
     let dead = (asked (passes past d x s.lo open_ behind follows)).dead in
-    fault_mark n past (mark_of s) id (follows_here d x s.lo s.hi open_ rising behind past follows) (mark_numbers past s.lo s.hi (omega arith) high) refl (few_marks past d s.lo s.hi rising few follows.0.marks)
+    fault_mark n past (mark_of s) id (follows_here d x s.lo s.hi open_ rising behind past follows) (mark_numbers past s.lo s.hi (omega arith) high) (few_marks past d s.lo s.hi rising few follows.0.marks)
     (find_first (λ i. not (is_live (before_mark_end past) i)) s.lo (s.hi + 1 - s.lo) id (λ i low less. ap not (at.live i ∙ dead.before i low less)) (ap not (at.live id ∙ dead.dead)) dead.low (let h = dead.high in omega arith))
 
 pub took_mark : (d : Draft) (x lo hi : ℕ) (s : Span) (p : ℕ) → mark_of s ≡ Mark lo hi → d.distance ≡ Some x → s.lo ≤ s.hi → d.next ≤ s.lo → s.hi ≤ 999999 → s.hi - s.lo + 1 ≤ d.marks_left
@@ -434,7 +432,7 @@ took_mark d x lo hi s p form open_ rising behind high few asked = subst (λ (t :
   faultless = λ past follows.
       let at = marking past d x open_ follows in
       let live = (asked (passes past d x s.lo open_ behind follows)).dead in
-      fault_none needs_later past (mark_of s) (follows_here d x s.lo s.hi open_ rising behind past follows) (mark_numbers past s.lo s.hi (omega arith) high) refl (few_marks past d s.lo s.hi rising few follows.0.marks)
+      fault_none past (mark_of s) (follows_here d x s.lo s.hi open_ rising behind past follows) (mark_numbers past s.lo s.hi (omega arith) high) (few_marks past d s.lo s.hi rising few follows.0.marks)
       (find_none (λ i. not (is_live (before_mark_end past) i)) s.lo (s.hi + 1 - s.lo) (λ i low less. ap not (at.live i ∙ live i low (omega arith))));
   follows = λ past follows. next past follows;
 }) where

@@ -14,9 +14,9 @@ use Rattle.trace_reader.specs.declared.trace.Event.{Event}
 use Rattle.trace_reader.specs.declared.trace.MarkEnd.{MarkEnd}
 use Rattle.trace_reader.specs.declared.trace.Span.{Span}
 use Rattle.trace_reader.specs.Says.{said}
-use Rattle.trace_reader.specs.Spelling.{alloc_of, cycle_statements, form_of, heap_of, line_for, lines_of, mark_of, mark_statements, spelled, statements_of}
+use Rattle.trace_reader.specs.Spelling.{alloc_of, cycle_statements, form_of, heap_of, line_for, lines_of, mark_of, mark_statements, spelled}
 use Rattle.trace_reader.specs.Limits.{AreCycles, WithinLimits}
-use Rattle.trace_reader.specs.Refusal.{is_end, needs_nothing, pieces_of}
+use Rattle.trace_reader.specs.Refusal.{is_end, pieces_of}
 use Rattle.trace_reader.specs.Good.{AreGood}
 use Rattle.trace_reader.proofs.Saying.{said_line, split_at}
 use Rattle.trace_reader.proofs.Good.{end_is_line}
@@ -70,19 +70,12 @@ same_fronts (s ∷ ss) (t ∷ ts) xs ys told all e =
     let head = some_same s t (sym told.0.says ∙ ap said lines ∙ all.0.says) in
     cons_same s t ss ts head (same_fronts ss ts xs ys told.1 all.1 (tails (line_for s) (line_for t) left right e))
 
-told_good : (past ss : List Statement) → AreGood needs_nothing past ss → AreTold ss
+told_good : (past ss : List Statement) → AreGood past ss → AreTold ss
 told_good past [] good = tt
 told_good past (s ∷ ss) good = (record { is_line = good.0.is_line; says = good.0.says; not_end = good.0.not_end }, told_good (s ∷ past) ss good.1)
 
-all_built : (ss : List Statement) → AllByRecursion (λ s. needs_nothing s ≡ false) ss
-all_built [] = tt
-all_built (s ∷ ss) = (refl, all_built ss)
-
-pub built_trace : (t : Trace) → AllByRecursion (λ s. needs_nothing s ≡ false) (statements_of t)
-built_trace t = all_built (statements_of t)
-
 told_front : (t : Trace) → WithinLimits t → AreTold (front_of t)
-told_front t limits = told_good [] (front_of t) (front_good needs_nothing t limits (all_built (front_of t)))
+told_front t limits = told_good [] (front_of t) (front_good t limits)
 
 pieces_trace : (t : Trace) (rest : List ℕ) → WithinLimits t → pieces_of (text (lines_of t) ++ rest) ≡ map line_for (front_of t) ++ (line_for End ∷ pieces_of rest)
 pieces_trace t rest limits = ap pieces_of (front_text t rest) ∙ pieces_front (front_of t) (codes "end" ++ 10 ∷ rest) (told_front t limits)

@@ -11,7 +11,7 @@ use Rattle.edge_io.specs.Line.{IsLine, Shows, ends_input}
 use Rattle.edge_io.specs.Reading.{StopsInLine, is_dry, line_of, lines_left, number_of, room_of, source_of}
 use Rattle.edge_io.specs.Text.{text}
 use Rattle.trace_reader.specs.declared.fault.TraceFault.{TraceFault}
-use Rattle.trace_reader.specs.declared.fault.TraceFault.TheVariants.{ReadFault, Malformed, Truncated, Limit, BadMark, NoMemory, Later}
+use Rattle.trace_reader.specs.declared.fault.TraceFault.TheVariants.{ReadFault, Malformed, Truncated, Limit, BadMark, NoMemory}
 use Rattle.trace_reader.specs.declared.fault.Which.{Which}
 use Rattle.trace_reader.specs.declared.fault.Which.TheVariants.{Bytes}
 use Rattle.trace_reader.specs.declared.statement.Statement.{Statement}
@@ -19,7 +19,7 @@ use Rattle.trace_reader.specs.declared.trace.Header.{Header}
 use Rattle.trace_reader.specs.Says.{said}
 use Rattle.trace_reader.specs.Spelling.{heap_of, line_for, spelled}
 use Rattle.trace_reader.specs.Checks.{bad_mark, counts_within, may_follow, numbers_within, passed}
-use Rattle.trace_reader.specs.Refusal.{fault_if, feed, first_of, lines_fault, needs_later, next_number, nothing_behind, pieces_of, said_fault}
+use Rattle.trace_reader.specs.Refusal.{fault_if, feed, first_of, lines_fault, next_number, nothing_behind, pieces_of, said_fault}
 use Rattle.trace_reader.specs.Good.{AreGood}
 use Rattle.trace_reader.specs.Taken.{IsFrontOfLine, StandsInLine, Takes, TakesLines}
 use Rattle.trace_reader.specs.Told.{BreaksOff, IsAtLine, IsFaultBehind, IsFirstFault, IsOfTrace, TellsFault, TellsFirstFault}
@@ -51,8 +51,8 @@ pub first_over : {S : Type 0} (left : S → Option (List ℕ)) (a b : Lines S) (
 first_over left a b bytes line past taken shows = λ wet behind all e.
     let known = known_rest (lines_left left a) (lines_left left b) bytes all taken e in
     let split : all ≡ line ++ shows.2.0 ∷ known.0 = known.2 ∙ ap (λ (x : List ℕ). x ++ known.0) shows.2.1 ∙ append_one line known.0 shows.2.0 in
-    ap (λ (x : List ℕ). lines_fault needs_later behind (next_number (number_of a)) (room_of a) past (pieces_of x)) split
-    ∙ lines_over needs_later behind (next_number (number_of a)) (room_of a) past line known.0 shows.2.0 shows.0 shows.1
+    ap (λ (x : List ℕ). lines_fault behind (next_number (number_of a)) (room_of a) past (pieces_of x)) split
+    ∙ lines_over behind (next_number (number_of a)) (room_of a) past line known.0 shows.2.0 shows.0 shows.1
 
 pub first_long : {S : Type 0} (left : S → Option (List ℕ)) (a b : Lines S) (bytes line : List ℕ) (past : List Statement) → Consumes (lines_left left a) (lines_left left b) bytes
     → Shows Long bytes line (room_of a) → IsFirstFault left a past (Malformed (next_number (number_of a)))
@@ -60,8 +60,8 @@ first_long left a b bytes line past taken shows = λ wet behind all e.
     let known = known_rest (lines_left left a) (lines_left left b) bytes all taken e in
     let byte = shows.3.0 in
     let split : all ≡ line ++ byte ∷ known.0 = known.2 ∙ ap (λ (x : List ℕ). x ++ known.0) shows.3.2 ∙ append_one line known.0 byte in
-    ap (λ (x : List ℕ). lines_fault needs_later behind (next_number (number_of a)) (room_of a) past (pieces_of x)) split
-    ∙ lines_long needs_later behind (next_number (number_of a)) (room_of a) past line known.0 byte shows.0 shows.1 shows.2 shows.3.1
+    ap (λ (x : List ℕ). lines_fault behind (next_number (number_of a)) (room_of a) past (pieces_of x)) split
+    ∙ lines_long behind (next_number (number_of a)) (room_of a) past line known.0 byte shows.0 shows.1 shows.2 shows.3.1
 
 pub first_cut : {S : Type 0} (left : S → Option (List ℕ)) (a b : Lines S) (line : List ℕ) (past : List Statement) → Consumes (lines_left left a) (lines_left left b) line
     → IsLine line → length line ≤ room_of a → (is_dry a ≡ false → IsAtEnd (lines_left left b)) → IsFirstFault left a past (Truncated (next_number (number_of a)))
@@ -69,33 +69,33 @@ first_cut left a b line past taken is_line room_left end = λ wet behind all e.
     let known = known_rest (lines_left left a) (lines_left left b) line all taken e in
     let rest : known.0 ≡ [] = known_end (lines_left left b) known.0 (end wet) known.1 in
     let split : all ≡ line = known.2 ∙ ap (λ (x : List ℕ). line ++ x) rest ∙ append_nil line in
-    ap (λ (x : List ℕ). lines_fault needs_later behind (next_number (number_of a)) (room_of a) past (pieces_of x)) split
-    ∙ lines_cut needs_later behind (next_number (number_of a)) (room_of a) past line is_line room_left
+    ap (λ (x : List ℕ). lines_fault behind (next_number (number_of a)) (room_of a) past (pieces_of x)) split
+    ∙ lines_cut behind (next_number (number_of a)) (room_of a) past line is_line room_left
 
 -- a whole line that is refused
 pub first_said : {S : Type 0} (left : S → Option (List ℕ)) (a b : Lines S) (line : List ℕ) (past : List Statement) (fault : TraceFault) → Takes left a b (line ++ 10 ∷ [])
-    → IsLine line → said_fault needs_later (next_number (number_of a)) past (said line) ≡ Some fault → IsFirstFault left a past fault
+    → IsLine line → said_fault (next_number (number_of a)) past (said line) ≡ Some fault → IsFirstFault left a past fault
 first_said left a b line past fault takes is_line says = λ wet behind all e.
     let known = known_rest (lines_left left a) (lines_left left b) (line ++ 10 ∷ []) all takes.taken e in
     let split : all ≡ line ++ 10 ∷ known.0 = known.2 ∙ append_one line known.0 10 in
     let len = length-append line (10 ∷ []) in
     let room = takes.room in
-    ap (λ (x : List ℕ). lines_fault needs_later behind (next_number (number_of a)) (room_of a) past (pieces_of x)) split
-    ∙ lines_stop needs_later behind (next_number (number_of a)) (room_of a) past line known.0 fault is_line (omega arith) says
+    ap (λ (x : List ℕ). lines_fault behind (next_number (number_of a)) (room_of a) past (pieces_of x)) split
+    ∙ lines_stop behind (next_number (number_of a)) (room_of a) past line known.0 fault is_line (omega arith) says
 
 -- good lines come before the first fault
-pub first_behind : {S : Type 0} (left : S → Option (List ℕ)) (a b : Lines S) (past ss : List Statement) (fault : TraceFault) → TakesLines left a b ss → AreGood needs_later past ss
+pub first_behind : {S : Type 0} (left : S → Option (List ℕ)) (a b : Lines S) (past ss : List Statement) (fault : TraceFault) → TakesLines left a b ss → AreGood past ss
     → IsFirstFault left b (onto ss past) fault → IsFirstFault left a past fault
 first_behind left a b past ss fault takes good then = λ wet behind all e.
     let known = known_rest (lines_left left a) (lines_left left b) (spelled ss) all takes.bytes.taken e in
     let room = takes.bytes.room in
     let number = takes.number in
-    let go = lines_go needs_later behind (next_number (number_of a)) (room_of a) past ss known.0 good (omega arith) (omega arith) in
+    let go = lines_go behind (next_number (number_of a)) (room_of a) past ss known.0 good (omega arith) (omega arith) in
     let number_after : min (next_number (number_of a) + length ss) (2 ^ 64 - 1) ≡ next_number (number_of b) = omega arith in
     let room_after : room_of a - length (spelled ss) ≡ room_of b = omega arith in
-    ap (λ (x : List ℕ). lines_fault needs_later behind (next_number (number_of a)) (room_of a) past (pieces_of x)) known.2 ∙ go
-    ∙ ap (λ (k : ℕ). lines_fault needs_later behind k (room_of a - length (spelled ss)) (onto ss past) (pieces_of known.0)) number_after
-    ∙ ap (λ (k : ℕ). lines_fault needs_later behind (next_number (number_of b)) k (onto ss past) (pieces_of known.0)) room_after
+    ap (λ (x : List ℕ). lines_fault behind (next_number (number_of a)) (room_of a) past (pieces_of x)) known.2 ∙ go
+    ∙ ap (λ (k : ℕ). lines_fault behind k (room_of a - length (spelled ss)) (onto ss past) (pieces_of known.0)) number_after
+    ∙ ap (λ (k : ℕ). lines_fault behind (next_number (number_of b)) k (onto ss past) (pieces_of known.0)) room_after
     ∙ then (takes.bytes.wet wet) behind known.0 known.1
 
 -- Why a fault is told
@@ -114,7 +114,7 @@ breaks_in_line left a b past stops number used =
     record {
       bytes = line_of b;
       taken = stops.taken;
-      ends_early = λ behind. lines_cut needs_later behind (next_number (number_of a)) (room_of a) past (line_of b) stops.is_line (omega arith) ∙ ap (λ (k : ℕ). Some (Truncated k)) (sym number);
+      ends_early = λ behind. lines_cut behind (next_number (number_of a)) (room_of a) past (line_of b) stops.is_line (omega arith) ∙ ap (λ (k : ℕ). Some (Truncated k)) (sym number);
       all_used = used;
     }
 
@@ -122,7 +122,7 @@ pub tells_read : {S : Type 0} (left : S → Option (List ℕ)) (a b : Lines S) (
 tells_read left a b past stops number used = record { first = λ of. absurd of; at_line = tt; read_fault = λ _. breaks_in_line left a b past stops number used }
 
 -- good lines come before a read fault
-breaks_behind : {S : Type 0} (left : S → Option (List ℕ)) (a b c : Lines S) (past ss : List Statement) → TakesLines left a b ss → AreGood needs_later past ss → BreaksOff left b c (onto ss past) → BreaksOff left a c past
+breaks_behind : {S : Type 0} (left : S → Option (List ℕ)) (a b c : Lines S) (past ss : List Statement) → TakesLines left a b ss → AreGood past ss → BreaksOff left b c (onto ss past) → BreaksOff left a c past
 breaks_behind left a b c past ss takes good off =
     let room = takes.bytes.room in
     let number = takes.number in
@@ -131,15 +131,15 @@ breaks_behind left a b c past ss takes good off =
     record {
       bytes = spelled ss ++ off.bytes;
       taken = Consumes-trans _ _ _ (spelled ss) off.bytes takes.bytes.taken off.taken;
-      ends_early = λ behind. lines_go needs_later behind (next_number (number_of a)) (room_of a) past ss off.bytes good (omega arith) (omega arith)
-          ∙ ap (λ (k : ℕ). lines_fault needs_later behind k (room_of a - length (spelled ss)) (onto ss past) (pieces_of off.bytes)) number_after
-          ∙ ap (λ (k : ℕ). lines_fault needs_later behind (next_number (number_of b)) k (onto ss past) (pieces_of off.bytes)) room_after
+      ends_early = λ behind. lines_go behind (next_number (number_of a)) (room_of a) past ss off.bytes good (omega arith) (omega arith)
+          ∙ ap (λ (k : ℕ). lines_fault behind k (room_of a - length (spelled ss)) (onto ss past) (pieces_of off.bytes)) number_after
+          ∙ ap (λ (k : ℕ). lines_fault behind (next_number (number_of b)) k (onto ss past) (pieces_of off.bytes)) room_after
           ∙ off.ends_early behind;
       all_used = off.all_used;
     }
 
 -- good lines come before the line of a fault
-pub tells_behind : {S : Type 0} (left : S → Option (List ℕ)) (a b c : Lines S) (past ss : List Statement) (fault : TraceFault) → TakesLines left a b ss → AreGood needs_later past ss
+pub tells_behind : {S : Type 0} (left : S → Option (List ℕ)) (a b c : Lines S) (past ss : List Statement) (fault : TraceFault) → TakesLines left a b ss → AreGood past ss
     → TellsFault left b c (onto ss past) fault → TellsFault left a c past fault
 tells_behind left a b c past ss fault takes good tells = record {
   first = λ of. first_behind left a b past ss fault takes good (tells.first of);
@@ -154,17 +154,16 @@ IsOfLine number fault = IsOfTrace fault × IsAtLine number fault
 of_line : (number : ℕ) (told fault : TraceFault) → IsOfLine number told → Some told ≡ Some fault → IsOfLine number fault
 of_line number told fault is e = let same : told ≡ fault = cc in subst (IsOfLine number) same is
 
-pub said_of_line : (later : Statement → Bool) (number : ℕ) (past : List Statement) (o : Option Statement) (fault : TraceFault) → said_fault later number past o ≡ Some fault → IsOfLine number fault
-said_of_line later number past None fault e = of_line number (Malformed number) fault (tt, refl) e
-said_of_line later number past (Some s) fault e = shape (not (may_follow past s)) (later s) (passed (numbers_within past s)) (passed (counts_within past s)) (bad_mark past s) e where
-  shape : (a b : Bool) (p q : Option Which) (i : Option ℕ) → first_of (fault_if a (Malformed number) ∷ option_map (λ which. Limit number which) p ∷ fault_if b (Later number) ∷ option_map (λ which. Limit number which) q ∷ option_map (λ i. BadMark number i) i ∷ []) ≡ Some fault
+pub said_of_line : (number : ℕ) (past : List Statement) (o : Option Statement) (fault : TraceFault) → said_fault number past o ≡ Some fault → IsOfLine number fault
+said_of_line number past None fault e = of_line number (Malformed number) fault (tt, refl) e
+said_of_line number past (Some s) fault e = shape (not (may_follow past s)) (passed (numbers_within past s)) (passed (counts_within past s)) (bad_mark past s) e where
+  shape : (a : Bool) (p q : Option Which) (i : Option ℕ) → first_of (fault_if a (Malformed number) ∷ option_map (λ which. Limit number which) p ∷ option_map (λ which. Limit number which) q ∷ option_map (λ i. BadMark number i) i ∷ []) ≡ Some fault
       → IsOfLine number fault
-  shape true b p q i e = of_line number (Malformed number) fault (tt, refl) e
-  shape false b (Some which) q i e = of_line number (Limit number which) fault (tt, refl) e
-  shape false true None q i e = of_line number (Later number) fault (tt, refl) e
-  shape false false None (Some which) i e = of_line number (Limit number which) fault (tt, refl) e
-  shape false false None None (Some object) e = of_line number (BadMark number object) fault (tt, refl) e
-  shape false false None None None e = absurd cc
+  shape true p q i e = of_line number (Malformed number) fault (tt, refl) e
+  shape false (Some which) q i e = of_line number (Limit number which) fault (tt, refl) e
+  shape false None (Some which) i e = of_line number (Limit number which) fault (tt, refl) e
+  shape false None None (Some object) e = of_line number (BadMark number object) fault (tt, refl) e
+  shape false None None None e = absurd cc
 
 -- Where the lines stand
 
@@ -288,19 +287,19 @@ stands_failed left a b stops number = stands_front left a b (line_of b) stops.ta
 
 -- a whole line whose statement is refused
 pub first_told : {S : Type 0} (left : S → Option (List ℕ)) (a b : Lines S) (shown : List ℕ) (number : ℕ) (past : List Statement) (fault : TraceFault) → Takes left a b (line_of b ++ 10 ∷ []) → IsLine (line_of b)
-    → number_of b ≡ next_number (number_of a) → shown ≡ line_of b → number ≡ number_of b → said_fault needs_later number past (said shown) ≡ Some fault → IsFirstFault left a past fault
+    → number_of b ≡ next_number (number_of a) → shown ≡ line_of b → number ≡ number_of b → said_fault number past (said shown) ≡ Some fault → IsFirstFault left a past fault
 first_told left a b shown number past fault takes is_line counted same same_number says =
-    first_said left a b (line_of b) past fault takes is_line (ap (λ (k : ℕ). said_fault needs_later k past (said (line_of b))) (sym (same_number ∙ counted)) ∙ ap (λ (x : List ℕ). said_fault needs_later number past (said x)) (sym same) ∙ says)
+    first_said left a b (line_of b) past fault takes is_line (ap (λ (k : ℕ). said_fault k past (said (line_of b))) (sym (same_number ∙ counted)) ∙ ap (λ (x : List ℕ). said_fault number past (said x)) (sym same) ∙ says)
 
 pub tells_said : {S : Type 0} (left : S → Option (List ℕ)) (a b : Lines S) (shown : List ℕ) (number : ℕ) (past : List Statement) (fault : TraceFault) → Takes left a b (line_of b ++ 10 ∷ []) → IsLine (line_of b)
-    → number_of b ≡ next_number (number_of a) → shown ≡ line_of b → number ≡ number_of b → said_fault needs_later number past (said shown) ≡ Some fault → TellsFault left a b past fault
+    → number_of b ≡ next_number (number_of a) → shown ≡ line_of b → number ≡ number_of b → said_fault number past (said shown) ≡ Some fault → TellsFault left a b past fault
 tells_said left a b shown number past fault takes is_line counted same same_number says =
-    let of = said_of_line needs_later number past (said shown) fault says in
+    let of = said_of_line number past (said shown) fault says in
     tells_trace left a b past fault of.0 (first_told left a b shown number past fault takes is_line counted same same_number says) (subst (λ (k : ℕ). IsAtLine k fault) same_number of.1)
 
 -- the same of a result that the line gives
 pub result_told : {S T : Type 0} (left : S → Option (List ℕ)) (a b : Lines S) (shown : List ℕ) (number : ℕ) (past : List Statement) (result : Result T TraceFault) → Takes left a b (line_of b ++ 10 ∷ []) → IsLine (line_of b)
-    → number_of b ≡ next_number (number_of a) → shown ≡ line_of b → number ≡ number_of b → IfErr result (λ fault. said_fault needs_later number past (said shown) ≡ Some fault) → TellsFirstFault left a b past result
+    → number_of b ≡ next_number (number_of a) → shown ≡ line_of b → number ≡ number_of b → IfErr result (λ fault. said_fault number past (said shown) ≡ Some fault) → TellsFirstFault left a b past result
 result_told left a b shown number past (Ok value) takes is_line counted same same_number says = tt
 result_told left a b shown number past (Err fault) takes is_line counted same same_number says = tells_said left a b shown number past fault takes is_line counted same same_number says
 

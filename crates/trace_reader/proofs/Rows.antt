@@ -2,11 +2,11 @@
 use Rattle.std.proofs.Common.{◌≡◌, ℕ, List, [], ◌∷◌, ◌++◌, map, codes, Option, Some, None, refl, replicate}
 use Rattle.std.specs.Fmt.{digits}
 use Rattle.trace_reader.specs.declared.fault.TraceFault.{TraceFault}
-use Rattle.trace_reader.specs.declared.fault.TraceFault.TheVariants.{Malformed, Truncated, Limit, BadMark, Later}
+use Rattle.trace_reader.specs.declared.fault.TraceFault.TheVariants.{Malformed, Truncated, Limit, BadMark}
 use Rattle.trace_reader.specs.declared.fault.Which.TheVariants.{Bytes, Chunks, Procs, Rate, Seed, Goal, Proc, Size, Stack, Distance, Id}
 use Rattle.edge_io.specs.Text.{text}
 use Rattle.trace_reader.specs.Says.{said}
-use Rattle.trace_reader.specs.Refusal.{refusal, refusal_now, fault_in, lines_fault, needs_nothing, nothing_behind}
+use Rattle.trace_reader.specs.Refusal.{refusal, fault_in, lines_fault, nothing_behind}
 
 -- lines behind the title
 abbrev headed : List (List ℕ) → List ℕ
@@ -59,7 +59,7 @@ events = refl
 
 -- the byte past the limit
 abbrev fault_within : ℕ → List ℕ → Option TraceFault
-fault_within limit bytes = fault_in needs_nothing nothing_behind 0 limit bytes
+fault_within limit bytes = fault_in nothing_behind 0 limit bytes
 
 -- a title has 9 bytes with its line feed, and the plain header 38
 limits_of_bytes : fault_within 0 (codes "g") ∷ fault_within 0 [] ∷ fault_within 8 (whole []) ∷ fault_within 9 (whole []) ∷ fault_within 46 (whole []) ∷ fault_within 47 (whole []) ∷ fault_within 50 (whole []) ∷ fault_within 51 (whole [])
@@ -116,11 +116,11 @@ marks : map (λ lines. refusal (whole lines)) (
 unfolding digits said lines_fault
 marks = refl
 
--- what is not built yet, behind the limits of the header's numbers
-later : map refusal_now (map with_line (codes "gc 1" ∷ codes "gc 0" ∷ codes "gc x" ∷ codes "a 0 32768 n 1" ∷ codes "a 0 32769 n 1" ∷ codes "a 0 32769 n 1000000" ∷ codes "a 1 32769 n 1" ∷ codes "m 0 0" ∷ [])
+-- the first reason of a line, and headers of other numbers
+first_reasons : map refusal (map with_line (codes "gc 1" ∷ codes "gc 0" ∷ codes "gc x" ∷ codes "a 0 32768 n 1" ∷ codes "a 0 32769 n 1" ∷ codes "a 0 32769 n 1000000" ∷ codes "a 1 32769 n 1" ∷ codes "m 0 0" ∷ [])
     ++ map with_header (codes "heap 1 procs 2 rate 0 seed 1 goal 512" ∷ codes "heap 1 procs 1 rate 1 seed 1 goal 512" ∷ codes "heap 1 procs 1 rate 0 seed 1 goal 511" ∷ codes "heap 2 procs 1 rate 0 seed 1 goal 1024" ∷ codes "heap 1 procs 64 rate 0 seed 1 goal 65537" ∷ [])
     ++ whole (codes "a 0 24 s 1" ∷ codes "gc 1" ∷ codes "x" ∷ []) ∷ whole (codes "x" ∷ codes "gc 1" ∷ []) ∷ [])
     ≡ None ∷ Some (Limit 3 Distance) ∷ Some (Malformed 3) ∷ None ∷ None ∷ Some (Limit 3 Stack) ∷ Some (Limit 3 Proc) ∷ Some (Malformed 3)
-    ∷ None ∷ Some (Later 2) ∷ None ∷ None ∷ Some (Limit 2 Goal) ∷ Some (Malformed 5) ∷ Some (Malformed 3) ∷ []
+    ∷ None ∷ None ∷ None ∷ None ∷ Some (Limit 2 Goal) ∷ Some (Malformed 5) ∷ Some (Malformed 3) ∷ []
 unfolding digits said lines_fault
-later = refl
+first_reasons = refl

@@ -22,7 +22,7 @@ use Rattle.trace_reader.specs.Spelling.{cycle_statements, line_for, mark_of, spe
 use Rattle.trace_reader.specs.Says.{said}
 use Rattle.trace_reader.specs.Limits.{HeaderFits, Spells}
 use Rattle.trace_reader.specs.Checks.{bad_mark, counts_within, header_numbers, may_begin, may_follow, numbers_within, passed, within}
-use Rattle.trace_reader.specs.Refusal.{fault_if, feed, first_of, is_end, line_fault, lines_fault, needs_nothing, next_number, nothing_behind, onto_past, pieces_of, refusal, said_fault, statement_fault}
+use Rattle.trace_reader.specs.Refusal.{fault_if, feed, first_of, is_end, line_fault, lines_fault, next_number, nothing_behind, onto_past, pieces_of, refusal, said_fault, statement_fault}
 use Rattle.trace_reader.specs.Good.{AreGood}
 use Rattle.trace_reader.specs.Draft.{AreEnded}
 use Rattle.trace_reader.proofs.Saying.{Says-said, split_at, split_last}
@@ -93,10 +93,10 @@ record GoesOn (n room : ℕ) (past : List Statement) (bytes : List ℕ) : Type 0
   is_line : IsLine line
   room_left : length line < room
   says : said line ≡ Some s
-  good : statement_fault needs_nothing n past s ≡ None
-  then : cond (is_end (Some s)) (nothing_behind (next_number n) (pieces_of rest)) (lines_fault needs_nothing nothing_behind (next_number n) (room - (length line + 1)) (s ∷ past) (pieces_of rest)) ≡ None
+  good : statement_fault n past s ≡ None
+  then : cond (is_end (Some s)) (nothing_behind (next_number n) (pieces_of rest)) (lines_fault nothing_behind (next_number n) (room - (length line + 1)) (s ∷ past) (pieces_of rest)) ≡ None
 
-step : (n room : ℕ) (past : List Statement) (bytes : List ℕ) → lines_fault needs_nothing nothing_behind n room past (pieces_of bytes) ≡ None → GoesOn n room past bytes
+step : (n room : ℕ) (past : List Statement) (bytes : List ℕ) → lines_fault nothing_behind n room past (pieces_of bytes) ≡ None → GoesOn n room past bytes
 unfolding lines_fault
 step n room past bytes e =
     let has = first_line bytes in
@@ -104,23 +104,23 @@ step n room past bytes e =
     elim has.2 [
       | inl cut ↦ (
           let split : pieces_of bytes ≡ line ∷ [] = ap pieces_of cut ∙ split_last 10 line has.1 in
-          let all = subst (λ (ps : List (List ℕ)). lines_fault needs_nothing nothing_behind n room past ps ≡ None) split e in
+          let all = subst (λ (ps : List (List ℕ)). lines_fault nothing_behind n room past ps ≡ None) split e in
           let first = none_first (line_fault n room line []) _ all in
           absurd ((whole n room line [] first.0).2 refl))
       | inr more ↦ (
           let rest = more.0 in
           let split : pieces_of bytes ≡ line ∷ pieces_of rest = ap pieces_of more.1 ∙ split_at 10 line rest has.1 in
-          let all = subst (λ (ps : List (List ℕ)). lines_fault needs_nothing nothing_behind n room past ps ≡ None) split e in
+          let all = subst (λ (ps : List (List ℕ)). lines_fault nothing_behind n room past ps ≡ None) split e in
           let first = none_first (line_fault n room line (pieces_of rest)) _ all in
-          let second = none_first (said_fault needs_nothing n past (said line)) _ first.1 in
-          let third = none_first (cond (is_end (said line)) (nothing_behind (next_number n) (pieces_of rest)) (lines_fault needs_nothing nothing_behind (next_number n) (room - (length line + 1)) (onto_past (said line) past) (pieces_of rest))) _ second.1 in
+          let second = none_first (said_fault n past (said line)) _ first.1 in
+          let third = none_first (cond (is_end (said line)) (nothing_behind (next_number n) (pieces_of rest)) (lines_fault nothing_behind (next_number n) (room - (length line + 1)) (onto_past (said line) past) (pieces_of rest))) _ second.1 in
           let here = whole n room line (pieces_of rest) first.0 in
           let fed = feed_pieces rest in
           let room_left = here.1 in
           told rest line more.1 (here.0, has.1) (omega arith) (said line) refl second.0 third.0)
     ] where
-      told : (rest line : List ℕ) → bytes ≡ line ++ 10 ∷ rest → IsLine line → length line < room → (o : Option Statement) → said line ≡ o → said_fault needs_nothing n past o ≡ None
-          → cond (is_end o) (nothing_behind (next_number n) (pieces_of rest)) (lines_fault needs_nothing nothing_behind (next_number n) (room - (length line + 1)) (onto_past o past) (pieces_of rest)) ≡ None
+      told : (rest line : List ℕ) → bytes ≡ line ++ 10 ∷ rest → IsLine line → length line < room → (o : Option Statement) → said line ≡ o → said_fault n past o ≡ None
+          → cond (is_end o) (nothing_behind (next_number n) (pieces_of rest)) (lines_fault nothing_behind (next_number n) (room - (length line + 1)) (onto_past o past) (pieces_of rest)) ≡ None
           → GoesOn n room past bytes
       told rest line split is_line room_left None says good then = absurd cc
       told rest line split is_line room_left (Some s) says good then =
@@ -129,7 +129,7 @@ step n room past bytes e =
 -- the statements that the bytes spell, and `end` behind them
 record Told (room : ℕ) (past : List Statement) (bytes : List ℕ) : Type 0 where
   statements : List Statement
-  good : AreGood needs_nothing past statements
+  good : AreGood past statements
   last : may_follow (onto statements past) End ≡ true
   spells : bytes ≡ spelled (statements ++ End ∷ [])
   small : length bytes ≤ room
@@ -139,7 +139,7 @@ nothing_is_left n [] e = refl
 nothing_is_left n (b ∷ bs) e = (let some : nothing_behind n (pieces_of (b ∷ bs)) ≡ Some (Malformed n) = some_left n (b ∷ bs) (λ none. absurd cc) in let clash : None ≡ Some (Malformed n) = sym e ∙ some in absurd cc)
 
 -- nothing is wrong with a statement on any line
-any_line : (n m : ℕ) (past : List Statement) (s : Statement) → statement_fault needs_nothing n past s ≡ None → statement_fault needs_nothing m past s ≡ None
+any_line : (n m : ℕ) (past : List Statement) (s : Statement) → statement_fault n past s ≡ None → statement_fault m past s ≡ None
 any_line n m past s e =
     let form = none_first _ _ e in
     let low = none_first _ _ form.1 in
@@ -148,14 +148,14 @@ any_line n m past s e =
     joined (may_follow past s) (passed (numbers_within past s)) (passed (counts_within past s)) (bad_mark past s) form.0 low.0 count.0 live.0 where
       joined : (test : Bool) (p q : Option Which) (i : Option ℕ) → fault_if (not test) (Malformed n) ≡ None → option_map (λ which. Limit n which) p ≡ None → option_map (λ which. Limit n which) q ≡ None
           → option_map (λ i. BadMark n i) i ≡ None
-          → first_of (fault_if (not test) (Malformed m) ∷ option_map (λ which. Limit m which) p ∷ None ∷ option_map (λ which. Limit m which) q ∷ option_map (λ i. BadMark m i) i ∷ []) ≡ None
+          → first_of (fault_if (not test) (Malformed m) ∷ option_map (λ which. Limit m which) p ∷ option_map (λ which. Limit m which) q ∷ option_map (λ i. BadMark m i) i ∷ []) ≡ None
       joined false p q i a b c d = absurd cc
       joined true (Some which) q i a b c d = absurd cc
       joined true None (Some which) i a b c d = absurd cc
       joined true None None (Some object) a b c d = absurd cc
       joined true None None None a b c d = refl
 
-told_all : (fuel n room : ℕ) (past : List Statement) (bytes : List ℕ) → length bytes ≤ fuel → lines_fault needs_nothing nothing_behind n room past (pieces_of bytes) ≡ None → Told room past bytes
+told_all : (fuel n room : ℕ) (past : List Statement) (bytes : List ℕ) → length bytes ≤ fuel → lines_fault nothing_behind n room past (pieces_of bytes) ≡ None → Told room past bytes
 told_all zero n room past bytes short e =
     let g = step n room past bytes e in
     let len : length bytes ≡ length g.line + length (10 ∷ g.rest) = ap length g.split ∙ length-append g.line (10 ∷ g.rest) in
@@ -167,19 +167,19 @@ told_all (suc fuel) n room past bytes short e =
     let room_left = g.room_left in
     elim (cases_Bool (is_end (Some g.s))) [
       | inl end ↦ (
-          let left : nothing_behind (next_number n) (pieces_of g.rest) ≡ None = subst (λ (test : Bool). cond test (nothing_behind (next_number n) (pieces_of g.rest)) (lines_fault needs_nothing nothing_behind (next_number n) (room - (length g.line + 1)) (g.s ∷ past) (pieces_of g.rest)) ≡ None) end g.then in
+          let left : nothing_behind (next_number n) (pieces_of g.rest) ≡ None = subst (λ (test : Bool). cond test (nothing_behind (next_number n) (pieces_of g.rest)) (lines_fault nothing_behind (next_number n) (room - (length g.line + 1)) (g.s ∷ past) (pieces_of g.rest)) ≡ None) end g.then in
           let none = nothing_is_left (next_number n) g.rest left in
           let gone : length g.rest ≡ 0 = ap length none in
           let is = the_end g.s end in
           record {
             statements = [];
             good = tt;
-            last = if_none (may_follow past End) (Malformed n) (none_first _ _ (subst (λ (s : Statement). statement_fault needs_nothing n past s ≡ None) is g.good)).0;
+            last = if_none (may_follow past End) (Malformed n) (none_first _ _ (subst (λ (s : Statement). statement_fault n past s ≡ None) is g.good)).0;
             spells = g.split ∙ ap (λ (x : List ℕ). g.line ++ 10 ∷ x) none ∙ ap (λ (x : List ℕ). x ++ 10 ∷ []) (form ∙ ap line_for is) ∙ sym (append_nil (line_for End ++ 10 ∷ []));
             small = omega arith;
           })
       | inr more ↦ (
-          let left : lines_fault needs_nothing nothing_behind (next_number n) (room - (length g.line + 1)) (g.s ∷ past) (pieces_of g.rest) ≡ None = subst (λ (test : Bool). cond test (nothing_behind (next_number n) (pieces_of g.rest)) (lines_fault needs_nothing nothing_behind (next_number n) (room - (length g.line + 1)) (g.s ∷ past) (pieces_of g.rest)) ≡ None) more g.then in
+          let left : lines_fault nothing_behind (next_number n) (room - (length g.line + 1)) (g.s ∷ past) (pieces_of g.rest) ≡ None = subst (λ (test : Bool). cond test (nothing_behind (next_number n) (pieces_of g.rest)) (lines_fault nothing_behind (next_number n) (room - (length g.line + 1)) (g.s ∷ past) (pieces_of g.rest)) ≡ None) more g.then in
           let rest = told_all fuel (next_number n) (room - (length g.line + 1)) (g.s ∷ past) g.rest (omega arith) left in
           let small = rest.small in
           record {
@@ -244,10 +244,10 @@ new_cycle newest distance ss marks (c ∷ cs) ended all = record {
   none = λ _. refl;
 }
 
-group : (newest older : Statement) (past ss : List Statement) → AreGood needs_nothing (newest ∷ older ∷ past) ss → Grouped newest ss
+group : (newest older : Statement) (past ss : List Statement) → AreGood (newest ∷ older ∷ past) ss → Grouped newest ss
 group newest older past [] good = record { marks = []; cycles = record { events = []; mark = None } ∷ []; ended = refl; all = refl; none = λ _. refl }
-group newest older past (Title ∷ ss) good = (let e : false ≡ true = (sound needs_nothing (newest ∷ older ∷ past) Title good.0).follows in absurd cc)
-group newest older past (Heap h ∷ ss) good = (let e : false ≡ true = (sound needs_nothing (newest ∷ older ∷ past) (Heap h) good.0).follows in absurd cc)
+group newest older past (Title ∷ ss) good = (let e : false ≡ true = (sound (newest ∷ older ∷ past) Title good.0).follows in absurd cc)
+group newest older past (Heap h ∷ ss) good = (let e : false ≡ true = (sound (newest ∷ older ∷ past) (Heap h) good.0).follows in absurd cc)
 group newest older past (End ∷ ss) good = (let e = good.0.not_end in absurd cc)
 group newest older past (Alloc form ∷ ss) good =
     let more = group (Alloc form) newest (older ∷ past) ss good.1 in
@@ -257,7 +257,7 @@ group newest older past (Gc distance ∷ ss) good =
     new_cycle newest distance ss more.marks more.cycles more.ended more.all
 group newest older past (Mark lo hi ∷ ss) good =
     let more = group (Mark lo hi) newest (older ∷ past) ss good.1 in
-    let form = (sound needs_nothing (newest ∷ older ∷ past) (Mark lo hi) good.0).follows in
+    let form = (sound (newest ∷ older ∷ past) (Mark lo hi) good.0).follows in
     let begin = (and_parts (nat_le lo hi) (may_begin newest lo) form).1 in
     record {
       marks = record { lo = lo; hi = hi } ∷ more.marks;
@@ -300,25 +300,25 @@ header_fits h e =
 -- Traces
 
 -- the two first statements, and those of the cycles
-of_parts : (bytes : List ℕ) (h : HeapForm) (ss : List Statement) → AreGood needs_nothing [] (Title ∷ Heap h ∷ ss) → bytes ≡ spelled ((Title ∷ Heap h ∷ ss) ++ End ∷ []) → length bytes ≤ 67108864 → (t : Trace) × Spells bytes t
+of_parts : (bytes : List ℕ) (h : HeapForm) (ss : List Statement) → AreGood [] (Title ∷ Heap h ∷ ss) → bytes ≡ spelled ((Title ∷ Heap h ∷ ss) ++ End ∷ []) → length bytes ≤ 67108864 → (t : Trace) × Spells bytes t
 unfolding header_from
 of_parts bytes h ss good spells small =
-    let fits = header_fits h (sound needs_nothing (Title ∷ []) (Heap h) good.1.0).low in
+    let fits = header_fits h (sound (Title ∷ []) (Heap h) good.1.0).low in
     let cycles = group (Heap h) Title [] ss good.1.1 in
     let all : ss ≡ flat_map cycle_statements cycles.cycles = cycles.all ∙ ap (λ (ms : List Span). map mark_of ms ++ flat_map cycle_statements cycles.cycles) (cycles.none refl) in (
       trace_of (header_from h) cycles.cycles,
       record {
         lines = spells ∙ ap (λ (x : List Statement). spelled ((Title ∷ Heap h ∷ x) ++ End ∷ [])) all;
-        limits = trace_fits needs_nothing (header_from h) cycles.cycles fits cycles.ended (subst (AreGood needs_nothing (Heap h ∷ Title ∷ [])) all good.1.1);
+        limits = trace_fits (header_from h) cycles.cycles fits cycles.ended (subst (AreGood (Heap h ∷ Title ∷ [])) all good.1.1);
         room = small;
       },
     )
 
-of_statements : (bytes : List ℕ) (ss : List Statement) → AreGood needs_nothing [] ss → may_follow (onto ss []) End ≡ true → bytes ≡ spelled (ss ++ End ∷ []) → length bytes ≤ 67108864 → (t : Trace) × Spells bytes t
+of_statements : (bytes : List ℕ) (ss : List Statement) → AreGood [] ss → may_follow (onto ss []) End ≡ true → bytes ≡ spelled (ss ++ End ∷ []) → length bytes ≤ 67108864 → (t : Trace) × Spells bytes t
 of_statements bytes [] good last spells small = absurd cc
 of_statements bytes (s ∷ []) good last spells small = absurd cc
 of_statements bytes (Title ∷ Heap h ∷ ss) good last spells small = of_parts bytes h ss good spells small
-of_statements bytes (s ∷ t ∷ ss) good last spells small = (let first : may_follow [] s ≡ true = (sound needs_nothing [] s good.0).follows in let second : may_follow (s ∷ []) t ≡ true = (sound needs_nothing (s ∷ []) t good.1.0).follows in absurd cc)
+of_statements bytes (s ∷ t ∷ ss) good last spells small = (let first : may_follow [] s ≡ true = (sound [] s good.0).follows in let second : may_follow (s ∷ []) t ≡ true = (sound (s ∷ []) t good.1.0).follows in absurd cc)
 
 pub unrefused_spells : (bytes : List ℕ) → refusal bytes ≡ None → (t : Trace) × Spells bytes t
 unrefused_spells bytes e =

@@ -12,7 +12,7 @@ use Rattle.trace_reader.specs.declared.trace.Span.{Span}
 use Rattle.trace_reader.specs.Limits.{AreSpans}
 use Rattle.trace_reader.specs.Past.{before_mark_end, is_live, is_marked, mark_ends_of, marks_of, objects_of, procs_of}
 use Rattle.trace_reader.specs.Checks.{may_begin}
-use Rattle.trace_reader.specs.Refusal.{is_end, needs_later, statement_fault}
+use Rattle.trace_reader.specs.Refusal.{is_end, statement_fault}
 use Rattle.trace_reader.specs.Kept.{in_spans, lives, Skips}
 
 -- the marks of a mark end
@@ -111,7 +111,7 @@ Follows past d = Counts past d × FollowsAt past d d.distance
 
 -- nothing is wrong with the statement behind these lines
 abbrev pub IsFaultless : List Statement → Statement → Type 0
-IsFaultless past s = (n : ℕ) → statement_fault needs_later n past s ≡ None
+IsFaultless past s = (n : ℕ) → statement_fault n past s ≡ None
 
 -- the draft took the statement, with which nothing was wrong, and which is not the last one
 pub record Took (old new : Draft) (s : Statement) : Type 0 where

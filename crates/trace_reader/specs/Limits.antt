@@ -70,7 +70,3 @@ pub record SpellsWithin (limit : ℕ) (bytes : List ℕ) (t : Trace) : Type 0 wh
 -- the bytes spell the trace
 abbrev pub Spells : List ℕ → Trace → Type 0
 Spells bytes t = SpellsWithin 67108864 bytes t
-
--- no samples
-pub record IsPlain (t : Trace) : Type 0 where
-  pub rate : t.header.rate ≡ 0

@@ -1,12 +1,12 @@
 -- The first offending line of a trace, and why. Lines are read in turn: `past` is what the lines before said, newest first.
-use Rattle.std.specs.Prelude.{◌≡◌, ℕ, ◌+◌, ◌-◌, ◌^◌, ◌==◌, Bool, true, false, not, cond, List, [], ◌∷◌, length, min, nat_lt, Option, Some, None}
+use Rattle.std.specs.Prelude.{ℕ, ◌+◌, ◌-◌, ◌^◌, ◌==◌, Bool, true, false, not, cond, List, [], ◌∷◌, length, min, nat_lt, Option, Some, None}
 use Rattle.std.specs.Option.{option_map}
 use Rattle.std.specs.List.{slice_split}
 use Rattle.trace_reader.specs.declared.fault.Which.TheVariants.{Bytes}
 use Rattle.trace_reader.specs.declared.fault.TraceFault.{TraceFault}
-use Rattle.trace_reader.specs.declared.fault.TraceFault.TheVariants.{Malformed, Truncated, Limit, BadMark, Later}
+use Rattle.trace_reader.specs.declared.fault.TraceFault.TheVariants.{Malformed, Truncated, Limit, BadMark}
 use Rattle.trace_reader.specs.declared.statement.Statement.{Statement}
-use Rattle.trace_reader.specs.declared.statement.Statement.TheVariants.{Heap, End}
+use Rattle.trace_reader.specs.declared.statement.Statement.TheVariants.{End}
 use Rattle.trace_reader.specs.Says.{said}
 use Rattle.trace_reader.specs.Checks.{may_follow, numbers_within, counts_within, passed, bad_mark}
 
@@ -20,19 +20,18 @@ first_of [] = None
 first_of (None ∷ rest) = first_of rest
 first_of (Some fault ∷ rest) = Some fault
 
--- what is wrong with a statement on line `number`; `later` tells the statements that need what is not built
-abbrev pub statement_fault : (Statement → Bool) → ℕ → List Statement → Statement → Option TraceFault
-statement_fault later number past s = first_of (fault_if (not (may_follow past s)) (Malformed number)
+-- what is wrong with a statement on line `number`
+abbrev pub statement_fault : ℕ → List Statement → Statement → Option TraceFault
+statement_fault number past s = first_of (fault_if (not (may_follow past s)) (Malformed number)
     ∷ option_map (λ which. Limit number which) (passed (numbers_within past s))
-    ∷ fault_if (later s) (Later number)
     ∷ option_map (λ which. Limit number which) (passed (counts_within past s))
     ∷ option_map (λ i. BadMark number i) (bad_mark past s)
     ∷ [])
 
 -- the same of what a line says, if it has the form of any statement
-abbrev pub said_fault : (Statement → Bool) → ℕ → List Statement → Option Statement → Option TraceFault
-said_fault later number past None = Some (Malformed number)
-said_fault later number past (Some s) = statement_fault later number past s
+abbrev pub said_fault : ℕ → List Statement → Option Statement → Option TraceFault
+said_fault number past None = Some (Malformed number)
+said_fault number past (Some s) = statement_fault number past s
 
 -- 1 where a line feed stands behind the line, since more pieces follow, and 0 where the input ends
 abbrev pub feed : List (List ℕ) → ℕ
@@ -65,41 +64,22 @@ onto_past None past = past
 onto_past (Some s) past = s ∷ past
 
 -- the first fault of these lines, the first of which has this number; `behind` judges what stands behind the line `end`
-unfoldable pub lines_fault : (Statement → Bool) → (ℕ → List (List ℕ) → Option TraceFault) → ℕ → ℕ → List Statement → List (List ℕ) → Option TraceFault
-lines_fault later behind number room past [] = None
-lines_fault later behind number room past (line ∷ rest) = first_of (line_fault number room line rest
-    ∷ said_fault later number past (said line)
-    ∷ cond (is_end (said line)) (behind (next_number number) rest) (lines_fault later behind (next_number number) (room - (length line + 1)) (onto_past (said line) past) rest)
+unfoldable pub lines_fault : (ℕ → List (List ℕ) → Option TraceFault) → ℕ → ℕ → List Statement → List (List ℕ) → Option TraceFault
+lines_fault behind number room past [] = None
+lines_fault behind number room past (line ∷ rest) = first_of (line_fault number room line rest
+    ∷ said_fault number past (said line)
+    ∷ cond (is_end (said line)) (behind (next_number number) rest) (lines_fault behind (next_number number) (room - (length line + 1)) (onto_past (said line) past) rest)
     ∷ [])
 
 -- the first fault of the bytes behind line `number`, with so much room left to the limit
-abbrev pub fault_in : (Statement → Bool) → (ℕ → List (List ℕ) → Option TraceFault) → ℕ → ℕ → List ℕ → Option TraceFault
-fault_in later behind number room bytes = lines_fault later behind (next_number number) room [] (pieces_of bytes)
+abbrev pub fault_in : (ℕ → List (List ℕ) → Option TraceFault) → ℕ → ℕ → List ℕ → Option TraceFault
+fault_in behind number room bytes = lines_fault behind (next_number number) room [] (pieces_of bytes)
 
 -- nothing may stand behind the line `end`
 abbrev pub nothing_behind : ℕ → List (List ℕ) → Option TraceFault
 nothing_behind number ([] ∷ []) = None
 nothing_behind number rest = Some (Malformed number)
 
--- What is built
-
--- all of the format
-abbrev pub needs_nothing : Statement → Bool
-needs_nothing s = false
-
--- sampling is not built yet
-abbrev pub needs_later : Statement → Bool
-needs_later (Heap h) = not (h.rate == 0)
-needs_later s = false
-
 -- why the bytes are no trace, if they are none
 abbrev pub refusal : List ℕ → Option TraceFault
-refusal bytes = fault_in needs_nothing nothing_behind 0 67108864 bytes
-
--- the same, with what is not built
-abbrev pub refusal_now : List ℕ → Option TraceFault
-refusal_now bytes = fault_in needs_later nothing_behind 0 67108864 bytes
-
--- the fault is that something is not built yet
-abbrev pub IsLater : TraceFault → Type 0
-IsLater fault = (number : ℕ) × (fault ≡ Later number)
+refusal bytes = fault_in nothing_behind 0 67108864 bytes

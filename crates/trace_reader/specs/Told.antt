@@ -5,9 +5,9 @@ use Rattle.edge_io.specs.declared.lines.Lines.{Lines}
 use Rattle.edge_io.specs.Causes.{Rose}
 use Rattle.edge_io.specs.Reading.{StopsInLine, is_dry, lines_left, number_of, room_of, source_of}
 use Rattle.trace_reader.specs.declared.fault.TraceFault.{TraceFault}
-use Rattle.trace_reader.specs.declared.fault.TraceFault.TheVariants.{ReadFault, Malformed, Truncated, Limit, BadMark, NoMemory, Later}
+use Rattle.trace_reader.specs.declared.fault.TraceFault.TheVariants.{ReadFault, Malformed, Truncated, Limit, BadMark, NoMemory}
 use Rattle.trace_reader.specs.declared.statement.Statement.{Statement}
-use Rattle.trace_reader.specs.Refusal.{lines_fault, needs_later, next_number, nothing_behind, pieces_of}
+use Rattle.trace_reader.specs.Refusal.{lines_fault, next_number, nothing_behind, pieces_of}
 
 -- a read fault is told only where the count rose
 pub record HasReadCause {T : Type 0} (before now : ℕ) (result : Result T TraceFault) : Type 0 where
@@ -27,7 +27,7 @@ IsOfTrace fault = Unit {0}
 -- if the lines before said `past`, and whatever is thought of what stands behind the line `end`
 abbrev pub IsFirstFault : {S : Type 0} → (S → Option (List ℕ)) → Lines S → List Statement → TraceFault → Type 0
 IsFirstFault left lines past fault = is_dry lines ≡ false → (behind : ℕ → List (List ℕ) → Option TraceFault) (bytes : List ℕ) → lines_left left lines ≡ Some bytes
-    → lines_fault needs_later behind (next_number (number_of lines)) (room_of lines) past (pieces_of bytes) ≡ Some fault
+    → lines_fault behind (next_number (number_of lines)) (room_of lines) past (pieces_of bytes) ≡ Some fault
 
 -- if the fault is one of a line, it is of the line with this number
 abbrev pub IsAtLine : ℕ → TraceFault → Type 0
@@ -37,7 +37,6 @@ IsAtLine number (Truncated line) = line ≡ number
 IsAtLine number (Limit line which) = line ≡ number
 IsAtLine number (BadMark line object) = line ≡ number
 IsAtLine number NoMemory = Unit {0}
-IsAtLine number (Later line) = line ≡ number
 
 -- A read failed. The bytes before it are faulty only in that they end there, in the line whose number the lines have, if
 -- the lines before said `past`; and all that the source gave was read.
@@ -45,7 +44,7 @@ pub record BreaksOff {S : Type 0} (left : S → Option (List ℕ)) (old new : Li
   pub bytes : List ℕ
   pub taken : Consumes (lines_left left old) (lines_left left new) bytes
   pub ends_early : (behind : ℕ → List (List ℕ) → Option TraceFault)
-      → lines_fault needs_later behind (next_number (number_of old)) (room_of old) past (pieces_of bytes) ≡ Some (Truncated (number_of new))
+      → lines_fault behind (next_number (number_of old)) (room_of old) past (pieces_of bytes) ≡ Some (Truncated (number_of new))
   pub all_used : lines_left left new ≡ left (source_of new)
 
 -- why this fault is told: one of the trace is the first one, and of the line in which the lines then stand; a read fault

@@ -5,7 +5,7 @@ ghost use Rattle.std.specs.List.{AllByRecursion, flat_map};
 ghost use Rattle.trace_reader.specs.declared.statement.Statement.{Statement as Said};
 ghost use Rattle.trace_reader.specs.declared.statement.Statement.TheVariants.{Alloc, End, Gc, Mark};
 ghost use Rattle.trace_reader.specs.Spelling.{cycle_statements};
-ghost use Rattle.trace_reader.specs.Refusal.{needs_later, said_fault};
+ghost use Rattle.trace_reader.specs.Refusal.{said_fault};
 ghost use Rattle.trace_reader.specs.Told.{IsOfTrace, NoReadFault};
 ghost use Rattle.trace_reader.specs.Draft.{AreEnded, Follows, HasEnd, IsStart, Took, ended, kept_of, told_of};
 
@@ -81,7 +81,7 @@ impl Draft {
         requires { said ≢ Some End }
         ensures took { OnOk result (MatchOption said ⊥ (λ s. Took self.old self.new s)) }
         ensures no_read { NoReadFault result }
-        ensures fault { IfErr result (λ fault. IsOfTrace fault → (past : Items Said) → Follows past self.old → said_fault needs_later number past said ≡ Some fault) }
+        ensures fault { IfErr result (λ fault. IsOfTrace fault → (past : Items Said) → Follows past self.old → said_fault number past said ≡ Some fault) }
     {
         match said {
             Some(Statement::Alloc(form)) => self.take_event(alloc, form, number),
@@ -110,7 +110,7 @@ impl Draft {
     fn take_event(&mut self, alloc: Global, form: AllocForm, number: u64) -> Result<(), TraceFault>
         ensures took { OnOk result (Took self.old self.new (Alloc form)) }
         ensures no_read { NoReadFault result }
-        ensures fault { IfErr result (λ fault. IsOfTrace fault → (past : Items Said) → Follows past self.old → said_fault needs_later number past (Some (Alloc form)) ≡ Some fault) }
+        ensures fault { IfErr result (λ fault. IsOfTrace fault → (past : Items Said) → Follows past self.old → said_fault number past (Some (Alloc form)) ≡ Some fault) }
     {
         let event = limited_event(form, number, self.procs)?;
         if self.objects >= MAX_OBJECTS {
@@ -131,7 +131,7 @@ impl Draft {
     ) -> Result<(), TraceFault>
         ensures took { OnOk result (Took self.old self.new (Gc distance)) }
         ensures no_read { NoReadFault result }
-        ensures fault { IfErr result (λ fault. IsOfTrace fault → (past : Items Said) → Follows past self.old → said_fault needs_later number past (Some (Gc distance)) ≡ Some fault) }
+        ensures fault { IfErr result (λ fault. IsOfTrace fault → (past : Items Said) → Follows past self.old → said_fault number past (Some (Gc distance)) ≡ Some fault) }
     {
         let distance = limited_distance(distance, number)?;
         self.end_cycle(alloc)?;
@@ -149,7 +149,7 @@ impl Draft {
     fn take_mark(&mut self, lo: u128, hi: u128, number: u64) -> Result<(), TraceFault>
         ensures took { OnOk result (Took self.old self.new (Mark lo hi)) }
         ensures no_read { NoReadFault result }
-        ensures fault { IfErr result (λ fault. IsOfTrace fault → (past : Items Said) → Follows past self.old → said_fault needs_later number past (Some (Mark lo hi)) ≡ Some fault) }
+        ensures fault { IfErr result (λ fault. IsOfTrace fault → (past : Items Said) → Follows past self.old → said_fault number past (Some (Mark lo hi)) ≡ Some fault) }
     {
         if self.distance.is_none() || hi < lo || lo < u128::from(self.next) {
             return Err(TraceFault::Malformed(number));

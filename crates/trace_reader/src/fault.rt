@@ -18,8 +18,6 @@ pub enum TraceFault {
     BadMark(u64, u32),
     /// Memory ran out.
     NoMemory,
-    /// The line is well formed and within its limits, and needs what is not built yet.
-    Later(u64),
 }
 
 /// What is limited.

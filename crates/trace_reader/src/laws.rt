@@ -1,10 +1,10 @@
 //! Laws of the format.
 
-ghost use Rattle.std.specs.Prelude.{◌≡◌, ◌⊎◌, List, None, Some, ℕ};
+ghost use Rattle.std.specs.Prelude.{◌≡◌, List, None, Some, ℕ};
 ghost use Rattle.trace_reader.specs.declared.fault.TraceFault.{TraceFault};
 ghost use Rattle.trace_reader.specs.declared.trace.Trace.{Trace};
 ghost use Rattle.trace_reader.specs.Limits.{Spells};
-ghost use Rattle.trace_reader.specs.Refusal.{IsLater, refusal, refusal_now};
+ghost use Rattle.trace_reader.specs.Refusal.{refusal};
 
 /// A trace has one spelling.
 pub fn a_trace_has_one_spelling()
@@ -21,9 +21,9 @@ pub fn what_is_spelled_is_not_refused()
     ensures { (bytes : List ℕ) (trace : Trace) → Spells bytes trace → refusal bytes ≡ None }
 {}
 
-/// Bytes that are refused today spell no trace, unless the refusal is that something is not built yet.
+/// Bytes that are refused spell no trace.
 pub fn what_is_refused_spells_no_trace()
-    ensures { (bytes : List ℕ) (fault : TraceFault) → refusal_now bytes ≡ Some fault → IsLater fault ⊎ ((trace : Trace) → ¬ Spells bytes trace) }
+    ensures { (bytes : List ℕ) (fault : TraceFault) → refusal bytes ≡ Some fault → (trace : Trace) → ¬ Spells bytes trace }
 {}
 
 /// Bytes that are not refused spell a trace.

@@ -1,20 +1,6 @@
 //! The first two lines, and the numbers of each line against their limits.
 
-ghost use Rattle.std.specs.Prelude.{
-  ◌≡◌,
-  ◌*◌,
-  ◌^◌,
-  ◌<◌,
-  ◌≤◌,
-  [],
-  ◌∷◌,
-  List,
-  ℕ,
-  Some,
-  IfErr,
-  IfOk,
-  MatchBool,
-};
+ghost use Rattle.std.specs.Prelude.{◌≡◌, ◌*◌, ◌^◌, ◌<◌, ◌≤◌, [], ◌∷◌, List, ℕ, Some, IfErr, IfOk, MatchBool};
 ghost use Rattle.std.specs.Option.{option_map};
 ghost use Rattle.trace_reader.specs.declared.fault.TraceFault.TheVariants.{Limit, Malformed};
 ghost use Rattle.trace_reader.specs.declared.statement.Statement.{Statement as Said};
@@ -23,7 +9,7 @@ ghost use Rattle.trace_reader.specs.Spelling.{alloc_of, heap_of, mark_of};
 ghost use Rattle.trace_reader.specs.Limits.{EventFits, HeaderFits};
 ghost use Rattle.trace_reader.specs.Says.{said};
 ghost use Rattle.trace_reader.specs.Checks.{event_numbers, header_numbers, numbers_within, passed};
-ghost use Rattle.trace_reader.specs.Refusal.{needs_later, said_fault};
+ghost use Rattle.trace_reader.specs.Refusal.{said_fault};
 ghost use Rattle.trace_reader.specs.Told.{NoReadFault};
 
 use crate::fault::{TraceFault, Which};
@@ -34,7 +20,7 @@ use crate::trace::{Event, Header, Span};
 pub(crate) fn is_title(line: &[u8]) -> bool
     ensures { MatchBool result
         (said line.now ≡ Some Title)
-        ((number : ℕ) → said_fault needs_later number [] (said line.now) ≡ Some (Malformed number)) }
+        ((number : ℕ) → said_fault number [] (said line.now) ≡ Some (Malformed number)) }
 {
     matches!(statement_of(line), Some(Statement::Title))
 }
@@ -43,18 +29,13 @@ pub(crate) fn is_title(line: &[u8]) -> bool
 pub(crate) fn header_of(line: &[u8], number: u64) -> Result<Header, TraceFault>
     ensures says { IfOk result (λ h. said line.now ≡ Some (heap_of h)) }
     ensures fits { IfOk result (λ h. HeaderFits h) }
-    ensures plain { IfOk result (λ h. h.rate ≡ 0) }
     ensures no_read { NoReadFault result }
-    ensures fault { IfErr result (λ fault. said_fault needs_later number (Title ∷ []) (said line.now) ≡ Some fault) }
+    ensures fault { IfErr result (λ fault. said_fault number (Title ∷ []) (said line.now) ≡ Some fault) }
 {
     let Some(Statement::Heap(form)) = statement_of(line) else {
         return Err(TraceFault::Malformed(number));
     };
-    let header = limited_header(form, number)?;
-    if header.rate != 0 {
-        return Err(TraceFault::Later(number));
-    }
-    Ok(header)
+    limited_header(form, number)
 }
 
 // The header of these numbers, or the first that is past its limit.

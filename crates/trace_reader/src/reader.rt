@@ -9,8 +9,8 @@ ghost use Rattle.trace_reader.specs.declared.statement.Statement.{Statement as S
 ghost use Rattle.trace_reader.specs.declared.statement.Statement.TheVariants.{End, Title};
 ghost use Rattle.trace_reader.specs.declared.trace.Trace.{Trace as ATrace};
 ghost use Rattle.trace_reader.specs.Spelling.{cycle_statements, heap_of, statements_of};
-ghost use Rattle.trace_reader.specs.Limits.{HeaderFits, IsPlain};
-ghost use Rattle.trace_reader.specs.Refusal.{needs_later, next_number};
+ghost use Rattle.trace_reader.specs.Limits.{HeaderFits};
+ghost use Rattle.trace_reader.specs.Refusal.{next_number};
 ghost use Rattle.trace_reader.specs.Good.{AreGood};
 ghost use Rattle.trace_reader.specs.Draft.{AreEnded, IsStart};
 ghost use Rattle.trace_reader.specs.Taken.{IsEnded, StandsInLine, Takes, TakesLines};
@@ -35,7 +35,7 @@ pub fn read_trace<S: Source>(alloc: Global, lines: &mut Lines<'_, S>) -> Result<
     ensures spelled { IfOk result (λ trace. Reads S.left lines.old lines.new trace) }
     ensures lines { IfOk result (λ trace. TakesLines S.left lines.old lines.new (statements_of trace)) }
     ensures refused { TellsFirstFault S.left lines.old lines.new [] result }
-    ensures complete { (trace : ATrace) → IsAhead S.left lines.old trace → IsPlain trace
+    ensures complete { (trace : ATrace) → IsAhead S.left lines.old trace
         → MatchResult result (λ read. read ≡ trace) (λ fault. IsOfTrace fault → ⊥) }
     ensures dry { is_dry lines.old ≡ true → IsErrOf result (Truncated (next_number (number_of lines.old))) × (source_of lines.new ≡ source_of lines.old) }
     ensures stands { StandsInLine S.left lines.old lines.new }
@@ -93,7 +93,6 @@ fn read_header<S: Source>(lines: &mut Lines<'_, S>) -> Result<Header, TraceFault
     ensures same_source { IsSameSource lines.old lines.new }
     ensures lines { IfOk result (λ h. TakesLines S.left lines.old lines.new (heap_of h ∷ [])) }
     ensures fits { IfOk result (λ h. HeaderFits h) }
-    ensures plain { IfOk result (λ h. h.rate ≡ 0) }
     ensures refused { TellsFirstFault S.left lines.old lines.new (Title ∷ []) result }
     ensures stands { StandsInLine S.left lines.old lines.new }
     ensures cause { HasReadCause (S.faults (source_of lines.old)) (S.faults (source_of lines.new)) result }
@@ -111,7 +110,7 @@ fn read_cycles<S: Source>(
     ensures same_source { IsSameSource lines.old lines.new }
     ensures lines { IfOk result (λ cycles. TakesLines S.left lines.old lines.new (flat_map cycle_statements cycles ++ End ∷ [])) }
     ensures ended { IfOk result (λ cycles. AreEnded cycles) }
-    ensures good { IfOk result (λ cycles. (past : Items Said) → IsStart past procs → AreGood needs_later past (flat_map cycle_statements cycles)) }
+    ensures good { IfOk result (λ cycles. (past : Items Said) → IsStart past procs → AreGood past (flat_map cycle_statements cycles)) }
     ensures refused { (past : Items Said) → IsStart past procs → TellsFirstFault S.left lines.old lines.new past result }
     ensures stands { StandsInLine S.left lines.old lines.new }
     ensures cause { HasReadCause (S.faults (source_of lines.old)) (S.faults (source_of lines.new)) result }

@@ -124,9 +124,20 @@ fn nothing_is_read_behind_the_end(rt: HostRuntime) -> Result<(), Fail> {
 }
 
 #[test]
-fn headers_that_are_not_built(rt: HostRuntime) -> Result<(), Fail> {
+fn headers(rt: HostRuntime) -> Result<(), Fail> {
     let rows = [
-        ("procs 1 rate 1 seed 1 goal 512", Some(TraceFault::Later(2))),
+        (
+            "procs 1 rate 1 seed 1 goal 512",
+            Some(TraceFault::BadMark(4, 0)),
+        ),
+        (
+            "procs 1 rate 1073741824 seed 1 goal 512",
+            Some(TraceFault::BadMark(4, 0)),
+        ),
+        (
+            "procs 1 rate 1073741825 seed 1 goal 512",
+            Some(Limit(2, Which::Rate)),
+        ),
         (
             "procs 2 rate 0 seed 1 goal 511",
             Some(TraceFault::BadMark(4, 0)),

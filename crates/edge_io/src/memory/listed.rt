@@ -1,3 +1,5 @@
+//! Which calls of a stream in memory fail.
+
 ghost use Rattle.std.specs.Prelude.{◌≡◌};
 ghost use Rattle.edge_io.specs.MemoryStreams.{is_listed};
 

@@ -1,3 +1,5 @@
+//! The buffer behind an output.
+
 ghost use Rattle.std.specs.Prelude.{◌≡◌, ◌≤◌, ◌-◌, ◌==◌, ◌++◌, [], List, ℕ, drop, length, take};
 
 use std::marker::Model;

@@ -1,9 +1,10 @@
-use Rattle.std.proofs.Common.{subst}
+use Rattle.std.proofs.Common.{◌∙◌, refl, subst}
 use Rattle.span_laws.specs.Views.{Seen}
 use Rattle.span_set.specs.declared.hand.Hand.{Hand}
 use Rattle.proc_cache.specs.Allocs.{AllocatesIn}
 use Rattle.proc_cache.specs.Cache.{Cache}
 use Rattle.proc_cache.proofs.Placing.{flush_refused, flushed_hit, flushed_then}
+use Rattle.span_set.proofs.Tallies.{frees-both, frees-none, may-still}
 use Rattle.proc_cache.proofs.allocs.alloc_in.Goals as goal
 
 pub returns-in_default-clause-allocates : goal.returns-in_default-clause-allocates
@@ -21,3 +22,18 @@ returns-in-Miss-clause-allocates c =
     let a = subst (λ (z : Cache). AllocatesIn pages distance k z d (record mid { worker = c.alloc_hit.new.w }) new r) h.1 c.alloc_missed.ensures.allocates in
     let b = subst (λ (w : Seen). AllocatesIn pages distance k c.flush.new.proc d (record mid { worker = w }) new r) h.2 a in
     flushed_then pages distance k c.args.proc.now c.flush.new.proc c.args.hand.now mid c.in-Ok.ensures.flushes d new r b
+
+pub alloc_missed-requires-clause-counts : goal.alloc_missed-requires-clause-counts
+alloc_missed-requires-clause-counts c = may-still c.args.shop.now.marks.now c.args.shop.now.ring.now c.args.hand.now (record c.flush.new.hand { worker = c.alloc_hit.new.w }) c.requires.counts (frees-both c.args.shop.now.marks.now c.args.hand.now c.flush.new.hand (record c.flush.new.hand { worker = c.alloc_hit.new.w }) c.flush.ensures.tally (frees-none c.args.shop.now.marks.now c.flush.new.hand (record c.flush.new.hand { worker = c.alloc_hit.new.w }) refl refl))
+
+pub returns-in-At-clause-countdown : goal.returns-in-At-clause-countdown
+returns-in-At-clause-countdown c = c.alloc_hit.ensures.countdown ∙ c.flush.ensures.countdown
+
+pub returns-in-At-clause-tally : goal.returns-in-At-clause-tally
+returns-in-At-clause-tally c = frees-both c.args.shop.now.marks.now c.args.hand.now c.flush.new.hand (record c.flush.new.hand { worker = c.alloc_hit.new.w }) c.flush.ensures.tally (frees-none c.args.shop.now.marks.now c.flush.new.hand (record c.flush.new.hand { worker = c.alloc_hit.new.w }) refl refl)
+
+pub returns-in-Miss-clause-countdown : goal.returns-in-Miss-clause-countdown
+returns-in-Miss-clause-countdown c = c.alloc_missed.ensures.countdown ∙ c.alloc_hit.ensures.countdown ∙ c.flush.ensures.countdown
+
+pub returns-in-Miss-clause-tally : goal.returns-in-Miss-clause-tally
+returns-in-Miss-clause-tally c = frees-both c.args.shop.now.marks.now c.args.hand.now (record c.flush.new.hand { worker = c.alloc_hit.new.w }) c.alloc_missed.new.hand (frees-both c.args.shop.now.marks.now c.args.hand.now c.flush.new.hand (record c.flush.new.hand { worker = c.alloc_hit.new.w }) c.flush.ensures.tally (frees-none c.args.shop.now.marks.now c.flush.new.hand (record c.flush.new.hand { worker = c.alloc_hit.new.w }) refl refl)) c.alloc_missed.ensures.tally

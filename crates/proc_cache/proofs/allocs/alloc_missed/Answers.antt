@@ -1,5 +1,7 @@
+use Rattle.std.proofs.Common.{◌∙◌, refl}
 use Rattle.std.proofs.lemmas.Result.{err_from_is_err_and}
 use Rattle.proc_cache.proofs.Placing.{missed_refill, not_missing, placing_used, refilled_hit, refused_used}
+use Rattle.span_set.proofs.Tallies.{frees-both, frees-none}
 use Rattle.proc_cache.proofs.allocs.alloc_missed.Goals as goal
 
 pub returns-in_err-refill-clause-allocates : goal.returns-in_err-refill-clause-allocates
@@ -19,3 +21,9 @@ returns-clause-allocates c = refilled_hit c.args.shop.now.pages c.args.shop.now.
 
 pub returns-clause-used : goal.returns-clause-used
 returns-clause-used c = placing_used c.args.class c.in-At.addr c.refill.new.proc c.alloc_hit.new.proc c.refill.new.hand c.alloc_hit.new.w c.in_ok-refill.ensures.refills.4.1.idle c.refill.ensures.serves c.in-At.ensures.hits c.refill.ensures.used
+
+pub returns-clause-countdown : goal.returns-clause-countdown
+returns-clause-countdown c = c.alloc_hit.ensures.countdown ∙ c.refill.ensures.countdown
+
+pub returns-clause-tally : goal.returns-clause-tally
+returns-clause-tally c = frees-both c.args.shop.now.marks.now c.args.hand.now c.refill.new.hand (record c.refill.new.hand { worker = c.alloc_hit.new.w }) c.refill.ensures.tally (frees-none c.args.shop.now.marks.now c.refill.new.hand (record c.refill.new.hand { worker = c.alloc_hit.new.w }) refl refl)

@@ -1,27 +1,43 @@
-use Rattle.std.proofs.Common.{ap, subst, ◌∙◌, ℕ, arith}
+use Rattle.std.proofs.Common.{refl, ap, subst, ◌∙◌, ℕ, arith}
 use Rattle.std.specs.Prelude.{Ok, None}
 use Rattle.std.proofs.lemmas.Result.{err_from_is_err_and}
+use Rattle.span_set.proofs.Tallies.{frees-both, frees-none, may-still}
 use Rattle.sweeper.specs.Steps.{SweepsUntil, nth_unswept}
 use Rattle.sweeper.proofs.Paying.{until_more, until_none, until_reached, until_wants}
 use Rattle.sweeper.proofs.payments.sweep_until.Goals as goal
 
 pub loop-index-init : goal.loop-index-init
-loop-index-init c = until_none c.args.hand.now c.args.target c.requires.unpopped
+loop-index-init c = record {
+  did = until_none c.args.hand.now c.args.target c.requires.unpopped;
+  tally = frees-none c.args.shop.now.marks.now c.args.hand.now c.args.hand.now refl refl;
+}
 
 pub loop-index-preserved : goal.loop-index-preserved
-loop-index-preserved c = let i = c.loop-index.invariant in let h = c.args.hand.now in
-    until_more h c.args.target c.loop-index.index c.loop-index.hand c.sweep_set.new.hand i _ (c.set_at.ensures.number c.loop-index.hand.worker.view.generation ∙ ap (λ (g : ℕ). nth_unswept g c.loop-index.index) i.does.stays.generation)
-    (rw c.in_default.is at c.in_ok-seen.ensures)
+loop-index-preserved c = record {
+  did = let i = c.loop-index.invariant.did in let h = c.args.hand.now in
+      until_more h c.args.target c.loop-index.index c.loop-index.hand c.sweep_set.new.hand i _ (c.set_at.ensures.number c.loop-index.hand.worker.view.generation ∙ ap (λ (g : ℕ). nth_unswept g c.loop-index.index) i.does.stays.generation)
+      (rw c.in_default.is at c.in_ok-seen.ensures.did);
+  tally = frees-both c.args.shop.now.marks.now c.args.hand.now c.loop-index.hand c.sweep_set.new.hand c.loop-index.invariant.tally c.sweep_set.ensures.tally;
+}
 
-pub returns-in-Some : goal.returns-in-Some
-returns-in-Some c = let i = c.loop-index.invariant in let h = c.args.hand.now in
+pub returns-in-Some-clause-did : goal.returns-in-Some-clause-did
+returns-in-Some-clause-did c = let i = c.loop-index.invariant.did in let h = c.args.hand.now in
     until_reached h c.args.target c.loop-index.index c.loop-index.hand c.sweep_set.new.hand i _ (c.set_at.ensures.number c.loop-index.hand.worker.view.generation ∙ ap (λ (g : ℕ). nth_unswept g c.loop-index.index) i.does.stays.generation) 272 c.in-Some.seen
-    (rw c.in-Some.is at c.in_ok-seen.ensures)
+    (rw c.in-Some.is at c.in_ok-seen.ensures.did)
 
-pub returns-in_err-seen : goal.returns-in_err-seen
-returns-in_err-seen c = let i = c.loop-index.invariant in let h = c.args.hand.now in
+pub returns-in_err-seen-clause-did : goal.returns-in_err-seen-clause-did
+returns-in_err-seen-clause-did c = let i = c.loop-index.invariant.did in let h = c.args.hand.now in
     let p = err_from_is_err_and c.from_residual.result c.from_residual.ensures.1 in
-    rw p.1 (until_wants h c.args.target c.loop-index.index c.loop-index.hand c.sweep_set.new.hand i _ (c.set_at.ensures.number c.loop-index.hand.worker.view.generation ∙ ap (λ (g : ℕ). nth_unswept g c.loop-index.index) i.does.stays.generation) 272 _ c.in_err-seen.ensures)
+    rw p.1 (until_wants h c.args.target c.loop-index.index c.loop-index.hand c.sweep_set.new.hand i _ (c.set_at.ensures.number c.loop-index.hand.worker.view.generation ∙ ap (λ (g : ℕ). nth_unswept g c.loop-index.index) i.does.stays.generation) 272 _ c.in_err-seen.ensures.did)
 
-pub returns : goal.returns
-returns c = subst (λ (n : ℕ). SweepsUntil n c.args.target c.args.hand.now c.loop-index.hand (Ok None)) (let a = c.loop-index.auto.index-end in let b = c.loop-index-test.false in omega arith) c.loop-index.invariant
+pub returns-clause-did : goal.returns-clause-did
+returns-clause-did c = subst (λ (n : ℕ). SweepsUntil n c.args.target c.args.hand.now c.loop-index.hand (Ok None)) (let a = c.loop-index.auto.index-end in let b = c.loop-index-test.false in omega arith) c.loop-index.invariant.did
+
+pub sweep_set-requires-clause-counts : goal.sweep_set-requires-clause-counts
+sweep_set-requires-clause-counts c = may-still c.args.shop.now.marks.now c.args.shop.now.ring.now c.args.hand.now c.loop-index.hand c.requires.counts c.loop-index.invariant.tally
+
+pub returns-in_err-seen-clause-tally : goal.returns-in_err-seen-clause-tally
+returns-in_err-seen-clause-tally c = frees-both c.args.shop.now.marks.now c.args.hand.now c.loop-index.hand c.sweep_set.new.hand c.loop-index.invariant.tally c.sweep_set.ensures.tally
+
+pub returns-in-Some-clause-tally : goal.returns-in-Some-clause-tally
+returns-in-Some-clause-tally c = frees-both c.args.shop.now.marks.now c.args.hand.now c.loop-index.hand c.sweep_set.new.hand c.loop-index.invariant.tally c.sweep_set.ensures.tally

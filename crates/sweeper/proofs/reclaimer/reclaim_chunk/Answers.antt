@@ -1,22 +1,35 @@
-use Rattle.std.proofs.Common.{[], ℕ, ◌*◌, subst, arith}
+use Rattle.std.proofs.Common.{refl, [], ℕ, ◌*◌, subst, arith}
 use Rattle.std.proofs.lemmas.Result.{err_from_is_err_and}
+use Rattle.span_set.proofs.Tallies.{frees-both, frees-none, may-still}
 use Rattle.sweeper.specs.Steps.{CoversPages}
 use Rattle.sweeper.specs.Work.{Works}
 use Rattle.sweeper.proofs.Covering.{chunk_more, chunk_none, chunk_wants}
 use Rattle.sweeper.proofs.reclaimer.reclaim_chunk.Goals as goal
 
 pub loop-page-init : goal.loop-page-init
-loop-page-init c = chunk_none c.args.hand.now (512 * c.args.chunk) c.requires.unpopped
+loop-page-init c = record {
+  did = chunk_none c.args.hand.now (512 * c.args.chunk) c.requires.unpopped;
+  tally = frees-none c.args.shop.now.marks.now c.args.hand.now c.args.hand.now refl refl;
+}
 
 pub loop-page-preserved : goal.loop-page-preserved
-loop-page-preserved c = let l = c.loop-page in
-    chunk_more c.args.hand.now (512 * c.args.chunk) l.page l.given l.hand c.reclaim_page.new.hand l.invariant c.in_ok-reclaim_page.field-0 c.saturating_add-given.result c.saturating_add-given.ensures c.in_ok-reclaim_page.ensures
+loop-page-preserved c = record {
+  did = let l = c.loop-page in
+      chunk_more c.args.hand.now (512 * c.args.chunk) l.page l.given l.hand c.reclaim_page.new.hand l.invariant.did c.in_ok-reclaim_page.field-0 c.saturating_add-given.result c.saturating_add-given.ensures c.in_ok-reclaim_page.ensures.did;
+  tally = frees-both c.args.shop.now.marks.now c.args.hand.now c.loop-page.hand c.reclaim_page.new.hand c.loop-page.invariant.tally c.reclaim_page.ensures.tally;
+}
 
-pub returns-in_err-reclaim_page : goal.returns-in_err-reclaim_page
-returns-in_err-reclaim_page c = let l = c.loop-page in let p = err_from_is_err_and c.from_residual.result c.from_residual.ensures.1 in
-    rw p.1 (chunk_wants c.args.hand.now (512 * c.args.chunk) l.page l.given l.hand c.reclaim_page.new.hand l.invariant _ c.args.chunk c.in_err-reclaim_page.ensures)
+pub returns-in_err-reclaim_page-clause-did : goal.returns-in_err-reclaim_page-clause-did
+returns-in_err-reclaim_page-clause-did c = let l = c.loop-page in let p = err_from_is_err_and c.from_residual.result c.from_residual.ensures.1 in
+    rw p.1 (chunk_wants c.args.hand.now (512 * c.args.chunk) l.page l.given l.hand c.reclaim_page.new.hand l.invariant.did _ c.args.chunk c.in_err-reclaim_page.ensures.did)
 
-pub returns : goal.returns
-returns c = let l = c.loop-page in let h = c.args.hand.now in
+pub returns-clause-did : goal.returns-clause-did
+returns-clause-did c = let l = c.loop-page in let h = c.args.hand.now in
     subst (λ (n : ℕ). Works [] (CoversPages h.worker.view.marks (512 * c.args.chunk) n l.given) h l.hand)
-    (let a = l.auto.page-end in let b = c.loop-page-test.false in let m = c.min-page-end.ensures in let r = c.requires.region in let k = c.requires.chunk in omega arith) l.invariant
+    (let a = l.auto.page-end in let b = c.loop-page-test.false in let m = c.min-page-end.ensures in let r = c.requires.region in let k = c.requires.chunk in omega arith) l.invariant.did
+
+pub reclaim_page-requires-clause-counts : goal.reclaim_page-requires-clause-counts
+reclaim_page-requires-clause-counts c = may-still c.args.shop.now.marks.now c.args.shop.now.ring.now c.args.hand.now c.loop-page.hand c.requires.counts c.loop-page.invariant.tally
+
+pub returns-in_err-reclaim_page-clause-tally : goal.returns-in_err-reclaim_page-clause-tally
+returns-in_err-reclaim_page-clause-tally c = frees-both c.args.shop.now.marks.now c.args.hand.now c.loop-page.hand c.reclaim_page.new.hand c.loop-page.invariant.tally c.reclaim_page.ensures.tally

@@ -1,7 +1,6 @@
 use Rattle.std.proofs.Common.{◌≡◌, Some, Err, arith, rules, sym, ap, ◌∙◌, subst}
 use Rattle.std.proofs.lemmas.Result.{err_from_is_err_and}
 use Rattle.trace_reader.specs.declared.statement.Statement.TheVariants.{End}
-use Rattle.trace_reader.specs.Refusal.{needs_later}
 use Rattle.trace_reader.specs.Good.{AreGood}
 use Rattle.trace_reader.proofs.Judging.{onto}
 use Rattle.trace_reader.specs.Draft.{told_of}
@@ -44,7 +43,7 @@ pub returns-then-matches-clause-ended : goal.returns-then-matches-clause-ended
 returns-then-matches-clause-ended g c = c.in_ok-finish.ensures.ended (all_ended g.S.Source.left c.args.lines.now c.loop-draft.lines c.args.procs c.loop-draft.draft c.loop-draft.invariant.read)
 
 pub returns-then-matches-clause-good : goal.returns-then-matches-clause-good
-returns-then-matches-clause-good g c = λ past start. subst (AreGood needs_later past) (sym c.in_ok-finish.ensures.told) (c.loop-draft.invariant.read.good past start)
+returns-then-matches-clause-good g c = λ past start. subst (AreGood past) (sym c.in_ok-finish.ensures.told) (c.loop-draft.invariant.read.good past start)
 
 pub returns-then-matches-clause-stands : goal.returns-then-matches-clause-stands
 returns-then-matches-clause-stands g c = stands_on g.S.Source.left c.args.lines.now c.loop-draft.lines c.read_line.new.lines c.args.procs c.loop-draft.draft c.loop-draft.invariant.read c.read_line.ensures.stands

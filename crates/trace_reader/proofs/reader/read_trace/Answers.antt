@@ -2,9 +2,8 @@ use Rattle.std.proofs.Common.{[], ◌∷◌, refl}
 use Rattle.std.proofs.lemmas.Result.{err_from_is_err_and}
 use Rattle.trace_reader.specs.declared.statement.Statement.TheVariants.{Title}
 use Rattle.trace_reader.specs.Spelling.{heap_of}
-use Rattle.trace_reader.specs.Refusal.{needs_later}
 use Rattle.trace_reader.proofs.Reading.{stands_behind, tells_behind}
-use Rattle.trace_reader.proofs.Good.{header_good, lines_of_good, plain_header, title_good}
+use Rattle.trace_reader.proofs.Good.{header_good, lines_of_good, title_good}
 use Rattle.trace_reader.proofs.Fits.{reads_trace, takes_trace, trace_fits}
 use Rattle.trace_reader.proofs.Complete.{never_refused, never_told, same_read}
 use Rattle.trace_reader.proofs.reader.read_trace.Goals as goal
@@ -12,34 +11,34 @@ use Rattle.trace_reader.proofs.reader.read_trace.Goals as goal
 pub returns-in_err-header-clause-refused : goal.returns-in_err-header-clause-refused
 returns-in_err-header-clause-refused g c =
     let p = err_from_is_err_and c.from_residual-in_err-header.result c.from_residual-in_err-header.ensures.1 in
-    rw (p.1, p.2) (tells_behind g.S.Source.left c.args.lines.now c.read_title.new.lines c.read_header.new.lines [] (Title ∷ []) _ c.in_ok-read_title.ensures.lines (title_good needs_later refl) c.in_err-header.ensures.refused)
+    rw (p.1, p.2) (tells_behind g.S.Source.left c.args.lines.now c.read_title.new.lines c.read_header.new.lines [] (Title ∷ []) _ c.in_ok-read_title.ensures.lines title_good c.in_err-header.ensures.refused)
 
 pub returns-in_err-header-clause-stands : goal.returns-in_err-header-clause-stands
 returns-in_err-header-clause-stands g c =
-    stands_behind g.S.Source.left c.args.lines.now c.read_title.new.lines c.read_header.new.lines (Title ∷ []) c.in_ok-read_title.ensures.lines (lines_of_good needs_later [] (Title ∷ []) (title_good needs_later refl)) c.read_header.ensures.stands
+    stands_behind g.S.Source.left c.args.lines.now c.read_title.new.lines c.read_header.new.lines (Title ∷ []) c.in_ok-read_title.ensures.lines (lines_of_good [] (Title ∷ []) title_good) c.read_header.ensures.stands
 
 pub returns-in_err-cycles-clause-refused : goal.returns-in_err-cycles-clause-refused
 returns-in_err-cycles-clause-refused g c =
     let h = c.in_ok-header.header in
-    let good = header_good needs_later h c.in_ok-header.ensures.fits (plain_header h c.in_ok-header.ensures.plain) in
+    let good = header_good h c.in_ok-header.ensures.fits in
     let p = err_from_is_err_and c.from_residual-in_err-cycles.result c.from_residual-in_err-cycles.ensures.1 in
-    rw (p.1, p.2) (tells_behind g.S.Source.left c.args.lines.now c.read_title.new.lines c.read_cycles.new.lines [] (Title ∷ []) _ c.in_ok-read_title.ensures.lines (title_good needs_later refl)
+    rw (p.1, p.2) (tells_behind g.S.Source.left c.args.lines.now c.read_title.new.lines c.read_cycles.new.lines [] (Title ∷ []) _ c.in_ok-read_title.ensures.lines title_good
     (tells_behind g.S.Source.left c.read_title.new.lines c.read_header.new.lines c.read_cycles.new.lines (Title ∷ []) (heap_of h ∷ []) _ c.in_ok-header.ensures.lines good
     (c.in_err-cycles.ensures.refused (heap_of h ∷ Title ∷ []) (_, refl, refl))))
 
 pub returns-in_err-cycles-clause-stands : goal.returns-in_err-cycles-clause-stands
 returns-in_err-cycles-clause-stands g c =
     let h = c.in_ok-header.header in
-    let good = header_good needs_later h c.in_ok-header.ensures.fits (plain_header h c.in_ok-header.ensures.plain) in
-    stands_behind g.S.Source.left c.args.lines.now c.read_title.new.lines c.read_cycles.new.lines (Title ∷ []) c.in_ok-read_title.ensures.lines (lines_of_good needs_later [] (Title ∷ []) (title_good needs_later refl))
-    (stands_behind g.S.Source.left c.read_title.new.lines c.read_header.new.lines c.read_cycles.new.lines (heap_of h ∷ []) c.in_ok-header.ensures.lines (lines_of_good needs_later (Title ∷ []) (heap_of h ∷ []) good) c.read_cycles.ensures.stands)
+    let good = header_good h c.in_ok-header.ensures.fits in
+    stands_behind g.S.Source.left c.args.lines.now c.read_title.new.lines c.read_cycles.new.lines (Title ∷ []) c.in_ok-read_title.ensures.lines (lines_of_good [] (Title ∷ []) title_good)
+    (stands_behind g.S.Source.left c.read_title.new.lines c.read_header.new.lines c.read_cycles.new.lines (heap_of h ∷ []) c.in_ok-header.ensures.lines (lines_of_good (Title ∷ []) (heap_of h ∷ []) good) c.read_cycles.ensures.stands)
 
 pub returns-clause-stands : goal.returns-clause-stands
 returns-clause-stands g c =
     let h = c.in_ok-header.header in
-    let good = header_good needs_later h c.in_ok-header.ensures.fits (plain_header h c.in_ok-header.ensures.plain) in
-    stands_behind g.S.Source.left c.args.lines.now c.read_title.new.lines c.read_cycles.new.lines (Title ∷ []) c.in_ok-read_title.ensures.lines (lines_of_good needs_later [] (Title ∷ []) (title_good needs_later refl))
-    (stands_behind g.S.Source.left c.read_title.new.lines c.read_header.new.lines c.read_cycles.new.lines (heap_of h ∷ []) c.in_ok-header.ensures.lines (lines_of_good needs_later (Title ∷ []) (heap_of h ∷ []) good) c.read_cycles.ensures.stands)
+    let good = header_good h c.in_ok-header.ensures.fits in
+    stands_behind g.S.Source.left c.args.lines.now c.read_title.new.lines c.read_cycles.new.lines (Title ∷ []) c.in_ok-read_title.ensures.lines (lines_of_good [] (Title ∷ []) title_good)
+    (stands_behind g.S.Source.left c.read_title.new.lines c.read_header.new.lines c.read_cycles.new.lines (heap_of h ∷ []) c.in_ok-header.ensures.lines (lines_of_good (Title ∷ []) (heap_of h ∷ []) good) c.read_cycles.ensures.stands)
 
 pub returns-clause-lines : goal.returns-clause-lines
 returns-clause-lines g c =
@@ -50,23 +49,23 @@ pub returns-clause-spelled : goal.returns-clause-spelled
 returns-clause-spelled g c =
     let h = c.in_ok-header.header in
     let cs = c.in_ok-cycles.cycles in
-    let limits = trace_fits needs_later h cs c.in_ok-header.ensures.fits c.in_ok-cycles.ensures.ended (c.in_ok-cycles.ensures.good (heap_of h ∷ Title ∷ []) (_, refl, refl)) in
-    reads_trace g.S.Source.left c.args.lines.now c.read_cycles.new.lines h cs (returns-clause-lines g c) limits c.in_ok-header.ensures.plain
+    let limits = trace_fits h cs c.in_ok-header.ensures.fits c.in_ok-cycles.ensures.ended (c.in_ok-cycles.ensures.good (heap_of h ∷ Title ∷ []) (_, refl, refl)) in
+    reads_trace g.S.Source.left c.args.lines.now c.read_cycles.new.lines h cs (returns-clause-lines g c) limits
 
 pub returns-in_err-read_title-clause-complete : goal.returns-in_err-read_title-clause-complete
-returns-in_err-read_title-clause-complete g c = λ trace ahead plain.
+returns-in_err-read_title-clause-complete g c = λ trace ahead.
     let p = err_from_is_err_and c.from_residual.result c.from_residual.ensures.1 in
-    rw (p.1, p.2) (λ of. never_told g.S.Source.left c.args.lines.now _ trace (c.in_err-read_title.ensures.refused.first of) ahead plain)
+    rw (p.1, p.2) (λ of. never_told g.S.Source.left c.args.lines.now _ trace (c.in_err-read_title.ensures.refused.first of) ahead)
 
 pub returns-in_err-header-clause-complete : goal.returns-in_err-header-clause-complete
-returns-in_err-header-clause-complete g c = λ trace ahead plain.
+returns-in_err-header-clause-complete g c = λ trace ahead.
     let p = err_from_is_err_and c.from_residual-in_err-header.result c.from_residual-in_err-header.ensures.1 in
-    never_refused g.S.Source.left c.args.lines.now c.read_header.new.lines c.from_residual-in_err-header.result p.0 p.1 (returns-in_err-header-clause-refused g c) _ trace ahead plain
+    never_refused g.S.Source.left c.args.lines.now c.read_header.new.lines c.from_residual-in_err-header.result p.0 p.1 (returns-in_err-header-clause-refused g c) _ trace ahead
 
 pub returns-in_err-cycles-clause-complete : goal.returns-in_err-cycles-clause-complete
-returns-in_err-cycles-clause-complete g c = λ trace ahead plain.
+returns-in_err-cycles-clause-complete g c = λ trace ahead.
     let p = err_from_is_err_and c.from_residual-in_err-cycles.result c.from_residual-in_err-cycles.ensures.1 in
-    never_refused g.S.Source.left c.args.lines.now c.read_cycles.new.lines c.from_residual-in_err-cycles.result p.0 p.1 (returns-in_err-cycles-clause-refused g c) _ trace ahead plain
+    never_refused g.S.Source.left c.args.lines.now c.read_cycles.new.lines c.from_residual-in_err-cycles.result p.0 p.1 (returns-in_err-cycles-clause-refused g c) _ trace ahead
 
 pub returns-clause-complete : goal.returns-clause-complete
-returns-clause-complete g c = λ trace ahead plain. same_read g.S.Source.left c.args.lines.now c.read_cycles.new.lines _ trace (returns-clause-spelled g c) ahead
+returns-clause-complete g c = λ trace ahead. same_read g.S.Source.left c.args.lines.now c.read_cycles.new.lines _ trace (returns-clause-spelled g c) ahead

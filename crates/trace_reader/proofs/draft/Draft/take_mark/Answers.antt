@@ -3,7 +3,7 @@ use Rattle.std.proofs.lemmas.Result.{err_from_is_err_and}
 use Rattle.trace_reader.specs.declared.fault.TraceFault.TheVariants.{BadMark}
 use Rattle.trace_reader.specs.declared.statement.Statement.{Statement}
 use Rattle.trace_reader.specs.Draft.{kept_of}
-use Rattle.trace_reader.specs.Refusal.{needs_later, statement_fault}
+use Rattle.trace_reader.specs.Refusal.{statement_fault}
 use Rattle.trace_reader.proofs.Keeping.{asked_of, dead_mark, falls, mark_number, no_distance, no_marks, the_distance, too_early, took_mark}
 use Rattle.trace_reader.proofs.draft.Draft.take_mark.Goals as goal
 use Rattle.trace_reader.proofs.draft.Draft.take_mark.Goals.{then-is_none-via-then-is_none, then-is_none-via-else-is_none+then-hi-lo, then-is_none-via-else-is_none+else-hi-lo+then-lo-from}
@@ -31,7 +31,7 @@ returns-in-Some-clause-fault c = λ of past follows.
     let hi : s.hi ≡ c.args.hi = cc in
     let high = c.in_ok-span.ensures.fits.1 in
     let rising : s.lo ≤ s.hi = omega arith in
-    subst (λ (t : Statement). statement_fault needs_later c.args.number past t ≡ Some (BadMark c.args.number c.in-Some.id)) form
+    subst (λ (t : Statement). statement_fault c.args.number past t ≡ Some (BadMark c.args.number c.in-Some.id)) form
     (dead_mark d x.0 c.args.number s c.first_dead-passed.result.0 c.in-Some.id x.1 rising (omega arith) high (omega arith)
     (asked_of c.kept_by-kept.result.now (kept_of d.cycles) d.first d.objects d.passed s.lo c.first_dead-passed.result.0 s c.first_dead-passed.result.1 (Some c.in-Some.id)
     (c.kept_by-kept.ensures ∙ ap kept_of c.as_slice.ensures) c.in-Some.is (c.first_dead-passed.ensures rising)) past follows)

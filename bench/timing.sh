@@ -1,0 +1,16 @@
+# What the scripts that time goheap have in common; they read this file at their start. It goes to the top of the repository, and has a
+# folder for what they make, which goes with them.
+cd "$(dirname "$(readlink -f "${BASH_SOURCE[0]}")")/.."
+folder=$(mktemp -d)
+trap 'rm -rf "$folder"' EXIT
+
+# time_of COMMAND NAME: adds the microseconds that the function run_COMMAND takes on NAME to those noted before.
+time_of() {
+  local start=${EPOCHREALTIME/./}
+  "run_$1" "$2"
+  local end=${EPOCHREALTIME/./}
+  echo $((end - start)) >>"$folder/$1.$2.times"
+}
+
+# median COMMAND NAME: the median of the microseconds noted.
+median() { sort -n "$folder/$1.$2.times" | sed -n "$((($(wc -l <"$folder/$1.$2.times") + 1) / 2))p"; }

@@ -1,0 +1,5 @@
+pub mod Reading
+pub mod Named
+pub mod Ordered
+pub mod Publishing
+pub mod Telling

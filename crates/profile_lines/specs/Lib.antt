@@ -1,0 +1,4 @@
+pub mod Read
+pub mod Keyed
+pub mod Counted
+pub mod Told
