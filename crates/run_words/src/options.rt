@@ -1,6 +1,6 @@
 //! What the options of `run` ask for.
 
-ghost use Rattle.std.specs.Prelude.{◌≡◌, ℕ, Bool, IfErr, IfOk, map, string_bytes};
+ghost use Rattle.std.specs.Prelude.{◌≡◌, ◌≤◌, ℕ, Bool, IfErr, IfOk, map, string_bytes};
 ghost use Rattle.clap.specs.Words.{found_of, kind_of};
 ghost use Rattle.run_words.specs.Options.{AreOfRun, IsRun};
 ghost use Rattle.run_words.specs.Read.{HasRead};
@@ -23,7 +23,9 @@ pub struct RunOptions {
 /// ([`are_of_run`](crate::are_of_run)), so that nothing but want of memory is refused.
 pub fn read_options(alloc: Global, words: &[String]) -> Result<RunOptions, NoMemory>
     requires { AreOfRun (map string_bytes words.now) }
-    ensures { IfOk result (λ options. IsRun (map string_bytes words.now) options.background options.each) }
+    ensures asked { IfOk result (λ options. IsRun (map string_bytes words.now) options.background options.each) }
+    ensures only { IfOk result (λ options. (n : ℕ) (each : Bool) → IsRun (map string_bytes words.now) n each → (options.background ≡ n) × (options.each ≡ each)) }
+    ensures few { IfOk result (λ options. options.background ≤ 4) }
 {
     match parse(alloc, words) {
         Ok(matches) => Ok(RunOptions {
