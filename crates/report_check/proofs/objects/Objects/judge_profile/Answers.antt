@@ -1,4 +1,4 @@
-use Rattle.std.proofs.Common.{◌≡◌, ℕ, Bool, length, refl, sym, subst}
+use Rattle.std.proofs.Common.{ℕ, Bool, length, refl, sym, subst}
 use Rattle.cycle_history.specs.Requests.{last_cycle, marked_by}
 use Rattle.report_rules.specs.Lines.{IsLeast}
 use Rattle.report_rules.specs.Published.{BreaksProfile, IsRightProf}
