@@ -1,15 +1,14 @@
 -- Which items are samples, one more at a time.
 use Rattle.std.proofs.Common.{◌≡◌, ◌≢◌, ℕ, zero, suc, ◌+◌, ◌<◌, ◌≤◌, Bool, true, false, ◌&&◌, eqb, cond, List, [], ◌∷◌, ◌++◌, map, take, length, get_or, Some, None, refl, sym, ◌∙◌, ap, subst, arith, ◌⊎◌, inl, inr}
 use Rattle.std.specs.List.{slice_get}
-use Rattle.std.proofs.lemmas.Bool.{cases_Bool, cases_eq, cases_lt, eqb-true, eq-eqb, ne_eqb}
+use Rattle.std.proofs.lemmas.Bool.{cases_Bool, cases_eq, cases_lt, eq-eqb, ne_eqb}
 use Rattle.std.proofs.lemmas.List.{take_all}
-use Rattle.std.proofs.lemmas.Option.{slice_get_within}
 use Rattle.page_alloc.specs.Lists.{In}
 use Rattle.profile_cycle.specs.Sampling.{Countdown, behind, countdown, is_sample, sampled}
 use Rattle.trace_reader.specs.declared.trace.Header.{Header}
 use Rattle.trace_reader.specs.declared.trace.Trace.{Trace}
 use Rattle.cycle_history.specs.Objects.{Object, is_placed}
-use Rattle.cycle_history.specs.Sampled.{SamplesBy, passing, placed_by}
+use Rattle.cycle_history.specs.Sampled.{passing, placed_by}
 use Rattle.report_check.specs.declared.items.Item.{Item}
 use Rattle.report_check.specs.Items.{object_of, objects_of}
 use Rattle.report_check.specs.Sampling.{AreCountdowns, AreFlags, flag_at}

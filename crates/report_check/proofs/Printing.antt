@@ -1,20 +1,18 @@
 -- Rule 9: the lines of a profile, one more at a time, and the buckets that are due.
-use Rattle.std.proofs.Common.{◌≡◌, ◌≢◌, ℕ, zero, suc, ◌+◌, ◌-◌, ◌^◌, ◌<◌, ◌≤◌, Bool, true, false, ◌&&◌, not, eqb, ltb, List, [], ◌∷◌, ◌++◌, map, take, length, get_or, Some, None, MatchBool, IsPermutation, refl, sym, ◌∙◌, ap, subst, arith, ◌⊎◌, inl, inr, ◌↔◌}
+use Rattle.std.proofs.Common.{◌≡◌, ◌≢◌, ℕ, suc, ◌+◌, ◌-◌, ◌^◌, ◌<◌, ◌≤◌, Bool, true, false, ◌&&◌, eqb, ltb, List, [], ◌∷◌, length, get_or, Some, MatchBool, refl, sym, ◌∙◌, ap, subst, arith, ◌⊎◌, inl, inr}
 use Rattle.std.specs.List.{slice_get}
-use Rattle.std.proofs.lemmas.Bool.{cases_Bool, cases_eq, cases_lt, cases_order, eqb-true, eq-eqb, ne_eqb, le-ltb, lt-ltb, ltb-true, and_parts, and_from}
+use Rattle.std.proofs.lemmas.Bool.{cases_eq, eq-eqb, ne_eqb, le-ltb}
 use Rattle.std.proofs.lemmas.Option.{slice_get_within, slice_get-get_or}
 use Rattle.page_alloc.specs.Lists.{In, AllApart, count, one_if}
 use Rattle.profile_cycle.specs.declared.counts.Count.{Count}
 use Rattle.cycle_history.specs.declared.Prof.{Prof}
 use Rattle.cycle_history.specs.Requests.{Marking}
-use Rattle.cycle_history.specs.Objects.{Object, is_placed}
+use Rattle.cycle_history.specs.Objects.{Object}
 use Rattle.cycle_history.specs.Orders.{IsProfBefore}
-use Rattle.cycle_history.specs.Profile.{Bucket, Samples, IsProf, IsChanged, IsOf, IsProfileIn, IsProfile, IsProfileOfEach, allocs_at, frees_at, bucket_of, is_sample}
+use Rattle.cycle_history.specs.Profile.{Bucket, Samples, IsProf, IsChanged, IsProfileIn, allocs_at, frees_at, bucket_of, is_sample}
 use Rattle.cycle_history.proofs.Sampling.{AreAlike, allocs-alike, frees-alike}
-use Rattle.report_rules.specs.Closing.{IsOutOfOrder}
 use Rattle.report_rules.specs.Published.{IsRightProf, IsDue}
-use Rattle.report_rules.proofs.Counts.{get-in}
-use Rattle.report_check.specs.Printed.{HasNumbers, AreRightProfs, IsFirstWrongProf, AllPrinted, HasLine}
+use Rattle.report_check.specs.Printed.{HasNumbers, AreRightProfs, IsFirstWrongProf, AllPrinted}
 use Rattle.report_check.proofs.Summed.{in-get}
 
 -- ---- the order
@@ -26,10 +24,13 @@ prof-trans a b c ab bc = elim ab [
       let e = here.0 in
       elim bc [
         | inl more ↦ inl (omega arith)
-        | inr same ↦ inr (e ∙ same.0, elim here.1 [
+        | inr same ↦ inr (
+          e ∙ same.0,
+          elim here.1 [
             | inl low ↦ elim same.1 [ inl high ↦ inl (omega arith) | inr at ↦ inl (let f = at.0 in omega arith) ]
             | inr at ↦ elim same.1 [ inl high ↦ inl (let f = at.0 in omega arith) | inr up ↦ inr (at.0 ∙ up.0, (let f = at.1 in let g = up.1 in omega arith)) ]
-          ])
+          ],
+        )
       ])
 ]
 
@@ -179,16 +180,21 @@ module _ (marked : Marking) (s : Samples) (last : ℕ) (objects : List Object) (
       → MatchBool r ((now.allocs ≢ before.allocs) ⊎ (now.frees ≢ before.frees)) (¬ ((now.allocs ≢ before.allocs) ⊎ (now.frees ≢ before.frees)))
       → MatchBool r (IsRightProf each marked s last objects line) (¬ IsRightProf each marked s last objects line)
   told-changed false before r on lt has a f differ = absurd (let e : false ≡ true = on in cc)
-  told-changed true before true on lt has a f differ = (has.mark, (let l = lt in omega arith), told-prof has, (λ m e less. (
-      let k : line.mark - 1 ≡ m = omega arith in
-      let a' : before.allocs ≡ allocs_at s objects m (bucket_of line) = a ∙ ap (λ (j : ℕ). allocs_at s objects j (bucket_of line)) k in
-      let f' : before.frees ≡ frees_at marked s objects m (bucket_of line) = f ∙ ap (λ (j : ℕ). frees_at marked s objects j (bucket_of line)) k in
-      let na : now.allocs ≡ allocs_at s objects (suc m) (bucket_of line) = allocs ∙ ap (λ (j : ℕ). allocs_at s objects j (bucket_of line)) e in
-      let nf : now.frees ≡ frees_at marked s objects (suc m) (bucket_of line) = frees ∙ ap (λ (j : ℕ). frees_at marked s objects j (bucket_of line)) e in
-      elim differ [
-        | inl other ↦ inl (λ same. other (na ∙ (same ∙ sym a')))
-        | inr other ↦ inr (λ same. other (nf ∙ (same ∙ sym f')))
-      ])))
+  told-changed true before true on lt has a f differ = (
+    has.mark,
+    (let l = lt in omega arith),
+    told-prof has,
+    (λ m e less. (
+        let k : line.mark - 1 ≡ m = omega arith in
+        let a' : before.allocs ≡ allocs_at s objects m (bucket_of line) = a ∙ ap (λ (j : ℕ). allocs_at s objects j (bucket_of line)) k in
+        let f' : before.frees ≡ frees_at marked s objects m (bucket_of line) = f ∙ ap (λ (j : ℕ). frees_at marked s objects j (bucket_of line)) k in
+        let na : now.allocs ≡ allocs_at s objects (suc m) (bucket_of line) = allocs ∙ ap (λ (j : ℕ). allocs_at s objects j (bucket_of line)) e in
+        let nf : now.frees ≡ frees_at marked s objects (suc m) (bucket_of line) = frees ∙ ap (λ (j : ℕ). frees_at marked s objects j (bucket_of line)) e in
+        elim differ [
+          | inl other ↦ inl (λ same. other (na ∙ (same ∙ sym a')))
+          | inr other ↦ inr (λ same. other (nf ∙ (same ∙ sym f')))
+        ])),
+  )
   told-changed true before false on lt has a f differ = λ right. (
       let some = has.mark in
       let m = line.mark - 1 in

@@ -1,11 +1,10 @@
 -- Rule 9: which buckets are due, by their samples, and the line that breaks the rule.
-use Rattle.std.proofs.Common.{◌≡◌, ◌≢◌, ℕ, zero, suc, ◌+◌, ◌^◌, ◌<◌, ◌≤◌, Bool, true, false, ◌&&◌, not, eqb, ltb, List, [], ◌∷◌, ◌++◌, map, take, length, get_or, Some, None, MatchBool, IsPermutation, refl, sym, ◌∙◌, ap, subst, arith, ◌⊎◌, inl, inr, ◌↔◌}
+use Rattle.std.proofs.Common.{◌≡◌, ◌≢◌, ℕ, suc, ◌+◌, ◌^◌, ◌<◌, ◌≤◌, Bool, true, false, ◌&&◌, not, eqb, ltb, List, [], ◌∷◌, ◌++◌, map, take, length, get_or, Some, MatchBool, IsPermutation, refl, sym, ◌∙◌, ap, subst, arith, ◌⊎◌, inl, inr, ◌↔◌}
 use Rattle.std.specs.List.{slice_get}
 use Rattle.std.proofs.lemmas.Bool.{cases_Bool, cases_eq, cases_lt, eqb-true, eq-eqb, le-ltb, lt-ltb, ltb-true, and_parts, and_from}
 use Rattle.std.proofs.lemmas.List.{take_more, take_all, map_push}
 use Rattle.std.proofs.lemmas.Option.{slice_get_within, slice_get-get_or}
-use Rattle.page_alloc.specs.Lists.{In, AllApart, count}
-use Rattle.trace_reader.specs.declared.trace.Event.{Event}
+use Rattle.page_alloc.specs.Lists.{In}
 use Rattle.trace_reader.specs.declared.trace.Trace.{Trace}
 use Rattle.trace_reader.specs.Limits.{events_of}
 use Rattle.cycle_history.specs.declared.Prof.{Prof}
@@ -19,7 +18,6 @@ use Rattle.cycle_history.specs.Sound.{HasProfile}
 use Rattle.cycle_history.proofs.Sampling.{AreAlike, samples-one}
 use Rattle.report_rules.specs.Lines.{IsLeast, end_of, profile_at}
 use Rattle.report_rules.specs.Published.{BreaksProfile, IsDue, IsRightProf, is_of_each}
-use Rattle.report_rules.proofs.Counts.{get-in}
 use Rattle.report_check.specs.declared.items.Item.{Item}
 use Rattle.report_check.specs.declared.sampled.Sampled.{Sampled}
 use Rattle.report_check.specs.Items.{object_of, objects_of}
@@ -31,7 +29,7 @@ use Rattle.report_check.specs.Sampling.{AreSamples, flag_at, samples_by}
 use Rattle.report_check.proofs.Bucketing.{freed-when, place-one, stack-at}
 use Rattle.report_check.proofs.Counting.{count-lt, count-one, count-other, count-some, in-permutation}
 use Rattle.report_check.proofs.Numbered.{item-of, object-in}
-use Rattle.report_check.proofs.Printing.{due-alike, profile-met, right-alike}
+use Rattle.report_check.proofs.Printing.{profile-met, right-alike}
 use Rattle.report_check.proofs.Summed.{in-get}
 
 -- ---- the places of lines
@@ -62,9 +60,9 @@ pub lines-more : (lines : List Prof) (n place : ℕ) (d : Prof) (list : List ℕ
     → ArePlacesTo lines n list → ArePlacesTo lines (n + 1) (list ++ place ∷ [])
 lines-more lines n place d list lt is size mark are = record {
   places =
-    ap (λ (xs : List ℕ). xs ++ place ∷ []) are.places
-    ∙ (ap (λ (x : ℕ). map line_place (take n lines) ++ x ∷ []) is
-    ∙ (sym (map_push line_place (take n lines) (get_or lines n d)) ∙ ap (λ (xs : List Prof). map line_place xs) (sym (take_more lines n d lt))));
+      ap (λ (xs : List ℕ). xs ++ place ∷ []) are.places
+      ∙ (ap (λ (x : ℕ). map line_place (take n lines) ++ x ∷ []) is
+      ∙ (sym (map_push line_place (take n lines) (get_or lines n d)) ∙ ap (λ (xs : List Prof). map line_place xs) (sym (take_more lines n d lt))));
   few = λ k line less at. elim (cases_eq k n) [
     | inl same ↦ (
         let here = slice_get-get_or lines n d lt in
@@ -122,9 +120,9 @@ line-cases (line ∷ lines) m b = elim (is-of-cases m b line) [
   | inr off ↦ elim (line-cases lines m b) [
     | inl has ↦ inl (has.0, inr has.1, has.2)
     | inr none ↦ inr (λ has. elim has.1 [
-        | inl here ↦ off (subst (λ (x : Prof). IsOf m b x) (sym here) has.2)
-        | inr there ↦ none (has.0, there, has.2)
-      ])
+      | inl here ↦ off (subst (λ (x : Prof). IsOf m b x) (sym here) has.2)
+      | inr there ↦ none (has.0, there, has.2)
+    ])
   ]
 ]
 
@@ -270,8 +268,11 @@ module _ (each : Bool) (t : Trace) (report : Report) (items : List Item) (lasts 
       → IsDue each (marked_by t) (samples_by t sampled) (last_cycle t) (objects_of items) (last_cycle t) (bucket_at item (get_or sampled.stacks.items n 0))
   due-last n item at on lt =
       let b = bucket_at item (get_or sampled.stacks.items n 0) in
-      inl (refl, count-some (λ o. is_sample (samples_by t sampled) b o && ltb o.cycle (last_cycle t)) (objects_of items) (object_of n item) (object-in items n item at)
-      (and_from (is_sample (samples_by t sampled) b (object_of n item)) (ltb item.cycle (last_cycle t)) (item-sample t items sampled n item are at on) (lt-ltb item.cycle (last_cycle t) lt)))
+      inl (
+        refl,
+        count-some (λ o. is_sample (samples_by t sampled) b o && ltb o.cycle (last_cycle t)) (objects_of items) (object_of n item) (object-in items n item at)
+            (and_from (is_sample (samples_by t sampled) b (object_of n item)) (ltb item.cycle (last_cycle t)) (item-sample t items sampled n item are at on) (lt-ltb item.cycle (last_cycle t) lt)),
+      )
 
   due-own : (n : ℕ) (item : Item) → slice_get items n ≡ Some item → flag_at sampled.flags.items n ≡ true → each ≡ true → item.cycle + 1 < last_cycle t
       → IsDue each (marked_by t) (samples_by t sampled) (last_cycle t) (objects_of items) (item.cycle + 1) (bucket_at item (get_or sampled.stacks.items n 0))
@@ -353,11 +354,14 @@ module _ (each : Bool) (t : Trace) (report : Report) (items : List Item) (lasts 
 pub profile-has : (t : Trace) (report : Report) (items : List Item) (sampled : Sampled) → AreSamples t items sampled
     → AreRightProfs (IsRightProf (is_of_each (last_cycle t) report.profile) (marked_by t) (samples_by t sampled) (last_cycle t) (objects_of items)) report.profile (length report.profile)
     → AllPrinted (is_of_each (last_cycle t) report.profile) (marked_by t) (samples_by t sampled) (last_cycle t) (objects_of items) report.profile → HasProfile t report (objects_of items)
-profile-has t report items sampled are right all = (is_of_each (last_cycle t) report.profile, record {
-  which = flag_at sampled.flags.items;
-  sampled = are.flags.sampled;
-  lines = profile-met (is_of_each (last_cycle t) report.profile) (marked_by t) (samples_by t sampled) (last_cycle t) (objects_of items) report.profile right all;
-})
+profile-has t report items sampled are right all = (
+  is_of_each (last_cycle t) report.profile,
+  record {
+    which = flag_at sampled.flags.items;
+    sampled = are.flags.sampled;
+    lines = profile-met (is_of_each (last_cycle t) report.profile) (marked_by t) (samples_by t sampled) (last_cycle t) (objects_of items) report.profile right all;
+  },
+)
 
 alike-by : (t : Trace) (items : List Item) (sampled : Sampled) (which : ℕ → Bool) → AreSamples t items sampled → SamplesBy t.header.rate t.header.seed which (objects_of items) → AreAlike (samples_by t sampled) (samples_in t which) (objects_of items)
 alike-by t items sampled which are by o among placed = (samples-one t.header.rate t.header.seed (flag_at sampled.flags.items) which (objects_of items) o are.flags.sampled by among placed, refl)

@@ -1,5 +1,5 @@
 -- The lines of a profile beside those that should be there.
-use Rattle.std.specs.Prelude.{◌≡◌, ℕ, ◌+◌, ◌^◌, ◌<◌, ◌≤◌, Bool, true, List, length, slice_index, Some, ◌⊎◌, ◌↔◌}
+use Rattle.std.specs.Prelude.{◌≡◌, ℕ, ◌+◌, ◌^◌, ◌<◌, ◌≤◌, Bool, true, List, slice_index, Some, ◌⊎◌, ◌↔◌}
 use Rattle.std.specs.List.{slice_get}
 use Rattle.page_alloc.specs.Lists.{In}
 use Rattle.profile_cycle.specs.declared.counts.Count.{Count}

@@ -1,7 +1,7 @@
 -- Which objects of a report are samples, and how many of each bucket there are.
-use Rattle.std.specs.Prelude.{◌≡◌, ℕ, ◌+◌, ◌*◌, ◌^◌, ◌<◌, ◌≤◌, Bool, true, false, ◌&&◌, nat_lt, nat_le, List, length, map, slice_index, slice_index_or, Some, ◌↔◌}
+use Rattle.std.specs.Prelude.{◌≡◌, ℕ, ◌^◌, ◌<◌, Bool, true, false, ◌&&◌, nat_lt, nat_le, List, length, map, slice_index, slice_index_or, Some}
 use Rattle.std.specs.List.{slice_get}
-use Rattle.page_alloc.specs.Lists.{In, count}
+use Rattle.page_alloc.specs.Lists.{count}
 use Rattle.profile_cycle.specs.Sampling.{Countdown, countdown}
 use Rattle.trace_reader.specs.declared.trace.Header.{Header}
 use Rattle.trace_reader.specs.declared.trace.Event.{Event}

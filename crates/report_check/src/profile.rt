@@ -184,10 +184,7 @@ impl Objects<'_> {
 fn tells(line: Prof, now: Count) -> bool
     ensures { MatchBool result (HasNumbers line now) (¬ HasNumbers line now) }
 {
-    line.mark != 0
-        && line.allocs != 0
-        && line.allocs == now.allocs
-        && line.frees == now.frees
+    line.mark != 0 && line.allocs != 0 && line.allocs == now.allocs && line.frees == now.frees
 }
 
 // Whether a bucket's numbers changed.

@@ -39,8 +39,11 @@ returns-in_err-judge_totals-clause-broken c =
 pub returns-clause-met : goal.returns-clause-met
 returns-clause-met c =
     let s = c.requires.settled in
-    ok-map c.judge_profile.result (λ has. (objects_of c.args.items.now, meets-9 c.args.trace.now c.args.report.now (objects_of c.args.items.now) s.answers s.journal s.misses s.places
-    c.in_ok-judge_apart.ensures.apart c.in_ok-judge_filling.ensures.filling c.in_ok-judge_sweeps.ensures.sweeps (c.in_ok-judge_totals.ensures.totals (objects_of c.args.items.now) s.answers) has)) c.judge_profile.ensures.profile
+    ok-map c.judge_profile.result (λ has. (
+      objects_of c.args.items.now,
+      meets-9 c.args.trace.now c.args.report.now (objects_of c.args.items.now) s.answers s.journal s.misses s.places
+          c.in_ok-judge_apart.ensures.apart c.in_ok-judge_filling.ensures.filling c.in_ok-judge_sweeps.ensures.sweeps (c.in_ok-judge_totals.ensures.totals (objects_of c.args.items.now) s.answers) has,
+    )) c.judge_profile.ensures.profile
 
 pub returns-clause-broken : goal.returns-clause-broken
 returns-clause-broken c =

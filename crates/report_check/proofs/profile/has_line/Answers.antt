@@ -1,6 +1,5 @@
-use Rattle.std.proofs.Common.{◌≡◌, ℕ, MatchBool, subst}
+use Rattle.std.proofs.Common.{ℕ, MatchBool, subst}
 use Rattle.page_alloc.specs.Lists.{In}
-use Rattle.report_check.specs.Order.{place_of}
 use Rattle.report_check.proofs.Showing.{match-same}
 use Rattle.report_check.proofs.profile.has_line.Goals as goal
 

@@ -1,4 +1,3 @@
-use Rattle.std.proofs.Common.{◌≡◌, sym}
 use Rattle.report_check.proofs.Showing.{match-due}
 use Rattle.report_check.proofs.profile.is_shown.Goals as goal
 

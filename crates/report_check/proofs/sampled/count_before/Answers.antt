@@ -1,4 +1,4 @@
-use Rattle.std.proofs.Common.{◌≡◌, ◌+◌, ◌≤◌, ℕ, sym, ◌∙◌, ap, subst, arith, ltb, leb, ◌&&◌}
+use Rattle.std.proofs.Common.{ℕ, ◌∙◌, ap, arith, ltb}
 use Rattle.page_alloc.specs.Lists.{count}
 use Rattle.report_check.specs.Order.{place_of}
 use Rattle.report_check.proofs.Bucketing.{between, place-low}

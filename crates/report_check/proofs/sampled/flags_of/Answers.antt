@@ -1,10 +1,9 @@
-use Rattle.std.proofs.Common.{◌≡◌, ◌≢◌, ◌+◌, ◌<◌, ◌++◌, ℕ, Bool, true, List, length, take, drop, get_or, subst, sym, ◌∙◌, arith, ap, Some, inl, inr}
+use Rattle.std.proofs.Common.{◌≡◌, ◌+◌, Bool, List, length, get_or, subst, sym, ◌∙◌, arith, ap, Some, inl, inr}
 use Rattle.std.specs.List.{slice_get}
 use Rattle.std.proofs.lemmas.Bool.{cases_Bool}
 use Rattle.std.proofs.lemmas.Option.{slice_get-get_or}
 use Rattle.profile_cycle.specs.Sampling.{Countdown}
 use Rattle.cycle_history.specs.Objects.{is_placed}
-use Rattle.report_check.specs.declared.items.Item.{Item}
 use Rattle.report_check.proofs.Clearing.{placed-item}
 use Rattle.report_check.proofs.Flagging.{IsFlagged, flagged-other, flagged-placed}
 use Rattle.report_check.proofs.Ledgers.{written}

@@ -1,4 +1,4 @@
-use Rattle.std.proofs.Common.{◌≡◌, ◌≤◌, ℕ, ltb, List, length, sym, ◌∙◌, ap, subst, rules}
+use Rattle.std.proofs.Common.{ℕ, ltb, List, sym, ◌∙◌, ap, subst, rules}
 use Rattle.std.proofs.lemmas.List.Sorted.{IsNonDecreasingBy-from_default, IsPartitionPoint-from_clause, IsPartitionedBy-ltb}
 use Rattle.page_alloc.specs.Lists.{count}
 use Rattle.report_check.specs.Order.{AreRising}

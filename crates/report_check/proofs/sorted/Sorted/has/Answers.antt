@@ -1,4 +1,4 @@
-use Rattle.std.proofs.Common.{◌≡◌, ℕ, List, MatchBool, sym, ◌∙◌, subst}
+use Rattle.std.proofs.Common.{ℕ, List, MatchBool, sym, ◌∙◌, subst}
 use Rattle.std.proofs.lemmas.List.Sorted.{searched}
 use Rattle.page_alloc.specs.Lists.{In}
 use Rattle.report_check.specs.Order.{AreRising}
