@@ -9,7 +9,7 @@ use trace_reader::Event;
 
 /// Puts what came of a cycle's events, which each processor gave in the order of its own, behind what came before, in the order
 /// of all events.
-pub(crate) fn merge<T: Copy>(
+pub(crate) fn merge<T: Copy + Drop>(
     alloc: Global,
     events: &[Event],
     given: &[List<T>],

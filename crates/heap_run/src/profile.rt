@@ -1,16 +1,17 @@
 //! The sampled profile of a run.
 
-ghost use Rattle.std.specs.Prelude.{◌≡◌, ◌≤◌, ◌++◌, [], length, map, max, true, IfOk, OnOk};
+ghost use Rattle.std.specs.Prelude.{◌≡◌, ◌≤◌, ◌++◌, [], length, map, max, true, false, IfOk, OnOk};
 ghost use Rattle.std.specs.List.{AllByRecursion};
 ghost use Rattle.trace_reader.specs.Limits.{EventFits, events_of};
-ghost use Rattle.profile_cycle.specs.History.{first_view};
-ghost use Rattle.profile_cycle.specs.Naming.{buckets_of, pairs_of};
-ghost use Rattle.profile_lines.specs.Read.{AreFew, IsOrder, all_lines, changed_lines, count_of};
+ghost use Rattle.profile_cycle.specs.declared.calls.What.TheVariants.{AfterSweep, NextCycle};
+ghost use Rattle.profile_cycle.specs.History.{calls, first_view};
+ghost use Rattle.sample_laws.specs.Numbers.{IsNamed};
+ghost use Rattle.profile_lines.specs.Read.{AreDifferent, AreFew, IsOrder, all_lines, changed_lines, count_of};
 
 use cycle_history::Prof;
 use edge_io::{List, NoMemory};
-use profile_cycle::{Buckets, Count, Ring, Tally};
-use profile_lines::{add_all, add_changed, order_of};
+use profile_cycle::{Buckets, Count, Ring, Tally, a_pair_is_a_bucket_where_an_event_has_it};
+use profile_lines::{add_all, add_changed, buckets_differ, order_of};
 use std::alloc::Global;
 use trace_reader::Trace;
 
@@ -32,13 +33,16 @@ impl Profile {
     pub fn new(alloc: Global, trace: &Trace) -> Result<(Profile, Tally), NoMemory>
         requires events { AllByRecursion (EventFits trace.now.header.procs) (events_of trace.now) }
         requires objects { length (events_of trace.now) ≤ 1000000 }
-        ensures known { IfOk result (λ p. p.0.known ≡ buckets_of (pairs_of (events_of trace.now))) }
+        ensures different { IfOk result (λ p. AreDifferent p.0.known) }
+        ensures named { IfOk result (λ p. AllByRecursion (IsNamed p.0.known) (events_of trace.now)) }
         ensures ring { IfOk result (λ p. p.0.ring.buckets ≡ max 1 (length p.0.known)) }
         ensures tally { IfOk result (λ p. p.1 ≡ record { ring = p.0.ring; view = first_view }) }
         ensures order { IfOk result (λ p. IsOrder p.0.known p.0.order) }
         ensures before { IfOk result (λ p. p.0.before.items ≡ map (λ _. record { allocs = 0; frees = 0 }) p.0.order) }
         ensures lines { IfOk result (λ p. p.0.lines ≡ []) }
     {
+        buckets_differ();
+        a_pair_is_a_bucket_where_an_event_has_it();
         let known = Buckets::of_trace(alloc, trace)?;
         let (ring, tally) = Ring::new(alloc, known.len().max(1))?;
         let order = order_of(alloc, &known)?;
@@ -57,8 +61,42 @@ impl Profile {
         Ok((profile, tally))
     }
 
-    /// Reads the lines of a mark end that is not the last one: those of the buckets whose numbers changed.
-    pub fn read_changed(&mut self, tally: &mut Tally, mark: u32) -> Result<(), NoMemory> {
+    /// Publishes behind the full sweep of a cycle. Behind cycle 0, before which nothing was marked, nothing is published.
+    pub fn end_sweep(&mut self, tally: &mut Tally, cycle: u32)
+        requires ring { tally.old.ring ≡ self.old.ring }
+        requires drives { tally.old.view.drives ≡ true }
+        requires alone { tally.old.view.out ≡ 0 }
+        ensures profile { self.new ≡ self.old }
+        ensures first { cycle ≡ 0 → tally.new ≡ tally.old }
+        ensures later { 1 ≤ cycle → tally.new ≡ calls tally.old AfterSweep }
+    {
+        if 0 < cycle {
+            self.ring.after_sweep(tally);
+        }
+    }
+
+    /// Begins the next cycle, behind a mark end. Where the lines of each mark end are told, those of the mark end before are read,
+    /// which has this number: of the buckets whose numbers changed.
+    pub fn next_cycle(&mut self, tally: &mut Tally, mark: u32, each: bool) -> Result<(), NoMemory>
+        requires ring { tally.old.ring ≡ self.old.ring }
+        requires drives { tally.old.view.drives ≡ true }
+        requires alone { tally.old.view.out ≡ 0 }
+        requires room { length self.old.known ≤ self.old.ring.buckets }
+        requires order { IsOrder self.old.known self.old.order }
+        requires before { length self.old.before.items ≡ length self.old.order }
+        requires few { AreFew (length self.old.known) (calls tally.old NextCycle).view.calls }
+        ensures tally { OnOk result (tally.new ≡ calls tally.old NextCycle) }
+        ensures ring { OnOk result (self.new.ring ≡ self.old.ring) }
+        ensures known { OnOk result (self.new.known ≡ self.old.known) }
+        ensures order { OnOk result (self.new.order ≡ self.old.order) }
+        ensures unread { OnOk result (each ≡ false → (self.new.lines ≡ self.old.lines) × (self.new.before.items ≡ self.old.before.items)) }
+        ensures read { OnOk result (each ≡ true → (self.new.lines ≡ self.old.lines ++ changed_lines self.old.known (calls tally.old NextCycle).view.calls mark self.old.order self.old.before.items)
+            × (self.new.before.items ≡ map (count_of (calls tally.old NextCycle).view.calls) self.old.order)) }
+    {
+        self.ring.next_cycle(tally);
+        if !each {
+            return Ok(());
+        }
         add_changed(
             &self.ring,
             tally,
@@ -70,8 +108,16 @@ impl Profile {
         )
     }
 
-    /// Reads the lines of the last mark end.
-    pub fn read_all(&mut self, tally: &mut Tally, mark: u32) -> Result<(), NoMemory> {
+    /// Reads the lines of the last mark end, of all buckets with allocations.
+    pub fn read_last(&mut self, tally: &mut Tally, mark: u32) -> Result<(), NoMemory>
+        requires ring { tally.old.ring ≡ self.old.ring }
+        requires drives { tally.old.view.drives ≡ true }
+        requires alone { tally.old.view.out ≡ 0 }
+        requires room { length self.old.known ≤ self.old.ring.buckets }
+        requires order { IsOrder self.old.known self.old.order }
+        requires few { AreFew (length self.old.known) tally.old.view.calls }
+        ensures lines { OnOk result (self.new.lines ≡ self.old.lines ++ all_lines self.old.known tally.old.view.calls mark self.old.order) }
+    {
         add_all(
             &self.ring,
             tally,

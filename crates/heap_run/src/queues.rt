@@ -61,7 +61,7 @@ fn bucket_of(known: &Buckets, event: &Event) -> u32
 }
 
 // An empty list for each processor.
-fn no_lists<T>(alloc: Global, procs: u32) -> Result<Vec<List<T>>, NoMemory>
+fn no_lists<T: Drop>(alloc: Global, procs: u32) -> Result<Vec<List<T>>, NoMemory>
     ensures length { IfOk result (λ lists. vec_len lists ≡ procs) }
     ensures empty { IfOk result (λ lists. (w : ℕ) → slice_index_or lists.items w [] ≡ []) }
 {

@@ -157,9 +157,7 @@ impl Run {
             background,
             gate,
         )?;
-        if 0 < cycle {
-            self.profile.ring.after_sweep(&mut self.driver.tally);
-        }
+        self.profile.end_sweep(&mut self.driver.tally, cycle);
         merge(alloc, events, given.answers.as_slice(), &mut self.answers)?;
         merge(alloc, events, given.sampled.as_slice(), &mut self.sampled)?;
         file_notes(alloc, &mut self.driver.notes, &mut self.sweeps)
@@ -191,11 +189,8 @@ impl Run {
         reset(&self.shared, &mut self.driver.worker);
         self.shared.next_generation(&mut self.driver.worker, pairs);
         self.marks = marks;
-        self.profile.ring.next_cycle(&mut self.driver.tally);
-        if each {
-            self.profile.read_changed(&mut self.driver.tally, cycle)?;
-        }
-        Ok(())
+        self.profile
+            .next_cycle(&mut self.driver.tally, cycle, each)
     }
 
     // The report, where all is answered.
@@ -217,7 +212,7 @@ impl Run {
             worker, mut tally, ..
         } = driver;
         let mut driver = worker;
-        profile.read_all(&mut tally, trace.cycles.len() as u32 - 1)?;
+        profile.read_last(&mut tally, trace.cycles.len() as u32 - 1)?;
         let report = Report {
             journal: shared.journal_copy(alloc, &mut driver)?,
             totals: totals_of(alloc, trace, &answers)?,

@@ -1,2 +1,0 @@
-pub mod Profiled
-pub mod Sampled
