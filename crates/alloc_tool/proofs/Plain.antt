@@ -27,6 +27,7 @@ failed_writes held writes shown tells written output output' errors errors' stat
   partly_written = λ _. front;
   unwritten = λ seven. absurd (clash status 6 7 (λ e. cc) six seven);
   told = λ _. subst (λ (k : ℕ). Tells shown tells errors errors' (status_text k)) (sym six) told;
+  complete = λ written. absurd (written rose);
 }
 
 -- memory ran out
@@ -40,6 +41,7 @@ spent_writes held writes shown tells written output output' errors errors' statu
   partly_written = λ six. absurd (clash status 7 6 (λ e. cc) seven six);
   unwritten = λ _. same;
   told = λ _. subst (λ (k : ℕ). Tells shown tells errors errors' (status_text k)) (sym seven) told;
+  complete = λ _. inr seven;
 }
 
 -- one word is not three

@@ -1,8 +1,9 @@
-//! A table of traces and reports as text, for all rules.
+//! A table of traces and reports as text, for all rules, where nothing is sampled.
 
 ghost use Rattle.std.specs.Prelude.{IfOk};
 ghost use Rattle.cycle_history.specs.Marked.{IsLimited};
 
+use crate::profile;
 use cycle_history::Report;
 use edge_io::{Lines, List, MemorySource};
 use report_check::{CheckFault, check};
@@ -14,12 +15,14 @@ use trace_reader::{Trace, read_trace};
 
 /// The lines of a trace of one processor and one chunk, a report of it without its last line, and the rule and the line
 /// that it breaks first.
-type Row = (&'static str, &'static str, Option<(u8, u64)>);
+pub(crate) type Row = (&'static str, &'static str, Option<(u8, u64)>);
 
-fn trace_of(alloc: Global, lines: &str) -> Result<Trace, Fail>
+fn trace_of(alloc: Global, rate: u32, lines: &str) -> Result<Trace, Fail>
     ensures { IfOk result IsLimited }
 {
-    let text = format!(in alloc; "goheap 1\nheap 1 procs 1 rate 0 seed 1 goal 512\n{lines}end\n")?;
+    let text = format!(in alloc;
+        "goheap 1\nheap 1 procs 1 rate {rate} seed 1 goal 512\n{lines}end\n"
+    )?;
     let bytes = List::from_vec(text.as_bytes().to_vec(alloc)?);
     let mut source = MemorySource::new(bytes, List::new(alloc));
     let mut lines = Lines::new(&mut source, 67_108_864);
@@ -37,26 +40,31 @@ fn report_of(alloc: Global, lines: &str) -> Result<Report, Fail> {
     }
 }
 
-fn judge<R: Abort + AllocGlobal>(rt: &R, number: usize, row: &Row) -> Result<(), Fail> {
+fn judge<R: Abort + AllocGlobal>(rt: &R, rate: u32, number: usize, row: &Row) -> Result<(), Fail> {
     let (lines, printed, broken) = *row;
     let alloc = rt.alloc();
-    let trace = trace_of(alloc, lines)?;
+    let trace = trace_of(alloc, rate, lines)?;
     let report = report_of(alloc, printed)?;
     let found = match check(alloc, &trace, &report) {
         Ok(()) => None,
         Err(CheckFault::Broken { rule, line }) => Some((rule, line)),
         Err(CheckFault::NoMemory) => return Err("no memory".into()),
     };
-    assert_eq!(rt; found, broken, "row {number}");
+    assert_eq!(rt; found, broken, "rate {rate}: row {number}");
+    Ok(())
+}
+
+fn judge_all<R: Abort + AllocGlobal>(rt: &R, rate: u32, rows: &[Row]) -> Result<(), Fail> {
+    for (number, row) in rows.iter().enumerate() {
+        judge(rt, rate, number, row)?;
+    }
     Ok(())
 }
 
 #[test]
 fn whole_reports_are_judged(rt: HostRuntime) -> Result<(), Fail> {
-    for (number, row) in ROWS.iter().enumerate() {
-        judge(&rt, number, row)?;
-    }
-    Ok(())
+    judge_all(&rt, 0, &ROWS)?;
+    judge_all(&rt, 1, &profile::ROWS)
 }
 
 /// Two objects of 24 bytes, of which a mark end marks the second, and another.

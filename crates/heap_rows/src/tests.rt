@@ -1,4 +1,4 @@
-//! Each trace is run without background sweepers and with four, and has one report.
+//! Each trace is run without background sweepers and with four, in both forms of the profile, and has one report of each form.
 
 ghost use Rattle.std.specs.Prelude.{IfOk, ◌≤◌};
 ghost use Rattle.trace_reader.specs.Limits.{WithinLimits};
@@ -12,32 +12,89 @@ use std::process::Abort;
 use std::test::Fail;
 use trace_reader::{Trace, read_trace};
 
-// The second line and the lines behind it, and the report without its last line. Four objects of a megabyte of which two survive; an object
-// that lives on beside one that dies; an emptied span that is made again; and two processors, one of which is idle in the second cycle.
-const ROWS: [(&str, &str, &str); 4] = [
-    (
-        "heap 1 procs 1 rate 0 seed 1 goal 512",
-        "a 0 1048576 n 1\na 0 1048576 n 1\na 0 1048576 n 1\na 0 1048576 n 1\ngc 1\nm 1 1\nm 3 3\na 0 1048577 n 1\n",
-        "o 0 0xc000000000\no 1 0xc000100000\no 2 0xc000200000\no 3 0xc000300000\no 4 miss 6\n\
+// A trace with its report: the trace's second line and the lines behind it, the report's lines before its profile, and the profile in its
+// two forms, of the last mark end alone and of each.
+struct Row {
+    head: &'static str,
+    lines: &'static str,
+    report: &'static str,
+    last: &'static str,
+    each: &'static str,
+}
+
+// Four objects of a megabyte of which two survive; an object that lives on beside one that dies; an emptied span that is made again; and
+// two processors, one of which is idle in the second cycle. Then traces that are sampled: of size 0; at rate 1 with one mark end and with
+// two; at rate 100, where the bytes between samples are 93, 180 and 157; and at rate 524288 with large objects, where they are 605813, 77639
+// and 43627.
+const ROWS: [Row; 9] = [
+    Row {
+        head: "heap 1 procs 1 rate 0 seed 1 goal 512",
+        lines: "a 0 1048576 n 1\na 0 1048576 n 1\na 0 1048576 n 1\na 0 1048576 n 1\ngc 1\nm 1 1\nm 3 3\na 0 1048577 n 1\n",
+        report: "o 0 0xc000000000\no 1 0xc000100000\no 2 0xc000200000\no 3 0xc000300000\no 4 miss 6\n\
          j 0 0 take 0 128 1\nj 1 0 take 128 128 1\nj 2 0 take 256 128 1\nj 3 0 take 384 128 1\nj 4 1 give 0 128\nj 5 1 give 256 128\nj 6 1 miss 129 1\n\
          s 1 0 0 1\ns 1 128 1 0\ns 1 256 0 1\ns 1 384 1 0\nt 0 4 2\n",
-    ),
-    (
-        "heap 1 procs 1 rate 0 seed 1 goal 512",
-        "a 0 24 s 1\na 0 24 s 1\ngc 1\nm 1 1\na 0 24 s 1\n",
-        "o 0 0xc000000000\no 1 0xc000000018\no 2 0xc000000000\nj 0 0 take 0 1 6\ns 1 0 1 1\nt 3 3 1\n",
-    ),
-    (
-        "heap 1 procs 1 rate 0 seed 1 goal 512",
-        "a 0 24 s 1\ngc 1\na 0 24 s 1\n",
-        "o 0 0xc000000000\no 1 0xc000000000\nj 0 0 take 0 1 6\nj 1 1 give 0 1\nj 2 1 take 0 1 6\ns 1 0 0 1\nt 3 2 1\n",
-    ),
-    (
-        "heap 1 procs 2 rate 0 seed 1 goal 512",
-        "a 0 8 s 1\na 1 8 s 1\ngc 1\nm 0 0\na 1 8 s 1\n",
-        "o 0 0xc000000000\no 1 0xc000002000\no 2 0xc000002000\nj 0 0 take 0 1 2\nj 1 0 take 1 1 2\nj 2 1 give 1 1\nj 3 1 take 1 1 2\n\
+        last: "",
+        each: "",
+    },
+    Row {
+        head: "heap 1 procs 1 rate 0 seed 1 goal 512",
+        lines: "a 0 24 s 1\na 0 24 s 1\ngc 1\nm 1 1\na 0 24 s 1\n",
+        report: "o 0 0xc000000000\no 1 0xc000000018\no 2 0xc000000000\nj 0 0 take 0 1 6\ns 1 0 1 1\nt 3 3 1\n",
+        last: "",
+        each: "",
+    },
+    Row {
+        head: "heap 1 procs 1 rate 0 seed 1 goal 512",
+        lines: "a 0 24 s 1\ngc 1\na 0 24 s 1\n",
+        report: "o 0 0xc000000000\no 1 0xc000000000\nj 0 0 take 0 1 6\nj 1 1 give 0 1\nj 2 1 take 0 1 6\ns 1 0 0 1\nt 3 2 1\n",
+        last: "",
+        each: "",
+    },
+    Row {
+        head: "heap 1 procs 2 rate 0 seed 1 goal 512",
+        lines: "a 0 8 s 1\na 1 8 s 1\ngc 1\nm 0 0\na 1 8 s 1\n",
+        report: "o 0 0xc000000000\no 1 0xc000002000\no 2 0xc000002000\nj 0 0 take 0 1 2\nj 1 0 take 1 1 2\nj 2 1 give 1 1\nj 3 1 take 1 1 2\n\
          s 1 0 1 0\ns 1 1 0 1\nt 1 3 1\n",
-    ),
+        last: "",
+        each: "",
+    },
+    Row {
+        head: "heap 1 procs 1 rate 1 seed 1 goal 512",
+        lines: "a 0 0 n 3\ngc 1\nm 0 0\n",
+        report: "o 0 zero\n",
+        last: "",
+        each: "",
+    },
+    Row {
+        head: "heap 1 procs 1 rate 1 seed 1 goal 512",
+        lines: "a 0 24 s 7\na 0 24 s 7\na 0 24 s 7\ngc 1\nm 0 0\n",
+        report: "o 0 0xc000000000\no 1 0xc000000018\no 2 0xc000000030\nj 0 0 take 0 1 6\ns 1 0 1 2\nt 3 3 2\n",
+        last: "p 1 7 24 3 2\n",
+        each: "p 1 7 24 3 2\n",
+    },
+    Row {
+        head: "heap 1 procs 1 rate 1 seed 1 goal 512",
+        lines: "a 0 24 s 7\na 0 24 s 7\na 0 24 s 7\ngc 1\nm 0 0\na 0 24 s 7\ngc 1\nm 3 3\n",
+        report: "o 0 0xc000000000\no 1 0xc000000018\no 2 0xc000000030\no 3 0xc000000018\nj 0 0 take 0 1 6\ns 1 0 1 2\ns 2 0 1 1\nt 3 4 3\n",
+        last: "p 2 7 24 4 3\n",
+        each: "p 1 7 24 3 2\np 2 7 24 4 3\n",
+    },
+    Row {
+        head: "heap 1 procs 1 rate 100 seed 1 goal 512",
+        lines: "a 0 48 s 5\na 0 48 s 5\na 0 48 s 5\na 0 48 s 5\na 0 48 s 5\na 0 48 s 5\ngc 1\nm 0 0\nm 5 5\n",
+        report: "o 0 0xc000000000\no 1 0xc000000030\no 2 0xc000000060\no 3 0xc000000090\no 4 0xc0000000c0\no 5 0xc0000000f0\n\
+         j 0 0 take 0 1 10\ns 1 0 2 4\nt 5 6 4\n",
+        last: "p 1 5 48 2 1\n",
+        each: "p 1 5 48 2 1\n",
+    },
+    Row {
+        head: "heap 1 procs 1 rate 524288 seed 1 goal 512",
+        lines: "a 0 1048576 n 9\na 0 65536 n 9\na 0 32768 n 9\ngc 1\nm 0 0\n",
+        report: "o 0 0xc000000000\no 1 0xc000100000\no 2 0xc000110000\nj 0 0 take 0 128 1\nj 1 0 take 128 8 1\nj 2 0 take 136 4 135\n\
+         j 3 1 give 128 8\nj 4 1 give 136 4\ns 1 0 1 0\ns 1 128 0 1\ns 1 136 0 1\nt 0 2 1\nt 67 1 1\n",
+        last: "p 1 9 32768 1 1\np 1 9 1048576 1 0\n",
+        each: "p 1 9 32768 1 1\np 1 9 1048576 1 0\n",
+    },
 ];
 
 fn trace_of(alloc: Global, head: &str, lines: &str) -> Result<Trace, Fail>
@@ -50,8 +107,8 @@ fn trace_of(alloc: Global, head: &str, lines: &str) -> Result<Trace, Fail>
     Ok(read_trace(alloc, &mut lines)?)
 }
 
-fn report_of(alloc: Global, lines: &str) -> Result<Report, Fail> {
-    let text = format!(in alloc; "{lines}end\n")?;
+fn report_of(alloc: Global, lines: &str, profile: &str) -> Result<Report, Fail> {
+    let text = format!(in alloc; "{lines}{profile}end\n")?;
     let bytes = List::from_vec(text.as_bytes().to_vec(alloc)?);
     let mut source = MemorySource::new(bytes, List::new(alloc));
     let mut lines = Lines::new(&mut source, 67_108_864);
@@ -64,18 +121,16 @@ fn report_of(alloc: Global, lines: &str) -> Result<Report, Fail> {
 fn run<R: Abort + AllocGlobal>(
     rt: &R,
     background: u32,
-    row: &(&str, &str, &str),
+    each: bool,
+    row: &Row,
 ) -> Result<(), Fail>
     requires { background ≤ 4 }
 {
-    let (head, lines, printed) = *row;
     let alloc = rt.alloc();
-    let trace = trace_of(alloc, head, lines)?;
-    let wanted = report_of(alloc, printed)?;
-    let options = Options {
-        background,
-        each: false,
-    };
+    let trace = trace_of(alloc, row.head, row.lines)?;
+    let profile = if each { row.each } else { row.last };
+    let wanted = report_of(alloc, row.report, profile)?;
+    let options = Options { background, each };
     let Ok(ran) = run_trace(alloc, &trace, options, &OpenGate) else {
         return Err("out of memory".into());
     };
@@ -84,14 +139,17 @@ fn run<R: Abort + AllocGlobal>(
     assert_eq!(rt; found.journal.as_slice(), wanted.journal.as_slice());
     assert_eq!(rt; found.sweeps.as_slice(), wanted.sweeps.as_slice());
     assert_eq!(rt; found.totals.as_slice(), wanted.totals.as_slice());
+    assert_eq!(rt; found.profile.as_slice(), wanted.profile.as_slice());
     Ok(())
 }
 
 #[test]
 fn traces_are_run(rt: HostRuntime) -> Result<(), Fail> {
-    for row in ROWS {
-        run(&rt, 0, &row)?;
-        run(&rt, 4, &row)?;
+    for row in &ROWS {
+        for each in [false, true] {
+            run(&rt, 0, each, row)?;
+            run(&rt, 4, each, row)?;
+        }
     }
     Ok(())
 }

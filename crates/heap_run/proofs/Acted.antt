@@ -28,6 +28,7 @@ use Rattle.span_laws.specs.Calls.{is_missing, is_placing}
 use Rattle.sweeper.specs.Work.{Works, note_by}
 use Rattle.proc_cache.specs.Cache.{Cache}
 use Rattle.proc_cache.specs.Flushes.{Flushes, IsFlushing}
+use Rattle.heap_run.specs.Counts.{IsOut}
 use Rattle.heap_run.specs.Parts.{IsSameRun, part_at, unheard}
 use Rattle.heap_run.specs.Served.{Tells}
 use Rattle.heap_run.specs.Swept.{note_at}
@@ -477,3 +478,7 @@ answers-more events answers t d a first later lt was now =
 pub ok-map : {T E : Type 0} (result : Result T E) (P Q : Type 0) → (P → Q) → OnOk result P → OnOk result Q
 ok-map (Ok x) P Q f h = f h
 ok-map (Err e) P Q f h = h
+
+-- a worker that is out by its number
+pub handed : (i n : ℕ) (old start : Hand) → old.worker.number ≡ 69 → length old.worker.view.parts ≡ 70 → i < 69 → n ≡ i → IsOut n old start → HandsOut i old start
+handed i n old start number parts low same out = record { number = number; parts = parts; low = low; out = out.worker ∙ ap (λ (k : ℕ). as_number k old.worker) same; none = out.notes }

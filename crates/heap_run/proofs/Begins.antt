@@ -1,5 +1,5 @@
 -- A run as its first cycle begins.
-use Rattle.std.proofs.Common.{◌≡◌, ℕ, zero, suc, ◌<◌, Bool, true, false, List, [], ◌∷◌, map, set, reverse, length, get_or, Option, Some, None, refl, sym, ◌∙◌, ap, arith, subst}
+use Rattle.std.proofs.Common.{◌≡◌, ℕ, zero, suc, ◌<◌, ◌≤◌, Bool, true, false, List, [], ◌∷◌, map, set, reverse, length, get_or, Option, Some, None, refl, sym, ◌∙◌, ap, arith, subst}
 use Rattle.std.specs.List.{range_with_len}
 use Rattle.std.proofs.lemmas.List.FromFn.{length-map-range_with_len}
 use Rattle.std.proofs.lemmas.Option.{slice_get_within}
@@ -19,6 +19,21 @@ use Rattle.span_laws.specs.Asks.{IsIdle}
 use Rattle.span_laws.specs.Views.{Seen, first_view, no_part, parts_of}
 use Rattle.span_laws.specs.declared.view.Part.{Part}
 use Rattle.proc_cache.specs.Cache.{Cache}
+use Rattle.std.proofs.lemmas.List.{length-map}
+use Rattle.std.specs.List.{AllByRecursion}
+use Rattle.span_state.specs.MarkSet.{dead_of}
+use Rattle.trace_reader.specs.Limits.{events_of}
+use Rattle.cycle_history.specs.Profile.{Samples, samples_in}
+use Rattle.profile_cycle.specs.declared.buckets.Bucket.{Bucket}
+use Rattle.profile_cycle.specs.declared.calls.View.{View}
+use Rattle.profile_cycle.specs.declared.counts.Count.{Count}
+use Rattle.profile_cycle.specs.History.{Standing}
+use Rattle.profile_cycle.specs.History.{first_view as first_tally}
+use Rattle.profile_cycle.specs.Sampling.{Countdown, countdown}
+use Rattle.profile_lines.specs.Counted.{IsCounting}
+use Rattle.profile_lines.specs.Read.{AreDifferent, IsOrder}
+use Rattle.profile_lines.specs.Told.{HasTold}
+use Rattle.sample_laws.specs.Numbers.{IsNamed}
 use Rattle.heap_run.specs.Parts.{part_at, unheard}
 use Rattle.heap_run.specs.Runs.{HasBegun}
 use Rattle.heap_run.specs.Turns.{IsCaching, no_cache}
@@ -40,20 +55,29 @@ pub record HasStarted (t : Trace) (workers slots : ℕ) (run : Run) : Type 0 whe
   pub worker : run.driver.worker ≡ record { here = true; table = run.shared; number = 69; view = first_view (region_of t) t.header.goal workers }
   pub notes : run.driver.notes.items ≡ []
   pub procs : length run.procs.items ≡ t.header.procs
-  pub empty : (i : ℕ) → i < t.header.procs → get_or run.procs.items i no_cache ≡ record { number = i; flushed = 0; slots = copies slots None }
+  pub empty : (i : ℕ) → i < t.header.procs → get_or run.procs.items i no_cache ≡ record { number = i; flushed = 0; slots = copies slots None; countdown = countdown t.header.rate t.header.seed i [] }
   pub marks : run.marks.pairs ≡ []
   pub answers : run.answers ≡ []
   pub sweeps : run.sweeps ≡ []
   pub sampled : run.sampled ≡ []
   pub buckets : run.buckets ≡ []
   pub places : run.places ≡ []
+  pub dead : (page : ℕ) → dead_of run.marks page ≡ []
+  pub tally : run.driver.tally ≡ record { ring = run.profile.ring; view = first_tally }
+  pub some : 1 ≤ run.profile.ring.buckets
+  pub room : length run.profile.known ≤ run.profile.ring.buckets
+  pub different : AreDifferent run.profile.known
+  pub named : AllByRecursion (IsNamed run.profile.known) (events_of t)
+  pub order : IsOrder run.profile.known run.profile.order
+  pub before : run.profile.before.items ≡ map (λ (n : ℕ). record { allocs = 0; frees = 0 }) run.profile.order
+  pub lines : run.profile.lines ≡ []
 
 first-part : (region goal workers i : ℕ) → unheard (get_or (parts_of 69 (first_view region goal workers)) i no_part) ≡ no_part
 first-part region goal workers i =
     ap (λ (ps : List Part). unheard (get_or ps i no_part)) (set-same no_part (range_with_len 0 workers) 69) ∙ ap unheard (get-same no_part (range_with_len 0 workers) i)
 
-caching-none : (i slots : ℕ) → IsCaching 4 no_part (record { number = i; flushed = 0; slots = copies slots None })
-caching-none i slots = record {
+caching-none : (i slots : ℕ) (c : Countdown) → IsCaching 4 no_part (record { number = i; flushed = 0; slots = copies slots None; countdown = c })
+caching-none i slots c = record {
   serves = record {
     slots = λ k s at. absurd (let z : None ≡ Some s = sym (get-same None (range_with_len 0 slots) k) ∙ at in cc);
     all = λ p hp. absurd (let z : false ≡ true = hp in cc);
@@ -69,6 +93,13 @@ found-none t answers places none i found at = (let lt = slice_get_within places 
 
 asked-none : (t : Trace) (answers : List Answer) → answers ≡ [] → AreObjectsBefore t 0 answers []
 asked-none t answers none = record { asked = tt; printed = sym (ap (λ (l : List Answer). reverse l) none) }
+
+-- nothing is told yet
+told-none : (t : Trace) (x : Samples) (known : List Bucket) (order : List ℕ) → HasTold (marked_by t) x known order 0 [] (map (λ (n : ℕ). record { allocs = 0; frees = 0 }) order) []
+told-none t x known order = record {
+  told = record { order = tt; right = λ l h. absurd h; changed = λ k l h at. absurd h; each = λ k b lt changed. absurd (omega arith) };
+  numbers = refl;
+}
 
 pub begun-first : (t : Trace) (workers slots : ℕ) (run : Run) → workers ≡ 70 → HasStarted t workers slots run → HasBegun t 0 run
 begun-first t workers slots run many s =
@@ -92,13 +123,11 @@ begun-first t workers slots run many s =
           numbers = λ i lt. ap (λ (c : Cache). c.number) (s.empty i (let p = s.procs in omega arith));
           caching = λ i lt. subst (λ (g : ℕ). IsCaching g (part_at w i) (get_or run.procs.items i no_cache)) (sym generation)
               (subst (λ (h : Part). IsCaching 4 h (get_or run.procs.items i no_cache)) (sym (part i))
-              (subst (λ (c : Cache). IsCaching 4 no_part c) (sym (s.empty i (let p = s.procs in omega arith))) (caching-none i slots)));
+              (subst (λ (c : Cache). IsCaching 4 no_part c) (sym (s.empty i (let p = s.procs in omega arith))) (caching-none i slots (countdown t.header.rate t.header.seed i []))));
           uncached = λ i past. ap (λ (h : Part). h.cached) (part i);
         };
         procs = s.procs;
         notes = s.notes;
-        sampled = (let a = ap (λ (l : List Bool). length l) s.sampled in omega arith);
-        buckets = ap (λ (l : List ℕ). length l) s.buckets ∙ sym (ap (λ (l : List Bool). length l) s.sampled);
         kept = ap (λ (l : List (Option Place)). length l) s.places;
         found = found-none t run.answers run.places s.places;
       };
@@ -116,4 +145,33 @@ begun-first t workers slots run many s =
           });
       marks = s.marks ∙ sym (ap (λ (x : Seen). x.view.marks) s.worker);
       blank = λ i. ap (λ (h : Part). h.log) (part i);
+      profiled = record {
+        ring = ap (λ (x : Standing). x.ring) s.tally;
+        some = s.some;
+        room = s.room;
+        drives = ap (λ (x : Standing). x.view.drives) s.tally;
+        alone = ap (λ (x : Standing). x.view.out) s.tally;
+        different = s.different;
+        named = s.named;
+        order = s.order;
+        before = ap (λ (l : List Count). length l) s.before ∙ length-map run.profile.order (λ (n : ℕ). record { allocs = 0; frees = 0 });
+        flags = ap (λ (l : List Bool). length l) s.sampled ∙ sym (ap (λ (l : List Answer). length l) s.answers);
+        numbers = s.buckets;
+        samples = λ which are p. (
+          countdown t.header.rate t.header.seed p [],
+          record { samples = refl; left = refl },
+          λ low. sym (ap (λ (x : Cache). x.countdown) (s.empty p (let q = s.procs in omega arith))),
+        );
+      };
+      counting = record {
+        counting = λ which are. subst (λ (v : View). IsCounting (marked_by t) (samples_in t which) run.profile.known 0 [] v) (sym (ap (λ (x : Standing). x.view) s.tally))
+            (record { cycle = refl; past = λ call h. absurd h; ended = λ k lt. absurd (omega arith) });
+        may = λ page. rw (s.dead page) (λ i x lt. absurd (omega arith));
+        first = λ is page. s.dead page;
+        dead = λ which are m is life b h. absurd (omega arith);
+      };
+      told = record {
+        each_told = λ on which are. rw (s.before, s.lines) (told-none t (samples_in t which) run.profile.known run.profile.order);
+        none_told = λ off. s.lines;
+      };
     }

@@ -14,3 +14,9 @@ pub mod Running
 pub mod MarkEnds
 pub mod Begins
 pub mod Answering
+pub mod Counting
+pub mod Sampling
+pub mod Profiling
+pub mod Telling
+pub mod Last
+pub mod Naming

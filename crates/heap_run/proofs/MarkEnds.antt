@@ -39,6 +39,7 @@ use Rattle.heap_run.proofs.Cycles.{marks-allocated}
 use Rattle.heap_run.proofs.Driving.{driving-other, same-refl}
 use Rattle.heap_run.proofs.Settling.{at-rest, driver-idle, driving-now, pairs-own}
 use Rattle.heap_run.proofs.Running.{known-all}
+use Rattle.heap_run.proofs.Telling.{HasMarked, counting-marked, profiled-marked, told-marked}
 
 -- ---- the reset
 
@@ -174,17 +175,13 @@ next-driving start procs e f pairs driving is =
 -- What a mark end's calls left.
 pub record MarkRan (t : Trace) (c : ℕ) (old new : Run) (e : Hand) (marks : MarkSet) (pairs : List (ℕ × ℕ)) : Type 0 where
   pub reset : HasReset old.procs.items old.driver e
-  pub found : AreMarksOf t (suc c) old.answers new.sampled new.buckets marks
   pub same : pairs ≡ marks.pairs
   pub worker : new.driver.worker ≡ after_next pairs e.worker
-  pub notes : new.driver.notes ≡ old.driver.notes
+  pub notes : new.driver.notes.items ≡ old.driver.notes.items
   pub shared : new.shared ≡ old.shared
   pub procs : new.procs ≡ old.procs
-  pub marks_are : new.marks ≡ marks
-  pub answers : new.answers ≡ old.answers
   pub sweeps : new.sweeps ≡ old.sweeps
-  pub sampled : length new.sampled ≤ length new.answers
-  pub buckets : length new.buckets ≡ length new.sampled
+  pub profile : HasMarked t c old new marks
   pub kept : length new.places ≡ objects_before t (suc c)
   pub places : AreFound t new.answers new.places
 
@@ -210,16 +207,17 @@ mark-begins t c old new e marks pairs ran m =
         generation = (let a = ap (λ (w : Seen). w.view.generation) m.worker in let b = r.driving.same.generation in let g = s.generation in omega arith);
         driving = rw m.procs (next-driving old.driver.worker old.procs.items e new.driver pairs r.driving m.worker);
         procs = rw m.procs s.procs;
-        notes = ap (λ r. r.items) m.notes ∙ s.notes;
-        sampled = m.sampled;
-        buckets = m.buckets;
+        notes = m.notes ∙ s.notes;
         kept = m.kept;
         found = m.places;
       };
       objects = ran.objects;
-      asked = rw m.answers ran.asked;
+      asked = rw m.profile.answers ran.asked;
       began = began;
-      marked = λ x cycle be mk. next-marks t c old ran.past ran.objects new.sampled new.buckets marks pairs x ran.reached.run ran.asked m.found m.same cycle (be ∙ before) (mk ∙ ap (λ (l : List (ℕ × ℕ)). has_pair l) marked);
-      marks = ap (λ (x : MarkSet). x.pairs) m.marks_are ∙ sym m.same ∙ sym marked;
+      marked = λ x cycle be mk. next-marks t c old ran.past ran.objects old.sampled old.buckets marks pairs x ran.reached.run ran.asked m.profile.found m.same cycle (be ∙ before) (mk ∙ ap (λ (l : List (ℕ × ℕ)). has_pair l) marked);
+      marks = ap (λ (x : MarkSet). x.pairs) m.profile.marks_are ∙ sym m.same ∙ sym marked;
       blank = λ w. ap (λ (x : Seen). (part_at x w).log) m.worker ∙ ap (λ (h : Part). h.log) (next-part e.worker pairs w);
+      profiled = profiled-marked t c old new marks ran.past ran.objects (has_pair (allocated_pairs old.driver.worker.number old.driver.worker.view)) (reverse old.sweeps) ran.reached ran.asked ran.profiled ran.counted ran.told m.profile before;
+      counting = counting-marked t c old new marks ran.past ran.objects (has_pair (allocated_pairs old.driver.worker.number old.driver.worker.view)) (reverse old.sweeps) ran.reached ran.asked ran.profiled ran.counted ran.told m.profile before;
+      told = told-marked t c old new marks ran.past ran.objects (has_pair (allocated_pairs old.driver.worker.number old.driver.worker.view)) (reverse old.sweeps) ran.reached ran.asked ran.profiled ran.counted ran.told m.profile before;
     }

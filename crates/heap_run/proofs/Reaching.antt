@@ -56,7 +56,7 @@ ends-with region goal e news notes h = record {
   marks_open = h.marks_open;
 }
 
-map-reverse : {X Y : Type 0} (f : X → Y) (xs : List X) → map f (reverse xs) ≡ reverse (map f xs)
+pub map-reverse : {X Y : Type 0} (f : X → Y) (xs : List X) → map f (reverse xs) ≡ reverse (map f xs)
 map-reverse f [] = refl
 map-reverse f (x ∷ xs) =
     ap (λ (l : List _). map f l) (reverse-append (x ∷ []) xs) ∙ map-append f (reverse xs) (x ∷ []) ∙ ap (λ (l : List _). l ++ f x ∷ []) (map-reverse f xs) ∙ sym (reverse-append (f x ∷ []) (map f xs))
@@ -100,16 +100,25 @@ pub record Ends (t : Trace) (c : ℕ) (d : Cycle) (objects : List Object) (answe
   pub rising : IsNonDecreasingBy (λ (n : SweepNote). n.page) sorted
   pub settled : HasSettled driver
 
--- the run as the cycle ends
-pub record Goes (t : Trace) (c : ℕ) (answers more : List Answer) (sweeps sorted : List SweepNote) (driver : Seen) : Type 0 where
-  pub objects : List Object
+-- the run as the cycle ends, with what is new of it
+pub record Goes (t : Trace) (c : ℕ) (d : Cycle) (objects : List Object) (answers more : List Answer) (sweeps sorted : List SweepNote) (driver : Seen) : Type 0 where
+  pub news : List Object
   pub past : List Line
-  pub asked : AreObjectsBefore t (suc c) (answers ++ more) objects
-  pub reached : Reached (marked_by t) (region_of t) t.header.goal c past objects (reverse (sweeps ++ sorted)) (has_pair (allocated_pairs driver.number driver.view))
+  pub asked : AreObjectsBefore t (suc c) (answers ++ more) (news ++ objects)
+  pub reached : Reached (marked_by t) (region_of t) t.header.goal c past (news ++ objects) (reverse (sweeps ++ sorted)) (has_pair (allocated_pairs driver.number driver.view))
   pub journal : driver.view.own.journal ≡ Some past
+  pub answered : AreAnsweredFrom (length (requests_before t c)) (map (request_in c) (reverse (get_or t.cycles c d).events)) news
+  pub printed : map (λ (o : Object). o.answer) news ≡ reverse more
+  pub e : CycleSoFar
+  pub cycle : e.cycle ≡ c
+  pub before : e.before ≡ driver.view.before
+  pub news_are : e.news ≡ news
+  pub notes_are : e.notes ≡ reverse sorted
+  pub facts : Facts (marked_by t) (region_of t) t.header.goal objects e
+  pub began : Began (marked_by t) (region_of t) t.header.goal e.cycle e.before objects (reverse sweeps) e.carried
 
 pub goes-on : (t : Trace) (c : ℕ) (d : Cycle) (objects : List Object) (answers more : List Answer) (queues : List (List Event)) (given : List (List Answer)) (sweeps collected sorted : List SweepNote) (driver : Seen)
-    → Ends t c d objects answers more queues given sweeps collected sorted driver → Goes t c answers more sweeps sorted driver
+    → Ends t c d objects answers more queues given sweeps collected sorted driver → Goes t c d objects answers more sweeps sorted driver
 goes-on t c d objects answers more queues given sweeps collected sorted driver h =
     let s = h.settled in
     let e0 = s.e in
@@ -154,7 +163,7 @@ goes-on t c d objects answers more queues given sweeps collected sorted driver h
     (subst (λ (f : ℕ → ℕ → Bool). Reached (marked_by t) (region_of t) t.header.goal e0.cycle (past_after e0) (news ++ objects) (reverse sorted ++ reverse sweeps) f) s.bits reached)) in
     let next : take (suc c) t.cycles ≡ done ++ cyc ∷ [] = (let n : c + 1 ≡ suc c = omega arith in ap (λ (k : ℕ). take k t.cycles) (sym n) ∙ take_more t.cycles c d h.inside) in
     record {
-      objects = news ++ objects;
+      news = news;
       past = past_after e0;
       asked = record {
         asked = subst (λ (l : List Cycle). AreAnswered (reverse (requests_from 0 l)) (news ++ objects)) (sym next) (answered-next done cyc objects news h.asked.asked turned');
@@ -163,6 +172,15 @@ goes-on t c d objects answers more queues given sweeps collected sorted driver h
       };
       reached = reached';
       journal = s.journal;
+      answered = are.asked;
+      printed = are.printed;
+      e = e;
+      cycle = e_cycle;
+      before = s.before;
+      news_are = refl;
+      notes_are = refl;
+      facts = facts;
+      began = began;
     }
   where
     in-requests : (c : ℕ) (events : List Event) (r : Request) → In r (map (request_in c) events) → r.cycle ≡ c

@@ -37,8 +37,9 @@ use Rattle.cycle_history.specs.Found.{AreFound}
 use Rattle.cycle_history.specs.Marked.{AreObjectsBefore, IsLimited}
 use Rattle.cycle_history.specs.Objects.{Object}
 use Rattle.cycle_history.specs.Requests.{last_cycle, marked_by, region_of}
-use Rattle.cycle_history.specs.Sound.{IsSoundAndUsed, past_in}
+use Rattle.cycle_history.specs.Sound.{HasAnswers, HasForm, IsSoundAndUsed, past_in}
 use Rattle.cycle_history.specs.Sweeps.{AreTotals}
+use Rattle.cycle_history.proofs.Firsts.{before-le}
 use Rattle.cycle_history.proofs.Found.{found-kept}
 use Rattle.cycle_history.proofs.OfObjects.{answers-before}
 use Rattle.run_laws.specs.Reached.{Began, Reached}
@@ -54,7 +55,11 @@ use Rattle.heap_run.specs.Turns.{HaveAnswered, IsCaching, IsCollecting, IsDrivin
 use Rattle.heap_run.specs.declared.run.Run.{Run}
 use Rattle.heap_run.proofs.Acted.{tells-length}
 use Rattle.heap_run.proofs.Driving.{same-refl}
+use Rattle.heap_run.proofs.Profiling.{HasTallied, counted-next, profiled-next, told-next}
+use Rattle.heap_run.proofs.Telling.{objects-few, profile-in}
+use Rattle.heap_run.proofs.Last.{tells-last}
 use Rattle.heap_run.proofs.Reaching.{Ends, goes-on}
+use Rattle.profile_lines.specs.Read.{all_lines}
 use Rattle.heap_run.proofs.Settling.{driving-now}
 use Rattle.heap_run.proofs.Swept.{collected-none}
 
@@ -254,9 +259,8 @@ pub record CycleRan (t : Trace) (c : ℕ) (d : Cycle) (old new : Run) (queues : 
   pub worker : new.driver.worker ≡ ended.worker
   pub notes : new.driver.notes.items ≡ []
   pub shared : new.shared ≡ old.shared
-  pub sampled : new.sampled ≡ old.sampled
-  pub buckets : new.buckets ≡ old.buckets
   pub places : new.places ≡ old.places
+  pub tallied : HasTallied t c d old new queues given more ended
 
 pub cycle-run : (t : Trace) (c : ℕ) (d : Cycle) (old new : Run) (queues : List (List Event)) (given : List (List Answer)) (ended : Hand) → WithinLimits t → HasBegun t c old → CycleRan t c d old new queues given ended → HasRun t c new
 cycle-run t c d old new queues given ended limits begun ran =
@@ -299,19 +303,22 @@ cycle-run t c d old new queues given ended limits begun ran =
         driving = drives-on old.driver.worker new.procs.items ended new.driver ran.worker w.driving;
         procs = ran.procs ∙ s.procs;
         notes = ran.notes;
-        sampled = (let a = ap (λ (l : List Bool). length l) ran.sampled in let b = s.sampled in let e = ap (λ (l : List Answer). length l) ran.grown in omega arith);
-        buckets = (let a = ap (λ (l : List Bool). length l) ran.sampled in let b = ap (λ (l : List ℕ). length l) ran.buckets in let e = s.buckets in omega arith);
         kept = ap (λ (l : List (Option Place)). length l) ran.places ∙ s.kept;
         found = subst (λ (l : List Answer). AreFound t l new.places) (sym ran.grown) (subst (λ (l : List (Option Place)). AreFound t (old.answers ++ ran.more) l) (sym ran.places)
             (found-kept t old.answers ran.more old.places (let k = s.kept in omega arith) s.found));
       };
-      objects = goes.objects;
+      objects = goes.news ++ begun.objects;
       past = goes.past;
-      asked = subst (λ (l : List Answer). AreObjectsBefore t (suc c) l goes.objects) (sym ran.grown) goes.asked;
-      reached = subst (λ (l : List SweepNote). Reached (marked_by t) (region_of t) t.header.goal c goes.past goes.objects (reverse l) (has_pair (allocated_pairs new.driver.worker.number new.driver.worker.view))) (sym ran.filed)
-          (subst (λ (x : Seen). Reached (marked_by t) (region_of t) t.header.goal c goes.past goes.objects (reverse (old.sweeps ++ ran.sorted)) (has_pair (allocated_pairs x.number x.view))) (sym ran.worker) goes.reached);
+      asked = subst (λ (l : List Answer). AreObjectsBefore t (suc c) l (goes.news ++ begun.objects)) (sym ran.grown) goes.asked;
+      reached = subst (λ (l : List SweepNote). Reached (marked_by t) (region_of t) t.header.goal c goes.past (goes.news ++ begun.objects) (reverse l) (has_pair (allocated_pairs new.driver.worker.number new.driver.worker.view))) (sym ran.filed)
+          (subst (λ (x : Seen). Reached (marked_by t) (region_of t) t.header.goal c goes.past (goes.news ++ begun.objects) (reverse (old.sweeps ++ ran.sorted)) (has_pair (allocated_pairs x.number x.view))) (sym ran.worker) goes.reached);
       journal = ap (λ (x : Seen). x.view.own.journal) ran.worker ∙ goes.journal;
       flushed = subst (λ (x : Seen). HasFlushed new.procs.items x) (sym ran.worker) w.flushed;
+      last = tells-last t c d queues given old.answers ran.more new.answers old.sweeps ran.sorted ended.notes.items new.sweeps v new.driver.worker ran.inside before ran.grown ran.filed ran.worker w.answered ran.queued ran.merged
+          (subst (λ (k : ℕ). AreCollected k (λ i. (part_at v i).log) ended.notes.items) now w.collecting) ran.permutation begun.began.notes_older;
+      profiled = profiled-next t c d old new queues given ran.more ran.sorted ended ran.inside begun ran.queued ran.long ran.merged ran.procs ran.permutation ran.grown same.before ran.tallied goes;
+      counted = counted-next t c d old new queues given ran.more ran.sorted ended ran.inside begun ran.queued ran.long ran.merged ran.procs ran.permutation ran.grown same.before ran.tallied goes;
+      told = told-next t c d old new queues given ran.more ran.sorted ended ran.inside begun ran.queued ran.long ran.merged ran.procs ran.permutation ran.grown same.before ran.tallied goes;
     }
 
 -- ---- the report
@@ -330,13 +337,27 @@ all-answers t answers objects least asked =
     answers-before t (suc (last_cycle t)) answers objects asked ∙ ap (λ (cs : List Cycle). length (flat_map (λ (x : Cycle). x.events) cs)) all
 
 pub report-sound : (t : Trace) (run : Run) (report : Report) (past : List Line) → WithinLimits t → HasRun t (last_cycle t) run → run.driver.worker.view.own.journal ≡ Some past → past_in report ≡ past → report.answers ≡ run.answers → report.sweeps ≡ run.sweeps
-    → ((objects : List Object) → AreObjectsOf t run.answers objects → AreTotals (marked_by t) (last_cycle t) objects report.totals) → IsSoundAndUsed t report
-report-sound t run report past limits ran told journal printed sweeps totals =
+    → ((objects : List Object) → AreObjectsOf t run.answers objects → AreTotals (marked_by t) (last_cycle t) objects report.totals)
+    → report.profile ≡ run.profile.lines ++ all_lines run.profile.known run.driver.tally.view.calls (last_cycle t) run.profile.order → IsSoundAndUsed t report × HasForm t report run.profile.each
+report-sound t run report past limits ran told journal printed sweeps totals lines =
     let least = some-cycle 0 (λ _. ⊥) t.cycles limits.cycles in
     let all = run-all t run.answers ran.objects least ran.asked in
     let one : Some ran.past ≡ Some past = sym ran.journal ∙ told in
     let same : ran.past ≡ past = cc in
     let reached : Reached (marked_by t) (region_of t) t.header.goal (last_cycle t) (past_in report) ran.objects (reverse run.sweeps) (has_pair (allocated_pairs run.driver.worker.number run.driver.worker.view)) =
     subst (λ (l : List Line). Reached (marked_by t) (region_of t) t.header.goal (last_cycle t) l ran.objects (reverse run.sweeps) (has_pair (allocated_pairs run.driver.worker.number run.driver.worker.view))) (same ∙ sym journal) ran.reached in
-    reached-sound t report ran.objects (reverse run.sweeps) (has_pair (allocated_pairs run.driver.worker.number run.driver.worker.view)) reached
-    (record { asked = all.asked; printed = all.printed ∙ ap (λ (l : List Answer). reverse l) (sym printed) }) (sweeps ∙ sym (reverse-reverse run.sweeps)) (totals ran.objects all)
+    let answers : HasAnswers t report ran.objects = record { asked = all.asked; printed = all.printed ∙ ap (λ (l : List Answer). reverse l) (sym printed) } in
+    let profile = profile-in t run report ran.objects ran.asked ran.profiled ran.counted ran.told lines in
+    (
+      reached-sound t report ran.objects (reverse run.sweeps) (has_pair (allocated_pairs run.driver.worker.number run.driver.worker.view)) reached answers (sweeps ∙ sym (reverse-reverse run.sweeps)) (totals ran.objects all)
+      (run.profile.each, profile),
+      (ran.objects, answers, profile),
+    )
+
+-- the objects of a run are few
+pub few-answers : (t : Trace) (c : ℕ) (run : Run) → WithinLimits t → c < length t.cycles → HasRun t c run → (objects : List Object) → AreObjectsBefore t (suc c) run.answers objects → length objects < 2 ^ 64
+few-answers t c run limits inside ran objects asked =
+    let all = answers-before t (suc c) run.answers objects asked in
+    let most = before-le t (suc c) in
+    let few = limits.objects in
+    objects-few t (suc c) run.answers objects (2 ^ 64) asked (let big : 1000000 < 2 ^ 64 = omega arith in omega arith)

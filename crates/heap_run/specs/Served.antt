@@ -1,25 +1,15 @@
 -- What a worker's log tells of the answers to its processor's events. Events, answers and logs have the newest first.
-use Rattle.std.specs.Prelude.{◌≡◌, ℕ, ◌+◌, ◌*◌, ◌<◌, ◌≤◌, ◌==◌, if◌then◌else◌, List, [], ◌∷◌}
+use Rattle.std.specs.Prelude.{◌≡◌, ℕ, ◌+◌, ◌*◌, ◌<◌, ◌≤◌, List, [], ◌∷◌}
 use Rattle.page_bitmap.specs.declared.line.Line.TheVariants.{Take}
 use Rattle.page_alloc.specs.Lists.{In}
 use Rattle.trace_reader.specs.declared.trace.Event.{Event}
 use Rattle.cycle_history.specs.declared.Answer.{Answer}
 use Rattle.cycle_history.specs.declared.Answer.TheVariants.{Placed, Zero, Missed}
 use Rattle.cycle_history.specs.Needs.{Need, IsNeed}
+pub use Rattle.sample_laws.specs.By.{answers_by, events_by}
 use Rattle.worker_log.specs.declared.Entry.{Entry}
 use Rattle.worker_log.specs.declared.Placing.{Placing}
 use Rattle.worker_log.specs.Logs.{Refusal, Taking, placings, refusals, takings}
-
--- The events of a processor, in their order.
-abbrev pub events_by : ℕ → List Event → List Event
-events_by w [] = []
-events_by w (e ∷ events) = if e.proc == w then e ∷ events_by w events else events_by w events
-
--- The answers to the events of a processor, in their order.
-abbrev pub answers_by : ℕ → List Event → List Answer → List Answer
-answers_by w [] answers = []
-answers_by w (e ∷ events) [] = []
-answers_by w (e ∷ events) (a ∷ answers) = if e.proc == w then a ∷ answers_by w events answers else answers_by w events answers
 
 -- A run of so many pages was taken for a large object's life, as a line tells.
 abbrev pub IsTakenFor : List Taking → ℕ → Need → Type 0

@@ -10,6 +10,7 @@ use Rattle.span_laws.specs.Calls.{notes_of}
 use Rattle.span_laws.specs.Views.{Seen, acts}
 use Rattle.span_laws.specs.declared.view.Part.{Part}
 use Rattle.span_set.specs.declared.hand.Hand.{Hand}
+use Rattle.profile_cycle.specs.Sampling.{countdown}
 use Rattle.proc_cache.specs.Cache.{Cache}
 use Rattle.proc_cache.specs.Serves.{IsUsedCache, Serves}
 use Rattle.heap_run.specs.Parts.{IsSameRun, part_at}
@@ -58,7 +59,7 @@ HasNoCache h = h.cached ≡ []
 
 -- No cache.
 abbrev pub no_cache : Cache
-no_cache = record { number = 0; flushed = 0; slots = [] }
+no_cache = record { number = 0; flushed = 0; slots = []; countdown = countdown 0 0 0 [] }
 
 -- Since the driver had the state as it was at the start it has it again: nothing but the workers' parts changed, all workers are idle, and the
 -- caches of the processors are as their workers' parts have them; no other worker has anything cached.

@@ -5,8 +5,12 @@ ghost use Rattle.span_laws.specs.Asks.{IsIdle};
 ghost use Rattle.proc_cache.specs.Cache.{Cache};
 ghost use Rattle.heap_run.specs.Parts.{part_at};
 ghost use Rattle.heap_run.specs.Settled.{HasFlushed, HasSettled, HasWorked};
+ghost use Rattle.span_set.specs.Tallies.{MayCount};
+ghost use Rattle.sample_laws.specs.Counted.{all_counts};
+ghost use Rattle.heap_run.specs.Counts.{AreNumbered, Counts, HaveSampled, KeepCountdowns, no_counts};
 ghost use Rattle.heap_run.specs.Turns.{HaveAnswered, IsCollecting, IsDriving, KeepsAnswers, SaysNone, no_cache};
 
+use crate::queues::Queues;
 use crate::turns::{flush_processor, run_processor, run_scavenger, run_sweeper};
 use cycle_history::Answer;
 use edge_io::{Gate, List, NoMemory};
@@ -15,7 +19,13 @@ use scavenger::scavenge_to;
 use span_set::{Hand, Shop};
 use std::alloc::Global;
 use sweeper::finish;
-use trace_reader::Event;
+
+/// What the events of a cycle came to, processor by processor: their answers, and which of the objects are sampled.
+#[derive(Drop)]
+pub(crate) struct Given {
+    pub answers: Vec<List<Answer>>,
+    pub sampled: Vec<List<bool>>,
+}
 
 // The number of the first background sweeper.
 const SWEEPERS: u32 = 64;
@@ -26,30 +36,43 @@ pub(crate) fn run_processors<G: Gate>(
     shop: &Shop,
     driver: &mut Hand,
     procs: &mut Vec<Proc>,
-    queues: &[List<Event>],
+    queues: &Queues,
     gate: &G,
-) -> Result<Vec<List<Answer>>, NoMemory>
+) -> Result<Given, NoMemory>
     requires here { driver.old.worker.here ≡ true }
     requires table { driver.old.worker.table ≡ shop.now.shared.now }
     requires distance { 8192 ≤ shop.now.distance }
     requires marks { shop.now.marks.now.pairs ≡ driver.old.worker.view.marks }
     requires parts { length driver.old.worker.view.parts ≡ 70 }
-    requires count { length queues.now ≡ vec_len procs.old }
+    requires count { vec_len queues.now.events ≡ vec_len procs.old }
+    requires buckets { vec_len queues.now.buckets ≡ vec_len procs.old }
+    requires numbered { AreNumbered shop.now.ring.now.buckets queues.now.events.items queues.now.buckets.items }
     requires few { vec_len procs.old ≤ 64 }
-    requires sizes { (w : ℕ) → All (λ e. e.size ≤ 2 ^ 40) (slice_index_or queues.now w []) }
+    requires sizes { (w : ℕ) → All (λ e. e.size ≤ 2 ^ 40) (slice_index_or queues.now.events.items w []) }
     requires driving { IsDriving driver.old.worker procs.old.items driver.old }
     requires collecting { IsCollecting driver.old }
+    requires counts { MayCount shop.now.ring.now shop.now.marks.now driver.old.tally }
+    requires drives { driver.old.tally.view.drives ≡ true }
     requires quiet { (w : ℕ) → SaysNone (part_at driver.old.worker w).log }
     ensures driving { OnOk result (IsDriving driver.old.worker procs.new.items driver.new) }
     ensures procs { OnOk result (vec_len procs.new ≡ vec_len procs.old) }
     ensures collecting { OnOk result (IsCollecting driver.new) }
-    ensures answered { IfOk result (λ given. HaveAnswered queues.now given.items driver.new.worker) }
-    ensures size { IfOk result (λ given. vec_len given ≡ vec_len procs.old) }
+    ensures answered { IfOk result (λ given. HaveAnswered queues.now.events.items given.answers.items driver.new.worker) }
+    ensures size { IfOk result (λ given. (vec_len given.answers ≡ vec_len procs.old) × (vec_len given.sampled ≡ vec_len procs.old)) }
+    ensures sampled { IfOk result (λ given. HaveSampled queues.now.events.items given.answers.items given.sampled.items procs.old.items procs.new.items) }
+    ensures counts { IfOk result (λ given. Counts shop.now.marks.now (all_counts (vec_len procs.old) given.sampled.items queues.now.buckets.items) driver.old driver.new) }
 {
-    let mut given = Vec::new(alloc);
-    for p in 0..queues.len() {
-        let events = queues[p].as_slice();
-        given.push(run_processor(alloc, shop, driver, &mut procs[p], events, gate)?)?;
+    let mut given = Given {
+        answers: Vec::new(alloc),
+        sampled: Vec::new(alloc),
+    };
+    for p in 0..procs.len() {
+        let events = queues.events[p].as_slice();
+        let buckets = queues.buckets[p].as_slice();
+        let proc = &mut procs[p];
+        let outcomes = run_processor(alloc, shop, driver, proc, events, buckets, gate)?;
+        given.answers.push(outcomes.answers)?;
+        given.sampled.push(outcomes.sampled)?;
     }
     Ok(given)
 }
@@ -69,11 +92,15 @@ pub(crate) fn flush_processors(
     requires few { vec_len procs.old ≤ 64 }
     requires driving { IsDriving driver.old.worker procs.old.items driver.old }
     requires collecting { IsCollecting driver.old }
+    requires counts { MayCount shop.now.ring.now shop.now.marks.now driver.old.tally }
+    requires drives { driver.old.tally.view.drives ≡ true }
     ensures driving { OnOk result (IsDriving driver.old.worker procs.new.items driver.new) }
     ensures procs { OnOk result (vec_len procs.new ≡ vec_len procs.old) }
     ensures collecting { OnOk result (IsCollecting driver.new) }
     ensures keeps { OnOk result (KeepsAnswers driver.old.worker driver.new.worker) }
     ensures flushed { OnOk result ((i : ℕ) → i < vec_len procs.new → (slice_index_or procs.new.items i no_cache).flushed ≡ driver.old.worker.view.generation) }
+    ensures countdowns { OnOk result (KeepCountdowns procs.old.items procs.new.items) }
+    ensures counts { OnOk result (Counts shop.now.marks.now no_counts driver.old driver.new) }
     ensures own { OnOk result (part_at driver.new.worker 69 ≡ part_at driver.old.worker 69) }
 {
     for p in 0..procs.len() {
@@ -99,8 +126,11 @@ pub(crate) fn run_sweepers<G: Gate>(
     requires driver { driver.old.worker.number ≡ 69 }
     requires idle { (i : ℕ) → IsIdle (part_at driver.old.worker i) }
     requires collecting { IsCollecting driver.old }
+    requires counts { MayCount shop.now.ring.now shop.now.marks.now driver.old.tally }
+    requires drives { driver.old.tally.view.drives ≡ true }
     ensures driving { OnOk result ((procs : Items Cache) → length procs ≤ 64 → IsDriving driver.old.worker procs driver.old → IsDriving driver.old.worker procs driver.new) }
     ensures collecting { OnOk result (IsCollecting driver.new) }
+    ensures counts { OnOk result (Counts shop.now.marks.now no_counts driver.old driver.new) }
     ensures keeps { OnOk result (KeepsAnswers driver.old.worker driver.new.worker) }
 {
     for number in SWEEPERS..SWEEPERS + background {
@@ -124,11 +154,15 @@ pub(crate) fn end_cycle(
     requires few { vec_len procs.old ≤ 64 }
     requires driving { IsDriving driver.old.worker procs.old.items driver.old }
     requires collecting { IsCollecting driver.old }
+    requires counts { MayCount shop.now.ring.now shop.now.marks.now driver.old.tally }
+    requires drives { driver.old.tally.view.drives ≡ true }
     ensures driving { OnOk result (IsDriving driver.old.worker procs.new.items driver.new) }
     ensures procs { OnOk result (vec_len procs.new ≡ vec_len procs.old) }
     ensures collecting { OnOk result (IsCollecting driver.new) }
     ensures keeps { OnOk result (KeepsAnswers driver.old.worker driver.new.worker) }
     ensures flushed { OnOk result (HasFlushed procs.new.items driver.new.worker) }
+    ensures countdowns { OnOk result (KeepCountdowns procs.old.items procs.new.items) }
+    ensures counts { OnOk result (Counts shop.now.marks.now no_counts driver.old driver.new) }
     ensures settled { OnOk result (HasSettled driver.new.worker) }
 {
     finish(shop, driver)?;
@@ -144,25 +178,31 @@ pub(crate) fn run_workers<G: Gate>(
     shop: &Shop,
     driver: &mut Hand,
     procs: &mut Vec<Proc>,
-    queues: &[List<Event>],
+    queues: &Queues,
     background: u32,
     gate: &G,
-) -> Result<Vec<List<Answer>>, NoMemory>
+) -> Result<Given, NoMemory>
     requires here { driver.old.worker.here ≡ true }
     requires table { driver.old.worker.table ≡ shop.now.shared.now }
     requires distance { 8192 ≤ shop.now.distance }
     requires marks { shop.now.marks.now.pairs ≡ driver.old.worker.view.marks }
     requires parts { length driver.old.worker.view.parts ≡ 70 }
-    requires count { length queues.now ≡ vec_len procs.old }
+    requires count { vec_len queues.now.events ≡ vec_len procs.old }
+    requires buckets { vec_len queues.now.buckets ≡ vec_len procs.old }
+    requires numbered { AreNumbered shop.now.ring.now.buckets queues.now.events.items queues.now.buckets.items }
     requires few { vec_len procs.old ≤ 64 }
     requires background { background ≤ 4 }
-    requires sizes { (w : ℕ) → All (λ e. e.size ≤ 2 ^ 40) (slice_index_or queues.now w []) }
+    requires sizes { (w : ℕ) → All (λ e. e.size ≤ 2 ^ 40) (slice_index_or queues.now.events.items w []) }
     requires driving { IsDriving driver.old.worker procs.old.items driver.old }
     requires collecting { IsCollecting driver.old }
+    requires counts { MayCount shop.now.ring.now shop.now.marks.now driver.old.tally }
+    requires drives { driver.old.tally.view.drives ≡ true }
     requires quiet { (w : ℕ) → SaysNone (part_at driver.old.worker w).log }
-    ensures ran { IfOk result (λ given. HasWorked queues.now given.items driver.old procs.new.items driver.new) }
+    ensures ran { IfOk result (λ given. HasWorked queues.now.events.items given.answers.items driver.old procs.new.items driver.new) }
     ensures procs { OnOk result (vec_len procs.new ≡ vec_len procs.old) }
-    ensures size { IfOk result (λ given. vec_len given ≡ vec_len procs.old) }
+    ensures size { IfOk result (λ given. (vec_len given.answers ≡ vec_len procs.old) × (vec_len given.sampled ≡ vec_len procs.old)) }
+    ensures sampled { IfOk result (λ given. HaveSampled queues.now.events.items given.answers.items given.sampled.items procs.old.items procs.new.items) }
+    ensures counts { IfOk result (λ given. Counts shop.now.marks.now (all_counts (vec_len procs.old) given.sampled.items queues.now.buckets.items) driver.old driver.new) }
 {
     let given = run_processors(alloc, shop, driver, procs, queues, gate)?;
     run_sweepers(alloc, shop, driver, background, gate)?;

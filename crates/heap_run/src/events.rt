@@ -1,28 +1,40 @@
 //! The events of a processor in a cycle.
 
-ghost use Rattle.std.specs.Prelude.{◌≡◌, ◌^◌, ◌≤◌, [], ◌∷◌, All, reverse, true, IfOk, OnOk};
+ghost use Rattle.std.specs.Prelude.{◌≡◌, ◌^◌, ◌<◌, ◌≤◌, [], ◌∷◌, All, length, reverse, true, false, IfOk, OnOk};
 ghost use Rattle.span_laws.specs.Asks.{IsIdle};
+ghost use Rattle.span_set.specs.Tallies.{MayCount};
+ghost use Rattle.sample_laws.specs.Counted.{one_count, sampled_counts};
+ghost use Rattle.sample_laws.specs.Countdowns.{flag, flags, spends, spent};
+ghost use Rattle.heap_run.specs.Counts.{Counts};
 ghost use Rattle.heap_run.specs.Turns.{HasActed, IsCaching, SaysAnswers};
 
 use cycle_history::Answer;
 use edge_io::{Gate, List, NoMemory};
 use large_objects::alloc_large;
-use proc_cache::{Proc, Refused, alloc, flush};
-use size_classes::{Kind, class_of, span_class};
+use proc_cache::{Proc, Refused, alloc, count_placed, flush};
+use size_classes::{Kind, PAGE_SIZE, class_of, span_class};
 use span_set::{Hand, Shop};
 use std::alloc::Global;
 use trace_reader::Event;
 
-/// Answers the events of a processor in a cycle, in their order. Before each it passes the gate, with the processor's number and
-/// the event's place among these.
+/// What the events of a processor came to: their answers, and which of the objects are sampled.
+#[derive(Drop)]
+pub(crate) struct Outcomes {
+    pub answers: List<Answer>,
+    pub sampled: List<bool>,
+}
+
+/// Answers the events of a processor in a cycle, in their order, which have buckets with these numbers. Before each it passes the gate,
+/// with the processor's number and the event's place among these.
 pub(crate) fn answer_all<G: Gate>(
     alloc: Global,
     shop: &Shop,
     proc: &mut Proc,
     hand: &mut Hand,
     events: &[Event],
+    buckets: &[u32],
     gate: &G,
-) -> Result<List<Answer>, NoMemory>
+) -> Result<Outcomes, NoMemory>
     requires here { hand.old.worker.here ≡ true }
     requires table { hand.old.worker.table ≡ shop.now.shared.now }
     requires distance { 8192 ≤ shop.now.distance }
@@ -30,20 +42,37 @@ pub(crate) fn answer_all<G: Gate>(
     requires idle { IsIdle hand.old.worker.view.own }
     requires caching { IsCaching hand.old.worker.view.generation hand.old.worker.view.own proc.old }
     requires sizes { All (λ e. e.size ≤ 2 ^ 40) events.now }
-    ensures acted { IfOk result (λ answers. HasActed (SaysAnswers (reverse events.now) (reverse answers)) hand.old hand.new) }
+    requires counts { MayCount shop.now.ring.now shop.now.marks.now hand.old.tally }
+    requires buckets { length buckets.now ≡ length events.now }
+    requires known { All (λ b. b < shop.now.ring.now.buckets) buckets.now }
+    ensures acted { IfOk result (λ o. HasActed (SaysAnswers (reverse events.now) (reverse o.answers)) hand.old hand.new) }
     ensures caching { OnOk result (IsCaching hand.old.worker.view.generation hand.new.worker.view.own proc.new) }
     ensures number { OnOk result (proc.new.number ≡ proc.old.number) }
+    ensures sampled { IfOk result (λ o. reverse o.sampled ≡ flags proc.old.countdown (reverse events.now) (reverse o.answers)) }
+    ensures spent { IfOk result (λ o. proc.new.countdown ≡ spent proc.old.countdown (reverse events.now) (reverse o.answers)) }
+    ensures counts { IfOk result (λ o. Counts shop.now.marks.now (sampled_counts o.sampled buckets.now) hand.old hand.new) }
 {
-    let mut answers = List::new(alloc);
+    let mut outcomes = Outcomes {
+        answers: List::new(alloc),
+        sampled: List::new(alloc),
+    };
     for (turn, event) in events.iter().enumerate() {
         gate.before(proc.number(), turn as u64);
-        answers.push(answer(shop, proc, hand, event)?)?;
+        let (answer, sampled) = answer(shop, proc, hand, event, buckets[turn])?;
+        outcomes.answers.push(answer)?;
+        outcomes.sampled.push(sampled)?;
     }
-    Ok(answers)
+    Ok(outcomes)
 }
 
-// Answers one event.
-fn answer(shop: &Shop, proc: &mut Proc, hand: &mut Hand, event: &Event) -> Result<Answer, NoMemory>
+// Answers one event, which has a bucket of this number, and says whether its object is sampled.
+fn answer(
+    shop: &Shop,
+    proc: &mut Proc,
+    hand: &mut Hand,
+    event: &Event,
+    bucket: u32,
+) -> Result<(Answer, bool), NoMemory>
     requires here { hand.old.worker.here ≡ true }
     requires table { hand.old.worker.table ≡ shop.now.shared.now }
     requires distance { 8192 ≤ shop.now.distance }
@@ -51,22 +80,31 @@ fn answer(shop: &Shop, proc: &mut Proc, hand: &mut Hand, event: &Event) -> Resul
     requires idle { IsIdle hand.old.worker.view.own }
     requires caching { IsCaching hand.old.worker.view.generation hand.old.worker.view.own proc.old }
     requires size { event.now.size ≤ 2 ^ 40 }
-    ensures acted { IfOk result (λ answer. HasActed (SaysAnswers (event.now ∷ []) (answer ∷ [])) hand.old hand.new) }
+    requires counts { MayCount shop.now.ring.now shop.now.marks.now hand.old.tally }
+    requires bucket { bucket < shop.now.ring.now.buckets }
+    ensures acted { IfOk result (λ o. HasActed (SaysAnswers (event.now ∷ []) (o.0 ∷ [])) hand.old hand.new) }
     ensures caching { OnOk result (IsCaching hand.old.worker.view.generation hand.new.worker.view.own proc.new) }
     ensures number { OnOk result (proc.new.number ≡ proc.old.number) }
+    ensures sampled { IfOk result (λ o. o.1 ≡ flag proc.old.countdown event.now o.0) }
+    ensures spent { IfOk result (λ o. proc.new.countdown ≡ spends proc.old.countdown event.now o.0) }
+    ensures counts { IfOk result (λ o. Counts shop.now.marks.now (one_count o.1 bucket) hand.old hand.new) }
 {
     match class_of(event.size) {
-        Kind::Zero => Ok(Answer::Zero),
-        Kind::Small(_) => match alloc(proc, shop, hand, *event, 0) {
-            Ok(placed) => Ok(Answer::Placed(placed.addr)),
-            Err(Refused::NoRun { line }) => Ok(Answer::Missed(line)),
+        Kind::Zero => Ok((Answer::Zero, false)),
+        Kind::Small(_) => match alloc(proc, shop, hand, *event, bucket) {
+            Ok(placed) => Ok((Answer::Placed(placed.addr), placed.sampled)),
+            Err(Refused::NoRun { line }) => Ok((Answer::Missed(line), false)),
             Err(Refused::NoMemory) => Err(NoMemory),
         },
         Kind::Large(pages) => {
             flush(proc, shop, hand)?;
             match alloc_large(shop, hand, pages, span_class(0, event.scan)) {
-                Ok(addr) => Ok(Answer::Placed(addr)),
-                Err(Refused::NoRun { line }) => Ok(Answer::Missed(line)),
+                Ok(addr) => {
+                    let slot = PAGE_SIZE * u64::from(pages);
+                    let sampled = count_placed(proc, shop, hand, slot, bucket);
+                    Ok((Answer::Placed(addr), sampled))
+                }
+                Err(Refused::NoRun { line }) => Ok((Answer::Missed(line), false)),
                 Err(Refused::NoMemory) => Err(NoMemory),
             }
         }

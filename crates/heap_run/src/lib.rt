@@ -10,6 +10,7 @@
 mod cycle;
 mod events;
 mod merge;
+mod profile;
 mod queues;
 mod run;
 mod sorting;

@@ -1,25 +1,23 @@
-//! The answers of a cycle, from those of each processor.
+//! What a cycle's events came to, from what each processor gave.
 
 ghost use Rattle.std.specs.Prelude.{◌≡◌, ℕ, ◌<◌, ◌++◌, [], All, List as Items, length, slice_index_or, OnOk};
-ghost use Rattle.cycle_history.specs.declared.Answer.{Answer};
 ghost use Rattle.heap_run.specs.Served.{answers_by, events_by};
 
-use cycle_history::Answer;
 use edge_io::{List, NoMemory};
 use std::alloc::Global;
 use trace_reader::Event;
 
-/// Puts the answers to a cycle's events, which each processor gave in the order of its own, behind those before, in the order of
-/// all events.
-pub(crate) fn merge(
+/// Puts what came of a cycle's events, which each processor gave in the order of its own, behind what came before, in the order
+/// of all events.
+pub(crate) fn merge<T: Copy + Drop>(
     alloc: Global,
     events: &[Event],
-    given: &[List<Answer>],
-    answers: &mut List<Answer>,
+    given: &[List<T>],
+    merged: &mut List<T>,
 ) -> Result<(), NoMemory>
     requires below { All (λ e. e.proc < length given.now) events.now }
     requires sizes { (w : ℕ) → length (slice_index_or given.now w []) ≡ length (events_by w events.now) }
-    ensures { OnOk result ((more : Items Answer) × (answers.new ≡ answers.old ++ more) × (length more ≡ length events.now)
+    ensures { OnOk result ((more : Items T) × (merged.new ≡ merged.old ++ more) × (length more ≡ length events.now)
         × ((w : ℕ) → answers_by w events.now more ≡ slice_index_or given.now w [])) }
 {
     let mut next = vec![in alloc; 0usize; given.len()]?;
@@ -27,7 +25,7 @@ pub(crate) fn merge(
         let proc = event.proc as usize;
         let at = next[proc];
         next[proc] = at + 1;
-        answers.push(given[proc].as_slice()[at])?;
+        merged.push(given[proc].as_slice()[at])?;
     }
     Ok(())
 }

@@ -1,37 +1,73 @@
-//! The events of a cycle, processor by processor.
+//! The events of a cycle, processor by processor, with the numbers of their buckets.
 
-ghost use Rattle.std.specs.Prelude.{◌≡◌, ℕ, ◌<◌, [], All, length, vec_len, slice_index_or, IfOk};
+ghost use Rattle.std.specs.Prelude.{◌≡◌, ℕ, ◌<◌, ◌++◌, [], All, length, map, vec_len, slice_index_or, IfOk, OnOk};
 ghost use Rattle.heap_run.specs.Served.{events_by};
+ghost use Rattle.std.specs.List.{AllByRecursion};
+ghost use Rattle.profile_cycle.specs.Naming.{HasSize};
+ghost use Rattle.sample_laws.specs.Numbers.{number_of};
 
 use edge_io::{List, NoMemory};
+use profile_cycle::Buckets;
+use size_classes::{Kind, PAGE_SIZE, class_of, slot_size};
 use std::alloc::Global;
 use trace_reader::Event;
 
-/// A list of the events of each processor, in their order.
+/// The events of each processor, in their order, and the numbers of their buckets.
+#[derive(Drop)]
+pub(crate) struct Queues {
+    pub events: Vec<List<Event>>,
+    pub buckets: Vec<List<u32>>,
+}
+
+/// The queues of a cycle's events. The numbers of all their buckets, in the order of the events, are put behind those in `numbers`.
 pub(crate) fn queues_of(
     alloc: Global,
     procs: u32,
     events: &[Event],
-) -> Result<Vec<List<Event>>, NoMemory>
+    known: &Buckets,
+    numbers: &mut List<u32>,
+) -> Result<Queues, NoMemory>
     requires below { All (λ e. e.proc < procs) events.now }
-    ensures length { IfOk result (λ queues. vec_len queues ≡ procs) }
-    ensures queues { IfOk result (λ queues. (w : ℕ) → slice_index_or queues.items w [] ≡ events_by w events.now) }
+    requires sizes { AllByRecursion HasSize events.now }
+    ensures length { IfOk result (λ queues. (vec_len queues.events ≡ procs) × (vec_len queues.buckets ≡ procs)) }
+    ensures queues { IfOk result (λ queues. (w : ℕ) → slice_index_or queues.events.items w [] ≡ events_by w events.now) }
+    ensures buckets { IfOk result (λ queues. (w : ℕ) → slice_index_or queues.buckets.items w [] ≡ map (number_of known.now) (events_by w events.now)) }
+    ensures numbers { OnOk result (numbers.new ≡ numbers.old ++ map (number_of known.now) events.now) }
 {
-    let mut queues = no_events(alloc, procs)?;
+    let mut queues = Queues {
+        events: no_lists(alloc, procs)?,
+        buckets: no_lists(alloc, procs)?,
+    };
     for event in events {
-        queues[event.proc as usize].push(*event)?;
+        let number = bucket_of(known, event);
+        queues.events[event.proc as usize].push(*event)?;
+        queues.buckets[event.proc as usize].push(number)?;
+        numbers.push(number)?;
     }
     Ok(queues)
 }
 
-// An empty list for each processor.
-fn no_events(alloc: Global, procs: u32) -> Result<Vec<List<Event>>, NoMemory>
-    ensures length { IfOk result (λ queues. vec_len queues ≡ procs) }
-    ensures empty { IfOk result (λ queues. (w : ℕ) → slice_index_or queues.items w [] ≡ []) }
+// The number of an event's bucket. An object of size 0 has none, and gets 0.
+fn bucket_of(known: &Buckets, event: &Event) -> u32
+    requires { event.now.size ≤ 2 ^ 40 }
+    ensures { result ≡ number_of known.now event.now }
 {
-    let mut queues = Vec::new(alloc);
+    let slot = match class_of(event.size) {
+        Kind::Zero => return 0,
+        Kind::Small(class) => u64::from(slot_size(class)),
+        Kind::Large(pages) => PAGE_SIZE * u64::from(pages),
+    };
+    known.number(event.stack, slot).unwrap_or(0)
+}
+
+// An empty list for each processor.
+fn no_lists<T: Drop>(alloc: Global, procs: u32) -> Result<Vec<List<T>>, NoMemory>
+    ensures length { IfOk result (λ lists. vec_len lists ≡ procs) }
+    ensures empty { IfOk result (λ lists. (w : ℕ) → slice_index_or lists.items w [] ≡ []) }
+{
+    let mut lists = Vec::new(alloc);
     for _proc in 0..procs {
-        queues.push(List::new(alloc))?;
+        lists.push(List::new(alloc))?;
     }
-    Ok(queues)
+    Ok(lists)
 }

@@ -1,25 +1,28 @@
 //! The run of a whole trace.
 
-ghost use Rattle.std.specs.Prelude.{◌≡◌, ℕ, suc, ◌+◌, ◌<◌, ◌≤◌, [], length, slice_index_or, vec_len, IfOk, OnOk};
+ghost use Rattle.std.specs.Prelude.{◌≡◌, ℕ, suc, ◌+◌, ◌^◌, ◌<◌, ◌≤◌, [], length, slice_index_or, vec_len, IfOk, OnOk};
 ghost use Rattle.trace_reader.specs.Limits.{WithinLimits};
 ghost use Rattle.cycle_history.specs.Requests.{last_cycle};
-ghost use Rattle.cycle_history.specs.Sound.{IsSoundAndUsed};
+ghost use Rattle.cycle_history.specs.Sound.{HasForm, IsSoundAndUsed};
+ghost use Rattle.heap_run.specs.Last.{IsLeft};
 ghost use Rattle.heap_run.specs.Turns.{no_cache};
 ghost use Rattle.sweep_laws.specs.Start.{copies};
 ghost use Rattle.std.specs.Prelude.{None};
+ghost use Rattle.profile_cycle.specs.Sampling.{countdown};
 
 use crate::cycle::run_workers;
 use crate::merge::merge;
 use crate::queues::queues_of;
 use crate::sorting::file_notes;
 use cycle_history::{Answer, Place, Report, marks_of, totals_of};
+use crate::profile::Profile;
 use edge_io::{Gate, List, NoMemory};
 use proc_cache::Proc;
 use span_set::{Hand, Shop, reset};
 use span_state::{Marks, SweepNote};
 use span_table::{Shared, Worker};
 use std::alloc::Global;
-use trace_reader::Trace;
+use trace_reader::{Header, Trace};
 
 // The bytes of a mark end's distance that are left for the marking itself (`mgcpacer.go`, the heap's least trigger distance); what
 // is left paces the sweeping.
@@ -33,7 +36,7 @@ const LEAST: u64 = 8192;
 pub struct Options {
     /// How many background sweepers there are, from 0 to 4.
     pub background: u32,
-    /// Whether the profile of each mark end is told, and not that of the last one alone. It is not read until there is a profile.
+    /// Whether the profile of each mark end is told, and not that of the last one alone.
     pub each: bool,
 }
 
@@ -48,7 +51,7 @@ pub struct Ran {
     pub driver: Worker,
 }
 
-/// Runs a trace within its limits, without samples: each processor's events by its own worker, in the order of the trace. Before
+/// Runs a trace within its limits: each processor's events by its own worker, in the order of the trace. Before
 /// each event a processor passes the gate with its number and the event's place among its own of the cycle, and before their
 /// first steps in a cycle the background sweepers (64 to 67) and the scavenger (68) pass it with turn 0.
 pub fn run_trace<G: Gate>(
@@ -60,9 +63,10 @@ pub fn run_trace<G: Gate>(
     requires limits { WithinLimits trace.now }
     requires background { options.background ≤ 4 }
     ensures sound { IfOk result (λ ran. IsSoundAndUsed trace.now ran.report) }
-    ensures no_profile { IfOk result (λ ran. ran.report.profile ≡ []) }
+    ensures form { IfOk result (λ ran. HasForm trace.now ran.report options.each) }
+    ensures left { IfOk result (λ ran. IsLeft trace.now ran) }
 {
-    let mut run = Run::new(alloc, trace)?;
+    let mut run = Run::new(alloc, trace, options.each)?;
     let last = trace.cycles.len() as u32 - 1;
     for cycle in 0..last {
         run.run_cycle(alloc, trace, cycle, options.background, gate)?;
@@ -83,9 +87,10 @@ pub(crate) struct Run {
     pub(crate) marks: Marks,
     pub(crate) answers: List<Answer>,
     pub(crate) sweeps: List<SweepNote>,
-    // Whether each object is sampled, and its bucket if it is, as far as a mark end has asked. None is sampled yet.
+    // Whether each object is sampled, and the number of its bucket.
     pub(crate) sampled: List<bool>,
     pub(crate) buckets: List<u32>,
+    pub(crate) profile: Profile,
     // Where each object before the last mark end lies.
     pub(crate) places: List<Option<Place>>,
 }
@@ -94,21 +99,24 @@ impl Run {
     ghost use Rattle.heap_run.specs.Runs.{HasBegun, HasRun};
 
     // Nothing is asked yet.
-    fn new(alloc: Global, trace: &Trace) -> Result<Run, NoMemory>
+    fn new(alloc: Global, trace: &Trace, each: bool) -> Result<Run, NoMemory>
         requires limits { WithinLimits trace.now }
-        ensures { IfOk result (λ run. HasBegun trace.now 0 run) }
+        ensures begun { IfOk result (λ run. HasBegun trace.now 0 run) }
+        ensures each { IfOk result (λ run. run.profile.each ≡ each) }
     {
         let (shared, driver) = Shared::new(alloc, trace.header.chunks, trace.header.goal)?;
-        let procs = processors(alloc, trace.header.procs)?;
+        let procs = processors(alloc, &trace.header)?;
+        let (profile, tally) = Profile::new(alloc, trace, each)?;
         Ok(Run {
             shared,
-            driver: Hand::new(alloc, driver),
+            driver: Hand::new(alloc, driver, tally),
             procs,
             marks: Marks::empty(alloc),
             answers: List::new(alloc),
             sweeps: List::new(alloc),
             sampled: List::new(alloc),
             buckets: List::new(alloc),
+            profile,
             places: List::new(alloc),
         })
     }
@@ -126,14 +134,22 @@ impl Run {
         requires background { background ≤ 4 }
         requires inside { cycle ≤ last_cycle trace.now }
         requires begun { HasBegun trace.now cycle self.old }
-        ensures { OnOk result (HasRun trace.now cycle self.new) }
+        ensures ran { OnOk result (HasRun trace.now cycle self.new) }
+        ensures each { OnOk result (self.new.profile.each ≡ self.old.profile.each) }
     {
         let events = trace.cycles.as_slice()[cycle as usize].events.as_slice();
-        let queues = queues_of(alloc, trace.header.procs, events)?;
+        let queues = queues_of(
+            alloc,
+            trace.header.procs,
+            events,
+            &self.profile.known,
+            &mut self.buckets,
+        )?;
         let pages = self.shared.pages_taken(&mut self.driver.worker);
         let shop = Shop {
             shared: &self.shared,
             marks: &self.marks,
+            ring: &self.profile.ring,
             distance: distance_before(trace, cycle),
             pages,
         };
@@ -142,23 +158,25 @@ impl Run {
             &shop,
             &mut self.driver,
             &mut self.procs,
-            queues.as_slice(),
+            &queues,
             background,
             gate,
         )?;
-        merge(alloc, events, given.as_slice(), &mut self.answers)?;
-        file_notes(alloc, &mut self.driver.notes, &mut self.sweeps)
+        self.profile.end_sweep(&mut self.driver.tally, cycle);
+        merge(alloc, events, given.answers.as_slice(), &mut self.answers)?;
+        merge(alloc, events, given.sampled.as_slice(), &mut self.sampled)?;
+        file_notes(alloc, &mut self.driver.notes, &mut self.sweeps)?;
+        Ok(())
     }
 
-    // The mark end behind a cycle comes, and the next cycle begins.
+    // The mark end behind a cycle comes, and the next cycle begins. Where each mark end is told, the profile of the one before is read.
     fn mark_end(&mut self, alloc: Global, trace: &Trace, cycle: u32) -> Result<(), NoMemory>
         requires limits { WithinLimits trace.now }
         requires before { cycle < last_cycle trace.now }
         requires ran { HasRun trace.now cycle self.old }
-        ensures { OnOk result (HasBegun trace.now (cycle + 1) self.new) }
+        ensures begun { OnOk result (HasBegun trace.now (cycle + 1) self.new) }
+        ensures each { OnOk result (self.new.profile.each ≡ self.old.profile.each) }
     {
-        let fresh = self.answers.len() - self.sampled.len();
-        sample_none(fresh, &mut self.sampled, &mut self.buckets)?;
         let marks = marks_of(
             alloc,
             trace,
@@ -172,6 +190,7 @@ impl Run {
         reset(&self.shared, &mut self.driver.worker);
         self.shared.next_generation(&mut self.driver.worker, pairs);
         self.marks = marks;
+        self.profile.next_cycle(&mut self.driver.tally, cycle)?;
         Ok(())
     }
 
@@ -180,23 +199,28 @@ impl Run {
         requires limits { WithinLimits trace.now }
         requires ran { HasRun trace.now (last_cycle trace.now) self }
         ensures sound { IfOk result (λ ran. IsSoundAndUsed trace.now ran.report) }
-        ensures no_profile { IfOk result (λ ran. ran.report.profile ≡ []) }
+        ensures form { IfOk result (λ ran. HasForm trace.now ran.report self.profile.each) }
+        ensures left { IfOk result (λ ran. IsLeft trace.now ran) }
     {
         let Run {
             shared,
             driver,
             answers,
             sweeps,
+            mut profile,
             ..
         } = self;
-        let Hand { worker, .. } = driver;
+        let Hand {
+            worker, mut tally, ..
+        } = driver;
         let mut driver = worker;
+        profile.read_last(&mut tally, trace.cycles.len() as u32 - 1)?;
         let report = Report {
             journal: shared.journal_copy(alloc, &mut driver)?,
             totals: totals_of(alloc, trace, &answers)?,
             sweeps,
             answers,
-            profile: List::new(alloc),
+            profile: profile.lines,
         };
         Ok(Ran {
             report,
@@ -207,13 +231,14 @@ impl Run {
 }
 
 // The processors, with empty caches.
-fn processors(alloc: Global, count: u32) -> Result<Vec<Proc>, NoMemory>
-    ensures length { IfOk result (λ procs. vec_len procs ≡ count) }
-    ensures empty { IfOk result (λ procs. (i : ℕ) → i < count → slice_index_or procs.items i no_cache ≡ record { number = i; flushed = 0; slots = copies 136 None }) }
+fn processors(alloc: Global, header: &Header) -> Result<Vec<Proc>, NoMemory>
+    requires rate { header.now.rate ≤ 2 ^ 30 }
+    ensures length { IfOk result (λ procs. vec_len procs ≡ header.now.procs) }
+    ensures empty { IfOk result (λ procs. (i : ℕ) → i < header.now.procs → slice_index_or procs.items i no_cache ≡ record { number = i; flushed = 0; slots = copies 136 None; countdown = countdown header.now.rate header.now.seed i [] }) }
 {
     let mut procs = Vec::new(alloc);
-    for number in 0..count {
-        procs.push(Proc::new(alloc, number)?)?;
+    for number in 0..header.procs {
+        procs.push(Proc::new(alloc, number, header)?)?;
     }
     Ok(procs)
 }
@@ -230,20 +255,4 @@ fn distance_before(trace: &Trace, cycle: u32) -> u64
         Some(end) => end.distance.saturating_sub(MARKING).max(LEAST),
         None => LEAST,
     }
-}
-
-// Of so many more objects none is sampled.
-fn sample_none(
-    count: usize,
-    sampled: &mut List<bool>,
-    buckets: &mut List<u32>,
-) -> Result<(), NoMemory>
-    ensures sampled { OnOk result (length sampled.new ≡ length sampled.old + count) }
-    ensures buckets { OnOk result (length buckets.new ≡ length buckets.old + count) }
-{
-    for _object in 0..count {
-        sampled.push(false)?;
-        buckets.push(0)?;
-    }
-    Ok(())
 }

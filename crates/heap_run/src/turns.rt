@@ -5,11 +5,15 @@ ghost use Rattle.span_laws.specs.Asks.{IsIdle};
 ghost use Rattle.span_laws.specs.Views.{as_number};
 ghost use Rattle.span_state.specs.declared.sweep.SweepNote.{SweepNote};
 ghost use Rattle.heap_run.specs.Parts.{part_at};
+ghost use Rattle.profile_cycle.specs.History.{joined, lent};
+ghost use Rattle.span_set.specs.Tallies.{MayCount};
+ghost use Rattle.sample_laws.specs.Counted.{sampled_counts};
+ghost use Rattle.sample_laws.specs.Countdowns.{flags, spent};
+ghost use Rattle.heap_run.specs.Counts.{Counts, IsOut, no_counts};
 ghost use Rattle.heap_run.specs.Turns.{HasActed, IsCaching, SaysAnswers, SaysNone, TookTurn};
 
-use crate::events::answer_all;
-use cycle_history::Answer;
-use edge_io::{Gate, List, NoMemory};
+use crate::events::{Outcomes, answer_all};
+use edge_io::{Gate, NoMemory};
 use proc_cache::{Proc, flush};
 use scavenger::scavenge_to;
 use span_set::{Hand, Shop};
@@ -29,8 +33,9 @@ pub(crate) fn run_processor<G: Gate>(
     driver: &mut Hand,
     proc: &mut Proc,
     events: &[Event],
+    buckets: &[u32],
     gate: &G,
-) -> Result<List<Answer>, NoMemory>
+) -> Result<Outcomes, NoMemory>
     requires here { driver.old.worker.here ≡ true }
     requires table { driver.old.worker.table ≡ shop.now.shared.now }
     requires distance { 8192 ≤ shop.now.distance }
@@ -41,15 +46,21 @@ pub(crate) fn run_processor<G: Gate>(
     requires idle { IsIdle (part_at driver.old.worker proc.old.number) }
     requires caching { IsCaching driver.old.worker.view.generation (part_at driver.old.worker proc.old.number) proc.old }
     requires sizes { All (λ e. e.size ≤ 2 ^ 40) events.now }
-    ensures turn { IfOk result (λ answers. TookTurn proc.old.number (SaysAnswers (reverse events.now) (reverse answers)) driver.old driver.new) }
+    requires counts { MayCount shop.now.ring.now shop.now.marks.now driver.old.tally }
+    requires drives { driver.old.tally.view.drives ≡ true }
+    requires buckets { length buckets.now ≡ length events.now }
+    requires known { All (λ b. b < shop.now.ring.now.buckets) buckets.now }
+    ensures turn { IfOk result (λ o. TookTurn proc.old.number (SaysAnswers (reverse events.now) (reverse o.answers)) driver.old driver.new) }
     ensures caching { OnOk result (IsCaching driver.old.worker.view.generation (part_at driver.new.worker proc.old.number) proc.new) }
     ensures number { OnOk result (proc.new.number ≡ proc.old.number) }
+    ensures sampled { IfOk result (λ o. reverse o.sampled ≡ flags proc.old.countdown (reverse events.now) (reverse o.answers)) }
+    ensures spent { IfOk result (λ o. proc.new.countdown ≡ spent proc.old.countdown (reverse events.now) (reverse o.answers)) }
+    ensures counts { IfOk result (λ o. Counts shop.now.marks.now (sampled_counts o.sampled buckets.now) driver.old driver.new) }
 {
-    let worker = shop.shared.hand_out(&mut driver.worker, proc.number())?;
-    let mut hand = Hand::new(alloc, worker);
-    let answers = answer_all(alloc, shop, proc, &mut hand, events, gate)?;
+    let mut hand = send_out(alloc, shop, driver, proc.number())?;
+    let outcomes = answer_all(alloc, shop, proc, &mut hand, events, buckets, gate)?;
     bring_back(shop, driver, hand)?;
-    Ok(answers)
+    Ok(outcomes)
 }
 
 /// A processor flushes its cache, where it has not done so in this cycle.
@@ -68,13 +79,16 @@ pub(crate) fn flush_processor(
     requires number { proc.old.number < 69 }
     requires idle { IsIdle (part_at driver.old.worker proc.old.number) }
     requires caching { IsCaching driver.old.worker.view.generation (part_at driver.old.worker proc.old.number) proc.old }
+    requires counts { MayCount shop.now.ring.now shop.now.marks.now driver.old.tally }
+    requires drives { driver.old.tally.view.drives ≡ true }
     ensures turn { OnOk result (TookTurn proc.old.number SaysNone driver.old driver.new) }
     ensures caching { OnOk result (IsCaching driver.old.worker.view.generation (part_at driver.new.worker proc.old.number) proc.new) }
     ensures flushed { OnOk result (proc.new.flushed ≡ driver.old.worker.view.generation) }
     ensures number { OnOk result (proc.new.number ≡ proc.old.number) }
+    ensures countdown { OnOk result (proc.new.countdown ≡ proc.old.countdown) }
+    ensures counts { OnOk result (Counts shop.now.marks.now no_counts driver.old driver.new) }
 {
-    let worker = shop.shared.hand_out(&mut driver.worker, proc.number())?;
-    let mut hand = Hand::new(alloc, worker);
+    let mut hand = send_out(alloc, shop, driver, proc.number())?;
     flush(proc, shop, &mut hand)?;
     bring_back(shop, driver, hand)
 }
@@ -95,11 +109,13 @@ pub(crate) fn run_sweeper<G: Gate>(
     requires parts { length driver.old.worker.view.parts ≡ 70 }
     requires number { number < 69 }
     requires idle { IsIdle (part_at driver.old.worker number) }
+    requires counts { MayCount shop.now.ring.now shop.now.marks.now driver.old.tally }
+    requires drives { driver.old.tally.view.drives ≡ true }
     ensures turn { OnOk result (TookTurn number SaysNone driver.old driver.new) }
     ensures cached { OnOk result ((part_at driver.new.worker number).cached ≡ (part_at driver.old.worker number).cached) }
+    ensures counts { OnOk result (Counts shop.now.marks.now no_counts driver.old driver.new) }
 {
-    let worker = shop.shared.hand_out(&mut driver.worker, number)?;
-    let mut hand = Hand::new(alloc, worker);
+    let mut hand = send_out(alloc, shop, driver, number)?;
     gate.before(number, 0);
     finish(shop, &mut hand)?;
     bring_back(shop, driver, hand)
@@ -117,28 +133,59 @@ pub(crate) fn run_scavenger<G: Gate>(
     requires driver { driver.old.worker.number ≡ 69 }
     requires parts { length driver.old.worker.view.parts ≡ 70 }
     requires idle { IsIdle (part_at driver.old.worker 68) }
+    requires counts { MayCount shop.now.ring.now shop.now.marks.now driver.old.tally }
+    requires drives { driver.old.tally.view.drives ≡ true }
     ensures turn { OnOk result (TookTurn 68 SaysNone driver.old driver.new) }
     ensures cached { OnOk result ((part_at driver.new.worker 68).cached ≡ (part_at driver.old.worker 68).cached) }
+    ensures counts { OnOk result (Counts shop.now.marks.now no_counts driver.old driver.new) }
 {
-    let worker = shop.shared.hand_out(&mut driver.worker, SCAVENGER)?;
-    let mut hand = Hand::new(alloc, worker);
+    let mut hand = send_out(alloc, shop, driver, SCAVENGER)?;
     gate.before(SCAVENGER, 0);
     scavenge_to(shop.shared, &mut hand.worker)?;
     bring_back(shop, driver, hand)
 }
 
-// Takes a worker in, with its notes behind those collected before.
+// Hands the worker of a number out, with a tally of its own.
+fn send_out(alloc: Global, shop: &Shop, driver: &mut Hand, number: u32) -> Result<Hand, NoMemory>
+    requires here { driver.old.worker.here ≡ true }
+    requires table { driver.old.worker.table ≡ shop.now.shared.now }
+    requires number { number < 69 }
+    requires part { number < length driver.old.worker.view.parts }
+    requires ring { driver.old.tally.ring ≡ shop.now.ring.now }
+    requires drives { driver.old.tally.view.drives ≡ true }
+    ensures hand { IfOk result (λ hand. IsOut number driver.old hand) }
+    ensures away { OnOk result (driver.new.worker.here ≡ false) }
+    ensures notes { OnOk result (driver.new.notes ≡ driver.old.notes) }
+    ensures tally { OnOk result (driver.new.tally ≡ record driver.old.tally { view = lent driver.old.tally.view }) }
+{
+    let tally = shop.ring.split(&mut driver.tally)?;
+    let worker = shop.shared.hand_out(&mut driver.worker, number)?;
+    Ok(Hand::new(alloc, worker, tally))
+}
+
+// Takes a worker in, with its notes behind those collected before, and its tally.
 fn bring_back(shop: &Shop, driver: &mut Hand, hand: Hand) -> Result<(), NoMemory>
     requires away { driver.old.worker.here ≡ false }
     requires here { hand.worker.here ≡ true }
     requires table { hand.worker.table ≡ shop.now.shared.now }
     requires idle { IsIdle hand.worker.view.own }
     requires part { 69 < length hand.worker.view.parts }
+    requires ring { driver.old.tally.ring ≡ shop.now.ring.now }
+    requires drives { driver.old.tally.view.drives ≡ true }
+    requires of_ring { hand.tally.ring ≡ shop.now.ring.now }
+    requires split { hand.tally.view.drives ≡ false }
+    requires cycle { hand.tally.view.cycle ≡ driver.old.tally.view.cycle }
     ensures worker { driver.new.worker ≡ as_number 69 hand.worker }
     ensures notes { OnOk result (driver.new.notes.items ≡ driver.old.notes.items ++ hand.notes.items) }
+    ensures tally { driver.new.tally ≡ record driver.old.tally { view = joined driver.old.tally.view hand.tally.view } }
 {
-    let Hand { worker, notes } = hand;
+    let Hand {
+        worker,
+        notes,
+        tally,
+    } = hand;
     shop.shared.take_in(&mut driver.worker, worker);
+    shop.ring.join(&mut driver.tally, tally);
     collect(&mut driver.notes, notes.as_slice())
 }
 

@@ -1,11 +1,12 @@
 -- Buckets that were sorted by their stacks and slots stand in order.
-use Rattle.std.proofs.Common.{◌≡◌, ◌≢◌, ℕ, zero, suc, ◌+◌, ◌<◌, ◌≤◌, Bool, true, false, eqb, List, [], ◌∷◌, ◌++◌, map, length, get_or, take, Some, refl, sym, ◌∙◌, ap, arith, ◌⊎◌, inl, inr, subst}
+use Rattle.std.proofs.Common.{◌≡◌, ◌≢◌, ℕ, zero, suc, ◌+◌, ◌<◌, ◌≤◌, true, false, eqb, List, [], ◌∷◌, ◌++◌, map, length, get_or, take, refl, sym, ◌∙◌, ap, arith, ◌⊎◌, inl, inr, subst}
 use Rattle.std.specs.List.{AllByRecursion, sum_by}
 use Rattle.std.specs.List.Sorted.{IsPermutation, IsSortedByKey}
+use Rattle.std.specs.declared.cmp.Ordering.{Ordering}
 use Rattle.std.specs.Ordering.{nat_cmp, ordering_then, is_lt}
 use Rattle.std.proofs.lemmas.Bool.{cases_lt, cases_eq, lt-ltb, le-ltb, eq-eqb, ne_eqb}
 use Rattle.std.proofs.lemmas.Cmp.{nat_cmp_total, on_total, then_total}
-use Rattle.std.proofs.lemmas.List.{take_more, length-append, length-take-le}
+use Rattle.std.proofs.lemmas.List.{take_more, length-take-le}
 use Rattle.std.proofs.lemmas.List.Sums.{sum_by-cons}
 use Rattle.std.proofs.lemmas.List.Sorted.{All-permutation, IsPermutation-sym, sum_by-IsPermutation, sorted_far, ranks_by}
 use Rattle.std.proofs.lemmas.List.Elements.{All-from_recursion, recursion_from_All}
@@ -14,7 +15,7 @@ use Rattle.profile_cycle.specs.declared.buckets.Bucket.{Bucket}
 use Rattle.profile_cycle.specs.Naming.{is_same}
 use Rattle.profile_lines.specs.declared.order.Keyed.{Keyed}
 use Rattle.profile_lines.specs.Keyed.{keyed_from}
-use Rattle.profile_lines.specs.Read.{AreDifferent, no_bucket, bucket_at, IsBefore, IsOrder}
+use Rattle.profile_lines.specs.Read.{AreDifferent, bucket_at, IsBefore, IsOrder}
 use Rattle.profile_lines.proofs.Named.{differ-at, same-swap}
 
 -- ---- items of lists
@@ -153,11 +154,11 @@ keyed-apart n (b ∷ buckets) = ((λ y h e. (let at = (from-keyed (n + 1) bucket
 abbrev key : Keyed → ℕ × ℕ
 key x = (x.stack, x.slot)
 
-abbrev pair_cmp : ℕ × ℕ → ℕ × ℕ → _
+abbrev pair_cmp : ℕ × ℕ → ℕ × ℕ → Ordering
 pair_cmp x y = ordering_then (nat_cmp x.0 y.0) (nat_cmp x.1 y.1)
 
 not-less : (a b x y : ℕ) → is_lt (ordering_then (nat_cmp x a) (nat_cmp y b)) ≡ false → (a < x) ⊎ ((a ≡ x) × (b ≤ y))
-not-less a b x y no = elim (cases_lt x a) [
+not-less a b x y isnt = elim (cases_lt x a) [
   | inl less ↦ (let on = lt-ltb x a less in let yes : is_lt (ordering_then (nat_cmp x a) (nat_cmp y b)) ≡ true = rw on refl in cc)
   | inr ge ↦ elim (cases_eq x a) [
     | inl same ↦ elim (cases_lt y b) [
@@ -188,7 +189,7 @@ in-order buckets sorted different same up =
     record {
       within = λ n h. (let x = from-map (λ (k : Keyed). k.number) sorted n h in subst (λ (j : ℕ). j < length buckets) x.2 (at x.0 x.1).0);
       all = λ n lt. (
-          let x = record { stack = (bucket_at buckets n).stack; slot = (bucket_at buckets n).slot; number = 0 + n } in
+          let x : Keyed = record { stack = (bucket_at buckets n).stack; slot = (bucket_at buckets n).slot; number = 0 + n } in
           let there = from-permutation sorted (keyed_from 0 buckets) x (IsPermutation-sym (keyed_from 0 buckets) sorted same) (to-keyed 0 buckets n lt) in
           let e : 0 + n ≡ n = omega arith in
           subst (λ (j : ℕ). In j (map (λ (k : Keyed). k.number) sorted)) e (in-map (λ (k : Keyed). k.number) sorted x there));

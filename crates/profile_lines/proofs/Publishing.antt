@@ -1,8 +1,8 @@
 -- What the calls of a tally publish is what they counted, cycle by cycle.
-use Rattle.std.proofs.Common.{◌≡◌, ◌≢◌, ℕ, zero, suc, ◌+◌, ◌-◌, ◌<◌, ◌≤◌, Bool, true, false, ◌&&◌, not, eqb, ◌⊎◌, List, [], ◌∷◌, ◌++◌, length, Option, None, Some, refl, sym, ◌∙◌, ap, subst, arith, inl, inr}
+use Rattle.std.proofs.Common.{◌≡◌, ◌≢◌, ℕ, zero, suc, ◌+◌, ◌-◌, ◌<◌, Bool, true, false, ◌&&◌, not, eqb, ◌⊎◌, List, [], ◌∷◌, ◌++◌, length, Option, None, Some, refl, sym, ◌∙◌, ap, subst, arith, inl, inr}
 use Rattle.std.specs.Prelude.{position}
 use Rattle.std.proofs.Math.Dec.{leb, ltb}
-use Rattle.std.proofs.lemmas.Bool.{cases_lt, cases_eq, cases_Bool, le-leb, lt-leb, le-ltb, eq-eqb, ne_eqb, and_right}
+use Rattle.std.proofs.lemmas.Bool.{cases_lt, cases_eq, le-leb, lt-leb, le-ltb, eq-eqb, ne_eqb, and_right}
 use Rattle.page_alloc.specs.Lists.{In}
 use Rattle.profile_cycle.specs.declared.buckets.Bucket.{Bucket}
 use Rattle.profile_cycle.specs.declared.calls.What.{What}
@@ -14,12 +14,12 @@ use Rattle.profile_cycle.specs.Naming.{is_same}
 use Rattle.cycle_history.specs.Requests.{Marking}
 use Rattle.cycle_history.specs.Objects.{Object}
 use Rattle.sound_run.specs.Run.{Lasts}
-use Rattle.page_alloc.specs.Lists.{count as count_items}
-use Rattle.run_laws.specs.Profile.{Samples, Calls, AreCalls, allocs_at, frees_at, is_sample, sum_below, published_allocs as published_allocs_of, published_frees as published_frees_of}
+use Rattle.run_laws.specs.Profile.{Samples, Calls, AreCalls, is_sample, sum_below}
 use Rattle.run_laws.proofs.Lists.{in-cases}
 use Rattle.run_laws.proofs.Profile.{count-none, calls-later, published-right}
+use Rattle.sample_laws.specs.Counted.{of_number}
 use Rattle.profile_lines.specs.Read.{AreDifferent, bucket_at}
-use Rattle.profile_lines.specs.Counted.{made_in, of_number, by_bucket, AreMadeIn, IsCounting, ShowsMarkEnd, HasCounted}
+use Rattle.profile_lines.specs.Counted.{made_in, by_bucket, AreMadeIn, IsCounting, ShowsMarkEnd, HasCounted}
 use Rattle.profile_lines.proofs.Named.{number-at}
 
 -- ---- counts of calls

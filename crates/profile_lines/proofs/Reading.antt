@@ -2,7 +2,7 @@
 use Rattle.std.proofs.Common.{◌≡◌, ℕ, zero, suc, ◌+◌, ◌<◌, List, [], ◌∷◌, ◌++◌, length, map, get_or, take, drop, set, refl, sym, ◌∙◌, ap, arith, inl, inr}
 use Rattle.std.proofs.Math.Dec.{ltb}
 use Rattle.std.proofs.lemmas.Bool.{cases_Bool}
-use Rattle.std.proofs.lemmas.List.{append_assoc, drop_more, length-map, length-take-le, length-append, map-append, set_at, take_more}
+use Rattle.std.proofs.lemmas.List.{append_assoc, drop_more, length-map, length-take-le, map-append, set_at, take_more}
 use Rattle.page_alloc.specs.Lists.{In}
 use Rattle.profile_cycle.specs.declared.buckets.Bucket.{Bucket}
 use Rattle.profile_cycle.specs.declared.calls.Call.{Call}

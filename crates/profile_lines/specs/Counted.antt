@@ -1,5 +1,5 @@
 -- What the calls of a run's tallies have counted, cycle by cycle.
-use Rattle.std.specs.Prelude.{◌≡◌, ℕ, ◌<◌, ◌≤◌, Bool, true, false, ◌&&◌, ◌==◌, List, length, Option, None, Some, position}
+use Rattle.std.specs.Prelude.{◌≡◌, ℕ, ◌<◌, ◌≤◌, Bool, true, false, ◌&&◌, ◌==◌, List, length, position}
 use Rattle.page_alloc.specs.Lists.{In}
 use Rattle.profile_cycle.specs.declared.buckets.Bucket.{Bucket}
 use Rattle.profile_cycle.specs.declared.calls.What.{What}
@@ -10,16 +10,12 @@ use Rattle.profile_cycle.specs.Naming.{is_same}
 use Rattle.cycle_history.specs.Requests.{Marking}
 use Rattle.cycle_history.specs.Objects.{Object, is_placed}
 use Rattle.run_laws.specs.Profile.{Samples, Calls, AreCalls, allocs_at, frees_at}
+use Rattle.sample_laws.specs.Counted.{of_number}
 use Rattle.profile_lines.specs.Read.{bucket_at}
 
 -- How many calls of cycle k pass a test.
 abbrev pub made_in : (What → Bool) → ℕ → List Call → ℕ
 made_in test k calls = count (λ c. test c.what && c.cycle == k) calls
-
--- What is told of a bucket's number, and 0 of a bucket without one.
-abbrev pub of_number : (ℕ → ℕ) → Option ℕ → ℕ
-of_number f None = 0
-of_number f (Some n) = f n
 
 -- How often the calls of each cycle count a bucket, by its number.
 abbrev pub by_bucket : List Bucket → List Call → Calls

@@ -1,6 +1,6 @@
 //! Laws that lead from the calls of a run's tallies to the lines of a sound report.
 
-ghost use Rattle.std.specs.Prelude.{◌≡◌, ℕ, suc, ◌-◌, ◌^◌, ◌<◌, ◌≤◌, List, [], ◌++◌, length, map};
+ghost use Rattle.std.specs.Prelude.{◌≡◌, ℕ, suc, ◌-◌, ◌^◌, ◌<◌, ◌≤◌, Bool, List, [], ◌++◌, length, map};
 ghost use Rattle.page_alloc.specs.Lists.{In};
 ghost use Rattle.profile_cycle.specs.declared.buckets.Bucket.{Bucket};
 ghost use Rattle.profile_cycle.specs.declared.calls.Call.{Call};
@@ -8,8 +8,13 @@ ghost use Rattle.profile_cycle.specs.declared.calls.View.{View};
 ghost use Rattle.profile_cycle.specs.declared.calls.What.TheVariants.{NextCycle, AfterSweep};
 ghost use Rattle.profile_cycle.specs.declared.counts.Count.{Count};
 ghost use Rattle.profile_cycle.specs.History.{first_view, noted};
-ghost use Rattle.profile_cycle.specs.Naming.{buckets_of};
+ghost use Rattle.profile_cycle.specs.Naming.{buckets_of, pairs_of};
+ghost use Rattle.trace_reader.specs.declared.trace.Trace.{Trace};
+ghost use Rattle.trace_reader.specs.Limits.{events_of};
+ghost use Rattle.cycle_history.specs.declared.Answer.{Answer};
 ghost use Rattle.cycle_history.specs.declared.Prof.{Prof};
+ghost use Rattle.cycle_history.specs.Marked.{AreObjectsBefore};
+ghost use Rattle.cycle_history.specs.Sampled.{samples_in};
 ghost use Rattle.cycle_history.specs.Requests.{Marking};
 ghost use Rattle.cycle_history.specs.Objects.{Object};
 ghost use Rattle.sound_run.specs.Run.{Lasts};
@@ -18,10 +23,20 @@ ghost use Rattle.profile_lines.specs.Read.{AreDifferent, AreFew, IsOrder, all_li
 ghost use Rattle.profile_lines.specs.Counted.{AreMadeIn, AreNamed, HasCounted, IsCounting, ShowsMarkEnd, by_bucket};
 ghost use Rattle.profile_lines.specs.Told.{HasTold, counts_at};
 
+use profile_cycle::a_pair_is_a_bucket_where_an_event_has_it;
+
 /// The buckets of a trace are all different.
 pub fn buckets_differ()
     ensures { (pairs : List Bucket) → AreDifferent (buckets_of pairs) }
 {}
+
+/// The objects of the cycles before a mark end have buckets that the trace names, if they are placed.
+pub fn all_samples_are_named()
+    ensures { (t : Trace) (which : ℕ → Bool) (m : ℕ) (answers : List Answer) (objects : List Object) → AreObjectsBefore t m answers objects
+        → AreNamed (samples_in t which) (buckets_of (pairs_of (events_of t))) objects }
+{
+    a_pair_is_a_bucket_where_an_event_has_it();
+}
 
 /// The driver's tally of a new ring has counted nothing, and shows mark end 0.
 pub fn a_run_begins_counting()

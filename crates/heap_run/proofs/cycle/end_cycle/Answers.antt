@@ -1,5 +1,7 @@
-use Rattle.std.proofs.Common.{◌≤◌, length, refl, arith}
+use Rattle.std.proofs.Common.{◌∙◌, ◌≤◌, length, refl, arith}
 use Rattle.span_set.specs.declared.hand.Hand.{Hand}
+use Rattle.heap_run.specs.Counts.{Counts, no_counts}
+use Rattle.heap_run.proofs.Counting.{counts-as, counts-drives, counts-may, counts-then, frees-counts}
 use Rattle.heap_run.proofs.Settling.{HasFlushedAll, IsToldIn, driver-idle, driving-now, ends-room, ends-swept, may-settle, settled, swept-all, told-ends}
 use Rattle.heap_run.proofs.cycle.end_cycle.Goals as goal
 
@@ -12,13 +14,13 @@ finish-requires-clause-unpopped c = (driver-idle c.args.driver.now.worker c.args
 pub flush_processors-requires-clause-driving : goal.flush_processors-requires-clause-driving
 flush_processors-requires-clause-driving c =
     let few : length c.args.procs.now.items ≤ 64 = (let f = c.requires.few in omega (arith, c.args.procs.now.ok.0)) in
-    let all = swept-all c.args.driver.now.worker c.args.procs.now.items c.args.driver.now c.finish.new.driver c.requires.parts few c.requires.driving c.requires.collecting c.in_ok-finish.ensures in
+    let all = swept-all c.args.driver.now.worker c.args.procs.now.items c.args.driver.now c.finish.new.driver c.requires.parts few c.requires.driving c.requires.collecting c.in_ok-finish.ensures.did in
     driving-now c.args.driver.now.worker c.args.procs.now.items c.finish.new.driver all.driving
 
 pub flush_processors-requires-clause-collecting : goal.flush_processors-requires-clause-collecting
 flush_processors-requires-clause-collecting c =
     let few : length c.args.procs.now.items ≤ 64 = (let f = c.requires.few in omega (arith, c.args.procs.now.ok.0)) in
-    let all = swept-all c.args.driver.now.worker c.args.procs.now.items c.args.driver.now c.finish.new.driver c.requires.parts few c.requires.driving c.requires.collecting c.in_ok-finish.ensures in
+    let all = swept-all c.args.driver.now.worker c.args.procs.now.items c.args.driver.now c.finish.new.driver c.requires.parts few c.requires.driving c.requires.collecting c.in_ok-finish.ensures.did in
     all.collecting
 
 pub settle-requires-clause-may : goal.settle-requires-clause-may
@@ -28,7 +30,7 @@ settle-requires-clause-may c =
     let d2 = c.flush_processors.new.driver in
     let procs = c.flush_processors.new.procs.items in
     let f = c.in_ok-flush_processors.ensures in
-    let swept = swept-all c.args.driver.now.worker c.args.procs.now.items c.args.driver.now d1 c.requires.parts few c.requires.driving c.requires.collecting c.in_ok-finish.ensures in
+    let swept = swept-all c.args.driver.now.worker c.args.procs.now.items c.args.driver.now d1 c.requires.parts few c.requires.driving c.requires.collecting c.in_ok-finish.ensures.did in
     let flushed : HasFlushedAll procs d1 d2 = record {
       driving = f.driving;
       collecting = f.collecting;
@@ -38,7 +40,7 @@ settle-requires-clause-may c =
     } in
     let ends2 = ends-swept c.args.driver.now.worker c.args.procs.now.items procs c.args.driver.now d1 d2 swept flushed in
     let room = ends-room c.args.driver.now.worker procs c.args.driver.now d2 c.requires.parts ends2 in
-    let d3 : Hand = record { worker = c.scavenge_to.new.w; notes = d2.notes } in
+    let d3 : Hand = record { worker = c.scavenge_to.new.w; notes = d2.notes; tally = d2.tally } in
     let told : IsToldIn d2 d3 = record { past = _; worker = c.in_ok-scavenge_to.ensures.steps.2.view; notes = refl; low = room.1 } in
     let ends3 = told-ends c.args.driver.now.worker procs c.args.driver.now d2 d3 ends2 told in
     may-settle c.args.driver.now.worker procs d3 (ends-room c.args.driver.now.worker procs c.args.driver.now d3 c.requires.parts ends3).0 ends3.driving ends3.flushed
@@ -50,7 +52,7 @@ returns c =
     let d2 = c.flush_processors.new.driver in
     let procs = c.flush_processors.new.procs.items in
     let f = c.in_ok-flush_processors.ensures in
-    let swept = swept-all c.args.driver.now.worker c.args.procs.now.items c.args.driver.now d1 c.requires.parts few c.requires.driving c.requires.collecting c.in_ok-finish.ensures in
+    let swept = swept-all c.args.driver.now.worker c.args.procs.now.items c.args.driver.now d1 c.requires.parts few c.requires.driving c.requires.collecting c.in_ok-finish.ensures.did in
     let flushed : HasFlushedAll procs d1 d2 = record {
       driving = f.driving;
       collecting = f.collecting;
@@ -60,18 +62,28 @@ returns c =
     } in
     let ends2 = ends-swept c.args.driver.now.worker c.args.procs.now.items procs c.args.driver.now d1 d2 swept flushed in
     let room = ends-room c.args.driver.now.worker procs c.args.driver.now d2 c.requires.parts ends2 in
-    let d3 : Hand = record { worker = c.scavenge_to.new.w; notes = d2.notes } in
+    let d3 : Hand = record { worker = c.scavenge_to.new.w; notes = d2.notes; tally = d2.tally } in
     let told : IsToldIn d2 d3 = record { past = _; worker = c.in_ok-scavenge_to.ensures.steps.2.view; notes = refl; low = room.1 } in
     let ends3 = told-ends c.args.driver.now.worker procs c.args.driver.now d2 d3 ends2 told in
     let room3 = ends-room c.args.driver.now.worker procs c.args.driver.now d3 c.requires.parts ends3 in
-    let d4 : Hand = record { worker = c.settle.new.driver; notes = d2.notes } in
+    let d4 : Hand = record { worker = c.settle.new.driver; notes = d2.notes; tally = d2.tally } in
     let told4 : IsToldIn d3 d4 = record { past = _; worker = c.settle.ensures.1; notes = refl; low = room3.1 } in
     let ends4 = told-ends c.args.driver.now.worker procs c.args.driver.now d3 d4 ends3 told4 in
+    let counts1 : Counts c.args.shop.now.marks.now no_counts c.args.driver.now d1 = frees-counts c.args.shop.now.marks.now c.args.driver.now d1 c.in_ok-finish.ensures.tally in
+    let counts2 : Counts c.args.shop.now.marks.now no_counts c.args.driver.now d2 = counts-then c.args.shop.now.marks.now no_counts no_counts no_counts c.args.driver.now d1 d2 counts1 f.counts (λ k. refl) in
     record {
       driving = ends4.driving;
       procs = f.procs;
       collecting = ends4.collecting;
       keeps = ends4.keeps;
       flushed = ends4.flushed;
+      countdowns = f.countdowns;
+      counts = counts-as c.args.shop.now.marks.now no_counts c.args.driver.now d2 c.args.driver.now d4 counts2 refl refl refl refl;
       settled = settled c.scavenge_to.new.w c.settle.new.driver room3.1 c.in_ok-scavenge_to.ensures.scavenged c.settle.ensures;
     }
+
+pub flush_processors-requires-clause-counts : goal.flush_processors-requires-clause-counts
+flush_processors-requires-clause-counts c = counts-may c.args.shop.now.ring.now c.args.shop.now.marks.now no_counts c.args.driver.now c.finish.new.driver c.requires.counts (frees-counts c.args.shop.now.marks.now c.args.driver.now c.finish.new.driver c.in_ok-finish.ensures.tally)
+
+pub flush_processors-requires-clause-drives : goal.flush_processors-requires-clause-drives
+flush_processors-requires-clause-drives c = counts-drives c.args.shop.now.marks.now no_counts c.args.driver.now c.finish.new.driver (frees-counts c.args.shop.now.marks.now c.args.driver.now c.finish.new.driver c.in_ok-finish.ensures.tally) ∙ c.requires.drives

@@ -2,6 +2,7 @@ use Rattle.std.proofs.Common.{◌≡◌, ℕ, ◌≤◌, List, length}
 use Rattle.span_laws.specs.Asks.{IsIdle}
 use Rattle.proc_cache.specs.Cache.{Cache}
 use Rattle.heap_run.specs.Parts.{IsSameRun, part_at}
+use Rattle.heap_run.specs.Counts.{Counts, no_counts}
 use Rattle.heap_run.specs.Turns.{IsCollecting, IsDriving, KeepsAnswers}
 use Rattle.heap_run.proofs.cycle.run_sweepers.Given as goal
 
@@ -13,5 +14,6 @@ invariant-loop-number g l = record {
   idle : (i : ℕ) → IsIdle (part_at l.driver.worker i);
   driving : (procs : List Cache) → length procs ≤ 64 → IsDriving l.initial.driver.worker procs l.initial.driver → IsDriving l.initial.driver.worker procs l.driver;
   collecting : IsCollecting l.driver;
+  counts : Counts l.shop.marks.now no_counts l.initial.driver l.driver;
   keeps : KeepsAnswers l.initial.driver.worker l.driver.worker;
 }

@@ -1,4 +1,7 @@
-use Rattle.std.proofs.Common.{◌∙◌, ◌≤◌, length, sym, arith}
+use Rattle.std.proofs.Common.{◌∙◌, ◌≤◌, length, sym, add-zero, arith}
+use Rattle.heap_run.specs.Counts.{no_counts}
+use Rattle.heap_run.proofs.Counting.{counts-drives, counts-may, counts-then}
+use Rattle.heap_run.proofs.Sampling.{sampled-keeps}
 use Rattle.heap_run.proofs.Driving.{collecting-turn, keeps-turn}
 use Rattle.heap_run.proofs.Settling.{driving-from, driving-now, mid-driving}
 use Rattle.heap_run.proofs.cycle.run_workers.Goals as goal
@@ -54,3 +57,40 @@ returns-clause-ran g c =
       flushed = e.flushed;
       settled = e.settled;
     }
+
+pub run_sweepers-requires-clause-counts : goal.run_sweepers-requires-clause-counts
+run_sweepers-requires-clause-counts g c = counts-may c.args.shop.now.ring.now c.args.shop.now.marks.now _ c.args.driver.now c.run_processors.new.driver c.requires.counts c.in_ok-given.ensures.counts
+
+pub run_sweepers-requires-clause-drives : goal.run_sweepers-requires-clause-drives
+run_sweepers-requires-clause-drives g c = counts-drives c.args.shop.now.marks.now _ c.args.driver.now c.run_processors.new.driver c.in_ok-given.ensures.counts ∙ c.requires.drives
+
+pub run_scavenger-requires-clause-counts : goal.run_scavenger-requires-clause-counts
+run_scavenger-requires-clause-counts g c κs low =
+    let a = counts-may c.args.shop.now.ring.now c.args.shop.now.marks.now _ c.args.driver.now c.run_processors.new.driver c.requires.counts c.in_ok-given.ensures.counts in
+    counts-may c.args.shop.now.ring.now c.args.shop.now.marks.now no_counts c.run_processors.new.driver c.run_sweepers.new.driver a c.in_ok-run_sweepers.ensures.counts
+
+pub run_scavenger-requires-clause-drives : goal.run_scavenger-requires-clause-drives
+run_scavenger-requires-clause-drives g c κs low =
+    counts-drives c.args.shop.now.marks.now no_counts c.run_processors.new.driver c.run_sweepers.new.driver c.in_ok-run_sweepers.ensures.counts ∙ counts-drives c.args.shop.now.marks.now _ c.args.driver.now c.run_processors.new.driver c.in_ok-given.ensures.counts ∙ c.requires.drives
+
+pub end_cycle-requires-clause-counts : goal.end_cycle-requires-clause-counts
+end_cycle-requires-clause-counts g c =
+    let a = counts-may c.args.shop.now.ring.now c.args.shop.now.marks.now _ c.args.driver.now c.run_processors.new.driver c.requires.counts c.in_ok-given.ensures.counts in
+    let b = counts-may c.args.shop.now.ring.now c.args.shop.now.marks.now no_counts c.run_processors.new.driver c.run_sweepers.new.driver a c.in_ok-run_sweepers.ensures.counts in
+    counts-may c.args.shop.now.ring.now c.args.shop.now.marks.now no_counts c.run_sweepers.new.driver c.run_scavenger.new.driver b c.in_ok-run_scavenger.ensures.counts
+
+pub end_cycle-requires-clause-drives : goal.end_cycle-requires-clause-drives
+end_cycle-requires-clause-drives g c =
+    counts-drives c.args.shop.now.marks.now no_counts c.run_sweepers.new.driver c.run_scavenger.new.driver c.in_ok-run_scavenger.ensures.counts
+    ∙ counts-drives c.args.shop.now.marks.now no_counts c.run_processors.new.driver c.run_sweepers.new.driver c.in_ok-run_sweepers.ensures.counts ∙ counts-drives c.args.shop.now.marks.now _ c.args.driver.now c.run_processors.new.driver c.in_ok-given.ensures.counts ∙ c.requires.drives
+
+pub returns-clause-sampled : goal.returns-clause-sampled
+returns-clause-sampled g c =
+    sampled-keeps c.args.queues.now.events.items c.in_ok-given.given.answers.items c.in_ok-given.given.sampled.items c.args.procs.now.items c.run_processors.new.procs.items c.end_cycle.new.procs.items
+    c.in_ok-given.ensures.sampled (let n = c.in_ok-given.ensures.procs in omega (arith, c.args.procs.now.ok.0, c.run_processors.new.procs.ok.0)) c.in_ok-end_cycle.ensures.countdowns
+
+pub returns-clause-counts : goal.returns-clause-counts
+returns-clause-counts g c =
+    let two = counts-then c.args.shop.now.marks.now _ no_counts _ c.args.driver.now c.run_processors.new.driver c.run_sweepers.new.driver c.in_ok-given.ensures.counts c.in_ok-run_sweepers.ensures.counts (λ k. sym (add-zero _)) in
+    let three = counts-then c.args.shop.now.marks.now _ no_counts _ c.args.driver.now c.run_sweepers.new.driver c.run_scavenger.new.driver two c.in_ok-run_scavenger.ensures.counts (λ k. sym (add-zero _)) in
+    counts-then c.args.shop.now.marks.now _ no_counts _ c.args.driver.now c.run_scavenger.new.driver c.end_cycle.new.driver three c.in_ok-end_cycle.ensures.counts (λ k. sym (add-zero _))

@@ -1,4 +1,4 @@
-use Rattle.std.proofs.Common.{◌≡◌, [], ◌∷◌, Err, ap, sym, subst}
+use Rattle.std.proofs.Common.{◌≡◌, false, [], ◌∷◌, Err, refl, ap, sym, subst}
 use Rattle.size_classes.specs.Classes.{span_class_of}
 use Rattle.span_laws.specs.declared.answers.Refused.{Refused}
 use Rattle.span_laws.specs.declared.answers.Refused.TheVariants.{NoRun}
@@ -8,6 +8,8 @@ use Rattle.proc_cache.specs.Allocs.{AllocatesIn}
 use Rattle.large_objects.specs.Larges.{AllocatesLarge}
 use Rattle.heap_run.specs.Turns.{SaysAnswers}
 use Rattle.heap_run.proofs.Answering.{caching-of, flushed-then, holds-acted, holds-caching, large-placed, large-refused, leaves-acted, small-placed, small-refused}
+use Rattle.span_set.proofs.Tallies.{frees-both}
+use Rattle.heap_run.proofs.Counting.{counted-one, large-counts, ones-counts, refused-counts}
 use Rattle.heap_run.proofs.events.answer.Goals as goal
 
 pub returns-in-Ok-clause-acted : goal.returns-in-Ok-clause-acted
@@ -35,14 +37,14 @@ pub returns-in-Ok-alloc_large-clause-acted : goal.returns-in-Ok-alloc_large-clau
 returns-in-Ok-alloc_large-clause-acted c =
     let e = c.args.event.now in
     let at = c.in-Ok-alloc_large.addr in
-    let did = c.in-Ok-alloc_large.ensures.1 in
+    let did = c.in-Ok-alloc_large.ensures.did.1 in
     let said = did.0 in
     flushed-then _ c.args.proc.now c.flush.new.proc e (Placed at) c.args.hand.now c.flush.new.hand c.alloc_large.new.hand c.in_ok-flush-in-Large.ensures.flushes.1
     (holds-acted (SaysAnswers (e ∷ []) (Placed at ∷ [])) said c.flush.new.hand c.alloc_large.new.hand did.1 (large-placed e c.in-Large.pages c.span_class.result at c.flush.new.hand.worker.view.generation said c.in-Large.ensures.0 c.in-Large.ensures.1 c.span_class.ensures did.3))
 
 pub returns-in-Ok-alloc_large-clause-caching : goal.returns-in-Ok-alloc_large-clause-caching
 returns-in-Ok-alloc_large-clause-caching c =
-    let did = c.in-Ok-alloc_large.ensures.1 in
+    let did = c.in-Ok-alloc_large.ensures.did.1 in
     let g : c.flush.new.hand.worker.view.generation ≡ c.args.hand.now.worker.view.generation = ap (λ (v : View). v.generation) c.in_ok-flush-in-Large.ensures.flushes.1.leaves.view in
     holds-caching c.args.hand.now.worker.view.generation did.0 c.flush.new.hand c.alloc_large.new.hand c.flush.new.proc (sym g) did.1
     (caching-of c.args.hand.now.worker.view.generation c.flush.new.hand.worker.view.generation c.flush.new.hand.worker.view.own c.flush.new.proc g c.in_ok-flush-in-Large.ensures.serves (c.in_ok-flush-in-Large.ensures.used c.requires.caching.used))
@@ -52,7 +54,7 @@ returns-in-Err-NoRun-alloc_large-clause-acted c =
     let e = c.args.event.now in
     let line = c.in-Err-NoRun-alloc_large.line in
     let refused : AllocatesLarge c.args.shop.now.pages c.args.shop.now.distance c.in-Large.pages c.span_class.result c.flush.new.hand c.alloc_large.new.hand (Err (NoRun c.in-Err-NoRun-alloc_large.line)) =
-    subst (λ (r : Refused). AllocatesLarge c.args.shop.now.pages c.args.shop.now.distance c.in-Large.pages c.span_class.result c.flush.new.hand c.alloc_large.new.hand (Err r)) c.in-Err-NoRun-alloc_large.field-0-is c.in-Err-NoRun-alloc_large.ensures in
+    subst (λ (r : Refused). AllocatesLarge c.args.shop.now.pages c.args.shop.now.distance c.in-Large.pages c.span_class.result c.flush.new.hand c.alloc_large.new.hand (Err r)) c.in-Err-NoRun-alloc_large.field-0-is c.in-Err-NoRun-alloc_large.ensures.did in
     let did = refused.1 in
     let said = did.0 in
     flushed-then _ c.args.proc.now c.flush.new.proc e (Missed line) c.args.hand.now c.flush.new.hand c.alloc_large.new.hand c.in_ok-flush-in-Large.ensures.flushes.1
@@ -61,8 +63,27 @@ returns-in-Err-NoRun-alloc_large-clause-acted c =
 pub returns-in-Err-NoRun-alloc_large-clause-caching : goal.returns-in-Err-NoRun-alloc_large-clause-caching
 returns-in-Err-NoRun-alloc_large-clause-caching c =
     let refused : AllocatesLarge c.args.shop.now.pages c.args.shop.now.distance c.in-Large.pages c.span_class.result c.flush.new.hand c.alloc_large.new.hand (Err (NoRun c.in-Err-NoRun-alloc_large.line)) =
-    subst (λ (r : Refused). AllocatesLarge c.args.shop.now.pages c.args.shop.now.distance c.in-Large.pages c.span_class.result c.flush.new.hand c.alloc_large.new.hand (Err r)) c.in-Err-NoRun-alloc_large.field-0-is c.in-Err-NoRun-alloc_large.ensures in
+    subst (λ (r : Refused). AllocatesLarge c.args.shop.now.pages c.args.shop.now.distance c.in-Large.pages c.span_class.result c.flush.new.hand c.alloc_large.new.hand (Err r)) c.in-Err-NoRun-alloc_large.field-0-is c.in-Err-NoRun-alloc_large.ensures.did in
     let did = refused.1 in
     let g : c.flush.new.hand.worker.view.generation ≡ c.args.hand.now.worker.view.generation = ap (λ (v : View). v.generation) c.in_ok-flush-in-Large.ensures.flushes.1.leaves.view in
     holds-caching c.args.hand.now.worker.view.generation did.0 c.flush.new.hand c.alloc_large.new.hand c.flush.new.proc (sym g) did.1
     (caching-of c.args.hand.now.worker.view.generation c.flush.new.hand.worker.view.generation c.flush.new.hand.worker.view.own c.flush.new.proc g c.in_ok-flush-in-Large.ensures.serves (c.in_ok-flush-in-Large.ensures.used c.requires.caching.used))
+
+pub returns-in-Zero-clause-counts : goal.returns-in-Zero-clause-counts
+returns-in-Zero-clause-counts c = counted-one c.args.shop.now.marks.now false c.args.bucket c.args.hand.now c.args.hand.now refl refl
+
+pub returns-in-Ok-clause-counts : goal.returns-in-Ok-clause-counts
+returns-in-Ok-clause-counts c = ones-counts c.args.shop.now.marks.now c.args.bucket c.in-Ok.placed.sampled c.args.hand.now c.alloc.new.hand c.in-Ok.ensures.counted
+
+pub returns-in-Err-NoRun-clause-counts : goal.returns-in-Err-NoRun-clause-counts
+returns-in-Err-NoRun-clause-counts c = refused-counts c.args.shop.now.marks.now c.args.bucket c.args.hand.now c.alloc.new.hand c.in-Err-NoRun.ensures.frees
+
+pub returns-in-Ok-alloc_large-clause-counts : goal.returns-in-Ok-alloc_large-clause-counts
+returns-in-Ok-alloc_large-clause-counts c =
+    large-counts c.args.shop.now.marks.now c.args.bucket c.count_placed-sampled.result c.args.hand.now c.flush.new.hand c.alloc_large.new.hand c.count_placed-sampled.new.hand
+    c.in_ok-flush-in-Large.ensures.tally c.in-Ok-alloc_large.ensures.tally (ap (λ n. n.items) c.count_placed-sampled.ensures.notes) c.count_placed-sampled.ensures.tally
+
+pub returns-in-Err-NoRun-alloc_large-clause-counts : goal.returns-in-Err-NoRun-alloc_large-clause-counts
+returns-in-Err-NoRun-alloc_large-clause-counts c =
+    refused-counts c.args.shop.now.marks.now c.args.bucket c.args.hand.now c.alloc_large.new.hand
+    (frees-both c.args.shop.now.marks.now c.args.hand.now c.flush.new.hand c.alloc_large.new.hand c.in_ok-flush-in-Large.ensures.tally c.in-Err-NoRun-alloc_large.ensures.tally)

@@ -1,5 +1,11 @@
-use Rattle.std.proofs.Common.{◌∙◌, [], refl, ap, sym}
-use Rattle.std.proofs.lemmas.List.{take_all}
+use Rattle.std.proofs.Common.{◌≡◌, ◌∙◌, ◌+◌, ◌<◌, ◌≤◌, ◌++◌, Bool, false, List, [], ◌∷◌, reverse, take, length, get_or, refl, ap, sym, arith}
+use Rattle.std.proofs.lemmas.List.{length-append, reverse-append, take_all, take_more}
+use Rattle.trace_reader.specs.declared.trace.Event.{Event}
+use Rattle.profile_cycle.specs.Sampling.{Countdown}
+use Rattle.sample_laws.specs.Counted.{one_count, sampled_counts}
+use Rattle.sample_laws.specs.Countdowns.{flag, spends}
+use Rattle.heap_run.proofs.Counting.{counts-may, counts-none, counts-then}
+use Rattle.heap_run.proofs.Sampling.{counts-next, flags-more}
 use Rattle.span_laws.specs.declared.view.View.{View}
 use Rattle.heap_run.specs.Turns.{SaysAnswers}
 use Rattle.heap_run.proofs.Acted.{acted-none, acted-then, answers-more}
@@ -7,10 +13,17 @@ use Rattle.heap_run.proofs.events.answer_all.Goals as goal
 
 pub loop-turn-init : goal.loop-turn-init
 loop-turn-init g c = record {
-  acted = rw c.new-answers.ensures (acted-none (SaysAnswers [] []) c.args.hand.now c.requires.idle tt);
+  acted = rw c.new.ensures (acted-none (SaysAnswers [] []) c.args.hand.now c.requires.idle tt);
   caching = c.requires.caching;
   number = refl;
+  size = ap (λ (l : List Bool). length l) c.new-2.ensures;
+  sampled = rw (c.new.ensures, c.new-2.ensures) refl;
+  spent_is = rw c.new.ensures refl;
+  counts = rw c.new-2.ensures (counts-none c.args.shop.now.marks.now c.args.hand.now c.args.hand.now refl refl);
 }
+
+pub answer-requires-clause-counts : goal.answer-requires-clause-counts
+answer-requires-clause-counts g c = counts-may c.args.shop.now.ring.now c.args.shop.now.marks.now _ c.args.hand.now c.loop-turn.hand c.requires.counts c.loop-turn.invariant.counts
 
 pub answer-requires-clause-here : goal.answer-requires-clause-here
 answer-requires-clause-here g c = c.loop-turn.invariant.acted.here ∙ c.requires.here
@@ -30,11 +43,26 @@ answer-requires-clause-caching g c = rw (ap (λ (v : View). v.generation) c.loop
 pub loop-turn-preserved : goal.loop-turn-preserved
 loop-turn-preserved g c =
     let i = c.loop-turn.invariant in
+    let d : Event = record { proc = 0; size = 0; scan = false; stack = 0 } in
+    let e = get_or c.args.events.now c.loop-turn.turn d in
+    let few : c.loop-turn.turn < length c.args.buckets.now = (let b = c.requires.buckets in let t = c.loop-turn-test.true in omega arith) in
+    let es : reverse (take (c.loop-turn.turn + 1) c.args.events.now) ≡ e ∷ reverse (take c.loop-turn.turn c.args.events.now) =
+    ap (λ (l : List Event). reverse l) (take_more c.args.events.now c.loop-turn.turn d c.loop-turn-test.true) ∙ reverse-append (take c.loop-turn.turn c.args.events.now) (e ∷ []) in
+    let an : reverse (c.loop-turn.outcomes.answers ++ c.in_ok-answer.answer ∷ []) ≡ c.in_ok-answer.answer ∷ reverse c.loop-turn.outcomes.answers = reverse-append c.loop-turn.outcomes.answers (c.in_ok-answer.answer ∷ []) in
+    let fl : reverse (c.loop-turn.outcomes.sampled ++ c.in_ok-answer.sampled ∷ []) ≡ c.in_ok-answer.sampled ∷ reverse c.loop-turn.outcomes.sampled = reverse-append c.loop-turn.outcomes.sampled (c.in_ok-answer.sampled ∷ []) in
+    let longer = length-append c.loop-turn.outcomes.sampled (c.in_ok-answer.sampled ∷ []) in
     record {
       acted = rw c.in_ok-push.ensures.ok (acted-then _ _ _ c.args.hand.now c.loop-turn.hand c.answer.new.hand i.acted c.in_ok-answer.ensures.acted
-          (λ first later was now. answers-more c.args.events.now c.loop-turn.answers c.loop-turn.turn _ c.in_ok-answer.field-0 first later c.loop-turn-test.true was now));
+          (λ first later was now. answers-more c.args.events.now c.loop-turn.outcomes.answers c.loop-turn.turn _ c.in_ok-answer.answer first later c.loop-turn-test.true was now));
       caching = rw (sym (ap (λ (v : View). v.generation) i.acted.view)) c.in_ok-answer.ensures.caching;
       number = c.in_ok-answer.ensures.number ∙ i.number;
+      size = ap (λ (l : List Bool). length l) c.in_ok-push-2.ensures.ok ∙ (let s = i.size in omega arith);
+      sampled = rw (c.in_ok-push.ensures.ok, c.in_ok-push-2.ensures.ok, es, an, fl) (flags-more c.args.proc.now.countdown (take c.loop-turn.turn c.args.events.now) c.loop-turn.outcomes.answers c.loop-turn.outcomes.sampled e c.in_ok-answer.answer c.in_ok-answer.sampled i.sampled
+          (c.in_ok-answer.ensures.sampled ∙ ap (λ (x : Countdown). flag x e c.in_ok-answer.answer) i.spent_is));
+      spent_is = rw (c.in_ok-push.ensures.ok, es, an) (c.in_ok-answer.ensures.spent ∙ ap (λ (x : Countdown). spends x e c.in_ok-answer.answer) i.spent_is);
+      counts = rw c.in_ok-push-2.ensures.ok (counts-then c.args.shop.now.marks.now (sampled_counts c.loop-turn.outcomes.sampled (take c.loop-turn.turn c.args.buckets.now)) (one_count c.in_ok-answer.sampled (get_or c.args.buckets.now c.loop-turn.turn 0)) _ c.args.hand.now c.loop-turn.hand c.answer.new.hand
+          i.counts c.in_ok-answer.ensures.counts
+          (λ b. counts-next c.loop-turn.outcomes.sampled c.args.buckets.now c.loop-turn.turn c.in_ok-answer.sampled b few i.size));
     }
 
 pub returns-clause-acted : goal.returns-clause-acted
@@ -47,3 +75,18 @@ returns-clause-caching g c = c.loop-turn.invariant.caching
 
 pub returns-clause-number : goal.returns-clause-number
 returns-clause-number g c = c.loop-turn.invariant.number
+
+pub returns-clause-sampled : goal.returns-clause-sampled
+returns-clause-sampled g c =
+    let whole = take_all c.loop-turn.turn c.args.events.now c.loop-turn-test.false in
+    rw whole at c.loop-turn.invariant.sampled
+
+pub returns-clause-spent : goal.returns-clause-spent
+returns-clause-spent g c =
+    let whole = take_all c.loop-turn.turn c.args.events.now c.loop-turn-test.false in
+    rw whole at c.loop-turn.invariant.spent_is
+
+pub returns-clause-counts : goal.returns-clause-counts
+returns-clause-counts g c =
+    let whole = take_all c.loop-turn.turn c.args.buckets.now (let l = c.loop-turn-test.false in let b = c.requires.buckets in omega arith) in
+    rw whole at c.loop-turn.invariant.counts

@@ -5,4 +5,4 @@ use Rattle.heap_run.proofs.run.run_trace.Goals as goal
 pub run_cycle-requires-2-clause-begun : goal.run_cycle-requires-2-clause-begun
 run_cycle-requires-2-clause-begun g c κs within =
     let all : c.loop-cycle.cycle ≡ c.len.result - 1 = (let past = c.loop-cycle-test.false in let end = c.loop-cycle.auto.cycle-end in omega arith) in
-    subst (λ (k : ℕ). HasBegun c.args.trace.now k c.loop-cycle.run) all c.loop-cycle.invariant
+    subst (λ (k : ℕ). HasBegun c.args.trace.now k c.loop-cycle.run) all c.loop-cycle.invariant.begun

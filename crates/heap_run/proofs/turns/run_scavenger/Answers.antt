@@ -1,42 +1,53 @@
-use Rattle.std.proofs.Common.{◌∙◌, ap, arith, refl}
+use Rattle.std.proofs.Common.{◌∙◌, ◌++◌, ap, arith, refl}
 use Rattle.std.proofs.lemmas.Result.{err_from_is_err_and}
-use Rattle.span_state.specs.declared.sweep.SweepNote.{SweepNote}
 use Rattle.span_laws.specs.Views.{Seen}
 use Rattle.span_set.specs.declared.hand.Hand.{Hand}
-use Rattle.sweep_lists.specs.Room.{Roomy}
 use Rattle.heap_run.specs.Turns.{HasActed, SaysNone}
-use Rattle.heap_run.proofs.Acted.{HandsOut, back-cached, ok-map, out-idle, turn-back}
+use Rattle.profile_cycle.specs.History.{Standing}
+use Rattle.heap_run.proofs.Counting.{counts-may, counts-none, counts-turn, frees-counts, out-cycle, out-may, out-split}
+use Rattle.heap_run.proofs.Acted.{HandsOut, back-cached, handed, ok-map, out-idle, turn-back}
 use Rattle.heap_run.proofs.Settling.{known-acted}
 use Rattle.heap_run.proofs.turns.run_scavenger.Goals as goal
 
+pub bring_back-requires-clause-ring : goal.bring_back-requires-clause-ring
+bring_back-requires-clause-ring g c = ap (λ (s : Standing). s.ring) c.in_ok-hand.ensures.tally ∙ c.requires.counts.ring
+
+pub bring_back-requires-clause-drives : goal.bring_back-requires-clause-drives
+bring_back-requires-clause-drives g c = ap (λ (s : Standing). s.view.drives) c.in_ok-hand.ensures.tally ∙ c.requires.drives
+
+pub bring_back-requires-clause-of_ring : goal.bring_back-requires-clause-of_ring
+bring_back-requires-clause-of_ring g c =
+    (counts-may c.args.shop.now.ring.now c.args.shop.now.marks.now _ c.in_ok-hand.hand (record { worker = c.scavenge_to.new.w; notes = c.in_ok-hand.hand.notes; tally = c.in_ok-hand.hand.tally })
+    (out-may c.args.shop.now.ring.now c.args.shop.now.marks.now _ c.args.driver.now c.in_ok-hand.hand c.requires.counts c.in_ok-hand.ensures.hand) (counts-none c.args.shop.now.marks.now c.in_ok-hand.hand (record { worker = c.scavenge_to.new.w; notes = c.in_ok-hand.hand.notes; tally = c.in_ok-hand.hand.tally }) refl refl)).ring
+
+pub bring_back-requires-clause-split : goal.bring_back-requires-clause-split
+bring_back-requires-clause-split g c = out-split c.args.shop.now.marks.now _ _ c.args.driver.now c.in_ok-hand.hand (record { worker = c.scavenge_to.new.w; notes = c.in_ok-hand.hand.notes; tally = c.in_ok-hand.hand.tally }) c.in_ok-hand.ensures.hand (counts-none c.args.shop.now.marks.now c.in_ok-hand.hand (record { worker = c.scavenge_to.new.w; notes = c.in_ok-hand.hand.notes; tally = c.in_ok-hand.hand.tally }) refl refl)
+
+pub bring_back-requires-clause-cycle : goal.bring_back-requires-clause-cycle
+bring_back-requires-clause-cycle g c = out-cycle c.args.shop.now.marks.now _ _ c.args.driver.now c.send_out.new.driver c.in_ok-hand.hand (record { worker = c.scavenge_to.new.w; notes = c.in_ok-hand.hand.notes; tally = c.in_ok-hand.hand.tally }) c.in_ok-hand.ensures.hand c.in_ok-hand.ensures.tally (counts-none c.args.shop.now.marks.now c.in_ok-hand.hand (record { worker = c.scavenge_to.new.w; notes = c.in_ok-hand.hand.notes; tally = c.in_ok-hand.hand.tally }) refl refl)
+
 pub returns-clause-turn : goal.returns-clause-turn
 returns-clause-turn g c =
-    let o : HandsOut 68 c.args.driver.now c.new-hand.result = record {
-      number = c.requires.driver;
-      parts = c.requires.parts;
-      low = omega arith;
-      out = c.new-hand.ensures.worker ∙ c.in_ok-worker.ensures.out;
-      none = ap (λ (r : Roomy SweepNote). r.items) c.new-hand.ensures.notes;
-    } in
-    let idle = out-idle 68 c.args.driver.now c.new-hand.result o c.requires.idle in
-    let end : Hand = record { worker = c.scavenge_to.new.w; notes = c.new-hand.result.notes } in
-    let acted : HasActed SaysNone c.new-hand.result end = known-acted c.new-hand.result end _ c.in_ok-scavenge_to.ensures.steps.2.view refl idle in
-    ok-map c.bring_back.result _ _ (λ notes. turn-back SaysNone 68 c.args.driver.now c.new-hand.result end c.bring_back.new.driver o acted c.bring_back.ensures.worker notes) c.bring_back.ensures.notes
+    let o : HandsOut 68 c.args.driver.now c.in_ok-hand.hand = handed 68 _ c.args.driver.now c.in_ok-hand.hand c.requires.driver c.requires.parts (omega arith) refl c.in_ok-hand.ensures.hand in
+    let idle = out-idle 68 c.args.driver.now c.in_ok-hand.hand o c.requires.idle in
+    let end : Hand = (record { worker = c.scavenge_to.new.w; notes = c.in_ok-hand.hand.notes; tally = c.in_ok-hand.hand.tally }) in
+    let acted : HasActed SaysNone c.in_ok-hand.hand end = known-acted c.in_ok-hand.hand end _ c.in_ok-scavenge_to.ensures.steps.2.view refl idle in
+    ok-map c.bring_back.result _ _ (λ notes. turn-back SaysNone 68 c.args.driver.now c.in_ok-hand.hand end c.bring_back.new.driver o acted c.bring_back.ensures.worker
+    (notes ∙ ap (λ n. n.items ++ c.in_ok-hand.hand.notes.items) c.in_ok-hand.ensures.notes)) c.bring_back.ensures.notes
 
 pub returns-clause-cached : goal.returns-clause-cached
 returns-clause-cached g c =
-    let o : HandsOut 68 c.args.driver.now c.new-hand.result = record {
-      number = c.requires.driver;
-      parts = c.requires.parts;
-      low = omega arith;
-      out = c.new-hand.ensures.worker ∙ c.in_ok-worker.ensures.out;
-      none = ap (λ (r : Roomy SweepNote). r.items) c.new-hand.ensures.notes;
-    } in
-    let idle = out-idle 68 c.args.driver.now c.new-hand.result o c.requires.idle in
-    let end : Hand = record { worker = c.scavenge_to.new.w; notes = c.new-hand.result.notes } in
-    let acted : HasActed SaysNone c.new-hand.result end = known-acted c.new-hand.result end _ c.in_ok-scavenge_to.ensures.steps.2.view refl idle in
-    ok-map c.bring_back.result _ _ (λ notes. back-cached SaysNone 68 c.args.driver.now c.new-hand.result end c.bring_back.new.driver o acted c.bring_back.ensures.worker
+    let o : HandsOut 68 c.args.driver.now c.in_ok-hand.hand = handed 68 _ c.args.driver.now c.in_ok-hand.hand c.requires.driver c.requires.parts (omega arith) refl c.in_ok-hand.ensures.hand in
+    let idle = out-idle 68 c.args.driver.now c.in_ok-hand.hand o c.requires.idle in
+    let end : Hand = (record { worker = c.scavenge_to.new.w; notes = c.in_ok-hand.hand.notes; tally = c.in_ok-hand.hand.tally }) in
+    let acted : HasActed SaysNone c.in_ok-hand.hand end = known-acted c.in_ok-hand.hand end _ c.in_ok-scavenge_to.ensures.steps.2.view refl idle in
+    ok-map c.bring_back.result _ _ (λ notes. back-cached SaysNone 68 c.args.driver.now c.in_ok-hand.hand end c.bring_back.new.driver o acted c.bring_back.ensures.worker
     (ap (λ (w : Seen). w.view.own.cached) c.in_ok-scavenge_to.ensures.steps.2.view)) c.bring_back.ensures.notes
+
+pub returns-clause-counts : goal.returns-clause-counts
+returns-clause-counts g c =
+    ok-map c.bring_back.result _ _ (λ notes. counts-turn c.args.shop.now.marks.now _ _ c.args.driver.now c.send_out.new.driver c.in_ok-hand.hand (record { worker = c.scavenge_to.new.w; notes = c.in_ok-hand.hand.notes; tally = c.in_ok-hand.hand.tally }) c.bring_back.new.driver c.in_ok-hand.ensures.hand c.in_ok-hand.ensures.notes c.in_ok-hand.ensures.tally
+    (counts-none c.args.shop.now.marks.now c.in_ok-hand.hand (record { worker = c.scavenge_to.new.w; notes = c.in_ok-hand.hand.notes; tally = c.in_ok-hand.hand.tally }) refl refl) notes c.bring_back.ensures.tally) c.bring_back.ensures.notes
 
 pub returns-in_err-scavenge_to-clause-cached : goal.returns-in_err-scavenge_to-clause-cached
 returns-in_err-scavenge_to-clause-cached g c = let p = err_from_is_err_and c.from_residual-in_err-scavenge_to.result c.from_residual-in_err-scavenge_to.ensures.1 in rw p.1 tt

@@ -2,7 +2,7 @@ use Rattle.std.proofs.Common.{◌≡◌, ℕ, ap, sym, subst, ◌∙◌}
 use Rattle.std.specs.Prelude.{Ok}
 use Rattle.profile_cycle.specs.Naming.{slot_for}
 use Rattle.profile_cycle.specs.Sampling.{Countdown, behind, is_sample}
-use Rattle.profile_cycle.proofs.Named.{slot-small}
+use Rattle.proc_cache.proofs.SlotSizes.{small_slot}
 use Rattle.span_laws.specs.Views.{Seen}
 use Rattle.span_set.proofs.Tallies.{may-still}
 use Rattle.proc_cache.specs.Allocs.{AllocatesIn}
@@ -11,8 +11,8 @@ use Rattle.proc_cache.specs.Serves.{IsUsedCache}
 use Rattle.proc_cache.proofs.Sampling.{allocates_to, counts_one, serves_to}
 use Rattle.proc_cache.proofs.allocs.alloc.Goals as goal
 
-pub count_placed-requires-clause-ring : goal.count_placed-requires-clause-ring
-count_placed-requires-clause-ring c = (may-still c.args.shop.now.marks.now c.args.shop.now.ring.now c.args.hand.now c.alloc_in.new.hand c.requires.counts c.alloc_in.ensures.tally).ring
+pub count_placed-sampled-requires-clause-ring : goal.count_placed-sampled-requires-clause-ring
+count_placed-sampled-requires-clause-ring c = (may-still c.args.shop.now.marks.now c.args.shop.now.ring.now c.args.hand.now c.alloc_in.new.hand c.requires.counts c.alloc_in.ensures.tally).ring
 
 pub returns-clause-allocates : goal.returns-clause-allocates
 returns-clause-allocates c = let mid = c.alloc_in.new.hand in let e = c.count_placed-sampled.ensures in (
@@ -27,11 +27,11 @@ pub returns-clause-number : goal.returns-clause-number
 returns-clause-number c = ap (λ (z : Cache). z.number) c.count_placed-sampled.ensures.cache ∙ c.alloc_in.ensures.number
 
 pub returns-clause-sampled : goal.returns-clause-sampled
-returns-clause-sampled c = let slot : c.from-slot.result ≡ slot_for c.args.event.size = c.from-slot.ensures ∙ c.slot_size.ensures.size ∙ slot-small c.args.event.size c.in-Small.class c.in-Small.ensures.0 c.in-Small.ensures.1 c.in-Small.ensures.2 in
+returns-clause-sampled c = let slot : c.from-slot.result ≡ slot_for c.args.event.size = c.from-slot.ensures ∙ c.slot_size.ensures.size ∙ small_slot c.args.event.size c.in-Small.class c.in-Small.ensures.0 c.in-Small.ensures.1 c.in-Small.ensures.2 in
     c.count_placed-sampled.ensures.sampled ∙ ap (λ (t : Countdown). is_sample t c.from-slot.result) c.alloc_in.ensures.countdown ∙ ap (is_sample c.args.proc.now.countdown) slot
 
 pub returns-clause-countdown : goal.returns-clause-countdown
-returns-clause-countdown c = let slot : c.from-slot.result ≡ slot_for c.args.event.size = c.from-slot.ensures ∙ c.slot_size.ensures.size ∙ slot-small c.args.event.size c.in-Small.class c.in-Small.ensures.0 c.in-Small.ensures.1 c.in-Small.ensures.2 in
+returns-clause-countdown c = let slot : c.from-slot.result ≡ slot_for c.args.event.size = c.from-slot.ensures ∙ c.slot_size.ensures.size ∙ small_slot c.args.event.size c.in-Small.class c.in-Small.ensures.0 c.in-Small.ensures.1 c.in-Small.ensures.2 in
     ap (λ (z : Cache). z.countdown) c.count_placed-sampled.ensures.cache ∙ ap (λ (t : Countdown). behind t c.from-slot.result) c.alloc_in.ensures.countdown ∙ ap (behind c.args.proc.now.countdown) slot
 
 pub returns-clause-counted : goal.returns-clause-counted

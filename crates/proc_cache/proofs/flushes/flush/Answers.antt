@@ -28,7 +28,7 @@ loop-class-init c = record {
 pub loop-class-preserved : goal.loop-class-preserved
 loop-class-preserved c = record {
   some = some_more c.args.proc.now c.args.hand.now c.loop-class.class c.loop-class.proc c.flush_class.new.proc c.loop-class.hand c.flush_class.new.hand c.loop-class.invariant.some
-    c.in_ok-flush_class.ensures.flushes.0 c.in_ok-flush_class.ensures.flushes.1 c.flush_class.ensures.serves;
+      c.in_ok-flush_class.ensures.flushes.0 c.in_ok-flush_class.ensures.flushes.1 c.flush_class.ensures.serves;
   countdown = c.flush_class.ensures.countdown ∙ c.loop-class.invariant.countdown;
   tally = frees-both c.args.shop.now.marks.now c.args.hand.now c.loop-class.hand c.flush_class.new.hand c.loop-class.invariant.tally c.flush_class.ensures.tally;
 }

@@ -1,5 +1,4 @@
-use Rattle.std.proofs.Common.{◌≡◌, List, [], ◌∷◌, ◌++◌, length, get_or, take_all, ◌∙◌, sym, ap, subst}
-use Rattle.cycle_history.specs.declared.Prof.{Prof}
+use Rattle.std.proofs.Common.{◌≡◌, [], ◌∷◌, ◌++◌, length, get_or, ◌∙◌, sym, subst}
 use Rattle.profile_cycle.specs.History.{Standing}
 use Rattle.profile_lines.specs.Read.{AreFew, all_lines}
 use Rattle.profile_lines.proofs.Reading.{in-at, all-next}

@@ -1,4 +1,5 @@
-use Rattle.std.proofs.Common.{◌≡◌, ℕ, suc, ◌+◌, ◌-◌, ◌<◌, ◌≤◌, length, refl, sym, ◌∙◌, arith, subst}
+use Rattle.std.proofs.Common.{◌≡◌, ℕ, suc, ◌+◌, ◌-◌, ◌<◌, ◌≤◌, List, length, map, reverse, refl, sym, ◌∙◌, ap, arith, subst}
+use Rattle.std.proofs.lemmas.List.{length-map}
 use Rattle.cycle_history.proofs.OfObjects.{answers-before}
 use Rattle.cycle_history.specs.Marked.{AreMarksOf, objects_before}
 use Rattle.sound_run.proofs.OfObjects.{run-places}
@@ -7,12 +8,13 @@ use Rattle.span_set.specs.declared.hand.Hand.{Hand}
 use Rattle.heap_run.specs.Runs.{HasBegun}
 use Rattle.heap_run.specs.declared.run.Run.{Run}
 use Rattle.heap_run.proofs.MarkEnds.{has-reset, mark-begins, may-mark}
-use Rattle.heap_run.proofs.Running.{rises-from}
+use Rattle.span_state.specs.MarkSet.{has_pair}
+use Rattle.span_laws.specs.Views.{allocated_pairs}
+use Rattle.sample_laws.specs.Counted.{events_before}
+use Rattle.sample_laws.specs.Numbers.{number_of}
+use Rattle.heap_run.proofs.Telling.{few-marked}
+use Rattle.heap_run.proofs.Running.{few-answers, rises-from, some-cycle}
 use Rattle.heap_run.proofs.run.Run.mark_end.Goals as goal
-
--- a list that was behind is as long as the answers, once as many as it left out are put behind it
-caught-up : (list list' answers all some_now : ℕ) → list ≤ answers → all ≡ answers → some_now ≡ list → list' ≡ list + (all - some_now) → list' ≡ answers
-caught-up list list' answers all some_now below whole part more = omega arith
 
 pub marks_of-requires-clause-answers : goal.marks_of-requires-clause-answers
 marks_of-requires-clause-answers c =
@@ -22,15 +24,13 @@ marks_of-requires-clause-answers c =
 pub marks_of-requires-clause-sampled : goal.marks_of-requires-clause-sampled
 marks_of-requires-clause-sampled c =
     let n : c.args.cycle + 1 ≡ suc c.args.cycle = omega arith in
-    let all = answers-before c.args.trace.now (suc c.args.cycle) c.args.self.now.answers c.requires.ran.objects c.requires.ran.asked in
-    caught-up _ _ _ _ _ c.requires.ran.set.sampled c.len.ensures c.len-2.ensures c.in_ok-sample_none.ensures.sampled ∙ rw n all
+    c.requires.ran.profiled.flags ∙ rw n (answers-before c.args.trace.now (suc c.args.cycle) c.args.self.now.answers c.requires.ran.objects c.requires.ran.asked)
 
 pub marks_of-requires-clause-buckets : goal.marks_of-requires-clause-buckets
 marks_of-requires-clause-buckets c =
     let n : c.args.cycle + 1 ≡ suc c.args.cycle = omega arith in
-    let all = answers-before c.args.trace.now (suc c.args.cycle) c.args.self.now.answers c.requires.ran.objects c.requires.ran.asked in
-    let s = c.requires.ran.set in
-    caught-up _ _ _ _ _ (rw s.buckets s.sampled) c.len.ensures (rw s.buckets c.len-2.ensures) c.in_ok-sample_none.ensures.buckets ∙ rw n all
+    let p = c.requires.ran.profiled in
+    rw n (ap (λ (l : List ℕ). length l) p.numbers ∙ length-map (events_before c.args.trace.now (suc c.args.cycle)) (number_of c.args.self.now.profile.known))
 
 pub marks_of-requires-clause-places : goal.marks_of-requires-clause-places
 marks_of-requires-clause-places c =
@@ -48,51 +48,91 @@ next_generation-requires-clause-rising c = rises-from c.in_ok-pairs.pairs (subst
 pub next_generation-requires-clause-may : goal.next_generation-requires-clause-may
 next_generation-requires-clause-may c =
     let ran = c.requires.ran in
+    let old : Run = c.args.self.now in
     let n : c.args.cycle + 1 ≡ suc c.args.cycle = omega arith in
-    let e : Hand = record { worker = c.reset.new.driver; notes = c.args.self.now.driver.notes } in
-    let few : length c.args.self.now.procs.items ≤ 64 = (let p = ran.set.procs in let h = c.requires.limits.header.procs.1 in omega arith) in
-    let r = has-reset c.args.self.now.procs.items c.args.self.now.driver e ran.set.parts few ran.set.driving ran.flushed c.reset.ensures refl in
-    let found : AreMarksOf c.args.trace.now (suc c.args.cycle) c.args.self.now.answers c.sample_none.new.sampled c.sample_none.new.buckets c.in_ok-marks.marks = rw n at c.in_ok-marks.ensures.marks in
+    let e : Hand = record { worker = c.reset.new.driver; notes = old.driver.notes; tally = old.driver.tally } in
+    let few : length old.procs.items ≤ 64 = (let p = ran.set.procs in let h = c.requires.limits.header.procs.1 in omega arith) in
+    let r = has-reset old.procs.items old.driver e ran.set.parts few ran.set.driving ran.flushed c.reset.ensures refl in
+    let found : AreMarksOf c.args.trace.now (suc c.args.cycle) old.answers old.sampled old.buckets c.in_ok-marks.marks = rw n at c.in_ok-marks.ensures.marks in
     let early : c.args.cycle < 10001 = (let a = c.requires.before in let b = c.requires.limits.mark_ends in omega arith) in
-    may-mark c.args.trace.now c.args.cycle c.args.self.now e c.sample_none.new.sampled c.sample_none.new.buckets c.in_ok-marks.marks c.in_ok-pairs.pairs early few ran r found c.in_ok-pairs.ensures.pairs
+    may-mark c.args.trace.now c.args.cycle old e old.sampled old.buckets c.in_ok-marks.marks c.in_ok-pairs.pairs early few ran r found c.in_ok-pairs.ensures.pairs
 
-pub returns : goal.returns
-returns c =
+pub next_cycle-requires-clause-ring : goal.next_cycle-requires-clause-ring
+next_cycle-requires-clause-ring c = c.requires.ran.profiled.ring
+
+pub next_cycle-requires-clause-drives : goal.next_cycle-requires-clause-drives
+next_cycle-requires-clause-drives c = c.requires.ran.profiled.drives
+
+pub next_cycle-requires-clause-alone : goal.next_cycle-requires-clause-alone
+next_cycle-requires-clause-alone c = c.requires.ran.profiled.alone
+
+pub next_cycle-requires-clause-room : goal.next_cycle-requires-clause-room
+next_cycle-requires-clause-room c = c.requires.ran.profiled.room
+
+pub next_cycle-requires-clause-order : goal.next_cycle-requires-clause-order
+next_cycle-requires-clause-order c = c.requires.ran.profiled.order
+
+pub next_cycle-requires-clause-before : goal.next_cycle-requires-clause-before
+next_cycle-requires-clause-before c = c.requires.ran.profiled.before
+
+pub next_cycle-requires-clause-few : goal.next_cycle-requires-clause-few
+next_cycle-requires-clause-few c =
+    let ran = c.requires.ran in
+    let old : Run = c.args.self.now in
+    let least = some-cycle 0 (λ _. ⊥) c.args.trace.now.cycles c.requires.limits.cycles in
+    let inside : c.args.cycle < length c.args.trace.now.cycles = (let b = c.requires.before in omega arith) in
+    few-marked c.args.trace.now c.args.cycle old ran.past ran.objects (has_pair (allocated_pairs old.driver.worker.number old.driver.worker.view)) (reverse old.sweeps) ran.reached ran.profiled ran.counted
+    (few-answers c.args.trace.now c.args.cycle old c.requires.limits inside ran ran.objects ran.asked)
+
+pub returns-clause-begun : goal.returns-clause-begun
+returns-clause-begun c =
     let t = c.args.trace.now in
     let ran = c.requires.ran in
     let old : Run = c.args.self.now in
     let n : c.args.cycle + 1 ≡ suc c.args.cycle = omega arith in
-    let e : Hand = record { worker = c.reset.new.driver; notes = old.driver.notes } in
+    let e : Hand = record { worker = c.reset.new.driver; notes = old.driver.notes; tally = old.driver.tally } in
     let few : length old.procs.items ≤ 64 = (let p = ran.set.procs in let h = c.requires.limits.header.procs.1 in omega arith) in
     let r = has-reset old.procs.items old.driver e ran.set.parts few ran.set.driving ran.flushed c.reset.ensures refl in
-    let found : AreMarksOf t (suc c.args.cycle) old.answers c.sample_none.new.sampled c.sample_none.new.buckets c.in_ok-marks.marks = rw n at c.in_ok-marks.ensures.marks in
+    let found : AreMarksOf t (suc c.args.cycle) old.answers old.sampled old.buckets c.in_ok-marks.marks = rw n at c.in_ok-marks.ensures.marks in
     let new : Run = record {
       shared = c.next_generation.new.self;
-      driver = record { worker = c.next_generation.new.driver; notes = old.driver.notes };
+      driver = record { worker = c.next_generation.new.driver; notes = old.driver.notes; tally = c.next_cycle.new.tally };
       procs = old.procs;
       marks = c.in_ok-marks.marks;
       answers = old.answers;
       sweeps = old.sweeps;
-      sampled = c.sample_none.new.sampled;
-      buckets = c.sample_none.new.buckets;
+      sampled = old.sampled;
+      buckets = old.buckets;
+      profile = c.next_cycle.new.self;
       places = c.marks_of.new.places;
     } in
     let kept : length c.marks_of.new.places ≡ objects_before t (suc c.args.cycle) = rw n at c.in_ok-marks.ensures.kept in
+    let least = some-cycle 0 (λ _. ⊥) t.cycles c.requires.limits.cycles in
+    let inside : c.args.cycle < length t.cycles = (let b = c.requires.before in omega arith) in
     let begun : HasBegun t (suc c.args.cycle) new = mark-begins t c.args.cycle old new e c.in_ok-marks.marks c.in_ok-pairs.pairs ran (record {
       reset = r;
-      found = found;
       same = c.in_ok-pairs.ensures.pairs;
       worker = c.next_generation.ensures.view;
       notes = refl;
       shared = c.next_generation.ensures.table;
       procs = refl;
-      marks_are = refl;
-      answers = refl;
       sweeps = refl;
-      sampled = (
-          let all = caught-up _ _ _ _ _ ran.set.sampled c.len.ensures c.len-2.ensures c.in_ok-sample_none.ensures.sampled in
-          omega arith);
-      buckets = (let b = ran.set.buckets in let x = c.in_ok-sample_none.ensures.sampled in let y = c.in_ok-sample_none.ensures.buckets in omega arith);
+      profile = record {
+        inside = inside;
+        found = found;
+        marks_are = refl;
+        procs = refl;
+        answers = refl;
+        sampled = refl;
+        buckets = refl;
+        each = c.in_ok-next_cycle.ensures.each;
+        ring = c.in_ok-next_cycle.ensures.ring;
+        known = c.in_ok-next_cycle.ensures.known;
+        order = c.in_ok-next_cycle.ensures.order;
+        tally = c.in_ok-next_cycle.ensures.tally;
+        unread = c.in_ok-next_cycle.ensures.unread;
+        read = c.in_ok-next_cycle.ensures.read;
+      };
       kept = kept;
       places = c.in_ok-marks.ensures.found;
     }) in

@@ -1,28 +1,57 @@
-use Rattle.std.proofs.Common.{◌≡◌, ◌<◌, [], List, length, get_or, refl, sym, ◌∙◌, ap, arith, subst}
+use Rattle.std.proofs.Common.{◌≡◌, ℕ, ◌+◌, ◌<◌, ◌≤◌, ◌++◌, [], All, List, length, map, get_or, refl, sym, ◌∙◌, ap, arith, subst}
+use Rattle.std.proofs.lemmas.List.{length-map}
+use Rattle.std.proofs.lemmas.List.Elements.{All-from_recursion}
 use Rattle.std.specs.List.{AllByRecursion}
 use Rattle.trace_reader.specs.declared.trace.Event.{Event}
 use Rattle.trace_reader.specs.Limits.{EventFits}
 use Rattle.cycle_history.specs.declared.Answer.{Answer}
+use Rattle.profile_cycle.specs.History.{Standing}
+use Rattle.profile_cycle.specs.Naming.{HasSize}
 use Rattle.span_laws.specs.Views.{Seen}
 use Rattle.span_set.specs.declared.hand.Hand.{Hand}
+use Rattle.sample_laws.specs.By.{answers_by, events_by}
+use Rattle.sample_laws.specs.Numbers.{number_of}
+use Rattle.sample_laws.proofs.Numbered.{number-below}
+use Rattle.heap_run.specs.Counts.{AreNumbered, Counts}
 use Rattle.heap_run.specs.Parts.{part_at}
-use Rattle.heap_run.specs.Served.{answers_by, events_by}
 use Rattle.heap_run.specs.Settled.{HasWorked}
 use Rattle.heap_run.specs.Turns.{IsDriving}
 use Rattle.heap_run.specs.declared.run.Run.{Run}
-use Rattle.heap_run.proofs.Acted.{ok-map}
+use Rattle.heap_run.proofs.Counting.{counts-as}
+use Rattle.heap_run.proofs.Profiling.{HasTallied}
 use Rattle.heap_run.proofs.Running.{blank-collecting, blank-none, cycle-fits, cycle-run, events-of, given-sizes, procs-below, sizes-by, some-cycle}
+use Rattle.heap_run.proofs.Sampling.{sampled-sizes}
+use Rattle.heap_run.proofs.Telling.{map-below}
 use Rattle.heap_run.proofs.run.Run.run_cycle.Goals as goal
 
-pub queues_of-requires : goal.queues_of-requires
-queues_of-requires g c =
+-- the sizes of a cycle's events
+all-sizes : (procs : ℕ) (events : List Event) → AllByRecursion (EventFits procs) events → AllByRecursion HasSize events
+all-sizes procs [] all = tt
+all-sizes procs (e ∷ events) all = (all.0.size, all-sizes procs events all.1)
+
+all-procs : (procs n : ℕ) (events : List Event) → n ≡ procs → AllByRecursion (EventFits procs) events → AllByRecursion (λ (e : Event). e.proc < n) events
+all-procs procs n [] same all = tt
+all-procs procs n (e ∷ events) same all = ((let p = all.0.proc in omega arith), all-procs procs n events same all.1)
+
+pub queues_of-requires-clause-below : goal.queues_of-requires-clause-below
+queues_of-requires-clause-below g c =
     let t = c.args.trace.now in
     let d = c.index-as_slice-cycle.result in
     let least = some-cycle 0 (λ _. ⊥) t.cycles c.requires.limits.cycles in
     let inside : c.args.cycle < length t.cycles = (let i = c.requires.inside in omega arith) in
     let ev = events-of c.as_slice-events.result.now c.as_slice.result.now t.cycles c.args.cycle d c.as_slice-events.ensures c.as_slice.ensures in
     let fits : AllByRecursion (EventFits t.header.procs) c.as_slice-events.result.now = subst (λ (l : List Event). AllByRecursion (EventFits t.header.procs) l) (sym ev) (cycle-fits t c.args.cycle d c.requires.limits inside) in
-    record { below = procs-below t.header.procs t.header.procs c.as_slice-events.result.now refl fits }
+    procs-below t.header.procs t.header.procs c.as_slice-events.result.now refl fits
+
+pub queues_of-requires-clause-sizes : goal.queues_of-requires-clause-sizes
+queues_of-requires-clause-sizes g c =
+    let t = c.args.trace.now in
+    let d = c.index-as_slice-cycle.result in
+    let least = some-cycle 0 (λ _. ⊥) t.cycles c.requires.limits.cycles in
+    let inside : c.args.cycle < length t.cycles = (let i = c.requires.inside in omega arith) in
+    let ev = events-of c.as_slice-events.result.now c.as_slice.result.now t.cycles c.args.cycle d c.as_slice-events.ensures c.as_slice.ensures in
+    let fits : AllByRecursion (EventFits t.header.procs) c.as_slice-events.result.now = subst (λ (l : List Event). AllByRecursion (EventFits t.header.procs) l) (sym ev) (cycle-fits t c.args.cycle d c.requires.limits inside) in
+    all-sizes t.header.procs c.as_slice-events.result.now fits
 
 pub run_workers-requires-clause-sizes : goal.run_workers-requires-clause-sizes
 run_workers-requires-clause-sizes g c κs low w =
@@ -32,11 +61,29 @@ run_workers-requires-clause-sizes g c κs low w =
     let inside : c.args.cycle < length t.cycles = (let i = c.requires.inside in omega arith) in
     let ev = events-of c.as_slice-events.result.now c.as_slice.result.now t.cycles c.args.cycle d c.as_slice-events.ensures c.as_slice.ensures in
     let fits : AllByRecursion (EventFits t.header.procs) c.as_slice-events.result.now = subst (λ (l : List Event). AllByRecursion (EventFits t.header.procs) l) (sym ev) (cycle-fits t c.args.cycle d c.requires.limits inside) in
-    sizes-by t.header.procs w c.as_slice-events.result.now (get_or c.as_slice-2.result.now w []) (ap (λ (l : List (List Event)). get_or l w []) c.as_slice-2.ensures.value ∙ c.in_ok-queues.ensures.queues w) fits
+    sizes-by t.header.procs w c.as_slice-events.result.now (get_or c.in_ok-queues.queues.events.items w []) (c.in_ok-queues.ensures.queues w) fits
+
+pub run_workers-requires-clause-counts : goal.run_workers-requires-clause-counts
+run_workers-requires-clause-counts g c κs low = record { ring = c.requires.begun.profiled.ring; dead = c.requires.begun.counting.may }
+
+pub run_workers-requires-clause-drives : goal.run_workers-requires-clause-drives
+run_workers-requires-clause-drives g c κs low = c.requires.begun.profiled.drives
+
+pub run_workers-requires-clause-numbered : goal.run_workers-requires-clause-numbered
+run_workers-requires-clause-numbered g c κs low = record {
+  sizes = λ w. ap (λ (l : List ℕ). length l) (c.in_ok-queues.ensures.buckets w) ∙ length-map _ _ ∙ ap (λ (l : List Event). length l) (sym (c.in_ok-queues.ensures.queues w));
+  below = λ w. (
+      let room = c.requires.begun.profiled.room in
+      let bound = c.args.self.now.profile.ring.buckets in
+      let some = c.requires.begun.profiled.some in
+      subst (λ (l : List ℕ). All (λ b. b < bound) l) (sym (c.in_ok-queues.ensures.buckets w))
+      (All-from_recursion (λ (b : ℕ). b < bound) (map (number_of c.args.self.now.profile.known) (events_by w c.as_slice-events.result.now))
+      (map-below bound (number_of c.args.self.now.profile.known) (events_by w c.as_slice-events.result.now) (λ e. number-below c.args.self.now.profile.known e bound some room))));
+}
 
 pub run_workers-requires-clause-collecting : goal.run_workers-requires-clause-collecting
 run_workers-requires-clause-collecting g c κs low =
-    let d : Hand = record { worker = c.pages_taken-pages.new.w; notes = c.args.self.now.driver.notes } in
+    let d : Hand = record { worker = c.pages_taken-pages.new.w; notes = c.args.self.now.driver.notes; tally = c.args.self.now.driver.tally } in
     blank-collecting d (λ w. ap (λ (x : Seen). (part_at x w).log) c.pages_taken-pages.ensures.same ∙ c.requires.begun.blank w) c.requires.begun.set.notes
 
 pub run_workers-requires-clause-quiet : goal.run_workers-requires-clause-quiet
@@ -51,36 +98,68 @@ merge-requires-clause-below g c =
     let inside : c.args.cycle < length t.cycles = (let i = c.requires.inside in omega arith) in
     let ev = events-of c.as_slice-events.result.now c.as_slice.result.now t.cycles c.args.cycle d c.as_slice-events.ensures c.as_slice.ensures in
     let fits : AllByRecursion (EventFits t.header.procs) c.as_slice-events.result.now = subst (λ (l : List Event). AllByRecursion (EventFits t.header.procs) l) (sym ev) (cycle-fits t c.args.cycle d c.requires.limits inside) in
-    let count : length c.as_slice-3.result.now ≡ t.header.procs = (let a = c.as_slice-3.ensures.len in let b = c.in_ok-given.ensures.size in let e = c.requires.begun.set.procs in omega (arith, c.args.self.now.procs.ok.0)) in
-    procs-below t.header.procs (length c.as_slice-3.result.now) c.as_slice-events.result.now count fits
+    let count : length c.as_slice-2.result.now ≡ t.header.procs = (let a = c.as_slice-2.ensures.len in let b = c.in_ok-given.ensures.size.0 in let e = c.requires.begun.set.procs in omega (arith, c.args.self.now.procs.ok.0)) in
+    procs-below t.header.procs (length c.as_slice-2.result.now) c.as_slice-events.result.now count fits
 
 pub merge-requires-clause-sizes : goal.merge-requires-clause-sizes
 merge-requires-clause-sizes g c w =
-    ap (λ (l : List (List Answer)). length (get_or l w [])) c.as_slice-3.ensures.value
-    ∙ given-sizes c.as_slice-2.result.now c.in_ok-given.given.items c.as_slice-events.result.now c.run_workers.new.driver.worker c.in_ok-given.ensures.ran.answered
-    (λ v. ap (λ (l : List (List Event)). get_or l v []) c.as_slice-2.ensures.value ∙ c.in_ok-queues.ensures.queues v) w
+    ap (λ (l : List (List Answer)). length (get_or l w [])) c.as_slice-2.ensures.value
+    ∙ given-sizes c.in_ok-queues.queues.events.items c.in_ok-given.given.answers.items c.as_slice-events.result.now c.run_workers.new.driver.worker c.in_ok-given.ensures.ran.answered c.in_ok-queues.ensures.queues w
 
-pub returns : goal.returns
-returns g c =
+pub merge-requires-2-clause-below : goal.merge-requires-2-clause-below
+merge-requires-2-clause-below g c =
     let t = c.args.trace.now in
     let d = c.index-as_slice-cycle.result in
     let least = some-cycle 0 (λ _. ⊥) t.cycles c.requires.limits.cycles in
     let inside : c.args.cycle < length t.cycles = (let i = c.requires.inside in omega arith) in
     let ev = events-of c.as_slice-events.result.now c.as_slice.result.now t.cycles c.args.cycle d c.as_slice-events.ensures c.as_slice.ensures in
+    let fits : AllByRecursion (EventFits t.header.procs) c.as_slice-events.result.now = subst (λ (l : List Event). AllByRecursion (EventFits t.header.procs) l) (sym ev) (cycle-fits t c.args.cycle d c.requires.limits inside) in
+    let count : length c.as_slice-3.result.now ≡ t.header.procs = (let a = c.as_slice-3.ensures.len in let b = c.in_ok-given.ensures.size.1 in let e = c.requires.begun.set.procs in omega (arith, c.args.self.now.procs.ok.0)) in
+    procs-below t.header.procs (length c.as_slice-3.result.now) c.as_slice-events.result.now count fits
+
+pub merge-requires-2-clause-sizes : goal.merge-requires-2-clause-sizes
+merge-requires-2-clause-sizes g c w =
+    let queue = c.in_ok-queues.ensures.queues in
+    let answered = given-sizes c.in_ok-queues.queues.events.items c.in_ok-given.given.answers.items c.as_slice-events.result.now c.run_workers.new.driver.worker c.in_ok-given.ensures.ran.answered queue in
+    let as_many : (v : ℕ) → length (get_or c.in_ok-given.given.answers.items v []) ≡ length (get_or c.in_ok-queues.queues.events.items v []) = λ v. answered v ∙ ap (λ (l : List Event). length l) (sym (queue v)) in
+    ap (λ l. length (get_or l w [])) c.as_slice-3.ensures.value
+    ∙ sampled-sizes c.in_ok-queues.queues.events.items c.in_ok-given.given.answers.items c.in_ok-given.given.sampled.items c.args.self.now.procs.items c.run_workers.new.procs.items c.in_ok-given.ensures.sampled
+    (let a = c.in_ok-given.ensures.size.1 in omega (arith, c.args.self.now.procs.ok.0)) (let a = c.in_ok-queues.ensures.length.0 in let e = c.requires.begun.set.procs in omega (arith, c.args.self.now.procs.ok.0)) as_many w
+    ∙ ap (λ (l : List Event). length l) (queue w)
+
+pub end_sweep-requires-clause-ring : goal.end_sweep-requires-clause-ring
+end_sweep-requires-clause-ring g c = ap (λ (s : Standing). s.ring) c.in_ok-given.ensures.counts.tally ∙ c.requires.begun.profiled.ring
+
+pub end_sweep-requires-clause-drives : goal.end_sweep-requires-clause-drives
+end_sweep-requires-clause-drives g c = ap (λ (s : Standing). s.view.drives) c.in_ok-given.ensures.counts.tally ∙ c.requires.begun.profiled.drives
+
+pub end_sweep-requires-clause-alone : goal.end_sweep-requires-clause-alone
+end_sweep-requires-clause-alone g c = ap (λ (s : Standing). s.view.out) c.in_ok-given.ensures.counts.tally ∙ c.requires.begun.profiled.alone
+
+pub returns-clause-ran : goal.returns-clause-ran
+returns-clause-ran g c =
+    let t = c.args.trace.now in
+    let d = c.index-as_slice-cycle.result in
+    let least = some-cycle 0 (λ _. ⊥) t.cycles c.requires.limits.cycles in
+    let inside : c.args.cycle < length t.cycles = (let i = c.requires.inside in omega arith) in
+    let ev = events-of c.as_slice-events.result.now c.as_slice.result.now t.cycles c.args.cycle d c.as_slice-events.ensures c.as_slice.ensures in
+    let fits : AllByRecursion (EventFits t.header.procs) c.as_slice-events.result.now = subst (λ (l : List Event). AllByRecursion (EventFits t.header.procs) l) (sym ev) (cycle-fits t c.args.cycle d c.requires.limits inside) in
     let old : Run = c.args.self.now in
     let new : Run = record {
       shared = old.shared;
-      driver = record { worker = c.run_workers.new.driver.worker; notes = c.file_notes.new.notes };
+      driver = record { worker = c.run_workers.new.driver.worker; notes = c.file_notes.new.notes; tally = c.end_sweep.new.tally };
       procs = c.run_workers.new.procs;
       marks = old.marks;
-      answers = c.merge.new.answers;
+      answers = c.merge.new.merged;
       sweeps = c.file_notes.new.sweeps;
-      sampled = old.sampled;
-      buckets = old.buckets;
+      sampled = c.merge-2.new.merged;
+      buckets = c.queues_of.new.numbers;
+      profile = c.end_sweep.new.self;
       places = old.places;
     } in
+    let start : Hand = record { worker = c.pages_taken-pages.new.w; notes = old.driver.notes; tally = old.driver.tally } in
     let ran = c.in_ok-given.ensures.ran in
-    let worked : HasWorked c.as_slice-2.result.now c.in_ok-given.given.items old.driver new.procs.items c.run_workers.new.driver = record {
+    let worked : HasWorked c.in_ok-queues.queues.events.items c.in_ok-given.given.answers.items old.driver new.procs.items c.run_workers.new.driver = record {
       driving = subst (λ (w : Seen). IsDriving w new.procs.items c.run_workers.new.driver) c.pages_taken-pages.ensures.same ran.driving;
       collecting = ran.collecting;
       answered = ran.answered;
@@ -88,15 +167,34 @@ returns g c =
       settled = ran.settled;
     } in
     let m = c.in_ok-merge.ensures in
-    ok-map c.file_notes.result _ _ (λ filed. cycle-run t c.args.cycle d old new c.as_slice-2.result.now c.in_ok-given.given.items c.run_workers.new.driver c.requires.limits c.requires.begun (record {
+    let n = c.in_ok-merge-2.ensures in
+    let same_procs : length new.procs.items ≡ length old.procs.items = (let p = c.in_ok-given.ensures.procs in omega (arith, c.args.self.now.procs.ok.0, c.run_workers.new.procs.ok.0)) in
+    let tallied : HasTallied t c.args.cycle d old new c.in_ok-queues.queues.events.items c.in_ok-given.given.answers.items m.0 c.run_workers.new.driver = record {
+      procs = all-procs t.header.procs (length old.procs.items) _ c.requires.begun.set.procs (cycle-fits t c.args.cycle d c.requires.limits inside);
+      numbers_grown = c.in_ok-queues.ensures.numbers ∙ ap (λ (l : List Event). old.buckets ++ map (number_of old.profile.known) l) ev;
+      number_parts = c.in_ok-queues.queues.buckets.items;
+      numbers_are = λ w. c.in_ok-queues.ensures.buckets w ∙ ap (λ (l : List Event). map (number_of old.profile.known) (events_by w l)) ev;
+      flag_parts = c.in_ok-given.given.sampled.items;
+      given_flags = n.0;
+      flags_grown = n.1;
+      flags_long = n.2 ∙ ap (λ (l : List Event). length l) ev;
+      flags_merged = λ w. ap (λ (l : List Event). answers_by w l n.0) (sym ev) ∙ n.3 w ∙ ap (λ l. get_or l w []) c.as_slice-3.ensures.value;
+      sampled = c.in_ok-given.ensures.sampled;
+      counts = counts-as old.marks _ start c.run_workers.new.driver old.driver c.run_workers.new.driver c.in_ok-given.ensures.counts refl refl refl refl;
+      first = c.end_sweep.ensures.first;
+      later = c.end_sweep.ensures.later;
+      profile = c.end_sweep.ensures.profile;
+    } in
+    let filed = c.in_ok-file_notes.ensures in
+    cycle-run t c.args.cycle d old new c.in_ok-queues.queues.events.items c.in_ok-given.given.answers.items c.run_workers.new.driver c.requires.limits c.requires.begun (record {
       inside = inside;
-      queued = λ w. ap (λ (l : List (List Event)). get_or l w []) c.as_slice-2.ensures.value ∙ c.in_ok-queues.ensures.queues w ∙ ap (λ (l : List Event). events_by w l) ev;
+      queued = λ w. c.in_ok-queues.ensures.queues w ∙ ap (λ (l : List Event). events_by w l) ev;
       worked = worked;
-      procs = (let p = c.in_ok-given.ensures.procs in omega (arith, c.args.self.now.procs.ok.0, c.run_workers.new.procs.ok.0));
+      procs = same_procs;
       more = m.0;
       grown = m.1;
       long = m.2 ∙ ap (λ (l : List Event). length l) ev;
-      merged = λ w. ap (λ (l : List Event). answers_by w l m.0) (sym ev) ∙ m.3 w ∙ ap (λ (l : List (List Answer)). get_or l w []) c.as_slice-3.ensures.value;
+      merged = λ w. ap (λ (l : List Event). answers_by w l m.0) (sym ev) ∙ m.3 w ∙ ap (λ (l : List (List Answer)). get_or l w []) c.as_slice-2.ensures.value;
       sorted = filed.1.0;
       filed = filed.1.1;
       permutation = filed.1.2;
@@ -104,7 +202,9 @@ returns g c =
       worker = refl;
       notes = filed.0;
       shared = refl;
-      sampled = refl;
-      buckets = refl;
       places = refl;
-    })) c.file_notes.ensures
+      tallied = tallied;
+    })
+
+pub returns-clause-each : goal.returns-clause-each
+returns-clause-each g c = ap (λ q. q.each) c.end_sweep.ensures.profile

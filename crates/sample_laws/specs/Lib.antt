@@ -1,0 +1,4 @@
+pub mod By
+pub mod Countdowns
+pub mod Numbers
+pub mod Counted
