@@ -6,22 +6,28 @@ use Rattle.std.specs.Prelude.{Ok, Err, Result}
 use Rattle.span_state.specs.declared.body.Body.{Body}
 use Rattle.span_laws.specs.declared.answers.Refused.{Refused}
 use Rattle.span_laws.specs.declared.answers.Refused.TheVariants.{NoRun, NoMemory as WantsMemory}
+use Rattle.profile_cycle.specs.History.{RingId}
+use Rattle.span_state.specs.MarkSet.{MarkSet}
+use Rattle.span_set.specs.Tallies.{Frees}
 use Rattle.span_set.specs.declared.hand.Hand.{Hand}
+use Rattle.span_set.proofs.Tallies.{may-still}
 use Rattle.sweeper.specs.NewSpans.{MakesSpan}
 use Rattle.sweeper.specs.Work.{Works}
 use Rattle.sweeper_rows.specs.Rows.{IsReady}
 
-pub ready_after : (table : TableId) (more : List ℕ) (P : List Entry → Type 0) (old new : Hand) → Works more P old new → IsReady table old → IsReady table new
-ready_after table more P old new w r = let s = w.does.stays in record {
-  here = s.here ∙ r.here;
-  same = s.table ∙ r.same;
-  unclaimed = s.claimed ∙ r.unclaimed;
-  unpopped = w.popped;
-  unmarked = s.marks ∙ r.unmarked;
-}
+module _ (table : TableId) (ring : RingId) (m : MarkSet) where
+  pub ready_after : (more : List ℕ) (P : List Entry → Type 0) (old new : Hand) → Works more P old new → Frees m old new → IsReady table ring m old → IsReady table ring m new
+  ready_after more P old new w f r = let s = w.does.stays in record {
+    here = s.here ∙ r.here;
+    same = s.table ∙ r.same;
+    unclaimed = s.claimed ∙ r.unclaimed;
+    unpopped = w.popped;
+    marked = r.marked ∙ sym s.marks;
+    counts = may-still m ring old new r.counts f;
+  }
 
--- whatever a call for a new span answers
-pub ready_made : (table : TableId) (n class : ℕ) (old new : Hand) (r : Result Body Refused) → MakesSpan n class old new r → IsReady table old → IsReady table new
-ready_made table n class old new (Ok b) m = ready_after table _ _ old new m.1
-ready_made table n class old new (Err (NoRun line)) m = ready_after table _ _ old new m.1
-ready_made table n class old new (Err WantsMemory) m = ready_after table _ _ old new m
+  -- whatever a call for a new span answers
+  pub ready_made : (n class : ℕ) (old new : Hand) (r : Result Body Refused) → MakesSpan n class old new r → Frees m old new → IsReady table ring m old → IsReady table ring m new
+  ready_made n class old new (Ok b) w = ready_after _ _ old new w.1
+  ready_made n class old new (Err (NoRun line)) w = ready_after _ _ old new w.1
+  ready_made n class old new (Err WantsMemory) w = ready_after _ _ old new w

@@ -1,8 +1,9 @@
-ghost use Rattle.std.specs.Prelude.{◌≡◌, ◌<◌, ◌≤◌, [], IfOk};
+ghost use Rattle.std.specs.Prelude.{◌≡◌, ◌<◌, ◌≤◌, IfOk};
 ghost use Rattle.page_alloc.specs.Journal.{IsSpanSize};
 ghost use Rattle.sweeper_rows.specs.Rows.{IsReady};
 
 use fallible_list::NoMemory;
+use profile_cycle::Ring;
 use span_set::{Hand, Shop};
 use span_state::Marks;
 use span_table::Shared;
@@ -11,20 +12,34 @@ use std::process::Abort;
 use std::test::Fail;
 use sweeper::{One, Paid, Refused, finish, new_span, pay, reclaim, sweep_one};
 
-// A region of one chunk without spans, and the driver's hand.
-fn start(alloc: Global) -> Result<(Shared, Hand), NoMemory>
-    ensures { IfOk result (λ made. IsReady made.0 made.1) }
+// What a hand works on, and the driver's hand.
+#[derive(Drop)]
+struct Scene {
+    shared: Shared,
+    marks: Marks,
+    ring: Ring,
+    hand: Hand,
+}
+
+// A region of one chunk without spans, and a ring of two buckets.
+fn start(alloc: Global) -> Result<Scene, NoMemory>
+    ensures { IfOk result (λ s. IsReady s.shared s.ring s.marks s.hand) }
 {
     let (shared, driver) = Shared::new(alloc, 1, 512)?;
-    Ok((shared, Hand::new(alloc, driver)))
+    let (ring, tally) = Ring::new(alloc, 2)?;
+    Ok(Scene {
+        shared,
+        marks: Marks::empty(alloc),
+        ring,
+        hand: Hand::new(alloc, driver, tally),
+    })
 }
 
 // No span waits.
 fn sweeps_none(rt: &impl Abort, shop: &Shop, hand: &mut Hand) -> Result<(), NoMemory>
-    requires ready { IsReady shop.now.shared.now hand.old }
-    requires marks { shop.now.marks.now.pairs ≡ [] }
+    requires ready { IsReady shop.now.shared.now shop.now.ring.now shop.now.marks.now hand.old }
     requires distance { 8192 ≤ shop.now.distance }
-    ensures { IfOk result (λ _. IsReady shop.now.shared.now hand.new) }
+    ensures { IfOk result (λ _. IsReady shop.now.shared.now shop.now.ring.now shop.now.marks.now hand.new) }
 {
     let One::NothingLeft = sweep_one(shop, hand)? else {
         panic!(rt; "a span waits");
@@ -34,10 +49,9 @@ fn sweeps_none(rt: &impl Abort, shop: &Shop, hand: &mut Hand) -> Result<(), NoMe
 
 // Paying ends at once.
 fn pays_none(rt: &impl Abort, shop: &Shop, hand: &mut Hand, bytes: u64) -> Result<(), NoMemory>
-    requires ready { IsReady shop.now.shared.now hand.old }
-    requires marks { shop.now.marks.now.pairs ≡ [] }
+    requires ready { IsReady shop.now.shared.now shop.now.ring.now shop.now.marks.now hand.old }
     requires distance { 8192 ≤ shop.now.distance }
-    ensures { IfOk result (λ _. IsReady shop.now.shared.now hand.new) }
+    ensures { IfOk result (λ _. IsReady shop.now.shared.now shop.now.ring.now shop.now.marks.now hand.new) }
 {
     let Paid::Reached { seen, target } = pay(shop, hand, bytes, 0)? else {
         panic!(rt; "nothing is left");
@@ -49,10 +63,9 @@ fn pays_none(rt: &impl Abort, shop: &Shop, hand: &mut Hand, bytes: u64) -> Resul
 
 // Nothing is given back.
 fn reclaims_none(rt: &impl Abort, shop: &Shop, hand: &mut Hand, pages: u32) -> Result<(), NoMemory>
-    requires ready { IsReady shop.now.shared.now hand.old }
-    requires marks { shop.now.marks.now.pairs ≡ [] }
+    requires ready { IsReady shop.now.shared.now shop.now.ring.now shop.now.marks.now hand.old }
     requires distance { 8192 ≤ shop.now.distance }
-    ensures { IfOk result (λ _. IsReady shop.now.shared.now hand.new) }
+    ensures { IfOk result (λ _. IsReady shop.now.shared.now shop.now.ring.now shop.now.marks.now hand.new) }
 {
     let given = reclaim(shop, hand, pages)?;
     assert_eq!(rt; given, 0);
@@ -68,12 +81,11 @@ fn makes(
     class: u8,
     want: Result<u32, u64>,
 ) -> Result<(), NoMemory>
-    requires ready { IsReady shop.now.shared.now hand.old }
-    requires marks { shop.now.marks.now.pairs ≡ [] }
+    requires ready { IsReady shop.now.shared.now shop.now.ring.now shop.now.marks.now hand.old }
     requires distance { 8192 ≤ shop.now.distance }
     requires size { IsSpanSize class pages }
     requires class { class < 136 }
-    ensures { IfOk result (λ _. IsReady shop.now.shared.now hand.new) }
+    ensures { IfOk result (λ _. IsReady shop.now.shared.now shop.now.ring.now shop.now.marks.now hand.new) }
 {
     match new_span(shop, hand, pages, class) {
         Ok(body) => assert_eq!(rt; Ok(body.page), want),
@@ -86,11 +98,16 @@ fn makes(
 #[test]
 fn nothing_waits_in_a_new_table(rt: HostRuntime) -> Result<(), Fail> {
     let alloc = rt.alloc();
-    let (shared, mut hand) = start(alloc)?;
-    let marks = Marks::empty(alloc);
+    let Scene {
+        shared,
+        marks,
+        ring,
+        mut hand,
+    } = start(alloc)?;
     let shop = Shop {
         shared: &shared,
         marks: &marks,
+        ring: &ring,
         distance: 8192,
         pages: 512,
     };
@@ -106,11 +123,16 @@ fn nothing_waits_in_a_new_table(rt: HostRuntime) -> Result<(), Fail> {
 #[test]
 fn spans_are_made_at_first_fit_until_none_fits(rt: HostRuntime) -> Result<(), Fail> {
     let alloc = rt.alloc();
-    let (shared, mut hand) = start(alloc)?;
-    let marks = Marks::empty(alloc);
+    let Scene {
+        shared,
+        marks,
+        ring,
+        mut hand,
+    } = start(alloc)?;
     let shop = Shop {
         shared: &shared,
         marks: &marks,
+        ring: &ring,
         distance: 8192,
         pages: 0,
     };
