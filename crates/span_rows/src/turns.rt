@@ -21,6 +21,7 @@ pub fn start(alloc: Global, chunks: u32) -> Result<(Shared, Worker), NoMemory>
     ensures free { IfOk result (λ made. IsFreeDriver made.0 made.1) }
     ensures generation { IfOk result (λ made. made.1.view.generation ≡ 4) }
     ensures region { IfOk result (λ made. made.1.view.region ≡ 512 * chunks) }
+    ensures marks { IfOk result (λ made. made.1.view.marks ≡ []) }
 {
     let (shared, w) = Shared::new(alloc, chunks, 512)?;
     Ok((shared, w))
