@@ -1,5 +1,5 @@
 -- A sound report is never refused.
-use Rattle.std.proofs.Common.{◌≡◌, ℕ, ◌≤◌, List, refl, arith}
+use Rattle.std.proofs.Common.{◌≡◌, ℕ, List, refl}
 use Rattle.trace_reader.specs.declared.trace.Trace.{Trace}
 use Rattle.cycle_history.specs.declared.Report.{Report}
 use Rattle.cycle_history.specs.Objects.{Object}
