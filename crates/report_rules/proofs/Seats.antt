@@ -120,7 +120,7 @@ some-slot t report objects o has among placed =
     ]
 
 -- twins have one seat
-twin-seat : (t : Trace) (report : Report) (objects others : List Object) (o twin : Object) → HasAnswers t report objects → AreSeated (marked_by t) (past_in report) objects → AreSeated (marked_by t) (past_in report) others → In o objects → In twin others
+pub twin-seat : (t : Trace) (report : Report) (objects others : List Object) (o twin : Object) → HasAnswers t report objects → AreSeated (marked_by t) (past_in report) objects → AreSeated (marked_by t) (past_in report) others → In o objects → In twin others
     → IsTwin o twin → is_placed o.answer ≡ true → (twin.life ≡ o.life) × (twin.index ≡ o.index)
 twin-seat t report objects others o twin here seats seats' io it is placed =
     let so = seats o io placed in
