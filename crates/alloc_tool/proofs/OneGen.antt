@@ -16,6 +16,9 @@ gen_asked word (u ∷ v ∷ w ∷ []) a b c three name at0 at1 at2 seed objects 
     record { spelled = rw (← at0, ← at1, ← at2, name, s, o) refl; seed_limit = asks.seed_limit; some = asks.some; few = asks.few }
 gen_asked word (u ∷ v ∷ w ∷ x ∷ rest) a b c three name at0 at1 at2 seed objects asks = absurd (let e : length (u ∷ v ∷ w ∷ x ∷ rest) ≡ 3 = three in omega arith)
 
+first_is : (a b : List ℕ) (xs ys : List (List ℕ)) → a ∷ xs ≡ b ∷ ys → a ≡ b
+first_is a b xs ys e = cc
+
 heads : (a b c x y z : List ℕ) → a ∷ b ∷ c ∷ [] ≡ x ∷ y ∷ z ∷ [] → (a ≡ x) × (b ≡ y) × (c ≡ z)
 heads a b c x y z e = (cc, cc, cc)
 
@@ -35,6 +38,10 @@ gen_words word (u ∷ []) seed objects is = absurd (let e = is.spelled in cc)
 gen_words word (u ∷ v ∷ []) seed objects is = absurd (let e = is.spelled in cc)
 gen_words word (u ∷ v ∷ w ∷ []) seed objects is = refl
 gen_words word (u ∷ v ∷ w ∷ x ∷ rest) seed objects is = absurd (let e = is.spelled in cc)
+
+pub first_word : (word : List ℕ) (words : List (String Global)) (a : String Global) (seed objects : ℕ) → a ≡ get_or words 0 a → IsSeeded word words seed objects → string_bytes a ≡ word
+first_word word [] a seed objects at0 is = absurd (let e = is.spelled in cc)
+first_word word (u ∷ rest) a seed objects at0 is = rw at0 (first_is _ _ _ _ is.spelled)
 
 -- what the last two words ask for is what all three do
 pub asked_by : (word : List ℕ) (words : List (String Global)) (a b c : String Global) (seed_word objects_word : List ℕ) → length words ≡ 3 → string_bytes a ≡ word → a ≡ get_or words 0 a → b ≡ get_or words 1 b → c ≡ get_or words 2 c

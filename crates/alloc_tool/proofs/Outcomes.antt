@@ -1,5 +1,5 @@
 -- Each way in which a call of the program ends.
-use Rattle.std.proofs.Common.{◌≡◌, ◌≢◌, ℕ, Bool, List, Option, sym, ap, ◌∙◌, subst, refl}
+use Rattle.std.proofs.Common.{◌≡◌, ◌≢◌, ℕ, Bool, true, false, List, Option, sym, ap, ◌∙◌, subst, refl}
 use Rattle.std.specs.Io.KnownBytes.{Appends}
 use Rattle.edge_io.specs.Causes.{Rose}
 use Rattle.edge_io.specs.Front.{AppendsFront}
@@ -8,6 +8,9 @@ use Rattle.trace_reader.specs.declared.fault.TraceFault.{TraceFault}
 use Rattle.trace_reader.specs.declared.fault.TraceFault.TheVariants.{ReadFault, Malformed, Truncated, Limit, BadMark, NoMemory}
 use Rattle.trace_reader.specs.Told.{IsOfTrace}
 use Rattle.cycle_history.specs.declared.Report.{Report}
+use Rattle.cycle_history.specs.Objects.{Object}
+use Rattle.cycle_history.specs.Orders.{AreRisingProfile}
+use Rattle.cycle_history.specs.Sound.{HasProfileIn, IsSoundAndUsed}
 use Rattle.cycle_history.specs.Text.{report_text}
 use Rattle.alloc_tool.specs.Texts.{fault_status, fault_text, status_text, write_fault}
 use Rattle.alloc_tool.specs.Told.{Tells}
@@ -15,6 +18,14 @@ use Rattle.alloc_tool.specs.Top.{BreaksOff, IsAnswer, IsRefused}
 use Rattle.alloc_tool.specs.WholeInput.{ReadsAll}
 use Rattle.alloc_tool.specs.Outcome.{Outcome}
 use Rattle.alloc_tool.proofs.Faults.{is_of_trace, is_read_fault, line_of_status}
+
+rises : (each : Bool) (t : Trace) (r : Report) (objects : List Object) → HasProfileIn each t r objects → AreRisingProfile r.profile
+rises true t r objects has = has.lines.order
+rises false t r objects has = has.lines.order
+
+-- the lines of a sound report's profile stand in their order
+pub profile_rises : (t : Trace) (r : Report) → IsSoundAndUsed t r → AreRisingProfile r.profile
+profile_rises t r sound = rises sound.1.profile.0 t r sound.0 sound.1.profile.1
 
 -- a fault has no status of a call that writes
 no_writing : (fault : TraceFault) → (fault_status fault ≢ 0) × (fault_status fault ≢ 6)

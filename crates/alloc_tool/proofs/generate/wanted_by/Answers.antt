@@ -1,5 +1,6 @@
-use Rattle.std.proofs.Common.{◌≡◌, length, rules, string_bytes}
-use Rattle.alloc_tool.proofs.OneGen.{asked_by}
+use Rattle.std.proofs.Common.{◌≡◌, arith, length, rules, string_bytes}
+use Rattle.alloc_tool.proofs.OneGen.{asked_by, first_word, gen_words}
+use Rattle.alloc_tool.proofs.generate.wanted_by.Goals.{then-words-ne3-via-then-words-ne3, then-words-ne3-via-else-words-ne3+then-ne}
 use Rattle.alloc_tool.proofs.generate.wanted_by.Goals as goal
 
 pub returns : goal.returns
@@ -10,3 +11,16 @@ returns c =
     let objects : c.as_bytes-2.result.now ≡ string_bytes c.index-words-2.result = search rules in
     asked_by c.args.word.now c.args.words.now c.index-words-0.result c.index-words-1.result c.index-words-2.result c.as_bytes.result.now c.as_bytes-2.result.now three name c.index-words-0.is c.index-words-1.is c.index-words-2.is seed objects
     c.read_words.result c.read_words.ensures
+
+pub returns-then-words-ne3 : goal.returns-then-words-ne3
+returns-then-words-ne3 c = λ seed objects is.
+    let three = gen_words _ c.args.words.now seed objects is in
+    elim c.then-words-ne3.branch [
+      | then-words-ne3-via-then-words-ne3 w ↦ absurd (let other = w.if-words-ne3.true in omega arith)
+      | then-words-ne3-via-else-words-ne3+then-ne w ↦
+          (let same : string_bytes w.index-words-0.result ≡ c.args.word.now = first_word _ c.args.words.now w.index-words-0.result seed objects w.index-words-0.is is in
+          let text = w.as_str.ensures.value in
+          let test = w.ne.ensures in
+          let other = w.if-ne in
+          ?)
+    ]
