@@ -3,8 +3,17 @@ use Rattle.demo_lines.specs.Summary.{summary_text}
 use Rattle.edge_io.specs.Front.{AppendsFront}
 use Rattle.trace_reader.specs.declared.trace.Trace.{Trace}
 use Rattle.alloc_tool.specs.Demo.{Demos}
-use Rattle.alloc_tool.proofs.Demos.{failed_demo, never_broken, spent_after}
+use Rattle.alloc_tool.proofs.Demos.{failed_demo, never_broken, spent_after, spent_demo}
 use Rattle.alloc_tool.proofs.demo.show_run.Goals as goal
+
+pub returns-in_default : goal.returns-in_default
+returns-in_default g c =
+    spent_demo _ g.K.Sink.held g.K.Sink.faults g.E.Sink.held g.E.Sink.faults c.args.output.now c.args.errors.now c.refuse_trace.new.errors c.refuse_trace.result c.refuse_trace.ensures.status c.refuse_trace.ensures.told
+
+pub returns-in_default-run_trace : goal.returns-in_default-run_trace
+returns-in_default-run_trace g c =
+    spent_demo _ g.K.Sink.held g.K.Sink.faults g.E.Sink.held g.E.Sink.faults c.args.output.now c.args.errors.now c.refuse_trace-in_default-run_trace.new.errors c.refuse_trace-in_default-run_trace.result
+    c.refuse_trace-in_default-run_trace.ensures.status c.refuse_trace-in_default-run_trace.ensures.told
 
 pub returns-in-Err-Failed : goal.returns-in-Err-Failed
 returns-in-Err-Failed g c =

@@ -1,4 +1,6 @@
-use Rattle.std.proofs.Common.{◌≡◌, arith, length, rules, string_bytes}
+use Rattle.std.proofs.Common.{◌≡◌, ◌∙◌, ap, arith, length, not, rules, string_bytes, sym, true, true≢false}
+use Rattle.std.specs.Str.{bytes_eq}
+use Rattle.std.proofs.lemmas.Slice.Eq.{bytes_eq-Decides}
 use Rattle.alloc_tool.proofs.OneGen.{asked_by, first_word, gen_words}
 use Rattle.alloc_tool.proofs.generate.wanted_by.Goals.{then-words-ne3-via-then-words-ne3, then-words-ne3-via-else-words-ne3+then-ne}
 use Rattle.alloc_tool.proofs.generate.wanted_by.Goals as goal
@@ -19,8 +21,6 @@ returns-then-words-ne3 c = λ seed objects is.
       | then-words-ne3-via-then-words-ne3 w ↦ absurd (let other = w.if-words-ne3.true in omega arith)
       | then-words-ne3-via-else-words-ne3+then-ne w ↦
           (let same : string_bytes w.index-words-0.result ≡ c.args.word.now = first_word _ c.args.words.now w.index-words-0.result seed objects w.index-words-0.is is in
-          let text = w.as_str.ensures.value in
-          let test = w.ne.ensures in
-          let other = w.if-ne in
-          ?)
+          let equal : bytes_eq w.as_str.result.now c.args.word.now ≡ true = (bytes_eq-Decides w.as_str.result.now c.args.word.now).1 (w.as_str.ensures.value ∙ same) in
+          absurd (true≢false (sym w.if-ne.true ∙ w.ne.ensures ∙ ap not equal)))
     ]
