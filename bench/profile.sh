@@ -1,7 +1,6 @@
 #!/usr/bin/env bash
 # Nanoseconds of processor time of one call of the sampled profile, and its instructions, as callgrind counts them: of a
-# sampler at a rate in bytes, and of a count of an allocation or a free over so many buckets in turn. Behind these it gives the
-# milliseconds of a reading of the lines of so many buckets, with an allocation each and where none changed. All are measured in
+# sampler at a rate in bytes, and of a count of an allocation or a free over so many buckets in turn. All are measured in
 # this one run. Each time is the least of nine, less the least of what the same words cost with no calls. CALLS (default
 # 1000000) is the number of calls; the instructions are those of a tenth as many.
 set -euo pipefail
@@ -43,12 +42,3 @@ freed 1
 freed 1000
 freed 1000000
 WORDS
-
-printf '\n%-36s %8s\n' '' ms
-for work in lines unchanged; do
-    for number in 1000 100000 900000; do
-        whole=$(seconds "$work" "$number" 21)
-        own=$(seconds "$work" "$number" 1)
-        awk -v m="$work $number" -v w="$whole" -v o="$own" 'BEGIN { printf "%-36s %8.2f\n", m, (w - o) / 20 * 1e3 }'
-    done
-done

@@ -1,8 +1,8 @@
 -- What the calls of a tally publish is what they counted, cycle by cycle.
-use Rattle.std.proofs.Common.{◌≡◌, ◌≢◌, ℕ, zero, suc, ◌+◌, ◌-◌, ◌^◌, ◌<◌, ◌≤◌, Bool, true, false, ◌&&◌, not, eqb, ◌⊎◌, List, [], ◌∷◌, ◌++◌, length, Option, None, Some, refl, sym, ◌∙◌, ap, subst, arith, inl, inr}
+use Rattle.std.proofs.Common.{◌≡◌, ◌≢◌, ℕ, zero, suc, ◌+◌, ◌-◌, ◌<◌, Bool, true, false, ◌&&◌, not, eqb, ◌⊎◌, List, [], ◌∷◌, ◌++◌, length, Option, None, Some, refl, sym, ◌∙◌, ap, subst, arith, inl, inr}
 use Rattle.std.specs.Prelude.{position}
 use Rattle.std.proofs.Math.Dec.{leb, ltb}
-use Rattle.std.proofs.lemmas.Bool.{cases_Bool, cases_lt, cases_eq, le-leb, lt-leb, le-ltb, eq-eqb, ne_eqb, and_right}
+use Rattle.std.proofs.lemmas.Bool.{cases_lt, cases_eq, le-leb, lt-leb, le-ltb, eq-eqb, ne_eqb, and_right}
 use Rattle.page_alloc.specs.Lists.{In}
 use Rattle.profile_cycle.specs.declared.buckets.Bucket.{Bucket}
 use Rattle.profile_cycle.specs.declared.calls.What.{What}
@@ -18,7 +18,7 @@ use Rattle.run_laws.specs.Profile.{Samples, Calls, AreCalls, is_sample, sum_belo
 use Rattle.run_laws.proofs.Lists.{in-cases}
 use Rattle.run_laws.proofs.Profile.{count-none, calls-later, published-right}
 use Rattle.sample_laws.specs.Counted.{of_number}
-use Rattle.profile_lines.specs.Read.{AreDifferent, AreFew, bucket_at}
+use Rattle.profile_lines.specs.Read.{AreDifferent, bucket_at}
 use Rattle.profile_lines.specs.Counted.{made_in, by_bucket, AreMadeIn, IsCounting, ShowsMarkEnd, HasCounted}
 use Rattle.profile_lines.proofs.Named.{number-at}
 
@@ -103,25 +103,6 @@ frees-behind n p calls is =
 pub published-none : (test : What → Bool) (lead : ℕ) (calls : List Call) → ((d : Call) → In d calls → publishes d.what ≡ false) → published_by test lead calls ≡ 0
 published-none test lead [] none = refl
 published-none test lead (d ∷ calls) none = let e = none d (inl refl) in rw e (published-none test lead calls (λ x h. none x (inr h)))
-
-count-most : (f : Call → Bool) (calls : List Call) → count f calls ≤ length calls
-count-most f [] = omega arith
-count-most f (d ∷ calls) =
-    let rest = count-most f calls in
-    elim (cases_Bool (f d)) [
-      | inl on ↦ (let e = ap one_if on in omega arith)
-      | inr off ↦ (let e = ap one_if off in omega arith)
-    ]
-
-published-most : (test : What → Bool) (lead : ℕ) (calls : List Call) → published_by test lead calls ≤ length calls
-published-most test lead [] = omega arith
-published-most test lead (d ∷ calls) = elim (cases_Bool (publishes d.what)) [
-  | inl on ↦ rw on (let most = count-most (λ (x : Call). test x.what && leb (x.cycle + lead) (d.cycle + 1)) calls in omega arith)
-  | inr off ↦ rw off (let rest = published-most test lead calls in omega arith)
-]
-
-pub few-calls : (buckets : ℕ) (calls : List Call) → length calls < 2 ^ 64 → AreFew buckets calls
-few-calls buckets calls few n lt = let a = published-most (allocates n) 2 calls in let f = published-most (frees n) 1 calls in (omega arith, omega arith)
 
 -- ---- by bucket
 

@@ -72,11 +72,6 @@ pub fn shown_numbers_are_few()
         → ShowsMarkEnd marked s buckets m objects calls → length objects < 2 ^ 64 → AreFew (length buckets) calls }
 {}
 
-/// Fewer calls than 2^64 publish no larger number.
-pub fn few_calls_publish_few()
-    ensures { (buckets : ℕ) (calls : List Call) → length calls < 2 ^ 64 → AreFew buckets calls }
-{}
-
 /// Nothing is told at the start, and all numbers are 0.
 pub fn lines_begin()
     ensures { (marked : Marking) (s : Samples) (buckets : List Bucket) (order : List ℕ) → HasTold marked s buckets order 0 [] (map (λ (n : ℕ). record { allocs = 0; frees = 0 }) order) [] }

@@ -10,8 +10,8 @@ mod order;
 
 pub use laws::{
     a_cycle_is_counted, a_mark_end_begins_counting, a_run_begins_counting,
-    a_sweep_shows_its_mark_end, buckets_differ, few_calls_publish_few, lines_begin, lines_go_on,
-    lines_of_each_end, lines_stay, lines_tell_the_last, shown_numbers_are_few,
+    a_sweep_shows_its_mark_end, buckets_differ, lines_begin, lines_go_on, lines_of_each_end,
+    lines_stay, lines_tell_the_last, shown_numbers_are_few,
 };
 pub use lines::{add_all, add_changed};
 pub use order::order_of;

@@ -1,8 +1,5 @@
-//! What samplers answer, what rings publish, and which lines are read from them, row by row, through the public calls of
-//! `profile_cycle` and `profile_lines`.
+//! What samplers answer, and what rings publish, row by row, through the public calls of `profile_cycle`.
 #![tactic(auto)]
 
-#[cfg(test)]
-mod read;
 #[cfg(test)]
 mod tests;
