@@ -1,6 +1,7 @@
 #!/usr/bin/env bash
 # Runs goheap on each trace of this folder, and compares what it prints with the report beside the trace, which it then has
-# judged; a report with exchanged addresses must be refused. Of the recorded trace of a real program it compares the totals.
+# judged; with `--each` it compares with the report that ends in `.each`, where there is one. A report with exchanged addresses must be
+# refused. Of the recorded trace of a real program it compares the totals.
 set -u
 cd "$(dirname "$0")" || exit 1
 failed=0
@@ -11,6 +12,17 @@ for trace in *.trace; do
   fi
   if [ "$(cat "$trace" "${trace%.trace}.report" | ../goheap check)" != "check ok" ]; then
     echo "$trace: its report is refused" >&2
+    failed=1
+  fi
+done
+for each in *.each; do
+  trace=${each%.each}.trace
+  if ! diff <(../goheap run --each <"$trace") "$each" >/dev/null; then
+    echo "$trace: another report with --each" >&2
+    failed=1
+  fi
+  if [ "$(cat "$trace" "$each" | ../goheap check)" != "check ok" ]; then
+    echo "$each: refused" >&2
     failed=1
   fi
 done

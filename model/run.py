@@ -1,12 +1,16 @@
 #!/usr/bin/env python3
-"""A plain model of `goheap run` at rate 0, with its workers one after another and no background sweepers.
+"""A plain model of `goheap run`, with its workers one after another: the processors, the background sweepers, the scavenger, the driver.
+Its options are those of `goheap run` that are one word: `--each` and `--background=N` (1 if it is not said).
 
-It follows the rules that docs/addresses.md, docs/run.md, docs/central-lists.md, docs/sweeping.md and docs/pages.md state, and shares no
-code with the program. It reads a trace from standard input and writes its report. It checks nothing of the trace, searches pages one by
-one, and is meant to be read beside the rules and to be compared with the program (`model/test`), not to be used.
+It follows the rules that docs/addresses.md, docs/run.md, docs/central-lists.md, docs/sweeping.md, docs/pages.md and docs/profile.md
+state, and shares no code with the program. It reads a trace from standard input and writes its report. It checks nothing of the trace,
+searches pages one by one, and is meant to be read beside the rules and to be compared with the program (`model/test`), not to be used.
+
+The lines of the profile are those of a ring, as the program has one; that they are also what the trace and the sampled objects say as of
+each mark end is asserted.
 """
 import sys
-from collections import deque
+from collections import Counter, deque
 
 BASE, PAGE, CHUNK = 0xC000000000, 8192, 512
 
@@ -20,12 +24,82 @@ def load_classes():
 CLASSES = load_classes()
 
 
+class Words:
+    """The 32-bit words of PCG XSH RR 64/32 for a state and a stream (O'Neill, 2014): a linear congruential generator of 64 bits, whose
+    old state gives each word by a shift and a rotation. The stream makes the increment odd, and the state is added to it at the start."""
+
+    def __init__(self, state, stream):
+        self.increment = stream * 2 + 1
+        self.state = state + self.increment
+        self.step()
+
+    def step(self):
+        self.state = (self.state * 6364136223846793005 + self.increment) % 2**64
+
+    def next(self):
+        old = self.state
+        self.step()
+        mixed = ((old >> 18 ^ old) >> 27) % 2**32
+        turn = old >> 59
+        return (mixed >> turn | mixed << (32 - turn)) % 2**32
+
+
+class Sampler:
+    """The countdown of one processor."""
+
+    def __init__(self, rate, seed, proc):
+        self.rate, self.words = rate, Words(seed, proc)
+        self.left = self.draw()
+
+    def draw(self):
+        return 1 + self.words.next() % (2 * self.rate - 1) if self.rate else None
+
+    def sample(self, slot):
+        if self.left is None:
+            return False
+        if slot < self.left:
+            self.left -= slot
+            return False
+        self.left = self.draw()
+        return True
+
+
+class Ring:
+    """What is published of the sampled objects, by stack and slot size."""
+
+    def __init__(self):
+        self.cycle = 0
+        # by the cycle that they wait for
+        self.allocs, self.frees = {}, {}
+        self.published_allocs, self.published_frees = Counter(), Counter()
+
+    def allocated(self, bucket):
+        self.allocs.setdefault(self.cycle + 2, Counter())[bucket] += 1
+
+    def freed(self, bucket):
+        self.frees.setdefault(self.cycle + 1, Counter())[bucket] += 1
+
+    def publish(self, cycle):
+        self.published_allocs.update(self.allocs.pop(cycle, Counter()))
+        self.published_frees.update(self.frees.pop(cycle, Counter()))
+
+    def next_cycle(self):
+        self.cycle += 1
+        self.publish(self.cycle)
+
+    def after_sweep(self):
+        self.publish(self.cycle + 1)
+
+    def profile(self):
+        return {b: (n, self.published_frees[b]) for b, n in self.published_allocs.items()}
+
+
 class Span:
-    __slots__ = ("page", "pages", "cls", "slot", "count", "bits", "next", "word")
+    __slots__ = ("page", "pages", "cls", "slot", "count", "bits", "next", "word", "samples")
 
 
 class Heap:
-    def __init__(self, chunks, goal, procs):
+    def __init__(self, chunks, goal, procs, rate, seed):
         self.pages, self.goal = chunks * CHUNK, goal
         self.owner = [None] * self.pages
         self.unscav = [False] * self.pages
@@ -42,6 +116,8 @@ class Heap:
         self.notes = []
         self.swept_pages = self.spent = self.chunk = 0
         self.P = self.D = 0
+        self.samplers = [Sampler(rate, seed, p) for p in range(procs)]
+        self.ring = Ring()
 
     # -- pages
     def find(self, n):
@@ -67,6 +143,8 @@ class Heap:
             s.slot = CLASSES[cls // 2][0]
             s.count = n * PAGE // s.slot
         s.bits = [False] * s.count
+        # the bucket of each sampled object, by its index
+        s.samples = {}
         for p in range(at, at + n):
             self.owner[p] = s
             if not self.unscav[p]:
@@ -106,6 +184,8 @@ class Heap:
         kept = len(marked)
         freed = sum(s.bits) - kept
         s.bits = [i in marked for i in range(s.count)]
+        for i in [i for i in s.samples if i not in marked]:
+            self.ring.freed(s.samples.pop(i))
         s.next = 0
         self.swept_pages += s.pages
         self.notes.append((self.cycle, s.page, kept, freed))
@@ -203,6 +283,15 @@ class Heap:
         s.next = i + 1
         return ("at", s, i, BASE + PAGE * s.page + s.slot * i)
 
+    def sample(self, p, stack, got):
+        """Whether the object that was placed is sampled."""
+        _, s, i, _ = got
+        if not self.samplers[p].sample(s.slot):
+            return False
+        s.samples[i] = (stack, s.slot)
+        self.ring.allocated((stack, s.slot))
+        return True
+
     def alloc(self, p, size, scan):
         if size == 0:
             return ("zero",)
@@ -239,12 +328,16 @@ class Heap:
         self.cache[p][cls] = s
         return self.place(s, self.lowest(s))
 
-    def end_cycle(self):
+    def end_cycle(self, background):
+        # Each background sweeper sweeps until nothing is left, so that the first of them leaves nothing to the others.
+        if background and self.cycle > 0:
+            self.sweep_all()
         self.scavenge()
         if self.cycle > 0:
             self.sweep_all()
             for p in range(len(self.cache)):
                 self.flush(p)
+            self.ring.after_sweep()
         self.scavenge()
 
     def mark_end(self, distance, marks):
@@ -257,15 +350,45 @@ class Heap:
         self.flushed = [False] * len(self.cache)
         self.swept_pages = self.spent = self.chunk = 0
         self.cycle += 1
+        self.ring.next_cycle()
+
+
+def changed(old, new):
+    """The buckets of the new profile whose numbers are not those of the old one."""
+    return {b: n for b, n in new.items() if n != old.get(b, (0, 0))}
+
+
+def profile_lines(profiles, each):
+    """The lines of these profiles as of mark end 1, 2 and so on: of the last one alone, or of each."""
+    shown = {}
+    for m, new in enumerate(profiles, 1):
+        if m == len(profiles):
+            shown[m] = new
+        elif each:
+            shown[m] = changed(profiles[m - 2] if m > 1 else {}, new)
+    return [f"p {m} {stack} {slot} {a} {f}\n" for m in sorted(shown) for (stack, slot), (a, f) in sorted(shown[m].items())]
+
+
+def profile_at(m, sampled, cycles, marked):
+    """The profile as of mark end m by the trace: the samples of the cycles before it, and those of them that it does not mark."""
+    allocs, frees = Counter(), Counter()
+    for i, bucket in sampled.items():
+        if cycles[i] < m:
+            allocs[bucket] += 1
+            frees[bucket] += i not in marked
+    return {b: (n, frees[b]) for b, n in allocs.items()}
 
 
 def main():
+    each = "--each" in sys.argv[1:]
+    background = next((int(word.split("=")[1]) for word in sys.argv[1:] if word.startswith("--background=")), 1)
     lines = sys.stdin.read().split("\n")
     head = lines[1].split()
-    chunks, procs, rate, goal = int(head[1]), int(head[3]), int(head[5]), int(head[9])
-    assert rate == 0
-    heap = Heap(chunks, goal, procs)
-    answers, need, live = [], [], set()
+    chunks, procs, rate, seed, goal = (int(head[i]) for i in (1, 3, 5, 7, 9))
+    heap = Heap(chunks, goal, procs, rate, seed)
+    live = set()
+    # the bucket of each sampled object, the objects that each mark end marks, and the profile as of each
+    sampled, marked_by, profiles = {}, [], []
     queues = [[] for _ in range(procs)]
     at = 2
     ids = 0
@@ -274,22 +397,25 @@ def main():
 
     def run_cycle():
         for p in range(procs):
-            for (i, size, scan) in queues[p]:
+            for (i, size, scan, stack) in queues[p]:
                 out[i] = heap.alloc(p, size, scan)
+                if out[i][0] == "at" and heap.sample(p, stack, out[i]):
+                    sampled[i] = (stack, out[i][1].slot)
             queues[p].clear()
-        heap.end_cycle()
+        heap.end_cycle(background)
 
     while True:
         f = lines[at].split()
         at += 1
         if f[0] == "a":
-            queues[int(f[1])].append((ids, int(f[2]), f[3] == "s"))
-            need.append(int(f[2]))
+            queues[int(f[1])].append((ids, int(f[2]), f[3] == "s", int(f[4])))
             cyc.append(heap.cycle)
             ids += 1
         elif f[0] in ("gc", "end"):
             run_cycle()
             if f[0] == "end":
+                if heap.cycle:
+                    profiles.append(heap.ring.profile())
                 break
             marked, marks = set(), {}
             while lines[at].startswith("m "):
@@ -299,7 +425,12 @@ def main():
             live = {i for i in marked if out[i][0] == "at"}
             for i in live:
                 marks.setdefault(out[i][1].page, set()).add(out[i][2])
+            marked_by.append(marked)
             heap.mark_end(int(f[1]), marks)
+            if heap.cycle > 1:
+                profiles.append(heap.ring.profile())
+    for m, profile in enumerate(profiles, 1):
+        assert profile == profile_at(m, sampled, cyc, marked_by[m - 1]), f"the ring is wrong as of mark end {m}"
     w = sys.stdout.write
     totals = {}
     for i in range(ids):
@@ -320,7 +451,10 @@ def main():
         w(f"s {c} {p} {k} {fr}\n")
     for c in sorted(totals):
         w(f"t {c} {totals[c][0]} {totals[c][1]}\n")
+    for line in profile_lines(profiles, each):
+        w(line)
     w("end\n")
 
 
-main()
+if __name__ == "__main__":
+    main()

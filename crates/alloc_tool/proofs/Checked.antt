@@ -4,7 +4,7 @@ use Rattle.std.specs.Io.KnownBytes.{Appends}
 use Rattle.edge_io.specs.Causes.{Rose}
 use Rattle.edge_io.specs.Front.{AppendsFront}
 use Rattle.trace_reader.specs.declared.fault.TraceFault.{TraceFault}
-use Rattle.trace_reader.specs.declared.fault.TraceFault.TheVariants.{ReadFault, Malformed, Truncated, Limit, BadMark, NoMemory, Later}
+use Rattle.trace_reader.specs.declared.fault.TraceFault.TheVariants.{ReadFault, Malformed, Truncated, Limit, BadMark, NoMemory}
 use Rattle.report_text.specs.declared.fault.ReportFault.{ReportFault}
 use Rattle.report_text.specs.declared.fault.ReportFault.TheVariants.{ReadFault as Unread, Malformed as OddLine, Truncated as EndsEarly, Limit as TooLong, NoMemory as OutOfMemory}
 use Rattle.report_check.specs.Fault.{BreaksRules, MeetsChecked}
@@ -37,6 +37,7 @@ checked_ok left reads held writes shown tells input input' output output' errors
   partly_written = λ six. (sound, front six);
   unwritten = λ some other. absurd (elim ends [ inl zero ↦ some zero | inr six ↦ other six ]);
   told = λ some _ _. elim ends [ inl zero ↦ absurd (some zero) | inr six ↦ subst (λ (k : ℕ). Tells shown tells errors errors' (status_text k)) (sym six) (told six) ];
+  complete = λ _ written. elim ends [ inl zero ↦ inl zero | inr six ↦ absurd (written (rose six)) ];
 } where
   never : (k : ℕ) → (0 ≡ k → ⊥) → (6 ≡ k → ⊥) → status ≡ k → ⊥
   never k a b is = elim ends [ inl zero ↦ a (sym zero ∙ is) | inr six ↦ b (sym six ∙ is) ]
@@ -62,6 +63,7 @@ three_way left reads held writes shown tells input input' output errors errors' 
       partly_written = λ f. absurd (clash status 3 6 (λ g. cc) three f);
       unwritten = λ _ _. refl;
       told = λ _ other _. absurd (other three);
+      complete = λ _ _. inr (inl three);
     }
 
 five_way : {S K E : Type 0} (left : S → Option (List ℕ)) (reads : S → ℕ) (held : K → Option (List ℕ)) (writes : K → ℕ) (shown : E → Option (List ℕ)) (tells : E → ℕ) (input input' : S) (output : K) (errors errors' : E) (status : ℕ) → status ≡ 5 → Rose (reads input) (reads input')
@@ -77,6 +79,7 @@ five_way left reads held writes shown tells input input' output errors errors' s
   partly_written = λ f. absurd (clash status 5 6 (λ g. cc) five f);
   unwritten = λ _ _. refl;
   told = λ _ _ _. subst (λ (k : ℕ). Tells shown tells errors errors' (status_text k)) (sym five) told;
+  complete = λ read _. absurd (read rose);
 }
 
 seven_way : {S K E : Type 0} (left : S → Option (List ℕ)) (reads : S → ℕ) (held : K → Option (List ℕ)) (writes : K → ℕ) (shown : E → Option (List ℕ)) (tells : E → ℕ) (input input' : S) (output : K) (errors errors' : E) (status : ℕ) → status ≡ 7
@@ -92,6 +95,7 @@ seven_way left reads held writes shown tells input input' output errors errors' 
   partly_written = λ f. absurd (clash status 7 6 (λ g. cc) seven f);
   unwritten = λ _ _. refl;
   told = λ _ _ _. subst (λ (k : ℕ). Tells shown tells errors errors' (status_text k)) (sym seven) told;
+  complete = λ _ _. inr (inr (inr seven));
 }
 
 four_way : {S K E : Type 0} (left : S → Option (List ℕ)) (reads : S → ℕ) (held : K → Option (List ℕ)) (writes : K → ℕ) (shown : E → Option (List ℕ)) (tells : E → ℕ) (input input' : S) (output : K) (errors errors' : E) (stop : Stop) (status : ℕ) → status ≡ 4
@@ -109,6 +113,7 @@ four_way left reads held writes shown tells input input' output errors errors' s
   partly_written = λ f. absurd (clash status 4 6 (λ g. cc) four f);
   unwritten = λ _ _. refl;
   told = λ _ _ other. absurd (other four);
+  complete = λ _ _. inr (inr (inl four));
 }
 
 pub checked_stop : {S K E : Type 0} (left : S → Option (List ℕ)) (reads : S → ℕ) (held : K → Option (List ℕ)) (writes : K → ℕ) (shown : E → Option (List ℕ)) (tells : E → ℕ) (input input' : S) (output : K) (errors errors' : E) (stop : Stop) (status : ℕ)
@@ -119,7 +124,6 @@ checked_stop left reads held writes shown tells input input' output errors error
 checked_stop left reads held writes shown tells input input' output errors errors' (OfTrace (Limit line which)) status stops a b e told = three_way left reads held writes shown tells input input' output errors errors' (Limit line which) status refl tt stops a b e told
 checked_stop left reads held writes shown tells input input' output errors errors' (OfTrace (BadMark line object)) status stops a b e told = three_way left reads held writes shown tells input input' output errors errors' (BadMark line object) status refl tt stops a b e told
 checked_stop left reads held writes shown tells input input' output errors errors' (OfTrace NoMemory) status stops a b e told = seven_way left reads held writes shown tells input input' output errors errors' status e told
-checked_stop left reads held writes shown tells input input' output errors errors' (OfTrace (Later line)) status stops a b e told = three_way left reads held writes shown tells input input' output errors errors' (Later line) status refl tt stops a b e told
 checked_stop left reads held writes shown tells input input' output errors errors' (OfReport Unread) status stops a b e told = five_way left reads held writes shown tells input input' output errors errors' status e (b refl) told
 checked_stop left reads held writes shown tells input input' output errors errors' (OfReport (OddLine line)) status stops a b e told = four_way left reads held writes shown tells input input' output errors errors' (OfReport (OddLine line)) status e (inl (OddLine line, tt, stops, told))
 checked_stop left reads held writes shown tells input input' output errors errors' (OfReport (EndsEarly line)) status stops a b e told = four_way left reads held writes shown tells input input' output errors errors' (OfReport (EndsEarly line)) status e (inl (EndsEarly line, tt, stops, told))

@@ -1,7 +1,7 @@
 -- The statuses and lines of faults.
 use Rattle.std.proofs.Common.{◌≡◌, ◌≢◌, refl}
 use Rattle.trace_reader.specs.declared.fault.TraceFault.{TraceFault}
-use Rattle.trace_reader.specs.declared.fault.TraceFault.TheVariants.{ReadFault, Malformed, Truncated, Limit, BadMark, NoMemory, Later}
+use Rattle.trace_reader.specs.declared.fault.TraceFault.TheVariants.{ReadFault, Malformed, Truncated, Limit, BadMark, NoMemory}
 use Rattle.trace_reader.specs.Told.{IsOfTrace}
 use Rattle.alloc_tool.specs.Texts.{fault_status, fault_text, status_text}
 
@@ -13,7 +13,6 @@ is_read_fault (Truncated line) e = cc
 is_read_fault (Limit line which) e = cc
 is_read_fault (BadMark line object) e = cc
 is_read_fault NoMemory e = cc
-is_read_fault (Later line) e = cc
 
 -- a fault that is no refusal of the trace has the line of its status
 pub line_of_status : (fault : TraceFault) → fault_status fault ≢ 3 → fault_text fault ≡ status_text (fault_status fault)
@@ -23,7 +22,6 @@ line_of_status (Truncated line) other = absurd (other refl)
 line_of_status (Limit line which) other = absurd (other refl)
 line_of_status (BadMark line object) other = absurd (other refl)
 line_of_status NoMemory other = refl
-line_of_status (Later line) other = absurd (other refl)
 
 -- status 3 is that of a fault of the trace
 pub is_of_trace : (fault : TraceFault) → fault_status fault ≡ 3 → IsOfTrace fault
@@ -33,4 +31,3 @@ is_of_trace (Truncated line) e = tt
 is_of_trace (Limit line which) e = tt
 is_of_trace (BadMark line object) e = tt
 is_of_trace NoMemory e = cc
-is_of_trace (Later line) e = tt

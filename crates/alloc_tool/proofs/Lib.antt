@@ -1,5 +1,7 @@
+pub mod Asked
 pub mod Behind
 pub mod Complete
+pub mod Demos
 pub mod Ended
 pub mod Faults
 pub mod OneWord

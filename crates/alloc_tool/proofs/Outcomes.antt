@@ -1,13 +1,16 @@
 -- Each way in which a call of the program ends.
-use Rattle.std.proofs.Common.{◌≡◌, ◌≢◌, ℕ, List, Option, sym, ap, ◌∙◌, subst, refl}
+use Rattle.std.proofs.Common.{◌≡◌, ◌≢◌, ℕ, Bool, true, false, List, Option, sym, ap, ◌∙◌, subst, refl}
 use Rattle.std.specs.Io.KnownBytes.{Appends}
 use Rattle.edge_io.specs.Causes.{Rose}
 use Rattle.edge_io.specs.Front.{AppendsFront}
 use Rattle.trace_reader.specs.declared.trace.Trace.{Trace}
 use Rattle.trace_reader.specs.declared.fault.TraceFault.{TraceFault}
-use Rattle.trace_reader.specs.declared.fault.TraceFault.TheVariants.{ReadFault, Malformed, Truncated, Limit, BadMark, NoMemory, Later}
+use Rattle.trace_reader.specs.declared.fault.TraceFault.TheVariants.{ReadFault, Malformed, Truncated, Limit, BadMark, NoMemory}
 use Rattle.trace_reader.specs.Told.{IsOfTrace}
 use Rattle.cycle_history.specs.declared.Report.{Report}
+use Rattle.cycle_history.specs.Objects.{Object}
+use Rattle.cycle_history.specs.Orders.{AreRisingProfile}
+use Rattle.cycle_history.specs.Sound.{HasProfileIn, IsSoundAndUsed}
 use Rattle.cycle_history.specs.Text.{report_text}
 use Rattle.alloc_tool.specs.Texts.{fault_status, fault_text, status_text, write_fault}
 use Rattle.alloc_tool.specs.Told.{Tells}
@@ -15,6 +18,14 @@ use Rattle.alloc_tool.specs.Top.{BreaksOff, IsAnswer, IsRefused}
 use Rattle.alloc_tool.specs.WholeInput.{ReadsAll}
 use Rattle.alloc_tool.specs.Outcome.{Outcome}
 use Rattle.alloc_tool.proofs.Faults.{is_of_trace, is_read_fault, line_of_status}
+
+rises : (each : Bool) (t : Trace) (r : Report) (objects : List Object) → HasProfileIn each t r objects → AreRisingProfile r.profile
+rises true t r objects has = has.lines.order
+rises false t r objects has = has.lines.order
+
+-- the lines of a sound report's profile stand in their order
+pub profile_rises : (t : Trace) (r : Report) → IsSoundAndUsed t r → AreRisingProfile r.profile
+profile_rises t r sound = rises sound.1.profile.0 t r sound.0 sound.1.profile.1
 
 -- a fault has no status of a call that writes
 no_writing : (fault : TraceFault) → (fault_status fault ≢ 0) × (fault_status fault ≢ 6)
@@ -24,15 +35,14 @@ no_writing (Truncated line) = (λ e. cc, λ e. cc)
 no_writing (Limit line which) = (λ e. cc, λ e. cc)
 no_writing (BadMark line object) = (λ e. cc, λ e. cc)
 no_writing NoMemory = (λ e. cc, λ e. cc)
-no_writing (Later line) = (λ e. cc, λ e. cc)
 
 -- a fault was told
-pub refused_outcome : {S K E : Type 0} (left : S → Option (List ℕ)) (reads : S → ℕ) (held : K → Option (List ℕ)) (writes : K → ℕ) (shown : E → Option (List ℕ)) (tells : E → ℕ)
+pub refused_outcome : {S K E : Type 0} (each : Bool) (left : S → Option (List ℕ)) (reads : S → ℕ) (held : K → Option (List ℕ)) (writes : K → ℕ) (shown : E → Option (List ℕ)) (tells : E → ℕ)
     (input input' : S) (output output' : K) (errors errors' : E) (fault : TraceFault) (status : ℕ)
     → status ≡ fault_status fault → output' ≡ output → Tells shown tells errors errors' (fault_text fault)
     → (IsOfTrace fault → IsRefused (left input) fault) → (fault ≡ ReadFault → Rose (reads input) (reads input')) → (fault ≡ ReadFault → BreaksOff (left input) (left input'))
-    → Outcome left reads held writes shown tells input input' output output' errors errors' status
-refused_outcome left reads held writes shown tells input input' output output' errors errors' fault status is same told refused rose broken = record {
+    → Outcome each left reads held writes shown tells input input' output output' errors errors' status
+refused_outcome each left reads held writes shown tells input input' output output' errors errors' fault status is same told refused rose broken = record {
   answered = λ zero. absurd ((no_writing fault).0 (sym is ∙ zero));
   silent = λ zero. absurd ((no_writing fault).0 (sym is ∙ zero));
   refused = λ three. (let of = is_of_trace fault (sym is ∙ three) in (fault, of, refused of, told));
@@ -45,11 +55,11 @@ refused_outcome left reads held writes shown tells input input' output output' e
 }
 
 -- the whole answer was written
-pub answered_outcome : {S K E : Type 0} (left : S → Option (List ℕ)) (reads : S → ℕ) (held : K → Option (List ℕ)) (writes : K → ℕ) (shown : E → Option (List ℕ)) (tells : E → ℕ)
+pub answered_outcome : {S K E : Type 0} (each : Bool) (left : S → Option (List ℕ)) (reads : S → ℕ) (held : K → Option (List ℕ)) (writes : K → ℕ) (shown : E → Option (List ℕ)) (tells : E → ℕ)
     (input input' : S) (output output' : K) (errors errors' : E) (trace : Trace) (report : Report)
-    → ReadsAll (left input) (left input') trace → IsAnswer trace report → Appends (held output) (held output') (report_text report) → errors' ≡ errors
-    → Outcome left reads held writes shown tells input input' output output' errors errors' 0
-answered_outcome left reads held writes shown tells input input' output output' errors errors' trace report reads_all answer appends same = record {
+    → ReadsAll (left input) (left input') trace → IsAnswer each trace report → Appends (held output) (held output') (report_text report) → errors' ≡ errors
+    → Outcome each left reads held writes shown tells input input' output output' errors errors' 0
+answered_outcome each left reads held writes shown tells input input' output output' errors errors' trace report reads_all answer appends same = record {
   answered = λ _. (trace, report, reads_all, answer, appends);
   silent = λ _. same;
   refused = λ e. absurd cc;
@@ -62,12 +72,12 @@ answered_outcome left reads held writes shown tells input input' output output' 
 }
 
 -- a write failed
-pub written_outcome : {S K E : Type 0} (left : S → Option (List ℕ)) (reads : S → ℕ) (held : K → Option (List ℕ)) (writes : K → ℕ) (shown : E → Option (List ℕ)) (tells : E → ℕ)
+pub written_outcome : {S K E : Type 0} (each : Bool) (left : S → Option (List ℕ)) (reads : S → ℕ) (held : K → Option (List ℕ)) (writes : K → ℕ) (shown : E → Option (List ℕ)) (tells : E → ℕ)
     (input input' : S) (output output' : K) (errors errors' : E) (trace : Trace) (report : Report) (status : ℕ)
-    → status ≡ 6 → ReadsAll (left input) (left input') trace → IsAnswer trace report → AppendsFront (held output) (held output') (report_text report)
+    → status ≡ 6 → ReadsAll (left input) (left input') trace → IsAnswer each trace report → AppendsFront (held output) (held output') (report_text report)
     → Rose (writes output) (writes output') → Tells shown tells errors errors' write_fault
-    → Outcome left reads held writes shown tells input input' output output' errors errors' status
-written_outcome left reads held writes shown tells input input' output output' errors errors' trace report status is reads_all answer front rose told = record {
+    → Outcome each left reads held writes shown tells input input' output output' errors errors' status
+written_outcome each left reads held writes shown tells input input' output output' errors errors' trace report status is reads_all answer front rose told = record {
   answered = λ e. absurd (clash 0 (λ f. cc) e);
   silent = λ e. absurd (clash 0 (λ f. cc) e);
   refused = λ e. absurd (clash 3 (λ f. cc) e);

@@ -3,7 +3,6 @@ use Rattle.std.proofs.Common.{◌≡◌, ◌≢◌, ℕ, List, [], ◌∷◌, Op
 use Rattle.std.specs.declared.alloc.Global.{Global}
 use Rattle.edge_io.specs.Causes.{Rose}
 use Rattle.edge_io.specs.Front.{AppendsFront}
-use Rattle.trace_reader.proofs.Digits.{decimal_injective_wide}
 use Rattle.class_lines.specs.Text.{classes_text}
 use Rattle.made_lines.specs.Asks.{made_text}
 use Rattle.alloc_tool.specs.Checked.{Checked}
@@ -11,6 +10,7 @@ use Rattle.alloc_tool.specs.Plain.{Plain, Writes}
 use Rattle.alloc_tool.specs.Texts.{status_text, usage, write_fault}
 use Rattle.alloc_tool.specs.Told.{Tells}
 use Rattle.alloc_tool.specs.Words.{IsCheck, IsClasses, IsGen}
+use Rattle.alloc_tool.proofs.Asked.{one_seeded}
 
 clash : (s k l : ℕ) → (k ≡ l → ⊥) → s ≡ k → s ≡ l → ⊥
 clash s k l apart e f = apart (sym e ∙ f)
@@ -27,6 +27,7 @@ failed_writes held writes shown tells written output output' errors errors' stat
   partly_written = λ _. front;
   unwritten = λ seven. absurd (clash status 6 7 (λ e. cc) six seven);
   told = λ _. subst (λ (k : ℕ). Tells shown tells errors errors' (status_text k)) (sym six) told;
+  complete = λ written. absurd (written rose);
 }
 
 -- memory ran out
@@ -40,6 +41,7 @@ spent_writes held writes shown tells written output output' errors errors' statu
   partly_written = λ six. absurd (clash status 7 6 (λ e. cc) seven six);
   unwritten = λ _. same;
   told = λ _. subst (λ (k : ℕ). Tells shown tells errors errors' (status_text k)) (sym seven) told;
+  complete = λ _. inr seven;
 }
 
 -- one word is not three
@@ -55,19 +57,6 @@ classes_or_check words is other = (let e : codes "classes" ∷ [] ≡ codes "che
 
 classes_or_gen : (words : List (String Global)) (seed objects : ℕ) → IsClasses words → IsGen words seed objects → ⊥
 classes_or_gen words seed objects is made = lengths _ _ _ _ (sym is ∙ made.spelled)
-
--- words ask for one made trace
-one_pair : (a b c x y : List ℕ) → a ∷ b ∷ c ∷ [] ≡ a ∷ x ∷ y ∷ [] → (b ≡ x) × (c ≡ y)
-one_pair a b c x y e = (cc, cc)
-
-one_gen : (words : List (String Global)) (s o s' o' : ℕ) → IsGen words s o → IsGen words s' o' → (s ≡ s') × (o ≡ o')
-one_gen words s o s' o' a b =
-    let both = one_pair _ _ _ _ _ (sym a.spelled ∙ b.spelled) in
-    let sa = a.seed_limit in
-    let sb = b.seed_limit in
-    let oa = a.few in
-    let ob = b.few in
-    (decimal_injective_wide s s' (omega arith) (omega arith) both.0, decimal_injective_wide o o' (omega arith) (omega arith) both.1)
 
 -- the word `classes`
 pub classes_plain : {S K E : Type 0} (left : S → Option (List ℕ)) (reads : S → ℕ) (held : K → Option (List ℕ)) (writes : K → ℕ) (shown : E → Option (List ℕ)) (tells : E → ℕ) (words : List (String Global)) (input : S) (output output' : K) (errors errors' : E) (status : ℕ)
@@ -88,7 +77,7 @@ gen_plain left reads held writes shown tells words input output output' errors e
   classes = λ classes. absurd (classes_or_gen words seed objects classes is);
   no_memory = λ classes. absurd (classes_or_gen words seed objects classes is);
   made = λ s o made.
-      let same = one_gen words seed objects s o is made in
+      let same = one_seeded (codes "gen") words seed objects s o is made in
       subst (λ (k : ℕ). Writes held writes shown tells (made_text k o) output output' errors errors' status) same.0
       (subst (λ (k : ℕ). Writes held writes shown tells (made_text seed k) output output' errors errors' status) same.1 written);
   check = λ other. absurd (check_or_gen words seed objects other is);

@@ -62,3 +62,5 @@ pub record Checked {S K E : Type 0} (left : S → Option (List ℕ)) (reads : S 
   -- any other status: nothing was written, and the line on the errors is the status's
   pub unwritten : status ≢ 0 → status ≢ 6 → output' ≡ output
   pub told : status ≢ 0 → status ≢ 3 → status ≢ 4 → Tells shown tells errors errors' (status_text status)
+  -- where no read and no write fails, the trace or the report is refused, or the line is written, unless memory runs out
+  pub complete : (Rose (reads input) (reads input') → ⊥) → (Rose (writes output) (writes output') → ⊥) → (status ≡ 0) ⊎ (status ≡ 3) ⊎ (status ≡ 4) ⊎ (status ≡ 7)

@@ -6,3 +6,4 @@ pub mod WholeInput
 pub mod Words
 pub mod Plain
 pub mod Checked
+pub mod Demo

@@ -28,6 +28,8 @@ pub record Writes {K E : Type 0} (held : K → Option (List ℕ)) (writes : K �
   pub unwritten : status ≡ 7 → output' ≡ output
   -- any status but 0: the line on the errors is the status's
   pub told : status ≢ 0 → Tells shown tells errors errors' (status_text status)
+  -- where no write fails, the text is written, unless memory runs out
+  pub complete : (Rose (writes output) (writes output') → ⊥) → (status ≡ 0) ⊎ (status ≡ 7)
 
 -- The words are not known: nothing is written but the usage, to the errors.
 pub record IsUnknown {K E : Type 0} (shown : E → Option (List ℕ)) (tells : E → ℕ) (output output' : K) (errors errors' : E) (status : ℕ) : Type 0 where

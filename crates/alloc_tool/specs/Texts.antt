@@ -1,7 +1,7 @@
 -- The lines that the program tells where it stops without its answer. None of them has its line feed here.
 use Rattle.std.specs.Prelude.{ℕ, List, ◌++◌, ◌==◌, if◌then◌else◌, codes, decimal}
 use Rattle.trace_reader.specs.declared.fault.TraceFault.{TraceFault}
-use Rattle.trace_reader.specs.declared.fault.TraceFault.TheVariants.{ReadFault, Malformed, Truncated, Limit, BadMark, NoMemory, Later}
+use Rattle.trace_reader.specs.declared.fault.TraceFault.TheVariants.{ReadFault, Malformed, Truncated, Limit, BadMark, NoMemory}
 use Rattle.report_text.specs.declared.fault.ReportFault.{ReportFault}
 use Rattle.report_text.specs.declared.fault.ReportFault.TheVariants.{ReadFault as Unread, Malformed as OddLine, Truncated as EndsEarly, Limit as TooLong, NoMemory as OutOfMemory}
 use Rattle.trace_reader.specs.declared.fault.Which.{Which}
@@ -44,7 +44,6 @@ fault_text (Truncated line) = place line ++ codes "ends early"
 fault_text (Limit line which) = place line ++ codes "limit " ++ limit_name which
 fault_text (BadMark line object) = place line ++ codes "object " ++ decimal object ++ codes " is not live"
 fault_text NoMemory = codes "goheap: out of memory"
-fault_text (Later line) = place line ++ codes "not built yet"
 
 -- the status for a trace that was not taken
 abbrev pub fault_status : TraceFault → ℕ
@@ -54,7 +53,6 @@ fault_status (Truncated line) = 3
 fault_status (Limit line which) = 3
 fault_status (BadMark line object) = 3
 fault_status NoMemory = 7
-fault_status (Later line) = 3
 
 -- the line of `check` where the report is sound
 abbrev pub check_ok : List ℕ

@@ -1,5 +1,5 @@
 -- What the program promises of the bytes that it reads and writes.
-use Rattle.std.specs.Prelude.{◌≡◌, ℕ, ◌+◌, ◌-◌, ◌^◌, ◌≤◌, min, ◌⊎◌, List, [], ◌++◌, length, Option, Some}
+use Rattle.std.specs.Prelude.{◌≡◌, ℕ, ◌+◌, ◌-◌, ◌^◌, ◌≤◌, min, ◌⊎◌, Bool, List, ◌++◌, length, Option, Some}
 use Rattle.std.specs.Io.KnownBytes.{Appends, Consumes}
 use Rattle.edge_io.specs.Causes.{Rose}
 use Rattle.edge_io.specs.Front.{AppendsFront}
@@ -7,29 +7,29 @@ use Rattle.edge_io.specs.Line.{IsLine}
 use Rattle.trace_reader.specs.declared.trace.Trace.{Trace}
 use Rattle.trace_reader.specs.declared.fault.TraceFault.{TraceFault}
 use Rattle.trace_reader.specs.declared.fault.TraceFault.TheVariants.{Truncated}
-use Rattle.trace_reader.specs.Limits.{Spells, IsPlain}
-use Rattle.trace_reader.specs.Refusal.{fault_in, needs_later, nothing_behind, pieces_of}
+use Rattle.trace_reader.specs.Limits.{Spells}
+use Rattle.trace_reader.specs.Refusal.{fault_in, nothing_behind, pieces_of}
 use Rattle.trace_reader.specs.Spelling.{statements_of}
 use Rattle.cycle_history.specs.declared.Report.{Report}
-use Rattle.cycle_history.specs.Sound.{IsSoundAndUsed}
+use Rattle.cycle_history.specs.Sound.{HasForm, IsSoundAndUsed}
 use Rattle.cycle_history.specs.Text.{report_text}
 use Rattle.alloc_tool.specs.WholeInput.{ReadsAll}
 
--- a sound report of the trace that uses what it takes; nothing is sampled yet, so that its profile is empty
-pub record IsAnswer (trace : Trace) (report : Report) : Type 0 where
+-- a sound report of the trace that uses what it takes, with the profile of each mark end or that of the last
+pub record IsAnswer (each : Bool) (trace : Trace) (report : Report) : Type 0 where
   pub sound : IsSoundAndUsed trace report
-  pub no_profile : report.profile ≡ []
+  pub form : HasForm trace report each
 
--- The bytes that were read spell a trace that needs nothing later, and nothing is left unread. The bytes that were
--- written are the text of an answer to that trace.
-abbrev pub AnswersAll : (left left' held held' : Option (List ℕ)) → Type 0
-AnswersAll left left' held held' = (trace : Trace) × (report : Report)
-    × ReadsAll left left' trace × IsAnswer trace report × Appends held held' (report_text report)
+-- The bytes that were read spell a trace, and nothing is left unread. The bytes that were written are the text of an
+-- answer to that trace.
+abbrev pub AnswersAll : Bool → (left left' held held' : Option (List ℕ)) → Type 0
+AnswersAll each left left' held held' = (trace : Trace) × (report : Report)
+    × ReadsAll left left' trace × IsAnswer each trace report × Appends held held' (report_text report)
 
 -- the same, but that only a front of the text was written
-abbrev pub AnswersFront : (left left' held held' : Option (List ℕ)) → Type 0
-AnswersFront left left' held held' = (trace : Trace) × (report : Report)
-    × ReadsAll left left' trace × IsAnswer trace report × AppendsFront held held' (report_text report)
+abbrev pub AnswersFront : Bool → (left left' held held' : Option (List ℕ)) → Type 0
+AnswersFront each left left' held held' = (trace : Trace) × (report : Report)
+    × ReadsAll left left' trace × IsAnswer each trace report × AppendsFront held held' (report_text report)
 
 -- how a run ends: with its answer, at a refused trace, at a fault of its input or its output, or for want of memory
 abbrev pub IsStatusOfRun : ℕ → Type 0
@@ -37,7 +37,7 @@ IsStatusOfRun status = (status ≡ 0) ⊎ (status ≡ 3) ⊎ (status ≡ 5) ⊎ 
 
 -- the fault of a trace at the front of the bytes, whatever is thought of what stands behind its last line
 abbrev pub IsTraceFault : List ℕ → TraceFault → Type 0
-IsTraceFault bytes fault = (behind : ℕ → List (List ℕ) → Option TraceFault) → fault_in needs_later behind 0 67108864 bytes ≡ Some fault
+IsTraceFault bytes fault = (behind : ℕ → List (List ℕ) → Option TraceFault) → fault_in behind 0 67108864 bytes ≡ Some fault
 
 -- a whole trace stands at the front of the bytes, and this is the fault of what stands behind it, at the line behind
 pub record IsFaultBehind (bytes : List ℕ) (fault : TraceFault) : Type 0 where
@@ -46,18 +46,17 @@ pub record IsFaultBehind (bytes : List ℕ) (fault : TraceFault) : Type 0 where
   pub split : bytes ≡ front ++ rest
   pub trace : Trace
   pub spelled : Spells front trace
-  pub plain : IsPlain trace
   pub behind : nothing_behind (min (1 + length (statements_of trace)) (2 ^ 64 - 1)) (pieces_of rest) ≡ Some fault
 
 -- where the source told its bytes, this is their fault
 abbrev pub IsRefused : Option (List ℕ) → TraceFault → Type 0
 IsRefused left fault = (bytes : List ℕ) → left ≡ Some bytes → IsTraceFault bytes fault ⊎ IsFaultBehind bytes fault
 
--- the status of a run of these bytes where no read and no write failed: a trace that needs nothing later is answered,
--- and all else is refused, unless memory runs out
+-- the status of a run of these bytes where no read and no write failed: a trace is answered, and all else is refused,
+-- unless memory runs out
 pub record IsComplete (bytes : List ℕ) (status : ℕ) : Type 0 where
-  pub spelled : (trace : Trace) → Spells bytes trace → IsPlain trace → (status ≡ 0) ⊎ (status ≡ 7)
-  pub others : ((trace : Trace) → Spells bytes trace → IsPlain trace → ⊥) → (status ≡ 3) ⊎ (status ≡ 7)
+  pub spelled : (trace : Trace) → Spells bytes trace → (status ≡ 0) ⊎ (status ≡ 7)
+  pub others : ((trace : Trace) → Spells bytes trace → ⊥) → (status ≡ 3) ⊎ (status ≡ 7)
 
 -- the source told these bytes, and neither it nor the sink failed
 pub record IsUndisturbed {S K : Type 0} (left : S → Option (List ℕ)) (source_faults : S → ℕ) (sink_faults : K → ℕ)
@@ -73,7 +72,6 @@ pub record IsUnendedBehind (bytes : List ℕ) : Type 0 where
   pub split : bytes ≡ front ++ rest
   pub trace : Trace
   pub spelled : Spells front trace
-  pub plain : IsPlain trace
   pub is_line : IsLine rest
   pub room : length bytes ≤ 67108864
 

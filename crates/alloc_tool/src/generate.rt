@@ -1,9 +1,9 @@
-//! The word `gen`: a made trace in place of one that is read.
+//! The word `gen`: a made trace in place of one that is read; and the words that ask for one.
 
 ghost use Rattle.std.specs.Prelude.{ℕ, MatchOption};
 ghost use Rattle.made_lines.specs.Asks.{made_text};
 ghost use Rattle.alloc_tool.specs.Plain.{Writes};
-ghost use Rattle.alloc_tool.specs.Words.{IsGen};
+ghost use Rattle.alloc_tool.specs.Words.{IsSeeded};
 
 use crate::tell::{refuse_trace, stop_writing};
 use edge_io::Sink;
@@ -11,11 +11,11 @@ use made_lines::{MadeFault, Wanted, read_words, write_made};
 use std::alloc::Global;
 use trace_reader::TraceFault;
 
-/// The made trace that the words ask for, if they are `gen SEED OBJECTS`.
-pub(crate) fn wanted_by(words: &[String]) -> Option<Wanted>
-    ensures { MatchOption result ((seed objects : ℕ) → ¬ IsGen words.now seed objects) (λ wanted. IsGen words.now wanted.seed wanted.objects) }
+/// The made trace that the words ask for, if they are this word, `SEED` and `OBJECTS`.
+pub(crate) fn wanted_by(words: &[String], word: &str) -> Option<Wanted>
+    ensures { MatchOption result ((seed objects : ℕ) → ¬ IsSeeded word.now words.now seed objects) (λ wanted. IsSeeded word.now words.now wanted.seed wanted.objects) }
 {
-    if words.len() != 3 || words[0].as_str() != "gen" {
+    if words.len() != 3 || words[0].as_str() != word {
         return None;
     }
     read_words(words[1].as_str().as_bytes(), words[2].as_str().as_bytes())

@@ -1,9 +1,10 @@
 //! `goheap`: Go's memory allocator, driven by a trace.
 //!
 //! `goheap run` reads a trace from standard input and writes its report to standard output. `goheap check` reads a trace and
-//! behind it a report, and says whether the report is sound.
+//! behind it a report, and says whether the report is sound. `goheap demo` makes a trace, runs and checks it, and sums up.
 #![tactic(auto)]
 
+mod demo;
 mod generate;
 mod judging;
 mod tell;

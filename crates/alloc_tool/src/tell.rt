@@ -159,8 +159,7 @@ fn status_of(fault: TraceFault) -> u8
         TraceFault::Malformed(_)
         | TraceFault::Truncated(_)
         | TraceFault::Limit(..)
-        | TraceFault::BadMark(..)
-        | TraceFault::Later(_) => 3,
+        | TraceFault::BadMark(..) => 3,
     }
 }
 
@@ -198,10 +197,6 @@ fn push_fault(line: &mut TextLine, fault: TraceFault)
             line.push(b"object ");
             line.push_decimal(u64::from(object));
             line.push(b" is not live");
-        }
-        TraceFault::Later(number) => {
-            push_place(line, number);
-            line.push(b"not built yet");
         }
     }
 }

@@ -1,13 +1,14 @@
 //! The program over streams in memory. The expected texts are written by hand from the rules of docs/.
 
 use super::*;
-use edge_io::{Failed, Lines, List, MemorySink, MemorySource, Sink, Source};
+use edge_io::{Lines, List, MemorySink, MemorySource};
 use std::sync::Wait;
 use std::test::Fail;
 use std::thread::Threads;
 
 mod faults;
 mod judged;
+mod pieces;
 mod streams;
 
 const HEAD: &str = "goheap 1\nheap 1 procs 1 rate 0 seed 1 goal 512\n";

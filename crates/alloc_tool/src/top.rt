@@ -1,30 +1,34 @@
 //! The whole program over any source and sinks.
 
-ghost use Rattle.std.specs.Prelude.{◌≡◌, ◌≢◌, ◌↔◌, ◌⊎◌, false, List, ℕ, IfErr, IfOk, IsErrOf, IsTrue, Some};
+ghost use Rattle.std.specs.Prelude.{◌≡◌, ◌≢◌, ◌≤◌, ◌↔◌, ◌⊎◌, Bool, false, List, ℕ, IfErr, IfOk, IsErrOf, IsTrue, Some};
 ghost use Rattle.std.specs.Io.KnownBytes.{Appends};
 ghost use Rattle.edge_io.specs.Causes.{Rose};
 ghost use Rattle.edge_io.specs.Front.{AppendsFront};
 ghost use Rattle.edge_io.specs.Reading.{IsSameSource, is_dry, lines_left, number_of, room_of, source_of};
 ghost use Rattle.trace_reader.specs.declared.fault.TraceFault.TheVariants.{ReadFault};
 ghost use Rattle.trace_reader.specs.declared.trace.Trace.{Trace as ATrace};
-ghost use Rattle.trace_reader.specs.Limits.{IsPlain, Spells};
+ghost use Rattle.trace_reader.specs.Limits.{Spells};
 ghost use Rattle.trace_reader.specs.Told.{HasReadCause, IsOfTrace};
 ghost use Rattle.class_lines.specs.Text.{classes_text};
+ghost use Rattle.trace_gen.specs.Made.{made_trace};
+ghost use Rattle.alloc_tool.specs.Demo.{Demos};
 ghost use Rattle.alloc_tool.specs.Outcome.{Outcome};
 ghost use Rattle.alloc_tool.specs.Plain.{Plain, Writes};
 ghost use Rattle.alloc_tool.specs.Texts.{status_text};
 ghost use Rattle.alloc_tool.specs.Told.{Tells};
 ghost use Rattle.alloc_tool.specs.Top.{BreaksOff, IsComplete, IsRefused, IsStatusOfRun, IsUndisturbed};
 ghost use Rattle.alloc_tool.specs.WholeInput.{ReadsAll};
-ghost use Rattle.alloc_tool.specs.Words.{IsRun, IsWord};
+ghost use Rattle.alloc_tool.specs.Words.{IsDemo, IsRun, IsRunWith, IsWord};
 
+use crate::demo::show_run;
 use crate::generate::{generate, wanted_by};
 use crate::judging::judge_report;
 use crate::tell::{refuse_trace, refuse_words, stop_writing};
 use class_lines::write_classes;
-use edge_io::{Gate, Lines, Sink, Source};
+use edge_io::{Gate, Lines, NoMemory, Sink, Source};
 use heap_run::{Options, run_trace};
 use report_text::write_report;
+use run_words::{are_of_run, read_options};
 use std::alloc::Global;
 use std::sync::Wait;
 use std::thread::Threads;
@@ -33,16 +37,12 @@ use trace_reader::{Trace, TraceFault, expect_end, read_trace};
 /// The most bytes of a trace.
 const MAX_BYTES: u64 = 67_108_864;
 
-// How traces are run until `run` has options: without background sweepers.
-const OPTIONS: Options = Options {
-    background: 0,
-    each: false,
-};
-
-/// Does what the words say, and answers the exit status. It runs `run` itself; all other words go to [`goheap_plain`].
+/// Does what the words say, and answers the exit status. It runs `run` and `demo` itself; all other words go to
+/// [`goheap_plain`].
 ///
 /// `words` are those behind the program's name. `run` reads a trace from `input` to its end and writes its report to
-/// `output`. Where it does not answer, one line on `errors` says why.
+/// `output`; its options are `--each` and `--background=N` or `--background N`. `demo SEED OBJECTS` makes a trace, runs and
+/// judges it, and writes what came of it. Where a call does not answer, one line on `errors` says why.
 pub fn goheap<R: Threads + Wait + Sync, S: Source, K: Sink, E: Sink, G: Gate>(
     _rt: &R,
     alloc: Global,
@@ -52,16 +52,21 @@ pub fn goheap<R: Threads + Wait + Sync, S: Source, K: Sink, E: Sink, G: Gate>(
     errors: &mut E,
     gate: &G,
 ) -> u8
-    ensures outcome { IsRun words.now → Outcome S.left S.faults K.held K.faults E.held E.faults input.old input.new output.old output.new errors.old errors.new result }
+    ensures outcome { (background : ℕ) (each : Bool) → IsRunWith words.now background each
+        → Outcome each S.left S.faults K.held K.faults E.held E.faults input.old input.new output.old output.new errors.old errors.new result }
     ensures run_words { IsRun words.now → IsStatusOfRun result }
-    ensures other_words { (IsRun words.now → ⊥) → Plain S.left S.faults K.held K.faults E.held E.faults words.now input.old input.new output.old output.new errors.old errors.new result }
+    ensures demo { (seed objects : ℕ) → IsDemo words.now seed objects
+        → Demos (made_trace seed objects) K.held K.faults E.held E.faults output.old output.new errors.old errors.new result × (input.new ≡ input.old) }
+    ensures other_words { (IsRun words.now → ⊥) → ((seed objects : ℕ) → IsDemo words.now seed objects → ⊥) → Plain S.left S.faults K.held K.faults E.held E.faults words.now input.old input.new output.old output.new errors.old errors.new result }
     ensures complete { IsRun words.now → (bytes : List ℕ)
         → IsUndisturbed S.left S.faults K.faults input.old input.new output.old output.new bytes → IsComplete bytes result }
 {
-    if is_word(words, "run") {
-        run(alloc, input, output, errors, gate)
-    } else {
-        goheap_plain(alloc, words, input, output, errors)
+    if are_of_run(words) {
+        return run(alloc, words, input, output, errors, gate);
+    }
+    match wanted_by(words, "demo") {
+        Some(wanted) => show_run(alloc, wanted, output, errors, gate),
+        None => goheap_plain(alloc, words, input, output, errors),
     }
 }
 
@@ -84,7 +89,7 @@ pub fn goheap_plain<S: Source, K: Sink, E: Sink>(
     if is_word(words, "check") {
         return judge_report(alloc, input, output, errors);
     }
-    match wanted_by(words) {
+    match wanted_by(words, "gen") {
         Some(wanted) => generate(alloc, wanted, output, errors),
         None => refuse_words(errors),
     }
@@ -108,23 +113,52 @@ fn classes<K: Sink, E: Sink>(output: &mut K, errors: &mut E) -> u8
     }
 }
 
-// Reads a trace, and writes its report.
+// Reads the options, and runs a trace by them.
 fn run<S: Source, K: Sink, E: Sink, G: Gate>(
     alloc: Global,
+    words: &[String],
     input: &mut S,
     output: &mut K,
     errors: &mut E,
     gate: &G,
 ) -> u8
-    ensures outcome { Outcome S.left S.faults K.held K.faults E.held E.faults input.old input.new output.old output.new errors.old errors.new result }
+    requires { IsRun words.now }
+    ensures outcome { (background : ℕ) (each : Bool) → IsRunWith words.now background each
+        → Outcome each S.left S.faults K.held K.faults E.held E.faults input.old input.new output.old output.new errors.old errors.new result }
     ensures status { IsStatusOfRun result }
-    ensures complete { (bytes : List ℕ) (trace : ATrace) → S.left input.old ≡ Some bytes → Spells bytes trace → IsPlain trace → result ≢ 3 }
+    ensures complete { (bytes : List ℕ) (trace : ATrace) → S.left input.old ≡ Some bytes → Spells bytes trace → result ≢ 3 }
+{
+    match read_options(alloc, words) {
+        Ok(asked) => {
+            let options = Options {
+                background: asked.background,
+                each: asked.each,
+            };
+            run_by(alloc, options, input, output, errors, gate)
+        }
+        Err(NoMemory) => refuse_trace(errors, TraceFault::NoMemory),
+    }
+}
+
+// Reads a trace, and writes its report.
+fn run_by<S: Source, K: Sink, E: Sink, G: Gate>(
+    alloc: Global,
+    options: Options,
+    input: &mut S,
+    output: &mut K,
+    errors: &mut E,
+    gate: &G,
+) -> u8
+    requires { options.background ≤ 4 }
+    ensures outcome { Outcome options.each S.left S.faults K.held K.faults E.held E.faults input.old input.new output.old output.new errors.old errors.new result }
+    ensures status { IsStatusOfRun result }
+    ensures complete { (bytes : List ℕ) (trace : ATrace) → S.left input.old ≡ Some bytes → Spells bytes trace → result ≢ 3 }
 {
     let trace = match read_all(alloc, input) {
         Ok(trace) => trace,
         Err(fault) => return refuse_trace(errors, fault),
     };
-    let Ok(ran) = run_trace(alloc, &trace, OPTIONS, gate) else {
+    let Ok(ran) = run_trace(alloc, &trace, options, gate) else {
         return refuse_trace(errors, TraceFault::NoMemory);
     };
     match write_report(output, &ran.report) {
@@ -139,7 +173,7 @@ fn read_all<S: Source>(alloc: Global, input: &mut S) -> Result<Trace, TraceFault
     ensures refused { IfErr result (λ fault. IsOfTrace fault → IsRefused (S.left input.old) fault) }
     ensures broken_off { IsErrOf result ReadFault → BreaksOff (S.left input.old) (S.left input.new) }
     ensures cause { HasReadCause (S.faults input.old) (S.faults input.new) result }
-    ensures complete { (bytes : List ℕ) (trace : ATrace) → S.left input.old ≡ Some bytes → Spells bytes trace → IsPlain trace
+    ensures complete { (bytes : List ℕ) (trace : ATrace) → S.left input.old ≡ Some bytes → Spells bytes trace
         → IfErr result (λ fault. IsOfTrace fault → ⊥) }
 {
     let mut lines = Lines::new(input, MAX_BYTES);
@@ -156,7 +190,7 @@ fn read_lines<S: Source>(alloc: Global, lines: &mut Lines<'_, S>) -> Result<Trac
     ensures refused { IfErr result (λ fault. IsOfTrace fault → IsRefused (lines_left S.left lines.old) fault) }
     ensures broken_off { IsErrOf result ReadFault → BreaksOff (lines_left S.left lines.old) (S.left (source_of lines.new)) }
     ensures cause { HasReadCause (S.faults (source_of lines.old)) (S.faults (source_of lines.new)) result }
-    ensures complete { (bytes : List ℕ) (trace : ATrace) → lines_left S.left lines.old ≡ Some bytes → Spells bytes trace → IsPlain trace
+    ensures complete { (bytes : List ℕ) (trace : ATrace) → lines_left S.left lines.old ≡ Some bytes → Spells bytes trace
         → IfErr result (λ fault. IsOfTrace fault → ⊥) }
 {
     let trace = read_trace(alloc, lines)?;

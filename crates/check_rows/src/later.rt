@@ -1,9 +1,10 @@
-//! A table of traces and reports as text, for all rules.
+//! A table of traces and reports as text, for all rules, where nothing is sampled.
 
 ghost use Rattle.std.specs.Prelude.{IfOk};
 ghost use Rattle.cycle_history.specs.Marked.{IsLimited};
 
-use cycle_history::Report;
+use crate::profile::{self, Bucket, ProfileRow};
+use cycle_history::{Prof, Report};
 use edge_io::{Lines, List, MemorySource};
 use report_check::{CheckFault, check};
 use report_text::read_report;
@@ -16,10 +17,12 @@ use trace_reader::{Trace, read_trace};
 /// that it breaks first.
 type Row = (&'static str, &'static str, Option<(u8, u64)>);
 
-fn trace_of(alloc: Global, lines: &str) -> Result<Trace, Fail>
+fn trace_of(alloc: Global, rate: u32, lines: &str) -> Result<Trace, Fail>
     ensures { IfOk result IsLimited }
 {
-    let text = format!(in alloc; "goheap 1\nheap 1 procs 1 rate 0 seed 1 goal 512\n{lines}end\n")?;
+    let text = format!(in alloc;
+        "goheap 1\nheap 1 procs 1 rate {rate} seed 1 goal 512\n{lines}end\n"
+    )?;
     let bytes = List::from_vec(text.as_bytes().to_vec(alloc)?);
     let mut source = MemorySource::new(bytes, List::new(alloc));
     let mut lines = Lines::new(&mut source, 67_108_864);
@@ -37,24 +40,48 @@ fn report_of(alloc: Global, lines: &str) -> Result<Report, Fail> {
     }
 }
 
-fn judge<R: Abort + AllocGlobal>(rt: &R, number: usize, row: &Row) -> Result<(), Fail> {
-    let (lines, printed, broken) = *row;
+// A report with these lines of its profile.
+fn report_with(alloc: Global, lines: &str, profile: &[Bucket]) -> Result<Report, Fail> {
+    let mut report = report_of(alloc, lines)?;
+    for (mark, stack, size, allocs, frees) in profile {
+        report.profile.push(Prof {
+            mark: *mark,
+            stack: *stack,
+            size: *size,
+            allocs: *allocs,
+            frees: *frees,
+        })?;
+    }
+    Ok(report)
+}
+
+fn judge<R: Abort + AllocGlobal>(
+    rt: &R,
+    rate: u32,
+    number: usize,
+    row: &ProfileRow,
+) -> Result<(), Fail> {
+    let (lines, printed, buckets, broken) = *row;
     let alloc = rt.alloc();
-    let trace = trace_of(alloc, lines)?;
-    let report = report_of(alloc, printed)?;
+    let trace = trace_of(alloc, rate, lines)?;
+    let report = report_with(alloc, printed, buckets)?;
     let found = match check(alloc, &trace, &report) {
         Ok(()) => None,
         Err(CheckFault::Broken { rule, line }) => Some((rule, line)),
         Err(CheckFault::NoMemory) => return Err("no memory".into()),
     };
-    assert_eq!(rt; found, broken, "row {number}");
+    assert_eq!(rt; found, broken, "rate {rate}: row {number}");
     Ok(())
 }
 
 #[test]
 fn whole_reports_are_judged(rt: HostRuntime) -> Result<(), Fail> {
     for (number, row) in ROWS.iter().enumerate() {
-        judge(&rt, number, row)?;
+        let (lines, printed, broken) = *row;
+        judge(&rt, 0, number, &(lines, printed, &[], broken))?;
+    }
+    for (number, row) in profile::ROWS.iter().enumerate() {
+        judge(&rt, 1, number, row)?;
     }
     Ok(())
 }

@@ -1,8 +1,21 @@
 //! Broken reports, typed by hand: which rule each breaks first, and at which line.
+//!
+//! `tests` tries the rules 1 to 4 alone, over the tables of `answers`, `journal`, `misses` and `places`; `totals` tries rule 8
+//! alone; and `later` all nine rules, over its own table, where nothing is sampled, and that of `profile`, where all is.
 #![tactic(auto)]
 
 #[cfg(test)]
+mod answers;
+#[cfg(test)]
+mod journal;
+#[cfg(test)]
 mod later;
+#[cfg(test)]
+mod misses;
+#[cfg(test)]
+mod places;
+#[cfg(test)]
+mod profile;
 #[cfg(test)]
 mod tests;
 #[cfg(test)]

@@ -1,7 +1,7 @@
 ghost use Rattle.std.specs.Prelude.{◌<◌};
 
 use edge_io::{
-    Lines, List, MemorySink, MemorySource, NoMemory, Seen, StdSink, StdSource, write_all,
+    Lines, List, MemorySink, MemorySource, NoMemory, Output, Seen, StdSink, StdSource, write_all,
 };
 use std::alloc::Global;
 use std::io;
@@ -99,11 +99,9 @@ fn adapters_hand_on_faults_in_mid_stream(rt: HostRuntime) {
 }
 
 // What three calls for a line see of "ab\ncd", read in pieces of at most so many bytes, of which the listed reads fail.
-fn seen_in_pieces(
-    alloc: Global,
-    most: u64,
-    failing: &[u64],
-) -> Result<[Option<Seen>; 3], NoMemory> {
+fn seen_in_pieces(alloc: Global, most: u64, failing: &[u64]) -> Result<[Option<Seen>; 3], NoMemory>
+    requires { 0 < most }
+{
     let mut source = MemorySource::in_pieces(
         listed(alloc, b"ab\ncd")?,
         most,
@@ -159,7 +157,7 @@ fn a_source_in_pieces_gives_the_same_lines(rt: HostRuntime) {
     );
     assert_eq!(rt;
         seen_in_pieces(alloc, 1, &[5]).ok(),
-        Some([line, None, cut])
+        Some([line, None, finished])
     );
     assert_eq!(rt; seen_in_pieces(alloc, 1, &[6]).ok(), all);
 }
@@ -196,4 +194,19 @@ fn a_sink_in_pieces_holds_what_it_took(rt: HostRuntime) {
         holds_in_pieces(alloc, 3, &[4], b"0123456789").ok(),
         Some((true, true))
     );
+}
+
+// What waits goes on behind a failed write, and nothing is sent twice.
+#[test]
+fn what_waits_is_sent_in_pieces(rt: HostRuntime) -> Result<(), Fail> {
+    let alloc = rt.alloc();
+    let mut sink = MemorySink::in_pieces(alloc, 2, listed(alloc, &[1, 4])?);
+    let mut out = Output::new(&mut sink);
+    let put = out.put(b"abcde").is_ok() && out.put(b"fg").is_ok();
+    let first = out.flush().is_ok();
+    let second = out.flush().is_ok();
+    let third = out.flush().is_ok();
+    assert_eq!(rt; (put, first, second, third), (true, false, false, true));
+    assert_eq!(rt; sink.held(), b"abcdefg".as_slice());
+    Ok(())
 }

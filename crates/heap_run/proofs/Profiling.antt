@@ -212,8 +212,7 @@ module _ (t : Trace) (c : ℕ) (d : Cycle) (old new : Run) (queues : List (List 
   sampled-next which are p =
       let was = began-at which are p in
       let now = cycle-sampled t.header.rate t.header.seed p c older (samples_in t which) was.0 (reverse events) (reverse more) (reverse tallied.given_flags) begun.objects goes.news goes.answered goes.printed
-      (knows which are) (flagged which are p) was.1 in
-      (
+      (knows which are) (flagged which are p) was.1 in (
         spent was.0 (events_by p (reverse events)) (answers_by p (reverse events) (reverse more)),
         now,
         λ low. (

@@ -7,12 +7,13 @@ use Rattle.cycle_history.specs.Objects.{Object}
 use Rattle.cycle_history.specs.Requests.{last_cycle, marked_by}
 use Rattle.cycle_history.specs.Rules.{AreApart, AreFilled, AreMissed, AreSeated}
 use Rattle.cycle_history.specs.Sweeps.{AreSwept, AreTotals}
-use Rattle.cycle_history.specs.Sound.{past_in, HasAnswers, HasJournal}
+use Rattle.cycle_history.specs.Sound.{past_in, HasAnswers, HasJournal, HasProfile, IsSound}
 use Rattle.cycle_history.specs.Broken.{MeetsUpTo}
 use Rattle.report_rules.specs.Lines.{IsLeast}
 use Rattle.report_rules.specs.Answers.{BreaksAnswers, BreaksJournal, BreaksMisses}
 use Rattle.report_rules.specs.Placing.{BreaksApart, BreaksFilling, BreaksPlaces}
 use Rattle.report_rules.specs.Closing.{BreaksSweeps, BreaksTotals}
+use Rattle.report_rules.specs.Published.{BreaksProfile}
 use Rattle.report_rules.specs.Broken.{Breaks, IsBroken}
 use Rattle.report_check.specs.declared.fault.CheckFault.{CheckFault}
 use Rattle.report_check.specs.declared.fault.CheckFault.TheVariants.{Broken, NoMemory}
@@ -28,6 +29,7 @@ meets-none t report objects = record {
   filling = λ le. absurd (omega arith);
   sweeps = λ le. absurd (omega arith);
   totals = λ le. absurd (omega arith);
+  profile = λ le. absurd (omega arith);
 }
 
 pub meets-1 : (t : Trace) (report : Report) (objects : List Object) → HasAnswers t report objects → MeetsUpTo 1 t report objects
@@ -40,6 +42,7 @@ meets-1 t report objects answers = record {
   filling = λ le. absurd (omega arith);
   sweeps = λ le. absurd (omega arith);
   totals = λ le. absurd (omega arith);
+  profile = λ le. absurd (omega arith);
 }
 
 pub meets-2 : (t : Trace) (report : Report) (objects : List Object) → HasAnswers t report objects → HasJournal t report → MeetsUpTo 2 t report objects
@@ -52,6 +55,7 @@ meets-2 t report objects answers journal = record {
   filling = λ le. absurd (omega arith);
   sweeps = λ le. absurd (omega arith);
   totals = λ le. absurd (omega arith);
+  profile = λ le. absurd (omega arith);
 }
 
 pub meets-3 : (t : Trace) (report : Report) (objects : List Object) → HasAnswers t report objects → HasJournal t report → AreMissed (past_in report) objects → MeetsUpTo 3 t report objects
@@ -64,6 +68,7 @@ meets-3 t report objects answers journal misses = record {
   filling = λ le. absurd (omega arith);
   sweeps = λ le. absurd (omega arith);
   totals = λ le. absurd (omega arith);
+  profile = λ le. absurd (omega arith);
 }
 
 pub meets-4 : (t : Trace) (report : Report) (objects : List Object) → HasAnswers t report objects → HasJournal t report → AreMissed (past_in report) objects → AreSeated (marked_by t) (past_in report) objects
@@ -77,6 +82,7 @@ meets-4 t report objects answers journal misses places = record {
   filling = λ le. absurd (omega arith);
   sweeps = λ le. absurd (omega arith);
   totals = λ le. absurd (omega arith);
+  profile = λ le. absurd (omega arith);
 }
 
 pub meets-5 : (t : Trace) (report : Report) (objects : List Object) → HasAnswers t report objects → HasJournal t report → AreMissed (past_in report) objects → AreSeated (marked_by t) (past_in report) objects → AreApart (marked_by t) objects → MeetsUpTo 5 t report objects
@@ -89,6 +95,7 @@ meets-5 t report objects answers journal misses places apart = record {
   filling = λ le. absurd (omega arith);
   sweeps = λ le. absurd (omega arith);
   totals = λ le. absurd (omega arith);
+  profile = λ le. absurd (omega arith);
 }
 
 pub meets-6 : (t : Trace) (report : Report) (objects : List Object) → HasAnswers t report objects → HasJournal t report → AreMissed (past_in report) objects → AreSeated (marked_by t) (past_in report) objects → AreApart (marked_by t) objects → AreFilled (marked_by t) objects → MeetsUpTo 6 t report objects
@@ -101,6 +108,7 @@ meets-6 t report objects answers journal misses places apart filling = record {
   filling = λ le. filling;
   sweeps = λ le. absurd (omega arith);
   totals = λ le. absurd (omega arith);
+  profile = λ le. absurd (omega arith);
 }
 
 pub meets-7 : (t : Trace) (report : Report) (objects : List Object) → HasAnswers t report objects → HasJournal t report → AreMissed (past_in report) objects → AreSeated (marked_by t) (past_in report) objects → AreApart (marked_by t) objects → AreFilled (marked_by t) objects → AreSwept (marked_by t) (last_cycle t) (past_in report) objects report.sweeps → MeetsUpTo 7 t report objects
@@ -113,6 +121,7 @@ meets-7 t report objects answers journal misses places apart filling sweeps = re
   filling = λ le. filling;
   sweeps = λ le. sweeps;
   totals = λ le. absurd (omega arith);
+  profile = λ le. absurd (omega arith);
 }
 
 pub meets-8 : (t : Trace) (report : Report) (objects : List Object) → HasAnswers t report objects → HasJournal t report → AreMissed (past_in report) objects → AreSeated (marked_by t) (past_in report) objects → AreApart (marked_by t) objects → AreFilled (marked_by t) objects → AreSwept (marked_by t) (last_cycle t) (past_in report) objects report.sweeps → AreTotals (marked_by t) (last_cycle t) objects report.totals → MeetsUpTo 8 t report objects
@@ -125,6 +134,20 @@ meets-8 t report objects answers journal misses places apart filling sweeps tota
   filling = λ le. filling;
   sweeps = λ le. sweeps;
   totals = λ le. totals;
+  profile = λ le. absurd (omega arith);
+}
+
+pub meets-9 : (t : Trace) (report : Report) (objects : List Object) → HasAnswers t report objects → HasJournal t report → AreMissed (past_in report) objects → AreSeated (marked_by t) (past_in report) objects → AreApart (marked_by t) objects → AreFilled (marked_by t) objects → AreSwept (marked_by t) (last_cycle t) (past_in report) objects report.sweeps → AreTotals (marked_by t) (last_cycle t) objects report.totals → HasProfile t report objects → IsSound t report objects
+meets-9 t report objects answers journal misses places apart filling sweeps totals profile = record {
+  answers = answers;
+  journal = journal;
+  misses = misses;
+  places = places;
+  apart = apart;
+  filling = filling;
+  sweeps = sweeps;
+  totals = totals;
+  profile = profile;
 }
 
 -- the least of two tests that hold together
@@ -143,6 +166,7 @@ breaks-1 t report objects m b = record {
   filling = λ e. absurd (omega arith);
   sweeps = λ e. absurd (omega arith);
   totals = λ e. absurd (omega arith);
+  profile = λ e. absurd (omega arith);
 }
 
 breaks-2 : (t : Trace) (report : Report) (objects : List Object) (m : ℕ) → BreaksJournal t report m → Breaks 2 t report objects m
@@ -157,6 +181,7 @@ breaks-2 t report objects m b = record {
   filling = λ e. absurd (omega arith);
   sweeps = λ e. absurd (omega arith);
   totals = λ e. absurd (omega arith);
+  profile = λ e. absurd (omega arith);
 }
 
 breaks-3 : (t : Trace) (report : Report) (objects : List Object) (m : ℕ) → BreaksMisses (past_in report) objects m → Breaks 3 t report objects m
@@ -171,6 +196,7 @@ breaks-3 t report objects m b = record {
   filling = λ e. absurd (omega arith);
   sweeps = λ e. absurd (omega arith);
   totals = λ e. absurd (omega arith);
+  profile = λ e. absurd (omega arith);
 }
 
 breaks-4 : (t : Trace) (report : Report) (objects : List Object) (m : ℕ) → BreaksPlaces (marked_by t) (past_in report) objects m → Breaks 4 t report objects m
@@ -185,6 +211,7 @@ breaks-4 t report objects m b = record {
   filling = λ e. absurd (omega arith);
   sweeps = λ e. absurd (omega arith);
   totals = λ e. absurd (omega arith);
+  profile = λ e. absurd (omega arith);
 }
 
 breaks-5 : (t : Trace) (report : Report) (objects : List Object) (m : ℕ) → BreaksApart (marked_by t) objects m → Breaks 5 t report objects m
@@ -199,6 +226,7 @@ breaks-5 t report objects m b = record {
   filling = λ e. absurd (omega arith);
   sweeps = λ e. absurd (omega arith);
   totals = λ e. absurd (omega arith);
+  profile = λ e. absurd (omega arith);
 }
 
 breaks-6 : (t : Trace) (report : Report) (objects : List Object) (m : ℕ) → BreaksFilling (marked_by t) objects m → Breaks 6 t report objects m
@@ -213,6 +241,7 @@ breaks-6 t report objects m b = record {
   filling = λ e. b;
   sweeps = λ e. absurd (omega arith);
   totals = λ e. absurd (omega arith);
+  profile = λ e. absurd (omega arith);
 }
 
 breaks-7 : (t : Trace) (report : Report) (objects : List Object) (m : ℕ) → BreaksSweeps (marked_by t) (last_cycle t) report objects m → Breaks 7 t report objects m
@@ -227,6 +256,7 @@ breaks-7 t report objects m b = record {
   filling = λ e. absurd (omega arith);
   sweeps = λ e. b;
   totals = λ e. absurd (omega arith);
+  profile = λ e. absurd (omega arith);
 }
 
 breaks-8 : (t : Trace) (report : Report) (objects : List Object) (m : ℕ) → BreaksTotals (marked_by t) (last_cycle t) report objects m → Breaks 8 t report objects m
@@ -241,6 +271,22 @@ breaks-8 t report objects m b = record {
   filling = λ e. absurd (omega arith);
   sweeps = λ e. absurd (omega arith);
   totals = λ e. b;
+  profile = λ e. absurd (omega arith);
+}
+
+breaks-9 : (t : Trace) (report : Report) (objects : List Object) (m : ℕ) → BreaksProfile t report objects m → Breaks 9 t report objects m
+breaks-9 t report objects m b = record {
+  some = omega arith;
+  few = omega arith;
+  answers = λ e. absurd (omega arith);
+  journal = λ e. absurd (omega arith);
+  misses = λ e. absurd (omega arith);
+  places = λ e. absurd (omega arith);
+  apart = λ e. absurd (omega arith);
+  filling = λ e. absurd (omega arith);
+  sweeps = λ e. absurd (omega arith);
+  totals = λ e. absurd (omega arith);
+  profile = λ e. b;
 }
 
 -- a fault of one rule, where the rules before it are met
@@ -285,6 +331,11 @@ pub fault-8 : (t : Trace) (report : Report) (objects : List Object) (fault : Che
     → IsFaultOf 8 (BreaksTotals (marked_by t) (last_cycle t) report objects) fault → IsFault t report fault
 fault-8 t report objects fault answers journal misses places apart filling sweeps is =
     fault-of 8 (BreaksTotals (marked_by t) (last_cycle t) report objects) t report objects fault (meets-7 t report objects answers journal misses places apart filling sweeps) (breaks-8 t report objects) (λ m b. b.totals refl) is
+
+pub fault-9 : (t : Trace) (report : Report) (objects : List Object) (fault : CheckFault) → HasAnswers t report objects → HasJournal t report → AreMissed (past_in report) objects → AreSeated (marked_by t) (past_in report) objects → AreApart (marked_by t) objects → AreFilled (marked_by t) objects → AreSwept (marked_by t) (last_cycle t) (past_in report) objects report.sweeps → AreTotals (marked_by t) (last_cycle t) objects report.totals
+    → IsFaultOf 9 (BreaksProfile t report objects) fault → IsFault t report fault
+fault-9 t report objects fault answers journal misses places apart filling sweeps totals is =
+    fault-of 9 (BreaksProfile t report objects) t report objects fault (meets-8 t report objects answers journal misses places apart filling sweeps totals) (breaks-9 t report objects) (λ m b. b.profile refl) is
 
 pub err-map : {T : Type 0} (r : Result T CheckFault) (P Q : CheckFault → Type 0) → ((fault : CheckFault) → P fault → Q fault) → IfErr r P → IfErr r Q
 err-map (Ok x) P Q to h = tt

@@ -20,3 +20,9 @@ pub mod Tallying
 pub mod Ledgers
 pub mod Keyed
 pub mod Righting
+pub mod Counting
+pub mod Flagging
+pub mod Bucketing
+pub mod Printing
+pub mod Showing
+pub mod Sounding

@@ -11,3 +11,6 @@ pub mod Known
 pub mod Filling
 pub mod Sweeping
 pub mod Keys
+pub mod Order
+pub mod Sampling
+pub mod Printed

@@ -1,10 +1,11 @@
 //! The rules in their order.
 
-ghost use Rattle.std.specs.Prelude.{◌≡◌, ◌+◌, List as Things, length, IfErr, IfOk, OnOk};
-ghost use Rattle.cycle_history.specs.Broken.{MeetsRules, MeetsUpTo};
+ghost use Rattle.std.specs.Prelude.{◌≡◌, List as Things, IfErr, IfOk, OnOk};
+ghost use Rattle.cycle_history.specs.Broken.{MeetsUpTo};
 ghost use Rattle.cycle_history.specs.Marked.{IsLimited};
 ghost use Rattle.cycle_history.specs.Objects.{Object};
-ghost use Rattle.report_check.specs.Fault.{IsCheckFault, IsFault, MeetsChecked};
+ghost use Rattle.report_check.specs.declared.fault.CheckFault.TheVariants.{NoMemory as OutOfMemory};
+ghost use Rattle.report_check.specs.Fault.{IsFault, MeetsChecked};
 ghost use Rattle.report_check.specs.Known.{AreSettledItems};
 
 use crate::CheckFault;
@@ -19,22 +20,18 @@ use cycle_history::Report;
 use std::alloc::Global;
 use trace_reader::Trace;
 
-/// Tries the rules of a sound report: the first that the report breaks, with the first of its lines that breaks it. Rule 9,
-/// on the profile, is tried where the trace samples nothing, so that there is none.
+/// Tries the nine rules of a sound report: the first that the report breaks, with the first of its lines that breaks it. A sound
+/// report is refused for want of memory alone.
 ///
 /// It replays the journal over the pages, and takes time in the objects, the lines, the marks and the chunks, and in the
-/// pages of the region for each mark end.
+/// pages of the region for each mark end; the profile's samples and lines cost a logarithm more.
 pub fn check(alloc: Global, trace: &Trace, report: &Report) -> Result<(), CheckFault>
     requires limited { IsLimited trace.now }
     ensures met { OnOk result (MeetsChecked trace.now report.now) }
-    ensures broken { IfErr result (IsCheckFault trace.now report.now) }
+    ensures broken { IfErr result (IsFault trace.now report.now) }
+    ensures sound { MeetsChecked trace.now report.now → IfErr result (λ fault. fault ≡ OutOfMemory) }
 {
-    judge_rules(alloc, trace, report)?;
-    if trace.header.rate == 0 && !report.profile.as_slice().is_empty() {
-        let line = profile_line(report);
-        return Err(CheckFault::Broken { rule: 9, line });
-    }
-    Ok(())
+    judge_rules(alloc, trace, report)
 }
 
 /// Tries the rules 1 to 4 alone, on answers, the journal, misses and places.
@@ -47,25 +44,14 @@ pub fn check_first_rules(alloc: Global, trace: &Trace, report: &Report) -> Resul
     Ok(())
 }
 
-// The rules 1 to 8.
+// The nine rules.
 fn judge_rules(alloc: Global, trace: &Trace, report: &Report) -> Result<(), CheckFault>
     requires limited { IsLimited trace.now }
-    ensures met { OnOk result (MeetsRules 8 trace.now report.now) }
+    ensures met { OnOk result (MeetsChecked trace.now report.now) }
     ensures broken { IfErr result (IsFault trace.now report.now) }
 {
     let items = settled(alloc, trace, report)?;
     judge_settled(alloc, trace, report, &items)
-}
-
-// The line of the first bucket.
-fn profile_line(report: &Report) -> u64
-    ensures { result ≡ length report.now.answers + length report.now.journal + length report.now.sweeps + length report.now.totals + 1 }
-{
-    report.answers.as_slice().len() as u64
-        + report.journal.as_slice().len() as u64
-        + report.sweeps.as_slice().len() as u64
-        + report.totals.as_slice().len() as u64
-        + 1
 }
 
 // The objects of the report in their seats, where it meets the rules 1 to 4.
@@ -81,7 +67,7 @@ fn settled(alloc: Global, trace: &Trace, report: &Report) -> Result<Vec<Item>, C
     Ok(items)
 }
 
-// The rules 5 to 8, over the objects in their seats.
+// The rules 5 to 9, over the objects in their seats.
 fn judge_settled(
     alloc: Global,
     trace: &Trace,
@@ -90,7 +76,7 @@ fn judge_settled(
 ) -> Result<(), CheckFault>
     requires limited { IsLimited trace.now }
     requires settled { AreSettledItems trace.now report.now items.now }
-    ensures met { OnOk result ((objects : Things Object) × MeetsUpTo 8 trace.now report.now objects) }
+    ensures met { OnOk result (MeetsChecked trace.now report.now) }
     ensures broken { IfErr result (IsFault trace.now report.now) }
 {
     let lasts = lasts_of(alloc, trace, items)?;
@@ -103,5 +89,6 @@ fn judge_settled(
     objects.judge_apart(alloc)?;
     objects.judge_filling(alloc)?;
     objects.judge_sweeps(alloc)?;
-    judge_totals(alloc, trace, report)
+    judge_totals(alloc, trace, report)?;
+    objects.judge_profile(alloc)
 }

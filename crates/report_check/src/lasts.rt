@@ -29,8 +29,8 @@ pub(crate) fn lasts_of(alloc: Global, trace: &Trace, items: &[Item]) -> Result<V
     Ok(lasts)
 }
 
-// The cycle of each object.
-fn own_cycles(alloc: Global, items: &[Item]) -> Result<Vec<u32>, NoMemory>
+/// The cycle of each object.
+pub(crate) fn own_cycles(alloc: Global, items: &[Item]) -> Result<Vec<u32>, NoMemory>
     ensures { IfOk result (λ cycles. cycles.items ≡ map (λ (item : Entry). item.cycle) items.now) }
 {
     let mut cycles = Vec::new(alloc);

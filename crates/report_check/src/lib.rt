@@ -2,7 +2,8 @@
 //!
 //! `check` tries the rules in their order, each in passes that answer the least line that breaks it: answers (`items`), the
 //! journal (`journal`), misses (`misses`), places (`places`, by the table of open lives in `lives`), overlaps (`apart`),
-//! filling (`filling`), sweeps (`gives` and `sweeps`, by what `ledger` counts at each mark end) and totals (`totals`).
+//! filling (`filling`), sweeps (`gives` and `sweeps`, by what `ledger` counts at each mark end), totals (`totals`) and the
+//! profile (`profile`, by the samples of `sampled`, whose buckets are searched among `sorted` numbers).
 //! From rule 5 on each object has its seat (`objects`) and its last cycle (`lasts`), so that no rule searches for a life or
 //! asks the marks again. `totals` tries rule 8 alone too, where rule 1 is met. What breaks a rule is defined in the crate
 //! `report_rules`.
@@ -25,6 +26,9 @@ mod lives;
 mod misses;
 mod objects;
 mod places;
+mod profile;
+mod sampled;
+mod sorted;
 mod sweeps;
 mod tops;
 mod totals;

@@ -15,7 +15,7 @@ use Rattle.cycle_history.specs.Requests.{Request, requests_of, spans_after, mark
 use Rattle.cycle_history.specs.Objects.{Object, is_placed, live}
 use Rattle.cycle_history.specs.Rules.{IsObject, AreAnswered, AreMissed, AreSeated, AreApart, AreFilled}
 use Rattle.cycle_history.specs.Sweeps.{AreSwept, AreTotals}
-use Rattle.cycle_history.specs.Sound.{past_in, HasAnswers, HasJournal}
+use Rattle.cycle_history.specs.Sound.{past_in, HasAnswers, HasJournal, HasProfile}
 use Rattle.cycle_history.specs.Broken.{MeetsUpTo, MeetsRules}
 use Rattle.report_rows.proofs.Tests.{Decides-then, Decides-given}
 use Rattle.report_rows.proofs.Journals.{is_legal, Decides-legal, is_by, Decides-by}
@@ -26,6 +26,7 @@ use Rattle.report_rows.proofs.Filled.{are_filled, Decides-filled}
 use Rattle.report_rows.proofs.Swept.{are_swept, Decides-swept}
 use Rattle.report_rows.proofs.Totals.{are_totals, Decides-totals}
 use Rattle.report_rows.proofs.Recounted.{swept-alike, totals-alike}
+use Rattle.report_rows.proofs.Profiled.{has_profile, Decides-profile, profile-alike}
 use Rattle.report_rows.proofs.Needs.{need_for-is}
 use Rattle.report_rows.proofs.Alike.{object_for, put_at, first_seat, seated_objects, IsLike, IsSame, answered-like, seated-same, from_right, missed-alike, apart-alike, seated-alike, filled-alike}
 
@@ -184,11 +185,14 @@ meets_sweeps n t report cs = elim (leb 7 n) [ true ↦ are_swept (marked_by t) (
 abbrev pub meets_totals : ℕ → Trace → Report → List Object → Bool
 meets_totals n t report cs = elim (leb 8 n) [ true ↦ are_totals (marked_by t) (last_cycle t) cs report.totals | false ↦ true ]
 
--- the rules 6 to 8
-abbrev pub meets_last : ℕ → Trace → Report → List Object → Bool
-meets_last n t report cs = elim (meets_filling n t cs) [ true ↦ elim (meets_sweeps n t report cs) [ true ↦ meets_totals n t report cs | false ↦ false ] | false ↦ false ]
+abbrev pub meets_profile : ℕ → Trace → Report → List Object → Bool
+meets_profile n t report cs = elim (leb 9 n) [ true ↦ has_profile t report cs | false ↦ true ]
 
--- the rules 3 to 8
+-- the rules 6 to 9
+abbrev pub meets_last : ℕ → Trace → Report → List Object → Bool
+meets_last n t report cs = elim (meets_filling n t cs) [ true ↦ elim (meets_sweeps n t report cs) [ true ↦ elim (meets_totals n t report cs) [ true ↦ meets_profile n t report cs | false ↦ false ] | false ↦ false ] | false ↦ false ]
+
+-- the rules 3 to 9
 abbrev pub meets_rest : ℕ → Trace → Report → List Object → Bool
 meets_rest n t report cs = elim (meets_misses n report cs) [ true ↦ elim (meets_places n t report cs) [ true ↦ elim (meets_apart n t cs) [ true ↦ meets_last n t report cs | false ↦ false ] | false ↦ false ] | false ↦ false ]
 
@@ -216,15 +220,18 @@ bounded-in t report has =
     all-bounded t cs cs (subst (λ (answers : List Answer). AllZip IsLike cs (seated_objects (past_in report) (requests_of t) answers)) has.printed like)
 
 abbrev LastRules : ℕ → Trace → Report → List Object → Type 0
-LastRules n t report cs = (6 ≤ n → AreFilled (marked_by t) cs) × ((7 ≤ n → AreSwept (marked_by t) (last_cycle t) (past_in report) cs report.sweeps) × (8 ≤ n → AreTotals (marked_by t) (last_cycle t) cs report.totals))
+LastRules n t report cs = (6 ≤ n → AreFilled (marked_by t) cs) × ((7 ≤ n → AreSwept (marked_by t) (last_cycle t) (past_in report) cs report.sweeps)
+    × ((8 ≤ n → AreTotals (marked_by t) (last_cycle t) cs report.totals) × (9 ≤ n → HasProfile t report cs)))
 
-Decides-last : (n : ℕ) (t : Trace) (report : Report) (cs : List Object) → Decides (meets_last n t report cs) (LastRules n t report cs)
-Decides-last n t report cs =
-    Decides-then (meets_filling n t cs) (elim (meets_sweeps n t report cs) [ true ↦ meets_totals n t report cs | false ↦ false ])
+Decides-last : (n : ℕ) (t : Trace) (report : Report) (cs : List Object) → (1 ≤ n → HasAnswers t report cs) → Decides (meets_last n t report cs) (LastRules n t report cs)
+Decides-last n t report cs has =
+    Decides-then (meets_filling n t cs) (elim (meets_sweeps n t report cs) [ true ↦ elim (meets_totals n t report cs) [ true ↦ meets_profile n t report cs | false ↦ false ] | false ↦ false ])
     (asked-le 6 n (are_filled (marked_by t) cs) (λ le. Decides-filled (marked_by t) cs))
-    (Decides-then (meets_sweeps n t report cs) (meets_totals n t report cs)
+    (Decides-then (meets_sweeps n t report cs) (elim (meets_totals n t report cs) [ true ↦ meets_profile n t report cs | false ↦ false ])
     (asked-le 7 n (are_swept (marked_by t) (last_cycle t) (past_in report) cs report.sweeps) (λ le. Decides-swept (marked_by t) (last_cycle t) (past_in report) cs report.sweeps))
-    (asked-le 8 n (are_totals (marked_by t) (last_cycle t) cs report.totals) (λ le. Decides-totals (marked_by t) (last_cycle t) cs report.totals)))
+    (Decides-then (meets_totals n t report cs) (meets_profile n t report cs)
+    (asked-le 8 n (are_totals (marked_by t) (last_cycle t) cs report.totals) (λ le. Decides-totals (marked_by t) (last_cycle t) cs report.totals))
+    (asked-le 9 n (has_profile t report cs) (λ le. Decides-profile t report cs (has (omega arith))))))
 
 pub Decides-meets_up_to : (n : ℕ) (t : Trace) (report : Report) → Decides (meets n t report) (MeetsUpTo n t report (objects_in t report))
 Decides-meets_up_to n t report =
@@ -233,8 +240,8 @@ Decides-meets_up_to n t report =
     let bound = bound_of (length t.cycles + 1) cs in
     Decides-like (meets n t report)
     (λ (h : (1 ≤ n → HasAnswers t report cs) × ((2 ≤ n → HasJournal t report) × ((3 ≤ n → AreMissed past cs) × ((4 ≤ n → AreSeated (marked_by t) past cs) × ((5 ≤ n → AreApart (marked_by t) cs) × LastRules n t report cs))))).
-    record { answers = h.0; journal = h.1.0; misses = h.1.1.0; places = h.1.1.1.0; apart = h.1.1.1.1.0; filling = h.1.1.1.1.1.0; sweeps = h.1.1.1.1.1.1.0; totals = h.1.1.1.1.1.1.1 })
-    (λ h. (h.answers, (h.journal, (h.misses, (h.places, (h.apart, (h.filling, (h.sweeps, h.totals))))))))
+    record { answers = h.0; journal = h.1.0; misses = h.1.1.0; places = h.1.1.1.0; apart = h.1.1.1.1.0; filling = h.1.1.1.1.1.0; sweeps = h.1.1.1.1.1.1.0; totals = h.1.1.1.1.1.1.1.0; profile = h.1.1.1.1.1.1.1.1 })
+    (λ h. (h.answers, (h.journal, (h.misses, (h.places, (h.apart, (h.filling, (h.sweeps, (h.totals, h.profile)))))))))
     (Decides-given (meets_answers n t report) (elim (meets_journal n t report) [ true ↦ meets_rest n t report cs | false ↦ false ])
     (asked-le 1 n (are_answered (requests_of t) (reverse report.answers)) (λ le. Decides-has_answers t report))
     (λ has. Decides-then (meets_journal n t report) (meets_rest n t report cs)
@@ -245,7 +252,7 @@ Decides-meets_up_to n t report =
     (asked-le 4 n (are_seated (marked_by t) bound past cs) (λ le. Decides-are_seated (marked_by t) bound past cs (bounded-in t report (has (omega arith)))))
     (Decides-then (meets_apart n t cs) (meets_last n t report cs)
     (asked-le 5 n (are_apart (marked_by t) bound cs) (λ le. Decides-are_apart (marked_by t) bound cs (bounded-in t report (has (omega arith)))))
-    (Decides-last n t report cs))))))
+    (Decides-last n t report cs has))))))
 
 -- what some objects meet, those with the seats that the addresses give meet too
 pub meets-seated : (n : ℕ) (t : Trace) (report : Report) (objects : List Object) → MeetsUpTo n t report objects → MeetsUpTo n t report (objects_in t report)
@@ -267,6 +274,7 @@ meets-seated n t report objects m =
       filling = λ le. filled-alike (marked_by t) objects (objects_in t report) (same (omega arith)) (m.filling le);
       sweeps = λ le. swept-alike (marked_by t) (last_cycle t) past objects (objects_in t report) report.sweeps (same (omega arith)) (m.sweeps le);
       totals = λ le. totals-alike (marked_by t) (last_cycle t) objects (objects_in t report) report.totals (same (omega arith)) (m.totals le);
+      profile = λ le. profile-alike t report objects (objects_in t report) (like (omega arith)) (m.profile le);
     }
 
 pub Decides-meets : (n : ℕ) (t : Trace) (report : Report) → Decides (meets n t report) (MeetsRules n t report)

@@ -9,6 +9,7 @@ pub mod Alike
 pub mod Swept
 pub mod Totals
 pub mod Recounted
+pub mod Profiled
 pub mod Decided
 pub mod Used
 pub mod Rows

@@ -3,24 +3,26 @@ use Rattle.std.proofs.Common.{◌≡◌, ℕ, zero, suc, ◌-◌, Bool, true, fa
 use Rattle.std.proofs.lemmas.Bool.Decides.{Decides-not}
 use Rattle.page_alloc.specs.Lists.{count_below}
 use Rattle.size_classes.specs.Classes.{slot_of, pages_of, objects_of}
+use Rattle.profile_cycle.specs.Sampling.{drawn, words_of}
 use Rattle.cycle_history.specs.Broken.{MeetsRules}
 use Rattle.cycle_history.proofs.Meets.{meets-sound}
 use Rattle.report_rows.specs.Words.{Row, UsedRow, IsJudged, AllAgree, IsUseJudged, AllUseAgree}
 use Rattle.report_rows.specs.Rows.{sound_rows, answer_rows, journal_rows, miss_rows, place_rows, apart_rows, filling_rows, used_rows}
 use Rattle.report_rows.specs.SweptRows.{marked_rows, sweep_rows, give_rows, total_rows}
+use Rattle.report_rows.specs.ProfileRows.{profile_rows, last_rows, each_rows}
 use Rattle.report_rows.proofs.Tests.{all_in, Decides-then}
 use Rattle.report_rows.proofs.Decided.{meets, Decides-meets}
 use Rattle.report_rows.proofs.Used.{is_sound_and_used, Decides-sound_and_used}
 
 abbrev pub is_judged : ℕ → Row → Bool
-is_judged zero row = meets 8 row.trace row.report
+is_judged zero row = meets 9 row.trace row.report
 is_judged (suc n) row = elim (meets n row.trace row.report) [ true ↦ not (meets (suc n) row.trace row.report) | false ↦ false ]
 
 abbrev pub agrees : Row → Bool
 agrees row = is_judged row.broken row
 
 judged-right : (n : ℕ) (row : Row) → is_judged n row ≡ true → IsJudged n row.trace row.report
-judged-right zero row h = (let m = (Decides-meets 8 row.trace row.report).0 h in (m.0, meets-sound row.trace row.report m.0 m.1))
+judged-right zero row h = (let m = (Decides-meets 9 row.trace row.report).0 h in (m.0, meets-sound row.trace row.report m.0 m.1))
 judged-right (suc n) row h =
     let both = (Decides-then (meets n row.trace row.report) (not (meets (suc n) row.trace row.report)) (Decides-meets n row.trace row.report)
     (Decides-not (meets (suc n) row.trace row.report) (Decides-meets (suc n) row.trace row.report))).0 h in
@@ -77,9 +79,21 @@ pub totals_agree : AllAgree total_rows
 unfolding count_below slot_of pages_of objects_of total_rows
 totals_agree = all_agree total_rows refl
 
+pub profiles_agree : AllAgree profile_rows
+unfolding count_below slot_of pages_of objects_of drawn words_of profile_rows
+profiles_agree = all_agree profile_rows refl
+
+pub lasts_agree : AllAgree last_rows
+unfolding count_below slot_of pages_of objects_of drawn words_of last_rows
+lasts_agree = all_agree last_rows refl
+
+pub eaches_agree : AllAgree each_rows
+unfolding count_below slot_of pages_of objects_of drawn words_of each_rows
+eaches_agree = all_agree each_rows refl
+
 abbrev pub use_judged : Bool → UsedRow → Bool
 use_judged true row = is_sound_and_used row.trace row.report
-use_judged false row = elim (meets 8 row.trace row.report) [ true ↦ not (is_sound_and_used row.trace row.report) | false ↦ false ]
+use_judged false row = elim (meets 9 row.trace row.report) [ true ↦ not (is_sound_and_used row.trace row.report) | false ↦ false ]
 
 abbrev pub use_agrees : UsedRow → Bool
 use_agrees row = use_judged row.used row
@@ -87,7 +101,7 @@ use_agrees row = use_judged row.used row
 use-right : (b : Bool) (row : UsedRow) → use_judged b row ≡ true → IsUseJudged b row.trace row.report
 use-right true row h = (Decides-sound_and_used row.trace row.report).0 h
 use-right false row h =
-    let both = (Decides-then (meets 8 row.trace row.report) (not (is_sound_and_used row.trace row.report)) (Decides-meets 8 row.trace row.report)
+    let both = (Decides-then (meets 9 row.trace row.report) (not (is_sound_and_used row.trace row.report)) (Decides-meets 9 row.trace row.report)
     (Decides-not (is_sound_and_used row.trace row.report) (Decides-sound_and_used row.trace row.report))).0 h in
     ((both.0.0, meets-sound row.trace row.report both.0.0 both.0.1), both.1)
 

@@ -71,7 +71,7 @@ wanted-alike past os cs all wanted life i =
     (c.0, c.1, sym (ap is_placed like.answer) ∙ w.2, sym (c.2.life w.2) ∙ w.3, sym (c.2.index w.2) ∙ w.4, sym like.cycle ∙ w.5)
 
 -- a sound report meets all rules
-pub sound-meets : (t : Trace) (report : Report) (objects : List Object) → IsSound t report objects → MeetsUpTo 8 t report objects
+pub sound-meets : (t : Trace) (report : Report) (objects : List Object) → IsSound t report objects → MeetsUpTo 9 t report objects
 sound-meets t report objects s = record {
   answers = λ le. s.answers;
   journal = λ le. s.journal;
@@ -81,16 +81,17 @@ sound-meets t report objects s = record {
   filling = λ le. s.filling;
   sweeps = λ le. s.sweeps;
   totals = λ le. s.totals;
+  profile = λ le. s.profile;
 }
 
 abbrev pub is_sound_and_used : Trace → Report → Bool
-is_sound_and_used t report = elim (meets 8 t report) [ true ↦ is_used t report (objects_in t report) | false ↦ false ]
+is_sound_and_used t report = elim (meets 9 t report) [ true ↦ is_used t report (objects_in t report) | false ↦ false ]
 
 pub Decides-sound_and_used : (t : Trace) (report : Report) → Decides (is_sound_and_used t report) (IsSoundAndUsed t report)
 Decides-sound_and_used t report =
     let cs = objects_in t report in
     Decides-like (is_sound_and_used t report)
-    (λ (h : MeetsUpTo 8 t report cs × IsUsed t report cs). (cs, meets-sound t report cs h.0, h.1))
+    (λ (h : MeetsUpTo 9 t report cs × IsUsed t report cs). (cs, meets-sound t report cs h.0, h.1))
     (λ h. (
     let objects = h.0 in
     let s = h.1 in
@@ -98,5 +99,5 @@ Decides-sound_and_used t report =
     let same : AllZip IsSame objects cs =
     subst (λ (answers : List Answer). AllZip IsSame objects (seated_objects (past_in report) (requests_of t) answers)) s.answers.printed
     (seated-same (marked_by t) (past_in report) (requests_of t) objects s.answers.asked s.places) in
-    (meets-seated 8 t report objects (sound-meets t report objects s), record { wanted = wanted-alike (past_in report) objects cs same u.wanted; scavenged = u.scavenged })))
-    (Decides-then (meets 8 t report) (is_used t report cs) (Decides-meets_up_to 8 t report) (Decides-used t report cs))
+    (meets-seated 9 t report objects (sound-meets t report objects s), record { wanted = wanted-alike (past_in report) objects cs same u.wanted; scavenged = u.scavenged })))
+    (Decides-then (meets 9 t report) (is_used t report cs) (Decides-meets_up_to 9 t report) (Decides-used t report cs))

@@ -9,6 +9,7 @@ use Rattle.page_bitmap.specs.declared.line.Line.{Line}
 use Rattle.span_state.specs.declared.sweep.SweepNote.{SweepNote}
 use Rattle.cycle_history.specs.declared.Answer.{Answer}
 use Rattle.cycle_history.specs.declared.Answer.TheVariants.{Placed}
+use Rattle.cycle_history.specs.declared.Prof.{Prof}
 use Rattle.cycle_history.specs.declared.Total.{Total}
 use Rattle.cycle_history.specs.declared.Report.{Report}
 use Rattle.cycle_history.specs.Objects.{Object}
@@ -62,6 +63,22 @@ swept cycle page kept freed = record { cycle = cycle; page = page; kept = kept; 
 -- The line of a size class: its mallocs and its frees.
 abbrev pub total : ℕ → ℕ → ℕ → Total
 total class mallocs frees = record { class = class; mallocs = mallocs; frees = frees }
+
+-- An allocation with pointers and a stack, on the first processor.
+abbrev pub stacked : ℕ → ℕ → Event
+stacked stack size = record { proc = 0; size = size; scan = true; stack = stack }
+
+-- A trace at a rate.
+abbrev pub sampling : ℕ → Trace → Trace
+sampling rate t = record t { header = record t.header { rate = rate } }
+
+-- A report with its profile.
+abbrev pub printing : List Prof → Report → Report
+printing lines r = record r { profile = lines }
+
+-- The line of a bucket: its mark end, its stack and its slot, and its allocs and frees.
+abbrev pub prof : ℕ → ℕ → ℕ → ℕ → ℕ → Prof
+prof mark stack size allocs frees = record { mark = mark; stack = stack; size = size; allocs = allocs; frees = frees }
 
 -- An object at so many bytes behind the region's start.
 abbrev pub at : ℕ → Answer

@@ -16,6 +16,7 @@ ghost use Rattle.report_rows.specs.Rows.{
   sound_rows,
   used_rows,
 };
+ghost use Rattle.report_rows.specs.ProfileRows.{each_rows, last_rows, profile_rows};
 ghost use Rattle.report_rows.specs.SweptRows.{give_rows, marked_rows, sweep_rows, total_rows};
 
 /// The definitions agree with each row of the table.
@@ -31,5 +32,8 @@ pub fn rows_agree()
     ensures sweeps { AllAgree sweep_rows }
     ensures gives { AllAgree give_rows }
     ensures totals { AllAgree total_rows }
+    ensures profiles { AllAgree profile_rows }
+    ensures lasts { AllAgree last_rows }
+    ensures eaches { AllAgree each_rows }
     ensures used { AllUseAgree used_rows }
 {}

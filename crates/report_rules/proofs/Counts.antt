@@ -38,7 +38,7 @@ placed-same class r n a b ia ib e =
           ap (λ (x : Bool). x && eqb (a.need.class / 2) class) off ∙ sym (ap (λ (x : Bool). x && eqb (b.need.class / 2) class) there))
     ]
 
-live-same : (marked : Marking) (c : ℕ) (r : Request) (n : ℕ) (a b : Object) → IsObject r n a → IsObject r n b → a.answer ≡ b.answer → live marked c a ≡ live marked c b
+pub live-same : (marked : Marking) (c : ℕ) (r : Request) (n : ℕ) (a b : Object) → IsObject r n a → IsObject r n b → a.answer ≡ b.answer → live marked c a ≡ live marked c b
 live-same marked c r n a b ia ib e =
     let id : a.id ≡ b.id = ia.id ∙ sym ib.id in
     let cycle : a.cycle ≡ b.cycle = ia.cycle ∙ sym ib.cycle in

@@ -1,12 +1,12 @@
--- A line that breaks one of the rules 1 to 6, or rule 8 or 9, shows that the rule isn't met.
-use Rattle.std.proofs.Common.{◌≡◌, ◌≢◌, ℕ, ◌+◌, ◌-◌, ◌≤◌, List, [], ◌∷◌, ◌++◌, map, reverse, take, drop, Some, sym, ◌∙◌, ap, subst, ◌⊎◌, arith, inl, inr}
+-- A line that breaks a rule shows that the rule isn't met.
+use Rattle.std.proofs.Common.{◌≡◌, ◌≢◌, ℕ, ◌+◌, ◌-◌, ◌≤◌, List, ◌++◌, map, reverse, take, drop, Some, sym, ◌∙◌, ap, subst, arith, inl, inr}
 use Rattle.std.specs.List.{slice_get}
 use Rattle.std.proofs.lemmas.Bool.{cases_lt}
 use Rattle.std.proofs.lemmas.List.{reverse-reverse, reverse-append, take-append-drop}
 use Rattle.page_bitmap.specs.declared.line.Line.{Line}
 use Rattle.page_bitmap.specs.declared.line.Line.TheVariants.{Miss}
 use Rattle.page_alloc.specs.Lists.{IsNumber}
-use Rattle.page_alloc.specs.Journal.{IsBy, Legal, cycle_of, past_of}
+use Rattle.page_alloc.specs.Journal.{IsBy, Legal, past_of}
 use Rattle.trace_reader.specs.declared.trace.Trace.{Trace}
 use Rattle.cycle_history.specs.declared.Answer.{Answer}
 use Rattle.cycle_history.specs.declared.Answer.TheVariants.{Zero, Missed}
@@ -23,6 +23,7 @@ use Rattle.report_rules.specs.Broken.{Breaks, IsBroken}
 use Rattle.report_rules.proofs.Counts.{totals-unmet}
 use Rattle.report_rules.proofs.Profiles.{profile-unmet}
 use Rattle.report_rules.proofs.Seats.{apart-met, filling-met, places-met}
+use Rattle.report_rules.proofs.Sweeping.{by-behind, legal-behind, sweeps-unmet}
 use Rattle.report_rules.proofs.Twins.{twin-of, answers-length, event-at}
 
 -- ---- rule 1
@@ -47,19 +48,6 @@ answers-met t report objects line breaks has = elim breaks [
 ]
 
 -- ---- rule 2
-
-by-later : (c d : ℕ) (past : List Line) → c ≤ d → IsBy c past → IsBy d past
-by-later c d [] le by = tt
-by-later c d (line ∷ past) le by = omega arith
-
-legal-behind : (region goal : ℕ) (newer past : List Line) → Legal region goal (newer ++ past) → Legal region goal past
-legal-behind region goal [] past legal = legal
-legal-behind region goal (line ∷ newer) past legal = legal-behind region goal newer past legal.2
-
-by-behind : (region goal last : ℕ) (newer past : List Line) → Legal region goal (newer ++ past) → IsBy last (newer ++ past) → IsBy last past
-by-behind region goal last [] past legal by = by
-by-behind region goal last (line ∷ newer) past legal by =
-    by-behind region goal last newer past legal.2 (by-later (cycle_of line) last (newer ++ past) by legal.1)
 
 journal-to : (t : Trace) (report : Report) (n : ℕ) → HasJournal t report → IsJournalTo t report n
 journal-to t report n has =
@@ -98,14 +86,25 @@ misses-met t report objects others line here there breaks met =
 
 -- ---- the law
 
-abbrev IsShown : ℕ → Type 0
-IsShown n = (n ≤ 6) ⊎ ((n ≡ 8) ⊎ (n ≡ 9))
-
 abbrev BreaksRule : Trace → Report → ℕ → Type 0
 BreaksRule t report n = ¬ MeetsRules n t report
 
-unmet : (t : Trace) (report : Report) (objects : List Object) (n line : ℕ) → IsShown n → MeetsUpTo (n - 1) t report objects → Breaks n t report objects line → BreaksRule t report n
-unmet t report objects n line shown before breaks met =
+-- the rules 7 to 9
+unmet-later : (t : Trace) (report : Report) (objects others : List Object) (n line : ℕ) → 7 ≤ n → MeetsUpTo (n - 1) t report objects → Breaks n t report objects line → ¬ MeetsUpTo n t report others
+unmet-later t report objects others n line late before breaks m =
+    let few = breaks.few in
+    let here = before.answers (omega arith) in
+    let there = m.answers (omega arith) in
+    elim (cases_lt n 8) [
+      | inl seven ↦ sweeps-unmet t report objects others line here there (m.journal (omega arith)) (before.places (omega arith)) (m.places (omega arith)) (breaks.sweeps (omega arith)) (m.sweeps (omega arith))
+      | inr rest ↦ elim (cases_lt n 9) [
+        | inl eight ↦ totals-unmet (marked_by t) (last_cycle t) t report objects others line here there (breaks.totals (omega arith)) (m.totals (omega arith))
+        | inr nine ↦ profile-unmet t report objects others line here there (breaks.profile (omega arith)) (m.profile (omega arith))
+      ]
+    ]
+
+unmet : (t : Trace) (report : Report) (objects : List Object) (n line : ℕ) → MeetsUpTo (n - 1) t report objects → Breaks n t report objects line → BreaksRule t report n
+unmet t report objects n line before breaks met =
     let others = met.0 in
     let m = met.1 in
     let some = breaks.some in
@@ -113,28 +112,25 @@ unmet t report objects n line shown before breaks met =
       | inl one ↦ answers-met t report others line (breaks.answers (omega arith)) (m.answers (omega arith))
       | inr more ↦ elim (cases_lt n 3) [
         | inl two ↦ (let b = breaks.journal (omega arith) in b.wrong (journal-to t report (b.number + 1) (m.journal (omega arith))))
-        | inr rest ↦ elim shown [
-          | inl few ↦ elim (cases_lt n 4) [
-            | inl three ↦ misses-met t report objects others line (before.answers (omega arith)) (m.answers (omega arith)) (breaks.misses (omega arith)) (m.misses (omega arith))
-            | inr later ↦ elim (cases_lt n 5) [
-              | inl four ↦ places-met t report objects others line (before.answers (omega arith)) (m.answers (omega arith)) (breaks.places (omega arith)) (m.places (omega arith))
-              | inr behind ↦ elim (cases_lt n 6) [
-                | inl five ↦ apart-met t report objects others line (before.answers (omega arith)) (m.answers (omega arith)) (breaks.apart (omega arith)) (m.apart (omega arith))
-                | inr six ↦ filling-met t report objects others line (before.answers (omega arith)) (m.answers (omega arith)) (before.places (omega arith)) (m.places (omega arith)) (breaks.filling (omega arith)) (m.filling (omega arith))
+        | inr rest ↦ elim (cases_lt n 4) [
+          | inl three ↦ misses-met t report objects others line (before.answers (omega arith)) (m.answers (omega arith)) (breaks.misses (omega arith)) (m.misses (omega arith))
+          | inr later ↦ elim (cases_lt n 5) [
+            | inl four ↦ places-met t report objects others line (before.answers (omega arith)) (m.answers (omega arith)) (breaks.places (omega arith)) (m.places (omega arith))
+            | inr behind ↦ elim (cases_lt n 6) [
+              | inl five ↦ apart-met t report objects others line (before.answers (omega arith)) (m.answers (omega arith)) (breaks.apart (omega arith)) (m.apart (omega arith))
+              | inr end ↦ elim (cases_lt n 7) [
+                | inl six ↦ filling-met t report objects others line (before.answers (omega arith)) (m.answers (omega arith)) (before.places (omega arith)) (m.places (omega arith)) (breaks.filling (omega arith)) (m.filling (omega arith))
+                | inr last ↦ unmet-later t report objects others n line last before breaks m
               ]
             ]
-          ]
-          | inr last ↦ elim last [
-            | inl eight ↦ totals-unmet (marked_by t) (last_cycle t) t report objects others line (before.answers (omega arith)) (m.answers (omega arith)) (breaks.totals eight) (m.totals (omega arith))
-            | inr nine ↦ profile-unmet t report objects others line (before.answers (omega arith)) (m.answers (omega arith)) (breaks.profile nine) (m.profile (omega arith))
           ]
         ]
       ]
     ]
 
-pub first-broken : (t : Trace) (report : Report) (n line : ℕ) → IsShown n → IsBroken t report n line → IsFirstBroken n t report
-first-broken t report n line shown is = record {
+pub first-broken : (t : Trace) (report : Report) (n line : ℕ) → IsBroken t report n line → IsFirstBroken n t report
+first-broken t report n line is = record {
   some = is.1.first.here.some;
   before = (is.0, is.1.before);
-  broken = unmet t report is.0 n line shown is.1.before is.1.first.here;
+  broken = unmet t report is.0 n line is.1.before is.1.first.here;
 }

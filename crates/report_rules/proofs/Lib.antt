@@ -2,4 +2,5 @@ pub mod Twins
 pub mod Counts
 pub mod Profiles
 pub mod Seats
+pub mod Sweeping
 pub mod Exact

@@ -2,7 +2,7 @@
 //!
 //! `specs/Lines.antt` numbers the lines of a report. `Answers.antt`, `Placing.antt`, `Closing.antt` and `Published.antt` say
 //! which of them breaks each rule, and `Broken.antt` which rule is the first and which line the least. `laws` says that where
-//! a line of one of the rules 1 to 6, or of rule 8 or 9, is named so, the report doesn't meet that rule.
+//! a line is named so, the report doesn't meet that rule.
 #![tactic(auto)]
 
 mod laws;

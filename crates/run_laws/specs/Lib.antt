@@ -5,7 +5,6 @@ pub mod Facts
 pub mod Reached
 pub mod Asked
 pub mod Profile
-pub mod Numbers
 pub mod Underway
 pub mod Occupied
 pub mod Keeping

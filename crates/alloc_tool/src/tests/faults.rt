@@ -45,7 +45,7 @@ goheap 1/heap 1 procs 1 rate 0 seed 1 goal 512/a 0 24 x 1/a 1 24 s 1/end/|3: mal
 goheap 1/heap 1 procs 1 rate 0 seed 1 goal 512/a 1 24 s 1/a 0 24 x 1/end/|3: limit proc
 goheap 1/heap 1 procs 1 rate 0 seed 1 goal 512/gc 1/a 0 24 x 1/end/|4: malformed
 goheap 1/heap 1 procs 1 rate 0 seed 1 goal 512/a 0 8 n 1/gc 1/gc 1/m 0 0/end/|6: object 0 is not live
-goheap 1/heap 2 procs 1 rate 1 seed 1 goal 1024/a 0 24 x 1/end/|2: not built yet
+goheap 1/heap 2 procs 1 rate 1 seed 1 goal 1024/a 0 24 x 1/end/|3: malformed
 goheap 1/heap 0 procs 1 rate 0 seed 1 goal 512|2: ends early";
 
 // Second lines, before `end`, and what is told of them.
@@ -84,9 +84,7 @@ heap 1 procs 1 rate 0 seed 1 goal 65537|limit goal
 heap 0 procs 0 rate 0 seed 1 goal 512|limit chunks
 heap 1 procs 65 rate 0 seed 1 goal 65537|limit procs
 heap 1 procs 2 rate 0 seed 1 goal 65537|limit goal
-heap 1 procs 1 rate 1 seed 18446744073709551616 goal 512|limit seed
-heap 1 procs 1 rate 1 seed 1 goal 512|not built yet
-heap 1 procs 1 rate 1073741824 seed 1 goal 512|not built yet";
+heap 1 procs 1 rate 1 seed 18446744073709551616 goal 512|limit seed";
 
 // Third lines, behind the usual head and before `end`, and what is told of them.
 const EVENTS: &str = "\
@@ -151,7 +149,9 @@ heap 1 procs 1 rate 0 seed 0 goal 512
 heap 1 procs 1 rate 0 seed 18446744073709551615 goal 512
 heap 1 procs 1 rate 0 seed 1 goal 65536
 heap 128 procs 1 rate 0 seed 1 goal 65536
-heap 2 procs 1 rate 0 seed 1 goal 1024";
+heap 2 procs 1 rate 0 seed 1 goal 1024
+heap 1 procs 1 rate 1 seed 1 goal 512
+heap 1 procs 1 rate 1073741824 seed 1 goal 512";
 
 // A line of 120 bytes.
 const LONG: &str =
@@ -221,7 +221,7 @@ fn other_words_are_refused(rt: HostRuntime) -> Result<(), Fail> {
         &["run\n"],
         &["run", "run"],
         &["run", ""],
-        &["run", "--each"],
+        &["run", "--each=1"],
         &["run", "--background=5"],
         &["run", "--each", "--each"],
         &["check", ""],

@@ -1,4 +1,4 @@
-use Rattle.report_rows.proofs.Rows.{sounds_agree, marks_agree, answers_agree, journals_agree, misses_agree, places_agree, aparts_agree, fillings_agree, sweeps_agree, gives_agree, totals_agree, uses_agree}
+use Rattle.report_rows.proofs.Rows.{sounds_agree, marks_agree, answers_agree, journals_agree, misses_agree, places_agree, aparts_agree, fillings_agree, sweeps_agree, gives_agree, totals_agree, profiles_agree, lasts_agree, eaches_agree, uses_agree}
 use Rattle.report_rows.proofs.rows_agree.Goals as goal
 
 pub returns : goal.returns
@@ -14,5 +14,8 @@ returns c = record {
   sweeps = sweeps_agree;
   gives = gives_agree;
   totals = totals_agree;
+  profiles = profiles_agree;
+  lasts = lasts_agree;
+  eaches = eaches_agree;
   used = uses_agree;
 }

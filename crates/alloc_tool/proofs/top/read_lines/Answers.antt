@@ -16,7 +16,7 @@ returns-clause-trace g c =
     let end = c.in_ok-expect_end.ensures.ended in
     let wet = c.in_ok-trace.ensures.lines.bytes.wet c.requires.fresh in
     let all = source_ended _ _ _ read.0 (Consumes-none _ _ _ read.0 read.1 end.nothing) (end.at_end wet) in
-    (read.0, all.0, all.1, rw c.requires.room at read.2, read.3)
+    (read.0, all.0, all.1, rw c.requires.room at read.2)
 
 pub returns-in_err-trace-clause-refused : goal.returns-in_err-trace-clause-refused
 returns-in_err-trace-clause-refused g c =
@@ -28,18 +28,18 @@ returns-in_err-expect_end-clause-refused g c =
     let p = err_from_is_err_and c.from_residual-in_err-expect_end.result c.from_residual-in_err-expect_end.ensures.1 in
     let read = c.in_ok-trace.ensures.spelled in
     let number = rw c.requires.number at c.in_ok-trace.ensures.lines.number in
-    rw (p.1, p.2) (λ of. refused_behind _ _ read.0 c.in_ok-trace.trace _ _ read.1 (rw c.requires.room at read.2) read.3 number (c.in_err-expect_end.ensures.refused of))
+    rw (p.1, p.2) (λ of. refused_behind _ _ read.0 c.in_ok-trace.trace _ _ read.1 (rw c.requires.room at read.2) number (c.in_err-expect_end.ensures.refused of))
 
 pub returns-in_err-trace-clause-complete : goal.returns-in_err-trace-clause-complete
-returns-in_err-trace-clause-complete g c = λ bytes t told spells plain.
+returns-in_err-trace-clause-complete g c = λ bytes t told spells.
     let p = err_from_is_err_and c.from_residual.result c.from_residual.ensures.1 in
-    rw (p.1, p.2) (c.in_err-trace.ensures.complete t (record { wet = c.requires.fresh; bytes = bytes; rest = []; known = rw append-nil told; spelled = rw c.requires.room spells }) plain)
+    rw (p.1, p.2) (c.in_err-trace.ensures.complete t (record { wet = c.requires.fresh; bytes = bytes; rest = []; known = rw append-nil told; spelled = rw c.requires.room spells }))
 
 pub returns-in_err-expect_end-clause-complete : goal.returns-in_err-expect_end-clause-complete
-returns-in_err-expect_end-clause-complete g c = λ bytes t told spells plain.
+returns-in_err-expect_end-clause-complete g c = λ bytes t told spells.
     let p = err_from_is_err_and c.from_residual-in_err-expect_end.result c.from_residual-in_err-expect_end.ensures.1 in
     let read = c.in_ok-trace.ensures.spelled in
-    let same = c.in_ok-trace.ensures.complete t (record { wet = c.requires.fresh; bytes = bytes; rest = []; known = rw append-nil told; spelled = rw c.requires.room spells }) plain in
+    let same = c.in_ok-trace.ensures.complete t (record { wet = c.requires.fresh; bytes = bytes; rest = []; known = rw append-nil told; spelled = rw c.requires.room spells }) in
     let all = read.2.lines ∙ ap (λ (x : Trace). text (lines_of x)) same ∙ sym spells.lines in
     rw (p.1, p.2) (λ of. nothing_left _ _ bytes read.0 _ _ told read.1 all (c.in_err-expect_end.ensures.refused of))
 
@@ -52,4 +52,4 @@ pub returns-in_err-expect_end-clause-broken_off : goal.returns-in_err-expect_end
 returns-in_err-expect_end-clause-broken_off g c =
     let p = err_from_is_err_and c.from_residual-in_err-expect_end.result c.from_residual-in_err-expect_end.ensures.1 in
     let read = c.in_ok-trace.ensures.spelled in
-    rw (p.1, p.2) (λ e. broken_behind _ _ _ _ read.0 c.in_ok-trace.trace c.requires.room read.1 (rw c.requires.room at read.2) read.3 c.in_ok-trace.ensures.lines (c.in_err-expect_end.ensures.read_fault cc))
+    rw (p.1, p.2) (λ e. broken_behind _ _ _ _ read.0 c.in_ok-trace.trace c.requires.room read.1 (rw c.requires.room at read.2) c.in_ok-trace.ensures.lines (c.in_err-expect_end.ensures.read_fault cc))

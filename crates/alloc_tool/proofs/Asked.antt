@@ -1,0 +1,25 @@
+-- Words that ask for one thing ask for no other.
+use Rattle.std.proofs.Common.{◌≡◌, ℕ, List, [], ◌∷◌, codes, decimal, sym, ◌∙◌, String, arith}
+use Rattle.std.specs.declared.alloc.Global.{Global}
+use Rattle.trace_reader.proofs.Digits.{decimal_injective_wide}
+use Rattle.alloc_tool.specs.Words.{IsDemo, IsRun, IsSeeded}
+
+heads : (a b : List ℕ) (xs ys : List (List ℕ)) → a ∷ xs ≡ b ∷ ys → a ≡ b
+heads a b xs ys e = cc
+
+-- `run` is not `demo`
+pub run_or_demo : (words : List (String Global)) (seed objects : ℕ) → IsRun words → IsDemo words seed objects → ⊥
+run_or_demo words seed objects run demo = (let e : codes "run" ≡ codes "demo" = heads _ _ _ _ (sym run.2.1 ∙ demo.spelled) in cc)
+
+last_two : (a b c x y : List ℕ) → a ∷ b ∷ c ∷ [] ≡ a ∷ x ∷ y ∷ [] → (b ≡ x) × (c ≡ y)
+last_two a b c x y e = (cc, cc)
+
+-- a seed and a number of objects are spelled in one way
+pub one_seeded : (word : List ℕ) (words : List (String Global)) (s o s' o' : ℕ) → IsSeeded word words s o → IsSeeded word words s' o' → (s ≡ s') × (o ≡ o')
+one_seeded word words s o s' o' a b =
+    let both = last_two word _ _ _ _ (sym a.spelled ∙ b.spelled) in
+    let sa = a.seed_limit in
+    let sb = b.seed_limit in
+    let oa = a.few in
+    let ob = b.few in
+    (decimal_injective_wide s s' (omega arith) (omega arith) both.0, decimal_injective_wide o o' (omega arith) (omega arith) both.1)
