@@ -1,7 +1,7 @@
 -- A driver beside whom no worker has anything of a span: it places an object, looks at sets and ends a mark phase.
 use Rattle.std.proofs.Common.{◌≡◌, ℕ, ◌+◌, ◌<◌, inl, inr, ◌&&◌, eqb, eq-eqb, true, false, true≢false, List, [], ◌∷◌, ◌++◌, map, length, refl, ap, sym, subst, ◌∙◌, arith}
 use Rattle.std.specs.List.{AllByRecursion, range_with_len}
-use Rattle.std.proofs.lemmas.Bool.{cases_Bool}
+use Rattle.std.proofs.lemmas.Bool.{cases_Bool, eqb-true}
 use Rattle.std.proofs.lemmas.List.FromFn.{length-map-range_with_len}
 use Rattle.std.proofs.lemmas.List.{length-map, map-set}
 use mathlib.Core.Logic.{dite}
@@ -132,6 +132,16 @@ has_behind m rest p k e = elim (cases_Bool (eqb m.0 p && eqb m.1 k)) [ inl on �
 known_placed : (n : ℕ) (v : View) (i : ℕ) (h : Part) → get_elem? (parts_of n v) i ≡ some h → (pairs : List (ℕ × ℕ)) → ((p k : ℕ) → has_pair pairs p k ≡ true → 0 < many (is_placing_at p k) h.log) → AllByRecursion (IsKnown n v) pairs
 known_placed n v i h at [] all = tt
 known_placed n v i h at (m ∷ rest) all = (inr (i, h, at, all m.0 m.1 (rw (eq-eqb m.0 m.0 refl, eq-eqb m.1 m.1 refl) refl)), known_placed n v i h at rest (λ p k e. all p k (has_behind m rest p k e)))
+
+-- the pair of one placed object
+pub placed_one : (page : ℕ) (w : Seen) → HasPlaced page w → ArePlaced ((page, 0) ∷ []) w
+placed_one page w placed p k h = elim (cases_Bool (eqb page p)) [
+  | inl on ↦ elim (cases_Bool (eqb 0 k)) [
+    | inl on' ↦ subst (λ (x : ℕ). 0 < many (is_placing_at x k) w.view.own.log) (eqb-true page p on) (subst (λ (x : ℕ). 0 < many (is_placing_at page x) w.view.own.log) (eqb-true 0 k on') placed)
+    | inr off ↦ absurd (true≢false (sym (rw (on, off) at h)))
+  ]
+  | inr off ↦ absurd (true≢false (sym (rw off at h)))
+]
 
 -- all unswept sets were seen empty
 module _ (t : TableId) (w w1 : Seen) (f : IsFreeDriver t w) (s : SeesBelow 544 w w1) where

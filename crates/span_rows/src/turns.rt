@@ -2,7 +2,7 @@ ghost use Rattle.std.specs.Prelude.{◌≡◌, ℕ, ◌*◌, ◌<◌, ◌≤◌,
 ghost use Rattle.span_state.specs.Spans.{IsSameSpan, allocated};
 ghost use Rattle.span_rows.specs.Rows.{ArePlaced, HasPlaced, HasTurned, IsFreeDriver, KeepsPlaced, SeesEmpty};
 
-use fallible_list::NoMemory;
+use fallible_list::{List, NoMemory};
 use span_set::{SetId, claim, fill, push, reset};
 use span_state::{Body, Marks};
 use span_table::{Acquired, Shared, Worker};
@@ -81,6 +81,30 @@ pub fn turn(shared: &mut Shared, w: &mut Worker, marks: &Marks) -> Result<(), No
     shared.settle(w);
     let pairs = marks.pairs()?;
     shared.next_generation(w, pairs);
+    Ok(())
+}
+
+/// Ends the first mark phase, where the first object of the page alone is marked.
+pub fn turn_one(
+    alloc: Global,
+    shared: &mut Shared,
+    w: &mut Worker,
+    page: u32,
+) -> Result<(), NoMemory>
+    requires free { IsFreeDriver shared.old w.old }
+    requires generation { w.old.view.generation ≡ 4 }
+    requires placed { HasPlaced page w.old }
+    ensures table { shared.new ≡ shared.old }
+    ensures turned { OnOk result (HasTurned shared.new ((page, 0) ∷ []) w.new) }
+    ensures region { OnOk result (w.new.view.region ≡ w.old.view.region) }
+{
+    if !sees_all_empty(shared, w) {
+        return Err(NoMemory);
+    }
+    reset(shared, w);
+    shared.settle(w);
+    let marks = vec![in alloc; (page, 0)]?;
+    shared.next_generation(w, List::from_vec(marks));
     Ok(())
 }
 
