@@ -1,6 +1,4 @@
 //! What the calls on shared spans and their sets answer, row by row. Expected values are worked out by hand from the rules of the calls.
-//!
-//! `turns` has helpers across a mark end, for the rows of other crates too.
 #![tactic(auto)]
 
 #[cfg(test)]
@@ -9,4 +7,5 @@ mod calls;
 mod helpers;
 #[cfg(test)]
 mod tests;
-pub mod turns;
+#[cfg(test)]
+mod turns;

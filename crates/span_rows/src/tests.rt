@@ -1,5 +1,4 @@
-use crate::helpers::{claim_large, large, pop, start};
-use crate::turns::LARGE;
+use crate::helpers::{LARGE, claim_large, large, pop, start};
 use crate::{calls, turns};
 use span_set::{Pop, SetId, fill};
 use span_table::{Acquired, Uncached};
