@@ -2,7 +2,7 @@
 use Rattle.std.proofs.Common.{◌≡◌, ℕ, List, [], ◌∷◌, codes, decimal, sym, ◌∙◌, String, arith}
 use Rattle.std.specs.declared.alloc.Global.{Global}
 use Rattle.trace_reader.proofs.Digits.{decimal_injective_wide}
-use Rattle.alloc_tool.specs.Words.{IsDemo, IsRun, IsSeeded}
+use Rattle.alloc_tool.specs.Words.{IsCheck, IsDemo, IsRun, IsSeeded}
 
 heads : (a b : List ℕ) (xs ys : List (List ℕ)) → a ∷ xs ≡ b ∷ ys → a ≡ b
 heads a b xs ys e = cc
@@ -10,6 +10,16 @@ heads a b xs ys e = cc
 -- `run` is not `demo`
 pub run_or_demo : (words : List (String Global)) (seed objects : ℕ) → IsRun words → IsDemo words seed objects → ⊥
 run_or_demo words seed objects run demo = (let e : codes "run" ≡ codes "demo" = heads _ _ _ _ (sym run.2.1 ∙ demo.spelled) in cc)
+
+-- `check` is neither, nor `classes` or `gen`
+pub run_or_check : (words : List (String Global)) → IsRun words → IsCheck words → ⊥
+run_or_check words run check = (let e : codes "run" ≡ codes "check" = heads _ _ _ _ (sym run.2.1 ∙ check) in cc)
+
+one_or_three : (a x y z : List ℕ) → a ∷ [] ≡ x ∷ y ∷ z ∷ [] → ⊥
+one_or_three a x y z e = cc
+
+pub check_or_seeded : (word : List ℕ) (words : List (String Global)) (seed objects : ℕ) → IsCheck words → IsSeeded word words seed objects → ⊥
+check_or_seeded word words seed objects check seeded = one_or_three _ _ _ _ (sym check ∙ seeded.spelled)
 
 last_two : (a b c x y : List ℕ) → a ∷ b ∷ c ∷ [] ≡ a ∷ x ∷ y ∷ [] → (b ≡ x) × (c ≡ y)
 last_two a b c x y e = (cc, cc)

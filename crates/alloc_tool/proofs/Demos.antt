@@ -5,10 +5,6 @@ use Rattle.edge_io.specs.Causes.{Rose}
 use Rattle.edge_io.specs.Front.{AppendsFront}
 use Rattle.trace_reader.specs.declared.trace.Trace.{Trace}
 use Rattle.cycle_history.specs.declared.Report.{Report}
-use Rattle.cycle_history.specs.Broken.{MeetsRules}
-use Rattle.cycle_history.specs.Sound.{IsSoundAndUsed}
-use Rattle.report_rules.proofs.Exact.{first-broken}
-use Rattle.report_check.specs.Fault.{BreaksRules}
 use Rattle.demo_lines.specs.Summary.{summary_text}
 use Rattle.alloc_tool.specs.Demo.{Demos}
 use Rattle.alloc_tool.specs.Texts.{status_text, write_fault}
@@ -66,23 +62,3 @@ pub spent_after : {K E : Type 0} (trace : Trace) (held : K → Option (List ℕ)
     → output' ≡ output → status ≡ 7 → Tells shown tells errors errors' (codes "goheap: out of memory") → Demos trace held writes shown tells output output' errors errors' status
 spent_after {K} trace held writes shown tells output output' errors errors' status same seven told =
     subst (λ (o : K). Demos trace held writes shown tells output o errors errors' status) (sym same) (spent_demo trace held writes shown tells output errors errors' status seven told)
-
--- a sound report meets the rules up to each
-meets_all : (n : ℕ) (t : Trace) (r : Report) → IsSoundAndUsed t r → MeetsRules n t r
-meets_all n t r sound =
-    let s = sound.1 in
-    (sound.0, record {
-      answers = λ _. s.answers;
-      journal = λ _. s.journal;
-      misses = λ _. s.misses;
-      places = λ _. s.places;
-      apart = λ _. s.apart;
-      filling = λ _. s.filling;
-      sweeps = λ _. s.sweeps;
-      totals = λ _. s.totals;
-      profile = λ _. s.profile;
-    })
-
--- and none of its lines breaks one
-pub never_broken : (t : Trace) (r : Report) (rule line : ℕ) → IsSoundAndUsed t r → BreaksRules t r rule line → ⊥
-never_broken t r rule line sound broken = (first-broken t r rule line broken).broken (meets_all rule t r sound)

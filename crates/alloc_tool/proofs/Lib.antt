@@ -10,3 +10,5 @@ pub mod Outcomes
 pub mod Broken
 pub mod Plain
 pub mod Checked
+pub mod SoundPair
+pub mod Unbroken

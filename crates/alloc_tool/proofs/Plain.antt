@@ -52,7 +52,7 @@ check_or_gen : (words : List (String Global)) (seed objects : ℕ) → IsCheck w
 check_or_gen words seed objects is made = lengths _ _ _ _ (sym is ∙ made.spelled)
 
 -- one word isn't the other
-classes_or_check : (words : List (String Global)) → IsClasses words → IsCheck words → ⊥
+pub classes_or_check : (words : List (String Global)) → IsClasses words → IsCheck words → ⊥
 classes_or_check words is other = (let e : codes "classes" ∷ [] ≡ codes "check" ∷ [] = sym is ∙ other in cc)
 
 classes_or_gen : (words : List (String Global)) (seed objects : ℕ) → IsClasses words → IsGen words seed objects → ⊥

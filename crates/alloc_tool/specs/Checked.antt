@@ -14,7 +14,7 @@ use Rattle.check_input.specs.declared.stop.Stop.{Stop}
 use Rattle.check_input.specs.declared.stop.Stop.TheVariants.{Trace as OfTrace, Report as OfReport, Verdict as OfVerdict}
 use Rattle.check_input.specs.declared.stop.Verdict.TheVariants.{Broken, NoMemory}
 use Rattle.check_input.specs.Judged.{IsSound}
-use Rattle.check_input.specs.Pair.{ReadsPair, Refuses}
+use Rattle.check_input.specs.Pair.{ArePair, ReadsPair, Refuses}
 use Rattle.alloc_tool.specs.Texts.{check_ok, fault_status, fault_text, report_fault_text, report_status, rule_text, status_text}
 use Rattle.alloc_tool.specs.Told.{Tells}
 
@@ -64,3 +64,7 @@ pub record Checked {S K E : Type 0} (left : S → Option (List ℕ)) (reads : S 
   pub told : status ≢ 0 → status ≢ 3 → status ≢ 4 → Tells shown tells errors errors' (status_text status)
   -- where no read and no write fails, the trace or the report is refused, or the line is written, unless memory runs out
   pub complete : (Rose (reads input) (reads input') → ⊥) → (Rose (writes output) (writes output') → ⊥) → (status ≡ 0) ⊎ (status ≡ 3) ⊎ (status ≡ 4) ⊎ (status ≡ 7)
+
+-- Where the bytes are a trace and behind it the text of a sound report, the line is written, unless memory runs out.
+abbrev pub AcceptsSound : List ℕ → ℕ → Type 0
+AcceptsSound bytes status = (trace : Trace) (report : Report) → ArePair bytes trace report → MeetsChecked trace report → (status ≡ 0) ⊎ (status ≡ 7)

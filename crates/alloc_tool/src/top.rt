@@ -11,6 +11,7 @@ ghost use Rattle.trace_reader.specs.Limits.{Spells};
 ghost use Rattle.trace_reader.specs.Told.{HasReadCause, IsOfTrace};
 ghost use Rattle.class_lines.specs.Text.{classes_text};
 ghost use Rattle.trace_gen.specs.Made.{made_trace};
+ghost use Rattle.alloc_tool.specs.Checked.{AcceptsSound};
 ghost use Rattle.alloc_tool.specs.Demo.{Demos};
 ghost use Rattle.alloc_tool.specs.Outcome.{Outcome};
 ghost use Rattle.alloc_tool.specs.Plain.{Plain, Writes};
@@ -18,7 +19,7 @@ ghost use Rattle.alloc_tool.specs.Texts.{status_text};
 ghost use Rattle.alloc_tool.specs.Told.{Tells};
 ghost use Rattle.alloc_tool.specs.Top.{BreaksOff, IsComplete, IsRefused, IsStatusOfRun, IsUndisturbed};
 ghost use Rattle.alloc_tool.specs.WholeInput.{ReadsAll};
-ghost use Rattle.alloc_tool.specs.Words.{IsDemo, IsRun, IsRunWith, IsWord};
+ghost use Rattle.alloc_tool.specs.Words.{IsCheck, IsDemo, IsRun, IsRunWith, IsWord};
 
 use crate::demo::show_run;
 use crate::generate::{generate, wanted_by};
@@ -60,6 +61,8 @@ pub fn goheap<R: Threads + Wait + Sync, S: Source, K: Sink, E: Sink, G: Gate>(
     ensures other_words { (IsRun words.now → ⊥) → ((seed objects : ℕ) → IsDemo words.now seed objects → ⊥) → Plain S.left S.faults K.held K.faults E.held E.faults words.now input.old input.new output.old output.new errors.old errors.new result }
     ensures complete { IsRun words.now → (bytes : List ℕ)
         → IsUndisturbed S.left S.faults K.faults input.old input.new output.old output.new bytes → IsComplete bytes result }
+    ensures check { IsCheck words.now → (bytes : List ℕ)
+        → IsUndisturbed S.left S.faults K.faults input.old input.new output.old output.new bytes → AcceptsSound bytes result }
 {
     if are_of_run(words) {
         return run(alloc, words, input, output, errors, gate);
@@ -81,7 +84,9 @@ pub fn goheap_plain<S: Source, K: Sink, E: Sink>(
     output: &mut K,
     errors: &mut E,
 ) -> u8
-    ensures { Plain S.left S.faults K.held K.faults E.held E.faults words.now input.old input.new output.old output.new errors.old errors.new result }
+    ensures words { Plain S.left S.faults K.held K.faults E.held E.faults words.now input.old input.new output.old output.new errors.old errors.new result }
+    ensures check { IsCheck words.now → (bytes : List ℕ)
+        → IsUndisturbed S.left S.faults K.faults input.old input.new output.old output.new bytes → AcceptsSound bytes result }
 {
     if is_word(words, "classes") {
         return classes(output, errors);

@@ -1,5 +1,4 @@
 -- Why a summary isn't written.
-use Rattle.std.specs.Prelude.{ℕ}
 use Rattle.trace_reader.specs.declared.trace.Trace.{Trace}
 use Rattle.cycle_history.specs.declared.Report.{Report}
 use Rattle.report_check.specs.Fault.{BreaksRules}

@@ -3,7 +3,8 @@ use Rattle.demo_lines.specs.Summary.{summary_text}
 use Rattle.edge_io.specs.Front.{AppendsFront}
 use Rattle.trace_reader.specs.declared.trace.Trace.{Trace}
 use Rattle.alloc_tool.specs.Demo.{Demos}
-use Rattle.alloc_tool.proofs.Demos.{failed_demo, never_broken, spent_after, spent_demo}
+use Rattle.alloc_tool.proofs.Demos.{failed_demo, spent_after, spent_demo}
+use Rattle.alloc_tool.proofs.Unbroken.{used_unbroken}
 use Rattle.alloc_tool.proofs.demo.show_run.Goals as goal
 
 pub returns-in_default : goal.returns-in_default
@@ -19,8 +20,8 @@ pub returns-in-Err-Failed : goal.returns-in-Err-Failed
 returns-in-Err-Failed g c =
     subst (λ (t : Trace). Demos t g.K.Sink.held g.K.Sink.faults g.E.Sink.held g.E.Sink.faults c.args.output.now c.write_summary.new.out c.args.errors.now c.stop_writing.new.errors c.stop_writing.result) c.in-Ok.ensures
     (failed_demo c.in-Ok.trace g.K.Sink.held g.K.Sink.faults g.E.Sink.held g.E.Sink.faults c.args.output.now c.write_summary.new.out c.args.errors.now c.stop_writing.new.errors c.in-Ok-run_trace.ran.report c.stop_writing.result
-      c.stop_writing.ensures.status (record { sound = c.in-Ok-run_trace.ensures.sound; form = c.in-Ok-run_trace.ensures.form }) (c.in-Err-Failed.ensures.front (ap Err c.in-Err-Failed.field-0-is))
-      (c.in-Err-Failed.ensures.cause (ap Err c.in-Err-Failed.field-0-is)) c.stop_writing.ensures.told)
+    c.stop_writing.ensures.status (record { sound = c.in-Ok-run_trace.ensures.sound; form = c.in-Ok-run_trace.ensures.form }) (c.in-Err-Failed.ensures.front (ap Err c.in-Err-Failed.field-0-is))
+    (c.in-Err-Failed.ensures.cause (ap Err c.in-Err-Failed.field-0-is)) c.stop_writing.ensures.told)
 
 pub returns-in-Err-NoMemory : goal.returns-in-Err-NoMemory
 returns-in-Err-NoMemory g c =
@@ -28,4 +29,4 @@ returns-in-Err-NoMemory g c =
     (c.in-Err-NoMemory.ensures.unwritten (λ e. absurd (let h = c.in-Err-NoMemory.field-0-is in cc))) c.refuse_trace-in-Err-NoMemory.ensures.status c.refuse_trace-in-Err-NoMemory.ensures.told
 
 pub returns : goal.returns
-returns g c = absurd (never_broken c.in-Ok.trace c.in-Ok-run_trace.ran.report c.in-Err-Broken.rule c.in-Err-Broken.line c.in-Ok-run_trace.ensures.sound (rw c.in-Err-Broken.field-0-is at c.in-Err-Broken.ensures.broken))
+returns g c = absurd (used_unbroken c.in-Ok.trace c.in-Ok-run_trace.ran.report c.in-Err-Broken.rule c.in-Err-Broken.line c.in-Ok-run_trace.ensures.sound (rw c.in-Err-Broken.field-0-is at c.in-Err-Broken.ensures.broken))

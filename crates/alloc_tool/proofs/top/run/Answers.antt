@@ -7,7 +7,7 @@ use Rattle.alloc_tool.proofs.top.run.Goals as goal
 pub returns-in-Ok-clause-outcome : goal.returns-in-Ok-clause-outcome
 returns-in-Ok-clause-outcome g c = λ n each is.
     subst (λ (b : Bool). Outcome b g.S.Source.left g.S.Source.faults g.K.Sink.held g.K.Sink.faults g.E.Sink.held g.E.Sink.faults c.args.input.now c.run_by.new.input c.args.output.now c.run_by.new.output c.args.errors.now c.run_by.new.errors
-      c.run_by.result) (c.in-Ok.ensures.only n each is).1 c.run_by.ensures.outcome
+    c.run_by.result) (c.in-Ok.ensures.only n each is).1 c.run_by.ensures.outcome
 
 pub returns-in-Err-clause-outcome : goal.returns-in-Err-clause-outcome
 returns-in-Err-clause-outcome g c = λ n each is.
