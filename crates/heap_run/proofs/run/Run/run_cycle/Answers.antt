@@ -1,7 +1,8 @@
-use Rattle.std.proofs.Common.{◌≡◌, ℕ, ◌+◌, ◌<◌, ◌≤◌, ◌++◌, [], All, List, length, map, get_or, refl, sym, ◌∙◌, ap, arith, subst}
+use Rattle.std.proofs.Common.{◌≡◌, ℕ, ◌+◌, ◌<◌, ◌≤◌, ◌++◌, [], ◌∷◌, All, List, length, map, get_or, refl, sym, ◌∙◌, ap, arith, subst}
 use Rattle.std.proofs.lemmas.List.{length-map}
 use Rattle.std.proofs.lemmas.List.Elements.{All-from_recursion}
 use Rattle.std.specs.List.{AllByRecursion}
+use Rattle.std.specs.Vec.{vec_len}
 use Rattle.trace_reader.specs.declared.trace.Event.{Event}
 use Rattle.trace_reader.specs.Limits.{EventFits}
 use Rattle.cycle_history.specs.declared.Answer.{Answer}
@@ -10,6 +11,7 @@ use Rattle.profile_cycle.specs.Naming.{HasSize}
 use Rattle.span_laws.specs.Views.{Seen}
 use Rattle.span_set.specs.declared.hand.Hand.{Hand}
 use Rattle.sample_laws.specs.By.{answers_by, events_by}
+use Rattle.sample_laws.specs.Counted.{all_counts}
 use Rattle.sample_laws.specs.Numbers.{number_of}
 use Rattle.sample_laws.proofs.Numbered.{number-below}
 use Rattle.heap_run.specs.Counts.{AreNumbered, Counts}
@@ -169,6 +171,9 @@ returns-clause-ran g c =
     let m = c.in_ok-merge.ensures in
     let n = c.in_ok-merge-2.ensures in
     let same_procs : length new.procs.items ≡ length old.procs.items = (let p = c.in_ok-given.ensures.procs in omega (arith, c.args.self.now.procs.ok.0, c.run_workers.new.procs.ok.0)) in
+    let size : vec_len old.procs ≡ length old.procs.items = omega (arith, c.args.self.now.procs.ok.0) in
+    let given_counts : Counts old.marks (all_counts (length old.procs.items) c.in_ok-given.given.sampled.items c.in_ok-queues.queues.buckets.items) start c.run_workers.new.driver =
+    subst (λ (k : ℕ). Counts old.marks (all_counts k c.in_ok-given.given.sampled.items c.in_ok-queues.queues.buckets.items) start c.run_workers.new.driver) size c.in_ok-given.ensures.counts in
     let tallied : HasTallied t c.args.cycle d old new c.in_ok-queues.queues.events.items c.in_ok-given.given.answers.items m.0 c.run_workers.new.driver = record {
       procs = all-procs t.header.procs (length old.procs.items) _ c.requires.begun.set.procs (cycle-fits t c.args.cycle d c.requires.limits inside);
       numbers_grown = c.in_ok-queues.ensures.numbers ∙ ap (λ (l : List Event). old.buckets ++ map (number_of old.profile.known) l) ev;
@@ -180,7 +185,7 @@ returns-clause-ran g c =
       flags_long = n.2 ∙ ap (λ (l : List Event). length l) ev;
       flags_merged = λ w. ap (λ (l : List Event). answers_by w l n.0) (sym ev) ∙ n.3 w ∙ ap (λ l. get_or l w []) c.as_slice-3.ensures.value;
       sampled = c.in_ok-given.ensures.sampled;
-      counts = counts-as old.marks _ start c.run_workers.new.driver old.driver c.run_workers.new.driver c.in_ok-given.ensures.counts refl refl refl refl;
+      counts = counts-as old.marks _ start c.run_workers.new.driver old.driver c.run_workers.new.driver given_counts refl refl refl refl;
       first = c.end_sweep.ensures.first;
       later = c.end_sweep.ensures.later;
       profile = c.end_sweep.ensures.profile;
