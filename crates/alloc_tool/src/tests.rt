@@ -6,6 +6,7 @@ use std::sync::Wait;
 use std::test::Fail;
 use std::thread::Threads;
 
+mod demo;
 mod faults;
 mod judged;
 mod pieces;

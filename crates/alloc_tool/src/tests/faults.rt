@@ -210,10 +210,11 @@ fn good_headers_are_taken(rt: HostRuntime) -> Result<(), Fail> {
     Ok(())
 }
 
-// Of all words but `run`, `check` or `classes` alone and `gen` with two numbers, the usage is told, and nothing is read or written.
+// Of all words but `run` with options, `check` or `classes` alone and `gen` or `demo` with two numbers, the usage is told, and nothing is
+// read or written.
 #[test]
 fn other_words_are_refused(rt: HostRuntime) -> Result<(), Fail> {
-    let rows: [&[&str]; 22] = [
+    let rows: [&[&str]; 27] = [
         &[],
         &[""],
         &["Run"],
@@ -233,7 +234,12 @@ fn other_words_are_refused(rt: HostRuntime) -> Result<(), Fail> {
         &["gen", "1"],
         &["gen", "1", "1", "1"],
         &["Gen", "1", "1"],
-        &["demo", "1", "2"],
+        &["run", "--background"],
+        &["run", "--background", "05"],
+        &["run", "-b", "1"],
+        &["run", "--"],
+        &["demo", "1", "0"],
+        &["demo", "1"],
         &["--help"],
         &["--", "run"],
     ];
