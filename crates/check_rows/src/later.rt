@@ -3,8 +3,8 @@
 ghost use Rattle.std.specs.Prelude.{IfOk};
 ghost use Rattle.cycle_history.specs.Marked.{IsLimited};
 
-use crate::profile;
-use cycle_history::Report;
+use crate::profile::{self, Bucket, ProfileRow};
+use cycle_history::{Prof, Report};
 use edge_io::{Lines, List, MemorySource};
 use report_check::{CheckFault, check};
 use report_text::read_report;
@@ -15,7 +15,7 @@ use trace_reader::{Trace, read_trace};
 
 /// The lines of a trace of one processor and one chunk, a report of it without its last line, and the rule and the line
 /// that it breaks first.
-pub(crate) type Row = (&'static str, &'static str, Option<(u8, u64)>);
+type Row = (&'static str, &'static str, Option<(u8, u64)>);
 
 fn trace_of(alloc: Global, rate: u32, lines: &str) -> Result<Trace, Fail>
     ensures { IfOk result IsLimited }
@@ -40,11 +40,31 @@ fn report_of(alloc: Global, lines: &str) -> Result<Report, Fail> {
     }
 }
 
-fn judge<R: Abort + AllocGlobal>(rt: &R, rate: u32, number: usize, row: &Row) -> Result<(), Fail> {
-    let (lines, printed, broken) = *row;
+// A report with these lines of its profile.
+fn report_with(alloc: Global, lines: &str, profile: &[Bucket]) -> Result<Report, Fail> {
+    let mut report = report_of(alloc, lines)?;
+    for (mark, stack, size, allocs, frees) in profile {
+        report.profile.push(Prof {
+            mark: *mark,
+            stack: *stack,
+            size: *size,
+            allocs: *allocs,
+            frees: *frees,
+        })?;
+    }
+    Ok(report)
+}
+
+fn judge<R: Abort + AllocGlobal>(
+    rt: &R,
+    rate: u32,
+    number: usize,
+    row: &ProfileRow,
+) -> Result<(), Fail> {
+    let (lines, printed, buckets, broken) = *row;
     let alloc = rt.alloc();
     let trace = trace_of(alloc, rate, lines)?;
-    let report = report_of(alloc, printed)?;
+    let report = report_with(alloc, printed, buckets)?;
     let found = match check(alloc, &trace, &report) {
         Ok(()) => None,
         Err(CheckFault::Broken { rule, line }) => Some((rule, line)),
@@ -54,17 +74,16 @@ fn judge<R: Abort + AllocGlobal>(rt: &R, rate: u32, number: usize, row: &Row) ->
     Ok(())
 }
 
-fn judge_all<R: Abort + AllocGlobal>(rt: &R, rate: u32, rows: &[Row]) -> Result<(), Fail> {
-    for (number, row) in rows.iter().enumerate() {
-        judge(rt, rate, number, row)?;
-    }
-    Ok(())
-}
-
 #[test]
 fn whole_reports_are_judged(rt: HostRuntime) -> Result<(), Fail> {
-    judge_all(&rt, 0, &ROWS)?;
-    judge_all(&rt, 1, &profile::ROWS)
+    for (number, row) in ROWS.iter().enumerate() {
+        let (lines, printed, broken) = *row;
+        judge(&rt, 0, number, &(lines, printed, &[], broken))?;
+    }
+    for (number, row) in profile::ROWS.iter().enumerate() {
+        judge(&rt, 1, number, row)?;
+    }
+    Ok(())
 }
 
 /// Two objects of 24 bytes, of which a mark end marks the second, and another.

@@ -26,6 +26,7 @@ use Rattle.std.proofs.lemmas.List.{map-append}
 use Rattle.worker_log.specs.Logs.{many}
 use Rattle.span_laws.specs.Calls.{is_missing, is_placing}
 use Rattle.sweeper.specs.Work.{Works, note_by}
+use Rattle.profile_cycle.specs.Sampling.{Countdown}
 use Rattle.proc_cache.specs.Cache.{Cache}
 use Rattle.proc_cache.specs.Flushes.{Flushes, IsFlushing}
 use Rattle.heap_run.specs.Counts.{IsOut}
@@ -482,3 +483,26 @@ ok-map (Err e) P Q f h = h
 -- a worker that is out by its number
 pub handed : (i n : ℕ) (old start : Hand) → old.worker.number ≡ 69 → length old.worker.view.parts ≡ 70 → i < 69 → n ≡ i → IsOut n old start → HandsOut i old start
 handed i n old start number parts low same out = record { number = number; parts = parts; low = low; out = out.worker ∙ ap (λ (k : ℕ). as_number k old.worker) same; none = out.notes }
+
+-- what a hand did, as one tells that differs in its tally alone
+pub acted-alike : (P : List Entry → Type 0) (a b c : Hand) → HasActed P a b → c.worker ≡ b.worker → c.notes.items ≡ b.notes.items → HasActed P a c
+acted-alike P a b c h worker notes = record {
+  said = h.said;
+  did = h.did;
+  log = ap (λ (w : Seen). w.view.own.log) worker ∙ h.log;
+  here = ap (λ (w : Seen). w.here) worker ∙ h.here;
+  table = ap (λ (w : Seen). w.table) worker ∙ h.table;
+  number = ap (λ (w : Seen). w.number) worker ∙ h.number;
+  view = ap (λ (w : Seen). w.view) worker ∙ h.view ∙ ap (λ (w : Seen). acts a.worker.view w.view.own) (sym worker);
+  idle = subst (λ (w : Seen). IsIdle w.view.own) (sym worker) h.idle;
+  notes = notes ∙ h.notes;
+}
+
+-- a cache whose countdown alone was spent, and a hand whose tally alone counted
+pub caching-counted : (g : ℕ) (a b : Hand) (c c' : Cache) (x : Countdown) → b.worker ≡ a.worker → c' ≡ record c { countdown = x } → IsCaching g a.worker.view.own c → IsCaching g b.worker.view.own c'
+caching-counted g a b c c' x worker is are =
+    let spent : IsCaching g a.worker.view.own (record c { countdown = x }) = record {
+      serves = record { slots = are.serves.slots; all = are.serves.all; once = are.serves.once; fresh = are.serves.fresh; early = are.serves.early };
+      used = are.used;
+    } in
+    subst (λ (w : Seen). IsCaching g w.view.own c') (sym worker) (subst (λ (y : Cache). IsCaching g a.worker.view.own y) (sym is) spent)

@@ -19,7 +19,7 @@ use Rattle.trace_reader.specs.Limits.{events_of}
 use Rattle.cycle_history.specs.declared.Answer.{Answer}
 use Rattle.cycle_history.specs.Marked.{AreObjectsBefore, objects_before, requests_before}
 use Rattle.cycle_history.specs.Objects.{Object, is_placed}
-use Rattle.cycle_history.specs.Profile.{placed_by, samples_in}
+use Rattle.cycle_history.specs.Profile.{passing, placed_by, samples_in}
 use Rattle.cycle_history.specs.Requests.{marked_by, region_of}
 use Rattle.cycle_history.proofs.Firsts.{event-at}
 use Rattle.cycle_history.proofs.OfObjects.{answers-before}
@@ -35,7 +35,6 @@ use Rattle.profile_cycle.specs.Kept.{all_allocs, all_frees}
 use Rattle.profile_cycle.specs.Naming.{is_same}
 use Rattle.profile_cycle.specs.Sampling.{Countdown}
 use Rattle.profile_lines.specs.Counted.{AreMadeIn, HasCounted, IsCounting, ShowsMarkEnd, by_bucket, made_in}
-use Rattle.profile_lines.specs.Counted.{of_number as of_bucket}
 use Rattle.profile_lines.specs.Read.{AreDifferent}
 use Rattle.profile_lines.specs.Told.{HasTold}
 use Rattle.profile_lines.proofs.Publishing.{cycle-counted as counted-cycle, sweep-shows}
@@ -46,7 +45,7 @@ use Rattle.run_laws.specs.CycleSoFar.{CycleSoFar}
 use Rattle.run_laws.specs.Facts.{Facts}
 use Rattle.run_laws.specs.Profile.{AreCalls, Calls, CountsByWorkers, FreesByNotes, Samples, dead_in, has_died, is_sample, sum_below, sum_of}
 use Rattle.run_laws.proofs.Counted.{cycle-calls, cycle-counted}
-use Rattle.run_laws.proofs.Counted.{count-passing, count-same}
+use Rattle.run_laws.proofs.Counted.{count-same}
 use Rattle.run_laws.proofs.Profile.{count-by_proc}
 use Rattle.run_laws.proofs.Lists.{in-left}
 use Rattle.sample_laws.specs.By.{answers_by, events_by}
@@ -66,11 +65,6 @@ use Rattle.heap_run.proofs.Queued.{answers-reverse, events-reverse}
 use Rattle.heap_run.proofs.Reaching.{Goes, map-reverse}
 
 -- ---- plain lists
-
--- what is told by a number, in the words of two crates
-same-number : (f : ℕ → ℕ) (o : Option ℕ) → of_bucket f o ≡ of_number f o
-same-number f None = refl
-same-number f (Some n) = refl
 
 -- the calls of a cycle are all that were made in it
 made-all : (test : What → Bool) (c : ℕ) (made : List Call) → AreMadeIn c made → made_in test c made ≡ count_calls (λ (x : Call). test x.what) made
@@ -114,6 +108,10 @@ sum-sorted f xs ys same = sum-alike f (reverse ys) ∙ sum_by-IsPermutation f ys
 sum-zero : {X : Type 0} (f : X → ℕ) (xs : List X) → ((x : X) → f x ≡ 0) → sum_of f xs ≡ 0
 sum-zero f [] none = refl
 sum-zero f (x ∷ xs) none = let here = none x in let rest = sum-zero f xs none in omega arith
+
+count-passing : {X : Type 0} (p test : X → Bool) (xs : List X) → count test (passing p xs) ≡ count (λ x. p x && test x) xs
+count-passing p test [] = refl
+count-passing p test (x ∷ xs) = let rest = count-passing p test xs in elim (cases_Bool (p x)) [ inl is ↦ rw is (omega arith) | inr isnt ↦ rw isnt (omega arith) ]
 
 -- ---- a cycle
 
@@ -214,8 +212,7 @@ module _ (t : Trace) (c : ℕ) (d : Cycle) (old new : Run) (queues : List (List 
   sampled-next which are p =
       let was = began-at which are p in
       let now = cycle-sampled t.header.rate t.header.seed p c older (samples_in t which) was.0 (reverse events) (reverse more) (reverse tallied.given_flags) begun.objects goes.news goes.answered goes.printed
-      (knows which are) (flagged which are p) was.1 in
-      (
+      (knows which are) (flagged which are p) was.1 in (
         spent was.0 (events_by p (reverse events)) (answers_by p (reverse events) (reverse more)),
         now,
         λ low. (
@@ -224,7 +221,7 @@ module _ (t : Trace) (c : ℕ) (d : Cycle) (old new : Run) (queues : List (List 
       )
 
   pub profiled-next : IsProfiled t (suc c) (goes.news ++ begun.objects) new
-  pub profiled-next =
+  profiled-next =
       let was = begun.profiled in
       let x = tallied.counts in
       let f = tallied.profile in
@@ -299,8 +296,7 @@ module _ (t : Trace) (c : ℕ) (d : Cycle) (old new : Run) (queues : List (List 
       (λ w. mapped-by (number_of names) w events ∙ sym (tallied.numbers_are w))
       ∙ ap (λ (l : List ℕ). sampled_counts (reverse tallied.given_flags) l k) (sym (map-reverse (number_of names) events)) in
       let turned = (let re = length-reverse events in let rf = length-reverse tallied.given_flags in let fl = tallied.flags_long in let same : length (reverse tallied.given_flags) ≡ length (reverse events) = omega arith in same) in
-      same-number (λ k. made_in (allocates k) c made) (position (is_same b) names)
-      ∙ each-number (λ k. made_in (allocates k) c made) (λ k. sampled_counts (reverse tallied.given_flags) (map (number_of names) (reverse events)) k) each (position (is_same b) names)
+      each-number (λ k. made_in (allocates k) c made) (λ k. sampled_counts (reverse tallied.given_flags) (map (number_of names) (reverse events)) k) each (position (is_same b) names)
       ∙ cycle-counts (samples_in t which) names b c older (λ p. (began-at which are p).0) (reverse events) (reverse more) (reverse tallied.given_flags) goes.news goes.answered goes.printed (knows which are) turned named-now (flagged which are)
     where
       each-number : (f g : ℕ → ℕ) → ((k : ℕ) → f k ≡ g k) → (o : Option ℕ) → of_number f o ≡ of_number g o
@@ -344,7 +340,7 @@ module _ (t : Trace) (c : ℕ) (d : Cycle) (old new : Run) (queues : List (List 
 
   -- ---- the frees of the cycle
 
-  dead-by : ℕ → Bucket → ℕ
+  abbrev dead-by : ℕ → Bucket → ℕ
   dead-by page b = of_number (λ k. dead_in old.marks k page) (position (is_same b) names)
 
   notes-swept : ended.notes.items ≡ tallied.counts.more
@@ -353,7 +349,7 @@ module _ (t : Trace) (c : ℕ) (d : Cycle) (old new : Run) (queues : List (List 
   frees-right : (b : Bucket) → (by_bucket names made).freed c b ≡ sum_of (λ (note : SweepNote). dead-by note.page b) (reverse sorted)
   frees-right b = by-place (position (is_same b) names)
     where
-      by-place : (o : Option ℕ) → of_bucket (λ k. made_in (frees k) c made) o ≡ sum_of (λ (note : SweepNote). of_number (λ k. dead_in old.marks k note.page) o) (reverse sorted)
+      by-place : (o : Option ℕ) → of_number (λ k. made_in (frees k) c made) o ≡ sum_of (λ (note : SweepNote). of_number (λ k. dead_in old.marks k note.page) o) (reverse sorted)
       by-place None = sym (sum-zero (λ (note : SweepNote). 0) (reverse sorted) (λ x. refl))
       by-place (Some k) =
           made-all (frees k) c made made-now ∙ tallied.counts.frees_are k ∙ ap (λ (l : List SweepNote). dead_at old.marks l k) (sym notes-swept)
@@ -364,6 +360,13 @@ module _ (t : Trace) (c : ℕ) (d : Cycle) (old new : Run) (queues : List (List 
     where
       s : Samples
       s = samples_in t which
+
+      no-dead : (b : Bucket) (page : ℕ) → c ≡ 0 → dead-by page b ≡ 0
+      no-dead b page is = at (position (is_same b) names)
+        where
+          at : (o : Option ℕ) → of_number (λ k. dead_in old.marks k page) o ≡ 0
+          at None = refl
+          at (Some k) = ap (λ (l : List ℕ). count (λ (x : ℕ). eqb x k) l) (begun.counting.first is page)
 
       by-cycle : (n : ℕ) → c ≡ n → AreCalls (marked_by t) (samples_in t which) (goes.news ++ begun.objects) (by_bucket names made) c
       by-cycle zero is = record {
@@ -381,13 +384,6 @@ module _ (t : Trace) (c : ℕ) (d : Cycle) (old new : Run) (queues : List (List 
           } in
           rw (goes.cycle, goes.news_are) at (cycle-calls (marked_by t) (region_of t) t.header.goal s begun.objects (reverse old.sweeps) (by_bucket names made) goes.e m (length old.procs.items)
           (λ w x. count (is_sample s x) (placed_by w goes.e.news)) dead-by goes.began goes.facts e_cycle (counts-by which are) dead)
-
-      no-dead : (b : Bucket) (page : ℕ) → c ≡ 0 → dead-by page b ≡ 0
-      no-dead b page is = at (position (is_same b) names)
-        where
-          at : (o : Option ℕ) → of_number (λ k. dead_in old.marks k page) o ≡ 0
-          at None = refl
-          at (Some k) = ap (λ (l : List ℕ). count (λ (x : ℕ). eqb x k) l) (begun.counting.first is page)
 
   -- ---- as the cycle ends
 
@@ -408,7 +404,7 @@ module _ (t : Trace) (c : ℕ) (d : Cycle) (old new : Run) (queues : List (List 
       (ap (λ (s : Standing). s.view.cycle) tallied.counts.tally ∙ cycle-is) (ap (λ (s : Standing). s.view.calls) tallied.counts.tally) made-now lasts-news (calls-are which are)
 
   pub counted-next : HasCountedIn t c (goes.news ++ begun.objects) new
-  pub counted-next = record { counted = λ which are. (both which are).0; shows = λ which are. (both which are).1 }
+  counted-next = record { counted = λ which are. (both which are).0; shows = λ which are. (both which are).1 }
     where
       both : (which : ℕ → Bool) → Flags new.sampled which → HasCounted (marked_by t) (samples_in t which) new.profile.known c (goes.news ++ begun.objects) new.driver.tally.view
           × ShowsMarkEnd (marked_by t) (samples_in t which) new.profile.known c (goes.news ++ begun.objects) new.driver.tally.view.calls
@@ -426,7 +422,7 @@ module _ (t : Trace) (c : ℕ) (d : Cycle) (old new : Run) (queues : List (List 
           ])
 
   pub told-next : IsToldIn t c (goes.news ++ begun.objects) new
-  pub told-next = record {
+  told-next = record {
     each_told = λ each which are. (
         let was = begun.told.each_told (ap (λ q. q.each) (sym tallied.profile) ∙ each) which (flags-less old.sampled tallied.given_flags which (subst (λ (l : List Bool). Flags l which) tallied.flags_grown are)) in
         let now = stay (marked_by t) (samples_in t which) names old.profile.order c begun.objects goes.news old.profile.before.items old.profile.lines (λ o h. (let e = (lasts-news o h).0 in omega arith)) was in

@@ -1,7 +1,7 @@
 -- The events and answers of each processor.
-use Rattle.std.proofs.Common.{◌≡◌, ◌≢◌, ℕ, zero, suc, ◌+◌, ◌<◌, ◌≤◌, eqb, List, [], ◌∷◌, ◌++◌, reverse, set, take, drop, length, get_or, refl, sym, ◌∙◌, ap, arith, inl, inr}
+use Rattle.std.proofs.Common.{◌≡◌, ◌≢◌, ℕ, zero, suc, ◌+◌, ◌<◌, ◌≤◌, eqb, List, [], ◌∷◌, ◌++◌, map, reverse, set, take, drop, length, get_or, refl, sym, ◌∙◌, ap, arith, inl, inr}
 use Rattle.std.proofs.lemmas.Bool.{cases_Bool, cases_eq, eq-eqb, ne_eqb}
-use Rattle.std.proofs.lemmas.List.{append-nil, append_assoc, get_or-set_same, get_or-set_other, length-append, length-take-le, reverse-append, take_all, take_more, take-append-drop, length-reverse}
+use Rattle.std.proofs.lemmas.List.{append-nil, append_assoc, get_or-set_same, get_or-set_other, length-append, length-take-le, map-append, reverse-append, take_all, take_more, take-append-drop, length-reverse}
 use Rattle.trace_reader.specs.declared.trace.Event.{Event}
 use Rattle.cycle_history.specs.declared.Answer.{Answer}
 use Rattle.heap_run.specs.Served.{answers_by, events_by}
@@ -15,12 +15,12 @@ events-append w (e ∷ xs) ys = elim (cases_Bool (eqb e.proc w)) [
   | inr off ↦ rw off (events-append w xs ys)
 ]
 
-pub answers-append : (w : ℕ) (xs ys : List Event) (ans bs : List Answer) → length ans ≡ length xs → answers_by w (xs ++ ys) (ans ++ bs) ≡ answers_by w xs ans ++ answers_by w ys bs
+pub answers-append : {X : Type 0} (w : ℕ) (xs ys : List Event) (ans bs : List X) → length ans ≡ length xs → answers_by w (xs ++ ys) (ans ++ bs) ≡ answers_by w xs ans ++ answers_by w ys bs
 answers-append w [] ys [] bs same = refl
 answers-append w [] ys (a ∷ ans) bs same = absurd (omega arith)
 answers-append w (e ∷ xs) ys [] bs same = absurd (omega arith)
 answers-append w (e ∷ xs) ys (a ∷ ans) bs same = elim (cases_Bool (eqb e.proc w)) [
-  | inl on ↦ rw on (ap (λ (l : List Answer). a ∷ l) (answers-append w xs ys ans bs (omega arith)))
+  | inl on ↦ rw on (ap (λ (l : List _). a ∷ l) (answers-append w xs ys ans bs (omega arith)))
   | inr off ↦ rw off (answers-append w xs ys ans bs (omega arith))
 ]
 
@@ -42,27 +42,27 @@ events-reverse w (e ∷ xs) =
           ∙ append-nil (reverse (events_by w xs)) ∙ ap (λ (l : List Event). reverse l) (sym all))
     ]
 
-pub answers-reverse : (w : ℕ) (xs : List Event) (ans : List Answer) → length ans ≡ length xs → answers_by w (reverse xs) (reverse ans) ≡ reverse (answers_by w xs ans)
+pub answers-reverse : {X : Type 0} (w : ℕ) (xs : List Event) (ans : List X) → length ans ≡ length xs → answers_by w (reverse xs) (reverse ans) ≡ reverse (answers_by w xs ans)
 answers-reverse w [] [] same = refl
 answers-reverse w [] (a ∷ ans) same = absurd (omega arith)
 answers-reverse w (e ∷ xs) [] same = absurd (omega arith)
 answers-reverse w (e ∷ xs) (a ∷ ans) same =
     let long : length (reverse ans) ≡ length (reverse xs) = (let p = length-reverse ans in let q = length-reverse xs in omega arith) in
     let split : answers_by w (reverse (e ∷ xs)) (reverse (a ∷ ans)) ≡ answers_by w (reverse xs) (reverse ans) ++ answers_by w (e ∷ []) (a ∷ []) =
-    ap (λ (l : List Event). answers_by w l (reverse (a ∷ ans))) (reverse-append (e ∷ []) xs) ∙ ap (λ (l : List Answer). answers_by w (reverse xs ++ e ∷ []) l) (reverse-append (a ∷ []) ans)
+    ap (λ (l : List Event). answers_by w l (reverse (a ∷ ans))) (reverse-append (e ∷ []) xs) ∙ ap (λ (l : List _). answers_by w (reverse xs ++ e ∷ []) l) (reverse-append (a ∷ []) ans)
     ∙ answers-append w (reverse xs) (e ∷ []) (reverse ans) (a ∷ []) long in
     let rest = answers-reverse w xs ans (omega arith) in
     elim (cases_Bool (eqb e.proc w)) [
       | inl on ↦ (
           let one : answers_by w (e ∷ []) (a ∷ []) ≡ a ∷ [] = rw on refl in
           let all : answers_by w (e ∷ xs) (a ∷ ans) ≡ a ∷ answers_by w xs ans = rw on refl in
-          split ∙ ap (λ (l : List Answer). l ++ answers_by w (e ∷ []) (a ∷ [])) rest ∙ ap (λ (l : List Answer). reverse (answers_by w xs ans) ++ l) one
-          ∙ sym (reverse-append (a ∷ []) (answers_by w xs ans)) ∙ ap (λ (l : List Answer). reverse l) (sym all))
+          split ∙ ap (λ (l : List _). l ++ answers_by w (e ∷ []) (a ∷ [])) rest ∙ ap (λ (l : List _). reverse (answers_by w xs ans) ++ l) one
+          ∙ sym (reverse-append (a ∷ []) (answers_by w xs ans)) ∙ ap (λ (l : List _). reverse l) (sym all))
       | inr off ↦ (
           let one : answers_by w (e ∷ []) (a ∷ []) ≡ [] = rw off refl in
           let all : answers_by w (e ∷ xs) (a ∷ ans) ≡ answers_by w xs ans = rw off refl in
-          split ∙ ap (λ (l : List Answer). l ++ answers_by w (e ∷ []) (a ∷ [])) rest ∙ ap (λ (l : List Answer). reverse (answers_by w xs ans) ++ l) one
-          ∙ append-nil (reverse (answers_by w xs ans)) ∙ ap (λ (l : List Answer). reverse l) (sym all))
+          split ∙ ap (λ (l : List _). l ++ answers_by w (e ∷ []) (a ∷ [])) rest ∙ ap (λ (l : List _). reverse (answers_by w xs ans) ++ l) one
+          ∙ append-nil (reverse (answers_by w xs ans)) ∙ ap (λ (l : List _). reverse l) (sym all))
     ]
 
 -- ---- one event more
@@ -77,10 +77,10 @@ one-event w e same = rw (eq-eqb e.proc w same) refl
 pub no-event : (w : ℕ) (e : Event) → e.proc ≢ w → events_by w (e ∷ []) ≡ []
 no-event w e other = rw (ne_eqb e.proc w other) refl
 
-pub one-answer : (w : ℕ) (e : Event) (a : Answer) → e.proc ≡ w → answers_by w (e ∷ []) (a ∷ []) ≡ a ∷ []
+pub one-answer : {X : Type 0} (w : ℕ) (e : Event) (a : X) → e.proc ≡ w → answers_by w (e ∷ []) (a ∷ []) ≡ a ∷ []
 one-answer w e a same = rw (eq-eqb e.proc w same) refl
 
-pub no-answer : (w : ℕ) (e : Event) (a : Answer) → e.proc ≢ w → answers_by w (e ∷ []) (a ∷ []) ≡ []
+pub no-answer : {X : Type 0} (w : ℕ) (e : Event) (a : X) → e.proc ≢ w → answers_by w (e ∷ []) (a ∷ []) ≡ []
 no-answer w e a other = rw (ne_eqb e.proc w other) refl
 
 -- an empty list more
@@ -134,12 +134,12 @@ events-left events i d lt =
     omega arith
 
 -- The answers to the first i events are those that each worker gave first.
-pub record Merges (events : List Event) (given : List (List Answer)) (i : ℕ) (next : List ℕ) (more : List Answer) : Type 0 where
+pub record Merges {X : Type 0} (events : List Event) (given : List (List X)) (i : ℕ) (next : List ℕ) (more : List X) : Type 0 where
   pub counts : (w : ℕ) → get_or next w 0 ≡ length (events_by w (take i events))
   pub size : length more ≡ i
   pub each : (w : ℕ) → answers_by w (take i events) more ≡ take (get_or next w 0) (get_or given w [])
 
-pub merges-more : (events : List Event) (given : List (List Answer)) (i at : ℕ) (next : List ℕ) (more : List Answer) (d : Event) (a : Answer) → i < length events → (get_or events i d).proc < length next
+pub merges-more : {X : Type 0} (events : List Event) (given : List (List X)) (i at : ℕ) (next : List ℕ) (more : List X) (d : Event) (a : X) → i < length events → (get_or events i d).proc < length next
     → at ≡ get_or next (get_or events i d).proc 0 → at < length (get_or given (get_or events i d).proc []) → a ≡ get_or (get_or given (get_or events i d).proc []) at a → Merges events given i next more
     → Merges events given (i + 1) (set next (get_or events i d).proc (at + 1)) (more ++ a ∷ [])
 merges-more events given i at next more d a lt inside is_at low is_a was =
@@ -165,20 +165,20 @@ merges-more events given i at next more d a lt inside is_at low is_a was =
       size = (let f = length-append more (a ∷ []) in let s = was.size in omega arith);
       each = λ w. elim (cases_eq w e.proc) [
         | inl same ↦ (
-            let mine : answers_by e.proc (take (i + 1) events) (more ++ a ∷ []) ≡ answers_by e.proc (take i events) more ++ a ∷ [] = answered e.proc ∙ ap (λ (l : List Answer). answers_by e.proc (take i events) more ++ l) (one-answer e.proc e a refl) in
+            let mine : answers_by e.proc (take (i + 1) events) (more ++ a ∷ []) ≡ answers_by e.proc (take i events) more ++ a ∷ [] = answered e.proc ∙ ap (λ (l : List _). answers_by e.proc (take i events) more ++ l) (one-answer e.proc e a refl) in
             let old : answers_by e.proc (take i events) more ≡ take at (get_or given e.proc []) = was.each e.proc ∙ ap (λ (n : ℕ). take n (get_or given e.proc [])) (sym is_at) in
-            let next-one : take (at + 1) (get_or given e.proc []) ≡ take at (get_or given e.proc []) ++ a ∷ [] = take_more (get_or given e.proc []) at a low ∙ ap (λ (x : Answer). take at (get_or given e.proc []) ++ x ∷ []) (sym is_a) in
+            let next-one : take (at + 1) (get_or given e.proc []) ≡ take at (get_or given e.proc []) ++ a ∷ [] = take_more (get_or given e.proc []) at a low ∙ ap (λ (x : _). take at (get_or given e.proc []) ++ x ∷ []) (sym is_a) in
             let there : answers_by e.proc (take (i + 1) events) (more ++ a ∷ []) ≡ take (get_or (set next e.proc (at + 1)) e.proc 0) (get_or given e.proc []) =
-            mine ∙ ap (λ (l : List Answer). l ++ a ∷ []) old ∙ sym next-one ∙ ap (λ (n : ℕ). take n (get_or given e.proc [])) (sym same-at) in
+            mine ∙ ap (λ (l : List _). l ++ a ∷ []) old ∙ sym next-one ∙ ap (λ (n : ℕ). take n (get_or given e.proc [])) (sym same-at) in
             rw same there)
         | inr other ↦ (
-            answered w ∙ ap (λ (l : List Answer). answers_by w (take i events) more ++ l) (no-answer w e a (λ q. other (sym q))) ∙ append-nil (answers_by w (take i events) more)
+            answered w ∙ ap (λ (l : List _). answers_by w (take i events) more ++ l) (no-answer w e a (λ q. other (sym q))) ∙ append-nil (answers_by w (take i events) more)
             ∙ was.each w ∙ ap (λ (n : ℕ). take n (get_or given w [])) (sym (get_or-set_other next e.proc w (at + 1) 0 other)))
       ];
     }
 
 -- behind the last event all answers are merged
-pub merged-all : (events : List Event) (given : List (List Answer)) (i : ℕ) (next : List ℕ) (more : List Answer) → length events ≤ i → i ≤ length events → ((w : ℕ) → length (get_or given w []) ≡ length (events_by w events)) → Merges events given i next more
+pub merged-all : {X : Type 0} (events : List Event) (given : List (List X)) (i : ℕ) (next : List ℕ) (more : List X) → length events ≤ i → i ≤ length events → ((w : ℕ) → length (get_or given w []) ≡ length (events_by w events)) → Merges events given i next more
     → (length more ≡ length events) × ((w : ℕ) → answers_by w events more ≡ get_or given w [])
 merged-all events given i next more end low sizes was =
     let whole : take i events ≡ events = take_all i events end in (
@@ -190,15 +190,35 @@ merged-all events given i next more end low sizes was =
     )
 
 -- one more answer was put behind all
-pub merged-push : (events : List Event) (given : List (List Answer)) (i at : ℕ) (next : List ℕ) (first old now : List Answer) (more : List Answer) (d : Event) (a : Answer) (s : List Answer) → i < length events
+pub merged-push : {X : Type 0} (events : List Event) (given : List (List X)) (i at : ℕ) (next : List ℕ) (first old now : List X) (more : List X) (d : Event) (a : X) (s : List X) → i < length events
     → (get_or events i d).proc < length next → at ≡ get_or next (get_or events i d).proc 0 → ((w : ℕ) → length (get_or given w []) ≡ length (events_by w events)) → s ≡ get_or given (get_or events i d).proc []
     → old ≡ first ++ more → now ≡ old ++ a ∷ [] → (at < length s → a ≡ get_or s at a) → Merges events given i next more
-    → (all : List Answer) × (now ≡ first ++ all) × Merges events given (i + 1) (set next (get_or events i d).proc (at + 1)) all
+    → (all : List X) × (now ≡ first ++ all) × Merges events given (i + 1) (set next (get_or events i d).proc (at + 1)) all
 merged-push events given i at next first old now more d a s lt inside is_at sizes slice grown pushed is_a was =
     let low : at < length (get_or given (get_or events i d).proc []) = (let l = events-left events i d lt in let n = was.counts (get_or events i d).proc in let z = sizes (get_or events i d).proc in omega arith) in
     let low' : at < length s = rw slice low in
-    let mine : a ≡ get_or (get_or given (get_or events i d).proc []) at a = is_a low' ∙ ap (λ (l : List Answer). get_or l at a) slice in (
+    let mine : a ≡ get_or (get_or given (get_or events i d).proc []) at a = is_a low' ∙ ap (λ (l : List _). get_or l at a) slice in (
       more ++ a ∷ [],
-      pushed ∙ ap (λ (l : List Answer). l ++ a ∷ []) grown ∙ append_assoc first more (a ∷ []),
+      pushed ∙ ap (λ (l : List _). l ++ a ∷ []) grown ∙ append_assoc first more (a ∷ []),
       merges-more events given i at next more d a lt inside is_at low mine was,
     )
+
+-- ---- numbers, one more
+
+-- the numbers of a worker's events with one event more
+pub numbers-more : (f : Event → ℕ) (lists : List (List ℕ)) (list : List ℕ) (events : List Event) (i : ℕ) (e : Event) → i < length events → e ≡ get_or events i e → e.proc < length lists
+    → ((w : ℕ) → get_or lists w [] ≡ map f (events_by w (take i events))) → list ≡ get_or lists e.proc [] ++ f e ∷ [] → (w : ℕ) → get_or (set lists e.proc list) w [] ≡ map f (events_by w (take (i + 1) events))
+numbers-more f lists list events i e lt here inside each grown w =
+    let more : events_by w (take (i + 1) events) ≡ events_by w (take i events) ++ events_by w (e ∷ []) = events-more w events i e lt ∙ ap (λ (x : Event). events_by w (take i events) ++ events_by w (x ∷ [])) (sym here) in
+    let mapped : map f (events_by w (take (i + 1) events)) ≡ map f (events_by w (take i events)) ++ map f (events_by w (e ∷ [])) = ap (λ (l : List Event). map f l) more ∙ map-append f (events_by w (take i events)) (events_by w (e ∷ [])) in
+    elim (cases_eq w e.proc) [
+      | inl same ↦ (
+          let at : get_or (set lists e.proc list) e.proc [] ≡ list = get_or-set_same lists e.proc list [] inside in
+          let at' : get_or (set lists e.proc list) w [] ≡ list = rw same at in
+          let old : get_or lists e.proc [] ≡ map f (events_by w (take i events)) = rw (sym same) (each w) in
+          let one : map f (events_by w (e ∷ [])) ≡ f e ∷ [] = ap (λ (l : List Event). map f l) (one-event w e (sym same)) in
+          at' ∙ grown ∙ ap (λ (l : List ℕ). l ++ f e ∷ []) old ∙ ap (λ (l : List ℕ). map f (events_by w (take i events)) ++ l) (sym one) ∙ sym mapped)
+      | inr other ↦ (
+          let none : map f (events_by w (e ∷ [])) ≡ [] = ap (λ (l : List Event). map f l) (no-event w e (λ q. other (sym q))) in
+          get_or-set_other lists e.proc w list [] other ∙ each w ∙ sym (append-nil (map f (events_by w (take i events)))) ∙ ap (λ (l : List ℕ). map f (events_by w (take i events)) ++ l) (sym none) ∙ sym mapped)
+    ]

@@ -347,10 +347,9 @@ report-sound t run report past limits ran told journal printed sweeps totals lin
     let reached : Reached (marked_by t) (region_of t) t.header.goal (last_cycle t) (past_in report) ran.objects (reverse run.sweeps) (has_pair (allocated_pairs run.driver.worker.number run.driver.worker.view)) =
     subst (λ (l : List Line). Reached (marked_by t) (region_of t) t.header.goal (last_cycle t) l ran.objects (reverse run.sweeps) (has_pair (allocated_pairs run.driver.worker.number run.driver.worker.view))) (same ∙ sym journal) ran.reached in
     let answers : HasAnswers t report ran.objects = record { asked = all.asked; printed = all.printed ∙ ap (λ (l : List Answer). reverse l) (sym printed) } in
-    let profile = profile-in t run report ran.objects ran.asked ran.profiled ran.counted ran.told lines in
-    (
+    let profile = profile-in t run report ran.objects ran.asked ran.profiled ran.counted ran.told lines in (
       reached-sound t report ran.objects (reverse run.sweeps) (has_pair (allocated_pairs run.driver.worker.number run.driver.worker.view)) reached answers (sweeps ∙ sym (reverse-reverse run.sweeps)) (totals ran.objects all)
-      (run.profile.each, profile),
+          (run.profile.each, profile),
       (ran.objects, answers, profile),
     )
 

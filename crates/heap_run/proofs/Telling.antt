@@ -124,7 +124,7 @@ module _ (t : Trace) (c : ℕ) (old new : Run) (marks : MarkSet) (past : List Li
   old-flags which are = subst (λ (l : List Bool). Flags l which) m.sampled are
 
   pub profiled-marked : IsProfiled t (suc c) objects new
-  pub profiled-marked = record {
+  profiled-marked = record {
     ring = ap (λ (s : Standing). s.ring) m.tally ∙ profiled.ring ∙ sym m.ring;
     some = rw m.ring profiled.some;
     room = rw (m.ring, m.known) profiled.room;
@@ -147,7 +147,7 @@ module _ (t : Trace) (c : ℕ) (old new : Run) (marks : MarkSet) (past : List Li
   next-counting which are = mark-end-begins (marked_by t) (samples_in t which) old.profile.known c objects old.driver.tally.view profiled.different reached.run.lasts (counted.counted which are)
 
   pub counting-marked : IsCountingIn t (suc c) objects new
-  pub counting-marked = record {
+  counting-marked = record {
     counting = λ which are. rw (m.known, m.tally) (next-counting which (old-flags which are)).0;
     may = λ page. (
         let room = profiled.room in
@@ -179,7 +179,7 @@ module _ (t : Trace) (c : ℕ) (old new : Run) (marks : MarkSet) (past : List Li
           (knows-samples t (suc c) old.answers objects old.profile.known old.sampled old.buckets which (objects-known t (suc c) objects old which profiled asked are) b k found) h
 
   pub told-marked : IsToldIn t (suc c) objects new
-  pub told-marked = record {
+  told-marked = record {
     each_told = λ on which are. (
         let mine = old-flags which are in
         let each : old.profile.each ≡ true = sym m.each ∙ on in

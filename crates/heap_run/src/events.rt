@@ -1,6 +1,6 @@
 //! The events of a processor in a cycle.
 
-ghost use Rattle.std.specs.Prelude.{◌≡◌, ◌^◌, ◌<◌, ◌≤◌, [], ◌∷◌, All, length, reverse, true, false, IfOk, OnOk};
+ghost use Rattle.std.specs.Prelude.{◌≡◌, ◌*◌, ◌^◌, ◌<◌, ◌≤◌, [], ◌∷◌, All, length, reverse, true, false, IfOk, OnOk};
 ghost use Rattle.span_laws.specs.Asks.{IsIdle};
 ghost use Rattle.span_set.specs.Tallies.{MayCount};
 ghost use Rattle.sample_laws.specs.Counted.{one_count, sampled_counts};
@@ -100,8 +100,7 @@ fn answer(
             flush(proc, shop, hand)?;
             match alloc_large(shop, hand, pages, span_class(0, event.scan)) {
                 Ok(addr) => {
-                    let slot = PAGE_SIZE * u64::from(pages);
-                    let sampled = count_placed(proc, shop, hand, slot, bucket);
+                    let sampled = count_placed(proc, shop, hand, large_slot(pages), bucket);
                     Ok((Answer::Placed(addr), sampled))
                 }
                 Err(Refused::NoRun { line }) => Ok((Answer::Missed(line), false)),
@@ -109,4 +108,11 @@ fn answer(
             }
         }
     }
+}
+
+// The bytes of the slot of a large object.
+fn large_slot(pages: u32) -> u64
+    ensures { result ≡ 8192 * pages }
+{
+    PAGE_SIZE * u64::from(pages)
 }

@@ -12,10 +12,10 @@ ghost use Rattle.profile_cycle.specs.Sampling.{countdown};
 
 use crate::cycle::run_workers;
 use crate::merge::merge;
+use crate::profile::Profile;
 use crate::queues::queues_of;
 use crate::sorting::file_notes;
 use cycle_history::{Answer, Place, Report, marks_of, totals_of};
-use crate::profile::Profile;
 use edge_io::{Gate, List, NoMemory};
 use proc_cache::Proc;
 use span_set::{Hand, Shop, reset};
@@ -211,7 +211,9 @@ impl Run {
             ..
         } = self;
         let Hand {
-            worker, mut tally, ..
+            worker,
+            mut tally,
+            ..
         } = driver;
         let mut driver = worker;
         profile.read_last(&mut tally, trace.cycles.len() as u32 - 1)?;

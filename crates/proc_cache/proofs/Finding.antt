@@ -176,8 +176,8 @@ module _ (pages distance bytes credit : ℕ) (old mid : Hand) (idle : IsIdle old
   paid_nothing w = (w.said, of_sweeper [] _ old mid idle w, sums_of [] _ old mid idle w 0 0 w.did.takes_none.untaken w.did.takes_none.unmissed)
 
   pub paid : (p : Paid) → Pays pages distance bytes credit old mid (Ok p) → (said : List Entry) × Holds [] said old mid × Sums 0 0 0 0 said × HasPaidFor old.worker.view.generation pages distance bytes credit said
-  paid (Reached seen target) w = (w.said, of_sweeper [] _ old mid idle w, sums_of [] _ old mid idle w 0 0 w.did.0.takes_none.untaken w.did.0.takes_none.unmissed, (w.did.0, inl (seen, (target, w.did.1))))
-  paid NothingLeft w = (w.said, of_sweeper [] _ old mid idle w, sums_of [] _ old mid idle w 0 0 w.did.0.takes_none.untaken w.did.0.takes_none.unmissed, (w.did.0, inr w.did.1))
+  paid (Reached seen target) w = (w.said, of_sweeper [] _ old mid idle w, sums_of [] _ old mid idle w 0 0 w.did.0.takes_none.untaken w.did.0.takes_none.unmissed, (w.did.0, w.does.sweeps.unlooked, inl (seen, (target, w.did.1))))
+  paid NothingLeft w = (w.said, of_sweeper [] _ old mid idle w, sums_of [] _ old mid idle w 0 0 w.did.0.takes_none.untaken w.did.0.takes_none.unmissed, (w.did.0, w.does.sweeps.unlooked, inr w.did.1))
 
 -- a span that was found behind a payment
 module _ (pages distance k : ℕ) (old mid : Hand) (first : List Entry) (x : Holds [] first old mid) (sums : Sums 0 0 0 0 first) (paid : HasPaidFor old.worker.view.generation pages distance (bytes_of k) 0 first) where

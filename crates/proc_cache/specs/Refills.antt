@@ -19,7 +19,7 @@ use Rattle.central_lists.specs.declared.answers.Look.{Look}
 use Rattle.central_lists.specs.Lists.{PoppedIt, Saw, SawNone, SweptIt, Then, TriedEnough, tries}
 use Rattle.sweeper.specs.NewSpans.{MissedAtLast, TookAtLast}
 use Rattle.sweeper.specs.Pays.{HasPaid}
-use Rattle.sweeper.specs.Work.{IsPlain, SawAllEmpty}
+use Rattle.sweeper.specs.Work.{IsPlain, LooksAtNone, SawAllEmpty}
 use Rattle.proc_cache.specs.declared.refills.CacheFrom.{CacheFrom}
 use Rattle.proc_cache.specs.declared.refills.CacheFrom.TheVariants.{SweptPartial, SweptHere, Fresh}
 use Rattle.proc_cache.specs.Cache.{Cache, slot_at, with_slot}
@@ -30,9 +30,9 @@ abbrev pub bytes_of : ℕ → ℕ
 bytes_of k = 8192 * pages_of (k / 2)
 
 -- so many bytes were paid for, with so many pages of credit: a number of swept pages was read that reaches the target, or each unswept set was
--- seen empty; and no run was taken or missed before
+-- seen empty; and no run was taken or missed, and no swept set looked at, before
 abbrev pub HasPaidFor : (generation pages distance bytes credit : ℕ) → List Entry → Type 0
-HasPaidFor generation pages distance bytes credit said = IsPlain said
+HasPaidFor generation pages distance bytes credit said = IsPlain said × LooksAtNone generation said
     × (((seen : ℕ) × ((target : ℕ) × HasPaid generation pages distance bytes credit seen target said)) ⊎ SawAllEmpty generation said)
 
 -- the full span of class k, if there is one, left the cache for the swept full set

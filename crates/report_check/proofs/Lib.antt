@@ -25,3 +25,4 @@ pub mod Flagging
 pub mod Bucketing
 pub mod Printing
 pub mod Showing
+pub mod Sounding

@@ -1,9 +1,10 @@
 //! The rules in their order.
 
-ghost use Rattle.std.specs.Prelude.{List as Things, IfErr, IfOk, OnOk};
+ghost use Rattle.std.specs.Prelude.{◌≡◌, List as Things, IfErr, IfOk, OnOk};
 ghost use Rattle.cycle_history.specs.Broken.{MeetsUpTo};
 ghost use Rattle.cycle_history.specs.Marked.{IsLimited};
 ghost use Rattle.cycle_history.specs.Objects.{Object};
+ghost use Rattle.report_check.specs.declared.fault.CheckFault.TheVariants.{NoMemory as OutOfMemory};
 ghost use Rattle.report_check.specs.Fault.{IsFault, MeetsChecked};
 ghost use Rattle.report_check.specs.Known.{AreSettledItems};
 
@@ -19,7 +20,8 @@ use cycle_history::Report;
 use std::alloc::Global;
 use trace_reader::Trace;
 
-/// Tries the nine rules of a sound report: the first that the report breaks, with the first of its lines that breaks it.
+/// Tries the nine rules of a sound report: the first that the report breaks, with the first of its lines that breaks it. A sound
+/// report is refused for want of memory alone.
 ///
 /// It replays the journal over the pages, and takes time in the objects, the lines, the marks and the chunks, and in the
 /// pages of the region for each mark end; the profile's samples and lines cost a logarithm more.
@@ -27,9 +29,9 @@ pub fn check(alloc: Global, trace: &Trace, report: &Report) -> Result<(), CheckF
     requires limited { IsLimited trace.now }
     ensures met { OnOk result (MeetsChecked trace.now report.now) }
     ensures broken { IfErr result (IsFault trace.now report.now) }
+    ensures sound { MeetsChecked trace.now report.now → IfErr result (λ fault. fault ≡ OutOfMemory) }
 {
-    let items = settled(alloc, trace, report)?;
-    judge_settled(alloc, trace, report, &items)
+    judge_rules(alloc, trace, report)
 }
 
 /// Tries the rules 1 to 4 alone, on answers, the journal, misses and places.
@@ -40,6 +42,16 @@ pub fn check_first_rules(alloc: Global, trace: &Trace, report: &Report) -> Resul
 {
     settled(alloc, trace, report)?;
     Ok(())
+}
+
+// The nine rules.
+fn judge_rules(alloc: Global, trace: &Trace, report: &Report) -> Result<(), CheckFault>
+    requires limited { IsLimited trace.now }
+    ensures met { OnOk result (MeetsChecked trace.now report.now) }
+    ensures broken { IfErr result (IsFault trace.now report.now) }
+{
+    let items = settled(alloc, trace, report)?;
+    judge_settled(alloc, trace, report, &items)
 }
 
 // The objects of the report in their seats, where it meets the rules 1 to 4.

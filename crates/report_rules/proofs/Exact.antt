@@ -1,12 +1,12 @@
 -- A line that breaks a rule shows that the rule isn't met.
-use Rattle.std.proofs.Common.{◌≡◌, ◌≢◌, ℕ, ◌+◌, ◌-◌, ◌≤◌, List, [], ◌∷◌, ◌++◌, map, reverse, take, drop, Some, sym, ◌∙◌, ap, subst, ◌⊎◌, arith, inl, inr}
+use Rattle.std.proofs.Common.{◌≡◌, ◌≢◌, ℕ, ◌+◌, ◌-◌, ◌≤◌, List, ◌++◌, map, reverse, take, drop, Some, sym, ◌∙◌, ap, subst, arith, inl, inr}
 use Rattle.std.specs.List.{slice_get}
 use Rattle.std.proofs.lemmas.Bool.{cases_lt}
 use Rattle.std.proofs.lemmas.List.{reverse-reverse, reverse-append, take-append-drop}
 use Rattle.page_bitmap.specs.declared.line.Line.{Line}
 use Rattle.page_bitmap.specs.declared.line.Line.TheVariants.{Miss}
 use Rattle.page_alloc.specs.Lists.{IsNumber}
-use Rattle.page_alloc.specs.Journal.{IsBy, Legal, cycle_of, past_of}
+use Rattle.page_alloc.specs.Journal.{IsBy, Legal, past_of}
 use Rattle.trace_reader.specs.declared.trace.Trace.{Trace}
 use Rattle.cycle_history.specs.declared.Answer.{Answer}
 use Rattle.cycle_history.specs.declared.Answer.TheVariants.{Zero, Missed}

@@ -1,8 +1,7 @@
 -- The rules 4 to 6, whichever objects show them: lists of objects that answer one trace alike have the same seats.
-use Rattle.std.proofs.Common.{◌≡◌, ◌≢◌, ℕ, suc, ◌+◌, ◌*◌, ◌<◌, ◌≤◌, Bool, true, false, ◌&&◌, ◌||◌, eqb, List, refl, sym, ◌∙◌, ap, subst, ◌⊎◌, arith, inl, inr}
+use Rattle.std.proofs.Common.{◌≡◌, ◌≢◌, ℕ, suc, ◌+◌, ◌*◌, ◌<◌, ◌≤◌, Bool, true, false, ◌&&◌, ◌||◌, eqb, List, refl, sym, ◌∙◌, ap, subst, arith, inl, inr}
 use Rattle.std.proofs.lemmas.Bool.{cases_lt, cases_eq, cases_order}
 use Rattle.std.proofs.Math.Nat.{mul-le-mul_left}
-use Rattle.page_bitmap.specs.declared.line.Line.{Line}
 use Rattle.page_alloc.specs.Lists.{In}
 use Rattle.page_alloc.specs.Journal.{Life, at_end, open_lives}
 use Rattle.trace_reader.specs.declared.trace.Trace.{Trace}
@@ -11,11 +10,11 @@ use Rattle.cycle_history.specs.declared.Answer.TheVariants.{Placed, Zero}
 use Rattle.cycle_history.specs.declared.Report.{Report}
 use Rattle.cycle_history.specs.Needs.{Need, IsNeed}
 use Rattle.cycle_history.specs.Requests.{Marking, marked_by, requests_of}
-use Rattle.cycle_history.specs.Objects.{Holds, IsApart, IsHeld, IsSeated, Object, Sits, is_placed, live, start_of}
+use Rattle.cycle_history.specs.Objects.{IsApart, IsHeld, Object, Sits, is_placed, live, start_of}
 use Rattle.cycle_history.specs.Rules.{AreApart, AreFilled, AreSeated, IsSmall}
 use Rattle.cycle_history.specs.Sound.{past_in, HasAnswers}
 use Rattle.cycle_history.proofs.OfObjects.{request-of}
-use Rattle.report_rules.specs.Placing.{BreaksApart, BreaksFilling, BreaksPlaces, seat_at}
+use Rattle.report_rules.specs.Placing.{BreaksApart, BreaksFilling, BreaksPlaces}
 use Rattle.report_rules.proofs.Twins.{IsTwin, twin-of}
 
 placed-not_zero : (a : Answer) → is_placed a ≡ true → a ≢ Zero

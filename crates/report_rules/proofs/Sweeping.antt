@@ -1,5 +1,5 @@
 -- Rule 7, whichever objects show it: a line that breaks it shows that the rule isn't met.
-use Rattle.std.proofs.Common.{◌≡◌, ◌≢◌, ℕ, zero, suc, ◌+◌, ◌-◌, ◌<◌, ◌≤◌, Bool, true, false, ◌&&◌, ◌||◌, not, eqb, leb, List, [], ◌∷◌, ◌++◌, length, map, reverse, take, drop, Some, None, refl, sym, ◌∙◌, ap, subst, ◌⊎◌, arith, inl, inr}
+use Rattle.std.proofs.Common.{◌≡◌, ℕ, zero, suc, ◌+◌, ◌-◌, ◌<◌, ◌≤◌, Bool, true, false, ◌&&◌, not, eqb, List, [], ◌∷◌, ◌++◌, length, map, reverse, take, Some, None, refl, sym, ◌∙◌, ap, arith, inl, inr}
 use Rattle.std.specs.List.{slice_get}
 use Rattle.std.proofs.lemmas.Bool.{cases_Bool, cases_lt, le-leb, lt-leb, and_right}
 use Rattle.std.proofs.lemmas.List.{append_assoc, reverse-append}
@@ -10,15 +10,13 @@ use Rattle.page_alloc.specs.Journal.{Life, IsBy, Legal, at_end, cycle_of, open_l
 use Rattle.page_alloc.proofs.Lives.{from_others}
 use Rattle.span_state.specs.declared.sweep.SweepNote.{SweepNote}
 use Rattle.trace_reader.specs.declared.trace.Trace.{Trace}
-use Rattle.cycle_history.specs.declared.Answer.{Answer}
-use Rattle.cycle_history.specs.declared.Answer.TheVariants.{Zero}
 use Rattle.cycle_history.specs.declared.Report.{Report}
 use Rattle.cycle_history.specs.Requests.{Marking, Request, last_cycle, marked_by, region_of, requests_of}
 use Rattle.cycle_history.specs.Objects.{Object, freed, is_placed, kept, live}
 use Rattle.cycle_history.specs.Orders.{IsSweepBefore}
 use Rattle.cycle_history.specs.Rules.{AreAnswered, AreSeated, IsObject}
 use Rattle.cycle_history.specs.Sound.{past_in, HasAnswers, HasJournal}
-use Rattle.cycle_history.specs.Sweeps.{AreSwept, GivesWhenEmpty, IsNote, IsOpenAfter, IsUsedAgain}
+use Rattle.cycle_history.specs.Sweeps.{AreSwept, GivesWhenEmpty, IsOpenAfter}
 use Rattle.report_rules.specs.Closing.{BreaksSweeps, IsRightSweep, IsWrongGive}
 use Rattle.report_rules.proofs.Counts.{apart-at, get-in, live-same}
 use Rattle.report_rules.proofs.Seats.{twin-seat}

@@ -1,8 +1,9 @@
 -- What the rows' helpers tell of a worker.
-use Rattle.std.specs.Prelude.{◌≡◌, ℕ, ◌<◌, Bool, true, false, None, List, [], ◌∷◌, ◌++◌, length}
+use Rattle.std.specs.Prelude.{◌≡◌, ℕ, ◌<◌, Bool, true, false, None, List, [], ◌++◌, length}
 use Rattle.atomic_table.specs.Seated.{TableId}
 use Rattle.sweep_laws.specs.Lists.{has}
 use Rattle.sweep_laws.specs.Needs.{is_swept_set}
+use Rattle.span_state.specs.MarkSet.{has_pair}
 use Rattle.span_state.specs.declared.body.Body.{Body}
 use Rattle.sweep_laws.specs.Owned.{EachAt}
 use Rattle.span_laws.specs.Asks.{HasBody, IsFullBody, IsIdle, IsUsed}
@@ -35,12 +36,11 @@ LeavesClaim old new (Taken body) = Unit {0}
 LeavesClaim old new (Empty head tail) = new.view.own.claimed ≡ old.view.own.claimed
 LeavesClaim old new (NotYet head) = new.view.own.claimed ≡ old.view.own.claimed
 
--- The driver of this table, with the state and in a region of one chunk, where no worker has anything of a span.
+-- The driver of this table, with the state, where no worker has anything of a span.
 pub record IsFreeDriver (t : TableId) (w : Seen) : Type 0 where
   pub here : w.here ≡ true
   pub table : w.table ≡ t
   pub number : w.number ≡ 69
-  pub region : w.view.region ≡ 512
   pub many : length w.view.parts ≡ 70
   pub idle : EachAt (parts_of w.number w.view) (λ m h. IsIdle h)
   pub uncached : EachAt (parts_of w.number w.view) (λ m h. h.cached ≡ [])
@@ -48,6 +48,14 @@ pub record IsFreeDriver (t : TableId) (w : Seen) : Type 0 where
 -- It placed the first object of the span of this page.
 abbrev pub HasPlaced : ℕ → Seen → Type 0
 HasPlaced page w = 0 < many (is_placing_at page 0) w.view.own.log
+
+-- It placed an object at each of these pairs of a first page and an index.
+abbrev pub ArePlaced : List (ℕ × ℕ) → Seen → Type 0
+ArePlaced pairs w = (p k : ℕ) → has_pair pairs p k ≡ true → 0 < many (is_placing_at p k) w.view.own.log
+
+-- What the log of one worker told of objects that were placed, that of another tells.
+abbrev pub KeepsPlaced : Seen → Seen → Type 0
+KeepsPlaced old new = (p k : ℕ) → 0 < many (is_placing_at p k) old.view.own.log → 0 < many (is_placing_at p k) new.view.own.log
 
 -- A worker whose log has these entries more.
 abbrev pub with_log : List Entry → Seen → Seen
@@ -64,8 +72,8 @@ abbrev pub SeesEmpty : Seen → Seen → Bool → Type 0
 SeesEmpty old new false = Unit {0}
 SeesEmpty old new true = SeesBelow 544 old new
 
--- The driver behind a mark end of generation 4 that marked the first object of the page.
-pub record HasTurned (t : TableId) (page : ℕ) (w : Seen) : Type 0 where
+-- The driver behind a mark end of generation 4 that marked these pairs.
+pub record HasTurned (t : TableId) (pairs : List (ℕ × ℕ)) (w : Seen) : Type 0 where
   pub free : IsFreeDriver t w
   pub generation : w.view.generation ≡ 6
-  pub marks : w.view.marks ≡ (page, 0) ∷ []
+  pub marks : w.view.marks ≡ pairs

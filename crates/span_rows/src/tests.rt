@@ -1,4 +1,5 @@
-use crate::helpers::{LARGE, claim_large, large, pop, start};
+use crate::helpers::{claim_large, large, pop, start};
+use crate::turns::LARGE;
 use crate::{calls, turns};
 use span_set::{Pop, SetId, fill};
 use span_table::{Acquired, Uncached};

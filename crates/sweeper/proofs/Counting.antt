@@ -9,7 +9,7 @@ use Rattle.worker_log.proofs.Logs.{many-append}
 use Rattle.span_laws.specs.Logs.{is_taking}
 use Rattle.span_laws.specs.Calls.{is_missing, is_placing, number_added, pages_swept}
 use Rattle.sweep_laws.specs.Counts.{total}
-use Rattle.sweeper.specs.Entries.{is_added, is_emptying_of, is_giving_of, is_keeping_of, is_push_at, is_read}
+use Rattle.sweeper.specs.Entries.{is_added, is_emptying_of, is_giving_of, is_keeping_of, is_look_of, is_push_at, is_read}
 use Rattle.sweeper.specs.Work.{IsPlain, OnlySweeps, TakesNone, note_by, notes_of}
 use Rattle.sweeper.specs.Steps.{SweepsNone}
 
@@ -62,6 +62,7 @@ sweeps-append g xs ys a b = record {
   given = λ p. let c = many-append (is_giving_of p) xs ys in let d = many-append (is_emptying_of p) xs ys in let e = a.given p in let f = b.given p in omega arith;
   pushed = λ p. let c = many-append (is_push_at p) xs ys in let d = many-append (is_keeping_of p) xs ys in let e = a.pushed p in let f = b.pushed p in omega arith;
   unpopped = λ j p s. none-both (is_pop_of j p) xs ys (a.unpopped j p s) (b.unpopped j p s);
+  unlooked = λ j s. none-both (is_look_of j) xs ys (a.unlooked j s) (b.unlooked j s);
   untouched = λ p. none-both (is_placing_in p) xs ys (a.untouched p) (b.untouched p);
 }
 
@@ -76,7 +77,7 @@ none-append xs ys a b = record { none = sweepings-append xs ys ∙ ap (λ (l : L
 
 -- nothing
 pub nothing-sweeps : (g : ℕ) → OnlySweeps g []
-nothing-sweeps g = record { unplaced = refl; unspent = refl; swept_pages = refl; given = λ p. refl; pushed = λ p. refl; unpopped = λ j p s. refl; untouched = λ p. refl }
+nothing-sweeps g = record { unplaced = refl; unspent = refl; swept_pages = refl; given = λ p. refl; pushed = λ p. refl; unpopped = λ j p s. refl; unlooked = λ j s. refl; untouched = λ p. refl }
 
 pub nothing-none : SweepsNone []
 nothing-none = record { none = refl; plain = record { takes_none = record { untaken = refl; unmissed = refl }; unclaimed = refl; unread = λ i. refl } }

@@ -68,7 +68,7 @@ module _ (old : Hand) (none : old.worker.view.own.popped ≡ []) (page : ℕ) wh
         works-step (CoversPages old.worker.view.marks page (page + 1) 0) [] (Found page word ∷ []) old (record mid { worker = new })
         (record {
           log = ap (λ (x : Seen). x.view.own.log) a;
-          sweeps = record { unplaced = refl; unspent = refl; swept_pages = refl; given = λ p. refl; pushed = λ p. refl; unpopped = λ j p s. refl; untouched = λ p. refl };
+          sweeps = record { unplaced = refl; unspent = refl; swept_pages = refl; given = λ p. refl; pushed = λ p. refl; unpopped = λ j p s. refl; unlooked = λ j s. refl; untouched = λ p. refl };
           held = ap (λ (x : Seen). x.view.own.held) a ∙ sym (append-nil old.worker.view.own.held);
           stays = subst (Stays old.worker) (sym a) (record { here = refl; table = refl; number = refl; region = refl; goal = refl; generation = refl; marks = refl; before = refl; carried = refl; parts = refl; sweeping = refl; cached = refl; claimed = refl; fresh = refl; reset = refl; bodies = λ q h. refl });
         })
@@ -171,7 +171,7 @@ module _ (old : Hand) (region asked : ℕ) (size : region ≡ old.worker.view.re
       claim_works = works-step (λ said. said ≡ Added 4 1 ∷ Read 4 i ∷ []) [] (Added 4 1 ∷ Read 4 i ∷ []) now (record now { worker = new })
           (record {
             log = ap (λ (x : Seen). x.view.own.log) e;
-            sweeps = record { unplaced = refl; unspent = refl; swept_pages = refl; given = λ p. refl; pushed = λ p. refl; unpopped = λ j p s. refl; untouched = λ p. refl };
+            sweeps = record { unplaced = refl; unspent = refl; swept_pages = refl; given = λ p. refl; pushed = λ p. refl; unpopped = λ j p s. refl; unlooked = λ j s. refl; untouched = λ p. refl };
             held = ap (λ (x : Seen). x.view.own.held) e ∙ sym (append-nil now.worker.view.own.held);
             stays = subst (Stays now.worker) (sym e) (record { here = refl; table = refl; number = refl; region = refl; goal = refl; generation = refl; marks = refl; before = refl; carried = refl; parts = refl; sweeping = refl; cached = refl; claimed = refl; fresh = refl; reset = refl; bodies = λ q h. refl });
           })

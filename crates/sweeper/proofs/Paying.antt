@@ -29,7 +29,7 @@ pub read_works : (word value : ℕ) (a : Hand) (new : Seen) → eqb word 4 ≡ f
 read_works word value a new other e none = works-step (λ said. IsPlain said × (0 < many (is_read word value) said)) [] (Read word value ∷ []) a (record a { worker = new })
     (record {
       log = ap (λ (x : Seen). x.view.own.log) e;
-      sweeps = record { unplaced = refl; unspent = refl; swept_pages = refl; given = λ p. refl; pushed = λ p. refl; unpopped = λ j p s. refl; untouched = λ p. refl };
+      sweeps = record { unplaced = refl; unspent = refl; swept_pages = refl; given = λ p. refl; pushed = λ p. refl; unpopped = λ j p s. refl; unlooked = λ j s. refl; untouched = λ p. refl };
       held = ap (λ (x : Seen). x.view.own.held) e ∙ sym (append-nil a.worker.view.own.held);
       stays = subst (Stays a.worker) (sym e) (record { here = refl; table = refl; number = refl; region = refl; goal = refl; generation = refl; marks = refl; before = refl; carried = refl; parts = refl; sweeping = refl; cached = refl; claimed = refl; fresh = refl; reset = refl; bodies = λ q h. refl });
     })

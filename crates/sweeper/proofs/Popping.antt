@@ -46,19 +46,28 @@ module _ (set : ℕ) where
   look_is (Added w x) a = absurd a
 
   -- looks and a read of the generation
-  one_quiet : (h t : ℕ) (g : ℕ) → OnlySweeps g (Looked set h t ∷ [])
-  one_quiet h t g = record { unplaced = refl; unspent = refl; swept_pages = refl; given = λ p. refl; pushed = λ p. refl; unpopped = λ j p s. refl; untouched = λ p. refl }
+  one_quiet : (h t : ℕ) (g : ℕ) → is_swept_set g set ≡ false → OnlySweeps g (Looked set h t ∷ [])
+  one_quiet h t g off = record {
+    unplaced = refl;
+    unspent = refl;
+    swept_pages = refl;
+    given = λ p. refl;
+    pushed = λ p. refl;
+    unpopped = λ j p s. refl;
+    unlooked = λ j s. rw (ne_eqb set j (λ z. true≢false (sym s ∙ ap (λ (x : ℕ). is_swept_set g x) (sym z) ∙ off))) refl;
+    untouched = λ p. refl;
+  }
 
   one_none : (h t : ℕ) → SweepsNone (Looked set h t ∷ [])
   one_none h t = record { none = refl; plain = record { takes_none = record { untaken = refl; unmissed = refl }; unclaimed = refl; unread = λ i. refl } }
 
   read_quiet : (v g : ℕ) → OnlySweeps g (Read 1 v ∷ [])
-  read_quiet v g = record { unplaced = refl; unspent = refl; swept_pages = refl; given = λ p. refl; pushed = λ p. refl; unpopped = λ j p s. refl; untouched = λ p. refl }
+  read_quiet v g = record { unplaced = refl; unspent = refl; swept_pages = refl; given = λ p. refl; pushed = λ p. refl; unpopped = λ j p s. refl; unlooked = λ j s. refl; untouched = λ p. refl }
 
-  looks_sweeps : (v g : ℕ) (said : List Entry) → AllByRecursion (IsLookAt set) said → OnlySweeps g (said ++ Read 1 v ∷ [])
-  looks_sweeps v g [] a = read_quiet v g
-  looks_sweeps v g (e ∷ said) a = let x = look_is e a.0 in
-      sweeps-append g (e ∷ []) (said ++ Read 1 v ∷ []) (subst (λ (y : Entry). OnlySweeps g (y ∷ [])) (sym x.2) (one_quiet x.0 x.1 g)) (looks_sweeps v g said a.1)
+  looks_sweeps : (v g : ℕ) → is_swept_set g set ≡ false → (said : List Entry) → AllByRecursion (IsLookAt set) said → OnlySweeps g (said ++ Read 1 v ∷ [])
+  looks_sweeps v g off [] a = read_quiet v g
+  looks_sweeps v g off (e ∷ said) a = let x = look_is e a.0 in
+      sweeps-append g (e ∷ []) (said ++ Read 1 v ∷ []) (subst (λ (y : Entry). OnlySweeps g (y ∷ [])) (sym x.2) (one_quiet x.0 x.1 g off)) (looks_sweeps v g off said a.1)
 
   looks_none : (v : ℕ) (said : List Entry) → AllByRecursion (IsLookAt set) said → SweepsNone (said ++ Read 1 v ∷ [])
   looks_none v [] a = record { none = refl; plain = record { takes_none = record { untaken = refl; unmissed = refl }; unclaimed = refl; unread = λ i. refl } }
@@ -78,10 +87,10 @@ module _ (set : ℕ) where
     looks_log : now.view.own.log ≡ looks_said ++ w.view.own.log
     looks_log = ap (λ (x : Seen). x.view.own.log) l.view ∙ ap (λ (y : List Entry). Looked set head tail ∷ y) (sym (append_assoc l.said (Read 1 w.view.generation ∷ []) w.view.own.log))
 
-    pub looks_does : Does [] looks_said w now
-    looks_does = record {
+    pub looks_does : is_swept_set w.view.generation set ≡ false → Does [] looks_said w now
+    looks_does off = record {
       log = looks_log;
-      sweeps = sweeps-append w.view.generation (Looked set head tail ∷ []) (l.said ++ Read 1 w.view.generation ∷ []) (one_quiet head tail w.view.generation) (looks_sweeps w.view.generation w.view.generation l.said l.looks);
+      sweeps = sweeps-append w.view.generation (Looked set head tail ∷ []) (l.said ++ Read 1 w.view.generation ∷ []) (one_quiet head tail w.view.generation off) (looks_sweeps w.view.generation w.view.generation off l.said l.looks);
       held = ap (λ (x : Seen). x.view.own.held) l.view ∙ sym (append-nil w.view.own.held);
       stays = subst (Stays w) (sym l.view) (record { here = refl; table = refl; number = refl; region = refl; goal = refl; generation = refl; marks = refl; before = refl; carried = refl; parts = refl; sweeping = refl; cached = refl; claimed = refl; fresh = refl; reset = refl; bodies = λ q h. refl });
     }
@@ -106,7 +115,8 @@ module _ (set : ℕ) where
           swept_pages = refl;
           given = λ p. refl;
           pushed = λ p. refl;
-          unpopped = λ j p s. rw (ne_eqb set j (λ z. true≢false (sym s ∙ ap (λ (x : ℕ). is_swept_set now.view.generation x) (sym z) ∙ ap (λ (g : ℕ). is_swept_set g set) looks_does.stays.generation ∙ unswept))) refl;
+          unpopped = λ j p s. rw (ne_eqb set j (λ z. true≢false (sym s ∙ ap (λ (x : ℕ). is_swept_set now.view.generation x) (sym z) ∙ ap (λ (g : ℕ). is_swept_set g set) (looks_does unswept).stays.generation ∙ unswept))) refl;
+          unlooked = λ j s. refl;
           untouched = λ p. refl;
         };
         held = ap (λ (x : Seen). x.view.own.held) e ∙ sym (append-nil now.view.own.held);
@@ -114,7 +124,7 @@ module _ (set : ℕ) where
       }
 
       pub pop_does : Does [] pop_said w new
-      pop_does = does-both w now new [] [] looks_said (Popped set page ∷ []) looks_does pop_step
+      pop_does = does-both w now new [] [] looks_said (Popped set page ∷ []) (looks_does unswept) pop_step
 
       pub pop_none : SweepsNone pop_said
       pop_none = none-append (Popped set page ∷ []) looks_said (record { none = refl; plain = record { takes_none = record { untaken = refl; unmissed = refl }; unclaimed = refl; unread = λ i. refl } }) looks_are
@@ -149,7 +159,7 @@ module _ (set : ℕ) (h : Hand) (unswept : is_swept_set h.worker.view.generation
     record {
       said = looks_said set head tail h.worker new r.1;
       did = (looks_are set head tail h.worker new r.1, rw (eq-eqb set set refl, eq-eqb head tail r.0) (omega arith));
-      does = looks_does set head tail h.worker new r.1;
+      does = looks_does set head tail h.worker new r.1 unswept;
       notes = sym (append-nil h.notes.items) ∙ ap (λ (n : List SweepNote). h.notes.items ++ n) (sym (notes-none (cycle_at h.worker.view.generation) (looks_said set head tail h.worker new r.1) (looks_are set head tail h.worker new r.1).none));
       popped = looks_popped set head tail h.worker new r.1 ∙ none;
     },
@@ -176,7 +186,7 @@ module _ (set : ℕ) (h : Hand) (unswept : is_swept_set h.worker.view.generation
     tried_gone word new a =
         let step : Does [] (Found page word ∷ []) mid new = record {
           log = ap (λ (x : Seen). x.view.own.log) a.1;
-          sweeps = record { unplaced = refl; unspent = refl; swept_pages = refl; given = λ p. refl; pushed = λ p. refl; unpopped = λ j p s. refl; untouched = λ p. refl };
+          sweeps = record { unplaced = refl; unspent = refl; swept_pages = refl; given = λ p. refl; pushed = λ p. refl; unpopped = λ j p s. refl; unlooked = λ j s. refl; untouched = λ p. refl };
           held = ap (λ (x : Seen). x.view.own.held) a.1 ∙ sym (append-nil mid.view.own.held);
           stays = subst (Stays mid) (sym a.1) (record { here = refl; table = refl; number = refl; region = refl; goal = refl; generation = refl; marks = refl; before = refl; carried = refl; parts = refl; sweeping = refl; cached = refl; claimed = refl; fresh = refl; reset = refl; bodies = λ q h. refl });
         } in

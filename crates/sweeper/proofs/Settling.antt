@@ -80,6 +80,7 @@ given_sweeps h g before s e = record {
   given = λ q. rw (kept_none s e, and_true (eqb s.page q)) (omega arith);
   pushed = λ q. rw (kept_none s e, and_false (eqb s.page q)) (omega arith);
   unpopped = λ j q z. refl;
+  unlooked = λ j z. refl;
   untouched = λ q. refl;
 }
 
@@ -91,6 +92,7 @@ pushed_sweeps h g set before s l = record {
   given = λ q. rw (kept_some s l, and_false (eqb s.page q)) (omega arith);
   pushed = λ q. rw (kept_some s l, and_true (eqb s.page q)) (omega arith);
   unpopped = λ j q z. refl;
+  unlooked = λ j z. refl;
   untouched = λ q. refl;
 }
 

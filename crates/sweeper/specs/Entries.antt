@@ -1,12 +1,18 @@
 -- Tests of the entries of a log, besides those of worker_log and span_laws.
 use Rattle.std.specs.Prelude.{ℕ, ◌==◌, ◌&&◌, not, Bool, false}
 use Rattle.worker_log.specs.declared.Entry.{Entry}
-use Rattle.worker_log.specs.declared.Entry.TheVariants.{Pushed, Swept, Gave, Found, Read, Added}
+use Rattle.worker_log.specs.declared.Entry.TheVariants.{Looked, LookedEmptyCell, Pushed, Swept, Gave, Found, Read, Added}
 
 -- the pages that an entry gives back
 abbrev pub pages_given : Entry → ℕ
 pages_given (Gave page pages) = pages
 pages_given _ = 0
+
+-- the entry looks at the set: at its head and tail, or at a cell that isn't filled
+abbrev pub is_look_of : ℕ → Entry → Bool
+is_look_of set (Looked s head tail) = s == set
+is_look_of set (LookedEmptyCell s index) = s == set
+is_look_of set _ = false
 
 -- the entry adds to the word
 abbrev pub is_added : ℕ → Entry → Bool

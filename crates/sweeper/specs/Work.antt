@@ -12,7 +12,7 @@ use Rattle.span_laws.specs.Views.{Seen, span_at}
 use Rattle.span_set.specs.declared.hand.Hand.{Hand}
 use Rattle.span_laws.specs.Calls.{is_missing, is_placing, number_added, pages_swept}
 use Rattle.sweep_laws.specs.Counts.{total}
-use Rattle.sweeper.specs.Entries.{is_added, is_emptying_of, is_giving_of, is_keeping_of, is_push_at, is_read}
+use Rattle.sweeper.specs.Entries.{is_added, is_emptying_of, is_giving_of, is_keeping_of, is_look_of, is_push_at, is_read}
 
 -- the note of a sweep in a cycle
 abbrev pub note_by : ℕ → Sweeping → SweepNote
@@ -22,8 +22,12 @@ note_by cycle s = record { cycle = cycle; page = s.page; kept = s.kept; freed = 
 abbrev pub notes_of : ℕ → List Entry → List SweepNote
 notes_of cycle said = map (note_by cycle) (reverse (sweepings said))
 
+-- No swept set is looked at.
+abbrev pub LooksAtNone : ℕ → List Entry → Type 0
+LooksAtNone g said = (j : ℕ) → is_swept_set g j ≡ true → many (is_look_of j) said ≡ 0
+
 -- Nothing is placed and no bytes are spent; the numbers that are added to the swept pages sum to the pages of the spans that are swept; a
--- span is given back for each sweep that keeps nothing of it, and pushed for each that keeps some; and no swept set is popped.
+-- span is given back for each sweep that keeps nothing of it, and pushed for each that keeps some; and no swept set is popped or looked at.
 pub record OnlySweeps (g : ℕ) (said : List Entry) : Type 0 where
   pub unplaced : many is_placing said ≡ 0
   pub unspent : many (is_added 3) said ≡ 0
@@ -31,6 +35,7 @@ pub record OnlySweeps (g : ℕ) (said : List Entry) : Type 0 where
   pub given : (p : ℕ) → many (is_giving_of p) said ≡ many (is_emptying_of p) said
   pub pushed : (p : ℕ) → many (is_push_at p) said ≡ many (is_keeping_of p) said
   pub unpopped : (j p : ℕ) → is_swept_set g j ≡ true → many (is_pop_of j p) said ≡ 0
+  pub unlooked : LooksAtNone g said
   pub untouched : (p : ℕ) → many (is_placing_in p) said ≡ 0
 
 -- What a worker has stays: all that others agree on, what it has cached, sweeps and claims, and the bodies of the spans that it had.

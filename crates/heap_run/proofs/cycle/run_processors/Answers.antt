@@ -29,9 +29,17 @@ pub run_processor-requires-clause-sizes : goal.run_processor-requires-clause-siz
 run_processor-requires-clause-sizes g c κs low =
     let i = c.loop-p.invariant in
     let queued : c.loop-p.p < length c.args.queues.now.events.items = (let l = i.long in let n = c.requires.count in omega (arith, c.args.queues.now.events.ok.0, c.args.procs.now.ok.0, c.loop-p.procs.ok.0)) in
-    let events : c.as_slice-events.result.now ≡ get_or c.args.queues.now.events.items c.loop-p.p [] = c.as_slice-events.ensures ∙ c.index-as_slice-p.ensures ∙ get_or_default c.args.queues.now.events.items c.loop-p.p _ [] queued in
+    let events : c.as_slice-events.result.now ≡ get_or c.args.queues.now.events.items c.loop-p.p [] = c.as_slice-events.ensures ∙ c.index.ensures ∙ get_or_default c.args.queues.now.events.items c.loop-p.p _ [] queued in
     let all : All (λ e. e.size ≤ 2 ^ 40) (get_or c.args.queues.now.events.items c.loop-p.p []) = c.requires.sizes c.loop-p.p in
     rw events all
+
+pub run_processor-requires-clause-number : goal.run_processor-requires-clause-number
+run_processor-requires-clause-number g c κs low =
+    let i = c.loop-p.invariant in
+    let inside : c.loop-p.p < length c.loop-p.procs.items = (let l = i.long in let t = c.loop-p-test.true in omega (arith, c.loop-p.procs.ok.0)) in
+    let is : c.index_mut-proc.result.now ≡ get_or c.loop-p.procs.items c.loop-p.p no_cache = c.index_mut-proc.ensures.value ∙ get_or_default c.loop-p.procs.items c.loop-p.p _ no_cache inside in
+    let number = proc-number c.args.driver.now.worker c.loop-p.procs.items c.loop-p.driver c.index_mut-proc.result.now c.loop-p.p i.driving inside is in
+    (let f = c.requires.few in let l = i.long in omega (arith, c.loop-p.procs.ok.0))
 
 pub run_processor-requires-clause-counts : goal.run_processor-requires-clause-counts
 run_processor-requires-clause-counts g c κs low = counts-may c.args.shop.now.ring.now c.args.shop.now.marks.now _ c.args.driver.now c.loop-p.driver c.requires.counts c.loop-p.invariant.counts
@@ -43,16 +51,16 @@ pub run_processor-requires-clause-buckets : goal.run_processor-requires-clause-b
 run_processor-requires-clause-buckets g c κs low =
     let i = c.loop-p.invariant in
     let queued : c.loop-p.p < length c.args.queues.now.events.items = (let l = i.long in let n = c.requires.count in omega (arith, c.args.queues.now.events.ok.0, c.args.procs.now.ok.0, c.loop-p.procs.ok.0)) in
-    let events : c.as_slice-events.result.now ≡ get_or c.args.queues.now.events.items c.loop-p.p [] = c.as_slice-events.ensures ∙ c.index-as_slice-p.ensures ∙ get_or_default c.args.queues.now.events.items c.loop-p.p _ [] queued in
+    let events : c.as_slice-events.result.now ≡ get_or c.args.queues.now.events.items c.loop-p.p [] = c.as_slice-events.ensures ∙ c.index.ensures ∙ get_or_default c.args.queues.now.events.items c.loop-p.p _ [] queued in
     let numbered : c.loop-p.p < length c.args.queues.now.buckets.items = (let l = i.long in let n = c.requires.buckets in omega (arith, c.args.queues.now.buckets.ok.0, c.args.procs.now.ok.0, c.loop-p.procs.ok.0)) in
-    let numbers : c.as_slice-buckets.result.now ≡ get_or c.args.queues.now.buckets.items c.loop-p.p [] = c.as_slice-buckets.ensures ∙ c.index-as_slice-p-2.ensures ∙ get_or_default c.args.queues.now.buckets.items c.loop-p.p _ [] numbered in
+    let numbers : c.as_slice-buckets.result.now ≡ get_or c.args.queues.now.buckets.items c.loop-p.p [] = c.as_slice-buckets.ensures ∙ c.index-in-loop-p.ensures ∙ get_or_default c.args.queues.now.buckets.items c.loop-p.p _ [] numbered in
     ap (λ (l : List ℕ). length l) numbers ∙ c.requires.numbered.sizes c.loop-p.p ∙ ap (λ (l : List Event). length l) (sym events)
 
 pub run_processor-requires-clause-known : goal.run_processor-requires-clause-known
 run_processor-requires-clause-known g c κs low =
     let i = c.loop-p.invariant in
     let numbered : c.loop-p.p < length c.args.queues.now.buckets.items = (let l = i.long in let n = c.requires.buckets in omega (arith, c.args.queues.now.buckets.ok.0, c.args.procs.now.ok.0, c.loop-p.procs.ok.0)) in
-    let numbers : c.as_slice-buckets.result.now ≡ get_or c.args.queues.now.buckets.items c.loop-p.p [] = c.as_slice-buckets.ensures ∙ c.index-as_slice-p-2.ensures ∙ get_or_default c.args.queues.now.buckets.items c.loop-p.p _ [] numbered in
+    let numbers : c.as_slice-buckets.result.now ≡ get_or c.args.queues.now.buckets.items c.loop-p.p [] = c.as_slice-buckets.ensures ∙ c.index-in-loop-p.ensures ∙ get_or_default c.args.queues.now.buckets.items c.loop-p.p _ [] numbered in
     rw numbers (c.requires.numbered.below c.loop-p.p)
 
 pub loop-p-preserved : goal.loop-p-preserved
@@ -62,9 +70,9 @@ loop-p-preserved g c =
     let is : c.index_mut-proc.result.now ≡ get_or c.loop-p.procs.items c.loop-p.p no_cache = c.index_mut-proc.ensures.value ∙ get_or_default c.loop-p.procs.items c.loop-p.p _ no_cache inside in
     let number = proc-number c.args.driver.now.worker c.loop-p.procs.items c.loop-p.driver c.index_mut-proc.result.now c.loop-p.p i.driving inside is in
     let queued : c.loop-p.p < length c.args.queues.now.events.items = (let l = i.long in let n = c.requires.count in omega (arith, c.args.queues.now.events.ok.0, c.args.procs.now.ok.0, c.loop-p.procs.ok.0)) in
-    let events : c.as_slice-events.result.now ≡ get_or c.args.queues.now.events.items c.loop-p.p [] = c.as_slice-events.ensures ∙ c.index-as_slice-p.ensures ∙ get_or_default c.args.queues.now.events.items c.loop-p.p _ [] queued in
+    let events : c.as_slice-events.result.now ≡ get_or c.args.queues.now.events.items c.loop-p.p [] = c.as_slice-events.ensures ∙ c.index.ensures ∙ get_or_default c.args.queues.now.events.items c.loop-p.p _ [] queued in
     let numbered : c.loop-p.p < length c.args.queues.now.buckets.items = (let l = i.long in let n = c.requires.buckets in omega (arith, c.args.queues.now.buckets.ok.0, c.args.procs.now.ok.0, c.loop-p.procs.ok.0)) in
-    let numbers : c.as_slice-buckets.result.now ≡ get_or c.args.queues.now.buckets.items c.loop-p.p [] = c.as_slice-buckets.ensures ∙ c.index-as_slice-p-2.ensures ∙ get_or_default c.args.queues.now.buckets.items c.loop-p.p _ [] numbered in
+    let numbers : c.as_slice-buckets.result.now ≡ get_or c.args.queues.now.buckets.items c.loop-p.p [] = c.as_slice-buckets.ensures ∙ c.index-in-loop-p.ensures ∙ get_or_default c.args.queues.now.buckets.items c.loop-p.p _ [] numbered in
     let turn = placed-turn _ c.args.driver.now.worker c.loop-p.procs.items c.loop-p.driver c.run_processor.new.driver c.index_mut-proc.result.now c.loop-p.p i.driving inside is c.in_ok-outcomes.ensures.turn in
     let caching = placed-caching c.args.driver.now.worker c.loop-p.procs.items c.loop-p.driver c.run_processor.new.driver c.index_mut-proc.result.now c.run_processor.new.proc c.loop-p.p i.driving inside is c.in_ok-outcomes.ensures.caching in
     let o = c.in_ok-outcomes.outcomes in

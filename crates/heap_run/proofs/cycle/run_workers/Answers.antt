@@ -59,10 +59,10 @@ returns-clause-ran g c =
     }
 
 pub run_sweepers-requires-clause-counts : goal.run_sweepers-requires-clause-counts
-run_sweepers-requires-clause-counts g c = counts-may c.args.shop.now.ring.now c.args.shop.now.marks.now _ c.args.driver.now c.run_processors.new.driver c.requires.counts c.in_ok-given.ensures.counts
+run_sweepers-requires-clause-counts g c κs low = counts-may c.args.shop.now.ring.now c.args.shop.now.marks.now _ c.args.driver.now c.run_processors.new.driver c.requires.counts c.in_ok-given.ensures.counts
 
 pub run_sweepers-requires-clause-drives : goal.run_sweepers-requires-clause-drives
-run_sweepers-requires-clause-drives g c = counts-drives c.args.shop.now.marks.now _ c.args.driver.now c.run_processors.new.driver c.in_ok-given.ensures.counts ∙ c.requires.drives
+run_sweepers-requires-clause-drives g c κs low = counts-drives c.args.shop.now.marks.now _ c.args.driver.now c.run_processors.new.driver c.in_ok-given.ensures.counts ∙ c.requires.drives
 
 pub run_scavenger-requires-clause-counts : goal.run_scavenger-requires-clause-counts
 run_scavenger-requires-clause-counts g c κs low =
@@ -94,3 +94,38 @@ returns-clause-counts g c =
     let two = counts-then c.args.shop.now.marks.now _ no_counts _ c.args.driver.now c.run_processors.new.driver c.run_sweepers.new.driver c.in_ok-given.ensures.counts c.in_ok-run_sweepers.ensures.counts (λ k. sym (add-zero _)) in
     let three = counts-then c.args.shop.now.marks.now _ no_counts _ c.args.driver.now c.run_sweepers.new.driver c.run_scavenger.new.driver two c.in_ok-run_scavenger.ensures.counts (λ k. sym (add-zero _)) in
     counts-then c.args.shop.now.marks.now _ no_counts _ c.args.driver.now c.run_scavenger.new.driver c.end_cycle.new.driver three c.in_ok-end_cycle.ensures.counts (λ k. sym (add-zero _))
+
+pub run_scavenger-requires-clause-here : goal.run_scavenger-requires-clause-here
+run_scavenger-requires-clause-here g c κs low =
+    let few : length c.run_processors.new.procs.items ≤ 64 = (let f = c.requires.few in let n = c.in_ok-given.ensures.procs in omega (arith, c.run_processors.new.procs.ok.0)) in
+    let first = c.in_ok-given.ensures.driving in
+    let swept = c.in_ok-run_sweepers.ensures.driving c.run_processors.new.procs.items few (driving-now c.args.driver.now.worker c.run_processors.new.procs.items c.run_processors.new.driver first) in
+    swept.same.here ∙ first.same.here ∙ c.requires.here
+
+pub run_scavenger-requires-clause-table : goal.run_scavenger-requires-clause-table
+run_scavenger-requires-clause-table g c κs low =
+    let few : length c.run_processors.new.procs.items ≤ 64 = (let f = c.requires.few in let n = c.in_ok-given.ensures.procs in omega (arith, c.run_processors.new.procs.ok.0)) in
+    let first = c.in_ok-given.ensures.driving in
+    let swept = c.in_ok-run_sweepers.ensures.driving c.run_processors.new.procs.items few (driving-now c.args.driver.now.worker c.run_processors.new.procs.items c.run_processors.new.driver first) in
+    swept.same.table ∙ first.same.table ∙ c.requires.table
+
+pub run_scavenger-requires-clause-driver : goal.run_scavenger-requires-clause-driver
+run_scavenger-requires-clause-driver g c κs low =
+    let few : length c.run_processors.new.procs.items ≤ 64 = (let f = c.requires.few in let n = c.in_ok-given.ensures.procs in omega (arith, c.run_processors.new.procs.ok.0)) in
+    let first = c.in_ok-given.ensures.driving in
+    let swept = c.in_ok-run_sweepers.ensures.driving c.run_processors.new.procs.items few (driving-now c.args.driver.now.worker c.run_processors.new.procs.items c.run_processors.new.driver first) in
+    swept.number
+
+pub run_scavenger-requires-clause-parts : goal.run_scavenger-requires-clause-parts
+run_scavenger-requires-clause-parts g c κs low =
+    let few : length c.run_processors.new.procs.items ≤ 64 = (let f = c.requires.few in let n = c.in_ok-given.ensures.procs in omega (arith, c.run_processors.new.procs.ok.0)) in
+    let first = c.in_ok-given.ensures.driving in
+    let swept = c.in_ok-run_sweepers.ensures.driving c.run_processors.new.procs.items few (driving-now c.args.driver.now.worker c.run_processors.new.procs.items c.run_processors.new.driver first) in
+    swept.same.parts ∙ first.same.parts ∙ c.requires.parts
+
+pub run_scavenger-requires-clause-idle : goal.run_scavenger-requires-clause-idle
+run_scavenger-requires-clause-idle g c κs low =
+    let few : length c.run_processors.new.procs.items ≤ 64 = (let f = c.requires.few in let n = c.in_ok-given.ensures.procs in omega (arith, c.run_processors.new.procs.ok.0)) in
+    let first = c.in_ok-given.ensures.driving in
+    let swept = c.in_ok-run_sweepers.ensures.driving c.run_processors.new.procs.items few (driving-now c.args.driver.now.worker c.run_processors.new.procs.items c.run_processors.new.driver first) in
+    swept.idle 68

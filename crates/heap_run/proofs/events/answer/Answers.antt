@@ -1,4 +1,4 @@
-use Rattle.std.proofs.Common.{◌≡◌, false, [], ◌∷◌, Err, refl, ap, sym, subst}
+use Rattle.std.proofs.Common.{◌≡◌, ℕ, ◌∙◌, false, [], ◌∷◌, Err, refl, ap, sym, subst}
 use Rattle.size_classes.specs.Classes.{span_class_of}
 use Rattle.span_laws.specs.declared.answers.Refused.{Refused}
 use Rattle.span_laws.specs.declared.answers.Refused.TheVariants.{NoRun}
@@ -8,7 +8,12 @@ use Rattle.proc_cache.specs.Allocs.{AllocatesIn}
 use Rattle.large_objects.specs.Larges.{AllocatesLarge}
 use Rattle.heap_run.specs.Turns.{SaysAnswers}
 use Rattle.heap_run.proofs.Answering.{caching-of, flushed-then, holds-acted, holds-caching, large-placed, large-refused, leaves-acted, small-placed, small-refused}
-use Rattle.span_set.proofs.Tallies.{frees-both}
+use Rattle.profile_cycle.specs.Naming.{slot_for}
+use Rattle.profile_cycle.specs.Sampling.{Countdown, behind, is_sample}
+use Rattle.proc_cache.specs.Cache.{Cache}
+use Rattle.sample_laws.proofs.Slots.{slot-large}
+use Rattle.span_set.proofs.Tallies.{frees-both, may-still}
+use Rattle.heap_run.proofs.Acted.{acted-alike, caching-counted}
 use Rattle.heap_run.proofs.Counting.{counted-one, large-counts, ones-counts, refused-counts}
 use Rattle.heap_run.proofs.events.answer.Goals as goal
 
@@ -39,15 +44,36 @@ returns-in-Ok-alloc_large-clause-acted c =
     let at = c.in-Ok-alloc_large.addr in
     let did = c.in-Ok-alloc_large.ensures.did.1 in
     let said = did.0 in
-    flushed-then _ c.args.proc.now c.flush.new.proc e (Placed at) c.args.hand.now c.flush.new.hand c.alloc_large.new.hand c.in_ok-flush-in-Large.ensures.flushes.1
-    (holds-acted (SaysAnswers (e ∷ []) (Placed at ∷ [])) said c.flush.new.hand c.alloc_large.new.hand did.1 (large-placed e c.in-Large.pages c.span_class.result at c.flush.new.hand.worker.view.generation said c.in-Large.ensures.0 c.in-Large.ensures.1 c.span_class.ensures did.3))
+    acted-alike (SaysAnswers (e ∷ []) (Placed at ∷ [])) c.args.hand.now c.alloc_large.new.hand c.count_placed-sampled.new.hand
+    (flushed-then _ c.args.proc.now c.flush.new.proc e (Placed at) c.args.hand.now c.flush.new.hand c.alloc_large.new.hand c.in_ok-flush-in-Large.ensures.flushes.1
+    (holds-acted (SaysAnswers (e ∷ []) (Placed at ∷ [])) said c.flush.new.hand c.alloc_large.new.hand did.1 (large-placed e c.in-Large.pages c.span_class.result at c.flush.new.hand.worker.view.generation said c.in-Large.ensures.0 c.in-Large.ensures.1 c.span_class.ensures did.3)))
+    c.count_placed-sampled.ensures.worker (ap (λ n. n.items) c.count_placed-sampled.ensures.notes)
 
 pub returns-in-Ok-alloc_large-clause-caching : goal.returns-in-Ok-alloc_large-clause-caching
 returns-in-Ok-alloc_large-clause-caching c =
     let did = c.in-Ok-alloc_large.ensures.did.1 in
     let g : c.flush.new.hand.worker.view.generation ≡ c.args.hand.now.worker.view.generation = ap (λ (v : View). v.generation) c.in_ok-flush-in-Large.ensures.flushes.1.leaves.view in
-    holds-caching c.args.hand.now.worker.view.generation did.0 c.flush.new.hand c.alloc_large.new.hand c.flush.new.proc (sym g) did.1
-    (caching-of c.args.hand.now.worker.view.generation c.flush.new.hand.worker.view.generation c.flush.new.hand.worker.view.own c.flush.new.proc g c.in_ok-flush-in-Large.ensures.serves (c.in_ok-flush-in-Large.ensures.used c.requires.caching.used))
+    let placed = holds-caching c.args.hand.now.worker.view.generation did.0 c.flush.new.hand c.alloc_large.new.hand c.flush.new.proc (sym g) did.1
+    (caching-of c.args.hand.now.worker.view.generation c.flush.new.hand.worker.view.generation c.flush.new.hand.worker.view.own c.flush.new.proc g c.in_ok-flush-in-Large.ensures.serves (c.in_ok-flush-in-Large.ensures.used c.requires.caching.used)) in
+    caching-counted c.args.hand.now.worker.view.generation c.alloc_large.new.hand c.count_placed-sampled.new.hand c.flush.new.proc c.count_placed-sampled.new.proc _ c.count_placed-sampled.ensures.worker c.count_placed-sampled.ensures.cache placed
+
+pub alloc_large-requires-clause-counts : goal.alloc_large-requires-clause-counts
+alloc_large-requires-clause-counts c = may-still c.args.shop.now.marks.now c.args.shop.now.ring.now c.args.hand.now c.flush.new.hand c.requires.counts c.in_ok-flush-in-Large.ensures.tally
+
+pub count_placed-sampled-requires-clause-ring : goal.count_placed-sampled-requires-clause-ring
+count_placed-sampled-requires-clause-ring c =
+    (may-still c.args.shop.now.marks.now c.args.shop.now.ring.now c.flush.new.hand c.alloc_large.new.hand
+    (may-still c.args.shop.now.marks.now c.args.shop.now.ring.now c.args.hand.now c.flush.new.hand c.requires.counts c.in_ok-flush-in-Large.ensures.tally) c.in-Ok-alloc_large.ensures.tally).ring
+
+pub returns-in-Ok-alloc_large-clause-sampled : goal.returns-in-Ok-alloc_large-clause-sampled
+returns-in-Ok-alloc_large-clause-sampled c =
+    let slot : c.large_slot.result ≡ slot_for c.args.event.now.size = c.large_slot.ensures ∙ slot-large c.args.event.now.size c.in-Large.pages c.in-Large.ensures.0 c.in-Large.ensures.1 in
+    c.count_placed-sampled.ensures.sampled ∙ ap (λ (x : Countdown). is_sample x c.large_slot.result) c.in_ok-flush-in-Large.ensures.countdown ∙ ap (λ (k : ℕ). is_sample c.args.proc.now.countdown k) slot
+
+pub returns-in-Ok-alloc_large-clause-spent : goal.returns-in-Ok-alloc_large-clause-spent
+returns-in-Ok-alloc_large-clause-spent c =
+    let slot : c.large_slot.result ≡ slot_for c.args.event.now.size = c.large_slot.ensures ∙ slot-large c.args.event.now.size c.in-Large.pages c.in-Large.ensures.0 c.in-Large.ensures.1 in
+    ap (λ (x : Cache). x.countdown) c.count_placed-sampled.ensures.cache ∙ ap (λ (x : Countdown). behind x c.large_slot.result) c.in_ok-flush-in-Large.ensures.countdown ∙ ap (λ (k : ℕ). behind c.args.proc.now.countdown k) slot
 
 pub returns-in-Err-NoRun-alloc_large-clause-acted : goal.returns-in-Err-NoRun-alloc_large-clause-acted
 returns-in-Err-NoRun-alloc_large-clause-acted c =

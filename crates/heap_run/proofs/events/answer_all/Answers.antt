@@ -17,8 +17,8 @@ loop-turn-init g c = record {
   caching = c.requires.caching;
   number = refl;
   size = ap (λ (l : List Bool). length l) c.new-2.ensures;
-  sampled = rw (c.new.ensures, c.new-2.ensures) refl;
-  spent_is = rw c.new.ensures refl;
+  sampled = rw c.new-2.ensures refl;
+  spent_is = refl;
   counts = rw c.new-2.ensures (counts-none c.args.shop.now.marks.now c.args.hand.now c.args.hand.now refl refl);
 }
 

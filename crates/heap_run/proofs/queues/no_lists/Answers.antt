@@ -3,7 +3,7 @@ use Rattle.heap_run.proofs.Queued.{none-more}
 use Rattle.heap_run.proofs.queues.no_lists.Goals as goal
 
 pub loop-proc-preserved : goal.loop-proc-preserved
-loop-proc-preserved c = record {
+loop-proc-preserved g c = record {
   long = (let a = c.in_ok-push.ensures.len in let b = c.loop-proc.invariant.long in omega arith);
   empty = λ w. none-more c.loop-proc.lists.items c.push.new.self.items c.new.result w c.new.ensures c.in_ok-push.ensures.items c.loop-proc.invariant.empty;
 }

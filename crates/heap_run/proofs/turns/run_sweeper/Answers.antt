@@ -7,7 +7,7 @@ use Rattle.heap_run.proofs.Acted.{HandsOut, acted-as, back-cached, handed, ok-ma
 use Rattle.heap_run.proofs.turns.run_sweeper.Goals as goal
 
 pub finish-requires-clause-counts : goal.finish-requires-clause-counts
-finish-requires-clause-counts g c κs low = out-may c.args.shop.now.ring.now c.args.shop.now.marks.now _ c.args.driver.now c.in_ok-hand.hand c.requires.counts c.in_ok-hand.ensures.hand
+finish-requires-clause-counts g c = out-may c.args.shop.now.ring.now c.args.shop.now.marks.now _ c.args.driver.now c.in_ok-hand.hand c.requires.counts c.in_ok-hand.ensures.hand
 
 pub bring_back-requires-clause-ring : goal.bring_back-requires-clause-ring
 bring_back-requires-clause-ring g c = ap (λ (s : Standing). s.ring) c.in_ok-hand.ensures.tally ∙ c.requires.counts.ring

@@ -1,4 +1,4 @@
-use Rattle.std.proofs.Common.{◌-◌, ◌<◌, ◌≤◌, length, refl, arith}
+use Rattle.std.proofs.Common.{◌≡◌, ℕ, ◌-◌, ◌<◌, ◌≤◌, length, refl, ap, arith}
 use Rattle.page_alloc.specs.Journal.{past_of}
 use Rattle.cycle_history.specs.Requests.{last_cycle}
 use Rattle.cycle_history.proofs.OfObjects.{objects-zeros}
@@ -40,11 +40,15 @@ totals_of-requires-clause-zeros c =
 
 pub returns-clause-sound : goal.returns-clause-sound
 returns-clause-sound c =
-    (report-sound c.args.trace.now c.args.self _ (past_of c.in_ok-journal_copy.field-0) c.requires.limits c.requires.ran c.in_ok-journal_copy.ensures.journal refl refl refl c.in_ok-totals_of.ensures.totals c.in_ok-read_last.ensures.lines).0
+    let last : c.len.result - 1 ≡ last_cycle c.args.trace.now = ap (λ (n : ℕ). n - 1) c.len.ensures in
+    let lines = rw last at c.in_ok-read_last.ensures.lines in
+    (report-sound c.args.trace.now c.args.self _ (past_of c.in_ok-journal_copy.field-0) c.requires.limits c.requires.ran c.in_ok-journal_copy.ensures.journal refl refl refl c.in_ok-totals_of.ensures.totals lines).0
 
 pub returns-clause-form : goal.returns-clause-form
 returns-clause-form c =
-    (report-sound c.args.trace.now c.args.self _ (past_of c.in_ok-journal_copy.field-0) c.requires.limits c.requires.ran c.in_ok-journal_copy.ensures.journal refl refl refl c.in_ok-totals_of.ensures.totals c.in_ok-read_last.ensures.lines).1
+    let last : c.len.result - 1 ≡ last_cycle c.args.trace.now = ap (λ (n : ℕ). n - 1) c.len.ensures in
+    let lines = rw last at c.in_ok-read_last.ensures.lines in
+    (report-sound c.args.trace.now c.args.self _ (past_of c.in_ok-journal_copy.field-0) c.requires.limits c.requires.ran c.in_ok-journal_copy.ensures.journal refl refl refl c.in_ok-totals_of.ensures.totals lines).1
 
 pub returns-clause-left : goal.returns-clause-left
 returns-clause-left c =
