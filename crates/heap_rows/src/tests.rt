@@ -118,12 +118,7 @@ fn report_of(alloc: Global, lines: &str, profile: &str) -> Result<Report, Fail> 
     }
 }
 
-fn run<R: Abort + AllocGlobal>(
-    rt: &R,
-    background: u32,
-    each: bool,
-    row: &Row,
-) -> Result<(), Fail>
+fn run<R: Abort + AllocGlobal>(rt: &R, background: u32, each: bool, row: &Row) -> Result<(), Fail>
     requires { background ≤ 4 }
 {
     let alloc = rt.alloc();

@@ -156,8 +156,7 @@ cycle-knows t cycle n which olds (e ∷ events) (f ∷ given) (o ∷ news) long 
     ap (λ (l : List Bool). get_or l (n + i) false) (ap (λ (l : List Bool). olds ++ l) turned ∙ sym (append_assoc olds (reverse given) (f ∷ [])))
     ∙ get_or_append_left (olds ++ reverse given) (f ∷ []) false (n + i) (let l = length-append olds (reverse given) in omega arith) in
     let older_event : (i : ℕ) (d : Event) → i < length events → get_or (reverse (e ∷ events)) i d ≡ get_or (reverse events) i d = λ i d lt.
-    ap (λ (l : List Event). get_or l i d) turned_events ∙ get_or_append_left (reverse events) (e ∷ []) d i (omega arith) in
-    (
+    ap (λ (l : List Event). get_or l i d) turned_events ∙ get_or_append_left (reverse events) (e ∷ []) d i (omega arith) in (
       ap which id ∙ which_is k (omega arith) ∙ flag_at,
       ap (λ (i : ℕ). stack_of (slice_get (events_of t) i)) id ∙ ap (λ (x : Option Event). stack_of x) stack_at,
       cycle-knows t cycle n which olds events given news long (omega arith) asked.1 (λ i lt. which_is i (omega arith) ∙ older_flag i lt) (λ i d lt. at i d (omega arith) ∙ ap Some (older_event i d lt)),

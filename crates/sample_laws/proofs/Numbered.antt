@@ -50,6 +50,7 @@ number-place known e some named =
     let off : eqb e.size 0 ≡ false = ne_eqb e.size 0 (λ q. omega arith) in
     let at = any-place (is_same (pair_of e)) known (named some) in
     rw off (ap (λ (o : Option ℕ). unwrap_or o 0) at)
+
 pub number-is : (known : List Bucket) (b : Bucket) (n : ℕ) (e : Event) → position (is_same b) known ≡ Some n → IsNamed known e → 1 ≤ e.size → eqb (number_of known e) n ≡ is_same (pair_of e) b
 number-is known b n e found named some =
     let x = pair_of e in

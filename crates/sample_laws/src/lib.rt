@@ -6,4 +6,7 @@
 
 mod laws;
 
-pub use laws::{a_countdown_samples_a_cycle, flagged_objects_are_samples, lists_know_the_samples, processors_count_a_cycle};
+pub use laws::{
+    a_countdown_samples_a_cycle, flagged_objects_are_samples, lists_know_the_samples,
+    processors_count_a_cycle,
+};
