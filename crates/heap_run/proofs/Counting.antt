@@ -1,20 +1,18 @@
 -- What hands count, call after call and turn after turn.
-use Rattle.std.proofs.Common.{◌≡◌, ◌≢◌, ℕ, suc, ◌+◌, ◌-◌, ◌<◌, ◌≤◌, Bool, true, false, ◌&&◌, eqb, List, [], ◌∷◌, ◌++◌, reverse, take, length, refl, sym, ◌∙◌, ap, subst, arith, inl, inr}
+use Rattle.std.proofs.Common.{◌≡◌, ℕ, ◌+◌, ◌-◌, Bool, true, false, eqb, List, [], ◌∷◌, ◌++◌, refl, sym, ◌∙◌, ap, subst, arith, inl, inr}
 use Rattle.std.proofs.lemmas.List.{append_assoc, append-nil}
-use Rattle.page_alloc.specs.Lists.{In, one_if}
+use Rattle.page_alloc.specs.Lists.{one_if}
 use Rattle.page_alloc.specs.Lists.{count as count_items}
 use Rattle.span_state.specs.MarkSet.{MarkSet, dead_of}
 use Rattle.span_state.specs.declared.sweep.SweepNote.{SweepNote}
 use Rattle.profile_cycle.specs.declared.calls.Call.{Call}
-use Rattle.profile_cycle.specs.declared.calls.What.{What}
 use Rattle.profile_cycle.specs.declared.calls.What.TheVariants.{Allocated, Freed}
-use Rattle.profile_cycle.specs.declared.calls.View.{View}
 use Rattle.profile_cycle.specs.History.{RingId, Standing, allocates, calls, count, frees, joined, lent, split_off}
 use Rattle.profile_cycle.specs.History.{one_if as one_call}
 use Rattle.profile_cycle.specs.Kept.{all_allocs, all_frees}
 use Rattle.profile_lines.specs.Counted.{AreMadeIn}
 use Rattle.run_laws.proofs.Lists.{in-cases}
-use Rattle.run_laws.specs.Profile.{dead_in, sum_of}
+use Rattle.run_laws.specs.Profile.{dead_in}
 use Rattle.sample_laws.specs.Counted.{one_count}
 use Rattle.span_set.specs.Tallies.{Frees, MayCount, frees_all, freeing}
 use Rattle.span_set.proofs.Tallies.{frees-both}

@@ -1,5 +1,5 @@
 -- The driver's logs tell of the cycle that has ended.
-use Rattle.std.proofs.Common.{◌≡◌, ◌≢◌, ℕ, zero, suc, ◌+◌, ◌<◌, Bool, true, false, eqb, List, [], ◌∷◌, ◌++◌, map, reverse, drop, length, get_or, refl, sym, ◌∙◌, ap, subst, arith, inl, inr}
+use Rattle.std.proofs.Common.{◌≡◌, ℕ, ◌<◌, Bool, true, false, eqb, List, [], ◌∷◌, ◌++◌, map, reverse, drop, length, get_or, refl, sym, ◌∙◌, ap, subst, arith, inl, inr}
 use Rattle.std.specs.List.Sorted.{IsPermutation}
 use Rattle.std.proofs.lemmas.Bool.{cases_Bool, eq-eqb, ne_eqb}
 use Rattle.std.proofs.lemmas.List.{get_or_default}
@@ -17,7 +17,7 @@ use Rattle.heap_run.specs.Last.{TellsLast, events_in, no_cycle}
 use Rattle.heap_run.specs.Parts.{part_at}
 use Rattle.heap_run.specs.Served.{answers_by, events_by}
 use Rattle.heap_run.specs.Swept.{AreCollected, Made, note_at}
-use Rattle.heap_run.specs.Turns.{HaveAnswered, SaysAnswers}
+use Rattle.heap_run.specs.Turns.{HaveAnswered}
 use Rattle.heap_run.proofs.Sorted.{from-permutation}
 
 drop-behind : {X : Type 0} (xs ys : List X) → drop (length xs) (xs ++ ys) ≡ ys

@@ -1,11 +1,11 @@
 -- Each event of a trace has a bucket.
-use Rattle.std.proofs.Common.{◌≡◌, ℕ, ◌≤◌, Bool, true, false, ◌||◌, eqb, List, [], ◌∷◌, refl, sym, ◌∙◌, ap, subst, arith, inl, inr}
+use Rattle.std.proofs.Common.{◌≡◌, ◌≤◌, Bool, true, false, ◌||◌, eqb, List, [], ◌∷◌, refl, sym, ◌∙◌, ap, arith, inl, inr}
 use Rattle.std.specs.List.{AllByRecursion, list_any}
-use Rattle.std.proofs.lemmas.Bool.{cases_Bool, eqb-true, ne_eqb}
+use Rattle.std.proofs.lemmas.Bool.{cases_Bool, ne_eqb}
 use Rattle.page_alloc.specs.Lists.{In}
 use Rattle.trace_reader.specs.declared.trace.Event.{Event}
 use Rattle.profile_cycle.specs.declared.buckets.Bucket.{Bucket}
-use Rattle.profile_cycle.specs.Naming.{buckets_of, is_same, pairs_of, slot_for}
+use Rattle.profile_cycle.specs.Naming.{buckets_of, is_same, pairs_of}
 use Rattle.sample_laws.specs.Numbers.{IsNamed, pair_of}
 use Rattle.sample_laws.proofs.Numbered.{is-same}
 

@@ -1,5 +1,5 @@
 -- The profile of a run over a cycle and a mark end.
-use Rattle.std.proofs.Common.{◌≡◌, ◌≢◌, ℕ, zero, suc, ◌+◌, ◌-◌, ◌<◌, ◌≤◌, Bool, true, false, ◌&&◌, eqb, max, List, [], ◌∷◌, ◌++◌, map, reverse, take, drop, length, get_or, Option, Some, None, refl, sym, ◌∙◌, ap, subst, arith, inl, inr}
+use Rattle.std.proofs.Common.{◌≡◌, ℕ, zero, suc, ◌+◌, ◌<◌, ◌≤◌, Bool, true, false, ◌&&◌, eqb, List, [], ◌∷◌, ◌++◌, map, reverse, take, drop, length, get_or, Option, Some, None, refl, sym, ◌∙◌, ap, subst, arith, inl, inr}
 use Rattle.std.specs.Prelude.{position}
 use Rattle.std.specs.List.{AllByRecursion, flat_map, slice_get, sum_by}
 use Rattle.std.specs.List.Sorted.{IsPermutation}
@@ -8,16 +8,15 @@ use Rattle.std.proofs.lemmas.List.{append-nil, length-append, length-map, length
 use Rattle.std.proofs.lemmas.List.Concat.{flat_map-append}
 use Rattle.std.proofs.lemmas.List.Sums.{sum_by-cons}
 use Rattle.std.proofs.lemmas.List.Sorted.{IsPermutation-reverse, sum_by-IsPermutation}
-use Rattle.page_alloc.specs.Lists.{In, count, one_if}
-use Rattle.page_alloc.specs.Journal.{Life, open_lives}
-use Rattle.span_state.specs.MarkSet.{MarkSet, dead_of}
+use Rattle.page_alloc.specs.Lists.{In, count}
+use Rattle.page_alloc.specs.Journal.{open_lives}
 use Rattle.span_state.specs.declared.sweep.SweepNote.{SweepNote}
 use Rattle.trace_reader.specs.declared.trace.Trace.{Trace}
 use Rattle.trace_reader.specs.declared.trace.Cycle.{Cycle}
 use Rattle.trace_reader.specs.declared.trace.Event.{Event}
 use Rattle.trace_reader.specs.Limits.{events_of}
 use Rattle.cycle_history.specs.declared.Answer.{Answer}
-use Rattle.cycle_history.specs.Marked.{AreObjectsBefore, objects_before, requests_before}
+use Rattle.cycle_history.specs.Marked.{objects_before, requests_before}
 use Rattle.cycle_history.specs.Objects.{Object, is_placed}
 use Rattle.cycle_history.specs.Profile.{passing, placed_by, samples_in}
 use Rattle.cycle_history.specs.Requests.{marked_by, region_of}
@@ -27,23 +26,17 @@ use Rattle.cycle_history.proofs.Plain.{request_in, same_length}
 use Rattle.profile_cycle.specs.declared.buckets.Bucket.{Bucket}
 use Rattle.profile_cycle.specs.declared.calls.Call.{Call}
 use Rattle.profile_cycle.specs.declared.calls.What.{What}
-use Rattle.profile_cycle.specs.declared.calls.What.TheVariants.{AfterSweep, NextCycle}
-use Rattle.profile_cycle.specs.declared.calls.View.{View}
-use Rattle.profile_cycle.specs.History.{Standing, allocates, calls, frees, noted}
+use Rattle.profile_cycle.specs.declared.calls.What.TheVariants.{AfterSweep}
+use Rattle.profile_cycle.specs.History.{Standing, allocates, calls, frees}
 use Rattle.profile_cycle.specs.History.{count as count_calls, one_if as one_call}
-use Rattle.profile_cycle.specs.Kept.{all_allocs, all_frees}
 use Rattle.profile_cycle.specs.Naming.{is_same}
 use Rattle.profile_cycle.specs.Sampling.{Countdown}
-use Rattle.profile_lines.specs.Counted.{AreMadeIn, HasCounted, IsCounting, ShowsMarkEnd, by_bucket, made_in}
-use Rattle.profile_lines.specs.Read.{AreDifferent}
-use Rattle.profile_lines.specs.Told.{HasTold}
+use Rattle.profile_lines.specs.Counted.{AreMadeIn, HasCounted, ShowsMarkEnd, by_bucket, made_in}
 use Rattle.profile_lines.proofs.Publishing.{cycle-counted as counted-cycle, sweep-shows}
 use Rattle.profile_lines.proofs.Telling.{stay}
 use Rattle.sound_run.specs.Run.{Lasts}
 use Rattle.run_laws.specs.Asked.{AreAnsweredFrom}
-use Rattle.run_laws.specs.CycleSoFar.{CycleSoFar}
-use Rattle.run_laws.specs.Facts.{Facts}
-use Rattle.run_laws.specs.Profile.{AreCalls, Calls, CountsByWorkers, FreesByNotes, Samples, dead_in, has_died, is_sample, sum_below, sum_of}
+use Rattle.run_laws.specs.Profile.{AreCalls, CountsByWorkers, FreesByNotes, Samples, dead_in, is_sample, sum_below, sum_of}
 use Rattle.run_laws.proofs.Counted.{cycle-calls, cycle-counted}
 use Rattle.run_laws.proofs.Counted.{count-same}
 use Rattle.run_laws.proofs.Profile.{count-by_proc}
@@ -52,14 +45,13 @@ use Rattle.sample_laws.specs.By.{answers_by, events_by}
 use Rattle.sample_laws.specs.Counted.{Flags, Knows, all_counts, events_before, of_number, sampled_counts}
 use Rattle.sample_laws.specs.Countdowns.{IsSampledTo, flags, spent}
 use Rattle.sample_laws.specs.Numbers.{IsNamed, number_of}
-use Rattle.sample_laws.proofs.Counting.{AreFlags, cycle-counts}
+use Rattle.sample_laws.proofs.Counting.{cycle-counts}
 use Rattle.sample_laws.proofs.Known.{cycle-knows}
 use Rattle.sample_laws.proofs.Parted.{all-counted, mapped-by, sum-same}
 use Rattle.sample_laws.proofs.Sampled.{cycle-sampled}
-use Rattle.span_laws.specs.Views.{Seen}
 use Rattle.span_set.specs.declared.hand.Hand.{Hand}
-use Rattle.heap_run.specs.Counts.{Counts, HaveSampled, countdown_at, dead_at, with_calls}
-use Rattle.heap_run.specs.Runs.{HasBegun, HasCountedIn, IsCountingIn, IsProfiled, IsToldIn}
+use Rattle.heap_run.specs.Counts.{Counts, HaveSampled, countdown_at, dead_at}
+use Rattle.heap_run.specs.Runs.{HasBegun, HasCountedIn, IsProfiled, IsToldIn}
 use Rattle.heap_run.specs.declared.run.Run.{Run}
 use Rattle.heap_run.proofs.Queued.{answers-reverse, events-reverse}
 use Rattle.heap_run.proofs.Reaching.{Goes, map-reverse}

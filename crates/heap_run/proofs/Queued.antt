@@ -3,7 +3,6 @@ use Rattle.std.proofs.Common.{◌≡◌, ◌≢◌, ℕ, zero, suc, ◌+◌, ◌
 use Rattle.std.proofs.lemmas.Bool.{cases_Bool, cases_eq, eq-eqb, ne_eqb}
 use Rattle.std.proofs.lemmas.List.{append-nil, append_assoc, get_or-set_same, get_or-set_other, length-append, length-take-le, map-append, reverse-append, take_all, take_more, take-append-drop, length-reverse}
 use Rattle.trace_reader.specs.declared.trace.Event.{Event}
-use Rattle.cycle_history.specs.declared.Answer.{Answer}
 use Rattle.heap_run.specs.Served.{answers_by, events_by}
 
 -- ---- lists behind lists

@@ -1,13 +1,12 @@
 -- The processors' samples, one processor after another.
-use Rattle.std.proofs.Common.{◌≡◌, ◌≢◌, ℕ, zero, suc, ◌+◌, ◌<◌, ◌≤◌, Bool, List, [], ◌∷◌, ◌++◌, reverse, set, take, length, get_or, refl, sym, ◌∙◌, ap, subst, arith, inl, inr}
+use Rattle.std.proofs.Common.{◌≡◌, ◌≢◌, ℕ, suc, ◌+◌, ◌<◌, ◌≤◌, Bool, List, [], ◌∷◌, ◌++◌, reverse, set, take, length, get_or, refl, sym, ◌∙◌, ap, arith, inl, inr}
 use Rattle.std.proofs.lemmas.Bool.{cases_eq, cases_lt}
 use Rattle.std.proofs.lemmas.List.{get_or_past, get_or_push, get_or_append_left, get_or-set_same, get_or-set_other, length-append, length-reverse, length-take-le, take_more}
 use Rattle.trace_reader.specs.declared.trace.Event.{Event}
 use Rattle.cycle_history.specs.declared.Answer.{Answer}
 use Rattle.profile_cycle.specs.Sampling.{Countdown}
-use Rattle.run_laws.specs.Profile.{sum_below}
 use Rattle.sample_laws.specs.Counted.{all_counts, one_count, sampled_counts}
-use Rattle.sample_laws.specs.Countdowns.{flag, flags, spends, spent}
+use Rattle.sample_laws.specs.Countdowns.{flag, flags, spent}
 use Rattle.sample_laws.proofs.Parted.{counts-append, sum-same}
 use Rattle.proc_cache.specs.Cache.{Cache}
 use Rattle.heap_run.specs.Counts.{HaveSampled, countdown_at}

@@ -1,5 +1,5 @@
 -- The profile of a run at a mark end, and at the run's end.
-use Rattle.std.proofs.Common.{◌≡◌, ◌≢◌, ℕ, zero, suc, ◌+◌, ◌^◌, ◌<◌, ◌≤◌, Bool, true, false, ◌&&◌, eqb, max, All, List, [], ◌∷◌, ◌++◌, map, reverse, length, get_or, Option, Some, None, refl, sym, ◌∙◌, ap, subst, arith, inl, inr}
+use Rattle.std.proofs.Common.{◌≡◌, ℕ, zero, suc, ◌^◌, ◌<◌, ◌≤◌, Bool, true, false, ◌&&◌, eqb, List, [], ◌∷◌, ◌++◌, map, reverse, length, get_or, Option, Some, None, refl, sym, ◌∙◌, ap, subst, arith, inl, inr}
 use Rattle.std.specs.Prelude.{position, slice_index}
 use Rattle.std.proofs.lemmas.Bool.{cases_Bool}
 use Rattle.std.proofs.lemmas.List.{length-map, length-reverse, reverse-append}
@@ -15,7 +15,7 @@ use Rattle.trace_reader.specs.declared.trace.Event.{Event}
 use Rattle.cycle_history.specs.declared.Answer.{Answer}
 use Rattle.cycle_history.specs.declared.Report.{Report}
 use Rattle.cycle_history.specs.Marked.{AreMarksOf, AreObjectsBefore}
-use Rattle.cycle_history.specs.Objects.{Object, is_placed, live}
+use Rattle.cycle_history.specs.Objects.{Object}
 use Rattle.cycle_history.specs.Profile.{samples_in}
 use Rattle.cycle_history.specs.Requests.{last_cycle, marked_by, region_of}
 use Rattle.cycle_history.specs.Sound.{HasProfileIn}
@@ -24,11 +24,10 @@ use Rattle.profile_cycle.specs.declared.buckets.Bucket.{Bucket}
 use Rattle.profile_cycle.specs.declared.calls.What.TheVariants.{NextCycle}
 use Rattle.profile_cycle.specs.declared.calls.Call.{Call}
 use Rattle.profile_cycle.specs.declared.counts.Count.{Count}
-use Rattle.profile_cycle.specs.History.{RingId, Standing, calls, noted}
+use Rattle.profile_cycle.specs.History.{Standing, calls}
 use Rattle.profile_cycle.specs.Naming.{is_same}
-use Rattle.profile_lines.specs.Counted.{AreNamed, HasCounted, IsCounting, ShowsMarkEnd}
-use Rattle.profile_lines.specs.Read.{AreFew, all_lines, bucket_at, changed_lines, count_of}
-use Rattle.profile_lines.specs.Told.{HasTold}
+use Rattle.profile_lines.specs.Counted.{AreNamed, IsCounting, ShowsMarkEnd}
+use Rattle.profile_lines.specs.Read.{AreFew, all_lines, changed_lines, count_of}
 use Rattle.profile_lines.proofs.Publishing.{mark-end-begins}
 use Rattle.profile_lines.proofs.Telling.{few-shown, go-on, tell-each, tell-last}
 use Rattle.run_laws.specs.Profile.{dead_in, has_died}

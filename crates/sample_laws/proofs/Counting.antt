@@ -1,13 +1,13 @@
 -- The flagged objects of a cycle are its samples, bucket by bucket.
-use Rattle.std.proofs.Common.{◌≡◌, ◌≢◌, ℕ, suc, ◌+◌, ◌≤◌, Bool, true, false, ◌&&◌, eqb, List, [], ◌∷◌, ◌++◌, map, length, Option, Some, None, refl, sym, ◌∙◌, ap, subst, arith, inl, inr}
+use Rattle.std.proofs.Common.{◌≡◌, ℕ, ◌+◌, ◌≤◌, Bool, false, ◌&&◌, eqb, List, [], ◌∷◌, map, length, Option, Some, None, refl, sym, ◌∙◌, ap, arith, inl, inr}
 use Rattle.std.specs.Prelude.{position}
 use Rattle.std.specs.List.{AllByRecursion}
-use Rattle.std.proofs.lemmas.Bool.{cases_Bool, cases_eq, eq-eqb, ne_eqb, and_right}
+use Rattle.std.proofs.lemmas.Bool.{cases_Bool, eq-eqb, and_right}
 use Rattle.page_alloc.specs.Lists.{count, one_if}
 use Rattle.trace_reader.specs.declared.trace.Event.{Event}
 use Rattle.cycle_history.specs.declared.Answer.{Answer}
 use Rattle.cycle_history.specs.declared.Answer.TheVariants.{Placed, Zero, Missed}
-use Rattle.cycle_history.specs.Objects.{Object, is_placed}
+use Rattle.cycle_history.specs.Objects.{Object}
 use Rattle.cycle_history.specs.Rules.{IsObject}
 use Rattle.cycle_history.proofs.Plain.{request_in}
 use Rattle.profile_cycle.specs.declared.buckets.Bucket.{Bucket}
@@ -16,7 +16,7 @@ use Rattle.profile_cycle.specs.Sampling.{Countdown}
 use Rattle.run_laws.specs.Asked.{AreAnsweredFrom}
 use Rattle.run_laws.specs.Profile.{Samples, is_sample}
 use Rattle.sample_laws.specs.By.{answers_by, events_by}
-use Rattle.sample_laws.specs.Counted.{Knows, of_number, one_count, sampled_counts}
+use Rattle.sample_laws.specs.Counted.{Knows, of_number, sampled_counts}
 use Rattle.sample_laws.specs.Countdowns.{flag, flags, spent}
 use Rattle.sample_laws.specs.Numbers.{IsNamed, number_of, pair_of}
 use Rattle.sample_laws.proofs.Numbered.{number-is, number-none}

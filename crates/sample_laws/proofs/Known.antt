@@ -1,28 +1,27 @@
 -- What a run's lists of flags and numbers tell of its objects.
-use Rattle.std.proofs.Common.{◌≡◌, ◌≢◌, ℕ, zero, suc, ◌+◌, ◌<◌, ◌≤◌, Bool, true, false, ◌&&◌, eqb, List, [], ◌∷◌, ◌++◌, map, reverse, take, drop, length, get_or, Option, Some, None, refl, sym, ◌∙◌, ap, subst, arith, inl, inr}
-use Rattle.std.specs.Prelude.{position, slice_index, ◌↔◌}
+use Rattle.std.proofs.Common.{◌≡◌, ℕ, zero, suc, ◌+◌, ◌<◌, ◌≤◌, Bool, true, false, ◌&&◌, eqb, List, [], ◌∷◌, ◌++◌, map, reverse, take, drop, length, get_or, Option, Some, None, refl, sym, ◌∙◌, ap, subst, arith, inl, inr}
+use Rattle.std.specs.Prelude.{position}
 use Rattle.std.specs.List.{AllByRecursion, flat_map, slice_get, position_or_len}
 use Rattle.std.proofs.lemmas.Bool.{cases_Bool, eqb-true, eq-eqb, and_right}
-use Rattle.std.proofs.lemmas.List.{length-append, length-map, length-reverse, get_or_append_left, get_or_push, append_assoc, reverse-append, reverse-reverse, take-append-drop, take_more}
+use Rattle.std.proofs.lemmas.List.{length-append, length-map, length-reverse, get_or_append_left, get_or_push, append_assoc, reverse-append, take-append-drop}
 use Rattle.std.proofs.lemmas.List.Concat.{flat_map-append}
 use Rattle.std.proofs.lemmas.Option.{slice_get-get_or, slice_get_within, get_or_from_slice_get, same_Some}
-use Rattle.page_alloc.specs.Lists.{In, count, one_if}
+use Rattle.page_alloc.specs.Lists.{In}
 use Rattle.trace_reader.specs.declared.trace.Trace.{Trace}
 use Rattle.trace_reader.specs.declared.trace.Cycle.{Cycle}
 use Rattle.trace_reader.specs.declared.trace.Event.{Event}
 use Rattle.trace_reader.specs.Limits.{events_of}
 use Rattle.cycle_history.specs.declared.Answer.{Answer}
-use Rattle.cycle_history.specs.Marked.{AreObjectsBefore, objects_before}
+use Rattle.cycle_history.specs.Marked.{AreObjectsBefore}
 use Rattle.cycle_history.specs.Objects.{Object, is_placed}
 use Rattle.cycle_history.specs.Profile.{samples_in}
 use Rattle.cycle_history.specs.Sampled.{stack_of}
-use Rattle.cycle_history.proofs.Firsts.{event-at}
-use Rattle.cycle_history.proofs.OfObjects.{IsKnown, known}
+use Rattle.cycle_history.proofs.OfObjects.{known}
 use Rattle.cycle_history.proofs.Plain.{request_in}
 use Rattle.profile_cycle.specs.declared.buckets.Bucket.{Bucket}
 use Rattle.profile_cycle.specs.Naming.{is_same}
 use Rattle.run_laws.specs.Asked.{AreAnsweredFrom}
-use Rattle.run_laws.specs.Profile.{KnowsSamples, Samples, has_died, is_sample}
+use Rattle.run_laws.specs.Profile.{KnowsSamples, is_sample}
 use Rattle.sample_laws.specs.Counted.{Flags, Knows, events_before}
 use Rattle.sample_laws.specs.Numbers.{IsNamed, number_of, pair_of}
 use Rattle.sample_laws.proofs.Numbered.{at-number, named-place, number-is, number-none}

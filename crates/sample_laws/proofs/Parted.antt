@@ -1,5 +1,5 @@
 -- What the processors counted is what all of the cycle count.
-use Rattle.std.proofs.Common.{◌≡◌, ◌≢◌, ℕ, zero, suc, ◌+◌, ◌<◌, ◌≤◌, Bool, true, false, ◌&&◌, eqb, List, [], ◌∷◌, ◌++◌, map, reverse, length, get_or, refl, sym, ◌∙◌, ap, arith, inl, inr}
+use Rattle.std.proofs.Common.{◌≡◌, ◌≢◌, ℕ, zero, suc, ◌+◌, ◌<◌, Bool, ◌&&◌, eqb, List, [], ◌∷◌, ◌++◌, map, reverse, length, get_or, refl, sym, ◌∙◌, ap, arith, inl, inr}
 use Rattle.std.specs.List.{AllByRecursion}
 use Rattle.std.proofs.lemmas.Bool.{cases_Bool, cases_eq, eq-eqb, ne_eqb}
 use Rattle.std.proofs.lemmas.List.{length-reverse, reverse-append}
@@ -7,7 +7,7 @@ use Rattle.page_alloc.specs.Lists.{one_if}
 use Rattle.trace_reader.specs.declared.trace.Event.{Event}
 use Rattle.run_laws.specs.Profile.{sum_below}
 use Rattle.sample_laws.specs.By.{answers_by, events_by}
-use Rattle.sample_laws.specs.Counted.{all_counts, one_count, sampled_counts}
+use Rattle.sample_laws.specs.Counted.{all_counts, sampled_counts}
 
 -- ---- sums
 

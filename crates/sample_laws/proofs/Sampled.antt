@@ -1,6 +1,6 @@
 -- Which objects of a cycle a processor's countdown samples.
-use Rattle.std.proofs.Common.{◌≡◌, ◌≢◌, ℕ, zero, suc, ◌+◌, ◌<◌, ◌≤◌, Bool, true, false, ◌&&◌, eqb, List, [], ◌∷◌, ◌++◌, map, length, refl, sym, ◌∙◌, ap, subst, arith, inl, inr}
-use Rattle.std.proofs.lemmas.Bool.{cases_Bool, cases_eq, cases_lt, eqb-true, eq-eqb, ne_eqb}
+use Rattle.std.proofs.Common.{◌≡◌, ℕ, ◌+◌, ◌≤◌, Bool, true, false, ◌&&◌, eqb, List, [], ◌∷◌, ◌++◌, map, length, refl, sym, ◌∙◌, ap, arith, inl, inr}
+use Rattle.std.proofs.lemmas.Bool.{cases_Bool, cases_lt}
 use Rattle.trace_reader.specs.declared.trace.Event.{Event}
 use Rattle.cycle_history.specs.declared.Answer.{Answer}
 use Rattle.cycle_history.specs.declared.Answer.TheVariants.{Placed, Zero, Missed}
@@ -8,7 +8,7 @@ use Rattle.cycle_history.specs.Objects.{Object, is_placed}
 use Rattle.cycle_history.specs.Rules.{IsObject}
 use Rattle.cycle_history.proofs.Plain.{request_in}
 use Rattle.profile_cycle.specs.Naming.{slot_for}
-use Rattle.profile_cycle.specs.Sampling.{Countdown, behind, countdown, is_sample, is_sampled, sampled}
+use Rattle.profile_cycle.specs.Sampling.{Countdown, behind, is_sample, is_sampled}
 use Rattle.run_laws.specs.Asked.{AreAnsweredFrom}
 use Rattle.run_laws.specs.Facts.{placed_by}
 use Rattle.run_laws.specs.Profile.{Samples}

@@ -1,6 +1,6 @@
 -- The numbers of the buckets of events.
-use Rattle.std.specs.Prelude.{◌≡◌, ℕ, ◌≤◌, true, ◌==◌, List, if◌then◌else◌, Option, unwrap_or, position}
-use Rattle.std.specs.List.{AllByRecursion, list_any}
+use Rattle.std.specs.Prelude.{◌≡◌, ℕ, ◌≤◌, true, ◌==◌, List, if◌then◌else◌, unwrap_or, position}
+use Rattle.std.specs.List.{list_any}
 use Rattle.trace_reader.specs.declared.trace.Event.{Event}
 use Rattle.profile_cycle.specs.declared.buckets.Bucket.{Bucket}
 use Rattle.profile_cycle.specs.Naming.{is_same, slot_for}

@@ -1,4 +1,4 @@
-use Rattle.std.proofs.Common.{◌≡◌, ℕ, ◌+◌, ◌∙◌, ◌<◌, ◌≤◌, ◌^◌, Bool, [], All, List, length, get_or, refl, sym, ap, subst, vec_len, arith}
+use Rattle.std.proofs.Common.{◌≡◌, ℕ, ◌+◌, ◌∙◌, ◌<◌, ◌≤◌, ◌^◌, [], All, List, length, get_or, refl, sym, ap, vec_len, arith}
 use Rattle.std.proofs.lemmas.List.{get_or_default}
 use Rattle.trace_reader.specs.declared.trace.Event.{Event}
 use Rattle.sample_laws.specs.Counted.{all_counts, sampled_counts}

@@ -1,4 +1,4 @@
-use Rattle.std.proofs.Common.{◌≡◌, ◌∙◌, ◌+◌, ◌<◌, ◌≤◌, ◌++◌, Bool, false, List, [], ◌∷◌, reverse, take, length, get_or, refl, ap, sym, arith}
+use Rattle.std.proofs.Common.{◌≡◌, ◌∙◌, ◌+◌, ◌<◌, ◌++◌, Bool, false, List, [], ◌∷◌, reverse, take, length, get_or, refl, ap, sym, arith}
 use Rattle.std.proofs.lemmas.List.{length-append, reverse-append, take_all, take_more}
 use Rattle.trace_reader.specs.declared.trace.Event.{Event}
 use Rattle.profile_cycle.specs.Sampling.{Countdown}

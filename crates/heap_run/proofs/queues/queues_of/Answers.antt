@@ -1,10 +1,7 @@
-use Rattle.std.proofs.Common.{◌≡◌, ℕ, ◌∙◌, ◌<◌, ◌≤◌, ◌^◌, ◌++◌, [], ◌∷◌, List, false, length, get_or, map, take, refl, sym, ap, arith}
-use Rattle.std.proofs.lemmas.List.{append_assoc, append-nil, get_or_default, map-append, take_all, take_more}
-use Rattle.std.specs.List.{AllByRecursion}
+use Rattle.std.proofs.Common.{ℕ, ◌∙◌, ◌<◌, ◌++◌, [], ◌∷◌, List, false, length, get_or, map, take, sym, ap, arith}
+use Rattle.std.proofs.lemmas.List.{append_assoc, append-nil, get_or_default, map-append, take_more}
 use Rattle.trace_reader.specs.declared.trace.Event.{Event}
-use Rattle.profile_cycle.specs.Naming.{HasSize}
 use Rattle.sample_laws.specs.Numbers.{number_of}
-use Rattle.heap_run.specs.Served.{events_by}
 use Rattle.heap_run.proofs.Queued.{numbers-more, queues-more}
 use Rattle.heap_run.proofs.queues.queues_of.Goals as goal
 

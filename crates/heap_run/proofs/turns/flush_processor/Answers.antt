@@ -3,7 +3,7 @@ use Rattle.span_laws.specs.declared.view.View.{View}
 use Rattle.proc_cache.specs.Serves.{Serves}
 use Rattle.heap_run.specs.Turns.{HasActed, IsCaching, SaysNone}
 use Rattle.profile_cycle.specs.History.{Standing}
-use Rattle.heap_run.proofs.Counting.{counts-may, counts-none, counts-turn, frees-counts, out-cycle, out-may, out-split}
+use Rattle.heap_run.proofs.Counting.{counts-may, counts-turn, frees-counts, out-cycle, out-may, out-split}
 use Rattle.heap_run.proofs.Acted.{HandsOut, back-caching, flush-acted, handed, ok-map, out-caching, out-idle, turn-back}
 use Rattle.heap_run.proofs.turns.flush_processor.Goals as goal
 

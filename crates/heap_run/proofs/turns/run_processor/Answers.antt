@@ -1,6 +1,6 @@
 use Rattle.std.proofs.Common.{◌∙◌, ◌++◌, ap}
 use Rattle.profile_cycle.specs.History.{Standing}
-use Rattle.heap_run.proofs.Counting.{counts-may, counts-none, counts-turn, frees-counts, out-cycle, out-may, out-split}
+use Rattle.heap_run.proofs.Counting.{counts-may, counts-turn, out-cycle, out-may, out-split}
 use Rattle.heap_run.proofs.Acted.{HandsOut, back-caching, handed, out-caching, out-idle, turn-back}
 use Rattle.heap_run.proofs.turns.run_processor.Goals as goal
 

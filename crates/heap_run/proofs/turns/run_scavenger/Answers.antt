@@ -4,7 +4,7 @@ use Rattle.span_laws.specs.Views.{Seen}
 use Rattle.span_set.specs.declared.hand.Hand.{Hand}
 use Rattle.heap_run.specs.Turns.{HasActed, SaysNone}
 use Rattle.profile_cycle.specs.History.{Standing}
-use Rattle.heap_run.proofs.Counting.{counts-may, counts-none, counts-turn, frees-counts, out-cycle, out-may, out-split}
+use Rattle.heap_run.proofs.Counting.{counts-may, counts-none, counts-turn, out-cycle, out-may, out-split}
 use Rattle.heap_run.proofs.Acted.{HandsOut, back-cached, handed, ok-map, out-idle, turn-back}
 use Rattle.heap_run.proofs.Settling.{known-acted}
 use Rattle.heap_run.proofs.turns.run_scavenger.Goals as goal

@@ -2,7 +2,7 @@ use Rattle.std.proofs.Common.{◌∙◌, ◌++◌, ap, refl}
 use Rattle.std.proofs.lemmas.Result.{err_from_is_err_and}
 use Rattle.heap_run.specs.Turns.{HasActed, SaysNone}
 use Rattle.profile_cycle.specs.History.{Standing}
-use Rattle.heap_run.proofs.Counting.{counts-may, counts-none, counts-turn, frees-counts, out-cycle, out-may, out-split}
+use Rattle.heap_run.proofs.Counting.{counts-may, counts-turn, frees-counts, out-cycle, out-may, out-split}
 use Rattle.heap_run.proofs.Acted.{HandsOut, acted-as, back-cached, handed, ok-map, out-idle, turn-back, works-acted}
 use Rattle.heap_run.proofs.turns.run_sweeper.Goals as goal
 

@@ -1,4 +1,3 @@
-use Rattle.std.proofs.Common.{refl}
 use Rattle.heap_run.proofs.Naming.{all-named}
 use Rattle.heap_run.proofs.profile.Profile.new.Goals as goal
 

@@ -1,4 +1,4 @@
-use Rattle.std.proofs.Common.{◌≡◌, ℕ, ◌-◌, ◌<◌, ◌≤◌, length, refl, ap, arith}
+use Rattle.std.proofs.Common.{◌≡◌, ℕ, ◌-◌, refl, ap, arith}
 use Rattle.page_alloc.specs.Journal.{past_of}
 use Rattle.cycle_history.specs.Requests.{last_cycle}
 use Rattle.cycle_history.proofs.OfObjects.{objects-zeros}

@@ -1,4 +1,4 @@
-use Rattle.std.proofs.Common.{◌≤◌, refl, ap, ◌∙◌, arith}
+use Rattle.std.proofs.Common.{refl, ap, ◌∙◌, arith}
 use Rattle.heap_run.proofs.Begins.{begun-first}
 use Rattle.heap_run.proofs.run.Run.new.Goals as goal
 

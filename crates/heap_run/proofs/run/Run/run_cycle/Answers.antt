@@ -1,4 +1,4 @@
-use Rattle.std.proofs.Common.{◌≡◌, ℕ, ◌+◌, ◌<◌, ◌≤◌, ◌++◌, [], ◌∷◌, All, List, length, map, get_or, refl, sym, ◌∙◌, ap, arith, subst}
+use Rattle.std.proofs.Common.{◌≡◌, ℕ, ◌<◌, ◌++◌, [], ◌∷◌, All, List, length, map, get_or, refl, sym, ◌∙◌, ap, arith, subst}
 use Rattle.std.proofs.lemmas.List.{length-map}
 use Rattle.std.proofs.lemmas.List.Elements.{All-from_recursion}
 use Rattle.std.specs.List.{AllByRecursion}
@@ -14,7 +14,7 @@ use Rattle.sample_laws.specs.By.{answers_by, events_by}
 use Rattle.sample_laws.specs.Counted.{all_counts}
 use Rattle.sample_laws.specs.Numbers.{number_of}
 use Rattle.sample_laws.proofs.Numbered.{number-below}
-use Rattle.heap_run.specs.Counts.{AreNumbered, Counts}
+use Rattle.heap_run.specs.Counts.{Counts}
 use Rattle.heap_run.specs.Parts.{part_at}
 use Rattle.heap_run.specs.Settled.{HasWorked}
 use Rattle.heap_run.specs.Turns.{IsDriving}
