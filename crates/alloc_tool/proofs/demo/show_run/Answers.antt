@@ -3,7 +3,7 @@ use Rattle.demo_lines.specs.Summary.{summary_text}
 use Rattle.edge_io.specs.Front.{AppendsFront}
 use Rattle.trace_reader.specs.declared.trace.Trace.{Trace}
 use Rattle.alloc_tool.specs.Demo.{Demos}
-use Rattle.alloc_tool.proofs.Demos.{failed_demo, spent_after, spent_demo}
+use Rattle.alloc_tool.proofs.Demos.{failed_demo, shown_demo, spent_after, spent_demo}
 use Rattle.alloc_tool.proofs.Unbroken.{used_unbroken}
 use Rattle.alloc_tool.proofs.demo.show_run.Goals as goal
 
@@ -15,6 +15,12 @@ pub returns-in_default-run_trace : goal.returns-in_default-run_trace
 returns-in_default-run_trace g c =
     spent_demo _ g.K.Sink.held g.K.Sink.faults g.E.Sink.held g.E.Sink.faults c.args.output.now c.args.errors.now c.refuse_trace-in_default-run_trace.new.errors c.refuse_trace-in_default-run_trace.result
     c.refuse_trace-in_default-run_trace.ensures.status c.refuse_trace-in_default-run_trace.ensures.told
+
+pub returns-in-Ok-write_summary : goal.returns-in-Ok-write_summary
+returns-in-Ok-write_summary g c =
+    subst (λ (t : Trace). Demos t g.K.Sink.held g.K.Sink.faults g.E.Sink.held g.E.Sink.faults c.args.output.now c.write_summary.new.out c.args.errors.now c.args.errors.now 0) c.in-Ok.ensures
+    (shown_demo c.in-Ok.trace g.K.Sink.held g.K.Sink.faults g.E.Sink.held g.E.Sink.faults c.args.output.now c.write_summary.new.out c.args.errors.now c.in-Ok-run_trace.ran.report
+    (record { sound = c.in-Ok-run_trace.ensures.sound; form = c.in-Ok-run_trace.ensures.form }) c.in-Ok-write_summary.ensures.ok)
 
 pub returns-in-Err-Failed : goal.returns-in-Err-Failed
 returns-in-Err-Failed g c =
