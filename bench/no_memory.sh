@@ -1,9 +1,9 @@
 #!/usr/bin/env bash
-# Refuses each allocation of `goheap` in turn, from the first until a run asks for no more, on the traces under examples/ and
-# for the words that read nothing. Each run must end by itself: with status 7, nothing written and the one line for it, or with
-# what it answers when nothing is refused (a list that cannot double may still grow). It prints the number of runs, and ends
-# with status 1 where one ended otherwise. It takes a C compiler, for the few lines that stand between the program and the
-# allocator of the C library.
+# Refuses each allocation of `goheap` in turn, from the first until a run asks for no more, on the traces under examples/, for the words
+# that read nothing, for a profile with each mark end, and for judged pairs. Each run must end by itself: with status 7, nothing
+# written and the one line for it, or with what it answers when nothing is refused (a list that cannot double may still grow). It
+# prints the number of runs, and ends with status 1 where one ended otherwise. It takes a C compiler, for the few lines that stand
+# between the program and the allocator of the C library.
 set -euo pipefail
 cd "$(dirname "$(readlink -f "$0")")/.."
 folder=$(mktemp -d)
@@ -86,5 +86,11 @@ for objects in 1 20001; do
   each "gen 1 $objects" /dev/null gen 1 $objects
 done
 each 'gen 1 0' /dev/null gen 1 0
+each 'demo 1 1000' /dev/null demo 1 1000
+each 'run --each' examples/leak-by-stack.trace run --each
+for report in leak-by-stack.report leak-by-stack.each; do
+  cat examples/leak-by-stack.trace "examples/$report" >"$folder/pair"
+  each "check $report" "$folder/pair" check
+done
 echo "$runs runs: $told ended with status 7 and nothing written, $((runs - told)) with their answer"
 exit $failed
