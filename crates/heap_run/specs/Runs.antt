@@ -1,12 +1,10 @@
 -- How far a run of a trace has come.
 use Rattle.std.specs.Prelude.{◌≡◌, ℕ, suc, ◌+◌, ◌*◌, ◌<◌, ◌≤◌, Bool, true, false, ◌&&◌, ◌==◌, All, List, [], length, map, position, reverse, Some}
-use Rattle.std.specs.List.{AllByRecursion}
 use Rattle.page_alloc.specs.Lists.{In, count}
 use Rattle.page_alloc.specs.Journal.{Life, open_lives}
 use Rattle.page_bitmap.specs.declared.line.Line.{Line}
 use Rattle.span_state.specs.MarkSet.{dead_of, has_pair}
 use Rattle.trace_reader.specs.declared.trace.Trace.{Trace}
-use Rattle.trace_reader.specs.Limits.{events_of}
 use Rattle.cycle_history.specs.Profile.{samples_in}
 use Rattle.cycle_history.specs.Requests.{marked_by, region_of}
 use Rattle.cycle_history.specs.Objects.{Object}
@@ -20,13 +18,14 @@ use Rattle.profile_cycle.specs.Naming.{is_same}
 use Rattle.profile_cycle.specs.Sampling.{Countdown}
 use Rattle.sample_laws.specs.Counted.{Flags, events_before, of_number}
 use Rattle.sample_laws.specs.Countdowns.{IsSampledTo}
-use Rattle.sample_laws.specs.Numbers.{IsNamed, number_of}
+use Rattle.sample_laws.specs.Numbers.{number_of}
 use Rattle.profile_lines.specs.Read.{AreDifferent, IsOrder}
 use Rattle.profile_lines.specs.Counted.{HasCounted, IsCounting, ShowsMarkEnd}
 use Rattle.profile_lines.specs.Told.{HasTold}
 use Rattle.span_laws.specs.Views.{Seen, allocated_pairs}
 use Rattle.heap_run.specs.Counts.{countdown_at}
 use Rattle.heap_run.specs.Last.{TellsLast}
+use Rattle.heap_run.specs.Naming.{KnowsBuckets}
 use Rattle.heap_run.specs.Parts.{part_at}
 use Rattle.heap_run.specs.Settled.{HasFlushed}
 use Rattle.heap_run.specs.Turns.{IsDriving}
@@ -56,7 +55,7 @@ pub record IsProfiled (t : Trace) (n : ℕ) (objects : List Object) (run : Run) 
   pub drives : run.driver.tally.view.drives ≡ true
   pub alone : run.driver.tally.view.out ≡ 0
   pub different : AreDifferent run.profile.known
-  pub named : AllByRecursion (IsNamed run.profile.known) (events_of t)
+  pub named : KnowsBuckets t run.profile.known
   pub order : IsOrder run.profile.known run.profile.order
   pub before : length run.profile.before.items ≡ length run.profile.order
   pub flags : length run.sampled ≡ length run.answers
