@@ -51,7 +51,8 @@ use Rattle.sample_laws.proofs.Parted.{all-counted, mapped-by, sum-same}
 use Rattle.sample_laws.proofs.Sampled.{cycle-sampled}
 use Rattle.span_set.specs.declared.hand.Hand.{Hand}
 use Rattle.heap_run.specs.Counts.{Counts, HaveSampled, countdown_at, dead_at}
-use Rattle.heap_run.specs.Runs.{HasBegun, HasCountedIn, IsProfiled, IsToldIn}
+use Rattle.heap_run.specs.Profiled.{HasCountedIn, IsProfiled, IsToldIn}
+use Rattle.heap_run.specs.Runs.{HasBegun}
 use Rattle.heap_run.specs.declared.run.Run.{Run}
 use Rattle.heap_run.proofs.Queued.{answers-reverse, events-reverse}
 use Rattle.heap_run.proofs.Reaching.{Goes, map-reverse}

@@ -39,7 +39,7 @@ use Rattle.sample_laws.specs.Counted.{Flags, events_before, of_number}
 use Rattle.sample_laws.specs.Numbers.{IsNamed, number_of}
 use Rattle.sample_laws.proofs.Known.{KnowsObjects, are-named, knows-samples, none-sampled}
 use Rattle.sample_laws.proofs.Numbered.{number-below}
-use Rattle.heap_run.specs.Runs.{HasCountedIn, IsCountingIn, IsProfiled, IsToldIn}
+use Rattle.heap_run.specs.Profiled.{HasCountedIn, IsCountingIn, IsProfiled, IsToldIn}
 use Rattle.heap_run.specs.declared.run.Run.{Run}
 use Rattle.heap_run.proofs.Unsampled.{none-placed, none-sample}
 

@@ -6,4 +6,5 @@ pub mod Counts
 pub mod Naming
 pub mod Settled
 pub mod Last
+pub mod Profiled
 pub mod Runs
