@@ -20,9 +20,7 @@ use Rattle.span_laws.specs.Views.{Seen, first_view, no_part, parts_of}
 use Rattle.span_laws.specs.declared.view.Part.{Part}
 use Rattle.proc_cache.specs.Cache.{Cache}
 use Rattle.std.proofs.lemmas.List.{length-map}
-use Rattle.std.specs.List.{AllByRecursion}
 use Rattle.span_state.specs.MarkSet.{dead_of}
-use Rattle.trace_reader.specs.Limits.{events_of}
 use Rattle.cycle_history.specs.Profile.{Samples, samples_in}
 use Rattle.profile_cycle.specs.declared.buckets.Bucket.{Bucket}
 use Rattle.profile_cycle.specs.declared.calls.View.{View}
@@ -33,7 +31,7 @@ use Rattle.profile_cycle.specs.Sampling.{Countdown, countdown}
 use Rattle.profile_lines.specs.Counted.{IsCounting}
 use Rattle.profile_lines.specs.Read.{AreDifferent, IsOrder}
 use Rattle.profile_lines.specs.Told.{HasTold}
-use Rattle.sample_laws.specs.Numbers.{IsNamed}
+use Rattle.heap_run.specs.Naming.{KnowsBuckets}
 use Rattle.heap_run.specs.Parts.{part_at, unheard}
 use Rattle.heap_run.specs.Runs.{HasBegun}
 use Rattle.heap_run.specs.Turns.{IsCaching, no_cache}
@@ -67,7 +65,7 @@ pub record HasStarted (t : Trace) (workers slots : ℕ) (run : Run) : Type 0 whe
   pub some : 1 ≤ run.profile.ring.buckets
   pub room : length run.profile.known ≤ run.profile.ring.buckets
   pub different : AreDifferent run.profile.known
-  pub named : AllByRecursion (IsNamed run.profile.known) (events_of t)
+  pub named : KnowsBuckets t run.profile.known
   pub order : IsOrder run.profile.known run.profile.order
   pub before : run.profile.before.items ≡ map (λ (n : ℕ). record { allocs = 0; frees = 0 }) run.profile.order
   pub lines : run.profile.lines ≡ []

@@ -20,3 +20,4 @@ pub mod Profiling
 pub mod Telling
 pub mod Last
 pub mod Naming
+pub mod Unsampled

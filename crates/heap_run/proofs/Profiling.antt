@@ -39,7 +39,7 @@ use Rattle.run_laws.specs.Asked.{AreAnsweredFrom}
 use Rattle.run_laws.specs.Profile.{AreCalls, CountsByWorkers, FreesByNotes, Samples, dead_in, is_sample, sum_below, sum_of}
 use Rattle.run_laws.proofs.Counted.{cycle-calls, cycle-counted}
 use Rattle.run_laws.proofs.Counted.{count-same}
-use Rattle.run_laws.proofs.Profile.{count-by_proc}
+use Rattle.run_laws.proofs.Profile.{count-by_proc, count-none}
 use Rattle.run_laws.proofs.Lists.{in-left}
 use Rattle.sample_laws.specs.By.{answers_by, events_by}
 use Rattle.sample_laws.specs.Counted.{Flags, Knows, all_counts, events_before, of_number, sampled_counts}
@@ -51,10 +51,12 @@ use Rattle.sample_laws.proofs.Parted.{all-counted, mapped-by, sum-same}
 use Rattle.sample_laws.proofs.Sampled.{cycle-sampled}
 use Rattle.span_set.specs.declared.hand.Hand.{Hand}
 use Rattle.heap_run.specs.Counts.{Counts, HaveSampled, countdown_at, dead_at}
-use Rattle.heap_run.specs.Runs.{HasBegun, HasCountedIn, IsProfiled, IsToldIn}
+use Rattle.heap_run.specs.Profiled.{HasCountedIn, IsProfiled, IsToldIn}
+use Rattle.heap_run.specs.Runs.{HasBegun}
 use Rattle.heap_run.specs.declared.run.Run.{Run}
 use Rattle.heap_run.proofs.Queued.{answers-reverse, events-reverse}
 use Rattle.heap_run.proofs.Reaching.{Goes, map-reverse}
+use Rattle.heap_run.proofs.Unsampled.{none-sample}
 
 -- ---- plain lists
 
@@ -262,8 +264,8 @@ module _ (t : Trace) (c : ℕ) (d : Cycle) (old new : Run) (queues : List (List 
   made-now : AreMadeIn c made
   made-now = subst (λ (k : ℕ). AreMadeIn k made) cycle-is tallied.counts.now
 
-  named-now : AllByRecursion (IsNamed names) (reverse events)
-  named-now = all-reverse (IsNamed names) events (part (events_before t c) events (take-all (suc c) (subst (λ (l : List Event). AllByRecursion (IsNamed names) l) refl begun.profiled.named)))
+  named-now : AllByRecursion (IsNamed names) (events_of t) → AllByRecursion (IsNamed names) (reverse events)
+  named-now named = all-reverse (IsNamed names) events (part (events_before t c) events (take-all (suc c) named))
     where
       parts-left : (xs ys : List Event) → AllByRecursion (IsNamed names) (xs ++ ys) → AllByRecursion (IsNamed names) xs
       parts-left [] ys all = tt
@@ -279,9 +281,9 @@ module _ (t : Trace) (c : ℕ) (d : Cycle) (old new : Run) (queues : List (List 
           ap (λ (cs : List Cycle). flat_map (λ (x : Cycle). x.events) cs) (sym (take-append-drop (suc c) t.cycles)) ∙ flat_map-append (λ (x : Cycle). x.events) (take (suc c) t.cycles) (drop (suc c) t.cycles) in
           subst (λ (l : List Event). AllByRecursion (IsNamed names) l) (events-next t c d inside) (parts-left (events_before t (suc c)) (flat_map (λ (x : Cycle). x.events) (drop (suc c) t.cycles)) (subst (λ (l : List Event). AllByRecursion (IsNamed names) l) whole all))
 
-  -- the allocations that the calls count are the cycle's samples
-  allocs-right : (which : ℕ → Bool) → Flags new.sampled which → (b : Bucket) → (by_bucket names made).allocated c b ≡ count (is_sample (samples_in t which) b) goes.news
-  allocs-right which are b =
+  -- the allocations that the calls count are the cycle's samples, where each event has a bucket
+  allocs-named : AllByRecursion (IsNamed names) (events_of t) → (which : ℕ → Bool) → Flags new.sampled which → (b : Bucket) → (by_bucket names made).allocated c b ≡ count (is_sample (samples_in t which) b) goes.news
+  allocs-named named which are b =
       let each : (k : ℕ) → made_in (allocates k) c made ≡ sampled_counts (reverse tallied.given_flags) (map (number_of names) (reverse events)) k = λ k.
       made-all (allocates k) c made made-now ∙ tallied.counts.allocs_are k
       ∙ all-counted (length old.procs.items) events tallied.given_flags (map (number_of names) events) tallied.flag_parts tallied.number_parts k tallied.procs tallied.flags_long (length-map events (number_of names)) tallied.flags_merged
@@ -289,11 +291,19 @@ module _ (t : Trace) (c : ℕ) (d : Cycle) (old new : Run) (queues : List (List 
       ∙ ap (λ (l : List ℕ). sampled_counts (reverse tallied.given_flags) l k) (sym (map-reverse (number_of names) events)) in
       let turned = (let re = length-reverse events in let rf = length-reverse tallied.given_flags in let fl = tallied.flags_long in let same : length (reverse tallied.given_flags) ≡ length (reverse events) = omega arith in same) in
       each-number (λ k. made_in (allocates k) c made) (λ k. sampled_counts (reverse tallied.given_flags) (map (number_of names) (reverse events)) k) each (position (is_same b) names)
-      ∙ cycle-counts (samples_in t which) names b c older (λ p. (began-at which are p).0) (reverse events) (reverse more) (reverse tallied.given_flags) goes.news goes.answered goes.printed (knows which are) turned named-now (flagged which are)
+      ∙ cycle-counts (samples_in t which) names b c older (λ p. (began-at which are p).0) (reverse events) (reverse more) (reverse tallied.given_flags) goes.news goes.answered goes.printed (knows which are) turned (named-now named) (flagged which are)
     where
       each-number : (f g : ℕ → ℕ) → ((k : ℕ) → f k ≡ g k) → (o : Option ℕ) → of_number f o ≡ of_number g o
       each-number f g same None = refl
       each-number f g same (Some k) = same k
+
+  -- and at rate 0 there are none
+  allocs-right : (which : ℕ → Bool) → Flags new.sampled which → (b : Bucket) → (by_bucket names made).allocated c b ≡ count (is_sample (samples_in t which) b) goes.news
+  allocs-right which are b = elim begun.profiled.named [
+    | inl named ↦ allocs-named named which are b
+    | inr none ↦ ap (λ (l : List Bucket). of_number (λ k. made_in (allocates k) c made) (position (is_same b) l)) none.1
+        ∙ sym (count-none (is_sample (samples_in t which) b) goes.news (λ o h. none-sample t which (goes.news ++ begun.objects) b none.0 (λ p. (sampled-next which are p).1.samples) o (in-left goes.news begun.objects o h)))
+  ]
 
   -- a sample of the processor's, placed
   proc-sample : (s : Samples) (b : Bucket) (w : ℕ) (o : Object) → ((eqb o.proc w && is_placed o.answer) && is_sample s b o) ≡ (eqb o.proc w && is_sample s b o)

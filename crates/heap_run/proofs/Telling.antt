@@ -12,6 +12,7 @@ use Rattle.span_state.specs.MarkSet.{MarkSet, dead_of}
 use Rattle.span_state.specs.declared.sweep.SweepNote.{SweepNote}
 use Rattle.trace_reader.specs.declared.trace.Trace.{Trace}
 use Rattle.trace_reader.specs.declared.trace.Event.{Event}
+use Rattle.trace_reader.specs.Limits.{events_of}
 use Rattle.cycle_history.specs.declared.Answer.{Answer}
 use Rattle.cycle_history.specs.declared.Report.{Report}
 use Rattle.cycle_history.specs.Marked.{AreMarksOf, AreObjectsBefore}
@@ -30,23 +31,24 @@ use Rattle.profile_lines.specs.Counted.{AreNamed, IsCounting, ShowsMarkEnd}
 use Rattle.profile_lines.specs.Read.{AreFew, all_lines, changed_lines, count_of}
 use Rattle.profile_lines.proofs.Publishing.{mark-end-begins}
 use Rattle.profile_lines.proofs.Telling.{few-shown, go-on, tell-each, tell-last}
-use Rattle.run_laws.specs.Profile.{dead_in, has_died}
+use Rattle.run_laws.specs.Profile.{dead_in, has_died, is_sample}
 use Rattle.run_laws.specs.Reached.{Reached}
 use Rattle.run_laws.proofs.Deaths.{dead-right}
 use Rattle.run_laws.proofs.Profile.{count-none}
 use Rattle.sample_laws.specs.Counted.{Flags, events_before, of_number}
-use Rattle.sample_laws.specs.Numbers.{number_of}
+use Rattle.sample_laws.specs.Numbers.{IsNamed, number_of}
 use Rattle.sample_laws.proofs.Known.{KnowsObjects, are-named, knows-samples, none-sampled}
 use Rattle.sample_laws.proofs.Numbered.{number-below}
-use Rattle.heap_run.specs.Runs.{HasCountedIn, IsCountingIn, IsProfiled, IsToldIn}
+use Rattle.heap_run.specs.Profiled.{HasCountedIn, IsCountingIn, IsProfiled, IsToldIn}
 use Rattle.heap_run.specs.declared.run.Run.{Run}
+use Rattle.heap_run.proofs.Unsampled.{none-placed, none-sample}
 
 -- what a run knows of its objects
-pub objects-known : (t : Trace) (n : ℕ) (objects : List Object) (run : Run) (which : ℕ → Bool) → IsProfiled t n objects run → AreObjectsBefore t n run.answers objects → Flags run.sampled which
-    → KnowsObjects t n run.answers objects run.profile.known run.sampled run.buckets which
-objects-known t n objects run which p asked are = record {
+pub objects-known : (t : Trace) (n : ℕ) (objects : List Object) (run : Run) (which : ℕ → Bool) → IsProfiled t n objects run → AllByRecursion (IsNamed run.profile.known) (events_of t) → AreObjectsBefore t n run.answers objects
+    → Flags run.sampled which → KnowsObjects t n run.answers objects run.profile.known run.sampled run.buckets which
+objects-known t n objects run which p named asked are = record {
   asked = asked;
-  named = p.named;
+  named = named;
   flags = p.flags;
   numbers_are = p.numbers;
   which_is = are;
@@ -55,9 +57,12 @@ objects-known t n objects run which p asked are = record {
 
 pub objects-named : (t : Trace) (n : ℕ) (objects : List Object) (run : Run) (which : ℕ → Bool) → IsProfiled t n objects run → AreObjectsBefore t n run.answers objects → Flags run.sampled which
     → AreNamed (samples_in t which) run.profile.known objects
-objects-named t n objects run which p asked are o h placed on =
-    let at = are-named t n run.answers objects run.profile.known run.sampled run.buckets which (objects-known t n objects run which p asked are) o h placed on in
-    (at.0, at.1, at.2 (record { stack = 0; slot = 0 }))
+objects-named t n objects run which p asked are o h placed on = elim p.named [
+  | inl named ↦ (
+      let at = are-named t n run.answers objects run.profile.known run.sampled run.buckets which (objects-known t n objects run which p named asked are) o h placed on in
+      (at.0, at.1, at.2 (record { stack = 0; slot = 0 })))
+  | inr none ↦ absurd (let off = none-placed t.header.rate t.header.seed which objects none.0 (λ q. (p.samples which are q).1.samples) o h placed in cc)
+]
 
 -- no published number is too large
 pub few-objects : (t : Trace) (n c : ℕ) (objects : List Object) (run : Run) (calls_are : List Call) → length objects < 2 ^ 64
@@ -171,11 +176,19 @@ module _ (t : Trace) (c : ℕ) (old new : Run) (marks : MarkSet) (past : List Li
           → of_number (λ k. dead_in marks k life.page) o ≡ count (λ (x : Object). has_died (marked_by t) (samples_in t which) c b x && eqb x.life life.number) objects
       dead-number which are life b h None none =
           sym (count-none (λ (x : Object). has_died (marked_by t) (samples_in t which) c b x && eqb x.life life.number) objects (λ x i. (
-          let off = none-sampled t (suc c) old.answers objects old.profile.known old.sampled old.buckets which (objects-known t (suc c) objects old which profiled asked are) b none x i in
+          let off = not-sampled x i in
           rw off refl)))
-      dead-number which are life b h (Some k) found =
-          dead-right t (samples_in t which) (region_of t) t.header.goal c past objects old.answers old.sampled old.buckets marks b k life m.inside reached.run asked m.found
-          (knows-samples t (suc c) old.answers objects old.profile.known old.sampled old.buckets which (objects-known t (suc c) objects old which profiled asked are) b k found) h
+        where
+          not-sampled : (x : Object) → In x objects → is_sample (samples_in t which) b x ≡ false
+          not-sampled x i = elim profiled.named [
+            | inl named ↦ none-sampled t (suc c) old.answers objects old.profile.known old.sampled old.buckets which (objects-known t (suc c) objects old which profiled named asked are) b none x i
+            | inr unknown ↦ none-sample t which objects b unknown.0 (λ q. (profiled.samples which are q).1.samples) x i
+          ]
+      dead-number which are life b h (Some k) found = elim profiled.named [
+        | inl named ↦ dead-right t (samples_in t which) (region_of t) t.header.goal c past objects old.answers old.sampled old.buckets marks b k life m.inside reached.run asked m.found
+            (knows-samples t (suc c) old.answers objects old.profile.known old.sampled old.buckets which (objects-known t (suc c) objects old which profiled named asked are) b k found) h
+        | inr unknown ↦ absurd (let no : None ≡ Some k = sym (ap (λ (l : List Bucket). position (is_same b) l) unknown.1) ∙ found in cc)
+      ]
 
   pub told-marked : IsToldIn t (suc c) objects new
   told-marked = record {

@@ -3,6 +3,8 @@ pub mod Served
 pub mod Swept
 pub mod Turns
 pub mod Counts
+pub mod Naming
 pub mod Settled
 pub mod Last
+pub mod Profiled
 pub mod Runs

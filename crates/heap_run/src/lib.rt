@@ -3,8 +3,8 @@
 //! processors that had no events, and ends the cycle.
 //!
 //! `specs/Turns.antt` has what a worker's turn leaves behind, `specs/Served.antt` what the logs tell of the answers,
-//! `specs/Swept.antt` what the collected notes tell of the sweeps, and `specs/Settled.antt` and
-//! `specs/Runs.antt` what the run keeps from cycle to cycle.
+//! `specs/Swept.antt` what the collected notes tell of the sweeps, and `specs/Settled.antt`,
+//! `specs/Profiled.antt` and `specs/Runs.antt` what the run keeps from cycle to cycle.
 #![tactic(auto)]
 
 mod cycle;

@@ -5,7 +5,7 @@ ghost use Rattle.std.specs.List.{AllByRecursion};
 ghost use Rattle.trace_reader.specs.Limits.{EventFits, events_of};
 ghost use Rattle.profile_cycle.specs.declared.calls.What.TheVariants.{AfterSweep, NextCycle};
 ghost use Rattle.profile_cycle.specs.History.{calls, first_view};
-ghost use Rattle.sample_laws.specs.Numbers.{IsNamed};
+ghost use Rattle.heap_run.specs.Naming.{KnowsBuckets};
 ghost use Rattle.profile_lines.specs.Read.{AreDifferent, AreFew, IsOrder, all_lines, changed_lines, count_of};
 
 use cycle_history::Prof;
@@ -21,7 +21,7 @@ pub(crate) struct Profile {
     /// Whether each mark end is told, and not the last one alone.
     pub each: bool,
     pub ring: Ring,
-    /// The buckets of the trace.
+    /// The buckets of the trace; at rate 0, where nothing is sampled, there are none.
     pub known: Buckets,
     /// Their numbers, in the order of the lines.
     pub order: List<u32>,
@@ -37,7 +37,7 @@ impl Profile {
         requires objects { length (events_of trace.now) ≤ 1000000 }
         ensures each { IfOk result (λ p. p.0.each ≡ each) }
         ensures different { IfOk result (λ p. AreDifferent p.0.known) }
-        ensures named { IfOk result (λ p. AllByRecursion (IsNamed p.0.known) (events_of trace.now)) }
+        ensures named { IfOk result (λ p. KnowsBuckets trace.now p.0.known) }
         ensures some { IfOk result (λ p. 1 ≤ p.0.ring.buckets) }
         ensures room { IfOk result (λ p. length p.0.known ≤ p.0.ring.buckets) }
         ensures tally { IfOk result (λ p. p.1 ≡ record { ring = p.0.ring; view = first_view }) }
@@ -45,9 +45,7 @@ impl Profile {
         ensures before { IfOk result (λ p. p.0.before.items ≡ map (λ _. record { allocs = 0; frees = 0 }) p.0.order) }
         ensures lines { IfOk result (λ p. p.0.lines ≡ []) }
     {
-        buckets_differ();
-        a_pair_is_a_bucket_where_an_event_has_it();
-        let known = Buckets::of_trace(alloc, trace)?;
+        let known = buckets_of_samples(alloc, trace)?;
         let (ring, tally) = Ring::new(alloc, known.len().max(1))?;
         let order = order_of(alloc, &known)?;
         let none = Count {
@@ -133,4 +131,23 @@ impl Profile {
             &mut self.lines,
         )
     }
+}
+
+// The buckets of the trace, or none at rate 0, so that no object's bucket is looked for where nothing is sampled.
+fn buckets_of_samples(alloc: Global, trace: &Trace) -> Result<Buckets, NoMemory>
+    requires events { AllByRecursion (EventFits trace.now.header.procs) (events_of trace.now) }
+    requires objects { length (events_of trace.now) ≤ 1000000 }
+    ensures different { IfOk result (λ known. AreDifferent known) }
+    ensures named { IfOk result (λ known. KnowsBuckets trace.now known) }
+{
+    buckets_differ();
+    a_pair_is_a_bucket_where_an_event_has_it();
+    if trace.header.rate == 0 {
+        let empty = Trace {
+            header: trace.header,
+            cycles: List::new(alloc),
+        };
+        return Buckets::of_trace(alloc, &empty);
+    }
+    Buckets::of_trace(alloc, trace)
 }

@@ -47,11 +47,14 @@ pub(crate) fn queues_of(
     Ok(queues)
 }
 
-// The number of an event's bucket. An object of size 0 has none, and gets 0.
+// The number of an event's bucket. An object of size 0 has none, and gets 0; so does each where no bucket is known.
 fn bucket_of(known: &Buckets, event: &Event) -> u32
     requires { event.now.size ≤ 2 ^ 40 }
     ensures { result ≡ number_of known.now event.now }
 {
+    if known.is_empty() {
+        return 0;
+    }
     let slot = match class_of(event.size) {
         Kind::Zero => return 0,
         Kind::Small(class) => u64::from(slot_size(class)),
