@@ -11,7 +11,6 @@ mod faults;
 mod judged;
 mod pieces;
 mod streams;
-mod words;
 
 const HEAD: &str = "goheap 1\nheap 1 procs 1 rate 0 seed 1 goal 512\n";
 
