@@ -102,9 +102,9 @@ def rest_of_block(lines):
         line = lines.next()
         if line is None:
             return rest, False
-        if line.isspace() or len(rest) == MOST_LINES:
+        if line.isspace():
             return rest, True
-        if line.startswith("trace") and HEADER.match(line):
+        if len(rest) == MOST_LINES or line.startswith("trace") and HEADER.match(line):
             lines.put_back(line)
             return rest, True
         rest.append(line)
