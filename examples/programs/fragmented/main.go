@@ -16,7 +16,7 @@ func batch(size, count int) [][]byte {
 }
 
 //go:noinline
-func large() []byte { return make([]byte, 1_200_000) }
+func large() []byte { return make([]byte, 1_000_000) }
 
 func main() {
 	for cycle := 0; cycle < 8; cycle++ {
