@@ -2,7 +2,7 @@
 
 from typing import List, NamedTuple, Optional, Tuple
 
-from tool import Unusable, reading
+from tool import Unusable, reading, whole
 
 
 class Take(NamedTuple):
@@ -84,14 +84,14 @@ def take_line(report, words):
     if kind == "o":
         report.addresses.append({"zero": lambda: 0, "miss": lambda: None}.get(rest[1], lambda: int(rest[1], 16))())
     elif kind == "j":
-        report.journal.append(JOURNAL[rest[2]](int(rest[1]), *map(int, rest[3:])))
+        report.journal.append(JOURNAL[rest[2]](whole(rest[1]), *map(whole, rest[3:])))
     elif kind == "s":
-        report.sweeps.append(Sweep(*map(int, rest)))
+        report.sweeps.append(Sweep(*map(whole, rest)))
     elif kind == "t":
-        size_class, mallocs, frees = map(int, rest)
+        size_class, mallocs, frees = map(whole, rest)
         report.totals.append((size_class, mallocs, frees))
     elif kind == "p":
-        report.buckets.append(Bucket(*map(int, rest)))
+        report.buckets.append(Bucket(*map(whole, rest)))
     elif words == ["end"]:
         return True
     else:

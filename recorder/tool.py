@@ -10,13 +10,24 @@ class Unusable(Exception):
     """What was given cannot be used; the text says why."""
 
 
+def whole(text):
+    """The number that decimal digits spell; ValueError where they are none."""
+    if not (text.isascii() and text.isdigit()):
+        raise ValueError(text)
+    return int(text)
+
+
 def number(least, most):
     """An argument's type: a number in decimal digits, from `least` to `most`."""
 
     def read(text):
-        if text.isascii() and text.isdigit() and len(text) <= 20 and least <= int(text) <= most:
-            return int(text)
-        raise argparse.ArgumentTypeError(f"{text!r} is no number from {least} to {most}")
+        try:
+            value = whole(text)
+        except ValueError:
+            value = -1
+        if not least <= value <= most:
+            raise argparse.ArgumentTypeError(f"{text!r} is no number from {least} to {most}")
+        return value
 
     return read
 

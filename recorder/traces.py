@@ -2,7 +2,7 @@
 
 from typing import List, NamedTuple, Tuple
 
-from tool import Unusable, reading
+from tool import Unusable, reading, whole
 
 
 class Event(NamedTuple):
@@ -43,12 +43,12 @@ def take_line(trace, kind, *rest):
     """Takes a line in. Returns whether it is the last one."""
     if kind == "a":
         proc, size, pointers, stack = rest
-        trace.events.append(Event(len(trace.marks), int(proc), int(size), pointers == "s", int(stack)))
+        trace.events.append(Event(len(trace.marks), whole(proc), whole(size), pointers == "s", whole(stack)))
     elif kind == "gc":
         trace.marks.append([])
     elif kind == "m":
         low, high = rest
-        trace.marks[-1].append((int(low), int(high)))
+        trace.marks[-1].append((whole(low), whole(high)))
     elif kind != "end":
         raise ValueError(kind)
     return kind == "end"
