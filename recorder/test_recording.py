@@ -1,13 +1,13 @@
 """Tests of `record`, and of what reads logs."""
 
+import io
 import os
 import pty
 import signal
-import subprocess
 import unittest.mock
 
 import golog
-from testing import HERE, Folder, block, data, module, path_of, run
+from testing import Folder, block, data, module, path_of, run
 
 OPTIONS = ["--chunks", "2", "--procs", "2", "--rate", "100", "--seed", "7", "--goal", "50", "--distance", "1000"]
 
@@ -191,13 +191,19 @@ class Recording(Folder):
         self.assertIn("interrupted; the trace ends where the log was then, and is whole", told)
 
     def test_progress_is_for_terminals(self):
-        log = self.put("log", 1_000_000 * "x\n")
-        self.assertNotIn("million", run("record", log)[2])
+        record = module("record")
+        record.TOLD_EVERY = 10
+        words = [self.put("log", data("small.allocfreetrace")), "--output", os.devnull]
         ours, theirs = pty.openpty()
-        subprocess.run([os.path.join(HERE, "record"), log, "--output", os.devnull], stderr=theirs)
-        os.close(theirs)
-        self.assertIn(b"1 million lines of the log", os.read(ours, 10000))
+        for terminal in (True, False):
+            error = open(theirs, "w", closefd=False) if terminal else io.StringIO()
+            with unittest.mock.patch("sys.stderr", error):
+                record.main(words)
+            said = os.read(ours, 10000).decode() if terminal else error.getvalue()
+            self.assertEqual("\r90 lines of the log" in said, terminal)
+        signal.signal(signal.SIGINT, signal.default_int_handler)
         os.close(ours)
+        os.close(theirs)
 
     def test_names_of_frames(self):
         names = ["runtime.(*mcache).refill(0x1, {0x2, 0x3})\n", "main.f[...](0x1)\n", "main.main()\n", "main.push(...)\n"]

@@ -2,10 +2,14 @@
 
 import importlib.machinery
 import importlib.util
+import io
 import os
-import subprocess
+import signal
+import sys
 import tempfile
 import unittest
+
+import tool
 
 HERE = os.path.dirname(os.path.abspath(__file__))
 
@@ -19,10 +23,21 @@ def path_of(name):
     return os.path.join(HERE, "data", name)
 
 
-def run(tool, *words, given=""):
-    """Runs one of the tools. Returns its status, what it wrote and what it said."""
-    ran = subprocess.run([os.path.join(HERE, tool), *words], input=given, capture_output=True, text=True, errors="surrogateescape")
-    return ran.returncode, ran.stdout, ran.stderr
+def run(name, *words, given=""):
+    """Runs one of the tools, within this process, which takes less time than a new one. Returns its status, what it wrote and what it said."""
+    before = sys.stdin, sys.stdout, sys.stderr, signal.getsignal(signal.SIGINT), signal.getsignal(signal.SIGPIPE)
+    with tempfile.NamedTemporaryFile("r", errors="surrogateescape") as written:
+        sys.stdin = io.TextIOWrapper(io.BytesIO(given.encode(errors="surrogateescape")))
+        sys.stdout, sys.stderr = open(written.name, "w"), io.StringIO()
+        try:
+            tool.end(name, module(name).main, list(words))
+        except SystemExit as ended:
+            sys.stdout.close()
+            return ended.code, written.read(), sys.stderr.getvalue()
+        finally:
+            sys.stdin, sys.stdout, sys.stderr = before[:3]
+            signal.signal(signal.SIGINT, before[3])
+            signal.signal(signal.SIGPIPE, before[4])
 
 
 def module(name):
