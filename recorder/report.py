@@ -2,6 +2,8 @@
 
 from typing import List, NamedTuple, Optional, Tuple
 
+from tool import Unusable, reading, whole
+
 
 class Take(NamedTuple):
     cycle: int
@@ -54,24 +56,26 @@ class Report(NamedTuple):
     buckets: List[Bucket]
 
 
-class NotAReport(Exception):
-    pass
-
-
-def read_report(lines):
+def read_report(lines, name="report"):
     report = Report([], [], [], [], [])
     ended = False
     for number, line in enumerate(lines, 1):
         if ended:
-            raise NotAReport(f"line {number}: there are lines behind the end")
+            raise Unusable(f"{name}: line {number}: there are lines behind the end")
         words = line.split()
         try:
             ended = take_line(report, words)
         except (KeyError, ValueError, IndexError, TypeError):
-            raise NotAReport(f"line {number}: no line of a report") from None
+            raise Unusable(f"{name}: line {number}: no line of a report") from None
     if not ended:
-        raise NotAReport("the report has no end")
+        raise Unusable(f"{name}: the report has no end")
     return report
+
+
+def report_in(path):
+    """The report in the file; - is standard input."""
+    with reading(path) as file:
+        return read_report(file, "standard input" if path == "-" else path)
 
 
 def take_line(report, words):
@@ -80,14 +84,14 @@ def take_line(report, words):
     if kind == "o":
         report.addresses.append({"zero": lambda: 0, "miss": lambda: None}.get(rest[1], lambda: int(rest[1], 16))())
     elif kind == "j":
-        report.journal.append(JOURNAL[rest[2]](int(rest[1]), *map(int, rest[3:])))
+        report.journal.append(JOURNAL[rest[2]](whole(rest[1]), *map(whole, rest[3:])))
     elif kind == "s":
-        report.sweeps.append(Sweep(*map(int, rest)))
+        report.sweeps.append(Sweep(*map(whole, rest)))
     elif kind == "t":
-        size_class, mallocs, frees = map(int, rest)
+        size_class, mallocs, frees = map(whole, rest)
         report.totals.append((size_class, mallocs, frees))
     elif kind == "p":
-        report.buckets.append(Bucket(*map(int, rest)))
+        report.buckets.append(Bucket(*map(whole, rest)))
     elif words == ["end"]:
         return True
     else:
@@ -95,10 +99,17 @@ def take_line(report, words):
     return False
 
 
-def read_stacks(lines):
+def read_stacks(lines, name="stacks"):
     """The frames of each stack by its number, as `record` wrote them."""
     stacks = {}
-    for line in lines:
+    for at, line in enumerate(lines, 1):
         number, *frames = line.rstrip("\n").split("\t")
+        if not number.isdecimal():
+            raise Unusable(f"{name}: line {at}: no stack's number")
         stacks[int(number)] = frames
     return stacks
+
+
+def stacks_in(path):
+    with reading(path) as file:
+        return read_stacks(file, path)

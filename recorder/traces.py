@@ -2,6 +2,8 @@
 
 from typing import List, NamedTuple, Tuple
 
+from tool import Unusable, reading, whole
+
 
 class Event(NamedTuple):
     cycle: int
@@ -17,21 +19,44 @@ class Trace(NamedTuple):
     marks: List[List[Tuple[int, int]]]  # of each mark end, the ranges of objects that it found alive
 
 
-def read_trace(lines):
-    lines = iter(lines)
-    if next(lines, "").split() != ["goheap", "1"]:
-        raise ValueError("no trace: its first line is not `goheap 1`")
-    words = next(lines, "").split()
-    trace = Trace(dict(zip(["chunks", "procs", "rate", "seed", "goal"], map(int, words[1::2]))), [], [])
-    for line in lines:
-        kind, *rest = line.split()
-        if kind == "a":
-            trace.events.append(Event(len(trace.marks), int(rest[0]), int(rest[1]), rest[2] == "s", int(rest[3])))
-        elif kind == "gc":
-            trace.marks.append([])
-        elif kind == "m":
-            trace.marks[-1].append((int(rest[0]), int(rest[1])))
-    return trace
+HEADER = ["heap", "procs", "rate", "seed", "goal"]
+
+
+def read_trace(lines, name="trace"):
+    lines = enumerate(lines, 1)
+    if next(lines, (1, ""))[1].split() != ["goheap", "1"]:
+        raise Unusable(f"{name}: no trace: its first line is not `goheap 1`")
+    words = next(lines, (2, ""))[1].split()
+    if words[::2] != HEADER or not all(word.isdecimal() for word in words[1::2]):
+        raise Unusable(f"{name}: line 2: no second line of a trace")
+    trace = Trace(dict(zip(["chunks", *HEADER[1:]], map(int, words[1::2]))), [], [])
+    for number, line in lines:
+        try:
+            if take_line(trace, *line.split()):
+                return trace
+        except (ValueError, TypeError, IndexError):
+            raise Unusable(f"{name}: line {number}: no line of a trace") from None
+    raise Unusable(f"{name}: the trace has no end")
+
+
+def take_line(trace, kind, *rest):
+    """Takes a line in. Returns whether it is the last one."""
+    if kind == "a":
+        proc, size, pointers, stack = rest
+        trace.events.append(Event(len(trace.marks), whole(proc), whole(size), pointers == "s", whole(stack)))
+    elif kind == "gc":
+        trace.marks.append([])
+    elif kind == "m":
+        low, high = rest
+        trace.marks[-1].append((whole(low), whole(high)))
+    elif kind != "end":
+        raise ValueError(kind)
+    return kind == "end"
+
+
+def trace_in(path):
+    with reading(path) as file:
+        return read_trace(file, path)
 
 
 def is_marked(ranges, objects):

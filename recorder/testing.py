@@ -1,0 +1,71 @@
+"""What the recorder's tests share."""
+
+import importlib.machinery
+import importlib.util
+import io
+import os
+import signal
+import sys
+import tempfile
+import unittest
+
+import tool
+
+HERE = os.path.dirname(os.path.abspath(__file__))
+
+
+def data(name):
+    with open(os.path.join(HERE, "data", name)) as file:
+        return file.read()
+
+
+def path_of(name):
+    return os.path.join(HERE, "data", name)
+
+
+def run(name, *words, given=""):
+    """Runs one of the tools, within this process, which takes less time than a new one. Returns its status, what it wrote and what it said."""
+    before = sys.stdin, sys.stdout, sys.stderr, signal.getsignal(signal.SIGINT), signal.getsignal(signal.SIGPIPE)
+    with tempfile.NamedTemporaryFile("r", errors="surrogateescape") as written:
+        sys.stdin = io.TextIOWrapper(io.BytesIO(given.encode(errors="surrogateescape")))
+        sys.stdout, sys.stderr = open(written.name, "w"), io.StringIO()
+        try:
+            tool.end(name, module(name).main, list(words))
+        except SystemExit as ended:
+            sys.stdout.close()
+            return ended.code, written.read(), sys.stderr.getvalue()
+        finally:
+            sys.stdin, sys.stdout, sys.stderr = before[:3]
+            signal.signal(signal.SIGINT, before[3])
+            signal.signal(signal.SIGPIPE, before[4])
+
+
+def module(name):
+    """A tool as a module."""
+    loader = importlib.machinery.SourceFileLoader(name, os.path.join(HERE, name))
+    loaded = importlib.util.module_from_spec(importlib.util.spec_from_loader(name, loader))
+    loader.exec_module(loaded)
+    return loaded
+
+
+class Folder(unittest.TestCase):
+    """Tests with a folder of their own."""
+
+    def setUp(self):
+        self.folder = tempfile.TemporaryDirectory()
+        self.addCleanup(self.folder.cleanup)
+
+    def put(self, name, text):
+        """Writes a file of this text. Returns its path."""
+        path = os.path.join(self.folder.name, name)
+        with open(path, "w", errors="surrogateescape") as file:
+            file.write(text)
+        return path
+
+
+def block(address, size="0x10", goroutine=1):
+    return f"tracealloc({address:#x}, {size})\ngoroutine {goroutine} [running]:\nruntime.mallocgc({size}, 0x0, 0x0)\n\t/go/malloc.go:1\n\n"
+
+
+def rows(text):
+    return [line.split() for line in text.splitlines()]
