@@ -1,5 +1,5 @@
 -- A report behind a trace.
-use Rattle.std.proofs.Common.{◌≡◌, ℕ, false, List, [], ◌∷◌, ◌++◌, Option, Some, None, refl, ◌∙◌, subst, inl, inr}
+use Rattle.std.proofs.Common.{◌≡◌, ℕ, false, List, [], ◌∷◌, ◌++◌, Option, Some, None, refl, ◌∙◌, map, subst, inl, inr}
 use Rattle.std.specs.Io.KnownBytes.{Consumes, IsAtEnd, prepend_known}
 use Rattle.std.proofs.KnownBytes.{Consumes-trans}
 use Rattle.edge_io.specs.declared.lines.Lines.{Lines}
@@ -11,7 +11,9 @@ use Rattle.trace_reader.specs.Refusal.{lines_fault, next_number, pieces_of}
 use Rattle.trace_reader.specs.Told.{BreaksOff as BreaksTrace}
 use Rattle.cycle_history.specs.declared.Report.{Report}
 use Rattle.report_text.specs.Read.{BreaksOff as BreaksReport, Reads as ReadsReport}
+use Rattle.report_text.specs.Items.{line_for}
 use Rattle.report_text.specs.Refusal.{told}
+use Rattle.report_text.proofs.Begun.{lines_begin}
 use Rattle.check_input.specs.declared.stop.Stop.{Stop}
 use Rattle.check_input.specs.declared.stop.Stop.TheVariants.{Trace as OfTrace, Report as OfReport, Verdict as OfVerdict}
 use Rattle.check_input.specs.Judged.{Stops}
@@ -79,10 +81,10 @@ broken_report left a b c d trace read limit same room off =
         split = refl;
         trace = trace;
         spelled = rw limit at read.2;
-        items = off.items;
+        lines = map line_for off.items;
         line = off.front;
-        lines = refl;
-        in_turn = off.in_turn;
+        ends = refl;
+        begins = lines_begin off.items off.in_turn;
         is_line = off.is_line;
         room = rw room at off.room;
       });

@@ -1,8 +1,9 @@
 -- A trace, and directly behind it a report.
-use Rattle.std.specs.Prelude.{◌≡◌, ℕ, ◌≤◌, ◌⊎◌, List, ◌++◌, length, Option, Some, None, Result, IsErrOf}
+use Rattle.std.specs.Prelude.{◌≡◌, ℕ, ◌≤◌, ◌⊎◌, List, ◌++◌, length, Option, Some, Result, IsErrOf}
 use Rattle.std.specs.Io.KnownBytes.{Consumes, IsAtEnd}
 use Rattle.edge_io.specs.Causes.{Rose}
 use Rattle.edge_io.specs.Line.{IsLine}
+use Rattle.edge_io.specs.Text.{text}
 use Rattle.trace_reader.specs.declared.trace.Trace.{Trace}
 use Rattle.trace_reader.specs.declared.fault.TraceFault.{TraceFault}
 use Rattle.trace_reader.specs.declared.fault.TraceFault.TheVariants.{ReadFault as TraceReadFault, Truncated}
@@ -12,10 +13,8 @@ use Rattle.trace_reader.specs.Told.{IsOfTrace}
 use Rattle.cycle_history.specs.declared.Report.{Report}
 use Rattle.report_text.specs.declared.fault.ReportFault.{ReportFault}
 use Rattle.report_text.specs.declared.fault.ReportFault.TheVariants.{ReadFault as ReportReadFault}
-use Rattle.report_text.specs.declared.item.Item.{Item}
-use Rattle.report_text.specs.Items.{AreInTurn}
 use Rattle.report_text.specs.Read.{IsOfReport, IsText}
-use Rattle.report_text.specs.Refusal.{IsRefusal, told}
+use Rattle.report_text.specs.Refusal.{IsRefusal}
 use Rattle.check_input.specs.declared.stop.Stop.{Stop}
 use Rattle.check_input.specs.declared.stop.Stop.TheVariants.{Trace as OfTrace, Report as OfReport, Verdict as OfVerdict}
 
@@ -65,18 +64,18 @@ IsReadFault (OfReport ReportReadFault) = Unit {0}
 IsReadFault (OfReport fault) = ⊥
 IsReadFault (OfVerdict verdict) = ⊥
 
--- A whole trace stands at the front of the bytes, and behind it lines in turn of a report, and then a line or a front of one
--- that nothing has ended.
+-- A whole trace stands at the front of the bytes, and behind it lines with which a report's text begins, and then a line or a
+-- front of one that nothing has ended.
 pub record IsUnendedReport (bytes : List ℕ) : Type 0 where
   pub front : List ℕ
   pub rest : List ℕ
   pub split : bytes ≡ front ++ rest
   pub trace : Trace
   pub spelled : Spells front trace
-  pub items : List Item
+  pub lines : List (List ℕ)
   pub line : List ℕ
-  pub lines : rest ≡ told items ++ line
-  pub in_turn : AreInTurn None items
+  pub ends : rest ≡ text lines ++ line
+  pub begins : (report : Report) × (more : List ℕ) × IsText (text lines ++ more) report
   pub is_line : IsLine line
   pub room : length rest ≤ 4294967296
 
