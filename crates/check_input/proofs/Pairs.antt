@@ -5,11 +5,14 @@ use Rattle.std.proofs.KnownBytes.{Consumes-trans}
 use Rattle.edge_io.specs.declared.lines.Lines.{Lines}
 use Rattle.edge_io.specs.Reading.{is_dry, lines_left, number_of, room_of, source_of}
 use Rattle.trace_reader.specs.declared.trace.Trace.{Trace}
-use Rattle.trace_reader.specs.declared.fault.TraceFault.TheVariants.{Truncated}
+use Rattle.trace_reader.specs.declared.fault.TraceFault.{TraceFault}
+use Rattle.trace_reader.specs.declared.fault.TraceFault.TheVariants.{ReadFault, Malformed, Truncated, Limit, BadMark, NoMemory}
 use Rattle.trace_reader.specs.Read.{Reads}
 use Rattle.trace_reader.specs.Refusal.{lines_fault, next_number, pieces_of}
 use Rattle.trace_reader.specs.Told.{BreaksOff as BreaksTrace}
 use Rattle.cycle_history.specs.declared.Report.{Report}
+use Rattle.report_text.specs.declared.fault.ReportFault.{ReportFault}
+use Rattle.report_text.specs.declared.fault.ReportFault.TheVariants.{ReadFault as Unread, Malformed as OddLine, Truncated as EndsEarly, Limit as TooLong, NoMemory as OutOfMemory}
 use Rattle.report_text.specs.Read.{BreaksOff as BreaksReport, Reads as ReadsReport}
 use Rattle.report_text.specs.Items.{line_for}
 use Rattle.report_text.specs.Refusal.{told}
@@ -17,7 +20,7 @@ use Rattle.report_text.proofs.Begun.{lines_begin}
 use Rattle.check_input.specs.declared.stop.Stop.{Stop}
 use Rattle.check_input.specs.declared.stop.Stop.TheVariants.{Trace as OfTrace, Report as OfReport, Verdict as OfVerdict}
 use Rattle.check_input.specs.Judged.{Stops}
-use Rattle.check_input.specs.Pair.{BreaksOff, ReadsPair, Refuses}
+use Rattle.check_input.specs.Pair.{BreaksOff, IsReadFault, ReadsPair, Refuses}
 
 -- at the end of the lines nothing is left of the source
 source_ended : (ahead : List ℕ) (a left : Option (List ℕ)) (bytes : List ℕ) → Consumes a (prepend_known ahead left) bytes → IsAtEnd (prepend_known ahead left) → Consumes a left bytes × IsAtEnd left
@@ -51,6 +54,22 @@ pub stops_before : (broken : Trace → Report → ℕ → ℕ → Type 0) (left 
 stops_before broken left left' (OfTrace fault) refused = refused
 stops_before broken left left' (OfReport fault) refused = refused
 stops_before broken left left' (OfVerdict verdict) refused = absurd refused
+
+-- which faults are those of a source
+pub trace_unread : (fault : TraceFault) → IsReadFault (OfTrace fault) → fault ≡ ReadFault
+trace_unread ReadFault is = refl
+trace_unread (Malformed line) is = absurd is
+trace_unread (Truncated line) is = absurd is
+trace_unread (Limit line which) is = absurd is
+trace_unread (BadMark line object) is = absurd is
+trace_unread NoMemory is = absurd is
+
+pub report_unread : (fault : ReportFault) → IsReadFault (OfReport fault) → fault ≡ Unread
+report_unread Unread is = refl
+report_unread (OddLine line) is = absurd is
+report_unread (EndsEarly line) is = absurd is
+report_unread (TooLong line) is = absurd is
+report_unread OutOfMemory is = absurd is
 
 -- a read failed in the trace
 pub broken_trace : {S : Type 0} (left : S → Option (List ℕ)) (a b : Lines S) → number_of a ≡ 0 → room_of a ≡ 67108864 → BreaksTrace left a b [] → BreaksOff (lines_left left a) (left (source_of b))
