@@ -1,7 +1,8 @@
 #!/usr/bin/env bash
 # Runs goheap on each trace of this folder, and compares what it prints with the report beside the trace, which it then has
 # judged; with `--each` it compares with the report that ends in `.each`, where there is one. A report with exchanged addresses must be
-# refused. Of the recorded trace of a real program it compares the totals.
+# refused. Words that read nothing print the file of their name that ends in `.lines`, the same at each run and within a minute. Of the
+# recorded trace of a real program it compares the totals.
 set -u
 cd "$(dirname "$0")" || exit 1
 failed=0
@@ -30,6 +31,16 @@ if [ "$(cat pointers-apart.trace pointers-apart.exchanged | ../goheap check 2>&1
   echo "pointers-apart.exchanged: not refused by rule 4" >&2
   failed=1
 fi
+for lines in *.lines; do
+  words=${lines%.lines}
+  for run in first second; do
+    # shellcheck disable=SC2086 # the words are several
+    if ! timeout 60 ../goheap ${words//-/ } </dev/null 2>&1 | cmp -s - "$lines"; then
+      echo "$lines: other lines at the $run run" >&2
+      failed=1
+    fi
+  done
+done
 unpacked() { python3 -c 'import lzma, shutil, sys; shutil.copyfileobj(lzma.open(sys.argv[1]), sys.stdout.buffer)' "$1"; }
 for packed in real/*.trace.xz; do
   if ! diff <(unpacked "$packed" | ../goheap run | grep '^t ') "${packed%.trace.xz}.totals" >/dev/null; then

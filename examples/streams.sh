@@ -6,6 +6,7 @@ cd "$(dirname "$(readlink -f "$0")")"
 folder=$(mktemp -d)
 trap 'rm -rf "$folder"' EXIT
 goheap=../goheap
+usage="usage: goheap run [--background=N] [--each] / check / gen SEED OBJECTS / demo SEED OBJECTS / classes"
 failed=0
 "$goheap" run <one-object.trace >/dev/null || exit 1 # built, if need be
 
@@ -72,13 +73,13 @@ status=$?
 wants "both outputs full" 6 $status ""
 
 # The words that read nothing: a closed pipe, a full disk, both outputs full, and an input that cannot be read.
-for words in classes "gen 1 100000"; do
+for words in classes "gen 1 100000" "demo 1 1000"; do
   # shellcheck disable=SC2086 # the words are several
   {
     # A text that fits into the pipe is written before the other end is closed.
     "$goheap" $words 2>"$folder/said" | true
     status=${PIPESTATUS[0]}
-    if [ "$words" != classes ] || [ "$status" -ne 0 ]; then
+    if [ "$words" = "gen 1 100000" ] || [ "$status" -ne 0 ]; then
       wants "$words into a closed pipe" 6 "$status" "goheap: write fault"
     fi
     "$goheap" $words >/dev/full 2>"$folder/said"
@@ -96,8 +97,12 @@ done
 "$goheap" gen 1 1000000 >"$folder/made"
 [ "$(grep -c '^a ' "$folder/made")" -eq 1000000 ] || { echo "gen 1 1000000: other objects" >&2; failed=1; }
 "$goheap" gen 1 1000001 >"$folder/wrote" 2>"$folder/said"
-wants "a million objects and one" 2 $? "usage: goheap run [--background=N] [--each] / check / gen SEED OBJECTS / demo SEED OBJECTS / classes"
+wants "a million objects and one" 2 $? "$usage"
 [ -s "$folder/wrote" ] && { echo "a million objects and one: something was written" >&2; failed=1; }
+
+"$goheap" run $'--each\xff' <one-object.trace >"$folder/wrote" 2>"$folder/said"
+wants "a word that is no UTF-8" 2 $? "$usage"
+[ -s "$folder/wrote" ] && { echo "a word that is no UTF-8: something was written" >&2; failed=1; }
 
 mkfifo "$folder/fifo"
 awk '{ for (i = 1; i <= length($0); i++) { printf "%s", substr($0, i, 1); fflush() } print ""; fflush() }' span-reused.trace >"$folder/fifo" &

@@ -12,7 +12,7 @@ use Rattle.check_input.specs.declared.stop.Stop.{Stop}
 use Rattle.check_input.specs.declared.stop.Stop.TheVariants.{Trace as OfTrace, Report as OfReport, Verdict as OfVerdict}
 use Rattle.check_input.specs.declared.stop.Verdict.TheVariants.{Broken, NoMemory as NoRoom}
 use Rattle.check_input.specs.Judged.{IsSound, Stops}
-use Rattle.check_input.specs.Pair.{Refuses}
+use Rattle.check_input.specs.Pair.{BreaksOff, IsReadFault, Refuses}
 use Rattle.trace_reader.specs.Told.{IsOfTrace}
 use Rattle.report_text.specs.Read.{IsOfReport}
 use Rattle.alloc_tool.specs.Checked.{BreaksAt, Checked, check_text, stop_status, stop_text}
@@ -33,6 +33,7 @@ checked_ok left reads held writes shown tells input input' output output' errors
   refused = λ three. absurd (never 3 (λ e. cc) (λ e. cc) three);
   broken = λ four. absurd (never 4 (λ e. cc) (λ e. cc) four);
   read_fault = λ five. absurd (never 5 (λ e. cc) (λ e. cc) five);
+  broken_off = λ five. absurd (never 5 (λ e. cc) (λ e. cc) five);
   write_fault = rose;
   partly_written = λ six. (sound, front six);
   unwritten = λ some other. absurd (elim ends [ inl zero ↦ some zero | inr six ↦ other six ]);
@@ -45,12 +46,12 @@ checked_ok left reads held writes shown tells input input' output output' errors
 -- a fault of the trace or of the report, a broken rule, a read fault or want of memory
 abbrev Way : {S K E : Type 0} (left : S → Option (List ℕ)) (reads : S → ℕ) (held : K → Option (List ℕ)) (writes : K → ℕ) (shown : E → Option (List ℕ)) (tells : E → ℕ) (input input' : S) (output : K) (errors errors' : E) (stop : Stop) (status : ℕ) → Type 0
 Way left reads held writes shown tells input input' output errors errors' stop status =
-    Stops BreaksRules (left input) (left input') stop → (stop ≡ OfTrace ReadFault → Rose (reads input) (reads input')) → (stop ≡ OfReport Unread → Rose (reads input) (reads input')) → status ≡ stop_status stop → Tells shown tells errors errors' (stop_text stop)
+    Stops BreaksRules (left input) (left input') stop → (stop ≡ OfTrace ReadFault → Rose (reads input) (reads input')) → (stop ≡ OfReport Unread → Rose (reads input) (reads input')) → (IsReadFault stop → BreaksOff (left input) (left input')) → status ≡ stop_status stop → Tells shown tells errors errors' (stop_text stop)
     → Checked left reads held writes shown tells input input' output output errors errors' status
 
 three_way : {S K E : Type 0} (left : S → Option (List ℕ)) (reads : S → ℕ) (held : K → Option (List ℕ)) (writes : K → ℕ) (shown : E → Option (List ℕ)) (tells : E → ℕ) (input input' : S) (output : K) (errors errors' : E) (fault : TraceFault) (status : ℕ) → stop_status (OfTrace fault) ≡ 3
     → IsOfTrace fault → Way left reads held writes shown tells input input' output errors errors' (OfTrace fault) status
-three_way left reads held writes shown tells input input' output errors errors' fault status is of stops a b e told =
+three_way left reads held writes shown tells input input' output errors errors' fault status is of stops a b off e told =
     let three : status ≡ 3 = e ∙ is in
     record {
       ends = inr (inl three);
@@ -59,6 +60,7 @@ three_way left reads held writes shown tells input input' output errors errors' 
       refused = λ _. (fault, of, stops, told);
       broken = λ f. absurd (clash status 3 4 (λ g. cc) three f);
       read_fault = λ f. absurd (clash status 3 5 (λ g. cc) three f);
+      broken_off = λ f. absurd (clash status 3 5 (λ g. cc) three f);
       write_fault = λ f. absurd (clash status 3 6 (λ g. cc) three f);
       partly_written = λ f. absurd (clash status 3 6 (λ g. cc) three f);
       unwritten = λ _ _. refl;
@@ -67,14 +69,15 @@ three_way left reads held writes shown tells input input' output errors errors' 
     }
 
 five_way : {S K E : Type 0} (left : S → Option (List ℕ)) (reads : S → ℕ) (held : K → Option (List ℕ)) (writes : K → ℕ) (shown : E → Option (List ℕ)) (tells : E → ℕ) (input input' : S) (output : K) (errors errors' : E) (status : ℕ) → status ≡ 5 → Rose (reads input) (reads input')
-    → Tells shown tells errors errors' (status_text 5) → Checked left reads held writes shown tells input input' output output errors errors' status
-five_way left reads held writes shown tells input input' output errors errors' status five rose told = record {
+    → BreaksOff (left input) (left input') → Tells shown tells errors errors' (status_text 5) → Checked left reads held writes shown tells input input' output output errors errors' status
+five_way left reads held writes shown tells input input' output errors errors' status five rose off told = record {
   ends = inr (inr (inr (inl five)));
   answered = λ f. absurd (clash status 5 0 (λ g. cc) five f);
   silent = λ f. absurd (clash status 5 0 (λ g. cc) five f);
   refused = λ f. absurd (clash status 5 3 (λ g. cc) five f);
   broken = λ f. absurd (clash status 5 4 (λ g. cc) five f);
   read_fault = λ _. rose;
+  broken_off = λ _. off;
   write_fault = λ f. absurd (clash status 5 6 (λ g. cc) five f);
   partly_written = λ f. absurd (clash status 5 6 (λ g. cc) five f);
   unwritten = λ _ _. refl;
@@ -91,6 +94,7 @@ seven_way left reads held writes shown tells input input' output errors errors' 
   refused = λ f. absurd (clash status 7 3 (λ g. cc) seven f);
   broken = λ f. absurd (clash status 7 4 (λ g. cc) seven f);
   read_fault = λ f. absurd (clash status 7 5 (λ g. cc) seven f);
+  broken_off = λ f. absurd (clash status 7 5 (λ g. cc) seven f);
   write_fault = λ f. absurd (clash status 7 6 (λ g. cc) seven f);
   partly_written = λ f. absurd (clash status 7 6 (λ g. cc) seven f);
   unwritten = λ _ _. refl;
@@ -109,6 +113,7 @@ four_way left reads held writes shown tells input input' output errors errors' s
   refused = λ f. absurd (clash status 4 3 (λ g. cc) four f);
   broken = λ _. why;
   read_fault = λ f. absurd (clash status 4 5 (λ g. cc) four f);
+  broken_off = λ f. absurd (clash status 4 5 (λ g. cc) four f);
   write_fault = λ f. absurd (clash status 4 6 (λ g. cc) four f);
   partly_written = λ f. absurd (clash status 4 6 (λ g. cc) four f);
   unwritten = λ _ _. refl;
@@ -118,16 +123,16 @@ four_way left reads held writes shown tells input input' output errors errors' s
 
 pub checked_stop : {S K E : Type 0} (left : S → Option (List ℕ)) (reads : S → ℕ) (held : K → Option (List ℕ)) (writes : K → ℕ) (shown : E → Option (List ℕ)) (tells : E → ℕ) (input input' : S) (output : K) (errors errors' : E) (stop : Stop) (status : ℕ)
     → Way left reads held writes shown tells input input' output errors errors' stop status
-checked_stop left reads held writes shown tells input input' output errors errors' (OfTrace ReadFault) status stops a b e told = five_way left reads held writes shown tells input input' output errors errors' status e (a refl) told
-checked_stop left reads held writes shown tells input input' output errors errors' (OfTrace (Malformed line)) status stops a b e told = three_way left reads held writes shown tells input input' output errors errors' (Malformed line) status refl tt stops a b e told
-checked_stop left reads held writes shown tells input input' output errors errors' (OfTrace (Truncated line)) status stops a b e told = three_way left reads held writes shown tells input input' output errors errors' (Truncated line) status refl tt stops a b e told
-checked_stop left reads held writes shown tells input input' output errors errors' (OfTrace (Limit line which)) status stops a b e told = three_way left reads held writes shown tells input input' output errors errors' (Limit line which) status refl tt stops a b e told
-checked_stop left reads held writes shown tells input input' output errors errors' (OfTrace (BadMark line object)) status stops a b e told = three_way left reads held writes shown tells input input' output errors errors' (BadMark line object) status refl tt stops a b e told
-checked_stop left reads held writes shown tells input input' output errors errors' (OfTrace NoMemory) status stops a b e told = seven_way left reads held writes shown tells input input' output errors errors' status e told
-checked_stop left reads held writes shown tells input input' output errors errors' (OfReport Unread) status stops a b e told = five_way left reads held writes shown tells input input' output errors errors' status e (b refl) told
-checked_stop left reads held writes shown tells input input' output errors errors' (OfReport (OddLine line)) status stops a b e told = four_way left reads held writes shown tells input input' output errors errors' (OfReport (OddLine line)) status e (inl (OddLine line, tt, stops, told))
-checked_stop left reads held writes shown tells input input' output errors errors' (OfReport (EndsEarly line)) status stops a b e told = four_way left reads held writes shown tells input input' output errors errors' (OfReport (EndsEarly line)) status e (inl (EndsEarly line, tt, stops, told))
-checked_stop left reads held writes shown tells input input' output errors errors' (OfReport (TooLong line)) status stops a b e told = four_way left reads held writes shown tells input input' output errors errors' (OfReport (TooLong line)) status e (inl (TooLong line, tt, stops, told))
-checked_stop left reads held writes shown tells input input' output errors errors' (OfReport OutOfMemory) status stops a b e told = seven_way left reads held writes shown tells input input' output errors errors' status e told
-checked_stop left reads held writes shown tells input input' output errors errors' (OfVerdict (Broken rule line)) status stops a b e told = four_way left reads held writes shown tells input input' output errors errors' (OfVerdict (Broken rule line)) status e (inr (rule, line, stops, told))
-checked_stop left reads held writes shown tells input input' output errors errors' (OfVerdict NoRoom) status stops a b e told = seven_way left reads held writes shown tells input input' output errors errors' status e told
+checked_stop left reads held writes shown tells input input' output errors errors' (OfTrace ReadFault) status stops a b off e told = five_way left reads held writes shown tells input input' output errors errors' status e (a refl) (off tt) told
+checked_stop left reads held writes shown tells input input' output errors errors' (OfTrace (Malformed line)) status stops a b off e told = three_way left reads held writes shown tells input input' output errors errors' (Malformed line) status refl tt stops a b off e told
+checked_stop left reads held writes shown tells input input' output errors errors' (OfTrace (Truncated line)) status stops a b off e told = three_way left reads held writes shown tells input input' output errors errors' (Truncated line) status refl tt stops a b off e told
+checked_stop left reads held writes shown tells input input' output errors errors' (OfTrace (Limit line which)) status stops a b off e told = three_way left reads held writes shown tells input input' output errors errors' (Limit line which) status refl tt stops a b off e told
+checked_stop left reads held writes shown tells input input' output errors errors' (OfTrace (BadMark line object)) status stops a b off e told = three_way left reads held writes shown tells input input' output errors errors' (BadMark line object) status refl tt stops a b off e told
+checked_stop left reads held writes shown tells input input' output errors errors' (OfTrace NoMemory) status stops a b off e told = seven_way left reads held writes shown tells input input' output errors errors' status e told
+checked_stop left reads held writes shown tells input input' output errors errors' (OfReport Unread) status stops a b off e told = five_way left reads held writes shown tells input input' output errors errors' status e (b refl) (off tt) told
+checked_stop left reads held writes shown tells input input' output errors errors' (OfReport (OddLine line)) status stops a b off e told = four_way left reads held writes shown tells input input' output errors errors' (OfReport (OddLine line)) status e (inl (OddLine line, tt, stops, told))
+checked_stop left reads held writes shown tells input input' output errors errors' (OfReport (EndsEarly line)) status stops a b off e told = four_way left reads held writes shown tells input input' output errors errors' (OfReport (EndsEarly line)) status e (inl (EndsEarly line, tt, stops, told))
+checked_stop left reads held writes shown tells input input' output errors errors' (OfReport (TooLong line)) status stops a b off e told = four_way left reads held writes shown tells input input' output errors errors' (OfReport (TooLong line)) status e (inl (TooLong line, tt, stops, told))
+checked_stop left reads held writes shown tells input input' output errors errors' (OfReport OutOfMemory) status stops a b off e told = seven_way left reads held writes shown tells input input' output errors errors' status e told
+checked_stop left reads held writes shown tells input input' output errors errors' (OfVerdict (Broken rule line)) status stops a b off e told = four_way left reads held writes shown tells input input' output errors errors' (OfVerdict (Broken rule line)) status e (inr (rule, line, stops, told))
+checked_stop left reads held writes shown tells input input' output errors errors' (OfVerdict NoRoom) status stops a b off e told = seven_way left reads held writes shown tells input input' output errors errors' status e told

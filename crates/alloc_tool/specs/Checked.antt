@@ -14,7 +14,7 @@ use Rattle.check_input.specs.declared.stop.Stop.{Stop}
 use Rattle.check_input.specs.declared.stop.Stop.TheVariants.{Trace as OfTrace, Report as OfReport, Verdict as OfVerdict}
 use Rattle.check_input.specs.declared.stop.Verdict.TheVariants.{Broken, NoMemory}
 use Rattle.check_input.specs.Judged.{IsSound}
-use Rattle.check_input.specs.Pair.{ArePair, ReadsPair, Refuses}
+use Rattle.check_input.specs.Pair.{ArePair, BreaksOff, ReadsPair, Refuses}
 use Rattle.alloc_tool.specs.Texts.{check_ok, fault_status, fault_text, report_fault_text, report_status, rule_text, status_text}
 use Rattle.alloc_tool.specs.Told.{Tells}
 
@@ -54,8 +54,9 @@ pub record Checked {S K E : Type 0} (left : S → Option (List ℕ)) (reads : S 
   -- 4: it tells a fault of the report's text, or the first rule that the report breaks, with its first line
   pub broken : status ≡ 4 → ((fault : ReportFault) × IsOfReport fault × Refuses (left input) (OfReport fault) × Tells shown tells errors errors' (report_fault_text fault))
       ⊎ ((rule : ℕ) × (line : ℕ) × BreaksAt (left input) (left input') rule line × Tells shown tells errors errors' (rule_text rule line))
-  -- 5: a read failed
+  -- 5: a read failed, and nothing was wrong before
   pub read_fault : status ≡ 5 → Rose (reads input) (reads input')
+  pub broken_off : status ≡ 5 → BreaksOff (left input) (left input')
   -- 6: a write failed, and a front of the line was written
   pub write_fault : status ≡ 6 → Rose (writes output) (writes output')
   pub partly_written : status ≡ 6 → IsSound MeetsChecked (left input) (left input') × AppendsFront (held output) (held output') check_text

@@ -2,6 +2,7 @@
 
 use super::*;
 use edge_io::{Lines, List, MemorySink, MemorySource};
+use std::process::Abort;
 use std::sync::Wait;
 use std::test::Fail;
 use std::thread::Threads;
@@ -63,7 +64,7 @@ fn call<R: Threads + Wait + Sync + AllocGlobal>(
 }
 
 // Lines of events, and the report of them without its last line.
-const ANSWERED: [(&str, &str); 15] = [
+const ANSWERED: [(&str, &str); 16] = [
     ("", ""),
     (
         "a 0 24 s 1\n",
@@ -116,6 +117,10 @@ const ANSWERED: [(&str, &str); 15] = [
         "o 0 0xc000000000\no 1 0xc000000000\nj 0 0 take 0 1 6\nj 1 1 give 0 1\nj 2 1 take 0 1 6\ns 1 0 0 1\nt 3 2 1\n",
     ),
     (
+        "a 0 4194304 s 1\na 0 1 s 1\ngc 1\nm 0 1\n",
+        "o 0 0xc000000000\no 1 miss 1\nj 0 0 take 0 512 0\nj 1 0 miss 1 2\ns 1 0 1 0\nt 0 1 0\n",
+    ),
+    (
         "a 0 4194304 s 1\na 0 1 s 1\na 0 0 s 1\ngc 1\nm 0 2\n",
         "o 0 0xc000000000\no 1 miss 1\no 2 zero\nj 0 0 take 0 512 0\nj 1 0 miss 1 2\ns 1 0 1 0\nt 0 1 0\n",
     ),
@@ -158,14 +163,50 @@ const WITH_HEADS: [(&str, &str, &str); 3] = [
     ),
 ];
 
+// Lines of events that are all sampled, the report of them without its profile and its last line, and the profile of the last mark end and
+// of each: an object of size 0; three objects of which one lives on; and the same with one object more, behind a second mark end.
+const SAMPLED: [(&str, &str, &str, &str); 3] = [
+    ("a 0 0 n 3\ngc 1\nm 0 0\n", "o 0 zero\n", "", ""),
+    (
+        "a 0 24 s 7\na 0 24 s 7\na 0 24 s 7\ngc 1\nm 0 0\n",
+        "o 0 0xc000000000\no 1 0xc000000018\no 2 0xc000000030\nj 0 0 take 0 1 6\ns 1 0 1 2\nt 3 3 2\n",
+        "p 1 7 24 3 2\n",
+        "p 1 7 24 3 2\n",
+    ),
+    (
+        "a 0 24 s 7\na 0 24 s 7\na 0 24 s 7\ngc 1\nm 0 0\na 0 24 s 7\ngc 1\nm 3 3\n",
+        "o 0 0xc000000000\no 1 0xc000000018\no 2 0xc000000030\no 3 0xc000000018\nj 0 0 take 0 1 6\ns 1 0 1 2\ns 2 0 1 1\nt 3 4 3\n",
+        "p 2 7 24 4 3\n",
+        "p 1 7 24 3 2\np 2 7 24 4 3\n",
+    ),
+];
+
+// Wants that the words answer a trace with this report, and tell nothing.
+fn expect_answer<R: Threads + Wait + Sync + AllocGlobal + Abort>(
+    rt: &R,
+    words: &[&str],
+    input: &str,
+    report: &str,
+) -> Result<(), Fail> {
+    let found = call(rt, words, input.as_bytes(), &[], &[])?;
+    assert_eq!(rt; found.status, 0, "at {words:?} {input}");
+    assert_eq!(rt;
+        found.written.as_slice(),
+        report.as_bytes(),
+        "at {words:?} {input}"
+    );
+    assert_eq!(rt; found.told.len(), 0, "at {words:?} {input}");
+    Ok(())
+}
+
 #[test]
 fn processors_and_goals_are_served(rt: HostRuntime) -> Result<(), Fail> {
     for (head, lines, text) in WITH_HEADS {
         let input = format!(in rt.alloc(); "goheap 1\n{head}\n{lines}end\n")?;
         let report = format!(in rt.alloc(); "{text}end\n")?;
-        let found = call(&rt, &["run"], input.as_bytes(), &[], &[])?;
-        assert_eq!(rt; found.status, 0, "at {head}");
-        assert_eq!(rt; found.written.as_slice(), report.as_bytes(), "at {head}");
+        for words in [["run"].as_slice(), ["run", "--background=0"].as_slice()] {
+            expect_answer(&rt, words, input.as_str(), report.as_str())?;
+        }
     }
     Ok(())
 }
@@ -175,10 +216,24 @@ fn traces_are_answered(rt: HostRuntime) -> Result<(), Fail> {
     for (lines, text) in ANSWERED {
         let input = format!(in rt.alloc(); "{HEAD}{lines}end\n")?;
         let report = format!(in rt.alloc(); "{text}end\n")?;
-        let found = call(&rt, &["run"], input.as_bytes(), &[], &[])?;
-        assert_eq!(rt; found.status, 0, "at {lines}");
-        assert_eq!(rt; found.written.as_slice(), report.as_bytes(), "at {lines}");
-        assert_eq!(rt; found.told.len(), 0, "at {lines}");
+        for words in [["run"].as_slice(), ["run", "--background=0"].as_slice()] {
+            expect_answer(&rt, words, input.as_str(), report.as_str())?;
+        }
+    }
+    Ok(())
+}
+
+#[test]
+fn profiles_have_their_form(rt: HostRuntime) -> Result<(), Fail> {
+    for (lines, text, last, each) in SAMPLED {
+        let head = "heap 1 procs 1 rate 1 seed 1 goal 512";
+        let input = format!(in rt.alloc(); "goheap 1\n{head}\n{lines}end\n")?;
+        let report = format!(in rt.alloc(); "{text}{last}end\n")?;
+        let words = ["run", "--background=0"].as_slice();
+        expect_answer(&rt, words, input.as_str(), report.as_str())?;
+        let report = format!(in rt.alloc(); "{text}{each}end\n")?;
+        let words = ["run", "--each", "--background=0"].as_slice();
+        expect_answer(&rt, words, input.as_str(), report.as_str())?;
     }
     Ok(())
 }

@@ -1,10 +1,12 @@
 -- A trace, and directly behind it a report.
-use Rattle.std.specs.Prelude.{◌≡◌, ℕ, ◌≤◌, List, ◌++◌, length, Option, Some, Result, IsErrOf}
+use Rattle.std.specs.Prelude.{◌≡◌, ℕ, ◌≤◌, ◌⊎◌, List, ◌++◌, length, Option, Some, Result, IsErrOf}
 use Rattle.std.specs.Io.KnownBytes.{Consumes, IsAtEnd}
 use Rattle.edge_io.specs.Causes.{Rose}
+use Rattle.edge_io.specs.Line.{IsLine}
+use Rattle.edge_io.specs.Text.{text}
 use Rattle.trace_reader.specs.declared.trace.Trace.{Trace}
 use Rattle.trace_reader.specs.declared.fault.TraceFault.{TraceFault}
-use Rattle.trace_reader.specs.declared.fault.TraceFault.TheVariants.{ReadFault as TraceReadFault}
+use Rattle.trace_reader.specs.declared.fault.TraceFault.TheVariants.{ReadFault as TraceReadFault, Truncated}
 use Rattle.trace_reader.specs.Limits.{Spells}
 use Rattle.trace_reader.specs.Refusal.{fault_in}
 use Rattle.trace_reader.specs.Told.{IsOfTrace}
@@ -53,3 +55,33 @@ pub record HasReadCause {T : Type 0} (before now : ℕ) (result : Result T Stop)
   pub later : before ≤ now
   pub in_trace : IsErrOf result (OfTrace TraceReadFault) → Rose before now
   pub in_report : IsErrOf result (OfReport ReportReadFault) → Rose before now
+
+-- The source failed.
+abbrev pub IsReadFault : Stop → Type 0
+IsReadFault (OfTrace TraceReadFault) = Unit {0}
+IsReadFault (OfTrace fault) = ⊥
+IsReadFault (OfReport ReportReadFault) = Unit {0}
+IsReadFault (OfReport fault) = ⊥
+IsReadFault (OfVerdict verdict) = ⊥
+
+-- A whole trace stands at the front of the bytes, and behind it lines with which a report's text begins, and then a line or a
+-- front of one that nothing has ended.
+pub record IsUnendedReport (bytes : List ℕ) : Type 0 where
+  pub front : List ℕ
+  pub rest : List ℕ
+  pub split : bytes ≡ front ++ rest
+  pub trace : Trace
+  pub spelled : Spells front trace
+  pub lines : List (List ℕ)
+  pub line : List ℕ
+  pub ends : rest ≡ text lines ++ line
+  pub begins : (report : Report) × (more : List ℕ) × IsText (text lines ++ more) report
+  pub is_line : IsLine line
+  pub room : length rest ≤ 4294967296
+
+-- Nothing is wrong with what the source gave before a read failed but that it ends there: in a line of the trace, whose
+-- number this is, or in one of the report behind it.
+pub record BreaksOff (left left' : Option (List ℕ)) : Type 0 where
+  pub bytes : List ℕ
+  pub taken : Consumes left left' bytes
+  pub unended : ((number : ℕ) × IsTraceFault bytes (Truncated number)) ⊎ IsUnendedReport bytes

@@ -5,7 +5,7 @@ ghost use Rattle.trace_reader.specs.declared.trace.Trace.{Trace as ATrace};
 ghost use Rattle.trace_reader.specs.Limits.{WithinLimits};
 ghost use Rattle.cycle_history.specs.declared.Report.{Report as AReport};
 ghost use Rattle.check_input.specs.Judged.{IsSound, Judges, Stops};
-ghost use Rattle.check_input.specs.Pair.{HasReadCause};
+ghost use Rattle.check_input.specs.Pair.{BreaksOff, HasReadCause, IsReadFault};
 
 use crate::read::read_pair;
 use crate::stop::{Stop, Verdict};
@@ -29,10 +29,12 @@ pub trait Judge {
         ensures broken { IfErr result (Judges (Broken trace.now report.now)) };
 }
 
-/// Reads a trace, and directly behind it a report to the end of the input, and has the report judged.
+/// Reads a trace, and directly behind it a report to the end of the input, and has the report judged. A read fault comes only
+/// where nothing is wrong with what was read before it.
 pub fn check_input<S: Source, J: Judge>(alloc: Global, input: &mut S, judge: &J) -> Result<(), Stop>
     ensures sound { OnOk result (IsSound J.Sound (S.left input.old) (S.left input.new)) }
     ensures stopped { IfErr result (Stops J.Broken (S.left input.old) (S.left input.new)) }
+    ensures broken_off { IfErr result (λ stop. IsReadFault stop → BreaksOff (S.left input.old) (S.left input.new)) }
     ensures cause { HasReadCause (S.faults input.old) (S.faults input.new) result }
 {
     let (trace, report) = read_pair(alloc, input)?;

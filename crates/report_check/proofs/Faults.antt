@@ -1,6 +1,6 @@
 -- The rules in their order.
 use Rattle.std.specs.Prelude.{IfErr, IsErrAnd}
-use Rattle.std.proofs.Common.{◌≡◌, ℕ, ◌-◌, Result, Ok, Err, List, [], refl, sym, subst, arith}
+use Rattle.std.proofs.Common.{◌≡◌, ◌≤◌, ℕ, ◌-◌, Result, Ok, Err, List, [], refl, sym, subst, arith}
 use Rattle.trace_reader.specs.declared.trace.Trace.{Trace}
 use Rattle.cycle_history.specs.declared.Report.{Report}
 use Rattle.cycle_history.specs.Objects.{Object}
@@ -17,7 +17,7 @@ use Rattle.report_rules.specs.Published.{BreaksProfile}
 use Rattle.report_rules.specs.Broken.{Breaks, IsBroken}
 use Rattle.report_check.specs.declared.fault.CheckFault.{CheckFault}
 use Rattle.report_check.specs.declared.fault.CheckFault.TheVariants.{Broken, NoMemory}
-use Rattle.report_check.specs.Fault.{IsFault, IsFaultOf}
+use Rattle.report_check.specs.Fault.{IsFault, IsFaultOf, IsUpTo}
 
 pub meets-none : (t : Trace) (report : Report) (objects : List Object) → MeetsUpTo 0 t report objects
 meets-none t report objects = record {
@@ -345,3 +345,8 @@ err-map (Err e) P Q to h = to e h
 pub err-from : {T : Type 0} (r : Result T CheckFault) (fault : CheckFault) (P : CheckFault → Type 0) → IsErrAnd r (λ (e : CheckFault). e ≡ fault) → P fault → IfErr r P
 err-from (Ok x) fault P h p = absurd h
 err-from (Err e) fault P h p = subst P (sym h) p
+
+-- a fault of a rule up to this one
+pub fault-up-to : (k n : ℕ) (breaks : ℕ → Type 0) (fault : CheckFault) → n ≤ k → IsFaultOf n breaks fault → IsUpTo k fault
+fault-up-to k n breaks (Broken rule line) le is = subst (λ (m : ℕ). m ≤ k) (sym is.0) le
+fault-up-to k n breaks NoMemory le is = tt

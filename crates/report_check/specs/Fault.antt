@@ -1,5 +1,5 @@
 -- What a refusal says.
-use Rattle.std.specs.Prelude.{◌≡◌, ℕ, List}
+use Rattle.std.specs.Prelude.{◌≡◌, ◌≤◌, ℕ, List}
 use Rattle.trace_reader.specs.declared.trace.Trace.{Trace}
 use Rattle.cycle_history.specs.declared.Report.{Report}
 use Rattle.cycle_history.specs.Objects.{Object}
@@ -18,6 +18,11 @@ IsFault t report NoMemory = Unit {0}
 abbrev pub IsFaultOf : ℕ → (ℕ → Type 0) → CheckFault → Type 0
 IsFaultOf n breaks (Broken rule line) = (rule ≡ n) × IsLeast breaks line
 IsFaultOf n breaks NoMemory = Unit {0}
+
+-- A refusal by none of the rules behind this one.
+abbrev pub IsUpTo : ℕ → CheckFault → Type 0
+IsUpTo n (Broken rule line) = rule ≤ n
+IsUpTo n NoMemory = Unit {0}
 
 -- The first rule that a report breaks, and the first line that breaks it.
 abbrev pub BreaksRules : Trace → Report → ℕ → ℕ → Type 0

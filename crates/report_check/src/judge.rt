@@ -5,7 +5,7 @@ ghost use Rattle.cycle_history.specs.Broken.{MeetsUpTo};
 ghost use Rattle.cycle_history.specs.Marked.{IsLimited};
 ghost use Rattle.cycle_history.specs.Objects.{Object};
 ghost use Rattle.report_check.specs.declared.fault.CheckFault.TheVariants.{NoMemory as OutOfMemory};
-ghost use Rattle.report_check.specs.Fault.{IsFault, MeetsChecked};
+ghost use Rattle.report_check.specs.Fault.{IsFault, IsUpTo, MeetsChecked};
 ghost use Rattle.report_check.specs.Known.{AreSettledItems};
 
 use crate::CheckFault;
@@ -34,11 +34,12 @@ pub fn check(alloc: Global, trace: &Trace, report: &Report) -> Result<(), CheckF
     judge_rules(alloc, trace, report)
 }
 
-/// Tries the rules 1 to 4 alone, on answers, the journal, misses and places.
+/// Tries the rules 1 to 4 alone, on answers, the journal, misses and places: a report that breaks a later rule first isn't refused.
 pub fn check_first_rules(alloc: Global, trace: &Trace, report: &Report) -> Result<(), CheckFault>
     requires limited { IsLimited trace.now }
     ensures met { OnOk result ((objects : Things Object) × MeetsUpTo 4 trace.now report.now objects) }
     ensures broken { IfErr result (IsFault trace.now report.now) }
+    ensures early { IfErr result (IsUpTo 4) }
 {
     settled(alloc, trace, report)?;
     Ok(())
@@ -59,6 +60,7 @@ fn settled(alloc: Global, trace: &Trace, report: &Report) -> Result<Vec<Item>, C
     requires limited { IsLimited trace.now }
     ensures settled { IfOk result (λ items. AreSettledItems trace.now report.now items.items) }
     ensures broken { IfErr result (IsFault trace.now report.now) }
+    ensures early { IfErr result (IsUpTo 4) }
 {
     let mut items = items_of(alloc, trace, report)?.into_vec();
     judge_journal(alloc, trace, report)?;

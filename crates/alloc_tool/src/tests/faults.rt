@@ -133,13 +133,15 @@ gc 1 1|malformed
 a 1 24 s 1|limit proc
 a 18446744073709551616 24 s 1|limit proc
 a 0 1099511627777 s 1|limit size
+a 0 1099511627777 n 1|limit size
 a 0 99999999999999999999 s 1|limit size
 a 0 24 s 1000000|limit stack
 a 1 1099511627777 s 1000000|limit proc
 a 0 1099511627777 s 1000000|limit size
 a 0 32769 s 1000000|limit stack
 gc 0|limit distance
-gc 1099511627777|limit distance";
+gc 1099511627777|limit distance
+aaaaaaaaaaaaaaaaaaaaaaaaaaaaaaaaaaaaaaaaaaaaaaaaaaaaaaaaaaaaaaaaaaaaaaaaaaaaaaaaaaaaaaaaaaaaaaaaaaaaaaaaaaaaaaaaaaaaaaaaa|malformed";
 
 // Second lines that are taken, at the last good values.
 const GOOD_HEADERS: &str = "\
@@ -214,7 +216,7 @@ fn good_headers_are_taken(rt: HostRuntime) -> Result<(), Fail> {
 // read or written.
 #[test]
 fn other_words_are_refused(rt: HostRuntime) -> Result<(), Fail> {
-    let rows: [&[&str]; 27] = [
+    let rows: [&[&str]; 37] = [
         &[],
         &[""],
         &["Run"],
@@ -235,9 +237,19 @@ fn other_words_are_refused(rt: HostRuntime) -> Result<(), Fail> {
         &["gen", "1", "1", "1"],
         &["Gen", "1", "1"],
         &["run", "--background"],
+        &["run", "--background="],
+        &["run", "--background=05"],
         &["run", "--background", "05"],
+        &["run", "--background", ""],
+        &["run", "--background=1", "--background", "1"],
+        &["run", "--each", "--background=1", "--each"],
+        &["run", "-b"],
         &["run", "-b", "1"],
         &["run", "--"],
+        &["run", "--help"],
+        &["run", "--version"],
+        &["--version"],
+        &["--each"],
         &["demo", "1", "0"],
         &["demo", "1"],
         &["--help"],

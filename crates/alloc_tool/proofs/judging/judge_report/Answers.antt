@@ -10,4 +10,4 @@ returns-in-Ok g c =
 pub returns-in-Err : goal.returns-in-Err
 returns-in-Err g c =
     checked_stop g.S.Source.left g.S.Source.faults g.K.Sink.held g.K.Sink.faults g.E.Sink.held g.E.Sink.faults c.args.input.now c.check_input.new.input c.args.output.now c.args.errors.now c.refuse_pair.new.errors c.in-Err.stop c.refuse_pair.result
-    c.in-Err.ensures.stopped (λ e. c.in-Err.ensures.cause.in_trace (ap Err e)) (λ e. c.in-Err.ensures.cause.in_report (ap Err e)) c.refuse_pair.ensures.status c.refuse_pair.ensures.told
+    c.in-Err.ensures.stopped (λ e. c.in-Err.ensures.cause.in_trace (ap Err e)) (λ e. c.in-Err.ensures.cause.in_report (ap Err e)) c.in-Err.ensures.broken_off c.refuse_pair.ensures.status c.refuse_pair.ensures.told

@@ -1,13 +1,13 @@
-use Rattle.std.proofs.Common.{◌≡◌, List, length, sym, ◌∙◌, subst}
+use Rattle.std.proofs.Common.{◌≡◌, List, length, sym, ◌∙◌, subst, arith}
 use Rattle.cycle_history.specs.Rules.{AreMissed}
 use Rattle.cycle_history.specs.Sound.{past_in, HasAnswers}
 use Rattle.report_check.specs.declared.items.Item.{Item}
 use Rattle.report_check.specs.Items.{objects_of}
-use Rattle.report_check.specs.Fault.{IsFault}
+use Rattle.report_check.specs.Fault.{IsFault, IsUpTo}
 use Rattle.report_check.specs.Known.{AreSettledItems}
 use Rattle.report_check.proofs.Ledgers.{written}
 use Rattle.report_check.proofs.Carried.{answers-on, misses-on}
-use Rattle.report_check.proofs.Faults.{fault-1, fault-3, fault-4, err-from}
+use Rattle.report_check.proofs.Faults.{fault-1, fault-3, fault-4, fault-up-to, err-from}
 use Rattle.report_check.proofs.judge.settled.Goals as goal
 
 pub returns-in_err-items_of-clause-broken : goal.returns-in_err-items_of-clause-broken
@@ -44,3 +44,22 @@ returns-clause-settled c =
       misses = misses-on (past_in c.args.report.now) c.deref_mut.result.now c.judge_places.new.items c.judge_places.ensures.same misses;
       places = c.in_ok-judge_places.ensures.places;
     })
+
+pub returns-in_err-items_of-clause-early : goal.returns-in_err-items_of-clause-early
+returns-in_err-items_of-clause-early c =
+    err-from c.from_residual.result c.in_err-items_of.field-0.0 (IsUpTo 4) c.from_residual.ensures.1 (fault-up-to 4 1 _ c.in_err-items_of.field-0.0 (omega arith) c.in_err-items_of.ensures.fault)
+
+pub returns-in_err-judge_journal-clause-early : goal.returns-in_err-judge_journal-clause-early
+returns-in_err-judge_journal-clause-early c =
+    err-from c.from_residual-in_err-judge_journal.result c.in_err-judge_journal.field-0.0 (IsUpTo 4) c.from_residual-in_err-judge_journal.ensures.1
+    (fault-up-to 4 2 _ c.in_err-judge_journal.field-0.0 (omega arith) c.in_err-judge_journal.ensures.fault)
+
+pub returns-in_err-judge_misses-clause-early : goal.returns-in_err-judge_misses-clause-early
+returns-in_err-judge_misses-clause-early c =
+    err-from c.from_residual-in_err-judge_misses.result c.in_err-judge_misses.field-0.0 (IsUpTo 4) c.from_residual-in_err-judge_misses.ensures.1
+    (fault-up-to 4 3 _ c.in_err-judge_misses.field-0.0 (omega arith) c.in_err-judge_misses.ensures.fault)
+
+pub returns-in_err-judge_places-clause-early : goal.returns-in_err-judge_places-clause-early
+returns-in_err-judge_places-clause-early c =
+    err-from c.from_residual-in_err-judge_places.result c.in_err-judge_places.field-0.0 (IsUpTo 4) c.from_residual-in_err-judge_places.ensures.1
+    (fault-up-to 4 4 _ c.in_err-judge_places.field-0.0 (omega arith) c.in_err-judge_places.ensures.fault)
