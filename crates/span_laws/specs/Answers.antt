@@ -58,6 +58,10 @@ pub record TakesNew (n k : ℕ) (old new : Seen) (b : Body) : Type 0 where
   pub untouched : IsUntouched old.view.generation old.view.own b.page
   pub nothing : mine b.page old.view.own ≡ 0
 
+-- a journal is the one that the worker was told of, if nothing was written since
+abbrev pub IsToldOf : Part → List Line → Type 0
+IsToldOf h past = (known : List Line) → h.journal ≡ Some known → past ≡ known
+
 -- behind some legal journal no run of n pages is free
 abbrev pub NoRunFree : ℕ → Seen → List Line → Type 0
 NoRunFree n s past = Legal s.view.region s.view.goal past × HasNoRun s.view.region past n
@@ -69,10 +73,10 @@ TakesSpan n class old new (Err (NoRun line)) = (new ≡ after_said (Misses line 
     × ((past : List Line) × (length past ≡ line) × NoRunFree n old past)
 TakesSpan n class old new (Err WantsMemory) = new ≡ old
 
--- the same, but where no run is free there is no line, and nothing changes
+-- the same, but where no run is free there is no line, and nothing changes: no run is free behind the journal that the worker was told of, if it was
 abbrev pub TriesSpan : ℕ → ℕ → Seen → Seen → Result (Option Body) NoMemory → Type 0
 TriesSpan n class old new (Ok (Some body)) = TakesNew n class old new body
-TriesSpan n class old new (Ok None) = (new ≡ old) × ((past : List Line) × NoRunFree n old past)
+TriesSpan n class old new (Ok None) = (new ≡ old) × ((past : List Line) × IsToldOf old.view.own past × NoRunFree n old past)
 TriesSpan n class old new (Err none) = new ≡ old
 
 -- a set's class is the body's, an object is allocated, and in a full set all are, in a partial one not all
@@ -107,10 +111,6 @@ Released c region goal past n (Some run) = MayFollow region goal past (Scav c ru
 abbrev pub past_scavenged : ℕ → List Line → Option Run → List Line
 past_scavenged c past None = past
 past_scavenged c past (Some run) = Scav c run.page run.pages ∷ past
-
--- a journal is the one that the worker was told of, if nothing was written since
-abbrev pub IsToldOf : Part → List Line → Type 0
-IsToldOf h past = (known : List Line) → h.journal ≡ Some known → past ≡ known
 
 -- so it did behind a journal, which the worker is told of with the new line, and which is legal with it; or memory ran out
 abbrev pub StepsOnce : Seen → Seen → Result Step NoMemory → Type 0

@@ -5,6 +5,7 @@ use Rattle.std.proofs.lemmas.List.{length-reverse}
 use Rattle.page_alloc.specs.Journal.{HasNoRun, IsFirstFit, IsFree, Legal}
 use Rattle.page_alloc.proofs.Lives.{span_pages}
 use Rattle.page_bitmap.specs.declared.line.Line.{Line}
+use Rattle.span_laws.specs.Answers.{IsToldOf}
 use Rattle.span_laws.specs.Asks.{IsUntouched, mine}
 use Rattle.span_laws.specs.declared.view.View.{View}
 use Rattle.span_laws.specs.Views.{Seen}
@@ -60,7 +61,9 @@ returns-then-is_none c = let i = c.self.inside in let k = c.self.invariant.rule 
     let region = k.heap_region ∙ sym k.region ∙ ap (λ (w : Seen). w.view.region) c.self.view_is in
     let goal = sym k.goal ∙ ap (λ (w : Seen). w.view.goal) c.self.view_is in
     let none : HasNoRun i.pages.region i.pages.past c.args.n = none_found c.find.result c.if-is_none.ensures c.find.ensures.none in
-    (refl, (i.pages.past, (subst (λ (z : ℕ × ℕ). Legal z.0 z.1 i.pages.past) (λ j. (region j, goal j)) k.legal, subst (λ (r : ℕ). HasNoRun r i.pages.past c.args.n) region none)))
+    let told = subst (λ (w : Seen). IsToldOf w.view.own i.pages.past) c.self.view_is (λ known is. c.self.invariant.cycle.told known is) in
+    let legal = subst (λ (z : ℕ × ℕ). Legal z.0 z.1 i.pages.past) (λ j. (region j, goal j)) k.legal in
+    (refl, (i.pages.past, told, (legal, subst (λ (r : ℕ). HasNoRun r i.pages.past c.args.n) region none)))
 
 pub unreachable-requires : goal.unreachable-requires
 unreachable-requires c = let i = c.self.inside in let s = c.reserve_line.ensures.same in
