@@ -7,6 +7,8 @@ use std::io;
 #[derive(Clone, Copy, Debug)]
 pub enum Found {
     Core(Moved),
+    /// How often a span was put into a cache and taken out of it.
+    Table(u64),
     /// The sum of the pages that searches in a chunk answered.
     Bitmap(u64),
     /// The sum of the pages that a region answered.
@@ -21,6 +23,7 @@ pub enum Found {
 pub fn print(rt: &impl Print, found: &Found) -> io::Result<()> {
     match found {
         Found::Core(Moved { moves, spans }) => println!(rt; "core: moves {moves}, spans {spans}"),
+        Found::Table(rounds) => println!(rt; "table: rounds {rounds}"),
         Found::Bitmap(pages) => println!(rt; "bitmap: pages {pages}"),
         Found::Pages(pages) => println!(rt; "pages: pages {pages}"),
         Found::Marks(

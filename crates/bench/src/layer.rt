@@ -1,6 +1,6 @@
 use crate::found::Found;
 use crate::stop::Stop;
-use crate::{bitmap, history, marks, ownership, pages, profile};
+use crate::{bitmap, history, marks, ownership, pages, profile, table};
 use edge_io::{Lines, Source};
 use std::alloc::Global;
 
@@ -8,6 +8,7 @@ use std::alloc::Global;
 #[derive(Clone, Copy, Debug, PartialEq, Eq)]
 pub enum Layer {
     Core,
+    Table,
     Bitmap,
     Pages,
     Marks,
@@ -17,8 +18,9 @@ pub enum Layer {
 
 impl Layer {
     /// All of them, in the order in which few calls of each are made.
-    pub const ALL: [Layer; 6] = [
+    pub const ALL: [Layer; 7] = [
         Layer::Core,
+        Layer::Table,
         Layer::Bitmap,
         Layer::Pages,
         Layer::Marks,
@@ -29,6 +31,7 @@ impl Layer {
     pub fn named(word: &str) -> Option<Layer> {
         match word {
             "core" => Some(Layer::Core),
+            "table" => Some(Layer::Table),
             "bitmap" => Some(Layer::Bitmap),
             "pages" => Some(Layer::Pages),
             "marks" => Some(Layer::Marks),
@@ -47,6 +50,7 @@ impl Layer {
     ) -> Result<Found, Stop> {
         match self {
             Layer::Core => Ok(Found::Core(ownership::asked(alloc, words)?)),
+            Layer::Table => Ok(Found::Table(table::asked(alloc, words)?)),
             Layer::Bitmap => Ok(Found::Bitmap(bitmap::asked(words)?)),
             Layer::Pages => Ok(Found::Pages(pages::asked(alloc, words)?)),
             Layer::Marks => Ok(Found::Marks(marks::asked(alloc, words)?)),
@@ -59,6 +63,7 @@ impl Layer {
     pub fn few<S: Source>(self, alloc: Global, lines: &mut Lines<'_, S>) -> Result<Found, Stop> {
         match self {
             Layer::Core => Ok(Found::Core(ownership::few(alloc)?)),
+            Layer::Table => Ok(Found::Table(table::few(alloc)?)),
             Layer::Bitmap => Ok(Found::Bitmap(bitmap::few())),
             Layer::Pages => Ok(Found::Pages(pages::few(alloc)?)),
             Layer::Marks => Ok(Found::Marks(marks::few(alloc)?)),

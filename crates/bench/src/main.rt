@@ -1,6 +1,7 @@
 //! The program that the scripts under `bench/` time. Its first word names a layer, and the others say what to do there:
 //!
 //! - `core`: moves of the ownership core (`ownership`)
+//! - `table`: calls of the shared span table, and the same moves of the core (`table`)
 //! - `bitmap`: searches in a chunk of pages (`bitmap`)
 //! - `pages`: takes, gives and searches in a region (`pages`)
 //! - `marks`: marks and sweeps of full spans (`marks`)
@@ -19,6 +20,7 @@ mod ownership;
 mod pages;
 mod profile;
 mod stop;
+mod table;
 
 use edge_io::{Lines, StdSource};
 use found::print;
