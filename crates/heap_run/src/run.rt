@@ -1,13 +1,18 @@
 //! The run of a whole trace.
 
-ghost use Rattle.std.specs.Prelude.{◌≡◌, ℕ, suc, ◌+◌, ◌^◌, ◌<◌, ◌≤◌, [], length, slice_index_or, vec_len, IfOk, OnOk};
-ghost use Rattle.trace_reader.specs.Limits.{WithinLimits};
-ghost use Rattle.cycle_history.specs.Requests.{last_cycle};
+ghost use Rattle.std.specs.Prelude.{◌≡◌, ℕ, suc, ◌+◌, ◌++◌, ◌^◌, ◌<◌, ◌≤◌, [], true, List as Items, length, slice_index_or, vec_len, None, Some, IfOk, OnOk};
+ghost use Rattle.page_alloc.specs.Journal.{past_of};
+ghost use Rattle.trace_reader.specs.Limits.{WithinLimits, events_of};
+ghost use Rattle.cycle_history.specs.Counted.{AreObjectsOf, AreZeros};
+ghost use Rattle.cycle_history.specs.Objects.{Object};
+ghost use Rattle.cycle_history.specs.Requests.{last_cycle, marked_by};
 ghost use Rattle.cycle_history.specs.Sound.{HasForm, IsSoundAndUsed};
+ghost use Rattle.cycle_history.specs.Sweeps.{AreTotals};
+ghost use Rattle.profile_lines.specs.Read.{AreFew, IsOrder, all_lines};
+ghost use Rattle.span_laws.specs.Asks.{KnowsJournal};
 ghost use Rattle.heap_run.specs.Last.{IsLeft};
 ghost use Rattle.heap_run.specs.Turns.{no_cache};
 ghost use Rattle.sweep_laws.specs.Start.{copies};
-ghost use Rattle.std.specs.Prelude.{None};
 ghost use Rattle.profile_cycle.specs.Sampling.{countdown};
 
 use crate::cycle::run_workers;
@@ -15,9 +20,11 @@ use crate::merge::merge;
 use crate::profile::Profile;
 use crate::queues::queues_of;
 use crate::sorting::file_notes;
-use cycle_history::{Answer, Place, Report, marks_of, totals_of};
+use cycle_history::{Answer, Place, Report, Total, marks_of, totals_of};
 use edge_io::{Gate, List, NoMemory};
+use page_bitmap::Line;
 use proc_cache::Proc;
+use profile_cycle::Tally;
 use span_set::{Hand, Shop, reset};
 use span_state::{Marks, SweepNote};
 use span_table::{Shared, Worker};
@@ -67,12 +74,7 @@ pub fn run_trace<G: Gate>(
     ensures left { IfOk result (λ ran. IsLeft trace.now ran) }
 {
     let mut run = Run::new(alloc, trace, options.each)?;
-    let last = trace.cycles.len() as u32 - 1;
-    for cycle in 0..last {
-        run.run_cycle(alloc, trace, cycle, options.background, gate)?;
-        run.mark_end(alloc, trace, cycle)?;
-    }
-    run.run_cycle(alloc, trace, last, options.background, gate)?;
+    run.run_cycles(alloc, trace, options.background, gate)?;
     run.into_ran(alloc, trace)
 }
 
@@ -104,8 +106,8 @@ impl Run {
         ensures begun { IfOk result (λ run. HasBegun trace.now 0 run) }
         ensures each { IfOk result (λ run. run.profile.each ≡ each) }
     {
-        let (shared, driver) = Shared::new(alloc, trace.header.chunks, trace.header.goal)?;
         let procs = processors(alloc, &trace.header)?;
+        let (shared, driver) = Shared::new(alloc, trace.header.chunks, trace.header.goal)?;
         let (profile, tally) = Profile::new(alloc, trace, each)?;
         Ok(Run {
             shared,
@@ -119,6 +121,29 @@ impl Run {
             profile,
             places: List::new(alloc),
         })
+    }
+
+    // Runs all cycles, with a mark end behind each but the last.
+    fn run_cycles<G: Gate>(
+        &mut self,
+        alloc: Global,
+        trace: &Trace,
+        background: u32,
+        gate: &G,
+    ) -> Result<(), NoMemory>
+        requires limits { WithinLimits trace.now }
+        requires background { background ≤ 4 }
+        requires begun { HasBegun trace.now 0 self.old }
+        ensures ran { OnOk result (HasRun trace.now (last_cycle trace.now) self.new) }
+        ensures each { OnOk result (self.new.profile.each ≡ self.old.profile.each) }
+    {
+        let last = trace.cycles.len() as u32 - 1;
+        for cycle in 0..last {
+            self.run_cycle(alloc, trace, cycle, background, gate)?;
+            self.mark_end(alloc, trace, cycle)?;
+        }
+        self.run_cycle(alloc, trace, last, background, gate)?;
+        Ok(())
     }
 
     // Runs a cycle to its end.
@@ -216,10 +241,18 @@ impl Run {
             ..
         } = driver;
         let mut driver = worker;
-        profile.read_last(&mut tally, trace.cycles.len() as u32 - 1)?;
+        let (journal, totals) = read_rest(
+            alloc,
+            trace,
+            &answers,
+            &shared,
+            &mut driver,
+            &mut tally,
+            &mut profile,
+        )?;
         let report = Report {
-            journal: shared.journal_copy(alloc, &mut driver)?,
-            totals: totals_of(alloc, trace, &answers)?,
+            journal,
+            totals,
             sweeps,
             answers,
             profile: profile.lines,
@@ -230,6 +263,40 @@ impl Run {
             driver,
         })
     }
+}
+
+// Reads what a report has besides what the run kept: the lines of the last mark end into the profile, the whole journal and the totals.
+// It stands alone, so that the run is let go at one place where memory runs out.
+fn read_rest(
+    alloc: Global,
+    trace: &Trace,
+    answers: &List<Answer>,
+    shared: &Shared,
+    driver: &mut Worker,
+    tally: &mut Tally,
+    profile: &mut Profile,
+) -> Result<(List<Line>, List<Total>), NoMemory>
+    requires limits { WithinLimits trace.now }
+    requires ring { tally.old.ring ≡ profile.old.ring }
+    requires drives { tally.old.view.drives ≡ true }
+    requires alone { tally.old.view.out ≡ 0 }
+    requires room { length profile.old.known ≤ profile.old.ring.buckets }
+    requires order { IsOrder profile.old.known profile.old.order }
+    requires few { AreFew (length profile.old.known) tally.old.view.calls }
+    requires here { driver.old.here ≡ true }
+    requires table { driver.old.table ≡ shared.now }
+    requires told { KnowsJournal driver.old.view.own }
+    requires answers { length answers.now ≡ length (events_of trace.now) }
+    requires zeros { AreZeros trace.now answers.now }
+    ensures lines { OnOk result (profile.new.lines ≡ profile.old.lines ++ all_lines profile.old.known tally.old.view.calls (last_cycle trace.now) profile.old.order) }
+    ensures same { OnOk result (driver.new ≡ driver.old) }
+    ensures journal { IfOk result (λ rest. driver.old.view.own.journal ≡ Some (past_of rest.0)) }
+    ensures totals { IfOk result (λ rest. (objects : Items Object) → AreObjectsOf trace.now answers.now objects → AreTotals (marked_by trace.now) (last_cycle trace.now) objects rest.1) }
+{
+    profile.read_last(tally, trace.cycles.len() as u32 - 1)?;
+    let journal = shared.journal_copy(alloc, driver)?;
+    let totals = totals_of(alloc, trace, answers)?;
+    Ok((journal, totals))
 }
 
 // The processors, with empty caches.
