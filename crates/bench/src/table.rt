@@ -8,7 +8,6 @@ ghost use Rattle.sweep_laws.specs.Lists.{has};
 ghost use Rattle.span_laws.specs.Asks.{HasBody};
 
 use crate::stop::Stop;
-use fallible_list::NoMemory;
 use span_state::Body;
 use span_table::{Shared, Uncached, Worker};
 use std::alloc::Global;
