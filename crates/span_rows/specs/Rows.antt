@@ -1,18 +1,20 @@
 -- What the rows' helpers tell of a worker.
-use Rattle.std.specs.Prelude.{◌≡◌, ℕ, ◌<◌, Bool, true, false, None, List, [], ◌∷◌, ◌++◌, length}
+use Rattle.std.specs.Prelude.{◌≡◌, ℕ, ◌<◌, Bool, true, false, None, List, [], ◌++◌, length}
 use Rattle.atomic_table.specs.Seated.{TableId}
 use Rattle.sweep_laws.specs.Lists.{has}
 use Rattle.sweep_laws.specs.Needs.{is_swept_set}
+use Rattle.span_state.specs.MarkSet.{has_pair}
 use Rattle.span_state.specs.declared.body.Body.{Body}
 use Rattle.sweep_laws.specs.Owned.{EachAt}
-use Rattle.span_laws.specs.Asks.{HasBody, IsFullBody, IsIdle, IsUsed}
+use Rattle.span_laws.specs.Asks.{HasBody, IsFresh, IsFullBody, IsIdle, IsUsed}
+use Rattle.span_laws.specs.declared.view.Part.{Part}
 use Rattle.span_laws.specs.Logs.{is_placing_at}
 use Rattle.span_laws.specs.declared.said.Said.TheVariants.{Reads}
 use Rattle.worker_log.specs.declared.Entry.{Entry}
-use Rattle.span_laws.specs.Views.{Seen, acts, after_said, parts_of}
 use Rattle.span_set.specs.declared.answers.Pop.{Pop}
 use Rattle.span_set.specs.declared.answers.Pop.TheVariants.{Taken, Empty, NotYet}
-use Rattle.worker_log.specs.Logs.{is_pop_of, is_seen_empty, many}
+use Rattle.span_laws.specs.Views.{Seen, acts, after_said, parts_of}
+use Rattle.worker_log.specs.Logs.{is_placing_in, is_pop_of, is_seen_empty, many}
 
 -- The worker has the state of this table, and has claimed nothing.
 pub record IsReady (t : TableId) (w : Seen) : Type 0 where
@@ -35,19 +37,49 @@ LeavesClaim old new (Taken body) = Unit {0}
 LeavesClaim old new (Empty head tail) = new.view.own.claimed ≡ old.view.own.claimed
 LeavesClaim old new (NotYet head) = new.view.own.claimed ≡ old.view.own.claimed
 
--- The driver of this table, with the state and in a region of one chunk, where no worker has anything of a span.
+-- In each span that a worker has cached it placed an object since the last mark end.
+abbrev pub UsesCached : Part → Type 0
+UsesCached h = (p : ℕ) → has p h.cached ≡ true → 0 < many (is_placing_in p) h.log
+
+-- The driver of this table, with the state, where no worker sweeps or holds a span, and none has claimed or popped anything.
+pub record IsIdleDriver (t : TableId) (w : Seen) : Type 0 where
+  pub here : w.here ≡ true
+  pub table : w.table ≡ t
+  pub number : w.number ≡ 69
+  pub many : length w.view.parts ≡ 70
+  pub idle : EachAt (parts_of w.number w.view) (λ m h. IsIdle h)
+
+-- The same, where each span in a cache was cached since the last mark end, and used.
 pub record IsFreeDriver (t : TableId) (w : Seen) : Type 0 where
   pub here : w.here ≡ true
   pub table : w.table ≡ t
   pub number : w.number ≡ 69
-  pub region : w.view.region ≡ 512
   pub many : length w.view.parts ≡ 70
   pub idle : EachAt (parts_of w.number w.view) (λ m h. IsIdle h)
-  pub uncached : EachAt (parts_of w.number w.view) (λ m h. h.cached ≡ [])
+  pub fresh : EachAt (parts_of w.number w.view) (λ m h. IsFresh h)
+  pub used : EachAt (parts_of w.number w.view) (λ m h. UsesCached h)
+
+-- It has a span cached, and its body.
+pub record HasCached (w : Seen) (b : Body) : Type 0 where
+  pub cached : has b.page w.view.own.cached ≡ true
+  pub lent : HasBody w.view.own b
+
+-- The worker's cached spans and the bodies that were lent to it are the same.
+pub record KeepsCached (old new : Seen) : Type 0 where
+  pub cached : new.view.own.cached ≡ old.view.own.cached
+  pub spans : new.view.own.spans ≡ old.view.own.spans
 
 -- It placed the first object of the span of this page.
 abbrev pub HasPlaced : ℕ → Seen → Type 0
 HasPlaced page w = 0 < many (is_placing_at page 0) w.view.own.log
+
+-- It placed an object at each of these pairs of a first page and an index.
+abbrev pub ArePlaced : List (ℕ × ℕ) → Seen → Type 0
+ArePlaced pairs w = (p k : ℕ) → has_pair pairs p k ≡ true → 0 < many (is_placing_at p k) w.view.own.log
+
+-- What the log of one worker told of objects that were placed, that of another tells.
+abbrev pub KeepsPlaced : Seen → Seen → Type 0
+KeepsPlaced old new = (p k : ℕ) → 0 < many (is_placing_at p k) old.view.own.log → 0 < many (is_placing_at p k) new.view.own.log
 
 -- A worker whose log has these entries more.
 abbrev pub with_log : List Entry → Seen → Seen
@@ -64,8 +96,8 @@ abbrev pub SeesEmpty : Seen → Seen → Bool → Type 0
 SeesEmpty old new false = Unit {0}
 SeesEmpty old new true = SeesBelow 544 old new
 
--- The driver behind a mark end of generation 4 that marked the first object of the page.
-pub record HasTurned (t : TableId) (page : ℕ) (w : Seen) : Type 0 where
-  pub free : IsFreeDriver t w
+-- The driver behind a mark end of generation 4 that marked these pairs.
+pub record HasTurned (t : TableId) (pairs : List (ℕ × ℕ)) (w : Seen) : Type 0 where
+  pub idle : IsIdleDriver t w
   pub generation : w.view.generation ≡ 6
-  pub marks : w.view.marks ≡ (page, 0) ∷ []
+  pub marks : w.view.marks ≡ pairs

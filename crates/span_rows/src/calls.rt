@@ -1,4 +1,4 @@
-ghost use Rattle.std.specs.Prelude.{◌≡◌, true};
+ghost use Rattle.std.specs.Prelude.{◌≡◌, ◌<◌, true};
 ghost use Rattle.span_rows.specs.Rows.{IsFreeDriver, IsReady};
 
 use fallible_list::NoMemory;
@@ -7,6 +7,7 @@ use span_table::{Acquired, Refused, Shared, Uncached, Worker};
 // The word that an acquire of the first page finds.
 pub(crate) fn found(shared: &Shared, w: &mut Worker) -> Option<u64>
     requires free { IsFreeDriver shared.now w.old }
+    requires some { 0 < w.old.view.region }
     ensures ready { IsReady shared.now w.new }
 {
     match shared.acquire(w, 0) {

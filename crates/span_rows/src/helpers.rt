@@ -1,17 +1,12 @@
 ghost use Rattle.std.specs.Prelude.{◌≡◌, ◌<◌, IfOk, Some, true};
 ghost use Rattle.span_rows.specs.Rows.{HoldsLarge, IsReady, LeavesClaim};
 
+use crate::turns::LARGE;
 use fallible_list::NoMemory;
 use span_set::{Claim, Pop, SetId, claim, pop_swept};
 use span_state::Body;
 use span_table::{Shared, Worker};
 use std::alloc::Global;
-
-// The full set of large spans.
-pub(crate) const LARGE: SetId = SetId {
-    class: 0,
-    full: true,
-};
 
 // A region of one chunk, and the driver's worker.
 pub(crate) fn start(alloc: Global) -> Result<(Shared, Worker), NoMemory>

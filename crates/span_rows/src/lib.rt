@@ -1,4 +1,6 @@
 //! What the calls on shared spans and their sets answer, row by row. Expected values are worked out by hand from the rules of the calls.
+//!
+//! `turns` has helpers across a mark end, for the rows of other crates too.
 #![tactic(auto)]
 
 #[cfg(test)]
@@ -7,5 +9,4 @@ mod calls;
 mod helpers;
 #[cfg(test)]
 mod tests;
-#[cfg(test)]
-mod turns;
+pub mod turns;

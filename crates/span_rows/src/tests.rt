@@ -1,4 +1,5 @@
-use crate::helpers::{LARGE, claim_large, large, pop, start};
+use crate::helpers::{claim_large, large, pop, start};
+use crate::turns::LARGE;
 use crate::{calls, turns};
 use span_set::{Pop, SetId, fill};
 use span_table::{Acquired, Uncached};
@@ -38,9 +39,10 @@ fn a_claimed_cell_is_not_filled_yet(rt: HostRuntime) -> Result<(), Fail> {
 #[test]
 fn a_swept_span_is_not_acquired_again(rt: HostRuntime) -> Result<(), Fail> {
     let alloc = rt.alloc();
-    let (mut shared, mut driver) = turns::start(alloc)?;
-    let page = turns::place(&shared, &mut driver)?;
-    turns::turn(alloc, &mut shared, &mut driver, page)?;
+    let (mut shared, mut driver) = turns::start(alloc, 1, 512)?;
+    let page = turns::place(&shared, &mut driver, 5)?;
+    assert_eq!(rt; page, 0);
+    turns::turn_one(alloc, &mut shared, &mut driver, page)?;
     turns::sweep(&shared, &mut driver, page)?;
     let mut other = shared.hand_out(&mut driver, 1)?;
     let Acquired::Other(6) = shared.acquire(&mut other, page) else {
@@ -51,7 +53,7 @@ fn a_swept_span_is_not_acquired_again(rt: HostRuntime) -> Result<(), Fail> {
 
 #[test]
 fn calls_answer_by_the_state(rt: HostRuntime) -> Result<(), Fail> {
-    let (shared, mut w) = turns::start(rt.alloc())?;
+    let (shared, mut w) = turns::start(rt.alloc(), 1, 512)?;
     assert_eq!(rt; calls::found(&shared, &mut w), Some(0));
     assert_eq!(rt; calls::cached(&shared, &mut w)?, Uncached::Fresh);
     let step = shared.scavenge_step(&mut w)?;

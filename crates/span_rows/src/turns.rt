@@ -1,46 +1,55 @@
-ghost use Rattle.std.specs.Prelude.{◌≡◌, ℕ, ◌<◌, IfOk, OnOk, length, true};
+ghost use Rattle.std.specs.Prelude.{◌≡◌, ℕ, ◌*◌, ◌<◌, ◌≤◌, [], ◌∷◌, IfOk, OnOk, length, true};
 ghost use Rattle.span_state.specs.Spans.{IsSameSpan, allocated};
-ghost use Rattle.span_rows.specs.Rows.{HasPlaced, HasTurned, IsFreeDriver, SeesEmpty};
+ghost use Rattle.span_rows.specs.Rows.{ArePlaced, HasPlaced, HasTurned, IsFreeDriver, KeepsCached, KeepsPlaced, SeesEmpty};
 
-use crate::helpers::LARGE;
 use fallible_list::{List, NoMemory};
-use span_set::{claim, fill, push, reset};
-use span_state::Body;
+use span_set::{SetId, claim, fill, push, reset};
+use span_state::{Body, Marks};
 use span_table::{Acquired, Shared, Worker};
 use std::alloc::Global;
 
-// A region of one chunk, and the driver's worker.
-pub(crate) fn start(alloc: Global) -> Result<(Shared, Worker), NoMemory>
+/// The full set of large spans.
+pub const LARGE: SetId = SetId {
+    class: 0,
+    full: true,
+};
+
+/// A region of so many chunks with this goal for backed pages, and the driver's worker.
+pub fn start(alloc: Global, chunks: u32, goal: u32) -> Result<(Shared, Worker), NoMemory>
+    requires some { 1 ≤ chunks }
+    requires few { chunks ≤ 128 }
     ensures free { IfOk result (λ made. IsFreeDriver made.0 made.1) }
     ensures generation { IfOk result (λ made. made.1.view.generation ≡ 4) }
+    ensures region { IfOk result (λ made. made.1.view.region ≡ 512 * chunks) }
+    ensures marks { IfOk result (λ made. made.1.view.marks ≡ []) }
+    ensures uncached { IfOk result (λ made. made.1.view.own.cached ≡ []) }
 {
-    let (shared, w) = Shared::new(alloc, 1, 512)?;
+    let (shared, w) = Shared::new(alloc, chunks, goal)?;
     Ok((shared, w))
 }
 
-// Takes a large span, places its object and pushes it to the full set. Answers its page.
-pub(crate) fn place(shared: &Shared, w: &mut Worker) -> Result<u32, NoMemory>
+/// Takes a large span of so many pages, places its object and pushes it to the full set. Answers its page.
+pub fn place(shared: &Shared, w: &mut Worker, pages: u32) -> Result<u32, NoMemory>
     requires free { IsFreeDriver shared.now w.old }
+    requires large { 5 ≤ pages }
     ensures free { OnOk result (IsFreeDriver shared.now w.new) }
     ensures placed { IfOk result (λ page. HasPlaced page w.new) }
-    ensures generation { w.new.view.generation ≡ w.old.view.generation }
-    ensures low { IfOk result (λ page. page < 512) }
+    ensures others { OnOk result (KeepsPlaced w.old w.new) }
+    ensures generation { OnOk result (w.new.view.generation ≡ w.old.view.generation) }
+    ensures region { OnOk result (w.new.view.region ≡ w.old.view.region) }
 {
-    let Ok(mut body) = shared.take_span(w, 5, 0) else {
+    let Ok(mut body) = shared.take_span(w, pages, 0) else {
         return Err(NoMemory);
     };
     shared.note_alloc(w, &mut body, 0);
     let page = body.page;
     let claim = claim(shared, w, LARGE, body);
     fill(shared, w, claim);
-    if page >= 512 {
-        return Err(NoMemory);
-    }
     Ok(page)
 }
 
 // Whether the worker sees all unswept sets empty.
-pub(crate) fn sees_all_empty(shared: &Shared, w: &mut Worker) -> bool
+fn sees_all_empty(shared: &Shared, w: &mut Worker) -> bool
     requires here { w.old.here ≡ true }
     requires table { w.old.table ≡ shared.now }
     ensures { SeesEmpty w.old w.new result }
@@ -57,8 +66,28 @@ pub(crate) fn sees_all_empty(shared: &Shared, w: &mut Worker) -> bool
     true
 }
 
-// Ends the first mark phase, where the first object of the page is marked.
-pub(crate) fn turn(
+/// Ends the first mark phase with these marks, where nothing is left to sweep.
+pub fn turn(shared: &mut Shared, w: &mut Worker, marks: &Marks) -> Result<(), NoMemory>
+    requires free { IsFreeDriver shared.old w.old }
+    requires generation { w.old.view.generation ≡ 4 }
+    requires placed { ArePlaced marks.now.pairs w.old }
+    ensures table { shared.new ≡ shared.old }
+    ensures turned { OnOk result (HasTurned shared.new marks.now.pairs w.new) }
+    ensures region { OnOk result (w.new.view.region ≡ w.old.view.region) }
+    ensures kept { OnOk result (KeepsCached w.old w.new) }
+{
+    if !sees_all_empty(shared, w) {
+        return Err(NoMemory);
+    }
+    reset(shared, w);
+    shared.settle(w);
+    let pairs = marks.pairs()?;
+    shared.next_generation(w, pairs);
+    Ok(())
+}
+
+/// Ends the first mark phase, where the first object of the page alone is marked.
+pub fn turn_one(
     alloc: Global,
     shared: &mut Shared,
     w: &mut Worker,
@@ -68,7 +97,8 @@ pub(crate) fn turn(
     requires generation { w.old.view.generation ≡ 4 }
     requires placed { HasPlaced page w.old }
     ensures table { shared.new ≡ shared.old }
-    ensures turned { OnOk result (HasTurned shared.new page w.new) }
+    ensures turned { OnOk result (HasTurned shared.new ((page, 0) ∷ []) w.new) }
+    ensures region { OnOk result (w.new.view.region ≡ w.old.view.region) }
 {
     if !sees_all_empty(shared, w) {
         return Err(NoMemory);
@@ -91,10 +121,10 @@ fn from_start(body: Body) -> Body
     body
 }
 
-// Sweeps the span of the page, and pushes it to the full set.
-pub(crate) fn sweep(shared: &Shared, w: &mut Worker, page: u32) -> Result<(), NoMemory>
-    requires turned { HasTurned shared.now page w.old }
-    requires low { page < 512 }
+/// Sweeps the span of the page, whose first object alone is marked, and pushes it to the full set.
+pub fn sweep(shared: &Shared, w: &mut Worker, page: u32) -> Result<(), NoMemory>
+    requires turned { HasTurned shared.now ((page, 0) ∷ []) w.old }
+    requires low { page < w.old.view.region }
     ensures here { w.new.here ≡ true }
     ensures table { w.new.table ≡ shared.now }
     ensures parts { OnOk result (1 < length w.new.view.parts) }

@@ -33,3 +33,9 @@ returns-clause-free c = (placed_free c.args.shared.now c.args.w.now c.requires.f
     c.take_span.new.w c.note_alloc.new.w c.claim-claim.new.w c.fill.new.w c.in-Ok.ensures.view c.note_alloc.ensures.view
     (subst (λ (p : ℕ). c.claim-claim.new.w ≡ after_said (Claims c.claim-claim.result.set c.claim-claim.result.index p) (after_said (Reads 1 c.note_alloc.new.w.view.generation) c.note_alloc.new.w)) c.claim-claim.ensures.page c.claim-claim.ensures.view)
     (subst (λ (p : ℕ). c.fill.new.w ≡ after_said (Fills c.claim-claim.result.set p) c.claim-claim.new.w) c.claim-claim.ensures.page c.fill.ensures) (sym c.note_alloc.ensures.same.page) refl).0
+
+pub returns-clause-others : goal.returns-clause-others
+returns-clause-others c = (placed_free c.args.shared.now c.args.w.now c.requires.free (cycle_at c.args.w.now.view.generation) c.claim-claim.result.set c.claim-claim.result.index c.note_alloc.new.body.page c.note_alloc.new.w.view.generation (span_of c.in-Ok.body) (span_of c.note_alloc.new.body)
+    c.take_span.new.w c.note_alloc.new.w c.claim-claim.new.w c.fill.new.w c.in-Ok.ensures.view c.note_alloc.ensures.view
+    (subst (λ (p : ℕ). c.claim-claim.new.w ≡ after_said (Claims c.claim-claim.result.set c.claim-claim.result.index p) (after_said (Reads 1 c.note_alloc.new.w.view.generation) c.note_alloc.new.w)) c.claim-claim.ensures.page c.claim-claim.ensures.view)
+    (subst (λ (p : ℕ). c.fill.new.w ≡ after_said (Fills c.claim-claim.result.set p) c.claim-claim.new.w) c.claim-claim.ensures.page c.fill.ensures) (sym c.note_alloc.ensures.same.page) refl).2

@@ -3,7 +3,7 @@ use Rattle.std.specs.Prelude.{Some}
 use Rattle.span_state.specs.Spans.{allocated}
 use Rattle.span_laws.specs.Views.{Seen, span_at, span_of}
 use Rattle.span_laws.proofs.WordMoves.{span_here}
-use Rattle.span_rows.proofs.Driving.{marked_first, own_idle, unpopped_swept}
+use Rattle.span_rows.proofs.Driving.{marked_first, own_of, unpopped_swept}
 use Rattle.span_rows.proofs.turns.sweep.Goals as goal
 
 pub release_swept-requires-clause-lent : goal.release_swept-requires-clause-lent
@@ -14,7 +14,7 @@ release_swept-requires-clause-lent c = let b = c.in-Got.body in let s = c.from_s
 )
 
 pub push-requires-clause-unclaimed : goal.push-requires-clause-unclaimed
-push-requires-clause-unclaimed c = let o = own_idle c.args.shared.now c.args.w.now c.requires.turned.free in rw (c.release_swept.ensures, c.in-Got.ensures.1) o.claimed
+push-requires-clause-unclaimed c = let o = own_of c.args.shared.now c.args.w.now c.requires.turned.idle in rw (c.release_swept.ensures, c.in-Got.ensures.1) o.claimed
 
 pub push-requires-clause-may : goal.push-requires-clause-may
 push-requires-clause-may c = let b = c.from_start-body.result in let s = c.from_start-body.ensures in let g = c.in-Got.ensures in
