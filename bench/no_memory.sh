@@ -1,6 +1,6 @@
 #!/usr/bin/env bash
 # Refuses each allocation of `goheap` in turn, from the first until a run asks for no more, on the traces under examples/, for the words
-# that read nothing, for a profile with each mark end, and for judged pairs. Each run must end by itself: with status 7, nothing
+# that read nothing, for a profile with each mark end, for judged pairs, and for four small cases. Each run must end by itself: with status 7, nothing
 # written and the one line for it, or with what it answers when nothing is refused (a list that cannot double may still grow). It
 # prints the number of runs, and ends with status 1 where one ended otherwise. It takes a C compiler, for the few lines that stand
 # between the program and the allocator of the C library.
@@ -92,5 +92,19 @@ for report in leak-by-stack.report leak-by-stack.each; do
   cat examples/leak-by-stack.trace "examples/$report" >"$folder/pair"
   each "check $report" "$folder/pair" check
 done
+# Small cases: a slot that is used again, a large object whose pages are released, a sampled cycle, and a judged pair.
+head_of() { printf 'goheap 1\nheap 1 procs 1 rate %s seed 1 goal %s\n' "$1" "$2"; }
+{ head_of 0 512; printf 'a 0 24 s 1\na 0 24 s 1\ngc 1\nm 1 1\na 0 24 s 1\nend\n'; } >"$folder/again"
+{ head_of 0 0; printf 'a 0 1048576 n 1\ngc 1\nend\n'; } >"$folder/released"
+{ head_of 1 512; printf 'a 0 24 s 7\na 0 24 s 7\na 0 24 s 7\ngc 1\nm 0 0\nend\n'; } >"$folder/sampled"
+for input in again released sampled; do
+  each "run --background=0 of $input" "$folder/$input" run --background=0
+done
+{
+  head_of 0 512
+  printf 'a 0 24 s 1\na 0 24 n 1\nend\n'
+  printf 'o 0 0xc000000000\no 1 0xc000002000\nj 0 0 take 0 1 6\nj 1 0 take 1 1 7\nt 3 2 0\nend\n'
+} >"$folder/apart"
+each 'check of two objects' "$folder/apart" check
 echo "$runs runs: $told ended with status 7 and nothing written, $((runs - told)) with their answer"
 exit $failed
