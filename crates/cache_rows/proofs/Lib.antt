@@ -1,0 +1,4 @@
+pub mod Living
+pub mod Rising
+pub mod Kept
+pub mod Turning

@@ -1,0 +1,12 @@
+use Rattle.std.proofs.Common.{◌∙◌, subst, sym}
+use Rattle.cache_rows.proofs.Kept.{first_ready}
+use Rattle.cache_rows.proofs.Living.{objects-none}
+use Rattle.cache_rows.specs.Ready.{AreObjects}
+use Rattle.cache_rows.proofs.scene.Scene.start.Goals as goal
+
+pub invariant_of-result : goal.invariant_of-result
+invariant_of-result c = (
+  first_ready c.in_ok-shared.shared c.in_ok-ring.ring c.empty-marks.result c.in_ok-shared.driver c.new-hand.result c.in_ok-proc.proc _ c.in_ok-ring.ensures.buckets c.empty-marks.ensures.pairs c.empty-marks.ensures.dead c.in_ok-shared.ensures c.new-hand.ensures.worker
+      (c.new-hand.ensures.tally ∙ c.in_ok-ring.ensures.tally) c.in_ok-proc.ensures,
+  subst (AreObjects c.new-hand.result.worker.view.own.log) (sym c.new-objects.ensures) (objects-none c.new-hand.result.worker.view.own.log),
+)

@@ -1,0 +1,212 @@
+use crate::objects::Object;
+use crate::turns::{large, prepare, reclaim_pages, small, sweep_next, turn};
+use central_lists::{FromSets, cache_span};
+use fallible_list::{List, NoMemory};
+use proc_cache::{Placed, Proc, Refused};
+use profile_cycle::{Count, Ring};
+use span_set::{Hand, Shop};
+use span_state::{Marks, SweepNote};
+use span_table::Shared;
+use std::alloc::Global;
+use std::marker::Model;
+use sweeper::One;
+use trace_reader::{Event, Header};
+
+/// A processor on the driver's hand, and what they work on: a region of one chunk, and a ring of two buckets.
+#[derive(Drop)]
+pub struct Scene {
+    alloc: Global,
+    shared: Shared,
+    marks: Marks,
+    ring: Ring,
+    hand: Hand,
+    proc: Proc,
+    objects: List<Object>,
+    pages: u32,
+}
+
+impl Model for Scene {
+    ghost use Rattle.cache_rows.specs.Ready.{AreObjects, IsReady};
+
+    ghost Value = { Unit {0} };
+
+    ghost view = { λ _. tt };
+
+    ghost invariant = { λ s. IsReady s.shared s.ring s.marks s.hand s.proc × AreObjects s.hand.worker.view.own.log s.objects };
+}
+
+impl Scene {
+    /// A region without spans, and processor 0 of a trace with seed 1 and this rate, or 2^30 where it is more.
+    pub fn start(alloc: Global, rate: u64) -> Result<Scene, NoMemory> {
+        let header = Header {
+            chunks: 1,
+            procs: 1,
+            rate: rate.min(1 << 30),
+            seed: 1,
+            goal: 512,
+        };
+        let (shared, driver) = Shared::new(alloc, 1, 512)?;
+        let (ring, tally) = Ring::new(alloc, 2)?;
+        let marks = Marks::empty(alloc);
+        let hand = Hand::new(alloc, driver, tally);
+        let proc = Proc::new(alloc, 0, &header)?;
+        let objects = List::new(alloc);
+        Ok(Scene {
+            alloc,
+            shared,
+            marks,
+            ring,
+            hand,
+            proc,
+            objects,
+            pages: 0,
+        })
+    }
+
+    /// From now on a cycle has to sweep so many pages for each 8192 bytes that are allocated in it.
+    pub fn pace(&mut self, pages: u32) {
+        self.pages = pages;
+    }
+
+    /// An object of 1 to 32768 bytes, which counts toward bucket 0 or 1.
+    pub fn small(&mut self, size: u64, scan: bool, bucket: u32) -> Result<Placed, Refused> {
+        if size == 0 || size > 32768 || bucket > 1 {
+            return Err(Refused::NoMemory);
+        }
+        let shop = Shop {
+            shared: &self.shared,
+            marks: &self.marks,
+            ring: &self.ring,
+            distance: 8192,
+            pages: self.pages,
+        };
+        let event = Event {
+            proc: 0,
+            size,
+            scan,
+            stack: 0,
+        };
+        small(
+            &shop,
+            &mut self.hand,
+            &mut self.proc,
+            &mut self.objects,
+            event,
+            bucket,
+        )
+    }
+
+    /// An object of so many pages, at least 5, which counts toward bucket 0 or 1.
+    pub fn large(&mut self, pages: u32, bucket: u32) -> Result<Placed, Refused> {
+        if bucket > 1 {
+            return Err(Refused::NoMemory);
+        }
+        let shop = Shop {
+            shared: &self.shared,
+            marks: &self.marks,
+            ring: &self.ring,
+            distance: 8192,
+            pages: self.pages,
+        };
+        large(&shop, &mut self.hand, &mut self.proc, pages.max(5), bucket)
+    }
+
+    /// A sampled object of bucket 0 or 1 died in the span of the page.
+    pub fn die(&mut self, page: u32, bucket: u32) -> Result<(), NoMemory> {
+        if bucket > 1 {
+            return Err(NoMemory);
+        }
+        self.marks.add_dead(page, bucket)
+    }
+
+    /// A mark end behind a sweep of all spans. These objects live, each by the page of its span and its index. They lived at the mark end before, or are
+    /// small ones that were placed since, in spans of one page; for others the call fails, and nothing is marked.
+    pub fn mark_end(&mut self, live: &[(u32, u32)]) -> Result<(), NoMemory> {
+        let shop = Shop {
+            shared: &self.shared,
+            marks: &self.marks,
+            ring: &self.ring,
+            distance: 8192,
+            pages: 0,
+        };
+        let (marks, pairs) = prepare(
+            self.alloc,
+            &shop,
+            &mut self.hand,
+            &mut self.proc,
+            &self.objects,
+            live,
+        )?;
+        turn(
+            &mut self.shared,
+            &mut self.ring,
+            &self.marks,
+            &mut self.hand,
+            &self.proc,
+            pairs,
+        );
+        self.marks = marks;
+        self.objects = List::new(self.alloc);
+        Ok(())
+    }
+
+    /// Reclaims so many pages.
+    pub fn reclaim(&mut self, pages: u32) -> Result<u32, NoMemory> {
+        let shop = Shop {
+            shared: &self.shared,
+            marks: &self.marks,
+            ring: &self.ring,
+            distance: 8192,
+            pages: self.pages,
+        };
+        reclaim_pages(&shop, &mut self.hand, &self.proc, pages)
+    }
+
+    /// Sweeps the next span of the unswept sets.
+    pub fn sweep(&mut self) -> Result<One, NoMemory> {
+        let shop = Shop {
+            shared: &self.shared,
+            marks: &self.marks,
+            ring: &self.ring,
+            distance: 8192,
+            pages: self.pages,
+        };
+        sweep_next(&shop, &mut self.hand, &self.proc)
+    }
+
+    /// A span of a span class, from 0 to 135, for a cache. The scene is left.
+    pub fn cache_span(self, class: u8) -> Result<FromSets, NoMemory> {
+        let Scene {
+            shared,
+            marks,
+            ring,
+            mut hand,
+            ..
+        } = self;
+        let shop = Shop {
+            shared: &shared,
+            marks: &marks,
+            ring: &ring,
+            distance: 8192,
+            pages: 0,
+        };
+        cache_span(&shop, &mut hand, class.min(135))
+    }
+
+    /// The sweeps so far, the oldest first.
+    pub fn sweeps(&self) -> &[SweepNote] {
+        self.hand.notes.as_slice()
+    }
+
+    /// What is published of bucket 0 or 1 behind a full sweep.
+    pub fn published(&mut self, bucket: u32) -> Count {
+        if bucket > 1 {
+            return Count {
+                allocs: 0,
+                frees: 0,
+            };
+        }
+        self.ring.after_sweep(&mut self.hand.tally);
+        self.ring.published(&mut self.hand.tally, bucket)
+    }
+}

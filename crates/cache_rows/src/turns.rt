@@ -1,0 +1,229 @@
+//! What a processor does on the driver of a table, beside whom no worker has anything: it places objects, and goes over a mark end.
+
+ghost use Rattle.std.specs.Prelude.{◌≡◌, ℕ, ◌<◌, ◌≤◌, true, All, IfOk, OnOk};
+ghost use Rattle.std.specs.List.{AllByRecursion};
+ghost use Rattle.sweep_laws.specs.Lists.{rises};
+ghost use Rattle.span_state.specs.MarkSet.{MarkSet, dead_of};
+ghost use Rattle.span_laws.specs.Asks.{IsKnown};
+ghost use Rattle.cache_rows.specs.Ready.{AreObjects, Grows, HasSettled, HasSwept, IsPlaced, IsPrepared, IsReady};
+
+use crate::objects::{Object, mark_all, slot_on_page};
+use fallible_list::{List, NoMemory};
+use large_objects::alloc_large;
+use proc_cache::{Placed, Proc, Refused, alloc, count_placed, flush};
+use profile_cycle::Ring;
+use size_classes::PAGE_SIZE;
+use span_set::{Hand, Shop, reset};
+use span_state::Marks;
+use span_table::Shared;
+use std::alloc::Global;
+use sweeper::{One, finish, reclaim, sweep_one};
+use trace_reader::Event;
+
+// A generation at which no mark end may come.
+const LAST: u64 = 8_589_934_592;
+
+// A small object of this bucket, which is one of the objects from now on.
+pub(crate) fn small(
+    shop: &Shop,
+    hand: &mut Hand,
+    proc: &mut Proc,
+    objects: &mut List<Object>,
+    event: Event,
+    bucket: u32,
+) -> Result<Placed, Refused>
+    requires ready { IsReady shop.now.shared.now shop.now.ring.now shop.now.marks.now hand.old proc.old }
+    requires objects { AreObjects hand.old.worker.view.own.log objects.old }
+    requires distance { 8192 ≤ shop.now.distance }
+    requires some { 1 ≤ event.size }
+    requires small { event.size ≤ 32768 }
+    requires bucket { bucket < 2 }
+    ensures ready { IsReady shop.now.shared.now shop.now.ring.now shop.now.marks.now hand.new proc.new }
+    ensures objects { AreObjects hand.new.worker.view.own.log objects.new }
+{
+    let placed = place(shop, hand, proc, event, bucket)?;
+    let Some(slot) = slot_on_page(event.size) else {
+        return Ok(placed);
+    };
+    let object = Object {
+        addr: placed.addr,
+        slot,
+    };
+    let Ok(()) = objects.push(object) else {
+        return Err(Refused::NoMemory);
+    };
+    Ok(placed)
+}
+
+// The same, without a note of the object.
+fn place(
+    shop: &Shop,
+    hand: &mut Hand,
+    proc: &mut Proc,
+    event: Event,
+    bucket: u32,
+) -> Result<Placed, Refused>
+    requires ready { IsReady shop.now.shared.now shop.now.ring.now shop.now.marks.now hand.old proc.old }
+    requires distance { 8192 ≤ shop.now.distance }
+    requires some { 1 ≤ event.size }
+    requires small { event.size ≤ 32768 }
+    requires bucket { bucket < 2 }
+    ensures ready { IsReady shop.now.shared.now shop.now.ring.now shop.now.marks.now hand.new proc.new }
+    ensures grows { Grows hand.old.worker hand.new.worker }
+    ensures placed { IfOk result (λ p. IsPlaced event.size p.addr hand.new.worker) }
+{
+    alloc(proc, shop, hand, event, bucket)
+}
+
+// A large object of so many pages and this bucket, behind a flush.
+pub(crate) fn large(
+    shop: &Shop,
+    hand: &mut Hand,
+    proc: &mut Proc,
+    pages: u32,
+    bucket: u32,
+) -> Result<Placed, Refused>
+    requires ready { IsReady shop.now.shared.now shop.now.ring.now shop.now.marks.now hand.old proc.old }
+    requires distance { 8192 ≤ shop.now.distance }
+    requires pages { 5 ≤ pages }
+    requires bucket { bucket < 2 }
+    ensures ready { IsReady shop.now.shared.now shop.now.ring.now shop.now.marks.now hand.new proc.new }
+    ensures grows { Grows hand.old.worker hand.new.worker }
+{
+    let Ok(()) = flush_now(shop, hand, proc) else {
+        return Err(Refused::NoMemory);
+    };
+    put_large(shop, hand, proc, pages, bucket)
+}
+
+// The same where the processor has flushed.
+fn put_large(
+    shop: &Shop,
+    hand: &mut Hand,
+    proc: &mut Proc,
+    pages: u32,
+    bucket: u32,
+) -> Result<Placed, Refused>
+    requires ready { IsReady shop.now.shared.now shop.now.ring.now shop.now.marks.now hand.old proc.old }
+    requires distance { 8192 ≤ shop.now.distance }
+    requires pages { 5 ≤ pages }
+    requires bucket { bucket < 2 }
+    ensures ready { IsReady shop.now.shared.now shop.now.ring.now shop.now.marks.now hand.new proc.new }
+    ensures grows { Grows hand.old.worker hand.new.worker }
+{
+    let addr = alloc_large(shop, hand, pages, 1)?;
+    let slot = PAGE_SIZE * u64::from(pages);
+    let sampled = count_placed(proc, shop, hand, slot, bucket);
+    Ok(Placed { addr, sampled })
+}
+
+// The processor flushes, where it has not done so in this cycle.
+fn flush_now(shop: &Shop, hand: &mut Hand, proc: &mut Proc) -> Result<(), NoMemory>
+    requires ready { IsReady shop.now.shared.now shop.now.ring.now shop.now.marks.now hand.old proc.old }
+    requires distance { 8192 ≤ shop.now.distance }
+    ensures ready { IsReady shop.now.shared.now shop.now.ring.now shop.now.marks.now hand.new proc.new }
+    ensures grows { Grows hand.old.worker hand.new.worker }
+    ensures flushed { OnOk result (proc.new.flushed ≡ hand.new.worker.view.generation) }
+{
+    flush(proc, shop, hand)
+}
+
+// Flushes, and sweeps all that is left.
+pub(crate) fn sweep_all(shop: &Shop, hand: &mut Hand, proc: &mut Proc) -> Result<(), NoMemory>
+    requires ready { IsReady shop.now.shared.now shop.now.ring.now shop.now.marks.now hand.old proc.old }
+    requires distance { 8192 ≤ shop.now.distance }
+    ensures ready { IsReady shop.now.shared.now shop.now.ring.now shop.now.marks.now hand.new proc.new }
+    ensures grows { Grows hand.old.worker hand.new.worker }
+    ensures swept { OnOk result (HasSwept hand.new.worker proc.new) }
+{
+    flush_now(shop, hand, proc)?;
+    finish(shop, hand)
+}
+
+// Reclaims so many pages.
+pub(crate) fn reclaim_pages(
+    shop: &Shop,
+    hand: &mut Hand,
+    proc: &Proc,
+    pages: u32,
+) -> Result<u32, NoMemory>
+    requires ready { IsReady shop.now.shared.now shop.now.ring.now shop.now.marks.now hand.old proc.now }
+    requires distance { 8192 ≤ shop.now.distance }
+    ensures ready { IsReady shop.now.shared.now shop.now.ring.now shop.now.marks.now hand.new proc.now }
+    ensures grows { Grows hand.old.worker hand.new.worker }
+{
+    let _proc = proc;
+    reclaim(shop, hand, pages)
+}
+
+// The next sweep of a span in the unswept sets.
+pub(crate) fn sweep_next(shop: &Shop, hand: &mut Hand, proc: &Proc) -> Result<One, NoMemory>
+    requires ready { IsReady shop.now.shared.now shop.now.ring.now shop.now.marks.now hand.old proc.now }
+    requires distance { 8192 ≤ shop.now.distance }
+    ensures ready { IsReady shop.now.shared.now shop.now.ring.now shop.now.marks.now hand.new proc.now }
+    ensures grows { Grows hand.old.worker hand.new.worker }
+{
+    let _proc = proc;
+    sweep_one(shop, hand)
+}
+
+// Resets the unswept sets, and learns the whole journal. Fails where no mark end may come any more.
+pub(crate) fn settle(shop: &Shop, hand: &mut Hand, proc: &Proc) -> Result<(), NoMemory>
+    requires ready { IsReady shop.now.shared.now shop.now.ring.now shop.now.marks.now hand.old proc.now }
+    requires swept { HasSwept hand.old.worker proc.now }
+    ensures ready { IsReady shop.now.shared.now shop.now.ring.now shop.now.marks.now hand.new proc.now }
+    ensures grows { Grows hand.old.worker hand.new.worker }
+    ensures settled { OnOk result (HasSettled hand.new.worker proc.now) }
+{
+    let _proc = proc;
+    if shop.shared.generation(&mut hand.worker) >= LAST {
+        return Err(NoMemory);
+    }
+    reset(shop.shared, &mut hand.worker);
+    shop.shared.settle(&mut hand.worker);
+    Ok(())
+}
+
+// Sweeps all that is left, and settles; then the marks of these pages' indices, which live on, and the pairs of the marks.
+pub(crate) fn prepare(
+    alloc: Global,
+    shop: &Shop,
+    hand: &mut Hand,
+    proc: &mut Proc,
+    objects: &List<Object>,
+    live: &[(u32, u32)],
+) -> Result<(Marks, List<(u32, u32)>), NoMemory>
+    requires ready { IsReady shop.now.shared.now shop.now.ring.now shop.now.marks.now hand.old proc.old }
+    requires objects { AreObjects hand.old.worker.view.own.log objects.now }
+    requires distance { 8192 ≤ shop.now.distance }
+    ensures ready { IsReady shop.now.shared.now shop.now.ring.now shop.now.marks.now hand.new proc.new }
+    ensures grows { Grows hand.old.worker hand.new.worker }
+    ensures prepared { IfOk result (λ made. IsPrepared hand.new.worker proc.new made.0 made.1) }
+{
+    sweep_all(shop, hand, proc)?;
+    settle(shop, hand, proc)?;
+    let marks = mark_all(alloc, shop.marks, objects.as_slice(), live)?;
+    let pairs = marks.pairs()?;
+    Ok((marks, pairs))
+}
+
+// Ends the mark phase, with these pairs of pages and indices as the marks.
+pub(crate) fn turn(
+    shared: &mut Shared,
+    ring: &mut Ring,
+    marks: &Marks,
+    hand: &mut Hand,
+    proc: &Proc,
+    pairs: List<(u32, u32)>,
+)
+    requires ready { IsReady shared.old ring.old marks.now hand.old proc.now }
+    requires settled { HasSettled hand.old.worker proc.now }
+    requires rising { rises pairs ≡ true }
+    requires known { AllByRecursion (IsKnown hand.old.worker.number hand.old.worker.view) pairs }
+    ensures { (m : MarkSet) → m.pairs ≡ pairs → ((page : ℕ) → All (λ b. b < 2) (dead_of m page)) → IsReady shared.new ring.new m hand.new proc.now }
+{
+    let _marks = marks;
+    let _proc = proc;
+    shared.next_generation(&mut hand.worker, pairs);
+    ring.next_cycle(&mut hand.tally);
+}
