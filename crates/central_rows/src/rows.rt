@@ -1,0 +1,384 @@
+//! What `cache_span` answers over sets that a mark end left: each row makes full spans of two objects, and marks none, one or two of each.
+
+use cache_rows::Scene;
+use central_lists::{FromSets, Look};
+use fallible_list::NoMemory;
+use std::alloc::Global;
+use std::process::Abort;
+use std::test::Fail;
+use sweeper::One;
+
+// Objects of 4096 bytes with pointers are of span class 88, two on a page.
+const SIZE: u64 = 4096;
+
+const CLASS: u8 = 88;
+
+// Runs of spans: how many, and how many of the objects of each live on.
+type Runs = &'static [(u32, u32)];
+
+// A call before the one that is tried.
+#[derive(Clone, Copy)]
+enum Call {
+    // A second mark end, at which the objects of the second list of runs live.
+    MarkEnd,
+    // The page reclaimer goes over the chunk, and sweeps the spans without a mark.
+    Reclaim,
+    // `sweep_one`.
+    Sweep,
+}
+
+// What a call answers.
+#[derive(Clone, Copy, Debug, PartialEq, Eq)]
+enum Answer {
+    // Nothing.
+    Done,
+    // So many pages came back.
+    Pages(u32),
+    // The page, the kept and the freed objects of a sweep.
+    Swept(u32, u32, u32),
+    // Nothing is left to sweep.
+    NothingLeft,
+    // A span of the swept partial set, by its page.
+    Partial(u32),
+    // A span that was swept for the call.
+    Here(u32),
+    // A new span is needed: where the swept partial set was seen empty, and the tries.
+    Fresh(u32, u32),
+    // The same, where an entry of the set was not filled yet.
+    NotYet(u32, u32),
+}
+
+// The marks of the runs: of the spans from page 0 on.
+fn marks_of(alloc: Global, runs: &[(u32, u32)]) -> Result<Vec<(u32, u32)>, NoMemory> {
+    let mut marks = Vec::new(alloc);
+    let mut page = 0u32;
+    for run in runs {
+        for _ in 0..run.0 {
+            for index in 0..run.1 {
+                marks.push((page, index))?;
+            }
+            page = page.saturating_add(1);
+        }
+    }
+    Ok(marks)
+}
+
+fn mark_end(scene: &mut Scene, alloc: Global, runs: &[(u32, u32)]) -> Result<(), NoMemory> {
+    let marks = marks_of(alloc, runs)?;
+    scene.mark_end(marks.as_slice())
+}
+
+fn put(scene: &mut Scene) -> Result<(), NoMemory> {
+    match scene.small(SIZE, true, 0) {
+        Ok(_) => Ok(()),
+        Err(_) => Err(NoMemory),
+    }
+}
+
+fn put_spans(scene: &mut Scene, spans: u32) -> Result<(), NoMemory> {
+    for _ in 0..spans {
+        put(scene)?;
+        put(scene)?;
+    }
+    Ok(())
+}
+
+// Full spans on the first pages, and one more that is cached.
+fn fill(scene: &mut Scene, runs: &[(u32, u32)]) -> Result<(), NoMemory> {
+    for run in runs {
+        put_spans(scene, run.0)?;
+    }
+    put(scene)
+}
+
+fn make(
+    scene: &mut Scene,
+    alloc: Global,
+    later: &[(u32, u32)],
+    call: Call,
+) -> Result<Answer, NoMemory> {
+    match call {
+        Call::MarkEnd => {
+            mark_end(scene, alloc, later)?;
+            Ok(Answer::Done)
+        }
+        Call::Reclaim => Ok(Answer::Pages(scene.reclaim(1)?)),
+        Call::Sweep => match scene.sweep()? {
+            One::Swept(note) => Ok(Answer::Swept(note.page, note.kept, note.freed)),
+            One::NothingLeft => Ok(Answer::NothingLeft),
+        },
+    }
+}
+
+// The spans, what lives on at a second mark end, the calls before the one that is tried, and what that one answers.
+struct Case {
+    runs: Runs,
+    later: Runs,
+    calls: &'static [(Call, Answer)],
+    wanted: Answer,
+}
+
+// Behind a mark end all spans wait for their sweep in the full set, in the order of their pages.
+fn try_calls<R: Abort + AllocGlobal>(
+    rt: &R,
+    scene: &mut Scene,
+    row: &Case,
+) -> Result<(), NoMemory> {
+    fill(scene, row.runs)?;
+    mark_end(scene, rt.alloc(), row.runs)?;
+    for (made, wanted) in row.calls {
+        let found = make(scene, rt.alloc(), row.later, *made)?;
+        assert_eq!(rt; found, *wanted);
+    }
+    Ok(())
+}
+
+// The state in which the call is made. A scene is let go in one place, since each place costs the proof much.
+fn ready<R: Abort + AllocGlobal>(rt: &R, row: &Case) -> Result<Scene, NoMemory> {
+    let mut scene = Scene::start(rt.alloc(), 0)?;
+    try_calls(rt, &mut scene, row)?;
+    Ok(scene)
+}
+
+// The answer to a processor that asks for a span of the class.
+fn asked(scene: Scene) -> Result<Answer, NoMemory> {
+    match scene.cache_span(CLASS)? {
+        FromSets::SweptPartial(body) => Ok(Answer::Partial(body.page)),
+        FromSets::SweptHere(body) => Ok(Answer::Here(body.page)),
+        FromSets::NeedFresh { swept, tried } => match swept {
+            Look::Empty { at } => Ok(Answer::Fresh(at, tried)),
+            Look::NotYet { at } => Ok(Answer::NotYet(at, tried)),
+        },
+    }
+}
+
+fn try_case<R: Abort + AllocGlobal>(rt: &R, row: &Case) -> Result<(), NoMemory> {
+    let found = asked(ready(rt, row)?)?;
+    assert_eq!(rt; found, row.wanted);
+    Ok(())
+}
+
+// The first span with room is kept, also the hundredth.
+const WAITING: [Case; 10] = [
+    Case {
+        runs: &[(3, 2)],
+        later: &[],
+        calls: &[],
+        wanted: Answer::Fresh(0, 3),
+    },
+    Case {
+        runs: &[(1, 2), (1, 1), (1, 2)],
+        later: &[],
+        calls: &[],
+        wanted: Answer::Here(1),
+    },
+    // an emptied one is kept too, since it was swept for a cache
+    Case {
+        runs: &[(1, 0), (1, 1)],
+        later: &[],
+        calls: &[],
+        wanted: Answer::Here(0),
+    },
+    Case {
+        runs: &[(2, 2), (1, 0)],
+        later: &[],
+        calls: &[],
+        wanted: Answer::Here(2),
+    },
+    Case {
+        runs: &[(99, 2)],
+        later: &[],
+        calls: &[],
+        wanted: Answer::Fresh(0, 99),
+    },
+    Case {
+        runs: &[(100, 2)],
+        later: &[],
+        calls: &[],
+        wanted: Answer::Fresh(0, 100),
+    },
+    Case {
+        runs: &[(101, 2)],
+        later: &[],
+        calls: &[],
+        wanted: Answer::Fresh(0, 100),
+    },
+    Case {
+        runs: &[(98, 2), (1, 1)],
+        later: &[],
+        calls: &[],
+        wanted: Answer::Here(98),
+    },
+    Case {
+        runs: &[(99, 2), (1, 1)],
+        later: &[],
+        calls: &[],
+        wanted: Answer::Here(99),
+    },
+    Case {
+        runs: &[(100, 2), (1, 1)],
+        later: &[],
+        calls: &[],
+        wanted: Answer::Fresh(0, 100),
+    },
+];
+
+// Where the page reclaimer went over the chunk before, the entries of the spans that it swept are dropped, and are tries too.
+const DROPPED: [Case; 8] = [
+    Case {
+        runs: &[(1, 0), (1, 2), (1, 0), (1, 1)],
+        later: &[],
+        calls: &[(Call::Reclaim, Answer::Pages(2))],
+        wanted: Answer::Here(3),
+    },
+    Case {
+        runs: &[(2, 0)],
+        later: &[],
+        calls: &[(Call::Reclaim, Answer::Pages(2))],
+        wanted: Answer::Fresh(0, 2),
+    },
+    Case {
+        runs: &[(1, 0), (1, 2), (1, 0)],
+        later: &[],
+        calls: &[(Call::Reclaim, Answer::Pages(2))],
+        wanted: Answer::Fresh(0, 3),
+    },
+    Case {
+        runs: &[(49, 0), (50, 2), (1, 1)],
+        later: &[],
+        calls: &[(Call::Reclaim, Answer::Pages(49))],
+        wanted: Answer::Here(99),
+    },
+    Case {
+        runs: &[(50, 2), (49, 0), (1, 1)],
+        later: &[],
+        calls: &[(Call::Reclaim, Answer::Pages(49))],
+        wanted: Answer::Here(99),
+    },
+    Case {
+        runs: &[(50, 0), (50, 2), (1, 1)],
+        later: &[],
+        calls: &[(Call::Reclaim, Answer::Pages(50))],
+        wanted: Answer::Fresh(0, 100),
+    },
+    Case {
+        runs: &[(100, 0), (1, 1)],
+        later: &[],
+        calls: &[(Call::Reclaim, Answer::Pages(100))],
+        wanted: Answer::Fresh(0, 100),
+    },
+    Case {
+        runs: &[(99, 0), (1, 1)],
+        later: &[],
+        calls: &[(Call::Reclaim, Answer::Pages(99))],
+        wanted: Answer::Here(99),
+    },
+];
+
+// A span that was swept before, and has room, is found without a try.
+const SWEPT: [Case; 5] = [
+    Case {
+        runs: &[(2, 1)],
+        later: &[],
+        calls: &[(Call::Sweep, Answer::Swept(0, 1, 1))],
+        wanted: Answer::Partial(0),
+    },
+    Case {
+        runs: &[(1, 1), (3, 2)],
+        later: &[],
+        calls: &[(Call::Sweep, Answer::Swept(0, 1, 1))],
+        wanted: Answer::Partial(0),
+    },
+    // the first is full, and in the next case emptied and given back
+    Case {
+        runs: &[(1, 2), (1, 1)],
+        later: &[],
+        calls: &[(Call::Sweep, Answer::Swept(0, 2, 0))],
+        wanted: Answer::Here(1),
+    },
+    Case {
+        runs: &[(1, 0), (1, 1)],
+        later: &[],
+        calls: &[(Call::Sweep, Answer::Swept(0, 0, 2))],
+        wanted: Answer::Here(1),
+    },
+    Case {
+        runs: &[(101, 2)],
+        later: &[],
+        calls: &[(Call::Sweep, Answer::Swept(0, 2, 0))],
+        wanted: Answer::Fresh(0, 100),
+    },
+];
+
+// Behind a second mark end the spans with room wait in the partial set, and the full ones in the full set. The partial set is tried before
+// the full one, and both together a hundred times. A span of the partial set has room still, so it is the first to be kept, but for those
+// that the reclaimer gave back.
+const BOTH: [Case; 6] = [
+    Case {
+        runs: &[(1, 2), (1, 1), (1, 2), (1, 1)],
+        later: &[(1, 2), (1, 1), (1, 2), (1, 1)],
+        calls: &[(Call::MarkEnd, Answer::Done)],
+        wanted: Answer::Here(1),
+    },
+    Case {
+        runs: &[(1, 2), (1, 1), (1, 2), (1, 1)],
+        later: &[(1, 1), (3, 0)],
+        calls: &[(Call::MarkEnd, Answer::Done)],
+        wanted: Answer::Here(1),
+    },
+    // the partial spans died, and were given back
+    Case {
+        runs: &[(1, 2), (1, 1), (1, 2), (1, 1)],
+        later: &[(1, 2), (1, 0), (1, 1), (1, 0)],
+        calls: &[
+            (Call::MarkEnd, Answer::Done),
+            (Call::Reclaim, Answer::Pages(2)),
+        ],
+        wanted: Answer::Here(2),
+    },
+    Case {
+        runs: &[(1, 2), (1, 1), (1, 2), (1, 1)],
+        later: &[(1, 2), (1, 0), (1, 2), (1, 0)],
+        calls: &[
+            (Call::MarkEnd, Answer::Done),
+            (Call::Reclaim, Answer::Pages(2)),
+        ],
+        wanted: Answer::Fresh(0, 4),
+    },
+    // sixty of the partial set, and as many of the full one as are left
+    Case {
+        runs: &[(60, 1), (40, 2)],
+        later: &[(60, 0), (39, 2), (1, 1)],
+        calls: &[
+            (Call::MarkEnd, Answer::Done),
+            (Call::Reclaim, Answer::Pages(60)),
+        ],
+        wanted: Answer::Here(99),
+    },
+    Case {
+        runs: &[(60, 1), (41, 2)],
+        later: &[(60, 0), (40, 2), (1, 1)],
+        calls: &[
+            (Call::MarkEnd, Answer::Done),
+            (Call::Reclaim, Answer::Pages(60)),
+        ],
+        wanted: Answer::Fresh(0, 100),
+    },
+];
+
+#[test]
+fn cached_spans_come_by_the_rules(rt: HostRuntime) -> Result<(), Fail> {
+    for row in &WAITING {
+        try_case(&rt, row)?;
+    }
+    for row in &DROPPED {
+        try_case(&rt, row)?;
+    }
+    for row in &SWEPT {
+        try_case(&rt, row)?;
+    }
+    for row in &BOTH {
+        try_case(&rt, row)?;
+    }
+    Ok(())
+}
