@@ -4,9 +4,11 @@
 #![tactic(auto)]
 
 #[cfg(test)]
-mod calls;
-#[cfg(test)]
 mod helpers;
+#[cfg(test)]
+mod next_cycle;
+#[cfg(test)]
+mod table;
 #[cfg(test)]
 mod tests;
 pub mod turns;

@@ -1,0 +1,96 @@
+ghost use Rattle.std.specs.Prelude.{◌≡◌, ◌<◌, [], IfOk, OnOk, length, true};
+ghost use Rattle.span_rows.specs.Rows.{HasCached, IsFreeDriver};
+
+use crate::turns::{place, sweep, turn, turn_one};
+use fallible_list::NoMemory;
+use span_state::{Body, Marks};
+use span_table::{Acquired, Shared, Uncached, Worker};
+use std::alloc::Global;
+
+// Takes a large span, caches it, and places its object.
+fn cached(shared: &Shared, w: &mut Worker) -> Result<Body, NoMemory>
+    requires free { IsFreeDriver shared.now w.old }
+    requires none { w.old.view.own.cached ≡ [] }
+    ensures free { OnOk result (IsFreeDriver shared.now w.new) }
+    ensures generation { OnOk result (w.new.view.generation ≡ w.old.view.generation) }
+    ensures cached { IfOk result (λ b. HasCached w.new b) }
+{
+    let Ok(mut body) = shared.take_span(w, 5, 0) else {
+        return Err(NoMemory);
+    };
+    shared.mark_cached(w, &body);
+    shared.note_alloc(w, &mut body, 0);
+    Ok(body)
+}
+
+// The word of a cached span, and what its way out answers.
+fn uncached(shared: &Shared, w: &mut Worker, body: &Body) -> Result<(u64, Uncached), NoMemory>
+    requires here { w.old.here ≡ true }
+    requires table { w.old.table ≡ shared.now }
+    requires body { HasCached w.old body.now }
+{
+    if body.page >= shared.region(w) {
+        return Err(NoMemory);
+    }
+    let Acquired::Other(word) = shared.acquire(w, body.page) else {
+        return Err(NoMemory);
+    };
+    Ok((word, shared.uncache(w, body)))
+}
+
+// A span stays cached over a mark end: its word then, and what its way out answers.
+pub(crate) fn stale(
+    alloc: Global,
+    shared: &mut Shared,
+    w: &mut Worker,
+) -> Result<(u64, Uncached), NoMemory>
+    requires free { IsFreeDriver shared.old w.old }
+    requires generation { w.old.view.generation ≡ 4 }
+    requires none { w.old.view.own.cached ≡ [] }
+{
+    let body = cached(shared, w)?;
+    turn(shared, w, &Marks::empty(alloc))?;
+    uncached(shared, w, &body)
+}
+
+// The word that an acquire of a page finds; none where the span waits.
+fn word_at(shared: &Shared, w: &mut Worker, page: u32) -> Result<Option<u64>, NoMemory>
+    requires here { w.old.here ≡ true }
+    requires table { w.old.table ≡ shared.now }
+{
+    if page >= shared.region(w) {
+        return Err(NoMemory);
+    }
+    match shared.acquire(w, page) {
+        Acquired::Got(_) => Ok(None),
+        Acquired::Other(word) => Ok(Some(word)),
+    }
+}
+
+// The same for worker 1.
+fn word_of_other(shared: &Shared, w: &mut Worker, page: u32) -> Result<Option<u64>, NoMemory>
+    requires here { w.old.here ≡ true }
+    requires table { w.old.table ≡ shared.now }
+    requires parts { 1 < length w.old.view.parts }
+{
+    let mut other = shared.hand_out(w, 1)?;
+    word_at(shared, &mut other, page)
+}
+
+// The driver sweeps a span behind a mark end, and worker 1 acquires its page: the page, and the word that is found.
+pub(crate) fn swept(
+    alloc: Global,
+    shared: &mut Shared,
+    w: &mut Worker,
+) -> Result<(u32, Option<u64>), NoMemory>
+    requires free { IsFreeDriver shared.old w.old }
+    requires generation { w.old.view.generation ≡ 4 }
+{
+    let page = place(shared, w, 5)?;
+    turn_one(alloc, shared, w, page)?;
+    if page >= shared.region(w) {
+        return Err(NoMemory);
+    }
+    sweep(shared, w, page)?;
+    Ok((page, word_of_other(shared, w, page)?))
+}
