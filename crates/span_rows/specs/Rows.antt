@@ -1,5 +1,5 @@
 -- What the rows' helpers tell of a worker.
-use Rattle.std.specs.Prelude.{◌≡◌, ℕ, ◌<◌, Bool, true, false, None, List, [], ◌++◌, length}
+use Rattle.std.specs.Prelude.{◌≡◌, ℕ, ◌<◌, Bool, true, false, None, List, ◌++◌, length}
 use Rattle.atomic_table.specs.Seated.{TableId}
 use Rattle.sweep_laws.specs.Lists.{has}
 use Rattle.sweep_laws.specs.Needs.{is_swept_set}
@@ -11,8 +11,6 @@ use Rattle.span_laws.specs.declared.view.Part.{Part}
 use Rattle.span_laws.specs.Logs.{is_placing_at}
 use Rattle.span_laws.specs.declared.said.Said.TheVariants.{Reads}
 use Rattle.worker_log.specs.declared.Entry.{Entry}
-use Rattle.span_set.specs.declared.answers.Pop.{Pop}
-use Rattle.span_set.specs.declared.answers.Pop.TheVariants.{Taken, Empty, NotYet}
 use Rattle.span_laws.specs.Views.{Seen, acts, after_said, parts_of}
 use Rattle.worker_log.specs.Logs.{is_placing_in, is_pop_of, is_seen_empty, many}
 
@@ -30,12 +28,6 @@ pub record HoldsLarge (w : Seen) (b : Body) : Type 0 where
   pub used : IsUsed b
   pub full : IsFullBody b
   pub unpopped : (j : ℕ) → j < 544 → is_swept_set w.view.generation j ≡ true → many (is_pop_of j b.page) w.view.own.log ≡ 0
-
--- A pop that took nothing leaves the worker's claim.
-abbrev pub LeavesClaim : Seen → Seen → Pop → Type 0
-LeavesClaim old new (Taken body) = Unit {0}
-LeavesClaim old new (Empty head tail) = new.view.own.claimed ≡ old.view.own.claimed
-LeavesClaim old new (NotYet head) = new.view.own.claimed ≡ old.view.own.claimed
 
 -- In each span that a worker has cached it placed an object since the last mark end.
 abbrev pub UsesCached : Part → Type 0

@@ -1,4 +1,4 @@
-use Rattle.span_rows.proofs.Tables.{looked_empty, ready_acts}
+use Rattle.span_rows.proofs.Tables.{looked_empty}
 use Rattle.span_rows.proofs.helpers.reset.Goals as goal
 
 pub reset_set-requires-clause-empty : goal.reset_set-requires-clause-empty
