@@ -23,10 +23,12 @@ struct Row {
 }
 
 // Four objects of a megabyte of which two survive; an object that lives on beside one that dies; an emptied span that is made again; and
-// two processors, one of which is idle in the second cycle. Then traces that are sampled: of size 0; at rate 1 with one mark end and with
+// two processors, one of which is idle in the second cycle. A span that one processor sweeps and another fills. An event of size 0, which flushes
+// nothing, so that the other processor's span comes behind the stale one; and the first event of a size above 0, small or large, which does
+// before it is placed. Then traces that are sampled: of size 0; at rate 1 with one mark end and with
 // two; at rate 100, where the bytes between samples are 93, 180 and 157; and at rate 524288 with large objects, where they are 605813, 77639
 // and 43627.
-const ROWS: [Row; 9] = [
+const ROWS: [Row; 13] = [
     Row {
         head: "heap 1 procs 1 rate 0 seed 1 goal 512",
         lines: "a 0 1048576 n 1\na 0 1048576 n 1\na 0 1048576 n 1\na 0 1048576 n 1\ngc 1\nm 1 1\nm 3 3\na 0 1048577 n 1\n",
@@ -55,6 +57,35 @@ const ROWS: [Row; 9] = [
         lines: "a 0 8 s 1\na 1 8 s 1\ngc 1\nm 0 0\na 1 8 s 1\n",
         report: "o 0 0xc000000000\no 1 0xc000002000\no 2 0xc000002000\nj 0 0 take 0 1 2\nj 1 0 take 1 1 2\nj 2 1 give 1 1\nj 3 1 take 1 1 2\n\
          s 1 0 1 0\ns 1 1 0 1\nt 1 3 1\n",
+        last: "",
+        each: "",
+    },
+    Row {
+        head: "heap 1 procs 2 rate 0 seed 1 goal 512",
+        lines: "a 0 4096 s 1\na 0 4096 s 1\ngc 1\nm 1 1\na 0 8 s 1\na 1 4096 s 1\n",
+        report: "o 0 0xc000000000\no 1 0xc000001000\no 2 0xc000002000\no 3 0xc000000000\nj 0 0 take 0 1 88\nj 1 1 take 1 1 2\ns 1 0 1 1\nt 1 1 0\nt 44 3 1\n",
+        last: "",
+        each: "",
+    },
+    Row {
+        head: "heap 1 procs 2 rate 0 seed 1 goal 512",
+        lines: "a 0 8 s 1\ngc 1\na 0 0 s 1\na 1 16 s 1\n",
+        report: "o 0 0xc000000000\no 1 zero\no 2 0xc000002000\nj 0 0 take 0 1 2\nj 1 1 take 1 1 4\nj 2 1 give 0 1\ns 1 0 0 1\nt 1 1 1\nt 2 1 0\n",
+        last: "",
+        each: "",
+    },
+    Row {
+        head: "heap 1 procs 1 rate 0 seed 1 goal 512",
+        lines: "a 0 8 s 1\ngc 1\na 0 0 s 1\na 0 16 s 1\na 0 24 s 1\n",
+        report: "o 0 0xc000000000\no 1 zero\no 2 0xc000000000\no 3 0xc000002000\nj 0 0 take 0 1 2\nj 1 1 give 0 1\nj 2 1 take 0 1 4\nj 3 1 take 1 1 6\n\
+         s 1 0 0 1\nt 1 1 1\nt 2 1 0\nt 3 1 0\n",
+        last: "",
+        each: "",
+    },
+    Row {
+        head: "heap 1 procs 1 rate 0 seed 1 goal 512",
+        lines: "a 0 8 s 1\ngc 1\na 0 4194304 n 1\n",
+        report: "o 0 0xc000000000\no 1 0xc000000000\nj 0 0 take 0 1 2\nj 1 1 give 0 1\nj 2 1 take 0 512 1\ns 1 0 0 1\nt 0 1 0\nt 1 1 1\n",
         last: "",
         each: "",
     },
