@@ -1,7 +1,7 @@
 #!/usr/bin/env bash
 # Runs goheap on each trace of this folder, and compares what it prints with the report beside the trace, which it then has
 # judged; with `--each` it compares with the report that ends in `.each`, where there is one. A report with exchanged addresses must be
-# refused. Words that read nothing print the file of their name that ends in `.lines`, the same at each run and within a minute. Of the
+# refused, and so must three that are no sound report of the smallest trace. Words that read nothing print the file of their name that ends in `.lines`, the same at each run and within a minute. Of the
 # recorded trace of a real program it compares the totals.
 set -u
 cd "$(dirname "$0")" || exit 1
@@ -41,6 +41,18 @@ for lines in *.lines; do
     fi
   done
 done
+# refused TRACE REPORT WORDS: `check` refuses this report of the trace with status 4 and these words.
+refused() {
+  local said
+  said=$({ cat "$1" && printf '%s' "$2"; } | ../goheap check 2>&1)
+  if [ $? -ne 4 ] || [ "$said" != "goheap: $3" ]; then
+    echo "$1: a report is not refused by $3" >&2
+    failed=1
+  fi
+}
+refused one-object.trace $'j 0 0 take 0 1 6\no 0 0xc000000000\nt 3 1 0\nend\n' 'report line 2: malformed'
+refused one-object.trace '' 'report line 1: ends early'
+refused one-object.trace $'o 0 0xc000000000\nj 0 0 take 0 1 6\nend\n' 'report line 3: rule 8'
 unpacked() { python3 -c 'import lzma, shutil, sys; shutil.copyfileobj(lzma.open(sys.argv[1]), sys.stdout.buffer)' "$1"; }
 for packed in real/*.trace.xz; do
   if ! diff <(unpacked "$packed" | ../goheap run | grep '^t ') "${packed%.trace.xz}.totals" >/dev/null; then
