@@ -1,14 +1,12 @@
 -- What the calls of the tallies add up to, and what is published of them.
-use Rattle.std.specs.Prelude.{◌≡◌, ◌≢◌, ℕ, zero, suc, ◌+◌, ◌-◌, ◌<◌, ◌≤◌, Bool, true, ◌&&◌, ◌==◌, not, List, [], ◌∷◌, slice_index, Some, ◌⊎◌, ◌↔◌}
+use Rattle.std.specs.Prelude.{◌≡◌, ℕ, zero, suc, ◌+◌, ◌-◌, ◌<◌, Bool, true, ◌&&◌, ◌==◌, not, List, [], ◌∷◌, slice_index, Some, ◌↔◌}
 use Rattle.std.specs.List.{slice_get}
 use Rattle.page_alloc.specs.Lists.{In, count}
 use Rattle.page_alloc.specs.Journal.{Life, open_lives}
 use Rattle.span_state.specs.MarkSet.{MarkSet, dead_of}
 use Rattle.span_state.specs.declared.sweep.SweepNote.{SweepNote}
-use Rattle.cycle_history.specs.declared.Prof.{Prof}
 use Rattle.cycle_history.specs.Requests.{Marking}
 use Rattle.cycle_history.specs.Objects.{Object, is_placed, live}
-use Rattle.cycle_history.specs.Orders.{AreRisingProfile}
 pub use Rattle.cycle_history.specs.Profile.{Bucket, SamplesBy, Samples, is_sample, allocs_at, frees_at, bucket_of, IsProf, IsChanged, IsOf, IsProfile, IsProfileOfEach, placed_by}
 use Rattle.run_laws.specs.CycleSoFar.{CycleSoFar}
 
@@ -30,20 +28,6 @@ published_allocs calls l b = sum_below (l - 1) (λ k. calls.allocated k b)
 
 abbrev pub published_frees : Calls → ℕ → Bucket → ℕ
 published_frees calls l b = sum_below l (λ k. calls.freed k b)
-
--- The published numbers of a bucket are others after mark end m + 1 than after mark end m.
-abbrev pub HasMoved : Calls → ℕ → Bucket → Type 0
-HasMoved calls m b = (published_allocs calls (suc (suc m)) b ≢ published_allocs calls (suc m) b) ⊎ (published_frees calls (suc (suc m)) b ≢ published_frees calls (suc m) b)
-
--- Lines with the published numbers of their mark ends: those before the last mark end are of the buckets whose numbers
--- moved, and those of the last one of all buckets with allocations.
-pub record ArePublished (calls : Calls) (last : ℕ) (lines : List Prof) : Type 0 where
-  pub order : AreRisingProfile lines
-  pub right : (line : Prof) → In line lines → (1 ≤ line.mark) × (line.mark ≤ last) × (1 ≤ line.allocs)
-      × (line.allocs ≡ published_allocs calls (suc line.mark) (bucket_of line)) × (line.frees ≡ published_frees calls (suc line.mark) (bucket_of line))
-  pub changed : (m : ℕ) (line : Prof) → In line lines → line.mark ≡ suc m → suc m < last → HasMoved calls m (bucket_of line)
-  pub each : (m : ℕ) (b : Bucket) → suc m < last → HasMoved calls m b → (line : Prof) × In line lines × IsOf (suc m) b line
-  pub last_each : (b : Bucket) → 1 ≤ published_allocs calls (suc last) b → (line : Prof) × In line lines × IsOf last b line
 
 -- The calls of cycle c: each sample of the cycle was counted as allocated, and each that the mark end before the cycle
 -- found and didn't mark as freed.
