@@ -5,7 +5,7 @@ use Rattle.std.specs.Prelude.{All, IfOk, OnErr, OnOk, None, Result, Ok, Err}
 use Rattle.std.proofs.lemmas.List.Elements.{All-nil}
 use Rattle.std.proofs.lemmas.List.FromFn.{length-map-range_with_len}
 use lib.ListN.{get_elem?}
-use Rattle.sweep_laws.specs.Needs.{is_swept_set}
+use Rattle.sweep_laws.specs.Reading.{is_swept_set}
 use Rattle.sweep_laws.specs.Start.{copies}
 use Rattle.atomic_table.specs.Seated.{TableId}
 use Rattle.page_alloc.specs.Lists.{In}
@@ -18,7 +18,8 @@ use Rattle.span_state.specs.MarkSet.{MarkSet, dead_of}
 use Rattle.span_state.specs.declared.sweep.SweepNote.{SweepNote}
 use Rattle.worker_log.specs.declared.Entry.{Entry}
 use Rattle.worker_log.specs.declared.Placing.{Placing}
-use Rattle.worker_log.specs.Logs.{is_seen_empty, many, placings}
+use Rattle.worker_log.specs.Logs.{placings}
+use Rattle.worker_log.specs.Entries.{is_seen_empty, many}
 use Rattle.worker_log.proofs.Logs.{many-append}
 use Rattle.span_laws.specs.declared.answers.Refused.{Refused}
 use Rattle.span_laws.specs.declared.answers.Refused.TheVariants.{NoRun, NoMemory as WantsMemory}

@@ -15,8 +15,9 @@ use Rattle.atomic_table.specs.Seated.{TableId}
 use Rattle.worker_log.specs.declared.Entry.{Entry}
 use Rattle.worker_log.specs.declared.Entry.TheVariants.{Looked, LookedEmptyCell, Popped, Pushed, Swept, Took, Missed, Gave, Allocated, Found, Read, Added}
 use Rattle.worker_log.specs.declared.Placing.{Placing}
-use Rattle.worker_log.specs.Logs.{many, placings}
-use Rattle.span_laws.specs.Asks.{IsKnown}
+use Rattle.worker_log.specs.Logs.{placings}
+use Rattle.worker_log.specs.Entries.{many}
+use Rattle.span_laws.specs.MarkEndAsks.{IsKnown}
 use Rattle.span_laws.specs.Logs.{is_placing_at}
 use Rattle.span_laws.specs.Views.{Seen}
 use Rattle.proc_cache.specs.Cache.{Cache, address_of}

@@ -16,18 +16,22 @@ use Rattle.profile_cycle.specs.History.{RingId, Standing, calls}
 use Rattle.profile_cycle.specs.declared.calls.What.TheVariants.{AfterSweep, NextCycle}
 use Rattle.span_state.specs.MarkSet.{IsRising, MarkSet, dead_of}
 use Rattle.sweep_laws.specs.Lists.{has, rises}
-use Rattle.sweep_laws.specs.Needs.{is_swept_set}
-use Rattle.sweep_laws.specs.Owned.{EachAt}
+use Rattle.sweep_laws.specs.Reading.{is_swept_set}
+use Rattle.sweep_laws.specs.OwnedLives.{EachAt}
 use Rattle.sweep_laws.proofs.Naming.{set_here}
 use Rattle.swept_set_laws.specs.Entered.{log_of}
 use Rattle.worker_log.specs.declared.Entry.{Entry}
 use Rattle.worker_log.specs.declared.Entry.TheVariants.{Read}
-use Rattle.worker_log.specs.Logs.{is_placing_in, is_pop_of, is_seen_empty, many, placings, swept_set}
+use Rattle.worker_log.specs.Logs.{placings}
+use Rattle.worker_log.specs.SetNumbers.{swept_set}
+use Rattle.worker_log.specs.Entries.{is_placing_in, is_pop_of, is_seen_empty, many}
 use Rattle.worker_log.proofs.Logs.{many-append}
-use Rattle.span_laws.specs.Asks.{IsAtRest, IsFresh, IsIdle, IsKnown, MayMark, MaySettle}
+use Rattle.span_laws.specs.Asks.{IsFresh, IsIdle}
+use Rattle.span_laws.specs.MarkEndAsks.{IsAtRest, IsKnown, MayMark, MaySettle}
 use Rattle.span_laws.specs.Rule.{logs_of}
 use Rattle.span_laws.specs.Settles.{SettlesCycle}
-use Rattle.span_laws.specs.Views.{Seen, acts, after_next, no_part, parts_of, rested}
+use Rattle.span_laws.specs.Views.{Seen, acts, no_part, parts_of}
+use Rattle.span_laws.specs.MarkEnds.{after_next, rested}
 use Rattle.span_laws.specs.declared.view.Part.{Part}
 use Rattle.span_laws.proofs.MarkEnd.{map_at}
 use Rattle.span_laws.proofs.Parts.{set_else}

@@ -9,13 +9,15 @@ use Rattle.profile_cycle.specs.History.{RingId, Standing}
 use Rattle.span_state.specs.MarkSet.{MarkSet, dead_of, is_marked}
 use Rattle.page_alloc.specs.Lists.{In}
 use Rattle.sweep_laws.specs.Lists.{has, rises}
-use Rattle.sweep_laws.specs.Needs.{is_swept_set}
+use Rattle.sweep_laws.specs.Reading.{is_swept_set}
 use Rattle.worker_log.specs.declared.Entry.{Entry}
 use Rattle.worker_log.specs.declared.Placing.{Placing}
-use Rattle.worker_log.specs.Logs.{is_seen_empty, many, placings}
+use Rattle.worker_log.specs.Logs.{placings}
+use Rattle.worker_log.specs.Entries.{is_seen_empty, many}
 use Rattle.span_laws.specs.declared.view.Part.{Part}
 use Rattle.sound_run.specs.Run.{count_for}
-use Rattle.span_laws.specs.Asks.{IsIdle, IsKnown, KnowsJournal}
+use Rattle.span_laws.specs.Asks.{IsIdle, KnowsJournal}
+use Rattle.span_laws.specs.MarkEndAsks.{IsKnown}
 use Rattle.span_laws.specs.Views.{Seen, no_part}
 use Rattle.span_set.specs.Tallies.{MayCount}
 use Rattle.span_set.specs.declared.hand.Hand.{Hand}

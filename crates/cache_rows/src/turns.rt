@@ -4,7 +4,7 @@ ghost use Rattle.std.specs.Prelude.{◌≡◌, ℕ, ◌<◌, ◌≤◌, true, Al
 ghost use Rattle.std.specs.List.{AllByRecursion};
 ghost use Rattle.sweep_laws.specs.Lists.{rises};
 ghost use Rattle.span_state.specs.MarkSet.{MarkSet, dead_of};
-ghost use Rattle.span_laws.specs.Asks.{IsKnown};
+ghost use Rattle.span_laws.specs.MarkEndAsks.{IsKnown};
 ghost use Rattle.cache_rows.specs.Ready.{AreObjects, Grows, HasSettled, HasSwept, IsPlaced, IsPrepared, IsReady};
 
 use crate::objects::{Object, mark_all, slot_on_page};

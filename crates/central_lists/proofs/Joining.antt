@@ -5,7 +5,8 @@ use Rattle.std.specs.Prelude.{Result, Ok, Err}
 use Rattle.fallible_list.specs.declared.list.NoMemory.{NoMemory}
 use Rattle.sweep_laws.specs.Counts.{times}
 use Rattle.worker_log.specs.declared.Entry.{Entry}
-use Rattle.worker_log.specs.Logs.{is_seen_empty, is_sweep_of, swept_set, unswept_set}
+use Rattle.worker_log.specs.SetNumbers.{swept_set, unswept_set}
+use Rattle.worker_log.specs.Entries.{is_seen_empty, is_sweep_of}
 use Rattle.worker_log.proofs.Logs.{many-append}
 use Rattle.span_state.specs.MarkSet.{has_pair}
 use Rattle.span_state.specs.declared.body.Body.{Body}
@@ -22,7 +23,9 @@ use Rattle.central_lists.specs.declared.answers.One.{One}
 use Rattle.central_lists.specs.declared.answers.Search.{Search}
 use Rattle.central_lists.specs.declared.answers.Search.TheVariants.{Gave, Tried}
 use Rattle.central_lists.specs.declared.answers.Through.TheVariants.{AllTried}
-use Rattle.central_lists.specs.Lists.{Caches, Does, LooksFirst, Saw, SawEmpty, SweptIt, TriedEnough, Whatever, just, nothing}
+use Rattle.central_lists.specs.Looks.{Saw, SawEmpty, SweptIt, TriedEnough, Whatever}
+use Rattle.central_lists.specs.Works.{Does, just, nothing}
+use Rattle.central_lists.specs.Lists.{Caches, LooksFirst}
 use Rattle.central_lists.specs.Tries.{GivesOne, GivesUp, Searches, SearchesFull, SweepsOut, TriedSome, TriesAll, TriesOne}
 use Rattle.central_lists.proofs.Saying.{says-nil, says-trans}
 

@@ -6,7 +6,8 @@ use Rattle.sweep_laws.specs.Counts.{times}
 use Rattle.sweep_laws.specs.Lists.{has}
 use Rattle.worker_log.specs.declared.Entry.{Entry}
 use Rattle.worker_log.specs.declared.Entry.TheVariants.{Looked, LookedEmptyCell, Popped, Read}
-use Rattle.worker_log.specs.Logs.{is_pop_of, many, swept_set}
+use Rattle.worker_log.specs.SetNumbers.{swept_set}
+use Rattle.worker_log.specs.Entries.{is_pop_of, many}
 use Rattle.worker_log.proofs.Logs.{many-append}
 use Rattle.span_state.specs.declared.body.Body.{Body}
 use Rattle.span_state.specs.declared.sweep.SweepNote.{SweepNote}
@@ -14,7 +15,8 @@ use Rattle.span_laws.specs.declared.view.Part.{Part}
 use Rattle.span_laws.specs.declared.said.Said.TheVariants.{Looks, LooksCell, Reads}
 use Rattle.span_laws.specs.declared.said.SaidOf.TheVariants.{Pops}
 use Rattle.span_laws.specs.Asks.{mine}
-use Rattle.span_laws.specs.Views.{Seen, after_of, after_said, span_at, span_of}
+use Rattle.span_laws.specs.Views.{Seen, span_at, span_of}
+use Rattle.span_laws.specs.OwnSteps.{after_of, after_said}
 use Rattle.span_laws.proofs.Has.{has_last}
 use Rattle.span_laws.proofs.WordMoves.{span_else, span_here}
 use Rattle.span_set.specs.declared.hand.Hand.{Hand}
@@ -22,7 +24,8 @@ use Rattle.span_set.specs.declared.answers.Pop.TheVariants.{Taken, Empty as Empt
 use Rattle.span_set.specs.Pops.{PopsSwept, with_looks}
 use Rattle.span_set.proofs.Numbers.{class_is, partial_is}
 use Rattle.central_lists.specs.declared.answers.Look.TheVariants.{Empty, NotYet}
-use Rattle.central_lists.specs.Lists.{LooksFirst, Says, nothing}
+use Rattle.central_lists.specs.Works.{Says, nothing}
+use Rattle.central_lists.specs.Lists.{LooksFirst}
 use Rattle.central_lists.proofs.Saying.{blank, last_look, looks_note, says-trans, taken}
 use Rattle.central_lists.proofs.Trying.{keeps_by, times_more}
 

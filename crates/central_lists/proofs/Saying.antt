@@ -3,11 +3,12 @@ use Rattle.std.proofs.Common.{◌≡◌, ℕ, zero, suc, ◌+◌, ◌<◌, ◌&&
 use Rattle.std.specs.List.{AllByRecursion}
 use Rattle.page_bitmap.specs.Counts.{one_if}
 use Rattle.sweep_laws.specs.Counts.{one_if as count_if}
-use Rattle.sweep_laws.specs.Needs.{class_of_set, is_swept_set}
+use Rattle.sweep_laws.specs.Reading.{class_of_set, is_swept_set}
 use Rattle.worker_log.specs.declared.Entry.{Entry}
 use Rattle.worker_log.specs.declared.Entry.TheVariants.{Looked, LookedEmptyCell, Popped, Pushed, Swept, Found, Read, Added}
 use Rattle.worker_log.specs.declared.Sweeping.{Sweeping}
-use Rattle.worker_log.specs.Logs.{is_full_set, is_partial_push, is_pop, is_pop_of, is_push_of, is_sweep_of, swept_set, unswept_set}
+use Rattle.worker_log.specs.SetNumbers.{is_full_set, swept_set, unswept_set}
+use Rattle.worker_log.specs.Entries.{is_partial_push, is_pop, is_pop_of, is_push_of, is_sweep_of}
 use Rattle.worker_log.proofs.Logs.{many-append}
 use Rattle.span_state.specs.declared.sweep.SweepNote.{SweepNote}
 use Rattle.span_laws.specs.Calls.{is_giving, is_missing, is_placing, note_in, notes_of, number_added, pages_swept}
@@ -15,7 +16,7 @@ use Rattle.span_laws.specs.Logs.{is_taking}
 use Rattle.span_laws.proofs.CallLogs.{total-append}
 use Rattle.span_set.specs.Pops.{IsLookAt}
 use Rattle.span_set.proofs.Numbers.{full_is, partial_is, unswept_is}
-use Rattle.central_lists.specs.Lists.{Says, just, nothing}
+use Rattle.central_lists.specs.Works.{Says, just, nothing}
 
 pub same_if : (b : Bool) → one_if b ≡ count_if b
 same_if true = refl

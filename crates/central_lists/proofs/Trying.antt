@@ -6,12 +6,13 @@ use mathlib.Core.Logic.{dite}
 use native.Mathlib.Decide.{ℕ_discrete}
 use Rattle.sweep_laws.specs.Counts.{one_if as count_if, times}
 use Rattle.sweep_laws.specs.Lists.{erase, has}
-use Rattle.sweep_laws.specs.Needs.{is_swept_set}
+use Rattle.sweep_laws.specs.Reading.{is_swept_set}
 use Rattle.sweep_laws.proofs.Totals.{same_one, other_one, times_end, times_end_else}
 use Rattle.sweep_laws.proofs.Naming.{times_erase, times_erase_else}
 use Rattle.worker_log.specs.declared.Entry.{Entry}
 use Rattle.worker_log.specs.declared.Entry.TheVariants.{Looked, Popped, Pushed, Swept as SweptEntry, Found, Read, Added}
-use Rattle.worker_log.specs.Logs.{is_placing_in, is_pop_of, many, swept_set, unswept_set}
+use Rattle.worker_log.specs.SetNumbers.{swept_set, unswept_set}
+use Rattle.worker_log.specs.Entries.{is_placing_in, is_pop_of, many}
 use Rattle.worker_log.proofs.Logs.{many-append}
 use Rattle.span_state.specs.MarkSet.{MarkSet, has_pair}
 use Rattle.span_state.specs.declared.body.Body.{Body}
@@ -22,9 +23,11 @@ use Rattle.span_laws.specs.declared.said.Said.TheVariants.{Adds, Fills, Finds, L
 use Rattle.span_laws.specs.declared.said.SaidOf.TheVariants.{Acquires, Releases}
 use Rattle.span_laws.specs.declared.answers.Acquired.TheVariants.{Got}
 use Rattle.span_laws.specs.Answers.{AcquiresSpan}
-use Rattle.span_laws.specs.Asks.{HasRoom, IsUntouched, mine}
+use Rattle.span_laws.specs.BodyAsks.{HasRoom}
+use Rattle.span_laws.specs.Asks.{IsUntouched, mine}
 use Rattle.span_laws.specs.Calls.{Keeps, notes_of}
-use Rattle.span_laws.specs.Views.{Seen, acts, after_of, after_said, span_at, span_of}
+use Rattle.span_laws.specs.Views.{Seen, acts, span_at, span_of}
+use Rattle.span_laws.specs.OwnSteps.{after_of, after_said}
 use Rattle.span_laws.proofs.Has.{has_last}
 use Rattle.span_laws.proofs.WordMoves.{span_else, span_here}
 use Rattle.span_set.specs.declared.hand.Hand.{Hand}
@@ -32,7 +35,8 @@ use Rattle.span_set.specs.declared.answers.PopBase.TheVariants.{Popped as Popped
 use Rattle.span_set.specs.Pops.{PopsUnswept}
 use Rattle.span_set.specs.Sweeps.{note_of}
 use Rattle.span_set.proofs.Numbers.{swept_is, swept_low, unswept_is}
-use Rattle.central_lists.specs.Lists.{Does, Says, SawEmpty, SweptIt, Whatever, just, nothing}
+use Rattle.central_lists.specs.Looks.{SawEmpty, SweptIt, Whatever}
+use Rattle.central_lists.specs.Works.{Does, Says, just, nothing}
 use Rattle.central_lists.specs.Tries.{Sweeping, SweepsOut}
 use Rattle.central_lists.proofs.Saying.{class_here, found, last_look, looks_note, pushed, says-trans, swept, tried}
 

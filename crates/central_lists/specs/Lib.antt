@@ -1,2 +1,4 @@
+pub mod Looks
+pub mod Works
 pub mod Lists
 pub mod Tries

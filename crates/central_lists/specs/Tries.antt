@@ -4,10 +4,11 @@ use Rattle.fallible_list.specs.declared.list.NoMemory.{NoMemory}
 use Rattle.span_state.specs.MarkSet.{MarkSet}
 use Rattle.span_state.specs.declared.body.Body.{Body}
 use Rattle.span_state.specs.declared.sweep.Swept.{Swept}
-use Rattle.worker_log.specs.Logs.{swept_set, unswept_set}
+use Rattle.worker_log.specs.SetNumbers.{swept_set, unswept_set}
 use Rattle.span_laws.specs.declared.said.Said.TheVariants.{Fills, Reads}
-use Rattle.span_laws.specs.Asks.{HasMarks, HasRoom, IsUntouched}
-use Rattle.span_laws.specs.Views.{after_said}
+use Rattle.span_laws.specs.BodyAsks.{HasMarks, HasRoom}
+use Rattle.span_laws.specs.Asks.{IsUntouched}
+use Rattle.span_laws.specs.OwnSteps.{after_said}
 use Rattle.span_set.specs.declared.hand.Hand.{Hand}
 use Rattle.span_set.specs.Sweeps.{SweepsBody, SweepsInHand, note_of}
 use Rattle.central_lists.specs.declared.answers.One.{One}
@@ -16,7 +17,9 @@ use Rattle.central_lists.specs.declared.answers.Through.{Through}
 use Rattle.central_lists.specs.declared.answers.Through.TheVariants.{AllTried, Enough, OneKept}
 use Rattle.central_lists.specs.declared.answers.Search.{Search}
 use Rattle.central_lists.specs.declared.answers.Search.TheVariants.{Gave, Tried}
-use Rattle.central_lists.specs.Lists.{Does, HandsOut, SawEmpty, SweptIt, TriedEnough, Whatever, just, nothing}
+use Rattle.central_lists.specs.Looks.{SawEmpty, SweptIt, TriedEnough, Whatever}
+use Rattle.central_lists.specs.Works.{Does, just, nothing}
+use Rattle.central_lists.specs.Lists.{HandsOut}
 
 -- the sweep of a span, and the hand behind it
 pub record Sweeping (marks : MarkSet) (old new : Body) (before mid : Hand) : Type 0 where

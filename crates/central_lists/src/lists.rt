@@ -1,6 +1,7 @@
 ghost use Rattle.std.specs.Prelude.{◌≡◌, ◌<◌, ◌≤◌, length, true, None};
 ghost use Rattle.page_bitmap.specs.Counts.{one_if};
-ghost use Rattle.worker_log.specs.Logs.{is_pop_of, many, swept_set};
+ghost use Rattle.worker_log.specs.SetNumbers.{swept_set};
+ghost use Rattle.worker_log.specs.Entries.{is_pop_of, many};
 ghost use Rattle.span_set.specs.Sweeps.{MaySweep};
 ghost use Rattle.span_set.specs.Tallies.{Frees, MayCount};
 ghost use Rattle.central_lists.specs.Lists.{Caches, LooksFirst};

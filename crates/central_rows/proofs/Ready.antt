@@ -11,7 +11,7 @@ use Rattle.span_laws.specs.Views.{Seen, first_view}
 use Rattle.span_set.specs.Tallies.{Frees}
 use Rattle.span_set.specs.declared.hand.Hand.{Hand}
 use Rattle.span_set.proofs.Tallies.{may-still}
-use Rattle.central_lists.specs.Lists.{Does}
+use Rattle.central_lists.specs.Works.{Does}
 use Rattle.central_rows.specs.Rows.{IsReady}
 
 pub ready_after : (table : TableId) (ring : RingId) (m : MarkSet) (g class tried : ℕ) (more kept : ℕ → ℕ) (P : List Entry → Type 0) (old new : Hand) → Does g class tried more kept P old new → Frees m old new → IsReady table ring m old

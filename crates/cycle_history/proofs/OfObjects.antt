@@ -7,7 +7,7 @@ use Rattle.std.proofs.lemmas.List.{length-map, length-reverse, map-append, rever
 use Rattle.std.proofs.lemmas.List.Concat.{flat_map-append}
 use Rattle.std.proofs.lemmas.Option.{slice_get-map, slice_get_within}
 use Rattle.page_alloc.specs.Lists.{In, IsNumber}
-use Rattle.page_alloc.specs.Journal.{Life}
+use Rattle.page_alloc.specs.Lives.{Life}
 use Rattle.trace_reader.specs.declared.trace.Trace.{Trace}
 use Rattle.trace_reader.specs.declared.trace.Cycle.{Cycle}
 use Rattle.trace_reader.specs.declared.trace.Event.{Event}

@@ -2,7 +2,10 @@
 use Rattle.std.specs.Prelude.{◌≡◌, ℕ, ◌<◌, ◌≤◌, Bool, true, List, map, reverse, ◌⊎◌}
 use Rattle.page_bitmap.specs.declared.line.Line.{Line}
 use Rattle.page_alloc.specs.Lists.{In}
-use Rattle.page_alloc.specs.Journal.{past_of, Life, all_lives, at_end, IsBy, Legal, backed, IsLoose}
+use Rattle.page_alloc.specs.Owners.{backed}
+use Rattle.page_alloc.specs.Lives.{Life, all_lives}
+use Rattle.page_alloc.specs.FreeRuns.{IsLoose}
+use Rattle.page_alloc.specs.Journal.{past_of, at_end, IsBy, Legal}
 use Rattle.trace_reader.specs.declared.trace.Trace.{Trace}
 use Rattle.cycle_history.specs.declared.Report.{Report}
 use Rattle.cycle_history.specs.Requests.{requests_of, marked_by, last_cycle, region_of}

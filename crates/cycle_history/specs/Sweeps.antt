@@ -3,7 +3,8 @@ use Rattle.std.specs.Prelude.{◌≡◌, ℕ, suc, ◌/◌, ◌<◌, ◌≤◌, 
 use Rattle.page_bitmap.specs.declared.line.Line.{Line}
 use Rattle.page_bitmap.specs.declared.line.Line.TheVariants.{Take, Miss, Give, Scav}
 use Rattle.page_alloc.specs.Lists.{In, count}
-use Rattle.page_alloc.specs.Journal.{Life, open_lives, at_end}
+use Rattle.page_alloc.specs.Lives.{Life, open_lives}
+use Rattle.page_alloc.specs.Journal.{at_end}
 use Rattle.span_state.specs.declared.sweep.SweepNote.{SweepNote}
 use Rattle.cycle_history.specs.declared.Total.{Total}
 use Rattle.cycle_history.specs.Requests.{Marking}

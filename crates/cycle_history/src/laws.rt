@@ -1,7 +1,7 @@
 //! Laws of places, and of traces that sample nothing.
 
 ghost use Rattle.std.specs.Prelude.{◌≡◌, ℕ, Bool, List, []};
-ghost use Rattle.page_alloc.specs.Journal.{Life};
+ghost use Rattle.page_alloc.specs.Lives.{Life};
 ghost use Rattle.trace_reader.specs.declared.trace.Trace.{Trace};
 ghost use Rattle.cycle_history.specs.declared.Report.{Report};
 ghost use Rattle.cycle_history.specs.declared.Answer.TheVariants.{Placed};

@@ -14,16 +14,17 @@ use Rattle.page_bitmap.specs.declared.line.Line.{Line}
 use Rattle.page_bitmap.specs.declared.line.Line.TheVariants.{Take, Miss, Give, Scav}
 use Rattle.worker_log.specs.Logs.{Refusal, Taking, placings, refusals, sweepings, takings}
 use Rattle.run_laws.proofs.Lists.{in-left, in-right}
-use Rattle.span_laws.specs.Answers.{cycle_at}
+use Rattle.span_laws.specs.TakeAnswers.{cycle_at}
 use Rattle.span_laws.specs.Asks.{IsIdle}
 use Rattle.span_laws.specs.Calls.{note_in, notes_of}
-use Rattle.span_laws.specs.Views.{Seen, acts, as_number}
+use Rattle.span_laws.specs.Views.{Seen, acts}
+use Rattle.span_laws.specs.Handed.{as_number}
 use Rattle.span_laws.specs.declared.view.Part.{Part}
 use Rattle.span_laws.specs.declared.view.View.{View}
 use Rattle.span_set.specs.declared.hand.Hand.{Hand}
 use Rattle.std.specs.List.{AllByRecursion}
 use Rattle.std.proofs.lemmas.List.{map-append}
-use Rattle.worker_log.specs.Logs.{many}
+use Rattle.worker_log.specs.Entries.{many}
 use Rattle.span_laws.specs.Calls.{is_missing, is_placing}
 use Rattle.sweeper.specs.Work.{Works, note_by}
 use Rattle.profile_cycle.specs.Sampling.{Countdown}

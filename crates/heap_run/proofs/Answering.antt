@@ -3,13 +3,15 @@ use Rattle.std.proofs.Common.{◌≡◌, ℕ, ◌+◌, ◌*◌, ◌/◌, ◌%◌
 use Rattle.page_alloc.specs.Lists.{In}
 use Rattle.size_classes.specs.Classes.{IsLeastClass, objects_of, pages_of, slot_of, span_class_of}
 use Rattle.sweep_laws.specs.Lists.{has}
-use Rattle.sweep_laws.specs.Needs.{is_swept_set}
+use Rattle.sweep_laws.specs.Reading.{is_swept_set}
 use Rattle.trace_reader.specs.declared.trace.Event.{Event}
 use Rattle.cycle_history.specs.declared.Answer.{Answer}
 use Rattle.cycle_history.specs.declared.Answer.TheVariants.{Placed, Missed}
 use Rattle.cycle_history.specs.Needs.{IsNeed, Need}
 use Rattle.worker_log.specs.declared.Entry.{Entry}
-use Rattle.worker_log.specs.Logs.{Refusal, Taking, is_full_set, is_placing_in, is_pop_of, many, placings, refusals, swept_set, takings}
+use Rattle.worker_log.specs.Logs.{Refusal, Taking, placings, refusals, takings}
+use Rattle.worker_log.specs.SetNumbers.{is_full_set, swept_set}
+use Rattle.worker_log.specs.Entries.{is_placing_in, is_pop_of, many}
 use Rattle.worker_log.proofs.Logs.{many-append}
 use Rattle.span_laws.specs.declared.view.Part.{Part}
 use Rattle.span_set.specs.declared.hand.Hand.{Hand}

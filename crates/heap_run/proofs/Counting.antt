@@ -12,7 +12,7 @@ use Rattle.profile_cycle.specs.History.{one_if as one_call}
 use Rattle.profile_cycle.specs.Kept.{all_allocs, all_frees}
 use Rattle.profile_lines.specs.Counted.{AreMadeIn}
 use Rattle.run_laws.proofs.Lists.{in-cases}
-use Rattle.run_laws.specs.Profile.{dead_in}
+use Rattle.run_laws.specs.CycleCalls.{dead_in}
 use Rattle.sample_laws.specs.Counted.{one_count}
 use Rattle.span_set.specs.Tallies.{Frees, MayCount, frees_all, freeing}
 use Rattle.span_set.proofs.Tallies.{frees-both}

@@ -4,7 +4,7 @@ use Rattle.std.proofs.lemmas.Bool.{cases_lt, eq-eqb}
 use Rattle.page_bitmap.specs.declared.line.Line.{Line}
 use Rattle.page_bitmap.specs.declared.line.Line.TheVariants.{Take, Miss, Give, Scav}
 use Rattle.page_alloc.specs.Lists.{In, IsNumber}
-use Rattle.page_alloc.specs.Journal.{Life, open_lives}
+use Rattle.page_alloc.specs.Lives.{Life, open_lives}
 use Rattle.page_alloc.proofs.Lives.{from_others}
 use Rattle.trace_reader.specs.declared.trace.Event.{Event}
 use Rattle.cycle_history.specs.declared.Answer.{Answer}
@@ -17,7 +17,11 @@ use Rattle.sound_run.specs.Run.{Lasts}
 use Rattle.sound_run.proofs.Seats.{number-below, same_number}
 use Rattle.worker_log.specs.Logs.{Taking, placings, refusals, takings}
 use Rattle.run_laws.specs.CycleSoFar.{CycleSoFar, past_after}
-use Rattle.run_laws.specs.Facts.{Facts, IsPlacing, Marks, Notes, Places, placed_by}
+use Rattle.run_laws.specs.SweepFacts.{Notes}
+use Rattle.run_laws.specs.PlacingFacts.{Places}
+use Rattle.run_laws.specs.ObjectFacts.{IsPlacing}
+use Rattle.run_laws.specs.Facts.{Facts, Marks}
+use Rattle.cycle_history.specs.Profile.{placed_by}
 use Rattle.run_laws.specs.Lists.{ArePaired}
 use Rattle.run_laws.proofs.Lists.{number-less, paired-right, in-passing}
 use Rattle.run_laws.proofs.Asked.{objects-from, small-pages}

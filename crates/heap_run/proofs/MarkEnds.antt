@@ -5,11 +5,12 @@ use Rattle.std.proofs.lemmas.List.{append-nil, length-map}
 use Rattle.page_bitmap.specs.declared.line.Line.{Line}
 use Rattle.span_state.specs.MarkSet.{MarkSet, has_pair}
 use Rattle.sweep_laws.specs.Lists.{has}
-use Rattle.sweep_laws.specs.Needs.{is_swept_set}
+use Rattle.sweep_laws.specs.Reading.{is_swept_set}
 use Rattle.trace_reader.specs.declared.trace.Trace.{Trace}
 use Rattle.worker_log.specs.declared.Entry.{Entry}
 use Rattle.worker_log.specs.declared.Entry.TheVariants.{Read}
-use Rattle.worker_log.specs.Logs.{is_seen_empty, many, placings}
+use Rattle.worker_log.specs.Logs.{placings}
+use Rattle.worker_log.specs.Entries.{is_seen_empty, many}
 use Rattle.worker_log.proofs.Logs.{many-append}
 use Rattle.cycle_history.specs.Found.{AreFound}
 use Rattle.cycle_history.specs.Marked.{AreMarksOf, AreObjectsBefore, objects_before}
@@ -21,8 +22,10 @@ use Rattle.run_laws.specs.Facts.{Marks}
 use Rattle.run_laws.specs.Reached.{Began}
 use Rattle.run_laws.proofs.Ends.{began-next}
 use Rattle.run_laws.proofs.MarksOf.{facts-marks}
-use Rattle.span_laws.specs.Asks.{IsIdle, MayMark}
-use Rattle.span_laws.specs.Views.{Seen, acts, after_next, allocated_pairs, no_part, parts_of, rested}
+use Rattle.span_laws.specs.Asks.{IsIdle}
+use Rattle.span_laws.specs.MarkEndAsks.{MayMark}
+use Rattle.span_laws.specs.Views.{Seen, acts, no_part, parts_of}
+use Rattle.span_laws.specs.MarkEnds.{after_next, allocated_pairs, rested}
 use Rattle.span_laws.specs.declared.view.Part.{Part}
 use Rattle.span_laws.specs.declared.view.View.{View}
 use Rattle.span_set.specs.Resets.{Resets}

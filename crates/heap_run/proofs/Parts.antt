@@ -4,11 +4,12 @@ use Rattle.std.proofs.lemmas.Bool.{cases_eq}
 use Rattle.std.proofs.lemmas.List.{get_or-set_same, get_or-set_other, length-set}
 use mathlib.Core.Option.{some, some-injective, some-ne-none}
 use lib.ListN.{get_elem?}
-use Rattle.sweep_laws.specs.Owned.{EachAt}
+use Rattle.sweep_laws.specs.OwnedLives.{EachAt}
 use Rattle.swept_set_laws.specs.Entered.{log_of}
 use Rattle.span_laws.specs.declared.view.Part.{Part}
 use Rattle.span_laws.specs.Rule.{logs_of}
-use Rattle.span_laws.specs.Views.{Seen, as_number, no_part, parts_left, parts_of}
+use Rattle.span_laws.specs.Views.{Seen, no_part, parts_of}
+use Rattle.span_laws.specs.Handed.{as_number, parts_left}
 use Rattle.heap_run.specs.Parts.{unheard, part_at, IsSameRun}
 
 -- ---- lists

@@ -9,7 +9,7 @@ use Rattle.std.proofs.lemmas.List.Concat.{flat_map-append}
 use Rattle.std.proofs.lemmas.List.Sums.{sum_by-cons}
 use Rattle.std.proofs.lemmas.List.Sorted.{IsPermutation-reverse, sum_by-IsPermutation}
 use Rattle.page_alloc.specs.Lists.{In, count}
-use Rattle.page_alloc.specs.Journal.{open_lives}
+use Rattle.page_alloc.specs.Lives.{open_lives}
 use Rattle.span_state.specs.declared.sweep.SweepNote.{SweepNote}
 use Rattle.trace_reader.specs.declared.trace.Trace.{Trace}
 use Rattle.trace_reader.specs.declared.trace.Cycle.{Cycle}
@@ -18,7 +18,7 @@ use Rattle.trace_reader.specs.Limits.{events_of}
 use Rattle.cycle_history.specs.declared.Answer.{Answer}
 use Rattle.cycle_history.specs.Marked.{objects_before, requests_before}
 use Rattle.cycle_history.specs.Objects.{Object, is_placed}
-use Rattle.cycle_history.specs.Profile.{passing, placed_by, samples_in}
+use Rattle.cycle_history.specs.Profile.{passing, placed_by, samples_in, Samples, is_sample}
 use Rattle.cycle_history.specs.Requests.{marked_by, region_of}
 use Rattle.cycle_history.proofs.Firsts.{event-at}
 use Rattle.cycle_history.proofs.OfObjects.{answers-before}
@@ -36,7 +36,8 @@ use Rattle.profile_lines.proofs.Publishing.{cycle-counted as counted-cycle, swee
 use Rattle.profile_lines.proofs.Telling.{stay}
 use Rattle.sound_run.specs.Run.{Lasts}
 use Rattle.run_laws.specs.Asked.{AreAnsweredFrom}
-use Rattle.run_laws.specs.Profile.{AreCalls, CountsByWorkers, FreesByNotes, Samples, dead_in, is_sample, sum_below, sum_of}
+use Rattle.run_laws.specs.Profile.{AreCalls, sum_below}
+use Rattle.run_laws.specs.CycleCalls.{CountsByWorkers, FreesByNotes, dead_in, sum_of}
 use Rattle.run_laws.proofs.Counted.{cycle-calls, cycle-counted}
 use Rattle.run_laws.proofs.Counted.{count-same}
 use Rattle.run_laws.proofs.Profile.{count-by_proc, count-none}

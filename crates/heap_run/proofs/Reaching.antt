@@ -23,13 +23,15 @@ use Rattle.cycle_history.specs.Rules.{AreAnswered}
 use Rattle.worker_log.specs.Logs.{placings, refusals, sweepings, takings}
 use Rattle.run_laws.specs.Asked.{AreAnsweredFrom}
 use Rattle.run_laws.specs.CycleSoFar.{CycleSoFar, past_after, with_objects}
-use Rattle.run_laws.specs.Facts.{Facts, Marks, Notes}
+use Rattle.run_laws.specs.SweepFacts.{Notes}
+use Rattle.run_laws.specs.Facts.{Facts, Marks}
 use Rattle.run_laws.specs.Reached.{Began, Reached}
 use Rattle.run_laws.proofs.Asked.{answered-next, cycles-from, news-last}
 use Rattle.run_laws.proofs.Law.{cycle-law}
-use Rattle.span_laws.specs.Answers.{cycle_at}
+use Rattle.span_laws.specs.TakeAnswers.{cycle_at}
 use Rattle.span_laws.specs.Cycle.{EndsCycle}
-use Rattle.span_laws.specs.Views.{Seen, allocated_pairs}
+use Rattle.span_laws.specs.Views.{Seen}
+use Rattle.span_laws.specs.MarkEnds.{allocated_pairs}
 use Rattle.heap_run.specs.Parts.{part_at}
 use Rattle.heap_run.specs.Served.{Tells, answers_by, events_by}
 use Rattle.heap_run.specs.Settled.{HasSettled}

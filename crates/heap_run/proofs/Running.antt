@@ -17,11 +17,14 @@ use Rattle.sweep_laws.specs.Lists.{is_before, rises, rises_after}
 use Rattle.worker_log.specs.declared.Entry.{Entry}
 use Rattle.worker_log.specs.declared.Entry.TheVariants.{Looked, LookedEmptyCell, Popped, Pushed, Swept, Took, Missed as MissedEntry, Gave, Allocated, Found, Read, Added}
 use Rattle.worker_log.specs.declared.Placing.{Placing}
-use Rattle.worker_log.specs.Logs.{many, placings, refusals, sweepings, takings}
-use Rattle.span_laws.specs.Answers.{cycle_at}
-use Rattle.span_laws.specs.Asks.{IsIdle, IsKnown}
+use Rattle.worker_log.specs.Logs.{placings, refusals, sweepings, takings}
+use Rattle.worker_log.specs.Entries.{many}
+use Rattle.span_laws.specs.TakeAnswers.{cycle_at}
+use Rattle.span_laws.specs.Asks.{IsIdle}
+use Rattle.span_laws.specs.MarkEndAsks.{IsKnown}
 use Rattle.span_laws.specs.Logs.{is_placing_at}
-use Rattle.span_laws.specs.Views.{Seen, allocated_pairs, parts_of, placed_pairs}
+use Rattle.span_laws.specs.Views.{Seen, parts_of}
+use Rattle.span_laws.specs.MarkEnds.{allocated_pairs, placed_pairs}
 use Rattle.span_laws.specs.declared.view.Part.{Part}
 use Rattle.span_laws.specs.declared.view.View.{View}
 use Rattle.span_state.specs.declared.sweep.SweepNote.{SweepNote}

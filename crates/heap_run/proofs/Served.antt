@@ -13,7 +13,8 @@ use Rattle.sound_run.specs.Run.{Fits}
 use Rattle.worker_log.specs.declared.Placing.{Placing}
 use Rattle.worker_log.specs.Logs.{Refusal, Taking}
 use Rattle.run_laws.specs.Lists.{ArePaired}
-use Rattle.run_laws.specs.Facts.{placed_by, missed_by, IsPlacing, IsRefusal}
+use Rattle.run_laws.specs.ObjectFacts.{missed_by, IsPlacing, IsRefusal}
+use Rattle.cycle_history.specs.Profile.{placed_by}
 use Rattle.run_laws.specs.Asked.{AreAnsweredFrom}
 use Rattle.heap_run.specs.Served.{events_by, answers_by, IsTakenFor, IsPlacedBy, IsRefusedBy, Tells}
 use Rattle.heap_run.proofs.Needs.{need-fits}

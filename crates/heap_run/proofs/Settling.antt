@@ -5,18 +5,22 @@ use Rattle.std.proofs.lemmas.List.{append-nil}
 use Rattle.page_bitmap.specs.declared.line.Line.{Line}
 use Rattle.span_state.specs.MarkSet.{has_pair}
 use Rattle.sweep_laws.specs.Lists.{has}
-use Rattle.sweep_laws.specs.Needs.{is_swept_set}
-use Rattle.sweep_laws.specs.Owned.{EachAt}
+use Rattle.sweep_laws.specs.Reading.{is_swept_set}
+use Rattle.sweep_laws.specs.OwnedLives.{EachAt}
 use Rattle.worker_log.specs.declared.Entry.{Entry}
 use Rattle.worker_log.specs.declared.Placing.{Placing}
-use Rattle.worker_log.specs.Logs.{is_placing_in, is_seen_empty, many, placings, sweepings}
+use Rattle.worker_log.specs.Logs.{placings, sweepings}
+use Rattle.worker_log.specs.Entries.{is_placing_in, is_seen_empty, many}
 use Rattle.worker_log.proofs.Logs.{many-append}
 use Rattle.cycle_history.specs.Sound.{IsScavenged}
-use Rattle.span_laws.specs.Answers.{cycle_at}
-use Rattle.span_laws.specs.Asks.{IsAtRest, IsFresh, IsIdle, MaySettle}
+use Rattle.span_laws.specs.TakeAnswers.{cycle_at}
+use Rattle.span_laws.specs.Asks.{IsFresh, IsIdle}
+use Rattle.span_laws.specs.MarkEndAsks.{IsAtRest, MaySettle}
 use Rattle.span_laws.specs.Cycle.{cycle_ended}
 use Rattle.span_laws.specs.Settles.{SettlesCycle}
-use Rattle.span_laws.specs.Views.{Seen, acts, allocated_pairs, knowing, knows, parts_of, placed_pairs}
+use Rattle.span_laws.specs.Views.{Seen, acts, parts_of}
+use Rattle.span_laws.specs.Handed.{knowing, knows}
+use Rattle.span_laws.specs.MarkEnds.{allocated_pairs, placed_pairs}
 use Rattle.span_laws.specs.declared.view.Part.{Part}
 use Rattle.span_state.specs.declared.sweep.SweepNote.{SweepNote}
 use Rattle.sweep_lists.specs.Room.{Roomy}

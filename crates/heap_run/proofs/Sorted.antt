@@ -14,7 +14,7 @@ use Rattle.worker_log.specs.declared.Entry.{Entry}
 use Rattle.worker_log.specs.declared.Sweeping.{Sweeping}
 use Rattle.worker_log.specs.Logs.{sweepings}
 use Rattle.run_laws.specs.CycleSoFar.{CycleSoFar}
-use Rattle.run_laws.specs.Facts.{Notes, TellsOf}
+use Rattle.run_laws.specs.SweepFacts.{Notes, TellsOf}
 use Rattle.run_laws.proofs.Lists.{apart-append}
 use Rattle.heap_run.specs.Swept.{Made, made_by, note_at, AreCollected}
 

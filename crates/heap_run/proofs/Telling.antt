@@ -7,7 +7,7 @@ use Rattle.std.proofs.lemmas.List.Elements.{All-from_recursion}
 use Rattle.std.specs.List.{AllByRecursion}
 use Rattle.page_bitmap.specs.declared.line.Line.{Line}
 use Rattle.page_alloc.specs.Lists.{In, count}
-use Rattle.page_alloc.specs.Journal.{Life, open_lives}
+use Rattle.page_alloc.specs.Lives.{Life, open_lives}
 use Rattle.span_state.specs.MarkSet.{MarkSet, dead_of}
 use Rattle.span_state.specs.declared.sweep.SweepNote.{SweepNote}
 use Rattle.trace_reader.specs.declared.trace.Trace.{Trace}
@@ -17,7 +17,7 @@ use Rattle.cycle_history.specs.declared.Answer.{Answer}
 use Rattle.cycle_history.specs.declared.Report.{Report}
 use Rattle.cycle_history.specs.Marked.{AreMarksOf, AreObjectsBefore}
 use Rattle.cycle_history.specs.Objects.{Object}
-use Rattle.cycle_history.specs.Profile.{samples_in}
+use Rattle.cycle_history.specs.Profile.{samples_in, is_sample}
 use Rattle.cycle_history.specs.Requests.{last_cycle, marked_by, region_of}
 use Rattle.cycle_history.specs.Sound.{HasProfileIn}
 use Rattle.cycle_history.proofs.OfObjects.{answers-before}
@@ -31,7 +31,7 @@ use Rattle.profile_lines.specs.Counted.{AreNamed, IsCounting, ShowsMarkEnd}
 use Rattle.profile_lines.specs.Read.{AreFew, all_lines, changed_lines, count_of}
 use Rattle.profile_lines.proofs.Publishing.{mark-end-begins}
 use Rattle.profile_lines.proofs.Telling.{few-shown, go-on, tell-each, tell-last}
-use Rattle.run_laws.specs.Profile.{dead_in, has_died, is_sample}
+use Rattle.run_laws.specs.CycleCalls.{dead_in, has_died}
 use Rattle.run_laws.specs.Reached.{Reached}
 use Rattle.run_laws.proofs.Deaths.{dead-right}
 use Rattle.run_laws.proofs.Profile.{count-none}

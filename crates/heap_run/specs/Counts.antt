@@ -9,9 +9,9 @@ use Rattle.profile_cycle.specs.History.{Standing, split_off}
 use Rattle.profile_cycle.specs.Kept.{all_allocs, all_frees}
 use Rattle.profile_cycle.specs.Sampling.{Countdown}
 use Rattle.profile_lines.specs.Counted.{AreMadeIn}
-use Rattle.run_laws.specs.Profile.{dead_in, sum_of}
+use Rattle.run_laws.specs.CycleCalls.{dead_in, sum_of}
 use Rattle.sample_laws.specs.Countdowns.{flags, spent}
-use Rattle.span_laws.specs.Views.{as_number}
+use Rattle.span_laws.specs.Handed.{as_number}
 use Rattle.span_set.specs.declared.hand.Hand.{Hand}
 use Rattle.proc_cache.specs.Cache.{Cache}
 use Rattle.heap_run.specs.Turns.{no_cache}

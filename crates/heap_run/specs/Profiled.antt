@@ -1,13 +1,13 @@
 -- The profile of a run: which buckets it knows, which objects are sampled, and what its tally counted of them.
 use Rattle.std.specs.Prelude.{◌≡◌, ℕ, suc, ◌<◌, ◌≤◌, Bool, true, false, ◌&&◌, ◌==◌, All, List, [], length, map, position}
 use Rattle.page_alloc.specs.Lists.{In, count}
-use Rattle.page_alloc.specs.Journal.{Life, open_lives}
+use Rattle.page_alloc.specs.Lives.{Life, open_lives}
 use Rattle.span_state.specs.MarkSet.{dead_of}
 use Rattle.trace_reader.specs.declared.trace.Trace.{Trace}
-use Rattle.cycle_history.specs.Profile.{samples_in}
+use Rattle.cycle_history.specs.Profile.{samples_in, Bucket}
 use Rattle.cycle_history.specs.Requests.{marked_by}
 use Rattle.cycle_history.specs.Objects.{Object}
-use Rattle.run_laws.specs.Profile.{Bucket, dead_in, has_died}
+use Rattle.run_laws.specs.CycleCalls.{dead_in, has_died}
 use Rattle.profile_cycle.specs.Naming.{is_same}
 use Rattle.profile_cycle.specs.Sampling.{Countdown}
 use Rattle.sample_laws.specs.Counted.{Flags, events_before, of_number}

@@ -10,7 +10,8 @@ use Rattle.cycle_history.specs.Found.{AreFound}
 use Rattle.run_laws.specs.CycleSoFar.{CycleSoFar}
 use Rattle.run_laws.specs.Facts.{Marks}
 use Rattle.run_laws.specs.Reached.{Began, Reached}
-use Rattle.span_laws.specs.Views.{Seen, allocated_pairs}
+use Rattle.span_laws.specs.Views.{Seen}
+use Rattle.span_laws.specs.MarkEnds.{allocated_pairs}
 use Rattle.heap_run.specs.Last.{TellsLast}
 use Rattle.heap_run.specs.Parts.{part_at}
 use Rattle.heap_run.specs.Profiled.{HasCountedIn, IsCountingIn, IsProfiled, IsToldIn}

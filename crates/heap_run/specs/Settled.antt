@@ -1,13 +1,14 @@
 -- What the driver knows as a cycle has ended.
 use Rattle.std.specs.Prelude.{◌≡◌, ℕ, ◌<◌, false, List, length, slice_index_or, Some}
 use Rattle.span_state.specs.MarkSet.{has_pair}
-use Rattle.sweep_laws.specs.Needs.{is_swept_set}
-use Rattle.worker_log.specs.Logs.{is_seen_empty, many}
+use Rattle.sweep_laws.specs.Reading.{is_swept_set}
+use Rattle.worker_log.specs.Entries.{is_seen_empty, many}
 use Rattle.cycle_history.specs.Sound.{IsScavenged}
 use Rattle.run_laws.specs.CycleSoFar.{CycleSoFar, past_after}
-use Rattle.span_laws.specs.Answers.{cycle_at}
+use Rattle.span_laws.specs.TakeAnswers.{cycle_at}
 use Rattle.span_laws.specs.Cycle.{EndsCycle}
-use Rattle.span_laws.specs.Views.{Seen, allocated_pairs}
+use Rattle.span_laws.specs.Views.{Seen}
+use Rattle.span_laws.specs.MarkEnds.{allocated_pairs}
 use Rattle.proc_cache.specs.Cache.{Cache}
 use Rattle.heap_run.specs.Parts.{part_at}
 use Rattle.trace_reader.specs.declared.trace.Event.{Event}

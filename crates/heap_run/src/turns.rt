@@ -2,7 +2,7 @@
 
 ghost use Rattle.std.specs.Prelude.{◌≡◌, ◌++◌, ◌^◌, ◌<◌, ◌≤◌, All, length, reverse, true, false, IfOk, OnOk};
 ghost use Rattle.span_laws.specs.Asks.{IsIdle};
-ghost use Rattle.span_laws.specs.Views.{as_number};
+ghost use Rattle.span_laws.specs.Handed.{as_number};
 ghost use Rattle.span_state.specs.declared.sweep.SweepNote.{SweepNote};
 ghost use Rattle.heap_run.specs.Parts.{part_at};
 ghost use Rattle.profile_cycle.specs.History.{joined, lent};

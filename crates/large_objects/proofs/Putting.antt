@@ -8,16 +8,18 @@ use Rattle.sweep_laws.specs.Lists.{erase, has}
 use Rattle.worker_log.specs.declared.Entry.{Entry}
 use Rattle.worker_log.specs.declared.Entry.TheVariants.{Added, Allocated, Pushed, Read}
 use Rattle.worker_log.specs.declared.Placing.{Placing}
-use Rattle.worker_log.specs.Logs.{is_pop_of, many, swept_set}
+use Rattle.worker_log.specs.SetNumbers.{swept_set}
+use Rattle.worker_log.specs.Entries.{is_pop_of, many}
 use Rattle.span_laws.specs.declared.said.Said.TheVariants.{Adds, Fills, Reads}
 use Rattle.span_laws.specs.declared.said.SaidOf.TheVariants.{Places}
-use Rattle.span_laws.specs.Views.{Seen, acts, after_of, after_said, span_at, span_of}
+use Rattle.span_laws.specs.Views.{Seen, acts, span_at, span_of}
+use Rattle.span_laws.specs.OwnSteps.{after_of, after_said}
 use Rattle.span_laws.proofs.WordMoves.{span_else}
 use Rattle.span_set.specs.declared.hand.Hand.{Hand}
 use Rattle.span_set.specs.Sets.{MayPush, swept_of}
 use Rattle.span_set.proofs.Numbers.{swept_is, swept_low}
 use Rattle.proc_cache.specs.Leaves.{Holds}
-use Rattle.proc_cache.specs.Refills.{IsHolding}
+use Rattle.proc_cache.specs.Findings.{IsHolding}
 use Rattle.large_objects.specs.Larges.{IsForOne, PutsObject}
 
 pub first_free : (k : ℕ) (b : Body) (w : Seen) → IsForOne k b w → HasFree b.count (allocated b) 0

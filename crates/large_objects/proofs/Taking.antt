@@ -7,20 +7,24 @@ use Rattle.sweep_laws.specs.Lists.{has}
 use Rattle.worker_log.specs.declared.Entry.{Entry}
 use Rattle.worker_log.specs.declared.Entry.TheVariants.{Looked, LookedEmptyCell, Popped, Pushed, Swept, Took, Missed, Gave, Allocated, Found, Read, Added}
 use Rattle.worker_log.specs.declared.Placing.{Placing}
-use Rattle.worker_log.specs.Logs.{Taking, many, swept_set, takings}
+use Rattle.worker_log.specs.Logs.{Taking, takings}
+use Rattle.worker_log.specs.SetNumbers.{swept_set}
+use Rattle.worker_log.specs.Entries.{many}
 use Rattle.span_laws.specs.declared.answers.Refused.{Refused}
 use Rattle.span_laws.specs.declared.answers.Refused.TheVariants.{NoRun, NoMemory as WantsMemory}
 use Rattle.span_laws.specs.declared.said.Said.TheVariants.{Adds}
 use Rattle.span_laws.specs.declared.view.View.{View}
-use Rattle.span_laws.specs.Answers.{cycle_at}
+use Rattle.span_laws.specs.TakeAnswers.{cycle_at}
 use Rattle.span_laws.specs.Asks.{IsIdle, IsUntouched}
 use Rattle.span_laws.specs.Logs.{is_taking}
-use Rattle.span_laws.specs.Views.{Seen, after_said}
+use Rattle.span_laws.specs.Views.{Seen}
+use Rattle.span_laws.specs.OwnSteps.{after_said}
 use Rattle.span_laws.proofs.Parts.{has_none}
 use Rattle.span_set.specs.declared.hand.Hand.{Hand}
 use Rattle.sweeper.specs.NewSpans.{MakesSpan}
 use Rattle.proc_cache.specs.Leaves.{Holds, Sums}
-use Rattle.proc_cache.specs.Refills.{HasPaidFor, IsHolding}
+use Rattle.proc_cache.specs.RefillLogs.{HasPaidFor}
+use Rattle.proc_cache.specs.Findings.{IsHolding}
 use Rattle.proc_cache.proofs.Finding.{missed_from, missed_takes, no_run_from, one_missed, one_refusal, refusal_behind, took_from, took_misses, took_one}
 use Rattle.proc_cache.proofs.Holding.{holds-then, holds-trans, idle_after, of_sweeper, sums_of}
 use Rattle.proc_cache.proofs.Logging.{no_placings, no_refusals, placings-append, refusals-append, sums-append}

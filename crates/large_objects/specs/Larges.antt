@@ -5,21 +5,25 @@ use Rattle.span_state.specs.declared.body.Body.{Body}
 use Rattle.worker_log.specs.declared.Entry.{Entry}
 use Rattle.worker_log.specs.declared.Entry.TheVariants.{Allocated, Pushed, Read}
 use Rattle.worker_log.specs.declared.Placing.{Placing}
-use Rattle.worker_log.specs.Logs.{placings, refusals, swept_set, takings}
+use Rattle.worker_log.specs.Logs.{placings, refusals, takings}
+use Rattle.worker_log.specs.SetNumbers.{swept_set}
 use Rattle.span_laws.specs.declared.answers.Refused.{Refused}
 use Rattle.span_laws.specs.declared.answers.Refused.TheVariants.{NoRun, NoMemory as WantsMemory}
 use Rattle.span_laws.specs.declared.said.Said.TheVariants.{Fills, Reads}
 use Rattle.span_laws.specs.declared.said.SaidOf.TheVariants.{Places}
 use Rattle.span_laws.specs.declared.view.Span.{Span}
-use Rattle.span_laws.specs.Answers.{cycle_at}
-use Rattle.span_laws.specs.Asks.{HasBody, IsEmptyBody, IsUntouched}
-use Rattle.span_laws.specs.Views.{Seen, after_of, after_said, span_of}
+use Rattle.span_laws.specs.TakeAnswers.{cycle_at}
+use Rattle.span_laws.specs.BodyAsks.{IsEmptyBody}
+use Rattle.span_laws.specs.Asks.{HasBody, IsUntouched}
+use Rattle.span_laws.specs.Views.{Seen, span_of}
+use Rattle.span_laws.specs.OwnSteps.{after_of, after_said}
 use Rattle.span_set.specs.declared.hand.Hand.{Hand}
-use Rattle.central_lists.specs.Lists.{Then}
+use Rattle.central_lists.specs.Looks.{Then}
 use Rattle.sweeper.specs.NewSpans.{MissedAtLast, TookAtLast}
 use Rattle.proc_cache.specs.Hits.{IsPlacedIn}
 use Rattle.proc_cache.specs.Leaves.{Holds, Sums}
-use Rattle.proc_cache.specs.Refills.{HasPaidFor, HasSpent, WasNoRun}
+use Rattle.proc_cache.specs.RefillLogs.{HasPaidFor, HasSpent}
+use Rattle.proc_cache.specs.Findings.{WasNoRun}
 
 -- one object is placed, at index 0 of a span that was taken for it, and no request is refused
 pub record PlacesLarge (n k at g : ℕ) (said : List Entry) : Type 0 where

@@ -2,7 +2,7 @@ ghost use Rattle.std.specs.Prelude.{◌≡◌, ◌<◌, ◌≤◌, true};
 ghost use Rattle.span_laws.specs.Asks.{IsIdle};
 ghost use Rattle.span_set.specs.Tallies.{Frees, MayCount};
 ghost use Rattle.large_objects.specs.Larges.{AllocatesLarge, IsForOne, PutsObject};
-ghost use Rattle.proc_cache.specs.Refills.{IsHolding};
+ghost use Rattle.proc_cache.specs.Findings.{IsHolding};
 
 use size_classes::PAGE_SIZE;
 use span_set::{Hand, SetId, Shop, push};

@@ -4,7 +4,10 @@ use Rattle.page_bitmap.specs.declared.bitmap.Bitmap.{Bitmap}
 use Rattle.page_bitmap.specs.declared.chunk.Chunk.{Chunk}
 use Rattle.page_bitmap.specs.declared.line.Line.{Line}
 use Rattle.page_alloc.specs.declared.allocator.Pages.TheInside.{Inside}
-use Rattle.page_alloc.specs.Journal.{open_lives, owner, IsBy, IsFirstFit, IsSpanSize, Legal}
+use Rattle.page_alloc.specs.Owners.{owner}
+use Rattle.page_alloc.specs.Lives.{open_lives}
+use Rattle.page_alloc.specs.FreeRuns.{IsFirstFit, IsSpanSize}
+use Rattle.page_alloc.specs.Journal.{IsBy, Legal}
 use Rattle.page_alloc.specs.Region.{free_in, loose_in, scavenged_in, pages_in}
 use Rattle.page_alloc.specs.Levels.{AreRight}
 use Rattle.page_alloc.specs.Heap.{PageHeap, AddsLine}

@@ -7,7 +7,10 @@ use Rattle.page_bitmap.specs.declared.line.Line.TheVariants.{Take, Miss, Give, S
 use Rattle.page_bitmap.specs.Runs.{SetsRun}
 use Rattle.page_bitmap.specs.Counts.{one_if, count_run}
 use Rattle.page_alloc.specs.Lists.{In, count_below}
-use Rattle.page_alloc.specs.Journal.{within, owner, unscavenged, Life, open_lives, IsFree, IsFirstFit, HasNoRun, IsLongestFree, IsSpanSize, IsLoose, IsScavengeRun, IsBy, Legal}
+use Rattle.page_alloc.specs.Owners.{within, owner, unscavenged}
+use Rattle.page_alloc.specs.Lives.{Life, open_lives}
+use Rattle.page_alloc.specs.FreeRuns.{IsFree, IsFirstFit, HasNoRun, IsLongestFree, IsSpanSize, IsLoose, IsScavengeRun}
+use Rattle.page_alloc.specs.Journal.{IsBy, Legal}
 use Rattle.page_alloc.specs.Region.{IsRunIn, HasNoRunIn, IsFirstRunIn, IsLongestRunIn, IsTopRunIn, IsLastIn}
 use Rattle.page_alloc.specs.Kept.{IsKept}
 use Rattle.page_bitmap.specs.CountLaws.{count_below-le, count_below-same, count_below-all, count_below-none, count_below-not, count_below-run, count_run-le}

@@ -7,7 +7,10 @@ use Rattle.page_bitmap.specs.declared.line.Line.TheVariants.{Take, Miss, Give, S
 use Rattle.size_classes.specs.Classes.{IsClass, pages_of}
 use Rattle.size_classes.specs.Table.{page_counts}
 use Rattle.page_alloc.specs.Lists.{In, AllApart}
-use Rattle.page_alloc.specs.Journal.{within, owner, unscavenged, Life, others, open_lives, Legal, IsSpanSize}
+use Rattle.page_alloc.specs.Owners.{within, owner, unscavenged}
+use Rattle.page_alloc.specs.Lives.{Life, others, open_lives}
+use Rattle.page_alloc.specs.FreeRuns.{IsSpanSize}
+use Rattle.page_alloc.specs.Journal.{Legal}
 
 pub within-true : (p first pages : ℕ) → first ≤ p → p < first + pages → within p first pages ≡ true
 within-true p first pages low high = grind (arith, nat_tests)

@@ -1,7 +1,8 @@
 -- What contracts see of the pages of a region, and how a call changes it.
 use Rattle.std.specs.Prelude.{◌≡◌, ℕ, ◌+◌, ◌≤◌, List, ◌∷◌, length}
 use Rattle.page_bitmap.specs.declared.line.Line.{Line}
-use Rattle.page_alloc.specs.Journal.{open_lives, MayFollow, Legal}
+use Rattle.page_alloc.specs.Lives.{open_lives}
+use Rattle.page_alloc.specs.Journal.{MayFollow, Legal}
 
 -- The region's number of pages, the goal for backed pages, the journal with its newest line first, and how many more lines
 -- it has room for.

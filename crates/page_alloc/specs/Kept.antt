@@ -3,7 +3,9 @@ use Rattle.std.specs.Prelude.{◌≡◌, ℕ, ◌+◌, ◌-◌, ◌*◌, ◌<◌
 use Rattle.page_bitmap.specs.declared.line.Line.{Line}
 use Rattle.page_alloc.specs.declared.allocator.Pages.TheInside.{Inside}
 use Rattle.page_alloc.specs.Lists.{In}
-use Rattle.page_alloc.specs.Journal.{past_of, owner, unscavenged, taken, backed, Life, open_lives, Legal}
+use Rattle.page_alloc.specs.Owners.{owner, unscavenged, taken, backed}
+use Rattle.page_alloc.specs.Lives.{Life, open_lives}
+use Rattle.page_alloc.specs.Journal.{past_of, Legal}
 use Rattle.page_alloc.specs.Region.{free_in, loose_in, scavenged_in, pages_in}
 use Rattle.page_alloc.specs.Levels.{AreRight}
 use Rattle.page_alloc.specs.Heap.{PageHeap}

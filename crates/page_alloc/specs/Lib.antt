@@ -1,4 +1,7 @@
 pub mod Lists
+pub mod Owners
+pub mod Lives
+pub mod FreeRuns
 pub mod Journal
 pub mod Region
 pub mod Levels

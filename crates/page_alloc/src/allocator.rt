@@ -24,21 +24,10 @@ ghost use Rattle.std.specs.Prelude.{
 };
 ghost use Rattle.page_alloc.specs.Heap.{AddsLine, HasMoreRoom};
 ghost use Rattle.page_alloc.specs.Lists.{In};
-ghost use Rattle.page_alloc.specs.Journal.{
-  HasNoRun,
-  IsBy,
-  IsFirstFit,
-  IsLongestFree,
-  IsLoose,
-  IsSpanSize,
-  Life,
-  backed,
-  open_lives,
-  owner,
-  past_of,
-  taken,
-  Legal,
-};
+ghost use Rattle.page_alloc.specs.Owners.{backed, owner, taken};
+ghost use Rattle.page_alloc.specs.Lives.{Life, open_lives};
+ghost use Rattle.page_alloc.specs.FreeRuns.{HasNoRun, IsFirstFit, IsLongestFree, IsLoose, IsSpanSize};
+ghost use Rattle.page_alloc.specs.Journal.{IsBy, past_of, Legal};
 
 use crate::levels::Levels;
 use crate::runs::{CHUNK_PAGES, chunk_behind, free_run, scavenge_run, take_run, top_run};

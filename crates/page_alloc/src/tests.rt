@@ -1,7 +1,8 @@
 //! What the calls answer over one, two, three and 128 chunks.
 
 ghost use Rattle.std.specs.Prelude.{◌≡◌, ◌*◌, ◌<◌, ◌≤◌, IsTrue};
-ghost use Rattle.page_alloc.specs.Journal.{IsBy, IsSpanSize};
+ghost use Rattle.page_alloc.specs.FreeRuns.{IsSpanSize};
+ghost use Rattle.page_alloc.specs.Journal.{IsBy};
 
 use super::*;
 use page_bitmap::{Line, Run};

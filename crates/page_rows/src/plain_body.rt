@@ -1,7 +1,8 @@
 //! Random takes, gives and scavenging steps on three chunks, against a body that goes page by page.
 
 ghost use Rattle.std.specs.Prelude.{◌≡◌, ◌<◌, ◌≤◌};
-ghost use Rattle.page_alloc.specs.Journal.{IsBy, IsSpanSize};
+ghost use Rattle.page_alloc.specs.FreeRuns.{IsSpanSize};
+ghost use Rattle.page_alloc.specs.Journal.{IsBy};
 
 use page_alloc::Pages;
 use page_bitmap::Run;

@@ -10,7 +10,8 @@ use Rattle.span_state.specs.declared.sweep.SweepNote.{SweepNote}
 use Rattle.sweep_laws.specs.Lists.{erase, has}
 use Rattle.worker_log.specs.declared.Entry.{Entry}
 use Rattle.worker_log.specs.declared.Entry.TheVariants.{Added, Pushed, Read}
-use Rattle.worker_log.specs.Logs.{is_placing_in, is_pop_of, many, swept_set}
+use Rattle.worker_log.specs.SetNumbers.{swept_set}
+use Rattle.worker_log.specs.Entries.{is_placing_in, is_pop_of, many}
 use Rattle.worker_log.proofs.Logs.{many-append}
 use Rattle.span_laws.specs.declared.answers.Refused.{Refused}
 use Rattle.span_laws.specs.declared.answers.Refused.TheVariants.{NoRun, NoMemory as WantsMemory}
@@ -20,14 +21,17 @@ use Rattle.span_laws.specs.declared.view.Span.{Span}
 use Rattle.span_laws.specs.declared.view.View.{View}
 use Rattle.span_laws.specs.Asks.{IsIdle}
 use Rattle.span_laws.specs.Calls.{notes_of, number_added, pages_swept}
-use Rattle.span_laws.specs.Views.{Seen, acts, after_said, span_at, span_of, without}
+use Rattle.span_laws.specs.Views.{Seen, acts, span_at, span_of}
+use Rattle.span_laws.specs.OwnSteps.{after_said, without}
 use Rattle.span_laws.proofs.Parts.{has_end_else}
 use Rattle.span_set.specs.declared.hand.Hand.{Hand}
 use Rattle.span_set.proofs.Numbers.{full_is, swept_is}
 use Rattle.proc_cache.specs.declared.refills.CacheFrom.{CacheFrom}
 use Rattle.proc_cache.specs.Cache.{Cache, slot_at, with_slot}
 use Rattle.proc_cache.specs.Leaves.{Holds, Leaves, Sums}
-use Rattle.proc_cache.specs.Refills.{FindsSpan, HasLeft, HasPaidFor, HasSpent, IsFor, IsHolding, KeepsSpan, LeavesFull, RefillsCache, bytes_of, taken_for}
+use Rattle.proc_cache.specs.RefillLogs.{HasLeft, HasPaidFor, HasSpent, bytes_of, taken_for}
+use Rattle.proc_cache.specs.Findings.{FindsSpan, IsFor, IsHolding}
+use Rattle.proc_cache.specs.Refills.{KeepsSpan, LeavesFull, RefillsCache}
 use Rattle.proc_cache.specs.Serves.{IsUsedBut, IsUsedCache, Serves}
 use Rattle.proc_cache.proofs.Finding.{comes_from, looked_from, missed_from, no_run_from, refusal_behind}
 use Rattle.proc_cache.proofs.Flushing.{erase_only}

@@ -1,18 +1,21 @@
 -- A span for the cache is found, or refused.
 use Rattle.std.proofs.Common.{◌≡◌, ℕ, ◌/◌, ◌<◌, inl, inr, List, [], ◌∷◌, ◌++◌, refl, ap, sym, subst, ◌∙◌, arith}
 use Rattle.std.specs.Prelude.{Result, Ok, Err}
-use Rattle.page_alloc.specs.Journal.{HasNoRun, Legal}
+use Rattle.page_alloc.specs.FreeRuns.{HasNoRun}
+use Rattle.page_alloc.specs.Journal.{Legal}
 use Rattle.page_bitmap.specs.declared.line.Line.TheVariants.{Take as TakeLine, Miss as MissLine}
 use Rattle.size_classes.specs.Classes.{pages_of}
 use Rattle.span_state.specs.declared.body.Body.{Body}
 use Rattle.sweep_laws.specs.Lists.{has}
 use Rattle.worker_log.specs.declared.Entry.{Entry}
 use Rattle.worker_log.specs.declared.Entry.TheVariants.{Took, Missed}
-use Rattle.worker_log.specs.Logs.{Refusal, is_pop_of, many, refusals, swept_set}
+use Rattle.worker_log.specs.Logs.{Refusal, refusals}
+use Rattle.worker_log.specs.SetNumbers.{swept_set}
+use Rattle.worker_log.specs.Entries.{is_pop_of, many}
 use Rattle.span_laws.specs.declared.answers.Refused.{Refused}
 use Rattle.span_laws.specs.declared.answers.Refused.TheVariants.{NoRun, NoMemory as WantsMemory}
 use Rattle.span_laws.specs.declared.view.View.{View}
-use Rattle.span_laws.specs.Answers.{cycle_at}
+use Rattle.span_laws.specs.TakeAnswers.{cycle_at}
 use Rattle.span_laws.specs.Asks.{IsIdle}
 use Rattle.span_laws.specs.Logs.{is_taking}
 use Rattle.span_laws.specs.Views.{acts}
@@ -22,7 +25,9 @@ use Rattle.span_set.proofs.Numbers.{full_is, swept_is, swept_low}
 use Rattle.fallible_list.specs.declared.list.NoMemory.{NoMemory}
 use Rattle.central_lists.specs.declared.answers.Look.{Look}
 use Rattle.central_lists.specs.declared.answers.FromSets.TheVariants.{SweptPartial as FromPartial, SweptHere as FromHere, NeedFresh}
-use Rattle.central_lists.specs.Lists.{Caches, HandsOut, SawNone, Then, just, nothing}
+use Rattle.central_lists.specs.Looks.{SawNone, Then}
+use Rattle.central_lists.specs.Works.{just, nothing}
+use Rattle.central_lists.specs.Lists.{Caches, HandsOut}
 use Rattle.sweeper.specs.declared.answers.Paid.{Paid}
 use Rattle.sweeper.specs.declared.answers.Paid.TheVariants.{Reached, NothingLeft}
 use Rattle.sweeper.specs.NewSpans.{MakesSpan, MissedAtLast, TookAtLast}
@@ -32,7 +37,8 @@ use Rattle.sweeper.specs.Work.{IsPlain, SawAllEmpty, Works}
 use Rattle.proc_cache.specs.declared.refills.CacheFrom.{CacheFrom}
 use Rattle.proc_cache.specs.declared.refills.CacheFrom.TheVariants.{SweptPartial, SweptHere, Fresh}
 use Rattle.proc_cache.specs.Leaves.{Holds, Sums}
-use Rattle.proc_cache.specs.Refills.{Comes, ComesFrom, FindsSpan, HasPaidFor, IsFor, LookedFor, WasNoRun, bytes_of, taken_for}
+use Rattle.proc_cache.specs.RefillLogs.{ComesFrom, HasPaidFor, LookedFor, bytes_of, taken_for}
+use Rattle.proc_cache.specs.Findings.{Comes, FindsSpan, IsFor, WasNoRun}
 use Rattle.proc_cache.proofs.Holding.{holds-trans, holds_none, holds_one, idle_after, of_sweeper, sums_of, sums_of_lists}
 use Rattle.proc_cache.proofs.Logging.{no_refusals, refusals-append, sums-append}
 
@@ -158,7 +164,7 @@ module _ (k : ℕ) (old mid : Hand) (low : k < 136) where
         lent = h.lent;
         before = ap (has b.page) (sym looked_holds.cached) ∙ has_none b.page mid.worker.view.own.cached (let z = h.nothing in omega arith);
         unpopped = let g = old.worker.view.generation in
-            h.untouched.pops (swept_set g k 1) (swept_low g k 1 (omega arith) low) (ap (λ (z : View). Rattle.sweep_laws.specs.Needs.is_swept_set z.generation (swept_set g k 1)) v ∙ swept_is g k 1 (omega arith));
+            h.untouched.pops (swept_set g k 1) (swept_low g k 1 (omega arith) low) (ap (λ (z : View). Rattle.sweep_laws.specs.Reading.is_swept_set z.generation (swept_set g k 1)) v ∙ swept_is g k 1 (omega arith));
       },
       (
         w.said ++ c.1.said,

@@ -16,15 +16,16 @@ use Rattle.sweep_laws.specs.Lists.{erase, has}
 use Rattle.sweep_laws.proofs.Naming.{has_times, times_erase, times_erase_else, times_has}
 use Rattle.worker_log.specs.declared.Entry.{Entry}
 use Rattle.worker_log.specs.declared.Entry.TheVariants.{Looked, LookedEmptyCell, Popped, Pushed, Took, Missed, Gave, Allocated, Found, Read, Added, Swept as SweptEntry}
-use Rattle.worker_log.specs.Logs.{is_pop_of, is_placing_in, is_sweep_of, many}
+use Rattle.worker_log.specs.Entries.{is_pop_of, is_placing_in, is_sweep_of, many}
 use Rattle.worker_log.proofs.Logs.{many-append}
 use Rattle.span_laws.specs.declared.said.Said.TheVariants.{Adds, Fills, Gives, Reads, UncachesStale}
 use Rattle.span_laws.specs.declared.said.SaidOf.TheVariants.{Releases}
 use Rattle.span_laws.specs.declared.view.Span.{Span}
 use Rattle.span_laws.specs.declared.view.View.{View}
-use Rattle.span_laws.specs.Answers.{cycle_at}
+use Rattle.span_laws.specs.TakeAnswers.{cycle_at}
 use Rattle.span_laws.specs.Asks.{IsIdle}
-use Rattle.span_laws.specs.Views.{Seen, acts, after_of, after_said, span_at, span_of}
+use Rattle.span_laws.specs.Views.{Seen, acts, span_at, span_of}
+use Rattle.span_laws.specs.OwnSteps.{after_of, after_said}
 use Rattle.span_laws.proofs.WordMoves.{span_else}
 use Rattle.span_set.specs.declared.hand.Hand.{Hand}
 use Rattle.sweeper.specs.Steps.{Settles}

@@ -9,14 +9,14 @@ use mathlib.Core.Logic.{dite}
 use native.Mathlib.Decide.{ℕ_discrete}
 use Rattle.span_state.specs.declared.sweep.SweepNote.{SweepNote}
 use Rattle.worker_log.specs.declared.Entry.{Entry}
-use Rattle.worker_log.specs.Logs.{is_pop_of, many}
+use Rattle.worker_log.specs.Entries.{is_pop_of, many}
 use Rattle.worker_log.proofs.Logs.{many-append}
 use Rattle.span_laws.specs.declared.view.View.{View}
 use Rattle.span_laws.specs.Asks.{IsIdle}
 use Rattle.span_laws.specs.Calls.{notes_of, number_added, pages_swept}
 use Rattle.span_laws.specs.Views.{acts}
 use Rattle.span_set.specs.declared.hand.Hand.{Hand}
-use Rattle.central_lists.specs.Lists as lists
+use Rattle.central_lists.specs.Works as lists
 use Rattle.sweeper.specs.Work as work
 use Rattle.proc_cache.specs.Leaves.{Holds, Leaves, Sums}
 use Rattle.proc_cache.proofs.Leaving.{notes_of-append, total-append}
@@ -115,7 +115,7 @@ holds-then held pages later first a b d x y = record {
   fresh = y.fresh ∙ x.fresh;
   bodies = λ q h. y.bodies q (ap (has q) x.cached ∙ h) ∙ x.bodies q h;
   unpopped = λ j p part full. let m = many-append (is_pop_of j p) later first in let u = x.unpopped j p part full in
-      let v = y.unpopped j p (ap (λ (z : View). Rattle.sweep_laws.specs.Needs.is_swept_set z.generation j) x.view ∙ part) full in omega arith;
+      let v = y.unpopped j p (ap (λ (z : View). Rattle.sweep_laws.specs.Reading.is_swept_set z.generation j) x.view ∙ part) full in omega arith;
   swept = let m = total-append (number_added 2) later first in let n = total-append pages_swept later first in let p = x.swept in let q = y.swept in omega arith;
   notes = y.notes ∙ (λ i. x.notes i ++ notes_of (x.view i).generation later)
       ∙ append_assoc a.notes.items (notes_of a.worker.view.generation first) (notes_of a.worker.view.generation later)

@@ -7,7 +7,8 @@ use Rattle.sweep_laws.specs.Named.{only}
 use Rattle.worker_log.specs.declared.Entry.{Entry}
 use Rattle.worker_log.specs.declared.Entry.TheVariants.{Looked, LookedEmptyCell, Popped, Pushed, Swept, Took, Missed, Gave, Allocated, Found, Read, Added}
 use Rattle.worker_log.specs.declared.Placing.{Placing}
-use Rattle.worker_log.specs.Logs.{Refusal, many, placings, refusals, refused}
+use Rattle.worker_log.specs.Logs.{Refusal, placings, refusals, refused}
+use Rattle.worker_log.specs.Entries.{many}
 use Rattle.worker_log.proofs.Logs.{many-append}
 use Rattle.span_laws.specs.Calls.{added, is_missing, is_placing, number_added}
 use Rattle.span_laws.specs.Logs.{is_taking}

@@ -14,24 +14,27 @@ use Rattle.sweep_laws.specs.Lists.{has}
 use Rattle.worker_log.specs.declared.Entry.{Entry}
 use Rattle.worker_log.specs.declared.Entry.TheVariants.{Looked, LookedEmptyCell, Popped, Pushed, Swept, Took, Missed, Gave, Allocated, Found, Read, Added}
 use Rattle.worker_log.specs.declared.Placing.{Placing}
-use Rattle.worker_log.specs.Logs.{is_placing_in, many, placings, refusals}
+use Rattle.worker_log.specs.Logs.{placings, refusals}
+use Rattle.worker_log.specs.Entries.{is_placing_in, many}
 use Rattle.span_laws.specs.declared.answers.Refused.{Refused}
 use Rattle.span_laws.specs.declared.answers.Refused.TheVariants.{NoRun, NoMemory as WantsMemory}
 use Rattle.span_laws.specs.declared.view.Span.{Span}
 use Rattle.span_laws.specs.declared.view.View.{View}
-use Rattle.span_laws.specs.Asks.{HasRoom, IsIdle}
+use Rattle.span_laws.specs.BodyAsks.{HasRoom}
+use Rattle.span_laws.specs.Asks.{IsIdle}
 use Rattle.span_laws.specs.Calls.{added, is_missing, is_placing, number_added}
 use Rattle.span_laws.specs.Logs.{is_taking}
 use Rattle.span_laws.specs.Views.{Seen, acts, span_of}
 use Rattle.span_set.specs.declared.hand.Hand.{Hand}
-use Rattle.central_lists.specs.Lists.{Then}
+use Rattle.central_lists.specs.Looks.{Then}
 use Rattle.proc_cache.specs.declared.refills.CacheFrom.{CacheFrom}
 use Rattle.proc_cache.specs.Allocs.{AllocatesIn, IsPlaced, JustPlaces, KeepsOthers, PlacesOne, flushed_slot}
 use Rattle.proc_cache.specs.Cache.{Cache, slot_at, with_slot}
 use Rattle.proc_cache.specs.Flushes.{FlushesCache, IsFlushing}
 use Rattle.proc_cache.specs.Hits.{HitsAt, IsMissing}
 use Rattle.proc_cache.specs.Leaves.{Leaves, Sums}
-use Rattle.proc_cache.specs.Refills.{HasFilled, HasLeft, HasMissed, HasPaidFor, RefillsCache, bytes_of, taken_for}
+use Rattle.proc_cache.specs.RefillLogs.{HasFilled, HasLeft, HasMissed, HasPaidFor, bytes_of, taken_for}
+use Rattle.proc_cache.specs.Refills.{RefillsCache}
 use Rattle.proc_cache.specs.Serves.{IsUsedBut, IsUsedCache, Serves, is_flushed}
 use Rattle.proc_cache.proofs.Finding.{comes_from, looked_from, missed_from, no_run_from}
 use Rattle.proc_cache.proofs.Flushing.{none_passes}

@@ -12,10 +12,13 @@ use Rattle.sweep_laws.proofs.Totals.{times_end, times_end_else}
 use Rattle.profile_cycle.specs.Sampling.{Countdown}
 use Rattle.span_state.specs.declared.body.Body.{Body}
 use Rattle.worker_log.specs.declared.Entry.{Entry}
-use Rattle.worker_log.specs.Logs.{is_pop_of, many, swept_set}
+use Rattle.worker_log.specs.SetNumbers.{swept_set}
+use Rattle.worker_log.specs.Entries.{is_pop_of, many}
 use Rattle.worker_log.proofs.Logs.{many-append}
 use Rattle.span_laws.specs.Asks.{HasBody, MayPlace}
-use Rattle.span_laws.specs.Views.{rested, span_at, span_of, told_of}
+use Rattle.span_laws.specs.Views.{span_at, span_of}
+use Rattle.span_laws.specs.OwnSteps.{told_of}
+use Rattle.span_laws.specs.MarkEnds.{rested}
 use Rattle.span_laws.specs.declared.said.SaidOf.TheVariants.{Places}
 use Rattle.span_laws.specs.declared.view.Part.{Part}
 use Rattle.span_laws.specs.declared.view.Span.{Span}

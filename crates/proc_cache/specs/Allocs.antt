@@ -11,13 +11,14 @@ use Rattle.span_laws.specs.declared.answers.Refused.{Refused}
 use Rattle.span_laws.specs.declared.answers.Refused.TheVariants.{NoRun, NoMemory as WantsMemory}
 use Rattle.span_laws.specs.declared.view.Span.{Span}
 use Rattle.span_set.specs.declared.hand.Hand.{Hand}
-use Rattle.central_lists.specs.Lists.{Then}
+use Rattle.central_lists.specs.Looks.{Then}
 use Rattle.proc_cache.specs.declared.refills.CacheFrom.{CacheFrom}
 use Rattle.proc_cache.specs.declared.allocs.Placed.{Placed}
 use Rattle.proc_cache.specs.Cache.{Cache, address_of, slot_at}
 use Rattle.proc_cache.specs.Flushes.{IsFlushing}
 use Rattle.proc_cache.specs.Leaves.{Leaves, Sums}
-use Rattle.proc_cache.specs.Refills.{HasFilled, HasMissed, WasNoRun, bytes_of, taken_for}
+use Rattle.proc_cache.specs.RefillLogs.{HasFilled, HasMissed, bytes_of, taken_for}
+use Rattle.proc_cache.specs.Findings.{WasNoRun}
 use Rattle.proc_cache.specs.Serves.{is_flushed}
 
 -- the slot of a class after the flush, where the processor had not flushed in this cycle

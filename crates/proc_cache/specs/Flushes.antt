@@ -7,7 +7,7 @@ use Rattle.sweep_laws.specs.Counts.{times}
 use Rattle.sweep_laws.specs.Lists.{erase}
 use Rattle.worker_log.specs.declared.Entry.{Entry}
 use Rattle.worker_log.specs.declared.Entry.TheVariants.{Pushed, Swept, Gave, Read, Added}
-use Rattle.worker_log.specs.Logs.{is_sweep_of, many}
+use Rattle.worker_log.specs.Entries.{is_sweep_of, many}
 use Rattle.span_laws.specs.Views.{span_at}
 use Rattle.span_set.specs.declared.hand.Hand.{Hand}
 use Rattle.proc_cache.specs.Cache.{Cache, slot_at}

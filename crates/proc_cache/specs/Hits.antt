@@ -4,7 +4,8 @@ use Rattle.size_classes.specs.Classes.{slot_of}
 use Rattle.span_state.specs.Bits.{HasFree, IsFull, bit_of, with_bit}
 use Rattle.span_laws.specs.declared.said.SaidOf.TheVariants.{Places}
 use Rattle.span_laws.specs.declared.view.Span.{Span}
-use Rattle.span_laws.specs.Views.{Seen, after_of}
+use Rattle.span_laws.specs.Views.{Seen}
+use Rattle.span_laws.specs.OwnSteps.{after_of}
 use Rattle.proc_cache.specs.declared.hits.Hit.{Hit}
 use Rattle.proc_cache.specs.declared.hits.Hit.TheVariants.{At, Miss}
 use Rattle.proc_cache.specs.Cache.{Cache, address_of, slot_at, with_slot}

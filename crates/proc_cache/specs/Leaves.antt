@@ -1,9 +1,10 @@
 -- What a call leaves of a hand, and what it adds to the log. A log has its newest entry first.
 use Rattle.std.specs.Prelude.{◌≡◌, ℕ, true, List, [], ◌++◌, None}
 use Rattle.sweep_laws.specs.Lists.{has}
-use Rattle.sweep_laws.specs.Needs.{is_swept_set}
+use Rattle.sweep_laws.specs.Reading.{is_swept_set}
 use Rattle.worker_log.specs.declared.Entry.{Entry}
-use Rattle.worker_log.specs.Logs.{is_full_set, is_pop_of, many}
+use Rattle.worker_log.specs.SetNumbers.{is_full_set}
+use Rattle.worker_log.specs.Entries.{is_pop_of, many}
 use Rattle.span_laws.specs.Asks.{IsIdle}
 use Rattle.span_laws.specs.Calls.{added, is_missing, is_placing, notes_of, swept_pages}
 use Rattle.span_laws.specs.Logs.{is_taking}

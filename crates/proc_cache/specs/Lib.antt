@@ -4,5 +4,7 @@ pub mod Serves
 pub mod Hits
 pub mod Leaves
 pub mod Flushes
+pub mod RefillLogs
+pub mod Findings
 pub mod Refills
 pub mod Allocs

@@ -1,13 +1,17 @@
 ghost use Rattle.std.specs.Prelude.{◌≡◌, ◌/◌, ◌<◌, ◌≤◌, true, None};
 ghost use Rattle.sweep_laws.specs.Lists.{has};
 ghost use Rattle.size_classes.specs.Classes.{pages_of};
-ghost use Rattle.worker_log.specs.Logs.{swept_set};
-ghost use Rattle.span_laws.specs.Asks.{IsFullBody, IsIdle};
-ghost use Rattle.span_laws.specs.Views.{after_said, span_of};
+ghost use Rattle.worker_log.specs.SetNumbers.{swept_set};
+ghost use Rattle.span_laws.specs.BodyAsks.{IsFullBody};
+ghost use Rattle.span_laws.specs.Asks.{IsIdle};
+ghost use Rattle.span_laws.specs.Views.{span_of};
+ghost use Rattle.span_laws.specs.OwnSteps.{after_said};
 ghost use Rattle.span_set.specs.Tallies.{Frees, MayCount};
 ghost use Rattle.proc_cache.specs.Hits.{IsMissing};
 ghost use Rattle.proc_cache.specs.Cache.{slot_at};
-ghost use Rattle.proc_cache.specs.Refills.{Comes, FindsSpan, IsFor, IsHolding, KeepsSpan, LeavesFull, RefillsCache, bytes_of};
+ghost use Rattle.proc_cache.specs.RefillLogs.{bytes_of};
+ghost use Rattle.proc_cache.specs.Findings.{Comes, FindsSpan, IsFor, IsHolding};
+ghost use Rattle.proc_cache.specs.Refills.{KeepsSpan, LeavesFull, RefillsCache};
 ghost use Rattle.proc_cache.specs.Serves.{IsCachedAt, IsUsedBut, IsUsedCache, Serves};
 
 use crate::proc::Proc;

@@ -14,7 +14,8 @@ use Rattle.profile_cycle.specs.Naming.{is_same}
 use Rattle.cycle_history.specs.Requests.{Marking}
 use Rattle.cycle_history.specs.Objects.{Object}
 use Rattle.sound_run.specs.Run.{Lasts}
-use Rattle.run_laws.specs.Profile.{Samples, Calls, AreCalls, is_sample, sum_below}
+use Rattle.run_laws.specs.Profile.{Calls, AreCalls, sum_below}
+use Rattle.cycle_history.specs.Profile.{Samples, is_sample}
 use Rattle.run_laws.proofs.Lists.{in-cases}
 use Rattle.run_laws.proofs.Profile.{count-none, calls-later, published-right}
 use Rattle.sample_laws.specs.Counted.{of_number}

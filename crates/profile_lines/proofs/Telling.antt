@@ -12,7 +12,7 @@ use Rattle.cycle_history.specs.declared.Prof.{Prof}
 use Rattle.cycle_history.specs.Requests.{Marking}
 use Rattle.cycle_history.specs.Objects.{Object, is_placed}
 use Rattle.cycle_history.specs.Orders.{IsProfBefore, AreRisingProfile}
-use Rattle.run_laws.specs.Profile.{Samples, is_sample, allocs_at, frees_at, bucket_of, IsProf, IsChanged, IsOf, IsProfile, IsProfileOfEach}
+use Rattle.cycle_history.specs.Profile.{Samples, is_sample, allocs_at, frees_at, bucket_of, IsProf, IsChanged, IsOf, IsProfile, IsProfileOfEach}
 use Rattle.run_laws.proofs.Lists.{in-left, in-right, in-cases, apart-append}
 use Rattle.run_laws.proofs.Profile.{count-none, count-old}
 use Rattle.profile_lines.specs.Read.{bucket_at, IsBefore, IsOrder, count_of, is_same_count, AreFew, line_of, all_lines, changed_lines}

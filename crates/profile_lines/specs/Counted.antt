@@ -9,7 +9,8 @@ use Rattle.profile_cycle.specs.History.{allocates, frees, publishes, count, publ
 use Rattle.profile_cycle.specs.Naming.{is_same}
 use Rattle.cycle_history.specs.Requests.{Marking}
 use Rattle.cycle_history.specs.Objects.{Object, is_placed}
-use Rattle.run_laws.specs.Profile.{Samples, Calls, AreCalls, allocs_at, frees_at}
+use Rattle.run_laws.specs.Profile.{Calls, AreCalls}
+use Rattle.cycle_history.specs.Profile.{Samples, allocs_at, frees_at}
 use Rattle.sample_laws.specs.Counted.{of_number}
 use Rattle.profile_lines.specs.Read.{bucket_at}
 

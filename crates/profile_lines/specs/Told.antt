@@ -7,7 +7,7 @@ use Rattle.cycle_history.specs.declared.Prof.{Prof}
 use Rattle.cycle_history.specs.Requests.{Marking}
 use Rattle.cycle_history.specs.Objects.{Object}
 use Rattle.cycle_history.specs.Orders.{AreRisingProfile}
-use Rattle.run_laws.specs.Profile.{Samples, allocs_at, frees_at, bucket_of, IsProf, IsChanged, IsOf}
+use Rattle.cycle_history.specs.Profile.{Samples, allocs_at, frees_at, bucket_of, IsProf, IsChanged, IsOf}
 use Rattle.profile_lines.specs.Read.{bucket_at}
 
 -- The numbers of a bucket as of mark end m.

@@ -9,7 +9,8 @@ use Rattle.size_classes.proofs.Bounds.{slot_bounds, objects_whole, objects_bound
 use Rattle.page_bitmap.specs.declared.line.Line.{Line}
 use Rattle.page_bitmap.specs.declared.line.Line.TheVariants.{Take}
 use Rattle.page_alloc.specs.Lists.{In, IsNumber}
-use Rattle.page_alloc.specs.Journal.{Life, open_lives, at_end}
+use Rattle.page_alloc.specs.Lives.{Life, open_lives}
+use Rattle.page_alloc.specs.Journal.{at_end}
 use Rattle.trace_reader.specs.declared.trace.Trace.{Trace}
 use Rattle.trace_reader.specs.Limits.{EventFits, events_of}
 use Rattle.cycle_history.specs.declared.Answer.TheVariants.{Zero}

@@ -21,7 +21,8 @@ use Rattle.report_check.specs.Items.{object_of, objects_of}
 use Rattle.report_check.specs.Lasts.{last_at}
 use Rattle.report_check.specs.Tops.{top_at}
 use Rattle.report_check.specs.Known.{AreKnown, AreTops, IsSatFrom}
-use Rattle.report_check.specs.Filling.{AreFills, AreNewest, HasRoom, IsEmptyFilling, IsFitting, IsSmallItem, IsTakenUp, IsUnfitting, fill_at, filled_by, newest_at, newest_by, next_in, place_of}
+use Rattle.report_check.specs.Filling.{AreFills, AreNewest, HasRoom, IsEmptyFilling, IsSmallItem, IsTakenUp, fill_at, filled_by, newest_at, newest_by, next_in, place_of}
+use Rattle.report_check.specs.Fitting.{IsFitting, IsUnfitting}
 use Rattle.report_check.proofs.Numbered.{item-of, object-in}
 use Rattle.report_check.proofs.Settled.{asked-at}
 use Rattle.report_check.proofs.Lasting.{cycles-rise}

@@ -7,7 +7,10 @@ use Rattle.page_bitmap.specs.declared.line.Line.{Line}
 use Rattle.page_bitmap.specs.declared.line.Line.TheVariants.{Take, Miss, Give, Scav}
 use Rattle.page_alloc.specs.Lists.{In}
 use Rattle.page_alloc.specs.Heap.{PageHeap, HasMoreRoom, AddsLine}
-use Rattle.page_alloc.specs.Journal.{Life, IsFirstFit, IsScavengeRun, IsLoose, HasNoRun, Legal, IsBy, cycle_of, open_lives, backed, past_of, owner}
+use Rattle.page_alloc.specs.Owners.{backed, owner}
+use Rattle.page_alloc.specs.Lives.{Life, open_lives}
+use Rattle.page_alloc.specs.FreeRuns.{IsFirstFit, IsScavengeRun, IsLoose, HasNoRun}
+use Rattle.page_alloc.specs.Journal.{Legal, IsBy, cycle_of, past_of}
 use Rattle.page_alloc.proofs.Lives.{covers, lies, same_page}
 use Rattle.trace_reader.specs.declared.trace.Trace.{Trace}
 use Rattle.cycle_history.specs.declared.Report.{Report}

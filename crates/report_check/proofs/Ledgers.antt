@@ -6,7 +6,8 @@ use Rattle.std.proofs.Math.Seq.{take-append_seam}
 use Rattle.std.proofs.lemmas.Bool.{cases_lt, and_parts, and_from, le-leb, lt-leb, leb-true}
 use Rattle.std.proofs.lemmas.Option.{slice_get-get_or}
 use Rattle.page_alloc.specs.Lists.{count, one_if}
-use Rattle.page_alloc.specs.Journal.{Life, past_of}
+use Rattle.page_alloc.specs.Lives.{Life}
+use Rattle.page_alloc.specs.Journal.{past_of}
 use Rattle.trace_reader.specs.declared.trace.Cycle.{Cycle}
 use Rattle.trace_reader.specs.declared.trace.Trace.{Trace}
 use Rattle.cycle_history.specs.declared.Report.{Report}
@@ -21,7 +22,8 @@ use Rattle.report_check.specs.declared.ledger.Alive.{Alive}
 use Rattle.report_check.specs.Items.{object_of, objects_of}
 use Rattle.report_check.specs.Lasts.{last_at}
 use Rattle.report_check.specs.Known.{AreKnown}
-use Rattle.report_check.specs.Sweeping.{AddsItems, AreUsed, AscendTo, CountsAlive, IsOpenTo, added, alive_of, is_freed, is_kept, used_at}
+use Rattle.report_check.specs.Tallies.{CountsAlive, alive_of, is_freed, is_kept}
+use Rattle.report_check.specs.Ledgers.{AddsItems, AreUsed, AscendTo, IsOpenTo, added, used_at}
 use Rattle.report_check.proofs.Numbered.{item-of, object-in}
 use Rattle.report_check.proofs.Settled.{asked-at, count-items}
 use Rattle.report_check.proofs.Lasting.{cycle-at, cycles-rise}

@@ -4,7 +4,7 @@ use Rattle.std.specs.List.{slice_get}
 use Rattle.std.proofs.lemmas.List.{take_more}
 use Rattle.std.proofs.lemmas.Bool.{cases_eq, cases_lt, or_cases, or_left, or_right, and_parts, and_from, le-leb, leb-true}
 use Rattle.std.proofs.lemmas.Option.{slice_get-get_or}
-use Rattle.page_alloc.specs.Journal.{Life}
+use Rattle.page_alloc.specs.Lives.{Life}
 use Rattle.trace_reader.specs.declared.trace.Span.{Span}
 use Rattle.cycle_history.specs.declared.Answer.{Answer}
 use Rattle.cycle_history.specs.declared.Answer.TheVariants.{Placed, Zero, Missed}

@@ -7,7 +7,8 @@ use Rattle.std.proofs.lemmas.List.{get_or-set_same, get_or-set_other, get_or-rep
 use Rattle.page_bitmap.specs.declared.line.Line.{Line}
 use Rattle.page_bitmap.specs.declared.line.Line.TheVariants.{Take, Give}
 use Rattle.page_alloc.specs.Lists.{In}
-use Rattle.page_alloc.specs.Journal.{Life, life_of, open_lives, others, Legal}
+use Rattle.page_alloc.specs.Lives.{Life, life_of, open_lives, others}
+use Rattle.page_alloc.specs.Journal.{Legal}
 use Rattle.page_alloc.proofs.Lives.{lies, pages-apart, from_others, to_others}
 use Rattle.cycle_history.specs.declared.Answer.TheVariants.{Placed}
 use Rattle.cycle_history.specs.Objects.{Object, Sits, start_of}

@@ -8,7 +8,8 @@ use Rattle.std.proofs.lemmas.Option.{slice_get_within, slice_get-get_or, get_or_
 use Rattle.page_bitmap.specs.declared.line.Line.{Line}
 use Rattle.page_bitmap.specs.declared.line.Line.TheVariants.{Take, Miss, Give, Scav}
 use Rattle.page_alloc.specs.Lists.{In, AllApart}
-use Rattle.page_alloc.specs.Journal.{Life, at_end, cycle_of, life_of, open_lives, past_of}
+use Rattle.page_alloc.specs.Lives.{Life, life_of, open_lives}
+use Rattle.page_alloc.specs.Journal.{at_end, cycle_of, past_of}
 use Rattle.page_alloc.proofs.Lives.{from_others, same_page}
 use Rattle.span_state.specs.declared.sweep.SweepNote.{SweepNote}
 use Rattle.trace_reader.specs.declared.trace.Trace.{Trace}
@@ -27,7 +28,10 @@ use Rattle.report_check.specs.declared.ledger.Ledger.{Ledger}
 use Rattle.report_check.specs.Lives.{AreLives, entry_of}
 use Rattle.report_check.specs.Items.{objects_of}
 use Rattle.report_check.specs.Known.{AreKnown}
-use Rattle.report_check.specs.Sweeping.{AllMayGive, AllSwept, AreRightTo, CanGive, HasNote, IsDisorder, IsFirstWrong, IsSettledLife, LacksSweep, SaysRight, Tells, freed_in, kept_in, tally_at}
+use Rattle.report_check.specs.Tallies.{freed_in, kept_in, tally_at}
+use Rattle.report_check.specs.Ledgers.{Tells}
+use Rattle.report_check.specs.Sweeping.{AllMayGive, AllSwept, AreRightTo, CanGive, HasNote, IsDisorder, IsFirstWrong, LacksSweep}
+use Rattle.report_check.specs.SaidSweeps.{IsSettledLife, SaysRight}
 use Rattle.report_check.proofs.Settled.{table-has}
 use Rattle.report_check.proofs.Clearing.{life-inside}
 use Rattle.report_check.proofs.Keyed.{in-get}

@@ -11,7 +11,8 @@ use Rattle.report_check.specs.declared.ledger.Alive.{Alive}
 use Rattle.report_check.specs.declared.ledger.Tally.{Tally}
 use Rattle.report_check.specs.Items.{object_of, objects_from, objects_of}
 use Rattle.report_check.specs.Lasts.{last_at}
-use Rattle.report_check.specs.Sweeping.{AddsItems, AreBefore, AreTallied, AreUsed, AscendTo, added, alive_of, freed_in, is_freed, is_kept, kept_in, tally_at, used_at}
+use Rattle.report_check.specs.Tallies.{AreBefore, AreTallied, alive_of, freed_in, is_freed, is_kept, kept_in, tally_at}
+use Rattle.report_check.specs.Ledgers.{AddsItems, AreUsed, AscendTo, added, used_at}
 use Rattle.report_check.proofs.Numbered.{item-of}
 
 off-on : (b : Bool) → b ≡ false → b ≡ true → ⊥

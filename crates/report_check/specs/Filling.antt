@@ -1,14 +1,13 @@
--- How lives are filled in a cycle, as far as its items are judged.
-use Rattle.std.specs.Prelude.{◌≡◌, ◌≢◌, ℕ, ◌+◌, ◌*◌, ◌<◌, ◌≤◌, ◌==◌, if◌then◌else◌, true, List, length, slice_set, max, Option, Some, None, slice_index_or, ◌⊎◌}
+-- What is known of how lives are filled in a cycle, as far as its items are judged.
+use Rattle.std.specs.Prelude.{◌≡◌, ℕ, ◌+◌, ◌*◌, ◌<◌, ◌≤◌, ◌==◌, if◌then◌else◌, true, List, length, slice_set, max, Option, Some, None, slice_index_or, ◌⊎◌}
 use Rattle.std.specs.List.{slice_get}
 use Rattle.cycle_history.specs.Objects.{is_placed}
 use Rattle.report_check.specs.declared.items.Item.{Item}
-use Rattle.report_check.specs.declared.tops.Tops.{Tops}
 use Rattle.report_check.specs.declared.filling.Fill.{Fill}
 use Rattle.report_check.specs.declared.filling.Newest.{Newest}
 use Rattle.report_check.specs.declared.filling.Filling.{Filling}
 use Rattle.report_check.specs.Known.{IsSatFrom}
-use Rattle.report_check.specs.Tops.{AreNoTops, IsRaised, top_at}
+use Rattle.report_check.specs.Tops.{AreNoTops, IsRaised}
 
 -- An item is small where it is placed in a span of a size class above 0.
 abbrev pub IsSmallItem : Item → Type 0
@@ -23,56 +22,12 @@ abbrev pub next_in : Option Fill → ℕ → ℕ
 next_in None cycle = 0
 next_in (Some fill) cycle = if fill.cycle == cycle then fill.next else 0
 
--- Another processor fills the life in the item's cycle.
-pub record IsOthers (fill : Option Fill) (item : Item) : Type 0 where
-  pub its : Fill
-  pub is : fill ≡ Some its
-  pub now : its.cycle ≡ item.cycle
-  pub other : its.proc ≢ item.proc
-
--- No other processor does.
-abbrev pub IsOwn : Option Fill → Item → Type 0
-IsOwn fill item = (its : Fill) → fill ≡ Some its → its.cycle ≡ item.cycle → its.proc ≡ item.proc
-
--- Each index of a life from one up to another is held in the cycle.
-abbrev pub AreHeld : Tops → ℕ → ℕ → ℕ → ℕ → Type 0
-AreHeld tops life low high cycle = (j : ℕ) → low ≤ j → j < high → cycle < top_at tops life j
-
--- One of them is free.
-abbrev pub IsFreeAt : Tops → ℕ → ℕ → ℕ → ℕ → Type 0
-IsFreeAt tops life low high cycle = (j : ℕ) × (low ≤ j) × (j < high) × (top_at tops life j ≤ cycle)
-
--- Of the item's processor and span class, another life is filled in the cycle.
-pub record IsLeft (newest : Option Newest) (item : Item) (left : ℕ) : Type 0 where
-  pub its : Newest
-  pub is : newest ≡ Some its
-  pub now : its.cycle ≡ item.cycle
-  pub other : its.life ≢ item.life
-  pub life : left ≡ its.life
-
--- No other life is.
-abbrev pub IsStaying : Option Newest → Item → Type 0
-IsStaying newest item = (its : Newest) → newest ≡ Some its → its.cycle ≡ item.cycle → its.life ≡ item.life
-
 -- What is known of a life, and of a processor's span class.
 abbrev pub fill_at : Filling → ℕ → Option Fill
 fill_at filling life = slice_index_or filling.fills.items life None
 
 abbrev pub newest_at : Filling → ℕ → Option Newest
 newest_at filling place = slice_index_or filling.newest.items place None
-
--- The item's life is its processor's in the cycle, each index below the item's is held, and a life that its processor
--- left is full.
-pub record IsFitting (filling : Filling) (item : Item) : Type 0 where
-  pub own : IsOwn (fill_at filling item.life) item
-  pub below : AreHeld filling.tops item.life (next_in (fill_at filling item.life) item.cycle) item.index item.cycle
-  pub full : (left : ℕ) → IsLeft (newest_at filling (place_of item.proc item.class)) item left → AreHeld filling.tops left 0 item.count item.cycle
-
--- One of the three isn't so.
-abbrev pub IsUnfitting : Filling → Item → Type 0
-IsUnfitting filling item = IsOthers (fill_at filling item.life) item
-    ⊎ (IsFreeAt filling.tops item.life (next_in (fill_at filling item.life) item.cycle) item.index item.cycle
-    ⊎ ((left : ℕ) × IsLeft (newest_at filling (place_of item.proc item.class)) item left × IsFreeAt filling.tops left 0 item.count item.cycle))
 
 -- The item fills its life in its cycle, up to its index at least.
 abbrev pub filled_by : Option Fill → Item → Fill

@@ -9,7 +9,11 @@ pub mod Lasts
 pub mod Tops
 pub mod Known
 pub mod Filling
+pub mod Fitting
+pub mod Tallies
+pub mod Ledgers
 pub mod Sweeping
+pub mod SaidSweeps
 pub mod Keys
 pub mod Order
 pub mod Sampling

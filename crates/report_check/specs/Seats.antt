@@ -2,7 +2,7 @@
 use Rattle.std.specs.Prelude.{◌≡◌, ℕ, ◌<◌, ◌≤◌, true, List, map, Some, Option}
 use Rattle.std.specs.List.{slice_get}
 use Rattle.cycle_history.specs.Objects.{is_placed}
-use Rattle.page_alloc.specs.Journal.{Life}
+use Rattle.page_alloc.specs.Lives.{Life}
 use Rattle.report_check.specs.declared.lives.OpenLife.{OpenLife}
 use Rattle.report_check.specs.declared.lives.Seat.{Seat}
 use Rattle.report_check.specs.declared.items.Item.{Item}

@@ -23,7 +23,7 @@ pub(crate) struct Opened {
 }
 
 impl Opened {
-    ghost use Rattle.report_check.specs.Sweeping.{IsOpenTo};
+    ghost use Rattle.report_check.specs.Ledgers.{IsOpenTo};
 
     /// No line is taken up.
     pub(crate) fn new(alloc: Global, trace: &Trace) -> Result<Opened, NoMemory>

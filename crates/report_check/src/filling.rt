@@ -4,7 +4,8 @@ ghost use Rattle.std.specs.Prelude.{◌≡◌, ℕ, ◌≤◌, ◌<◌, length, 
 ghost use Rattle.cycle_history.specs.Requests.{marked_by};
 ghost use Rattle.cycle_history.specs.Rules.{AreFilled};
 ghost use Rattle.report_rules.specs.Placing.{BreaksFilling};
-ghost use Rattle.report_check.specs.Filling.{AreHeld, HasRoom, IsEmptyFilling, IsFitting, IsFreeAt, IsLeft, IsOthers, IsOwn, IsStaying, IsTakenUp, IsUnfitting, filled_by, fill_at, newest_by, next_in as next_of, place_of as place_in};
+ghost use Rattle.report_check.specs.Filling.{HasRoom, IsEmptyFilling, IsTakenUp, filled_by, fill_at, newest_by, next_in as next_of, place_of as place_in};
+ghost use Rattle.report_check.specs.Fitting.{AreHeld, IsFitting, IsFreeAt, IsLeft, IsOthers, IsOwn, IsStaying, IsUnfitting};
 
 use crate::CheckFault;
 use crate::items::Item;

@@ -3,7 +3,9 @@
 ghost use Rattle.std.specs.Prelude.{◌≡◌, ◌≢◌, ◌<◌, ◌≤◌, ◌∷◌, ℕ, List as Lines, IfErr, IfOk, MatchBool, OnOk};
 ghost use Rattle.page_bitmap.specs.declared.line.Line.{Line as Entry};
 ghost use Rattle.page_bitmap.specs.declared.line.Line.TheVariants.{Give, Miss, Scav, Take};
-ghost use Rattle.page_alloc.specs.Journal.{IsBy, IsSpanSize, Legal, cycle_of as cycle_in, owner, past_of};
+ghost use Rattle.page_alloc.specs.Owners.{owner};
+ghost use Rattle.page_alloc.specs.FreeRuns.{IsSpanSize};
+ghost use Rattle.page_alloc.specs.Journal.{IsBy, Legal, cycle_of as cycle_in, past_of};
 ghost use Rattle.cycle_history.specs.Marked.{IsLimited};
 ghost use Rattle.cycle_history.specs.Sound.{HasJournal};
 ghost use Rattle.report_rules.specs.Answers.{BreaksJournal};

@@ -7,7 +7,8 @@ ghost use Rattle.cycle_history.specs.Requests.{last_cycle};
 ghost use Rattle.report_check.specs.Items.{objects_of};
 ghost use Rattle.report_check.specs.Known.{AreKnown};
 ghost use Rattle.report_check.specs.declared.ledger.Alive.{Alive as AnAlive};
-ghost use Rattle.report_check.specs.Sweeping.{AddsItems, AreBefore, AreTallied, freed_in, kept_in};
+ghost use Rattle.report_check.specs.Tallies.{AreBefore, AreTallied, freed_in, kept_in};
+ghost use Rattle.report_check.specs.Ledgers.{AddsItems};
 
 use crate::cycle_lives::Opened;
 use crate::objects::Objects;
@@ -46,7 +47,7 @@ pub(crate) struct Ledger {
 }
 
 impl Ledger {
-    ghost use Rattle.report_check.specs.Sweeping.{IsLedger, Tells};
+    ghost use Rattle.report_check.specs.Ledgers.{IsLedger, Tells};
 
     /// Cycle 0 has passed.
     pub(crate) fn new(alloc: Global, objects: &Objects<'_>) -> Result<Ledger, NoMemory>

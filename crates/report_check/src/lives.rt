@@ -2,7 +2,8 @@
 
 ghost use Rattle.std.specs.Prelude.{◌≡◌, ℕ, ◌*◌, ◌+◌, ◌-◌, ◌<◌, ◌≤◌, ◌/◌, ◌∷◌, List as Lines, replicate, length, slice_set, IfOk, MatchBool, MatchOption, None as Nothing};
 ghost use Rattle.page_bitmap.specs.declared.line.Line.{Line as Entry};
-ghost use Rattle.page_alloc.specs.Journal.{Legal, Life};
+ghost use Rattle.page_alloc.specs.Lives.{Life};
+ghost use Rattle.page_alloc.specs.Journal.{Legal};
 ghost use Rattle.cycle_history.specs.declared.Answer.TheVariants.{Placed};
 ghost use Rattle.report_check.specs.Items.{object_of};
 ghost use Rattle.report_check.specs.declared.lives.Seat.{Seat as Place};

@@ -10,7 +10,10 @@ ghost use Rattle.report_rules.specs.Closing.{BreaksSweeps};
 ghost use Rattle.report_rules.specs.Lines as lines;
 ghost use Rattle.span_state.specs.declared.sweep.SweepNote.{SweepNote as Note};
 ghost use Rattle.report_check.specs.Keys.{AreKeys};
-ghost use Rattle.report_check.specs.Sweeping.{AreAllNoted, AreSaidRight, IsDisorder, IsNoteOf, IsSettledLife, LacksNote, SaysRight, freed_in, kept_in, tally_at, used_at};
+ghost use Rattle.report_check.specs.Tallies.{freed_in, kept_in, tally_at};
+ghost use Rattle.report_check.specs.Ledgers.{used_at};
+ghost use Rattle.report_check.specs.Sweeping.{IsDisorder};
+ghost use Rattle.report_check.specs.SaidSweeps.{AreAllNoted, AreSaidRight, IsNoteOf, IsSettledLife, LacksNote, SaysRight};
 
 use crate::CheckFault;
 use crate::cycle_lives::Opened;

@@ -5,7 +5,8 @@ use Rattle.std.proofs.lemmas.Bool.{false≢true, leb-true, le-leb}
 use Rattle.std.proofs.lemmas.Bool.Decides.{Decides-like, Decides-eqb, Decides-not}
 use Rattle.page_bitmap.specs.declared.line.Line.{Line}
 use Rattle.page_alloc.specs.Lists.{In}
-use Rattle.page_alloc.specs.Journal.{Life, open_lives, at_end, Legal, IsBy}
+use Rattle.page_alloc.specs.Lives.{Life, open_lives}
+use Rattle.page_alloc.specs.Journal.{at_end, Legal, IsBy}
 use Rattle.trace_reader.specs.declared.trace.Trace.{Trace}
 use Rattle.trace_reader.specs.declared.trace.Cycle.{Cycle}
 use Rattle.cycle_history.specs.declared.Answer.{Answer}

@@ -6,7 +6,10 @@ use Rattle.page_bitmap.specs.declared.line.Line.{Line}
 use Rattle.page_bitmap.specs.declared.line.Line.TheVariants.{Take, Miss, Give, Scav}
 use Rattle.size_classes.specs.Classes.{pages_of}
 use Rattle.page_alloc.specs.Lists.{In}
-use Rattle.page_alloc.specs.Journal.{owner, unscavenged, backed, Life, open_lives, cycle_of, IsFree, IsFirstFit, HasNoRun, IsSpanSize, IsLoose, IsScavengeRun, MayFollow, IsBy, Legal}
+use Rattle.page_alloc.specs.Owners.{owner, unscavenged, backed}
+use Rattle.page_alloc.specs.Lives.{Life, open_lives}
+use Rattle.page_alloc.specs.FreeRuns.{IsFree, IsFirstFit, HasNoRun, IsSpanSize, IsLoose, IsScavengeRun}
+use Rattle.page_alloc.specs.Journal.{cycle_of, MayFollow, IsBy, Legal}
 use Rattle.report_rows.proofs.Tests.{Decides-then, Decides-else, Decides-implies, all_below, any_in, all_from, Decides-any, Decides-below, Decides-from}
 
 pub Decides-leb : (a b : ℕ) → Decides (leb a b) (a ≤ b)

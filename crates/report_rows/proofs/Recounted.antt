@@ -5,7 +5,7 @@ use Rattle.std.proofs.lemmas.Bool.{cases_Bool, and_left, and_right, and_parts}
 use Rattle.page_bitmap.specs.declared.line.Line.{Line}
 use Rattle.page_bitmap.specs.declared.line.Line.TheVariants.{Take, Miss, Give, Scav}
 use Rattle.page_alloc.specs.Lists.{one_if, count}
-use Rattle.page_alloc.specs.Journal.{Life}
+use Rattle.page_alloc.specs.Lives.{Life}
 use Rattle.span_state.specs.declared.sweep.SweepNote.{SweepNote}
 use Rattle.cycle_history.specs.declared.Total.{Total}
 use Rattle.cycle_history.specs.Needs.{Need}

@@ -4,7 +4,10 @@ use Rattle.std.specs.List.{AllZip}
 use Rattle.std.proofs.lemmas.Bool.Decides.{Decides-like, Decides-eqb, Decides-not}
 use Rattle.page_bitmap.specs.declared.line.Line.{Line}
 use Rattle.page_alloc.specs.Lists.{In}
-use Rattle.page_alloc.specs.Journal.{Life, all_lives, at_end, backed, IsLoose}
+use Rattle.page_alloc.specs.Owners.{backed}
+use Rattle.page_alloc.specs.Lives.{Life, all_lives}
+use Rattle.page_alloc.specs.FreeRuns.{IsLoose}
+use Rattle.page_alloc.specs.Journal.{at_end}
 use Rattle.trace_reader.specs.declared.trace.Trace.{Trace}
 use Rattle.cycle_history.specs.declared.Answer.{Answer}
 use Rattle.cycle_history.specs.declared.Report.{Report}

@@ -6,7 +6,8 @@ use Rattle.std.proofs.lemmas.List.{append_assoc, reverse-append}
 use Rattle.page_bitmap.specs.declared.line.Line.{Line}
 use Rattle.page_bitmap.specs.declared.line.Line.TheVariants.{Take, Miss, Give, Scav}
 use Rattle.page_alloc.specs.Lists.{In, count, one_if}
-use Rattle.page_alloc.specs.Journal.{Life, IsBy, Legal, at_end, cycle_of, open_lives, past_of}
+use Rattle.page_alloc.specs.Lives.{Life, open_lives}
+use Rattle.page_alloc.specs.Journal.{IsBy, Legal, at_end, cycle_of, past_of}
 use Rattle.page_alloc.proofs.Lives.{from_others}
 use Rattle.span_state.specs.declared.sweep.SweepNote.{SweepNote}
 use Rattle.trace_reader.specs.declared.trace.Trace.{Trace}

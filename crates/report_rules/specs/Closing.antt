@@ -3,7 +3,8 @@ use Rattle.std.specs.Prelude.{◌≡◌, ℕ, suc, ◌/◌, ◌<◌, true, List,
 use Rattle.std.specs.List.{slice_get}
 use Rattle.page_bitmap.specs.declared.line.Line.TheVariants.{Give}
 use Rattle.page_alloc.specs.Lists.{In}
-use Rattle.page_alloc.specs.Journal.{Life, past_of, open_lives}
+use Rattle.page_alloc.specs.Lives.{Life, open_lives}
+use Rattle.page_alloc.specs.Journal.{past_of}
 use Rattle.span_state.specs.declared.sweep.SweepNote.{SweepNote}
 use Rattle.cycle_history.specs.declared.Total.{Total}
 use Rattle.cycle_history.specs.declared.Report.{Report}

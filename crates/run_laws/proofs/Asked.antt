@@ -14,13 +14,16 @@ use Rattle.sound_run.proofs.Lasting.{lasts-next}
 use Rattle.page_bitmap.specs.declared.line.Line.{Line}
 use Rattle.page_bitmap.specs.declared.line.Line.TheVariants.{Take, Miss, Give, Scav}
 use Rattle.size_classes.specs.Classes.{pages_of}
-use Rattle.page_alloc.specs.Journal.{Life, open_lives, Legal, IsSpanSize}
+use Rattle.page_alloc.specs.Lives.{Life, open_lives}
+use Rattle.page_alloc.specs.FreeRuns.{IsSpanSize}
+use Rattle.page_alloc.specs.Journal.{Legal}
 use Rattle.page_alloc.proofs.Lives.{from_others}
 use Rattle.cycle_history.specs.Objects.{Object, is_placed}
 use Rattle.run_laws.specs.Lists.{ArePaired}
 use Rattle.worker_log.specs.Logs.{placings, refusals}
 use Rattle.run_laws.specs.CycleSoFar.{CycleSoFar, past_after}
-use Rattle.run_laws.specs.Facts.{IsPlacing, IsRefusal, placed_by, missed_by, Objects}
+use Rattle.run_laws.specs.ObjectFacts.{IsPlacing, IsRefusal, missed_by, Objects}
+use Rattle.cycle_history.specs.Profile.{placed_by}
 use Rattle.run_laws.specs.Asked.{AreAnsweredFrom}
 
 -- with the older ones they are the objects of all requests

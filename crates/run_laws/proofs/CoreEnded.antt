@@ -5,15 +5,17 @@ use Rattle.std.proofs.lemmas.Bool.{cases_eq, cases_lt, cases_Bool, eq-eqb, ne_eq
 use Rattle.page_bitmap.specs.declared.line.Line.{Line}
 use Rattle.page_bitmap.specs.declared.line.Line.TheVariants.{Take, Give}
 use Rattle.page_alloc.specs.Lists.{In}
-use Rattle.page_alloc.specs.Journal.{Life, others, open_lives, Legal}
+use Rattle.page_alloc.specs.Lives.{Life, others, open_lives}
+use Rattle.page_alloc.specs.Journal.{Legal}
 use Rattle.page_alloc.proofs.Lives.{lies, from_others}
 use Rattle.sound_run.specs.Run.{count_for}
-use Rattle.sweep_laws.specs.Needs.{life_in}
+use Rattle.sweep_laws.specs.Reading.{life_in}
 use Rattle.sweep_laws.proofs.Lives.{SamePlace, alike_begins, changed_alike}
 use Rattle.sweep_laws.specs.Named.{begins}
 use Rattle.sweep_laws.specs.Owned.{Owned}
 use Rattle.sweep_laws.specs.State.{LifeState, CoreState}
-use Rattle.sweep_laws.specs.Changes.{change_life, drop_life, new_life, after_take, after_give}
+use Rattle.sweep_laws.specs.ChangesOfLives.{change_life, drop_life, new_life}
+use Rattle.sweep_laws.specs.Changes.{after_take, after_give}
 use Rattle.sweep_laws.proofs.Naming.{times_has}
 use Rattle.run_laws.specs.Lists.{begins_at}
 use Rattle.run_laws.specs.CycleSoFar.{CycleSoFar, past_after}

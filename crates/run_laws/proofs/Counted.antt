@@ -9,7 +9,9 @@ use Rattle.run_laws.specs.Lists.{passing}
 use Rattle.run_laws.specs.CycleSoFar.{CycleSoFar}
 use Rattle.run_laws.specs.Facts.{Facts}
 use Rattle.run_laws.specs.Reached.{Began}
-use Rattle.run_laws.specs.Profile.{Samples, Bucket, is_sample, Calls, AreCalls, sum_below, has_died, FreesByNotes, CountsByWorkers}
+use Rattle.run_laws.specs.Profile.{Calls, AreCalls, sum_below}
+use Rattle.run_laws.specs.CycleCalls.{has_died, FreesByNotes, CountsByWorkers}
+use Rattle.cycle_history.specs.Profile.{Samples, Bucket, is_sample}
 use Rattle.run_laws.proofs.Profile.{count-append, count-none, count-by_proc}
 use Rattle.run_laws.proofs.Freed.{cycle-freed}
 

@@ -3,7 +3,8 @@ use Rattle.std.proofs.Common.{◌≡◌, ◌≢◌, ℕ, suc, ◌-◌, ◌<◌, 
 use Rattle.std.proofs.lemmas.Bool.{cases_lt}
 use Rattle.page_bitmap.specs.declared.line.Line.{Line}
 use Rattle.page_alloc.specs.Lists.{In}
-use Rattle.page_alloc.specs.Journal.{Life, open_lives, at_end, IsBy}
+use Rattle.page_alloc.specs.Lives.{Life, open_lives}
+use Rattle.page_alloc.specs.Journal.{at_end, IsBy}
 use Rattle.span_state.specs.declared.sweep.SweepNote.{SweepNote}
 use Rattle.cycle_history.specs.Requests.{Marking}
 use Rattle.cycle_history.specs.Objects.{Object, is_placed, live, IsHeld, kept}

@@ -5,7 +5,7 @@ use Rattle.std.proofs.lemmas.Bool.{cases_Bool, eq-eqb, eqb-true, le-leb, leb-tru
 use Rattle.std.proofs.lemmas.List.{length-take-le, take-take, reverse-append, reverse-reverse}
 use Rattle.page_bitmap.specs.declared.line.Line.{Line}
 use Rattle.page_alloc.specs.Lists.{In, AllApart, count, one_if}
-use Rattle.page_alloc.specs.Journal.{Life, open_lives}
+use Rattle.page_alloc.specs.Lives.{Life, open_lives}
 use Rattle.page_alloc.proofs.Lives.{same_page}
 use Rattle.span_state.specs.MarkSet.{MarkSet}
 use Rattle.span_state.specs.declared.sweep.SweepNote.{SweepNote}
@@ -25,7 +25,9 @@ use Rattle.sound_run.specs.Run.{IsRun}
 use Rattle.sound_run.proofs.Live.{at_end-now, live-cases, live-of, live-marked}
 use Rattle.sound_run.proofs.Seats.{same_number}
 use Rattle.run_laws.specs.CycleSoFar.{CycleSoFar}
-use Rattle.run_laws.specs.Profile.{Samples, Bucket, Calls, sum_of, has_died, dead_in, KnowsSamples, FreesByNotes}
+use Rattle.run_laws.specs.Profile.{Calls}
+use Rattle.run_laws.specs.CycleCalls.{sum_of, has_died, dead_in, KnowsSamples, FreesByNotes}
+use Rattle.cycle_history.specs.Profile.{Samples, Bucket}
 use Rattle.run_laws.proofs.Asked.{order-all}
 use Rattle.run_laws.proofs.Counted.{count-same}
 use Rattle.run_laws.proofs.Profile.{count-append}

@@ -2,10 +2,12 @@
 use Rattle.std.proofs.Common.{◌≡◌, ℕ, ◌∷◌, sym, ◌∙◌, subst}
 use Rattle.std.specs.Prelude.{None}
 use Rattle.page_alloc.specs.Lists.{In}
-use Rattle.page_alloc.specs.Journal.{Life, open_lives}
+use Rattle.page_alloc.specs.Lives.{Life, open_lives}
 use Rattle.sweep_laws.specs.declared.moves.Move.{Move}
 use Rattle.sweep_laws.specs.declared.moves.Move.TheVariants.{Lock, Unlock, Take, Give, Acquire, Release, Cache, Allocate, Uncache, StaleUncache, Claim, Fill, PopSwept, PopUnswept, DropPopped, Next}
-use Rattle.sweep_laws.specs.Needs.{refusal, hand_of, fill_needs, allocate_needs}
+use Rattle.sweep_laws.specs.Reading.{hand_of}
+use Rattle.sweep_laws.specs.NeedsOfRange.{refusal}
+use Rattle.sweep_laws.specs.Needs.{fill_needs, allocate_needs}
 use Rattle.sweep_laws.specs.Changes.{after_release, after_allocate as core_allocate}
 use Rattle.sweep_laws.specs.Owned.{Owned}
 use Rattle.sweep_laws.specs.State.{CoreState}
@@ -15,10 +17,10 @@ use Rattle.worker_log.specs.declared.Placing.{Placing}
 use Rattle.worker_log.specs.declared.Sweeping.{Sweeping}
 use Rattle.worker_log.specs.declared.Entry.TheVariants.{Swept}
 use Rattle.run_laws.specs.CycleSoFar.{CycleSoFar, past_after}
-use Rattle.run_laws.specs.Facts.{IsIn}
+use Rattle.run_laws.specs.PlacingFacts.{IsIn}
 use Rattle.run_laws.specs.Keeping.{HasOneOf}
 use Rattle.run_laws.specs.Shown.{has_of}
-use Rattle.run_laws.specs.Underway.{put, after_allocate}
+use Rattle.run_laws.specs.Steps.{put, after_allocate}
 use Rattle.run_laws.specs.ShowsCycle.{ShowsCycle}
 use Rattle.run_laws.specs.GoesOn.{GoesOn}
 use Rattle.run_laws.proofs.Moves.{lock-shows, unlock-shows, acquire-shows, stale_uncache-shows, release-shows, cache-shows, uncache-shows, claim-shows, fill-shows, pop_swept-shows, pop_unswept-shows, drop_popped-shows, allocate-shows, take-shows, give-shows}

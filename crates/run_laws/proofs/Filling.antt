@@ -9,7 +9,8 @@ use Rattle.sound_run.specs.Run.{count_for}
 use Rattle.sound_run.specs.Spans.{HasMarkedIndex}
 use Rattle.run_laws.specs.Lists.{ArePaired}
 use Rattle.worker_log.specs.declared.Placing.{Placing}
-use Rattle.run_laws.specs.Facts.{IsPlacing, IsTaken, FillsNext, Fills}
+use Rattle.run_laws.specs.PlacingFacts.{IsTaken, FillsNext, Fills}
+use Rattle.run_laws.specs.ObjectFacts.{IsPlacing}
 use Rattle.run_laws.proofs.Lists.{paired-left, paired-right}
 
 -- each of these objects is placed in the cycle and among all

@@ -2,7 +2,7 @@
 use Rattle.std.proofs.Common.{◌≡◌, ◌≢◌, ℕ, suc, ◌+◌, ◌<◌, Bool, true, ◌&&◌, not, eqb, if◌then◌else◌, List, [], ◌∷◌, ◌++◌, refl, sym, ◌∙◌, ap, arith, inl, inr}
 use Rattle.std.proofs.lemmas.Bool.{cases_Bool, eq-eqb, ne_eqb, and_parts, and_right}
 use Rattle.page_alloc.specs.Lists.{In, AllApart, count, one_if}
-use Rattle.page_alloc.specs.Journal.{Life, open_lives}
+use Rattle.page_alloc.specs.Lives.{Life, open_lives}
 use Rattle.page_alloc.proofs.Lives.{pages-apart}
 use Rattle.span_state.specs.declared.sweep.SweepNote.{SweepNote}
 use Rattle.cycle_history.specs.Requests.{Marking}
@@ -13,7 +13,9 @@ use Rattle.sound_run.proofs.Seats.{same_number}
 use Rattle.run_laws.specs.CycleSoFar.{CycleSoFar}
 use Rattle.run_laws.specs.Facts.{Facts}
 use Rattle.run_laws.specs.Reached.{Began}
-use Rattle.run_laws.specs.Profile.{Samples, Bucket, is_sample, Calls, sum_of, has_died, FreesByNotes}
+use Rattle.run_laws.specs.Profile.{Calls}
+use Rattle.run_laws.specs.CycleCalls.{sum_of, has_died, FreesByNotes}
+use Rattle.cycle_history.specs.Profile.{Samples, Bucket, is_sample}
 use Rattle.run_laws.proofs.Lists.{apart-map}
 use Rattle.run_laws.proofs.Lines.{older-by}
 use Rattle.run_laws.proofs.Profile.{count-old}

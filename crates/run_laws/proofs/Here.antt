@@ -4,7 +4,8 @@ use Rattle.std.proofs.lemmas.Bool.{eqb-true, eq-eqb, and_parts, and_from}
 use Rattle.page_bitmap.specs.declared.line.Line.{Line}
 use Rattle.page_bitmap.specs.declared.line.Line.TheVariants.{Take, Miss, Give, Scav}
 use Rattle.page_alloc.specs.Lists.{In}
-use Rattle.page_alloc.specs.Journal.{cycle_of, Life, open_lives, IsBy, Legal}
+use Rattle.page_alloc.specs.Lives.{Life, open_lives}
+use Rattle.page_alloc.specs.Journal.{cycle_of, IsBy, Legal}
 use Rattle.page_alloc.proofs.Lives.{same_page}
 use Rattle.span_state.specs.Bits.{count_below}
 use Rattle.span_state.specs.declared.sweep.SweepNote.{SweepNote}
@@ -22,7 +23,9 @@ use Rattle.sound_run.proofs.Noted.{note-right}
 use Rattle.worker_log.specs.declared.Placing.{Placing}
 use Rattle.worker_log.specs.Logs.{placings}
 use Rattle.run_laws.specs.CycleSoFar.{CycleSoFar, past_after}
-use Rattle.run_laws.specs.Facts.{IsPlacing, placed_by, AreGivesOld, Facts}
+use Rattle.run_laws.specs.ObjectFacts.{IsPlacing}
+use Rattle.run_laws.specs.Facts.{AreGivesOld, Facts}
+use Rattle.cycle_history.specs.Profile.{placed_by}
 use Rattle.run_laws.specs.Reached.{AreDistinct, Began}
 use Rattle.run_laws.proofs.Lists.{in-right, from-passing, in-passing, paired-left, paired-right}
 use Rattle.run_laws.proofs.Lines.{older-by, life-older, was_open, not_given}

@@ -3,7 +3,7 @@ use Rattle.std.proofs.Common.{◌≡◌, ◌≢◌, ℕ, ◌+◌, ◌<◌, ◌�
 use Rattle.std.proofs.lemmas.Bool.{cases_eq, cases_lt, cases_Bool, or_right}
 use Rattle.page_bitmap.specs.declared.line.Line.{Line}
 use Rattle.page_alloc.specs.Lists.{In}
-use Rattle.page_alloc.specs.Journal.{Life, open_lives}
+use Rattle.page_alloc.specs.Lives.{Life, open_lives}
 use Rattle.page_alloc.proofs.Lives.{same_page}
 use Rattle.span_state.specs.Bits.{with_bit}
 use Rattle.sound_run.specs.Run.{count_for}
@@ -17,8 +17,10 @@ use Rattle.worker_log.specs.declared.Placing.{Placing}
 use Rattle.worker_log.specs.declared.Sweeping.{Sweeping}
 use Rattle.worker_log.specs.Logs.{placings}
 use Rattle.run_laws.specs.CycleSoFar.{CycleSoFar, past_after}
-use Rattle.run_laws.specs.Facts.{IsIn}
-use Rattle.run_laws.specs.Underway.{put, IsUnderway, MayAllocate, MaySweep, after_allocate, after_sweep, after_line}
+use Rattle.run_laws.specs.PlacingFacts.{IsIn}
+use Rattle.run_laws.specs.Underway.{IsUnderway}
+use Rattle.run_laws.specs.StepNeeds.{MayAllocate, MaySweep}
+use Rattle.run_laws.specs.Steps.{put, after_allocate, after_sweep, after_line}
 use Rattle.run_laws.specs.Keeping.{Having, IsOnes, KeepsRoom, HasOneOf}
 use Rattle.run_laws.proofs.Underway.{put_here, put_else, placings-swept, more-placed}
 

@@ -4,7 +4,8 @@ use Rattle.std.proofs.lemmas.Bool.{cases_lt, cases_Bool, and_from, eq-eqb}
 use Rattle.page_bitmap.specs.declared.line.Line.{Line}
 use Rattle.page_bitmap.specs.declared.line.Line.TheVariants.{Take, Miss, Give, Scav}
 use Rattle.page_alloc.specs.Lists.{In, IsNumber}
-use Rattle.page_alloc.specs.Journal.{cycle_of, Life, open_lives, all_lives, at_end}
+use Rattle.page_alloc.specs.Lives.{Life, open_lives, all_lives}
+use Rattle.page_alloc.specs.Journal.{cycle_of, at_end}
 use Rattle.page_alloc.proofs.Lives.{to_others}
 use Rattle.span_state.specs.Bits.{count_below}
 use Rattle.span_state.specs.declared.sweep.SweepNote.{SweepNote}
@@ -26,7 +27,10 @@ use Rattle.worker_log.specs.declared.Sweeping.{Sweeping}
 use Rattle.worker_log.specs.Logs.{Refusal, placings, sweepings, refusals}
 use Rattle.run_laws.specs.CycleSoFar.{CycleSoFar, past_after}
 use Rattle.run_laws.specs.Cycle.{IsCycle, IsNewSeat, AreNotes}
-use Rattle.run_laws.specs.Facts.{IsPlacing, IsRefusal, is_missed, placed_by, missed_by, AreGivesOld, Facts, TellsOf}
+use Rattle.run_laws.specs.SweepFacts.{TellsOf}
+use Rattle.run_laws.specs.ObjectFacts.{IsPlacing, IsRefusal, is_missed, missed_by}
+use Rattle.run_laws.specs.Facts.{AreGivesOld, Facts}
+use Rattle.cycle_history.specs.Profile.{placed_by}
 use Rattle.run_laws.specs.Reached.{Began, Reached}
 use Rattle.run_laws.proofs.Lists.{in-left, in-right, in-cases, apart-append, apart-map, apart-pick, number-kept, number-one, in-passing, passing-apart, paired-right, paired-apart}
 use Rattle.run_laws.proofs.Lines.{at_end-lines, by-lines, older-by, life-older, longer, has_number, number-there, number-absent}

@@ -4,7 +4,8 @@ use Rattle.std.proofs.lemmas.Bool.{cases_Bool, eqb-true, eq-eqb}
 use Rattle.page_bitmap.specs.declared.line.Line.{Line}
 use Rattle.page_bitmap.specs.declared.line.Line.TheVariants.{Take, Miss, Give, Scav}
 use Rattle.page_alloc.specs.Lists.{In}
-use Rattle.page_alloc.specs.Journal.{cycle_of, Life, open_lives, at_end, IsBy, Legal}
+use Rattle.page_alloc.specs.Lives.{Life, open_lives}
+use Rattle.page_alloc.specs.Journal.{cycle_of, at_end, IsBy, Legal}
 use Rattle.page_alloc.proofs.Lives.{from_others, to_others}
 use Rattle.run_laws.specs.Lists.{begins_at}
 use Rattle.cycle_history.specs.Requests.{Marking}

@@ -7,7 +7,8 @@ use mathlib.Core.Option.{some, some-injective}
 use lib.ListN.{get_elem?}
 use Rattle.page_bitmap.specs.declared.line.Line.TheVariants.{Take}
 use Rattle.page_alloc.specs.Lists.{In}
-use Rattle.page_alloc.specs.Journal.{Life, open_lives, MayFollow}
+use Rattle.page_alloc.specs.Lives.{Life, open_lives}
+use Rattle.page_alloc.specs.Journal.{MayFollow}
 use Rattle.span_state.specs.Bits.{count_below}
 use Rattle.sound_run.specs.Run.{count_for}
 use Rattle.sweep_laws.specs.declared.moves.Claimed.{Claimed}
@@ -15,8 +16,13 @@ use Rattle.sweep_laws.specs.declared.moves.Move.TheVariants.{Give as GiveMove}
 use Rattle.sweep_laws.specs.Counts.{times}
 use Rattle.sweep_laws.specs.Lists.{has}
 use Rattle.sweep_laws.specs.Named.{begins}
-use Rattle.sweep_laws.specs.Needs.{refusal, hand_of, set_of, life_of, life_in, no_life, allocated_at, take_needs, give_needs, acquire_needs, release_needs, cache_needs, allocate_needs, uncache_needs, stale_uncache_needs, claim_needs, fill_needs, pop_swept_needs, pop_unswept_needs, drop_popped_needs}
-use Rattle.sweep_laws.specs.Changes.{with_hand, with_word, hold, let_go, start_sweep, end_sweep, put_in_cache, take_from_cache, sweep_from_cache, claim_cell, fill_cell, pop_entry, drop_entry, drop_life, change_life, keep_marked, allocate_index, raise_head, raise_tail, head_base, after_lock, after_unlock, after_take, after_give, after_acquire, after_release, after_cache, after_allocate as core_allocate, after_uncache, after_stale_uncache, after_claim, after_fill, after_fill_of, after_pop_swept, after_pop_unswept, after_drop_popped}
+use Rattle.sweep_laws.specs.Reading.{hand_of, set_of, life_of, life_in, no_life, allocated_at}
+use Rattle.sweep_laws.specs.NeedsOfRange.{refusal}
+use Rattle.sweep_laws.specs.Needs.{take_needs, give_needs, acquire_needs, release_needs, cache_needs, allocate_needs, uncache_needs, stale_uncache_needs, claim_needs, fill_needs, pop_swept_needs, pop_unswept_needs, drop_popped_needs}
+use Rattle.sweep_laws.specs.ChangesOfHands.{hold, let_go, start_sweep, end_sweep, put_in_cache, take_from_cache, sweep_from_cache, claim_cell, fill_cell, pop_entry, drop_entry}
+use Rattle.sweep_laws.specs.ChangesOfLives.{drop_life, change_life, keep_marked, allocate_index}
+use Rattle.sweep_laws.specs.ChangesOfSets.{raise_head, raise_tail, head_base}
+use Rattle.sweep_laws.specs.Changes.{with_hand, with_word, after_lock, after_unlock, after_take, after_give, after_acquire, after_release, after_cache, after_allocate as core_allocate, after_uncache, after_stale_uncache, after_claim, after_fill, after_fill_of, after_pop_swept, after_pop_unswept, after_drop_popped}
 use Rattle.sweep_laws.specs.Owned.{Owned}
 use Rattle.sweep_laws.specs.Standing.{tally}
 use Rattle.sweep_laws.specs.State.{LifeState, SetState, HandState, CoreState}
@@ -30,10 +36,10 @@ use Rattle.sweep_laws.proofs.Standings.{held_list, sweeping_list}
 use Rattle.sweep_laws.proofs.Totals.{times_append, times_end, part_le, inside_at}
 use Rattle.worker_log.specs.declared.Placing.{Placing}
 use Rattle.worker_log.specs.declared.Sweeping.{Sweeping}
-use Rattle.worker_log.specs.Logs.{is_swept_last}
+use Rattle.worker_log.specs.SweptLast.{is_swept_last}
 use Rattle.run_laws.specs.CycleSoFar.{CycleSoFar, past_after}
-use Rattle.run_laws.specs.Facts.{IsIn}
-use Rattle.run_laws.specs.Underway.{after_sweep, after_allocate, after_took, after_gave}
+use Rattle.run_laws.specs.PlacingFacts.{IsIn}
+use Rattle.run_laws.specs.Steps.{after_sweep, after_allocate, after_took, after_gave}
 use Rattle.run_laws.specs.Keeping.{KeepsRoom, HasOneOf}
 use Rattle.run_laws.specs.Shown.{bits_of, marks_of, is_waiting, waits_of, has_of, LivesShown}
 use Rattle.run_laws.specs.ShowsCycle.{ShowsCycle, MayLetGo, IsSweepOf}

@@ -9,7 +9,8 @@ use Rattle.cycle_history.specs.Requests.{Marking}
 use Rattle.cycle_history.specs.Objects.{Object, is_placed, live}
 use Rattle.sound_run.specs.Run.{Lasts}
 use Rattle.sound_run.proofs.Counts.{not_live}
-use Rattle.run_laws.specs.Profile.{Samples, Bucket, is_sample, allocs_at, frees_at, Calls, sum_below, published_allocs, published_frees, AreCalls, bucket_of, IsOf, IsProfile}
+use Rattle.run_laws.specs.Profile.{Calls, sum_below, published_allocs, published_frees, AreCalls}
+use Rattle.cycle_history.specs.Profile.{Samples, Bucket, is_sample, allocs_at, frees_at, bucket_of, IsOf, IsProfile}
 
 -- ---- counts
 

@@ -4,7 +4,8 @@ use Rattle.std.specs.Prelude.{slice_index}
 use Rattle.std.proofs.lemmas.Bool.{cases_eq}
 use Rattle.page_bitmap.specs.declared.line.Line.TheVariants.{Take, Give}
 use Rattle.page_alloc.specs.Lists.{In}
-use Rattle.page_alloc.specs.Journal.{Life, open_lives, MayFollow}
+use Rattle.page_alloc.specs.Lives.{Life, open_lives}
+use Rattle.page_alloc.specs.Journal.{MayFollow}
 use Rattle.span_state.specs.Bits.{count_below, with_bit}
 use Rattle.span_state.specs.Counts.{count_below-same}
 use Rattle.sound_run.specs.Run.{count_for}
@@ -12,16 +13,20 @@ use Rattle.sweep_laws.specs.Named.{begins}
 use Rattle.sweep_laws.specs.Standing.{CoreKept}
 use Rattle.sweep_laws.specs.State.{CoreState}
 use Rattle.sweep_laws.specs.Lists.{has}
-use Rattle.sweep_laws.specs.Needs.{allocated_at}
-use Rattle.sweep_laws.specs.Changes.{drop_life, after_release, after_allocate as core_allocate, after_take, after_give}
+use Rattle.sweep_laws.specs.Reading.{allocated_at}
+use Rattle.sweep_laws.specs.ChangesOfLives.{drop_life}
+use Rattle.sweep_laws.specs.Changes.{after_release, after_allocate as core_allocate, after_take, after_give}
 use Rattle.worker_log.specs.declared.Placing.{Placing}
 use Rattle.worker_log.specs.declared.Sweeping.{Sweeping}
 use Rattle.worker_log.specs.declared.Entry.{Entry}
 use Rattle.worker_log.specs.declared.Entry.TheVariants.{Took, Gave}
-use Rattle.worker_log.specs.Logs.{placings, sweepings, refusals, is_swept_last}
+use Rattle.worker_log.specs.Logs.{placings, sweepings, refusals}
+use Rattle.worker_log.specs.SweptLast.{is_swept_last}
 use Rattle.run_laws.specs.CycleSoFar.{CycleSoFar, past_after}
-use Rattle.run_laws.specs.Facts.{IsIn}
-use Rattle.run_laws.specs.Underway.{put, IsUnderway, MaySweep, after_sweep, after_allocate, after_line, after_took, after_gave}
+use Rattle.run_laws.specs.PlacingFacts.{IsIn}
+use Rattle.run_laws.specs.Underway.{IsUnderway}
+use Rattle.run_laws.specs.StepNeeds.{MaySweep}
+use Rattle.run_laws.specs.Steps.{put, after_sweep, after_allocate, after_line, after_took, after_gave}
 use Rattle.run_laws.specs.Keeping.{HasOneOf, KeepsRoom}
 use Rattle.run_laws.specs.Shown.{bits_of, marks_of, waits_of, has_of, LivesShown}
 use Rattle.run_laws.specs.ShowsCycle.{ShowsCycle}

@@ -4,7 +4,8 @@ use Rattle.std.proofs.lemmas.Bool.{cases_eq, cases_Bool, eq-eqb, eqb-true, or_le
 use Rattle.page_bitmap.specs.declared.line.Line.{Line}
 use Rattle.page_bitmap.specs.declared.line.Line.TheVariants.{Take, Miss, Give, Scav}
 use Rattle.page_alloc.specs.Lists.{In, AllApart}
-use Rattle.page_alloc.specs.Journal.{cycle_of, Life, open_lives, IsBy, Legal, MayFollow}
+use Rattle.page_alloc.specs.Lives.{Life, open_lives}
+use Rattle.page_alloc.specs.Journal.{cycle_of, IsBy, Legal, MayFollow}
 use Rattle.page_alloc.proofs.Lives.{same_page, from_others, to_others}
 use Rattle.span_state.specs.Bits.{count_below, with_bit}
 use Rattle.span_state.specs.Counts.{count_below-none}
@@ -17,8 +18,12 @@ use Rattle.worker_log.specs.declared.Placing.{Placing}
 use Rattle.worker_log.specs.declared.Sweeping.{Sweeping}
 use Rattle.worker_log.specs.Logs.{Refusal, placings, sweepings, refusals}
 use Rattle.run_laws.specs.CycleSoFar.{CycleSoFar, past_after}
-use Rattle.run_laws.specs.Facts.{AreGivesOld, Sweeps, Holdings, Fills, FillsNext, IsTaken}
-use Rattle.run_laws.specs.Underway.{put, IsUnderway, MayAllocate, after_allocate, after_line, MayTake, MayGiveBack, IsFresh}
+use Rattle.run_laws.specs.SweepFacts.{Sweeps}
+use Rattle.run_laws.specs.PlacingFacts.{Holdings, Fills, FillsNext, IsTaken}
+use Rattle.run_laws.specs.Facts.{AreGivesOld}
+use Rattle.run_laws.specs.Underway.{IsUnderway, IsFresh}
+use Rattle.run_laws.specs.StepNeeds.{MayAllocate, MayTake, MayGiveBack}
+use Rattle.run_laws.specs.Steps.{put, after_allocate, after_line}
 use Rattle.run_laws.proofs.Lines.{was_open, longer, by-lines, page-there, page-absent}
 use Rattle.run_laws.proofs.Underway.{put_here, put_else, sweepings-placed, refusals-placed, more-placed, was_placed, now-placed}
 

@@ -4,18 +4,23 @@ use Rattle.std.proofs.lemmas.Bool.{cases_eq, eqb-true, eq-eqb, or_cases, and_par
 use Rattle.page_bitmap.specs.declared.line.Line.{Line}
 use Rattle.page_bitmap.specs.declared.line.Line.TheVariants.{Take, Miss, Give, Scav}
 use Rattle.page_alloc.specs.Lists.{In, IsNumber, AllApart}
-use Rattle.page_alloc.specs.Journal.{Life, open_lives, IsBy, MayFollow}
+use Rattle.page_alloc.specs.Lives.{Life, open_lives}
+use Rattle.page_alloc.specs.Journal.{IsBy, MayFollow}
 use Rattle.page_alloc.proofs.Lives.{to_others}
 use Rattle.sound_run.proofs.Seats.{number-below}
 use Rattle.worker_log.specs.declared.Placing.{Placing}
 use Rattle.worker_log.specs.declared.Sweeping.{Sweeping}
 use Rattle.worker_log.specs.declared.Entry.{Entry}
 use Rattle.worker_log.specs.declared.Entry.TheVariants.{Looked, LookedEmptyCell, Popped, Pushed, Swept, Took, Missed, Gave, Allocated, Found, Read, Added}
-use Rattle.worker_log.specs.Logs.{Refusal, Taking, placings, sweepings, refusals, takings, is_swept_last}
+use Rattle.worker_log.specs.Logs.{Refusal, Taking, placings, sweepings, refusals, takings}
+use Rattle.worker_log.specs.SweptLast.{is_swept_last}
 use Rattle.worker_log.proofs.Logs.{LookAlike}
 use Rattle.run_laws.specs.CycleSoFar.{CycleSoFar, past_after}
-use Rattle.run_laws.specs.Facts.{AreGivesOld, Fills}
-use Rattle.run_laws.specs.Underway.{put, IsUnderway, MaySweep, LogsTell, with_logs, after_sweep, after_allocate, after_line, after_took, after_missed, after_gave}
+use Rattle.run_laws.specs.PlacingFacts.{Fills}
+use Rattle.run_laws.specs.Facts.{AreGivesOld}
+use Rattle.run_laws.specs.Underway.{IsUnderway, LogsTell}
+use Rattle.run_laws.specs.StepNeeds.{MaySweep}
+use Rattle.run_laws.specs.Steps.{put, with_logs, after_sweep, after_allocate, after_line, after_took, after_missed, after_gave}
 use Rattle.run_laws.proofs.Underway.{put_here, put_else}
 use Rattle.run_laws.proofs.Steps.{miss-adds}
 use Rattle.run_laws.proofs.Whole.{refuse-keeps}

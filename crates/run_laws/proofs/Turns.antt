@@ -6,15 +6,20 @@ use Rattle.std.proofs.lemmas.Bool.{cases_eq, cases_lt, cases_Bool, eq-eqb, ne_eq
 use Rattle.page_bitmap.specs.declared.line.Line.{Line}
 use Rattle.page_bitmap.specs.declared.line.Line.TheVariants.{Miss, Scav}
 use Rattle.page_alloc.specs.Lists.{In}
-use Rattle.page_alloc.specs.Journal.{open_lives, IsBy, MayFollow}
+use Rattle.page_alloc.specs.Lives.{open_lives}
+use Rattle.page_alloc.specs.Journal.{IsBy, MayFollow}
 use Rattle.span_state.specs.declared.sweep.SweepNote.{SweepNote}
 use Rattle.cycle_history.specs.Requests.{Marking}
 use Rattle.cycle_history.specs.Objects.{Object}
 use Rattle.cycle_history.specs.Sound.{IsScavenged}
 use Rattle.sweep_laws.specs.Lists.{has}
 use Rattle.sweep_laws.specs.Named.{begins}
-use Rattle.sweep_laws.specs.Needs.{refusal, next_needs, life_in, life_of, no_life, allocated_at, is_idle}
-use Rattle.sweep_laws.specs.Changes.{marks_at, mark_life, after_next}
+use Rattle.sweep_laws.specs.Reading.{life_in, life_of, no_life, allocated_at}
+use Rattle.sweep_laws.specs.NeedsOfRange.{refusal}
+use Rattle.sweep_laws.specs.NeedsOfMarkEnd.{is_idle}
+use Rattle.sweep_laws.specs.Needs.{next_needs}
+use Rattle.sweep_laws.specs.ChangesOfLives.{marks_at, mark_life}
+use Rattle.sweep_laws.specs.Changes.{after_next}
 use Rattle.sweep_laws.specs.Owned.{Owned}
 use Rattle.sweep_laws.specs.State.{LifeState, CoreState}
 use Rattle.sweep_laws.proofs.Forms.{kept_of}
@@ -28,9 +33,12 @@ use Rattle.worker_log.specs.declared.Placing.{Placing}
 use Rattle.worker_log.proofs.Logs.{LookAlike}
 use Rattle.run_laws.specs.Lists.{begins_at}
 use Rattle.run_laws.specs.CycleSoFar.{CycleSoFar, past_after, with_objects}
-use Rattle.run_laws.specs.Facts.{Notes, Marks, Objects, Facts}
+use Rattle.run_laws.specs.SweepFacts.{Notes}
+use Rattle.run_laws.specs.ObjectFacts.{Objects}
+use Rattle.run_laws.specs.Facts.{Marks, Facts}
 use Rattle.run_laws.specs.Occupied.{IsSettled, NamedHaveSome}
-use Rattle.run_laws.specs.Underway.{IsFresh, with_logs, after_line, after_missed}
+use Rattle.run_laws.specs.Underway.{IsFresh}
+use Rattle.run_laws.specs.Steps.{with_logs, after_line, after_missed}
 use Rattle.run_laws.specs.Shown.{waits_of, LivesShown}
 use Rattle.run_laws.specs.ShowsCycle.{ShowsCycle, has_mark, after_mark_end}
 use Rattle.run_laws.proofs.Lines.{by-lines, page-there}
@@ -160,24 +168,24 @@ module _ (region goal : ℕ) (c : CoreState) (e : CycleSoFar) (now : ShowsCycle 
           absurd nothing)
     ]
       where
-        marks-name : Rattle.std.specs.Option.is_some (Rattle.sweep_laws.specs.Needs.wrong_mark c marks) ≡ false → has k (marks_at p marks) ≡ true → has k (life_in p c.lives).allocated ≡ true
+        marks-name : Rattle.std.specs.Option.is_some (Rattle.sweep_laws.specs.NeedsOfMarkEnd.wrong_mark c marks) ≡ false → has k (marks_at p marks) ≡ true → has k (life_in p c.lives).allocated ≡ true
         marks-name none h = named marks (no-wrong marks (Rattle.sweep_laws.proofs.NeedsMet.none_there _ none)) h
           where
-            no-wrong : (ms : List (ℕ × ℕ)) → Rattle.std.specs.Prelude.option_map (λ (mark : ℕ × ℕ). mark.1) (find (λ mark. not (Rattle.sweep_laws.specs.Needs.is_allocated c mark)) ms) ≡ None
-                → find (λ mark. not (Rattle.sweep_laws.specs.Needs.is_allocated c mark)) ms ≡ None
-            no-wrong ms f = go (find (λ mark. not (Rattle.sweep_laws.specs.Needs.is_allocated c mark)) ms) f
+            no-wrong : (ms : List (ℕ × ℕ)) → Rattle.std.specs.Prelude.option_map (λ (mark : ℕ × ℕ). mark.1) (find (λ mark. not (Rattle.sweep_laws.specs.NeedsOfMarkEnd.is_allocated c mark)) ms) ≡ None
+                → find (λ mark. not (Rattle.sweep_laws.specs.NeedsOfMarkEnd.is_allocated c mark)) ms ≡ None
+            no-wrong ms f = go (find (λ mark. not (Rattle.sweep_laws.specs.NeedsOfMarkEnd.is_allocated c mark)) ms) f
               where
                 go : (x : Option (ℕ × ℕ)) → Rattle.std.specs.Prelude.option_map (λ (mark : ℕ × ℕ). mark.1) x ≡ None → x ≡ None
                 go None f = refl
                 go (Some y) f = absurd (Rattle.sweep_laws.proofs.NeedsMet.some_none y.1 f)
 
-            named : (ms : List (ℕ × ℕ)) → find (λ mark. not (Rattle.sweep_laws.specs.Needs.is_allocated c mark)) ms ≡ None → has k (marks_at p ms) ≡ true → has k (life_in p c.lives).allocated ≡ true
+            named : (ms : List (ℕ × ℕ)) → find (λ mark. not (Rattle.sweep_laws.specs.NeedsOfMarkEnd.is_allocated c mark)) ms ≡ None → has k (marks_at p ms) ≡ true → has k (life_in p c.lives).allocated ≡ true
             named [] f h = let nothing : ⊥ = cc in absurd nothing
             named (m ∷ ms) f h =
-                elim (cases_Bool (Rattle.sweep_laws.specs.Needs.is_allocated c m)) [
+                elim (cases_Bool (Rattle.sweep_laws.specs.NeedsOfMarkEnd.is_allocated c m)) [
                   | inr off ↦ (let f' : Some m ≡ None = rw off at f in absurd (Rattle.sweep_laws.proofs.NeedsMet.some_none m f'))
                   | inl on ↦ (
-                      let f' : find (λ mark. not (Rattle.sweep_laws.specs.Needs.is_allocated c mark)) ms ≡ None = rw on at f in
+                      let f' : find (λ mark. not (Rattle.sweep_laws.specs.NeedsOfMarkEnd.is_allocated c mark)) ms ≡ None = rw on at f in
                       elim (cases_eq m.0 p) [
                         | inl here ↦ (
                             let h' : has k (m.1 ∷ marks_at p ms) ≡ true = rw (eq-eqb m.0 p here) at h in

@@ -4,7 +4,8 @@ use Rattle.std.proofs.lemmas.Bool.{cases_eq, eq-eqb, ne_eqb}
 use Rattle.page_bitmap.specs.declared.line.Line.{Line}
 use Rattle.page_bitmap.specs.declared.line.Line.TheVariants.{Take, Miss, Give, Scav}
 use Rattle.page_alloc.specs.Lists.{In, AllApart}
-use Rattle.page_alloc.specs.Journal.{Life, open_lives, Legal}
+use Rattle.page_alloc.specs.Lives.{Life, open_lives}
+use Rattle.page_alloc.specs.Journal.{Legal}
 use Rattle.page_alloc.proofs.Lives.{same_page}
 use Rattle.worker_log.specs.declared.Entry.{Entry}
 use Rattle.worker_log.specs.declared.Entry.TheVariants.{Allocated, Swept}
@@ -12,8 +13,11 @@ use Rattle.worker_log.specs.declared.Placing.{Placing}
 use Rattle.worker_log.specs.declared.Sweeping.{Sweeping}
 use Rattle.worker_log.specs.Logs.{Refusal, placings, sweepings, refusals}
 use Rattle.run_laws.specs.CycleSoFar.{CycleSoFar, past_after}
-use Rattle.run_laws.specs.Facts.{AreGivesOld, Fills}
-use Rattle.run_laws.specs.Underway.{put, IsUnderway, MaySweep, after_sweep}
+use Rattle.run_laws.specs.PlacingFacts.{Fills}
+use Rattle.run_laws.specs.Facts.{AreGivesOld}
+use Rattle.run_laws.specs.Underway.{IsUnderway}
+use Rattle.run_laws.specs.StepNeeds.{MaySweep}
+use Rattle.run_laws.specs.Steps.{put, after_sweep}
 
 -- ---- one place
 

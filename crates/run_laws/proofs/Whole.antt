@@ -13,8 +13,13 @@ use Rattle.worker_log.specs.declared.Placing.{Placing}
 use Rattle.worker_log.specs.declared.Sweeping.{Sweeping}
 use Rattle.worker_log.specs.Logs.{Refusal, placings, sweepings, refusals}
 use Rattle.run_laws.specs.CycleSoFar.{CycleSoFar, past_after, with_objects}
-use Rattle.run_laws.specs.Facts.{AreGivesOld, Notes, Marks, Objects, Fills, Facts}
-use Rattle.run_laws.specs.Underway.{put, IsUnderway, MayRefuse, after_refuse, refusal_entry}
+use Rattle.run_laws.specs.SweepFacts.{Notes}
+use Rattle.run_laws.specs.PlacingFacts.{Fills}
+use Rattle.run_laws.specs.ObjectFacts.{Objects}
+use Rattle.run_laws.specs.Facts.{AreGivesOld, Marks, Facts}
+use Rattle.run_laws.specs.Underway.{IsUnderway}
+use Rattle.run_laws.specs.StepNeeds.{MayRefuse}
+use Rattle.run_laws.specs.Steps.{put, after_refuse, refusal_entry}
 use Rattle.run_laws.proofs.Underway.{put_here, put_else}
 use Rattle.run_laws.proofs.Steps.{HasEnded, ended-sweeps, ended-holdings}
 

@@ -2,21 +2,22 @@
 use Rattle.std.specs.Prelude.{◌≡◌, ℕ, true, Some}
 use Rattle.page_bitmap.specs.declared.line.Line.TheVariants.{Take as TakeLine}
 use Rattle.page_alloc.specs.Lists.{In}
-use Rattle.page_alloc.specs.Journal.{Life, open_lives, MayFollow}
+use Rattle.page_alloc.specs.Lives.{Life, open_lives}
+use Rattle.page_alloc.specs.Journal.{MayFollow}
 use Rattle.sound_run.specs.Run.{count_for}
 use Rattle.sweep_laws.specs.declared.moves.Claimed.{Claimed}
 use Rattle.sweep_laws.specs.declared.moves.Move.{Move}
 use Rattle.sweep_laws.specs.declared.moves.Move.TheVariants.{Lock, Unlock, Take, Give, Acquire, Release, Cache, Allocate, Uncache, StaleUncache, Claim, Fill, PopSwept, PopUnswept, DropPopped, Next}
-use Rattle.sweep_laws.specs.Needs.{hand_of, life_of}
+use Rattle.sweep_laws.specs.Reading.{hand_of, life_of}
 use Rattle.sweep_laws.specs.State.{CoreState}
 use Rattle.worker_log.specs.declared.Placing.{Placing}
 use Rattle.worker_log.specs.declared.Sweeping.{Sweeping}
-use Rattle.worker_log.specs.Logs.{is_swept_last}
+use Rattle.worker_log.specs.SweptLast.{is_swept_last}
 use Rattle.run_laws.specs.CycleSoFar.{CycleSoFar, past_after}
-use Rattle.run_laws.specs.Facts.{IsIn}
+use Rattle.run_laws.specs.PlacingFacts.{IsIn}
 use Rattle.run_laws.specs.Keeping.{HasOneOf}
 use Rattle.run_laws.specs.Shown.{has_of}
-use Rattle.run_laws.specs.Underway.{after_sweep, after_allocate, after_took, after_gave}
+use Rattle.run_laws.specs.Steps.{after_sweep, after_allocate, after_took, after_gave}
 use Rattle.run_laws.specs.ShowsCycle.{MayLetGo, IsSweepOf, after_mark_end}
 
 -- The cycle goes on from e to `next` at a move, where its call may make it: a Release comes with the entry of its sweep, an

@@ -1,11 +1,17 @@
 pub mod Lists
 pub mod CycleSoFar
 pub mod Cycle
+pub mod SweepFacts
+pub mod PlacingFacts
+pub mod ObjectFacts
 pub mod Facts
 pub mod Reached
 pub mod Asked
 pub mod Profile
+pub mod CycleCalls
 pub mod Underway
+pub mod StepNeeds
+pub mod Steps
 pub mod Occupied
 pub mod Keeping
 pub mod Shown

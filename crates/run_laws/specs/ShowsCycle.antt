@@ -5,8 +5,8 @@ use Rattle.page_alloc.specs.Journal.{IsBy}
 use Rattle.span_state.specs.Bits.{count_below}
 use Rattle.sound_run.specs.Run.{count_for}
 use Rattle.sweep_laws.specs.Lists.{has}
-use Rattle.sweep_laws.specs.Changes.{marks_at}
-use Rattle.sweep_laws.specs.Needs.{life_of}
+use Rattle.sweep_laws.specs.ChangesOfLives.{marks_at}
+use Rattle.sweep_laws.specs.Reading.{life_of}
 use Rattle.sweep_laws.specs.State.{CoreState}
 use Rattle.worker_log.specs.declared.Placing.{Placing}
 use Rattle.worker_log.specs.declared.Sweeping.{Sweeping}

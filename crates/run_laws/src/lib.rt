@@ -12,7 +12,7 @@
 ghost use Rattle.std.specs.Prelude.{◌≡◌, ℕ, suc, ◌<◌, ◌≤◌, Bool, ◌&&◌, ◌==◌, List, [], ◌++◌, length, reverse, None};
 ghost use Rattle.page_bitmap.specs.declared.line.Line.{Line};
 ghost use Rattle.page_alloc.specs.Lists.{In, count};
-ghost use Rattle.page_alloc.specs.Journal.{Life, open_lives};
+ghost use Rattle.page_alloc.specs.Lives.{Life, open_lives};
 ghost use Rattle.span_state.specs.MarkSet.{MarkSet};
 ghost use Rattle.span_state.specs.declared.sweep.SweepNote.{SweepNote};
 ghost use Rattle.trace_reader.specs.declared.trace.Trace.{Trace};
@@ -25,31 +25,24 @@ ghost use Rattle.sound_run.specs.Run.{IsRun, Lasts};
 ghost use Rattle.cycle_history.specs.Sweeps.{AreTotals};
 ghost use Rattle.cycle_history.specs.Sound.{past_in, HasAnswers, HasProfile, IsScavenged, IsSoundAndUsed};
 ghost use Rattle.sweep_laws.specs.State.{CoreState};
-ghost use Rattle.sweep_laws.specs.Needs.{refusal, next_needs};
+ghost use Rattle.sweep_laws.specs.NeedsOfRange.{refusal};
+ghost use Rattle.sweep_laws.specs.Needs.{next_needs};
 ghost use Rattle.sweep_laws.specs.Changes.{after_next};
 ghost use Rattle.sweep_laws.specs.Owned.{Owned};
 ghost use Rattle.sweep_laws.specs.Start.{new_state};
 ghost use Rattle.sweep_laws.specs.Step.{needs_of, after};
 ghost use Rattle.sweep_laws.specs.declared.moves.Move.{Move};
 ghost use Rattle.run_laws.specs.CycleSoFar.{CycleSoFar, past_after, with_objects};
-ghost use Rattle.run_laws.specs.Facts.{Facts, Notes, Marks, Objects};
+ghost use Rattle.run_laws.specs.SweepFacts.{Notes};
+ghost use Rattle.run_laws.specs.ObjectFacts.{Objects};
+ghost use Rattle.run_laws.specs.Facts.{Facts, Marks};
 ghost use Rattle.run_laws.specs.Occupied.{NamedHaveSome};
 ghost use Rattle.run_laws.specs.ShowsCycle.{ShowsCycle, after_mark_end, first_cycle};
 ghost use Rattle.run_laws.specs.GoesOn.{GoesOn};
 ghost use Rattle.run_laws.specs.Reached.{Began, Reached};
-ghost use Rattle.run_laws.specs.Profile.{
-  Samples,
-  Bucket,
-  Calls,
-  AreCalls,
-  KnowsSamples,
-  has_died,
-  dead_in,
-  allocs_at,
-  frees_at,
-  published_allocs,
-  published_frees,
-};
+ghost use Rattle.run_laws.specs.Profile.{Calls, AreCalls, published_allocs, published_frees};
+ghost use Rattle.run_laws.specs.CycleCalls.{KnowsSamples, has_died, dead_in};
+ghost use Rattle.cycle_history.specs.Profile.{Samples, Bucket, allocs_at, frees_at};
 
 /// Nothing written and nothing asked is a run as cycle 0 begins.
 pub fn a_run_begins()

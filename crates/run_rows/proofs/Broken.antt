@@ -3,7 +3,8 @@ use Rattle.std.proofs.Common.{◌≡◌, ◌≢◌, ℕ, suc, ◌<◌, ◌≤◌
 use Rattle.page_bitmap.specs.declared.line.Line.{Line}
 use Rattle.page_bitmap.specs.declared.line.Line.TheVariants.{Miss}
 use Rattle.page_alloc.specs.Lists.{In, IsNumber}
-use Rattle.page_alloc.specs.Journal.{Life, life_of, open_lives, at_end}
+use Rattle.page_alloc.specs.Lives.{Life, life_of, open_lives}
+use Rattle.page_alloc.specs.Journal.{at_end}
 use Rattle.span_state.specs.declared.sweep.SweepNote.{SweepNote}
 use Rattle.cycle_history.specs.Objects.{Object, IsHeld, kept, freed}
 use Rattle.cycle_history.specs.Sweeps.{IsNote}

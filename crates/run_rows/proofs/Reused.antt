@@ -5,7 +5,8 @@ use Rattle.std.proofs.lemmas.Bool.{cases_eq, ne_eqb}
 use Rattle.page_bitmap.specs.declared.line.Line.TheVariants.{Take, Give}
 use Rattle.size_classes.specs.Classes.{pages_of, slot_of, objects_of}
 use Rattle.page_alloc.specs.Lists.{In}
-use Rattle.page_alloc.specs.Journal.{life_of, open_lives, IsSpanSize, IsFirstFit}
+use Rattle.page_alloc.specs.Lives.{life_of, open_lives}
+use Rattle.page_alloc.specs.FreeRuns.{IsSpanSize, IsFirstFit}
 use Rattle.page_alloc.proofs.Lives.{within-true}
 use Rattle.span_state.specs.Bits.{count_below}
 use Rattle.span_state.specs.declared.sweep.SweepNote.{SweepNote}
@@ -21,9 +22,12 @@ use Rattle.worker_log.specs.declared.Placing.{Placing}
 use Rattle.worker_log.specs.declared.Sweeping.{Sweeping}
 use Rattle.worker_log.specs.Logs.{placings, sweepings, refusals}
 use Rattle.run_laws.specs.CycleSoFar.{CycleSoFar, past_after, with_objects}
-use Rattle.run_laws.specs.Facts.{Objects, Facts, IsPlacing, IsRefusal, placed_by, missed_by}
+use Rattle.run_laws.specs.ObjectFacts.{Objects, IsPlacing, IsRefusal, missed_by}
+use Rattle.run_laws.specs.Facts.{Facts}
+use Rattle.cycle_history.specs.Profile.{placed_by}
 use Rattle.run_laws.specs.Reached.{Began, Reached}
-use Rattle.run_laws.specs.Underway.{put, IsUnderway, after_sweep, after_allocate, after_line}
+use Rattle.run_laws.specs.Underway.{IsUnderway}
+use Rattle.run_laws.specs.Steps.{put, after_sweep, after_allocate, after_line}
 use Rattle.run_laws.proofs.Underway.{put_here, put_else, placings-swept, sweep-keeps}
 use Rattle.run_laws.proofs.Steps.{allocate-keeps, take-adds, give-adds, fresh-underway}
 use Rattle.run_laws.proofs.Whole.{underway-facts}

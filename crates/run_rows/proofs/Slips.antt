@@ -4,7 +4,7 @@ use Rattle.size_classes.specs.Classes.{objects_of}
 use Rattle.page_bitmap.specs.declared.line.Line.TheVariants.{Take, Miss}
 use Rattle.page_alloc.specs.Lists
 use Rattle.page_alloc.specs.Lists.{In}
-use Rattle.page_alloc.specs.Journal.{Life, life_of}
+use Rattle.page_alloc.specs.Lives.{Life, life_of}
 use Rattle.span_state.specs.Bits.{count_below}
 use Rattle.span_state.specs.declared.sweep.SweepNote.{SweepNote}
 use Rattle.worker_log.specs.declared.Entry.{Entry}
@@ -15,7 +15,10 @@ use Rattle.cycle_history.specs.Objects.{Object}
 use Rattle.cycle_history.specs.Sound.{IsScavenged}
 use Rattle.run_laws.specs.CycleSoFar.{past_after}
 use Rattle.run_laws.specs.Reached.{Began}
-use Rattle.run_laws.specs.Facts.{Writes, Sweeps, Notes, Marks, Places, Holdings, Fills, Objects, Misses}
+use Rattle.run_laws.specs.SweepFacts.{Sweeps, Notes}
+use Rattle.run_laws.specs.PlacingFacts.{Places, Holdings, Fills}
+use Rattle.run_laws.specs.ObjectFacts.{Objects, Misses}
+use Rattle.run_laws.specs.Facts.{Writes, Marks}
 use Rattle.run_rows.specs.TwoWorkers.{All, marked, small, object, at, first, lines0, lines1, bits0, bits1, logs_of, second, note, notes1, cycle1}
 use Rattle.run_rows.specs.Slips.{NoneHas, Begins, marked_again, wrong_lines, wrong_sweeps, wrong_notes, wrong_marks, wrong_places, wrong_bits, wrong_filling, wrong_objects, wrong_refusals}
 use Rattle.run_rows.proofs.TwoWorkers.{each, lives0, lives1, placings1, sweeps1}

@@ -5,7 +5,10 @@ use Rattle.page_bitmap.specs.declared.line.Line.{Line}
 use Rattle.page_bitmap.specs.declared.line.Line.TheVariants.{Take}
 use Rattle.size_classes.specs.Classes.{pages_of, slot_of, objects_of}
 use Rattle.page_alloc.specs.Lists.{In, AllApart}
-use Rattle.page_alloc.specs.Journal.{Life, life_of, open_lives, owner, Legal, IsSpanSize, IsFirstFit, cycle_of}
+use Rattle.page_alloc.specs.Owners.{owner}
+use Rattle.page_alloc.specs.Lives.{Life, life_of, open_lives}
+use Rattle.page_alloc.specs.FreeRuns.{IsSpanSize, IsFirstFit}
+use Rattle.page_alloc.specs.Journal.{Legal, cycle_of}
 use Rattle.page_alloc.proofs.Lives.{within-false}
 use Rattle.span_state.specs.Bits.{count_below}
 use Rattle.span_state.specs.declared.sweep.SweepNote.{SweepNote}
@@ -20,7 +23,11 @@ use Rattle.worker_log.specs.declared.Placing.{Placing}
 use Rattle.worker_log.specs.declared.Sweeping.{Sweeping}
 use Rattle.worker_log.specs.Logs.{Refusal, placings, sweepings, refusals}
 use Rattle.run_laws.specs.CycleSoFar.{past_after}
-use Rattle.run_laws.specs.Facts.{Writes, Sweeps, Notes, Places, Holdings, Objects, Fills, Facts, IsPlacing, IsRefusal, IsPlacedAt, IsIn, TellsOf, IsSweptEmpty, placed_by, missed_by}
+use Rattle.run_laws.specs.SweepFacts.{Sweeps, Notes, TellsOf}
+use Rattle.run_laws.specs.PlacingFacts.{Places, Holdings, Fills, IsPlacedAt, IsIn}
+use Rattle.run_laws.specs.ObjectFacts.{Objects, IsPlacing, IsRefusal, missed_by}
+use Rattle.run_laws.specs.Facts.{Writes, Facts, IsSweptEmpty}
+use Rattle.cycle_history.specs.Profile.{placed_by}
 use Rattle.run_laws.specs.Reached.{Began, Reached}
 use Rattle.run_laws.proofs.Law.{cycle-law}
 use Rattle.run_laws.proofs.Ends.{began-first, began-next}

@@ -6,7 +6,7 @@ use Rattle.std.specs.Prelude.{ℕ, zero, suc, ◌+◌, ◌*◌, Bool, false, ◌
 use Rattle.page_bitmap.specs.declared.line.Line.{Line}
 use Rattle.page_bitmap.specs.declared.line.Line.TheVariants.{Take, Give}
 use Rattle.page_alloc.specs.Lists.{In}
-use Rattle.page_alloc.specs.Journal.{Life, open_lives}
+use Rattle.page_alloc.specs.Lives.{Life, open_lives}
 use Rattle.span_state.specs.declared.sweep.SweepNote.{SweepNote}
 use Rattle.cycle_history.specs.declared.Answer.TheVariants.{Placed}
 use Rattle.cycle_history.specs.Requests.{Marking}

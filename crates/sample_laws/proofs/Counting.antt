@@ -14,7 +14,7 @@ use Rattle.profile_cycle.specs.declared.buckets.Bucket.{Bucket}
 use Rattle.profile_cycle.specs.Naming.{is_same}
 use Rattle.profile_cycle.specs.Sampling.{Countdown}
 use Rattle.run_laws.specs.Asked.{AreAnsweredFrom}
-use Rattle.run_laws.specs.Profile.{Samples, is_sample}
+use Rattle.cycle_history.specs.Profile.{Samples, is_sample}
 use Rattle.sample_laws.specs.By.{answers_by, events_by}
 use Rattle.sample_laws.specs.Counted.{Knows, of_number, sampled_counts}
 use Rattle.sample_laws.specs.Countdowns.{flag, flags, spent}

@@ -14,14 +14,14 @@ use Rattle.trace_reader.specs.Limits.{events_of}
 use Rattle.cycle_history.specs.declared.Answer.{Answer}
 use Rattle.cycle_history.specs.Marked.{AreObjectsBefore}
 use Rattle.cycle_history.specs.Objects.{Object, is_placed}
-use Rattle.cycle_history.specs.Profile.{samples_in}
+use Rattle.cycle_history.specs.Profile.{samples_in, is_sample}
 use Rattle.cycle_history.specs.Sampled.{stack_of}
 use Rattle.cycle_history.proofs.OfObjects.{known}
 use Rattle.cycle_history.proofs.Plain.{request_in}
 use Rattle.profile_cycle.specs.declared.buckets.Bucket.{Bucket}
 use Rattle.profile_cycle.specs.Naming.{is_same}
 use Rattle.run_laws.specs.Asked.{AreAnsweredFrom}
-use Rattle.run_laws.specs.Profile.{KnowsSamples, is_sample}
+use Rattle.run_laws.specs.CycleCalls.{KnowsSamples}
 use Rattle.sample_laws.specs.Counted.{Flags, Knows, events_before}
 use Rattle.sample_laws.specs.Numbers.{IsNamed, number_of, pair_of}
 use Rattle.sample_laws.proofs.Numbered.{at-number, named-place, number-is, number-none}

@@ -10,8 +10,7 @@ use Rattle.cycle_history.proofs.Plain.{request_in}
 use Rattle.profile_cycle.specs.Naming.{slot_for}
 use Rattle.profile_cycle.specs.Sampling.{Countdown, behind, is_sample, is_sampled}
 use Rattle.run_laws.specs.Asked.{AreAnsweredFrom}
-use Rattle.run_laws.specs.Facts.{placed_by}
-use Rattle.run_laws.specs.Profile.{Samples}
+use Rattle.cycle_history.specs.Profile.{placed_by, Samples}
 use Rattle.sample_laws.specs.By.{answers_by, events_by}
 use Rattle.sample_laws.specs.Counted.{Knows}
 use Rattle.sample_laws.specs.Countdowns.{IsSampledTo, flag, flags, slots_by, spends, spent}

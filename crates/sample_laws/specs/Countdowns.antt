@@ -6,7 +6,7 @@ use Rattle.cycle_history.specs.declared.Answer.TheVariants.{Placed, Zero, Missed
 use Rattle.cycle_history.specs.Objects.{Object}
 use Rattle.profile_cycle.specs.Naming.{slot_for}
 use Rattle.profile_cycle.specs.Sampling.{Countdown, behind, countdown, is_sample, sampled}
-use Rattle.run_laws.specs.Facts.{placed_by}
+use Rattle.cycle_history.specs.Profile.{placed_by}
 
 -- An object with this answer is sampled by the countdown where it is placed.
 abbrev pub flag : Countdown → Event → Answer → Bool

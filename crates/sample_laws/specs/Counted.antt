@@ -6,7 +6,8 @@ use Rattle.trace_reader.specs.declared.trace.Trace.{Trace}
 use Rattle.trace_reader.specs.declared.trace.Cycle.{Cycle}
 use Rattle.trace_reader.specs.declared.trace.Event.{Event}
 use Rattle.cycle_history.specs.Objects.{Object}
-use Rattle.run_laws.specs.Profile.{Samples, sum_below}
+use Rattle.run_laws.specs.Profile.{sum_below}
+use Rattle.cycle_history.specs.Profile.{Samples}
 
 -- A sampled object counts one for the bucket whose number it has.
 abbrev pub one_count : Bool → ℕ → ℕ → ℕ

@@ -5,7 +5,9 @@ use Rattle.page_bitmap.specs.CountLaws.{count_below-all, count_below-le, count_b
 use Rattle.page_bitmap.specs.declared.line.Line.{Line}
 use Rattle.page_bitmap.specs.declared.line.Line.TheVariants.{Scav}
 use Rattle.page_bitmap.specs.declared.line.Run.{Run}
-use Rattle.page_alloc.specs.Journal.{IsScavengeRun, Legal, backed, owner, unscavenged, within}
+use Rattle.page_alloc.specs.Owners.{backed, owner, unscavenged, within}
+use Rattle.page_alloc.specs.FreeRuns.{IsScavengeRun}
+use Rattle.page_alloc.specs.Journal.{Legal}
 use Rattle.page_alloc.proofs.Lives.{within-false, within-true}
 use Rattle.cycle_history.specs.Sound.{IsScavenged}
 use Rattle.span_laws.specs.Views.{Seen}

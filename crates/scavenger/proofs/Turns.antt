@@ -1,13 +1,17 @@
 -- The steps of a call, one after another.
 use Rattle.std.proofs.Common.{◌≡◌, ◌⊎◌, ℕ, ◌+◌, ◌<◌, ◌≤◌, List, [], ◌∷◌, length, Option, Some, None, is_some, true, false, Ok, Err, inl, inr, refl, ◌∙◌, ap, subst, arith}
 use Rattle.fallible_list.specs.declared.list.NoMemory.{NoMemory}
-use Rattle.page_alloc.specs.Journal.{IsLoose, Legal, backed}
+use Rattle.page_alloc.specs.Owners.{backed}
+use Rattle.page_alloc.specs.FreeRuns.{IsLoose}
+use Rattle.page_alloc.specs.Journal.{Legal}
 use Rattle.page_bitmap.specs.declared.line.Line.{Line}
 use Rattle.page_bitmap.specs.declared.line.Line.TheVariants.{Scav}
 use Rattle.page_bitmap.specs.declared.line.Run.{Run}
 use Rattle.span_laws.specs.declared.answers.Step.{Step}
-use Rattle.span_laws.specs.Answers.{IsToldOf, Released, StepsOnce, cycle_at, past_scavenged}
-use Rattle.span_laws.specs.Views.{Seen, knows}
+use Rattle.span_laws.specs.TakeAnswers.{IsToldOf, cycle_at}
+use Rattle.span_laws.specs.ScavengeAnswers.{Released, StepsOnce, past_scavenged}
+use Rattle.span_laws.specs.Views.{Seen}
+use Rattle.span_laws.specs.Handed.{knows}
 use Rattle.scavenger.specs.declared.scavenge.Reason.{Reason}
 use Rattle.scavenger.specs.declared.scavenge.Reason.TheVariants.{AtGoal, NoCandidate, TurnsSpent}
 use Rattle.scavenger.specs.Scavenges.{IsReason, Releases, Scavenges, StopsFor, behind}

@@ -2,12 +2,15 @@
 use Rattle.std.specs.Prelude.{◌≡◌, ◌⊎◌, ℕ, ◌<◌, ◌≤◌, List, [], ◌∷◌, ◌++◌, length, Some, Result, Ok, Err}
 use Rattle.fallible_list.specs.declared.list.NoMemory.{NoMemory}
 use Rattle.cycle_history.specs.Sound.{IsScavenged}
-use Rattle.page_alloc.specs.Journal.{IsLoose, Legal, backed}
+use Rattle.page_alloc.specs.Owners.{backed}
+use Rattle.page_alloc.specs.FreeRuns.{IsLoose}
+use Rattle.page_alloc.specs.Journal.{Legal}
 use Rattle.page_bitmap.specs.declared.line.Line.{Line}
 use Rattle.page_bitmap.specs.declared.line.Line.TheVariants.{Scav}
 use Rattle.page_bitmap.specs.declared.line.Run.{Run}
-use Rattle.span_laws.specs.Answers.{IsToldOf, cycle_at}
-use Rattle.span_laws.specs.Views.{Seen, knows}
+use Rattle.span_laws.specs.TakeAnswers.{IsToldOf, cycle_at}
+use Rattle.span_laws.specs.Views.{Seen}
+use Rattle.span_laws.specs.Handed.{knows}
 use Rattle.scavenger.specs.declared.scavenge.Reason.{Reason}
 use Rattle.scavenger.specs.declared.scavenge.Reason.TheVariants.{AtGoal, NoCandidate, TurnsSpent}
 use Rattle.scavenger.specs.declared.scavenge.Stopped.{Stopped}

@@ -4,7 +4,8 @@ use Rattle.std.proofs.lemmas.Bool.{ne_eqb, and_from, and_left, and_right, or_fro
 use Rattle.page_bitmap.specs.declared.line.Line.{Line}
 use Rattle.page_bitmap.specs.declared.line.Line.TheVariants.{Take, Miss, Give, Scav}
 use Rattle.page_alloc.specs.Lists.{In, one_if}
-use Rattle.page_alloc.specs.Journal.{Life, IsBy, Legal}
+use Rattle.page_alloc.specs.Lives.{Life}
+use Rattle.page_alloc.specs.Journal.{IsBy, Legal}
 use Rattle.span_state.specs.declared.sweep.SweepNote.{SweepNote}
 use Rattle.cycle_history.specs.Requests.{Marking}
 use Rattle.cycle_history.specs.Objects.{Object, is_placed, live, kept, freed}

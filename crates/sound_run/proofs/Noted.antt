@@ -1,7 +1,7 @@
 -- The note of a sweep is right.
 use Rattle.std.proofs.Common.{◌≡◌, ℕ, suc, Bool, ◌&&◌, not, List, sym, ◌∙◌}
 use Rattle.page_bitmap.specs.declared.line.Line.{Line}
-use Rattle.page_alloc.specs.Journal.{Life}
+use Rattle.page_alloc.specs.Lives.{Life}
 use Rattle.span_state.specs.Bits.{count_below}
 use Rattle.span_state.specs.declared.sweep.SweepNote.{SweepNote}
 use Rattle.cycle_history.specs.Requests.{Marking}

@@ -3,7 +3,8 @@ use Rattle.std.proofs.Common.{◌≡◌, ◌≢◌, ℕ, suc, ◌-◌, ◌<◌, 
 use Rattle.std.proofs.lemmas.Bool.{cases_eq, eqb-true, eq-eqb, and_parts, and_from, not-true, not_from_false, false_from_ne_true}
 use Rattle.page_bitmap.specs.declared.line.Line.{Line}
 use Rattle.page_alloc.specs.Lists.{In, AllApart}
-use Rattle.page_alloc.specs.Journal.{Life, at_end}
+use Rattle.page_alloc.specs.Lives.{Life}
+use Rattle.page_alloc.specs.Journal.{at_end}
 use Rattle.span_state.specs.Bits.{count_below}
 use Rattle.cycle_history.specs.Requests.{Request, Marking}
 use Rattle.cycle_history.specs.Objects.{Object, is_placed, live, kept, freed}

@@ -3,7 +3,8 @@ use Rattle.std.specs.Prelude.{◌≡◌, ℕ, suc, ◌*◌, ◌/◌, ◌<◌, �
 use Rattle.page_bitmap.specs.declared.line.Line.{Line}
 use Rattle.size_classes.specs.Classes.{slot_of, objects_of}
 use Rattle.page_alloc.specs.Lists.{In}
-use Rattle.page_alloc.specs.Journal.{Life, open_lives, at_end, IsBy, Legal}
+use Rattle.page_alloc.specs.Lives.{Life, open_lives}
+use Rattle.page_alloc.specs.Journal.{at_end, IsBy, Legal}
 use Rattle.cycle_history.specs.Needs.{Need}
 use Rattle.cycle_history.specs.Requests.{Marking}
 use Rattle.cycle_history.specs.Objects.{Object, is_placed, live, Sits}

@@ -10,7 +10,7 @@
 ghost use Rattle.std.specs.Prelude.{◌≡◌, ℕ, suc, Bool, List};
 ghost use Rattle.page_bitmap.specs.declared.line.Line.{Line};
 ghost use Rattle.page_alloc.specs.Lists.{In};
-ghost use Rattle.page_alloc.specs.Journal.{Life, open_lives};
+ghost use Rattle.page_alloc.specs.Lives.{Life, open_lives};
 ghost use Rattle.span_state.specs.MarkSet.{MarkSet, is_marked};
 ghost use Rattle.trace_reader.specs.declared.trace.Trace.{Trace};
 ghost use Rattle.cycle_history.specs.declared.Answer.{Answer};

@@ -6,7 +6,9 @@ use Rattle.std.proofs.lemmas.Bool.{lt-ltb}
 use Rattle.sweep_laws.specs.State.{HandState, CoreState}
 use Rattle.sweep_laws.specs.Lists.{has}
 use Rattle.sweep_laws.specs.Counts.{times}
-use Rattle.sweep_laws.specs.Needs.{acquire_needs, allocated_at, give_needs, hand_of, cell_of, class_of_set, is_swept_set, no_set, set_of, pop_swept_needs, lock_needs, unlock_needs, take_needs, refusal, release_needs, cache_needs, uncache_needs, stale_uncache_needs}
+use Rattle.sweep_laws.specs.Reading.{allocated_at, hand_of, cell_of, class_of_set, is_swept_set, no_set, set_of}
+use Rattle.sweep_laws.specs.NeedsOfRange.{refusal}
+use Rattle.sweep_laws.specs.Needs.{acquire_needs, give_needs, pop_swept_needs, lock_needs, unlock_needs, take_needs, release_needs, cache_needs, uncache_needs, stale_uncache_needs}
 use Rattle.sweep_laws.specs.Standing.{tally}
 use Rattle.sweep_laws.proofs.Naming.{has_times}
 use Rattle.sweep_laws.proofs.NeedsMet.{none_refuses}
@@ -17,7 +19,8 @@ use Rattle.span_laws.specs.declared.view.View.{View}
 use Rattle.page_alloc.specs.Heap.{PageHeap}
 use Rattle.span_laws.specs.Rule.{Rule}
 use Rattle.span_state.specs.declared.body.Body.{Body}
-use Rattle.sweep_laws.specs.Owned.{IsPage, Owned}
+use Rattle.sweep_laws.specs.OwnedSets.{IsPage}
+use Rattle.sweep_laws.specs.Owned.{Owned}
 use Rattle.sweep_laws.specs.Named.{claimers, is_class}
 use Rattle.sweep_laws.proofs.Naming.{at_low}
 use Rattle.std.proofs.Common.{ne_eqb}

@@ -8,7 +8,7 @@ use native.Mathlib.Decide.{ℕ_discrete}
 use Rattle.page_bitmap.specs.declared.line.Line.{Line}
 use Rattle.span_state.specs.declared.body.Body.{Body}
 use Rattle.sweep_laws.specs.Named.{begins}
-use Rattle.sweep_laws.specs.Needs.{life_in}
+use Rattle.sweep_laws.specs.Reading.{life_in}
 use Rattle.sweep_laws.specs.State.{LifeState}
 use Rattle.sweep_laws.proofs.Naming.{at_set, set_here}
 use Rattle.sweep_laws.proofs.Totals.{inside_at}

@@ -5,7 +5,7 @@ use Rattle.span_state.specs.declared.sweep.SweepNote.{SweepNote}
 use Rattle.sweep_laws.specs.Counts.{times, total}
 use Rattle.worker_log.specs.declared.Entry.{Entry}
 use Rattle.worker_log.specs.declared.Entry.TheVariants.{Looked, LookedEmptyCell, Popped, Pushed, Swept, Took, Missed, Gave, Allocated, Found, Read, Added}
-use Rattle.worker_log.specs.Logs.{is_placing_in, many}
+use Rattle.worker_log.specs.Entries.{is_placing_in, many}
 use Rattle.span_laws.specs.Asks.{mine}
 use Rattle.span_laws.specs.Calls.{Keeps, added, is_placing, note_in, notes_of, swept_pages}
 use Rattle.span_laws.specs.Views.{Seen, acts, span_at}

@@ -11,20 +11,23 @@ use Rattle.page_bitmap.specs.declared.line.Line.TheVariants.{Take as TakeLine}
 use Rattle.span_state.specs.declared.body.Body.{Body}
 use Rattle.sweep_laws.specs.Changes.{after_acquire, after_claim, after_pop_swept, after_take}
 use Rattle.sweep_laws.specs.Lists.{has}
-use Rattle.sweep_laws.specs.Needs.{cell_of, is_swept_set, set_of}
+use Rattle.sweep_laws.specs.Reading.{cell_of, is_swept_set, set_of}
 use Rattle.sweep_laws.specs.Owned.{Owned}
 use Rattle.sweep_laws.specs.State.{CoreState}
 use Rattle.sweep_laws.specs.Tidy.{IsTidy, HasSpace}
-use Rattle.worker_log.specs.Logs.{is_pop_of, many}
-use Rattle.span_laws.specs.Answers.{IsNew, IsOfSet}
-use Rattle.span_laws.specs.Asks.{HasBody, HasMarked, IsOfPops, IsTaken, IsUntouched, mine}
+use Rattle.worker_log.specs.Entries.{is_pop_of, many}
+use Rattle.span_laws.specs.TakeAnswers.{IsNew}
+use Rattle.span_laws.specs.Answers.{IsOfSet}
+use Rattle.span_laws.specs.BodyAsks.{HasMarked}
+use Rattle.span_laws.specs.Asks.{HasBody, IsOfPops, IsTaken, IsUntouched, mine}
 use Rattle.span_laws.specs.Bodies.{Fits}
 use Rattle.span_laws.specs.Rule.{Rule}
 use Rattle.span_laws.specs.Truth.{IsSoOf}
 use Rattle.span_laws.specs.declared.said.Said.TheVariants.{Claims}
 use Rattle.span_laws.specs.declared.said.SaidOf.TheVariants.{Acquires, Pops, Takes}
 use Rattle.span_laws.specs.declared.view.View.{View}
-use Rattle.span_laws.specs.Views.{acts, has_cell, span_of, told, told_of}
+use Rattle.span_laws.specs.Views.{acts, has_cell, span_of}
+use Rattle.span_laws.specs.OwnSteps.{told, told_of}
 use Rattle.span_laws.proofs.LifeMoves.{free_has, free_unsettled, take_keeps}
 use Rattle.span_laws.proofs.Notes.{life_keeps, room_keeps}
 use Rattle.span_laws.proofs.RuleKept.{part_at}

@@ -4,7 +4,9 @@ use Rattle.std.specs.Prelude.{Option}
 use mathlib.Core.Logic.{dite}
 use native.Mathlib.Decide.{dec_le}
 use Rattle.page_alloc.specs.Heap.{PageHeap}
-use Rattle.page_alloc.specs.Journal.{IsSpanSize, Legal, Life, life_of, open_lives}
+use Rattle.page_alloc.specs.Lives.{Life, life_of, open_lives}
+use Rattle.page_alloc.specs.FreeRuns.{IsSpanSize}
+use Rattle.page_alloc.specs.Journal.{Legal}
 use Rattle.page_alloc.specs.Lists.{In}
 use Rattle.page_alloc.proofs.Lives.{from_others}
 use Rattle.page_bitmap.specs.declared.line.Line.{Line}

@@ -14,15 +14,15 @@ use Rattle.sweep_laws.specs.State.{CoreState}
 use Rattle.sweep_laws.proofs.Naming.{set_here}
 use Rattle.swept_set_laws.specs.Entered.{log_of}
 use Rattle.worker_log.specs.declared.Entry.{Entry}
-use Rattle.worker_log.specs.Logs.{is_placing_in, many}
+use Rattle.worker_log.specs.Entries.{is_placing_in, many}
 use Rattle.worker_log.proofs.Logs.{LookAlike}
 use Rattle.run_laws.specs.CycleSoFar.{CycleSoFar}
 use Rattle.run_laws.specs.Shown.{bits_of}
 use Rattle.run_laws.specs.ShowsCycle.{ShowsCycle}
-use Rattle.run_laws.specs.Underway.{put}
+use Rattle.run_laws.specs.Steps.{put}
 use Rattle.run_laws.proofs.Turns.{logs-show}
 use Rattle.run_laws.proofs.Underway.{put_here, put_else}
-use Rattle.span_laws.specs.Answers.{cycle_at}
+use Rattle.span_laws.specs.TakeAnswers.{cycle_at}
 use Rattle.span_laws.specs.Cycle.{IsClaimUnplaced, KeepsCycle, cycle_seen}
 use Rattle.span_laws.specs.Rule.{Rule, logs_of}
 use Rattle.span_laws.specs.Views.{acts}

@@ -5,7 +5,8 @@ use mathlib.Core.Logic.{dite}
 use mathlib.Core.Option.{some-injective}
 use native.Mathlib.Decide.{dec_le}
 use Rattle.page_alloc.specs.Heap.{PageHeap}
-use Rattle.page_alloc.specs.Journal.{Life, MayFollow, life_of, open_lives}
+use Rattle.page_alloc.specs.Lives.{Life, life_of, open_lives}
+use Rattle.page_alloc.specs.Journal.{MayFollow}
 use Rattle.page_alloc.specs.Lists.{In}
 use Rattle.page_bitmap.specs.declared.line.Line.{Line}
 use Rattle.page_bitmap.specs.declared.line.Line.TheVariants.{Take as TakeLine, Give as GiveLine}
@@ -18,7 +19,9 @@ use Rattle.span_state.specs.declared.body.Body.{Body}
 use Rattle.sweep_laws.specs.Changes.{after_allocate, after_give, after_lock, after_release, after_take}
 use Rattle.sweep_laws.specs.Counts.{times}
 use Rattle.sweep_laws.specs.Lists.{has}
-use Rattle.sweep_laws.specs.Needs.{allocate_needs, give_needs, life_in, lock_needs, refusal, release_needs, take_needs}
+use Rattle.sweep_laws.specs.Reading.{life_in}
+use Rattle.sweep_laws.specs.NeedsOfRange.{refusal}
+use Rattle.sweep_laws.specs.Needs.{allocate_needs, give_needs, lock_needs, release_needs, take_needs}
 use Rattle.sweep_laws.specs.Owned.{Owned}
 use Rattle.sweep_laws.specs.Standing.{tally}
 use Rattle.sweep_laws.specs.State.{CoreState, HandState}
@@ -31,19 +34,21 @@ use Rattle.sweep_laws.proofs.Totals.{part_le}
 use Rattle.worker_log.specs.declared.Entry.TheVariants.{Swept, Took, Gave, Allocated}
 use Rattle.worker_log.specs.declared.Placing.{Placing}
 use Rattle.worker_log.specs.declared.Sweeping.{Sweeping}
-use Rattle.worker_log.specs.Logs.{is_placing_in, is_swept_last, many}
-use Rattle.run_laws.specs.Facts.{IsIn}
+use Rattle.worker_log.specs.SweptLast.{is_swept_last}
+use Rattle.worker_log.specs.Entries.{is_placing_in, many}
+use Rattle.run_laws.specs.PlacingFacts.{IsIn}
 use Rattle.run_laws.specs.Keeping.{HasOneOf}
 use Rattle.run_laws.specs.Shown.{bits_of, has_of, marks_of}
 use Rattle.run_laws.specs.ShowsCycle.{IsSweepOf, ShowsCycle}
-use Rattle.run_laws.specs.Underway.{after_gave, after_took}
+use Rattle.run_laws.specs.Steps.{after_gave, after_took}
 use Rattle.run_laws.proofs.Moves.{allocate-shows, give-shows, lock-shows, release-shows, take-shows, unlock-shows}
-use Rattle.span_laws.specs.Answers.{cycle_at}
+use Rattle.span_laws.specs.TakeAnswers.{cycle_at}
 use Rattle.span_laws.specs.Bodies.{Fits, IsWaiting, lends}
 use Rattle.span_laws.specs.Cycle.{KeepsCycle}
 use Rattle.span_laws.specs.Rule.{Rule}
 use Rattle.span_laws.specs.Suits.{IsPlaceOf, PlacesAlone, WasLent}
-use Rattle.span_laws.specs.Views.{acts, hand_state, no_span, span_at, told, told_of}
+use Rattle.span_laws.specs.Views.{acts, hand_state, no_span, span_at}
+use Rattle.span_laws.specs.OwnSteps.{told, told_of}
 use Rattle.span_laws.specs.declared.said.Said.TheVariants.{Gives}
 use Rattle.span_laws.specs.declared.said.SaidOf.TheVariants.{Places, Releases, Takes}
 use Rattle.span_laws.specs.declared.view.Span.{Span}

@@ -1,7 +1,7 @@
 -- The pairs of a first page and an index that are allocated as a cycle ends, by the marks and the logs.
 use Rattle.std.proofs.Common.{◌≡◌, ℕ, zero, suc, inl, inr, ⊎_elim, Bool, ◌&&◌, ◌||◌, eqb, eq-eqb, true, false, List, [], ◌∷◌, ◌++◌, map, get_or, refl, sym, ap, subst, ◌∙◌}
 use Rattle.std.proofs.lemmas.Bool.{cases_Bool, eqb-true}
-use Rattle.page_alloc.specs.Journal.{Life, open_lives}
+use Rattle.page_alloc.specs.Lives.{Life, open_lives}
 use Rattle.page_alloc.specs.Lists.{In}
 use Rattle.span_state.specs.MarkSet.{has_pair}
 use Rattle.sweep_laws.specs.State.{CoreState}
@@ -18,7 +18,7 @@ use Rattle.sound_run.proofs.Seats.{same_number}
 use Rattle.sweep_laws.specs.Lists.{has}
 use Rattle.sweep_laws.specs.Named.{begins}
 use Rattle.sweep_laws.specs.State.{LifeState}
-use Rattle.span_laws.specs.Views.{placed_pairs}
+use Rattle.span_laws.specs.MarkEnds.{placed_pairs}
 use Rattle.span_laws.specs.declared.view.Part.{Part}
 
 or_right : (a b : Bool) → b ≡ true → (a || b) ≡ true
@@ -86,7 +86,7 @@ module _ (region goal : ℕ) (c : CoreState) (e : CycleSoFar) (s : ShowsCycle re
   has_bit : (p j : ℕ) → bits_of c p j ≡ true → has_pair (marks ++ placed_pairs parts) p j ≡ true
   has_bit p j on = elim (cases_Bool (begins p c.lives)) [
     | inr isnt ↦ (
-        let none : has j (let l : LifeState = Rattle.sweep_laws.specs.Needs.life_in p c.lives in l).allocated ≡ false = ap (λ (l : LifeState). has j l.allocated) (absent-life p c.lives isnt) in
+        let none : has j (let l : LifeState = Rattle.sweep_laws.specs.Reading.life_in p c.lives in l).allocated ≡ false = ap (λ (l : LifeState). has j l.allocated) (absent-life p c.lives isnt) in
         let nothing : ⊥ = cc in
         absurd nothing)
     | inl is ↦ by_life (page-there p (open_lives (past_after e)) (sym (s.lives.begin p) ∙ is))

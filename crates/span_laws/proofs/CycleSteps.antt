@@ -7,8 +7,10 @@ use Rattle.page_bitmap.specs.Counts.{one_if}
 use Rattle.span_state.specs.declared.body.Body.{Body}
 use Rattle.sound_run.specs.Run.{count_for}
 use Rattle.sweep_laws.specs.Changes.{after_acquire, after_claim, after_pop_swept}
-use Rattle.sweep_laws.specs.Needs.{acquire_needs, claim_needs, hand_of, life_in, pop_swept_needs, refusal}
-use Rattle.sweep_laws.specs.Owned.{ClaimFits}
+use Rattle.sweep_laws.specs.Reading.{hand_of, life_in}
+use Rattle.sweep_laws.specs.NeedsOfRange.{refusal}
+use Rattle.sweep_laws.specs.Needs.{acquire_needs, claim_needs, pop_swept_needs}
+use Rattle.sweep_laws.specs.OwnedSets.{ClaimFits}
 use Rattle.sweep_laws.specs.State.{CoreState, HandState}
 use Rattle.sweep_laws.specs.Step.{after, needs_of}
 use Rattle.sweep_laws.specs.declared.moves.Claimed.{Claimed}
@@ -16,7 +18,9 @@ use Rattle.swept_set_laws.specs.Entered.{is_full_life}
 use Rattle.worker_log.specs.declared.Entry.{Entry}
 use Rattle.worker_log.specs.declared.Entry.TheVariants.{Looked, LookedEmptyCell, Popped, Pushed, Swept, Took, Missed, Gave, Allocated, Found, Read, Added}
 use Rattle.worker_log.specs.declared.Placing.{Placing}
-use Rattle.worker_log.specs.Logs.{is_full_set, is_placing_in, many, placings}
+use Rattle.worker_log.specs.Logs.{placings}
+use Rattle.worker_log.specs.SetNumbers.{is_full_set}
+use Rattle.worker_log.specs.Entries.{is_placing_in, many}
 use Rattle.worker_log.proofs.Logs.{all-alike, quiet-alike}
 use Rattle.run_laws.specs.Shown.{bits_of}
 use Rattle.run_laws.specs.ShowsCycle.{MayLetGo}
@@ -25,7 +29,8 @@ use Rattle.span_laws.specs.Cycle.{KeepsCycle}
 use Rattle.span_laws.specs.Moves.{move_of}
 use Rattle.span_laws.specs.Rule.{Rule}
 use Rattle.span_laws.specs.Suits.{IsQuiet, Suits}
-use Rattle.span_laws.specs.Views.{acts, hand_state, span_of, told, told_of}
+use Rattle.span_laws.specs.Views.{acts, hand_state, span_of}
+use Rattle.span_laws.specs.OwnSteps.{told, told_of}
 use Rattle.span_laws.specs.declared.said.Said.{Said}
 use Rattle.span_laws.specs.declared.said.Said.TheVariants.{Finds, Caches, Uncaches, UncachesStale, Looks, LooksCell, Claims, Fills, PopsEntry, Reads, Adds, Resets}
 use Rattle.span_laws.specs.declared.said.SaidOf.TheVariants.{Acquires, Pops}

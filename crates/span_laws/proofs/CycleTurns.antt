@@ -18,8 +18,9 @@ use Rattle.span_state.specs.declared.body.Body.{Body}
 use Rattle.sweep_laws.specs.Changes.{after_next}
 use Rattle.sweep_laws.specs.Counts.{times}
 use Rattle.sweep_laws.specs.Lists.{has, rises}
-use Rattle.sweep_laws.specs.Needs.{next_needs, refusal}
-use Rattle.sweep_laws.specs.Owned.{EachAt}
+use Rattle.sweep_laws.specs.NeedsOfRange.{refusal}
+use Rattle.sweep_laws.specs.Needs.{next_needs}
+use Rattle.sweep_laws.specs.OwnedLives.{EachAt}
 use Rattle.sweep_laws.specs.Start.{new_state}
 use Rattle.sweep_laws.specs.State.{CoreState, HandState}
 use Rattle.sweep_laws.proofs.Naming.{at_low, set_here, times_has}
@@ -28,7 +29,7 @@ use Rattle.swept_set_laws.proofs.EachMove.{entered_some}
 use Rattle.swept_set_laws.specs.Entered.{log_of}
 use Rattle.worker_log.specs.declared.Entry.{Entry}
 use Rattle.worker_log.specs.declared.Entry.TheVariants.{Missed}
-use Rattle.worker_log.specs.Logs.{is_placing_in, many}
+use Rattle.worker_log.specs.Entries.{is_placing_in, many}
 use Rattle.run_laws.specs.CycleSoFar.{CycleSoFar}
 use Rattle.run_laws.specs.Occupied.{NamedHaveSome}
 use Rattle.run_laws.specs.Shown.{bits_of, waits_of}
@@ -37,11 +38,14 @@ use Rattle.run_laws.proofs.Shown.{settled-word}
 use Rattle.run_laws.proofs.Start.{new-shows}
 use Rattle.run_laws.proofs.Steps.{ended-holdings, ended-sweeps}
 use Rattle.run_laws.proofs.Turns.{missed-shows, next-settled, next-shows, scav-shows, shows-ended}
-use Rattle.span_laws.specs.Answers.{cycle_at}
-use Rattle.span_laws.specs.Asks.{IsAtRest, IsKnown}
+use Rattle.span_laws.specs.TakeAnswers.{cycle_at}
+use Rattle.span_laws.specs.MarkEndAsks.{IsAtRest, IsKnown}
 use Rattle.span_laws.specs.Cycle.{EndsCycle, IsClaimUnplaced, KeepsCycle, cycle_ended, cycle_seen}
 use Rattle.span_laws.specs.Rule.{Rule, logs_of}
-use Rattle.span_laws.specs.Views.{acts, allocated_pairs, first_view, hand_state, handed, knowing, marked, no_part, parts_left, parts_of, rested, told}
+use Rattle.span_laws.specs.Views.{acts, first_view, hand_state, no_part, parts_of}
+use Rattle.span_laws.specs.OwnSteps.{told}
+use Rattle.span_laws.specs.Handed.{handed, knowing, parts_left}
+use Rattle.span_laws.specs.MarkEnds.{allocated_pairs, marked, rested}
 use Rattle.span_laws.specs.declared.said.Said.TheVariants.{Misses}
 use Rattle.span_laws.specs.declared.view.Part.{Part}
 use Rattle.span_laws.specs.declared.view.View.{View}

@@ -5,7 +5,10 @@ use Rattle.std.specs.List.{AllByRecursion}
 use Rattle.std.proofs.lemmas.Bool.{cases_lt, lt-ltb, ltb-true}
 use Rattle.page_alloc.specs.Heap.{AddsLine, HasMoreRoom, PageHeap}
 use Rattle.size_classes.proofs.Bounds.{objects_bounds}
-use Rattle.page_alloc.specs.Journal.{IsBy, IsSpanSize, MayFollow, open_lives, owner}
+use Rattle.page_alloc.specs.Owners.{owner}
+use Rattle.page_alloc.specs.Lives.{open_lives}
+use Rattle.page_alloc.specs.FreeRuns.{IsSpanSize}
+use Rattle.page_alloc.specs.Journal.{IsBy, MayFollow}
 use Rattle.page_alloc.proofs.Lives.{span_pages}
 use Rattle.page_bitmap.specs.declared.line.Line.{Line}
 use Rattle.page_bitmap.specs.declared.line.Line.TheVariants.{Take as TakeLine, Miss as MissLine, Give as GiveLine, Scav}
@@ -15,7 +18,9 @@ use Rattle.span_state.specs.declared.body.Body.{Body}
 use Rattle.sweep_laws.specs.Changes.{after_acquire, after_claim, after_give, after_next, after_pop_swept, after_take}
 use Rattle.sweep_laws.specs.Counts.{times}
 use Rattle.sweep_laws.specs.Lists.{has, rises}
-use Rattle.sweep_laws.specs.Needs.{allocate_needs, cell_of, hand_of, is_swept_set, life_in, refusal, release_needs, set_of}
+use Rattle.sweep_laws.specs.Reading.{cell_of, hand_of, is_swept_set, life_in, set_of}
+use Rattle.sweep_laws.specs.NeedsOfRange.{refusal}
+use Rattle.sweep_laws.specs.Needs.{allocate_needs, release_needs}
 use Rattle.sweep_laws.specs.Owned.{Owned}
 use Rattle.sweep_laws.specs.Start.{copies, new_state}
 use Rattle.sweep_laws.specs.State.{CoreState, HandState}
@@ -23,14 +28,21 @@ use Rattle.sweep_laws.specs.Step.{after, needs_of}
 use Rattle.sweep_laws.specs.Tidy.{HasSpace, IsTidy, TailsFit}
 use Rattle.sweep_laws.specs.declared.moves.Claimed.{Claimed}
 use Rattle.sweep_laws.proofs.NeedsMet.{all_met, some_none}
-use Rattle.worker_log.specs.Logs.{is_full_set, is_placing_in, is_pop_of, is_swept_last, many}
-use Rattle.span_laws.specs.Answers.{IsNew, IsOfSet, cycle_at}
-use Rattle.span_laws.specs.Asks.{HasBody, IsAtRest, IsKnown, KnowsJournal}
+use Rattle.worker_log.specs.SweptLast.{is_swept_last}
+use Rattle.worker_log.specs.SetNumbers.{is_full_set}
+use Rattle.worker_log.specs.Entries.{is_placing_in, is_pop_of, many}
+use Rattle.span_laws.specs.TakeAnswers.{IsNew, cycle_at}
+use Rattle.span_laws.specs.Answers.{IsOfSet}
+use Rattle.span_laws.specs.Asks.{HasBody, KnowsJournal}
+use Rattle.span_laws.specs.MarkEndAsks.{IsAtRest, IsKnown}
 use Rattle.span_laws.specs.Cycle.{KeepsCycle, Kept}
 use Rattle.span_laws.specs.Moves.{move_of, move_on}
 use Rattle.span_laws.specs.Suits.{IsQuiet, PlacesAlone, Suits, SuitsOf}
 use Rattle.span_laws.specs.Truth.{IsSo}
-use Rattle.span_laws.specs.Views.{acts, first_view, hand_state, handed, knowing, marked, span_of, told, told_of}
+use Rattle.span_laws.specs.Views.{acts, first_view, hand_state, span_of}
+use Rattle.span_laws.specs.OwnSteps.{told, told_of}
+use Rattle.span_laws.specs.Handed.{handed, knowing}
+use Rattle.span_laws.specs.MarkEnds.{marked}
 use Rattle.span_laws.specs.declared.said.Said.{Said}
 use Rattle.span_laws.specs.declared.said.Said.TheVariants.{Claims, Gives, Misses}
 use Rattle.span_laws.specs.declared.said.SaidOf.{SaidOf}

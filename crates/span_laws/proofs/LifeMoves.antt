@@ -5,7 +5,9 @@ use mathlib.Core.Logic.{dite}
 use native.Mathlib.Decide.{ℕ_discrete}
 use Rattle.std.proofs.Math.ListN.{length-set}
 use Rattle.page_alloc.specs.Heap.{PageHeap}
-use Rattle.page_alloc.specs.Journal.{IsBy, Legal, Life, life_of, open_lives, owner}
+use Rattle.page_alloc.specs.Owners.{owner}
+use Rattle.page_alloc.specs.Lives.{Life, life_of, open_lives}
+use Rattle.page_alloc.specs.Journal.{IsBy, Legal}
 use Rattle.page_alloc.specs.Lists.{In}
 use Rattle.page_alloc.proofs.Lives.{to_others}
 use Rattle.page_bitmap.specs.declared.line.Line.{Line}
@@ -13,12 +15,14 @@ use Rattle.page_bitmap.specs.declared.line.Line.TheVariants.{Take as TakeLine, G
 use Rattle.span_state.specs.Bits.{bit_of}
 use Rattle.span_state.specs.MarkSet.{has_pair}
 use Rattle.span_state.specs.declared.body.Body.{Body}
-use Rattle.sweep_laws.specs.Changes.{marks_at, after_give, after_release, after_take, change_life, drop_life, end_sweep, hold, keep_marked, let_go, new_life}
+use Rattle.sweep_laws.specs.ChangesOfHands.{end_sweep, hold, let_go}
+use Rattle.sweep_laws.specs.ChangesOfLives.{marks_at, change_life, drop_life, keep_marked, new_life}
+use Rattle.sweep_laws.specs.Changes.{after_give, after_release, after_take}
 use Rattle.sweep_laws.specs.Counts.{times}
 use Rattle.sweep_laws.specs.declared.moves.Claimed.{Claimed}
 use Rattle.sweep_laws.specs.Lists.{erase, has}
 use Rattle.sweep_laws.specs.Named.{begins, only}
-use Rattle.sweep_laws.specs.Needs.{life_in, no_life}
+use Rattle.sweep_laws.specs.Reading.{life_in, no_life}
 use Rattle.sweep_laws.specs.Owned.{Owned}
 use Rattle.sweep_laws.specs.Standing.{tally}
 use Rattle.sweep_laws.specs.State.{CoreState, HandState, LifeState}
@@ -39,7 +43,8 @@ use Rattle.span_laws.specs.declared.view.View.{View}
 use Rattle.span_laws.specs.Bodies.{Fits, IsBody, IsOpen, IsWaiting, is_claimed, lends}
 use Rattle.span_laws.specs.Rule.{Rule}
 use Rattle.span_laws.specs.Suits.{WasLent}
-use Rattle.span_laws.specs.Views.{acts, hand_state, told, told_of}
+use Rattle.span_laws.specs.Views.{acts, hand_state}
+use Rattle.span_laws.specs.OwnSteps.{told, told_of}
 use Rattle.span_laws.proofs.Heap.{give_owners, take_owners}
 use Rattle.span_laws.proofs.Lives.{appended_here, changed_here, drop_else, none_here, sweep_body}
 use Rattle.span_laws.proofs.Parts.{has3, has_none}

@@ -6,9 +6,9 @@ use mathlib.Core.Logic.{dite}
 use native.Mathlib.Decide.{ℕ_discrete}
 use Rattle.sweep_laws.specs.Lists.{has, least_outside}
 use Rattle.sweep_laws.specs.State.{LifeState}
-use Rattle.sweep_laws.specs.Changes.{allocate_index, change_life, drop_life, keep_marked, marks_at}
+use Rattle.sweep_laws.specs.ChangesOfLives.{allocate_index, change_life, drop_life, keep_marked, marks_at}
 use Rattle.sweep_laws.specs.Named.{begins}
-use Rattle.sweep_laws.specs.Needs.{life_in, no_life}
+use Rattle.sweep_laws.specs.Reading.{life_in, no_life}
 use Rattle.span_state.specs.Bits.{HasFree, IsFull, bit_of, with_bit}
 use Rattle.span_state.specs.MarkSet.{has_pair}
 use Rattle.span_laws.specs.declared.view.Span.{Span}

@@ -14,12 +14,20 @@ use Rattle.page_alloc.specs.Journal.{IsBy}
 use Rattle.page_bitmap.specs.declared.line.Line.{Line}
 use Rattle.span_state.specs.MarkSet.{has_pair}
 use Rattle.span_state.specs.declared.body.Body.{Body}
-use Rattle.sweep_laws.specs.Changes.{after_next, empty_unswept, forget_swept, mark_life, marks_at}
+use Rattle.sweep_laws.specs.ChangesOfHands.{forget_swept}
+use Rattle.sweep_laws.specs.ChangesOfLives.{mark_life, marks_at}
+use Rattle.sweep_laws.specs.ChangesOfSets.{empty_unswept}
+use Rattle.sweep_laws.specs.Changes.{after_next}
 use Rattle.sweep_laws.specs.Counts.{one_if, times, total, total_from}
 use Rattle.sweep_laws.specs.Lists.{has, rises}
 use Rattle.sweep_laws.specs.Named.{begins, claimers, is_claim, is_class, names_in, only, poppers, sweepers, unswept_own}
-use Rattle.sweep_laws.specs.Needs.{cell_of, class_of_set, first_unpopped, is_allocated, is_idle, is_settled, is_swept_set, life_in, next_needs, no_life, no_set, refusal, set_of}
-use Rattle.sweep_laws.specs.Owned.{EachAt, IsPage, Owned}
+use Rattle.sweep_laws.specs.Reading.{cell_of, class_of_set, is_settled, is_swept_set, life_in, no_life, no_set, set_of}
+use Rattle.sweep_laws.specs.NeedsOfRange.{refusal}
+use Rattle.sweep_laws.specs.NeedsOfMarkEnd.{first_unpopped, is_allocated, is_idle}
+use Rattle.sweep_laws.specs.Needs.{next_needs}
+use Rattle.sweep_laws.specs.OwnedLives.{EachAt}
+use Rattle.sweep_laws.specs.OwnedSets.{IsPage}
+use Rattle.sweep_laws.specs.Owned.{Owned}
 use Rattle.sweep_laws.specs.declared.moves.Claimed.{Claimed}
 use Rattle.sweep_laws.specs.Standing.{Standing, is_free, is_unswept, is_sweeping, is_swept, is_stale, is_cached, Tally, tally}
 use Rattle.sweep_laws.specs.State.{CoreState, HandState, LifeState, SetState}
@@ -30,13 +38,14 @@ use Rattle.sweep_laws.proofs.Naming.{at_low, has_times, times_has}
 use Rattle.sweep_laws.proofs.NeedsMet.{none_refuses, not_true}
 use Rattle.sweep_laws.proofs.Totals.{inside_at, total_none}
 use Rattle.swept_set_laws.proofs.EnteredRest.{empty_enters}
-use Rattle.worker_log.specs.Logs.{many}
-use Rattle.span_laws.specs.Asks.{IsAtRest, IsKnown}
+use Rattle.worker_log.specs.Entries.{many}
+use Rattle.span_laws.specs.MarkEndAsks.{IsAtRest, IsKnown}
 use Rattle.span_laws.specs.Bodies.{Bodies, Fits, IsAway, IsBody, IsHome, IsLent, lends}
 use Rattle.span_laws.specs.Logs.{is_placing_at}
 use Rattle.span_laws.specs.Rule.{Rule, logs_of}
 use Rattle.span_laws.specs.Tells.{IsFilled, Tells}
-use Rattle.span_laws.specs.Views.{hand_state, marked, parts_of, rested, span_of}
+use Rattle.span_laws.specs.Views.{hand_state, parts_of, span_of}
+use Rattle.span_laws.specs.MarkEnds.{marked, rested}
 use Rattle.span_laws.specs.declared.view.Part.{Part}
 use Rattle.span_laws.specs.declared.view.Span.{Span}
 use Rattle.span_laws.specs.declared.view.View.{View}

@@ -2,9 +2,9 @@
 use Rattle.std.proofs.Common.{◌≡◌, ◌≢◌, ℕ, ◌<◌, List, length, get_or, sym, ap, ◌∙◌, subst}
 use mathlib.Core.Logic.{dite}
 use native.Mathlib.Decide.{ℕ_discrete}
-use Rattle.sweep_laws.specs.Changes.{marks_at}
+use Rattle.sweep_laws.specs.ChangesOfLives.{marks_at}
 use Rattle.sweep_laws.specs.Counts.{times}
-use Rattle.sweep_laws.specs.Needs.{life_in}
+use Rattle.sweep_laws.specs.Reading.{life_in}
 use Rattle.sweep_laws.specs.State.{LifeState}
 use Rattle.span_laws.specs.Bodies.{IsWaiting, Marked}
 

@@ -7,23 +7,27 @@ use Rattle.std.proofs.lemmas.Bool.{eqb-true}
 use Rattle.std.proofs.lemmas.List.{set-get_or}
 use Rattle.std.proofs.Math.ListN.{length-set}
 use Rattle.page_alloc.specs.Heap.{HasMoreRoom, PageHeap}
-use Rattle.page_alloc.specs.Journal.{IsBy, Legal, Life, life_of, open_lives, owner}
+use Rattle.page_alloc.specs.Owners.{owner}
+use Rattle.page_alloc.specs.Lives.{Life, life_of, open_lives}
+use Rattle.page_alloc.specs.Journal.{IsBy, Legal}
 use Rattle.page_alloc.specs.Lists.{In}
 use Rattle.page_bitmap.specs.Counts.{one_if}
 use Rattle.page_bitmap.specs.declared.line.Line.{Line}
 use Rattle.page_bitmap.specs.declared.line.Line.TheVariants.{Miss as MissLine}
 use Rattle.span_state.specs.declared.body.Body.{Body}
-use Rattle.sweep_laws.specs.Changes.{after_drop_popped, drop_entry}
+use Rattle.sweep_laws.specs.ChangesOfHands.{drop_entry}
+use Rattle.sweep_laws.specs.Changes.{after_drop_popped}
 use Rattle.sweep_laws.specs.Counts.{times}
 use Rattle.sweep_laws.specs.Lists.{erase, has}
-use Rattle.sweep_laws.specs.Needs.{cell_of, hand_of, is_swept_set, no_hand, set_of}
-use Rattle.sweep_laws.specs.Owned.{EachAt, Owned}
+use Rattle.sweep_laws.specs.Reading.{cell_of, hand_of, is_swept_set, no_hand, set_of}
+use Rattle.sweep_laws.specs.OwnedLives.{EachAt}
+use Rattle.sweep_laws.specs.Owned.{Owned}
 use Rattle.sweep_laws.specs.State.{CoreState, HandState}
 use Rattle.sweep_laws.specs.Tidy.{IsTidy, HasSpace}
 use Rattle.sweep_laws.proofs.Forms.{kept_of, owned_of}
 use Rattle.sweep_laws.proofs.NeedsMet.{both}
 use Rattle.worker_log.specs.declared.Entry.TheVariants.{Looked}
-use Rattle.worker_log.specs.Logs.{many, is_pop, is_pop_of, is_seen_empty}
+use Rattle.worker_log.specs.Entries.{many, is_pop, is_pop_of, is_seen_empty}
 use Rattle.swept_set_laws.specs.Entered.{Entered}
 use Rattle.span_laws.specs.declared.said.Said.{Said}
 use Rattle.span_laws.specs.declared.said.Said.TheVariants.{Finds, Misses, Looks, LooksCell, Reads, Adds, Resets}
@@ -36,7 +40,9 @@ use Rattle.span_laws.specs.Rule.{Rule, logs_of}
 use Rattle.span_laws.specs.Suits.{IsQuiet}
 use Rattle.span_laws.specs.Tells.{Tells}
 use Rattle.span_laws.specs.Truth.{IsSo}
-use Rattle.span_laws.specs.Views.{acts, hand_state, handed, has_cell, no_part, parts_left, parts_of, span_of, told}
+use Rattle.span_laws.specs.Views.{acts, hand_state, has_cell, no_part, parts_of, span_of}
+use Rattle.span_laws.specs.OwnSteps.{told}
+use Rattle.span_laws.specs.Handed.{handed, parts_left}
 use Rattle.span_laws.proofs.BodiesKept.{bodies_stay}
 use Rattle.span_laws.proofs.RuleKept.{moved, own_hand, part_at}
 use Rattle.span_laws.proofs.TellsKept.{own_tells, same_leads, tells_stay}

@@ -9,15 +9,16 @@ use native.Mathlib.Decide.{ℕ_discrete}
 use Rattle.std.proofs.lemmas.Bool.{eqb-true}
 use Rattle.std.proofs.lemmas.List.{set-get_or}
 use Rattle.page_alloc.specs.Heap.{PageHeap}
-use Rattle.page_alloc.specs.Journal.{Life, life_of, open_lives}
+use Rattle.page_alloc.specs.Lives.{Life, life_of, open_lives}
 use Rattle.page_alloc.specs.Lists.{In}
 use Rattle.page_bitmap.specs.Counts.{one_if}
 use Rattle.span_state.specs.Bits.{bit_of, with_bit}
 use Rattle.span_state.specs.declared.body.Body.{Body}
-use Rattle.sweep_laws.specs.Changes.{after_allocate, allocate_index, change_life}
+use Rattle.sweep_laws.specs.ChangesOfLives.{allocate_index, change_life}
+use Rattle.sweep_laws.specs.Changes.{after_allocate}
 use Rattle.sweep_laws.specs.Counts.{times}
 use Rattle.sweep_laws.specs.Lists.{least_outside}
-use Rattle.sweep_laws.specs.Needs.{is_swept_set, life_in, no_hand}
+use Rattle.sweep_laws.specs.Reading.{is_swept_set, life_in, no_hand}
 use Rattle.sweep_laws.specs.Owned.{Owned}
 use Rattle.sweep_laws.specs.State.{CoreState, HandState, LifeState, SetState}
 use Rattle.sweep_laws.specs.Tidy.{IsTidy, HasSpace}
@@ -29,7 +30,7 @@ use Rattle.swept_set_laws.proofs.EnteredKept.{held_popped}
 use Rattle.swept_set_laws.proofs.EnteredRest.{allocate_enters, cached_popped}
 use Rattle.swept_set_laws.proofs.Stays.{change_else}
 use Rattle.worker_log.specs.declared.Entry.{Entry}
-use Rattle.worker_log.specs.Logs.{is_pop_of, many}
+use Rattle.worker_log.specs.Entries.{is_pop_of, many}
 use Rattle.span_laws.specs.declared.said.SaidOf.TheVariants.{Places}
 use Rattle.span_laws.specs.declared.view.Span.{Span}
 use Rattle.span_laws.specs.declared.view.View.{View}
@@ -38,7 +39,8 @@ use Rattle.span_laws.specs.Logs.{is_placing_at}
 use Rattle.span_laws.specs.Rule.{Rule, logs_of}
 use Rattle.span_laws.specs.Suits.{IsPlaceOf}
 use Rattle.span_laws.specs.Tells.{IsPlaced}
-use Rattle.span_laws.specs.Views.{acts, hand_state, span_at, told_of}
+use Rattle.span_laws.specs.Views.{acts, hand_state, span_at}
+use Rattle.span_laws.specs.OwnSteps.{told_of}
 use Rattle.span_laws.proofs.Lives.{allocate_body, changed_here}
 use Rattle.span_laws.proofs.LifeMoves.{begin_at}
 use Rattle.span_laws.proofs.Parts.{lends-le}

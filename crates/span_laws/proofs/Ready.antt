@@ -8,7 +8,7 @@ use mathlib.Core.Logic.{dite}
 use native.Mathlib.Decide.{ℕ_discrete}
 use Rattle.sweep_laws.specs.Lists.{has, least_outside}
 use Rattle.sweep_laws.specs.Named.{begins, is_class}
-use Rattle.sweep_laws.specs.Needs.{life_in}
+use Rattle.sweep_laws.specs.Reading.{life_in}
 use Rattle.sweep_laws.specs.State.{LifeState}
 use Rattle.sweep_laws.proofs.NeedsMet.{not_true, some_none}
 use Rattle.sweep_laws.proofs.Objects.{free_below}

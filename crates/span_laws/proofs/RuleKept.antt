@@ -8,19 +8,21 @@ use mathlib.Core.Option.{some}
 use lib.ListN.{get_elem?}
 use Rattle.std.proofs.Math.ListN.{length-set}
 use Rattle.page_alloc.specs.Heap.{PageHeap}
-use Rattle.page_alloc.specs.Journal.{IsBy, Legal, owner}
+use Rattle.page_alloc.specs.Owners.{owner}
+use Rattle.page_alloc.specs.Journal.{IsBy, Legal}
 use Rattle.span_state.specs.declared.body.Body.{Body}
-use Rattle.sweep_laws.specs.Changes.{marks_at}
+use Rattle.sweep_laws.specs.ChangesOfLives.{marks_at}
 use Rattle.sweep_laws.specs.Counts.{times}
 use Rattle.sweep_laws.specs.Named.{begins}
-use Rattle.sweep_laws.specs.Needs.{hand_of, is_swept_set, life_in, no_hand}
-use Rattle.sweep_laws.specs.Owned.{EachAt, Owned}
+use Rattle.sweep_laws.specs.Reading.{hand_of, is_swept_set, life_in, no_hand}
+use Rattle.sweep_laws.specs.OwnedLives.{EachAt}
+use Rattle.sweep_laws.specs.Owned.{Owned}
 use Rattle.sweep_laws.specs.State.{HandState, CoreState}
 use Rattle.sweep_laws.specs.Tidy.{IsTidy, HasSpace, NamesNever}
 use Rattle.sweep_laws.proofs.Naming.{at_low, set_here}
 use Rattle.swept_set_laws.specs.Entered.{Entered, log_of}
 use Rattle.worker_log.specs.declared.Entry.{Entry}
-use Rattle.worker_log.specs.Logs.{many, is_pop_of}
+use Rattle.worker_log.specs.Entries.{many, is_pop_of}
 use Rattle.span_laws.specs.declared.view.Part.{Part}
 use Rattle.span_laws.specs.declared.view.Span.{Span}
 use Rattle.span_laws.specs.declared.view.View.{View}

@@ -8,7 +8,10 @@ use Rattle.span_state.specs.declared.body.Body.{Body}
 use Rattle.sweep_laws.specs.Changes.{after_fill_of}
 use Rattle.sweep_laws.specs.declared.moves.Claimed.{Claimed}
 use Rattle.sweep_laws.specs.Lists.{has}
-use Rattle.sweep_laws.specs.Needs.{hand_of, refusal, release_needs, cache_needs, uncache_needs, stale_uncache_needs, allocate_needs, pop_unswept_needs, free_index, life_of}
+use Rattle.sweep_laws.specs.Reading.{hand_of, life_of}
+use Rattle.sweep_laws.specs.NeedsOfRange.{refusal}
+use Rattle.sweep_laws.specs.NeedsOfPages.{free_index}
+use Rattle.sweep_laws.specs.Needs.{release_needs, cache_needs, uncache_needs, stale_uncache_needs, allocate_needs, pop_unswept_needs}
 use Rattle.sweep_laws.specs.Owned.{Owned}
 use Rattle.sweep_laws.specs.State.{CoreState, HandState}
 use Rattle.sweep_laws.specs.Step.{after, needs_of}
@@ -24,7 +27,8 @@ use Rattle.span_laws.specs.declared.view.View.{View}
 use Rattle.span_laws.specs.Moves.{move_of, move_on}
 use Rattle.span_laws.specs.Rule.{Rule}
 use Rattle.span_laws.specs.Suits.{Suits, SuitsOf}
-use Rattle.span_laws.specs.Views.{acts, hand_state, told, told_of}
+use Rattle.span_laws.specs.Views.{acts, hand_state}
+use Rattle.span_laws.specs.OwnSteps.{told, told_of}
 use Rattle.span_laws.proofs.LifeMoves.{release_keeps}
 use Rattle.span_laws.proofs.Notes.{drop_keeps}
 use Rattle.span_laws.proofs.Placing.{place_keeps}

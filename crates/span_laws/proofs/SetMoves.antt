@@ -9,13 +9,16 @@ use Rattle.std.proofs.lemmas.List.{get_or-set_same, get_or-set_other}
 use Rattle.std.proofs.Math.ListN.{length-set}
 use Rattle.page_alloc.specs.Heap.{PageHeap}
 use Rattle.span_state.specs.declared.body.Body.{Body}
-use Rattle.sweep_laws.specs.Changes.{after_claim, after_fill_of, after_pop_swept, after_pop_unswept, claim_cell, fill_cell, head_base, hold, name_page, pop_entry, raise_head, raise_tail}
+use Rattle.sweep_laws.specs.ChangesOfHands.{claim_cell, fill_cell, hold, pop_entry}
+use Rattle.sweep_laws.specs.ChangesOfSets.{head_base, name_page, raise_head, raise_tail}
+use Rattle.sweep_laws.specs.Changes.{after_claim, after_fill_of, after_pop_swept, after_pop_unswept}
 use Rattle.sweep_laws.specs.Counts.{times}
 use Rattle.sweep_laws.specs.declared.moves.Claimed.{Claimed}
 use Rattle.sweep_laws.specs.Lists.{has}
 use Rattle.sweep_laws.specs.Named.{begins, is_class, only}
-use Rattle.sweep_laws.specs.Needs.{cell_of, class_of_set, hand_of, is_swept_set, life_in, no_set, set_of}
-use Rattle.sweep_laws.specs.Owned.{ClaimFits, Owned}
+use Rattle.sweep_laws.specs.Reading.{cell_of, class_of_set, hand_of, is_swept_set, life_in, no_set, set_of}
+use Rattle.sweep_laws.specs.OwnedSets.{ClaimFits}
+use Rattle.sweep_laws.specs.Owned.{Owned}
 use Rattle.sweep_laws.specs.Standing.{tally}
 use Rattle.sweep_laws.specs.State.{CoreState, HandState, LifeState, SetState}
 use Rattle.sweep_laws.specs.Tidy.{IsTidy, HasSpace}
@@ -24,13 +27,15 @@ use Rattle.sweep_laws.proofs.Naming.{at_low, has_times, times_erase, times_erase
 use Rattle.sweep_laws.proofs.Standings.{queued_list}
 use Rattle.sweep_laws.proofs.Totals.{inside_at, part_le, times_end, times_end_else}
 use Rattle.sweep_laws.proofs.Unpopped.{put_cell_else}
-use Rattle.swept_set_laws.specs.Entered.{Entered, is_full_life, log_of, put_name}
+use Rattle.swept_set_laws.specs.Entered.{Entered, is_full_life, log_of}
+use Rattle.swept_set_laws.specs.NamesGoOn.{put_name}
 use Rattle.swept_set_laws.proofs.EnteredKept.{claim_enters, queued_by}
 use Rattle.swept_set_laws.proofs.EnteredMoves.{fill_enters, pop_swept_enters}
 use Rattle.swept_set_laws.proofs.EnteredRest.{unswept_enters}
 use Rattle.worker_log.specs.declared.Entry.{Entry}
 use Rattle.worker_log.specs.declared.Entry.TheVariants.{Popped}
-use Rattle.worker_log.specs.Logs.{is_full_set, is_pop, is_pop_of, is_seen_empty, many}
+use Rattle.worker_log.specs.SetNumbers.{is_full_set}
+use Rattle.worker_log.specs.Entries.{is_pop, is_pop_of, is_seen_empty, many}
 use Rattle.span_laws.specs.Logs.{is_look, is_placing_at}
 use Rattle.span_laws.specs.declared.view.Cell.{Cell}
 use Rattle.span_laws.specs.declared.said.Said.TheVariants.{Claims, Fills, PopsEntry}
@@ -40,7 +45,8 @@ use Rattle.span_laws.specs.declared.view.View.{View}
 use Rattle.span_laws.specs.Bodies.{Fits, IsAway, IsHome, is_claimed, lends}
 use Rattle.span_laws.specs.Rule.{Rule, logs_of}
 use Rattle.span_laws.specs.Tells.{IsFilled, Tells}
-use Rattle.span_laws.specs.Views.{acts, hand_state, has_cell, parts_of, span_at, span_of, told, told_of}
+use Rattle.span_laws.specs.Views.{acts, hand_state, has_cell, parts_of, span_at, span_of}
+use Rattle.span_laws.specs.OwnSteps.{told, told_of}
 use Rattle.std.proofs.lemmas.Bool.{eqb-true}
 use Rattle.sweep_laws.proofs.NeedsMet.{both}
 use Rattle.span_laws.proofs.Waiting.{queued_class}

@@ -7,11 +7,12 @@ use Rattle.std.proofs.lemmas.List.FromFn.{length-map-range_with_len}
 use mathlib.Core.Option.{some, some-injective, some-ne-none}
 use lib.ListN.{get_elem?}
 use Rattle.page_alloc.specs.Heap.{PageHeap}
-use Rattle.page_alloc.specs.Journal.{IsBy, Legal, owner}
+use Rattle.page_alloc.specs.Owners.{owner}
+use Rattle.page_alloc.specs.Journal.{IsBy, Legal}
 use Rattle.page_bitmap.specs.declared.line.Line.{Line}
 use Rattle.span_state.specs.declared.body.Body.{Body}
 use Rattle.sweep_laws.specs.State.{CoreState, HandState, LifeState, SetState}
-use Rattle.sweep_laws.specs.Needs.{life_in, no_hand, no_set}
+use Rattle.sweep_laws.specs.Reading.{life_in, no_hand, no_set}
 use Rattle.sweep_laws.specs.Start.{copies, new_state}
 use Rattle.sweep_laws.specs.Owned.{Owned}
 use Rattle.sweep_laws.specs.Tidy.{IsTidy, TailsFit}

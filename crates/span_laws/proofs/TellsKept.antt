@@ -5,13 +5,13 @@ use mathlib.Core.Option.{some}
 use lib.ListN.{get_elem?}
 use native.Mathlib.Decide.{ℕ_discrete}
 use Rattle.sweep_laws.specs.Lists.{has}
-use Rattle.sweep_laws.specs.Needs.{cell_of, class_of_set, is_swept_set, life_in, no_set}
-use Rattle.sweep_laws.specs.Owned.{EachAt}
+use Rattle.sweep_laws.specs.Reading.{cell_of, class_of_set, is_swept_set, life_in, no_set}
+use Rattle.sweep_laws.specs.OwnedLives.{EachAt}
 use Rattle.sweep_laws.specs.State.{LifeState, SetState}
 use Rattle.sweep_laws.proofs.Naming.{at_set}
 use Rattle.span_laws.specs.declared.view.Part.{Part}
 use Rattle.span_laws.specs.Logs.{is_look, is_placing_at}
-use Rattle.worker_log.specs.Logs.{many, is_pop, is_pop_of, is_seen_empty}
+use Rattle.worker_log.specs.Entries.{many, is_pop, is_pop_of, is_seen_empty}
 use Rattle.span_laws.specs.Tells.{IsFilled, IsPlaced, Tells}
 use Rattle.span_laws.specs.Views.{has_cell}
 use Rattle.span_laws.proofs.Parts.{has3, has_none}

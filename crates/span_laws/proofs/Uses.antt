@@ -11,15 +11,18 @@ use Rattle.page_bitmap.specs.Counts.{one_if}
 use Rattle.span_state.specs.Bits.{HasFree}
 use Rattle.span_state.specs.Spans.{allocated}
 use Rattle.span_state.specs.declared.body.Body.{Body}
-use Rattle.sweep_laws.specs.Changes.{marks_at}
+use Rattle.sweep_laws.specs.ChangesOfLives.{marks_at}
 use Rattle.sweep_laws.specs.Counts.{times}
 use Rattle.sweep_laws.specs.declared.moves.Claimed.{Claimed}
 use Rattle.sweep_laws.specs.Lists.{has, least_outside}
 use Rattle.sweep_laws.specs.Named.{begins, is_class}
-use Rattle.sweep_laws.specs.Needs.{allocate_needs, cell_of, claim_needs, class_of_set, fill_needs, is_holder, pop_unswept_needs, is_swept_set, life_in, no_set, refusal, set_of}
+use Rattle.sweep_laws.specs.Reading.{cell_of, class_of_set, is_swept_set, life_in, no_set, set_of}
+use Rattle.sweep_laws.specs.NeedsOfRange.{refusal}
+use Rattle.sweep_laws.specs.NeedsOfPages.{is_holder}
+use Rattle.sweep_laws.specs.Needs.{allocate_needs, claim_needs, fill_needs, pop_unswept_needs}
 use Rattle.sweep_laws.specs.Standing.{tally}
 use Rattle.sweep_laws.specs.State.{CoreState, HandState, LifeState}
-use Rattle.sweep_laws.specs.Owned.{ObjectsFit}
+use Rattle.sweep_laws.specs.OwnedLives.{ObjectsFit}
 use Rattle.sweep_laws.proofs.LivesChange.{all_at}
 use Rattle.sweep_laws.proofs.Naming.{at_low, has_times, times_has}
 use Rattle.sweep_laws.proofs.NeedsMet.{none_refuses}
@@ -29,8 +32,10 @@ use Rattle.swept_set_laws.specs.Entered.{IsEntry, IsSettled, is_full_life}
 use Rattle.swept_set_laws.proofs.EnteredKept.{claim_room, queued_by}
 use Rattle.worker_log.specs.declared.Entry.{Entry}
 use Rattle.worker_log.specs.declared.Entry.TheVariants.{Looked, LookedEmptyCell, Popped, Pushed, Swept, Took, Missed, Gave, Allocated, Found, Read, Added}
-use Rattle.worker_log.specs.Logs.{is_full_set, is_placing_in, is_pop_of, many}
-use Rattle.span_laws.specs.Asks.{HasBody, HasMarked, IsApart, IsUntouched, MayPlace, mine}
+use Rattle.worker_log.specs.SetNumbers.{is_full_set}
+use Rattle.worker_log.specs.Entries.{is_placing_in, is_pop_of, many}
+use Rattle.span_laws.specs.BodyAsks.{HasMarked}
+use Rattle.span_laws.specs.Asks.{HasBody, IsApart, IsUntouched, MayPlace, mine}
 use Rattle.span_laws.specs.Answers.{IsAhead, IsOfSet}
 use Rattle.span_laws.specs.Bodies.{Fits, IsAway, IsHome, lends}
 use Rattle.span_laws.specs.Logs.{is_look, is_placing_at}

@@ -3,10 +3,10 @@ use Rattle.std.proofs.Common.{◌≡◌, ℕ, suc, ◌+◌, ◌<◌, Bool, true,
 use Rattle.std.specs.Prelude.{Option}
 use mathlib.Core.Option.{some}
 use lib.ListN.{get_elem?}
-use Rattle.sweep_laws.specs.Changes.{raise_head}
+use Rattle.sweep_laws.specs.ChangesOfSets.{raise_head}
 use Rattle.sweep_laws.specs.Counts.{one_if}
 use Rattle.sweep_laws.specs.Named.{is_class, names_in, only}
-use Rattle.sweep_laws.specs.Needs.{cell_of, class_of_set, is_swept_set}
+use Rattle.sweep_laws.specs.Reading.{cell_of, class_of_set, is_swept_set}
 use Rattle.sweep_laws.specs.Standing.{Kept, tally}
 use Rattle.sweep_laws.specs.State.{HandState, LifeState, SetState}
 use Rattle.sweep_laws.proofs.Reset.{set_deltas}

@@ -7,12 +7,13 @@ use Rattle.std.proofs.lemmas.List.{get_or-set_same, get_or-set_other}
 use Rattle.std.proofs.Math.ListN.{length-set}
 use Rattle.page_alloc.specs.Heap.{PageHeap}
 use Rattle.span_state.specs.declared.body.Body.{Body}
-use Rattle.sweep_laws.specs.Changes.{after_acquire, after_cache, after_uncache, after_stale_uncache, start_sweep, put_in_cache, take_from_cache, sweep_from_cache}
+use Rattle.sweep_laws.specs.ChangesOfHands.{start_sweep, put_in_cache, take_from_cache, sweep_from_cache}
+use Rattle.sweep_laws.specs.Changes.{after_acquire, after_cache, after_uncache, after_stale_uncache}
 use Rattle.sweep_laws.specs.Counts.{times}
 use Rattle.sweep_laws.specs.declared.moves.Claimed.{Claimed}
 use Rattle.sweep_laws.specs.Lists.{erase, has}
 use Rattle.sweep_laws.specs.Named.{only}
-use Rattle.sweep_laws.specs.Needs.{hand_of, life_in, no_set}
+use Rattle.sweep_laws.specs.Reading.{hand_of, life_in, no_set}
 use Rattle.sweep_laws.specs.Owned.{Owned}
 use Rattle.sweep_laws.specs.Standing.{tally, Kept}
 use Rattle.sweep_laws.specs.State.{CoreState, HandState, LifeState}
@@ -25,7 +26,7 @@ use Rattle.swept_set_laws.specs.Entered.{Entered, IsSettled}
 use Rattle.swept_set_laws.proofs.EnteredKept.{turned_enters}
 use Rattle.swept_set_laws.proofs.Stays.{Stays, word_stays}
 use Rattle.worker_log.specs.declared.Entry.{Entry}
-use Rattle.worker_log.specs.Logs.{many, is_pop, is_pop_of, is_seen_empty}
+use Rattle.worker_log.specs.Entries.{many, is_pop, is_pop_of, is_seen_empty}
 use Rattle.span_laws.specs.declared.said.Said.TheVariants.{Caches, Uncaches, UncachesStale}
 use Rattle.span_laws.specs.declared.said.SaidOf.TheVariants.{Acquires}
 use Rattle.span_laws.specs.declared.view.Cell.{Cell}
@@ -36,7 +37,8 @@ use Rattle.span_laws.specs.Bodies.{Fits, IsLent, IsWaiting, is_claimed, lends}
 use Rattle.span_laws.specs.Logs.{is_look, is_placing_at}
 use Rattle.span_laws.specs.Rule.{Rule, logs_of}
 use Rattle.span_laws.specs.Tells.{IsPlaced, Tells}
-use Rattle.span_laws.specs.Views.{acts, hand_state, has_cell, parts_of, span_at, span_of, told, told_of, without}
+use Rattle.span_laws.specs.Views.{acts, hand_state, has_cell, parts_of, span_at, span_of}
+use Rattle.span_laws.specs.OwnSteps.{told, told_of, without}
 use Rattle.span_laws.proofs.Parts.{has3, has_none, own_once, has_end_here, has_end_else, has_erase_else}
 use Rattle.span_laws.proofs.RuleKept.{own_at, own_hand, part_at, same_pops, turned}
 use Rattle.span_laws.proofs.TellsKept.{Leads, own_tells}

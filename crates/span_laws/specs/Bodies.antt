@@ -3,16 +3,16 @@ use Rattle.std.specs.Prelude.{◌≡◌, ◌⊎◌, ℕ, ◌+◌, ◌<◌, ◌==
 use lib.ListN.{get_elem?}
 use mathlib.Core.Option.{some}
 use Rattle.page_alloc.specs.Lists.{In}
-use Rattle.page_alloc.specs.Journal.{life_of, open_lives}
+use Rattle.page_alloc.specs.Lives.{life_of, open_lives}
 use Rattle.page_bitmap.specs.declared.line.Line.{Line}
 use Rattle.span_state.specs.Bits.{bit_of}
 use Rattle.span_state.specs.declared.body.Body.{Body}
-use Rattle.sweep_laws.specs.Changes.{marks_at}
+use Rattle.sweep_laws.specs.ChangesOfLives.{marks_at}
 use Rattle.sweep_laws.specs.Counts.{times}
 use Rattle.sweep_laws.specs.Lists.{has}
 use Rattle.sweep_laws.specs.Named.{begins, only}
-use Rattle.sweep_laws.specs.Needs.{life_in}
-use Rattle.sweep_laws.specs.Owned.{EachAt}
+use Rattle.sweep_laws.specs.Reading.{life_in}
+use Rattle.sweep_laws.specs.OwnedLives.{EachAt}
 use Rattle.sweep_laws.specs.State.{LifeState}
 use Rattle.sweep_laws.specs.declared.moves.Claimed.{Claimed}
 use Rattle.span_laws.specs.declared.view.Part.{Part}

@@ -5,7 +5,7 @@ use Rattle.sweep_laws.specs.Counts.{times, total}
 use Rattle.sweep_laws.specs.Named.{only}
 use Rattle.worker_log.specs.declared.Entry.{Entry}
 use Rattle.worker_log.specs.declared.Entry.TheVariants.{Missed, Gave, Allocated, Added, Swept}
-use Rattle.span_laws.specs.Answers.{cycle_at}
+use Rattle.span_laws.specs.TakeAnswers.{cycle_at}
 use Rattle.span_laws.specs.Asks.{mine}
 use Rattle.span_laws.specs.Views.{Seen, acts, span_at}
 

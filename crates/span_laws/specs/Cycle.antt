@@ -1,26 +1,33 @@
 -- The cycle under way, as a view has it, and what is so of it as it ends.
 use Rattle.std.specs.Prelude.{◌≡◌, ◌≢◌, ℕ, Bool, true, false, List, [], ◌++◌, Option, Some, None}
 use Rattle.page_alloc.specs.Heap.{PageHeap}
-use Rattle.page_alloc.specs.Journal.{IsBy, Life, open_lives}
+use Rattle.page_alloc.specs.Lives.{Life, open_lives}
+use Rattle.page_alloc.specs.Journal.{IsBy}
 use Rattle.page_alloc.specs.Lists.{AllApart, In, IsNumber}
 use Rattle.page_bitmap.specs.declared.line.Line.{Line}
 use Rattle.span_state.specs.MarkSet.{has_pair}
 use Rattle.span_state.specs.declared.body.Body.{Body}
-use Rattle.sweep_laws.specs.Owned.{EachAt}
+use Rattle.sweep_laws.specs.OwnedLives.{EachAt}
 use Rattle.sweep_laws.specs.State.{CoreState}
 use Rattle.sweep_laws.specs.declared.moves.Claimed.{Claimed}
 use Rattle.swept_set_laws.specs.Entered.{log_of}
 use Rattle.worker_log.specs.declared.Sweeping.{Sweeping}
-use Rattle.worker_log.specs.Logs.{Taking, is_full_set, is_placing_in, many, sweepings, takings, placings}
+use Rattle.worker_log.specs.Logs.{Taking, sweepings, takings, placings}
+use Rattle.worker_log.specs.SetNumbers.{is_full_set}
+use Rattle.worker_log.specs.Entries.{is_placing_in, many}
 use Rattle.run_laws.specs.CycleSoFar.{CycleSoFar, past_after}
-use Rattle.run_laws.specs.Facts.{Fills, Holdings, Misses, Places, Sweeps, Writes}
+use Rattle.run_laws.specs.SweepFacts.{Sweeps}
+use Rattle.run_laws.specs.PlacingFacts.{Fills, Holdings, Places}
+use Rattle.run_laws.specs.ObjectFacts.{Misses}
+use Rattle.run_laws.specs.Facts.{Writes}
 use Rattle.run_laws.specs.Shown.{bits_of}
 use Rattle.run_laws.specs.ShowsCycle.{ShowsCycle}
 use Rattle.span_laws.specs.declared.view.Part.{Part}
 use Rattle.span_laws.specs.declared.view.View.{View}
-use Rattle.span_laws.specs.Answers.{cycle_at}
+use Rattle.span_laws.specs.TakeAnswers.{cycle_at}
 use Rattle.span_laws.specs.Rule.{Rule, logs_of}
-use Rattle.span_laws.specs.Views.{allocated_pairs, parts_of}
+use Rattle.span_laws.specs.Views.{parts_of}
+use Rattle.span_laws.specs.MarkEnds.{allocated_pairs}
 
 -- The cycle under way as worker n's view has it, with the lines written since the last mark end and the indices that are allocated.
 abbrev pub cycle_seen : ℕ → View → List Line → (ℕ → ℕ → Bool) → CycleSoFar

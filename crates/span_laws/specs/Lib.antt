@@ -1,4 +1,7 @@
 pub mod Views
+pub mod OwnSteps
+pub mod Handed
+pub mod MarkEnds
 pub mod Logs
 pub mod Bodies
 pub mod Tells
@@ -6,7 +9,11 @@ pub mod Rule
 pub mod Moves
 pub mod Suits
 pub mod Truth
+pub mod BodyAsks
 pub mod Asks
+pub mod MarkEndAsks
+pub mod TakeAnswers
+pub mod ScavengeAnswers
 pub mod Answers
 pub mod Calls
 pub mod Cycle

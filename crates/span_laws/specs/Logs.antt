@@ -3,7 +3,7 @@ use Rattle.std.specs.Prelude.{◌≡◌, ℕ, true, false, ◌==◌, ◌&&◌, B
 use Rattle.worker_log.specs.declared.Entry.{Entry}
 use Rattle.worker_log.specs.declared.Entry.TheVariants.{Looked, Swept, Took, Allocated}
 use Rattle.worker_log.specs.declared.Sweeping.{Sweeping}
-use Rattle.worker_log.specs.Logs.{many}
+use Rattle.worker_log.specs.Entries.{many}
 
 -- the entry places an object at this index of this page
 abbrev pub is_placing_at : ℕ → ℕ → Entry → Bool

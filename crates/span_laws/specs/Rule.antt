@@ -2,10 +2,12 @@
 use Rattle.std.specs.Prelude.{◌≡◌, ℕ, ◌-◌, ◌/◌, ◌^◌, ◌<◌, ◌≤◌, List, map, length, slice_index_or, Option, None}
 use Rattle.span_state.specs.declared.body.Body.{Body}
 use Rattle.sweep_laws.specs.State.{CoreState}
-use Rattle.sweep_laws.specs.Owned.{EachAt, Owned}
+use Rattle.sweep_laws.specs.OwnedLives.{EachAt}
+use Rattle.sweep_laws.specs.Owned.{Owned}
 use Rattle.sweep_laws.specs.Tidy.{IsTidy, HasSpace}
 use Rattle.page_alloc.specs.Heap.{PageHeap}
-use Rattle.page_alloc.specs.Journal.{IsBy, Legal, owner}
+use Rattle.page_alloc.specs.Owners.{owner}
+use Rattle.page_alloc.specs.Journal.{IsBy, Legal}
 use Rattle.span_laws.specs.declared.view.View.{View}
 use Rattle.worker_log.specs.declared.Entry.{Entry}
 use Rattle.span_laws.specs.Bodies.{Bodies, Marked}

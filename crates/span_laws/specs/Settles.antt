@@ -1,9 +1,10 @@
 -- What the end of a cycle tells the driver.
 use Rattle.std.specs.Prelude.{◌≡◌, List, ◌++◌}
 use Rattle.page_bitmap.specs.declared.line.Line.{Line}
-use Rattle.span_laws.specs.Answers.{IsToldOf}
+use Rattle.span_laws.specs.TakeAnswers.{IsToldOf}
 use Rattle.span_laws.specs.Cycle.{EndsCycle, cycle_ended}
-use Rattle.span_laws.specs.Views.{Seen, knows}
+use Rattle.span_laws.specs.Views.{Seen}
+use Rattle.span_laws.specs.Handed.{knows}
 
 -- The driver is told the whole journal, the lines of the cycle among it, and what is so of the cycle as it ends.
 abbrev pub SettlesCycle : Seen → Seen → Type 0

@@ -2,7 +2,7 @@
 use Rattle.std.specs.Prelude.{◌≡◌, ◌⊎◌, ℕ, ◌+◌, ◌<◌, true, false, length, Some, None}
 use Rattle.page_alloc.specs.Heap.{PageHeap}
 use Rattle.sweep_laws.specs.Lists.{has}
-use Rattle.sweep_laws.specs.Needs.{cell_of, set_of}
+use Rattle.sweep_laws.specs.Reading.{cell_of, set_of}
 use Rattle.sweep_laws.specs.State.{CoreState}
 use Rattle.span_state.specs.Bits.{bit_of, with_bit}
 use Rattle.span_state.specs.MarkSet.{has_pair}
@@ -16,7 +16,7 @@ use Rattle.span_laws.specs.declared.view.View.{View}
 use Rattle.span_laws.specs.Views.{span_at}
 use Rattle.span_laws.specs.Bodies.{lends}
 use Rattle.sweep_laws.specs.Counts.{times}
-use Rattle.worker_log.specs.Logs.{is_placing_in, many}
+use Rattle.worker_log.specs.Entries.{is_placing_in, many}
 
 -- two spans are one but for what is allocated and the free index
 pub record IsPlaceOf (s b : Span) : Type 0 where

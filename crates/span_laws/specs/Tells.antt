@@ -2,12 +2,12 @@
 use Rattle.std.specs.Prelude.{◌≡◌, ℕ, ◌+◌, ◌<◌, ◌≤◌, ◌==◌, ◌&&◌, true, false, List, length, slice_index, slice_index_or}
 use Rattle.sweep_laws.specs.Counts.{times}
 use Rattle.sweep_laws.specs.Lists.{has}
-use Rattle.sweep_laws.specs.Needs.{cell_of, class_of_set, is_swept_set, life_in, no_set}
+use Rattle.sweep_laws.specs.Reading.{cell_of, class_of_set, is_swept_set, life_in, no_set}
 use Rattle.sweep_laws.specs.State.{LifeState, SetState}
 use Rattle.span_laws.specs.declared.view.Part.{Part}
 use Rattle.swept_set_laws.specs.Entered.{IsSettled}
 use Rattle.span_laws.specs.Logs.{is_look, is_placing_at}
-use Rattle.worker_log.specs.Logs.{many, is_pop, is_pop_of, is_seen_empty}
+use Rattle.worker_log.specs.Entries.{many, is_pop, is_pop_of, is_seen_empty}
 use Rattle.span_laws.specs.Views.{has_cell}
 
 -- each cell below the tail of a set is filled, by a page of a region of at most 65536 pages

@@ -3,7 +3,7 @@ use Rattle.std.specs.Prelude.{◌≡◌, ℕ, List, ◌∷◌, length, slice_ind
 use Rattle.page_alloc.specs.Heap.{PageHeap}
 use Rattle.page_bitmap.specs.declared.line.Line.{Line}
 use Rattle.page_bitmap.specs.declared.line.Line.TheVariants.{Take as TakeLine, Miss as MissLine, Give as GiveLine}
-use Rattle.sweep_laws.specs.Needs.{cell_of, set_of}
+use Rattle.sweep_laws.specs.Reading.{cell_of, set_of}
 use Rattle.sweep_laws.specs.State.{CoreState}
 use Rattle.span_laws.specs.declared.said.Said.{Said}
 use Rattle.span_laws.specs.declared.said.Said.TheVariants.{Finds, Misses, Gives, Looks, LooksCell}

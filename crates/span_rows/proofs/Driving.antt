@@ -12,23 +12,28 @@ use Rattle.atomic_table.specs.Seated.{TableId}
 use Rattle.page_bitmap.specs.declared.line.Line.{Line}
 use Rattle.page_bitmap.specs.Counts.{one_if}
 use Rattle.sweep_laws.specs.Lists.{erase, has}
-use Rattle.sweep_laws.specs.Needs.{is_swept_set}
-use Rattle.sweep_laws.specs.Owned.{EachAt}
+use Rattle.sweep_laws.specs.Reading.{is_swept_set}
+use Rattle.sweep_laws.specs.OwnedLives.{EachAt}
 use Rattle.sweep_laws.proofs.Naming.{set_here}
 use Rattle.worker_log.specs.declared.Entry.TheVariants.{Looked}
-use Rattle.worker_log.specs.Logs.{is_placing_in, is_pop_of, is_seen_empty, many, swept_set}
+use Rattle.worker_log.specs.SetNumbers.{swept_set}
+use Rattle.worker_log.specs.Entries.{is_placing_in, is_pop_of, is_seen_empty, many}
 use Rattle.worker_log.proofs.Logs.{many-append}
 use Rattle.span_state.specs.MarkSet.{has_pair}
 use Rattle.span_state.specs.declared.body.Body.{Body}
 use Rattle.span_set.proofs.Numbers.{swept_is, swept_low}
-use Rattle.span_laws.specs.Asks.{IsFresh, IsUntouched, IsAtRest, IsIdle, IsKnown, MayMark, MayPlace, MaySettle}
+use Rattle.span_laws.specs.Asks.{IsFresh, IsUntouched, IsIdle, MayPlace}
+use Rattle.span_laws.specs.MarkEndAsks.{IsAtRest, IsKnown, MayMark, MaySettle}
 use Rattle.span_laws.specs.Logs.{is_placing_at}
 use Rattle.span_laws.specs.declared.said.Said.TheVariants.{Caches, Claims, Fills, Looks, Reads}
 use Rattle.span_laws.specs.declared.said.SaidOf.TheVariants.{Acquires, Places, Releases, Takes}
 use Rattle.span_laws.specs.declared.view.Part.{Part}
 use Rattle.span_laws.specs.declared.view.Span.{Span}
 use Rattle.span_laws.specs.declared.view.View.{View}
-use Rattle.span_laws.specs.Views.{Seen, acts, after_next, after_of, after_said, first_view, knows, no_part, parts_of, rested, span_of}
+use Rattle.span_laws.specs.Views.{Seen, acts, first_view, no_part, parts_of, span_of}
+use Rattle.span_laws.specs.OwnSteps.{after_of, after_said}
+use Rattle.span_laws.specs.Handed.{knows}
+use Rattle.span_laws.specs.MarkEnds.{after_next, rested}
 use Rattle.span_laws.proofs.MarkEnd.{map_at}
 use Rattle.span_laws.proofs.Parts.{has_end_else, has_end_here, set_else}
 use Rattle.span_laws.proofs.Start.{at_here, set_here as copy_here}

@@ -5,8 +5,10 @@ use Rattle.fallible_list.specs.declared.list.NoMemory.{NoMemory}
 use Rattle.atomic_table.specs.Seated.{TableId}
 use Rattle.span_state.specs.declared.body.Body.{Body}
 use Rattle.page_bitmap.specs.Counts.{one_if}
-use Rattle.sweep_laws.specs.Needs.{is_swept_set}
-use Rattle.span_laws.specs.Answers.{AcquiresSpan, RaisesSwept, RaisesUnswept, StepsOnce, TakesSpan, TriesSpan, UncachesSpan}
+use Rattle.sweep_laws.specs.Reading.{is_swept_set}
+use Rattle.span_laws.specs.TakeAnswers.{TakesSpan, TriesSpan}
+use Rattle.span_laws.specs.ScavengeAnswers.{StepsOnce}
+use Rattle.span_laws.specs.Answers.{AcquiresSpan, RaisesSwept, RaisesUnswept, UncachesSpan}
 use Rattle.span_laws.specs.Asks.{IsUntouched}
 use Rattle.span_laws.specs.declared.answers.Acquired.{Acquired}
 use Rattle.span_laws.specs.declared.answers.Acquired.TheVariants.{Got, Other}
@@ -19,8 +21,9 @@ use Rattle.span_laws.specs.declared.view.Part.{Part}
 use Rattle.span_laws.specs.declared.said.Said.TheVariants.{Looks, LooksCell}
 use Rattle.span_laws.specs.declared.said.SaidOf.TheVariants.{Places, Takes}
 use Rattle.span_laws.specs.declared.view.Span.{Span}
-use Rattle.worker_log.specs.Logs.{is_pop_of, is_seen_empty, many}
-use Rattle.span_laws.specs.Views.{Seen, acts, after_of, after_said, has_cell}
+use Rattle.worker_log.specs.Entries.{is_pop_of, is_seen_empty, many}
+use Rattle.span_laws.specs.Views.{Seen, acts, has_cell}
+use Rattle.span_laws.specs.OwnSteps.{after_of, after_said}
 use Rattle.span_set.specs.Pops.{PopsSwept, PopsUnswept}
 use Rattle.span_set.specs.declared.answers.Pop.{Pop}
 use Rattle.span_set.specs.declared.answers.Pop.TheVariants.{Taken, Empty, NotYet}

@@ -2,17 +2,19 @@
 use Rattle.std.specs.Prelude.{◌≡◌, ℕ, ◌<◌, Bool, true, false, None, List, ◌++◌, length}
 use Rattle.atomic_table.specs.Seated.{TableId}
 use Rattle.sweep_laws.specs.Lists.{has}
-use Rattle.sweep_laws.specs.Needs.{is_swept_set}
+use Rattle.sweep_laws.specs.Reading.{is_swept_set}
 use Rattle.span_state.specs.MarkSet.{has_pair}
 use Rattle.span_state.specs.declared.body.Body.{Body}
-use Rattle.sweep_laws.specs.Owned.{EachAt}
-use Rattle.span_laws.specs.Asks.{HasBody, IsFresh, IsFullBody, IsIdle, IsUsed}
+use Rattle.sweep_laws.specs.OwnedLives.{EachAt}
+use Rattle.span_laws.specs.BodyAsks.{IsFullBody, IsUsed}
+use Rattle.span_laws.specs.Asks.{HasBody, IsFresh, IsIdle}
 use Rattle.span_laws.specs.declared.view.Part.{Part}
 use Rattle.span_laws.specs.Logs.{is_placing_at}
 use Rattle.span_laws.specs.declared.said.Said.TheVariants.{Reads}
 use Rattle.worker_log.specs.declared.Entry.{Entry}
-use Rattle.span_laws.specs.Views.{Seen, acts, after_said, parts_of}
-use Rattle.worker_log.specs.Logs.{is_placing_in, is_pop_of, is_seen_empty, many}
+use Rattle.span_laws.specs.Views.{Seen, acts, parts_of}
+use Rattle.span_laws.specs.OwnSteps.{after_said}
+use Rattle.worker_log.specs.Entries.{is_placing_in, is_pop_of, is_seen_empty, many}
 
 -- The worker has the state of this table, and has claimed nothing.
 pub record IsReady (t : TableId) (w : Seen) : Type 0 where

@@ -1,5 +1,5 @@
 ghost use Rattle.std.specs.Prelude.{◌≡◌, ◌<◌, IfOk, Some, false, true};
-ghost use Rattle.sweep_laws.specs.Needs.{is_swept_set};
+ghost use Rattle.sweep_laws.specs.Reading.{is_swept_set};
 ghost use Rattle.span_rows.specs.Claims.{KeepsClaim};
 ghost use Rattle.span_rows.specs.Rows.{HoldsLarge, IsReady};
 

@@ -4,7 +4,7 @@ use Rattle.std.specs.Prelude.{Ok, Err}
 use Rattle.std.specs.List.{AllByRecursion}
 use Rattle.worker_log.specs.declared.Entry.{Entry}
 use Rattle.worker_log.specs.declared.Entry.TheVariants.{Looked, Read}
-use Rattle.worker_log.specs.Logs.{is_pop, is_pop_of, many}
+use Rattle.worker_log.specs.Entries.{is_pop, is_pop_of, many}
 use Rattle.worker_log.proofs.Logs.{many-append}
 use Rattle.span_state.specs.declared.body.Body.{Body}
 use Rattle.span_laws.specs.declared.said.Said.TheVariants.{Looks, LooksCell, PopsEntry, Reads}
@@ -13,7 +13,8 @@ use Rattle.span_laws.specs.declared.view.Cell.{Cell}
 use Rattle.span_laws.specs.Answers.{IsAhead, RaisesSwept, RaisesUnswept}
 use Rattle.span_laws.specs.Asks.{IsTaken}
 use Rattle.span_laws.specs.Logs.{is_look}
-use Rattle.span_laws.specs.Views.{Seen, after_of, after_said, cells_read, has_cell, span_of}
+use Rattle.span_laws.specs.Views.{Seen, has_cell, span_of}
+use Rattle.span_laws.specs.OwnSteps.{after_of, after_said, cells_read}
 use Rattle.span_set.specs.declared.answers.Pop.{Pop}
 use Rattle.span_set.specs.declared.answers.Pop.TheVariants.{Taken, Empty, NotYet}
 use Rattle.span_set.specs.declared.answers.PopBase.TheVariants.{Popped}

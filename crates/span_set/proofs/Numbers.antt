@@ -1,8 +1,8 @@
 -- The numbers of sets.
 use Rattle.std.proofs.Common.{◌≡◌, ℕ, ◌/◌, ◌%◌, ◌<◌, ◌≤◌, Bool, eq-eqb, ne_eqb, true, false, arith}
 use Rattle.page_bitmap.specs.Counts.{one_if}
-use Rattle.sweep_laws.specs.Needs.{class_of_set, is_swept_set}
-use Rattle.worker_log.specs.Logs.{is_full_set, swept_set, unswept_set}
+use Rattle.sweep_laws.specs.Reading.{class_of_set, is_swept_set}
+use Rattle.worker_log.specs.SetNumbers.{is_full_set, swept_set, unswept_set}
 
 pub few : (b : Bool) → one_if b ≤ 1
 few true = omega arith

@@ -2,11 +2,13 @@
 use Rattle.std.proofs.Common.{◌≡◌, ℕ, Bool, true, false, ap, sym, ◌∙◌, arith, subst}
 use Rattle.page_bitmap.specs.Counts.{one_if}
 use Rattle.span_state.specs.declared.body.Body.{Body}
-use Rattle.sweep_laws.specs.Needs.{class_of_set}
-use Rattle.worker_log.specs.Logs.{is_full_set, is_placing_in, is_pop_of, many, swept_set}
+use Rattle.sweep_laws.specs.Reading.{class_of_set}
+use Rattle.worker_log.specs.SetNumbers.{is_full_set, swept_set}
+use Rattle.worker_log.specs.Entries.{is_placing_in, is_pop_of, many}
 use Rattle.span_laws.specs.declared.said.Said.TheVariants.{Reads}
 use Rattle.span_laws.specs.Answers.{IsOfSet}
-use Rattle.span_laws.specs.Views.{Seen, after_said}
+use Rattle.span_laws.specs.Views.{Seen}
+use Rattle.span_laws.specs.OwnSteps.{after_said}
 use Rattle.span_set.specs.declared.sets.SetId.{SetId}
 use Rattle.span_set.specs.Sets.{MayPush, swept_of}
 use Rattle.span_set.proofs.Numbers.{class_is, few, full_is, partial_is}

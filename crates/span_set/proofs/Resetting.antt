@@ -4,10 +4,11 @@ use Rattle.std.proofs.lemmas.List.{append-nil}
 use mathlib.Core.Logic.{dite}
 use native.Mathlib.Decide.{ℕ_discrete}
 use Rattle.sweep_laws.specs.Lists.{has}
-use Rattle.sweep_laws.specs.Needs.{is_swept_set}
-use Rattle.worker_log.specs.Logs.{is_seen_empty, many}
+use Rattle.sweep_laws.specs.Reading.{is_swept_set}
+use Rattle.worker_log.specs.Entries.{is_seen_empty, many}
 use Rattle.span_laws.specs.declared.said.Said.TheVariants.{Reads, Resets as ResetsSet}
-use Rattle.span_laws.specs.Views.{Seen, acts, after_said}
+use Rattle.span_laws.specs.Views.{Seen, acts}
+use Rattle.span_laws.specs.OwnSteps.{after_said}
 use Rattle.span_laws.proofs.Parts.{has_end_else, has_end_here}
 use Rattle.span_set.specs.Resets.{ResetsBelow}
 

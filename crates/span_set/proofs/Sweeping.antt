@@ -11,8 +11,10 @@ use Rattle.worker_log.specs.declared.Entry.TheVariants.{Added, Read, Swept as Sw
 use Rattle.span_laws.specs.declared.view.Span.{Span}
 use Rattle.span_laws.specs.declared.said.Said.TheVariants.{Adds, Reads}
 use Rattle.span_laws.specs.declared.said.SaidOf.TheVariants.{Releases}
-use Rattle.span_laws.specs.Asks.{HasMarks, HasSpan}
-use Rattle.span_laws.specs.Views.{Seen, after_of, after_said, no_span, span_at, span_of, swept_entry}
+use Rattle.span_laws.specs.BodyAsks.{HasMarks}
+use Rattle.span_laws.specs.Asks.{HasSpan}
+use Rattle.span_laws.specs.Views.{Seen, no_span, span_at, span_of}
+use Rattle.span_laws.specs.OwnSteps.{after_of, after_said, swept_entry}
 use Rattle.span_set.specs.Sweeps.{MaySweep, SweepsBody, SweepsInHand}
 
 pub may_mark : (marks : MarkSet) (b : Body) (w : Seen) → MaySweep marks b w → (k : ℕ) → is_marked marks b.page k ≡ true → allocated b k ≡ true

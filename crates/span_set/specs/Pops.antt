@@ -8,8 +8,9 @@ use Rattle.span_laws.specs.declared.said.SaidOf.TheVariants.{Pops}
 use Rattle.span_laws.specs.declared.view.Cell.{Cell}
 use Rattle.span_laws.specs.Answers.{IsOfSet}
 use Rattle.span_laws.specs.Asks.{IsTaken}
-use Rattle.worker_log.specs.Logs.{is_pop, many}
-use Rattle.span_laws.specs.Views.{Seen, acts, after_of, after_said, span_of}
+use Rattle.worker_log.specs.Entries.{is_pop, many}
+use Rattle.span_laws.specs.Views.{Seen, acts, span_of}
+use Rattle.span_laws.specs.OwnSteps.{after_of, after_said}
 use Rattle.span_set.specs.declared.answers.Pop.{Pop}
 use Rattle.span_set.specs.declared.answers.Pop.TheVariants.{Taken, Empty, NotYet}
 use Rattle.span_set.specs.declared.answers.PopBase.{PopBase}

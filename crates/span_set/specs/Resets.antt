@@ -1,9 +1,10 @@
 -- What a reset of all unswept sets did.
 use Rattle.std.specs.Prelude.{◌≡◌, ℕ, ◌<◌, true, false, List, ◌++◌}
 use Rattle.sweep_laws.specs.Lists.{has}
-use Rattle.sweep_laws.specs.Needs.{is_swept_set}
+use Rattle.sweep_laws.specs.Reading.{is_swept_set}
 use Rattle.span_laws.specs.declared.said.Said.TheVariants.{Reads}
-use Rattle.span_laws.specs.Views.{Seen, acts, after_said}
+use Rattle.span_laws.specs.Views.{Seen, acts}
+use Rattle.span_laws.specs.OwnSteps.{after_said}
 
 -- a worker that reset these sets besides
 abbrev pub with_resets : List ℕ → Seen → Seen

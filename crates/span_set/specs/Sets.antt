@@ -2,8 +2,9 @@
 use Rattle.std.specs.Prelude.{◌≡◌, ℕ, true, false}
 use Rattle.page_bitmap.specs.Counts.{one_if}
 use Rattle.span_state.specs.declared.body.Body.{Body}
-use Rattle.worker_log.specs.Logs.{is_placing_in, is_pop_of, many, swept_set, unswept_set}
-use Rattle.span_laws.specs.Asks.{HasRoom, IsFullBody, IsUsed}
+use Rattle.worker_log.specs.SetNumbers.{swept_set, unswept_set}
+use Rattle.worker_log.specs.Entries.{is_placing_in, is_pop_of, many}
+use Rattle.span_laws.specs.BodyAsks.{HasRoom, IsFullBody, IsUsed}
 use Rattle.span_laws.specs.Views.{Seen}
 use Rattle.span_set.specs.declared.sets.SetId.{SetId}
 

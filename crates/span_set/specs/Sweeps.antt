@@ -10,9 +10,11 @@ use Rattle.sweep_laws.specs.Lists.{has}
 use Rattle.worker_log.specs.declared.Entry.TheVariants.{Added, Read, Swept as SweptEntry}
 use Rattle.span_laws.specs.declared.said.Said.TheVariants.{Adds, Reads}
 use Rattle.span_laws.specs.declared.said.SaidOf.TheVariants.{Releases}
-use Rattle.span_laws.specs.Answers.{cycle_at}
-use Rattle.span_laws.specs.Asks.{HasBody, HasMarked}
-use Rattle.span_laws.specs.Views.{Seen, after_of, after_said, span_of}
+use Rattle.span_laws.specs.TakeAnswers.{cycle_at}
+use Rattle.span_laws.specs.BodyAsks.{HasMarked}
+use Rattle.span_laws.specs.Asks.{HasBody}
+use Rattle.span_laws.specs.Views.{Seen, span_of}
+use Rattle.span_laws.specs.OwnSteps.{after_of, after_said}
 
 -- a worker may sweep a body by marks: it sweeps the span and was lent the body, the marks are those of the last mark end, and each marked
 -- index of the page is allocated

@@ -1,7 +1,7 @@
 ghost use Rattle.std.specs.Prelude.{◌≡◌, ◌<◌, ◌≤◌, true, false};
-ghost use Rattle.sweep_laws.specs.Needs.{is_swept_set};
+ghost use Rattle.sweep_laws.specs.Reading.{is_swept_set};
 ghost use Rattle.span_laws.specs.Logs.{is_look};
-ghost use Rattle.worker_log.specs.Logs.{many};
+ghost use Rattle.worker_log.specs.Entries.{many};
 ghost use Rattle.span_set.specs.Pops.{PopsSwept, PopsUnswept, TriesSwept, TriesUnswept};
 ghost use Rattle.span_set.specs.Sets.{swept_of, unswept_of};
 

@@ -1,7 +1,7 @@
 ghost use Rattle.std.specs.Prelude.{◌≡◌, ◌<◌, true, None, Some};
 ghost use Rattle.sweep_laws.specs.Lists.{has};
 ghost use Rattle.span_laws.specs.Asks.{HasBody};
-ghost use Rattle.span_laws.specs.Views.{after_said};
+ghost use Rattle.span_laws.specs.OwnSteps.{after_said};
 ghost use Rattle.span_set.specs.Sets.{MayPush, swept_of};
 
 use crate::sets::{Claim, SetId, swept_number};

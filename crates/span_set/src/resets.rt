@@ -1,6 +1,6 @@
 ghost use Rattle.std.specs.Prelude.{◌≡◌, ℕ, ◌<◌, true, false};
-ghost use Rattle.sweep_laws.specs.Needs.{is_swept_set};
-ghost use Rattle.worker_log.specs.Logs.{is_seen_empty, many};
+ghost use Rattle.sweep_laws.specs.Reading.{is_swept_set};
+ghost use Rattle.worker_log.specs.Entries.{is_seen_empty, many};
 ghost use Rattle.span_set.specs.Resets.{Resets};
 
 use span_table::{Shared, Worker};

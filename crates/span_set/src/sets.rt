@@ -1,5 +1,5 @@
 ghost use Rattle.std.specs.Prelude.{◌≡◌, ◌<◌, false, true};
-ghost use Rattle.sweep_laws.specs.Needs.{is_swept_set};
+ghost use Rattle.sweep_laws.specs.Reading.{is_swept_set};
 ghost use Rattle.span_set.specs.Sets.{swept_of, unswept_of};
 
 /// The partial or the full sets of a span class, from 0 to 135. Of its two parts one is the swept one, the other the unswept one,

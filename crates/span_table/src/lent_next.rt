@@ -1,8 +1,9 @@
 ghost use Rattle.std.specs.Prelude.{◌≡◌, true, Some};
 ghost use Rattle.sweep_laws.specs.Lists.{rises};
-ghost use Rattle.span_laws.specs.Asks.{KnowsJournal, MayMark, MaySettle};
+ghost use Rattle.span_laws.specs.Asks.{KnowsJournal};
+ghost use Rattle.span_laws.specs.MarkEndAsks.{MayMark, MaySettle};
 ghost use Rattle.span_laws.specs.Settles.{SettlesCycle};
-ghost use Rattle.span_laws.specs.Views.{after_next};
+ghost use Rattle.span_laws.specs.MarkEnds.{after_next};
 
 use crate::lent::{Counts, Lent};
 use crate::make::make;

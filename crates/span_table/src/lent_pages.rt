@@ -1,14 +1,20 @@
 ghost use Rattle.std.specs.Prelude.{◌≡◌, ◌⊎◌, ℕ, ◌+◌, ◌-◌, ◌*◌, ◌/◌, ◌<◌, ◌≤◌, true, None, Some, List, length, OnOk, OnErr, IfOk};
-ghost use Rattle.page_alloc.specs.Journal.{HasNoRun, IsBy, IsSpanSize, Legal, open_lives, past_of, taken};
+ghost use Rattle.page_alloc.specs.Owners.{taken};
+ghost use Rattle.page_alloc.specs.Lives.{open_lives};
+ghost use Rattle.page_alloc.specs.FreeRuns.{HasNoRun, IsSpanSize};
+ghost use Rattle.page_alloc.specs.Journal.{IsBy, Legal, past_of};
 ghost use Rattle.page_alloc.specs.Heap.{HasMoreRoom};
 ghost use Rattle.size_classes.specs.Classes.{IsClass, objects_of, slot_of};
 ghost use Rattle.sweep_laws.specs.Lists.{has};
-ghost use Rattle.span_laws.specs.Answers.{IsNew, IsToldOf, NoRunFree, StepsOnce, TakesNew, TakesSpan, TriesSpan, cycle_at};
-ghost use Rattle.span_laws.specs.Asks.{HasBody, IsEmptyBody, KnowsJournal};
+ghost use Rattle.span_laws.specs.TakeAnswers.{IsNew, IsToldOf, NoRunFree, TakesNew, TakesSpan, TriesSpan, cycle_at};
+ghost use Rattle.span_laws.specs.ScavengeAnswers.{StepsOnce};
+ghost use Rattle.span_laws.specs.BodyAsks.{IsEmptyBody};
+ghost use Rattle.span_laws.specs.Asks.{HasBody, KnowsJournal};
 ghost use Rattle.span_laws.specs.Logs.{EndsSweptEmpty};
-ghost use Rattle.worker_log.specs.Logs.{is_swept_last};
+ghost use Rattle.worker_log.specs.SweptLast.{is_swept_last};
 ghost use Rattle.span_laws.specs.Truth.{IsSo, IsSoOf};
-ghost use Rattle.span_laws.specs.Views.{acts, after_said, span_of, told, told_of};
+ghost use Rattle.span_laws.specs.Views.{acts, span_of};
+ghost use Rattle.span_laws.specs.OwnSteps.{after_said, told, told_of};
 
 use crate::lent::Lent;
 use crate::make::{give_run, take_run};

@@ -2,13 +2,15 @@ ghost use Rattle.std.specs.Prelude.{◌≡◌, ℕ, ◌+◌, ◌%◌, ◌^◌, �
 ghost use Rattle.sweep_laws.specs.Lists.{has};
 ghost use Rattle.span_state.specs.Bits.{HasFree, with_bit};
 ghost use Rattle.span_state.specs.Spans.{allocated, IsSameSpan};
-ghost use Rattle.sweep_laws.specs.Needs.{refusal};
+ghost use Rattle.sweep_laws.specs.NeedsOfRange.{refusal};
 ghost use Rattle.sweep_laws.specs.Step.{needs_of};
 ghost use Rattle.span_laws.specs.Answers.{AcquiresSpan, UncachesSpan};
-ghost use Rattle.span_laws.specs.Asks.{HasBody, HasMarks, HasSpan, MayPlace};
+ghost use Rattle.span_laws.specs.BodyAsks.{HasMarks};
+ghost use Rattle.span_laws.specs.Asks.{HasBody, HasSpan, MayPlace};
 ghost use Rattle.span_laws.specs.Moves.{move_on};
 ghost use Rattle.span_laws.specs.Rule.{Rule};
-ghost use Rattle.span_laws.specs.Views.{Seen, acts, after_of, after_said, span_of, told, told_of};
+ghost use Rattle.span_laws.specs.Views.{Seen, acts, span_of};
+ghost use Rattle.span_laws.specs.OwnSteps.{after_of, after_said, told, told_of};
 
 use crate::homes::take_home;
 use crate::lent::{Lent, apply, apply_of, note};

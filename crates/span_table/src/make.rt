@@ -1,7 +1,8 @@
 ghost use Rattle.std.specs.Prelude.{◌≡◌, ℕ, ◌+◌, ◌<◌, ◌≤◌, None, true, length, slice_index_or};
 ghost use Rattle.sweep_laws.specs.Changes.{after_give, after_take};
 ghost use Rattle.sweep_laws.specs.Lists.{has};
-ghost use Rattle.sweep_laws.specs.Needs.{allocated_at, hand_of, refusal};
+ghost use Rattle.sweep_laws.specs.Reading.{allocated_at, hand_of};
+ghost use Rattle.sweep_laws.specs.NeedsOfRange.{refusal};
 ghost use Rattle.sweep_laws.specs.Owned.{Owned};
 ghost use Rattle.sweep_laws.specs.Step.{needs_of, after, reply_of};
 ghost use Rattle.sweep_laws.specs.Tidy.{IsTidy, HasSpace, IsProvided};

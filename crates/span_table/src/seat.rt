@@ -1,5 +1,8 @@
 ghost use Rattle.std.specs.Prelude.{◌≡◌};
-ghost use Rattle.span_laws.specs.Views.{acts, handed, knowing, marked, span_of, told, told_of};
+ghost use Rattle.span_laws.specs.Views.{acts, span_of};
+ghost use Rattle.span_laws.specs.OwnSteps.{told, told_of};
+ghost use Rattle.span_laws.specs.Handed.{handed, knowing};
+ghost use Rattle.span_laws.specs.MarkEnds.{marked};
 
 use crate::shared::Shared;
 use atomic_table::{Play, Seat};
@@ -28,7 +31,8 @@ struct Telling<J> {
 
 impl<J: Tells> Play<(), View> for Telling<J> {
     ghost use Rattle.std.specs.Prelude.{◌≡◌};
-    ghost use Rattle.span_laws.specs.Views.{acts, told};
+    ghost use Rattle.span_laws.specs.Views.{acts};
+    ghost use Rattle.span_laws.specs.OwnSteps.{told};
 
     ghost then = { λ _ m _ w. w ≡ (acts m.0 (told J.said m.0.own), m.1) };
 }
@@ -58,7 +62,8 @@ struct TellingOf<J> {
 
 impl<J: TellsOf> Play<(), View> for TellingOf<J> {
     ghost use Rattle.std.specs.Prelude.{◌≡◌};
-    ghost use Rattle.span_laws.specs.Views.{acts, told_of};
+    ghost use Rattle.span_laws.specs.Views.{acts};
+    ghost use Rattle.span_laws.specs.OwnSteps.{told_of};
 
     ghost then = { λ _ m _ w. w ≡ (acts m.0 (told_of J.said J.span m.0.own), m.1) };
 }
@@ -84,7 +89,7 @@ struct Handing<J> {
 
 impl<J: Hands> Play<(), View> for Handing<J> {
     ghost use Rattle.std.specs.Prelude.{◌≡◌};
-    ghost use Rattle.span_laws.specs.Views.{handed};
+    ghost use Rattle.span_laws.specs.Handed.{handed};
 
     ghost then = { λ _ m _ w. w ≡ (handed J.from J.to m.0, m.1) };
 }
@@ -112,7 +117,7 @@ struct MarkingBy<J> {
 
 impl<J: Marking> Play<(), View> for MarkingBy<J> {
     ghost use Rattle.std.specs.Prelude.{◌≡◌};
-    ghost use Rattle.span_laws.specs.Views.{marked};
+    ghost use Rattle.span_laws.specs.MarkEnds.{marked};
 
     ghost then = { λ _ m _ w. w ≡ (marked J.number J.marks m.0, m.1) };
 }
@@ -215,7 +220,7 @@ struct TellingJournal<J> {
 
 impl<J: Journals> Play<(), View> for TellingJournal<J> {
     ghost use Rattle.std.specs.Prelude.{◌≡◌};
-    ghost use Rattle.span_laws.specs.Views.{knowing};
+    ghost use Rattle.span_laws.specs.Handed.{knowing};
 
     ghost then = { λ _ m _ w. w ≡ (knowing J.past m.0, m.1) };
 }

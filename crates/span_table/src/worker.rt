@@ -1,7 +1,8 @@
 ghost use Rattle.std.specs.Prelude.{◌≡◌, ◌*◌, ◌<◌, ◌≤◌, IfOk, OnErr, None, true, false, length};
 ghost use Rattle.sweep_laws.specs.Start.{copies};
 ghost use Rattle.span_laws.specs.Asks.{IsIdle};
-ghost use Rattle.span_laws.specs.Views.{Seen, as_number, first_view};
+ghost use Rattle.span_laws.specs.Views.{Seen, first_view};
+ghost use Rattle.span_laws.specs.Handed.{as_number};
 
 use crate::lent::Lent;
 use crate::shared::{Shared, Size};

@@ -1,13 +1,19 @@
 ghost use Rattle.std.specs.Prelude.{◌≡◌, ◌<◌, true, None, Some, List, IfOk};
-ghost use Rattle.page_alloc.specs.Journal.{IsSpanSize, Legal, past_of, taken};
+ghost use Rattle.page_alloc.specs.Owners.{taken};
+ghost use Rattle.page_alloc.specs.FreeRuns.{IsSpanSize};
+ghost use Rattle.page_alloc.specs.Journal.{Legal, past_of};
 ghost use Rattle.page_bitmap.specs.declared.line.Line.{Line};
 ghost use Rattle.sweep_laws.specs.Lists.{has, rises};
-ghost use Rattle.span_laws.specs.Answers.{IsToldOf, StepsOnce, TakesSpan, TriesSpan};
-ghost use Rattle.span_laws.specs.Asks.{HasBody, IsEmptyBody, KnowsJournal, MayMark, MaySettle};
+ghost use Rattle.span_laws.specs.TakeAnswers.{IsToldOf, TakesSpan, TriesSpan};
+ghost use Rattle.span_laws.specs.ScavengeAnswers.{StepsOnce};
+ghost use Rattle.span_laws.specs.BodyAsks.{IsEmptyBody};
+ghost use Rattle.span_laws.specs.Asks.{HasBody, KnowsJournal};
+ghost use Rattle.span_laws.specs.MarkEndAsks.{MayMark, MaySettle};
 ghost use Rattle.span_laws.specs.Logs.{EndsSweptEmpty};
 ghost use Rattle.span_laws.specs.Settles.{SettlesCycle};
-ghost use Rattle.worker_log.specs.Logs.{is_swept_last};
-ghost use Rattle.span_laws.specs.Views.{after_next, after_said};
+ghost use Rattle.worker_log.specs.SweptLast.{is_swept_last};
+ghost use Rattle.span_laws.specs.OwnSteps.{after_said};
+ghost use Rattle.span_laws.specs.MarkEnds.{after_next};
 
 use crate::shared::Shared;
 use crate::worker::Worker;

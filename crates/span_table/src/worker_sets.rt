@@ -1,11 +1,13 @@
 ghost use Rattle.std.specs.Prelude.{◌≡◌, ℕ, ◌<◌, ◌≤◌, true, false, None, Some};
 ghost use Rattle.sweep_laws.specs.Lists.{has};
-ghost use Rattle.sweep_laws.specs.Needs.{is_swept_set};
+ghost use Rattle.sweep_laws.specs.Reading.{is_swept_set};
 ghost use Rattle.span_laws.specs.Answers.{IsAhead, IsOfSet, RaisesSwept, RaisesUnswept};
 ghost use Rattle.span_laws.specs.Asks.{HasBody};
 ghost use Rattle.span_laws.specs.Logs.{is_look};
-ghost use Rattle.worker_log.specs.Logs.{is_full_set, is_placing_in, is_pop_of, is_seen_empty, many};
-ghost use Rattle.span_laws.specs.Views.{after_said, has_cell};
+ghost use Rattle.worker_log.specs.SetNumbers.{is_full_set};
+ghost use Rattle.worker_log.specs.Entries.{is_placing_in, is_pop_of, is_seen_empty, many};
+ghost use Rattle.span_laws.specs.Views.{has_cell};
+ghost use Rattle.span_laws.specs.OwnSteps.{after_said};
 
 use crate::shared::Shared;
 use crate::worker::Worker;

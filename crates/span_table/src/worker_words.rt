@@ -3,8 +3,10 @@ ghost use Rattle.sweep_laws.specs.Lists.{has};
 ghost use Rattle.span_state.specs.Bits.{HasFree, with_bit};
 ghost use Rattle.span_state.specs.Spans.{allocated, IsSameSpan};
 ghost use Rattle.span_laws.specs.Answers.{AcquiresSpan, UncachesSpan};
-ghost use Rattle.span_laws.specs.Asks.{HasBody, HasMarks, HasSpan, MayPlace};
-ghost use Rattle.span_laws.specs.Views.{after_of, after_said, span_of};
+ghost use Rattle.span_laws.specs.BodyAsks.{HasMarks};
+ghost use Rattle.span_laws.specs.Asks.{HasBody, HasSpan, MayPlace};
+ghost use Rattle.span_laws.specs.Views.{span_of};
+ghost use Rattle.span_laws.specs.OwnSteps.{after_of, after_said};
 
 use crate::shared::Shared;
 use crate::worker::Worker;

@@ -16,7 +16,7 @@ use Rattle.sweep_generation.specs.declared.state.Core.TheInside.{Inside}
 use Rattle.sweep_lists.specs.declared.hand.CoreHand.{CoreHand}
 use Rattle.sweep_lists.specs.declared.set.CoreSet.{CoreSet}
 use Rattle.sweep_laws.specs.State.{CoreState, HandState, LifeState, SetState}
-use Rattle.sweep_laws.specs.Needs.{no_hand, no_set, hand_of, set_of}
+use Rattle.sweep_laws.specs.Reading.{no_hand, no_set, hand_of, set_of}
 use Rattle.sweep_lists.specs.Views.{hand_view, set_view, HandRoom}
 use Rattle.sweep_generation.specs.Kept.{core_view, IsKept}
 use Rattle.sweep_lists.proofs.Maps.{map-changed}

@@ -6,7 +6,7 @@ use Rattle.sweep_laws.specs.declared.moves.Move.{Move}
 use Rattle.sweep_laws.specs.declared.moves.StepFault.{StepFault}
 use Rattle.sweep_laws.specs.declared.moves.StepFault.TheVariants.{NotAllowed, NoMemory}
 use Rattle.sweep_laws.specs.State.{CoreState}
-use Rattle.sweep_laws.specs.Needs.{is_holder}
+use Rattle.sweep_laws.specs.NeedsOfPages.{is_holder}
 use Rattle.sweep_laws.specs.Step.{needs_of, Steps}
 use Rattle.sweep_laws.specs.Tries.{Tried}
 

@@ -4,7 +4,8 @@
 
 ghost use Rattle.std.specs.Prelude.{◌≡◌, ◌≤◌, ℕ, map};
 ghost use Rattle.std.specs.List.{All};
-ghost use Rattle.sweep_laws.specs.Changes.{empty_unswept as unswept_emptied, forget_swept as swept_forgotten};
+ghost use Rattle.sweep_laws.specs.ChangesOfHands.{forget_swept as swept_forgotten};
+ghost use Rattle.sweep_laws.specs.ChangesOfSets.{empty_unswept as unswept_emptied};
 ghost use Rattle.sweep_lists.specs.Views.{hand_view, set_view, HandRoom};
 ghost use Rattle.sweep_laws.specs.Step.{Steps};
 

@@ -4,7 +4,8 @@ ghost use Rattle.std.specs.Prelude.{◌≡◌, option_copied};
 ghost use Rattle.std.specs.List.{find, position};
 ghost use Rattle.std.specs.Option.{is_some};
 ghost use Rattle.sweep_laws.specs.Lists.{has, least_of};
-ghost use Rattle.sweep_laws.specs.Needs.{listed, owner_in};
+ghost use Rattle.sweep_laws.specs.Reading.{listed};
+ghost use Rattle.sweep_laws.specs.NeedsOfPages.{owner_in};
 ghost use Rattle.sweep_lists.specs.Views.{hand_view};
 
 use sweep_laws::Kind;

@@ -2,24 +2,11 @@
 //! Here are the parts that all moves share, and the needs of the lock, of sweeps and of caches.
 
 ghost use Rattle.std.specs.Prelude.{◌≡◌, ◌<◌, ◌^◌, OnOk, IfSome, length, option_map, IsTrue, [], ◌∷◌};
-ghost use Rattle.sweep_laws.specs.Needs.{
-  need,
-  worker_in_range,
-  page_in_range,
-  lock_is_own,
-  lists,
-  lister,
-  claims_nothing,
-  life_at,
-  lock_needs,
-  unlock_needs,
-  acquire_needs,
-  release_needs,
-  cache_needs,
-  uncache_needs,
-  stale_uncache_needs,
-  drop_popped_needs,
-};
+ghost use Rattle.sweep_laws.specs.Reading.{lister, life_at};
+ghost use Rattle.sweep_laws.specs.NeedsOfRange.{need, worker_in_range, page_in_range};
+ghost use Rattle.sweep_laws.specs.NeedsOfPages.{lock_is_own, lists};
+ghost use Rattle.sweep_laws.specs.NeedsOfSets.{claims_nothing};
+ghost use Rattle.sweep_laws.specs.Needs.{lock_needs, unlock_needs, acquire_needs, release_needs, cache_needs, uncache_needs, stale_uncache_needs, drop_popped_needs};
 ghost use Rattle.sweep_laws.specs.Tries.{Tried};
 ghost use Rattle.sweep_lists.specs.Views.{life_view};
 

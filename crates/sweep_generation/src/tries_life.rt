@@ -1,22 +1,10 @@
 //! The needs of Take, Give and Allocate, in their order. They read, and write nothing.
 
 ghost use Rattle.std.specs.Prelude.{◌≡◌, ◌<◌, ◌≤◌, ◌+◌, OnOk, length, [], ◌∷◌};
-ghost use Rattle.sweep_laws.specs.Needs.{
-  need,
-  run_in_range,
-  class_in_range,
-  nothing_allocated,
-  run_is_free,
-  run_owner,
-  take_needs,
-  give_needs,
-  allocate_needs,
-  is_at_hand,
-  may_allocate,
-  is_least_free,
-  free_index,
-  life_of,
-};
+ghost use Rattle.sweep_laws.specs.Reading.{life_of};
+ghost use Rattle.sweep_laws.specs.NeedsOfRange.{need, run_in_range, class_in_range};
+ghost use Rattle.sweep_laws.specs.NeedsOfPages.{nothing_allocated, run_is_free, run_owner, is_at_hand, may_allocate, is_least_free, free_index};
+ghost use Rattle.sweep_laws.specs.Needs.{take_needs, give_needs, allocate_needs};
 ghost use Rattle.sweep_laws.specs.Tries.{Tried};
 
 use crate::scan::{first_owner, least};

@@ -4,23 +4,9 @@ ghost use Rattle.std.specs.Prelude.{◌≡◌, ◌==◌, ◌<◌, ◌+◌, ◌^�
 ghost use Rattle.std.specs.List.{find, position};
 ghost use Rattle.std.specs.Option.{is_some};
 ghost use Rattle.sweep_laws.specs.Lists.{has, rises, is_before as stands_before};
-ghost use Rattle.sweep_laws.specs.Needs.{
-  busy_hand,
-  hands_are_idle,
-  first_claim,
-  no_claims,
-  claim_index as claimed_at,
-  is_idle,
-  is_settled,
-  words_are_settled,
-  first_unpopped,
-  sets_are_popped,
-  is_swept_set,
-  is_allocated,
-  wrong_mark,
-  marks_are_allocated,
-  next_needs,
-};
+ghost use Rattle.sweep_laws.specs.Reading.{is_settled, is_swept_set};
+ghost use Rattle.sweep_laws.specs.NeedsOfMarkEnd.{busy_hand, hands_are_idle, first_claim, no_claims, claim_index as claimed_at, is_idle, words_are_settled, first_unpopped, sets_are_popped, is_allocated, wrong_mark, marks_are_allocated};
+ghost use Rattle.sweep_laws.specs.Needs.{next_needs};
 ghost use Rattle.sweep_laws.specs.Tries.{Tried};
 ghost use Rattle.sweep_lists.specs.Views.{hand_view, set_view};
 

@@ -1,25 +1,11 @@
 //! The needs of pushes and pops, in their order. They read, and write nothing.
 
 ghost use Rattle.std.specs.Prelude.{◌≡◌, ◌<◌, OnOk, IfOk, length, Some, [], ◌∷◌};
-ghost use Rattle.sweep_laws.specs.Needs.{
-  hand_of,
-  set_of,
-  cell_of,
-  set_in_range,
-  part_is_swept,
-  part_is_unswept,
-  life_begins,
-  class_is_of_set,
-  is_swept_set as is_of_swept_part,
-  claim_needs,
-  fill_needs,
-  pop_swept_needs,
-  pop_unswept_needs,
-  has_entries,
-  tail_has_room,
-  cell_is_filled,
-};
-ghost use Rattle.sweep_laws.specs.Changes.{head_base as base_at_head};
+ghost use Rattle.sweep_laws.specs.Reading.{hand_of, set_of, cell_of, is_swept_set as is_of_swept_part};
+ghost use Rattle.sweep_laws.specs.NeedsOfRange.{set_in_range};
+ghost use Rattle.sweep_laws.specs.NeedsOfSets.{part_is_swept, part_is_unswept, life_begins, class_is_of_set, has_entries, tail_has_room, cell_is_filled};
+ghost use Rattle.sweep_laws.specs.Needs.{claim_needs, fill_needs, pop_swept_needs, pop_unswept_needs};
+ghost use Rattle.sweep_laws.specs.ChangesOfSets.{head_base as base_at_head};
 ghost use Rattle.sweep_laws.specs.Tries.{Tried};
 
 use crate::state::Core;

@@ -6,7 +6,10 @@ use lib.ListN.{get_elem?}
 use Rattle.sweep_laws.specs.State.{LifeState, HandState, CoreState}
 use Rattle.sweep_laws.specs.Counts.{one_if}
 use Rattle.sweep_laws.specs.Named.{claimers, is_covered, covers, is_class}
-use Rattle.sweep_laws.specs.Owned.{Owned, IsPage, NamesOnce, LivesAreApart, FreeIsNobodys, UnsweptIsQueued, SweepingIsOnes, SweptIsOnes, CachedIsOnes, NamedOnce, SetsAreFilled, SweptOnce, ObjectsAreKept, ObjectsFit}
+use Rattle.sweep_laws.specs.OwnedLives.{ObjectsFit}
+use Rattle.sweep_laws.specs.OwnedSets.{IsPage}
+use Rattle.sweep_laws.specs.OwnedPages.{NamesOnce}
+use Rattle.sweep_laws.specs.Owned.{Owned, LivesAreApart, FreeIsNobodys, UnsweptIsQueued, SweepingIsOnes, SweptIsOnes, CachedIsOnes, NamedOnce, SetsAreFilled, SweptOnce, ObjectsAreKept}
 use Rattle.sweep_laws.proofs.NeedsMet.{some_none}
 
 -- the facts by their numbers, from 1 to 10

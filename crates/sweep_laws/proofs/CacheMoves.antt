@@ -4,7 +4,7 @@ use Rattle.std.specs.Prelude.{Option, None}
 use mathlib.Core.Option.{some}
 use lib.ListN.{get_elem?}
 use Rattle.sweep_laws.specs.State.{LifeState, SetState, HandState}
-use Rattle.sweep_laws.specs.Changes.{put_in_cache, take_from_cache, sweep_from_cache}
+use Rattle.sweep_laws.specs.ChangesOfHands.{put_in_cache, take_from_cache, sweep_from_cache}
 use Rattle.sweep_laws.specs.Counts.{times}
 use Rattle.sweep_laws.specs.Standing.{tally, is_sweeping, is_swept, is_cached, Kept}
 use Rattle.sweep_laws.proofs.Totals.{times_append, times_end, times_end_else}

@@ -2,7 +2,8 @@
 use Rattle.std.proofs.Common.{ℕ, ◌<◌, inl, inr, length, get_or, arith}
 use Rattle.sweep_laws.specs.Counts.{times}
 use Rattle.sweep_laws.specs.State.{HandState, CoreState}
-use Rattle.sweep_laws.specs.Owned.{IsWord, Owned}
+use Rattle.sweep_laws.specs.OwnedLives.{IsWord}
+use Rattle.sweep_laws.specs.Owned.{Owned}
 use Rattle.sweep_laws.specs.Standing.{Tally, tally, Standing, is_free, is_unswept, is_sweeping, is_swept, is_stale, is_cached, CoreKept}
 use Rattle.sweep_laws.proofs.Totals.{part_le}
 use Rattle.sweep_laws.proofs.Standings.{free_word, unswept_word, sweeping_word, swept_word, cached_word, lists_once}

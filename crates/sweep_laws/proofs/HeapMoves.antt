@@ -7,18 +7,18 @@ use lib.ListN.{get_elem?}
 use native.Mathlib.Decide.{ℕ_discrete, dec_le}
 use Rattle.sweep_laws.specs.State.{LifeState, SetState, HandState}
 use Rattle.sweep_laws.specs.Lists.{put_run}
-use Rattle.sweep_laws.specs.Needs.{cell_of, is_swept_set}
-use Rattle.sweep_laws.specs.Changes.{hold, let_go, new_life, drop_life}
+use Rattle.sweep_laws.specs.Reading.{cell_of, is_swept_set, life_in}
+use Rattle.sweep_laws.specs.ChangesOfHands.{hold, let_go}
+use Rattle.sweep_laws.specs.ChangesOfLives.{new_life, drop_life}
 use Rattle.sweep_laws.specs.Counts.{one_if, times}
 use Rattle.sweep_laws.specs.Named.{is_covered, covers, owner, begins, is_class, only, names_in}
-use Rattle.sweep_laws.specs.Owned.{LivesFit, ObjectsFit}
+use Rattle.sweep_laws.specs.OwnedLives.{LivesFit, ObjectsFit}
 use Rattle.sweep_laws.specs.Standing.{tally, is_free, is_swept, Page, Kept}
 use Rattle.sweep_laws.proofs.Totals.{times_append, times_end, times_end_else, two_parts_le}
 use Rattle.sweep_laws.proofs.Naming.{times_erase, times_erase_else}
 use Rattle.sweep_laws.proofs.Unpopped.{hit_between}
 use Rattle.sweep_laws.proofs.NeedsMet.{some_none}
 use Rattle.sweep_laws.proofs.Standings.{free_word, held_list, standing_word}
-use Rattle.sweep_laws.specs.Needs.{life_in}
 use Rattle.sweep_laws.proofs.LivesChange.{is_in, is_below, is_above, uncovered_owner, unowned_covers, uncovered_begins, covers_append, owner_append_new, owner_append_else, begins_append_new, begins_append_else, class_append_else, class_append_kept, all_append, covers_drop, owner_drop, begins_drop, class_drop, all_drop, all_at, life_page, length_run, run_here, run_else}
 use Rattle.sweep_laws.proofs.Deltas.{deltas, parts}
 use Rattle.sweep_laws.proofs.Reset.{sets_part}

@@ -9,10 +9,10 @@ use lib.ListN.{get_elem?}
 use native.Mathlib.Decide.{ℕ_discrete, dec_le}
 use Rattle.sweep_laws.specs.State.{LifeState, HandState, CoreState}
 use Rattle.sweep_laws.specs.Lists.{has}
-use Rattle.sweep_laws.specs.Needs.{no_life, life_in}
+use Rattle.sweep_laws.specs.Reading.{no_life, life_in}
 use Rattle.sweep_laws.specs.Counts.{one_if, times}
 use Rattle.sweep_laws.specs.Named.{sweepers, holders, cachers, poppers, swept_by, covers}
-use Rattle.sweep_laws.specs.Owned.{ObjectsFit}
+use Rattle.sweep_laws.specs.OwnedLives.{ObjectsFit}
 use Rattle.sweep_laws.specs.Standing.{Tally, tally, CoreKept}
 use Rattle.sweep_laws.specs.Tidy.{IsTidyLife, IsTidy}
 use Rattle.sweep_laws.proofs.Totals.{other_one}

@@ -7,11 +7,11 @@ use mathlib.Core.Logic.{dite}
 use native.Mathlib.Decide.{ℕ_discrete}
 use Rattle.sweep_laws.specs.State.{LifeState}
 use Rattle.sweep_laws.specs.Lists.{put_run}
-use Rattle.sweep_laws.specs.Changes.{drop_life}
+use Rattle.sweep_laws.specs.ChangesOfLives.{drop_life}
 use Rattle.sweep_laws.specs.Counts.{one_if}
 use Rattle.sweep_laws.specs.Named.{is_covered, covers, owner, begins, is_class}
 use Rattle.sweep_laws.proofs.NeedsMet.{some_none}
-use Rattle.sweep_laws.specs.Needs.{life_in}
+use Rattle.sweep_laws.specs.Reading.{life_in}
 
 -- whether a life covers a page
 pub covered : (q : ℕ) (l : LifeState) → (is_covered q l ≡ true) ⊎ (is_covered q l ≡ false)

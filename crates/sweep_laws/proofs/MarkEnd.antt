@@ -7,11 +7,14 @@ use mathlib.Core.Option.{some, some-injective, some-ne-none}
 use lib.ListN.{get_elem?}
 use native.Mathlib.Decide.{ℕ_discrete, dec_le}
 use Rattle.sweep_laws.specs.State.{LifeState, SetState, HandState}
-use Rattle.sweep_laws.specs.Needs.{cell_of, class_of_set, is_swept_set}
-use Rattle.sweep_laws.specs.Changes.{mark_life, marks_at, empty_unswept, forget_swept}
+use Rattle.sweep_laws.specs.Reading.{cell_of, class_of_set, is_swept_set}
+use Rattle.sweep_laws.specs.ChangesOfHands.{forget_swept}
+use Rattle.sweep_laws.specs.ChangesOfLives.{mark_life, marks_at}
+use Rattle.sweep_laws.specs.ChangesOfSets.{empty_unswept}
 use Rattle.sweep_laws.specs.Counts.{times, total_from}
 use Rattle.sweep_laws.specs.Named.{claimers, only, names_in, queued, unswept, unswept_own, is_class}
-use Rattle.sweep_laws.specs.Owned.{IsPage, ObjectsFit}
+use Rattle.sweep_laws.specs.OwnedLives.{ObjectsFit}
+use Rattle.sweep_laws.specs.OwnedSets.{IsPage}
 use Rattle.sweep_laws.specs.Standing.{tally, is_free, is_unswept, is_stale, Page, Kept}
 use Rattle.sweep_laws.proofs.Totals.{total_none, total_mapped, total_from-same, at_mapped}
 use Rattle.sweep_laws.proofs.Unpopped.{found_between}

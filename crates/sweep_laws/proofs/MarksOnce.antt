@@ -4,7 +4,7 @@ use Rattle.std.proofs.lemmas.Bool.{eqb-true, ltb-true}
 use mathlib.Core.Logic.{dite}
 use native.Mathlib.Decide.{ℕ_discrete}
 use Rattle.sweep_laws.specs.Lists.{is_before, rises_after, rises}
-use Rattle.sweep_laws.specs.Changes.{marks_at}
+use Rattle.sweep_laws.specs.ChangesOfLives.{marks_at}
 use Rattle.sweep_laws.specs.Counts.{one_if, times}
 use Rattle.sweep_laws.proofs.Totals.{other_one}
 use Rattle.sweep_laws.proofs.NeedsMet.{both, either_one}

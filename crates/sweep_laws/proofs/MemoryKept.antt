@@ -10,7 +10,7 @@ use Rattle.sweep_laws.specs.declared.moves.Reply.{Reply}
 use Rattle.sweep_laws.specs.declared.moves.StepFault.{StepFault}
 use Rattle.sweep_laws.specs.declared.moves.StepFault.TheVariants.{NotAllowed, NoMemory}
 use Rattle.sweep_laws.specs.State.{LifeState, SetState, HandState, CoreState}
-use Rattle.sweep_laws.specs.Needs.{no_hand, no_set}
+use Rattle.sweep_laws.specs.Reading.{no_hand, no_set}
 use Rattle.sweep_laws.specs.Start.{copies, new_state}
 use Rattle.sweep_laws.specs.Step.{after, Steps}
 use Rattle.sweep_laws.specs.Owned.{Owned}

@@ -13,17 +13,23 @@ use Rattle.sweep_laws.specs.declared.moves.Move.{Move}
 use Rattle.sweep_laws.specs.declared.moves.Move.TheVariants.{Lock, Unlock, Take, Give, Acquire, Release, Cache, Allocate, Uncache, StaleUncache, Claim, Fill, PopSwept, PopUnswept, DropPopped, Next}
 use Rattle.sweep_laws.specs.State.{LifeState, SetState, CoreState}
 use Rattle.sweep_laws.specs.Lists.{has}
-use Rattle.sweep_laws.specs.Needs.{refusal, hand_of, set_of, cell_of, life_of, no_hand, no_set, class_of_set, is_settled, is_allocated, take_needs, give_needs, acquire_needs, release_needs, cache_needs, allocate_needs, uncache_needs, stale_uncache_needs, claim_needs, pop_swept_needs, pop_unswept_needs, drop_popped_needs, fill_needs, next_needs}
-use Rattle.sweep_laws.specs.Changes.{base_of, marks_at, after_take, after_give, after_acquire, after_release, after_cache, after_allocate, after_uncache, after_stale_uncache, after_claim, after_fill, after_fill_of, after_pop_swept, after_pop_unswept, after_drop_popped, after_next, raise_head, hold, pop_entry}
+use Rattle.sweep_laws.specs.Reading.{hand_of, set_of, cell_of, life_of, no_hand, no_set, class_of_set, is_settled, life_in}
+use Rattle.sweep_laws.specs.NeedsOfRange.{refusal}
+use Rattle.sweep_laws.specs.NeedsOfMarkEnd.{is_allocated}
+use Rattle.sweep_laws.specs.Needs.{take_needs, give_needs, acquire_needs, release_needs, cache_needs, allocate_needs, uncache_needs, stale_uncache_needs, claim_needs, pop_swept_needs, pop_unswept_needs, drop_popped_needs, fill_needs, next_needs}
+use Rattle.sweep_laws.specs.ChangesOfHands.{hold, pop_entry}
+use Rattle.sweep_laws.specs.ChangesOfLives.{marks_at}
+use Rattle.sweep_laws.specs.ChangesOfSets.{base_of, raise_head}
+use Rattle.sweep_laws.specs.Changes.{after_take, after_give, after_acquire, after_release, after_cache, after_allocate, after_uncache, after_stale_uncache, after_claim, after_fill, after_fill_of, after_pop_swept, after_pop_unswept, after_drop_popped, after_next}
 use Rattle.sweep_laws.specs.Step.{needs_of, after}
 use Rattle.sweep_laws.specs.Counts.{one_if, times}
 use Rattle.sweep_laws.specs.Named.{is_covered, covers, is_class, claimers}
-use Rattle.sweep_laws.specs.Owned.{IsPage, Owned}
+use Rattle.sweep_laws.specs.OwnedSets.{IsPage}
+use Rattle.sweep_laws.specs.Owned.{Owned}
 use Rattle.sweep_laws.specs.Standing.{Kept, CoreKept}
 use Rattle.sweep_laws.proofs.Totals.{inside_at, part_le}
 use Rattle.sweep_laws.proofs.Naming.{has_times, at_low}
 use Rattle.sweep_laws.proofs.NeedsMet.{all_met, both, either_one, not_true, eqb-false, holder_is, none_there, some_there, some_none, empty_list, not_found, no_position, unowned_run}
-use Rattle.sweep_laws.specs.Needs.{life_in}
 use Rattle.sweep_laws.proofs.Objects.{free_below, allocate_keeps}
 use Rattle.sweep_laws.proofs.LivesChange.{is_in}
 use Rattle.sweep_laws.proofs.SweepMoves.{acquire_keeps, release_keeps}

@@ -7,7 +7,8 @@ use Rattle.std.proofs.lemmas.Bool.{eqb-true, ltb-false}
 use Rattle.std.proofs.lemmas.List.{get_or-drop, get_or-take}
 use mathlib.Core.Option.{some, some-injective, some-ne-none}
 use lib.ListN.{get_elem?}
-use Rattle.sweep_laws.specs.Needs.{Need, refusal, is_holder, owner_in}
+use Rattle.sweep_laws.specs.NeedsOfRange.{Need, refusal}
+use Rattle.sweep_laws.specs.NeedsOfPages.{is_holder, owner_in}
 
 pub some_none : {A : Type 0} (a : A) → Some a ≡ None → ⊥
 some_none a e = cc

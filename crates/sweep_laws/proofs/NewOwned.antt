@@ -5,7 +5,7 @@ use Rattle.std.specs.List.{range_with_len}
 use mathlib.Core.Option.{some}
 use lib.ListN.{get_elem?}
 use Rattle.sweep_laws.specs.State.{SetState, HandState, CoreState}
-use Rattle.sweep_laws.specs.Needs.{cell_of, is_swept_set, no_set, no_hand}
+use Rattle.sweep_laws.specs.Reading.{cell_of, is_swept_set, no_set, no_hand}
 use Rattle.sweep_laws.specs.Counts.{times, total, total_from}
 use Rattle.sweep_laws.specs.Named.{only, names_in}
 use Rattle.sweep_laws.specs.Owned.{Owned}

@@ -6,10 +6,11 @@ use mathlib.Core.Logic.{dite}
 use native.Mathlib.Decide.{ℕ_discrete}
 use Rattle.sweep_laws.specs.State.{LifeState, SetState, HandState}
 use Rattle.sweep_laws.specs.Lists.{has, least_outside}
-use Rattle.sweep_laws.specs.Needs.{cell_of, class_of_set, life_in}
-use Rattle.sweep_laws.specs.Changes.{change_life, allocate_index}
+use Rattle.sweep_laws.specs.Reading.{cell_of, class_of_set, life_in}
+use Rattle.sweep_laws.specs.ChangesOfLives.{change_life, allocate_index}
 use Rattle.sweep_laws.specs.Named.{poppers, is_class, claimers}
-use Rattle.sweep_laws.specs.Owned.{ObjectsFit, IsPage}
+use Rattle.sweep_laws.specs.OwnedLives.{ObjectsFit}
+use Rattle.sweep_laws.specs.OwnedSets.{IsPage}
 use Rattle.sweep_laws.specs.Standing.{tally, Page, Kept}
 use Rattle.sweep_laws.proofs.Totals.{times_append, other_one}
 use Rattle.sweep_laws.proofs.Lives.{Alike, changed_alike, alike_covers, alike_owner, alike_begins, alike_class, alike_whole}

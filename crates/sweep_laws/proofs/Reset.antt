@@ -7,11 +7,11 @@ use lib.ListN.{get_elem?}
 use native.Mathlib.Decide.{ℕ_discrete}
 use Rattle.sweep_laws.specs.declared.moves.Claimed.{Claimed}
 use Rattle.sweep_laws.specs.State.{LifeState, SetState, HandState}
-use Rattle.sweep_laws.specs.Needs.{cell_of, class_of_set, is_swept_set}
-use Rattle.sweep_laws.specs.Changes.{raise_head}
+use Rattle.sweep_laws.specs.Reading.{cell_of, class_of_set, is_swept_set}
+use Rattle.sweep_laws.specs.ChangesOfSets.{raise_head}
 use Rattle.sweep_laws.specs.Counts.{times, total_from}
 use Rattle.sweep_laws.specs.Named.{claimers, only, names_in, queued, unswept, unswept_own, is_class}
-use Rattle.sweep_laws.specs.Owned.{IsPage, ClaimFits, SetsFit}
+use Rattle.sweep_laws.specs.OwnedSets.{IsPage, ClaimFits, SetsFit}
 use Rattle.sweep_laws.proofs.Totals.{total_from-set, part_from_le, gap_le, inside_at}
 use Rattle.sweep_laws.proofs.Naming.{at_set, set_here, set_else}
 use Rattle.sweep_laws.proofs.Turned.{claimers_kept}

@@ -6,11 +6,15 @@ use Rattle.sweep_laws.specs.declared.moves.Claimed.{Claimed}
 use Rattle.sweep_laws.specs.declared.moves.Move.{Move}
 use Rattle.sweep_laws.specs.declared.moves.Move.TheVariants.{Lock, Unlock, Take, Give, Acquire, Release, Cache, Allocate, Uncache, StaleUncache, Claim, Fill, PopSwept, PopUnswept, DropPopped, Next}
 use Rattle.sweep_laws.specs.State.{LifeState, SetState, CoreState}
-use Rattle.sweep_laws.specs.Needs.{refusal, hand_of, set_of, cell_of, life_of, class_of_set, is_swept_set, take_needs, acquire_needs, release_needs, cache_needs, allocate_needs, uncache_needs, stale_uncache_needs, fill_needs, pop_swept_needs, pop_unswept_needs, next_needs}
-use Rattle.sweep_laws.specs.Changes.{marks_at}
+use Rattle.sweep_laws.specs.Reading.{hand_of, set_of, cell_of, life_of, class_of_set, is_swept_set}
+use Rattle.sweep_laws.specs.NeedsOfRange.{refusal}
+use Rattle.sweep_laws.specs.Needs.{take_needs, acquire_needs, release_needs, cache_needs, allocate_needs, uncache_needs, stale_uncache_needs, fill_needs, pop_swept_needs, pop_unswept_needs, next_needs}
+use Rattle.sweep_laws.specs.ChangesOfLives.{marks_at}
 use Rattle.sweep_laws.specs.Step.{needs_of, HasRoom}
 use Rattle.sweep_laws.specs.Named.{only, names_in, unswept, is_class, claimers}
-use Rattle.sweep_laws.specs.Owned.{ObjectsFit, IsPage, Owned}
+use Rattle.sweep_laws.specs.OwnedLives.{ObjectsFit}
+use Rattle.sweep_laws.specs.OwnedSets.{IsPage}
+use Rattle.sweep_laws.specs.Owned.{Owned}
 use Rattle.sweep_laws.specs.Standing.{CoreKept}
 use Rattle.sweep_laws.specs.Tidy.{IsTidy, HasSpace, IsProvided}
 use Rattle.sweep_laws.proofs.Naming.{has_times, at_low}

@@ -10,10 +10,11 @@ use Rattle.sweep_laws.specs.declared.moves.Claimed.{Claimed}
 use Rattle.sweep_laws.specs.declared.moves.Move.{Move}
 use Rattle.sweep_laws.specs.declared.moves.Move.TheVariants.{Lock, Unlock, Take, Give, Acquire, Release, Cache, Allocate, Uncache, StaleUncache, Claim, Fill, PopSwept, PopUnswept, DropPopped, Next}
 use Rattle.sweep_laws.specs.State.{SetState, CoreState}
-use Rattle.sweep_laws.specs.Needs.{hand_of, set_of, no_set, is_swept_set}
-use Rattle.sweep_laws.specs.Changes.{raise_head, raise_tail, name_page, empty_unswept, after_fill_of}
+use Rattle.sweep_laws.specs.Reading.{hand_of, set_of, no_set, is_swept_set}
+use Rattle.sweep_laws.specs.ChangesOfSets.{raise_head, raise_tail, name_page, empty_unswept}
+use Rattle.sweep_laws.specs.Changes.{after_fill_of}
 use Rattle.sweep_laws.specs.Step.{after}
-use Rattle.sweep_laws.specs.Owned.{EachAt}
+use Rattle.sweep_laws.specs.OwnedLives.{EachAt}
 use Rattle.sweep_laws.specs.Tidy.{HasSpace, IsProvided}
 use Rattle.sweep_laws.proofs.Naming.{at_low, at_set}
 

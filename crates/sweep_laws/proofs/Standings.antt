@@ -1,6 +1,6 @@
 -- What a page's word, or a list that names it, says of its standing.
 use Rattle.std.proofs.Common.{◌≡◌, ℕ, ◌+◌, ◌<◌, ◌≤◌, ◌⊎◌, inl, inr, ⊎_elim, subst, arith}
-use Rattle.sweep_laws.specs.Owned.{IsWord}
+use Rattle.sweep_laws.specs.OwnedLives.{IsWord}
 use Rattle.sweep_laws.specs.Standing.{Tally, Standing, is_free, is_unswept, is_sweeping, is_swept, is_stale, is_cached, Page}
 
 -- by the word

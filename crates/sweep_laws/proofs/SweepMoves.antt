@@ -4,7 +4,8 @@ use Rattle.std.specs.Prelude.{Option}
 use mathlib.Core.Option.{some}
 use lib.ListN.{get_elem?}
 use Rattle.sweep_laws.specs.State.{LifeState, SetState, HandState}
-use Rattle.sweep_laws.specs.Changes.{start_sweep, end_sweep, change_life, keep_marked}
+use Rattle.sweep_laws.specs.ChangesOfHands.{start_sweep, end_sweep}
+use Rattle.sweep_laws.specs.ChangesOfLives.{change_life, keep_marked}
 use Rattle.sweep_laws.specs.Counts.{times}
 use Rattle.sweep_laws.specs.Standing.{tally, is_sweeping, is_swept, Kept}
 use Rattle.sweep_laws.proofs.Totals.{times_append, times_end, times_end_else}

@@ -7,11 +7,12 @@ use lib.ListN.{get_elem?}
 use native.Mathlib.Decide.{ℕ_discrete}
 use Rattle.sweep_laws.specs.declared.moves.Claimed.{Claimed}
 use Rattle.sweep_laws.specs.State.{LifeState, SetState, HandState}
-use Rattle.sweep_laws.specs.Needs.{cell_of, class_of_set, is_swept_set}
-use Rattle.sweep_laws.specs.Changes.{hold, claim_cell, raise_head, raise_tail}
+use Rattle.sweep_laws.specs.Reading.{cell_of, class_of_set, is_swept_set}
+use Rattle.sweep_laws.specs.ChangesOfHands.{hold, claim_cell}
+use Rattle.sweep_laws.specs.ChangesOfSets.{raise_head, raise_tail}
 use Rattle.sweep_laws.specs.Counts.{one_if, times}
 use Rattle.sweep_laws.specs.Named.{claimers, is_class}
-use Rattle.sweep_laws.specs.Owned.{IsPage, ClaimFits}
+use Rattle.sweep_laws.specs.OwnedSets.{IsPage, ClaimFits}
 use Rattle.sweep_laws.specs.Standing.{tally, Page, Kept}
 use Rattle.sweep_laws.proofs.Totals.{same_one, other_one, times_append, times_end, times_end_else, inside_at}
 use Rattle.sweep_laws.proofs.Naming.{at_set, set_here}

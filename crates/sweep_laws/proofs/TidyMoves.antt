@@ -12,12 +12,19 @@ use Rattle.sweep_laws.specs.declared.moves.Move.{Move}
 use Rattle.sweep_laws.specs.declared.moves.Move.TheVariants.{Lock, Unlock, Take, Give, Acquire, Release, Cache, Allocate, Uncache, StaleUncache, Claim, Fill, PopSwept, PopUnswept, DropPopped, Next}
 use Rattle.sweep_laws.specs.State.{LifeState, SetState, HandState, CoreState}
 use Rattle.sweep_laws.specs.Lists.{erase}
-use Rattle.sweep_laws.specs.Needs.{refusal, hand_of, set_of, cell_of, life_in, life_of, class_of_set, allocate_needs, claim_needs, fill_needs, pop_swept_needs, pop_unswept_needs, next_needs}
-use Rattle.sweep_laws.specs.Changes.{change_life, new_life, keep_marked, allocate_index, mark_life, hold, let_go, start_sweep, end_sweep, put_in_cache, take_from_cache, sweep_from_cache, claim_cell, fill_cell, pop_entry, drop_entry, forget_swept, head_base, after_fill_of}
+use Rattle.sweep_laws.specs.Reading.{hand_of, set_of, cell_of, life_in, life_of, class_of_set}
+use Rattle.sweep_laws.specs.NeedsOfRange.{refusal}
+use Rattle.sweep_laws.specs.Needs.{allocate_needs, claim_needs, fill_needs, pop_swept_needs, pop_unswept_needs, next_needs}
+use Rattle.sweep_laws.specs.ChangesOfHands.{hold, let_go, start_sweep, end_sweep, put_in_cache, take_from_cache, sweep_from_cache, claim_cell, fill_cell, pop_entry, drop_entry, forget_swept}
+use Rattle.sweep_laws.specs.ChangesOfLives.{change_life, new_life, keep_marked, allocate_index, mark_life}
+use Rattle.sweep_laws.specs.ChangesOfSets.{head_base}
+use Rattle.sweep_laws.specs.Changes.{after_fill_of}
 use Rattle.sweep_laws.specs.Step.{needs_of, after}
 use Rattle.sweep_laws.specs.Counts.{times}
 use Rattle.sweep_laws.specs.Named.{is_class, claimers}
-use Rattle.sweep_laws.specs.Owned.{EachAt, IsPage, Owned}
+use Rattle.sweep_laws.specs.OwnedLives.{EachAt}
+use Rattle.sweep_laws.specs.OwnedSets.{IsPage}
+use Rattle.sweep_laws.specs.Owned.{Owned}
 use Rattle.sweep_laws.specs.Standing.{CoreKept}
 use Rattle.sweep_laws.specs.Tidy.{NamesNever, IsTidyLife, IsTidy}
 use Rattle.sweep_laws.proofs.Totals.{times_end, times_end_else, at_mapped}

@@ -11,8 +11,12 @@ use Rattle.sweep_laws.specs.declared.moves.Claimed.{Claimed}
 use Rattle.sweep_laws.specs.declared.moves.Move.{Move}
 use Rattle.sweep_laws.specs.declared.moves.Move.TheVariants.{Lock, Unlock, Take, Give, Acquire, Release, Cache, Allocate, Uncache, StaleUncache, Claim, Fill, PopSwept, PopUnswept, DropPopped, Next}
 use Rattle.sweep_laws.specs.State.{HandState, CoreState}
-use Rattle.sweep_laws.specs.Needs.{hand_of, no_hand, set_of, take_needs, give_needs, acquire_needs, release_needs, cache_needs, uncache_needs, stale_uncache_needs, claim_needs, fill_needs, pop_swept_needs, pop_unswept_needs, drop_popped_needs}
-use Rattle.sweep_laws.specs.Changes.{after_fill_of, head_base, hold, let_go, start_sweep, end_sweep, put_in_cache, take_from_cache, sweep_from_cache, claim_cell, fill_cell, pop_entry, drop_entry, forget_swept, mark_life}
+use Rattle.sweep_laws.specs.Reading.{hand_of, no_hand, set_of}
+use Rattle.sweep_laws.specs.Needs.{take_needs, give_needs, acquire_needs, release_needs, cache_needs, uncache_needs, stale_uncache_needs, claim_needs, fill_needs, pop_swept_needs, pop_unswept_needs, drop_popped_needs}
+use Rattle.sweep_laws.specs.ChangesOfHands.{hold, let_go, start_sweep, end_sweep, put_in_cache, take_from_cache, sweep_from_cache, claim_cell, fill_cell, pop_entry, drop_entry, forget_swept}
+use Rattle.sweep_laws.specs.ChangesOfLives.{mark_life}
+use Rattle.sweep_laws.specs.ChangesOfSets.{head_base}
+use Rattle.sweep_laws.specs.Changes.{after_fill_of}
 use Rattle.sweep_laws.specs.Step.{after}
 use Rattle.sweep_laws.specs.Counts.{one_if, times}
 use Rattle.sweep_laws.specs.Named.{swept_by, begins}

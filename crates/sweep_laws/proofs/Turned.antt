@@ -9,10 +9,11 @@ use native.Mathlib.Decide.{ℕ_discrete}
 use Rattle.sweep_laws.proofs.Naming.{at_set}
 use Rattle.sweep_laws.specs.declared.moves.Claimed.{Claimed}
 use Rattle.sweep_laws.specs.State.{LifeState, SetState, HandState}
-use Rattle.sweep_laws.specs.Needs.{cell_of, class_of_set, is_swept_set}
+use Rattle.sweep_laws.specs.Reading.{cell_of, class_of_set, is_swept_set}
 use Rattle.sweep_laws.specs.Counts.{one_if, times, total, total_from}
 use Rattle.sweep_laws.specs.Named.{is_claim, claimers, only, names_in, unswept, unswept_own, is_class}
-use Rattle.sweep_laws.specs.Owned.{IsPage, ClaimFits, SetsFit, ObjectsFit}
+use Rattle.sweep_laws.specs.OwnedLives.{ObjectsFit}
+use Rattle.sweep_laws.specs.OwnedSets.{IsPage, ClaimFits, SetsFit}
 use Rattle.sweep_laws.specs.Standing.{tally, Page, Kept}
 use Rattle.sweep_laws.proofs.Totals.{total_set}
 use Rattle.sweep_laws.proofs.Lives.{Alike, alike_covers, alike_owner, alike_begins, alike_class, alike_whole}

@@ -6,8 +6,9 @@ use mathlib.Core.Option.{some}
 use lib.ListN.{get_elem?}
 use native.Mathlib.Decide.{ℕ_discrete}
 use Rattle.sweep_laws.specs.State.{LifeState, SetState, HandState}
-use Rattle.sweep_laws.specs.Needs.{cell_of, class_of_set, is_swept_set}
-use Rattle.sweep_laws.specs.Changes.{pop_entry, drop_entry, raise_head}
+use Rattle.sweep_laws.specs.Reading.{cell_of, class_of_set, is_swept_set}
+use Rattle.sweep_laws.specs.ChangesOfHands.{pop_entry, drop_entry}
+use Rattle.sweep_laws.specs.ChangesOfSets.{raise_head}
 use Rattle.sweep_laws.specs.Counts.{one_if}
 use Rattle.sweep_laws.specs.Named.{only, names_in, is_class}
 use Rattle.sweep_laws.specs.Standing.{tally, Page, Kept}

@@ -1,11 +1,12 @@
 -- What each move changes, and what it answers. Whatever is not named stays.
-use Rattle.std.specs.Prelude.{ℕ, ◌+◌, ◌-◌, ◌==◌, ◌&&◌, nat_lt, nat_le, if◌then◌else◌, List, [], ◌∷◌, ◌++◌, length, map, Option, Some, None, slice_set}
+use Rattle.std.specs.Prelude.{ℕ, ◌+◌, ◌-◌, List, [], ◌∷◌, ◌++◌, map, Option, Some, None, slice_set}
 use Rattle.sweep_laws.specs.declared.moves.Claimed.{Claimed}
 use Rattle.sweep_laws.specs.State.{CoreState, HandState, SetState, LifeState}
-use Rattle.sweep_laws.specs.Lists.{change_first, drop_first, erase, put_run, put_cell}
-use Rattle.sweep_laws.specs.Needs.{hand_of, set_of, cell_of, life_of, is_swept_set}
-
--- the frames: one part is another, the rest stays
+use Rattle.sweep_laws.specs.Lists.{put_run}
+use Rattle.sweep_laws.specs.Reading.{hand_of, set_of, life_of}
+use Rattle.sweep_laws.specs.ChangesOfHands.{hold, let_go, start_sweep, end_sweep, put_in_cache, take_from_cache, sweep_from_cache, claim_cell, fill_cell, pop_entry, drop_entry, forget_swept}
+use Rattle.sweep_laws.specs.ChangesOfLives.{change_life, drop_life, new_life, keep_marked, allocate_index, mark_life, left_prepared}
+use Rattle.sweep_laws.specs.ChangesOfSets.{raise_tail, raise_head, name_page, head_base, empty_unswept}
 
 abbrev pub with_hand : CoreState → ℕ → HandState → CoreState
 with_hand c w h = record c { hands = slice_set c.hands w h }
@@ -16,124 +17,9 @@ with_word c page word = record c { words = slice_set c.words page word }
 abbrev pub with_set : CoreState → ℕ → SetState → CoreState
 with_set c s new_set = record c { sets = slice_set c.sets s new_set }
 
--- the first life of the list that begins at the page changes
-abbrev pub change_life : ℕ → (LifeState → LifeState) → List LifeState → List LifeState
-change_life page f lives = change_first (λ life. life.page == page) f lives
-
--- the first life of the list that begins at the page leaves it
-abbrev pub drop_life : ℕ → List LifeState → List LifeState
-drop_life page lives = drop_first (λ life. life.page == page) lives
-
 -- the first life that begins at the page is changed
 abbrev pub with_life : CoreState → ℕ → (LifeState → LifeState) → CoreState
 with_life c page f = record c { lives = change_life page f c.lives }
-
--- one hand
-
--- the hand holds one page more
-abbrev pub hold : ℕ → HandState → HandState
-hold page h = record h { held = h.held ++ page ∷ [] }
-
--- the hand holds the page no more
-abbrev pub let_go : ℕ → HandState → HandState
-let_go page h = record h { held = erase page h.held }
-
--- the hand begins to sweep the page, and uses up an entry that it popped for it
-abbrev pub start_sweep : ℕ → HandState → HandState
-start_sweep page h = record h { sweeping = h.sweeping ++ page ∷ []; popped = erase page h.popped }
-
--- the hand ends the sweep of the page: it holds it, and tells it among those swept since the last mark end
-abbrev pub end_sweep : ℕ → HandState → HandState
-end_sweep page h = record h { sweeping = erase page h.sweeping; held = h.held ++ page ∷ []; swept = h.swept ++ page ∷ [] }
-
--- the hand caches a page that it held
-abbrev pub put_in_cache : ℕ → HandState → HandState
-put_in_cache page h = record h { held = erase page h.held; cached = h.cached ++ page ∷ [] }
-
--- the hand holds a page that it had cached
-abbrev pub take_from_cache : ℕ → HandState → HandState
-take_from_cache page h = record h { cached = erase page h.cached; held = h.held ++ page ∷ [] }
-
--- the hand begins to sweep a page that it had cached
-abbrev pub sweep_from_cache : ℕ → HandState → HandState
-sweep_from_cache page h = record h { cached = erase page h.cached; sweeping = h.sweeping ++ page ∷ [] }
-
--- the hand claims a cell for a page
-abbrev pub claim_cell : ℕ → ℕ → ℕ → HandState → HandState
-claim_cell s i page h = record h { claimed = Some (record { set = s; index = i; page = page }) }
-
--- the claim of the hand is over, and it holds the page no more
-abbrev pub fill_cell : ℕ → HandState → HandState
-fill_cell page h = record h { held = erase page h.held; claimed = None }
-
--- the hand has one popped entry more
-abbrev pub pop_entry : ℕ → HandState → HandState
-pop_entry page h = record h { popped = h.popped ++ page ∷ [] }
-
--- the hand forgets an entry that it popped
-abbrev pub drop_entry : ℕ → HandState → HandState
-drop_entry page h = record h { popped = erase page h.popped }
-
--- a mark end begins a new cycle, in which the hand has swept nothing
-abbrev pub forget_swept : HandState → HandState
-forget_swept h = record h { swept = [] }
-
--- one life
-
--- a life that a Take makes
-abbrev pub new_life : ℕ → ℕ → ℕ → ℕ → LifeState
-new_life page pages count class =
-    record { page = page; pages = pages; count = count; class = class; allocated = []; kept = [] }
-
--- the sweep: what was marked stays allocated
-abbrev pub keep_marked : LifeState → LifeState
-keep_marked life = record life { allocated = life.kept }
-
--- one index more is allocated
-abbrev pub allocate_index : ℕ → LifeState → LifeState
-allocate_index i life = record life { allocated = life.allocated ++ i ∷ [] }
-
--- the indices that the marks name in the life of a page
-abbrev pub marks_at : ℕ → List (ℕ × ℕ) → List ℕ
-marks_at page [] = []
-marks_at page (mark ∷ marks) = if mark.0 == page then mark.1 ∷ marks_at page marks else marks_at page marks
-
--- what the marks name in the life is to be kept
-abbrev pub mark_life : List (ℕ × ℕ) → LifeState → LifeState
-mark_life marks life = record life { kept = marks_at life.page marks }
-
--- sets
-
--- the cell at the tail is taken
-abbrev pub raise_tail : SetState → SetState
-raise_tail s = record s { tail = s.tail + 1 }
-
--- the cell at the head is popped
-abbrev pub raise_head : SetState → SetState
-raise_head s = record s { head = s.head + 1 }
-
--- a cell names a page, by its number plus 1
-abbrev pub name_page : ℕ → ℕ → SetState → SetState
-name_page i page s = record s { cells = put_cell s.cells i (page + 1) }
-
--- the page that a cell names; a cell that names no page of the region counts as page 0
-abbrev pub base_of : ℕ → ℕ → ℕ
-base_of pages cell = if (nat_lt 0 cell && nat_le cell pages) then cell - 1 else 0
-
--- the page that the cell at the head of a set names
-abbrev pub head_base : CoreState → ℕ → ℕ
-head_base c s = base_of (length c.words) (cell_of (set_of c s) (set_of c s).head)
-
--- the unswept sets, of those numbered from `number` on, are emptied
-abbrev pub empty_unswept : ℕ → ℕ → List SetState → List SetState
-empty_unswept generation number [] = []
-empty_unswept generation number (s ∷ sets) =
-    (if is_swept_set generation number then s else record s { head = 0; tail = 0; cells = [] })
-    ∷ empty_unswept generation (number + 1) sets
-
--- what a Take leaves prepared: it uses up a prepared life that has room enough
-abbrev pub left_prepared : ℕ → ℕ → ℕ
-left_prepared prepared count = if nat_le count prepared then 0 else prepared
 
 -- the moves
 

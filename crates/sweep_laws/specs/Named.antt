@@ -4,7 +4,7 @@ use Rattle.std.specs.List.{range_with_len}
 use Rattle.sweep_laws.specs.declared.moves.Claimed.{Claimed}
 use Rattle.sweep_laws.specs.Counts.{one_if, times, total, total_from}
 use Rattle.sweep_laws.specs.State.{LifeState, SetState, HandState}
-use Rattle.sweep_laws.specs.Needs.{cell_of, class_of_set, is_swept_set}
+use Rattle.sweep_laws.specs.Reading.{cell_of, class_of_set, is_swept_set}
 
 -- how often the hands' sweeping lists name a page
 abbrev pub sweepers : ℕ → List HandState → ℕ

@@ -3,7 +3,7 @@ use Rattle.std.specs.Prelude.{◌≡◌, List, [], ◌∷◌, ◌++◌, Result, 
 use Rattle.sweep_laws.specs.declared.moves.Move.{Move}
 use Rattle.sweep_laws.specs.declared.moves.StepFault.{StepFault}
 use Rattle.sweep_laws.specs.State.{CoreState}
-use Rattle.sweep_laws.specs.Needs.{refusal}
+use Rattle.sweep_laws.specs.NeedsOfRange.{refusal}
 use Rattle.sweep_laws.specs.Step.{needs_of, after, Steps}
 
 -- all needs of a move are met

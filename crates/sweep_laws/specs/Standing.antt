@@ -2,7 +2,8 @@
 use Rattle.std.specs.Prelude.{◌≡◌, ◌⊎◌, ℕ, ◌+◌, ◌<◌, ◌≤◌, List, length, slice_index, Option}
 use Rattle.std.specs.List.{AllByRecursion}
 use Rattle.sweep_laws.specs.Named.{sweepers, holders, cachers, poppers, swept_by, queued, unswept, unswept_own}
-use Rattle.sweep_laws.specs.Owned.{IsGeneration, LivesFit, SetsFit, ObjectsFit}
+use Rattle.sweep_laws.specs.OwnedLives.{IsGeneration, LivesFit, ObjectsFit}
+use Rattle.sweep_laws.specs.OwnedSets.{SetsFit}
 use Rattle.sweep_laws.specs.State.{LifeState, SetState, HandState, CoreState}
 
 -- the word of a page, and how often it is named: by the hands that sweep, hold or have cached it, by the

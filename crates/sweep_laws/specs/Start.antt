@@ -2,7 +2,7 @@
 use Rattle.std.specs.Prelude.{ℕ, List, [], None, map}
 use Rattle.std.specs.List.{range_with_len}
 use Rattle.sweep_laws.specs.State.{CoreState}
-use Rattle.sweep_laws.specs.Needs.{no_hand, no_set}
+use Rattle.sweep_laws.specs.Reading.{no_hand, no_set}
 
 -- n copies of an item
 abbrev pub copies : {A : Type 0} → ℕ → A → List A

@@ -8,8 +8,12 @@ use Rattle.sweep_laws.specs.declared.moves.Reply.TheVariants.{Done, Index, Base}
 use Rattle.sweep_laws.specs.declared.moves.StepFault.{StepFault}
 use Rattle.sweep_laws.specs.declared.moves.StepFault.TheVariants.{NotAllowed, NoMemory}
 use Rattle.sweep_laws.specs.State.{CoreState}
-use Rattle.sweep_laws.specs.Needs.{Need, refusal, set_of, hand_of, life_of, lock_needs, unlock_needs, take_needs, give_needs, acquire_needs, release_needs, cache_needs, allocate_needs, uncache_needs, stale_uncache_needs, claim_needs, fill_needs, pop_swept_needs, pop_unswept_needs, drop_popped_needs, next_needs}
-use Rattle.sweep_laws.specs.Changes.{head_base, marks_at, after_lock, after_unlock, after_take, after_give, after_acquire, after_release, after_cache, after_allocate, after_uncache, after_stale_uncache, after_claim, after_fill, after_pop_swept, after_pop_unswept, after_drop_popped, after_next}
+use Rattle.sweep_laws.specs.Reading.{set_of, hand_of, life_of}
+use Rattle.sweep_laws.specs.NeedsOfRange.{Need, refusal}
+use Rattle.sweep_laws.specs.Needs.{lock_needs, unlock_needs, take_needs, give_needs, acquire_needs, release_needs, cache_needs, allocate_needs, uncache_needs, stale_uncache_needs, claim_needs, fill_needs, pop_swept_needs, pop_unswept_needs, drop_popped_needs, next_needs}
+use Rattle.sweep_laws.specs.ChangesOfLives.{marks_at}
+use Rattle.sweep_laws.specs.ChangesOfSets.{head_base}
+use Rattle.sweep_laws.specs.Changes.{after_lock, after_unlock, after_take, after_give, after_acquire, after_release, after_cache, after_allocate, after_uncache, after_stale_uncache, after_claim, after_fill, after_pop_swept, after_pop_unswept, after_drop_popped, after_next}
 
 -- the needs of a move, in the order in which they are tried
 abbrev pub needs_of : CoreState → Move → List Need

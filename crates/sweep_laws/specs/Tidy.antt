@@ -5,8 +5,8 @@ use Rattle.sweep_laws.specs.declared.moves.Move.{Move}
 use Rattle.sweep_laws.specs.declared.moves.Move.TheVariants.{Take, Claim}
 use Rattle.sweep_laws.specs.State.{LifeState, HandState, CoreState}
 use Rattle.sweep_laws.specs.Counts.{times}
-use Rattle.sweep_laws.specs.Needs.{set_of}
-use Rattle.sweep_laws.specs.Owned.{EachAt}
+use Rattle.sweep_laws.specs.Reading.{set_of}
+use Rattle.sweep_laws.specs.OwnedLives.{EachAt}
 use Rattle.sweep_laws.specs.Step.{after}
 
 -- no list of a hand names the number

@@ -9,8 +9,8 @@ use Rattle.std.proofs.lemmas.List.{with_items_is}
 use Rattle.std.proofs.lemmas.List.Elements.{All-set, All-cons, All-head, All-tail}
 use Rattle.std.proofs.lemmas.List.Quantifiers.{position-Some}
 use Rattle.sweep_laws.specs.State.{LifeState}
-use Rattle.sweep_laws.specs.Needs.{life_in, no_life}
-use Rattle.sweep_laws.specs.Changes.{mark_life, change_life, drop_life}
+use Rattle.sweep_laws.specs.Reading.{life_in, no_life}
+use Rattle.sweep_laws.specs.ChangesOfLives.{mark_life, change_life, drop_life}
 use Rattle.sweep_lists.specs.declared.life.Life.{Life}
 use Rattle.sweep_lists.specs.declared.lives.Lives.TheInside.{Inside}
 use Rattle.sweep_lists.specs.KeptLives.{lives_view, AreKept}

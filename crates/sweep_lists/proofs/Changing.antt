@@ -4,8 +4,8 @@ use Rattle.std.specs.List.{All}
 use Rattle.std.proofs.lemmas.List.Elements.{All-cons, All-head, All-tail}
 use Rattle.sweep_lists.specs.declared.set.CoreSet.{CoreSet}
 use Rattle.sweep_lists.specs.Loops.{changed_to, emptied_at, emptied_unless}
-use Rattle.sweep_laws.specs.Changes.{empty_unswept}
-use Rattle.sweep_laws.specs.Needs.{is_swept_set}
+use Rattle.sweep_laws.specs.ChangesOfSets.{empty_unswept}
+use Rattle.sweep_laws.specs.Reading.{is_swept_set}
 use Rattle.sweep_lists.specs.Views.{set_view}
 
 module _ {A : Type 0} (f : ℕ → A → A) where

@@ -3,8 +3,8 @@ use Rattle.std.specs.Prelude.{ℕ, zero, suc, ◌+◌, List, [], ◌∷◌}
 use Rattle.sweep_lists.specs.declared.set.CoreSet.{CoreSet}
 use Rattle.sweep_lists.specs.declared.life.Life.{Life}
 use Rattle.sweep_lists.specs.declared.hand.CoreHand.{CoreHand}
-use Rattle.sweep_laws.specs.Needs.{is_swept_set}
-use Rattle.sweep_laws.specs.Changes.{marks_at}
+use Rattle.sweep_laws.specs.Reading.{is_swept_set}
+use Rattle.sweep_laws.specs.ChangesOfLives.{marks_at}
 use Rattle.std.specs.Prelude.{Bool, if◌then◌else◌}
 
 -- the list with f of its places in the k first of them; its first place has the number n

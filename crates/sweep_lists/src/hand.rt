@@ -3,20 +3,9 @@
 
 ghost use Rattle.std.specs.Prelude.{◌≡◌, ◌≤◌, ◌<◌, ◌⊎◌, ℕ, [], ◌∷◌, ◌++◌, length, None, IfOk, OnOk, OnErr};
 ghost use Rattle.sweep_laws.specs.Lists.{erase};
-ghost use Rattle.sweep_laws.specs.Needs.{listed, is_idle as no_pages};
-ghost use Rattle.sweep_laws.specs.Changes.{
-  hold,
-  let_go,
-  start_sweep,
-  end_sweep,
-  put_in_cache,
-  take_from_cache,
-  sweep_from_cache,
-  claim_cell,
-  fill_cell,
-  pop_entry,
-  drop_entry,
-};
+ghost use Rattle.sweep_laws.specs.Reading.{listed};
+ghost use Rattle.sweep_laws.specs.NeedsOfMarkEnd.{is_idle as no_pages};
+ghost use Rattle.sweep_laws.specs.ChangesOfHands.{hold, let_go, start_sweep, end_sweep, put_in_cache, take_from_cache, sweep_from_cache, claim_cell, fill_cell, pop_entry, drop_entry};
 ghost use Rattle.sweep_lists.specs.Bare.{bare_hand};
 ghost use Rattle.sweep_lists.specs.Loops.{without_swept};
 ghost use Rattle.sweep_lists.specs.Views.{hand_view, HandRoom};

@@ -2,7 +2,7 @@
 //! kept is written by a mark end alone, and read by the sweep behind it.
 
 ghost use Rattle.std.specs.Prelude.{◌≡◌, ◌≤◌, ◌<◌, true, length, OnOk, OnErr};
-ghost use Rattle.sweep_laws.specs.Changes.{marks_at, keep_marked as kept_marked, allocate_index as allocated_too};
+ghost use Rattle.sweep_laws.specs.ChangesOfLives.{marks_at, keep_marked as kept_marked, allocate_index as allocated_too};
 ghost use Rattle.sweep_laws.specs.Lists.{rises};
 ghost use Rattle.sweep_lists.specs.Loops.{marked};
 ghost use Rattle.sweep_lists.specs.Views.{life_view, LifeRoom};

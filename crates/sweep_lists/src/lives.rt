@@ -3,9 +3,9 @@
 
 ghost use Rattle.std.specs.Prelude.{◌≡◌, ◌==◌, ◌≤◌, ◌<◌, ℕ, true, map, length, OnOk, OnErr, IfOk, option_map, None, Some, if◌then◌else◌, slice_index_or, slice_set, [], ◌∷◌, ◌++◌, drop};
 ghost use Rattle.std.specs.List.{All, find, position};
-ghost use Rattle.sweep_laws.specs.Changes.{marks_at, mark_life, change_life, drop_life as dropped_life, keep_marked as kept_marked, allocate_index as allocated_too};
+ghost use Rattle.sweep_laws.specs.ChangesOfLives.{marks_at, mark_life, change_life, drop_life as dropped_life, keep_marked as kept_marked, allocate_index as allocated_too};
 ghost use Rattle.sweep_laws.specs.Lists.{rises};
-ghost use Rattle.sweep_laws.specs.Needs.{life_in};
+ghost use Rattle.sweep_laws.specs.Reading.{life_in};
 ghost use Rattle.sweep_lists.specs.Tables.{told, is_below as is_told_below};
 ghost use Rattle.sweep_lists.specs.Views.{life_view, LifeRoom};
 

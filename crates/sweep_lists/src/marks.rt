@@ -2,7 +2,7 @@
 
 ghost use Rattle.std.specs.Prelude.{◌≡◌, ◌<◌, ◌≤◌, ℕ, true, length, slice_index_or};
 ghost use Rattle.sweep_laws.specs.Lists.{rises};
-ghost use Rattle.sweep_laws.specs.Changes.{marks_at};
+ghost use Rattle.sweep_laws.specs.ChangesOfLives.{marks_at};
 
 // How many marks stand before those of a page and of the pages behind it.
 fn first_from(marks: &[(u32, u32)], page: u64) -> usize

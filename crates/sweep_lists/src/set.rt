@@ -3,8 +3,8 @@
 
 ghost use Rattle.std.specs.Prelude.{◌≡◌, ◌≤◌, ◌<◌, ◌+◌, ℕ, map, length, OnOk, OnErr, slice_set, slice_index_or};
 ghost use Rattle.std.specs.List.{All};
-ghost use Rattle.sweep_laws.specs.Needs.{no_set};
-ghost use Rattle.sweep_laws.specs.Changes.{name_page as page_named, raise_head as head_raised, raise_tail as tail_raised};
+ghost use Rattle.sweep_laws.specs.Reading.{no_set};
+ghost use Rattle.sweep_laws.specs.ChangesOfSets.{name_page as page_named, raise_head as head_raised, raise_tail as tail_raised};
 ghost use Rattle.sweep_lists.specs.Bare.{bare_set};
 ghost use Rattle.sweep_lists.specs.Views.{set_view};
 ghost use Rattle.sweep_lists.specs.Loops.{emptied_unless};

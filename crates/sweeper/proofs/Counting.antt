@@ -4,7 +4,8 @@ use Rattle.std.proofs.lemmas.List.{reverse-append, map-append}
 use Rattle.worker_log.specs.declared.Entry.{Entry}
 use Rattle.worker_log.specs.declared.Entry.TheVariants.{Looked, LookedEmptyCell, Popped, Pushed, Swept, Took, Missed, Gave, Allocated, Found, Read, Added}
 use Rattle.worker_log.specs.declared.Sweeping.{Sweeping}
-use Rattle.worker_log.specs.Logs.{is_placing_in, is_pop_of, many, sweepings}
+use Rattle.worker_log.specs.Logs.{sweepings}
+use Rattle.worker_log.specs.Entries.{is_placing_in, is_pop_of, many}
 use Rattle.worker_log.proofs.Logs.{many-append}
 use Rattle.span_laws.specs.Logs.{is_taking}
 use Rattle.span_laws.specs.Calls.{is_missing, is_placing, number_added, pages_swept}

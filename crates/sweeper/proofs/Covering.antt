@@ -13,12 +13,14 @@ use Rattle.span_state.specs.declared.sweep.SweepNote.{SweepNote}
 use Rattle.sweep_laws.specs.Lists.{erase}
 use Rattle.worker_log.specs.declared.Entry.{Entry}
 use Rattle.worker_log.specs.declared.Entry.TheVariants.{Added, Found, Read}
-use Rattle.worker_log.specs.Logs.{is_sweep_of, many}
+use Rattle.worker_log.specs.Entries.{is_sweep_of, many}
 use Rattle.worker_log.proofs.Logs.{many-append}
-use Rattle.span_laws.specs.Answers.{AcquiresSpan, cycle_at}
+use Rattle.span_laws.specs.TakeAnswers.{cycle_at}
+use Rattle.span_laws.specs.Answers.{AcquiresSpan}
 use Rattle.span_laws.specs.declared.answers.Acquired.TheVariants.{Got, Other}
 use Rattle.span_laws.specs.declared.said.Said.TheVariants.{Adds, Finds}
-use Rattle.span_laws.specs.Views.{Seen, after_said}
+use Rattle.span_laws.specs.Views.{Seen}
+use Rattle.span_laws.specs.OwnSteps.{after_said}
 use Rattle.span_set.specs.declared.hand.Hand.{Hand}
 use Rattle.sweep_laws.specs.Counts.{total}
 use Rattle.sweeper.specs.Entries.{is_added, is_finding_at, is_read, pages_given}

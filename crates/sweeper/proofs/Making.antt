@@ -3,16 +3,17 @@ use Rattle.std.proofs.Common.{◌≡◌, ℕ, ◌≤◌, eq-eqb, ne_eqb, List, [
 use Rattle.std.proofs.lemmas.List.{append-nil}
 use Rattle.std.specs.Prelude.{Ok, Err, Result}
 use Rattle.fallible_list.specs.declared.list.NoMemory.{NoMemory}
-use Rattle.page_alloc.specs.Journal.{HasNoRun, Legal}
+use Rattle.page_alloc.specs.FreeRuns.{HasNoRun}
+use Rattle.page_alloc.specs.Journal.{Legal}
 use Rattle.page_bitmap.specs.declared.line.Line.{Line}
 use Rattle.page_bitmap.specs.declared.line.Line.TheVariants.{Take as TakeLine, Miss as MissLine}
 use Rattle.span_state.specs.declared.body.Body.{Body}
-use Rattle.sweep_laws.specs.Needs.{is_swept_set}
+use Rattle.sweep_laws.specs.Reading.{is_swept_set}
 use Rattle.worker_log.specs.declared.Entry.{Entry}
 use Rattle.worker_log.specs.declared.Entry.TheVariants.{Took, Missed}
-use Rattle.worker_log.specs.Logs.{is_placing_in, is_pop_of, is_seen_empty, many}
+use Rattle.worker_log.specs.Entries.{is_placing_in, is_pop_of, is_seen_empty, many}
 use Rattle.worker_log.proofs.Logs.{many-append}
-use Rattle.span_laws.specs.Answers.{NoRunFree, TakesNew, TakesSpan, cycle_at}
+use Rattle.span_laws.specs.TakeAnswers.{NoRunFree, TakesNew, TakesSpan, cycle_at}
 use Rattle.span_laws.specs.Asks.{mine}
 use Rattle.span_laws.specs.declared.answers.Refused.{Refused}
 use Rattle.span_laws.specs.declared.answers.Refused.TheVariants.{NoRun, NoMemory as WantsMemory}

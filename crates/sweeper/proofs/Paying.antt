@@ -6,10 +6,11 @@ use Rattle.fallible_list.specs.declared.list.NoMemory.{NoMemory}
 use Rattle.span_state.specs.declared.sweep.SweepNote.{SweepNote}
 use Rattle.worker_log.specs.declared.Entry.{Entry}
 use Rattle.worker_log.specs.declared.Entry.TheVariants.{Read}
-use Rattle.worker_log.specs.Logs.{is_pop, is_seen_empty, many}
+use Rattle.worker_log.specs.Entries.{is_pop, is_seen_empty, many}
 use Rattle.worker_log.proofs.Logs.{many-append}
 use Rattle.span_laws.specs.declared.said.Said.TheVariants.{Reads}
-use Rattle.span_laws.specs.Views.{Seen, after_said}
+use Rattle.span_laws.specs.Views.{Seen}
+use Rattle.span_laws.specs.OwnSteps.{after_said}
 use Rattle.span_set.specs.declared.hand.Hand.{Hand}
 use Rattle.sweeper.specs.Entries.{is_read}
 use Rattle.sweeper.specs.Pays.{HasPaid, Pays, target_of}

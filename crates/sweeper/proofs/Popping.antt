@@ -7,17 +7,20 @@ use Rattle.span_state.specs.MarkSet.{MarkSet}
 use Rattle.span_state.specs.declared.body.Body.{Body}
 use Rattle.span_state.specs.declared.sweep.SweepNote.{SweepNote}
 use Rattle.sweep_laws.specs.Lists.{erase}
-use Rattle.sweep_laws.specs.Needs.{is_swept_set}
+use Rattle.sweep_laws.specs.Reading.{is_swept_set}
 use Rattle.worker_log.specs.declared.Entry.{Entry}
 use Rattle.worker_log.specs.declared.Entry.TheVariants.{Looked, LookedEmptyCell, Popped, Pushed, Swept, Took, Missed, Gave, Allocated, Found, Read, Added}
 use Rattle.worker_log.specs.declared.Sweeping.{Sweeping}
-use Rattle.worker_log.specs.Logs.{is_pop, many, sweepings}
+use Rattle.worker_log.specs.Logs.{sweepings}
+use Rattle.worker_log.specs.Entries.{is_pop, many}
 use Rattle.worker_log.proofs.Logs.{many-append}
-use Rattle.span_laws.specs.Answers.{AcquiresSpan, cycle_at}
+use Rattle.span_laws.specs.TakeAnswers.{cycle_at}
+use Rattle.span_laws.specs.Answers.{AcquiresSpan}
 use Rattle.span_laws.specs.Asks.{IsUntouched}
 use Rattle.span_laws.specs.declared.answers.Acquired.TheVariants.{Got, Other}
 use Rattle.span_laws.specs.declared.said.Said.TheVariants.{LooksCell, PopsEntry}
-use Rattle.span_laws.specs.Views.{Seen, after_said}
+use Rattle.span_laws.specs.Views.{Seen}
+use Rattle.span_laws.specs.OwnSteps.{after_said}
 use Rattle.span_set.specs.Pops.{IsLookAt, LooksLast, PopsUnswept}
 use Rattle.span_set.specs.declared.answers.PopBase.TheVariants.{Popped as PoppedBase, Empty as EmptyBase}
 use Rattle.span_set.specs.declared.hand.Hand.{Hand}

@@ -5,11 +5,12 @@ use mathlib.Core.Logic.{dite}
 use native.Mathlib.Decide.{ℕ_discrete}
 use Rattle.page_bitmap.specs.Counts.{one_if}
 use Rattle.span_state.specs.declared.sweep.SweepNote.{SweepNote}
-use Rattle.sweep_laws.specs.Needs.{is_swept_set}
+use Rattle.sweep_laws.specs.Reading.{is_swept_set}
 use Rattle.worker_log.specs.declared.Entry.{Entry}
-use Rattle.worker_log.specs.Logs.{is_pop, is_seen_empty, many, sweepings}
+use Rattle.worker_log.specs.Logs.{sweepings}
+use Rattle.worker_log.specs.Entries.{is_pop, is_seen_empty, many}
 use Rattle.worker_log.proofs.Logs.{many-append}
-use Rattle.span_laws.specs.Answers.{cycle_at}
+use Rattle.span_laws.specs.TakeAnswers.{cycle_at}
 use Rattle.span_set.specs.declared.hand.Hand.{Hand}
 use Rattle.sweeper.specs.Steps.{DropsSome, SawSome, SweepsNext, SweepsNone, TriesEntry, nth_unswept}
 use Rattle.sweeper.specs.Sweeps.{SweepsOne, SweepsSpan}

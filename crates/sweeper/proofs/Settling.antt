@@ -14,14 +14,18 @@ use Rattle.sweep_laws.specs.Lists.{erase, has}
 use Rattle.worker_log.specs.declared.Entry.{Entry}
 use Rattle.worker_log.specs.declared.Entry.TheVariants.{Added, Gave, Pushed, Read, Swept}
 use Rattle.worker_log.specs.declared.Sweeping.{Sweeping}
-use Rattle.worker_log.specs.Logs.{is_pop, is_push_of, is_sweep_of, many, swept_set}
-use Rattle.span_laws.specs.Answers.{AcquiresSpan, cycle_at}
-use Rattle.span_laws.specs.Asks.{HasRoom, IsApart, IsFullBody, mine}
+use Rattle.worker_log.specs.SetNumbers.{swept_set}
+use Rattle.worker_log.specs.Entries.{is_pop, is_push_of, is_sweep_of, many}
+use Rattle.span_laws.specs.TakeAnswers.{cycle_at}
+use Rattle.span_laws.specs.Answers.{AcquiresSpan}
+use Rattle.span_laws.specs.BodyAsks.{HasRoom, IsFullBody}
+use Rattle.span_laws.specs.Asks.{IsApart, mine}
 use Rattle.span_laws.specs.declared.answers.Acquired.TheVariants.{Got}
 use Rattle.span_laws.specs.declared.said.Said.TheVariants.{Adds, Fills, Gives, Reads}
 use Rattle.span_laws.specs.declared.said.SaidOf.TheVariants.{Acquires, Releases}
 use Rattle.span_laws.specs.declared.view.Span.{Span}
-use Rattle.span_laws.specs.Views.{Seen, after_of, after_said, span_at, span_of}
+use Rattle.span_laws.specs.Views.{Seen, span_at, span_of}
+use Rattle.span_laws.specs.OwnSteps.{after_of, after_said}
 use Rattle.span_laws.proofs.Uses.{apart_of}
 use Rattle.span_set.specs.declared.hand.Hand.{Hand}
 use Rattle.sweep_laws.specs.Counts.{total}

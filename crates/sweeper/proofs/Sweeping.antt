@@ -12,12 +12,15 @@ use Rattle.span_state.specs.declared.body.Body.{Body}
 use Rattle.span_state.specs.declared.sweep.SweepNote.{SweepNote}
 use Rattle.span_state.specs.declared.sweep.Swept.{Swept}
 use Rattle.worker_log.specs.declared.Entry.TheVariants.{Added, Read, Swept as SweptEntry}
-use Rattle.worker_log.specs.Logs.{is_placing_in, is_pop_of, many, swept_set}
-use Rattle.span_laws.specs.Asks.{HasRoom, IsEmptyBody, IsFullBody, IsUntouched, IsUsed}
+use Rattle.worker_log.specs.SetNumbers.{swept_set}
+use Rattle.worker_log.specs.Entries.{is_placing_in, is_pop_of, many}
+use Rattle.span_laws.specs.BodyAsks.{HasRoom, IsEmptyBody, IsFullBody, IsUsed}
+use Rattle.span_laws.specs.Asks.{IsUntouched}
 use Rattle.span_laws.specs.Logs.{EndsSweptEmpty}
 use Rattle.span_laws.specs.declared.said.Said.TheVariants.{Adds, Reads}
 use Rattle.span_laws.specs.declared.said.SaidOf.TheVariants.{Releases}
-use Rattle.span_laws.specs.Views.{Seen, after_of, after_said, span_of}
+use Rattle.span_laws.specs.Views.{Seen, span_of}
+use Rattle.span_laws.specs.OwnSteps.{after_of, after_said}
 use Rattle.span_set.specs.Sets.{MayPush, swept_of}
 use Rattle.span_set.specs.Sweeps.{SweepsBody, SweepsInHand, note_of}
 use Rattle.span_set.specs.declared.hand.Hand.{Hand}

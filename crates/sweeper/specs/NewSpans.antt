@@ -5,10 +5,10 @@ use Rattle.page_bitmap.specs.declared.line.Line.TheVariants.{Take as TakeLine, M
 use Rattle.span_state.specs.declared.body.Body.{Body}
 use Rattle.worker_log.specs.declared.Entry.{Entry}
 use Rattle.worker_log.specs.declared.Entry.TheVariants.{Took, Missed}
-use Rattle.worker_log.specs.Logs.{many}
+use Rattle.worker_log.specs.Entries.{many}
 use Rattle.span_laws.specs.declared.answers.Refused.{Refused}
 use Rattle.span_laws.specs.declared.answers.Refused.TheVariants.{NoRun, NoMemory as WantsMemory}
-use Rattle.span_laws.specs.Answers.{IsNew, NoRunFree, cycle_at}
+use Rattle.span_laws.specs.TakeAnswers.{IsNew, NoRunFree, cycle_at}
 use Rattle.span_laws.specs.Asks.{HasBody, IsUntouched, mine}
 use Rattle.span_set.specs.declared.hand.Hand.{Hand}
 use Rattle.sweeper.specs.Entries.{is_added}

@@ -2,7 +2,7 @@
 use Rattle.std.specs.Prelude.{◌≡◌, ℕ, ◌+◌, ◌-◌, ◌*◌, ◌/◌, ◌<◌, ◌≤◌, ◌==◌, List, [], Result, Ok, Err, if◌then◌else◌}
 use Rattle.fallible_list.specs.declared.list.NoMemory.{NoMemory}
 use Rattle.worker_log.specs.declared.Entry.{Entry}
-use Rattle.worker_log.specs.Logs.{many}
+use Rattle.worker_log.specs.Entries.{many}
 use Rattle.span_set.specs.declared.hand.Hand.{Hand}
 use Rattle.sweeper.specs.Entries.{is_read}
 use Rattle.sweeper.specs.Work.{IsPlain, SawAllEmpty, Works}

@@ -3,7 +3,7 @@ use Rattle.std.specs.Prelude.{◌≡◌, ◌⊎◌, ℕ, ◌+◌, ◌-◌, ◌*�
 use Rattle.fallible_list.specs.declared.list.NoMemory.{NoMemory}
 use Rattle.span_state.specs.MarkSet.{has_pair}
 use Rattle.worker_log.specs.declared.Entry.{Entry}
-use Rattle.worker_log.specs.Logs.{is_sweep_of, many}
+use Rattle.worker_log.specs.Entries.{is_sweep_of, many}
 use Rattle.span_set.specs.declared.hand.Hand.{Hand}
 use Rattle.sweep_laws.specs.Counts.{total}
 use Rattle.sweeper.specs.Entries.{is_added, is_finding_at, is_read, pages_given}

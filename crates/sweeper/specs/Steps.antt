@@ -9,12 +9,15 @@ use Rattle.span_state.specs.declared.sweep.Swept.{Swept}
 use Rattle.worker_log.specs.declared.Entry.{Entry}
 use Rattle.worker_log.specs.declared.Entry.TheVariants.{Added, Read, Swept as SweptEntry}
 use Rattle.worker_log.specs.declared.Sweeping.{Sweeping}
-use Rattle.worker_log.specs.Logs.{is_pop, is_seen_empty, is_sweep_of, many, sweepings, swept_set}
+use Rattle.worker_log.specs.Logs.{sweepings}
+use Rattle.worker_log.specs.SetNumbers.{swept_set}
+use Rattle.worker_log.specs.Entries.{is_pop, is_seen_empty, is_sweep_of, many}
 use Rattle.span_laws.specs.declared.said.Said.TheVariants.{Adds, Fills, Gives, Reads}
 use Rattle.span_laws.specs.declared.said.SaidOf.TheVariants.{Releases}
-use Rattle.span_laws.specs.Answers.{cycle_at}
-use Rattle.span_laws.specs.Asks.{HasRoom, IsFullBody}
-use Rattle.span_laws.specs.Views.{Seen, after_of, after_said, span_of}
+use Rattle.span_laws.specs.TakeAnswers.{cycle_at}
+use Rattle.span_laws.specs.BodyAsks.{HasRoom, IsFullBody}
+use Rattle.span_laws.specs.Views.{Seen, span_of}
+use Rattle.span_laws.specs.OwnSteps.{after_of, after_said}
 use Rattle.span_set.specs.Sweeps.{SweepsBody, note_of}
 use Rattle.span_set.specs.declared.hand.Hand.{Hand}
 use Rattle.sweep_laws.specs.Counts.{total}

@@ -6,9 +6,11 @@ use Rattle.span_state.specs.Spans.{allocated}
 use Rattle.span_state.specs.declared.body.Body.{Body}
 use Rattle.worker_log.specs.declared.Entry.{Entry}
 use Rattle.worker_log.specs.declared.Sweeping.{Sweeping}
-use Rattle.worker_log.specs.Logs.{is_push_of, many, sweepings, swept_set}
-use Rattle.span_laws.specs.Answers.{cycle_at}
-use Rattle.span_laws.specs.Asks.{HasRoom, IsFullBody}
+use Rattle.worker_log.specs.Logs.{sweepings}
+use Rattle.worker_log.specs.SetNumbers.{swept_set}
+use Rattle.worker_log.specs.Entries.{is_push_of, many}
+use Rattle.span_laws.specs.TakeAnswers.{cycle_at}
+use Rattle.span_laws.specs.BodyAsks.{HasRoom, IsFullBody}
 use Rattle.span_set.specs.declared.hand.Hand.{Hand}
 use Rattle.sweeper.specs.Entries.{is_giving_of}
 use Rattle.sweeper.specs.Work.{IsPlain, SawAllEmpty, Works, note_by}

@@ -1,11 +1,12 @@
 -- What the calls of this crate leave of a hand, and what the log of such a call has.
 use Rattle.std.specs.Prelude.{◌≡◌, ℕ, ◌<◌, true, false, List, [], ◌++◌, map, reverse}
 use Rattle.span_state.specs.declared.sweep.SweepNote.{SweepNote}
-use Rattle.sweep_laws.specs.Needs.{is_swept_set}
+use Rattle.sweep_laws.specs.Reading.{is_swept_set}
 use Rattle.worker_log.specs.declared.Entry.{Entry}
 use Rattle.worker_log.specs.declared.Sweeping.{Sweeping}
-use Rattle.worker_log.specs.Logs.{is_placing_in, is_pop_of, is_seen_empty, many, sweepings}
-use Rattle.span_laws.specs.Answers.{cycle_at}
+use Rattle.worker_log.specs.Logs.{sweepings}
+use Rattle.worker_log.specs.Entries.{is_placing_in, is_pop_of, is_seen_empty, many}
+use Rattle.span_laws.specs.TakeAnswers.{cycle_at}
 use Rattle.span_laws.specs.Asks.{mine}
 use Rattle.span_laws.specs.Logs.{is_taking}
 use Rattle.span_laws.specs.Views.{Seen, span_at}

@@ -8,15 +8,17 @@ use Rattle.span_state.specs.MarkSet.{MarkSet}
 use Rattle.span_state.specs.declared.body.Body.{Body}
 use Rattle.span_state.specs.declared.sweep.SweepNote.{SweepNote}
 use Rattle.sweep_laws.specs.Lists.{erase}
-use Rattle.worker_log.specs.Logs.{swept_set}
+use Rattle.worker_log.specs.SetNumbers.{swept_set}
 use Rattle.page_bitmap.specs.Counts.{one_if}
-use Rattle.span_laws.specs.Answers.{AcquiresSpan, StepsOnce}
+use Rattle.span_laws.specs.ScavengeAnswers.{StepsOnce}
+use Rattle.span_laws.specs.Answers.{AcquiresSpan}
 use Rattle.span_laws.specs.declared.answers.Acquired.TheVariants.{Got, Other}
 use Rattle.span_laws.specs.declared.answers.Step.{Step}
 use Rattle.span_laws.specs.declared.said.Said.TheVariants.{Adds, Fills, Finds, Gives, Looks, LooksCell, PopsEntry, Reads}
 use Rattle.span_laws.specs.declared.said.SaidOf.TheVariants.{Acquires, Releases}
 use Rattle.span_laws.specs.declared.view.Part.{Part}
-use Rattle.span_laws.specs.Views.{Seen, acts, after_of, after_said, span_of}
+use Rattle.span_laws.specs.Views.{Seen, acts, span_of}
+use Rattle.span_laws.specs.OwnSteps.{after_of, after_said}
 use Rattle.span_set.specs.Pops.{PopsUnswept, with_looks}
 use Rattle.span_set.specs.Tallies.{Frees}
 use Rattle.span_set.specs.declared.answers.PopBase.TheVariants.{Popped as PoppedBase, Empty as EmptyBase}

@@ -17,9 +17,10 @@ use Rattle.span_laws.specs.declared.answers.Refused.{Refused}
 use Rattle.span_laws.specs.declared.answers.Refused.TheVariants.{NoRun, NoMemory as WantsMemory}
 use Rattle.span_laws.specs.declared.said.Said.TheVariants.{Adds}
 use Rattle.span_laws.specs.Logs.{is_placing_at}
-use Rattle.span_laws.specs.Views.{Seen, acts, after_said}
+use Rattle.span_laws.specs.Views.{Seen, acts}
+use Rattle.span_laws.specs.OwnSteps.{after_said}
 use Rattle.span_laws.specs.declared.view.Part.{Part}
-use Rattle.worker_log.specs.Logs.{many}
+use Rattle.worker_log.specs.Entries.{many}
 use Rattle.span_rows.specs.Rows.{ArePlaced, HasPlaced, IsFreeDriver, IsIdleDriver, KeepsPlaced}
 use Rattle.span_rows.proofs.Driving.{own_of}
 use Rattle.span_set.specs.Tallies.{Frees, MayCount, frees_all, freeing}

@@ -11,9 +11,16 @@ use Rattle.sweep_laws.specs.declared.moves.Move.TheVariants.{Claim as ClaimMove}
 use Rattle.sweep_laws.specs.Counts.{times}
 use Rattle.sweep_laws.specs.Lists.{has, least_outside}
 use Rattle.sweep_laws.specs.Named.{begins, is_class}
-use Rattle.sweep_laws.specs.Needs.{refusal, hand_of, set_of, cell_of, life_of, life_in, allocated_at, class_of_set, is_swept_set, no_set, acquire_needs, release_needs, cache_needs, uncache_needs, stale_uncache_needs, take_needs, give_needs, allocate_needs, claim_needs, fill_needs, pop_swept_needs, pop_unswept_needs, drop_popped_needs, next_needs}
-use Rattle.sweep_laws.specs.Changes.{hold, let_go, start_sweep, end_sweep, put_in_cache, take_from_cache, sweep_from_cache, claim_cell, pop_entry, drop_entry, forget_swept, new_life, keep_marked, raise_head, head_base, empty_unswept, after_take, after_give, after_acquire, after_release, after_cache, after_allocate, after_uncache, after_stale_uncache, after_claim, after_fill, after_fill_of, after_pop_swept, after_pop_unswept, after_drop_popped, after_next}
-use Rattle.sweep_laws.specs.Owned.{Owned, IsPage, ObjectsFit}
+use Rattle.sweep_laws.specs.Reading.{hand_of, set_of, cell_of, life_of, life_in, allocated_at, class_of_set, is_swept_set, no_set}
+use Rattle.sweep_laws.specs.NeedsOfRange.{refusal}
+use Rattle.sweep_laws.specs.Needs.{acquire_needs, release_needs, cache_needs, uncache_needs, stale_uncache_needs, take_needs, give_needs, allocate_needs, claim_needs, fill_needs, pop_swept_needs, pop_unswept_needs, drop_popped_needs, next_needs}
+use Rattle.sweep_laws.specs.ChangesOfHands.{hold, let_go, start_sweep, end_sweep, put_in_cache, take_from_cache, sweep_from_cache, claim_cell, pop_entry, drop_entry, forget_swept}
+use Rattle.sweep_laws.specs.ChangesOfLives.{new_life, keep_marked}
+use Rattle.sweep_laws.specs.ChangesOfSets.{raise_head, head_base, empty_unswept}
+use Rattle.sweep_laws.specs.Changes.{after_take, after_give, after_acquire, after_release, after_cache, after_allocate, after_uncache, after_stale_uncache, after_claim, after_fill, after_fill_of, after_pop_swept, after_pop_unswept, after_drop_popped, after_next}
+use Rattle.sweep_laws.specs.OwnedLives.{ObjectsFit}
+use Rattle.sweep_laws.specs.OwnedSets.{IsPage}
+use Rattle.sweep_laws.specs.Owned.{Owned}
 use Rattle.sweep_laws.specs.Standing.{tally, CoreKept}
 use Rattle.sweep_laws.specs.State.{LifeState, SetState, HandState, CoreState}
 use Rattle.sweep_laws.proofs.Forms.{kept_of}
@@ -27,8 +34,10 @@ use Rattle.sweep_laws.proofs.Objects.{free_below}
 use Rattle.sweep_laws.proofs.Standings.{sweeping_list}
 use Rattle.sweep_laws.proofs.Totals.{times_end_else, part_le, inside_at, same_one}
 use Rattle.worker_log.specs.declared.Entry.{Entry}
-use Rattle.worker_log.specs.Logs.{many, is_full_set, is_pop_of}
-use Rattle.swept_set_laws.specs.Entered.{Entered, EnteredIn, SamePops, HasPopped, MayClaim, IsSettled, is_full_life, log_of, put_name}
+use Rattle.worker_log.specs.SetNumbers.{is_full_set}
+use Rattle.worker_log.specs.Entries.{many, is_pop_of}
+use Rattle.swept_set_laws.specs.Entered.{Entered, EnteredIn, IsSettled, is_full_life, log_of}
+use Rattle.swept_set_laws.specs.NamesGoOn.{SamePops, HasPopped, MayClaim, put_name}
 use Rattle.swept_set_laws.proofs.Stays.{Stays, word_stays, change_stays, append_stays, drop_stays}
 use Rattle.swept_set_laws.proofs.EnteredKept.{turned_enters, claim_room, claim_enters}
 use Rattle.swept_set_laws.proofs.EnteredMoves.{fill_enters, pop_swept_enters}

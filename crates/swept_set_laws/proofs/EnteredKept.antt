@@ -9,19 +9,22 @@ use Rattle.sweep_laws.proofs.Claims.{claim_else}
 use Rattle.sweep_laws.proofs.NeedsMet.{some_none}
 use Rattle.sweep_laws.specs.declared.moves.Claimed.{Claimed}
 use Rattle.sweep_laws.specs.State.{LifeState, SetState, HandState}
-use Rattle.sweep_laws.specs.Needs.{cell_of, class_of_set, is_swept_set, life_in}
-use Rattle.sweep_laws.specs.Changes.{claim_cell, raise_tail}
+use Rattle.sweep_laws.specs.Reading.{cell_of, class_of_set, is_swept_set, life_in}
+use Rattle.sweep_laws.specs.ChangesOfHands.{claim_cell}
+use Rattle.sweep_laws.specs.ChangesOfSets.{raise_tail}
 use Rattle.sweep_laws.specs.Counts.{one_if, times, total}
 use Rattle.sweep_laws.specs.Named.{is_class, is_claim, claimers, queued, names_in, only, holders, cachers}
-use Rattle.sweep_laws.specs.Owned.{IsPage}
+use Rattle.sweep_laws.specs.OwnedSets.{IsPage}
 use Rattle.sweep_laws.specs.Standing.{tally, Kept}
 use Rattle.sweep_laws.proofs.Totals.{part_le, part_from_le, two_parts_le}
 use Rattle.sweep_laws.proofs.Naming.{at_set}
 use Rattle.sweep_laws.proofs.Unpopped.{hit_between}
 use Rattle.sweep_laws.proofs.Standings.{held_list}
 use Rattle.worker_log.specs.declared.Entry.{Entry}
-use Rattle.worker_log.specs.Logs.{many, is_full_set, is_pop_of}
-use Rattle.swept_set_laws.specs.Entered.{Entered, NamesPages, IsEntry, IsSettled, Knows, is_full_life, log_of, put_name}
+use Rattle.worker_log.specs.SetNumbers.{is_full_set}
+use Rattle.worker_log.specs.Entries.{many, is_pop_of}
+use Rattle.swept_set_laws.specs.Entered.{Entered, NamesPages, IsEntry, IsSettled, Knows, is_full_life, log_of}
+use Rattle.swept_set_laws.specs.NamesGoOn.{put_name}
 use Rattle.swept_set_laws.proofs.Pigeons.{pigeons}
 
 module _ (g pages : ℕ) (ws : List ℕ) (ls : List LifeState) (ss : List SetState) (hs : List HandState) (logs : List (List Entry)) (names : ℕ → ℕ → ℕ)

@@ -9,11 +9,12 @@ use Rattle.sweep_laws.proofs.NeedsMet.{some_none, eqb-false}
 use Rattle.std.proofs.lemmas.Bool.{eqb-true}
 use Rattle.sweep_laws.specs.declared.moves.Claimed.{Claimed}
 use Rattle.sweep_laws.specs.State.{LifeState, SetState, HandState}
-use Rattle.sweep_laws.specs.Needs.{cell_of, class_of_set, is_swept_set, life_in}
-use Rattle.sweep_laws.specs.Changes.{hold, fill_cell, raise_head, name_page}
+use Rattle.sweep_laws.specs.Reading.{cell_of, class_of_set, is_swept_set, life_in}
+use Rattle.sweep_laws.specs.ChangesOfHands.{hold, fill_cell}
+use Rattle.sweep_laws.specs.ChangesOfSets.{raise_head, name_page}
 use Rattle.sweep_laws.specs.Counts.{one_if, times}
 use Rattle.sweep_laws.specs.Named.{is_class, holders, cachers}
-use Rattle.sweep_laws.specs.Owned.{ClaimFits}
+use Rattle.sweep_laws.specs.OwnedSets.{ClaimFits}
 use Rattle.sweep_laws.specs.Lists.{put_cell}
 use Rattle.sweep_laws.specs.Standing.{tally, Kept}
 use Rattle.sweep_laws.proofs.Totals.{times_end_else, part_le}
@@ -22,7 +23,8 @@ use Rattle.sweep_laws.proofs.Unpopped.{put_cell_here, put_cell_else}
 use Rattle.sweep_laws.proofs.Standings.{queued_list}
 use Rattle.worker_log.specs.declared.Entry.{Entry}
 use Rattle.worker_log.specs.declared.Entry.TheVariants.{Popped}
-use Rattle.worker_log.specs.Logs.{many, is_full_set, is_pop_of}
+use Rattle.worker_log.specs.SetNumbers.{is_full_set}
+use Rattle.worker_log.specs.Entries.{many, is_pop_of}
 use Rattle.swept_set_laws.specs.Entered.{Entered, NamesPages, IsEntry, Knows, is_full_life, log_of}
 use Rattle.swept_set_laws.proofs.EnteredKept.{queued_by}
 

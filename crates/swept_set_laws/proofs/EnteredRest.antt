@@ -7,20 +7,21 @@ use lib.ListN.{get_elem?}
 use native.Mathlib.Decide.{ℕ_discrete}
 use Rattle.sweep_laws.proofs.NeedsMet.{some_none}
 use Rattle.sweep_laws.specs.State.{LifeState, SetState, HandState}
-use Rattle.sweep_laws.specs.Needs.{cell_of, class_of_set, is_swept_set, life_in}
+use Rattle.sweep_laws.specs.Reading.{cell_of, class_of_set, is_swept_set, life_in}
 use Rattle.sweep_laws.specs.Counts.{times, total}
 use Rattle.sweep_laws.specs.Named.{is_class, claimers, queued, holders, cachers}
-use Rattle.sweep_laws.specs.Owned.{IsPage}
+use Rattle.sweep_laws.specs.OwnedSets.{IsPage}
 use Rattle.sweep_laws.specs.Standing.{tally, Kept}
 use Rattle.sweep_laws.proofs.Totals.{part_le}
 use Rattle.sweep_laws.proofs.Naming.{at_set}
 use Rattle.sweep_laws.proofs.Standings.{cached_list}
 use Rattle.worker_log.specs.declared.Entry.{Entry}
-use Rattle.worker_log.specs.Logs.{many, is_full_set, is_pop_of}
+use Rattle.worker_log.specs.SetNumbers.{is_full_set}
+use Rattle.worker_log.specs.Entries.{many, is_pop_of}
 use Rattle.swept_set_laws.specs.Entered.{Entered, IsEntry, is_full_life, log_of}
 use Rattle.swept_set_laws.proofs.EnteredKept.{ClaimedIn, claimer_of, queued_by}
 use Rattle.swept_set_laws.proofs.Stays.{change_else}
-use Rattle.sweep_laws.specs.Changes.{change_life, allocate_index}
+use Rattle.sweep_laws.specs.ChangesOfLives.{change_life, allocate_index}
 
 change_here : (p m : ℕ) (f : LifeState → LifeState) → ((l : LifeState) → (f l).page ≡ l.page) → ((l : LifeState) → (f l).class ≡ l.class) → (ls : List LifeState) → is_class p m ls ≡ true
     → (life_in p (change_life p f ls) ≡ f (life_in p ls)) × (is_class p m (change_life p f ls) ≡ true)

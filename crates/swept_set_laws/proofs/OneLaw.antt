@@ -3,13 +3,15 @@ use Rattle.std.proofs.Common.{◌≡◌, ℕ, List, length, sym, subst}
 use Rattle.std.specs.Prelude.{None}
 use Rattle.sweep_laws.specs.declared.moves.Move.{Move}
 use Rattle.sweep_laws.specs.declared.moves.Move.TheVariants.{Lock, Unlock, Take, Give, Acquire, Release, Cache, Allocate, Uncache, StaleUncache, Claim, Fill, PopSwept, PopUnswept, DropPopped, Next}
-use Rattle.sweep_laws.specs.Needs.{refusal, set_of}
+use Rattle.sweep_laws.specs.Reading.{set_of}
+use Rattle.sweep_laws.specs.NeedsOfRange.{refusal}
 use Rattle.sweep_laws.specs.Changes.{after_claim}
 use Rattle.sweep_laws.specs.Owned.{Owned}
 use Rattle.sweep_laws.specs.State.{CoreState}
 use Rattle.sweep_laws.specs.Step.{needs_of, after}
 use Rattle.worker_log.specs.declared.Entry.{Entry}
-use Rattle.swept_set_laws.specs.Entered.{EnteredIn, NamesGoOn, SamePops, put_name}
+use Rattle.swept_set_laws.specs.Entered.{EnteredIn}
+use Rattle.swept_set_laws.specs.NamesGoOn.{NamesGoOn, SamePops, put_name}
 use Rattle.swept_set_laws.proofs.EachMove.{entered_logs, logs_keep_names, acquire_keeps_names, release_keeps_names, cache_keeps_names, uncache_keeps_names, stale_uncache_keeps_names, take_keeps_names, give_keeps_names, drop_popped_keeps_names, pop_unswept_keeps_names, allocate_keeps_names, claim_keeps_names, fill_keeps_names, pop_swept_keeps_names, next_keeps_names}
 
 -- other logs with the same pops in any state of this generation

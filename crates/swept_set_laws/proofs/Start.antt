@@ -1,7 +1,7 @@
 -- At the start nothing is named.
 use Rattle.std.proofs.Common.{◌≡◌, ℕ, List, [], sym, ap}
 use Rattle.std.specs.List.{range_with_len}
-use Rattle.sweep_laws.specs.Needs.{no_hand, no_set}
+use Rattle.sweep_laws.specs.Reading.{no_hand, no_set}
 use Rattle.sweep_laws.specs.Start.{copies, new_state}
 use Rattle.sweep_laws.specs.State.{SetState, HandState}
 use Rattle.sweep_laws.proofs.NewOwned.{each_mapped}

@@ -4,8 +4,8 @@ use Rattle.std.proofs.lemmas.List.{get_or-set_same, get_or-set_other}
 use mathlib.Core.Logic.{dite}
 use native.Mathlib.Decide.{ℕ_discrete}
 use Rattle.sweep_laws.specs.State.{LifeState}
-use Rattle.sweep_laws.specs.Needs.{life_in}
-use Rattle.sweep_laws.specs.Changes.{change_life, drop_life}
+use Rattle.sweep_laws.specs.Reading.{life_in}
+use Rattle.sweep_laws.specs.ChangesOfLives.{change_life, drop_life}
 use Rattle.sweep_laws.specs.Named.{is_class}
 use Rattle.sweep_laws.proofs.LivesChange.{class_append_else, class_drop}
 use Rattle.swept_set_laws.specs.Entered.{IsSettled}

@@ -9,12 +9,15 @@
 ghost use Rattle.std.specs.Prelude.{◌≡◌, ℕ, ◌<◌, List, [], length, None};
 ghost use Rattle.sweep_laws.specs.declared.moves.Move.{Move};
 ghost use Rattle.sweep_laws.specs.State.{CoreState};
-ghost use Rattle.sweep_laws.specs.Needs.{refusal, set_of, claim_needs};
+ghost use Rattle.sweep_laws.specs.Reading.{set_of};
+ghost use Rattle.sweep_laws.specs.NeedsOfRange.{refusal};
+ghost use Rattle.sweep_laws.specs.Needs.{claim_needs};
 ghost use Rattle.sweep_laws.specs.Owned.{Owned};
 ghost use Rattle.sweep_laws.specs.Start.{new_state};
 ghost use Rattle.sweep_laws.specs.Step.{needs_of, after};
 ghost use Rattle.worker_log.specs.declared.Entry.{Entry};
-ghost use Rattle.swept_set_laws.specs.Entered.{EnteredIn, MayClaim, NamesGoOn, log_of};
+ghost use Rattle.swept_set_laws.specs.Entered.{EnteredIn, log_of};
+ghost use Rattle.swept_set_laws.specs.NamesGoOn.{MayClaim, NamesGoOn};
 
 /// At the start the swept sets name nothing, so any names serve, where all logs are empty.
 pub fn a_new_state_names_nothing()

@@ -15,7 +15,8 @@ use Rattle.trace_reader.specs.Refusal.{next_number, said_fault}
 use Rattle.trace_reader.specs.Good.{AreGood}
 use Rattle.trace_reader.specs.Taken.{StandsInLine, Takes, TakesLines}
 use Rattle.trace_reader.specs.Told.{IsOfTrace, TellsFault}
-use Rattle.trace_reader.specs.Draft.{Follows, HasEnd, IsStart, Took, told_of}
+use Rattle.trace_reader.specs.Draft.{HasEnd, told_of}
+use Rattle.trace_reader.specs.Follows.{Follows, IsStart, Took}
 use Rattle.trace_reader.proofs.Saying.{Says-said}
 use Rattle.trace_reader.proofs.Judging.{onto}
 use Rattle.trace_reader.proofs.Reading.{TakesLines-nil, TakesLines-trans, stands_behind, takes_line, tells_behind, tells_memory, tells_said}

@@ -14,7 +14,7 @@ use Rattle.trace_reader.specs.Limits.{AreCycles, AreSpans, EventFits, IsMarked, 
 use Rattle.trace_reader.specs.Past.{before_mark_end, is_live, is_marked, mark_ends_of, marks_of, objects_of, procs_of}
 use Rattle.trace_reader.specs.Checks.{may_begin, may_follow}
 use Rattle.trace_reader.specs.Good.{AreGood, IsGood}
-use Rattle.trace_reader.specs.Draft.{IsBody}
+use Rattle.trace_reader.specs.Follows.{IsBody}
 use Rattle.trace_reader.proofs.Saying.{Short, both, said_line}
 use Rattle.trace_reader.proofs.Judging.{below_true, onto}
 use Rattle.trace_reader.proofs.Good.{alloc_is_line, at_most, fault_none, gc_is_line, mark_is_line, pass, short_event, within_true}

@@ -25,7 +25,8 @@ use Rattle.trace_reader.specs.Checks.{bad_mark, counts_within, may_begin, may_fo
 use Rattle.trace_reader.specs.Refusal.{fault_if, first_of}
 use Rattle.trace_reader.specs.Good.{AreGood, IsGood}
 use Rattle.trace_reader.specs.Taken.{TakesLines}
-use Rattle.trace_reader.specs.Draft.{AreEnded, begins}
+use Rattle.trace_reader.specs.Draft.{AreEnded}
+use Rattle.trace_reader.specs.Follows.{begins}
 use Rattle.trace_reader.specs.Read.{Reads}
 use Rattle.trace_reader.proofs.Judging.{onto}
 use Rattle.trace_reader.proofs.Reading.{TakesLines-trans}

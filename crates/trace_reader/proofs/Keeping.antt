@@ -23,7 +23,8 @@ use Rattle.trace_reader.specs.Past.{before_mark_end, is_live, mark_ends_of, mark
 use Rattle.trace_reader.specs.Checks.{bad_mark, counts_within, event_numbers, may_begin, may_follow, numbers_within, passed}
 use Rattle.trace_reader.specs.Refusal.{fault_if, first_of, statement_fault}
 use Rattle.trace_reader.specs.Kept.{Asked, Passes, in_spans, lives}
-use Rattle.trace_reader.specs.Draft.{AreEnded, Counts, Follows, FollowsAt, HasEnd, IsBody, IsMarking, IsResting, IsStart, Took, begins, behind_spans, ended, ended_at, ending, ends_in, kept_of, marks_in, told_of}
+use Rattle.trace_reader.specs.Draft.{AreEnded, HasEnd, ended, ended_at, ending, kept_of, marks_in, told_of}
+use Rattle.trace_reader.specs.Follows.{Counts, Follows, FollowsAt, IsBody, IsMarking, IsResting, IsStart, Took, begins, behind_spans, ends_in}
 use Rattle.trace_reader.proofs.Saying.{both}
 use Rattle.trace_reader.proofs.Judging.{below_false, below_true}
 use Rattle.trace_reader.proofs.Reading.{All-append}

@@ -10,7 +10,7 @@ use Rattle.trace_reader.specs.Spelling.{cycle_statements, heap_of, lines_of, spe
 use Rattle.trace_reader.specs.Limits.{WithinLimits}
 use Rattle.trace_reader.specs.Refusal.{lines_fault, next_number, pieces_of}
 use Rattle.trace_reader.specs.Good.{AreGood}
-use Rattle.trace_reader.specs.Draft.{IsBody}
+use Rattle.trace_reader.specs.Follows.{IsBody}
 use Rattle.trace_reader.proofs.Saying.{said_line}
 use Rattle.trace_reader.proofs.Judging.{lines_end, lines_go, onto}
 use Rattle.trace_reader.proofs.Reading.{spelled-append}

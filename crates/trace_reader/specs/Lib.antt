@@ -8,6 +8,7 @@ pub mod Good
 pub mod Limits
 pub mod Kept
 pub mod Draft
+pub mod Follows
 pub mod Taken
 pub mod Told
 pub mod Read

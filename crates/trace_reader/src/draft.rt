@@ -7,7 +7,8 @@ ghost use Rattle.trace_reader.specs.declared.statement.Statement.TheVariants.{Al
 ghost use Rattle.trace_reader.specs.Spelling.{cycle_statements};
 ghost use Rattle.trace_reader.specs.Refusal.{said_fault};
 ghost use Rattle.trace_reader.specs.Told.{IsOfTrace, NoReadFault};
-ghost use Rattle.trace_reader.specs.Draft.{AreEnded, Follows, HasEnd, IsStart, Took, ended, kept_of, told_of};
+ghost use Rattle.trace_reader.specs.Draft.{AreEnded, HasEnd, ended, kept_of, told_of};
+ghost use Rattle.trace_reader.specs.Follows.{Follows, IsStart, Took};
 
 use crate::fault::{TraceFault, Which};
 use crate::limits::{limited_distance, limited_event, limited_span};

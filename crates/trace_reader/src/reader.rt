@@ -12,7 +12,8 @@ ghost use Rattle.trace_reader.specs.Spelling.{cycle_statements, heap_of, stateme
 ghost use Rattle.trace_reader.specs.Limits.{HeaderFits};
 ghost use Rattle.trace_reader.specs.Refusal.{next_number};
 ghost use Rattle.trace_reader.specs.Good.{AreGood};
-ghost use Rattle.trace_reader.specs.Draft.{AreEnded, IsStart};
+ghost use Rattle.trace_reader.specs.Draft.{AreEnded};
+ghost use Rattle.trace_reader.specs.Follows.{IsStart};
 ghost use Rattle.trace_reader.specs.Taken.{IsEnded, StandsInLine, Takes, TakesLines};
 ghost use Rattle.trace_reader.specs.Told.{BreaksInLine, HasReadCause, IsFaultBehind, IsOfTrace, TellsFirstFault};
 ghost use Rattle.trace_reader.specs.Read.{IsAhead, Reads};

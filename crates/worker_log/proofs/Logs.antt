@@ -4,7 +4,9 @@ use Rattle.std.specs.List.{AllByRecursion}
 use Rattle.std.proofs.lemmas.List.{reverse-append}
 use Rattle.worker_log.specs.declared.Entry.{Entry}
 use Rattle.worker_log.specs.declared.Entry.TheVariants.{Looked, LookedEmptyCell, Popped, Pushed, Swept, Took, Missed, Gave, Allocated, Found, Read, Added}
-use Rattle.worker_log.specs.Logs.{many, placings, sweepings, refusals, takings, is_swept_last, is_quiet}
+use Rattle.worker_log.specs.Logs.{placings, sweepings, refusals, takings}
+use Rattle.worker_log.specs.SweptLast.{is_swept_last}
+use Rattle.worker_log.specs.Entries.{many, is_quiet}
 
 -- counts add up
 pub many-append : (test : Entry → Bool) (xs ys : List Entry) → many test (xs ++ ys) ≡ many test xs + many test ys

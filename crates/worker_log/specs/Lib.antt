@@ -1,1 +1,4 @@
 pub mod Logs
+pub mod SweptLast
+pub mod SetNumbers
+pub mod Entries

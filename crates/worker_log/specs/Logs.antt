@@ -1,14 +1,11 @@
--- What the log of a worker tells. A log has its newest entry first.
-use Rattle.std.specs.Prelude.{◌≡◌, ℕ, ◌+◌, ◌*◌, ◌/◌, ◌%◌, ◌==◌, ◌&&◌, ◌||◌, Bool, true, false, not, List, [], ◌∷◌, ◌++◌}
+-- What the laws of a run see in the log of a worker: what it placed, swept, took and was refused. A log has its newest entry first.
+use Rattle.std.specs.Prelude.{ℕ, List, [], ◌∷◌}
 use Rattle.page_bitmap.specs.declared.line.Line.{Line}
 use Rattle.page_bitmap.specs.declared.line.Line.TheVariants.{Take, Miss, Give, Scav}
-use Rattle.page_bitmap.specs.Counts.{one_if}
 use Rattle.worker_log.specs.declared.Placing.{Placing}
 use Rattle.worker_log.specs.declared.Sweeping.{Sweeping}
 use Rattle.worker_log.specs.declared.Entry.{Entry}
 use Rattle.worker_log.specs.declared.Entry.TheVariants.{Looked, LookedEmptyCell, Popped, Pushed, Swept, Took, Missed, Gave, Allocated, Found, Read, Added}
-
--- ---- what the laws of a run see
 
 -- A request was refused at the Miss line with this number, of so many pages and this span class.
 pub record Refusal : Type 0 where
@@ -91,108 +88,3 @@ takings (Gave page pages ∷ log) = takings log
 takings (Found page word ∷ log) = takings log
 takings (Read word value ∷ log) = takings log
 takings (Added word value ∷ log) = takings log
-
--- The line takes a run that begins at the page.
-abbrev pub is_take_at : ℕ → Line → Bool
-is_take_at p (Take cycle page pages class) = page == p
-is_take_at p (Miss cycle pages class) = false
-is_take_at p (Give cycle page pages) = false
-is_take_at p (Scav cycle page pages) = false
-
--- Of the entries that sweep, take or give back the span of the page the newest is a sweep.
-abbrev pub is_swept_last : ℕ → List Entry → Bool
-is_swept_last p [] = false
-is_swept_last p (Swept s ∷ log) = s.page == p || is_swept_last p log
-is_swept_last p (Took number line ∷ log) = not (is_take_at p line) && is_swept_last p log
-is_swept_last p (Gave page pages ∷ log) = not (page == p) && is_swept_last p log
-is_swept_last p (Allocated a ∷ log) = is_swept_last p log
-is_swept_last p (Missed number line ∷ log) = is_swept_last p log
-is_swept_last p (Looked set head tail ∷ log) = is_swept_last p log
-is_swept_last p (LookedEmptyCell set index ∷ log) = is_swept_last p log
-is_swept_last p (Popped set page ∷ log) = is_swept_last p log
-is_swept_last p (Pushed set page ∷ log) = is_swept_last p log
-is_swept_last p (Found page word ∷ log) = is_swept_last p log
-is_swept_last p (Read word value ∷ log) = is_swept_last p log
-is_swept_last p (Added word value ∷ log) = is_swept_last p log
-
--- The entry is one that the laws of a run don't look at: what a worker looked at, popped, pushed, read or added.
-abbrev pub is_quiet : Entry → Bool
-is_quiet (Allocated a) = false
-is_quiet (Swept s) = false
-is_quiet (Missed number line) = false
-is_quiet (Took number line) = false
-is_quiet (Gave page pages) = false
-is_quiet (Looked set head tail) = true
-is_quiet (LookedEmptyCell set index) = true
-is_quiet (Popped set page) = true
-is_quiet (Pushed set page) = true
-is_quiet (Found page word) = true
-is_quiet (Read word value) = true
-is_quiet (Added word value) = true
-
--- ---- what a call did
-
--- How many entries pass a test.
-abbrev pub many : (Entry → Bool) → List Entry → ℕ
-many test [] = 0
-many test (e ∷ log) = one_if (test e) + many test log
-
--- A log grew by entries that have a property.
-abbrev pub Adds : List Entry → List Entry → (List Entry → Type 0) → Type 0
-Adds old new P = (said : List Entry) × (new ≡ said ++ old) × P said
-
--- The number of a set: its span class, whether it is full, and its part at the generation g, the swept or the unswept one.
-abbrev pub swept_set : ℕ → ℕ → ℕ → ℕ
-swept_set g class full = 4 * class + 2 * full + (g / 2) % 2
-
-abbrev pub unswept_set : ℕ → ℕ → ℕ → ℕ
-unswept_set g class full = 4 * class + 2 * full + (g / 2 + 1) % 2
-
--- Whether a set is a full one.
-abbrev pub is_full_set : ℕ → Bool
-is_full_set set = (set / 2) % 2 == 1
-
--- The entry is a push to a partial set.
-abbrev pub is_partial_push : Entry → Bool
-is_partial_push (Pushed set page) = not (is_full_set set)
-is_partial_push _ = false
-
--- The entry pushes this page to this set.
-abbrev pub is_push_of : ℕ → ℕ → Entry → Bool
-is_push_of set page (Pushed s p) = (s == set) && (p == page)
-is_push_of set page _ = false
-
--- The entry pops from this set.
-abbrev pub is_pop : ℕ → Entry → Bool
-is_pop set (Popped s page) = s == set
-is_pop set _ = false
-
--- The entry pops this page from this set.
-abbrev pub is_pop_of : ℕ → ℕ → Entry → Bool
-is_pop_of set page (Popped s p) = (s == set) && (p == page)
-is_pop_of set page _ = false
-
--- The entry is a sweep of this page.
-abbrev pub is_sweep_of : ℕ → Entry → Bool
-is_sweep_of page (Swept s) = s.page == page
-is_sweep_of page _ = false
-
--- The entry places an object in the span of this page.
-abbrev pub is_placing_in : ℕ → Entry → Bool
-is_placing_in page (Allocated a) = a.page == page
-is_placing_in page _ = false
-
--- The entry saw head and tail of this set at this number.
-abbrev pub is_empty_look : ℕ → ℕ → Entry → Bool
-is_empty_look set at (Looked s head tail) = (s == set) && ((head == at) && (tail == at))
-is_empty_look set at _ = false
-
--- The entry saw head and tail of this set equal.
-abbrev pub is_seen_empty : ℕ → Entry → Bool
-is_seen_empty set (Looked s head tail) = (s == set) && (head == tail)
-is_seen_empty set _ = false
-
--- The entry saw a claimed cell of this set that is not filled yet.
-abbrev pub is_blank_look : ℕ → ℕ → Entry → Bool
-is_blank_look set at (LookedEmptyCell s i) = (s == set) && (i == at)
-is_blank_look set at _ = false

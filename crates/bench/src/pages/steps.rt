@@ -1,7 +1,8 @@
 //! Takes and gives of mixed sizes.
 
 ghost use Rattle.std.specs.Prelude.{◌≡◌, ◌≤◌, ◌<◌, IfOk};
-ghost use Rattle.page_alloc.specs.Journal.{IsBy, IsSpanSize};
+ghost use Rattle.page_alloc.specs.FreeRuns.{IsSpanSize};
+ghost use Rattle.page_alloc.specs.Journal.{IsBy};
 
 use fallible_list::NoMemory;
 use page_alloc::Pages;

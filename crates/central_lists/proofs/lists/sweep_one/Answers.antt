@@ -1,7 +1,7 @@
 use Rattle.std.proofs.Common.{refl, ap, ◌∙◌}
-use Rattle.worker_log.specs.Logs.{swept_set}
+use Rattle.worker_log.specs.SetNumbers.{swept_set}
 use Rattle.span_laws.specs.declared.said.Said.TheVariants.{Fills, Reads}
-use Rattle.span_laws.specs.Views.{after_said}
+use Rattle.span_laws.specs.OwnSteps.{after_said}
 use Rattle.span_set.proofs.Tallies.{frees-both, frees-none}
 use Rattle.central_lists.proofs.lists.sweep_one.Goals as goal
 

@@ -7,7 +7,8 @@ use Rattle.span_set.specs.declared.answers.PopBase.TheVariants.{Popped, Empty}
 use Rattle.span_set.specs.Pops.{PopsUnswept}
 use Rattle.span_set.specs.Sets.{unswept_of}
 use Rattle.span_set.proofs.Numbers.{few}
-use Rattle.central_lists.specs.Lists.{Does, Whatever, nothing}
+use Rattle.central_lists.specs.Looks.{Whatever}
+use Rattle.central_lists.specs.Works.{Does, nothing}
 use Rattle.central_lists.proofs.Joining.{does-nothing}
 use Rattle.central_lists.proofs.Trying.{class_before, dropped, gone, kept, none_left, popping, unpopped_before}
 use Rattle.span_set.proofs.Tallies.{frees-both, frees-none, may-still}

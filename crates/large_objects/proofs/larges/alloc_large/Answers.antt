@@ -2,7 +2,7 @@ use Rattle.std.proofs.Common.{◌≡◌, ℕ, ◌*◌, ap, subst, ◌∙◌, ref
 use Rattle.std.specs.Prelude.{Ok}
 use Rattle.std.proofs.lemmas.Result.{err_from_is_err_and}
 use Rattle.span_laws.specs.declared.said.Said.TheVariants.{Adds}
-use Rattle.span_laws.specs.Views.{after_said}
+use Rattle.span_laws.specs.OwnSteps.{after_said}
 use Rattle.span_set.specs.declared.hand.Hand.{Hand}
 use Rattle.sweeper.specs.Pays.{Pays}
 use Rattle.proc_cache.proofs.Finding.{paid, paid_nothing}

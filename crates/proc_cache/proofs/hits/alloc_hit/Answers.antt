@@ -1,7 +1,8 @@
 use Rattle.std.proofs.Common.{◌≡◌, ℕ, inl, inr, refl, ap, sym, subst, ◌∙◌, get_or, set, arith}
 use Rattle.std.specs.Prelude.{None, Some}
 use Rattle.span_laws.specs.declared.said.SaidOf.TheVariants.{Places}
-use Rattle.span_laws.specs.Views.{Seen, span_of, told_of}
+use Rattle.span_laws.specs.Views.{Seen, span_of}
+use Rattle.span_laws.specs.OwnSteps.{told_of}
 use Rattle.proc_cache.specs.Cache.{Cache, address_of, spans_of}
 use Rattle.proc_cache.specs.Hits.{IsPlacedIn}
 use Rattle.proc_cache.specs.Serves.{Serves}

@@ -1,7 +1,7 @@
 use Rattle.std.proofs.Common.{◌≡◌, ℕ, ◌*◌, subst, arith}
 use Rattle.std.specs.Prelude.{Ok}
 use Rattle.sweeper.specs.Pays.{Pays}
-use Rattle.proc_cache.specs.Refills.{bytes_of}
+use Rattle.proc_cache.specs.RefillLogs.{bytes_of}
 use Rattle.proc_cache.proofs.Finding.{finds, paid, paid_nothing}
 use Rattle.span_set.proofs.Tallies.{frees-both, may-still}
 use Rattle.proc_cache.proofs.refills.find_span.Goals as goal

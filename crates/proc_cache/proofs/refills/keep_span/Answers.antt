@@ -2,11 +2,12 @@ use Rattle.std.proofs.Common.{◌≡◌, ℕ, ◌*◌, [], ◌∷◌, length, re
 use Rattle.std.specs.Prelude.{Some}
 use Rattle.std.proofs.lemmas.List.{length-map}
 use Rattle.span_laws.specs.declared.said.Said.TheVariants.{Adds, Caches}
-use Rattle.span_laws.specs.Views.{after_said, span_of}
+use Rattle.span_laws.specs.Views.{span_of}
+use Rattle.span_laws.specs.OwnSteps.{after_said}
 use Rattle.worker_log.specs.declared.Entry.TheVariants.{Added, Read}
 use Rattle.span_set.specs.declared.hand.Hand.{Hand}
 use Rattle.proc_cache.specs.Cache.{Cache, slot_at, span_in, spans_of}
-use Rattle.proc_cache.specs.Refills.{bytes_of}
+use Rattle.proc_cache.specs.RefillLogs.{bytes_of}
 use Rattle.proc_cache.proofs.Filling.{span_leaves, span_serves, span_used}
 use Rattle.proc_cache.proofs.Slots.{slot_here, slot_written}
 use Rattle.proc_cache.proofs.refills.keep_span.Goals as goal

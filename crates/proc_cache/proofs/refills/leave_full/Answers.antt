@@ -2,11 +2,11 @@ use Rattle.std.proofs.Common.{◌≡◌, refl, ap, sym, subst, ◌∙◌, get_or
 use Rattle.std.specs.Prelude.{None, Some, Option}
 use Rattle.span_state.specs.declared.body.Body.{Body}
 use Rattle.span_laws.specs.Views.{span_of}
-use Rattle.worker_log.specs.Logs.{swept_set}
+use Rattle.worker_log.specs.SetNumbers.{swept_set}
 use Rattle.worker_log.specs.declared.Entry.TheVariants.{Pushed, Read}
 use Rattle.span_laws.specs.declared.view.Span.{Span}
 use Rattle.proc_cache.specs.Cache.{Cache, spans_of, with_slot}
-use Rattle.proc_cache.specs.Refills.{HasLeft}
+use Rattle.proc_cache.specs.RefillLogs.{HasLeft}
 use Rattle.proc_cache.proofs.Filling.{full_leaves, full_serves, full_used}
 use Rattle.proc_cache.proofs.Slots.{other_default, slot_is, slot_written}
 use Rattle.proc_cache.proofs.refills.leave_full.Goals as goal

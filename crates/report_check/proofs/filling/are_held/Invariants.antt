@@ -1,5 +1,5 @@
 use Rattle.std.proofs.Common.{◌≤◌}
-use Rattle.report_check.specs.Filling.{AreHeld}
+use Rattle.report_check.specs.Fitting.{AreHeld}
 use Rattle.report_check.proofs.filling.are_held.Given as goal
 
 -- the indices so far are held

@@ -1,6 +1,6 @@
 use Rattle.std.proofs.Common.{◌≡◌, ℕ, true, false}
 use Rattle.std.specs.Prelude.{is_some}
-use Rattle.page_alloc.specs.Journal.{IsFirstFit, HasNoRun}
+use Rattle.page_alloc.specs.FreeRuns.{IsFirstFit, HasNoRun}
 use Rattle.report_check.proofs.Journals.{some-run, none-run, miss-test}
 use Rattle.report_check.proofs.journal.misses.Goals as goal
 

@@ -2,7 +2,7 @@ use Rattle.std.proofs.Common.{◌≡◌, ℕ, ◌+◌, List, sym, ◌∙◌, ap,
 use Rattle.std.proofs.lemmas.Option.{slice_get-get_or}
 use Rattle.cycle_history.specs.Objects.{is_placed}
 use Rattle.report_check.specs.declared.ledger.Alive.{Alive}
-use Rattle.report_check.specs.Sweeping.{AddsItems}
+use Rattle.report_check.specs.Ledgers.{AddsItems}
 use Rattle.report_check.proofs.Lost.{not-placed}
 use Rattle.report_check.proofs.Tallying.{adds-none, adds-placed, adds-outside, adds-other}
 use Rattle.report_check.proofs.ledger.add_all.Goals.{in-Placed+in_ok-push+then-item-used, in-Placed+in_ok-push+else-item-used, in_default}

@@ -1,4 +1,4 @@
-use Rattle.report_check.specs.Sweeping.{AddsItems}
+use Rattle.report_check.specs.Ledgers.{AddsItems}
 use Rattle.report_check.proofs.ledger.add_all.Given as goal
 
 -- the items so far are added

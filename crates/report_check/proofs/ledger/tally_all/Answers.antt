@@ -1,6 +1,6 @@
 use Rattle.std.proofs.Common.{List, take, ◌+◌, sym, subst, arith}
 use Rattle.report_check.specs.declared.ledger.Tally.{Tally}
-use Rattle.report_check.specs.Sweeping.{AreTallied}
+use Rattle.report_check.specs.Tallies.{AreTallied}
 use Rattle.report_check.proofs.Tallying.{tallied-none, tallied-more, tallied-other, tallied-room}
 use Rattle.report_check.proofs.ledger.tally_all.Goals.{then-object-tallies, else-object-tallies}
 use Rattle.report_check.proofs.ledger.tally_all.Goals as goal

@@ -1,5 +1,5 @@
 use Rattle.std.proofs.Common.{take}
-use Rattle.report_check.specs.Sweeping.{AreTallied}
+use Rattle.report_check.specs.Tallies.{AreTallied}
 use Rattle.report_check.proofs.ledger.tally_all.Given as goal
 
 -- the objects so far are counted

@@ -1,7 +1,7 @@
 use Rattle.std.proofs.Common.{List, Option, None, get_or, sym, ◌∙◌, ap, arith}
 use Rattle.report_check.specs.declared.lives.OpenLife.{OpenLife}
 use Rattle.report_check.specs.declared.ledger.Tally.{Tally}
-use Rattle.report_check.specs.Sweeping.{freed_in, kept_in, tally_at}
+use Rattle.report_check.specs.Tallies.{freed_in, kept_in, tally_at}
 use Rattle.report_check.proofs.Righting.{right-match}
 use Rattle.report_check.proofs.sweeps.is_right.Goals as goal
 

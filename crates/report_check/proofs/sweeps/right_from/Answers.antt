@@ -3,7 +3,7 @@ use Rattle.std.specs.List.{slice_get}
 use Rattle.std.proofs.lemmas.Bool.{cases_eq}
 use Rattle.std.proofs.lemmas.Option.{slice_get-get_or}
 use Rattle.span_state.specs.declared.sweep.SweepNote.{SweepNote}
-use Rattle.report_check.specs.Sweeping.{SaysRight}
+use Rattle.report_check.specs.SaidSweeps.{SaysRight}
 use Rattle.report_check.proofs.sweeps.right_from.Goals as goal
 
 some-same : {x y : SweepNote} → Some x ≡ Some y → x ≡ y

@@ -1,4 +1,4 @@
-use Rattle.report_check.specs.Sweeping.{AreSaidRight}
+use Rattle.report_check.specs.SaidSweeps.{AreSaidRight}
 use Rattle.report_check.proofs.sweeps.right_from.Given as goal
 
 -- the sweeps so far are of the cycle and right

@@ -1,5 +1,5 @@
 use Rattle.std.proofs.Common.{true≢false, arith}
-use Rattle.worker_log.specs.Logs.{swept_set}
+use Rattle.worker_log.specs.SetNumbers.{swept_set}
 use Rattle.span_set.proofs.Numbers.{swept_is, swept_low}
 use Rattle.span_rows.proofs.helpers.claim_large.Goals as goal
 

@@ -2,7 +2,8 @@ use Rattle.std.proofs.Common.{◌≡◌, ℕ, ◌++◌, ◌∷◌, [], ap, ◌�
 use Rattle.std.specs.Prelude.{Err}
 use Rattle.sweep_laws.specs.Lists.{has}
 use Rattle.span_state.specs.Spans.{allocated}
-use Rattle.span_laws.specs.Views.{Seen, after_of, span_at, span_of}
+use Rattle.span_laws.specs.Views.{Seen, span_at, span_of}
+use Rattle.span_laws.specs.OwnSteps.{after_of}
 use Rattle.span_laws.specs.declared.said.SaidOf.TheVariants.{Places}
 use Rattle.span_laws.proofs.Parts.{has_end_here}
 use Rattle.span_laws.proofs.WordMoves.{span_here}

@@ -1,6 +1,6 @@
 use Rattle.std.proofs.Common.{◌-◌, ap, ◌∙◌, arith}
 use Rattle.std.specs.Prelude.{Err, Ok}
-use Rattle.sweep_laws.specs.Needs.{is_swept_set}
+use Rattle.sweep_laws.specs.Reading.{is_swept_set}
 use Rattle.span_laws.specs.Views.{Seen}
 use Rattle.span_rows.proofs.Tables.{read_cell, ready_acts, ready_raised_unswept}
 use Rattle.span_rows.proofs.helpers.raise_unswept.Goals as goal

@@ -1,5 +1,5 @@
 use Rattle.std.proofs.Common.{refl, ap, ◌∙◌, arith}
-use Rattle.span_laws.specs.Answers.{cycle_at}
+use Rattle.span_laws.specs.TakeAnswers.{cycle_at}
 use Rattle.span_laws.specs.Views.{Seen, span_of}
 use Rattle.span_rows.proofs.Driving.{cached_free, may_place, own_idle}
 use Rattle.span_rows.proofs.next_cycle.cached.Goals as goal

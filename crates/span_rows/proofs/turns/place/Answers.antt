@@ -1,7 +1,8 @@
 use Rattle.std.proofs.Common.{◌≡◌, ℕ, true≢false, inr, refl, sym, ap, subst, ◌∙◌, arith}
 use Rattle.span_state.specs.Spans.{allocated}
-use Rattle.span_laws.specs.Answers.{cycle_at}
-use Rattle.span_laws.specs.Views.{after_said, span_of}
+use Rattle.span_laws.specs.TakeAnswers.{cycle_at}
+use Rattle.span_laws.specs.Views.{span_of}
+use Rattle.span_laws.specs.OwnSteps.{after_said}
 use Rattle.span_laws.specs.declared.said.Said.TheVariants.{Claims, Fills, Reads}
 use Rattle.span_laws.proofs.Parts.{has_end_here}
 use Rattle.span_rows.proofs.Driving.{own_idle, placed_free, untouched_pops}

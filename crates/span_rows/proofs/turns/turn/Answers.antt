@@ -1,8 +1,8 @@
 use Rattle.std.proofs.Common.{◌≡◌, ℕ, List, ◌++◌, sym, subst}
 use Rattle.atomic_table.specs.Seated.{TableId}
 use Rattle.span_state.specs.MarkSet.{IsRising}
-use Rattle.span_laws.specs.Asks.{MayMark}
-use Rattle.span_laws.specs.Views.{after_next}
+use Rattle.span_laws.specs.MarkEndAsks.{MayMark}
+use Rattle.span_laws.specs.MarkEnds.{after_next}
 use Rattle.span_rows.specs.Rows.{HasTurned}
 use Rattle.span_rows.proofs.Driving.{may_mark, may_settle, seen_empty, turned, turned_cached, turned_region}
 use Rattle.span_rows.proofs.Rising.{rises-from}

@@ -1,7 +1,8 @@
 use Rattle.std.proofs.Common.{◌≤◌, ap, subst, ◌∙◌, arith}
-use Rattle.worker_log.specs.Logs.{is_pop, many}
+use Rattle.worker_log.specs.Entries.{is_pop, many}
 use Rattle.span_laws.specs.declared.said.Said.TheVariants.{Looks, Reads}
-use Rattle.span_laws.specs.Views.{Seen, after_said}
+use Rattle.span_laws.specs.Views.{Seen}
+use Rattle.span_laws.specs.OwnSteps.{after_said}
 use Rattle.span_set.proofs.Looking.{again, first_look}
 use Rattle.span_set.proofs.pops.pop_unswept.Goals as goal
 

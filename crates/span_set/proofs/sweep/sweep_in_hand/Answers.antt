@@ -2,7 +2,8 @@ use Rattle.std.proofs.Common.{◌≡◌, ap, sym, subst, ◌∙◌}
 use Rattle.span_laws.specs.Asks.{HasSpan}
 use Rattle.span_laws.specs.declared.said.Said.TheVariants.{Adds, Reads}
 use Rattle.span_laws.specs.declared.said.SaidOf.TheVariants.{Releases}
-use Rattle.span_laws.specs.Views.{Seen, after_of, after_said, span_of}
+use Rattle.span_laws.specs.Views.{Seen, span_of}
+use Rattle.span_laws.specs.OwnSteps.{after_of, after_said}
 use Rattle.span_set.specs.Sweeps.{SweepsBody}
 use Rattle.span_set.proofs.Sweeping.{has_span, swept_in_hand}
 use Rattle.span_set.proofs.sweep.sweep_in_hand.Goals as goal

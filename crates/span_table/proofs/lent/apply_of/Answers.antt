@@ -4,7 +4,7 @@ use Rattle.sweep_laws.specs.declared.moves.Move.{Move}
 use Rattle.sweep_laws.specs.Owned.{Owned}
 use Rattle.sweep_laws.specs.Tidy.{IsTidy, HasSpace}
 use Rattle.sweep_laws.specs.Step.{after, needs_of}
-use Rattle.sweep_laws.specs.Needs.{refusal}
+use Rattle.sweep_laws.specs.NeedsOfRange.{refusal}
 use Rattle.span_laws.specs.Moves.{move_on}
 use Rattle.span_laws.specs.Views.{span_of}
 use Rattle.span_laws.proofs.Kept.{kept_of}

@@ -1,6 +1,6 @@
 use Rattle.std.proofs.Common.{rules, refl}
 use Rattle.atomic_table.specs.Table.{keeps}
-use Rattle.span_laws.specs.Views.{handed}
+use Rattle.span_laws.specs.Handed.{handed}
 use Rattle.span_table.proofs.seat.hand_as.Goals as goal
 
 pub load-requires : goal.load-requires

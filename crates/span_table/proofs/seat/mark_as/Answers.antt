@@ -1,6 +1,6 @@
 use Rattle.std.proofs.Common.{rules, refl}
 use Rattle.atomic_table.specs.Table.{keeps}
-use Rattle.span_laws.specs.Views.{marked}
+use Rattle.span_laws.specs.MarkEnds.{marked}
 use Rattle.span_table.proofs.seat.mark_as.Goals as goal
 
 pub load-requires : goal.load-requires

@@ -1,6 +1,6 @@
 use Rattle.std.proofs.Common.{rules, refl}
 use Rattle.atomic_table.specs.Table.{keeps}
-use Rattle.span_laws.specs.Views.{knowing}
+use Rattle.span_laws.specs.Handed.{knowing}
 use Rattle.span_table.proofs.seat.tell_journal_as.Goals as goal
 
 pub load-requires : goal.load-requires

@@ -1,6 +1,7 @@
 use Rattle.std.proofs.Common.{rules, refl}
 use Rattle.atomic_table.specs.Table.{keeps}
-use Rattle.span_laws.specs.Views.{acts, told_of}
+use Rattle.span_laws.specs.Views.{acts}
+use Rattle.span_laws.specs.OwnSteps.{told_of}
 use Rattle.span_table.proofs.seat.tell_of_as.Goals as goal
 
 pub load-requires : goal.load-requires

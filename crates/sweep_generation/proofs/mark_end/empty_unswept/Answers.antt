@@ -1,7 +1,7 @@
 use Rattle.std.proofs.Common.{◌≡◌, ◌≤◌, List, length, sym, subst, arith, rules}
 use Rattle.std.specs.List.{All}
 use Rattle.sweep_lists.specs.declared.set.CoreSet.{CoreSet}
-use Rattle.sweep_laws.specs.Needs.{is_swept_set}
+use Rattle.sweep_laws.specs.Reading.{is_swept_set}
 use Rattle.sweep_lists.specs.Loops.{emptied_at}
 use Rattle.sweep_lists.proofs.Changing.{changed-more, All-changed, emptied-all, emptied-room}
 use Rattle.sweep_generation.proofs.mark_end.empty_unswept.Goals as goal

@@ -1,7 +1,7 @@
 use Rattle.std.proofs.Common.{◌≡◌, List, length, refl, sym, subst, arith, rules}
 use Rattle.std.specs.List.{All}
 use Rattle.sweep_lists.specs.declared.hand.CoreHand.{CoreHand}
-use Rattle.sweep_laws.specs.Changes.{forget_swept}
+use Rattle.sweep_laws.specs.ChangesOfHands.{forget_swept}
 use Rattle.sweep_lists.specs.Views.{hand_view, HandRoom}
 use Rattle.sweep_lists.specs.Loops.{without_swept}
 use Rattle.sweep_lists.proofs.Changing.{changed-more, changed-all, All-changed}

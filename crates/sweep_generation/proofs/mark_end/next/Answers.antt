@@ -4,7 +4,7 @@ use Rattle.std.proofs.lemmas.Result.{err_from_is_err_and}
 use Rattle.sweep_lists.specs.declared.set.CoreSet.{CoreSet}
 use Rattle.sweep_lists.specs.declared.hand.CoreHand.{CoreHand}
 use Rattle.sweep_laws.specs.State.{CoreState, LifeState}
-use Rattle.sweep_laws.specs.Changes.{marks_at}
+use Rattle.sweep_laws.specs.ChangesOfLives.{marks_at}
 use Rattle.sweep_lists.specs.Views.{HandRoom}
 use Rattle.sweep_generation.proofs.Seen.{items-whole, kept-same-room, kept-sets, kept-hands, kept-generation}
 use Rattle.sweep_laws.specs.declared.moves.Move.TheVariants.{Next}

@@ -2,7 +2,7 @@ use Rattle.std.proofs.Common.{length, ap, refl, arith}
 use Rattle.std.proofs.lemmas.Result.{err_from_is_err_and}
 use Rattle.sweep_generation.proofs.Seen.{hand-changed, hand-same, hand-is, room-at, low-hand, kept-hand, kept-word}
 use Rattle.sweep_laws.specs.State.{HandState}
-use Rattle.sweep_laws.specs.Changes.{put_in_cache}
+use Rattle.sweep_laws.specs.ChangesOfHands.{put_in_cache}
 use Rattle.sweep_laws.specs.declared.moves.Move.TheVariants.{Cache}
 use Rattle.sweep_generation.proofs.Tried.{refused}
 use Rattle.sweep_generation.proofs.moves_cache.cache.Goals as goal

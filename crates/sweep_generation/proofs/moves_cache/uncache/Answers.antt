@@ -2,7 +2,7 @@ use Rattle.std.proofs.Common.{length, ap, refl, arith}
 use Rattle.std.proofs.lemmas.Result.{err_from_is_err_and}
 use Rattle.sweep_generation.proofs.Seen.{hand-changed, hand-same, hand-is, room-at, low-hand, kept-hand, kept-word}
 use Rattle.sweep_laws.specs.State.{HandState}
-use Rattle.sweep_laws.specs.Changes.{take_from_cache}
+use Rattle.sweep_laws.specs.ChangesOfHands.{take_from_cache}
 use Rattle.sweep_laws.specs.declared.moves.Move.TheVariants.{Uncache}
 use Rattle.sweep_generation.proofs.Tried.{refused}
 use Rattle.sweep_generation.proofs.moves_cache.uncache.Goals as goal

@@ -1,5 +1,5 @@
 use Rattle.std.proofs.Common.{◌∙◌, ℕ, List, Option, length, ap, refl}
-use Rattle.sweep_laws.specs.Changes.{let_go}
+use Rattle.sweep_laws.specs.ChangesOfHands.{let_go}
 use Rattle.sweep_generation.proofs.Seen.{hand-changed, low-hand, kept-hand, kept-word, kept-owners, kept-same-room, items-whole}
 use Rattle.sweep_laws.specs.declared.moves.Move.TheVariants.{Give}
 use Rattle.sweep_generation.proofs.Tried.{refused}

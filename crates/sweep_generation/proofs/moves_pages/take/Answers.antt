@@ -3,7 +3,7 @@ use Rattle.std.specs.Vec.{with_item}
 use Rattle.std.proofs.Math.ListN.{length-set}
 use Rattle.std.proofs.lemmas.Result.{err_from_is_err_and}
 use Rattle.sweep_laws.specs.State.{CoreState, HandState}
-use Rattle.sweep_laws.specs.Changes.{hold}
+use Rattle.sweep_laws.specs.ChangesOfHands.{hold}
 use Rattle.sweep_generation.proofs.Seen.{hand-changed, hand-same, hand-is, room-at, low-hand, kept-hand, kept-word, kept-owners, kept-lives, kept-same-room, kept-spare, seen-hand, items-whole}
 use Rattle.sweep_laws.specs.declared.moves.Move.TheVariants.{Take}
 use Rattle.sweep_generation.proofs.Tried.{refused}

@@ -1,7 +1,8 @@
 use Rattle.std.proofs.Common.{◌∙◌, ◌<◌, length, subst, ap, refl, sym}
 use Rattle.std.specs.Vec.{with_item}
 use Rattle.sweep_laws.specs.State.{CoreState, SetState}
-use Rattle.sweep_laws.specs.Changes.{raise_tail, claim_cell}
+use Rattle.sweep_laws.specs.ChangesOfHands.{claim_cell}
+use Rattle.sweep_laws.specs.ChangesOfSets.{raise_tail}
 use Rattle.sweep_generation.proofs.Seen.{set-changed, set-is, kept-set, hand-changed, kept-hand, low-hand, low-set}
 use Rattle.sweep_laws.specs.declared.moves.Reply.TheVariants.{Index}
 use Rattle.sweep_generation.specs.Kept.{core_view}

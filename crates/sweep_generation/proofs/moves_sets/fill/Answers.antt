@@ -5,7 +5,7 @@ use Rattle.std.proofs.lemmas.Result.{err_from_is_err_and}
 use Rattle.sweep_lists.specs.declared.set.CoreSet.{CoreSet}
 use Rattle.sweep_laws.specs.declared.moves.Claimed.{Claimed}
 use Rattle.sweep_laws.specs.State.{CoreState}
-use Rattle.sweep_laws.specs.Changes.{fill_cell}
+use Rattle.sweep_laws.specs.ChangesOfHands.{fill_cell}
 use Rattle.sweep_generation.proofs.Seen.{hand-changed, low-hand, kept-hand, kept-sets, items-whole}
 use Rattle.sweep_laws.specs.declared.moves.Move.TheVariants.{Fill}
 use Rattle.sweep_generation.proofs.Tried.{refused}

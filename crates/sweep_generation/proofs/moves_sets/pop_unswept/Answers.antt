@@ -2,7 +2,8 @@ use Rattle.std.proofs.Common.{◌∙◌, length, sym, ap, refl, arith}
 use Rattle.std.proofs.lemmas.Result.{err_from_is_err_and}
 use Rattle.sweep_generation.proofs.Seen.{hand-changed, hand-same, hand-is, room-at, low-hand, low-set, kept-hand, kept-set, set-changed, set-is}
 use Rattle.sweep_laws.specs.State.{CoreState, HandState, SetState}
-use Rattle.sweep_laws.specs.Changes.{pop_entry, raise_head, head_base}
+use Rattle.sweep_laws.specs.ChangesOfHands.{pop_entry}
+use Rattle.sweep_laws.specs.ChangesOfSets.{raise_head, head_base}
 use Rattle.sweep_laws.specs.declared.moves.Reply.TheVariants.{Base}
 use Rattle.sweep_laws.specs.declared.moves.Move.TheVariants.{PopUnswept}
 use Rattle.sweep_generation.proofs.Tried.{refused}

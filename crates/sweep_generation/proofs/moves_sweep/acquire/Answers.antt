@@ -4,7 +4,7 @@ use Rattle.sweep_generation.proofs.Seen.{hand-changed, hand-same, hand-is, room-
 use Rattle.sweep_laws.specs.State.{HandState}
 use Rattle.sweep_generation.proofs.Tried.{refused}
 use Rattle.sweep_laws.specs.declared.moves.Move.TheVariants.{Acquire}
-use Rattle.sweep_laws.specs.Changes.{start_sweep}
+use Rattle.sweep_laws.specs.ChangesOfHands.{start_sweep}
 use Rattle.sweep_generation.proofs.moves_sweep.acquire.Goals as goal
 
 pub invariant_of-core : goal.invariant_of-core

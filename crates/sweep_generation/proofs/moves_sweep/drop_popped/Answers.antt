@@ -1,6 +1,6 @@
 use Rattle.std.proofs.Common.{refl}
 use Rattle.sweep_generation.proofs.Seen.{hand-changed, low-hand, kept-hand}
-use Rattle.sweep_laws.specs.Changes.{drop_entry}
+use Rattle.sweep_laws.specs.ChangesOfHands.{drop_entry}
 use Rattle.sweep_laws.specs.declared.moves.Move.TheVariants.{DropPopped}
 use Rattle.sweep_generation.proofs.Tried.{refused}
 use Rattle.std.proofs.lemmas.Result.{err_from_is_err_and}

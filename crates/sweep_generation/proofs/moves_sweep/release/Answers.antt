@@ -2,8 +2,8 @@ use Rattle.std.proofs.Common.{◌<◌, ℕ, length, refl, sym, subst, arith}
 use Rattle.std.specs.Vec.{with_item}
 use Rattle.std.proofs.lemmas.Result.{err_from_is_err_and}
 use Rattle.sweep_laws.specs.State.{CoreState, HandState}
-use Rattle.sweep_laws.specs.Needs.{life_of}
-use Rattle.sweep_laws.specs.Changes.{end_sweep}
+use Rattle.sweep_laws.specs.Reading.{life_of}
+use Rattle.sweep_laws.specs.ChangesOfHands.{end_sweep}
 use Rattle.sweep_generation.proofs.Seen.{hand-changed, hand-same, hand-is, room-at, low-hand, kept-hand, kept-word, kept-same-room, seen-hand, full-end}
 use Rattle.std.proofs.Math.ListN.{length-set}
 use Rattle.sweep_laws.specs.declared.moves.Move.TheVariants.{Release}

@@ -2,7 +2,7 @@ use Rattle.std.proofs.Common.{length, ap, refl, arith}
 use Rattle.std.proofs.lemmas.Result.{err_from_is_err_and}
 use Rattle.sweep_generation.proofs.Seen.{hand-changed, hand-same, hand-is, room-at, low-hand, kept-hand, kept-word}
 use Rattle.sweep_laws.specs.State.{HandState}
-use Rattle.sweep_laws.specs.Changes.{sweep_from_cache}
+use Rattle.sweep_laws.specs.ChangesOfHands.{sweep_from_cache}
 use Rattle.sweep_laws.specs.declared.moves.Move.TheVariants.{StaleUncache}
 use Rattle.sweep_generation.proofs.Tried.{refused}
 use Rattle.sweep_generation.proofs.moves_sweep.stale_uncache.Goals as goal

@@ -1,5 +1,5 @@
 use Rattle.std.proofs.Common.{◌≡◌, drop, map}
-use Rattle.sweep_laws.specs.Needs.{first_unpopped}
+use Rattle.sweep_laws.specs.NeedsOfMarkEnd.{first_unpopped}
 use Rattle.sweep_lists.specs.Views.{set_view}
 use Rattle.sweep_generation.proofs.tries_next.find_unpopped.Given as goal
 

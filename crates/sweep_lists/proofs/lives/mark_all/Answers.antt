@@ -1,5 +1,5 @@
 use Rattle.std.proofs.Common.{◌∙◌, ap, map}
-use Rattle.sweep_laws.specs.Changes.{mark_life}
+use Rattle.sweep_laws.specs.ChangesOfLives.{mark_life}
 use Rattle.sweep_lists.proofs.Begins.{same-pages, marked-pages}
 use Rattle.sweep_lists.proofs.lives.mark_all.Goals as goal
 

@@ -7,7 +7,7 @@ use Rattle.std.proofs.lemmas.List.Elements.{All-set}
 use Rattle.std.proofs.lemmas.Result.{err_from_is_err_and}
 use Rattle.sweep_lists.specs.declared.life.Life.{Life}
 use Rattle.sweep_laws.specs.State.{LifeState}
-use Rattle.sweep_laws.specs.Changes.{marks_at}
+use Rattle.sweep_laws.specs.ChangesOfLives.{marks_at}
 use Rattle.sweep_lists.specs.Views.{life_view, LifeRoom}
 use Rattle.sweep_lists.proofs.lives.reserve_marks.Goals as goal
 

@@ -1,7 +1,7 @@
 use Rattle.std.proofs.Common.{◌≡◌, ◌<◌, ◌≤◌, ℕ, map, length, get_or}
 use Rattle.std.specs.List.{All}
 use Rattle.sweep_lists.specs.declared.life.Life.{Life}
-use Rattle.sweep_laws.specs.Changes.{marks_at}
+use Rattle.sweep_laws.specs.ChangesOfLives.{marks_at}
 use Rattle.sweep_lists.specs.Views.{life_view, LifeRoom}
 use Rattle.sweep_lists.proofs.lives.reserve_marks.Given as goal
 

@@ -1,7 +1,7 @@
 use Rattle.std.proofs.Common.{◌≡◌, ◌<◌, ◌≤◌, List, length, refl, sym, subst, arith, rules}
 use Rattle.std.specs.List.{All}
 use Rattle.sweep_lists.specs.declared.life.Life.{Life}
-use Rattle.sweep_laws.specs.Changes.{marks_at, mark_life}
+use Rattle.sweep_laws.specs.ChangesOfLives.{marks_at, mark_life}
 use Rattle.sweep_lists.specs.Views.{life_view, LifeRoom}
 use Rattle.sweep_lists.specs.Loops.{marked}
 use Rattle.sweep_lists.proofs.Changing.{changed-more, changed-later, changed-all, All-changed}

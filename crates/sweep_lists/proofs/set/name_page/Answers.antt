@@ -4,8 +4,8 @@ use Rattle.std.proofs.lemmas.List.Elements.{All-set}
 use Rattle.std.proofs.lemmas.Result.{on_ok_weaker, on_err_weaker}
 use Rattle.sweep_lists.specs.declared.set.CoreSet.{CoreSet}
 use Rattle.sweep_laws.specs.Lists.{put_cell}
-use Rattle.sweep_laws.specs.Needs.{no_set}
-use Rattle.sweep_laws.specs.Changes.{name_page}
+use Rattle.sweep_laws.specs.Reading.{no_set}
+use Rattle.sweep_laws.specs.ChangesOfSets.{name_page}
 use Rattle.sweep_lists.specs.Room.{Roomy}
 use Rattle.sweep_lists.specs.Views.{set_view}
 use Rattle.sweep_lists.proofs.Maps.{map-changed}

@@ -9,7 +9,7 @@ use Rattle.heap_run.specs.Runs.{HasBegun}
 use Rattle.heap_run.specs.declared.run.Run.{Run}
 use Rattle.heap_run.proofs.MarkEnds.{has-reset, mark-begins, may-mark}
 use Rattle.span_state.specs.MarkSet.{has_pair}
-use Rattle.span_laws.specs.Views.{allocated_pairs}
+use Rattle.span_laws.specs.MarkEnds.{allocated_pairs}
 use Rattle.sample_laws.specs.Counted.{events_before}
 use Rattle.sample_laws.specs.Numbers.{number_of}
 use Rattle.heap_run.proofs.Telling.{few-marked}

@@ -1,6 +1,6 @@
 use Rattle.std.proofs.Common.{◌≡◌, ◌<◌, length, ◌∙◌, sym, ap, arith}
 use Rattle.std.proofs.lemmas.List.{get_or_read}
-use Rattle.page_alloc.specs.Journal.{owner}
+use Rattle.page_alloc.specs.Owners.{owner}
 use Rattle.page_alloc.specs.Heap.{PageHeap}
 use Rattle.page_alloc.specs.Kept.{region_of}
 use Rattle.page_alloc.proofs.Keeping.{owner-none, owner-past, owner-some}

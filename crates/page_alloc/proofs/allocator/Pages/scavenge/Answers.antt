@@ -1,6 +1,6 @@
 use Rattle.std.proofs.Common.{◌≡◌, ◌+◌, ◌≤◌, length, refl, ◌∙◌, sym, ap, arith}
 use Rattle.std.proofs.lemmas.List.{with_items_is}
-use Rattle.page_alloc.specs.Journal.{IsScavengeRun}
+use Rattle.page_alloc.specs.FreeRuns.{IsScavengeRun}
 use Rattle.page_alloc.specs.Kept.{region_of, past_in}
 use Rattle.page_alloc.proofs.Keeping.{kept-scavenge, scavenge-run, scavenge_small}
 use Rattle.page_alloc.proofs.Adding.{adds-line, sound-after, by-view, spare-view}

@@ -1,7 +1,7 @@
 use Rattle.std.proofs.Common.{◌≡◌, ◌≤◌, false, length, refl, ◌∙◌, sym, ap, arith, length-set}
 use Rattle.std.proofs.lemmas.List.{with_items_is}
 use Rattle.page_bitmap.specs.CountLaws.{count_below-le}
-use Rattle.page_alloc.specs.Journal.{IsFirstFit}
+use Rattle.page_alloc.specs.FreeRuns.{IsFirstFit}
 use Rattle.page_alloc.specs.Kept.{region_of, past_in}
 use Rattle.page_alloc.specs.Region.{free_in, scavenged_in}
 use Rattle.page_alloc.proofs.Tops.{take-loose}

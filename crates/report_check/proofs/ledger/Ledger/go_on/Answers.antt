@@ -14,7 +14,8 @@ use Rattle.report_check.specs.Items.{objects_of}
 use Rattle.report_check.specs.Known.{AreKnown}
 use Rattle.report_check.specs.declared.ledger.Alive.{Alive}
 use Rattle.report_check.specs.declared.ledger.Tally.{Tally}
-use Rattle.report_check.specs.Sweeping.{AddsItems, AreTallied, AreUsed, CountsAlive, freed_in, is_freed, is_kept, kept_in, tally_at, used_at}
+use Rattle.report_check.specs.Tallies.{AreTallied, CountsAlive, freed_in, is_freed, is_kept, kept_in, tally_at}
+use Rattle.report_check.specs.Ledgers.{AddsItems, AreUsed, used_at}
 use Rattle.report_check.proofs.Ledgers.{open-later, items-inside, next-first, vec-len, written, alive-next, ascends, kept-counted, freed-counted, used-again}
 use Rattle.report_check.proofs.ledger.Ledger.go_on.Goals as goal
 

@@ -3,7 +3,7 @@ use Rattle.std.proofs.lemmas.List.{length-replicate}
 use Rattle.cycle_history.specs.Marked.{objects_before}
 use Rattle.trace_reader.specs.declared.trace.Cycle.{Cycle}
 use Rattle.report_check.specs.declared.ledger.Alive.{Alive}
-use Rattle.report_check.specs.Sweeping.{AddsItems, AreUsed}
+use Rattle.report_check.specs.Ledgers.{AddsItems, AreUsed}
 use Rattle.report_check.proofs.Lasting.{some-cycle}
 use Rattle.report_check.proofs.Ledgers.{alive-first, ascends, items-inside, next-first, used-none, written}
 use Rattle.report_check.proofs.ledger.Ledger.new.Goals as goal

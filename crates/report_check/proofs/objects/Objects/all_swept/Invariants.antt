@@ -1,8 +1,9 @@
 use Rattle.std.proofs.Common.{ℕ, suc, ◌-◌, ◌<◌, ◌≤◌}
-use Rattle.page_alloc.specs.Journal.{Life}
+use Rattle.page_alloc.specs.Lives.{Life}
 use Rattle.cycle_history.specs.Sweeps.{IsOpenAfter}
 use Rattle.cycle_history.specs.Sound.{past_in}
-use Rattle.report_check.specs.Sweeping.{HasNote, IsOpenTo}
+use Rattle.report_check.specs.Ledgers.{IsOpenTo}
+use Rattle.report_check.specs.Sweeping.{HasNote}
 use Rattle.report_check.proofs.objects.Objects.all_swept.Given as goal
 
 -- the lives that the mark ends so far found alive have sweeps

@@ -2,7 +2,9 @@ use Rattle.std.proofs.Common.{◌≡◌, ℕ, ◌+◌, ◌-◌, ◌<◌, List, l
 use Rattle.std.specs.List.{slice_get}
 use Rattle.span_state.specs.declared.sweep.SweepNote.{SweepNote}
 use Rattle.cycle_history.specs.Marked.{objects_before}
-use Rattle.report_check.specs.Sweeping.{AreSaidRight, IsDisorder, IsLedger, IsNoteOf, SaysRight}
+use Rattle.report_check.specs.Ledgers.{IsLedger}
+use Rattle.report_check.specs.Sweeping.{IsDisorder}
+use Rattle.report_check.specs.SaidSweeps.{AreSaidRight, IsNoteOf, SaysRight}
 use Rattle.report_check.proofs.Righting.{ahead-first, ahead-more, right-more, right-says, wrong-at, wrong-last}
 use Rattle.report_check.proofs.objects.Objects.first_wrong.Goals as goal
 

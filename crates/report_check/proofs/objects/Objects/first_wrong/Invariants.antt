@@ -5,7 +5,7 @@ use Rattle.cycle_history.specs.Marked.{objects_before}
 use Rattle.cycle_history.specs.Requests.{last_cycle, marked_by}
 use Rattle.report_rules.specs.Closing.{IsRightSweep}
 use Rattle.report_check.specs.Items.{objects_of}
-use Rattle.report_check.specs.Sweeping.{IsLedger}
+use Rattle.report_check.specs.Ledgers.{IsLedger}
 use Rattle.report_check.proofs.objects.Objects.first_wrong.Given as goal
 
 -- the sweeps before the place are right, and those from there on are of the cycle or later ones

@@ -2,11 +2,12 @@ use Rattle.std.proofs.Common.{rules, ◌≡◌, ◌+◌, ◌<◌, ℕ, List, len
 use Rattle.std.specs.Prelude.{None, Some, Option}
 use Rattle.std.proofs.lemmas.List.{get_or-map, length-map, with_items_is}
 use Rattle.sweep_laws.specs.Lists.{has}
-use Rattle.sweep_laws.specs.Needs.{hand_of, no_hand}
+use Rattle.sweep_laws.specs.Reading.{hand_of, no_hand}
 use Rattle.sweep_laws.specs.State.{HandState}
 use Rattle.sweep_lists.specs.Views.{hand_view}
 use Rattle.span_state.specs.declared.body.Body.{Body}
-use Rattle.span_laws.specs.Asks.{HasMarked, IsOfPops, IsUntouched, mine}
+use Rattle.span_laws.specs.BodyAsks.{HasMarked}
+use Rattle.span_laws.specs.Asks.{IsOfPops, IsUntouched, mine}
 use Rattle.span_laws.specs.Cycle.{Kept}
 use Rattle.span_laws.specs.Views.{Seen}
 use Rattle.span_laws.proofs.Calls.{acquired_class, acquired_marked, acquired_mine, acquired_page, acquired_pops, acquired_untouched}

@@ -2,9 +2,9 @@ use Rattle.std.proofs.Common.{◌≡◌, ℕ, ◌<◌, List, length, set, ap, sy
 use Rattle.std.specs.Prelude.{Some, Option}
 use Rattle.span_state.specs.declared.body.Body.{Body}
 use Rattle.sweep_laws.specs.Lists.{has}
-use Rattle.sweep_laws.specs.Needs.{is_swept_set, set_of}
+use Rattle.sweep_laws.specs.Reading.{is_swept_set, set_of}
 use Rattle.sweep_laws.specs.declared.moves.Reply.TheVariants.{Index}
-use Rattle.worker_log.specs.Logs.{is_placing_in, is_pop_of, many}
+use Rattle.worker_log.specs.Entries.{is_placing_in, is_pop_of, many}
 use Rattle.span_laws.specs.Asks.{HasBody}
 use Rattle.span_laws.specs.Views.{Seen}
 use Rattle.span_laws.specs.declared.view.View.{View}

@@ -3,17 +3,19 @@ use Rattle.std.specs.Prelude.{Some, Option}
 use mathlib.Core.Logic.{dite}
 use native.Mathlib.Decide.{dec_le}
 use Rattle.page_alloc.specs.Heap.{AddsLine, PageHeap}
-use Rattle.page_alloc.specs.Journal.{Life, life_of, open_lives, owner}
+use Rattle.page_alloc.specs.Owners.{owner}
+use Rattle.page_alloc.specs.Lives.{Life, life_of, open_lives}
 use Rattle.page_alloc.specs.Lists.{In}
 use Rattle.page_alloc.proofs.Lives.{covers, lies, same_page}
 use Rattle.page_bitmap.specs.declared.line.Line.{Line}
 use Rattle.page_bitmap.specs.declared.line.Line.TheVariants.{Give as GiveLine}
 use Rattle.span_state.specs.declared.body.Body.{Body}
 use Rattle.sweep_laws.specs.Lists.{has}
-use Rattle.sweep_laws.specs.Needs.{life_in}
+use Rattle.sweep_laws.specs.Reading.{life_in}
 use Rattle.sweep_laws.specs.State.{CoreState, HandState}
-use Rattle.worker_log.specs.Logs.{is_swept_last}
-use Rattle.span_laws.specs.Asks.{HasBody, IsEmptyBody}
+use Rattle.worker_log.specs.SweptLast.{is_swept_last}
+use Rattle.span_laws.specs.BodyAsks.{IsEmptyBody}
+use Rattle.span_laws.specs.Asks.{HasBody}
 use Rattle.span_laws.specs.Bodies.{Fits}
 use Rattle.span_laws.specs.Rule.{Rule}
 use Rattle.span_laws.specs.declared.view.View.{View}

@@ -1,8 +1,8 @@
 use Rattle.std.proofs.Common.{ℕ, ◌<◌, ◌≤◌, ap, sym, subst, ◌∙◌}
-use Rattle.sweep_laws.specs.Needs.{is_swept_set}
+use Rattle.sweep_laws.specs.Reading.{is_swept_set}
 use Rattle.span_laws.specs.Logs.{is_look}
 use Rattle.span_laws.specs.Views.{Seen}
-use Rattle.worker_log.specs.Logs.{many}
+use Rattle.worker_log.specs.Entries.{many}
 use Rattle.span_laws.proofs.Uses.{cell_low, seen_filled}
 use Rattle.span_table.proofs.lent.Lent.look_cell.Goals as goal
 

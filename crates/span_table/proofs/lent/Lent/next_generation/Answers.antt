@@ -1,5 +1,5 @@
 use Rattle.std.proofs.Common.{sym, subst}
-use Rattle.span_laws.specs.Asks.{MayMark}
+use Rattle.span_laws.specs.MarkEndAsks.{MayMark}
 use Rattle.span_laws.specs.Views.{Seen}
 use Rattle.span_laws.proofs.Kept.{kept_next}
 use Rattle.span_laws.proofs.MarkEnd.{next_allowed}

@@ -1,7 +1,8 @@
 use Rattle.std.proofs.Common.{◌≡◌, ◌<◌, ◌⊎◌, ℕ, sym, subst}
 use Rattle.std.specs.Prelude.{None, Some}
 use Rattle.sweep_laws.specs.Counts.{times}
-use Rattle.sweep_laws.specs.Needs.{allocate_needs, refusal}
+use Rattle.sweep_laws.specs.NeedsOfRange.{refusal}
+use Rattle.sweep_laws.specs.Needs.{allocate_needs}
 use Rattle.span_laws.specs.Asks.{HasBody, MayPlace}
 use Rattle.span_laws.specs.Bodies.{lends}
 use Rattle.span_laws.specs.Views.{Seen, span_at, span_of}

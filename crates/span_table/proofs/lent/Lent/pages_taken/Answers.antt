@@ -1,6 +1,7 @@
 use Rattle.std.proofs.Common.{ℕ, ap, sym, subst, ◌∙◌}
-use Rattle.page_alloc.specs.Journal.{Legal, taken}
-use Rattle.span_laws.specs.Answers.{IsToldOf}
+use Rattle.page_alloc.specs.Owners.{taken}
+use Rattle.page_alloc.specs.Journal.{Legal}
+use Rattle.span_laws.specs.TakeAnswers.{IsToldOf}
 use Rattle.span_laws.specs.Views.{Seen}
 use Rattle.span_table.proofs.lent.Lent.pages_taken.Goals as goal
 

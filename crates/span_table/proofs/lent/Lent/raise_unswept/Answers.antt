@@ -1,5 +1,5 @@
 use Rattle.std.proofs.Common.{inl, inr, ◌≡◌, ℕ, ◌<◌, refl, ap, sym, subst, ◌∙◌, arith}
-use Rattle.sweep_laws.specs.Needs.{is_swept_set}
+use Rattle.sweep_laws.specs.Reading.{is_swept_set}
 use Rattle.span_laws.specs.Views.{Seen, has_cell}
 use Rattle.span_laws.specs.Answers.{IsAhead}
 use Rattle.span_laws.proofs.Calls.{head_filled}

@@ -1,13 +1,17 @@
 use Rattle.std.proofs.Common.{◌≡◌, ℕ, ◌-◌, ◌/◌, ◌<◌, ◌≤◌, ◌⊎◌, inl, inr, ⊎_elim, List, ap, sym, subst, ◌∙◌}
 use Rattle.std.specs.Prelude.{None, Some, Option, IfSome, IfNone}
 use Rattle.page_alloc.specs.Heap.{AddsLine, HasMoreRoom, PageHeap}
-use Rattle.page_alloc.specs.Journal.{IsLoose, Legal, backed}
+use Rattle.page_alloc.specs.Owners.{backed}
+use Rattle.page_alloc.specs.FreeRuns.{IsLoose}
+use Rattle.page_alloc.specs.Journal.{Legal}
 use Rattle.page_bitmap.specs.declared.line.Line.{Line}
 use Rattle.page_bitmap.specs.declared.line.Line.TheVariants.{Scav}
 use Rattle.page_bitmap.specs.declared.line.Run.{Run}
-use Rattle.span_laws.specs.Answers.{IsToldOf, Released, past_scavenged}
+use Rattle.span_laws.specs.TakeAnswers.{IsToldOf}
+use Rattle.span_laws.specs.ScavengeAnswers.{Released, past_scavenged}
 use Rattle.span_laws.specs.declared.view.View.{View}
-use Rattle.span_laws.specs.Views.{Seen, knows}
+use Rattle.span_laws.specs.Views.{Seen}
+use Rattle.span_laws.specs.Handed.{knows}
 use Rattle.span_laws.proofs.Kept.{kept_room, kept_scav}
 use Rattle.span_table.proofs.lent.Lent.scavenge_step.Goals as goal
 

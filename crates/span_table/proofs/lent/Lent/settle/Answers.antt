@@ -1,8 +1,9 @@
 use Rattle.std.proofs.Common.{true, List, ap, sym, subst, ◌∙◌}
 use Rattle.page_bitmap.specs.declared.line.Line.{Line}
-use Rattle.span_laws.specs.Asks.{MaySettle}
+use Rattle.span_laws.specs.MarkEndAsks.{MaySettle}
 use Rattle.span_laws.specs.declared.view.View.{View}
-use Rattle.span_laws.specs.Views.{Seen, knowing}
+use Rattle.span_laws.specs.Views.{Seen}
+use Rattle.span_laws.specs.Handed.{knowing}
 use Rattle.span_laws.proofs.CycleTurns.{settle_ends}
 use Rattle.span_laws.proofs.Kept.{kept_told}
 use Rattle.span_table.proofs.lent.Lent.settle.Goals as goal

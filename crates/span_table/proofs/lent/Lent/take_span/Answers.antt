@@ -1,6 +1,7 @@
 use Rattle.std.proofs.Common.{◌≡◌, ℕ, ◌-◌, ◌/◌, List, length, refl, sym, ap, ◌∙◌, subst}
 use Rattle.std.proofs.lemmas.List.{length-reverse}
-use Rattle.page_alloc.specs.Journal.{HasNoRun, Legal}
+use Rattle.page_alloc.specs.FreeRuns.{HasNoRun}
+use Rattle.page_alloc.specs.Journal.{Legal}
 use Rattle.page_alloc.proofs.Lives.{span_pages}
 use Rattle.page_bitmap.specs.declared.line.Line.{Line}
 use Rattle.sweep_laws.specs.State.{CoreState}

@@ -2,10 +2,11 @@ use Rattle.std.proofs.Common.{◌≡◌, ℕ, ◌-◌, ◌/◌, true, false, tru
 use Rattle.std.specs.Prelude.{None, Some, Option, IfNone, IfSome}
 use Rattle.std.specs.Option.{is_some}
 use Rattle.std.proofs.lemmas.List.{length-reverse}
-use Rattle.page_alloc.specs.Journal.{HasNoRun, IsFirstFit, IsFree, Legal}
+use Rattle.page_alloc.specs.FreeRuns.{HasNoRun, IsFirstFit, IsFree}
+use Rattle.page_alloc.specs.Journal.{Legal}
 use Rattle.page_alloc.proofs.Lives.{span_pages}
 use Rattle.page_bitmap.specs.declared.line.Line.{Line}
-use Rattle.span_laws.specs.Answers.{IsToldOf}
+use Rattle.span_laws.specs.TakeAnswers.{IsToldOf}
 use Rattle.span_laws.specs.Asks.{IsUntouched, mine}
 use Rattle.span_laws.specs.declared.view.View.{View}
 use Rattle.span_laws.specs.Views.{Seen}

@@ -2,7 +2,8 @@ use Rattle.std.proofs.Common.{rules, ◌≡◌, ◌≢◌, ◌+◌, ◌<◌, ℕ
 use Rattle.std.specs.Prelude.{Some}
 use Rattle.page_alloc.specs.Heap.{PageHeap}
 use Rattle.sweep_laws.specs.Lists.{has}
-use Rattle.span_laws.specs.Asks.{HasBody, HasMarked, IsUntouched}
+use Rattle.span_laws.specs.BodyAsks.{HasMarked}
+use Rattle.span_laws.specs.Asks.{HasBody, IsUntouched}
 use Rattle.span_laws.specs.Bodies.{Fits}
 use Rattle.span_laws.specs.Views.{Seen, span_of}
 use Rattle.span_laws.specs.declared.view.Span.{Span}

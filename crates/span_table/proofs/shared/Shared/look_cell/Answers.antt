@@ -1,8 +1,8 @@
 use Rattle.std.proofs.Common.{◌≡◌, ◌<◌, ap, sym, subst, ◌∙◌}
-use Rattle.sweep_laws.specs.Needs.{is_swept_set}
+use Rattle.sweep_laws.specs.Reading.{is_swept_set}
 use Rattle.span_laws.specs.Logs.{is_look}
 use Rattle.span_laws.specs.Views.{Seen, seen_of}
-use Rattle.worker_log.specs.Logs.{many}
+use Rattle.worker_log.specs.Entries.{many}
 use Rattle.span_table.proofs.shared.Shared.look_cell.Goals as goal
 
 pub returns-clause-filled : goal.returns-clause-filled

@@ -1,7 +1,7 @@
 use Rattle.std.proofs.Common.{not, sym}
 use Rattle.sweep_lists.proofs.Maps.{position-map}
 use Rattle.sweep_laws.specs.State.{HandState}
-use Rattle.sweep_laws.specs.Needs.{is_idle}
+use Rattle.sweep_laws.specs.NeedsOfMarkEnd.{is_idle}
 use Rattle.sweep_lists.specs.Views.{hand_view}
 use Rattle.sweep_generation.proofs.state.Core.busy_hand.Goals as goal
 

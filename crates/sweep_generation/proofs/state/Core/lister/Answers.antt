@@ -2,7 +2,7 @@ use Rattle.std.proofs.Common.{sym}
 use Rattle.sweep_lists.proofs.Maps.{position-map}
 use Rattle.sweep_laws.specs.State.{HandState}
 use Rattle.sweep_laws.specs.Lists.{has}
-use Rattle.sweep_laws.specs.Needs.{listed}
+use Rattle.sweep_laws.specs.Reading.{listed}
 use Rattle.sweep_lists.specs.Views.{hand_view}
 use Rattle.sweep_generation.proofs.state.Core.lister.Goals as goal
 

@@ -1,5 +1,5 @@
 use Rattle.std.proofs.Common.{ℕ, nat_eq, not, [], ◌∷◌, subst}
-use Rattle.sweep_laws.specs.Needs.{need}
+use Rattle.sweep_laws.specs.NeedsOfRange.{need}
 use Rattle.sweep_laws.specs.Tries.{Tried}
 use Rattle.sweep_laws.specs.declared.moves.Found.TheVariants.{Cell}
 use Rattle.sweep_generation.proofs.state.Core.try_cell.Goals as goal

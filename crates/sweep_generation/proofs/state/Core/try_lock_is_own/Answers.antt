@@ -1,6 +1,7 @@
 use Rattle.std.proofs.Common.{Bool, [], ◌∷◌, ◌∙◌, subst}
 use Rattle.sweep_laws.specs.State.{CoreState}
-use Rattle.sweep_laws.specs.Needs.{need, lock_is_own}
+use Rattle.sweep_laws.specs.NeedsOfRange.{need}
+use Rattle.sweep_laws.specs.NeedsOfPages.{lock_is_own}
 use Rattle.sweep_laws.specs.Tries.{Tried}
 use Rattle.sweep_laws.specs.declared.moves.Found.TheVariants.{Holder}
 use Rattle.sweep_generation.proofs.Tried.{holder_eq}

@@ -1,6 +1,6 @@
 use Rattle.std.proofs.Common.{ℕ, not, sym, ap, ◌∙◌}
 use Rattle.std.specs.Prelude.{option_map}
-use Rattle.sweep_laws.specs.Needs.{is_allocated}
+use Rattle.sweep_laws.specs.NeedsOfMarkEnd.{is_allocated}
 use Rattle.sweep_generation.proofs.FirstFound.{found_next, none_next}
 use Rattle.sweep_generation.proofs.state.Core.wrong_mark.Goals as goal
 

@@ -1,6 +1,6 @@
 use Rattle.std.proofs.Common.{◌≡◌, not, take, None}
 use Rattle.std.specs.List.{find}
-use Rattle.sweep_laws.specs.Needs.{is_allocated}
+use Rattle.sweep_laws.specs.NeedsOfMarkEnd.{is_allocated}
 use Rattle.sweep_generation.proofs.state.Core.wrong_mark.Given as goal
 
 abbrev pub invariant-loop-mark : goal.invariant-loop-mark

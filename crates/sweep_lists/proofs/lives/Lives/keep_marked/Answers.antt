@@ -1,7 +1,7 @@
 use Rattle.std.proofs.Common.{refl, ap, Some, None, arith}
 use Rattle.std.proofs.lemmas.Result.{on_ok_weaker, on_err_weaker}
 use Rattle.sweep_laws.specs.State.{LifeState}
-use Rattle.sweep_laws.specs.Changes.{keep_marked}
+use Rattle.sweep_laws.specs.ChangesOfLives.{keep_marked}
 use Rattle.sweep_lists.specs.Room.{Tabled}
 use Rattle.sweep_lists.proofs.Begins.{place-of, found-at, room-at, kept-at, shown-at, shown-none, page-stays}
 use Rattle.sweep_lists.proofs.lives.Lives.keep_marked.Goals as goal

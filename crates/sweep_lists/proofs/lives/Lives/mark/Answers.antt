@@ -1,7 +1,7 @@
 use Rattle.std.proofs.Common.{◌≡◌, ◌∙◌, List, length, ap, sym, subst, map}
 use Rattle.std.specs.List.{All}
 use Rattle.std.proofs.lemmas.Result.{on_ok_weaker, on_err_weaker}
-use Rattle.sweep_laws.specs.Changes.{mark_life}
+use Rattle.sweep_laws.specs.ChangesOfLives.{mark_life}
 use Rattle.sweep_lists.specs.declared.life.Life.{Life}
 use Rattle.sweep_lists.specs.Views.{life_view, LifeRoom}
 use Rattle.sweep_lists.proofs.Begins.{kept-with, shown-with}

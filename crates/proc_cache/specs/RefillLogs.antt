@@ -1,0 +1,72 @@
+-- What the log of a refill says, part by part: what left the cache, what was paid for, where a span comes from, what was spent.
+-- A log has its newest entry first.
+use Rattle.std.specs.Prelude.{◌≡◌, ◌⊎◌, ℕ, ◌*◌, ◌/◌, ◌≤◌, List, [], ◌∷◌, Option, Some, None}
+use Rattle.size_classes.specs.Classes.{pages_of}
+use Rattle.span_state.specs.declared.body.Body.{Body}
+use Rattle.worker_log.specs.declared.Entry.{Entry}
+use Rattle.worker_log.specs.declared.Entry.TheVariants.{Pushed, Read, Added}
+use Rattle.worker_log.specs.SetNumbers.{swept_set}
+use Rattle.worker_log.specs.Entries.{is_partial_push, many}
+use Rattle.span_laws.specs.declared.view.Span.{Span}
+use Rattle.span_set.specs.declared.hand.Hand.{Hand}
+use Rattle.central_lists.specs.declared.answers.Look.{Look}
+use Rattle.central_lists.specs.Looks.{PoppedIt, Saw, SawNone, SweptIt, Then, TriedEnough, tries}
+use Rattle.sweeper.specs.NewSpans.{MissedAtLast, TookAtLast}
+use Rattle.sweeper.specs.Pays.{HasPaid}
+use Rattle.sweeper.specs.Work.{IsPlain, LooksAtNone, SawAllEmpty}
+use Rattle.proc_cache.specs.declared.refills.CacheFrom.{CacheFrom}
+use Rattle.proc_cache.specs.declared.refills.CacheFrom.TheVariants.{SweptPartial, SweptHere, Fresh}
+
+-- the bytes of a span of a small class
+abbrev pub bytes_of : ℕ → ℕ
+bytes_of k = 8192 * pages_of (k / 2)
+
+-- so many bytes were paid for, with so many pages of credit: a number of swept pages was read that reaches the target, or each unswept set was
+-- seen empty; and no run was taken or missed, and no swept set looked at, before
+abbrev pub HasPaidFor : (generation pages distance bytes credit : ℕ) → List Entry → Type 0
+HasPaidFor generation pages distance bytes credit said = IsPlain said × LooksAtNone generation said
+    × (((seen : ℕ) × ((target : ℕ) × HasPaid generation pages distance bytes credit seen target said)) ⊎ SawAllEmpty generation said)
+
+-- the full span of class k, if there is one, left the cache for the swept full set
+abbrev pub HasLeft : ℕ → ℕ → Option Span → List Entry → Type 0
+HasLeft g k None said = said ≡ []
+HasLeft g k (Some s) said = said ≡ Pushed (swept_set g k 1) s.page ∷ Read 1 g ∷ []
+
+-- the sets were looked into for a span of class k, and nothing was pushed to a partial set meanwhile: the swept partial set was seen as it is told,
+-- and then so many entries of the unswept sets were popped, a hundred of them, or else each unswept set of the class was seen empty
+pub record LookedFor (g k : ℕ) (look : Look) (tried : ℕ) (said : List Entry) : Type 0 where
+  pub hides_nothing : many is_partial_push said ≡ 0
+  pub looked : Then (Saw (swept_set g k 0) look) (TriedEnough g k tried) said
+  pub tries_are : tries g k said ≡ tried
+  pub few : tried ≤ 100
+
+-- where the span of the page comes from: it was popped from the swept partial set; or it was swept, after that set was seen without a span; or the
+-- sets were looked into, and then a run was taken for it
+abbrev pub ComesFrom : Hand → ℕ → Body → CacheFrom → List Entry → Type 0
+ComesFrom old k b SweptPartial said = PoppedIt old.worker.view.generation k b.page said
+ComesFrom old k b SweptHere said = Then (SawNone (swept_set old.worker.view.generation k 0)) (SweptIt b.page) said
+ComesFrom old k b (Fresh look tried) said = Then (LookedFor old.worker.view.generation k look tried) (TookAtLast old (pages_of (k / 2)) b) said
+
+-- how many runs are taken for it
+abbrev pub taken_for : CacheFrom → ℕ
+taken_for SweptPartial = 0
+taken_for SweptHere = 0
+taken_for (Fresh look tried) = 1
+
+-- the bytes of a span were added to the spent ones
+abbrev pub HasSpent : ℕ → List Entry → Type 0
+HasSpent bytes said = (before : ℕ) × (said ≡ Added 3 bytes ∷ Read 3 before ∷ [])
+
+-- the log of a refill of class k: the full span leaves, the span's bytes are paid for, and a span comes from somewhere and its bytes are spent
+abbrev pub HasFilled : Hand → (pages distance : ℕ) → ℕ → Option Span → Body → CacheFrom → List Entry → Type 0
+HasFilled old pages distance k o b from said =
+    Then (HasLeft old.worker.view.generation k o)
+    (Then (HasPaidFor old.worker.view.generation pages distance (bytes_of k) 0)
+    (Then (ComesFrom old k b from) (HasSpent (bytes_of k)))) said
+
+-- the log of a refill that is refused: the sets were looked into, and then there was no run, although each unswept set was seen empty
+abbrev pub HasMissed : Hand → (pages distance : ℕ) → ℕ → Option Span → ℕ → List Entry → Type 0
+HasMissed old pages distance k o line said =
+    Then (HasLeft old.worker.view.generation k o)
+    (Then (HasPaidFor old.worker.view.generation pages distance (bytes_of k) 0)
+    (λ rest. (look : Look) × ((tried : ℕ) × Then (LookedFor old.worker.view.generation k look tried) (MissedAtLast old (pages_of (k / 2)) k line) rest))) said
