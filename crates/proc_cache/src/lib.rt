@@ -2,7 +2,8 @@
 //!
 //! `specs/Cache.antt` has what contracts see of a processor, and `specs/Serves.antt` how it agrees with the worker that it runs on.
 //! `specs/Hits.antt`, `specs/Flushes.antt`, `specs/Refills.antt` and `specs/Allocs.antt` say what each call did, by its answer and by the
-//! worker's own log; `specs/Leaves.antt` says what it leaves, and `specs/Samples.antt` what it counts in the profile.
+//! worker's own log, a refill with the words of `specs/RefillLogs.antt` and `specs/Findings.antt`; `specs/Leaves.antt` says what
+//! it leaves, and `specs/Samples.antt` what it counts in the profile.
 #![tactic(auto)]
 
 mod allocs;

@@ -1,11 +1,12 @@
 //! What a cycle of the run leaves behind, and that it keeps the run sound, whichever worker did what and when.
 //!
 //! `specs/CycleSoFar.antt` has what a cycle has left behind so far, as plain lists: lines, logs, objects and notes.
-//! `specs/Facts.antt` has the facts of a cycle that has ended from which the run stays sound, `specs/Reached.antt` what a
-//! run keeps from cycle to cycle, and `specs/Profile.antt` the sampled profile and the rule on it.
+//! `specs/Facts.antt` has the facts of a cycle that has ended from which the run stays sound, those of sweeps, placings and
+//! objects in files of their own beside it; `specs/Reached.antt` has what a run keeps from cycle to cycle, and
+//! `specs/Profile.antt` and `specs/CycleCalls.antt` what the calls of the sampled profile add up to.
 //!
 //! `specs/Underway.antt` and `specs/ShowsCycle.antt` have what a state of span ownership and the logs keep while a cycle is
-//! under way. `proofs/Moves.antt` has one law for each move, `proofs/Turns.antt` those for lines without a move, for a mark
+//! under way, and `specs/StepNeeds.antt` and `specs/Steps.antt` what each step needs and changes. `proofs/Moves.antt` has one law for each move, `proofs/Turns.antt` those for lines without a move, for a mark
 //! end and for the end of a cycle, and `proofs/Law.antt` and `proofs/Ends.antt` lead from the facts to a sound report.
 #![tactic(auto)]
 

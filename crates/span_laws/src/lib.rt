@@ -1,8 +1,9 @@
 //! What contracts see of the workers that share spans: their views and logs, how each step changes them, what calls ask and
 //! answer, and the rule that ties the views to the core, the pages and the bodies, with the laws that keep it.
 //!
-//! `specs/Views.antt` has what contracts see, `specs/Asks.antt` what calls ask and `specs/Answers.antt` what they answer,
-//! `specs/Rule.antt` the rule.
+//! `specs/Views.antt` has what contracts see, and `specs/OwnSteps.antt`, `specs/Handed.antt` and `specs/MarkEnds.antt` how it
+//! changes. `specs/Asks.antt`, `specs/BodyAsks.antt` and `specs/MarkEndAsks.antt` have what calls ask, `specs/Answers.antt`,
+//! `specs/TakeAnswers.antt` and `specs/ScavengeAnswers.antt` what they answer, and `specs/Rule.antt` the rule.
 #![tactic(auto)]
 
 mod answers;

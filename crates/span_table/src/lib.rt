@@ -1,8 +1,9 @@
 //! The running state of spans, lent to one worker at a time, and what contracts know of workers.
 //!
-//! `specs/Views.antt` has what contracts see: a worker's number, its own part and its log, and how each step changes them.
-//! `specs/Asks.antt` has what calls ask and `specs/Answers.antt` what they answer. The core, the pages and the bodies at home are
-//! hidden; `specs/Rule.antt` ties them to the views.
+//! The definitions are those of `span_laws`. Its `specs/Views.antt` has what contracts see: a worker's number, its own part and its
+//! log; `specs/OwnSteps.antt` how each step changes them; `specs/Asks.antt` what calls ask and `specs/Answers.antt` what they
+//! answer, with the files beside them. The core, the pages and the bodies at home are hidden; `specs/Rule.antt` ties them to the
+//! views.
 #![tactic(auto)]
 
 mod homes;

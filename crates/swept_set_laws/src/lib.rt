@@ -2,8 +2,9 @@
 //!
 //! `specs/Entered.antt` has the rule: in a swept set the cells and claims below the tail name different pages, at which
 //! swept lives of the set's class begin that have an object, and in a full set no free index; and a log's pops are pops of
-//! cells. So a set's tail is at most the number of pages. `proofs/` has one law for each move of span ownership: it
-//! keeps the rule, from what the move needs and what its call asks. Nothing here knows a step, a table or a handle.
+//! cells. So a set's tail is at most the number of pages. `specs/NamesGoOn.antt` says how what the sets name goes on at a
+//! move. `proofs/` has one law for each move of span ownership: it keeps the rule, from what the move needs and what its
+//! call asks. Nothing here knows a step, a table or a handle.
 #![tactic(auto)]
 
 ghost use Rattle.std.specs.Prelude.{◌≡◌, ℕ, ◌<◌, List, [], length, None};

@@ -1,8 +1,8 @@
 //! The log of a worker: what its own steps did since the last mark end.
 //!
 //! Contracts alone know it: no code makes an entry or a log, and at run time a log takes no memory. `specs/Logs.antt` has
-//! the filters through which the laws of a run see a log, and the counts of entries by which contracts of calls speak of
-//! what a call did.
+//! the filters through which the laws of a run see a log, and `specs/Entries.antt` the counts of entries by which contracts of
+//! calls speak of what a call did.
 #![tactic(auto)]
 
 use page_bitmap::Line;
