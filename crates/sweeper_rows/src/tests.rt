@@ -1,5 +1,7 @@
 use crate::{Met, Scene};
 use fallible_list::NoMemory;
+use profile_cycle::Count;
+use span_table::Step;
 use std::alloc::Global;
 use std::process::Abort;
 use std::test::Fail;
@@ -79,6 +81,39 @@ fn met(found: Result<Met, NoMemory>) -> Result<Answer, NoMemory> {
     }
 }
 
+fn one(found: Result<One, NoMemory>) -> Result<Answer, NoMemory> {
+    match found? {
+        One::Swept(note) => Ok(Answer::Swept(note.page, note.kept, note.freed)),
+        One::NothingLeft => Ok(Answer::NothingLeft),
+    }
+}
+
+fn paid(found: Result<Paid, NoMemory>) -> Result<Answer, NoMemory> {
+    match found? {
+        Paid::Reached { seen, target } => Ok(Answer::Reached(seen, target)),
+        Paid::NothingLeft => Ok(Answer::NothingLeft),
+    }
+}
+
+fn made(found: Result<u32, Refused>) -> Result<Answer, NoMemory> {
+    match found {
+        Ok(page) => Ok(Answer::Page(page)),
+        Err(Refused::NoRun { line }) => Ok(Answer::NoRun(line)),
+        Err(Refused::NoMemory) => Err(NoMemory),
+    }
+}
+
+fn stepped(step: Step) -> Answer {
+    match step.run {
+        Some(run) => Answer::Released(run.page, run.pages, step.backed),
+        None => Answer::Backed(step.backed),
+    }
+}
+
+fn samples(count: Count) -> Answer {
+    Answer::Samples(count.allocs, count.frees)
+}
+
 fn make(scene: &mut Scene, call: Call) -> Result<Answer, NoMemory> {
     match call {
         Call::Spend(bytes) => {
@@ -89,49 +124,27 @@ fn make(scene: &mut Scene, call: Call) -> Result<Answer, NoMemory> {
             scene.die(page, bucket)?;
             Ok(Answer::Done)
         }
-        Call::Sweep => match scene.sweep()? {
-            One::Swept(note) => Ok(Answer::Swept(note.page, note.kept, note.freed)),
-            One::NothingLeft => Ok(Answer::NothingLeft),
-        },
+        Call::Sweep => one(scene.sweep()),
         Call::Finish => {
             scene.finish()?;
             Ok(Answer::Done)
         }
-        Call::Pay(pages, distance, bytes, credit) => {
-            match scene.pay(pages, distance, bytes, credit)? {
-                Paid::Reached { seen, target } => Ok(Answer::Reached(seen, target)),
-                Paid::NothingLeft => Ok(Answer::NothingLeft),
-            }
-        }
+        Call::Pay(pages, distance, bytes, credit) => paid(scene.pay(
+            pages, distance, bytes, credit,
+        )),
         Call::Reclaim(pages) => Ok(Answer::Many(u64::from(scene.reclaim(pages)?))),
-        Call::Make(pages) => match scene.make(pages) {
-            Ok(page) => Ok(Answer::Page(page)),
-            Err(Refused::NoRun { line }) => Ok(Answer::NoRun(line)),
-            Err(Refused::NoMemory) => Err(NoMemory),
-        },
+        Call::Make(pages) => made(scene.make(pages)),
         Call::Meet(page) => met(scene.meet(page)),
         Call::Pop => met(scene.pop()),
-        Call::Scavenge => {
-            let step = scene.scavenge()?;
-            match step.run {
-                Some(run) => Ok(Answer::Released(run.page, run.pages, step.backed)),
-                None => Ok(Answer::Backed(step.backed)),
-            }
-        }
+        Call::Scavenge => Ok(stepped(scene.scavenge()?)),
         Call::Counters => {
             let (generation, swept, spent) = scene.counters();
             Ok(Answer::Counts(generation, swept, spent))
         }
         Call::Taken => Ok(Answer::Many(u64::from(scene.taken()))),
         Call::Notes => Ok(Answer::Many(scene.notes() as u64)),
-        Call::Sampled(bucket) => {
-            let count = scene.swept(bucket);
-            Ok(Answer::Samples(count.allocs, count.frees))
-        }
-        Call::Turned(bucket) => {
-            let count = scene.marked(bucket);
-            Ok(Answer::Samples(count.allocs, count.frees))
-        }
+        Call::Sampled(bucket) => Ok(samples(scene.swept(bucket))),
+        Call::Turned(bucket) => Ok(samples(scene.marked(bucket))),
     }
 }
 

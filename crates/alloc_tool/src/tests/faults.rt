@@ -212,52 +212,53 @@ fn good_headers_are_taken(rt: HostRuntime) -> Result<(), Fail> {
     Ok(())
 }
 
-// Of all words but `run` with options, `check` or `classes` alone and `gen` or `demo` with two numbers, the usage is told, and nothing is
-// read or written.
+// Words of the command line that are neither `run` with its options, `check` or `classes` alone, nor `gen` or `demo` with two numbers.
+const OTHER_WORDS: [&[&str]; 37] = [
+    &[],
+    &[""],
+    &["Run"],
+    &["run "],
+    &["run\n"],
+    &["run", "run"],
+    &["run", ""],
+    &["run", "--each=1"],
+    &["run", "--background=5"],
+    &["run", "--each", "--each"],
+    &["check", ""],
+    &["classes", ""],
+    &["gen", "1", "0"],
+    &["gen", "1", "1000001"],
+    &["gen", "18446744073709551616", "1"],
+    &["gen", "1", "+1"],
+    &["gen", "1"],
+    &["gen", "1", "1", "1"],
+    &["Gen", "1", "1"],
+    &["run", "--background"],
+    &["run", "--background="],
+    &["run", "--background=05"],
+    &["run", "--background", "05"],
+    &["run", "--background", ""],
+    &["run", "--background=1", "--background", "1"],
+    &["run", "--each", "--background=1", "--each"],
+    &["run", "-b"],
+    &["run", "-b", "1"],
+    &["run", "--"],
+    &["run", "--help"],
+    &["run", "--version"],
+    &["--version"],
+    &["--each"],
+    &["demo", "1", "0"],
+    &["demo", "1"],
+    &["--help"],
+    &["--", "run"],
+];
+
+// Of other words the usage is told, and nothing is read or written.
 #[test]
 fn other_words_are_refused(rt: HostRuntime) -> Result<(), Fail> {
-    let rows: [&[&str]; 37] = [
-        &[],
-        &[""],
-        &["Run"],
-        &["run "],
-        &["run\n"],
-        &["run", "run"],
-        &["run", ""],
-        &["run", "--each=1"],
-        &["run", "--background=5"],
-        &["run", "--each", "--each"],
-        &["check", ""],
-        &["classes", ""],
-        &["gen", "1", "0"],
-        &["gen", "1", "1000001"],
-        &["gen", "18446744073709551616", "1"],
-        &["gen", "1", "+1"],
-        &["gen", "1"],
-        &["gen", "1", "1", "1"],
-        &["Gen", "1", "1"],
-        &["run", "--background"],
-        &["run", "--background="],
-        &["run", "--background=05"],
-        &["run", "--background", "05"],
-        &["run", "--background", ""],
-        &["run", "--background=1", "--background", "1"],
-        &["run", "--each", "--background=1", "--each"],
-        &["run", "-b"],
-        &["run", "-b", "1"],
-        &["run", "--"],
-        &["run", "--help"],
-        &["run", "--version"],
-        &["--version"],
-        &["--each"],
-        &["demo", "1", "0"],
-        &["demo", "1"],
-        &["--help"],
-        &["--", "run"],
-    ];
     let usage =
         b"usage: goheap run [--background=N] [--each] / check / gen SEED OBJECTS / demo SEED OBJECTS / classes\n".as_slice();
-    for words in rows {
+    for words in OTHER_WORDS {
         // A read or a write would fail.
         let found = call(&rt, words, b"goheap 1\n", &[0], &[0])?;
         assert_eq!(rt; found.status, 2, "at {words:?}");
