@@ -10,7 +10,7 @@ ghost use Rattle.cycle_history.specs.Found.{AreFound, IsPlaceOf};
 
 use crate::Answer;
 use edge_io::{List, NoMemory};
-use size_classes::{Kind, PAGE_SIZE, class_of, slot_size, span_objects};
+use size_classes::{Kind, PAGE_SIZE, REGION_START, class_of, slot_size, span_objects};
 use trace_reader::{Event, Trace};
 
 /// Where an object lies.
@@ -21,9 +21,6 @@ pub struct Place {
     /// Its index in the span.
     pub index: u32,
 }
-
-/// The address at which the region begins (the first hint of `mallocinit` in `malloc.go`).
-const REGION_START: u64 = 0xc0_0000_0000;
 
 /// Finds the places of a cycle's objects, which have these events, and puts them behind those of the objects before.
 pub(crate) fn find_places(

@@ -1,6 +1,7 @@
 -- An object is placed in a span of one object, which goes to the swept full set.
 use Rattle.std.proofs.Common.{◌≡◌, ℕ, ◌+◌, ◌*◌, ◌<◌, true, false, true≢false, List, [], ◌∷◌, refl, ap, sym, subst, ◌∙◌, arith, eq-eqb}
 use Rattle.std.proofs.lemmas.List.{append-nil}
+use Rattle.size_classes.specs.Classes.{region_start}
 use Rattle.span_state.specs.Bits.{HasFree, with_bit}
 use Rattle.span_state.specs.Spans.{IsSameSpan, allocated}
 use Rattle.span_state.specs.declared.body.Body.{Body}
@@ -41,10 +42,10 @@ module _ (k : ℕ) (b d : Body) (w now : Seen) (low : k < 2) (f : IsForOne k b w
     unplaced = λ e. absurd (true≢false e);
   }
 
-  pub puts : (old new : Hand) (next at p : ℕ) → old.worker ≡ w → d.next ≡ 1 → p ≡ b.page → at ≡ 824633720832 + 8192 * p → new.notes ≡ old.notes
+  pub puts : (old new : Hand) (next at p : ℕ) → old.worker ≡ w → d.next ≡ 1 → p ≡ b.page → at ≡ region_start + 8192 * p → new.notes ≡ old.notes
       → new.worker ≡ after_said (Fills (swept_of now.view.generation (record { class = k; full = true })) d.page) (after_said (Reads 1 now.view.generation) now) → PutsObject k b old new at
   puts old new next at p is one page address notes e = (
-    address ∙ ap (λ (x : ℕ). 824633720832 + 8192 * x) page,
+    address ∙ ap (λ (x : ℕ). region_start + 8192 * x) page,
     notes,
     (
       span_of d,

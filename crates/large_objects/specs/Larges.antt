@@ -1,5 +1,6 @@
 -- What an allocation of a large object did, by its answer and by the log of the call. A log has its newest entry first.
 use Rattle.std.specs.Prelude.{◌≡◌, ℕ, ◌+◌, ◌*◌, List, [], ◌∷◌, Result, Ok, Err}
+use Rattle.size_classes.specs.Classes.{region_start}
 use Rattle.page_bitmap.specs.declared.line.Line.TheVariants.{Take}
 use Rattle.span_state.specs.declared.body.Body.{Body}
 use Rattle.worker_log.specs.declared.Entry.{Entry}
@@ -31,7 +32,7 @@ pub record PlacesLarge (n k at g : ℕ) (said : List Entry) : Type 0 where
   pub only : placings said ≡ placing ∷ []
   pub class : placing.class ≡ k
   pub index : placing.index ≡ 0
-  pub address : at ≡ 0xc000000000 + 8192 * placing.page
+  pub address : at ≡ region_start + 8192 * placing.page
   pub refused : refusals said ≡ []
   pub taken : takings said ≡ record { number = placing.number; line = Take (cycle_at g) placing.page n k } ∷ []
 
@@ -52,7 +53,7 @@ AllocatesLarge pages distance n k old new (Err WantsMemory) = (said : List Entry
 
 -- the object was placed in a span that the worker holds, which went to the swept full set
 abbrev pub PutsObject : ℕ → Body → Hand → Hand → ℕ → Type 0
-PutsObject k b old new at = (at ≡ 0xc000000000 + 8192 * b.page) × (new.notes ≡ old.notes)
+PutsObject k b old new at = (at ≡ region_start + 8192 * b.page) × (new.notes ≡ old.notes)
     × ((after : Span) × IsPlacedIn 0 (span_of b) after
     × (new.worker ≡ after_said (Fills (swept_set old.worker.view.generation k 1) b.page) (after_said (Reads 1 old.worker.view.generation) (after_of (Places 0) after old.worker))))
 

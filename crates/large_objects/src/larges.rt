@@ -4,13 +4,10 @@ ghost use Rattle.span_set.specs.Tallies.{Frees, MayCount};
 ghost use Rattle.large_objects.specs.Larges.{AllocatesLarge, IsForOne, PutsObject};
 ghost use Rattle.proc_cache.specs.Findings.{IsHolding};
 
-use size_classes::PAGE_SIZE;
+use size_classes::{PAGE_SIZE, REGION_START};
 use span_set::{Hand, SetId, Shop, push};
 use span_state::Body;
 use sweeper::{Refused, new_span, pay};
-
-// The address at which the region begins.
-const BASE: u64 = 0xc000000000;
 
 /// Allocates a large object in a span of its own, of so many pages, at least 5, and span class 0 or 1 (`mcache.go`, `allocLarge`): the span's
 /// bytes are paid for by sweeping, with the credit of its own pages; a span is made; the object is placed at index 0; and the
@@ -51,7 +48,7 @@ fn put_object(shop: &Shop, hand: &mut Hand, class: u8, body: Body) -> u64
 {
     let mut body = body;
     shop.shared.note_alloc(&mut hand.worker, &mut body, 0);
-    let addr = BASE + PAGE_SIZE * u64::from(body.page);
+    let addr = REGION_START + PAGE_SIZE * u64::from(body.page);
     let set = SetId { class, full: true };
     push(shop.shared, &mut hand.worker, set, body);
     addr

@@ -1,5 +1,6 @@
 -- What contracts see of a processor.
 use Rattle.std.specs.Prelude.{ℕ, ◌+◌, ◌*◌, List, map, Option, Some, None, slice_index_or, slice_set}
+use Rattle.size_classes.specs.Classes.{region_start}
 use Rattle.profile_cycle.specs.Sampling.{Countdown}
 use Rattle.span_state.specs.declared.body.Body.{Body}
 use Rattle.span_laws.specs.declared.view.Span.{Span}
@@ -31,4 +32,4 @@ with_slot k o c = record c { slots = slice_set c.slots k o }
 
 -- the address of an object: of a span that begins at the page, the index, and the bytes of an object
 abbrev pub address_of : ℕ → ℕ → ℕ → ℕ
-address_of page slot index = 0xc000000000 + 8192 * page + slot * index
+address_of page slot index = region_start + 8192 * page + slot * index

@@ -4,7 +4,7 @@ ghost use Rattle.proc_cache.specs.Hits.{HitsCache};
 ghost use Rattle.proc_cache.specs.Serves.{Serves};
 
 use crate::proc::Proc;
-use size_classes::slot_size;
+use size_classes::{PAGE_SIZE, REGION_START, slot_size};
 use span_state::Body;
 use span_table::{Shared, Worker};
 
@@ -17,15 +17,12 @@ pub enum Hit {
     Miss,
 }
 
-// The address at which the region begins.
-const BASE: u64 = 0xc000000000;
-
 // The address of an object of at most 32768 bytes.
 fn address(page: u32, slot: u32, index: u32) -> u64
     requires { slot ≤ 32768 }
     ensures { result ≡ address_of page slot index }
 {
-    BASE + 8192 * u64::from(page) + u64::from(slot) * u64::from(index)
+    REGION_START + PAGE_SIZE * u64::from(page) + u64::from(slot) * u64::from(index)
 }
 
 /// Places an object of a span class, from 2 to 135, at the lowest free index of the cached span (`malloc.go`, `nextFreeFast`). The

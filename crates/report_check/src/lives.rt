@@ -12,7 +12,7 @@ ghost use Rattle.report_check.specs.Lives.{AreAtPages, AreLives, HasLife, HasNum
 use crate::items::Item;
 use edge_io::NoMemory;
 use page_bitmap::Line;
-use size_classes::PAGE_SIZE;
+use size_classes::{PAGE_SIZE, REGION_START};
 use std::alloc::Global;
 
 /// A life that no Give line has ended: the number of its Take line, with its cycle, its pages and its span class.
@@ -31,9 +31,6 @@ pub(crate) struct Seat {
     pub life: u64,
     pub index: u32,
 }
-
-/// The address at which the region begins (the first hint of `mallocinit` in `malloc.go`).
-const REGION_START: u64 = 0xc0_0000_0000;
 
 /// The lives of so many pages before the first line: none.
 pub(crate) fn no_lives(alloc: Global, pages: usize) -> Result<Vec<Option<OpenLife>>, NoMemory>

@@ -11,12 +11,9 @@ ghost use Rattle.bench.specs.Filled.{AreFilled};
 
 use cycle_history::Answer;
 use edge_io::{List, NoMemory};
-use size_classes::{Kind, PAGE_SIZE, class_of};
+use size_classes::{Kind, PAGE_SIZE, REGION_START, class_of};
 use std::alloc::Global;
 use trace_reader::{Event, Trace};
-
-/// The address at which the region begins.
-const REGION_START: u64 = 0xc0_0000_0000;
 
 /// One entry for each object so far.
 #[derive(Drop)]
