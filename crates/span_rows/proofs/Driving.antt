@@ -197,6 +197,11 @@ placed_one page w placed p k h = elim (cases_Bool (eqb page p)) [
 ]
 
 -- all unswept sets were seen empty
+pub sees_empty : (w w1 : Seen) → SeesBelow 544 w w1 → (k : ℕ) → k < 544 → is_swept_set w1.view.generation k ≡ false → 0 < many (is_seen_empty k) w1.view.own.log
+sees_empty w w1 s k l u = let z = s.seen k l (ap (λ (x : Seen). is_swept_set x.view.generation k) (sym s.view) ∙ u) in
+    subst (λ (x : Seen). 0 < many (is_seen_empty k) x.view.own.log) (sym s.view) (let y = many-append (is_seen_empty k) s.said (after_said (Reads 1 w.view.generation) w).view.own.log in omega arith)
+
+-- the driver saw all unswept sets empty
 module _ (t : TableId) (w w1 : Seen) (f : IsFreeDriver t w) (s : SeesBelow 544 w w1) where
   pub seen_here : w1.here ≡ true
   seen_here = ap (λ (x : Seen). x.here) s.view ∙ f.here
@@ -205,8 +210,7 @@ module _ (t : TableId) (w w1 : Seen) (f : IsFreeDriver t w) (s : SeesBelow 544 w
   seen_table = ap (λ (x : Seen). x.table) s.view ∙ f.table
 
   pub seen_empty : (k : ℕ) → k < 544 → is_swept_set w1.view.generation k ≡ false → 0 < many (is_seen_empty k) w1.view.own.log
-  seen_empty k l u = let z = s.seen k l (ap (λ (x : Seen). is_swept_set x.view.generation k) (sym s.view) ∙ u) in
-      subst (λ (x : Seen). 0 < many (is_seen_empty k) x.view.own.log) (sym s.view) (let y = many-append (is_seen_empty k) s.said (after_said (Reads 1 w.view.generation) w).view.own.log in omega arith)
+  seen_empty = sees_empty w w1 s
 
   pub seen_free : IsFreeDriver t w1
   seen_free = let o = own_idle t w f in still_free t w f _ w1 s.view (record { sweeping = o.sweeping; held = o.held; popped = o.popped; claimed = o.claimed }) (own_fresh t w f)

@@ -1,8 +1,9 @@
 ghost use Rattle.std.specs.Prelude.{◌≡◌, ◌<◌, [], IfOk, OnOk, length, true};
-ghost use Rattle.span_rows.specs.Rows.{HasCached, IsFreeDriver};
+ghost use Rattle.span_rows.specs.Rows.{HasCached, HasTurned, IsFreeDriver};
 
-use crate::turns::{place, sweep, turn, turn_one};
+use crate::turns::{LARGE, place, sees_all_empty, sweep, turn, turn_one};
 use fallible_list::NoMemory;
+use span_set::{PopBase, pop_unswept, reset};
 use span_state::{Body, Marks};
 use span_table::{Acquired, Shared, Uncached, Worker};
 use std::alloc::Global;
@@ -93,4 +94,85 @@ pub(crate) fn swept(
     }
     sweep(shared, w, page)?;
     Ok((page, word_of_other(shared, w, page)?))
+}
+
+// Sweeps the span of a page, in which nothing is marked, and gives it back.
+fn give(alloc: Global, shared: &Shared, w: &mut Worker, page: u32) -> Result<(), NoMemory>
+    requires turned { HasTurned shared.now [] w.old }
+    requires low { page < w.old.view.region }
+    ensures here { w.new.here ≡ true }
+    ensures table { w.new.table ≡ shared.now }
+    ensures region { w.new.view.region ≡ w.old.view.region }
+{
+    let Acquired::Got(body) = shared.acquire(w, page) else {
+        return Err(NoMemory);
+    };
+    let mut body = body;
+    body.sweep(&Marks::empty(alloc));
+    shared.release_swept(w, &body);
+    shared.give_span(w, body);
+    Ok(())
+}
+
+// What a span's way back to the heap showed.
+#[derive(Clone, Copy, Debug, PartialEq, Eq)]
+pub(crate) struct Returned {
+    // Its first page, and that of the next span of as many pages.
+    pub page: u32,
+    pub next: u32,
+    // The pages of spans before and behind.
+    pub before: u32,
+    pub behind: u32,
+    // The word of its page behind.
+    pub word: Option<u64>,
+}
+
+// A large span is swept with nothing kept behind a mark end, and given back.
+pub(crate) fn given(
+    alloc: Global,
+    shared: &mut Shared,
+    w: &mut Worker,
+) -> Result<Returned, NoMemory>
+    requires free { IsFreeDriver shared.old w.old }
+    requires generation { w.old.view.generation ≡ 4 }
+{
+    let page = place(shared, w, 5)?;
+    turn(shared, w, &Marks::empty(alloc))?;
+    if page >= shared.region(w) {
+        return Err(NoMemory);
+    }
+    let before = shared.pages_taken(w);
+    give(alloc, shared, w, page)?;
+    let behind = shared.pages_taken(w);
+    let word = word_at(shared, w, page)?;
+    let Ok(body) = shared.take_span(w, 5, 0) else {
+        return Err(NoMemory);
+    };
+    Ok(Returned {
+        page,
+        next: body.page,
+        before,
+        behind,
+        word,
+    })
+}
+
+// Behind a mark end the one entry of the unswept full set of large spans is popped, and all unswept sets are reset: what was popped,
+// and what the set shows then.
+pub(crate) fn popped_and_reset(
+    alloc: Global,
+    shared: &mut Shared,
+    w: &mut Worker,
+) -> Result<(PopBase, PopBase), NoMemory>
+    requires free { IsFreeDriver shared.old w.old }
+    requires generation { w.old.view.generation ≡ 4 }
+{
+    place(shared, w, 5)?;
+    turn(shared, w, &Marks::empty(alloc))?;
+    let popped = pop_unswept(shared, w, LARGE);
+    if !sees_all_empty(shared, w) {
+        return Err(NoMemory);
+    }
+    reset(shared, w);
+    Ok((popped, pop_unswept(shared, w, LARGE)))
 }

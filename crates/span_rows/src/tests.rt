@@ -1,4 +1,4 @@
-use crate::next_cycle::{stale, swept};
+use crate::next_cycle::{Returned, given, popped_and_reset, stale, swept};
 use crate::table::{Popped, Table};
 use crate::turns::start;
 use fallible_list::NoMemory;
@@ -445,5 +445,37 @@ fn swept_at_start(alloc: Global) -> Result<(u32, Option<u64>), NoMemory> {
 #[test]
 fn a_swept_span_is_not_acquired_again(rt: HostRuntime) -> Result<(), Fail> {
     assert_eq!(rt; swept_at_start(rt.alloc())?, (0, Some(6)));
+    Ok(())
+}
+
+fn given_at_start(alloc: Global) -> Result<Returned, NoMemory> {
+    let (mut shared, mut driver) = start(alloc, 1, 512)?;
+    given(alloc, &mut shared, &mut driver)
+}
+
+// The five pages are free again: their word is 0, and the next run of five is theirs.
+#[test]
+fn a_span_that_was_given_back_leaves_its_pages_free(rt: HostRuntime) -> Result<(), Fail> {
+    let wanted = Returned {
+        page: 0,
+        next: 0,
+        before: 5,
+        behind: 0,
+        word: Some(0),
+    };
+    assert_eq!(rt; given_at_start(rt.alloc())?, wanted);
+    Ok(())
+}
+
+fn reset_at_start(alloc: Global) -> Result<(PopBase, PopBase), NoMemory> {
+    let (mut shared, mut driver) = start(alloc, 1, 512)?;
+    popped_and_reset(alloc, &mut shared, &mut driver)
+}
+
+// The entry is of page 0. The head stands behind it, and the reset sets are empty until the generation rises.
+#[test]
+fn unswept_sets_are_reset_once_they_are_empty(rt: HostRuntime) -> Result<(), Fail> {
+    let wanted = (PopBase::Popped(0), PopBase::Empty { head: 1, tail: 1 });
+    assert_eq!(rt; reset_at_start(rt.alloc())?, wanted);
     Ok(())
 }

@@ -49,7 +49,7 @@ pub fn place(shared: &Shared, w: &mut Worker, pages: u32) -> Result<u32, NoMemor
 }
 
 // Whether the worker sees all unswept sets empty.
-fn sees_all_empty(shared: &Shared, w: &mut Worker) -> bool
+pub(crate) fn sees_all_empty(shared: &Shared, w: &mut Worker) -> bool
     requires here { w.old.here ≡ true }
     requires table { w.old.table ≡ shared.now }
     ensures { SeesEmpty w.old w.new result }
