@@ -94,7 +94,9 @@ impl Published {
     }
 
     /// Of no bucket.
-    pub fn empty(alloc: Global) -> Published {
+    pub fn empty(alloc: Global) -> Published
+        ensures { AreNone 0 result }
+    {
         Published {
             allocs: Vec::new(alloc),
             frees: Vec::new(alloc),
