@@ -1,24 +1,29 @@
 -- Spans are swept until a number of swept pages is reached, or nothing is left.
-use Rattle.std.proofs.Common.{◌≡◌, ℕ, ◌+◌, ◌^◌, ◌<◌, ◌≤◌, eqb, eq-eqb, false, List, [], ◌∷◌, refl, ap, sym, subst, ◌∙◌, arith}
+use Rattle.std.proofs.Common.{◌≡◌, ℕ, ◌+◌, ◌^◌, ◌/◌, ◌%◌, ◌<◌, ◌≤◌, eqb, eq-eqb, ne_eqb, false, List, [], ◌∷◌, refl, ap, sym, subst, ◌∙◌, arith}
 use Rattle.std.proofs.lemmas.List.{append-nil}
-use Rattle.std.specs.Prelude.{Some, None, Option, Ok, Err}
+use Rattle.std.specs.Prelude.{Some, None, Option, Ok, Err, Result}
 use Rattle.fallible_list.specs.declared.list.NoMemory.{NoMemory}
+use Rattle.span_state.specs.MarkSet.{MarkSet}
 use Rattle.span_state.specs.declared.sweep.SweepNote.{SweepNote}
+use Rattle.sweep_laws.specs.Needs.{is_swept_set}
 use Rattle.worker_log.specs.declared.Entry.{Entry}
-use Rattle.worker_log.specs.declared.Entry.TheVariants.{Read}
+use Rattle.worker_log.specs.declared.Entry.TheVariants.{Looked, Read}
 use Rattle.worker_log.specs.Entries.{is_pop, is_seen_empty, many}
 use Rattle.worker_log.proofs.Logs.{many-append}
-use Rattle.span_laws.specs.declared.said.Said.TheVariants.{Reads}
+use Rattle.span_laws.specs.declared.said.Said.TheVariants.{Looks, Reads}
 use Rattle.span_laws.specs.Views.{Seen}
 use Rattle.span_laws.specs.OwnSteps.{after_said}
+use Rattle.span_set.specs.Tallies.{Frees}
 use Rattle.span_set.specs.declared.hand.Hand.{Hand}
+use Rattle.span_set.proofs.Tallies.{frees-both, frees-none}
 use Rattle.sweeper.specs.Entries.{is_read}
 use Rattle.sweeper.specs.Pays.{HasPaid, Pays, target_of}
-use Rattle.sweeper.specs.Steps.{SawSome, SweepsNext, SweepsNone, SweepsSet, SweepsSome, SweepsUntil, nth_unswept}
+use Rattle.sweeper.specs.Steps.{ReadsSwept, SawSome, SweepsNext, SweepsNone, SweepsSet, SweepsSome, SweepsUntil, nth_unswept}
 use Rattle.sweeper.specs.Sweeps.{Finishes, SweepsSpan}
 use Rattle.sweeper.specs.Work.{Does, IsPlain, SawAllEmpty, Stays, Works}
 use Rattle.sweeper.specs.declared.answers.Paid.TheVariants.{Reached, NothingLeft}
 use Rattle.sweeper.proofs.Counting.{nothing-none, plain-append, some-new, some-old}
+use Rattle.sweeper.proofs.Popping.{one_none, one_quiet}
 use Rattle.sweeper.proofs.Searching.{many_below, saw_all, saw_more}
 use Rattle.sweeper.proofs.Working.{works-as, works-both, works-nothing, works-step}
 
@@ -47,48 +52,130 @@ works-room P more a b b' e m w = record {
   popped = ap (λ (x : Seen). x.view.own.popped) e ∙ w.popped;
 }
 
--- one set
+-- the swept pages are read
+module _ (target : ℕ) (old new : Hand) (none : old.worker.view.own.popped ≡ []) where
+  pub read_some : (seen : ℕ) → ReadsSwept target old new (Some seen) → Works [] (λ said. IsPlain said × (0 < many (is_read 2 seen) said)) old new
+  read_some seen r = subst (Works [] (λ said. IsPlain said × (0 < many (is_read 2 seen) said)) old) (sym r.2) (read_works 2 seen old (after_said (Reads 2 seen) old.worker) refl refl none)
+
+  pub read_less : ReadsSwept target old new None → Works [] IsPlain old new
+  read_less r = subst (Works [] IsPlain old) (sym r.2)
+      (works-as (λ said. IsPlain said × (0 < many (is_read 2 r.0) said)) IsPlain [] old (record old { worker = after_said (Reads 2 r.0) old.worker }) (read_works 2 r.0 old (after_said (Reads 2 r.0) old.worker) refl refl none) (λ s p. p.0))
+
+-- which leaves the notes and the tally
+pub read_frees : (m : MarkSet) (target : ℕ) (old new : Hand) (o : Option ℕ) → ReadsSwept target old new o → Frees m old new
+read_frees m target old new (Some seen) r = frees-none m old new (ap (λ (h : Hand). h.notes.items) r.2) (ap (λ (h : Hand). h.tally) r.2)
+read_frees m target old new None r = frees-none m old new (ap (λ (h : Hand). h.notes.items) r.2) (ap (λ (h : Hand). h.tally) r.2)
+
+-- room for a note is made, a span swept, and the pages read
+pub frees-swept : (m : MarkSet) (old now mid next new : Hand) (target : ℕ) (o : Option ℕ) → Frees m old now → mid.notes.items ≡ now.notes.items → mid.tally ≡ now.tally → Frees m mid next → ReadsSwept target next new o → Frees m old new
+frees-swept m old now mid next new target o before notes tally swept r =
+    frees-both m old next new (frees-both m old mid next (frees-both m old now mid before (frees-none m now mid notes tally)) swept) (read_frees m target next new o r)
+
+-- the entries of one set
 module _ (k : ℕ) (old : Hand) where
+  abbrev Pops : ℕ → List Entry → Type 0
+  Pops n said = IsPlain said × (n ≤ many (is_pop k) said)
+
   pub sweeps_none : old.worker.view.own.popped ≡ [] → SweepsSome k 0 old old
-  sweeps_none none = record { works = works-nothing (λ said. IsPlain said × (0 ≤ many (is_pop k) said)) old old refl refl none (plain-nothing, omega arith); few = omega arith }
+  sweeps_none none = record { works = works-nothing (Pops 0) old old refl refl none (plain-nothing, omega arith); few = omega arith }
 
-  module _ (n : ℕ) (now : Hand) (d : SweepsSome k n old now) (w1 : Seen) (seen : ℕ) (read : w1 ≡ after_said (Reads 2 seen) now.worker) where
-    read_it : Works [] (λ said. IsPlain said × (0 < many (is_read 2 seen) said)) now (record now { worker = w1 })
-    read_it = read_works 2 seen now w1 refl read d.works.popped
-
-    pub set_reached : (target : ℕ) → target ≤ seen → seen < 2 ^ 64 → SweepsSet k target old (record now { worker = w1 }) (Ok (Some seen))
-    set_reached target l low = (
-      l,
-      low,
-      works-both (λ said. IsPlain said × (n ≤ many (is_pop k) said)) (λ said. IsPlain said × (0 < many (is_read 2 seen) said)) (λ said. IsPlain said × (0 < many (is_read 2 seen) said)) [] old now (record now { worker = w1 }) d.works read_it
-          (λ x y p q. (plain-append y x q.0 p.0, some-new (is_read 2 seen) y x q.1)),
-    )
-
-    module _ (mid : Hand) (worker : mid.worker ≡ w1) (notes : mid.notes.items ≡ now.notes.items) where
+  module _ (n : ℕ) (now : Hand) (d : SweepsSome k n old now) where
+    -- room for a note is made
+    module _ (mid : Hand) (worker : mid.worker ≡ now.worker) (notes : mid.notes.items ≡ now.notes.items) where
       pub so_far : Works [] (λ said. IsPlain said × (n ≤ many (is_pop k) said)) old mid
-      so_far = works-room (λ said. IsPlain said × (n ≤ many (is_pop k) said)) [] old (record now { worker = w1 }) mid worker notes
-          (works-both (λ said. IsPlain said × (n ≤ many (is_pop k) said)) (λ said. IsPlain said × (0 < many (is_read 2 seen) said)) (λ said. IsPlain said × (n ≤ many (is_pop k) said)) [] old now (record now { worker = w1 }) d.works read_it
-          (λ x y p q. (plain-append y x q.0 p.0, let a = many-append (is_pop k) y x in let b = p.1 in omega arith)))
+      so_far = works-room (Pops n) [] old now mid worker notes d.works
 
       pub set_wants : Works [] IsPlain old mid
-      set_wants = works-as (λ said. IsPlain said × (n ≤ many (is_pop k) said)) IsPlain [] old mid so_far (λ s p. p.0)
+      set_wants = works-as (Pops n) IsPlain [] old mid so_far (λ s p. p.0)
 
       module _ (new : Hand) (k' : ℕ) (same : k' ≡ k) where
         pub set_empty : (target : ℕ) → SweepsNext k' mid new None → SweepsSet k target old new (Ok None)
         set_empty target t = let t' : SweepsNext k mid new None = subst (λ (x : ℕ). SweepsNext x mid new None) same t in
-            works-both (λ said. IsPlain said × (n ≤ many (is_pop k) said)) (λ said. SweepsNone said × (0 < many (is_seen_empty k) said)) (λ said. IsPlain said × (0 < many (is_seen_empty k) said)) [] old mid new so_far t'.0
+            works-both (Pops n) (λ said. SweepsNone said × (0 < many (is_seen_empty k) said)) (λ said. IsPlain said × (0 < many (is_seen_empty k) said)) [] old mid new so_far t'.0
             (λ x y p q. (plain-append y x q.0.plain p.0, some-new (is_seen_empty k) y x q.1))
 
         pub set_more : (note : SweepNote) → SweepsNext k' mid new (Some note) → SweepsSome k (n + 1) old new
         set_more note t = let t' : SweepsNext k mid new (Some note) = subst (λ (x : ℕ). SweepsNext x mid new (Some note)) same t in
-            let w = works-both (λ said. IsPlain said × (n ≤ many (is_pop k) said)) (λ said. SweepsSpan mid.worker.view.generation t'.0 said × (0 < many (is_pop k) said)) (λ said. IsPlain said × (n + 1 ≤ many (is_pop k) said)) [] old mid new so_far t'.2
+            let w = works-both (Pops n) (λ said. SweepsSpan mid.worker.view.generation t'.0 said × (0 < many (is_pop k) said)) (Pops (n + 1)) [] old mid new so_far t'.2
             (λ x y p q. (plain-append y x q.0.plain p.0, let a = many-append (is_pop k) y x in let b = p.1 in let e = q.1 in omega arith)) in
-            record { works = w; few = many_below (λ said. IsPlain said × (n + 1 ≤ many (is_pop k) said)) old new w k (n + 1) w.did.1 t'.3 }
+            record { works = w; few = many_below (Pops (n + 1)) old new w k (n + 1) w.did.1 t'.3 }
+
+    -- the swept pages are read
+    module _ (target : ℕ) (new : Hand) where
+      pub set_reached : (seen : ℕ) → ReadsSwept target now new (Some seen) → SweepsSet k target old new (Ok (Some seen))
+      set_reached seen r = (
+        r.0,
+        r.1,
+        works-both (Pops n) (λ said. IsPlain said × (0 < many (is_read 2 seen) said)) (λ said. IsPlain said × (0 < many (is_read 2 seen) said)) [] old now new d.works (read_some target now new d.works.popped seen r)
+            (λ x y p q. (plain-append y x q.0 p.0, some-new (is_read 2 seen) y x q.1)),
+      )
+
+      pub set_less : ReadsSwept target now new None → SweepsSome k n old new
+      set_less r = record {
+        works = works-both (Pops n) IsPlain (Pops n) [] old now new d.works (read_less target now new d.works.popped r) (λ x y p q. (plain-append y x q p.0, let a = many-append (is_pop k) y x in let b = p.1 in omega arith));
+        few = d.few;
+      }
+
+-- one set, which is looked at first
+pub nth_unswept_is : (g i : ℕ) → is_swept_set g (nth_unswept g i) ≡ false
+nth_unswept_is g i = ne_eqb (nth_unswept g i % 2) ((g / 2) % 2) (λ e. omega arith)
+
+module _ (g index head tail : ℕ) (old : Hand) (w1 : Seen) (gen : g ≡ old.worker.view.generation) (look : w1 ≡ after_said (Looks (nth_unswept g index) head tail) old.worker) (none : old.worker.view.own.popped ≡ []) where
+  abbrev set : ℕ
+  set = nth_unswept g index
+
+  unswept : is_swept_set old.worker.view.generation set ≡ false
+  unswept = subst (λ (x : ℕ). is_swept_set x set ≡ false) gen (nth_unswept_is g index)
+
+  abbrev seen_set : Hand
+  seen_set = record old { worker = w1 }
+
+  look_works : Works [] (λ said. said ≡ Looked set head tail ∷ []) old seen_set
+  look_works = works-step (λ said. said ≡ Looked set head tail ∷ []) [] (Looked set head tail ∷ []) old seen_set
+      (record {
+        log = ap (λ (x : Seen). x.view.own.log) look;
+        sweeps = one_quiet set head tail old.worker.view.generation unswept;
+        held = ap (λ (x : Seen). x.view.own.held) look ∙ sym (append-nil old.worker.view.own.held);
+        stays = subst (Stays old.worker) (sym look) (record { here = refl; table = refl; number = refl; region = refl; goal = refl; generation = refl; marks = refl; before = refl; carried = refl; parts = refl; sweeping = refl; cached = refl; claimed = refl; fresh = refl; reset = refl; bodies = λ q h. refl });
+      })
+      refl refl (ap (λ (x : Seen). x.view.own.popped) look ∙ none) refl
+
+  looked_plain : (said : List Entry) → said ≡ Looked set head tail ∷ [] → IsPlain said
+  looked_plain said e = subst IsPlain (sym e) (one_none set head tail).plain
+
+  pub looked_empty : (target : ℕ) → head ≡ tail → SweepsSet (nth_unswept g index) target old (record old { worker = w1 }) (Ok None)
+  looked_empty target e = works-as (λ said. said ≡ Looked set head tail ∷ []) (λ said. IsPlain said × (0 < many (is_seen_empty set) said)) [] old seen_set look_works
+      (λ s p. (looked_plain s p, subst (λ (l : List Entry). 0 < many (is_seen_empty set) l) (sym p) (rw (eq-eqb set set refl, eq-eqb head tail e) (omega arith))))
+
+  -- and its entries swept then
+  module _ (target : ℕ) (new : Hand) (k' : ℕ) (same : k' ≡ nth_unswept w1.view.generation index) where
+    same_set : k' ≡ set
+    same_set = same ∙ ap (λ (x : ℕ). nth_unswept x index) (ap (λ (w : Seen). w.view.generation) look ∙ sym gen)
+
+    then_any : (r : Result (Option ℕ) NoMemory) → SweepsSet set target seen_set new r → SweepsSet set target old new r
+    then_any (Ok (Some seen)) t = (
+      t.0,
+      t.1,
+      works-both (λ said. said ≡ Looked set head tail ∷ []) (λ said. IsPlain said × (0 < many (is_read 2 seen) said)) (λ said. IsPlain said × (0 < many (is_read 2 seen) said)) [] old seen_set new look_works t.2
+          (λ x y p q. (plain-append y x q.0 (looked_plain x p), some-new (is_read 2 seen) y x q.1)),
+    )
+    then_any (Ok None) t = works-both (λ said. said ≡ Looked set head tail ∷ []) (λ said. IsPlain said × (0 < many (is_seen_empty set) said)) (λ said. IsPlain said × (0 < many (is_seen_empty set) said)) [] old seen_set new look_works t
+        (λ x y p q. (plain-append y x q.0 (looked_plain x p), some-new (is_seen_empty set) y x q.1))
+    then_any (Err e) t = works-both (λ said. said ≡ Looked set head tail ∷ []) IsPlain IsPlain [] old seen_set new look_works t (λ x y p q. plain-append y x q (looked_plain x p))
+
+    pub looked_then : (r : Result (Option ℕ) NoMemory) → SweepsSet k' target (record old { worker = w1 }) new r → SweepsSet (nth_unswept g index) target old new r
+    looked_then r t = then_any r (subst (λ (x : ℕ). SweepsSet x target seen_set new r) same_set t)
 
 -- all sets
 module _ (old : Hand) (target : ℕ) where
-  pub until_none : old.worker.view.own.popped ≡ [] → SweepsUntil 0 target old old (Ok None)
-  until_none none = works-nothing (λ said. IsPlain said × SawSome old.worker.view.generation 0 said) old old refl refl none (plain-nothing, λ i l. absurd (omega arith))
+  pub until_read : (now : Hand) (seen : ℕ) → old.worker.view.own.popped ≡ [] → ReadsSwept target old now (Some seen) → SweepsUntil 272 target old now (Ok (Some seen))
+  until_read now seen none r = (r.0, r.1, read_some target old now none seen r)
+
+  -- the generation is read, and no set looked at
+  pub until_none : (mid : Hand) (w : Seen) (g : ℕ) → old.worker.view.own.popped ≡ [] → ReadsSwept target old mid None → w ≡ after_said (Reads 1 g) mid.worker → SweepsUntil 0 target old (record mid { worker = w }) (Ok None)
+  until_none mid w g none r e = let a = read_less target old mid none r in
+      works-both IsPlain (λ said. IsPlain said × (0 < many (is_read 1 g) said)) (λ said. IsPlain said × SawSome old.worker.view.generation 0 said) [] old mid (record mid { worker = w }) a (read_works 1 g mid w refl e a.popped)
+      (λ x y p q. (plain-append y x q.0 p, λ i l. absurd (omega arith)))
 
   module _ (n : ℕ) (now new : Hand) (d : SweepsUntil n target old now (Ok None)) (k : ℕ) (same : k ≡ nth_unswept old.worker.view.generation n) where
     pub until_more : SweepsSet k target now new (Ok None) → SweepsUntil (n + 1) target old new (Ok None)

@@ -49,7 +49,7 @@ module _ (set : ℕ) where
   look_is (Added w x) a = absurd a
 
   -- looks and a read of the generation
-  one_quiet : (h t : ℕ) (g : ℕ) → is_swept_set g set ≡ false → OnlySweeps g (Looked set h t ∷ [])
+  pub one_quiet : (h t : ℕ) (g : ℕ) → is_swept_set g set ≡ false → OnlySweeps g (Looked set h t ∷ [])
   one_quiet h t g off = record {
     unplaced = refl;
     unspent = refl;
@@ -61,7 +61,7 @@ module _ (set : ℕ) where
     untouched = λ p. refl;
   }
 
-  one_none : (h t : ℕ) → SweepsNone (Looked set h t ∷ [])
+  pub one_none : (h t : ℕ) → SweepsNone (Looked set h t ∷ [])
   one_none h t = record { none = refl; plain = record { takes_none = record { untaken = refl; unmissed = refl }; unclaimed = refl; unread = λ i. refl } }
 
   read_quiet : (v g : ℕ) → OnlySweeps g (Read 1 v ∷ [])

@@ -90,6 +90,11 @@ pub record SweepsSome (set tries : ℕ) (old new : Hand) : Type 0 where
   pub works : Works [] (λ said. IsPlain said × (tries ≤ many (is_pop set) said)) old new
   pub few : tries ≤ 2 ^ 32
 
+-- so many swept pages were read, and nothing else done; they reach the target, or they don't
+abbrev pub ReadsSwept : ℕ → Hand → Hand → Option ℕ → Type 0
+ReadsSwept target old new (Some seen) = (target ≤ seen) × (seen < 2 ^ 64) × (new ≡ record old { worker = after_said (Reads 2 seen) old.worker })
+ReadsSwept target old new None = (seen : ℕ) × (seen < target) × (new ≡ record old { worker = after_said (Reads 2 seen) old.worker })
+
 -- spans of one set were swept until the swept pages reached the target, or the set was seen empty; or memory ran out
 abbrev pub SweepsSet : ℕ → ℕ → Hand → Hand → Result (Option ℕ) NoMemory → Type 0
 SweepsSet set target old new (Ok (Some seen)) = (target ≤ seen) × (seen < 2 ^ 64) × Works [] (λ said. IsPlain said × (0 < many (is_read 2 seen) said)) old new

@@ -2,11 +2,11 @@ ghost use Rattle.std.specs.Prelude.{◌≡◌, ◌<◌, ◌≤◌, [], true, Non
 ghost use Rattle.span_set.specs.Sets.{unswept_of};
 ghost use Rattle.span_set.specs.Tallies.{Frees, MayCount};
 ghost use Rattle.sweeper.specs.Pays.{Pays, target_of};
-ghost use Rattle.sweeper.specs.Steps.{SweepsSet, SweepsUntil};
+ghost use Rattle.sweeper.specs.Steps.{ReadsSwept, SweepsSet, SweepsUntil, nth_unswept};
 ghost use Rattle.sweeper.specs.Sweeps.{Finishes};
 
 use crate::answers::Paid;
-use crate::sweep::{SETS, set_at, sweep_next};
+use crate::sweep::{SETS, number_at, set_at, sweep_next};
 use fallible_list::NoMemory;
 use span_set::{Hand, SetId, Shop};
 
@@ -28,8 +28,24 @@ fn target(generation: u64, pages: u32, distance: u64, spent: u64, bytes: u64, cr
     (u128::from(pages) * bytes / u128::from(distance)).saturating_sub(u128::from(credit))
 }
 
-// Sweeps the spans of an unswept set until the swept pages, which it answers, reach the target; none where the set was seen empty.
-fn sweep_set(
+// The swept pages, where they reach the target.
+fn reached(shop: &Shop, hand: &mut Hand, target: u128) -> Option<u64>
+    requires here { hand.old.worker.here ≡ true }
+    requires table { hand.old.worker.table ≡ shop.now.shared.now }
+    ensures did { ReadsSwept target hand.old hand.new result }
+{
+    let seen = shop.shared.swept(&mut hand.worker);
+    if target <= u128::from(seen) {
+        Some(seen)
+    } else {
+        None
+    }
+}
+
+// Sweeps the spans of an unswept set that has an entry, until the swept pages, which it answers, reach the target; none where the
+// set was seen empty.
+#[inline(never)]
+fn sweep_entries(
     shop: &Shop,
     hand: &mut Hand,
     set: SetId,
@@ -47,19 +63,47 @@ fn sweep_set(
     ensures tally { Frees shop.now.marks.now hand.old hand.new }
 {
     for _ in 0..u64::MAX {
-        let seen = shop.shared.swept(&mut hand.worker);
-        if target <= u128::from(seen) {
-            return Ok(Some(seen));
-        }
         hand.reserve_note()?;
         let Some(_) = sweep_next(shop, hand, set) else {
             return Ok(None);
         };
+        if let Some(seen) = reached(shop, hand, target) {
+            return Ok(Some(seen));
+        }
     }
     unreachable!()
 }
 
-// The same through all unswept sets.
+// The same of the set at a place in the order of sweeping. An empty one costs a look alone.
+fn sweep_set(
+    shop: &Shop,
+    hand: &mut Hand,
+    index: u32,
+    generation: u64,
+    target: u128,
+) -> Result<Option<u64>, NoMemory>
+    requires here { hand.old.worker.here ≡ true }
+    requires table { hand.old.worker.table ≡ shop.now.shared.now }
+    requires distance { 8192 ≤ shop.now.distance }
+    requires marks { shop.now.marks.now.pairs ≡ hand.old.worker.view.marks }
+    requires unclaimed { hand.old.worker.view.own.claimed ≡ None }
+    requires unpopped { hand.old.worker.view.own.popped ≡ [] }
+    requires index { index < 272 }
+    requires generation { generation ≡ hand.old.worker.view.generation }
+    requires counts { MayCount shop.now.ring.now shop.now.marks.now hand.old.tally }
+    ensures did { SweepsSet (nth_unswept generation index) target hand.old hand.new result }
+    ensures tally { Frees shop.now.marks.now hand.old hand.new }
+{
+    let (head, tail) = shop
+        .shared
+        .look(&mut hand.worker, number_at(index, generation));
+    if head == tail {
+        return Ok(None);
+    }
+    sweep_entries(shop, hand, set_at(index), target)
+}
+
+// The same through all unswept sets, where the swept pages don't reach the target before.
 fn sweep_until(shop: &Shop, hand: &mut Hand, target: u128) -> Result<Option<u64>, NoMemory>
     requires here { hand.old.worker.here ≡ true }
     requires table { hand.old.worker.table ≡ shop.now.shared.now }
@@ -71,8 +115,12 @@ fn sweep_until(shop: &Shop, hand: &mut Hand, target: u128) -> Result<Option<u64>
     ensures did { SweepsUntil 272 target hand.old hand.new result }
     ensures tally { Frees shop.now.marks.now hand.old hand.new }
 {
+    if let Some(seen) = reached(shop, hand, target) {
+        return Ok(Some(seen));
+    }
+    let generation = shop.shared.generation(&mut hand.worker);
     for index in 0..SETS {
-        if let Some(seen) = sweep_set(shop, hand, set_at(index), target)? {
+        if let Some(seen) = sweep_set(shop, hand, index, generation, target)? {
             return Ok(Some(seen));
         }
     }

@@ -37,6 +37,15 @@ pub(crate) fn set_at(index: u32) -> SetId
     }
 }
 
+// The number of that set's unswept part at a generation.
+pub(crate) fn number_at(index: u32, generation: u64) -> u32
+    requires { index < 272 }
+    ensures number { result ≡ nth_unswept generation index }
+    ensures low { result < 544 }
+{
+    4 * (index / 2) + 2 * (1 - index % 2) + ((generation / 2 + 1) % 2) as u32
+}
+
 // Pops one entry of an unswept set, and sweeps its span where it waits; else the entry is dropped.
 fn try_entry(shop: &Shop, hand: &mut Hand, set: SetId) -> Tried
     requires here { hand.old.worker.here ≡ true }
