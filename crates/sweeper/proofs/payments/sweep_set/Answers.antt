@@ -1,6 +1,6 @@
 use Rattle.std.proofs.Common.{ap, ℕ, ◌∙◌}
 use Rattle.span_laws.specs.declared.said.Said.TheVariants.{Looks}
-use Rattle.span_laws.specs.Views.{after_said}
+use Rattle.span_laws.specs.OwnSteps.{after_said}
 use Rattle.sweeper.proofs.Paying.{looked_empty, looked_then}
 use Rattle.sweeper.proofs.payments.sweep_set.Goals as goal
 
