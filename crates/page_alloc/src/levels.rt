@@ -2,7 +2,7 @@
 
 ghost use Rattle.std.specs.Prelude.{◌≡◌, ℕ, ◌+◌, ◌*◌, ◌/◌, ◌^◌, ◌<◌, ◌≤◌, false, length, IfNone, IfOk, IfSome, IsSome};
 ghost use Rattle.page_bitmap.specs.Pages.{is_free};
-ghost use Rattle.page_summary.specs.Places.{IsInside};
+ghost use Rattle.page_summary.specs.Places.{IsInside, IsPlaced};
 ghost use Rattle.page_summary.specs.Sums.{AreSums, AreSumsBut, IsSum, max_of};
 ghost use Rattle.page_alloc.specs.Levels.{AreRight, AreRightBut};
 ghost use Rattle.page_alloc.specs.Region.{HasNoRunIn, IsFirstRunIn, free_in};
@@ -121,6 +121,29 @@ impl Levels {
             n,
             steps,
         );
+        self.find_below(chunks, place, search, n, steps)
+    }
+
+    /// The same from the place on that the level of 2^15 pages an entry showed: it looks at the two levels below and at a
+    /// chunk.
+    fn find_below(
+        &self,
+        chunks: &[Chunk],
+        place: Place,
+        search: u32,
+        n: u32,
+        steps: &mut u64,
+    ) -> Option<u32>
+        requires few { length chunks.now ≤ 128 }
+        requires levels { AreRight (free_in chunks.now) (length chunks.now) self.now }
+        requires taken { (p : ℕ) → p < search → free_in chunks.now p ≡ false }
+        requires some { 1 ≤ n }
+        requires placed { IsPlaced (free_in chunks.now) (2 ^ 21) (2 ^ 15) n place }
+        requires room { steps.old + 24 < 2 ^ 64 }
+        ensures found { IfSome result (IsFirstRunIn (free_in chunks.now) (512 * length chunks.now) n) }
+        ensures none { IfNone result (HasNoRunIn (free_in chunks.now) (512 * length chunks.now) n) }
+        ensures steps { (steps.old ≤ steps.new) × (steps.new ≤ steps.old + 24) }
+    {
         let place = descend(
             self.level_3.as_slice(),
             LEVEL_3,

@@ -88,7 +88,7 @@ fn one(found: Result<One, NoMemory>) -> Result<Answer, NoMemory> {
     }
 }
 
-fn paid(found: Result<Paid, NoMemory>) -> Result<Answer, NoMemory> {
+fn reached(found: Result<Paid, NoMemory>) -> Result<Answer, NoMemory> {
     match found? {
         Paid::Reached { seen, target } => Ok(Answer::Reached(seen, target)),
         Paid::NothingLeft => Ok(Answer::NothingLeft),
@@ -129,7 +129,7 @@ fn make(scene: &mut Scene, call: Call) -> Result<Answer, NoMemory> {
             scene.finish()?;
             Ok(Answer::Done)
         }
-        Call::Pay(pages, distance, bytes, credit) => paid(scene.pay(
+        Call::Pay(pages, distance, bytes, credit) => reached(scene.pay(
             pages, distance, bytes, credit,
         )),
         Call::Reclaim(pages) => Ok(Answer::Many(u64::from(scene.reclaim(pages)?))),
