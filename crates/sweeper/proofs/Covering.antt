@@ -28,7 +28,7 @@ use Rattle.sweeper.specs.Reclaims.{HasPassed, HasReclaimed, IsUnmarked, Reclaims
 use Rattle.sweeper.specs.Steps.{CoversChunks, CoversPage, CoversPages, ReclaimsChunk, ReclaimsPage, Settles}
 use Rattle.sweeper.specs.Work.{IsPlain, Stays, TakesNone, Works, notes_of}
 use Rattle.sweeper.proofs.Counting.{plain-append, some-old, takes-append, total-append}
-use Rattle.sweeper.proofs.Paying.{plain-nothing}
+use Rattle.sweeper.proofs.Paying.{plain-nothing, works-room}
 use Rattle.sweeper.proofs.Settling.{swings}
 use Rattle.sweeper.proofs.Working.{works-as, works-both, works-nothing, works-step}
 
@@ -58,9 +58,12 @@ module _ (old : Hand) (none : old.worker.view.own.popped ≡ []) (page : ℕ) wh
     plain = plain-nothing;
   })
 
-  -- no room for a note
-  pub page_wants : (new : Hand) (e : NoMemory) → new ≡ old → ReclaimsPage page old new (Err e)
-  page_wants new e same = works-nothing (λ said. IsPlain said × SparesMarked old.worker.view.marks said) old new (ap (λ (h : Hand). h.worker) same) (ap (λ (h : Hand). h.notes.items) same) none (plain-nothing, λ p l. absurd (omega arith))
+  -- room for a further note is made behind a sweep, or there is none
+  pub page_room : (given : ℕ) (mid new : Hand) → new.worker ≡ mid.worker → new.notes.items ≡ mid.notes.items → ReclaimsPage page old mid (Ok given) → ReclaimsPage page old new (Ok given)
+  page_room given mid new worker notes w = works-room (CoversPages old.worker.view.marks page (page + 1) given) [] old mid new worker notes w
+
+  pub page_wants : (given : ℕ) (mid new : Hand) (e : NoMemory) → new.worker ≡ mid.worker → new.notes.items ≡ mid.notes.items → ReclaimsPage page old mid (Ok given) → ReclaimsPage page old new (Err e)
+  page_wants given mid new e worker notes w = works-as (CoversPages old.worker.view.marks page (page + 1) given) (λ said. IsPlain said × SparesMarked old.worker.view.marks said) [] old new (page_room given mid new worker notes w) (λ s p. (p.plain, p.spares))
 
   module _ (mid : Hand) (worker : mid.worker ≡ old.worker) (notes : mid.notes.items ≡ old.notes.items) where
     -- its span does not wait
@@ -117,8 +120,12 @@ covers-append marks from to given more xs ys a b = record {
 }
 
 module _ (old : Hand) (from : ℕ) where
-  pub chunk_none : old.worker.view.own.popped ≡ [] → Works [] (CoversPages old.worker.view.marks from from 0) old old
-  chunk_none none = works-nothing (CoversPages old.worker.view.marks from from 0) old old refl refl none (record { covers = λ p l m. absurd (omega arith); given_is = refl; spares = λ p l. absurd (omega arith); plain = plain-nothing })
+  pub chunk_none : old.worker.view.own.popped ≡ [] → (new : Hand) → new.worker ≡ old.worker → new.notes.items ≡ old.notes.items → Works [] (CoversPages old.worker.view.marks from from 0) old new
+  chunk_none none new worker notes = works-nothing (CoversPages old.worker.view.marks from from 0) old new worker notes none (record { covers = λ p l m. absurd (omega arith); given_is = refl; spares = λ p l. absurd (omega arith); plain = plain-nothing })
+
+  -- no room for a note
+  pub chunk_stops : old.worker.view.own.popped ≡ [] → (new : Hand) (e : NoMemory) (chunk : ℕ) → new.worker ≡ old.worker → new.notes.items ≡ old.notes.items → ReclaimsChunk chunk old new (Err e)
+  chunk_stops none new e chunk worker notes = works-nothing (λ said. IsPlain said × SparesMarked old.worker.view.marks said) old new worker notes none (plain-nothing, λ p l. absurd (omega arith))
 
   module _ (to given : ℕ) (now new : Hand) (w : Works [] (CoversPages old.worker.view.marks from to given) old now) where
     pub chunk_more : (more total : ℕ) → total ≡ min (given + more) (2 ^ 32 - 1) → ReclaimsPage to now new (Ok more) → Works [] (CoversPages old.worker.view.marks from (to + 1) total) old new

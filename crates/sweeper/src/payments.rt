@@ -36,10 +36,9 @@ fn reached(shop: &Shop, hand: &mut Hand, target: u128) -> Option<u64>
 {
     let seen = shop.shared.swept(&mut hand.worker);
     if target <= u128::from(seen) {
-        Some(seen)
-    } else {
-        None
+        return Some(seen);
     }
+    None
 }
 
 // Sweeps the spans of an unswept set that has an entry, until the swept pages, which it answers, reach the target; none where the
@@ -94,9 +93,8 @@ fn sweep_set(
     ensures did { SweepsSet (nth_unswept generation index) target hand.old hand.new result }
     ensures tally { Frees shop.now.marks.now hand.old hand.new }
 {
-    let (head, tail) = shop
-        .shared
-        .look(&mut hand.worker, number_at(index, generation));
+    let set = number_at(index, generation);
+    let (head, tail) = shop.shared.look(&mut hand.worker, set);
     if head == tail {
         return Ok(None);
     }

@@ -1,4 +1,5 @@
-ghost use Rattle.std.specs.Prelude.{◌≡◌, ◌*◌, ◌<◌, ◌≤◌, [], true, None};
+ghost use Rattle.std.specs.Prelude.{◌≡◌, ℕ, ◌*◌, ◌↔◌, ◌<◌, ◌≤◌, [], false, true, None, OnOk, length};
+ghost use Rattle.span_state.specs.MarkSet.{is_marked};
 ghost use Rattle.span_set.specs.Tallies.{Frees, MayCount};
 ghost use Rattle.sweeper.specs.Reclaims.{Reclaims};
 ghost use Rattle.sweeper.specs.Steps.{ReclaimsChunk, ReclaimsPage};
@@ -6,7 +7,7 @@ ghost use Rattle.sweeper.specs.Steps.{ReclaimsChunk, ReclaimsPage};
 use crate::settle::settle;
 use fallible_list::NoMemory;
 use span_set::{Hand, Shop};
-use span_state::Body;
+use span_state::{Body, Marks};
 use span_table::Acquired;
 
 // The pages of a chunk.
@@ -19,35 +20,48 @@ fn pages_of(body: &Body) -> u32
     body.pages
 }
 
+// Whether an object of the page's span is marked. Most spans that have a mark have one at their first object, so that is looked at
+// first.
+fn has_mark(marks: &Marks, page: u32) -> bool
+    ensures { (result ≡ false) ↔ ((index : ℕ) → is_marked marks.now page index ≡ false) }
+{
+    if marks.marked(page, 0) {
+        return true;
+    }
+    marks.count(page) > 0
+}
+
 // Sweeps the span of a page where it waits and no object of it is marked, by its word and without popping it. Answers the pages
-// given back.
+// given back. There is room for a note, before and after.
 fn reclaim_page(shop: &Shop, hand: &mut Hand, page: u32) -> Result<u32, NoMemory>
     requires here { hand.old.worker.here ≡ true }
     requires table { hand.old.worker.table ≡ shop.now.shared.now }
     requires distance { 8192 ≤ shop.now.distance }
     requires marks { shop.now.marks.now.pairs ≡ hand.old.worker.view.marks }
+    requires room { length hand.old.notes.items < hand.old.notes.space }
     requires unclaimed { hand.old.worker.view.own.claimed ≡ None }
     requires unpopped { hand.old.worker.view.own.popped ≡ [] }
     requires page { page < hand.old.worker.view.region }
     requires counts { MayCount shop.now.ring.now shop.now.marks.now hand.old.tally }
     ensures did { ReclaimsPage page hand.old hand.new result }
+    ensures room { OnOk result (length hand.new.notes.items < hand.new.notes.space) }
     ensures tally { Frees shop.now.marks.now hand.old hand.new }
 {
-    if shop.marks.count(page) > 0 {
+    if has_mark(shop.marks, page) {
         return Ok(0);
     }
-    hand.reserve_note()?;
     match shop.shared.acquire(&mut hand.worker, page) {
         Acquired::Got(body) => {
             let pages = pages_of(&body);
             settle(shop, hand, body);
+            hand.reserve_note()?;
             Ok(pages)
         }
         Acquired::Other(_) => Ok(0),
     }
 }
 
-// The same of the pages of a chunk, in rising order.
+// The same of the pages of a chunk, in rising order. Room for a note is made before the first page and behind each sweep.
 fn reclaim_chunk(shop: &Shop, hand: &mut Hand, chunk: u32, region: u32) -> Result<u32, NoMemory>
     requires here { hand.old.worker.here ≡ true }
     requires table { hand.old.worker.table ≡ shop.now.shared.now }
@@ -64,6 +78,7 @@ fn reclaim_chunk(shop: &Shop, hand: &mut Hand, chunk: u32, region: u32) -> Resul
 {
     let first = CHUNK * chunk;
     let mut given: u32 = 0;
+    hand.reserve_note()?;
     for page in first..region.min(first + CHUNK) {
         given = given.saturating_add(reclaim_page(shop, hand, page)?);
     }
