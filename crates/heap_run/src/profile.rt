@@ -112,7 +112,7 @@ impl Profile {
         )
     }
 
-    /// Reads the lines of the last mark end, of all buckets with allocations.
+    /// Reads the lines of the last mark end, of all buckets with allocations. Nothing else changes.
     pub fn read_last(&mut self, tally: &mut Tally, mark: u32) -> Result<(), NoMemory>
         requires ring { tally.old.ring ≡ self.old.ring }
         requires drives { tally.old.view.drives ≡ true }
@@ -120,6 +120,12 @@ impl Profile {
         requires room { length self.old.known ≤ self.old.ring.buckets }
         requires order { IsOrder self.old.known self.old.order }
         requires few { AreFew (length self.old.known) tally.old.view.calls }
+        ensures tally { tally.new ≡ tally.old }
+        ensures ring { self.new.ring ≡ self.old.ring }
+        ensures each { self.new.each ≡ self.old.each }
+        ensures known { self.new.known ≡ self.old.known }
+        ensures order { self.new.order ≡ self.old.order }
+        ensures before { self.new.before ≡ self.old.before }
         ensures lines { OnOk result (self.new.lines ≡ self.old.lines ++ all_lines self.old.known tally.old.view.calls mark self.old.order) }
     {
         add_all(
