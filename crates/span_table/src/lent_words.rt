@@ -1,4 +1,4 @@
-ghost use Rattle.std.specs.Prelude.{◌≡◌, ℕ, ◌+◌, ◌%◌, ◌^◌, ◌<◌, ◌≤◌, true, None, Some, length};
+ghost use Rattle.std.specs.Prelude.{◌≡◌, ℕ, ◌+◌, ◌%◌, ◌^◌, ◌<◌, ◌≤◌, [], true, false, None, Some, length};
 ghost use Rattle.sweep_laws.specs.Lists.{has};
 ghost use Rattle.span_state.specs.Bits.{HasFree, with_bit};
 ghost use Rattle.span_state.specs.Spans.{allocated, IsSameSpan};
@@ -74,6 +74,30 @@ impl Lent {
         make(&mut self.core, Move::Acquire(self.number, page));
         tell_of(shared, &mut self.seat, &SaidOf::Acquires, &body);
         Acquired::Got(body)
+    }
+
+    // See `Shared::passes`.
+    pub(crate) fn passes(&mut self, shared: &Shared, page: u32) -> bool
+        requires table { self.old.table ≡ shared.now }
+        requires page { page < self.old.view.region }
+        requires unpopped { self.old.view.own.popped ≡ [] }
+        ensures passed { result ≡ true → (word : ℕ) × AcquiresSpan page self.old self.new (Acquired.Other word) }
+        ensures waits { result ≡ false → self.new ≡ self.old }
+    {
+        let word = self.core.words()[page as usize];
+        if word + 2 == self.core.generation() {
+            return false;
+        }
+        note(
+            shared,
+            &self.core,
+            &self.pages,
+            self.homes.as_slice(),
+            self.number,
+            &mut self.seat,
+            &Said::Finds(page, word),
+        );
+        true
     }
 
     // See `Shared::release_swept`.

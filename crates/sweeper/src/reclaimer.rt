@@ -31,8 +31,36 @@ fn has_mark(marks: &Marks, page: u32) -> bool
     marks.count(page) > 0
 }
 
-// Sweeps the span of a page where it waits and no object of it is marked, by its word and without popping it. Answers the pages
-// given back. There is room for a note, before and after.
+// Sweeps the span of a page where it waits, by its word and without popping it; no object of it is marked. Answers the pages given
+// back. There is room for a note, before and after.
+#[inline(never)]
+fn reclaim_unmarked(shop: &Shop, hand: &mut Hand, page: u32) -> Result<u32, NoMemory>
+    requires here { hand.old.worker.here ≡ true }
+    requires table { hand.old.worker.table ≡ shop.now.shared.now }
+    requires distance { 8192 ≤ shop.now.distance }
+    requires marks { shop.now.marks.now.pairs ≡ hand.old.worker.view.marks }
+    requires room { length hand.old.notes.items < hand.old.notes.space }
+    requires unclaimed { hand.old.worker.view.own.claimed ≡ None }
+    requires unpopped { hand.old.worker.view.own.popped ≡ [] }
+    requires page { page < hand.old.worker.view.region }
+    requires unmarked { (index : ℕ) → is_marked shop.now.marks.now page index ≡ false }
+    requires counts { MayCount shop.now.ring.now shop.now.marks.now hand.old.tally }
+    ensures did { ReclaimsPage page hand.old hand.new result }
+    ensures room { OnOk result (length hand.new.notes.items < hand.new.notes.space) }
+    ensures tally { Frees shop.now.marks.now hand.old hand.new }
+{
+    match shop.shared.acquire(&mut hand.worker, page) {
+        Acquired::Got(body) => {
+            let pages = pages_of(&body);
+            settle(shop, hand, body);
+            hand.reserve_note()?;
+            Ok(pages)
+        }
+        Acquired::Other(_) => Ok(0),
+    }
+}
+
+// The same of any page, where a span with a marked object is left. Most pages are passed over by a look at their word.
 fn reclaim_page(shop: &Shop, hand: &mut Hand, page: u32) -> Result<u32, NoMemory>
     requires here { hand.old.worker.here ≡ true }
     requires table { hand.old.worker.table ≡ shop.now.shared.now }
@@ -47,18 +75,13 @@ fn reclaim_page(shop: &Shop, hand: &mut Hand, page: u32) -> Result<u32, NoMemory
     ensures room { OnOk result (length hand.new.notes.items < hand.new.notes.space) }
     ensures tally { Frees shop.now.marks.now hand.old hand.new }
 {
+    if shop.shared.passes(&mut hand.worker, page) {
+        return Ok(0);
+    }
     if has_mark(shop.marks, page) {
         return Ok(0);
     }
-    match shop.shared.acquire(&mut hand.worker, page) {
-        Acquired::Got(body) => {
-            let pages = pages_of(&body);
-            settle(shop, hand, body);
-            hand.reserve_note()?;
-            Ok(pages)
-        }
-        Acquired::Other(_) => Ok(0),
-    }
+    reclaim_unmarked(shop, hand, page)
 }
 
 // The same of the pages of a chunk, in rising order. Room for a note is made before the first page and behind each sweep.
