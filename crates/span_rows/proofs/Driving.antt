@@ -1,6 +1,7 @@
 -- A driver beside whom no worker has anything of a span: it places an object, looks at sets and ends a mark phase.
-use Rattle.std.proofs.Common.{◌≡◌, ℕ, ◌+◌, ◌<◌, inl, inr, ◌&&◌, eqb, eq-eqb, true, false, true≢false, List, [], ◌∷◌, ◌++◌, map, length, refl, ap, sym, subst, ◌∙◌, arith}
+use Rattle.std.proofs.Common.{◌≡◌, ℕ, zero, suc, ◌+◌, ◌<◌, inl, inr, ◌&&◌, Bool, not, eqb, eq-eqb, true, false, true≢false, List, [], ◌∷◌, ◌++◌, map, length, refl, ap, sym, subst, ◌∙◌, arith}
 use Rattle.std.specs.List.{AllByRecursion, range_with_len}
+use Rattle.std.specs.Option.{unwrap_or}
 use Rattle.std.proofs.lemmas.Bool.{cases_Bool, eqb-true}
 use Rattle.std.proofs.lemmas.List.FromFn.{length-map-range_with_len}
 use Rattle.std.proofs.lemmas.List.{length-map, map-set}
@@ -19,18 +20,20 @@ use Rattle.worker_log.specs.declared.Entry.TheVariants.{Looked}
 use Rattle.worker_log.specs.SetNumbers.{swept_set}
 use Rattle.worker_log.specs.Entries.{is_placing_in, is_pop_of, is_seen_empty, many}
 use Rattle.worker_log.proofs.Logs.{many-append}
+use Rattle.span_state.specs.Bits.{bit_of, count_below}
 use Rattle.span_state.specs.MarkSet.{has_pair}
+use Rattle.span_state.specs.Spans.{allocated}
 use Rattle.span_state.specs.declared.body.Body.{Body}
 use Rattle.span_set.proofs.Numbers.{swept_is, swept_low}
 use Rattle.span_laws.specs.Asks.{IsFresh, IsUntouched, IsIdle, MayPlace}
 use Rattle.span_laws.specs.MarkEndAsks.{IsAtRest, IsKnown, MayMark, MaySettle}
-use Rattle.span_laws.specs.Logs.{is_placing_at}
+use Rattle.span_laws.specs.Logs.{EndsSweptEmpty, is_placing_at}
 use Rattle.span_laws.specs.declared.said.Said.TheVariants.{Caches, Claims, Fills, Looks, Reads}
 use Rattle.span_laws.specs.declared.said.SaidOf.TheVariants.{Acquires, Places, Releases, Takes}
 use Rattle.span_laws.specs.declared.view.Part.{Part}
 use Rattle.span_laws.specs.declared.view.Span.{Span}
 use Rattle.span_laws.specs.declared.view.View.{View}
-use Rattle.span_laws.specs.Views.{Seen, acts, first_view, no_part, parts_of, span_of}
+use Rattle.span_laws.specs.Views.{Seen, acts, first_view, no_part, no_span, parts_of, span_at, span_of}
 use Rattle.span_laws.specs.OwnSteps.{after_of, after_said}
 use Rattle.span_laws.specs.Handed.{knows}
 use Rattle.span_laws.specs.MarkEnds.{after_next, rested}
@@ -303,3 +306,21 @@ unpopped_swept w w1 w2 s b e1 e2 p q same u =
 -- the pair of the marked page
 pub marked_first : (marks : List (ℕ × ℕ)) (page q : ℕ) → marks ≡ (page, 0) ∷ [] → q ≡ page → has_pair marks q 0 ≡ true
 marked_first marks page q e same = ap (λ (l : List (ℕ × ℕ)). has_pair l q 0) e ∙ rw (eq-eqb page q (sym same)) refl
+
+none_counted : (n : ℕ) (f : ℕ → Bool) → ((k : ℕ) → f k ≡ false) → count_below n f ≡ 0
+unfolding count_below
+none_counted zero f h = refl
+none_counted (suc n) f h = let r = none_counted n f h in let z = ap Rattle.span_state.specs.Bits.one_if (h n) in omega arith
+
+-- the log of a worker that swept a span with nothing kept ends so
+pub ends_empty : (w1 w2 : Seen) (b : Body) → w2 ≡ after_of Releases (span_of b) w1 → ((k : ℕ) → allocated b k ≡ false) → EndsSweptEmpty b.page w2.view.own.log
+ends_empty w1 w2 b e none = subst (λ (x : Seen). EndsSweptEmpty b.page x.view.own.log) (sym e) (
+  [],
+  w1.view.own.log,
+  record { page = b.page; pages = b.pages; kept = count_below b.count (bit_of b.bits); freed = count_below b.count (λ k. bit_of (unwrap_or (span_at b.page w1.view.own.spans) no_span).bits k && not (bit_of b.bits k)) },
+  refl,
+  refl,
+  none_counted b.count (allocated b) none,
+  refl,
+  refl,
+)

@@ -58,6 +58,8 @@ pub(crate) fn stale(
 fn word_at(shared: &Shared, w: &mut Worker, page: u32) -> Result<Option<u64>, NoMemory>
     requires here { w.old.here ≡ true }
     requires table { w.old.table ≡ shared.now }
+    ensures here { w.new.here ≡ true }
+    ensures table { w.new.table ≡ shared.now }
 {
     if page >= shared.region(w) {
         return Err(NoMemory);
@@ -175,4 +177,25 @@ pub(crate) fn popped_and_reset(
     }
     reset(shared, w);
     Ok((popped, pop_unswept(shared, w, LARGE)))
+}
+
+// Whether the reclaimer's look passes over the span's page behind a mark end, where it waits, and over the free page behind the span.
+pub(crate) fn passed(
+    alloc: Global,
+    shared: &mut Shared,
+    w: &mut Worker,
+) -> Result<(bool, bool), NoMemory>
+    requires free { IsFreeDriver shared.old w.old }
+    requires generation { w.old.view.generation ≡ 4 }
+{
+    let page = place(shared, w, 5)?;
+    turn(shared, w, &Marks::empty(alloc))?;
+    if page >= shared.region(w) - 5 {
+        return Err(NoMemory);
+    }
+    let waiting = shared.passes(w, page);
+    if waiting {
+        return Err(NoMemory);
+    }
+    Ok((waiting, shared.passes(w, page + 5)))
 }

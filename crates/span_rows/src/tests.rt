@@ -1,4 +1,4 @@
-use crate::next_cycle::{Returned, given, popped_and_reset, stale, swept};
+use crate::next_cycle::{Returned, given, passed, popped_and_reset, stale, swept};
 use crate::table::{Popped, Table};
 use crate::turns::start;
 use fallible_list::NoMemory;
@@ -477,5 +477,17 @@ fn reset_at_start(alloc: Global) -> Result<(PopBase, PopBase), NoMemory> {
 fn unswept_sets_are_reset_once_they_are_empty(rt: HostRuntime) -> Result<(), Fail> {
     let wanted = (PopBase::Popped(0), PopBase::Empty { head: 1, tail: 1 });
     assert_eq!(rt; reset_at_start(rt.alloc())?, wanted);
+    Ok(())
+}
+
+fn passed_at_start(alloc: Global) -> Result<(bool, bool), NoMemory> {
+    let (mut shared, mut driver) = start(alloc, 1, 512)?;
+    passed(alloc, &mut shared, &mut driver)
+}
+
+// The span has the word 4 at generation 6, and waits. The page behind it has the word 0.
+#[test]
+fn a_page_is_passed_over_where_its_span_does_not_wait(rt: HostRuntime) -> Result<(), Fail> {
+    assert_eq!(rt; passed_at_start(rt.alloc())?, (false, true));
     Ok(())
 }
