@@ -2,13 +2,13 @@
 use Rattle.std.proofs.Common.{◌≡◌, ℕ, ◌+◌, ◌<◌, List, [], ◌∷◌, ◌++◌, refl, sym, ap, ◌∙◌, append_assoc, arith}
 use Rattle.std.proofs.lemmas.List.{append-nil}
 use Rattle.span_state.specs.declared.sweep.SweepNote.{SweepNote}
-use Rattle.sweep_laws.specs.Counts.{times, total}
+use Rattle.sweep_laws.specs.Counts.{total}
 use Rattle.worker_log.specs.declared.Entry.{Entry}
 use Rattle.worker_log.specs.declared.Entry.TheVariants.{Looked, LookedEmptyCell, Popped, Pushed, Swept, Took, Missed, Gave, Allocated, Found, Read, Added}
 use Rattle.worker_log.specs.Entries.{is_placing_in, many}
 use Rattle.span_laws.specs.Asks.{mine}
-use Rattle.span_laws.specs.Calls.{Keeps, added, is_placing, note_in, notes_of, swept_pages}
-use Rattle.span_laws.specs.Views.{Seen, acts, span_at}
+use Rattle.span_laws.specs.Calls.{Keeps, is_placing, note_in, notes_of}
+use Rattle.span_laws.specs.Views.{Seen, acts}
 
 pub total-append : {A : Type 0} (f : A → ℕ) (xs ys : List A) → total f (xs ++ ys) ≡ total f xs + total f ys
 total-append f [] ys = omega arith

@@ -27,3 +27,4 @@ pub mod CycleLives
 pub mod CyclePairs
 pub mod CycleTurns
 pub mod Kept
+pub mod Scans

@@ -1,5 +1,5 @@
 -- What the log of a call of several steps tells, and what such a call leaves as it is. A log has its newest entry first.
-use Rattle.std.specs.Prelude.{◌≡◌, ℕ, ◌+◌, ◌<◌, ◌==◌, Bool, true, false, List, [], ◌∷◌, ◌++◌}
+use Rattle.std.specs.Prelude.{◌≡◌, ℕ, ◌<◌, ◌==◌, Bool, true, false, List, [], ◌∷◌, ◌++◌}
 use Rattle.span_state.specs.declared.sweep.SweepNote.{SweepNote}
 use Rattle.sweep_laws.specs.Counts.{times, total}
 use Rattle.sweep_laws.specs.Named.{only}

@@ -15,6 +15,8 @@ pub mod MarkEndAsks
 pub mod TakeAnswers
 pub mod ScavengeAnswers
 pub mod Answers
+pub mod Scans
+pub mod Scanned
 pub mod Calls
 pub mod Cycle
 pub mod Settles

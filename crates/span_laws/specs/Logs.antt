@@ -1,7 +1,7 @@
 -- What contracts of the shared spans read in logs, besides the counts of worker_log. A log has its newest entry first.
 use Rattle.std.specs.Prelude.{◌≡◌, ℕ, true, false, ◌==◌, ◌&&◌, Bool, List, ◌∷◌, ◌++◌}
 use Rattle.worker_log.specs.declared.Entry.{Entry}
-use Rattle.worker_log.specs.declared.Entry.TheVariants.{Looked, Swept, Took, Allocated}
+use Rattle.worker_log.specs.declared.Entry.TheVariants.{Looked, Swept, Took, Allocated, Found}
 use Rattle.worker_log.specs.declared.Sweeping.{Sweeping}
 use Rattle.worker_log.specs.Entries.{many}
 
@@ -14,6 +14,11 @@ is_placing_at page index _ = false
 abbrev pub is_look : ℕ → ℕ → ℕ → Entry → Bool
 is_look set head tail (Looked s h t) = (s == set) && ((h == head) && (t == tail))
 is_look set head tail _ = false
+
+-- the entry found another word than that of a waiting span at the page
+abbrev pub is_finding_at : ℕ → Entry → Bool
+is_finding_at page (Found p word) = p == page
+is_finding_at page _ = false
 
 -- the entry takes a run
 abbrev pub is_taking : Entry → Bool
