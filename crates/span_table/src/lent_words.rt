@@ -1,4 +1,4 @@
-ghost use Rattle.std.specs.Prelude.{◌≡◌, ℕ, ◌+◌, ◌%◌, ◌^◌, ◌<◌, ◌≤◌, [], true, false, None, Some, length};
+ghost use Rattle.std.specs.Prelude.{◌≡◌, ℕ, ◌+◌, ◌%◌, ◌^◌, ◌<◌, ◌≤◌, true, None, Some, length};
 ghost use Rattle.sweep_laws.specs.Lists.{has};
 ghost use Rattle.span_state.specs.Bits.{HasFree, with_bit};
 ghost use Rattle.span_state.specs.Spans.{allocated, IsSameSpan};
@@ -12,10 +12,9 @@ ghost use Rattle.span_laws.specs.Rule.{Rule};
 ghost use Rattle.span_laws.specs.Views.{Seen, acts, span_of};
 ghost use Rattle.span_laws.specs.OwnSteps.{after_of, after_said, told, told_of};
 
-use crate::homes::take_home;
 use crate::lent::{Lent, apply, apply_of, note};
-use crate::make::make;
-use crate::seat::{tell, tell_of};
+use crate::lent_scans::take_waiting;
+use crate::seat::tell;
 use crate::shared::Shared;
 use atomic_table::Seat;
 use page_alloc::Pages;
@@ -70,34 +69,16 @@ impl Lent {
             );
             return Acquired::Other(word);
         }
-        let body = take_home(self.homes.as_mut_slice(), page);
-        make(&mut self.core, Move::Acquire(self.number, page));
-        tell_of(shared, &mut self.seat, &SaidOf::Acquires, &body);
-        Acquired::Got(body)
-    }
-
-    // See `Shared::passes`.
-    pub(crate) fn passes(&mut self, shared: &Shared, page: u32) -> bool
-        requires table { self.old.table ≡ shared.now }
-        requires page { page < self.old.view.region }
-        requires unpopped { self.old.view.own.popped ≡ [] }
-        ensures passed { result ≡ true → (word : ℕ) × AcquiresSpan page self.old self.new (Acquired.Other word) }
-        ensures waits { result ≡ false → self.new ≡ self.old }
-    {
-        let word = self.core.words()[page as usize];
-        if word + 2 == self.core.generation() {
-            return false;
-        }
-        note(
+        let body = take_waiting(
             shared,
-            &self.core,
+            &mut self.core,
             &self.pages,
-            self.homes.as_slice(),
+            self.homes.as_mut_slice(),
             self.number,
             &mut self.seat,
-            &Said::Finds(page, word),
+            page,
         );
-        true
+        Acquired::Got(body)
     }
 
     // See `Shared::release_swept`.

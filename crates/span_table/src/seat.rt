@@ -1,8 +1,9 @@
-ghost use Rattle.std.specs.Prelude.{◌≡◌};
+ghost use Rattle.std.specs.Prelude.{◌≡◌, ◌++◌};
 ghost use Rattle.span_laws.specs.Views.{acts, span_of};
 ghost use Rattle.span_laws.specs.OwnSteps.{told, told_of};
 ghost use Rattle.span_laws.specs.Handed.{handed, knowing};
 ghost use Rattle.span_laws.specs.MarkEnds.{marked};
+ghost use Rattle.span_laws.specs.Scanned.{found_in, looks_in};
 
 use crate::shared::Shared;
 use atomic_table::{Play, Seat};
@@ -11,6 +12,7 @@ use page_alloc::Pages;
 use span_laws::{Said, SaidOf, View};
 use span_state::Body;
 use std::marker::{Brand, PhantomData};
+use sweep_generation::Core;
 
 /// How a step changes the own part of a view, which a call of the program picks.
 pub trait Tells {
@@ -240,4 +242,73 @@ pub(crate) fn tell_journal(shared: &Shared, seat: &mut Seat<(), View>, pages: &P
     ensures view { seat.new.me.0 ≡ knowing pages.now.past seat.old.me.0 }
 {
     tell_journal_as::<Brand>(shared, seat, pages);
+}
+
+/// The entries of a look over many pages or sets, which a call of the program picks.
+pub trait Logging {
+    ghost use Rattle.std.specs.Prelude.{List};
+    ghost use Rattle.worker_log.specs.declared.Entry.{Entry};
+
+    ghost said: { List Entry };
+}
+
+impl Logging for Brand {
+    ghost use Rattle.std.specs.Prelude.{[]};
+
+    ghost said = { [] };
+}
+
+struct LoggingAll<J> {
+    said: PhantomData<J>,
+}
+
+impl<J: Logging> Play<(), View> for LoggingAll<J> {
+    ghost use Rattle.std.specs.Prelude.{◌≡◌, ◌++◌};
+    ghost use Rattle.span_laws.specs.Views.{acts};
+
+    ghost then = { λ _ m _ w. w ≡ (acts m.0 (record m.0.own { log = J.said ++ m.0.own.log }), m.1) };
+}
+
+fn tell_scan_as<J: Logging>(
+    shared: &Shared,
+    seat: &mut Seat<(), View>,
+    _core: &Core,
+    _from: u32,
+    _count: u32,
+)
+    requires { seat.old.table_id ≡ shared.now }
+    ensures table { seat.new.table_id ≡ seat.old.table_id }
+    ensures view { seat.new.me.0 ≡ acts seat.old.me.0 (record seat.old.me.0.own { log = J.said ++ seat.old.me.0.own.log }) }
+{
+    shared.table.shared.load::<LoggingAll<J>>(seat, 0);
+}
+
+// The view is told what is found at so many pages, from one on.
+pub(crate) fn tell_found(
+    shared: &Shared,
+    seat: &mut Seat<(), View>,
+    core: &Core,
+    from: u32,
+    count: u32,
+)
+    requires { seat.old.table_id ≡ shared.now }
+    ensures table { seat.new.table_id ≡ seat.old.table_id }
+    ensures view { seat.new.me.0 ≡ acts seat.old.me.0 (record seat.old.me.0.own { log = found_in core.now from count ++ seat.old.me.0.own.log }) }
+{
+    tell_scan_as::<Brand>(shared, seat, core, from, count);
+}
+
+// The view is told what is seen of so many unswept sets, from a place on.
+pub(crate) fn tell_looks(
+    shared: &Shared,
+    seat: &mut Seat<(), View>,
+    core: &Core,
+    from: u32,
+    count: u32,
+)
+    requires { seat.old.table_id ≡ shared.now }
+    ensures table { seat.new.table_id ≡ seat.old.table_id }
+    ensures view { seat.new.me.0 ≡ acts seat.old.me.0 (record seat.old.me.0.own { log = looks_in core.now from count ++ seat.old.me.0.own.log }) }
+{
+    tell_scan_as::<Brand>(shared, seat, core, from, count);
 }

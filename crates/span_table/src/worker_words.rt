@@ -1,4 +1,4 @@
-ghost use Rattle.std.specs.Prelude.{◌≡◌, ℕ, ◌+◌, ◌<◌, ◌≤◌, [], true, false, None};
+ghost use Rattle.std.specs.Prelude.{◌≡◌, ℕ, ◌+◌, ◌<◌, ◌≤◌, true, None};
 ghost use Rattle.sweep_laws.specs.Lists.{has};
 ghost use Rattle.span_state.specs.Bits.{HasFree, with_bit};
 ghost use Rattle.span_state.specs.Spans.{allocated, IsSameSpan};
@@ -40,23 +40,6 @@ impl Shared {
             unreachable!()
         };
         lent.acquire(self, page)
-    }
-
-    /// Whether the span of a page of the region does not wait for its sweep, which a log entry tells with the page's word, as
-    /// `acquire` tells it. Where it may wait nothing changes, and `acquire` is to be called. The worker has popped no entry. A page
-    /// that is passed over costs a third of what `acquire` does. Takes no memory.
-    pub fn passes(&self, w: &mut Worker, page: u32) -> bool
-        requires here { w.old.here ≡ true }
-        requires table { w.old.table ≡ self.now }
-        requires page { page < w.old.view.region }
-        requires unpopped { w.old.view.own.popped ≡ [] }
-        ensures passed { result ≡ true → (word : ℕ) × AcquiresSpan page w.old w.new (Acquired.Other word) }
-        ensures waits { result ≡ false → w.new ≡ w.old }
-    {
-        let Some(lent) = &mut w.lent else {
-            unreachable!()
-        };
-        lent.passes(self, page)
     }
 
     /// The worker ends the sweep of a span, whose body has just the marked objects and the free index 0: the word becomes G,
