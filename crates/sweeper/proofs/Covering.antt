@@ -1,7 +1,7 @@
 -- The reclaimer covers pages, chunks and what was asked.
 use Rattle.std.proofs.Common.{◌≡◌, ℕ, zero, suc, ◌+◌, ◌*◌, ◌-◌, ◌/◌, ◌%◌, ◌^◌, ◌<◌, ◌≤◌, ◌⊎◌, inl, inr, ⊎_elim, Bool, eqb, eq-eqb, ne_eqb, true, false, List, [], ◌∷◌, ◌++◌, min, refl, ap, sym, subst, ◌∙◌, arith}
 use Rattle.std.proofs.lemmas.List.{append-nil}
-use Rattle.std.specs.Prelude.{Ok, Err, None}
+use Rattle.std.specs.Prelude.{Ok, Err, None, Some}
 use Rattle.fallible_list.specs.declared.list.NoMemory.{NoMemory}
 use mathlib.Core.Logic.{dite}
 use native.Mathlib.Decide.{ℕ_discrete, dec_le}
@@ -12,22 +12,25 @@ use Rattle.span_state.specs.declared.body.Body.{Body}
 use Rattle.span_state.specs.declared.sweep.SweepNote.{SweepNote}
 use Rattle.sweep_laws.specs.Lists.{erase}
 use Rattle.worker_log.specs.declared.Entry.{Entry}
-use Rattle.worker_log.specs.declared.Entry.TheVariants.{Added, Found, Read}
+use Rattle.worker_log.specs.declared.Entry.TheVariants.{Added, Read}
 use Rattle.worker_log.specs.Entries.{is_sweep_of, many}
 use Rattle.worker_log.proofs.Logs.{many-append}
 use Rattle.span_laws.specs.TakeAnswers.{cycle_at}
 use Rattle.span_laws.specs.Answers.{AcquiresSpan}
-use Rattle.span_laws.specs.declared.answers.Acquired.TheVariants.{Got, Other}
-use Rattle.span_laws.specs.declared.said.Said.TheVariants.{Adds, Finds}
+use Rattle.span_laws.specs.declared.answers.Acquired.TheVariants.{Got}
+use Rattle.span_laws.specs.declared.said.Said.TheVariants.{Adds}
 use Rattle.span_laws.specs.Views.{Seen}
 use Rattle.span_laws.specs.OwnSteps.{after_said}
 use Rattle.span_set.specs.declared.hand.Hand.{Hand}
 use Rattle.sweep_laws.specs.Counts.{total}
-use Rattle.sweeper.specs.Entries.{is_added, is_finding_at, is_read, pages_given}
-use Rattle.sweeper.specs.Reclaims.{HasPassed, HasReclaimed, IsUnmarked, Reclaims, SparesMarked, chunks_of}
-use Rattle.sweeper.specs.Steps.{CoversChunks, CoversPage, CoversPages, ReclaimsChunk, ReclaimsPage, Settles}
+use Rattle.span_laws.specs.Logs.{is_finding_at}
+use Rattle.span_laws.specs.Scans.{AcquiresUnmarked, IsUnmarked, PassesPages, logs}
+use Rattle.sweeper.specs.Entries.{is_added, is_read, pages_given}
+use Rattle.sweeper.specs.Reclaims.{HasPassed, HasReclaimed, Reclaims, SparesMarked, chunks_of}
+use Rattle.sweeper.specs.Steps.{CoversChunks, CoversPage, CoversPages, ReclaimsChunk, ReclaimsNext, ReclaimsPage, Settles}
 use Rattle.sweeper.specs.Work.{IsPlain, Stays, TakesNone, Works, notes_of}
 use Rattle.sweeper.proofs.Counting.{plain-append, some-old, takes-append, total-append}
+use Rattle.sweeper.proofs.Passing.{covers_passed, logs_works, passing_looks}
 use Rattle.sweeper.proofs.Paying.{plain-nothing, works-room}
 use Rattle.sweeper.proofs.Settling.{swings}
 use Rattle.sweeper.proofs.Working.{works-as, works-both, works-nothing, works-step}
@@ -48,46 +51,11 @@ covers-new marks p xs ys a u = let z = a u in let m = many-append (is_sweep_of p
 covers-old : (marks : List (ℕ × ℕ)) (p : ℕ) (xs ys : List Entry) → CoversPage marks p ys → CoversPage marks p (xs ++ ys)
 covers-old marks p xs ys a u = let z = a u in let m = many-append (is_sweep_of p) xs ys in let n = many-append (is_finding_at p) xs ys in omega arith
 
--- a page with a mark is left
 module _ (old : Hand) (none : old.worker.view.own.popped ≡ []) (page : ℕ) where
-  pub page_left : (IsUnmarked old.worker.view.marks page → ⊥) → ReclaimsPage page old old (Ok 0)
-  page_left marked = works-nothing (CoversPages old.worker.view.marks page (page + 1) 0) old old refl refl none (record {
-    covers = λ p a b u. absurd (marked (subst (IsUnmarked old.worker.view.marks) (let e : p ≡ page = omega arith in e) u));
-    given_is = refl;
-    spares = λ p l. absurd (omega arith);
-    plain = plain-nothing;
-  })
-
-  -- room for a further note is made behind a sweep, or there is none
-  pub page_room : (given : ℕ) (mid new : Hand) → new.worker ≡ mid.worker → new.notes.items ≡ mid.notes.items → ReclaimsPage page old mid (Ok given) → ReclaimsPage page old new (Ok given)
-  page_room given mid new worker notes w = works-room (CoversPages old.worker.view.marks page (page + 1) given) [] old mid new worker notes w
-
-  pub page_wants : (given : ℕ) (mid new : Hand) (e : NoMemory) → new.worker ≡ mid.worker → new.notes.items ≡ mid.notes.items → ReclaimsPage page old mid (Ok given) → ReclaimsPage page old new (Err e)
-  page_wants given mid new e worker notes w = works-as (CoversPages old.worker.view.marks page (page + 1) given) (λ said. IsPlain said × SparesMarked old.worker.view.marks said) [] old new (page_room given mid new worker notes w) (λ s p. (p.plain, p.spares))
-
   module _ (mid : Hand) (worker : mid.worker ≡ old.worker) (notes : mid.notes.items ≡ old.notes.items) where
-    -- its span does not wait
-    pub page_found : (word : ℕ) (new : Seen) → AcquiresSpan page mid.worker new (Other word) → ReclaimsPage page old (record mid { worker = new }) (Ok 0)
-    page_found word new a' =
-        let a : new ≡ after_said (Finds page word) old.worker = a'.1 ∙ ap (after_said (Finds page word)) worker in
-        works-step (CoversPages old.worker.view.marks page (page + 1) 0) [] (Found page word ∷ []) old (record mid { worker = new })
-        (record {
-          log = ap (λ (x : Seen). x.view.own.log) a;
-          sweeps = record { unplaced = refl; unspent = refl; swept_pages = refl; given = λ p. refl; pushed = λ p. refl; unpopped = λ j p s. refl; unlooked = λ j s. refl; untouched = λ p. refl };
-          held = ap (λ (x : Seen). x.view.own.held) a ∙ sym (append-nil old.worker.view.own.held);
-          stays = subst (Stays old.worker) (sym a) (record { here = refl; table = refl; number = refl; region = refl; goal = refl; generation = refl; marks = refl; before = refl; carried = refl; parts = refl; sweeping = refl; cached = refl; claimed = refl; fresh = refl; reset = refl; bodies = λ q h. refl });
-        })
-        refl notes (ap (λ (x : Seen). x.view.own.popped) a ∙ ap (erase page) none)
-        (record {
-          covers = λ p l m u. subst (λ (x : ℕ). 0 < many (is_sweep_of x) (Found page word ∷ []) + many (is_finding_at x) (Found page word ∷ [])) (let e : page ≡ p = omega arith in e) (rw (eq-eqb page page refl) (omega arith));
-          given_is = refl;
-          spares = λ p l. absurd (omega arith);
-          plain = record { takes_none = record { untaken = refl; unmissed = refl }; unclaimed = refl; unread = λ i. refl };
-        })
-
     -- its span was swept, without a mark
     pub page_swept : (marks : MarkSet) (got : Body) (h1 h2 : Hand) (note : SweepNote) → h1.notes.items ≡ mid.notes.items → AcquiresSpan page mid.worker h1.worker (Got got) → Settles marks got h1 h2 note
-        → old.worker.view.own.claimed ≡ None → marks.pairs ≡ old.worker.view.marks → ((k : ℕ) → is_marked marks page k ≡ false) → got.pages < 2 ^ 32 → ReclaimsPage page old h2 (Ok got.pages)
+        → old.worker.view.own.claimed ≡ None → marks.pairs ≡ old.worker.view.marks → ((k : ℕ) → is_marked marks page k ≡ false) → got.pages < 2 ^ 32 → ReclaimsPage page got.pages old h2
     page_swept marks got h1 h2 note same a' t free agree unmarked low =
         let a : AcquiresSpan page old.worker h1.worker (Got got) = subst (λ (w : Seen). AcquiresSpan page w h1.worker (Got got)) worker a' in
         let z = swings marks page old.worker got h1 h2 note a t (ap (erase got.page) none) free in
@@ -111,13 +79,45 @@ module _ (old : Hand) (none : old.worker.view.own.popped ≡ []) (page : ℕ) wh
 
 -- ---- the pages of a chunk
 
-pub covers-append : (marks : List (ℕ × ℕ)) (from to given more : ℕ) (xs ys : List Entry) → CoversPages marks from to given xs → CoversPages marks to (to + 1) more ys → CoversPages marks from (to + 1) (min (given + more) (2 ^ 32 - 1)) (ys ++ xs)
-covers-append marks from to given more xs ys a b = record {
+pub covers-append : (marks : List (ℕ × ℕ)) (from to next given more : ℕ) (xs ys : List Entry) → CoversPages marks from to given xs → CoversPages marks to next more ys → CoversPages marks from next (min (given + more) (2 ^ 32 - 1)) (ys ++ xs)
+covers-append marks from to next given more xs ys a b = record {
   covers = λ p l m. dite (dec_le to p) (λ z. covers-new marks p ys xs (b.covers p z m)) (λ z. covers-old marks p ys xs (a.covers p l (omega arith)));
   given_is = (let x = a.given_is in let y = b.given_is in let t = total-append pages_given ys xs in omega arith);
   spares = spares-append marks ys xs b.spares a.spares;
   plain = plain-append ys xs b.plain a.plain;
 }
+
+-- pages are passed over
+module _ (old : Hand) (none : old.worker.view.own.popped ≡ []) (from : ℕ) where
+  passed_works : (to : ℕ) (said : List Entry) (new : Seen) → PassesPages old.worker.view.generation old.worker.view.marks from to said → new ≡ logs said old.worker → Works [] (CoversPages old.worker.view.marks from to 0) old (record old { worker = new })
+  passed_works to said new w e = let q = passing_looks old.worker.view.generation old.worker.view.generation from to said w.only in
+      works-as (λ s. s ≡ said) (CoversPages old.worker.view.marks from to 0) [] old (record old { worker = new }) (logs_works old said new e q.sweeps q.none.none none)
+      (λ s p. subst (CoversPages old.worker.view.marks from to 0) (sym p) (covers_passed old.worker.view.generation old.worker.view.generation old.worker.view.marks from to said w q))
+
+  -- to the last
+  pub next_none : (to : ℕ) (new : Seen) → AcquiresUnmarked from to old.worker new None → ReclaimsNext from to old (record old { worker = new }) (Ok None)
+  next_none to new a = passed_works to a.0 new a.1 a.2
+
+  -- up to one whose span was swept
+  module _ (to : ℕ) (marks : MarkSet) (agree : marks.pairs ≡ old.worker.view.marks) (body : Body) (low : body.pages < 2 ^ 32) (got : Seen) (a : AcquiresUnmarked from to old.worker got (Some body))
+      (free : old.worker.view.own.claimed ≡ None) (swept : Hand) (note : SweepNote) (t : Settles marks body (record old { worker = got }) swept note) (new : Hand) (worker : new.worker ≡ swept.worker) (notes : new.notes.items ≡ swept.notes.items) where
+    up_to : Works [] (CoversPages old.worker.view.marks from body.page 0) old (record old { worker = logs a.0 old.worker })
+    up_to = passed_works body.page a.0 (logs a.0 old.worker) a.1 refl
+
+    pub got_works : Works [] (CoversPages old.worker.view.marks from (body.page + 1) body.pages) old new
+    got_works = let mid : Hand = record old { worker = logs a.0 old.worker } in
+        let one : ReclaimsPage body.page body.pages mid swept = page_swept mid none body.page mid refl refl marks body (record old { worker = got }) swept note refl a.5 t free agree (λ k. ap (λ (l : List (ℕ × ℕ)). has_pair l body.page k) agree ∙ a.4 k) low in
+        works-room (CoversPages old.worker.view.marks from (body.page + 1) body.pages) [] old swept new worker notes
+        (subst (λ (x : ℕ). Works [] (CoversPages old.worker.view.marks from (body.page + 1) x) old swept) (omega arith)
+        (works-both (CoversPages old.worker.view.marks from body.page 0) (CoversPages old.worker.view.marks body.page (body.page + 1) body.pages) (CoversPages old.worker.view.marks from (body.page + 1) (min (0 + body.pages) (2 ^ 32 - 1))) [] old mid swept up_to one
+        (λ x y p q. covers-append old.worker.view.marks from body.page (body.page + 1) 0 body.pages x y p q)))
+
+    pub next_got : ReclaimsNext from to old new (Ok (Some (body.page + 1, body.pages)))
+    next_got = ((let l = a.2 in omega arith), (let l = a.3 in omega arith), got_works)
+
+    -- there is no room for a further note
+    pub next_wants : (e : NoMemory) → ReclaimsNext from to old new (Err e)
+    next_wants e = works-as (CoversPages old.worker.view.marks from (body.page + 1) body.pages) (λ said. IsPlain said × SparesMarked old.worker.view.marks said) [] old new got_works (λ s p. (p.plain, p.spares))
 
 module _ (old : Hand) (from : ℕ) where
   pub chunk_none : old.worker.view.own.popped ≡ [] → (new : Hand) → new.worker ≡ old.worker → new.notes.items ≡ old.notes.items → Works [] (CoversPages old.worker.view.marks from from 0) old new
@@ -128,13 +128,16 @@ module _ (old : Hand) (from : ℕ) where
   chunk_stops none new e chunk worker notes = works-nothing (λ said. IsPlain said × SparesMarked old.worker.view.marks said) old new worker notes none (plain-nothing, λ p l. absurd (omega arith))
 
   module _ (to given : ℕ) (now new : Hand) (w : Works [] (CoversPages old.worker.view.marks from to given) old now) where
-    pub chunk_more : (more total : ℕ) → total ≡ min (given + more) (2 ^ 32 - 1) → ReclaimsPage to now new (Ok more) → Works [] (CoversPages old.worker.view.marks from (to + 1) total) old new
-    chunk_more more sum is r = subst (λ (x : ℕ). Works [] (CoversPages old.worker.view.marks from (to + 1) x) old new) (sym is)
-        (works-both (CoversPages old.worker.view.marks from to given) (CoversPages now.worker.view.marks to (to + 1) more) (CoversPages old.worker.view.marks from (to + 1) (min (given + more) (2 ^ 32 - 1))) [] old now new w r
-        (λ x y p q. covers-append old.worker.view.marks from to given more x y p (subst (λ (m : List (ℕ × ℕ)). CoversPages m to (to + 1) more y) w.does.stays.marks q)))
+    pub chunk_more : (next more sum : ℕ) → sum ≡ min (given + more) (2 ^ 32 - 1) → Works [] (CoversPages now.worker.view.marks to next more) now new → Works [] (CoversPages old.worker.view.marks from next sum) old new
+    chunk_more next more sum is r = subst (λ (x : ℕ). Works [] (CoversPages old.worker.view.marks from next x) old new) (sym is)
+        (works-both (CoversPages old.worker.view.marks from to given) (CoversPages now.worker.view.marks to next more) (CoversPages old.worker.view.marks from next (min (given + more) (2 ^ 32 - 1))) [] old now new w r
+        (λ x y p q. covers-append old.worker.view.marks from to next given more x y p (subst (λ (m : List (ℕ × ℕ)). CoversPages m to next more y) w.does.stays.marks q)))
 
-    pub chunk_wants : (e : NoMemory) (chunk : ℕ) → ReclaimsPage to now new (Err e) → ReclaimsChunk chunk old new (Err e)
-    chunk_wants e chunk r = works-both (CoversPages old.worker.view.marks from to given) (λ said. IsPlain said × SparesMarked now.worker.view.marks said) (λ said. IsPlain said × SparesMarked old.worker.view.marks said) [] old now new w r
+    pub chunk_done : (end : ℕ) → ReclaimsNext to end now new (Ok None) → Works [] (CoversPages old.worker.view.marks from end given) old new
+    chunk_done end r = chunk_more end 0 given (let g = w.did.given_is in omega arith) r
+
+    pub chunk_wants : (e : NoMemory) (chunk end : ℕ) → ReclaimsNext to end now new (Err e) → ReclaimsChunk chunk old new (Err e)
+    chunk_wants e chunk end r = works-both (CoversPages old.worker.view.marks from to given) (λ said. IsPlain said × SparesMarked now.worker.view.marks said) (λ said. IsPlain said × SparesMarked old.worker.view.marks said) [] old now new w r
         (λ x y p q. (plain-append y x q.0 p.plain, spares-append old.worker.view.marks y x (subst (λ (m : List (ℕ × ℕ)). SparesMarked m y) w.does.stays.marks q.1) p.spares))
 
 -- ---- chunks

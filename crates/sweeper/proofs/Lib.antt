@@ -2,6 +2,7 @@ pub mod Counting
 pub mod Working
 pub mod Settling
 pub mod Popping
+pub mod Passing
 pub mod Sweeping
 pub mod Searching
 pub mod Paying

@@ -1,16 +1,16 @@
 -- Spans are swept until a number of swept pages is reached, or nothing is left.
-use Rattle.std.proofs.Common.{◌≡◌, ℕ, ◌+◌, ◌^◌, ◌/◌, ◌%◌, ◌<◌, ◌≤◌, eqb, eq-eqb, ne_eqb, false, List, [], ◌∷◌, refl, ap, sym, subst, ◌∙◌, arith}
+use Rattle.std.proofs.Common.{◌≡◌, ℕ, ◌+◌, ◌^◌, ◌<◌, ◌≤◌, eqb, eq-eqb, false, List, [], ◌∷◌, ◌++◌, refl, ap, sym, subst, ◌∙◌, arith}
 use Rattle.std.proofs.lemmas.List.{append-nil}
-use Rattle.std.specs.Prelude.{Some, None, Option, Ok, Err, Result}
+use Rattle.std.specs.Prelude.{Some, None, Option, Ok, Err}
 use Rattle.fallible_list.specs.declared.list.NoMemory.{NoMemory}
 use Rattle.span_state.specs.MarkSet.{MarkSet}
 use Rattle.span_state.specs.declared.sweep.SweepNote.{SweepNote}
-use Rattle.sweep_laws.specs.Reading.{is_swept_set}
 use Rattle.worker_log.specs.declared.Entry.{Entry}
-use Rattle.worker_log.specs.declared.Entry.TheVariants.{Looked, Read}
+use Rattle.worker_log.specs.declared.Entry.TheVariants.{Read}
 use Rattle.worker_log.specs.Entries.{is_pop, is_seen_empty, many}
 use Rattle.worker_log.proofs.Logs.{many-append}
-use Rattle.span_laws.specs.declared.said.Said.TheVariants.{Looks, Reads}
+use Rattle.span_laws.specs.declared.said.Said.TheVariants.{Reads}
+use Rattle.span_laws.specs.Scans.{FindsUnswept, nth_unswept}
 use Rattle.span_laws.specs.Views.{Seen}
 use Rattle.span_laws.specs.OwnSteps.{after_said}
 use Rattle.span_set.specs.Tallies.{Frees}
@@ -18,13 +18,12 @@ use Rattle.span_set.specs.declared.hand.Hand.{Hand}
 use Rattle.span_set.proofs.Tallies.{frees-both, frees-none}
 use Rattle.sweeper.specs.Entries.{is_read}
 use Rattle.sweeper.specs.Pays.{HasPaid, Pays, target_of}
-use Rattle.sweeper.specs.Steps.{ReadsSwept, SawSome, SweepsNext, SweepsNone, SweepsSet, SweepsSome, SweepsUntil, nth_unswept}
+use Rattle.sweeper.specs.Steps.{ReadsSwept, SawSome, SweepsNext, SweepsNone, SweepsSet, SweepsSome, SweepsUntil}
 use Rattle.sweeper.specs.Sweeps.{Finishes, SweepsSpan}
 use Rattle.sweeper.specs.Work.{Does, IsPlain, SawAllEmpty, Stays, Works}
 use Rattle.sweeper.specs.declared.answers.Paid.TheVariants.{Reached, NothingLeft}
 use Rattle.sweeper.proofs.Counting.{nothing-none, plain-append, some-new, some-old}
-use Rattle.sweeper.proofs.Popping.{one_none, one_quiet}
-use Rattle.sweeper.proofs.Searching.{many_below, saw_all, saw_more}
+use Rattle.sweeper.proofs.Searching.{looks_past, looks_to, many_below, saw_all, saw_more}
 use Rattle.sweeper.proofs.Working.{works-as, works-both, works-nothing, works-step}
 
 pub plain-nothing : IsPlain []
@@ -116,66 +115,25 @@ module _ (k : ℕ) (old : Hand) where
         few = d.few;
       }
 
--- one set, which is looked at first
-pub nth_unswept_is : (g i : ℕ) → is_swept_set g (nth_unswept g i) ≡ false
-nth_unswept_is g i = ne_eqb (nth_unswept g i % 2) ((g / 2) % 2) (λ e. omega arith)
-
-module _ (g index head tail : ℕ) (old : Hand) (w1 : Seen) (gen : g ≡ old.worker.view.generation) (look : w1 ≡ after_said (Looks (nth_unswept g index) head tail) old.worker) (none : old.worker.view.own.popped ≡ []) where
-  abbrev set : ℕ
-  set = nth_unswept g index
-
-  unswept : is_swept_set old.worker.view.generation set ≡ false
-  unswept = subst (λ (x : ℕ). is_swept_set x set ≡ false) gen (nth_unswept_is g index)
-
-  abbrev seen_set : Hand
-  seen_set = record old { worker = w1 }
-
-  look_works : Works [] (λ said. said ≡ Looked set head tail ∷ []) old seen_set
-  look_works = works-step (λ said. said ≡ Looked set head tail ∷ []) [] (Looked set head tail ∷ []) old seen_set
-      (record {
-        log = ap (λ (x : Seen). x.view.own.log) look;
-        sweeps = one_quiet set head tail old.worker.view.generation unswept;
-        held = ap (λ (x : Seen). x.view.own.held) look ∙ sym (append-nil old.worker.view.own.held);
-        stays = subst (Stays old.worker) (sym look) (record { here = refl; table = refl; number = refl; region = refl; goal = refl; generation = refl; marks = refl; before = refl; carried = refl; parts = refl; sweeping = refl; cached = refl; claimed = refl; fresh = refl; reset = refl; bodies = λ q h. refl });
-      })
-      refl refl (ap (λ (x : Seen). x.view.own.popped) look ∙ none) refl
-
-  looked_plain : (said : List Entry) → said ≡ Looked set head tail ∷ [] → IsPlain said
-  looked_plain said e = subst IsPlain (sym e) (one_none set head tail).plain
-
-  pub looked_empty : (target : ℕ) → head ≡ tail → SweepsSet (nth_unswept g index) target old (record old { worker = w1 }) (Ok None)
-  looked_empty target e = works-as (λ said. said ≡ Looked set head tail ∷ []) (λ said. IsPlain said × (0 < many (is_seen_empty set) said)) [] old seen_set look_works
-      (λ s p. (looked_plain s p, subst (λ (l : List Entry). 0 < many (is_seen_empty set) l) (sym p) (rw (eq-eqb set set refl, eq-eqb head tail e) (omega arith))))
-
-  -- and its entries swept then
-  module _ (target : ℕ) (new : Hand) (k' : ℕ) (same : k' ≡ nth_unswept w1.view.generation index) where
-    same_set : k' ≡ set
-    same_set = same ∙ ap (λ (x : ℕ). nth_unswept x index) (ap (λ (w : Seen). w.view.generation) look ∙ sym gen)
-
-    then_any : (r : Result (Option ℕ) NoMemory) → SweepsSet set target seen_set new r → SweepsSet set target old new r
-    then_any (Ok (Some seen)) t = (
-      t.0,
-      t.1,
-      works-both (λ said. said ≡ Looked set head tail ∷ []) (λ said. IsPlain said × (0 < many (is_read 2 seen) said)) (λ said. IsPlain said × (0 < many (is_read 2 seen) said)) [] old seen_set new look_works t.2
-          (λ x y p q. (plain-append y x q.0 (looked_plain x p), some-new (is_read 2 seen) y x q.1)),
-    )
-    then_any (Ok None) t = works-both (λ said. said ≡ Looked set head tail ∷ []) (λ said. IsPlain said × (0 < many (is_seen_empty set) said)) (λ said. IsPlain said × (0 < many (is_seen_empty set) said)) [] old seen_set new look_works t
-        (λ x y p q. (plain-append y x q.0 (looked_plain x p), some-new (is_seen_empty set) y x q.1))
-    then_any (Err e) t = works-both (λ said. said ≡ Looked set head tail ∷ []) IsPlain IsPlain [] old seen_set new look_works t (λ x y p q. plain-append y x q (looked_plain x p))
-
-    pub looked_then : (r : Result (Option ℕ) NoMemory) → SweepsSet k' target (record old { worker = w1 }) new r → SweepsSet (nth_unswept g index) target old new r
-    looked_then r t = then_any r (subst (λ (x : ℕ). SweepsSet x target seen_set new r) same_set t)
-
 -- all sets
 module _ (old : Hand) (target : ℕ) where
   pub until_read : (now : Hand) (seen : ℕ) → old.worker.view.own.popped ≡ [] → ReadsSwept target old now (Some seen) → SweepsUntil 272 target old now (Ok (Some seen))
   until_read now seen none r = (r.0, r.1, read_some target old now none seen r)
 
-  -- the generation is read, and no set looked at
-  pub until_none : (mid : Hand) (w : Seen) (g : ℕ) → old.worker.view.own.popped ≡ [] → ReadsSwept target old mid None → w ≡ after_said (Reads 1 g) mid.worker → SweepsUntil 0 target old (record mid { worker = w }) (Ok None)
-  until_none mid w g none r e = let a = read_less target old mid none r in
-      works-both IsPlain (λ said. IsPlain said × (0 < many (is_read 1 g) said)) (λ said. IsPlain said × SawSome old.worker.view.generation 0 said) [] old mid (record mid { worker = w }) a (read_works 1 g mid w refl e a.popped)
-      (λ x y p q. (plain-append y x q.0 p, λ i l. absurd (omega arith)))
+  -- no set is looked at yet
+  pub until_none : (mid : Hand) → old.worker.view.own.popped ≡ [] → ReadsSwept target old mid None → SweepsUntil 0 target old mid (Ok None)
+  until_none mid none r = works-as IsPlain (λ said. IsPlain said × SawSome old.worker.view.generation 0 said) [] old mid (read_less target old mid none r) (λ s p. (p, λ i l. absurd (omega arith)))
+
+  -- sets are seen empty
+  plain_on : (xs ys : List Entry) → SweepsNone xs → IsPlain ys → IsPlain (xs ++ ys)
+  plain_on xs ys n p = plain-append xs ys n.plain p
+
+  module _ (n : ℕ) (now : Hand) (d : SweepsUntil n target old now (Ok None)) (w : Seen) where
+    pub until_past : FindsUnswept n now.worker w None → SweepsUntil 272 target old (record now { worker = w }) (Ok None)
+    until_past f = looks_past IsPlain plain_on old n now d w f
+
+    pub until_to : (i : ℕ) → FindsUnswept n now.worker w (Some i) → SweepsUntil i target old (record now { worker = w }) (Ok None)
+    until_to i f = looks_to IsPlain plain_on old n now d w i f
 
   module _ (n : ℕ) (now new : Hand) (d : SweepsUntil n target old now (Ok None)) (k : ℕ) (same : k ≡ nth_unswept old.worker.view.generation n) where
     pub until_more : SweepsSet k target now new (Ok None) → SweepsUntil (n + 1) target old new (Ok None)

@@ -2,23 +2,28 @@
 use Rattle.std.proofs.Common.{◌≡◌, ℕ, zero, suc, ◌+◌, ◌*◌, ◌-◌, ◌/◌, ◌%◌, ◌^◌, ◌<◌, ◌≤◌, Bool, eq-eqb, ne_eqb, eqb, true, false, List, [], ◌∷◌, ◌++◌, length, refl, ap, sym, subst, ◌∙◌, arith}
 use Rattle.std.specs.Prelude.{Some, None, Ok}
 use mathlib.Core.Logic.{dite}
-use native.Mathlib.Decide.{ℕ_discrete}
+use native.Mathlib.Decide.{ℕ_discrete, dec_le}
 use Rattle.page_bitmap.specs.Counts.{one_if}
 use Rattle.span_state.specs.declared.sweep.SweepNote.{SweepNote}
 use Rattle.sweep_laws.specs.Reading.{is_swept_set}
 use Rattle.worker_log.specs.declared.Entry.{Entry}
+use Rattle.worker_log.specs.declared.Entry.TheVariants.{Looked}
 use Rattle.worker_log.specs.Logs.{sweepings}
 use Rattle.worker_log.specs.Entries.{is_pop, is_seen_empty, many}
 use Rattle.worker_log.proofs.Logs.{many-append}
 use Rattle.span_laws.specs.TakeAnswers.{cycle_at}
 use Rattle.span_set.specs.declared.hand.Hand.{Hand}
-use Rattle.sweeper.specs.Steps.{DropsSome, SawSome, SweepsNext, SweepsNone, TriesEntry, nth_unswept}
+use Rattle.span_laws.specs.Scans.{FindsUnswept, SeesEmpty, nth_unswept}
+use Rattle.span_laws.specs.Views.{Seen}
+use Rattle.span_laws.proofs.Scans.{nth_unswept_off}
+use Rattle.sweeper.specs.Steps.{DropsSome, SawSome, SweepsNext, SweepsNone, TriesEntry}
 use Rattle.sweeper.specs.Sweeps.{SweepsOne, SweepsSpan}
 use Rattle.sweeper.specs.Work.{IsPlain, SawAllEmpty, Works, note_by}
 use Rattle.sweeper.specs.declared.answers.One.TheVariants.{Swept, NothingLeft}
 use Rattle.sweeper.specs.declared.sweep.Tried.TheVariants.{Swept as WasSwept, Gone, Empty}
-use Rattle.sweeper.proofs.Counting.{none-append, nothing-none, some-new, some-old}
-use Rattle.sweeper.proofs.Popping.{swept_more}
+use Rattle.sweeper.proofs.Counting.{none-append, nothing-none, some-new, some-old, sweeps-append}
+use Rattle.sweeper.proofs.Passing.{empty_none, empty_sweeps, logs_works}
+use Rattle.sweeper.proofs.Popping.{one_none, one_quiet, swept_more}
 use Rattle.sweeper.proofs.Working.{works-as, works-both, works-nothing}
 
 -- a call of this crate leaves what the next one asks
@@ -80,6 +85,36 @@ pub saw_more : (g n : ℕ) (xs ys : List Entry) → SawSome g n ys → 0 < many 
 saw_more g n xs ys s l i low = dite (ℕ_discrete i n)
     (λ e. some-new (is_seen_empty (nth_unswept g i)) xs ys (subst (λ (x : ℕ). 0 < many (is_seen_empty (nth_unswept g x)) xs) (sym e) l))
     (λ d. some-old (is_seen_empty (nth_unswept g i)) xs ys (s i (omega arith)))
+
+-- the sets behind them were seen empty, too
+pub saw_on : (g n to : ℕ) (xs ys : List Entry) → SawSome g n ys → SeesEmpty g n to xs → SawSome g to (xs ++ ys)
+saw_on g n to xs ys s e i low = dite (dec_le n i)
+    (λ l. some-new (is_seen_empty (nth_unswept g i)) xs ys (e.whole i l low))
+    (λ l. some-old (is_seen_empty (nth_unswept g i)) xs ys (s i (omega arith)))
+
+-- what is kept by looks
+module _ (P : List Entry → Type 0) (grow : (xs ys : List Entry) → SweepsNone xs → P ys → P (xs ++ ys)) (old : Hand) (n : ℕ) (now : Hand) (d : Works [] (λ said. P said × SawSome old.worker.view.generation n said) old now) (w : Seen) where
+  same_gen : now.worker.view.generation ≡ old.worker.view.generation
+  same_gen = d.does.stays.generation
+
+  -- all that were left are empty
+  pub looks_past : FindsUnswept n now.worker w None → Works [] (λ said. P said × SawSome old.worker.view.generation 272 said) old (record now { worker = w })
+  looks_past f = let g = now.worker.view.generation in let none = empty_none g f.0 f.1.only in
+      works-both (λ said. P said × SawSome old.worker.view.generation n said) (λ s. s ≡ f.0) (λ said. P said × SawSome old.worker.view.generation 272 said) [] old now (record now { worker = w }) d
+      (logs_works now f.0 w f.2 (empty_sweeps g f.0 f.1.only) none.none d.popped)
+      (λ x y p q. subst (λ (l : List Entry). P (l ++ x) × SawSome old.worker.view.generation 272 (l ++ x)) (sym q)
+      (grow f.0 x none p.0, saw_on old.worker.view.generation n 272 f.0 x p.1 (subst (λ (z : ℕ). SeesEmpty z n 272 f.0) same_gen f.1)))
+
+  -- all up to one are empty
+  pub looks_to : (i : ℕ) → FindsUnswept n now.worker w (Some i) → Works [] (λ said. P said × SawSome old.worker.view.generation i said) old (record now { worker = w })
+  looks_to i f = let g = now.worker.view.generation in let j = nth_unswept g i in let none = empty_none g f.0 f.1.only in let e = Looked j f.4.0 f.4.1 in let said = e ∷ f.0 in let all = none-append (e ∷ []) f.0 (one_none j f.4.0 f.4.1) none in
+      works-both (λ said. P said × SawSome old.worker.view.generation n said) (λ s. s ≡ said) (λ said. P said × SawSome old.worker.view.generation i said) [] old now (record now { worker = w }) d
+      (logs_works now said w f.4.3 (sweeps-append g (e ∷ []) f.0 (one_quiet j f.4.0 f.4.1 g (nth_unswept_off g i)) (empty_sweeps g f.0 f.1.only)) all.none d.popped)
+      (λ x y p q. subst (λ (l : List Entry). P (l ++ x) × SawSome old.worker.view.generation i (l ++ x)) (sym q)
+      (grow said x all p.0, λ k l. some-new-one k l x (saw_on old.worker.view.generation n i f.0 x p.1 (subst (λ (z : ℕ). SeesEmpty z n i f.0) same_gen f.1) k l)))
+    where
+      some-new-one : (k : ℕ) → k < i → (x : List Entry) → 0 < many (is_seen_empty (nth_unswept old.worker.view.generation k)) (f.0 ++ x) → 0 < many (is_seen_empty (nth_unswept old.worker.view.generation k)) (Looked (nth_unswept now.worker.view.generation i) f.4.0 f.4.1 ∷ (f.0 ++ x))
+      some-new-one k l x m = omega arith
 
 module _ (old : Hand) where
   pub finds_none : (now : Hand) → now.worker ≡ old.worker → now.notes.items ≡ old.notes.items → old.worker.view.own.popped ≡ [] → Works [] (λ said. SweepsNone said × SawSome old.worker.view.generation 0 said) old now

@@ -1,7 +1,7 @@
 -- Tests of the entries of a log, besides those of worker_log and span_laws.
 use Rattle.std.specs.Prelude.{ℕ, ◌==◌, ◌&&◌, not, Bool, false}
 use Rattle.worker_log.specs.declared.Entry.{Entry}
-use Rattle.worker_log.specs.declared.Entry.TheVariants.{Looked, LookedEmptyCell, Pushed, Swept, Gave, Found, Read, Added}
+use Rattle.worker_log.specs.declared.Entry.TheVariants.{Looked, LookedEmptyCell, Pushed, Swept, Gave, Read, Added}
 
 -- the pages that an entry gives back
 abbrev pub pages_given : Entry → ℕ
@@ -23,11 +23,6 @@ is_added word _ = false
 abbrev pub is_read : ℕ → ℕ → Entry → Bool
 is_read word value (Read w v) = (w == word) && (v == value)
 is_read word value _ = false
-
--- the entry found another word than that of a waiting span at the page
-abbrev pub is_finding_at : ℕ → Entry → Bool
-is_finding_at page (Found p word) = p == page
-is_finding_at page _ = false
 
 -- the entry gives the span of the page back
 abbrev pub is_giving_of : ℕ → Entry → Bool

@@ -1,21 +1,18 @@
 -- What the page reclaimer did.
-use Rattle.std.specs.Prelude.{◌≡◌, ◌⊎◌, ℕ, ◌+◌, ◌-◌, ◌*◌, ◌/◌, ◌^◌, ◌<◌, ◌≤◌, false, List, [], min, Result, Ok, Err}
+use Rattle.std.specs.Prelude.{◌≡◌, ◌⊎◌, ℕ, ◌+◌, ◌-◌, ◌*◌, ◌/◌, ◌^◌, ◌<◌, ◌≤◌, List, [], min, Result, Ok, Err}
 use Rattle.fallible_list.specs.declared.list.NoMemory.{NoMemory}
-use Rattle.span_state.specs.MarkSet.{has_pair}
 use Rattle.worker_log.specs.declared.Entry.{Entry}
 use Rattle.worker_log.specs.Entries.{is_sweep_of, many}
 use Rattle.span_set.specs.declared.hand.Hand.{Hand}
 use Rattle.sweep_laws.specs.Counts.{total}
-use Rattle.sweeper.specs.Entries.{is_added, is_finding_at, is_read, pages_given}
+use Rattle.span_laws.specs.Logs.{is_finding_at}
+use Rattle.span_laws.specs.Scans.{IsUnmarked}
+use Rattle.sweeper.specs.Entries.{is_added, is_read, pages_given}
 use Rattle.sweeper.specs.Work.{TakesNone, Works}
 
 -- the chunks of 512 pages of a region
 abbrev pub chunks_of : ℕ → ℕ
 chunks_of region = (region + 511) / 512
-
--- no object of the page's span is marked
-abbrev pub IsUnmarked : List (ℕ × ℕ) → ℕ → Type 0
-IsUnmarked marks p = (k : ℕ) → has_pair marks p k ≡ false
 
 -- a chunk past the last was claimed, or as many as the region has
 abbrev pub HasPassed : ℕ → List Entry → Type 0

@@ -1,5 +1,5 @@
 -- What the steps of these calls do.
-use Rattle.std.specs.Prelude.{◌≡◌, ◌⊎◌, ℕ, ◌+◌, ◌*◌, ◌-◌, ◌/◌, ◌%◌, ◌^◌, ◌<◌, ◌≤◌, Bool, true, false, List, [], ◌∷◌, ◌++◌, length, min, Option, Some, None, Result, Ok, Err}
+use Rattle.std.specs.Prelude.{◌≡◌, ◌⊎◌, ℕ, ◌+◌, ◌*◌, ◌-◌, ◌/◌, ◌^◌, ◌<◌, ◌≤◌, Bool, true, false, List, [], ◌∷◌, ◌++◌, length, min, Option, Some, None, Result, Ok, Err}
 use Rattle.fallible_list.specs.declared.list.NoMemory.{NoMemory}
 use Rattle.page_bitmap.specs.Counts.{one_if}
 use Rattle.span_state.specs.MarkSet.{MarkSet}
@@ -21,8 +21,10 @@ use Rattle.span_laws.specs.OwnSteps.{after_of, after_said}
 use Rattle.span_set.specs.Sweeps.{SweepsBody, note_of}
 use Rattle.span_set.specs.declared.hand.Hand.{Hand}
 use Rattle.sweep_laws.specs.Counts.{total}
-use Rattle.sweeper.specs.Entries.{is_added, is_finding_at, is_read, pages_given}
-use Rattle.sweeper.specs.Reclaims.{IsUnmarked, SparesMarked}
+use Rattle.span_laws.specs.Logs.{is_finding_at}
+use Rattle.span_laws.specs.Scans.{IsUnmarked, nth_unswept}
+use Rattle.sweeper.specs.Entries.{is_added, is_read, pages_given}
+use Rattle.sweeper.specs.Reclaims.{SparesMarked}
 use Rattle.sweeper.specs.Sweeps.{SweepsSpan}
 use Rattle.sweeper.specs.Work.{IsPlain, TakesNone, Works, note_by}
 use Rattle.sweeper.specs.declared.sweep.Tried.{Tried}
@@ -72,11 +74,7 @@ SweepsNext set old new (Some note) = (s : Sweeping) × (note ≡ note_by (cycle_
     × Works [] (λ said. SweepsSpan old.worker.view.generation s said × (0 < many (is_pop set) said)) old new × (many (is_pop set) new.worker.view.own.log ≤ 2 ^ 32)
 SweepsNext set old new None = Works [] (λ said. SweepsNone said × (0 < many (is_seen_empty set) said)) old new × (new.notes ≡ old.notes)
 
--- the unswept sets in the order in which they are swept: by span class, the full set before the partial one
-abbrev pub nth_unswept : ℕ → ℕ → ℕ
-nth_unswept g i = 4 * (i / 2) + 2 * (1 - i % 2) + (g / 2 + 1) % 2
-
--- the first n of them were seen empty
+-- the first n unswept sets, in the order of sweeping, were seen empty
 abbrev pub SawSome : ℕ → ℕ → List Entry → Type 0
 SawSome g n said = (i : ℕ) → i < n → 0 < many (is_seen_empty (nth_unswept g i)) said
 
@@ -118,10 +116,16 @@ pub record CoversPages (marks : List (ℕ × ℕ)) (from to given : ℕ) (said :
   pub spares : SparesMarked marks said
   pub plain : IsPlain said
 
--- one page; or memory ran out
-abbrev pub ReclaimsPage : ℕ → Hand → Hand → Result ℕ NoMemory → Type 0
-ReclaimsPage page old new (Ok given) = Works [] (CoversPages old.worker.view.marks page (page + 1) given) old new
-ReclaimsPage page old new (Err none) = Works [] (λ said. IsPlain said × SparesMarked old.worker.view.marks said) old new
+-- the span of one page was swept
+abbrev pub ReclaimsPage : ℕ → ℕ → Hand → Hand → Type 0
+ReclaimsPage page given old new = Works [] (CoversPages old.worker.view.marks page (page + 1) given) old new
+
+-- the pages from one to another, up to behind the first whose span was swept, with the pages given back; or all of them, where none was;
+-- or memory ran out
+abbrev pub ReclaimsNext : ℕ → ℕ → Hand → Hand → Result (Option (ℕ × ℕ)) NoMemory → Type 0
+ReclaimsNext from to old new (Ok (Some n)) = (from < n.0) × (n.0 ≤ to) × Works [] (CoversPages old.worker.view.marks from n.0 n.1) old new
+ReclaimsNext from to old new (Ok None) = Works [] (CoversPages old.worker.view.marks from to 0) old new
+ReclaimsNext from to old new (Err none) = Works [] (λ said. IsPlain said × SparesMarked old.worker.view.marks said) old new
 
 -- the pages of a chunk that are in the region
 abbrev pub ReclaimsChunk : ℕ → Hand → Hand → Result ℕ NoMemory → Type 0

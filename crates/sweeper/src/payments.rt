@@ -2,11 +2,11 @@ ghost use Rattle.std.specs.Prelude.{◌≡◌, ◌<◌, ◌≤◌, [], true, Non
 ghost use Rattle.span_set.specs.Sets.{unswept_of};
 ghost use Rattle.span_set.specs.Tallies.{Frees, MayCount};
 ghost use Rattle.sweeper.specs.Pays.{Pays, target_of};
-ghost use Rattle.sweeper.specs.Steps.{ReadsSwept, SweepsSet, SweepsUntil, nth_unswept};
+ghost use Rattle.sweeper.specs.Steps.{ReadsSwept, SweepsSet, SweepsUntil};
 ghost use Rattle.sweeper.specs.Sweeps.{Finishes};
 
 use crate::answers::Paid;
-use crate::sweep::{SETS, number_at, set_at, sweep_next};
+use crate::sweep::{set_at, sweep_next};
 use fallible_list::NoMemory;
 use span_set::{Hand, SetId, Shop};
 
@@ -43,7 +43,6 @@ fn reached(shop: &Shop, hand: &mut Hand, target: u128) -> Option<u64>
 
 // Sweeps the spans of an unswept set that has an entry, until the swept pages, which it answers, reach the target; none where the
 // set was seen empty.
-#[inline(never)]
 fn sweep_entries(
     shop: &Shop,
     hand: &mut Hand,
@@ -73,34 +72,6 @@ fn sweep_entries(
     unreachable!()
 }
 
-// The same of the set at a place in the order of sweeping. An empty one costs a look alone.
-fn sweep_set(
-    shop: &Shop,
-    hand: &mut Hand,
-    index: u32,
-    generation: u64,
-    target: u128,
-) -> Result<Option<u64>, NoMemory>
-    requires here { hand.old.worker.here ≡ true }
-    requires table { hand.old.worker.table ≡ shop.now.shared.now }
-    requires distance { 8192 ≤ shop.now.distance }
-    requires marks { shop.now.marks.now.pairs ≡ hand.old.worker.view.marks }
-    requires unclaimed { hand.old.worker.view.own.claimed ≡ None }
-    requires unpopped { hand.old.worker.view.own.popped ≡ [] }
-    requires index { index < 272 }
-    requires generation { generation ≡ hand.old.worker.view.generation }
-    requires counts { MayCount shop.now.ring.now shop.now.marks.now hand.old.tally }
-    ensures did { SweepsSet (nth_unswept generation index) target hand.old hand.new result }
-    ensures tally { Frees shop.now.marks.now hand.old hand.new }
-{
-    let set = number_at(index, generation);
-    let (head, tail) = shop.shared.look(&mut hand.worker, set);
-    if head == tail {
-        return Ok(None);
-    }
-    sweep_entries(shop, hand, set_at(index), target)
-}
-
 // The same through all unswept sets, where the swept pages don't reach the target before.
 fn sweep_until(shop: &Shop, hand: &mut Hand, target: u128) -> Result<Option<u64>, NoMemory>
     requires here { hand.old.worker.here ≡ true }
@@ -116,11 +87,12 @@ fn sweep_until(shop: &Shop, hand: &mut Hand, target: u128) -> Result<Option<u64>
     if let Some(seen) = reached(shop, hand, target) {
         return Ok(Some(seen));
     }
-    let generation = shop.shared.generation(&mut hand.worker);
-    for index in 0..SETS {
-        if let Some(seen) = sweep_set(shop, hand, index, generation, target)? {
+    let mut next: u32 = 0;
+    while let Some(index) = shop.shared.next_unswept(&mut hand.worker, next) {
+        if let Some(seen) = sweep_entries(shop, hand, set_at(index), target)? {
             return Ok(Some(seen));
         }
+        next = index + 1;
     }
     Ok(None)
 }

@@ -1,14 +1,12 @@
-ghost use Rattle.std.specs.Prelude.{◌≡◌, ℕ, ◌*◌, ◌↔◌, ◌<◌, ◌≤◌, [], false, true, None, OnOk, length};
-ghost use Rattle.span_state.specs.MarkSet.{is_marked};
+ghost use Rattle.std.specs.Prelude.{◌≡◌, ◌*◌, ◌<◌, ◌≤◌, [], true, None, OnOk, length};
 ghost use Rattle.span_set.specs.Tallies.{Frees, MayCount};
 ghost use Rattle.sweeper.specs.Reclaims.{Reclaims};
-ghost use Rattle.sweeper.specs.Steps.{ReclaimsChunk, ReclaimsPage};
+ghost use Rattle.sweeper.specs.Steps.{ReclaimsChunk, ReclaimsNext};
 
 use crate::settle::settle;
 use fallible_list::NoMemory;
 use span_set::{Hand, Shop};
-use span_state::{Body, Marks};
-use span_table::Acquired;
+use span_state::Body;
 
 // The pages of a chunk.
 const CHUNK: u32 = 512;
@@ -20,21 +18,14 @@ fn pages_of(body: &Body) -> u32
     body.pages
 }
 
-// Whether an object of the page's span is marked. Most spans that have a mark have one at their first object, so that is looked at
-// first.
-fn has_mark(marks: &Marks, page: u32) -> bool
-    ensures { (result ≡ false) ↔ ((index : ℕ) → is_marked marks.now page index ≡ false) }
-{
-    if marks.marked(page, 0) {
-        return true;
-    }
-    marks.count(page) > 0
-}
-
-// Sweeps the span of a page where it waits, by its word and without popping it; no object of it is marked. Answers the pages given
-// back. There is room for a note, before and after.
-#[inline(never)]
-fn reclaim_unmarked(shop: &Shop, hand: &mut Hand, page: u32) -> Result<u32, NoMemory>
+// Sweeps the first span that waits and has no marked object, of those at the pages from one to another, without popping it. Answers the
+// page behind its first page and the pages given back; none where there is no such span. There is room for a note, before and after.
+fn reclaim_next(
+    shop: &Shop,
+    hand: &mut Hand,
+    from: u32,
+    to: u32,
+) -> Result<Option<(u32, u32)>, NoMemory>
     requires here { hand.old.worker.here ≡ true }
     requires table { hand.old.worker.table ≡ shop.now.shared.now }
     requires distance { 8192 ≤ shop.now.distance }
@@ -42,49 +33,27 @@ fn reclaim_unmarked(shop: &Shop, hand: &mut Hand, page: u32) -> Result<u32, NoMe
     requires room { length hand.old.notes.items < hand.old.notes.space }
     requires unclaimed { hand.old.worker.view.own.claimed ≡ None }
     requires unpopped { hand.old.worker.view.own.popped ≡ [] }
-    requires page { page < hand.old.worker.view.region }
-    requires unmarked { (index : ℕ) → is_marked shop.now.marks.now page index ≡ false }
+    requires order { from ≤ to }
+    requires pages { to ≤ hand.old.worker.view.region }
     requires counts { MayCount shop.now.ring.now shop.now.marks.now hand.old.tally }
-    ensures did { ReclaimsPage page hand.old hand.new result }
+    ensures did { ReclaimsNext from to hand.old hand.new result }
     ensures room { OnOk result (length hand.new.notes.items < hand.new.notes.space) }
     ensures tally { Frees shop.now.marks.now hand.old hand.new }
 {
-    match shop.shared.acquire(&mut hand.worker, page) {
-        Acquired::Got(body) => {
-            let pages = pages_of(&body);
-            settle(shop, hand, body);
-            hand.reserve_note()?;
-            Ok(pages)
-        }
-        Acquired::Other(_) => Ok(0),
-    }
+    let found = shop
+        .shared
+        .acquire_unmarked(&mut hand.worker, shop.marks, from, to);
+    let Some(body) = found else {
+        return Ok(None);
+    };
+    let behind = body.page + 1;
+    let pages = pages_of(&body);
+    settle(shop, hand, body);
+    hand.reserve_note()?;
+    Ok(Some((behind, pages)))
 }
 
-// The same of any page, where a span with a marked object is left. Most pages are passed over by a look at their word.
-fn reclaim_page(shop: &Shop, hand: &mut Hand, page: u32) -> Result<u32, NoMemory>
-    requires here { hand.old.worker.here ≡ true }
-    requires table { hand.old.worker.table ≡ shop.now.shared.now }
-    requires distance { 8192 ≤ shop.now.distance }
-    requires marks { shop.now.marks.now.pairs ≡ hand.old.worker.view.marks }
-    requires room { length hand.old.notes.items < hand.old.notes.space }
-    requires unclaimed { hand.old.worker.view.own.claimed ≡ None }
-    requires unpopped { hand.old.worker.view.own.popped ≡ [] }
-    requires page { page < hand.old.worker.view.region }
-    requires counts { MayCount shop.now.ring.now shop.now.marks.now hand.old.tally }
-    ensures did { ReclaimsPage page hand.old hand.new result }
-    ensures room { OnOk result (length hand.new.notes.items < hand.new.notes.space) }
-    ensures tally { Frees shop.now.marks.now hand.old hand.new }
-{
-    if shop.shared.passes(&mut hand.worker, page) {
-        return Ok(0);
-    }
-    if has_mark(shop.marks, page) {
-        return Ok(0);
-    }
-    reclaim_unmarked(shop, hand, page)
-}
-
-// The same of the pages of a chunk, in rising order. Room for a note is made before the first page and behind each sweep.
+// The same of all pages of a chunk, in rising order. Room for a note is made before the first page and behind each sweep.
 fn reclaim_chunk(shop: &Shop, hand: &mut Hand, chunk: u32, region: u32) -> Result<u32, NoMemory>
     requires here { hand.old.worker.here ≡ true }
     requires table { hand.old.worker.table ≡ shop.now.shared.now }
@@ -99,11 +68,13 @@ fn reclaim_chunk(shop: &Shop, hand: &mut Hand, chunk: u32, region: u32) -> Resul
     ensures did { ReclaimsChunk chunk hand.old hand.new result }
     ensures tally { Frees shop.now.marks.now hand.old hand.new }
 {
-    let first = CHUNK * chunk;
+    let mut next = CHUNK * chunk;
+    let end = region.min(next + CHUNK);
     let mut given: u32 = 0;
     hand.reserve_note()?;
-    for page in first..region.min(first + CHUNK) {
-        given = given.saturating_add(reclaim_page(shop, hand, page)?);
+    while let Some((behind, pages)) = reclaim_next(shop, hand, next, end)? {
+        given = given.saturating_add(pages);
+        next = behind;
     }
     Ok(given)
 }

@@ -1,7 +1,8 @@
 ghost use Rattle.std.specs.Prelude.{◌≡◌, ◌<◌, ◌≤◌, [], true, None, length};
 ghost use Rattle.span_set.specs.Sets.{unswept_of};
 ghost use Rattle.span_set.specs.Tallies.{Frees, MayCount};
-ghost use Rattle.sweeper.specs.Steps.{SweepsNext, TriesEntry, nth_unswept};
+ghost use Rattle.span_laws.specs.Scans.{nth_unswept};
+ghost use Rattle.sweeper.specs.Steps.{SweepsNext, TriesEntry};
 ghost use Rattle.sweeper.specs.Sweeps.{SweepsOne};
 
 use crate::answers::One;
@@ -10,9 +11,6 @@ use fallible_list::NoMemory;
 use span_set::{Hand, PopBase, SetId, Shop, pop_unswept};
 use span_state::SweepNote;
 use span_table::Acquired;
-
-// How many unswept sets there are: for each span class a full and a partial one.
-pub(crate) const SETS: u32 = 272;
 
 // What one entry of an unswept set gave.
 #[derive(Drop)]
@@ -35,15 +33,6 @@ pub(crate) fn set_at(index: u32) -> SetId
         class: (index / 2) as u8,
         full: index % 2 == 0,
     }
-}
-
-// The number of that set's unswept part at a generation.
-pub(crate) fn number_at(index: u32, generation: u64) -> u32
-    requires { index < 272 }
-    ensures number { result ≡ nth_unswept generation index }
-    ensures low { result < 544 }
-{
-    4 * (index / 2) + 2 * (1 - index % 2) + ((generation / 2 + 1) % 2) as u32
 }
 
 // Pops one entry of an unswept set, and sweeps its span where it waits; else the entry is dropped.
@@ -113,10 +102,12 @@ pub fn sweep_one(shop: &Shop, hand: &mut Hand) -> Result<One, NoMemory>
     ensures tally { Frees shop.now.marks.now hand.old hand.new }
 {
     hand.reserve_note()?;
-    for index in 0..SETS {
+    let mut next: u32 = 0;
+    while let Some(index) = shop.shared.next_unswept(&mut hand.worker, next) {
         if let Some(note) = sweep_next(shop, hand, set_at(index)) {
             return Ok(One::Swept(note));
         }
+        next = index + 1;
     }
     Ok(One::NothingLeft)
 }

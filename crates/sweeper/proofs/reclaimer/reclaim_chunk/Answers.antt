@@ -1,9 +1,10 @@
 use Rattle.std.proofs.Common.{[], ℕ, ◌*◌, subst, arith}
 use Rattle.std.proofs.lemmas.Result.{err_from_is_err_and}
 use Rattle.span_set.proofs.Tallies.{frees-both, frees-none, may-still}
-use Rattle.sweeper.specs.Steps.{CoversPages}
+use Rattle.std.specs.Prelude.{Ok, Some}
+use Rattle.sweeper.specs.Steps.{CoversPages, ReclaimsNext}
 use Rattle.sweeper.specs.Work.{Works}
-use Rattle.sweeper.proofs.Covering.{chunk_more, chunk_none, chunk_stops, chunk_wants}
+use Rattle.sweeper.proofs.Covering.{chunk_done, chunk_more, chunk_none, chunk_stops, chunk_wants}
 use Rattle.sweeper.proofs.reclaimer.reclaim_chunk.Goals as goal
 
 pub returns-in_err-reserve_note-clause-did : goal.returns-in_err-reserve_note-clause-did
@@ -13,32 +14,37 @@ returns-in_err-reserve_note-clause-did c = let f = c.from_residual in let e = c.
 pub returns-in_err-reserve_note-clause-tally : goal.returns-in_err-reserve_note-clause-tally
 returns-in_err-reserve_note-clause-tally c = let e = c.in_err-reserve_note.ensures in frees-none c.args.shop.now.marks.now c.args.hand.now c.reserve_note.new.self e.notes e.tally
 
-pub loop-page-init : goal.loop-page-init
-loop-page-init c = let e = c.in_ok-reserve_note.ensures in record {
+pub loop-behind-init : goal.loop-behind-init
+loop-behind-init c = let e = c.in_ok-reserve_note.ensures in record {
   did = chunk_none c.args.hand.now (512 * c.args.chunk) c.requires.unpopped c.reserve_note.new.self e.worker e.notes;
+  before = (let m = c.min-end.ensures in let k = c.requires.chunk in omega arith);
   room = e.room;
   tally = frees-none c.args.shop.now.marks.now c.args.hand.now c.reserve_note.new.self e.notes e.tally;
 }
 
-pub loop-page-preserved : goal.loop-page-preserved
-loop-page-preserved c = record {
-  did = let l = c.loop-page in
-      chunk_more c.args.hand.now (512 * c.args.chunk) l.page l.given l.hand c.reclaim_page.new.hand l.invariant.did c.in_ok-reclaim_page.field-0 c.saturating_add-given.result c.saturating_add-given.ensures c.in_ok-reclaim_page.ensures.did;
-  room = c.in_ok-reclaim_page.ensures.room;
-  tally = frees-both c.args.shop.now.marks.now c.args.hand.now c.loop-page.hand c.reclaim_page.new.hand c.loop-page.invariant.tally c.reclaim_page.ensures.tally;
+pub loop-behind-preserved : goal.loop-behind-preserved
+loop-behind-preserved c = let l = c.loop-behind in let d : ReclaimsNext l.next c.min-end.result l.hand c.reclaim_next.new.hand (Ok (Some (c.in-Some.behind, c.in-Some.pages))) = (rw c.in-Some.is at c.in_ok-behind.ensures.did) in record {
+  did = chunk_more c.args.hand.now (512 * c.args.chunk) l.next l.given l.hand c.reclaim_next.new.hand l.invariant.did c.in-Some.behind c.in-Some.pages c.saturating_add-given.result c.saturating_add-given.ensures d.2;
+  before = d.1;
+  room = c.in_ok-behind.ensures.room;
+  tally = frees-both c.args.shop.now.marks.now c.args.hand.now l.hand c.reclaim_next.new.hand l.invariant.tally c.reclaim_next.ensures.tally;
 }
 
-pub returns-in_err-reclaim_page-clause-did : goal.returns-in_err-reclaim_page-clause-did
-returns-in_err-reclaim_page-clause-did c = let l = c.loop-page in let f = c.from_residual-in_err-reclaim_page in let p = err_from_is_err_and f.result f.ensures.1 in
-    rw p.1 (chunk_wants c.args.hand.now (512 * c.args.chunk) l.page l.given l.hand c.reclaim_page.new.hand l.invariant.did _ c.args.chunk c.in_err-reclaim_page.ensures.did)
+pub returns-in_err-behind-clause-did : goal.returns-in_err-behind-clause-did
+returns-in_err-behind-clause-did c = let l = c.loop-behind in let f = c.from_residual-in_err-behind in let p = err_from_is_err_and f.result f.ensures.1 in
+    rw p.1 (chunk_wants c.args.hand.now (512 * c.args.chunk) l.next l.given l.hand c.reclaim_next.new.hand l.invariant.did _ c.args.chunk c.min-end.result c.in_err-behind.ensures.did)
 
 pub returns-clause-did : goal.returns-clause-did
-returns-clause-did c = let l = c.loop-page in let h = c.args.hand.now in
-    subst (λ (n : ℕ). Works [] (CoversPages h.worker.view.marks (512 * c.args.chunk) n l.given) h l.hand)
-    (let a = l.auto.page-end in let b = c.loop-page-test.false in let m = c.min-page-end.ensures in let r = c.requires.region in let k = c.requires.chunk in omega arith) l.invariant.did
+returns-clause-did c = let l = c.loop-behind in let h = c.args.hand.now in
+    subst (λ (n : ℕ). Works [] (CoversPages h.worker.view.marks (512 * c.args.chunk) n l.given) h c.reclaim_next.new.hand)
+    (let m = c.min-end.ensures in let r = c.requires.region in omega arith)
+    (chunk_done h (512 * c.args.chunk) l.next l.given l.hand c.reclaim_next.new.hand l.invariant.did c.min-end.result (rw c.in_default.is at c.in_ok-behind.ensures.did))
 
-pub reclaim_page-requires-clause-counts : goal.reclaim_page-requires-clause-counts
-reclaim_page-requires-clause-counts c = may-still c.args.shop.now.marks.now c.args.shop.now.ring.now c.args.hand.now c.loop-page.hand c.requires.counts c.loop-page.invariant.tally
+pub returns-clause-tally : goal.returns-clause-tally
+returns-clause-tally c = frees-both c.args.shop.now.marks.now c.args.hand.now c.loop-behind.hand c.reclaim_next.new.hand c.loop-behind.invariant.tally c.reclaim_next.ensures.tally
 
-pub returns-in_err-reclaim_page-clause-tally : goal.returns-in_err-reclaim_page-clause-tally
-returns-in_err-reclaim_page-clause-tally c = frees-both c.args.shop.now.marks.now c.args.hand.now c.loop-page.hand c.reclaim_page.new.hand c.loop-page.invariant.tally c.reclaim_page.ensures.tally
+pub reclaim_next-requires-clause-counts : goal.reclaim_next-requires-clause-counts
+reclaim_next-requires-clause-counts c = may-still c.args.shop.now.marks.now c.args.shop.now.ring.now c.args.hand.now c.loop-behind.hand c.requires.counts c.loop-behind.invariant.tally
+
+pub returns-in_err-behind-clause-tally : goal.returns-in_err-behind-clause-tally
+returns-in_err-behind-clause-tally c = frees-both c.args.shop.now.marks.now c.args.hand.now c.loop-behind.hand c.reclaim_next.new.hand c.loop-behind.invariant.tally c.reclaim_next.ensures.tally

@@ -1,8 +1,16 @@
-use Rattle.std.proofs.Common.{[], length, ◌<◌, ◌*◌}
+use Rattle.std.proofs.Common.{[], length, ◌<◌, ◌≤◌, ◌*◌, ◌-◌}
 use Rattle.span_set.specs.Tallies.{Frees}
 use Rattle.sweeper.specs.Steps.{CoversPages}
 use Rattle.sweeper.specs.Work.{Works}
 use Rattle.sweeper.proofs.reclaimer.reclaim_chunk.Given as goal
 
-abbrev pub invariant-loop-page : goal.invariant-loop-page
-invariant-loop-page l = record { did : Works [] (CoversPages l.fn.hand.worker.view.marks (512 * l.chunk) l.page l.given) l.fn.hand l.hand; room : length l.hand.notes.items < l.hand.notes.space; tally : Frees l.shop.marks.now l.fn.hand l.hand }
+abbrev pub invariant-loop-behind : goal.invariant-loop-behind
+invariant-loop-behind l = record {
+  did : Works [] (CoversPages l.fn.hand.worker.view.marks (512 * l.chunk) l.next l.given) l.fn.hand l.hand;
+  before : l.next ≤ l.end;
+  room : length l.hand.notes.items < l.hand.notes.space;
+  tally : Frees l.shop.marks.now l.fn.hand l.hand;
+}
+
+abbrev pub decreases-loop-behind : goal.decreases-loop-behind
+decreases-loop-behind l = l.end - l.next
