@@ -1,3 +1,5 @@
 pub mod Seen
+mod Counted
 mod FirstFound
+mod Zeros
 mod Tried

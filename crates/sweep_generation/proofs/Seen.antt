@@ -1,6 +1,6 @@
 -- A core as its view shows it: what the view shows, and what the core keeps, after one of its parts changed.
-use Rattle.std.proofs.Common.{◌≡◌, ℕ, ◌+◌, ◌<◌, ◌≤◌, List, length, get_or, set, map, refl, sym, ap, subst, ◌∙◌, ◌^◌, ◌⊎◌, inl, inr, [], ◌∷◌, ◌++◌, take, drop, Option, arith}
-use Rattle.std.proofs.lemmas.List.{length-map, get_or-map}
+use Rattle.std.proofs.Common.{◌≡◌, ℕ, ◌+◌, ◌<◌, ◌≤◌, true, List, length, get_or, set, map, refl, sym, ap, subst, ◌∙◌, ◌^◌, ◌⊎◌, inl, inr, [], ◌∷◌, ◌++◌, take, drop, Option, arith}
+use Rattle.std.proofs.lemmas.List.{length-map, map-set, get_or-map}
 use Rattle.std.proofs.Math.ListN.{length-set}
 use Rattle.std.proofs.Math.Nat.{le_trans, le_of_eq}
 use Rattle.std.proofs.Math.Seq.{map-set_same}
@@ -16,9 +16,11 @@ use Rattle.sweep_generation.specs.declared.state.Core.TheInside.{Inside}
 use Rattle.sweep_lists.specs.declared.hand.CoreHand.{CoreHand}
 use Rattle.sweep_lists.specs.declared.set.CoreSet.{CoreSet}
 use Rattle.sweep_laws.specs.State.{CoreState, HandState, LifeState, SetState}
-use Rattle.sweep_laws.specs.Reading.{no_hand, no_set, hand_of, set_of}
+use Rattle.sweep_laws.specs.Reading.{no_hand, no_set, hand_of, set_of, is_swept_set}
 use Rattle.sweep_lists.specs.Views.{hand_view, set_view, HandRoom}
 use Rattle.sweep_generation.specs.Kept.{core_view, IsKept}
+use Rattle.sweep_generation.specs.Unpopped.{count_unpopped}
+use Rattle.sweep_generation.proofs.Counted.{swept_alike, count_same}
 use Rattle.sweep_lists.proofs.Maps.{map-changed}
 
 -- what a hand that changed keeps of its room
@@ -70,6 +72,15 @@ module _ (c : Inside) (now : CoreState) (seen : core_view c ≡ now) where
       → map set_view (set c.sets.items s new) ≡ set (map set_view c.sets.items) s (f (get_or (map set_view c.sets.items) s no_set))
   set-changed s low old new f at is = map-changed set_view c.sets.items s old no_set new f (low-set s low) (is ∙ ap (λ h. f (set_view h)) at)
 
+  -- a change of a swept set leaves the count
+  pub swept-same : (s : ℕ) → is_swept_set now.generation s ≡ true → (new : CoreSet)
+      → IsKept c → c.unpopped ≡ count_unpopped c.generation 0 (map set_view (set c.sets.items s new))
+  swept-same s swept new k =
+      let at : s ≡ 0 + s = omega arith in
+      let g = ap (λ (st : CoreState). is_swept_set st.generation s) seen ∙ swept in
+      k.unpopped ∙ sym (count_same c.generation 0 s s (map set_view c.sets.items) (set_view new) at (swept_alike c.generation s (set_view new) (get_or (map set_view c.sets.items) s no_set) g))
+      ∙ ap (λ (xs : List SetState). count_unpopped c.generation 0 xs) (sym (map-set set_view c.sets.items s new))
+
 pub kept-hand : (c : Inside) (w : ℕ) → w < length c.hands.items → (old new : CoreHand) → old ≡ get_or c.hands.items w old → KeepsRoom old new
     → IsKept c → IsKept (record c { hands = with_item c.hands w new })
 kept-hand c w low old new at keeps k = record {
@@ -82,11 +93,13 @@ kept-hand c w low old new at keeps k = record {
   hands_room = All-set (HandRoom (length c.words.items) c.room) c.hands.items w new
       (keeps (length c.words.items) c.room (subst (λ (h : CoreHand). HandRoom (length c.words.items) c.room h) (sym at) (k.hands_room w old low))) k.hands_room;
   sets_room = k.sets_room;
+  unpopped = k.unpopped;
 }
 
 pub kept-set : (c : Inside) (s : ℕ) → s < length c.sets.items → (old new : CoreSet) → old ≡ get_or c.sets.items s old → new.cells ≡ old.cells
-    → IsKept c → IsKept (record c { sets = with_item c.sets s new })
-kept-set c s low old new at same k = record {
+    → (n : ℕ) → n ≡ count_unpopped c.generation 0 (map set_view (set c.sets.items s new))
+    → IsKept c → IsKept (record c { sets = with_item c.sets s new; unpopped = n })
+kept-set c s low old new at same n counted k = record {
   generation = k.generation;
   pages = k.pages;
   owners = k.owners;
@@ -96,6 +109,7 @@ kept-set c s low old new at same k = record {
   hands_room = k.hands_room;
   sets_room = All-set (λ (x : CoreSet). c.room ≤ x.cells.space) c.sets.items s new
       (subst (λ (x : Roomy ℕ). c.room ≤ x.space) (sym same) (subst (λ (x : CoreSet). c.room ≤ x.cells.space) (sym at) (k.sets_room s old low))) k.sets_room;
+  unpopped = counted;
 }
 
 take-append : {X : Type 0} (xs ys : List X) → take (length xs) (xs ++ ys) ≡ xs
@@ -124,6 +138,7 @@ kept-owners c ws k = record {
   lives_table = k.lives_table;
   hands_room = k.hands_room;
   sets_room = k.sets_room;
+  unpopped = k.unpopped;
 }
 
 -- the lives have at least the room that they had, and the table
@@ -137,14 +152,17 @@ kept-lives c lives grows same k = record {
   lives_table = same ∙ k.lives_table;
   hands_room = k.hands_room;
   sets_room = k.sets_room;
+  unpopped = k.unpopped;
 }
 
 -- the lives have the room and the table that they had
 pub kept-same-room : (c : Inside) (lives : Tabled LifeState) (items : List LifeState) → lives ≡ record c.lives { items = items } → IsKept c → IsKept (record c { lives = lives })
 kept-same-room c lives items is k = kept-lives c lives (le_of_eq (sym (ap (λ (x : Tabled LifeState). x.space) is))) (ap (λ (x : Tabled LifeState). x.reach) is) k
 
-pub kept-sets : (c : Inside) (ws : List CoreSet) → All (λ (x : CoreSet). c.room ≤ x.cells.space) ws → IsKept c → IsKept (record c { sets = with_items c.sets ws })
-kept-sets c ws room k = record {
+pub kept-sets : (c : Inside) (ws : List CoreSet) → All (λ (x : CoreSet). c.room ≤ x.cells.space) ws
+    → (n : ℕ) → n ≡ count_unpopped c.generation 0 (map set_view (with_items c.sets ws).items)
+    → IsKept c → IsKept (record c { sets = with_items c.sets ws; unpopped = n })
+kept-sets c ws room n counted k = record {
   generation = k.generation;
   pages = k.pages;
   owners = k.owners;
@@ -154,6 +172,7 @@ kept-sets c ws room k = record {
   hands_room = k.hands_room;
   sets_room = All-take (λ (x : CoreSet). c.room ≤ x.cells.space) c.sets.len _
       (All-append (λ (x : CoreSet). c.room ≤ x.cells.space) ws _ room (All-drop (λ (x : CoreSet). c.room ≤ x.cells.space) (length ws) c.sets.items k.sets_room));
+  unpopped = counted;
 }
 
 pub kept-word : (c : Inside) (page word : ℕ) → IsKept c → IsKept (record c { words = with_item c.words page word })
@@ -166,6 +185,7 @@ kept-word c page word k = record {
   lives_table = k.lives_table ∙ sym (length-set c.words.items page word);
   hands_room = subst (λ (n : ℕ). All (HandRoom n c.room) c.hands.items) (sym (length-set c.words.items page word)) k.hands_room;
   sets_room = k.sets_room;
+  unpopped = k.unpopped;
 }
 
 pub kept-spare : (c : Inside) (spare : ℕ) → IsKept c → IsKept (record c { spare = spare })
@@ -178,10 +198,13 @@ kept-spare c spare k = record {
   lives_table = k.lives_table;
   hands_room = k.hands_room;
   sets_room = k.sets_room;
+  unpopped = k.unpopped;
 }
 
-pub kept-generation : (c : Inside) (g : ℕ) → g + 3 < 2 ^ 64 → IsKept c → IsKept (record c { generation = g })
-kept-generation c g low k = record {
+pub kept-generation : (c : Inside) (g : ℕ) → g + 3 < 2 ^ 64
+    → (n : ℕ) → n ≡ count_unpopped g 0 (map set_view c.sets.items)
+    → IsKept c → IsKept (record c { generation = g; unpopped = n })
+kept-generation c g low n counted k = record {
   generation = low;
   pages = k.pages;
   owners = k.owners;
@@ -190,6 +213,7 @@ kept-generation c g low k = record {
   lives_table = k.lives_table;
   hands_room = k.hands_room;
   sets_room = k.sets_room;
+  unpopped = counted;
 }
 
 pub kept-hands : (c : Inside) (ws : List CoreHand) → All (HandRoom (length c.words.items) c.room) ws → IsKept c → IsKept (record c { hands = with_items c.hands ws })
@@ -202,6 +226,7 @@ kept-hands c ws room k = record {
   lives_table = k.lives_table;
   hands_room = All-take (HandRoom (length c.words.items) c.room) c.hands.len _ (All-append (HandRoom (length c.words.items) c.room) ws _ room (All-drop (HandRoom (length c.words.items) c.room) (length ws) c.hands.items k.hands_room));
   sets_room = k.sets_room;
+  unpopped = k.unpopped;
 }
 
 -- hands with nothing in them have tables of the pages

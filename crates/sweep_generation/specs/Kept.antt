@@ -4,6 +4,7 @@ use Rattle.std.specs.List.{All}
 use Rattle.sweep_generation.specs.declared.state.Core.TheInside.{Inside}
 use Rattle.sweep_laws.specs.State.{CoreState}
 use Rattle.sweep_lists.specs.Views.{hand_view, set_view, HandRoom}
+use Rattle.sweep_generation.specs.Unpopped.{count_unpopped}
 
 abbrev pub core_view : Inside → CoreState
 core_view c = record {
@@ -18,7 +19,8 @@ core_view c = record {
   prepared = c.spare;
 }
 
--- sizes fit the numbers that name their entries, all that has room has it, and all tables by page reach over the region
+-- sizes fit the numbers that name their entries, all that has room has it, all tables by page reach over the region, and the
+-- sets that are to be popped yet are counted
 pub record IsKept (c : Inside) : Type 0 where
   pub generation : c.generation + 3 < 2 ^ 64
   pub pages : length c.words.items < 2 ^ 32
@@ -28,3 +30,4 @@ pub record IsKept (c : Inside) : Type 0 where
   pub lives_table : c.lives.reach ≡ length c.words.items
   pub hands_room : All (HandRoom (length c.words.items) c.room) c.hands.items
   pub sets_room : All (λ s. c.room ≤ s.cells.space) c.sets.items
+  pub unpopped : c.unpopped ≡ count_unpopped c.generation 0 (map set_view c.sets.items)

@@ -1,4 +1,5 @@
 pub mod Kept
+pub mod Unpopped
 pub use Rattle.sweep_lists.specs.Room
 pub use Rattle.sweep_lists.specs.Views
 pub use Rattle.sweep_laws.specs.State

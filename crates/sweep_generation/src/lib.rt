@@ -22,6 +22,7 @@ mod tries;
 mod tries_life;
 mod tries_next;
 mod tries_sets;
+mod unpopped;
 mod words;
 
 pub use run::run_moves;

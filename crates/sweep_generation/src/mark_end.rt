@@ -11,6 +11,7 @@ ghost use Rattle.sweep_laws.specs.Step.{Steps};
 
 use crate::state::Core;
 use crate::tries_next::is_swept;
+use crate::unpopped::count_unpopped;
 use sweep_laws::{Move, Reply, StepFault};
 use sweep_lists::{CoreHand, CoreSet};
 
@@ -43,5 +44,6 @@ pub(crate) fn next(core: &mut Core, marks: &[(u32, u32)]) -> Result<Reply, StepF
     empty_unswept(&mut core.sets, core.generation);
     forget_swept(&mut core.hands);
     core.generation += 2;
+    core.unpopped = count_unpopped(&core.sets, core.generation);
     Ok(Reply::Done)
 }

@@ -46,7 +46,9 @@ pub(crate) fn pop_unswept(core: &mut Core, worker: u32, set: u32) -> Result<Repl
 {
     core.try_pop_unswept(worker, set)?;
     let base = core.head_base(set);
+    let unpopped = core.unpopped_after_pop(set);
     core.hands[worker as usize].pop_entry(base)?;
     core.sets[set as usize].raise_head();
+    core.unpopped = unpopped;
     Ok(Reply::Base(base))
 }

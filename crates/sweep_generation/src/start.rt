@@ -10,6 +10,7 @@ ghost use Rattle.sweep_laws.specs.Tidy.{IsTidy, TailsFit};
 ghost use Rattle.sweep_lists.specs.Views.{hand_view, set_view, HandRoom};
 
 use crate::state::Core;
+use crate::unpopped::count_unpopped;
 use fallible_list::{List, NoMemory};
 use std::alloc::{AllocError, Global};
 use sweep_lists::{CoreHand, CoreSet, Lives, Spare};
@@ -97,16 +98,19 @@ impl Core {
         let words = no_words(alloc, pages)?;
         let owners = no_owners(alloc, pages)?;
         let hands = empty_hands(alloc, workers, pages)?;
+        let sets = sets.into_vec();
+        let unpopped = count_unpopped(&sets, generation);
         Ok(Core {
             generation,
             words,
             owners,
             lives: Lives::with_table(alloc, pages)?,
-            sets: sets.into_vec(),
+            sets,
             lock: None,
             hands,
             room: 0,
             spare: Spare::new(alloc),
+            unpopped,
             alloc,
         })
     }

@@ -1,5 +1,6 @@
 //! The state of span ownership. Its fields are written by the files of the moves alone, each only what its move's definition
-//! names, and by `start.rt`; callers read them through the methods below. The type keeps that tables and lists agree.
+//! names, and by `start.rt`; callers read them through the methods below. The type keeps that tables and lists agree, and that
+//! `unpopped` is the count that it names.
 
 ghost use Rattle.std.specs.Prelude.{◌≡◌, map};
 ghost use Rattle.sweep_lists.specs.Views.{hand_view, life_view, set_view};
@@ -21,6 +22,8 @@ pub struct Core {
     // How many entries the lives, each set's cells and each list of each hand have room for at least.
     pub(crate) room: usize,
     pub(crate) spare: Spare,
+    // How many unswept sets have head and tail apart.
+    pub(crate) unpopped: usize,
     pub(crate) alloc: Global,
 }
 

@@ -1,7 +1,7 @@
 //! The needs of a mark end, in their order. They read, and write nothing.
 
-ghost use Rattle.std.specs.Prelude.{◌≡◌, ◌==◌, ◌<◌, ◌+◌, ◌^◌, OnOk, true, not, map, option_map, option_copied, [], ◌∷◌};
-ghost use Rattle.std.specs.List.{find, position};
+ghost use Rattle.std.specs.Prelude.{◌≡◌, ◌==◌, ◌<◌, ◌+◌, ◌^◌, OnOk, true, not, length, map, option_map, option_copied, [], ◌∷◌};
+ghost use Rattle.std.specs.List.{find, list_all, position};
 ghost use Rattle.std.specs.Option.{is_some};
 ghost use Rattle.sweep_laws.specs.Lists.{has, rises, is_before as stands_before};
 ghost use Rattle.sweep_laws.specs.Reading.{is_settled, is_swept_set};
@@ -73,13 +73,57 @@ fn claim_index(hand: &CoreHand) -> Option<u32>
     }
 }
 
-// The first word that is not settled.
-fn find_unsettled(words: &[u64], generation: u64) -> Option<u64>
+// Whether eight words are all 0.
+fn are_zero(eight: &[u64]) -> bool
+    requires { length eight.now ≡ 8 }
+    ensures { result ≡ list_all (λ word. word == 0) eight.now }
+{
+    let bits = eight[0]
+        | eight[1]
+        | eight[2]
+        | eight[3]
+        | eight[4]
+        | eight[5]
+        | eight[6]
+        | eight[7];
+    bits == 0
+}
+
+// The first of some words that is not settled, looked for word by word.
+fn search_unsettled(words: &[u64], generation: u64) -> Option<u64>
     requires { generation + 3 < 2 ^ 64 }
     ensures { result ≡ find (λ word. not (is_settled generation word)) words.now }
 {
     let cached = generation + 3;
     words.iter().copied().find(|&word| !(word == 0 || word == generation || word == cached))
+}
+
+// The first of eight words that is not settled. Nearly all words are 0, so eight that all are take one comparison.
+fn find_in_eight(eight: &[u64], generation: u64) -> Option<u64>
+    requires low { generation + 3 < 2 ^ 64 }
+    requires eight { length eight.now ≡ 8 }
+    ensures { result ≡ find (λ word. not (is_settled generation word)) eight.now }
+{
+    if are_zero(eight) {
+        None
+    } else {
+        search_unsettled(eight, generation)
+    }
+}
+
+// The first word that is not settled.
+fn find_unsettled(words: &[u64], generation: u64) -> Option<u64>
+    requires { generation + 3 < 2 ^ 64 }
+    ensures { result ≡ find (λ word. not (is_settled generation word)) words.now }
+{
+    let whole = words.len() / 8;
+    for k in 0..whole {
+        let found = find_in_eight(&words[8 * k..8 * k + 8], generation);
+        if found.is_some() {
+            return found;
+        }
+    }
+    search_unsettled(&words[8 * whole..], generation)
 }
 
 // The first unswept set with head and tail apart.
@@ -135,6 +179,9 @@ impl Core {
     fn try_popped(&self) -> Result<(), StepFault>
         ensures { Tried (sets_are_popped self.now ∷ []) result }
     {
+        if self.all_popped() {
+            return Ok(());
+        }
         match find_unpopped(&self.sets, self.generation) {
             Some(set) => demand(false, Found::HeadTail(set.head, set.tail)),
             None => Ok(()),

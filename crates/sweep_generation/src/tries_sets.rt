@@ -1,6 +1,6 @@
 //! The needs of pushes and pops, in their order. They read, and write nothing.
 
-ghost use Rattle.std.specs.Prelude.{◌≡◌, ◌<◌, OnOk, IfOk, length, Some, [], ◌∷◌};
+ghost use Rattle.std.specs.Prelude.{◌≡◌, ◌<◌, OnOk, IfOk, length, Some, [], ◌∷◌, true, false};
 ghost use Rattle.sweep_laws.specs.Reading.{hand_of, set_of, cell_of, is_swept_set as is_of_swept_part};
 ghost use Rattle.sweep_laws.specs.NeedsOfRange.{set_in_range};
 ghost use Rattle.sweep_laws.specs.NeedsOfSets.{part_is_swept, part_is_unswept, life_begins, class_is_of_set, has_entries, tail_has_room, cell_is_filled};
@@ -29,13 +29,15 @@ impl Core {
     }
 
     fn try_swept(&self, set: u32) -> Result<(), StepFault>
-        ensures { Tried (part_is_swept self.now set ∷ []) result }
+        ensures part { OnOk result (is_of_swept_part self.now.generation set ≡ true) }
+        ensures tried { Tried (part_is_swept self.now set ∷ []) result }
     {
         demand(self.is_swept_set(set), Found::Range)
     }
 
     fn try_unswept(&self, set: u32) -> Result<(), StepFault>
-        ensures { Tried (part_is_unswept self.now set ∷ []) result }
+        ensures part { OnOk result (is_of_swept_part self.now.generation set ≡ false) }
+        ensures tried { Tried (part_is_unswept self.now set ∷ []) result }
     {
         demand(!self.is_swept_set(set), Found::Range)
     }
@@ -108,6 +110,7 @@ impl Core {
     pub(crate) fn try_claim(&self, worker: u32, set: u32, page: u32) -> Result<(), StepFault>
         ensures worker { OnOk result (worker < length self.now.hands) }
         ensures set { OnOk result (set < length self.now.sets) }
+        ensures part { OnOk result (is_of_swept_part self.now.generation set ≡ true) }
         ensures tail { OnOk result ((set_of self.now set).tail < 4294967295) }
         ensures tried { Tried (claim_needs self.now worker set page) result }
     {
@@ -138,6 +141,7 @@ impl Core {
     pub(crate) fn try_pop_swept(&self, worker: u32, set: u32) -> Result<(), StepFault>
         ensures worker { OnOk result (worker < length self.now.hands) }
         ensures set { OnOk result (set < length self.now.sets) }
+        ensures part { OnOk result (is_of_swept_part self.now.generation set ≡ true) }
         ensures head { OnOk result ((set_of self.now set).head < (set_of self.now set).tail) }
         ensures tried { Tried (pop_swept_needs self.now worker set) result }
     {
@@ -151,6 +155,7 @@ impl Core {
     pub(crate) fn try_pop_unswept(&self, worker: u32, set: u32) -> Result<(), StepFault>
         ensures worker { OnOk result (worker < length self.now.hands) }
         ensures set { OnOk result (set < length self.now.sets) }
+        ensures part { OnOk result (is_of_swept_part self.now.generation set ≡ false) }
         ensures head { OnOk result ((set_of self.now set).head < (set_of self.now set).tail) }
         ensures tried { Tried (pop_unswept_needs self.now worker set) result }
     {

@@ -1,11 +1,12 @@
-use Rattle.std.proofs.Common.{◌∙◌, ◌≤◌, ◌+◌, List, length, ap, refl, sym, subst, arith}
+use Rattle.std.proofs.Common.{◌∙◌, ◌≤◌, ◌+◌, List, length, map, ap, refl, sym, subst, arith}
 use Rattle.std.specs.List.{All}
 use Rattle.std.proofs.lemmas.Result.{err_from_is_err_and}
 use Rattle.sweep_lists.specs.declared.set.CoreSet.{CoreSet}
 use Rattle.sweep_lists.specs.declared.hand.CoreHand.{CoreHand}
 use Rattle.sweep_laws.specs.State.{CoreState, LifeState}
 use Rattle.sweep_laws.specs.ChangesOfLives.{marks_at}
-use Rattle.sweep_lists.specs.Views.{HandRoom}
+use Rattle.sweep_lists.specs.Views.{set_view, HandRoom}
+use Rattle.sweep_generation.specs.Unpopped.{count_unpopped}
 use Rattle.sweep_generation.proofs.Seen.{items-whole, kept-same-room, kept-sets, kept-hands, kept-generation}
 use Rattle.sweep_laws.specs.declared.moves.Move.TheVariants.{Next}
 use Rattle.sweep_generation.proofs.Tried.{refused}
@@ -21,10 +22,11 @@ pub invariant_of-core-2 : goal.invariant_of-core-2
 invariant_of-core-2 c =
     let low = c.in_ok-try_next.ensures.low in
     let is = ap (λ (s : CoreState). s.generation) c.core.view_is in
+    let counted = c.count_unpopped-core-inside.ensures ∙ ap (λ (xs : List CoreSet). count_unpopped (c.core.inside.generation + 2) 0 (map set_view xs)) c.deref.ensures.value in
     let k1 = kept-same-room _ c.mark.new.self _ c.in_ok-mark.ensures.ok c.core.invariant in
-    let k2 = kept-sets _ c.empty_unswept.new.sets (c.empty_unswept.ensures.room c.core.inside.room (subst (λ (xs : List CoreSet). All (λ (x : CoreSet). c.core.inside.room ≤ x.cells.space) xs) (sym c.deref_mut.ensures.value) c.core.invariant.sets_room)) k1 in
+    let k2 = kept-sets _ c.empty_unswept.new.sets (c.empty_unswept.ensures.room c.core.inside.room (subst (λ (xs : List CoreSet). All (λ (x : CoreSet). c.core.inside.room ≤ x.cells.space) xs) (sym c.deref_mut.ensures.value) c.core.invariant.sets_room)) _ refl k1 in
     let k3 = kept-hands _ c.forget_swept.new.hands (c.forget_swept.ensures.room (length c.core.inside.words.items) c.core.inside.room (subst (λ (xs : List CoreHand). All (HandRoom (length c.core.inside.words.items) c.core.inside.room) xs) (sym c.deref_mut-2.ensures.value) c.core.invariant.hands_room)) k2 in
-    kept-generation _ (c.core.inside.generation + 2) (omega (arith, low, is)) k3
+    kept-generation _ (c.core.inside.generation + 2) (omega (arith, low, is)) c.count_unpopped-core-inside.result counted k3
 
 pub returns : goal.returns
 returns c = (

@@ -3,7 +3,7 @@ use Rattle.std.specs.Vec.{with_item}
 use Rattle.sweep_laws.specs.State.{CoreState, SetState}
 use Rattle.sweep_laws.specs.ChangesOfHands.{claim_cell}
 use Rattle.sweep_laws.specs.ChangesOfSets.{raise_tail}
-use Rattle.sweep_generation.proofs.Seen.{set-changed, set-is, kept-set, hand-changed, kept-hand, low-hand, low-set}
+use Rattle.sweep_generation.proofs.Seen.{set-changed, set-is, kept-set, swept-same, hand-changed, kept-hand, low-hand, low-set}
 use Rattle.sweep_laws.specs.declared.moves.Reply.TheVariants.{Index}
 use Rattle.sweep_generation.specs.Kept.{core_view}
 use Rattle.sweep_laws.specs.declared.moves.Move.TheVariants.{Claim}
@@ -16,7 +16,8 @@ raise_tail-index-requires c = rw (← ap (λ (s : SetState). s.tail) (set-is c.c
 
 pub invariant_of-core : goal.invariant_of-core
 invariant_of-core c =
-    let k = kept-set c.core.inside c.args.set (low-set c.core.inside c.args.core.now c.core.view_is c.args.set c.in_ok-try_claim.ensures.set) c.index_mut.result.now c.raise_tail-index.new.self c.index_mut.ensures.value c.raise_tail-index.ensures.room c.core.invariant in
+    let k = kept-set c.core.inside c.args.set (low-set c.core.inside c.args.core.now c.core.view_is c.args.set c.in_ok-try_claim.ensures.set) c.index_mut.result.now c.raise_tail-index.new.self c.index_mut.ensures.value c.raise_tail-index.ensures.room
+    _ (swept-same c.core.inside c.args.core.now c.core.view_is c.args.set c.in_ok-try_claim.ensures.part c.raise_tail-index.new.self c.core.invariant) c.core.invariant in
     kept-hand (record c.core.inside { sets = with_item c.core.inside.sets c.args.set c.raise_tail-index.new.self }) c.args.worker (low-hand c.core.inside c.args.core.now c.core.view_is c.args.worker c.in_ok-try_claim.ensures.worker) c.index_mut-2.result.now _ c.index_mut-2.ensures.value c.claim_cell.ensures.room k
 
 pub returns : goal.returns

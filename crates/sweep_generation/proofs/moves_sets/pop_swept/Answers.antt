@@ -1,6 +1,6 @@
 use Rattle.std.proofs.Common.{◌∙◌, length, sym, ap, refl, arith}
 use Rattle.std.proofs.lemmas.Result.{err_from_is_err_and}
-use Rattle.sweep_generation.proofs.Seen.{hand-changed, hand-same, hand-is, room-at, low-hand, low-set, kept-hand, kept-set, set-changed, set-is}
+use Rattle.sweep_generation.proofs.Seen.{hand-changed, hand-same, hand-is, room-at, low-hand, low-set, kept-hand, kept-set, swept-same, set-changed, set-is}
 use Rattle.sweep_laws.specs.State.{CoreState, HandState, SetState}
 use Rattle.sweep_laws.specs.ChangesOfHands.{hold}
 use Rattle.sweep_laws.specs.ChangesOfSets.{raise_head, head_base}
@@ -28,6 +28,7 @@ raise_head-requires c =
 pub invariant_of-core-2 : goal.invariant_of-core-2
 invariant_of-core-2 c =
     kept-set _ c.args.set (low-set c.core.inside c.args.core.now c.core.view_is c.args.set c.in_ok-try_pop_swept.ensures.set) c.index_mut-2.result.now c.raise_head.new.self c.index_mut-2.ensures.value c.raise_head.ensures.room
+    _ (swept-same c.core.inside c.args.core.now c.core.view_is c.args.set c.in_ok-try_pop_swept.ensures.part c.raise_head.new.self c.core.invariant)
     (kept-hand c.core.inside c.args.worker (low-hand c.core.inside c.args.core.now c.core.view_is c.args.worker c.in_ok-try_pop_swept.ensures.worker) c.index_mut.result.now _ c.index_mut.ensures.value c.hold.ensures.room c.core.invariant)
 
 pub returns : goal.returns

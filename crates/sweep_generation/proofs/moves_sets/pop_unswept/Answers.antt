@@ -1,9 +1,12 @@
-use Rattle.std.proofs.Common.{◌∙◌, length, sym, ap, refl, arith}
+use Rattle.std.proofs.Common.{◌∙◌, List, length, sym, ap, refl, arith}
+use Rattle.std.specs.Prelude.{slice_set}
 use Rattle.std.proofs.lemmas.Result.{err_from_is_err_and}
 use Rattle.sweep_generation.proofs.Seen.{hand-changed, hand-same, hand-is, room-at, low-hand, low-set, kept-hand, kept-set, set-changed, set-is}
 use Rattle.sweep_laws.specs.State.{CoreState, HandState, SetState}
 use Rattle.sweep_laws.specs.ChangesOfHands.{pop_entry}
 use Rattle.sweep_laws.specs.ChangesOfSets.{raise_head, head_base}
+use Rattle.sweep_laws.specs.Reading.{set_of}
+use Rattle.sweep_generation.specs.Unpopped.{count_unpopped}
 use Rattle.sweep_laws.specs.declared.moves.Reply.TheVariants.{Base}
 use Rattle.sweep_laws.specs.declared.moves.Move.TheVariants.{PopUnswept}
 use Rattle.sweep_generation.proofs.Tried.{refused}
@@ -27,7 +30,11 @@ raise_head-requires c =
 
 pub invariant_of-core-2 : goal.invariant_of-core-2
 invariant_of-core-2 c =
-    kept-set _ c.args.set (low-set c.core.inside c.args.core.now c.core.view_is c.args.set c.in_ok-try_pop_unswept.ensures.set) c.index_mut-2.result.now c.raise_head.new.self c.index_mut-2.ensures.value c.raise_head.ensures.room
+    let f = set-changed c.core.inside c.args.core.now c.core.view_is c.args.set c.in_ok-try_pop_unswept.ensures.set c.index_mut-2.result.now c.raise_head.new.self raise_head c.index_mut-2.ensures.value c.raise_head.ensures.view in
+    let counted = c.unpopped_after_pop-unpopped.ensures
+    ∙ ap (λ (s : CoreState). count_unpopped s.generation 0 (slice_set s.sets c.args.set (raise_head (set_of s c.args.set)))) (sym c.core.view_is)
+    ∙ ap (λ (xs : List SetState). count_unpopped c.core.inside.generation 0 xs) (sym f) in
+    kept-set _ c.args.set (low-set c.core.inside c.args.core.now c.core.view_is c.args.set c.in_ok-try_pop_unswept.ensures.set) c.index_mut-2.result.now c.raise_head.new.self c.index_mut-2.ensures.value c.raise_head.ensures.room _ counted
     (kept-hand c.core.inside c.args.worker (low-hand c.core.inside c.args.core.now c.core.view_is c.args.worker c.in_ok-try_pop_unswept.ensures.worker) c.index_mut.result.now _ c.index_mut.ensures.value c.pop_entry.ensures.room c.core.invariant)
 
 pub returns : goal.returns
