@@ -71,13 +71,16 @@ fn is_empty(core: &Core, set: u32) -> bool
     s.head == s.tail
 }
 
-// The place of the first unswept set with an entry, from a place on.
+// The place of the first unswept set with an entry, from a place on. Where none has one, the core's count tells it at once.
 fn first_unswept(core: &Core, from: u32) -> Option<u32>
     requires { length core.now.sets ≡ 544 }
     ensures { MatchOption result
         (AreEmpty core.now from 272)
         (λ i. (from ≤ i) × (i < 272) × ((set_of core.now (nth_unswept core.now.generation i)).head ≢ (set_of core.now (nth_unswept core.now.generation i)).tail) × AreEmpty core.now from i) }
 {
+    if core.all_popped() {
+        return None;
+    }
     let generation = core.generation();
     for index in from..SETS {
         if !is_empty(core, number_at(index, generation)) {
