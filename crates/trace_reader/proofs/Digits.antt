@@ -1,9 +1,12 @@
 -- Numbers at the front of bytes.
-use Rattle.std.proofs.Common.{◌≡◌, ◌⊎◌, ℕ, zero, suc, ◌+◌, ◌-◌, ◌*◌, ◌/◌, ◌%◌, ◌^◌, ◌<◌, ◌≤◌, List, [], ◌∷◌, ◌++◌, length, decimal, Option, Some, None, MatchOption, Bor, refl, sym, ap, subst, ◌∙◌, inl, inr, append_assoc, arith, length-append}
+use Rattle.std.proofs.Common.{◌≡◌, ◌⊎◌, ℕ, zero, suc, ◌+◌, ◌-◌, ◌*◌, ◌/◌, ◌%◌, ◌^◌, ◌<◌, ◌≤◌, List, [], ◌∷◌, ◌++◌, length, decimal, Option, Some, None, MatchOption, Bor, refl, sym, ap, subst, ◌∙◌, inl, inr, append_assoc, arith, length-append, drop, take}
 use Rattle.std.specs.List.{AllByRecursion}
 use Rattle.std.specs.Str.Parse.{digits_value, digits_value_after}
 use Rattle.std.specs.Char.{digit_value}
 use Rattle.std.proofs.lemmas.Fmt.{decimal_step_wide, decimal_digit, decimal_by_steps_wide, decimal_is_IsNumeral_wide}
+use Rattle.std.proofs.lemmas.List.{drop_all, drop_more, take_rest}
+use Rattle.std.proofs.Math.ListN.{get_or}
+use Rattle.std.proofs.Math.Nat.{pow-le-pow_right, pow-succ'}
 use Rattle.trace_reader.specs.Words.{IsDigit, IsField, NoDigitFirst}
 
 pub AllByRecursion-push : {X : Type 0} (P : X → Type 0) (xs : List X) (x : X) → AllByRecursion P xs → P x → AllByRecursion P (xs ++ x ∷ [])
@@ -24,6 +27,41 @@ goes_on front rest after n byte positive small digit split so_far =
     let back : 48 + (byte - 48) ≡ byte = omega arith in
     let pushed : decimal (10 * n + (byte - 48)) ≡ decimal n ++ byte ∷ [] = decimal_push n (byte - 48) positive small (omega arith) ∙ ap (λ (b : ℕ). decimal n ++ b ∷ []) back in
     so_far ∙ rw (pushed, split, append_assoc) refl
+
+-- the same where the rest begins at a place of the bytes
+pub goes_on_at : (front bytes : List ℕ) (at n : ℕ) → 1 ≤ n → n < 10 ^ 20 → at < length bytes → IsDigit (get_or bytes at 0) → front ≡ decimal n ++ drop at bytes
+    → front ≡ decimal (10 * n + (get_or bytes at 0 - 48)) ++ drop (at + 1) bytes
+goes_on_at front bytes at n positive small inside digit so_far = goes_on front (drop at bytes) (drop (at + 1) bytes) n (get_or bytes at 0) positive small digit (drop_more bytes at 0 inside) so_far
+
+pub no_digit_at : (bytes : List ℕ) (at : ℕ) → at < length bytes → (get_or bytes at 0 < 48) ⊎ (57 < get_or bytes at 0) → NoDigitFirst (drop at bytes)
+no_digit_at bytes at inside none = subst NoDigitFirst (sym (drop_more bytes at 0 inside)) none
+
+pub nothing_at : (bytes : List ℕ) (at : ℕ) → length bytes ≤ at → NoDigitFirst (drop at bytes)
+nothing_at bytes at over = subst NoDigitFirst (sym (drop_all at bytes over)) tt
+
+-- the first digit of a number at a place
+pub begins_at : (bytes : List ℕ) (start : ℕ) → start < length bytes → IsDigit (get_or bytes start 0) → drop start bytes ≡ decimal (get_or bytes start 0 - 48) ++ drop (start + 1) bytes
+begins_at bytes start inside digit =
+    let back : get_or bytes start 0 ≡ 48 + (get_or bytes start 0 - 48) = omega (arith, digit.0) in
+    let one = decimal_digit (get_or bytes start 0 - 48) (omega (arith, digit.1)) in
+    rw one (drop_more bytes start 0 inside ∙ ap (λ (b : ℕ). b ∷ drop (start + 1) bytes) back)
+
+-- what a digit more makes of a number of so many digits
+pub below_more : (n digit from at : ℕ) → n < 10 ^ (at - from) → digit < 10 → from < at → 10 * n + digit < 10 ^ (at + 1 - from)
+below_more n digit from at small low begun =
+    let one_more : at + 1 - from ≡ suc (at - from) = omega arith in
+    let ten : 10 ^ (at + 1 - from) ≡ 10 * 10 ^ (at - from) = ap (λ (k : ℕ). 10 ^ k) one_more ∙ pow-succ' 10 (at - from) in
+    omega (arith, ten, small, low)
+
+-- so many digits at most
+pub below_most : (n k most : ℕ) → n < 10 ^ k → k ≤ most → n < 10 ^ most
+below_most n k most small few =
+    let more = pow-le-pow_right {n = 10} (omega arith) {i = k} {j = most} few in
+    omega (arith, small, more)
+
+-- the number ends at that place
+pub ends_at : (front bytes : List ℕ) (at n : ℕ) → front ≡ decimal n ++ drop at bytes → n < 10 ^ 20 → NoDigitFirst (drop at bytes) → IsField [] front n (take (length bytes - at) (drop at bytes))
+ends_at front bytes at n so_far small ended = subst (IsField [] front n) (sym (take_rest bytes at)) (record { spelled = so_far; small = small; ended = ended })
 
 -- all bytes of a number are digits
 pub digits_decimal : (n : ℕ) → n < 10 ^ 64 → AllByRecursion IsDigit (decimal n)

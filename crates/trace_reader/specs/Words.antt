@@ -1,5 +1,5 @@
 -- What stands at the front of bytes.
-use Rattle.std.specs.Prelude.{◌≡◌, ℕ, ◌^◌, ◌<◌, ◌≤◌, ◌⊎◌, List, [], ◌∷◌, ◌++◌, decimal}
+use Rattle.std.specs.Prelude.{◌≡◌, ℕ, ◌^◌, ◌<◌, ◌≤◌, ◌⊎◌, List, [], ◌∷◌, ◌++◌, decimal, drop, length}
 
 abbrev pub IsDigit : ℕ → Type 0
 IsDigit byte = (48 ≤ byte) × (byte ≤ 57)
@@ -14,3 +14,9 @@ pub record IsField (text bytes : List ℕ) (n : ℕ) (rest : List ℕ) : Type 0 
   pub spelled : bytes ≡ text ++ (decimal n ++ rest)
   pub small : n < 10 ^ 20
   pub ended : NoDigitFirst rest
+
+-- the digits of a number stand at one place of the bytes, up to another one; a number here has up to 19
+pub record IsNumberAt (bytes : List ℕ) (start n end : ℕ) : Type 0 where
+  pub spelled : drop start bytes ≡ decimal n ++ drop end bytes
+  pub small : n < 10 ^ 19
+  pub inside : end ≤ length bytes

@@ -1,19 +1,21 @@
 //! A trace while its lines are read: what those behind the header said so far.
 
-ghost use Rattle.std.specs.Prelude.{◌≡◌, ◌≢◌, ◌<◌, ◌≤◌, [], ◌∷◌, ◌++◌, List as Items, ℕ, None, Some, IfErr, IfOk, MatchOption, OnOk};
+ghost use Rattle.std.specs.Prelude.{◌≡◌, ◌≢◌, ◌<◌, ◌≤◌, [], ◌∷◌, ◌++◌, List as Items, ℕ, None, Some, IfErr, IfOk, MatchBool, MatchOption, OnOk};
 ghost use Rattle.std.specs.List.{AllByRecursion, flat_map};
 ghost use Rattle.trace_reader.specs.declared.statement.Statement.{Statement as Said};
 ghost use Rattle.trace_reader.specs.declared.statement.Statement.TheVariants.{Alloc, End, Gc, Mark};
 ghost use Rattle.trace_reader.specs.Spelling.{cycle_statements};
+ghost use Rattle.trace_reader.specs.Says.{said};
 ghost use Rattle.trace_reader.specs.Refusal.{said_fault};
 ghost use Rattle.trace_reader.specs.Told.{IsOfTrace, NoReadFault};
-ghost use Rattle.trace_reader.specs.Draft.{AreEnded, HasEnd, ended, kept_of, told_of};
+ghost use Rattle.trace_reader.specs.Draft.{AreEnded, HasEnd, ended, ended_at, kept_of, told_of};
 ghost use Rattle.trace_reader.specs.Follows.{Follows, IsStart, Took};
 
 use crate::fault::{TraceFault, Which};
 use crate::limits::{limited_distance, limited_event, limited_span};
 use crate::live::first_dead;
-use crate::statement::{AllocForm, Statement};
+use crate::short::{short_alloc, short_mark};
+use crate::statement::{AllocForm, Statement, statement_of};
 use crate::trace::{Cycle, Event, MarkEnd, Span};
 use edge_io::{List, NoMemory};
 use std::alloc::Global;
@@ -72,8 +74,51 @@ impl Draft {
         }
     }
 
-    /// Takes what the next line says, if it is not the last one, or tells what is wrong with it.
-    pub(crate) fn take(
+    /// Takes the next line, if it is not the last one, or tells what is wrong with it. The answer is whether it is the last
+    /// one, which changes nothing. Nearly all lines are `a` and `m` lines with short numbers: they are tried first.
+    #[inline(always)]
+    pub(crate) fn take_line(
+        &mut self,
+        alloc: Global,
+        line: &[u8],
+        number: u64,
+    ) -> Result<bool, TraceFault>
+        ensures took { IfOk result (λ last. MatchBool last
+            ((said line.now ≡ Some End) × (self.new ≡ self.old))
+            (MatchOption (said line.now) ⊥ (λ s. Took self.old self.new s))) }
+        ensures no_read { NoReadFault result }
+        ensures fault { IfErr result (λ fault. IsOfTrace fault → (past : Items Said) → Follows past self.old → said_fault number past (said line.now) ≡ Some fault) }
+    {
+        if let Some(form) = short_alloc(line) {
+            self.take_event(alloc, form, number)?;
+            return Ok(false);
+        }
+        if let Some((lo, hi)) = short_mark(line) {
+            self.take_mark(u128::from(lo), u128::from(hi), number)?;
+            return Ok(false);
+        }
+        self.take_any_line(alloc, line, number)
+    }
+
+    // The same of a line of any form. It stands apart, since a whole statement is large to return.
+    #[inline(never)]
+    fn take_any_line(&mut self, alloc: Global, line: &[u8], number: u64) -> Result<bool, TraceFault>
+        ensures took { IfOk result (λ last. MatchBool last
+            ((said line.now ≡ Some End) × (self.new ≡ self.old))
+            (MatchOption (said line.now) ⊥ (λ s. Took self.old self.new s))) }
+        ensures no_read { NoReadFault result }
+        ensures fault { IfErr result (λ fault. IsOfTrace fault → (past : Items Said) → Follows past self.old → said_fault number past (said line.now) ≡ Some fault) }
+    {
+        let said = statement_of(line);
+        if matches!(said, Some(Statement::End)) {
+            return Ok(true);
+        }
+        self.take(alloc, said, number)?;
+        Ok(false)
+    }
+
+    // Takes what the next line says, if it is not the last one, or tells what is wrong with it.
+    fn take(
         &mut self,
         alloc: Global,
         said: Option<Statement>,
@@ -108,6 +153,7 @@ impl Draft {
     }
 
     // Takes an `a` line.
+    #[inline(always)]
     fn take_event(&mut self, alloc: Global, form: AllocForm, number: u64) -> Result<(), TraceFault>
         ensures took { OnOk result (Took self.old self.new (Alloc form)) }
         ensures no_read { NoReadFault result }
@@ -147,6 +193,7 @@ impl Draft {
     }
 
     // Takes an `m` line.
+    #[inline(always)]
     fn take_mark(&mut self, lo: u128, hi: u128, number: u64) -> Result<(), TraceFault>
         ensures took { OnOk result (Took self.old self.new (Mark lo hi)) }
         ensures no_read { NoReadFault result }
@@ -173,12 +220,21 @@ impl Draft {
     }
 
     // Ends the cycle whose marks could go on, if there is one.
+    #[inline(always)]
     fn end_cycle(&mut self, alloc: Global) -> Result<(), NoMemory>
         ensures { OnOk result (self.new ≡ ended self.old) }
     {
         let Some(distance) = self.distance else {
             return Ok(());
         };
+        self.end_cycle_at(alloc, distance)
+    }
+
+    // Ends the cycle with a mark end of this distance.
+    #[inline(never)]
+    fn end_cycle_at(&mut self, alloc: Global, distance: u64) -> Result<(), NoMemory>
+        ensures { OnOk result (self.new ≡ ended_at self.old (Some distance)) }
+    {
         let events = replace(&mut self.events, List::new(alloc));
         let marks = replace(&mut self.marks, List::new(alloc));
         let mark = Some(MarkEnd { distance, marks });

@@ -8,6 +8,7 @@ mod limits;
 mod live;
 mod print;
 mod reader;
+mod short;
 mod spelling;
 mod statement;
 mod trace;

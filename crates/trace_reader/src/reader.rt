@@ -21,7 +21,6 @@ ghost use Rattle.trace_reader.specs.Read.{IsAhead, Reads};
 use crate::draft::Draft;
 use crate::fault::{TraceFault, Which};
 use crate::limits::{header_of, is_title};
-use crate::statement::{Statement, statement_of};
 use crate::trace::{Cycle, Header, Trace};
 use edge_io::{Lines, List, Seen, Source};
 use std::alloc::Global;
@@ -119,15 +118,14 @@ fn read_cycles<S: Source>(
     let mut draft = Draft::new(alloc, procs);
     loop {
         read_line(lines)?;
-        let said = statement_of(lines.line());
-        if matches!(said, Some(Statement::End)) {
+        if draft.take_line(alloc, lines.line(), lines.number())? {
             return Ok(draft.finish(alloc)?);
         }
-        draft.take(alloc, said, lines.number())?;
     }
 }
 
 // Reads a whole line.
+#[inline(always)]
 fn read_line<S: Source>(lines: &mut Lines<'_, S>) -> Result<(), TraceFault>
     ensures same_source { IsSameSource lines.old lines.new }
     ensures line { OnOk result (Takes S.left lines.old lines.new (line_of lines.new ++ 10 ∷ [])) }

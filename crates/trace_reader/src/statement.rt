@@ -43,9 +43,7 @@ pub(crate) struct AllocForm {
     pub stack: u128,
 }
 
-/// What the line says, if it has the form of any line. Most lines are `a` lines. They are tried first, and inlined, since
-/// a statement is large to return.
-#[inline(always)]
+/// What the line says, if it has the form of any line.
 pub(crate) fn statement_of(line: &[u8]) -> Option<Statement>
     ensures { result ≡ said line.now }
 {
@@ -79,7 +77,6 @@ fn other_statement(line: &[u8]) -> Option<Statement>
 }
 
 // The numbers of an `a` line.
-#[inline(always)]
 fn alloc_form(line: &[u8]) -> Option<AllocForm>
     ensures { MatchOption result ((form : AllocForm) → ¬ Says line.now (Alloc form)) (λ form. Says line.now (Alloc form)) }
 {

@@ -1,13 +1,13 @@
-use Rattle.std.proofs.Common.{◌≡◌, Some, Err, arith, rules, sym, ap, ◌∙◌, subst}
+use Rattle.std.proofs.Common.{Err, arith, rules, refl, sym, ap, ◌∙◌, subst}
 use Rattle.std.proofs.lemmas.Result.{err_from_is_err_and}
-use Rattle.trace_reader.specs.declared.statement.Statement.TheVariants.{End}
 use Rattle.trace_reader.specs.Good.{AreGood}
 use Rattle.trace_reader.proofs.Judging.{onto}
-use Rattle.trace_reader.specs.Draft.{told_of}
+use Rattle.trace_reader.specs.Draft.{HasEnd, told_of}
+use Rattle.std.specs.List.{AllByRecursion}
+use Rattle.trace_reader.specs.declared.draft.Draft.{Draft}
 use Rattle.trace_reader.proofs.Reading.{tells_memory}
 use Rattle.trace_reader.proofs.Body.{all_ended, fault_on, fault_told, read_last, read_more, read_nothing, room_falls, stands_on}
 use Rattle.trace_reader.proofs.reader.read_cycles.Goals as goal
-use Rattle.trace_reader.proofs.reader.read_cycles.Goals.{in-Some-End, in_default, in_default-2}
 
 pub loop-draft-init : goal.loop-draft-init
 loop-draft-init g c = record {
@@ -33,20 +33,24 @@ returns-in_err-finish-clause-refused g c = λ past start.
 pub returns-in_err-finish-clause-stands : goal.returns-in_err-finish-clause-stands
 returns-in_err-finish-clause-stands g c = stands_on g.S.Source.left c.args.lines.now c.loop-draft.lines c.read_line.new.lines c.args.procs c.loop-draft.draft c.loop-draft.invariant.read c.read_line.ensures.stands
 
-pub returns-then-matches-clause-lines : goal.returns-then-matches-clause-lines
-returns-then-matches-clause-lines g c =
-    let end : c.statement_of-said.result ≡ Some End = elim c.match-matches.branch [ in-Some-End w ↦ first_of (search rules, grind arith, cc) | in_default w ↦ absurd cc | in_default-2 w ↦ absurd cc ] in
+pub returns-then-branch-clause-lines : goal.returns-then-branch-clause-lines
+returns-then-branch-clause-lines g c =
+    let last = rw c.if-branch.true at c.in_ok-take_line.ensures.took in
     read_last g.S.Source.left c.args.lines.now c.loop-draft.lines c.read_line.new.lines c.args.procs c.loop-draft.draft c.line.result.now _ c.loop-draft.invariant.read c.in_ok-read_line.ensures.line c.read_line.ensures.number
-    c.line.ensures (sym c.statement_of-said.ensures ∙ end) c.in_ok-finish.ensures.told
+    c.line.ensures last.0 (c.in_ok-finish.ensures.told ∙ ap told_of last.1)
 
-pub returns-then-matches-clause-ended : goal.returns-then-matches-clause-ended
-returns-then-matches-clause-ended g c = c.in_ok-finish.ensures.ended (all_ended g.S.Source.left c.args.lines.now c.loop-draft.lines c.args.procs c.loop-draft.draft c.loop-draft.invariant.read)
+pub returns-then-branch-clause-ended : goal.returns-then-branch-clause-ended
+returns-then-branch-clause-ended g c =
+    let last = rw c.if-branch.true at c.in_ok-take_line.ensures.took in
+    c.in_ok-finish.ensures.ended (subst (λ (d : Draft). AllByRecursion HasEnd d.cycles) (sym last.1) (all_ended g.S.Source.left c.args.lines.now c.loop-draft.lines c.args.procs c.loop-draft.draft c.loop-draft.invariant.read))
 
-pub returns-then-matches-clause-good : goal.returns-then-matches-clause-good
-returns-then-matches-clause-good g c = λ past start. subst (AreGood past) (sym c.in_ok-finish.ensures.told) (c.loop-draft.invariant.read.good past start)
+pub returns-then-branch-clause-good : goal.returns-then-branch-clause-good
+returns-then-branch-clause-good g c = λ past start.
+    let last = rw c.if-branch.true at c.in_ok-take_line.ensures.took in
+    subst (AreGood past) (sym (c.in_ok-finish.ensures.told ∙ ap told_of last.1)) (c.loop-draft.invariant.read.good past start)
 
-pub returns-then-matches-clause-stands : goal.returns-then-matches-clause-stands
-returns-then-matches-clause-stands g c = stands_on g.S.Source.left c.args.lines.now c.loop-draft.lines c.read_line.new.lines c.args.procs c.loop-draft.draft c.loop-draft.invariant.read c.read_line.ensures.stands
+pub returns-then-branch-clause-stands : goal.returns-then-branch-clause-stands
+returns-then-branch-clause-stands g c = stands_on g.S.Source.left c.args.lines.now c.loop-draft.lines c.read_line.new.lines c.args.procs c.loop-draft.draft c.loop-draft.invariant.read c.read_line.ensures.stands
 
 pub loop-draft-smaller : goal.loop-draft-smaller
 loop-draft-smaller g c = room_falls g.S.Source.left c.loop-draft.lines c.read_line.new.lines c.in_ok-read_line.ensures.line
@@ -54,17 +58,17 @@ loop-draft-smaller g c = room_falls g.S.Source.left c.loop-draft.lines c.read_li
 pub loop-draft-preserved : goal.loop-draft-preserved
 loop-draft-preserved g c = record {
   same_source = search rules;
-  read = read_more g.S.Source.left c.args.lines.now c.loop-draft.lines c.read_line.new.lines c.args.procs c.loop-draft.draft c.take.new.self c.line.result.now c.statement_of-said.result c.loop-draft.invariant.read
-      c.in_ok-read_line.ensures.line c.in_ok-read_line.ensures.is_line c.read_line.ensures.number c.line.ensures c.statement_of-said.ensures c.in_ok-take.ensures.took;
+  read = read_more g.S.Source.left c.args.lines.now c.loop-draft.lines c.read_line.new.lines c.args.procs c.loop-draft.draft c.take_line.new.self c.line.result.now _ c.loop-draft.invariant.read
+      c.in_ok-read_line.ensures.line c.in_ok-read_line.ensures.is_line c.read_line.ensures.number c.line.ensures refl (rw c.if-branch.false at c.in_ok-take_line.ensures.took);
   faults = search rules;
 }
 
-pub returns-in_err-take-clause-refused : goal.returns-in_err-take-clause-refused
-returns-in_err-take-clause-refused g c = λ past start.
-    let p = err_from_is_err_and c.from_residual-in_err-take.result c.from_residual-in_err-take.ensures.1 in
-    rw (p.1, p.2) (fault_told g.S.Source.left c.args.lines.now c.loop-draft.lines c.read_line.new.lines c.args.procs c.loop-draft.draft c.line.result.now c.number.result c.statement_of-said.result past _ c.loop-draft.invariant.read start
-    c.in_ok-read_line.ensures.line c.in_ok-read_line.ensures.is_line c.read_line.ensures.number c.line.ensures c.statement_of-said.ensures c.number.ensures
-    (λ e. c.in_err-take.ensures.no_read (ap Err e)) c.in_err-take.ensures.fault)
+pub returns-in_err-take_line-clause-refused : goal.returns-in_err-take_line-clause-refused
+returns-in_err-take_line-clause-refused g c = λ past start.
+    let p = err_from_is_err_and c.from_residual-in_err-take_line.result c.from_residual-in_err-take_line.ensures.1 in
+    rw (p.1, p.2) (fault_told g.S.Source.left c.args.lines.now c.loop-draft.lines c.read_line.new.lines c.args.procs c.loop-draft.draft c.line.result.now c.number.result _ past _ c.loop-draft.invariant.read start
+    c.in_ok-read_line.ensures.line c.in_ok-read_line.ensures.is_line c.read_line.ensures.number c.line.ensures refl c.number.ensures
+    (λ e. c.in_err-take_line.ensures.no_read (ap Err e)) c.in_err-take_line.ensures.fault)
 
-pub returns-in_err-take-clause-stands : goal.returns-in_err-take-clause-stands
-returns-in_err-take-clause-stands g c = stands_on g.S.Source.left c.args.lines.now c.loop-draft.lines c.read_line.new.lines c.args.procs c.loop-draft.draft c.loop-draft.invariant.read c.read_line.ensures.stands
+pub returns-in_err-take_line-clause-stands : goal.returns-in_err-take_line-clause-stands
+returns-in_err-take_line-clause-stands g c = stands_on g.S.Source.left c.args.lines.now c.loop-draft.lines c.read_line.new.lines c.args.procs c.loop-draft.draft c.loop-draft.invariant.read c.read_line.ensures.stands
