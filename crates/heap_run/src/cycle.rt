@@ -173,12 +173,13 @@ pub(crate) fn end_cycle(
 }
 
 /// All of a cycle: the processors answer their events, the background sweepers sweep, the scavenger scavenges, and the cycle ends.
+/// The queues are let go before what came of them is merged, so that both are never in memory.
 pub(crate) fn run_workers<G: Gate>(
     alloc: Global,
     shop: &Shop,
     driver: &mut Hand,
     procs: &mut Vec<Proc>,
-    queues: &Queues,
+    queues: Queues,
     background: u32,
     gate: &G,
 ) -> Result<Given, NoMemory>
@@ -187,24 +188,24 @@ pub(crate) fn run_workers<G: Gate>(
     requires distance { 8192 ≤ shop.now.distance }
     requires marks { shop.now.marks.now.pairs ≡ driver.old.worker.view.marks }
     requires parts { length driver.old.worker.view.parts ≡ 70 }
-    requires count { vec_len queues.now.events ≡ vec_len procs.old }
-    requires buckets { vec_len queues.now.buckets ≡ vec_len procs.old }
-    requires numbered { AreNumbered shop.now.ring.now.buckets queues.now.events.items queues.now.buckets.items }
+    requires count { vec_len queues.events ≡ vec_len procs.old }
+    requires buckets { vec_len queues.buckets ≡ vec_len procs.old }
+    requires numbered { AreNumbered shop.now.ring.now.buckets queues.events.items queues.buckets.items }
     requires few { vec_len procs.old ≤ 64 }
     requires background { background ≤ 4 }
-    requires sizes { (w : ℕ) → All (λ e. e.size ≤ 2 ^ 40) (slice_index_or queues.now.events.items w []) }
+    requires sizes { (w : ℕ) → All (λ e. e.size ≤ 2 ^ 40) (slice_index_or queues.events.items w []) }
     requires driving { IsDriving driver.old.worker procs.old.items driver.old }
     requires collecting { IsCollecting driver.old }
     requires counts { MayCount shop.now.ring.now shop.now.marks.now driver.old.tally }
     requires drives { driver.old.tally.view.drives ≡ true }
     requires quiet { (w : ℕ) → SaysNone (part_at driver.old.worker w).log }
-    ensures ran { IfOk result (λ given. HasWorked queues.now.events.items given.answers.items driver.old procs.new.items driver.new) }
+    ensures ran { IfOk result (λ given. HasWorked queues.events.items given.answers.items driver.old procs.new.items driver.new) }
     ensures procs { OnOk result (vec_len procs.new ≡ vec_len procs.old) }
     ensures size { IfOk result (λ given. (vec_len given.answers ≡ vec_len procs.old) × (vec_len given.sampled ≡ vec_len procs.old)) }
-    ensures sampled { IfOk result (λ given. HaveSampled queues.now.events.items given.answers.items given.sampled.items procs.old.items procs.new.items) }
-    ensures counts { IfOk result (λ given. Counts shop.now.marks.now (all_counts (vec_len procs.old) given.sampled.items queues.now.buckets.items) driver.old driver.new) }
+    ensures sampled { IfOk result (λ given. HaveSampled queues.events.items given.answers.items given.sampled.items procs.old.items procs.new.items) }
+    ensures counts { IfOk result (λ given. Counts shop.now.marks.now (all_counts (vec_len procs.old) given.sampled.items queues.buckets.items) driver.old driver.new) }
 {
-    let given = run_processors(alloc, shop, driver, procs, queues, gate)?;
+    let given = run_processors(alloc, shop, driver, procs, &queues, gate)?;
     run_sweepers(alloc, shop, driver, background, gate)?;
     run_scavenger(alloc, shop, driver, gate)?;
     end_cycle(alloc, shop, driver, procs)?;

@@ -183,7 +183,7 @@ impl Run {
             &shop,
             &mut self.driver,
             &mut self.procs,
-            &queues,
+            queues,
             background,
             gate,
         )?;

@@ -179,23 +179,45 @@ pub(crate) fn popped_and_reset(
     Ok((popped, pop_unswept(shared, w, LARGE)))
 }
 
-// Whether the reclaimer's look passes over the span's page behind a mark end, where it waits, and over the free page behind the span.
-pub(crate) fn passed(
+// Behind a mark end that marks the first of two large spans alone: the page of the span that is acquired, of those without a mark, where
+// none is before the second span.
+pub(crate) fn unmarked(
     alloc: Global,
     shared: &mut Shared,
     w: &mut Worker,
-) -> Result<(bool, bool), NoMemory>
+) -> Result<Option<u32>, NoMemory>
     requires free { IsFreeDriver shared.old w.old }
     requires generation { w.old.view.generation ≡ 4 }
 {
-    let page = place(shared, w, 5)?;
+    let first = place(shared, w, 5)?;
+    let second = place(shared, w, 5)?;
+    let mut marks = Marks::empty(alloc);
+    marks.add(first, 0)?;
+    turn(shared, w, &marks)?;
+    let region = shared.region(w);
+    if second >= region {
+        return Err(NoMemory);
+    }
+    let None = shared.acquire_unmarked(w, &marks, 0, second) else {
+        return Err(NoMemory);
+    };
+    match shared.acquire_unmarked(w, &marks, 0, region) {
+        Some(body) => Ok(Some(body.page)),
+        None => Ok(None),
+    }
+}
+
+// Behind a mark end, where one full large span waits: the place of the first unswept set with an entry, and of the next one behind it.
+pub(crate) fn unswept(
+    alloc: Global,
+    shared: &mut Shared,
+    w: &mut Worker,
+) -> Result<(Option<u32>, Option<u32>), NoMemory>
+    requires free { IsFreeDriver shared.old w.old }
+    requires generation { w.old.view.generation ≡ 4 }
+{
+    place(shared, w, 5)?;
     turn(shared, w, &Marks::empty(alloc))?;
-    if page >= shared.region(w) - 5 {
-        return Err(NoMemory);
-    }
-    let waiting = shared.passes(w, page);
-    if waiting {
-        return Err(NoMemory);
-    }
-    Ok((waiting, shared.passes(w, page + 5)))
+    let first = shared.next_unswept(w, 0);
+    Ok((first, shared.next_unswept(w, 1)))
 }

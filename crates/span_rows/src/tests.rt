@@ -1,4 +1,4 @@
-use crate::next_cycle::{Returned, given, passed, popped_and_reset, stale, swept};
+use crate::next_cycle::{Returned, given, popped_and_reset, stale, swept, unmarked, unswept};
 use crate::table::{Popped, Table};
 use crate::turns::start;
 use fallible_list::NoMemory;
@@ -480,14 +480,37 @@ fn unswept_sets_are_reset_once_they_are_empty(rt: HostRuntime) -> Result<(), Fai
     Ok(())
 }
 
-fn passed_at_start(alloc: Global) -> Result<(bool, bool), NoMemory> {
+fn unmarked_at_start(alloc: Global) -> Result<Option<u32>, NoMemory> {
     let (mut shared, mut driver) = start(alloc, 1, 512)?;
-    passed(alloc, &mut shared, &mut driver)
+    unmarked(alloc, &mut shared, &mut driver)
 }
 
-// The span has the word 4 at generation 6, and waits. The page behind it has the word 0.
+// The first span, at page 0, has a mark and is left. The second one, at page 5, waits and has none.
 #[test]
-fn a_page_is_passed_over_where_its_span_does_not_wait(rt: HostRuntime) -> Result<(), Fail> {
-    assert_eq!(rt; passed_at_start(rt.alloc())?, (false, true));
+fn the_next_span_without_a_mark_is_acquired(rt: HostRuntime) -> Result<(), Fail> {
+    assert_eq!(rt; unmarked_at_start(rt.alloc())?, Some(5));
+    Ok(())
+}
+
+fn unswept_at_start(alloc: Global) -> Result<(Option<u32>, Option<u32>), NoMemory> {
+    let (mut shared, mut driver) = start(alloc, 1, 512)?;
+    unswept(alloc, &mut shared, &mut driver)
+}
+
+// The full set of class 0 comes first, and has the one entry.
+#[test]
+fn the_next_unswept_set_is_the_first_with_an_entry(rt: HostRuntime) -> Result<(), Fail> {
+    assert_eq!(rt; unswept_at_start(rt.alloc())?, (Some(0), None));
+    Ok(())
+}
+
+fn none_at_start(alloc: Global) -> Result<Option<u32>, NoMemory> {
+    let (shared, mut driver) = start(alloc, 1, 512)?;
+    Ok(shared.next_unswept(&mut driver, 0))
+}
+
+#[test]
+fn no_unswept_set_has_an_entry_in_the_first_cycle(rt: HostRuntime) -> Result<(), Fail> {
+    assert_eq!(rt; none_at_start(rt.alloc())?, None);
     Ok(())
 }
