@@ -1,5 +1,6 @@
 -- Objects, where they sit, and in which cycles they live.
 use Rattle.std.specs.Prelude.{◌≡◌, ℕ, ◌+◌, ◌-◌, ◌*◌, ◌<◌, ◌≤◌, Bool, true, false, ◌&&◌, ◌||◌, ◌==◌, not, List, ◌⊎◌}
+use Rattle.size_classes.specs.Classes.{region_start}
 use Rattle.page_bitmap.specs.declared.line.Line.{Line}
 use Rattle.page_alloc.specs.Lists.{In, count}
 use Rattle.page_alloc.specs.Lives.{Life, open_lives}
@@ -32,7 +33,7 @@ live marked c o = is_placed o.answer && (o.cycle == c || marked c o.id)
 
 -- The address at which a life begins.
 abbrev pub start_of : Life → ℕ
-start_of life = 0xc000000000 + 8192 * life.page
+start_of life = region_start + 8192 * life.page
 
 -- An object sits at index k of a life where the life is a span such as the object needs, and k is the slot at its
 -- address.

@@ -1,6 +1,7 @@
 -- Where an object lies, by its size and its address.
 use Rattle.std.specs.Prelude.{◌≡◌, ℕ, ◌+◌, ◌*◌, ◌^◌, ◌<◌, ◌≤◌, Bool, List, Some}
 use Rattle.std.specs.List.{slice_get}
+use Rattle.size_classes.specs.Classes.{region_start}
 use Rattle.trace_reader.specs.declared.trace.Trace.{Trace}
 use Rattle.trace_reader.specs.declared.trace.Event.{Event}
 use Rattle.trace_reader.specs.Limits.{events_of}
@@ -11,7 +12,7 @@ use Rattle.cycle_history.specs.Needs.{Need, IsNeed}
 -- At the address begins slot k of a span that is such as the need asks and begins at the page.
 pub record IsSlot (need : Need) (address page k : ℕ) : Type 0 where
   pub index : k < need.count
-  pub start : address ≡ 0xc000000000 + 8192 * page + need.slot * k
+  pub start : address ≡ region_start + 8192 * page + need.slot * k
 
 -- At the address begins slot k of a span of the size that begins at the page.
 pub record IsPlace (size address page k : ℕ) : Type 0 where

@@ -1,5 +1,6 @@
 -- What a worker's log tells of the answers to its processor's events. Events, answers and logs have the newest first.
 use Rattle.std.specs.Prelude.{◌≡◌, ℕ, ◌+◌, ◌*◌, ◌<◌, ◌≤◌, List, [], ◌∷◌}
+use Rattle.size_classes.specs.Classes.{region_start}
 use Rattle.page_bitmap.specs.declared.line.Line.TheVariants.{Take}
 use Rattle.page_alloc.specs.Lists.{In}
 use Rattle.trace_reader.specs.declared.trace.Event.{Event}
@@ -21,7 +22,7 @@ pub record IsPlacedBy (e : Event) (address : ℕ) (taken : List Taking) (a : Pla
   pub need : Need
   pub fits : IsNeed e.size e.scan need
   pub class : need.class ≡ a.class
-  pub address_is : address ≡ 0xc000000000 + 8192 * a.page + need.slot * a.index
+  pub address_is : address ≡ region_start + 8192 * a.page + need.slot * a.index
   pub large : need.class < 2 → IsTakenFor taken a.number need
 
 -- The entry refuses the event, for want of a run of the pages that its class or its size needs.

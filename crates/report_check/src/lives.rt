@@ -1,6 +1,7 @@
 //! The lives that are open as a cycle ends, by their first pages, and the seats that they give.
 
 ghost use Rattle.std.specs.Prelude.{◌≡◌, ℕ, ◌*◌, ◌+◌, ◌-◌, ◌<◌, ◌≤◌, ◌/◌, ◌∷◌, List as Lines, replicate, length, slice_set, IfOk, MatchBool, MatchOption, None as Nothing};
+ghost use Rattle.size_classes.specs.Classes.{region_start};
 ghost use Rattle.page_bitmap.specs.declared.line.Line.{Line as Entry};
 ghost use Rattle.page_alloc.specs.Lives.{Life};
 ghost use Rattle.page_alloc.specs.Journal.{Legal};
@@ -117,7 +118,7 @@ fn first_page(item: &Item, last: u64) -> u64
 fn seat_at(lives: &[Option<OpenLife>], item: &Item, offset: u64, page: u64) -> Option<Seat>
     requires pages { AreAtPages lives.now }
     requires slot { 1 ≤ item.now.slot }
-    requires address { item.now.answer ≡ Placed (0xc000000000 + offset) }
+    requires address { item.now.answer ≡ Placed (region_start + offset) }
     requires page { 8192 * page ≤ offset }
     ensures { MatchOption result (NoSeatAt lives.now (object_of 0 item.now) page) (IsSeatAt lives.now (object_of 0 item.now) page) }
 {

@@ -1,5 +1,6 @@
 -- What is a fact of the new objects of a cycle that has ended: which placing or refusal in the logs is whose.
 use Rattle.std.specs.Prelude.{◌≡◌, ◌≢◌, ℕ, ◌+◌, ◌*◌, ◌<◌, Bool, true, false, ◌&&◌, ◌==◌, List}
+use Rattle.size_classes.specs.Classes.{region_start}
 use Rattle.page_bitmap.specs.declared.line.Line.TheVariants.{Miss}
 use Rattle.page_alloc.specs.Lists.{In, IsNumber, AllApart}
 use Rattle.page_alloc.specs.Lives.{Life, open_lives}
@@ -29,7 +30,7 @@ pub record IsPlacing (o : Object) (a : Placing) : Type 0 where
   pub life : o.life ≡ a.number
   pub index : o.index ≡ a.index
   pub class : o.need.class ≡ a.class
-  pub address : o.answer ≡ Placed (0xc000000000 + 8192 * a.page + o.need.slot * a.index)
+  pub address : o.answer ≡ Placed (region_start + 8192 * a.page + o.need.slot * a.index)
 
 -- The object is the one that was refused there.
 pub record IsRefusal (o : Object) (x : Refusal) : Type 0 where
