@@ -22,7 +22,8 @@ use Rattle.central_lists.specs.declared.answers.Look.{Look}
 use Rattle.central_lists.specs.declared.answers.One.{One}
 use Rattle.central_lists.specs.declared.answers.Search.{Search}
 use Rattle.central_lists.specs.declared.answers.Search.TheVariants.{Gave, Tried}
-use Rattle.central_lists.specs.declared.answers.Through.TheVariants.{AllTried}
+use Rattle.central_lists.specs.declared.answers.Through.{Through}
+use Rattle.central_lists.specs.declared.answers.Through.TheVariants.{AllTried, Enough, OneKept}
 use Rattle.central_lists.specs.Looks.{Saw, SawEmpty, SweptIt, TriedEnough, Whatever}
 use Rattle.central_lists.specs.Works.{Does, just, nothing}
 use Rattle.central_lists.specs.Lists.{Caches, LooksFirst}
@@ -38,6 +39,9 @@ tries_at h g class full b d r e x = subst (λ (z : ℕ). TriesOne z class full b
 
 pub full_at : (h g class before : ℕ) (b d : Hand) (r : Result Search NoMemory) → h ≡ g → SearchesFull h class before b d r → SearchesFull g class before b d r
 full_at h g class before b d r e x = subst (λ (z : ℕ). SearchesFull z class before b d r) e x
+
+pub all_at : (h g class full before : ℕ) (b d : Hand) (r : Result Through NoMemory) → h ≡ g → TriesAll h class full before b d r → TriesAll g class full before b d r
+all_at h g class full before b d r e x = subst (λ (z : ℕ). TriesAll z class full before b d r) e x
 
 pub searches_at : (h g class : ℕ) (b d : Hand) (r : Result Search NoMemory) → h ≡ g → Searches h class b d r → Searches g class b d r
 searches_at h g class b d r e x = subst (λ (z : ℕ). Searches z class b d r) e x
@@ -153,6 +157,21 @@ module _ (g class : ℕ) where
 
   up_after : (t n most : ℕ) (P : List Entry → Type 0) (a b d : Hand) → t + n ≤ most → Does g class t nothing nothing P a b → GivesUp g class n b d → GivesUp g class most a d
   up_after t n most P a b d l x o = (t + o.0, (let z = o.1 in omega arith), after-nothing t o.0 (t + o.0) nothing nothing P Whatever Whatever a b d x o.2 refl (λ s f p q. tt))
+
+  -- the tries of a set that was looked at before
+  pub looked_then : (full before : ℕ) (a b d : Hand) (r : Result Through NoMemory) → Does g class 0 nothing nothing Whatever a b → TriesAll g class full before b d r → TriesAll g class full before a d r
+  looked_then full before a b d (Ok (AllTried tried)) x h = (
+    h.0,
+    h.1,
+    after-nothing 0 (tried - before) (tried - before) nothing nothing Whatever (SawEmpty (unswept_set g class full)) (SawEmpty (unswept_set g class full)) a b d x h.2 (omega arith)
+        (λ s f p q. let e = many-append (is_seen_empty (unswept_set g class full)) s f in omega arith),
+  )
+  looked_then full before a b d (Ok Enough) x h = after-nothing 0 (100 - before) (100 - before) nothing nothing Whatever Whatever Whatever a b d x h (omega arith) (λ s f p q. tt)
+  looked_then full before a b d (Ok (OneKept k)) x h = one_after 0 (100 - before) (100 - before) Whatever a b d k (omega arith) x h
+  looked_then full before a b d (Err e) x h = up_after 0 (100 - before) (100 - before) Whatever a b d (omega arith) x h
+
+  pub looked_all : (full before : ℕ) (a b : Hand) → before ≤ 100 → Does g class 0 nothing nothing (SawEmpty (unswept_set g class full)) a b → TriesAll g class full before a b (Ok (AllTried before))
+  looked_all full before a b l x = ((let z : before ≤ before = omega arith in z), l, does-count 0 (before - before) nothing nothing (SawEmpty (unswept_set g class full)) a b (omega arith) x)
 
   pub one_in_all : (a b : Hand) (k : Body) → GivesOne g class (100 - 0) k a b → GivesOne g class 100 k a b
   one_in_all a b k o = (o.0, (o.1.0, (let z = o.1.1 in omega arith), o.1.2))

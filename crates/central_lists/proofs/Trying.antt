@@ -32,7 +32,7 @@ use Rattle.span_laws.proofs.Has.{has_last}
 use Rattle.span_laws.proofs.WordMoves.{span_else, span_here}
 use Rattle.span_set.specs.declared.hand.Hand.{Hand}
 use Rattle.span_set.specs.declared.answers.PopBase.TheVariants.{Popped as PoppedBase, Empty as EmptyBase}
-use Rattle.span_set.specs.Pops.{PopsUnswept}
+use Rattle.span_set.specs.Pops.{LooksLast, PopsUnswept}
 use Rattle.span_set.specs.Sweeps.{note_of}
 use Rattle.span_set.proofs.Numbers.{swept_is, swept_low, unswept_is}
 use Rattle.central_lists.specs.Looks.{SawEmpty, SweptIt, Whatever}
@@ -99,19 +99,32 @@ module _ (g class full : ℕ) where
         (sym (append_assoc l.said (Read 1 old.view.generation ∷ []) old.view.own.log));
   }
 
-  -- the set was seen empty
-  pub none_left : (a d : Hand) (head tail : ℕ) → PopsUnswept (unswept_set g class full) a.worker d.worker (EmptyBase head tail) → d.notes.items ≡ a.notes.items
-      → Does g class 0 nothing nothing (SawEmpty (unswept_set g class full)) a d
-  none_left a d head tail pops notes = let same = pops.0 in let l = pops.1 in let set = unswept_set g class full in let value = a.worker.view.generation in let said = Looked set head tail ∷ (l.said ++ Read 1 value ∷ []) in
+  -- the set was looked at
+  pub looked : (a d : Hand) (head tail : ℕ) → LooksLast (unswept_set g class full) head tail a.worker d.worker → d.notes.items ≡ a.notes.items → Does g class 0 nothing nothing Whatever a d
+  looked a d head tail l notes = let set = unswept_set g class full in let value = a.worker.view.generation in let said = Looked set head tail ∷ (l.said ++ Read 1 value ∷ []) in
       let h : Part = record a.worker.view.own { log = Looked set head tail ∷ (l.said ++ Read 1 value ∷ a.worker.view.own.log); read = l.cells ++ a.worker.view.own.read } in record {
         said = said;
         log = ap (λ (w : Seen). w.view.own.log) l.view ∙ ap (λ (x : List Entry). Looked set head tail ∷ x) (sym (append_assoc l.said (Read 1 value ∷ []) a.worker.view.own.log));
         says = last_look g class set head tail value l.said l.looks;
-        property = rw (eq-eqb set set refl, eq-eqb head tail same) (omega arith);
+        property = tt;
         keeps = keeps_by a.worker d.worker h l.view refl refl refl refl (λ q. refl) (λ q. refl) (λ q m. refl);
         held = λ q. let z = ap (λ (w : Seen). times q w.view.own.held) l.view in omega arith;
         notes = notes ∙ sym (ap (λ (x : List SweepNote). a.notes.items ++ (x ++ [])) (looks_note g set value l.said l.looks) ∙ append-nil a.notes.items);
       }
+
+  -- it was seen empty
+  pub none_left : (a d : Hand) (head tail : ℕ) → PopsUnswept (unswept_set g class full) a.worker d.worker (EmptyBase head tail) → d.notes.items ≡ a.notes.items
+      → Does g class 0 nothing nothing (SawEmpty (unswept_set g class full)) a d
+  unfolding looked
+  none_left a d head tail pops notes = let x = looked a d head tail pops.1 notes in let set = unswept_set g class full in record {
+    said = x.said;
+    log = x.log;
+    says = x.says;
+    property = rw (eq-eqb set set refl, eq-eqb head tail pops.0) (omega arith);
+    keeps = x.keeps;
+    held = x.held;
+    notes = x.notes;
+  }
 
   module _ (small : full < 2) (page : ℕ) (a : Hand) (w : Seen) (pop : Popping page a.worker w) (same_g : a.worker.view.generation ≡ g) where
     -- the entry is dropped, since its page has another word

@@ -1,11 +1,13 @@
 ghost use Rattle.std.specs.Prelude.{◌≡◌, ◌<◌, ◌≤◌, length, true, None};
 ghost use Rattle.page_bitmap.specs.Counts.{one_if};
-ghost use Rattle.worker_log.specs.SetNumbers.{swept_set};
+ghost use Rattle.worker_log.specs.SetNumbers.{swept_set, unswept_set};
 ghost use Rattle.worker_log.specs.Entries.{is_pop_of, many};
 ghost use Rattle.span_set.specs.Sweeps.{MaySweep};
 ghost use Rattle.span_set.specs.Tallies.{Frees, MayCount};
 ghost use Rattle.central_lists.specs.Lists.{Caches, LooksFirst};
+ghost use Rattle.central_lists.specs.Looks.{SawEmpty, Whatever};
 ghost use Rattle.central_lists.specs.Tries.{Searches, SearchesFull, SweepsOne, TriesAll, TriesOne};
+ghost use Rattle.central_lists.specs.Works.{Does, nothing};
 
 use crate::answers::{FromSets, Look, One, Search, Through};
 use fallible_list::NoMemory;
@@ -98,8 +100,59 @@ fn search_full(shop: &Shop, hand: &mut Hand, class: u8, before: u32) -> Result<S
     }
 }
 
-// Pops entries of an unswept set until a span is kept, none is left, or there were a hundred with those before.
+// The number of the unswept set of a class, the full or the partial one.
+fn unswept_number(class: u8, full: bool, generation: u64) -> u32
+    requires { class < 136 }
+    ensures number { result ≡ unswept_set generation class (one_if full) }
+    ensures low { result < 544 }
+{
+    4 * u32::from(class) + 2 * u32::from(full) + ((generation / 2 + 1) % 2) as u32
+}
+
+// Whether an unswept set is seen empty, by a look at its head and tail.
+fn sees_empty(shop: &Shop, hand: &mut Hand, class: u8, full: bool) -> bool
+    requires here { hand.old.worker.here ≡ true }
+    requires table { hand.old.worker.table ≡ shop.now.shared.now }
+    requires class { class < 136 }
+    ensures empty { result ≡ true → Does hand.old.worker.view.generation class 0 nothing nothing (SawEmpty (unswept_set hand.old.worker.view.generation class (one_if full))) hand.old hand.new }
+    ensures looked { Does hand.old.worker.view.generation class 0 nothing nothing Whatever hand.old hand.new }
+    ensures tally { Frees shop.now.marks.now hand.old hand.new }
+{
+    let generation = shop.shared.generation(&mut hand.worker);
+    let set = unswept_number(class, full, generation);
+    let (head, tail) = shop.shared.look(&mut hand.worker, set);
+    head == tail
+}
+
+// Pops entries of an unswept set until a span is kept, none is left, or there were a hundred with those before. Most sets are empty, which
+// one look tells.
 fn look_through(
+    shop: &Shop,
+    hand: &mut Hand,
+    class: u8,
+    full: bool,
+    before: u32,
+) -> Result<Through, NoMemory>
+    requires here { hand.old.worker.here ≡ true }
+    requires table { hand.old.worker.table ≡ shop.now.shared.now }
+    requires distance { 8192 ≤ shop.now.distance }
+    requires counts { MayCount shop.now.ring.now shop.now.marks.now hand.old.tally }
+    requires marks { shop.now.marks.now.pairs ≡ hand.old.worker.view.marks }
+    requires class { class < 136 }
+    requires unclaimed { hand.old.worker.view.own.claimed ≡ None }
+    requires before { before ≤ 100 }
+    ensures tries { TriesAll hand.old.worker.view.generation class (one_if full) before hand.old hand.new result }
+    ensures tally { Frees shop.now.marks.now hand.old hand.new }
+{
+    if sees_empty(shop, hand, class, full) {
+        return Ok(Through::AllTried(before));
+    }
+    try_all(shop, hand, class, full, before)
+}
+
+// The same of a set that had an entry.
+#[inline(never)]
+fn try_all(
     shop: &Shop,
     hand: &mut Hand,
     class: u8,

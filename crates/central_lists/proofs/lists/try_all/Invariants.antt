@@ -1,7 +1,7 @@
 use Rattle.std.proofs.Common.{◌-◌}
 use Rattle.span_set.specs.Tallies.{Frees}
 use Rattle.central_lists.specs.Tries.{TriedSome}
-use Rattle.central_lists.proofs.lists.look_through.Given as goal
+use Rattle.central_lists.proofs.lists.try_all.Given as goal
 
 abbrev pub invariant-loop-tried : goal.invariant-loop-tried
 invariant-loop-tried l = record { tried : TriedSome l.fn.hand.worker.view.generation l.class l.before l.tried l.fn.hand l.hand; tally : Frees l.shop.marks.now l.fn.hand l.hand }
