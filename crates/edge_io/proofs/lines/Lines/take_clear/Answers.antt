@@ -1,4 +1,4 @@
-use Rattle.std.proofs.Common.{◌+◌, ◌-◌, rules}
+use Rattle.std.proofs.Common.{rules}
 use Rattle.edge_io.proofs.Clear.{kept_more}
 use Rattle.edge_io.proofs.lines.Lines.take_clear.Goals as goal
 
@@ -7,5 +7,5 @@ returns-clause-kept g c =
     let old = c.args.self.now in
     let count = c.clear_ahead-count.result in
     let clear = c.clear_ahead-count.ensures in
-    kept_more g.S.Source.left old _ count (old.used + count - old.used) _ clear.clear (search rules) (search rules) clear.ahead c.copy_from_slice.ensures.after
+    kept_more g.S.Source.left old _ count clear.clear (search rules) c.requires.inside clear.ahead
     (search rules) (search rules) (search rules) (search rules) (search rules) (search rules) (search rules)
