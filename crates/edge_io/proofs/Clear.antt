@@ -1,14 +1,17 @@
 -- The bytes of a line that are taken at once.
-use Rattle.std.proofs.Common.{◌≡◌, ◌≢◌, ℕ, ◌+◌, ◌-◌, ◌<◌, ◌≤◌, List, ◌++◌, length, take, drop, sym, slice_range, slice_index, Option, None, Some, refl, ap, ◌∙◌, arith, append_assoc, take-add, drop-drop}
+use Rattle.std.proofs.Common.{◌≡◌, ◌≢◌, ℕ, ◌+◌, ◌-◌, ◌<◌, ◌≤◌, List, [], ◌∷◌, ◌++◌, get_or, length, take, drop, sym, slice_range, slice_index, Option, None, Some, refl, ap, ◌∙◌, arith, append_assoc, take-add, drop-drop}
 use Rattle.std.specs.Io.KnownBytes.{Consumes, prepend_known}
-use Rattle.std.specs.List.{All}
 use Rattle.std.proofs.lemmas.List.Edits.{length-between, get_or-between}
 use Rattle.std.proofs.lemmas.List.Elements.{All-from_get_or, recursion_from_All}
 use Rattle.std.proofs.lemmas.List.{take_at, length-take-le}
+use Rattle.std.proofs.lemmas.Bool.{eq-eqb, eqb-true}
+use Rattle.memchr.specs.Find.{NoneBefore, Passes, is_byte}
 use Rattle.edge_io.proofs.Waits.{waits-slice}
 use borrow.Rule.Slice.PartMut.{put_mid, post_of}
 use Rattle.edge_io.specs.declared.lines.Lines.{Lines}
-use Rattle.edge_io.specs.Reading.{KeepsMore}
+use Rattle.edge_io.specs.Reading.{KeepsMore, TakesLine, line_of}
+use Rattle.edge_io.specs.Line.{HasNoFeed}
+use Rattle.std.proofs.lemmas.List.{take_more, get_or-drop, length-drop}
 
 split_slice : (b : List ℕ) (s n e : ℕ) → s + n ≤ e → slice_range b s e ≡ slice_range b s (s + n) ++ slice_range b (s + n) e
 split_slice b s n e le =
@@ -35,6 +38,33 @@ joined b begin used start n inside =
     let whole : start + n ≡ begin + (used + n) = omega arith in
     rw (whole, ← inside) (split_slice b begin used (begin + (used + n)) (omega arith))
 
+-- the first line feed of a part, in the whole
+pub record IsFeedAt (b : List ℕ) (s w count : ℕ) : Type 0 where
+  pub short : count < w
+  pub clear : (i : ℕ) → i < count → slice_index b (s + i) ≢ 10
+  pub feed : slice_index b (s + count) ≡ 10
+
+pub feed_at : (b : List ℕ) (s w count : ℕ) → s + w ≤ length b
+    → NoneBefore (Passes (is_byte 10) (slice_range b s (s + w))) 0 (length (slice_range b s (s + w))) count → Passes (is_byte 10) (slice_range b s (s + w)) count
+    → IsFeedAt b s w count
+feed_at b s w count inside before found =
+    let size : length (slice_range b s (s + w)) ≡ w = omega (arith, length-between b s (s + w) (omega arith)) in
+    let short : count < w = omega (arith, before.high) in
+    let same : (i : ℕ) → i < w → slice_index (slice_range b s (s + w)) i ≡ slice_index b (s + i) = λ i below. get_or-between b s (s + w) i 0 (omega arith) in
+    record {
+      short = short;
+      clear = λ i below is. before.before i (omega arith) below (eq-eqb _ 10 (same i (omega arith) ∙ is));
+      feed = sym (same count short) ∙ eqb-true _ 10 found;
+    }
+
+-- none of the bytes is a line feed
+slice_clear : (b : List ℕ) (s n : ℕ) → s + n ≤ length b → ((i : ℕ) → i < n → slice_index b (s + i) ≢ 10) → HasNoFeed (slice_range b s (s + n))
+slice_clear b s n inside clear =
+    let bytes = slice_range b s (s + n) in
+    let size : length bytes ≡ n = omega (arith, length-between b s (s + n) (omega arith)) in
+    recursion_from_All (λ byte. byte ≢ 10) bytes
+    (All-from_get_or (λ byte. byte ≢ 10) bytes 0 (λ i below. rw (get_or-between b s (s + n) i 0 (omega arith)) (clear i (omega arith))))
+
 -- bytes behind the line are taken
 pub kept_more : {S : Type 0} (left : S → Option (List ℕ)) (old new : Lines S) (n : ℕ)
     → ((i : ℕ) → i < n → slice_index old.buffer (old.start + i) ≢ 10) → length old.buffer ≡ 8192
@@ -45,14 +75,40 @@ pub kept_more : {S : Type 0} (left : S → Option (List ℕ)) (old new : Lines S
 kept_more left old new n clear whole inside ahead source buffer begin start end used room =
     let bytes = slice_range old.buffer old.start (old.start + n) in
     let size : length bytes ≡ n = omega (arith, length-between old.buffer old.start (old.start + n) (omega arith)) in
-    let no_feed : All (λ (byte : ℕ). byte ≢ 10) bytes = All-from_get_or (λ byte. byte ≢ 10) bytes 0
-    (λ i below. rw (get_or-between old.buffer old.start (old.start + n) i 0 (omega arith)) (clear i (omega arith))) in
     let taken = consumes_front (left old.source.now) old.buffer old.start n old.end ahead in
     record {
       bytes = bytes;
       taken = rw (source, buffer, start, end) taken;
       line = rw (buffer, begin, used) (joined old.buffer old.begin old.used old.start n inside);
-      clear = recursion_from_All (λ byte. byte ≢ 10) bytes no_feed;
+      clear = slice_clear old.buffer old.start n (omega arith) clear;
       room = omega arith;
       used = omega arith;
+    }
+
+-- bytes and the line feed behind them
+with_feed : (b : List ℕ) (s n : ℕ) → s + n < length b → slice_index b (s + n) ≡ 10 → slice_range b s (s + (n + 1)) ≡ slice_range b s (s + n) ++ 10 ∷ []
+with_feed b s n inside feed =
+    let count : s + n - s ≡ n = omega arith in
+    let whole : s + (n + 1) - s ≡ n + 1 = omega arith in
+    let below : n < length (drop s b) = omega (arith, length-drop s b) in
+    let last : get_or (drop s b) n 0 ≡ 10 = get_or-drop s b n 0 ∙ feed in
+    rw (whole, count) (take_more (drop s b) n 0 below ∙ ap (λ (byte : ℕ). take n (drop s b) ++ byte ∷ []) last)
+
+-- a line is taken with its line feed
+pub takes_line : {S : Type 0} (left : S → Option (List ℕ)) (old new : Lines S) (n : ℕ)
+    → ((i : ℕ) → i < n → slice_index old.buffer (old.start + i) ≢ 10) → slice_index old.buffer (old.start + n) ≡ 10 → length old.buffer ≡ 8192
+    → old.start + n < old.end → n ≤ 120
+    → new.source.now ≡ old.source.now → new.buffer ≡ old.buffer → new.begin ≡ old.start → new.start ≡ old.start + (n + 1) → new.end ≡ old.end
+    → new.used ≡ n → old.room ≡ new.room + n + 1
+    → TakesLine left old new
+takes_line left old new n clear feed whole ahead short source buffer begin start end used room =
+    let line = slice_range old.buffer old.start (old.start + n) in
+    let size : length line ≡ n = omega (arith, length-between old.buffer old.start (old.start + n) (omega arith)) in
+    let same : line_of new ≡ line = rw (buffer, begin, used) refl in
+    let bytes = with_feed old.buffer old.start n (omega arith) feed in
+    let taken = consumes_front (left old.source.now) old.buffer old.start (n + 1) old.end (omega arith) in
+    record {
+      taken = rw (same, source, buffer, start, end, ← bytes) taken;
+      is_line = rw same (omega arith, slice_clear old.buffer old.start n (omega arith) clear);
+      room = rw same (omega arith);
     }
