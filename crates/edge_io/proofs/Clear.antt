@@ -4,8 +4,6 @@ use Rattle.std.specs.Io.KnownBytes.{Consumes, prepend_known}
 use Rattle.std.proofs.lemmas.List.Edits.{length-between, get_or-between}
 use Rattle.std.proofs.lemmas.List.Elements.{All-from_get_or, recursion_from_All}
 use Rattle.std.proofs.lemmas.List.{take_at, length-take-le}
-use Rattle.std.proofs.lemmas.Bool.{eq-eqb, eqb-true}
-use Rattle.memchr.specs.Find.{NoneBefore, Passes, is_byte}
 use Rattle.edge_io.proofs.Waits.{waits-slice}
 use borrow.Rule.Slice.PartMut.{put_mid, post_of}
 use Rattle.edge_io.specs.declared.lines.Lines.{Lines}
@@ -37,25 +35,6 @@ joined : (b : List ℕ) (begin used start n : ℕ) → begin + used ≡ start
 joined b begin used start n inside =
     let whole : start + n ≡ begin + (used + n) = omega arith in
     rw (whole, ← inside) (split_slice b begin used (begin + (used + n)) (omega arith))
-
--- the first line feed of a part, in the whole
-pub record IsFeedAt (b : List ℕ) (s w count : ℕ) : Type 0 where
-  pub short : count < w
-  pub clear : (i : ℕ) → i < count → slice_index b (s + i) ≢ 10
-  pub feed : slice_index b (s + count) ≡ 10
-
-pub feed_at : (b : List ℕ) (s w count : ℕ) → s + w ≤ length b
-    → NoneBefore (Passes (is_byte 10) (slice_range b s (s + w))) 0 (length (slice_range b s (s + w))) count → Passes (is_byte 10) (slice_range b s (s + w)) count
-    → IsFeedAt b s w count
-feed_at b s w count inside before found =
-    let size : length (slice_range b s (s + w)) ≡ w = omega (arith, length-between b s (s + w) (omega arith)) in
-    let short : count < w = omega (arith, before.high) in
-    let same : (i : ℕ) → i < w → slice_index (slice_range b s (s + w)) i ≡ slice_index b (s + i) = λ i below. get_or-between b s (s + w) i 0 (omega arith) in
-    record {
-      short = short;
-      clear = λ i below is. before.before i (omega arith) below (eq-eqb _ 10 (same i (omega arith) ∙ is));
-      feed = sym (same count short) ∙ eqb-true _ 10 found;
-    }
 
 -- none of the bytes is a line feed
 slice_clear : (b : List ℕ) (s n : ℕ) → s + n ≤ length b → ((i : ℕ) → i < n → slice_index b (s + i) ≢ 10) → HasNoFeed (slice_range b s (s + n))
