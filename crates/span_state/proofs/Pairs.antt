@@ -1,15 +1,17 @@
 -- The pairs that words mark.
-use Rattle.std.proofs.Common.{◌≡◌, ℕ, zero, suc, ◌+◌, ◌*◌, ◌/◌, ◌%◌, ◌<◌, ◌≤◌, Bool, true, false, cond, ◌==◌, ◌||◌, ◌&&◌, eqb, ltb, List, [], ◌∷◌, ◌++◌, refl, sym, ◌∙◌, ap, subst, arith, inl, inr, eq-eqb, append-nil, append_assoc, ◌⊎◌}
+use Rattle.std.proofs.Common.{◌≡◌, ℕ, zero, suc, ◌+◌, ◌*◌, ◌/◌, ◌%◌, ◌^◌, ◌<◌, ◌≤◌, Bool, true, false, cond, ◌==◌, ◌||◌, ◌&&◌, eqb, ltb, List, [], ◌∷◌, ◌++◌, refl, sym, ◌∙◌, ap, subst, arith, inl, inr, eq-eqb, append-nil, append_assoc, w64, ◌⊎◌}
 use Rattle.std.proofs.lemmas.Bool.{cases_eq, cases_lt, cases_Bool, both_ways, ne_eqb, lt-ltb, le-ltb, and_parts, eqb-true}
 use Rattle.std.proofs.lemmas.Cmp.{then_total, on_total, nat_cmp_total, ranked}
 use Rattle.std.proofs.lemmas.List.Folds.{list_any-append}
 use Rattle.std.proofs.lemmas.List.Sums.{sum_by-append}
 use Rattle.std.proofs.lemmas.Map.Lookups.{CmpEqualImpliesEq, exact_pairs, exact_unsigned}
-use Rattle.std.proofs.lemmas.Nat.Bits.{bit_at-zero}
+use Rattle.std.proofs.lemmas.Nat.{and_le_l}
+use Rattle.std.proofs.lemmas.Nat.Bits.{bit_at-zero, bit_at_clear_same, bit_at_clear_other}
 use Rattle.std.specs.declared.cmp.Ordering.{Ordering}
 use Rattle.std.specs.declared.cmp.Ordering.TheVariants.{Less, Equal, Greater}
 use Rattle.std.specs.Cmp.{IsTotalOrder, nat_cmp_is}
-use Rattle.std.specs.Int.{bit_at}
+use Rattle.std.specs.Int.{bit_at, bit_not}
+use Rattle.std.specs.Int.Bits.{bit_and}
 use Rattle.std.specs.List.{AllByRecursion}
 use Rattle.std.specs.List.Sorted.{IsStrictlySortedBy}
 use Rattle.std.specs.Ordering.{nat_cmp}
@@ -428,24 +430,61 @@ rising-one (x ∷ xs) (y ∷ ys) first second same = by (pair_cmp x y) refl (ris
         (λ q k. same q k ∙ ap (λ (p : ℕ × ℕ). has_pair (p ∷ ys) q k) (sym e))) in
         (λ i. e i ∷ all i)
 
--- ---- pairs pushed one after another
+-- ---- pairs pushed from set bit to set bit
 
--- a bit that is set adds its pair
-pub pushed-yes : (old pairs new : List (ℕ × ℕ)) (n page group word : ℕ) → bit_at word n ≡ 1 → pairs ≡ old ++ word_pairs n page group word
-    → new ≡ pairs ++ (page, 64 * group + n) ∷ [] → new ≡ old ++ word_pairs (n + 1) page group word
-pushed-yes old pairs new n page group word on so_far push =
-    let e : n + 1 ≡ suc n = omega arith in
-    let b : (bit_at word n == 1) ≡ true = rw on refl in
-    push ∙ rw (so_far, e, b) (append_assoc old (word_pairs n page group word) ((page, 64 * group + n) ∷ []))
+-- a word without its bit k
+abbrev pub without : ℕ → ℕ → ℕ
+without word k = bit_and word (bit_not w64 (1 * 2 ^ k % 2 ^ 64))
 
--- a bit that is not set adds none
-pub pushed-no : (old pairs : List (ℕ × ℕ)) (n page group word : ℕ) → bit_at word n ≡ 0 → pairs ≡ old ++ word_pairs n page group word → pairs ≡ old ++ word_pairs (n + 1) page group word
-pushed-no old pairs n page group word off so_far =
-    let e : n + 1 ≡ suc n = omega arith in
-    let b : (bit_at word n == 1) ≡ false = rw off refl in
-    rw (e, b, append-nil (word_pairs n page group word)) so_far
+-- without a bit that is set a word is smaller
+pub without-less : (word k : ℕ) → k < 64 → bit_at word k ≡ 1 → without word k < word
+without-less word k within on =
+    let gone : bit_at (without word k) k ≡ 0 = bit_at_clear_same w64 word k within in
+    elim (cases_eq (without word k) word) [
+      | inl same ↦ absurd (let both : bit_at (without word k) k ≡ bit_at word k = ap (λ (x : ℕ). bit_at x k) same in omega arith)
+      | inr other ↦ omega (arith, and_le_l word (bit_not w64 (1 * 2 ^ k % 2 ^ 64)))
+    ]
 
--- the pairs of all bits
-pub pushed-all : (old pairs : List (ℕ × ℕ)) (n page group word : ℕ) → n ≡ 64 → pairs ≡ old ++ word_pairs n page group word → pairs ≡ old ++ group_pairs ((page, group), word)
+-- bits that are all off mark nothing
+no-pairs : (n page group word : ℕ) → ((i : ℕ) → i < n → bit_at word i ≡ 0) → word_pairs n page group word ≡ []
+no-pairs zero page group word off = refl
+no-pairs (suc n) page group word off =
+    let rest = no-pairs n page group word (λ i lt. off i (omega arith)) in
+    let b : (bit_at word n == 1) ≡ false = rw (off n (omega arith)) refl in
+    rw (rest, b) refl
+
+-- the lowest bit's pair comes first, and then come those of the word without it
+lowest-first : (n page group word k : ℕ) → n ≤ 64 → k < n → bit_at word k ≡ 1 → ((i : ℕ) → i < k → bit_at word i ≡ 0)
+    → word_pairs n page group word ≡ (page, 64 * group + k) ∷ word_pairs n page group (without word k)
+lowest-first zero page group word k few lt on below = absurd (omega arith)
+lowest-first (suc n) page group word k few lt on below =
+    elim (cases_eq n k) [
+      | inl same ↦ (
+          let none = no-pairs n page group word (λ i less. below i (omega arith)) in
+          let left = no-pairs n page group (without word k) (λ i less. bit_at_clear_other w64 word k (omega arith) i (omega arith) (λ e. omega arith) ∙ below i (omega arith)) in
+          let gone : bit_at (without word k) n ≡ 0 = rw same (bit_at_clear_same w64 word k (omega arith)) in
+          let b : (bit_at word n == 1) ≡ true = rw (same, on) refl in
+          let c : (bit_at (without word k) n == 1) ≡ false = rw gone refl in
+          rw (none, left, b, c, same) refl)
+      | inr other ↦ (
+          let rest = lowest-first n page group word k (omega arith) (omega arith) on below in
+          let kept : bit_at (without word k) n ≡ bit_at word n = bit_at_clear_other w64 word k (omega arith) n (omega arith) other in
+          rw (rest, kept) refl)
+    ]
+
+-- with the lowest bit's pair pushed, the pairs of the bits left follow
+pub pushed-lowest : (all pairs new : List (ℕ × ℕ)) (page group word k : ℕ) → k < 64 → bit_at word k ≡ 1 → ((i : ℕ) → i < k → bit_at word i ≡ 0)
+    → pairs ++ group_pairs ((page, group), word) ≡ all → new ≡ pairs ++ (page, 64 * group + k) ∷ [] → new ++ group_pairs ((page, group), without word k) ≡ all
 unfolding group_pairs
-pushed-all old pairs n page group word e is = is ∙ ap (λ (n : ℕ). old ++ word_pairs n page group word) e
+pushed-lowest all pairs new page group word k lt on below so_far push =
+    let first = lowest-first 64 page group word k (omega arith) lt on below in
+    ap (λ (ps : List (ℕ × ℕ)). ps ++ word_pairs 64 page group (without word k)) push
+    ∙ append_assoc pairs ((page, 64 * group + k) ∷ []) (word_pairs 64 page group (without word k))
+    ∙ ap (λ (ps : List (ℕ × ℕ)). pairs ++ ps) (sym first) ∙ so_far
+
+-- no bit is left
+pub pushed-all : (all pairs : List (ℕ × ℕ)) (page group word : ℕ) → word ≡ 0 → pairs ++ group_pairs ((page, group), word) ≡ all → pairs ≡ all
+unfolding group_pairs
+pushed-all all pairs page group word none so_far =
+    let nothing : word_pairs 64 page group word ≡ [] = no-pairs 64 page group word (λ i lt. rw none (bit_at-zero i)) in
+    sym (append-nil pairs) ∙ ap (λ (ps : List (ℕ × ℕ)). pairs ++ ps) (sym nothing) ∙ so_far

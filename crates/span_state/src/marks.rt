@@ -189,7 +189,7 @@ fn push_row(pairs: &mut List<(u32, u32)>, page: u32, row: &Row) -> Result<(), No
     Ok(())
 }
 
-// Puts the pairs that a word marks at the end.
+// Puts the pairs that a word marks at the end, from set bit to set bit.
 fn push_group(
     pairs: &mut List<(u32, u32)>,
     page: u32,
@@ -199,10 +199,11 @@ fn push_group(
     requires { group < 2 ^ 26 }
     ensures { OnOk result (pairs.new ≡ pairs.old ++ group_pairs ((page, group), word)) }
 {
-    for bit in 0..64 {
-        if word & (1 << bit) != 0 {
-            pairs.push((page, 64 * group + bit))?;
-        }
+    let mut left = word;
+    while left != 0 {
+        let bit = left.trailing_zeros();
+        pairs.push((page, 64 * group + bit))?;
+        left &= !(1 << bit);
     }
     Ok(())
 }
