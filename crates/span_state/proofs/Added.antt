@@ -222,6 +222,30 @@ word-shows rows page group word bit is lt =
     let has = has-pairs_of rows page (64 * group + bit) in
     sym (has ∙ rw (g, b, is) refl)
 
+-- a bit set in a word of a page's row marks one pair besides
+pub has-set : (old : List (List ℕ)) (page index : ℕ) (was row : List ℕ) → page < length old → was ≡ row_of old page
+    → ((g : ℕ) → get_or row g 0 ≡ cond (g == index / 64) (set_bit (get_or was (index / 64) 0) (index % 64)) (get_or was g 0))
+    → (q k : ℕ) → has_pair (pairs_of (set old page row)) q k ≡ (has_pair (pairs_of old) q k || (q == page && k == index))
+has-set old page index was row lt is put =
+    let word : ℕ = word_of old page (index / 64) in
+    let puts : IsPut old (set old page row) page (index / 64) (set_bit word (index % 64)) =
+    put-of old old (set old page row) page (index / 64) (set_bit word (index % 64)) row lt (λ q. refl) refl
+    (λ g. put g ∙ ap (λ (r : List ℕ). cond (g == index / 64) (set_bit (get_or r (index / 64) 0) (index % 64)) (get_or r g 0)) is) in
+    has-added old (set old page row) page index word (λ b less. word-shows old page (index / 64) word b refl less) puts
+
+-- rows that mark a pair besides, which was marked, mark the same pairs
+pub same-again : (old new : List (List ℕ)) (page index : ℕ) → has_pair (pairs_of old) page index ≡ true
+    → ((q k : ℕ) → has_pair (pairs_of new) q k ≡ (has_pair (pairs_of old) q k || (q == page && k == index))) → pairs_of new ≡ pairs_of old
+same-again old new page index on more =
+    rising-one (pairs_of new) (pairs_of old) (rising-pairs_of new) (rising-pairs_of old)
+    (λ q k. elim (cases_Bool (q == page && k == index)) [
+      | inr isnt ↦ more q k ∙ rw isnt (or_false _)
+      | inl both ↦ (
+          let parts = and_parts (q == page) (k == index) both in
+          let was : has_pair (pairs_of old) q k ≡ true = (λ i. has_pair (pairs_of old) (eqb-true q page parts.0 i) (eqb-true k index parts.1 i)) ∙ on in
+          more q k ∙ rw was refl)
+    ])
+
 -- the row that was read
 pub row-read : (rows : List (List ℕ)) (page : ℕ) (row : List ℕ) → page < length rows → row ≡ get_or rows page row → row ≡ row_of rows page
 row-read rows page row lt is = is ∙ get_or_default rows page row [] lt

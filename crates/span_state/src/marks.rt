@@ -46,7 +46,28 @@ impl Marks {
     }
 
     /// Marks the index of the page. A second time changes nothing, and takes no memory.
+    #[inline]
     pub fn add(&mut self, page: u32, index: u32) -> Result<(), NoMemory>
+        ensures marked { OnOk result ((q k : ℕ)
+            → is_marked self.new q k ≡ (is_marked self.old q k || (q == page && k == index))) }
+        ensures again { is_marked self.old page index ≡ true → IsOk result × (self.new ≡ self.old) }
+        ensures rising { IsRising self.new.pairs }
+        ensures dead { self.new.deaths ≡ self.old.deaths }
+        ensures err { OnErr result (self.new ≡ self.old) }
+    {
+        let group = index / 64;
+        let row = page as usize;
+        if row < self.rows.len() && (group as usize) < self.rows[row].len() {
+            self.rows[row].set_bit(group, index % 64);
+            return Ok(());
+        }
+        self.add_past(page, index)
+    }
+
+    // The same where the page may have no row or the group no word yet.
+    #[cold]
+    #[inline(never)]
+    fn add_past(&mut self, page: u32, index: u32) -> Result<(), NoMemory>
         ensures marked { OnOk result ((q k : ℕ)
             → is_marked self.new q k ≡ (is_marked self.old q k || (q == page && k == index))) }
         ensures again { is_marked self.old page index ≡ true → IsOk result × (self.new ≡ self.old) }
