@@ -95,8 +95,9 @@ impl Objects<'_> {
         requires below { AreMarksBelow self.now.trace.now self.now.mark self.now.answers.now self.now.sampled.now self.now.buckets.now low 0 marks.old }
         ensures { OnOk result (AreMarksBelow self.now.trace.now self.now.mark self.now.answers.now self.now.sampled.now self.now.buckets.now high 0 marks.new) }
     {
+        let places = self.places;
         for object in low..high {
-            if let Some(place) = self.places[object] {
+            if let Some(place) = places[object] {
                 marks.add(place.page, place.index)?;
             }
         }

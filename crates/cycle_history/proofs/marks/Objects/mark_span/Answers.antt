@@ -23,7 +23,7 @@ loop-object-preserved c =
     let lt = c.loop-object-test.true in
     let inside : i < length o.places.now = omega arith in
     let low = c.loop-object.auto.object in
-    elim c.match-self-object.branch [
+    elim c.match-places-object.branch [
       | in-Some+in_ok-add w ↦ (
           let lies = given.found i (Some w.in-Some.place) (slice_get-get_or o.places.now i None inside ∙ ap Some w.in-Some.is) in
           let at : IsMarkedAt o.trace.now o.mark o.answers.now w.in-Some.place.page w.in-Some.place.index i = record { marked = c.requires.marked i low lt; lies = lies } in
