@@ -141,8 +141,9 @@ impl Objects<'_> {
         ensures behind { OnOk result (IsBehind marked.new high) }
         ensures below { OnOk result (AreMarksBelow self.now.trace.now self.now.mark self.now.answers.now self.now.sampled.now self.now.buckets.now (length self.now.answers.now) high marks.new) }
     {
+        let sampled = self.sampled;
         for object in low..high {
-            if self.sampled[object] && !marked.has(object) {
+            if sampled[object] && !marked.has(object) {
                 self.bury_one(marks, object)?;
             }
         }

@@ -10,7 +10,7 @@ use Rattle.cycle_history.specs.Marked.{AreMarksBelow, HasDied}
 use Rattle.cycle_history.specs.MarkedLoops.{IsBehind}
 use Rattle.cycle_history.proofs.Rising.{marks-rise, marks-within}
 use Rattle.cycle_history.proofs.Settled.{below-undead}
-use Rattle.cycle_history.proofs.marks.Objects.bury.Goals.{then-self-object+then-not-has+in_ok-bury_one, else-self-object, else-self-object-via-then-self-object+else-not-has, else-self-object-via-else-self-object}
+use Rattle.cycle_history.proofs.marks.Objects.bury.Goals.{then-sampled-object+then-not-has+in_ok-bury_one, else-sampled-object, else-sampled-object-via-then-sampled-object+else-not-has, else-sampled-object-via-else-sampled-object}
 use Rattle.cycle_history.proofs.marks.Objects.bury.Goals as goal
 
 pub has-requires-clause-rise : goal.has-requires-clause-rise
@@ -24,7 +24,7 @@ bury_one-requires-clause-sampled c =
     let lt = c.loop-object-test.true in
     let all = c.requires.given.all_sampled in
     let answers = c.requires.given.all_answers in
-    slice_get-get_or o.sampled.now c.loop-object.object false (omega arith) ∙ ap Some c.if-self-object.true
+    slice_get-get_or o.sampled.now c.loop-object.object false (omega arith) ∙ ap Some c.if-sampled-object.true
 
 -- where an object hasn't died, the bound moves past it
 undead-more : (o : Objects) (i : ℕ) (marks : MarkSet) → ((page : ℕ) → ¬ HasDied o.trace.now o.mark o.answers.now o.sampled.now page i)
@@ -44,15 +44,15 @@ loop-object-preserved c =
     let o = c.args.self.now in
     let i = c.loop-object.object in
     let before = c.loop-object.invariant in
-    elim c.if-self-object.branch [
-      | then-self-object+then-not-has+in_ok-bury_one w ↦ record {
+    elim c.if-sampled-object.branch [
+      | then-sampled-object+then-not-has+in_ok-bury_one w ↦ record {
         spans = ap (λ (x : Walk). x.spans.now) w.marked-is ∙ w.has.ensures.spans ∙ before.spans;
         behind = subst (λ (x : Walk). IsBehind x (i + 1)) (sym w.marked-is) w.has.ensures.behind;
         below = subst (λ (marks : MarkSet). AreMarksBelow o.trace.now o.mark o.answers.now o.sampled.now o.buckets.now (length o.answers.now) (i + 1) marks) (sym w.marks-is) w.in_ok-bury_one.ensures;
       }
-      | else-self-object w ↦ elim w.else-self-object.branch [
-        | else-self-object-via-then-self-object+else-not-has w' ↦ (
-            let moved : c.if-self-object.marked ≡ w'.has.new.self = w.marked-is ∙ w'.marked-is in
+      | else-sampled-object w ↦ elim w.else-sampled-object.branch [
+        | else-sampled-object-via-then-sampled-object+else-not-has w' ↦ (
+            let moved : c.if-sampled-object.marked ≡ w'.has.new.self = w.marked-is ∙ w'.marked-is in
             let marked : marked_by o.trace.now o.mark i ≡ true =
             marks-within o.trace.now o.mark i ∙ sym (ap (λ (ss : List Span). is_within ss i) (before.spans ∙ c.requires.spans)) ∙ sym w'.has.ensures.has ∙ w'.if-not-has.false in
             record {
@@ -61,15 +61,15 @@ loop-object-preserved c =
               below = subst (λ (marks : MarkSet). AreMarksBelow o.trace.now o.mark o.answers.now o.sampled.now o.buckets.now (length o.answers.now) (i + 1) marks) (sym w.marks-is)
                   (undead-more o i c.loop-object.marks (λ page died. (let off = died.unmarked in absurd cc)) before.below);
             })
-        | else-self-object-via-else-self-object w' ↦ (
-            let moved : c.if-self-object.marked ≡ c.loop-object.marked = w.marked-is ∙ w'.marked-is in
+        | else-sampled-object-via-else-sampled-object w' ↦ (
+            let moved : c.if-sampled-object.marked ≡ c.loop-object.marked = w.marked-is ∙ w'.marked-is in
             record {
               spans = ap (λ (x : Walk). x.spans.now) moved ∙ before.spans;
               behind = subst (λ (x : Walk). IsBehind x (i + 1)) (sym moved) (behind-more c.loop-object.marked i before.behind);
               below = subst (λ (marks : MarkSet). AreMarksBelow o.trace.now o.mark o.answers.now o.sampled.now o.buckets.now (length o.answers.now) (i + 1) marks) (sym w.marks-is)
                   (undead-more o i c.loop-object.marks (λ page died. (
                   let on = get_or_from_slice_get o.sampled.now i true false died.is_sampled in
-                  let off = w'.if-self-object.false in
+                  let off = w'.if-sampled-object.false in
                   absurd cc)) before.below);
             })
       ]
