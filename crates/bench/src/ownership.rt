@@ -62,7 +62,7 @@ fn make_moves(alloc: Global, spans: u32, objects: u32, work: Work) -> Result<Mov
     }
     Ok(Moved {
         moves,
-        spans: core.lives().len(),
+        spans: core.span_count(),
     })
 }
 

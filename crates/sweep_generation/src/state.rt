@@ -2,7 +2,8 @@
 //! names, and by `start.rt`; callers read them through the methods below. The type keeps that tables and lists agree, and that
 //! `unpopped` is the count that it names.
 
-ghost use Rattle.std.specs.Prelude.{◌≡◌, map};
+ghost use Rattle.std.specs.Prelude.{◌≡◌, ◌==◌, map, length, option_map};
+ghost use Rattle.std.specs.List.{find};
 ghost use Rattle.sweep_lists.specs.Views.{hand_view, life_view, set_view};
 
 use std::alloc::Global;
@@ -62,11 +63,18 @@ impl Core {
         &self.owners
     }
 
-    /// The spans from their Take to their Give, in the order of their Takes.
-    pub fn lives(&self) -> &[Life]
-        ensures { map life_view result.now ≡ self.now.lives }
+    /// How many spans there are from their Take to their Give.
+    pub fn span_count(&self) -> usize
+        ensures { result ≡ length self.now.lives }
     {
-        self.lives.as_slice()
+        self.lives.len()
+    }
+
+    /// The span that begins at a page, in the order of their Takes the first.
+    pub fn span(&self, page: u32) -> Option<&Life>
+        ensures { option_map (λ life. life_view life.now) result ≡ find (λ life. life.page == page) self.now.lives }
+    {
+        self.lives.find(page)
     }
 
     /// The sets. The number of a set is four times the span class, plus 2 for a full set, plus its part.

@@ -32,7 +32,7 @@ module _ {A : Type 0} (test : A → Bool) where
   change-none f (x ∷ xs) d before = rw (before zero (omega arith)) (ap (λ ys. x ∷ ys) (change-none f xs d (λ k l. before (suc k) (omega arith))))
 
   -- no position: the test fails everywhere
-  none-fails : (xs : List A) (d : A) → position test xs ≡ None → (k : ℕ) → k < length xs → test (get_or xs k d) ≡ false
+  pub none-fails : (xs : List A) (d : A) → position test xs ≡ None → (k : ℕ) → k < length xs → test (get_or xs k d) ≡ false
   none-fails xs d e k low =
       let b = not_some (nat_lt (position_or_len test xs) (length xs)) (position_or_len test xs) e in
       fails_before_first test xs k d (omega (arith, ltb-false (position_or_len test xs) (length xs) b))

@@ -1,6 +1,7 @@
 pub mod Firsts
 pub mod Maps
-mod Places
+mod There
+mod Told
 mod Begins
 pub mod Cells
 pub mod OfPage

@@ -1,5 +1,6 @@
 pub mod Room
 pub mod Tables
+pub mod There
 pub mod KeptLives
 pub mod KeptSpare
 pub mod Views

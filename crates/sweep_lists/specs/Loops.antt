@@ -5,7 +5,7 @@ use Rattle.sweep_lists.specs.declared.life.Life.{Life}
 use Rattle.sweep_lists.specs.declared.hand.CoreHand.{CoreHand}
 use Rattle.sweep_laws.specs.Reading.{is_swept_set}
 use Rattle.sweep_laws.specs.ChangesOfLives.{marks_at}
-use Rattle.std.specs.Prelude.{Bool, if◌then◌else◌}
+use Rattle.std.specs.Prelude.{Bool, if◌then◌else◌, Option, option_map}
 
 -- the list with f of its places in the k first of them; its first place has the number n
 abbrev pub changed_to : {A : Type 0} → (ℕ → A → A) → ℕ → ℕ → List A → List A
@@ -23,6 +23,10 @@ emptied_at generation n s = emptied_unless (is_swept_set generation n) s
 -- a life with its marks
 abbrev pub marked : List (ℕ × ℕ) → ℕ → Life → Life
 marked marks n life = record life { kept = record life.kept { items = marks_at life.page marks } }
+
+-- a place whose life, if one is there, has its marks
+abbrev pub marked_place : List (ℕ × ℕ) → ℕ → Option Life → Option Life
+marked_place marks n place = option_map (marked marks n) place
 
 -- a hand that forgot what it swept
 abbrev pub without_swept : ℕ → CoreHand → CoreHand

@@ -11,6 +11,7 @@ mod life;
 mod lives;
 mod marks;
 mod numbers;
+mod places;
 mod set;
 mod spare;
 

@@ -1,15 +1,18 @@
 //! All spans, with a table by page beside them. Only the methods here write the two, always both. A life comes and goes under the
 //! heap lock; a mark end writes what each keeps.
 
-ghost use Rattle.std.specs.Prelude.{◌≡◌, ◌==◌, ◌≤◌, ◌<◌, ℕ, true, map, length, OnOk, OnErr, IfOk, option_map, None, Some, if◌then◌else◌, slice_index_or, slice_set, [], ◌∷◌, ◌++◌, drop};
-ghost use Rattle.std.specs.List.{All, find, position};
+ghost use Rattle.std.specs.Prelude.{◌≡◌, ◌==◌, ◌≤◌, ◌<◌, true, map, length, OnOk, OnErr, IfOk, option_map, [], ◌∷◌, ◌++◌};
+ghost use Rattle.std.specs.List.{All, find};
 ghost use Rattle.sweep_laws.specs.ChangesOfLives.{marks_at, mark_life, change_life, drop_life as dropped_life, keep_marked as kept_marked, allocate_index as allocated_too};
 ghost use Rattle.sweep_laws.specs.Lists.{rises};
 ghost use Rattle.sweep_laws.specs.Reading.{life_in};
-ghost use Rattle.sweep_lists.specs.Tables.{told, is_below as is_told_below};
 ghost use Rattle.sweep_lists.specs.Views.{life_view, LifeRoom};
 
 use crate::life::Life;
+use crate::places::{
+    allocate_at, first_at, keep_marked_at, make_place, mark_all, next_at, take_pages, tell_next,
+    tell_start,
+};
 use fallible_list::NoMemory;
 use std::alloc::Global;
 use std::marker::Model;
@@ -18,10 +21,15 @@ use std::marker::Model;
 /// which is the first that begins there, so that no list is scanned for it.
 #[derive(Debug, Drop)]
 pub struct Lives {
-    items: Vec<Life>,
+    // In order. The place of a life that left is empty until all places up to the room are used.
+    places: Vec<Option<Life>>,
+    // How many lives there are.
+    used: usize,
     space: usize,
-    // For each page of the region, the first index of a life that begins there.
+    // For each page of the region, the first place whose life begins there.
     starts: Vec<Option<usize>>,
+    // Whether two lives may begin at one page.
+    doubled: bool,
 }
 
 impl Model for Lives {
@@ -43,27 +51,26 @@ impl Lives {
     {
         let starts = vec![in alloc; None; pages as usize]?;
         Ok(Lives {
-            items: Vec::new(alloc),
+            places: Vec::new(alloc),
+            used: 0,
             space: 0,
             starts,
+            doubled: false,
         })
     }
 
-    /// The lives.
-    pub fn as_slice(&self) -> &[Life]
-        ensures { map life_view result.now ≡ self.now.items }
+    /// How many lives there are.
+    pub fn len(&self) -> usize
+        ensures { result ≡ length self.now.items }
     {
-        &self.items
+        self.used
     }
 
-    // The first index of a life that begins at a page.
-    fn index(&self, page: u32) -> Option<usize>
-        ensures { result ≡ position (λ life. life.page == page) self.now.items }
+    /// Whether there are no lives.
+    pub fn is_empty(&self) -> bool
+        ensures { result ≡ (length self.now.items == 0) }
     {
-        match self.starts.get(page as usize) {
-            Some(start) => *start,
-            None => scan(&self.items, page),
-        }
+        self.used == 0
     }
 
     /// The first life that begins at a page: one look into the table for a page of the region, a scan of the lives for
@@ -71,8 +78,8 @@ impl Lives {
     pub fn find(&self, page: u32) -> Option<&Life>
         ensures { option_map (λ life. life_view life.now) result ≡ find (λ life. life.page == page) self.now.items }
     {
-        match self.index(page) {
-            Some(i) => Some(&self.items[i]),
+        match first_at(&self.starts, &self.places, page) {
+            Some(i) => self.places[i].as_ref(),
             None => None,
         }
     }
@@ -87,7 +94,8 @@ impl Lives {
         ensures err { OnErr result (self.new ≡ self.old) }
     {
         if self.space < space {
-            self.items.reserve(space.saturating_sub(self.items.len()))?;
+            self.places
+                .reserve(space.saturating_sub(self.places.len()))?;
             self.space = space;
         }
         Ok(())
@@ -102,7 +110,7 @@ impl Lives {
         ensures full { OnErr result (self.old.space ≤ length self.old.items) }
         ensures err { OnErr result (self.new ≡ self.old) }
     {
-        let space = self.items.len() + 1;
+        let space = self.used + 1;
         self.reserve(space)
     }
 
@@ -112,9 +120,12 @@ impl Lives {
         requires room { LifeRoom life }
         ensures { self.new ≡ record self.old { items = self.old.items ++ life_view life ∷ [] } }
     {
-        let index = self.items.len();
-        let _ = self.items.push(life);
-        number_from(&mut self.starts, &self.items, index);
+        make_place(&mut self.places, &mut self.starts, self.space);
+        let place = self.places.len();
+        let doubled = tell_next(&mut self.starts, life.page, place, self.doubled);
+        self.doubled = doubled;
+        let _ = self.places.push(Some(life));
+        self.used += 1;
     }
 
     /// The first life that begins at a page leaves; those behind it move up. Answers its pages, 0 where there is none.
@@ -122,10 +133,12 @@ impl Lives {
         ensures lives { self.new ≡ record self.old { items = dropped_life page self.old.items } }
         ensures pages { result ≡ (life_in page self.old.items).pages }
     {
-        match self.index(page) {
+        match first_at(&self.starts, &self.places, page) {
             Some(i) => {
-                let pages = self.items.remove(i).pages;
-                number_without(&mut self.starts, &self.items, page as usize, i);
+                let pages = take_pages(&mut self.places[i]);
+                let next = next_at(&self.places, page, self.doubled);
+                tell_start(&mut self.starts, page, next);
+                self.used -= 1;
                 pages
             }
             None => 0,
@@ -139,8 +152,8 @@ impl Lives {
         ensures err { OnErr result (self.new ≡ self.old) }
         ensures full { OnErr result ((life_in page self.old.items).count < length (life_in page self.old.items).kept) }
     {
-        match self.index(page) {
-            Some(i) => self.items[i].keep_marked(),
+        match first_at(&self.starts, &self.places, page) {
+            Some(i) => keep_marked_at(&mut self.places[i]),
             None => Ok(()),
         }
     }
@@ -152,8 +165,8 @@ impl Lives {
         ensures err { OnErr result (self.new ≡ self.old) }
         ensures full { OnErr result ((life_in page self.old.items).count ≤ length (life_in page self.old.items).allocated) }
     {
-        match self.index(page) {
-            Some(i) => self.items[i].allocate(index),
+        match first_at(&self.starts, &self.places, page) {
+            Some(i) => allocate_at(&mut self.places[i], index),
             None => Ok(()),
         }
     }
@@ -165,101 +178,7 @@ impl Lives {
         ensures err { OnErr result (self.new ≡ self.old) }
         ensures full { OnErr result (All (λ life. length (marks_at life.page marks.now) ≤ life.count) self.old.items → ⊥) }
     {
-        mark_all(&mut self.items, marks)
-    }
-}
-
-// The first index of a life that begins at a page.
-fn scan(lives: &[Life], page: u32) -> Option<usize>
-    ensures { result ≡ position (λ life. life.page == page) lives.now }
-{
-    lives.iter().position(|life| life.page == page)
-}
-
-// The table tells where lives begin after the first that began at a page left the place `from`.
-fn number_without(starts: &mut [Option<usize>], lives: &[Life], page: usize, from: usize)
-    ensures { (p : ℕ) → p < length starts.old → slice_index_or starts.new p None ≡ told from from (slice_index_or (slice_set starts.old page None) p None) (position (λ life. life.page == p) (drop from lives.now)) }
-{
-    forget_start(starts, page);
-    number_from(starts, lives, from);
-}
-
-// The table tells of no life that begins at a page.
-fn forget_start(starts: &mut [Option<usize>], page: usize)
-    ensures { starts.new ≡ slice_set starts.old page None }
-{
-    if page < starts.len() {
-        starts[page] = None;
-    }
-}
-
-// The table tells the first index of a life at each page, where one of the lives from `from` on begins at it and none
-// of those before.
-fn number_from(starts: &mut [Option<usize>], lives: &[Life], from: usize)
-    ensures { (p : ℕ) → p < length starts.old → slice_index_or starts.new p None ≡ told from from (slice_index_or starts.old p None) (position (λ life. life.page == p) (drop from lives.now)) }
-{
-    let mut k = lives.len();
-    while from < k {
-        k -= 1;
-        tell_start(starts, lives[k].page as usize, k, from);
-    }
-}
-
-// The table tells that the life at index `k` begins at a page, unless it tells a place before `from` there.
-fn tell_start(starts: &mut [Option<usize>], page: usize, k: usize, from: usize)
-    ensures { starts.new ≡ slice_set starts.old page (if is_told_below from (slice_index_or starts.old page None) then slice_index_or starts.old page None else Some k) }
-{
-    if page < starts.len() && !is_below(starts[page], from) {
-        starts[page] = Some(k);
-    }
-}
-
-// Whether an index is there and below a bound.
-fn is_below(index: Option<usize>, bound: usize) -> bool
-    ensures { result ≡ is_told_below bound index }
-{
-    match index {
-        Some(i) => i < bound,
-        None => false,
-    }
-}
-
-// Each life keeps its marks. It fails only where one has more marks than objects.
-fn mark_all(lives: &mut [Life], marks: &[(u32, u32)]) -> Result<(), NoMemory>
-    requires { rises marks.now ≡ true }
-    ensures pages { map (λ life. life.page) lives.new ≡ map (λ life. life.page) lives.old }
-    ensures ok { OnOk result (map life_view lives.new ≡ map (mark_life marks.now) (map life_view lives.old)) }
-    ensures err { OnErr result (map life_view lives.new ≡ map life_view lives.old) }
-    ensures room { All LifeRoom lives.old → All LifeRoom lives.new }
-    ensures full { OnErr result (All LifeRoom lives.old → All (λ life. length (marks_at life.page marks.now) ≤ life.count) (map life_view lives.old) → ⊥) }
-{
-    reserve_marks(lives, marks)?;
-    set_marks(lives, marks);
-    Ok(())
-}
-
-// Each life gets room for its marks. It fails only where one has more marks than objects.
-fn reserve_marks(lives: &mut [Life], marks: &[(u32, u32)]) -> Result<(), NoMemory>
-    requires { rises marks.now ≡ true }
-    ensures view { map life_view lives.new ≡ map life_view lives.old }
-    ensures ok { OnOk result (All (λ life. length (marks_at life.page marks.now) ≤ life.kept.space) lives.new) }
-    ensures room { All LifeRoom lives.old → All LifeRoom lives.new }
-    ensures full { OnErr result (All LifeRoom lives.old → All (λ life. length (marks_at life.page marks.now) ≤ life.count) (map life_view lives.old) → ⊥) }
-{
-    for k in 0..lives.len() {
-        lives[k].reserve_marks(marks)?;
-    }
-    Ok(())
-}
-
-// Each life keeps its marks.
-fn set_marks(lives: &mut [Life], marks: &[(u32, u32)])
-    requires rising { rises marks.now ≡ true }
-    requires room { All (λ life. length (marks_at life.page marks.now) ≤ life.kept.space) lives.old }
-    ensures view { map life_view lives.new ≡ map (mark_life marks.now) (map life_view lives.old) }
-    ensures room { All LifeRoom lives.old → All LifeRoom lives.new }
-{
-    for k in 0..lives.len() {
-        lives[k].set_marks(marks);
+        make_place(&mut self.places, &mut self.starts, self.used + 1);
+        mark_all(&mut self.places, marks)
     }
 }
