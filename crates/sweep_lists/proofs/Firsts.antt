@@ -1,10 +1,10 @@
 -- The first item that passes a test, by its index.
-use Rattle.std.proofs.Common.{◌≡◌, ℕ, zero, suc, ◌<◌, Bool, true, false, cond, List, [], ◌∷◌, length, get_or, set, refl, ap, arith, Some, None, nat_lt}
+use Rattle.std.proofs.Common.{◌≡◌, ℕ, zero, suc, ◌<◌, Bool, true, false, cond, List, [], ◌∷◌, length, get_or, refl, ap, arith, Some, None, nat_lt}
 use Rattle.std.proofs.lemmas.Bool.{ltb-false}
-use Rattle.std.specs.List.{find, position, remove, position_or_len}
+use Rattle.std.specs.List.{position, remove, position_or_len}
 use Rattle.std.proofs.lemmas.List.Quantifiers.{position-Some}
 use Rattle.std.proofs.lemmas.List.Sums.{fails_before_first}
-use Rattle.sweep_laws.specs.Lists.{drop_first, change_first}
+use Rattle.sweep_laws.specs.Lists.{drop_first}
 
 not_some : (b : Bool) (n : ℕ) → cond b (Some n) None ≡ None → b ≡ false
 not_some true n e = absurd (cc)
@@ -21,16 +21,6 @@ module _ {A : Type 0} (test : A → Bool) where
   drop-none [] d before = refl
   drop-none (x ∷ xs) d before = rw (before zero (omega arith)) (ap (λ ys. x ∷ ys) (drop-none xs d (λ k l. before (suc k) (omega arith))))
 
-  change-found : (f : A → A) (xs : List A) (i : ℕ) (d : A) → i < length xs → test (get_or xs i d) ≡ true → ((k : ℕ) → k < i → test (get_or xs k d) ≡ false) → change_first test f xs ≡ set xs i (f (get_or xs i d))
-  change-found f [] i d low at before = absurd (omega arith)
-  change-found f (x ∷ xs) zero d low at before = rw at refl
-  change-found f (x ∷ xs) (suc i) d low at before =
-      rw (before zero (omega arith)) (ap (λ ys. x ∷ ys) (change-found f xs i d (omega arith) at (λ k l. before (suc k) (omega arith))))
-
-  change-none : (f : A → A) (xs : List A) (d : A) → ((k : ℕ) → k < length xs → test (get_or xs k d) ≡ false) → change_first test f xs ≡ xs
-  change-none f [] d before = refl
-  change-none f (x ∷ xs) d before = rw (before zero (omega arith)) (ap (λ ys. x ∷ ys) (change-none f xs d (λ k l. before (suc k) (omega arith))))
-
   -- no position: the test fails everywhere
   pub none-fails : (xs : List A) (d : A) → position test xs ≡ None → (k : ℕ) → k < length xs → test (get_or xs k d) ≡ false
   none-fails xs d e k low =
@@ -43,27 +33,3 @@ module _ {A : Type 0} (test : A → Bool) where
   pub drop-absent : (xs : List A) → position test xs ≡ None → drop_first test xs ≡ xs
   drop-absent [] e = refl
   drop-absent (x ∷ xs) e = drop-none (x ∷ xs) x (none-fails (x ∷ xs) x e)
-
-  pub change-at : (f : A → A) (xs : List A) (i : ℕ) (d : A) → position test xs ≡ Some i → change_first test f xs ≡ set xs i (f (get_or xs i d))
-  change-at f xs i d e = let p = position-Some test xs i d e in change-found f xs i d p.0 p.1 p.2
-
-  pub change-absent : (f : A → A) (xs : List A) → position test xs ≡ None → change_first test f xs ≡ xs
-  change-absent f [] e = refl
-  change-absent f (x ∷ xs) e = change-none f (x ∷ xs) x (none-fails (x ∷ xs) x e)
-
-  find-found : (xs : List A) (i : ℕ) (d : A) → i < length xs → test (get_or xs i d) ≡ true → ((k : ℕ) → k < i → test (get_or xs k d) ≡ false) → find test xs ≡ Some (get_or xs i d)
-  find-found [] i d low at before = absurd (omega arith)
-  find-found (x ∷ xs) zero d low at before = rw at refl
-  find-found (x ∷ xs) (suc i) d low at before =
-      rw (before zero (omega arith)) (find-found xs i d (omega arith) at (λ k l. before (suc k) (omega arith)))
-
-  find-none : (xs : List A) (d : A) → ((k : ℕ) → k < length xs → test (get_or xs k d) ≡ false) → find test xs ≡ None
-  find-none [] d before = refl
-  find-none (x ∷ xs) d before = rw (before zero (omega arith)) (find-none xs d (λ k l. before (suc k) (omega arith)))
-
-  pub find-at : (xs : List A) (i : ℕ) (d : A) → position test xs ≡ Some i → find test xs ≡ Some (get_or xs i d)
-  find-at xs i d e = let p = position-Some test xs i d e in find-found xs i d p.0 p.1 p.2
-
-  pub find-absent : (xs : List A) → position test xs ≡ None → find test xs ≡ None
-  find-absent [] e = refl
-  find-absent (x ∷ xs) e = find-none (x ∷ xs) x (none-fails (x ∷ xs) x e)

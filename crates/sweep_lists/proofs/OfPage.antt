@@ -1,5 +1,5 @@
 -- The marks of one page.
-use Rattle.std.proofs.Common.{◌≡◌, ℕ, ◌+◌, ◌<◌, ◌≤◌, ◌==◌, Bool, true, false, if◌then◌else◌, List, [], ◌∷◌, ◌++◌, length, get_or, take, drop, refl, ap, subst, ◌∙◌, ◌≢◌, arith, rules}
+use Rattle.std.proofs.Common.{◌≡◌, ℕ, suc, eq-eqb, ◌+◌, ◌<◌, ◌≤◌, ◌==◌, Bool, true, false, if◌then◌else◌, List, [], ◌∷◌, ◌++◌, length, get_or, take, drop, refl, ap, subst, ◌∙◌, ◌≢◌, arith, rules}
 use borrow.Author.Tests.{tests}
 use Rattle.std.proofs.lemmas.List.{take_more, length-append, append-nil, take-append-drop}
 use Rattle.sweep_laws.specs.ChangesOfLives.{marks_at}
@@ -52,3 +52,8 @@ full-here page ms i d low is =
     let a = count-here page ms i d low is in
     let f = subst (λ xs. length (marks_at page (take (i + 1) ms)) ≤ length (marks_at page xs)) (take-append-drop (i + 1) ms) (marks-front page (take (i + 1) ms) (drop (i + 1) ms)) in
     omega arith
+
+-- marks that all name the page
+pub all-here : (page : ℕ) (ms : List (ℕ × ℕ)) → ((k : ℕ) (d : ℕ × ℕ) → k < length ms → (get_or ms k d).0 ≡ page) → length (marks_at page ms) ≡ length ms
+all-here page [] here = refl
+all-here page (m ∷ ms) here = rw (eq-eqb m.0 page (here 0 m (omega arith))) (ap (λ n. suc n) (all-here page ms (λ k d low. here (suc k) d (omega arith))))

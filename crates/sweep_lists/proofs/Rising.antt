@@ -3,7 +3,7 @@ use Rattle.std.proofs.Common.{◌≡◌, ◌≢◌, ℕ, zero, suc, ◌+◌, ◌
 use Rattle.std.specs.Prelude.{slice_range}
 use Rattle.std.specs.List.Sorted.{IsNonDecreasingBy}
 use Rattle.std.proofs.lemmas.Bool.{eqb-true, ltb-true}
-use Rattle.std.proofs.lemmas.List.{take-append-drop, append-nil, get_or-take, get_or-drop, length-take, length-drop}
+use Rattle.std.proofs.lemmas.List.{take-append-drop, append-nil, get_or_default, get_or-take, get_or-drop, length-take, length-drop}
 use Rattle.std.proofs.lemmas.List.Sorted.{IsNonDecreasingBy-from_all_adjacent}
 use mathlib.Core.Logic.{dite}
 use native.Mathlib.Decide.{dec_le}
@@ -58,3 +58,27 @@ marks_between page start end ms order inside before behind =
     back : marks_at page (drop n (drop start ms)) ≡ []
     back = none_of page (drop n (drop start ms)) (λ k low. let e = ap (λ (m : ℕ × ℕ). m.0) (get_or-drop n (drop start ms) k (0, 0) ∙ get_or-drop start ms (n + k) (0, 0)) in
         let b = behind (start + (n + k)) (0, 0) (omega arith) (omega (arith, length-drop n (drop start ms), length-drop start ms)) in λ s. omega arith)
+
+-- marks before one of a page below, and marks behind one of a page above
+
+pub before_rise : (ms : List (ℕ × ℕ)) (page n : ℕ) → rises ms ≡ true → n ≤ length ms → (n ≡ 0 → ⊥) → (get_or ms (n - 1) (0, 0)).0 < page → (k : ℕ) (d : ℕ × ℕ) → k < n → (get_or ms k d).0 < page
+before_rise ms page n rise inside some last k d low =
+    let r = pages_rise ms rise k (n - 1) (0, 0) (omega arith) (omega arith) in
+    let e = ap (λ (m : ℕ × ℕ). m.0) (get_or_default ms k d (0, 0) (omega arith)) in
+    omega arith
+
+pub behind_rise : (ms : List (ℕ × ℕ)) (page n : ℕ) (e : ℕ × ℕ) → rises ms ≡ true → n < length ms → page ≤ (get_or ms n e).0 → (k : ℕ) (d : ℕ × ℕ) → n ≤ k → k < length ms → page ≤ (get_or ms k d).0
+behind_rise ms page n e rise inside first k d from low =
+    let r = pages_rise ms rise n k d from low in
+    let s = ap (λ (m : ℕ × ℕ). m.0) (get_or_default ms n d e inside) in
+    omega arith
+
+-- marks between those of the pages before and those of the pages behind are of the page
+pub between_pages : (page start end : ℕ) (ms : List (ℕ × ℕ)) → start ≤ end → end ≤ length ms → ((k : ℕ) (d : ℕ × ℕ) → start ≤ k → k < length ms → page ≤ (get_or ms k d).0)
+    → ((k : ℕ) (d : ℕ × ℕ) → k < end → (get_or ms k d).0 < page + 1) → (k : ℕ) (d : ℕ × ℕ) → k < length (slice_range ms start end) → (get_or (slice_range ms start end) k d).0 ≡ page
+between_pages page start end ms order inside behind before k d low =
+    let l : k < end - start = omega (arith, length-take (end - start) (drop start ms)) in
+    let e = ap (λ (m : ℕ × ℕ). m.0) (get_or-take (end - start) (drop start ms) k d l ∙ get_or-drop start ms k d) in
+    let a = behind (start + k) d (omega arith) (omega arith) in
+    let b = before (start + k) d (omega arith) in
+    omega arith

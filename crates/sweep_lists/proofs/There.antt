@@ -1,10 +1,10 @@
 -- Lists of places, of which some are empty: what is found there, and what changes.
-use Rattle.std.proofs.Common.{◌≡◌, ℕ, zero, suc, ◌+◌, ◌<◌, ◌≤◌, Bool, true, false, cond, List, [], ◌∷◌, ◌++◌, length, get_or, set, map, refl, sym, ap, ◌∙◌, Option, Some, None, option_map, is_some, arith}
+use Rattle.std.proofs.Common.{◌≡◌, ℕ, zero, suc, ◌+◌, ◌<◌, Bool, true, false, cond, List, [], ◌∷◌, ◌++◌, length, get_or, set, map, refl, sym, ap, ◌∙◌, Option, Some, None, option_map, is_some, arith}
 use Rattle.std.specs.List.{All, find, filter, position, count_by}
 use Rattle.std.specs.Option.{IfSome}
 use Rattle.std.proofs.lemmas.List.Elements.{All-nil, All-cons, All-head, All-tail}
 use Rattle.std.proofs.lemmas.List.Quantifiers.{position-Some}
-use Rattle.std.proofs.lemmas.List.Sums.{sum_by-cons, sum_by-set}
+use Rattle.std.proofs.lemmas.List.Sums.{sum_by-cons}
 use Rattle.sweep_laws.specs.Lists.{drop_first, change_first}
 use Rattle.sweep_lists.specs.There.{there, passes}
 use Rattle.sweep_lists.proofs.Firsts.{none-fails}

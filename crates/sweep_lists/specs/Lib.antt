@@ -5,4 +5,5 @@ pub mod KeptLives
 pub mod KeptSpare
 pub mod Views
 pub mod Loops
+pub mod Marks
 pub mod Bare

@@ -1,7 +1,7 @@
 //! One span. What is allocated is written by the worker that has the span: it allocates in its cache, and ends its sweep. What is
 //! kept is written by a mark end alone, and read by the sweep behind it.
 
-ghost use Rattle.std.specs.Prelude.{◌≡◌, ◌≤◌, ◌<◌, true, length, OnOk, OnErr};
+ghost use Rattle.std.specs.Prelude.{◌≡◌, ◌≤◌, ◌<◌, ℕ, true, length, OnOk, OnErr, slice_index_or};
 ghost use Rattle.sweep_laws.specs.ChangesOfLives.{marks_at, keep_marked as kept_marked, allocate_index as allocated_too};
 ghost use Rattle.sweep_laws.specs.Lists.{rises};
 ghost use Rattle.sweep_lists.specs.Loops.{marked};
@@ -9,7 +9,7 @@ ghost use Rattle.sweep_lists.specs.Views.{life_view, LifeRoom};
 
 use crate::entries::Entries;
 use crate::indices::Indices;
-use crate::marks::marks_of;
+use crate::marks::run_of;
 use fallible_list::NoMemory;
 
 /// A span from its Take to its Give.
@@ -54,51 +54,43 @@ impl Life {
         Ok(())
     }
 
-    // Makes room for the marks of this life.
-    pub(crate) fn reserve_marks(&mut self, marks: &[(u32, u32)]) -> Result<(), NoMemory>
+    // Makes room for the marks of this life, which may begin at `hint`. Answers where they end.
+    pub(crate) fn reserve_marks(
+        &mut self,
+        marks: &[(u32, u32)],
+        hint: usize,
+    ) -> Result<usize, NoMemory>
         requires { rises marks.now ≡ true }
         ensures view { life_view self.new ≡ life_view self.old }
         ensures ok { OnOk result (length (marks_at self.new.page marks.now) ≤ self.new.kept.space) }
         ensures room { LifeRoom self.old → LifeRoom self.new }
         ensures full { OnErr result (self.old.kept.space < length (marks_at self.old.page marks.now)) }
     {
-        let own = marks_of(marks, self.page);
-        self.kept.reserve(count_marks(own, self.page))
+        let run = run_of(marks, self.page, hint);
+        self.kept.reserve(run.end - run.start)?;
+        Ok(run.end)
     }
 
-    // What is kept is what is marked.
-    pub(crate) fn set_marks(&mut self, marks: &[(u32, u32)])
+    // What is kept is what is marked. The marks of this life may begin at `hint`. Answers where they end.
+    pub(crate) fn set_marks(&mut self, marks: &[(u32, u32)], hint: usize) -> usize
         requires rising { rises marks.now ≡ true }
         requires room { length (marks_at self.old.page marks.now) ≤ self.old.kept.space }
         ensures { self.new ≡ marked marks.now 0 self.old }
     {
-        let own = marks_of(marks, self.page);
-        self.keep_marks(own);
+        let run = run_of(marks, self.page, hint);
+        self.keep_marks(&marks[run.start..run.end]);
+        run.end
     }
 
-    // What is kept is what some marks name in this life.
+    // What is kept is what some marks name, all of them in this life.
     fn keep_marks(&mut self, marks: &[(u32, u32)])
-        requires { length (marks_at self.old.page marks.now) ≤ self.old.kept.space }
+        requires pages { (k : ℕ) (d : ℕ × ℕ) → k < length marks.now → (slice_index_or marks.now k d).0 ≡ self.old.page }
+        requires room { length (marks_at self.old.page marks.now) ≤ self.old.kept.space }
         ensures { self.new ≡ marked marks.now 0 self.old }
     {
         self.kept.clear();
         for mark in marks {
-            if mark.0 == self.page {
-                self.kept.push(mark.1);
-            }
+            self.kept.push(mark.1);
         }
     }
-}
-
-// How many marks name a page.
-fn count_marks(marks: &[(u32, u32)], page: u32) -> usize
-    ensures { result ≡ length (marks_at page marks.now) }
-{
-    let mut count = 0;
-    for mark in marks {
-        if mark.0 == page {
-            count += 1;
-        }
-    }
-    count
 }

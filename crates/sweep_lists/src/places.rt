@@ -211,14 +211,19 @@ fn reserve_marks(places: &mut [Option<Life>], marks: &[(u32, u32)]) -> Result<()
     ensures room { All PlaceRoom places.old → All PlaceRoom places.new }
     ensures full { OnErr result (All PlaceRoom places.old → All (λ life. length (marks_at life.page marks.now) ≤ life.count) (there (map place_view places.old)) → ⊥) }
 {
+    let mut hint = 0;
     for k in 0..places.len() {
-        reserve_marks_at(&mut places[k], marks)?;
+        hint = reserve_marks_at(&mut places[k], marks, hint)?;
     }
     Ok(())
 }
 
-// The life of a place gets room for its marks.
-fn reserve_marks_at(place: &mut Option<Life>, marks: &[(u32, u32)]) -> Result<(), NoMemory>
+// The life of a place gets room for its marks, which may begin at `hint`. Answers where they end.
+fn reserve_marks_at(
+    place: &mut Option<Life>,
+    marks: &[(u32, u32)],
+    hint: usize,
+) -> Result<usize, NoMemory>
     requires { rises marks.now ≡ true }
     ensures view { place_view place.new ≡ place_view place.old }
     ensures ok { OnOk result (IfSome place.new (λ life. length (marks_at life.page marks.now) ≤ life.kept.space)) }
@@ -226,8 +231,8 @@ fn reserve_marks_at(place: &mut Option<Life>, marks: &[(u32, u32)]) -> Result<()
     ensures full { OnErr result (PlaceRoom place.old → IfSome (place_view place.old) (λ life. length (marks_at life.page marks.now) ≤ life.count) → ⊥) }
 {
     match place {
-        Some(life) => life.reserve_marks(marks),
-        None => Ok(()),
+        Some(life) => life.reserve_marks(marks, hint),
+        None => Ok(hint),
     }
 }
 
@@ -238,18 +243,20 @@ fn set_marks(places: &mut [Option<Life>], marks: &[(u32, u32)])
     ensures view { map place_view places.new ≡ map (option_map (mark_life marks.now)) (map place_view places.old) }
     ensures room { All PlaceRoom places.old → All PlaceRoom places.new }
 {
+    let mut hint = 0;
     for k in 0..places.len() {
-        set_marks_at(&mut places[k], marks);
+        hint = set_marks_at(&mut places[k], marks, hint);
     }
 }
 
-// The life of a place keeps its marks.
-fn set_marks_at(place: &mut Option<Life>, marks: &[(u32, u32)])
+// The life of a place keeps its marks, which may begin at `hint`. Answers where they end.
+fn set_marks_at(place: &mut Option<Life>, marks: &[(u32, u32)], hint: usize) -> usize
     requires rising { rises marks.now ≡ true }
     requires room { IfSome place.old (λ life. length (marks_at life.page marks.now) ≤ life.kept.space) }
     ensures { place.new ≡ marked_place marks.now 0 place.old }
 {
-    if let Some(life) = place {
-        life.set_marks(marks);
+    match place {
+        Some(life) => life.set_marks(marks, hint),
+        None => hint,
     }
 }

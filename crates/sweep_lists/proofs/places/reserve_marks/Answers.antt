@@ -13,17 +13,17 @@ use Rattle.sweep_lists.specs.There.{there, place_view, PlaceRoom}
 use Rattle.sweep_lists.proofs.There.{All-there}
 use Rattle.sweep_lists.proofs.places.reserve_marks.Goals as goal
 
-pub returns-in_err-reserve_marks_at-clause-view : goal.returns-in_err-reserve_marks_at-clause-view
-returns-in_err-reserve_marks_at-clause-view c =
-    map-set_same place_view c.loop-k.places c.loop-k.k c.reserve_marks_at.new.place c.index-places-k.result c.in_err-reserve_marks_at.ensures.view ∙ c.loop-k.invariant.same
+pub returns-in_err-hint-clause-view : goal.returns-in_err-hint-clause-view
+returns-in_err-hint-clause-view c =
+    map-set_same place_view c.loop-k.places c.loop-k.k c.reserve_marks_at.new.place c.index-places-k.result c.in_err-hint.ensures.view ∙ c.loop-k.invariant.same
 
-pub returns-in_err-reserve_marks_at-clause-room : goal.returns-in_err-reserve_marks_at-clause-room
-returns-in_err-reserve_marks_at-clause-room c = λ all.
+pub returns-in_err-hint-clause-room : goal.returns-in_err-hint-clause-room
+returns-in_err-hint-clause-room c = λ all.
     let low : c.loop-k.k < length c.loop-k.places = search rules in
-    All-set PlaceRoom c.loop-k.places c.loop-k.k c.reserve_marks_at.new.place (c.in_err-reserve_marks_at.ensures.room (c.loop-k.invariant.room all c.loop-k.k c.index-places-k.result low)) (c.loop-k.invariant.room all)
+    All-set PlaceRoom c.loop-k.places c.loop-k.k c.reserve_marks_at.new.place (c.in_err-hint.ensures.room (c.loop-k.invariant.room all c.loop-k.k c.index-places-k.result low)) (c.loop-k.invariant.room all)
 
-pub returns-in_err-reserve_marks_at-clause-full : goal.returns-in_err-reserve_marks_at-clause-full
-returns-in_err-reserve_marks_at-clause-full c =
+pub returns-in_err-hint-clause-full : goal.returns-in_err-hint-clause-full
+returns-in_err-hint-clause-full c =
     let p = err_from_is_err_and c.from_residual.result c.from_residual.ensures.1 in
     let d : Option Life = c.index-places-k.result in
     let low : c.loop-k.k < length c.loop-k.places = search rules in
@@ -33,7 +33,7 @@ returns-in_err-reserve_marks_at-clause-full c =
     let all = subst (λ (xs : List (Option LifeState)). All (λ (x : LifeState). length (marks_at x.page c.args.marks.now) ≤ x.count) (there xs)) (sym c.loop-k.invariant.same) marks in
     let each = All-there (λ (x : LifeState). length (marks_at x.page c.args.marks.now) ≤ x.count) (map place_view c.loop-k.places) all in
     let few = subst (λ (x : Option LifeState). IfSome x (λ (s : LifeState). length (marks_at s.page c.args.marks.now) ≤ s.count)) (get_or-map place_view c.loop-k.places c.loop-k.k d) (each c.loop-k.k (place_view d) low') in
-    c.in_err-reserve_marks_at.ensures.full here few)
+    c.in_err-hint.ensures.full here few)
 
 pub loop-k-preserved : goal.loop-k-preserved
 loop-k-preserved c =
@@ -41,9 +41,9 @@ loop-k-preserved c =
     let low : c.loop-k.k < length c.loop-k.places = search rules in
     let new : Option Life = c.reserve_marks_at.new.place in
     record {
-      same = map-set_same place_view c.loop-k.places c.loop-k.k new d c.in_ok-reserve_marks_at.ensures.view ∙ c.loop-k.invariant.same;
+      same = map-set_same place_view c.loop-k.places c.loop-k.k new d c.in_ok-hint.ensures.view ∙ c.loop-k.invariant.same;
       done = λ j e lt. below_more (λ (i : ℕ). (x : Option Life) → IfSome (get_or (set c.loop-k.places c.loop-k.k new) i x) (λ (life : Life). length (marks_at life.page c.args.marks.now) ≤ life.kept.space)) c.loop-k.k
           (λ i l x. subst (λ (y : Option Life). IfSome y (λ (life : Life). length (marks_at life.page c.args.marks.now) ≤ life.kept.space)) (sym (get_or-set_other c.loop-k.places c.loop-k.k i new x (omega arith))) (c.loop-k.invariant.done i x l))
-          (λ x. subst (λ (y : Option Life). IfSome y (λ (life : Life). length (marks_at life.page c.args.marks.now) ≤ life.kept.space)) (sym (get_or-set_same c.loop-k.places c.loop-k.k new x low)) c.in_ok-reserve_marks_at.ensures.ok) j lt e;
+          (λ x. subst (λ (y : Option Life). IfSome y (λ (life : Life). length (marks_at life.page c.args.marks.now) ≤ life.kept.space)) (sym (get_or-set_same c.loop-k.places c.loop-k.k new x low)) c.in_ok-hint.ensures.ok) j lt e;
       room = λ all. All-set PlaceRoom c.loop-k.places c.loop-k.k new (c.reserve_marks_at.ensures.room (c.loop-k.invariant.room all c.loop-k.k d low)) (c.loop-k.invariant.room all);
     }

@@ -16,15 +16,15 @@ room-marked : (marks : List (ℕ × ℕ)) (place : Option Life) → PlaceRoom pl
 room-marked marks None room = room
 room-marked marks (Some life) room = record { allocated = room.allocated; kept = room.kept; table = room.table }
 
-pub set_marks_at-requires-clause-room : goal.set_marks_at-requires-clause-room
-set_marks_at-requires-clause-room c =
+pub set_marks_at-hint-requires-clause-room : goal.set_marks_at-hint-requires-clause-room
+set_marks_at-hint-requires-clause-room c =
     let low : c.loop-k.k < length c.args.places.now = search rules in
     subst (λ (place : Option Life). IfSome place (λ (life : Life). length (marks_at life.page c.args.marks.now) ≤ life.kept.space))
     (sym (changed-later (marked_place c.args.marks.now) c.loop-k.k c.args.places.now c.loop-k.places c.index-places-k.result c.loop-k.invariant))
     (c.requires.room c.loop-k.k c.index-places-k.result low)
 
 pub loop-k-preserved : goal.loop-k-preserved
-loop-k-preserved c = rw c.set_marks_at.ensures (changed-more (marked_place c.args.marks.now) c.loop-k.k c.args.places.now c.loop-k.places c.index-places-k.result (search rules) c.loop-k.invariant)
+loop-k-preserved c = rw c.set_marks_at-hint.ensures (changed-more (marked_place c.args.marks.now) c.loop-k.k c.args.places.now c.loop-k.places c.index-places-k.result (search rules) c.loop-k.invariant)
 
 pub returns-clause-view : goal.returns-clause-view
 returns-clause-view c =

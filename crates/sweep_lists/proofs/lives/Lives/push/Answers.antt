@@ -1,7 +1,5 @@
-use Rattle.std.proofs.Common.{◌≡◌, ◌∙◌, ◌<◌, ◌++◌, ◌∷◌, [], ℕ, List, Option, length, sym, ap, map, vec_capacity, arith}
-use Rattle.std.proofs.lemmas.List.{length-map}
+use Rattle.std.proofs.Common.{◌∙◌, ◌++◌, ◌∷◌, [], List, ap, map, arith}
 use Rattle.sweep_laws.specs.State.{LifeState}
-use Rattle.sweep_lists.specs.declared.life.Life.{Life}
 use Rattle.sweep_lists.specs.declared.lives.Lives.TheInside.{Inside}
 use Rattle.sweep_lists.specs.KeptLives.{AreKept}
 use Rattle.sweep_lists.specs.There.{there, place_view}
