@@ -25,7 +25,7 @@ swept=$(seconds 64000 1 sweep)
 awk -v e="$one" -v s="$swept" 'BEGIN {
   printf "64000 spans: a move to take and queue a span %.0f ns, a move to sweep one %.0f ns\n", e / (8 * 64000) * 1e9, (s - e) / (5 * 64000) * 1e9
 }'
-# The first span in the list of lives is given each time, so that all others move up.
+# The first span in the list of lives is given each time.
 for spans in 4000 16000; do
   swept=$(seconds "$spans" 1 sweep)
   given=$(seconds "$spans" 1 give)

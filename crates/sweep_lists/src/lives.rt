@@ -128,7 +128,7 @@ impl Lives {
         self.used += 1;
     }
 
-    /// The first life that begins at a page leaves; those behind it move up. Answers its pages, 0 where there is none.
+    /// The first life that begins at a page leaves. Answers its pages, 0 where there is none.
     pub fn drop_life(&mut self, page: u32) -> u32
         ensures lives { self.new ≡ record self.old { items = dropped_life page self.old.items } }
         ensures pages { result ≡ (life_in page self.old.items).pages }
