@@ -1,6 +1,6 @@
 //! One line of text while it is put together, without memory of its own.
 
-ghost use Rattle.std.specs.Prelude.{◌≡◌, ◌+◌, ◌-◌, ◌≤◌, List, ℕ, [], ◌++◌, false, drop, length, take, decimal};
+ghost use Rattle.std.specs.Prelude.{◌≡◌, ◌+◌, ◌-◌, ◌<◌, ◌≤◌, List, ℕ, [], ◌++◌, false, drop, length, take, decimal};
 ghost use Rattle.std.specs.Fmt.{digits};
 
 use crate::digits::{MAX_DIGITS, write_hexadecimal};
@@ -68,6 +68,10 @@ impl TextLine {
         ensures text { self.new ≡ self.old ++ decimal number }
         ensures short { length self.new ≤ length self.old + 20 }
     {
+        if number < 10 {
+            self.push_digit(number as u8);
+            return;
+        }
         let mut digits = [0; 2 * MAX_DIGITS];
         let start = write_digits(number, &mut digits, MAX_DIGITS);
         self.push_digits(&digits, start);
@@ -93,6 +97,17 @@ impl TextLine {
         let mut digits = [0; 2 * MAX_DIGITS];
         let start = write_hexadecimal(number, &mut digits);
         self.push_digits(&digits, start);
+    }
+
+    // Appends the one digit of a number below ten.
+    fn push_digit(&mut self, number: u8)
+        requires below { number < 10 }
+        requires room { length self.old ≤ 127 }
+        ensures text { self.new ≡ self.old ++ decimal number }
+        ensures short { length self.new ≡ length self.old + 1 }
+    {
+        self.bytes[self.used] = b'0' + number;
+        self.used += 1;
     }
 
     // Appends the digits from `start` to the middle of the buffer. As many bytes as a number can have digits are copied,
