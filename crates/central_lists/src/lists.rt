@@ -39,9 +39,10 @@ pub fn cache_span(shop: &Shop, hand: &mut Hand, class: u8) -> Result<FromSets, N
 {
     match look_first(shop, hand, class) {
         Ok(body) => Ok(FromSets::SweptPartial(body)),
-        Err(swept) => match search_unswept(shop, hand, class)? {
-            Search::Gave(body) => Ok(FromSets::SweptHere(body)),
-            Search::Tried(tried) => Ok(FromSets::NeedFresh { swept, tried }),
+        Err(swept) => match search_unswept(shop, hand, class) {
+            Ok(Search::Gave(body)) => Ok(FromSets::SweptHere(body)),
+            Ok(Search::Tried(tried)) => Ok(FromSets::NeedFresh { swept, tried }),
+            Err(NoMemory) => Err(NoMemory),
         },
     }
 }
@@ -73,10 +74,11 @@ fn search_unswept(shop: &Shop, hand: &mut Hand, class: u8) -> Result<Search, NoM
     ensures searches { Searches hand.old.worker.view.generation class hand.old hand.new result }
     ensures tally { Frees shop.now.marks.now hand.old hand.new }
 {
-    match look_through(shop, hand, class, false, 0)? {
-        Through::AllTried(tried) => search_full(shop, hand, class, tried),
-        Through::Enough => Ok(Search::Tried(TRIES)),
-        Through::OneKept(body) => Ok(Search::Gave(body)),
+    match look_through(shop, hand, class, false, 0) {
+        Ok(Through::AllTried(tried)) => search_full(shop, hand, class, tried),
+        Ok(Through::Enough) => Ok(Search::Tried(TRIES)),
+        Ok(Through::OneKept(body)) => Ok(Search::Gave(body)),
+        Err(NoMemory) => Err(NoMemory),
     }
 }
 
@@ -93,10 +95,11 @@ fn search_full(shop: &Shop, hand: &mut Hand, class: u8, before: u32) -> Result<S
     ensures searches { SearchesFull hand.old.worker.view.generation class before hand.old hand.new result }
     ensures tally { Frees shop.now.marks.now hand.old hand.new }
 {
-    match look_through(shop, hand, class, true, before)? {
-        Through::AllTried(tried) => Ok(Search::Tried(tried)),
-        Through::Enough => Ok(Search::Tried(TRIES)),
-        Through::OneKept(body) => Ok(Search::Gave(body)),
+    match look_through(shop, hand, class, true, before) {
+        Ok(Through::AllTried(tried)) => Ok(Search::Tried(tried)),
+        Ok(Through::Enough) => Ok(Search::Tried(TRIES)),
+        Ok(Through::OneKept(body)) => Ok(Search::Gave(body)),
+        Err(NoMemory) => Err(NoMemory),
     }
 }
 

@@ -1,5 +1,5 @@
 -- A placed object is counted in the profile, where it is sampled; what else the allocation did stays.
-use Rattle.std.proofs.Common.{◌≡◌, ℕ, Bool, List, ◌++◌, ap, sym, subst, ◌∙◌}
+use Rattle.std.proofs.Common.{◌≡◌, ℕ, Bool, List, ap, sym, subst, ◌∙◌}
 use Rattle.std.specs.Prelude.{None, Option, Ok, slice_index_or}
 use Rattle.profile_cycle.specs.History.{Standing}
 use Rattle.profile_cycle.specs.Sampling.{Countdown}

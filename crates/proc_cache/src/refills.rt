@@ -70,9 +70,13 @@ pub fn refill(
     ensures used { IsUsedBut class hand.new.worker.view.own proc.new }
 {
     leave_full(proc, shop, hand, class);
-    let (body, from) = find_span(shop, hand, class)?;
-    keep_span(proc, shop, hand, class, body);
-    Ok(from)
+    match find_span(shop, hand, class) {
+        Ok((body, from)) => {
+            keep_span(proc, shop, hand, class, body);
+            Ok(from)
+        }
+        Err(refused) => Err(refused),
+    }
 }
 
 // Lets the full span of a class, if there is one, go to the swept full set. Takes no memory.
@@ -164,10 +168,10 @@ fn take_span(
     match cache_span(shop, hand, class) {
         Ok(FromSets::SweptPartial(body)) => Ok((body, CacheFrom::SweptPartial)),
         Ok(FromSets::SweptHere(body)) => Ok((body, CacheFrom::SweptHere)),
-        Ok(FromSets::NeedFresh { swept, tried }) => {
-            let body = new_span(shop, hand, pages, class)?;
-            Ok((body, CacheFrom::Fresh { swept, tried }))
-        }
+        Ok(FromSets::NeedFresh { swept, tried }) => match new_span(shop, hand, pages, class) {
+            Ok(body) => Ok((body, CacheFrom::Fresh { swept, tried })),
+            Err(refused) => Err(refused),
+        },
         Err(NoMemory) => Err(Refused::NoMemory),
     }
 }

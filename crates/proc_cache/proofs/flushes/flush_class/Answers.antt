@@ -1,4 +1,4 @@
-use Rattle.std.proofs.Common.{refl, ◌≡◌, true, false, ap, sym, subst, ◌∙◌, get_or, set, arith}
+use Rattle.std.proofs.Common.{◌≡◌, true, false, ap, sym, subst, ◌∙◌, get_or, set, arith}
 use Rattle.std.specs.Prelude.{None, Some, Option}
 use Rattle.sweep_laws.specs.Lists.{has}
 use Rattle.span_state.specs.declared.body.Body.{Body}
