@@ -26,7 +26,8 @@ use Rattle.central_lists.specs.declared.answers.Through.{Through}
 use Rattle.central_lists.specs.declared.answers.Through.TheVariants.{AllTried, Enough, OneKept}
 use Rattle.central_lists.specs.Looks.{Saw, SawEmpty, SweptIt, TriedEnough, Whatever}
 use Rattle.central_lists.specs.Works.{Does, just, nothing}
-use Rattle.central_lists.specs.Lists.{Caches, LooksFirst}
+use Rattle.span_laws.specs.BodyAsks.{HasMarks}
+use Rattle.central_lists.specs.Lists.{Caches, HandsOut, LooksFirst}
 use Rattle.central_lists.specs.Tries.{GivesOne, GivesUp, Searches, SearchesFull, SweepsOut, TriedSome, TriesAll, TriesOne}
 use Rattle.central_lists.proofs.Saying.{says-nil, says-trans}
 
@@ -81,7 +82,7 @@ module _ (g class : ℕ) where
   does-count t u m j P a b e x = subst (λ (z : ℕ). Does g class z m j P a b) e x
 
   -- nothing is held by the first work
-  after-nothing : (t u v : ℕ) (n i : ℕ → ℕ) (P Q R : List Entry → Type 0) (a b d : Hand) → Does g class t nothing nothing P a b → Does g class u n i Q b d → t + u ≡ v
+  pub after-nothing : (t u v : ℕ) (n i : ℕ → ℕ) (P Q R : List Entry → Type 0) (a b d : Hand) → Does g class t nothing nothing P a b → Does g class u n i Q b d → t + u ≡ v
       → ((later first : List Entry) → P first → Q later → R (later ++ first)) → Does g class v n i R a d
   after-nothing t u v n i P Q R a b d x y sum r = does-trans t u v nothing n n nothing i i P Q R a b d x y sum (λ q. omega arith) (λ q. omega arith) r
 
@@ -89,17 +90,23 @@ module _ (g class : ℕ) where
   more_swept page later first l = let e = many-append (is_sweep_of page) later first in omega arith
 
   -- a body that the second work hands out is handed out by both
+  pub hands_before : (t : ℕ) (P : List Entry → Type 0) (a b d : Hand) (k : Body) → Does g class t nothing nothing P a b → HandsOut g class k b.worker d.worker → HandsOut g class k a.worker d.worker
+  hands_before t P a b d k x h = record {
+    of_class = h.of_class;
+    room = h.room;
+    held = h.held;
+    lent = h.lent;
+    before = let z = had_still t nothing nothing P a b x k.page in let y = h.before in omega arith;
+    unpopped = h.unpopped;
+  }
+
+  pub marks_before : (t : ℕ) (P : List Entry → Type 0) (a b : Hand) (k : Body) → Does g class t nothing nothing P a b → HasMarks b.worker.view.marks k → HasMarks a.worker.view.marks k
+  marks_before t P a b k x m = λ i. m i ∙ ap (λ v. has_pair v.marks k.page i) x.keeps.view
+
   out_before : (t : ℕ) (P : List Entry → Type 0) (a b d : Hand) (k : Body) → Does g class t nothing nothing P a b → SweepsOut g class k b d → SweepsOut g class k a d
   out_before t P a b d k x o = record {
-    hands_out = let h = o.hands_out in record {
-      of_class = h.of_class;
-      room = h.room;
-      held = h.held;
-      lent = h.lent;
-      before = let z = had_still t nothing nothing P a b x k.page in let y = h.before in omega arith;
-      unpopped = h.unpopped;
-    };
-    marks = λ i. o.marks i ∙ ap (λ v. has_pair v.marks k.page i) x.keeps.view;
+    hands_out = hands_before t P a b d k x o.hands_out;
+    marks = marks_before t P a b k x o.marks;
     untouched = o.untouched;
   }
 
@@ -155,7 +162,7 @@ module _ (g class : ℕ) where
     (t + o.1.0, (let z = o.1.1 in omega arith), after-nothing t o.1.0 (t + o.1.0) (just k.page) (just k.page) P (SweptIt k.page) (SweptIt k.page) a b d x o.1.2 refl (λ s f p q. more_swept k.page s f q)),
   )
 
-  up_after : (t n most : ℕ) (P : List Entry → Type 0) (a b d : Hand) → t + n ≤ most → Does g class t nothing nothing P a b → GivesUp g class n b d → GivesUp g class most a d
+  pub up_after : (t n most : ℕ) (P : List Entry → Type 0) (a b d : Hand) → t + n ≤ most → Does g class t nothing nothing P a b → GivesUp g class n b d → GivesUp g class most a d
   up_after t n most P a b d l x o = (t + o.0, (let z = o.1 in omega arith), after-nothing t o.0 (t + o.0) nothing nothing P Whatever Whatever a b d x o.2 refl (λ s f p q. tt))
 
   -- the tries of a set that was looked at before

@@ -99,9 +99,9 @@ module _ (g class full : ℕ) where
         (sym (append_assoc l.said (Read 1 old.view.generation ∷ []) old.view.own.log));
   }
 
-  -- the set was looked at
-  pub looked : (a d : Hand) (head tail : ℕ) → LooksLast (unswept_set g class full) head tail a.worker d.worker → d.notes.items ≡ a.notes.items → Does g class 0 nothing nothing Whatever a d
-  looked a d head tail l notes = let set = unswept_set g class full in let value = a.worker.view.generation in let said = Looked set head tail ∷ (l.said ++ Read 1 value ∷ []) in
+  -- a set was looked at
+  pub looked_at : (set : ℕ) (a d : Hand) (head tail : ℕ) → LooksLast set head tail a.worker d.worker → d.notes.items ≡ a.notes.items → Does g class 0 nothing nothing Whatever a d
+  looked_at set a d head tail l notes = let value = a.worker.view.generation in let said = Looked set head tail ∷ (l.said ++ Read 1 value ∷ []) in
       let h : Part = record a.worker.view.own { log = Looked set head tail ∷ (l.said ++ Read 1 value ∷ a.worker.view.own.log); read = l.cells ++ a.worker.view.own.read } in record {
         said = said;
         log = ap (λ (w : Seen). w.view.own.log) l.view ∙ ap (λ (x : List Entry). Looked set head tail ∷ x) (sym (append_assoc l.said (Read 1 value ∷ []) a.worker.view.own.log));
@@ -115,8 +115,8 @@ module _ (g class full : ℕ) where
   -- it was seen empty
   pub none_left : (a d : Hand) (head tail : ℕ) → PopsUnswept (unswept_set g class full) a.worker d.worker (EmptyBase head tail) → d.notes.items ≡ a.notes.items
       → Does g class 0 nothing nothing (SawEmpty (unswept_set g class full)) a d
-  unfolding looked
-  none_left a d head tail pops notes = let x = looked a d head tail pops.1 notes in let set = unswept_set g class full in record {
+  unfolding looked_at
+  none_left a d head tail pops notes = let set = unswept_set g class full in let x = looked_at set a d head tail pops.1 notes in record {
     said = x.said;
     log = x.log;
     says = x.says;

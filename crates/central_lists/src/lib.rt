@@ -6,6 +6,7 @@
 #![tactic(auto)]
 
 mod answers;
+mod glances;
 mod lists;
 
 pub use answers::{FromSets, Look};

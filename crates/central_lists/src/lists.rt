@@ -10,6 +10,7 @@ ghost use Rattle.central_lists.specs.Tries.{Searches, SearchesFull, SweepsOne, T
 ghost use Rattle.central_lists.specs.Works.{Does, nothing};
 
 use crate::answers::{FromSets, Look, One, Search, Through};
+use crate::glances::{sees_empty, sees_none};
 use fallible_list::NoMemory;
 use span_laws::Acquired;
 use span_set::{Hand, Pop, PopBase, SetId, Shop, pop_swept, pop_unswept, push, sweep_in_hand};
@@ -27,6 +28,28 @@ const TRIES: u32 = 100;
 /// 100. `NoMemory` comes only where a note of a sweep found no memory: what was swept and pushed before stands, and the worker holds
 /// no span more.
 pub fn cache_span(shop: &Shop, hand: &mut Hand, class: u8) -> Result<FromSets, NoMemory>
+    requires here { hand.old.worker.here ≡ true }
+    requires table { hand.old.worker.table ≡ shop.now.shared.now }
+    requires distance { 8192 ≤ shop.now.distance }
+    requires counts { MayCount shop.now.ring.now shop.now.marks.now hand.old.tally }
+    requires marks { shop.now.marks.now.pairs ≡ hand.old.worker.view.marks }
+    requires class { class < 136 }
+    requires unclaimed { hand.old.worker.view.own.claimed ≡ None }
+    ensures caches { Caches hand.old.worker.view.generation class hand.old hand.new result }
+    ensures tally { Frees shop.now.marks.now hand.old hand.new }
+{
+    match sees_none(shop, hand, class) {
+        Some(at) => Ok(FromSets::NeedFresh {
+            swept: Look::Empty { at },
+            tried: 0,
+        }),
+        None => search_sets(shop, hand, class),
+    }
+}
+
+// The same where a set was not seen empty. It stands alone, so that a call that finds them all empty has no place for a body.
+#[inline(never)]
+fn search_sets(shop: &Shop, hand: &mut Hand, class: u8) -> Result<FromSets, NoMemory>
     requires here { hand.old.worker.here ≡ true }
     requires table { hand.old.worker.table ≡ shop.now.shared.now }
     requires distance { 8192 ≤ shop.now.distance }
@@ -101,30 +124,6 @@ fn search_full(shop: &Shop, hand: &mut Hand, class: u8, before: u32) -> Result<S
         Ok(Through::OneKept(body)) => Ok(Search::Gave(body)),
         Err(NoMemory) => Err(NoMemory),
     }
-}
-
-// The number of the unswept set of a class, the full or the partial one.
-fn unswept_number(class: u8, full: bool, generation: u64) -> u32
-    requires { class < 136 }
-    ensures number { result ≡ unswept_set generation class (one_if full) }
-    ensures low { result < 544 }
-{
-    4 * u32::from(class) + 2 * u32::from(full) + ((generation / 2 + 1) % 2) as u32
-}
-
-// Whether an unswept set is seen empty, by a look at its head and tail.
-fn sees_empty(shop: &Shop, hand: &mut Hand, class: u8, full: bool) -> bool
-    requires here { hand.old.worker.here ≡ true }
-    requires table { hand.old.worker.table ≡ shop.now.shared.now }
-    requires class { class < 136 }
-    ensures empty { result ≡ true → Does hand.old.worker.view.generation class 0 nothing nothing (SawEmpty (unswept_set hand.old.worker.view.generation class (one_if full))) hand.old hand.new }
-    ensures looked { Does hand.old.worker.view.generation class 0 nothing nothing Whatever hand.old hand.new }
-    ensures tally { Frees shop.now.marks.now hand.old hand.new }
-{
-    let generation = shop.shared.generation(&mut hand.worker);
-    let set = unswept_number(class, full, generation);
-    let (head, tail) = shop.shared.look(&mut hand.worker, set);
-    head == tail
 }
 
 // Pops entries of an unswept set until a span is kept, none is left, or there were a hundred with those before. Most sets are empty, which

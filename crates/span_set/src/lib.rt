@@ -18,5 +18,5 @@ pub use hand::{Hand, Shop};
 pub use pops::{pop_swept, pop_unswept};
 pub use pushes::{claim, fill, push};
 pub use resets::reset;
-pub use sets::{Claim, SetId};
+pub use sets::{Claim, SetId, swept_number, unswept_number};
 pub use sweep::sweep_in_hand;

@@ -23,8 +23,8 @@ pub struct Claim {
     pub page: u32,
 }
 
-// The number of the swept part at a generation.
-pub(crate) fn swept_number(set: SetId, generation: u64) -> u32
+/// The number of the swept part at a generation.
+pub fn swept_number(set: SetId, generation: u64) -> u32
     ensures number { result ≡ swept_of generation set }
     ensures part { is_swept_set generation result ≡ true }
     ensures low { set.class < 136 → result < 544 }
@@ -32,8 +32,8 @@ pub(crate) fn swept_number(set: SetId, generation: u64) -> u32
     4 * u32::from(set.class) + 2 * u32::from(set.full) + (generation / 2 % 2) as u32
 }
 
-// The number of the unswept part at a generation.
-pub(crate) fn unswept_number(set: SetId, generation: u64) -> u32
+/// The number of the unswept part at a generation.
+pub fn unswept_number(set: SetId, generation: u64) -> u32
     ensures number { result ≡ unswept_of generation set }
     ensures part { is_swept_set generation result ≡ false }
     ensures low { set.class < 136 → result < 544 }
