@@ -95,6 +95,28 @@ fn leave_full(proc: &mut Proc, shop: &Shop, hand: &mut Hand, class: u8)
     ensures counted { hand.new.tally ≡ hand.old.tally }
     ensures used { IsUsedCache hand.new.worker.view.own }
 {
+    if proc.slots[class as usize].is_some() {
+        leave_span(proc, shop, hand, class);
+    }
+}
+
+// The same of a slot with a span. It stands alone, so that an empty slot has no place for a body.
+#[inline(never)]
+fn leave_span(proc: &mut Proc, shop: &Shop, hand: &mut Hand, class: u8)
+    requires here { hand.old.worker.here ≡ true }
+    requires table { hand.old.worker.table ≡ shop.now.shared.now }
+    requires class { class < 136 }
+    requires idle { IsIdle hand.old.worker.view.own }
+    requires serves { Serves hand.old.worker.view.generation hand.old.worker.view.own proc.old }
+    requires flushed { proc.old.flushed ≡ hand.old.worker.view.generation }
+    requires used { IsUsedCache hand.old.worker.view.own }
+    requires missing { IsMissing proc.old class }
+    ensures leaves { LeavesFull class proc.old proc.new hand.old hand.new }
+    ensures serves { Serves hand.new.worker.view.generation hand.new.worker.view.own proc.new }
+    ensures countdown { proc.new.countdown ≡ proc.old.countdown }
+    ensures counted { hand.new.tally ≡ hand.old.tally }
+    ensures used { IsUsedCache hand.new.worker.view.own }
+{
     let Some(body) = proc.slots[class as usize].take() else {
         return;
     };

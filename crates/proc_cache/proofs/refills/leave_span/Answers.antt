@@ -9,7 +9,7 @@ use Rattle.proc_cache.specs.Cache.{Cache, spans_of, with_slot}
 use Rattle.proc_cache.specs.RefillLogs.{HasLeft}
 use Rattle.proc_cache.proofs.Filling.{full_leaves, full_serves, full_used}
 use Rattle.proc_cache.proofs.Slots.{other_default, slot_is, slot_written}
-use Rattle.proc_cache.proofs.refills.leave_full.Goals as goal
+use Rattle.proc_cache.proofs.refills.leave_span.Goals as goal
 
 pub push_full-requires-clause-cached : goal.push_full-requires-clause-cached
 push_full-requires-clause-cached c =
