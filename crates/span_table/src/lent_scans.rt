@@ -34,7 +34,8 @@ fn has_mark(marks: &Marks, page: u32) -> bool
     marks.count(page) > 0
 }
 
-// The first page of some that has the word of a span that waits, and no mark.
+// The first page of some that has the word of a span that waits, and no mark. Beyond the used pages no span waits, so they are
+// not looked at.
 fn next_unmarked(core: &Core, marks: &Marks, from: u32, to: u32) -> Option<u32>
     requires pages { to ≤ length core.now.words }
     requires low { 4 ≤ core.now.generation }
@@ -44,7 +45,7 @@ fn next_unmarked(core: &Core, marks: &Marks, from: u32, to: u32) -> Option<u32>
 {
     let words = core.words();
     let waiting = core.generation() - 2;
-    for page in from..to {
+    for page in from..to.min(core.used_end()) {
         if words[page as usize] == waiting && !has_mark(marks, page) {
             return Some(page);
         }

@@ -32,10 +32,10 @@ module _ (c : Inside) (now : CoreState) (seen : core_view c ≡ now) where
   low-hand w low = subst (λ (n : ℕ). w < n) (ap (λ (s : CoreState). length s.hands) (sym seen) ∙ length-map c.hands.items hand_view) low
 
   -- hand w has the room of all hands
-  pub room-at : (w : ℕ) → w < length now.hands → (old : CoreHand) → old ≡ get_or c.hands.items w old → IsKept c → HandRoom (length c.words.items) now.room old
+  pub room-at : (w : ℕ) → w < length now.hands → (old : CoreHand) → old ≡ get_or c.hands.items w old → IsKept c → HandRoom (length c.words) now.room old
   room-at w low old at k =
-      subst (λ (n : ℕ). HandRoom (length c.words.items) n old) (ap (λ (s : CoreState). s.room) seen)
-      (subst (λ (h : CoreHand). HandRoom (length c.words.items) c.room h) (sym at) (k.hands_room w old (low-hand w low)))
+      subst (λ (n : ℕ). HandRoom (length c.words) n old) (ap (λ (s : CoreState). s.room) seen)
+      (subst (λ (h : CoreHand). HandRoom (length c.words) c.room h) (sym at) (k.hands_room w old (low-hand w low)))
 
   -- what hand w shows
   pub hand-is : (w : ℕ) → w < length now.hands → (old : CoreHand) → old ≡ get_or c.hands.items w old → hand_of now w ≡ hand_view old
@@ -90,8 +90,8 @@ kept-hand c w low old new at keeps k = record {
   workers = subst (λ (n : ℕ). n < 2 ^ 32) (sym (length-set c.hands.items w new)) k.workers;
   lives_room = k.lives_room;
   lives_table = k.lives_table;
-  hands_room = All-set (HandRoom (length c.words.items) c.room) c.hands.items w new
-      (keeps (length c.words.items) c.room (subst (λ (h : CoreHand). HandRoom (length c.words.items) c.room h) (sym at) (k.hands_room w old low))) k.hands_room;
+  hands_room = All-set (HandRoom (length c.words) c.room) c.hands.items w new
+      (keeps (length c.words) c.room (subst (λ (h : CoreHand). HandRoom (length c.words) c.room h) (sym at) (k.hands_room w old low))) k.hands_room;
   sets_room = k.sets_room;
   unpopped = k.unpopped;
 }
@@ -175,18 +175,19 @@ kept-sets c ws room n counted k = record {
   unpopped = counted;
 }
 
-pub kept-word : (c : Inside) (page word : ℕ) → IsKept c → IsKept (record c { words = with_item c.words page word })
-kept-word c page word k = record {
-  generation = k.generation;
-  pages = subst (λ (n : ℕ). n < 2 ^ 32) (sym (length-set c.words.items page word)) k.pages;
-  owners = k.owners ∙ sym (length-set c.words.items page word);
-  workers = k.workers;
-  lives_room = k.lives_room;
-  lives_table = k.lives_table ∙ sym (length-set c.words.items page word);
-  hands_room = subst (λ (n : ℕ). All (HandRoom n c.room) c.hands.items) (sym (length-set c.words.items page word)) k.hands_room;
-  sets_room = k.sets_room;
-  unpopped = k.unpopped;
-}
+pub kept-word : (c : Inside) (words : List ℕ) (page word : ℕ) → words ≡ set c.words page word → IsKept c → IsKept (record c { words = words })
+kept-word c words page word is k =
+    let same : length words ≡ length c.words = ap (λ (xs : List ℕ). length xs) is ∙ length-set c.words page word in record {
+      generation = k.generation;
+      pages = subst (λ (n : ℕ). n < 2 ^ 32) (sym same) k.pages;
+      owners = k.owners ∙ sym same;
+      workers = k.workers;
+      lives_room = k.lives_room;
+      lives_table = k.lives_table ∙ sym same;
+      hands_room = subst (λ (n : ℕ). All (HandRoom n c.room) c.hands.items) (sym same) k.hands_room;
+      sets_room = k.sets_room;
+      unpopped = k.unpopped;
+    }
 
 pub kept-spare : (c : Inside) (spare : ℕ) → IsKept c → IsKept (record c { spare = spare })
 kept-spare c spare k = record {
@@ -216,7 +217,7 @@ kept-generation c g low n counted k = record {
   unpopped = counted;
 }
 
-pub kept-hands : (c : Inside) (ws : List CoreHand) → All (HandRoom (length c.words.items) c.room) ws → IsKept c → IsKept (record c { hands = with_items c.hands ws })
+pub kept-hands : (c : Inside) (ws : List CoreHand) → All (HandRoom (length c.words) c.room) ws → IsKept c → IsKept (record c { hands = with_items c.hands ws })
 kept-hands c ws room k = record {
   generation = k.generation;
   pages = k.pages;
@@ -224,7 +225,7 @@ kept-hands c ws room k = record {
   workers = subst (λ (n : ℕ). n < 2 ^ 32) (sym c.hands.ok.0 ∙ (with_items c.hands ws).ok.0) k.workers;
   lives_room = k.lives_room;
   lives_table = k.lives_table;
-  hands_room = All-take (HandRoom (length c.words.items) c.room) c.hands.len _ (All-append (HandRoom (length c.words.items) c.room) ws _ room (All-drop (HandRoom (length c.words.items) c.room) (length ws) c.hands.items k.hands_room));
+  hands_room = All-take (HandRoom (length c.words) c.room) c.hands.len _ (All-append (HandRoom (length c.words) c.room) ws _ room (All-drop (HandRoom (length c.words) c.room) (length ws) c.hands.items k.hands_room));
   sets_room = k.sets_room;
   unpopped = k.unpopped;
 }

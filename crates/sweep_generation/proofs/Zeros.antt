@@ -1,6 +1,6 @@
 -- Words that are all 0: told by one number that has the bits of all, and none of them unsettled.
-use Rattle.std.proofs.Common.{◌≡◌, ℕ, ◌+◌, ◌<◌, ◌==◌, Bool, true, false, not, ◌&&◌, List, [], ◌∷◌, length, get_or, take, bit_or, refl, sym, ap, ◌∙◌, arith}
-use Rattle.std.specs.Prelude.{None}
+use Rattle.std.proofs.Common.{◌≡◌, ℕ, zero, suc, ◌+◌, ◌<◌, ◌≤◌, ◌==◌, Bool, true, false, not, ◌&&◌, List, [], ◌∷◌, length, get_or, take, bit_or, cond, refl, sym, ap, ◌∙◌, arith}
+use Rattle.std.specs.Prelude.{None, Some, slice_index}
 use Rattle.std.specs.List.{find, list_all}
 use Rattle.std.specs.Int.Bits.{or_zero_l}
 use Rattle.std.proofs.lemmas.Bool.{eqb-true}
@@ -50,3 +50,16 @@ zeros_settled g (x ∷ xs) all = by_first (x == 0) refl all (zeros_settled g xs)
         → (list_all (λ y. y == 0) xs ≡ true → find (λ word. not (is_settled g word)) xs ≡ None) → find (λ word. not (is_settled g word)) (x ∷ xs) ≡ None
     by_first true e all rest = rw e (rest all)
     by_first false e all rest = cc
+
+-- words that are all 0 are settled
+all_settled : (g : ℕ) (xs : List ℕ) → ((page : ℕ) → slice_index xs page ≡ 0) → find (λ word. not (is_settled g word)) xs ≡ None
+all_settled g [] none = refl
+all_settled g (x ∷ xs) none = rw (none 0) (all_settled g xs (λ page. none (suc page)))
+
+-- the first unsettled word is among those before the page from which on all are 0
+pub used_alone : (g : ℕ) (xs : List ℕ) (end : ℕ) → ((page : ℕ) → end ≤ page → slice_index xs page ≡ 0)
+    → find (λ word. not (is_settled g word)) (take end xs) ≡ find (λ word. not (is_settled g word)) xs
+used_alone g xs zero none = sym (all_settled g xs (λ page. none page (omega arith)))
+used_alone g [] (suc end) none = refl
+used_alone g (x ∷ xs) (suc end) none =
+    ap (λ found. cond (not (is_settled g x)) (Some x) found) (used_alone g xs end (λ page low. none (suc page) (omega arith)))

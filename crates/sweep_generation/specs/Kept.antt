@@ -9,7 +9,7 @@ use Rattle.sweep_generation.specs.Unpopped.{count_unpopped}
 abbrev pub core_view : Inside → CoreState
 core_view c = record {
   generation = c.generation;
-  words = c.words.items;
+  words = c.words;
   owners = c.owners.items;
   lives = c.lives.items;
   sets = map set_view c.sets.items;
@@ -23,11 +23,11 @@ core_view c = record {
 -- sets that are to be popped yet are counted
 pub record IsKept (c : Inside) : Type 0 where
   pub generation : c.generation + 3 < 2 ^ 64
-  pub pages : length c.words.items < 2 ^ 32
-  pub owners : length c.owners.items ≡ length c.words.items
+  pub pages : length c.words < 2 ^ 32
+  pub owners : length c.owners.items ≡ length c.words
   pub workers : length c.hands.items < 2 ^ 32
   pub lives_room : c.room ≤ c.lives.space
-  pub lives_table : c.lives.reach ≡ length c.words.items
-  pub hands_room : All (HandRoom (length c.words.items) c.room) c.hands.items
+  pub lives_table : c.lives.reach ≡ length c.words
+  pub hands_room : All (HandRoom (length c.words) c.room) c.hands.items
   pub sets_room : All (λ s. c.room ≤ s.cells.space) c.sets.items
   pub unpopped : c.unpopped ≡ count_unpopped c.generation 0 (map set_view c.sets.items)

@@ -1,5 +1,6 @@
 pub mod Kept
 pub mod Unpopped
+pub mod Used
 pub use Rattle.sweep_lists.specs.Room
 pub use Rattle.sweep_lists.specs.Views
 pub use Rattle.sweep_laws.specs.State

@@ -13,6 +13,7 @@ mod moves_pages;
 mod moves_sets;
 mod moves_sweep;
 mod owners;
+mod page_words;
 mod run;
 mod scan;
 mod start;

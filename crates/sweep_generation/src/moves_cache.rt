@@ -14,7 +14,7 @@ pub(crate) fn cache(core: &mut Core, worker: u32, page: u32) -> Result<Reply, St
 {
     core.try_cache(worker, page)?;
     core.hands[worker as usize].put_in_cache(page)?;
-    core.words[page as usize] = core.generation + 3;
+    core.words.put(page, core.generation + 3);
     Ok(Reply::Done)
 }
 
@@ -24,7 +24,7 @@ pub(crate) fn uncache(core: &mut Core, worker: u32, page: u32) -> Result<Reply, 
 {
     core.try_uncache(worker, page)?;
     core.hands[worker as usize].take_from_cache(page)?;
-    core.words[page as usize] = core.generation;
+    core.words.put(page, core.generation);
     Ok(Reply::Done)
 }
 

@@ -27,7 +27,7 @@ pub(crate) fn take(
     core.lives.push(life);
     core.hands[worker as usize].take_hold(page);
     put_owner(&mut core.owners, page, pages, Some(page));
-    core.words[page as usize] = core.generation;
+    core.words.put(page, core.generation);
     Ok(Reply::Done)
 }
 
@@ -39,6 +39,6 @@ pub(crate) fn give(core: &mut Core, worker: u32, page: u32) -> Result<Reply, Ste
     core.hands[worker as usize].let_go(page);
     let pages = core.lives.drop_life(page);
     put_owner(&mut core.owners, page, pages, None);
-    core.words[page as usize] = 0;
+    core.words.put(page, 0);
     Ok(Reply::Done)
 }

@@ -14,7 +14,7 @@ pub(crate) fn acquire(core: &mut Core, worker: u32, page: u32) -> Result<Reply, 
 {
     core.try_acquire(worker, page)?;
     core.hands[worker as usize].start_sweep(page)?;
-    core.words[page as usize] = core.generation.saturating_sub(1);
+    core.words.put(page, core.generation.saturating_sub(1));
     Ok(Reply::Done)
 }
 
@@ -26,7 +26,7 @@ pub(crate) fn release(core: &mut Core, worker: u32, page: u32) -> Result<Reply, 
     core.hands[worker as usize].reserve_end()?;
     core.lives.keep_marked(page)?;
     core.hands[worker as usize].end_sweep(page);
-    core.words[page as usize] = core.generation;
+    core.words.put(page, core.generation);
     Ok(Reply::Done)
 }
 
@@ -36,7 +36,7 @@ pub(crate) fn stale_uncache(core: &mut Core, worker: u32, page: u32) -> Result<R
 {
     core.try_stale_uncache(worker, page)?;
     core.hands[worker as usize].sweep_from_cache(page)?;
-    core.words[page as usize] = core.generation.saturating_sub(1);
+    core.words.put(page, core.generation.saturating_sub(1));
     Ok(Reply::Done)
 }
 

@@ -9,6 +9,7 @@ ghost use Rattle.sweep_laws.specs.Start.{copies, new_state};
 ghost use Rattle.sweep_laws.specs.Tidy.{IsTidy, TailsFit};
 ghost use Rattle.sweep_lists.specs.Views.{hand_view, set_view, HandRoom};
 
+use crate::page_words::PageWords;
 use crate::state::Core;
 use crate::unpopped::count_unpopped;
 use fallible_list::{List, NoMemory};
@@ -17,12 +18,6 @@ use sweep_lists::{CoreHand, CoreSet, Lives, Spare};
 
 // The number of sets: for each of 136 span classes two partial and two full ones.
 const SETS: usize = 544;
-
-fn no_words(alloc: Global, pages: u32) -> Result<Vec<u64>, AllocError>
-    ensures { IfOk result (λ words. words.items ≡ copies pages 0) }
-{
-    (0..pages).map(|_| 0u64).collect(alloc)
-}
 
 fn no_owners(alloc: Global, pages: u32) -> Result<Vec<Option<u32>>, AllocError>
     ensures { IfOk result (λ owners. owners.items ≡ copies pages None) }
@@ -95,14 +90,13 @@ impl Core {
         ensures state { IfOk result (λ core. core ≡ record (new_state pages workers) { generation = generation; sets = map set_view sets }) }
         ensures tidy { IfOk result (λ core. IsTidy core) }
     {
-        let words = no_words(alloc, pages)?;
         let owners = no_owners(alloc, pages)?;
         let hands = empty_hands(alloc, workers, pages)?;
         let sets = sets.into_vec();
         let unpopped = count_unpopped(&sets, generation);
         Ok(Core {
             generation,
-            words,
+            words: PageWords::new(alloc, pages)?,
             owners,
             lives: Lives::with_table(alloc, pages)?,
             sets,

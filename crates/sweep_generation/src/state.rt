@@ -2,10 +2,11 @@
 //! names, and by `start.rt`; callers read them through the methods below. The type keeps that tables and lists agree, and that
 //! `unpopped` is the count that it names.
 
-ghost use Rattle.std.specs.Prelude.{◌≡◌, ◌==◌, map, length, option_map};
+ghost use Rattle.std.specs.Prelude.{◌≡◌, ◌==◌, ◌≤◌, ℕ, length, map, option_map, slice_index};
 ghost use Rattle.std.specs.List.{find};
 ghost use Rattle.sweep_lists.specs.Views.{hand_view, life_view, set_view};
 
+use crate::page_words::PageWords;
 use std::alloc::Global;
 use std::marker::Model;
 use sweep_lists::{CoreHand, CoreSet, Life, Lives, Spare};
@@ -14,7 +15,7 @@ use sweep_lists::{CoreHand, CoreSet, Life, Lives, Spare};
 #[derive(Debug, Drop)]
 pub struct Core {
     pub(crate) generation: u64,
-    pub(crate) words: Vec<u64>,
+    pub(crate) words: PageWords,
     pub(crate) owners: Vec<Option<u32>>,
     pub(crate) lives: Lives,
     pub(crate) sets: Vec<CoreSet>,
@@ -53,7 +54,16 @@ impl Core {
     pub fn words(&self) -> &[u64]
         ensures { result.now ≡ self.now.words }
     {
-        &self.words
+        self.words.as_slice()
+    }
+
+    /// The page behind the last at which a span ever began: all words from it on are 0. Whoever looks for a word other than 0
+    /// need not look there.
+    pub fn used_end(&self) -> u32
+        ensures most { result ≤ length self.now.words }
+        ensures zero { (page : ℕ) → result ≤ page → slice_index self.now.words page ≡ 0 }
+    {
+        self.words.end() as u32
     }
 
     /// The first page of the span that owns each page, None for a free page.

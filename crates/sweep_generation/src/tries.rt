@@ -114,7 +114,7 @@ impl Core {
     {
         self.try_worker(worker)?;
         self.try_page(page)?;
-        let word = self.words[page as usize];
+        let word = self.words.at(page);
         demand(
             word.checked_add(2) == Some(self.generation),
             Found::Word(word),
@@ -150,7 +150,7 @@ impl Core {
         self.try_worker(worker)?;
         self.try_page(page)?;
         self.try_list(Kind::Cached, worker, page)?;
-        let word = self.words[page as usize];
+        let word = self.words.at(page);
         demand(word == self.generation + 3, Found::Word(word))
     }
 
@@ -162,7 +162,7 @@ impl Core {
         self.try_worker(worker)?;
         self.try_page(page)?;
         self.try_list(Kind::Cached, worker, page)?;
-        let word = self.words[page as usize];
+        let word = self.words.at(page);
         demand(word == self.generation + 1, Found::Word(word))
     }
 
@@ -174,7 +174,7 @@ impl Core {
         self.try_worker(worker)?;
         self.try_page(page)?;
         self.try_list(Kind::Popped, worker, page)?;
-        let word = self.words[page as usize];
+        let word = self.words.at(page);
         demand(
             word.checked_add(2) != Some(self.generation),
             Found::Word(word),

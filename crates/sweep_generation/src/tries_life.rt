@@ -114,7 +114,7 @@ impl Core {
         ensures { Tried (may_allocate self.now worker page ∷ []) result }
     {
         let hand = &self.hands[worker as usize];
-        let word = self.words[page as usize];
+        let word = self.words.at(page);
         let cached = hand.cached.has(page) && word == self.generation + 3;
         let single = hand.held.has(page) && word == self.generation && self.count_at(page) == 1;
         demand(cached || single, Found::Word(word))

@@ -5,7 +5,7 @@ ghost use Rattle.std.specs.List.{find, list_all, position};
 ghost use Rattle.std.specs.Option.{is_some};
 ghost use Rattle.sweep_laws.specs.Lists.{has, rises, is_before as stands_before};
 ghost use Rattle.sweep_laws.specs.Reading.{is_settled, is_swept_set};
-ghost use Rattle.sweep_laws.specs.NeedsOfMarkEnd.{busy_hand, hands_are_idle, first_claim, no_claims, claim_index as claimed_at, is_idle, words_are_settled, first_unpopped, sets_are_popped, is_allocated, wrong_mark, marks_are_allocated};
+ghost use Rattle.sweep_laws.specs.NeedsOfMarkEnd.{busy_hand, hands_are_idle, first_claim, no_claims, claim_index as claimed_at, is_idle, unsettled_word, words_are_settled, first_unpopped, sets_are_popped, is_allocated, wrong_mark, marks_are_allocated};
 ghost use Rattle.sweep_laws.specs.Needs.{next_needs};
 ghost use Rattle.sweep_laws.specs.Tries.{Tried};
 ghost use Rattle.sweep_lists.specs.Views.{hand_view, set_view};
@@ -167,10 +167,18 @@ impl Core {
         }
     }
 
+    // The first word that is not settled. Those beyond the used pages are 0, so they are not looked at.
+    fn unsettled_word(&self) -> Option<u64>
+        ensures { result ≡ unsettled_word self.now }
+    {
+        let used = self.words.end();
+        find_unsettled(&self.words.as_slice()[..used], self.generation)
+    }
+
     fn try_settled(&self) -> Result<(), StepFault>
         ensures { Tried (words_are_settled self.now ∷ []) result }
     {
-        match find_unsettled(&self.words, self.generation) {
+        match self.unsettled_word() {
             Some(word) => demand(false, Found::Word(word)),
             None => Ok(()),
         }

@@ -25,7 +25,7 @@ invariant_of-core-2 c =
     let counted = c.count_unpopped-core-inside.ensures ∙ ap (λ (xs : List CoreSet). count_unpopped (c.core.inside.generation + 2) 0 (map set_view xs)) c.deref.ensures.value in
     let k1 = kept-same-room _ c.mark.new.self _ c.in_ok-mark.ensures.ok c.core.invariant in
     let k2 = kept-sets _ c.empty_unswept.new.sets (c.empty_unswept.ensures.room c.core.inside.room (subst (λ (xs : List CoreSet). All (λ (x : CoreSet). c.core.inside.room ≤ x.cells.space) xs) (sym c.deref_mut.ensures.value) c.core.invariant.sets_room)) _ refl k1 in
-    let k3 = kept-hands _ c.forget_swept.new.hands (c.forget_swept.ensures.room (length c.core.inside.words.items) c.core.inside.room (subst (λ (xs : List CoreHand). All (HandRoom (length c.core.inside.words.items) c.core.inside.room) xs) (sym c.deref_mut-2.ensures.value) c.core.invariant.hands_room)) k2 in
+    let k3 = kept-hands _ c.forget_swept.new.hands (c.forget_swept.ensures.room (length c.core.inside.words) c.core.inside.room (subst (λ (xs : List CoreHand). All (HandRoom (length c.core.inside.words) c.core.inside.room) xs) (sym c.deref_mut-2.ensures.value) c.core.invariant.hands_room)) k2 in
     kept-generation _ (c.core.inside.generation + 2) (omega (arith, low, is)) c.count_unpopped-core-inside.result counted k3
 
 pub returns : goal.returns

@@ -11,7 +11,7 @@ pub invariant_of-core : goal.invariant_of-core
 invariant_of-core c = kept-hand c.core.inside c.args.worker (low-hand c.core.inside c.args.core.now c.core.view_is c.args.worker c.in_ok-try_cache.ensures.worker) c.index_mut.result.now _ c.index_mut.ensures.value c.put_in_cache.ensures.room c.core.invariant
 
 pub invariant_of-core-2 : goal.invariant_of-core-2
-invariant_of-core-2 c = kept-word _ c.args.page _ (kept-hand c.core.inside c.args.worker (low-hand c.core.inside c.args.core.now c.core.view_is c.args.worker c.in_ok-try_cache.ensures.worker) c.index_mut.result.now _ c.index_mut.ensures.value c.put_in_cache.ensures.room c.core.invariant)
+invariant_of-core-2 c = kept-word _ c.put.new.self c.args.page _ c.put.ensures (kept-hand c.core.inside c.args.worker (low-hand c.core.inside c.args.core.now c.core.view_is c.args.worker c.in_ok-try_cache.ensures.worker) c.index_mut.result.now _ c.index_mut.ensures.value c.put_in_cache.ensures.room c.core.invariant)
 
 pub returns-in_err-put_in_cache : goal.returns-in_err-put_in_cache
 returns-in_err-put_in_cache c =
@@ -24,7 +24,7 @@ returns-in_err-put_in_cache c =
 pub returns : goal.returns
 returns c =
     let e = hand-changed c.core.inside c.args.core.now c.core.view_is c.args.worker c.in_ok-try_cache.ensures.worker c.index_mut.result.now c.put_in_cache.new.self (put_in_cache c.args.page) c.index_mut.ensures.value c.in_ok-put_in_cache.ensures.ok in
-    (c.in_ok-try_cache.ensures.tried, rw (← c.core.view_is, e) refl, refl)
+    (c.in_ok-try_cache.ensures.tried, rw (← c.core.view_is, c.put.ensures, e) refl, refl)
 
 pub returns-in_err-try_cache : goal.returns-in_err-try_cache
 returns-in_err-try_cache c =

@@ -33,7 +33,7 @@ returns-in_err-life c =
 pub invariant_of-core-2 : goal.invariant_of-core-2
 invariant_of-core-2 c =
     let low = subst (λ (n : ℕ). c.args.worker < n) (sym (length-set c.core.inside.hands.items c.args.worker c.reserve_held.new.self)) (low-hand c.core.inside c.args.core.now c.core.view_is c.args.worker c.in_ok-try_take.ensures.worker) in
-    kept-word _ c.args.page _ (kept-owners _ c.put_owner.new.owners
+    kept-word _ c.put.new.self c.args.page _ c.put.ensures (kept-owners _ c.put_owner.new.owners
     (kept-hand _ c.args.worker low c.index_mut-2.result.now c.take_hold.new.self c.index_mut-2.ensures.value c.take_hold.ensures.room
     (kept-same-room _ c.push.new.self _ c.push.ensures (kept-spare _ c.make.new.self (kept-hand _ c.args.worker (low-hand c.core.inside c.args.core.now c.core.view_is c.args.worker c.in_ok-try_take.ensures.worker) c.index_mut.result.now c.reserve_held.new.self c.index_mut.ensures.value c.reserve_held.ensures.room (kept-lives c.core.inside c.reserve_one.new.self c.reserve_one.ensures.grows c.reserve_one.ensures.reach c.core.invariant))))))
 
@@ -42,7 +42,7 @@ returns c =
     let seen = seen-hand c.core.inside c.args.core.now c.core.view_is c.args.worker c.index_mut.result.now c.reserve_held.new.self c.index_mut.ensures.value c.reserve_held.ensures.view in
     let f = hand-changed (record c.core.inside { hands = with_item c.core.inside.hands c.args.worker c.reserve_held.new.self }) c.args.core.now seen c.args.worker c.in_ok-try_take.ensures.worker c.index_mut-2.result.now c.take_hold.new.self (hold c.args.page) c.index_mut-2.ensures.value c.take_hold.ensures.view in (
       c.in_ok-try_take.ensures.tried,
-      rw (← c.core.view_is, f, hand-same c.core.inside c.args.core.now c.core.view_is c.args.worker c.index_mut.result.now c.reserve_held.new.self c.index_mut.ensures.value c.reserve_held.ensures.view, items-whole c.core.inside.owners c.put_owner.new.owners (c.put_owner.auto.owners ∙ ap (λ (xs : List (Option ℕ)). length xs) c.deref_mut.ensures.value), c.put_owner.ensures, c.deref_mut.ensures.value, c.push.ensures, c.reserve_one.ensures.items, c.in_ok-life.ensures.life, c.in_ok-life.ensures.left) refl,
+      rw (← c.core.view_is, c.put.ensures, f, hand-same c.core.inside c.args.core.now c.core.view_is c.args.worker c.index_mut.result.now c.reserve_held.new.self c.index_mut.ensures.value c.reserve_held.ensures.view, items-whole c.core.inside.owners c.put_owner.new.owners (c.put_owner.auto.owners ∙ ap (λ (xs : List (Option ℕ)). length xs) c.deref_mut.ensures.value), c.put_owner.ensures, c.deref_mut.ensures.value, c.push.ensures, c.reserve_one.ensures.items, c.in_ok-life.ensures.life, c.in_ok-life.ensures.left) refl,
       refl,
     )
 

@@ -11,7 +11,7 @@ pub invariant_of-core : goal.invariant_of-core
 invariant_of-core c = kept-hand c.core.inside c.args.worker (low-hand c.core.inside c.args.core.now c.core.view_is c.args.worker c.in_ok-try_acquire.ensures.worker) c.index_mut.result.now _ c.index_mut.ensures.value c.start_sweep.ensures.room c.core.invariant
 
 pub invariant_of-core-2 : goal.invariant_of-core-2
-invariant_of-core-2 c = kept-word _ c.args.page _ (kept-hand c.core.inside c.args.worker (low-hand c.core.inside c.args.core.now c.core.view_is c.args.worker c.in_ok-try_acquire.ensures.worker) c.index_mut.result.now _ c.index_mut.ensures.value c.start_sweep.ensures.room c.core.invariant)
+invariant_of-core-2 c = kept-word _ c.put.new.self c.args.page _ c.put.ensures (kept-hand c.core.inside c.args.worker (low-hand c.core.inside c.args.core.now c.core.view_is c.args.worker c.in_ok-try_acquire.ensures.worker) c.index_mut.result.now _ c.index_mut.ensures.value c.start_sweep.ensures.room c.core.invariant)
 
 pub returns-in_err-start_sweep : goal.returns-in_err-start_sweep
 returns-in_err-start_sweep c =
@@ -24,7 +24,7 @@ returns-in_err-start_sweep c =
 pub returns : goal.returns
 returns c =
     let e = hand-changed c.core.inside c.args.core.now c.core.view_is c.args.worker c.in_ok-try_acquire.ensures.worker c.index_mut.result.now c.start_sweep.new.self (start_sweep c.args.page) c.index_mut.ensures.value c.in_ok-start_sweep.ensures.ok in
-    (c.in_ok-try_acquire.ensures.tried, rw (← c.core.view_is, e, c.saturating_sub.ensures) refl, refl)
+    (c.in_ok-try_acquire.ensures.tried, rw (← c.core.view_is, c.put.ensures, e, c.saturating_sub.ensures) refl, refl)
 
 pub returns-in_err-try_acquire : goal.returns-in_err-try_acquire
 returns-in_err-try_acquire c =

@@ -21,7 +21,7 @@ returns-in_err-reserve_end c =
     rw (p.1, p.2, hand-same c.core.inside c.args.core.now c.core.view_is c.args.worker c.index_mut.result.now c.reserve_end.new.self c.index_mut.ensures.value c.reserve_end.ensures.view) (
       c.in_ok-try_release.ensures.tried,
       c.core.view_is,
-      λ r. full-end (length c.core.inside.words.items) c.args.core.now.room c.index_mut.result.now k c.in_err-reserve_end.ensures.full
+      λ r. full-end (length c.core.inside.words) c.args.core.now.room c.index_mut.result.now k c.in_err-reserve_end.ensures.full
           (subst (λ (h : HandState). length h.held < c.args.core.now.room) e r.0) (subst (λ (h : HandState). length h.swept < c.args.core.now.room) e r.1),
     )
 
@@ -42,14 +42,14 @@ invariant_of-core-2 c =
     let k = kept-same-room _ c.keep_marked.new.self _ c.in_ok-keep_marked.ensures.ok
     (kept-hand c.core.inside c.args.worker (low-hand c.core.inside c.args.core.now c.core.view_is c.args.worker c.in_ok-try_release.ensures.worker) c.index_mut.result.now _ c.index_mut.ensures.value c.reserve_end.ensures.room c.core.invariant) in
     let low = subst (λ (n : ℕ). c.args.worker < n) (sym (length-set c.core.inside.hands.items c.args.worker c.reserve_end.new.self)) (low-hand c.core.inside c.args.core.now c.core.view_is c.args.worker c.in_ok-try_release.ensures.worker) in
-    kept-word _ c.args.page _ (kept-hand _ c.args.worker low c.index_mut-2.result.now _ c.index_mut-2.ensures.value c.end_sweep.ensures.room k)
+    kept-word _ c.put.new.self c.args.page _ c.put.ensures (kept-hand _ c.args.worker low c.index_mut-2.result.now _ c.index_mut-2.ensures.value c.end_sweep.ensures.room k)
 
 pub returns : goal.returns
 returns c =
     let seen = seen-hand c.core.inside c.args.core.now c.core.view_is c.args.worker c.index_mut.result.now c.reserve_end.new.self c.index_mut.ensures.value c.reserve_end.ensures.view in
     let f = hand-changed (record c.core.inside { hands = with_item c.core.inside.hands c.args.worker c.reserve_end.new.self }) c.args.core.now seen c.args.worker c.in_ok-try_release.ensures.worker c.index_mut-2.result.now c.end_sweep.new.self (end_sweep c.args.page) c.index_mut-2.ensures.value c.end_sweep.ensures.view in (
       c.in_ok-try_release.ensures.tried,
-      rw (← c.core.view_is, f, hand-same c.core.inside c.args.core.now c.core.view_is c.args.worker c.index_mut.result.now c.reserve_end.new.self c.index_mut.ensures.value c.reserve_end.ensures.view, c.in_ok-keep_marked.ensures.ok) refl,
+      rw (← c.core.view_is, c.put.ensures, f, hand-same c.core.inside c.args.core.now c.core.view_is c.args.worker c.index_mut.result.now c.reserve_end.new.self c.index_mut.ensures.value c.reserve_end.ensures.view, c.in_ok-keep_marked.ensures.ok) refl,
       refl,
     )
 

@@ -11,7 +11,7 @@ pub invariant_of-core : goal.invariant_of-core
 invariant_of-core c = kept-hand c.core.inside c.args.worker (low-hand c.core.inside c.args.core.now c.core.view_is c.args.worker c.in_ok-try_stale_uncache.ensures.worker) c.index_mut.result.now _ c.index_mut.ensures.value c.sweep_from_cache.ensures.room c.core.invariant
 
 pub invariant_of-core-2 : goal.invariant_of-core-2
-invariant_of-core-2 c = kept-word _ c.args.page _ (kept-hand c.core.inside c.args.worker (low-hand c.core.inside c.args.core.now c.core.view_is c.args.worker c.in_ok-try_stale_uncache.ensures.worker) c.index_mut.result.now _ c.index_mut.ensures.value c.sweep_from_cache.ensures.room c.core.invariant)
+invariant_of-core-2 c = kept-word _ c.put.new.self c.args.page _ c.put.ensures (kept-hand c.core.inside c.args.worker (low-hand c.core.inside c.args.core.now c.core.view_is c.args.worker c.in_ok-try_stale_uncache.ensures.worker) c.index_mut.result.now _ c.index_mut.ensures.value c.sweep_from_cache.ensures.room c.core.invariant)
 
 pub returns-in_err-sweep_from_cache : goal.returns-in_err-sweep_from_cache
 returns-in_err-sweep_from_cache c =
@@ -24,7 +24,7 @@ returns-in_err-sweep_from_cache c =
 pub returns : goal.returns
 returns c =
     let e = hand-changed c.core.inside c.args.core.now c.core.view_is c.args.worker c.in_ok-try_stale_uncache.ensures.worker c.index_mut.result.now c.sweep_from_cache.new.self (sweep_from_cache c.args.page) c.index_mut.ensures.value c.in_ok-sweep_from_cache.ensures.ok in
-    (c.in_ok-try_stale_uncache.ensures.tried, rw (← c.core.view_is, e, c.saturating_sub.ensures) refl, refl)
+    (c.in_ok-try_stale_uncache.ensures.tried, rw (← c.core.view_is, c.put.ensures, e, c.saturating_sub.ensures) refl, refl)
 
 pub returns-in_err-try_stale_uncache : goal.returns-in_err-try_stale_uncache
 returns-in_err-try_stale_uncache c =

@@ -14,7 +14,7 @@ invariant_of-self-in_err-reserve_hands c =
     let sets = items-whole c.self.inside.sets c.reserve_sets.new.sets (c.reserve_sets.auto.sets ∙ ap (λ (xs : List CoreSet). length xs) c.deref_mut.ensures.value) in
     let seen = ap (λ (xs : List CoreSet). map set_view xs) sets ∙ c.reserve_sets.ensures.view ∙ ap (λ (xs : List CoreSet). map set_view xs) c.deref_mut.ensures.value in
     let counted = c.self.invariant.unpopped ∙ ap (λ (xs : List SetState). count_unpopped c.self.inside.generation 0 xs) (sym seen) in
-    kept-hands _ c.reserve_hands.new.hands (c.reserve_hands.ensures.keeps (length c.self.inside.words.items) c.self.inside.room (subst (λ (xs : List CoreHand). All (HandRoom (length c.self.inside.words.items) c.self.inside.room) xs) (sym c.deref_mut-2.ensures.value) c.self.invariant.hands_room))
+    kept-hands _ c.reserve_hands.new.hands (c.reserve_hands.ensures.keeps (length c.self.inside.words) c.self.inside.room (subst (λ (xs : List CoreHand). All (HandRoom (length c.self.inside.words) c.self.inside.room) xs) (sym c.deref_mut-2.ensures.value) c.self.invariant.hands_room))
     (kept-sets _ c.reserve_sets.new.sets (c.reserve_sets.ensures.keeps c.self.inside.room (subst (λ (xs : List CoreSet). All (λ (x : CoreSet). c.self.inside.room ≤ x.cells.space) xs) (sym c.deref_mut.ensures.value) c.self.invariant.sets_room)) _ counted
     (kept-lives c.self.inside c.reserve.new.self c.reserve.ensures.grows c.reserve.ensures.reach c.self.invariant))
 
@@ -23,7 +23,7 @@ invariant_of-self-2 c =
     let sets = items-whole c.self.inside.sets c.reserve_sets.new.sets (c.reserve_sets.auto.sets ∙ ap (λ (xs : List CoreSet). length xs) c.deref_mut.ensures.value) in
     let seen = ap (λ (xs : List CoreSet). map set_view xs) sets ∙ c.reserve_sets.ensures.view ∙ ap (λ (xs : List CoreSet). map set_view xs) c.deref_mut.ensures.value in
     let hands = items-whole c.self.inside.hands c.reserve_hands.new.hands (c.reserve_hands.auto.hands ∙ ap (λ (xs : List CoreHand). length xs) c.deref_mut-2.ensures.value) in
-    let had = subst (λ (xs : List CoreHand). All (HandRoom (length c.self.inside.words.items) c.self.inside.room) xs) (sym c.deref_mut-2.ensures.value) c.self.invariant.hands_room in
+    let had = subst (λ (xs : List CoreHand). All (HandRoom (length c.self.inside.words) c.self.inside.room) xs) (sym c.deref_mut-2.ensures.value) c.self.invariant.hands_room in
     record {
       generation = c.self.invariant.generation;
       pages = c.self.invariant.pages;
@@ -31,7 +31,7 @@ invariant_of-self-2 c =
       workers = subst (λ (n : ℕ). n < 2 ^ 32) (sym c.self.inside.hands.ok.0 ∙ (with_items c.self.inside.hands c.reserve_hands.new.hands).ok.0) c.self.invariant.workers;
       lives_room = c.in_ok-reserve.ensures.ok;
       lives_table = c.reserve.ensures.reach ∙ c.self.invariant.lives_table;
-      hands_room = subst (λ (xs : List CoreHand). All (HandRoom (length c.self.inside.words.items) c.len-room.result) xs) (sym hands) (c.in_ok-reserve_hands.ensures.ok (length c.self.inside.words.items) c.self.inside.room had);
+      hands_room = subst (λ (xs : List CoreHand). All (HandRoom (length c.self.inside.words) c.len-room.result) xs) (sym hands) (c.in_ok-reserve_hands.ensures.ok (length c.self.inside.words) c.self.inside.room had);
       sets_room = subst (λ (xs : List CoreSet). All (λ (x : CoreSet). c.len-room.result ≤ x.cells.space) xs) (sym sets) c.in_ok-reserve_sets.ensures.ok;
       unpopped = c.self.invariant.unpopped ∙ ap (λ (xs : List SetState). count_unpopped c.self.inside.generation 0 xs) (sym seen);
     }

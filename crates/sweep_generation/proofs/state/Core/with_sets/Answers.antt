@@ -15,19 +15,19 @@ use Rattle.sweep_generation.proofs.state.Core.with_sets.Goals as goal
 pub invariant_of-result : goal.invariant_of-result
 invariant_of-result c = record {
   generation = c.requires;
-  pages = rw (c.in_ok-words.ensures, length-map-range_with_len) (search rules);
-  owners = rw (c.in_ok-words.ensures, c.in_ok-owners.ensures) (length-map-range_with_len _ 0 c.args.pages ∙ sym (length-map-range_with_len _ 0 c.args.pages));
+  pages = rw (c.in_ok-new.ensures, length-map-range_with_len) (search rules);
+  owners = rw (c.in_ok-new.ensures, c.in_ok-owners.ensures) (length-map-range_with_len _ 0 c.args.pages ∙ sym (length-map-range_with_len _ 0 c.args.pages));
   workers = rw (c.in_ok-hands.ensures, length-map-range_with_len) (search rules);
   lives_room = omega arith;
-  lives_table = ap (λ (x : Tabled LifeState). x.reach) c.in_ok-with_table.ensures ∙ sym (ap (λ (xs : List ℕ). length xs) c.in_ok-words.ensures ∙ length-map-range_with_len _ 0 c.args.pages);
-  hands_room = subst (λ (n : ℕ). All (HandRoom n 0) c.in_ok-hands.hands.items) (sym (ap (λ (xs : List ℕ). length xs) c.in_ok-words.ensures ∙ length-map-range_with_len _ 0 c.args.pages)) (bare-hands c.args.pages c.args.workers c.in_ok-hands.hands.items c.in_ok-hands.ensures);
+  lives_table = ap (λ (x : Tabled LifeState). x.reach) c.in_ok-with_table.ensures ∙ sym (ap (λ (xs : List ℕ). length xs) c.in_ok-new.ensures ∙ length-map-range_with_len _ 0 c.args.pages);
+  hands_room = subst (λ (n : ℕ). All (HandRoom n 0) c.in_ok-hands.hands.items) (sym (ap (λ (xs : List ℕ). length xs) c.in_ok-new.ensures ∙ length-map-range_with_len _ 0 c.args.pages)) (bare-hands c.args.pages c.args.workers c.in_ok-hands.hands.items c.in_ok-hands.ensures);
   sets_room = λ k d l. omega arith;
   unpopped = c.count_unpopped-unpopped.ensures ∙ ap (λ (xs : List CoreSet). count_unpopped c.args.generation 0 (map set_view xs)) c.deref.ensures.value;
 }
 
 pub returns-clause-state : goal.returns-clause-state
 returns-clause-state c =
-    rw (c.in_ok-words.ensures, c.in_ok-owners.ensures, c.in_ok-with_table.ensures, c.into_vec-sets.ensures, c.in_ok-hands.ensures, map-const hand_view (bare_hand c.args.pages) (range_with_len 0 c.args.workers), c.new.ensures) refl
+    rw (c.in_ok-new.ensures, c.in_ok-owners.ensures, c.in_ok-with_table.ensures, c.into_vec-sets.ensures, c.in_ok-hands.ensures, map-const hand_view (bare_hand c.args.pages) (range_with_len 0 c.args.workers), c.new-2.ensures) refl
 
 pub returns-clause-tidy : goal.returns-clause-tidy
 returns-clause-tidy c = let e = returns-clause-state c in start_tidy _ c.args.workers (ap (λ (s : CoreState). s.hands) e) (ap (λ (s : CoreState). s.lives) e)
