@@ -1,19 +1,19 @@
 //! The needs of a mark end, in their order. They read, and write nothing.
 
-ghost use Rattle.std.specs.Prelude.{◌≡◌, ◌==◌, ◌<◌, ◌+◌, ◌^◌, OnOk, true, not, length, map, option_map, option_copied, [], ◌∷◌};
+ghost use Rattle.std.specs.Prelude.{◌≡◌, ◌==◌, ◌<◌, ◌+◌, ◌^◌, OnOk, true, not, length, map, option_map, option_copied, unwrap_or, [], ◌∷◌};
 ghost use Rattle.std.specs.List.{find, list_all, position};
 ghost use Rattle.std.specs.Option.{is_some};
 ghost use Rattle.sweep_laws.specs.Lists.{has, rises, is_before as stands_before};
-ghost use Rattle.sweep_laws.specs.Reading.{is_settled, is_swept_set};
-ghost use Rattle.sweep_laws.specs.NeedsOfMarkEnd.{busy_hand, hands_are_idle, first_claim, no_claims, claim_index as claimed_at, is_idle, unsettled_word, words_are_settled, first_unpopped, sets_are_popped, is_allocated, wrong_mark, marks_are_allocated};
+ghost use Rattle.sweep_laws.specs.Reading.{is_settled, is_swept_set, life_at, no_life};
+ghost use Rattle.sweep_laws.specs.NeedsOfMarkEnd.{busy_hand, hands_are_idle, first_claim, no_claims, claim_index as claimed_at, is_idle, unsettled_word, words_are_settled, first_unpopped, sets_are_popped, wrong_mark, marks_are_allocated};
 ghost use Rattle.sweep_laws.specs.Needs.{next_needs};
 ghost use Rattle.sweep_laws.specs.Tries.{Tried};
-ghost use Rattle.sweep_lists.specs.Views.{hand_view, set_view};
+ghost use Rattle.sweep_lists.specs.Views.{hand_view, life_view, set_view};
 
 use crate::state::Core;
 use crate::tries::{demand, narrow};
 use sweep_laws::{Found, StepFault};
-use sweep_lists::{CoreHand, CoreSet};
+use sweep_lists::{CoreHand, CoreSet, Life};
 
 // Mark ends are made below this generation.
 const LAST_GENERATION: u64 = 1 << 63;
@@ -138,6 +138,16 @@ fn find_unpopped(sets: &[CoreSet], generation: u64) -> Option<&CoreSet>
     None
 }
 
+// Whether an index is allocated in a life.
+fn has_allocated(life: Option<&Life>, index: u32) -> bool
+    ensures { result ≡ has index (unwrap_or (option_map (λ life. life_view life.now) life.entry) no_life).allocated }
+{
+    match life {
+        Some(life) => life.allocated.has(index),
+        None => false,
+    }
+}
+
 impl Core {
     fn busy_hand(&self) -> Option<u32>
         ensures { result ≡ busy_hand self.now }
@@ -196,22 +206,25 @@ impl Core {
         }
     }
 
-    // Whether a mark names an index that is allocated.
-    fn is_allocated(&self, mark: (u32, u32)) -> bool
-        ensures { result ≡ is_allocated self.now mark }
+    // The first life that begins at a page, where that of the page before it is known: the same for the same page.
+    fn next_life<'a>(&'a self, page: u32, last: u32, life: Option<&'a Life>) -> Option<&'a Life>
+        requires { option_map (λ life. life_view life.now) life ≡ life_at self.now last }
+        ensures { option_map (λ life. life_view life.now) result ≡ life_at self.now page }
     {
-        match self.life(mark.0) {
-            Some(life) => life.allocated.has(mark.1),
-            None => false,
-        }
+        if page == last { life } else { self.life(page) }
     }
 
-    // The index of the first mark that names no allocated one.
+    // The index of the first mark that names no allocated one. The marks of one page stand together, so its life is looked up
+    // once.
     fn wrong_mark(&self, marks: &[(u32, u32)]) -> Option<u32>
         ensures { result ≡ wrong_mark self.now marks.now }
     {
+        let mut page = 0;
+        let mut life = self.life(page);
         for mark in marks {
-            if !self.is_allocated(*mark) {
+            life = self.next_life(mark.0, page, life);
+            page = mark.0;
+            if !has_allocated(life, mark.1) {
                 return Some(mark.1);
             }
         }
