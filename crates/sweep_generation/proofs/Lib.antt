@@ -3,3 +3,4 @@ mod Counted
 mod FirstFound
 mod Zeros
 mod Tried
+mod Packed

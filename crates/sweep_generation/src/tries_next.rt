@@ -1,6 +1,6 @@
 //! The needs of a mark end, in their order. They read, and write nothing.
 
-ghost use Rattle.std.specs.Prelude.{◌≡◌, ◌==◌, ◌<◌, ◌+◌, ◌^◌, OnOk, true, not, length, map, option_map, option_copied, unwrap_or, [], ◌∷◌};
+ghost use Rattle.std.specs.Prelude.{◌≡◌, ◌==◌, ◌<◌, ◌+◌, ◌*◌, ◌^◌, OnOk, true, not, length, map, option_map, option_copied, unwrap_or, [], ◌∷◌};
 ghost use Rattle.std.specs.List.{find, list_all, position};
 ghost use Rattle.std.specs.Option.{is_some};
 ghost use Rattle.sweep_laws.specs.Lists.{has, rises, is_before as stands_before};
@@ -18,11 +18,19 @@ use sweep_lists::{CoreHand, CoreSet, Life};
 // Mark ends are made below this generation.
 const LAST_GENERATION: u64 = 1 << 63;
 
-// Whether a pair stands before another: by the first parts, and then by the second ones.
+// A pair as one number, with the first part above the second.
+fn packed(pair: (u32, u32)) -> u64
+    ensures number { result ≡ 2 ^ 32 * pair.0 + pair.1 }
+    ensures second { pair.1 < 2 ^ 32 }
+{
+    (1 << 32) * u64::from(pair.0) + u64::from(pair.1)
+}
+
+// Whether a pair stands before another: by the first parts, and then by the second ones, which is one comparison of the packed pairs.
 fn is_before(a: (u32, u32), b: (u32, u32)) -> bool
     ensures { result ≡ stands_before a b }
 {
-    a.0 < b.0 || (a.0 == b.0 && a.1 < b.1)
+    packed(a) < packed(b)
 }
 
 // Whether pairs strictly rise.
