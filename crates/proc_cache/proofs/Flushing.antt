@@ -1,12 +1,13 @@
 -- One span is flushed.
 use Rattle.std.proofs.Common.{◌≡◌, ℕ, zero, suc, ◌+◌, ◌<◌, ◌≤◌, ◌⊎◌, inl, inr, lt-ltb, length, get_or, ⊎_elim, Bool, true, false, ◌||◌, nat_lt, List, [], ◌∷◌, ◌++◌, refl, ap, sym, subst, ◌∙◌, arith, eq-eqb, ne_eqb}
-use Rattle.std.specs.Prelude.{None, Some, Option, ◌==◌, if◌then◌else◌}
+use Rattle.std.specs.Prelude.{None, Some, Option, Result, Ok, Err, not, ◌==◌, if◌then◌else◌}
 use Rattle.std.proofs.lemmas.Bool.{cases_Bool}
 use Rattle.std.proofs.lemmas.Bool.Decides.{nat_tests}
 use Rattle.std.proofs.lemmas.List.{append-nil}
 use mathlib.Core.Logic.{dite}
 use native.Mathlib.Decide.{ℕ_discrete}
 use Rattle.std.specs.List.{AllByRecursion}
+use Rattle.fallible_list.specs.declared.list.NoMemory.{NoMemory}
 use Rattle.page_bitmap.specs.Counts.{one_if}
 use Rattle.span_state.specs.MarkSet.{MarkSet}
 use Rattle.span_state.specs.declared.body.Body.{Body}
@@ -30,9 +31,9 @@ use Rattle.span_laws.proofs.WordMoves.{span_else}
 use Rattle.span_set.specs.declared.hand.Hand.{Hand}
 use Rattle.sweeper.specs.Steps.{Settles}
 use Rattle.proc_cache.specs.Cache.{Cache, slot_at, with_slot}
-use Rattle.proc_cache.specs.Flushes.{Flushes, FlushesSpan, IsFlushing}
-use Rattle.proc_cache.specs.Serves.{IsUsedCache, Serves}
-use Rattle.proc_cache.proofs.Leaving.{all-append, leaves-trans, leaves_from}
+use Rattle.proc_cache.specs.Flushes.{Flushes, FlushesCache, FlushesSpan, IsFlushing}
+use Rattle.proc_cache.specs.Serves.{IsUsedCache, Serves, is_flushed}
+use Rattle.proc_cache.proofs.Leaving.{all-append, leaves-trans, leaves_from, leaves_nothing}
 use Rattle.proc_cache.proofs.Serving.{serves_nothing, serves_through, serves_without}
 use Rattle.proc_cache.proofs.Slots.{slot_else, slot_here, slot_low}
 
@@ -215,7 +216,22 @@ pub record FlushedSome (m : ℕ) (c d : Cache) (old new : Hand) : Type 0 where
   pub stamp : d.flushed ≡ c.flushed
   pub serves : Serves new.worker.view.generation new.worker.view.own d
 
+none_below : (k : ℕ) → nat_lt k 0 ≡ false
+none_below k = grind (arith, nat_tests)
+
 -- before the first class
+pub nothing_yet : (c : Cache) (old : Hand) → IsIdle old.worker.view.own → Flushes (λ k. nat_lt k 0) c c old old
+nothing_yet c old idle = record {
+  number = refl;
+  slots = λ k. rw (none_below k) refl;
+  said = [];
+  flushing = tt;
+  leaves = leaves_nothing old old idle refl refl;
+  swept = λ p. omega arith;
+  fresh = refl;
+}
+
+-- the generation was read, and nothing else was done
 pub reads_only : (c : Cache) (old : Hand) (w : Seen) (g : ℕ) (test : ℕ → Bool) → IsIdle old.worker.view.own → w ≡ after_said (Reads 1 g) old.worker → ((k : ℕ) → test k ≡ false) → Flushes test c c old (record old { worker = w })
 reads_only c old w g test idle e none = record {
   number = refl;
@@ -241,15 +257,39 @@ pub reads_serves : (c : Cache) (old w : Seen) (g : ℕ) → w ≡ after_said (Re
 reads_serves c old w g e v = subst (λ (s : Seen). Serves s.view.generation s.view.own c) (sym e)
     (serves_through old.view.generation old.view.own (after_said (Reads 1 g) old).view.own c v refl refl (λ q h. refl) (λ k s at. let x = (v.slots k s at).unpopped in omega arith))
 
+pub reads_idle : (old w : Seen) (g : ℕ) → w ≡ after_said (Reads 1 g) old → IsIdle old.view.own → IsIdle w.view.own
+reads_idle old w g e idle = subst (λ (s : Seen). IsIdle s.view.own) (sym e) (record { sweeping = idle.sweeping; held = idle.held; popped = idle.popped; claimed = idle.claimed })
+
+pub reads_used : (old w : Seen) (g : ℕ) → w ≡ after_said (Reads 1 g) old → IsUsedCache old.view.own → IsUsedCache w.view.own
+reads_used old w g e u = subst (λ (s : Seen). IsUsedCache s.view.own) (sym e) (λ p h f. let x = u p h f in omega arith)
+
+-- a flush behind a read of the generation is a flush of both
+pub read_first : (c d : Cache) (old new : Hand) (w : Seen) (g : ℕ) → IsIdle old.worker.view.own → w ≡ after_said (Reads 1 g) old.worker
+    → (r : Result (Unit {0}) NoMemory) → FlushesCache c d (record old { worker = w }) new r → FlushesCache c d old new r
+read_first c d old new w g idle e r x = let same : w.view.generation ≡ old.worker.view.generation = ap (λ (s : Seen). s.view.generation) e in
+    let first = reads_only c old w g (λ k. false) idle e (λ k. refl) in by_result same first r x
+  where
+    mid : Hand
+    mid = record old { worker = w }
+
+    by_result : w.view.generation ≡ old.worker.view.generation → Flushes (λ k. false) c c old mid → (r : Result (Unit {0}) NoMemory) → FlushesCache c d mid new r → FlushesCache c d old new r
+    by_result same first (Ok done) x = (
+      x.0 ∙ same,
+      flushes_by (λ k. false || not (is_flushed w.view.generation c)) (λ k. not (is_flushed old.worker.view.generation c)) c d old new (λ k. ap (λ (n : ℕ). not (is_flushed n c)) same)
+          (flushes-trans (λ k. false) (λ k. not (is_flushed w.view.generation c)) c c d old mid new first x.1),
+    )
+    by_result same first (Err none) x = (
+      sym (ap (λ (n : ℕ). is_flushed n c) same) ∙ x.0,
+      x.1,
+      (x.2.0, x.2.1, flushes-trans (λ k. false) (λ k. nat_lt k x.2.0) c c d old mid new first x.2.2),
+    )
+
 below_more : (k m : ℕ) → (nat_lt k m || k == m) ≡ nat_lt k (m + 1)
 below_more k m = grind (arith, nat_tests)
 
-none_below : (k : ℕ) → nat_lt k 0 ≡ false
-none_below k = grind (arith, nat_tests)
-
 module _ (c : Cache) (old : Hand) where
-  pub some_first : (w : Seen) (g : ℕ) → IsIdle old.worker.view.own → w ≡ after_said (Reads 1 g) old.worker → Serves old.worker.view.generation old.worker.view.own c → FlushedSome 0 c c old (record old { worker = w })
-  some_first w g idle e v = record { flushes = reads_only c old w g (λ k. nat_lt k 0) idle e none_below; stamp = refl; serves = reads_serves c old.worker w g e v }
+  pub some_first : IsIdle old.worker.view.own → Serves old.worker.view.generation old.worker.view.own c → FlushedSome 0 c c old old
+  some_first idle v = record { flushes = nothing_yet c old idle; stamp = refl; serves = v }
 
   pub some_more : (m : ℕ) (d e : Cache) (now new : Hand) → FlushedSome m c d old now → e.flushed ≡ d.flushed → Flushes (λ j. j == m) d e now new → Serves new.worker.view.generation new.worker.view.own e → FlushedSome (m + 1) c e old new
   some_more m d e now new x f y v = record {

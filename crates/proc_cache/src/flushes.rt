@@ -36,6 +36,28 @@ pub fn flush(proc: &mut Proc, shop: &Shop, hand: &mut Hand) -> Result<(), NoMemo
     if proc.flushed == generation {
         return Ok(());
     }
+    flush_all(proc, shop, hand, generation)
+}
+
+// The same for a processor that has not flushed in this cycle, at the generation that was read. A function of its own, so that `flush`, which
+// is called for each object, is small.
+#[inline(never)]
+fn flush_all(proc: &mut Proc, shop: &Shop, hand: &mut Hand, generation: u64) -> Result<(), NoMemory>
+    requires here { hand.old.worker.here ≡ true }
+    requires table { hand.old.worker.table ≡ shop.now.shared.now }
+    requires distance { 8192 ≤ shop.now.distance }
+    requires counts { MayCount shop.now.ring.now shop.now.marks.now hand.old.tally }
+    requires marks { shop.now.marks.now.pairs ≡ hand.old.worker.view.marks }
+    requires idle { IsIdle hand.old.worker.view.own }
+    requires serves { Serves hand.old.worker.view.generation hand.old.worker.view.own proc.old }
+    requires stale { is_flushed hand.old.worker.view.generation proc.old ≡ false }
+    requires generation { generation ≡ hand.old.worker.view.generation }
+    ensures flushes { FlushesCache proc.old proc.new hand.old hand.new result }
+    ensures serves { Serves hand.new.worker.view.generation hand.new.worker.view.own proc.new }
+    ensures countdown { proc.new.countdown ≡ proc.old.countdown }
+    ensures tally { Frees shop.now.marks.now hand.old hand.new }
+    ensures used { IsUsedCache hand.old.worker.view.own → IsUsedCache hand.new.worker.view.own }
+{
     for class in 0..CLASSES {
         flush_class(proc, shop, hand, class)?;
     }

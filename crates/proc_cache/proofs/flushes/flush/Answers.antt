@@ -1,10 +1,9 @@
-use Rattle.std.proofs.Common.{refl, ◌≡◌, ℕ, true, false, not, length, arith, ap, sym, subst, ◌∙◌, eq-eqb, ne_eqb}
-use Rattle.std.proofs.lemmas.List.{length-map}
-use Rattle.span_laws.specs.declared.view.View.{View}
-use Rattle.proc_cache.specs.Cache.{Cache, span_in, spans_of}
+use Rattle.std.proofs.Common.{refl, ◌≡◌, false, not, ap, sym, subst, ◌∙◌, eq-eqb, ne_eqb}
+use Rattle.span_laws.specs.Views.{Seen}
+use Rattle.proc_cache.specs.Cache.{Cache}
 use Rattle.proc_cache.specs.Serves.{is_flushed}
-use Rattle.proc_cache.proofs.Flushing.{FlushedSome, all_flushed, all_serves, flushes_by, reads_only, reads_serves, some_first, some_more}
-use Rattle.span_set.proofs.Tallies.{frees-both, frees-none, may-still}
+use Rattle.proc_cache.proofs.Flushing.{read_first, reads_idle, reads_only, reads_serves, reads_used}
+use Rattle.span_set.proofs.Tallies.{frees-as, frees-none}
 use Rattle.proc_cache.proofs.flushes.flush.Goals as goal
 
 pub returns-then-proc-generation-clause-flushes : goal.returns-then-proc-generation-clause-flushes
@@ -18,55 +17,26 @@ returns-then-proc-generation-clause-flushes c =
 pub returns-then-proc-generation-clause-serves : goal.returns-then-proc-generation-clause-serves
 returns-then-proc-generation-clause-serves c = reads_serves c.args.proc.now c.args.hand.now.worker c.generation-generation.new.w c.generation-generation.result c.generation-generation.ensures.view c.requires.serves
 
-pub loop-class-init : goal.loop-class-init
-loop-class-init c = record {
-  some = some_first c.args.proc.now c.args.hand.now c.generation-generation.new.w c.generation-generation.result c.requires.idle c.generation-generation.ensures.view c.requires.serves;
-  countdown = refl;
-  tally = frees-none c.args.shop.now.marks.now c.args.hand.now (record c.args.hand.now { worker = c.generation-generation.new.w }) refl refl;
-}
-
-pub loop-class-preserved : goal.loop-class-preserved
-loop-class-preserved c = record {
-  some = some_more c.args.proc.now c.args.hand.now c.loop-class.class c.loop-class.proc c.flush_class.new.proc c.loop-class.hand c.flush_class.new.hand c.loop-class.invariant.some
-      c.in_ok-flush_class.ensures.flushes.0 c.in_ok-flush_class.ensures.flushes.1 c.flush_class.ensures.serves;
-  countdown = c.flush_class.ensures.countdown ∙ c.loop-class.invariant.countdown;
-  tally = frees-both c.args.shop.now.marks.now c.args.hand.now c.loop-class.hand c.flush_class.new.hand c.loop-class.invariant.tally c.flush_class.ensures.tally;
-}
-
-pub returns-clause-serves : goal.returns-clause-serves
-returns-clause-serves c =
-    let i = c.proc-2.inside in let d = c.loop-class.proc in let new = c.loop-class.hand in let old = c.args.hand.now in
-    let e : Cache = record { number = i.number; flushed = c.generation-generation.result; slots = spans_of i.slots.items; countdown = i.sampler } in
-    let end : c.loop-class.class ≡ 136 = omega arith in
-    let x : FlushedSome 136 c.args.proc.now d old new = subst (λ (m : ℕ). FlushedSome m c.args.proc.now d old new) end c.loop-class.invariant.some in
-    let few : length d.slots ≡ 136 = sym (ap (λ (z : Cache). length z.slots) c.proc-2.view_is) ∙ length-map i.slots.items span_in ∙ c.proc-2.invariant in
-    all_serves c.args.proc.now old d e new x few (ap (λ (z : Cache). z.slots) c.proc-2.view_is) (ap (λ (z : Cache). z.number) c.proc-2.view_is)
-    (c.generation-generation.ensures.value ∙ sym (ap (λ (v : View). v.generation) x.flushes.leaves.view))
-
-pub returns-clause-flushes : goal.returns-clause-flushes
-returns-clause-flushes c =
-    let i = c.proc-2.inside in let d = c.loop-class.proc in let new = c.loop-class.hand in let old = c.args.hand.now in let g = old.worker.view.generation in
-    let e : Cache = record { number = i.number; flushed = c.generation-generation.result; slots = spans_of i.slots.items; countdown = i.sampler } in
-    let end : c.loop-class.class ≡ 136 = omega arith in
-    let x : FlushedSome 136 c.args.proc.now d old new = subst (λ (m : ℕ). FlushedSome m c.args.proc.now d old new) end c.loop-class.invariant.some in
-    let few : length d.slots ≡ 136 = sym (ap (λ (z : Cache). length z.slots) c.proc-2.view_is) ∙ length-map i.slots.items span_in ∙ c.proc-2.invariant in
-    let fresh : is_flushed g c.args.proc.now ≡ false = ne_eqb c.args.proc.now.flushed g (λ f. c.if-proc-generation.false (ap (λ (z : Cache). z.flushed) c.proc.view_is ∙ f ∙ sym c.generation-generation.ensures.value)) in (
-      c.generation-generation.ensures.value,
-      flushes_by (λ k. true) (λ k. not (is_flushed g c.args.proc.now)) c.args.proc.now e old new (λ k. sym (ap not fresh))
-          (all_flushed c.args.proc.now old d e new x few (ap (λ (z : Cache). z.slots) c.proc-2.view_is) (ap (λ (z : Cache). z.number) c.proc-2.view_is)),
-    )
-
-pub flush_class-requires-clause-counts : goal.flush_class-requires-clause-counts
-flush_class-requires-clause-counts c = may-still c.args.shop.now.marks.now c.args.shop.now.ring.now c.args.hand.now c.loop-class.hand c.requires.counts c.loop-class.invariant.tally
-
 pub returns-then-proc-generation-clause-tally : goal.returns-then-proc-generation-clause-tally
 returns-then-proc-generation-clause-tally c = frees-none c.args.shop.now.marks.now c.args.hand.now (record c.args.hand.now { worker = c.generation-generation.new.w }) refl refl
 
-pub returns-in_err-flush_class-clause-tally : goal.returns-in_err-flush_class-clause-tally
-returns-in_err-flush_class-clause-tally c = frees-both c.args.shop.now.marks.now c.args.hand.now c.loop-class.hand c.flush_class.new.hand c.loop-class.invariant.tally c.flush_class.ensures.tally
+pub flush_all-requires-clause-idle : goal.flush_all-requires-clause-idle
+flush_all-requires-clause-idle c = reads_idle c.args.hand.now.worker c.generation-generation.new.w c.generation-generation.result c.generation-generation.ensures.view c.requires.idle
 
-pub returns-in_err-flush_class-clause-countdown : goal.returns-in_err-flush_class-clause-countdown
-returns-in_err-flush_class-clause-countdown c = c.flush_class.ensures.countdown ∙ c.loop-class.invariant.countdown
+pub flush_all-requires-clause-serves : goal.flush_all-requires-clause-serves
+flush_all-requires-clause-serves c = reads_serves c.args.proc.now c.args.hand.now.worker c.generation-generation.new.w c.generation-generation.result c.generation-generation.ensures.view c.requires.serves
 
-pub returns-clause-countdown : goal.returns-clause-countdown
-returns-clause-countdown c = ap (λ (z : Cache). z.countdown) c.proc-2.view_is ∙ c.loop-class.invariant.countdown
+pub flush_all-requires-clause-stale : goal.flush_all-requires-clause-stale
+flush_all-requires-clause-stale c =
+    let g = c.args.hand.now.worker.view.generation in
+    let fresh : is_flushed g c.args.proc.now ≡ false = ne_eqb c.args.proc.now.flushed g (λ f. c.if-proc-generation.false (ap (λ (z : Cache). z.flushed) c.proc.view_is ∙ f ∙ sym c.generation-generation.ensures.value)) in
+    subst (λ (w : Seen). is_flushed w.view.generation c.args.proc.now ≡ false) (sym c.generation-generation.ensures.view) fresh
+
+pub returns-clause-flushes : goal.returns-clause-flushes
+returns-clause-flushes c = read_first c.args.proc.now c.flush_all.new.proc c.args.hand.now c.flush_all.new.hand c.generation-generation.new.w c.generation-generation.result c.requires.idle c.generation-generation.ensures.view c.flush_all.result c.flush_all.ensures.flushes
+
+pub returns-clause-tally : goal.returns-clause-tally
+returns-clause-tally c = frees-as c.args.shop.now.marks.now (record c.args.hand.now { worker = c.generation-generation.new.w }) c.flush_all.new.hand c.args.hand.now c.flush_all.new.hand c.flush_all.ensures.tally refl refl refl refl
+
+pub returns-clause-used : goal.returns-clause-used
+returns-clause-used c = λ u. c.flush_all.ensures.used (reads_used c.args.hand.now.worker c.generation-generation.new.w c.generation-generation.result c.generation-generation.ensures.view u)
