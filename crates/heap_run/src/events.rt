@@ -8,6 +8,7 @@ ghost use Rattle.sample_laws.specs.Countdowns.{flag, flags, spends, spent};
 ghost use Rattle.heap_run.specs.Counts.{Counts};
 ghost use Rattle.heap_run.specs.Turns.{HasActed, IsCaching, SaysAnswers};
 
+use crate::queues::empty_list;
 use cycle_history::Answer;
 use edge_io::{Gate, List, NoMemory};
 use large_objects::alloc_large;
@@ -53,8 +54,8 @@ pub(crate) fn answer_all<G: Gate>(
     ensures counts { IfOk result (λ o. Counts shop.now.marks.now (sampled_counts o.sampled buckets.now) hand.old hand.new) }
 {
     let mut outcomes = Outcomes {
-        answers: List::new(alloc),
-        sampled: List::new(alloc),
+        answers: empty_list(alloc, events.len())?,
+        sampled: empty_list(alloc, events.len())?,
     };
     for (turn, event) in events.iter().enumerate() {
         gate.before(proc.number(), turn as u64);

@@ -34,9 +34,10 @@ pub(crate) fn queues_of(
     ensures buckets { IfOk result (λ queues. (w : ℕ) → slice_index_or queues.buckets.items w [] ≡ map (number_of known.now) (events_by w events.now)) }
     ensures numbers { OnOk result (numbers.new ≡ numbers.old ++ map (number_of known.now) events.now) }
 {
+    let share = events.len() / (procs as usize).max(1);
     let mut queues = Queues {
-        events: no_lists(alloc, procs)?,
-        buckets: no_lists(alloc, procs)?,
+        events: empty_lists(alloc, procs, share)?,
+        buckets: empty_lists(alloc, procs, share)?,
     };
     for event in events {
         let number = bucket_of(known, event);
@@ -63,14 +64,23 @@ fn bucket_of(known: &Buckets, event: &Event) -> u32
     known.number(event.stack, slot).unwrap_or(0)
 }
 
-// An empty list for each processor.
-fn no_lists<T: Drop>(alloc: Global, procs: u32) -> Result<Vec<List<T>>, NoMemory>
+// An empty list for each processor, with room for so many items.
+fn empty_lists<T: Drop>(alloc: Global, procs: u32, room: usize) -> Result<Vec<List<T>>, NoMemory>
     ensures length { IfOk result (λ lists. vec_len lists ≡ procs) }
     ensures empty { IfOk result (λ lists. (w : ℕ) → slice_index_or lists.items w [] ≡ []) }
 {
     let mut lists = Vec::new(alloc);
     for _proc in 0..procs {
-        lists.push(List::new(alloc))?;
+        lists.push(empty_list(alloc, room)?)?;
     }
     Ok(lists)
+}
+
+/// An empty list with room for so many items, so that it need not move as it grows to that.
+pub(crate) fn empty_list<T: Drop>(alloc: Global, room: usize) -> Result<List<T>, NoMemory>
+    ensures { IfOk result (λ list. list ≡ []) }
+{
+    let mut items = Vec::new(alloc);
+    items.reserve(room)?;
+    Ok(List::from_vec(items))
 }

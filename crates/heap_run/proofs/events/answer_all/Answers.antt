@@ -13,13 +13,13 @@ use Rattle.heap_run.proofs.events.answer_all.Goals as goal
 
 pub loop-turn-init : goal.loop-turn-init
 loop-turn-init g c = record {
-  acted = rw c.new.ensures (acted-none (SaysAnswers [] []) c.args.hand.now c.requires.idle tt);
+  acted = rw c.in_ok-empty_list.ensures (acted-none (SaysAnswers [] []) c.args.hand.now c.requires.idle tt);
   caching = c.requires.caching;
   number = refl;
-  size = ap (λ (l : List Bool). length l) c.new-2.ensures;
-  sampled = rw c.new-2.ensures refl;
+  size = ap (λ (l : List Bool). length l) c.in_ok-empty_list-2.ensures;
+  sampled = rw c.in_ok-empty_list-2.ensures refl;
   spent_is = refl;
-  counts = rw c.new-2.ensures (counts-none c.args.shop.now.marks.now c.args.hand.now c.args.hand.now refl refl);
+  counts = rw c.in_ok-empty_list-2.ensures (counts-none c.args.shop.now.marks.now c.args.hand.now c.args.hand.now refl refl);
 }
 
 pub answer-requires-clause-counts : goal.answer-requires-clause-counts

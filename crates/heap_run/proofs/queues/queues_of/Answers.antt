@@ -7,10 +7,10 @@ use Rattle.heap_run.proofs.queues.queues_of.Goals as goal
 
 pub loop-event-init : goal.loop-event-init
 loop-event-init c = record {
-  long = c.in_ok-no_lists.ensures.length;
-  long_too = c.in_ok-no_lists-2.ensures.length;
-  each = c.in_ok-no_lists.ensures.empty;
-  each_number = c.in_ok-no_lists-2.ensures.empty;
+  long = c.in_ok-empty_lists.ensures.length;
+  long_too = c.in_ok-empty_lists-2.ensures.length;
+  each = c.in_ok-empty_lists.ensures.empty;
+  each_number = c.in_ok-empty_lists-2.ensures.empty;
   numbered = sym (append-nil c.args.numbers.now);
 }
 
