@@ -1,6 +1,6 @@
 //! The marks of one page, out of marks that rise: they stand side by side. Nothing is written here.
 
-ghost use Rattle.std.specs.Prelude.{◌≡◌, ◌<◌, ◌≤◌, ◌+◌, ◌-◌, ℕ, true, length, slice_index_or, slice_range};
+ghost use Rattle.std.specs.Prelude.{◌≡◌, ◌≢◌, ◌<◌, ◌≤◌, ◌+◌, ◌-◌, ℕ, true, length, slice_index_or, slice_range};
 ghost use Rattle.sweep_laws.specs.Lists.{rises};
 ghost use Rattle.sweep_laws.specs.ChangesOfLives.{marks_at};
 ghost use Rattle.sweep_lists.specs.Marks.{IsFrom};
@@ -58,16 +58,33 @@ fn is_behind(marks: &[(u32, u32)], page: u32, n: usize) -> bool
     }
 }
 
-// How many marks stand before those of the pages behind a page, whose own begin at `start`.
+// How many marks stand before those of the pages behind a page, whose own begin at `start`. Long strides pass over most of them.
 fn end_of(marks: &[(u32, u32)], page: u32, start: usize) -> usize
     requires rising { rises marks.now ≡ true }
     requires start { IsFrom start page marks.now }
     ensures end { IsFrom result (page + 1) marks.now }
     ensures order { start ≤ result }
 {
+    let long = strides_of(marks, page, start, 16);
+    let short = strides_of(marks, page, long, 4);
+    strides_of(marks, page, short, 1)
+}
+
+// How far whole strides go over the marks of a page, from `start` on. Where the last mark of a stride is of the page, those
+// between are too.
+fn strides_of(marks: &[(u32, u32)], page: u32, start: usize, stride: usize) -> usize
+    requires rising { rises marks.now ≡ true }
+    requires stride { 0 < stride }
+    requires bound { start ≤ length marks.now }
+    requires before { (k : ℕ) (d : ℕ × ℕ) → k < start → (slice_index_or marks.now k d).0 < page + 1 }
+    ensures order { start ≤ result }
+    ensures bound { result ≤ length marks.now }
+    ensures before { (k : ℕ) (d : ℕ × ℕ) → k < result → (slice_index_or marks.now k d).0 < page + 1 }
+    ensures last { (k : ℕ) (d : ℕ × ℕ) → k + 1 ≡ result + stride → k < length marks.now → (slice_index_or marks.now k d).0 ≢ page }
+{
     let mut end = start;
-    while end < marks.len() && marks[end].0 == page {
-        end += 1;
+    while stride <= marks.len() - end && marks[end + (stride - 1)].0 == page {
+        end += stride;
     }
     end
 }

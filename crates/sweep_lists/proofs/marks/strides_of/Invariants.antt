@@ -1,5 +1,5 @@
 use Rattle.std.proofs.Common.{◌≤◌, ◌<◌, ◌+◌, ◌-◌, ℕ, length, get_or}
-use Rattle.sweep_lists.proofs.marks.end_of.Given as goal
+use Rattle.sweep_lists.proofs.marks.strides_of.Given as goal
 
 abbrev pub invariant-loop-end : goal.invariant-loop-end
 invariant-loop-end l = record {
