@@ -1,5 +1,5 @@
 -- The marks of one page.
-use Rattle.std.proofs.Common.{◌≡◌, ℕ, suc, eq-eqb, ◌+◌, ◌<◌, ◌≤◌, ◌==◌, Bool, true, false, if◌then◌else◌, List, [], ◌∷◌, ◌++◌, length, get_or, take, drop, refl, ap, subst, ◌∙◌, ◌≢◌, arith, rules}
+use Rattle.std.proofs.Common.{◌≡◌, ℕ, suc, eq-eqb, ◌+◌, ◌<◌, ◌≤◌, ◌==◌, Bool, true, false, if◌then◌else◌, List, [], ◌∷◌, ◌++◌, length, get_or, take, drop, map, refl, ap, subst, ◌∙◌, ◌≢◌, arith, rules}
 use borrow.Author.Tests.{tests}
 use Rattle.std.proofs.lemmas.List.{take_more, length-append, append-nil, take-append-drop}
 use Rattle.sweep_laws.specs.ChangesOfLives.{marks_at}
@@ -57,3 +57,7 @@ full-here page ms i d low is =
 pub all-here : (page : ℕ) (ms : List (ℕ × ℕ)) → ((k : ℕ) (d : ℕ × ℕ) → k < length ms → (get_or ms k d).0 ≡ page) → length (marks_at page ms) ≡ length ms
 all-here page [] here = refl
 all-here page (m ∷ ms) here = rw (eq-eqb m.0 page (here 0 m (omega arith))) (ap (λ n. suc n) (all-here page ms (λ k d low. here (suc k) d (omega arith))))
+
+pub seconds-here : (page : ℕ) (ms : List (ℕ × ℕ)) → ((k : ℕ) (d : ℕ × ℕ) → k < length ms → (get_or ms k d).0 ≡ page) → map (λ (m : ℕ × ℕ). m.1) ms ≡ marks_at page ms
+seconds-here page [] here = refl
+seconds-here page (m ∷ ms) here = rw (eq-eqb m.0 page (here 0 m (omega arith))) (ap (λ ns. m.1 ∷ ns) (seconds-here page ms (λ k d low. here (suc k) d (omega arith))))

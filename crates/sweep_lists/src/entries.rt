@@ -1,7 +1,7 @@
 //! A plain list with room. All lists of a core stand on it: to put something in never takes memory within the room, and where
 //! there is none the list stays as it was.
 
-ghost use Rattle.std.specs.Prelude.{◌≡◌, ◌<◌, ◌≤◌, ◌==◌, [], ◌∷◌, ◌++◌, length, OnOk, OnErr, ◌^◌};
+ghost use Rattle.std.specs.Prelude.{◌≡◌, ◌<◌, ◌≤◌, ◌==◌, ℕ, [], ◌∷◌, ◌++◌, length, map, OnOk, OnErr, ◌^◌};
 ghost use Rattle.std.specs.List.{position};
 ghost use Rattle.sweep_laws.specs.Lists.{has, erase, put_cell};
 
@@ -131,6 +131,15 @@ impl Entries<u32> {
         self.items.clear();
         let _ = self.items.extend_from_slice(items);
     }
+
+    // Has the second parts of pairs in place of its own.
+    pub(crate) fn copy_seconds(&mut self, pairs: &[(u32, u32)])
+        requires { length pairs.now ≤ self.old.space }
+        ensures { self.new ≡ record self.old { items = map (λ pair. pair.1) pairs.now } }
+    {
+        let _ = self.items.resize(pairs.len(), 0);
+        put_seconds(&mut self.items, pairs);
+    }
 }
 
 impl Entries<u64> {
@@ -158,4 +167,14 @@ fn index_of(items: &[u32], item: u32) -> Option<usize>
     ensures { result ≡ position (λ x. x == item) items.now }
 {
     items.iter().position(|&x| x == item)
+}
+
+// Each place gets the second part of the pair of its number.
+fn put_seconds(places: &mut [u32], pairs: &[(u32, u32)])
+    requires { length places.old ≡ length pairs.now }
+    ensures { places.new ≡ map (λ pair. pair.1) pairs.now }
+{
+    for k in 0..pairs.len() {
+        places[k] = pairs[k].1;
+    }
 }

@@ -88,9 +88,6 @@ impl Life {
         requires room { length (marks_at self.old.page marks.now) ≤ self.old.kept.space }
         ensures { self.new ≡ marked marks.now 0 self.old }
     {
-        self.kept.clear();
-        for mark in marks {
-            self.kept.push(mark.1);
-        }
+        self.kept.copy_seconds(marks);
     }
 }
