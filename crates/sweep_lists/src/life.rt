@@ -37,6 +37,10 @@ impl Life {
         ensures room { LifeRoom self.old → LifeRoom self.new }
         ensures full { OnErr result (self.old.allocated.space < length self.old.kept.items) }
     {
+        // Mostly all objects live: then nothing is to be done.
+        if self.allocated.as_slice() == self.kept.as_slice() {
+            return Ok(());
+        }
         self.allocated.reserve(self.kept.len())?;
         self.allocated.copy_from(self.kept.as_slice());
         Ok(())
