@@ -1,9 +1,12 @@
 -- A table that tells which numbers a list has.
-use Rattle.std.proofs.Common.{◌≡◌, ◌≢◌, ℕ, ◌+◌, ◌<◌, ◌≤◌, ◌==◌, Bool, true, false, ◌||◌, eqb, eq-eqb, ne_eqb, List, [], ◌∷◌, length, get_or, set, take, refl, sym, ap, ◌∙◌, arith, get_or-set_other, get_or-set_same}
+use Rattle.std.proofs.Common.{◌≡◌, ◌≢◌, ℕ, ◌+◌, ◌-◌, ◌<◌, ◌≤◌, ◌==◌, Bool, true, false, ◌||◌, eqb, eq-eqb, ne_eqb, List, [], ◌∷◌, length, get_or, set, take, drop, refl, sym, ap, ◌∙◌, arith, get_or-set_other, get_or-set_same}
+use Rattle.std.specs.Bool.{beq}
+use Rattle.std.specs.Prelude.{slice_range}
 use Rattle.std.proofs.lemmas.Bool.{or_parts}
+use Rattle.std.proofs.lemmas.List.{get_or-take, get_or-drop, length-take, length-drop}
 use Rattle.std.proofs.lemmas.List.Folds.{list_any_more}
 use mathlib.Core.Logic.{dite}
-use native.Mathlib.Decide.{ℕ_discrete}
+use native.Mathlib.Decide.{ℕ_discrete, dec_le}
 use Rattle.sweep_laws.specs.Lists.{has, erase}
 use Rattle.sweep_lists.specs.Tables.{TellsMembers}
 
@@ -62,3 +65,21 @@ tells_beyond seen xs x tells big i inside = tells i inside ∙ has_erased i x xs
 pub erased_absent : (x : ℕ) (xs : List ℕ) → has x xs ≡ false → xs ≡ erase x xs
 erased_absent x [] e = refl
 erased_absent x (y ∷ xs) e = let p = or_parts (y == x) (has x xs) e in rw p.0 (ap (λ ys. y ∷ ys) (erased_absent x xs p.1))
+
+is_true : (b : Bool) → beq b false ≡ false → b ≡ true
+is_true true e = refl
+is_true false e = absurd (cc)
+
+-- a stride of a table without a false place
+pub stride_more : (seen : List Bool) (end : ℕ) → end + 32 ≤ length seen → ((i : ℕ) → i < end → get_or seen i false ≡ true)
+    → ((k : ℕ) (d : Bool) → 0 ≤ k → k < length (slice_range seen end (end + 32)) → beq (get_or (slice_range seen end (end + 32)) k d) false ≡ false)
+    → (i : ℕ) → i < end + 32 → get_or seen i false ≡ true
+stride_more seen end inside told none i low = dite (dec_le end i)
+    (λ s.
+    let n : ℕ = (end + 32) - end in
+    let k : ℕ = i - end in
+    let e : end + k ≡ i = omega arith in
+    let l : k < n = omega arith in
+    let within : k < length (slice_range seen end (end + 32)) = omega (arith, length-take n (drop end seen), length-drop end seen) in
+    ap (λ m. get_or seen m false) (sym e) ∙ sym (get_or-drop end seen k false) ∙ sym (get_or-take n (drop end seen) k false l) ∙ is_true _ (none k false (omega arith) within))
+    (λ s. told i (omega arith))

@@ -1,7 +1,5 @@
 -- The marks of one page.
-use Rattle.std.proofs.Common.{◌≡◌, ℕ, suc, eq-eqb, ◌+◌, ◌<◌, ◌≤◌, ◌==◌, Bool, true, false, if◌then◌else◌, List, [], ◌∷◌, ◌++◌, length, get_or, take, drop, map, refl, ap, subst, ◌∙◌, ◌≢◌, arith, rules}
-use borrow.Author.Tests.{tests}
-use Rattle.std.proofs.lemmas.List.{take_more, length-append, append-nil, take-append-drop}
+use Rattle.std.proofs.Common.{◌≡◌, ℕ, suc, eq-eqb, ◌<◌, ◌==◌, Bool, true, false, if◌then◌else◌, List, [], ◌∷◌, ◌++◌, length, get_or, map, refl, ap, arith}
 use Rattle.sweep_laws.specs.ChangesOfLives.{marks_at}
 
 by_test : (b : Bool) (x : ℕ) (all front back : List ℕ) → all ≡ front ++ back → (if b then x ∷ all else all) ≡ (if b then x ∷ front else front) ++ back

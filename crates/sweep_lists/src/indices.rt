@@ -129,12 +129,26 @@ impl Indices {
         ensures { self.new ≡ record self.old { items = indices.now } }
     {
         self.numbers.copy_from(indices);
-        self.free = first_outside(&self.numbers, 0);
+        self.free = first_outside(&self.numbers, self.numbers.told());
     }
 }
 
 // The first number from `start` on that is not there, or u32::MAX where all below it are.
 fn first_outside(numbers: &Numbers, start: u32) -> u32
+    requires { AreMembers start numbers.now.items }
+    ensures { IsLeastOutside result numbers.now.items }
+{
+    let free = numbers.skip_told(start);
+    if numbers.reaches(free) {
+        free
+    } else {
+        first_beyond(numbers, free)
+    }
+}
+
+// The same behind the table, where each number is looked for in the list.
+#[inline(never)]
+fn first_beyond(numbers: &Numbers, start: u32) -> u32
     requires { AreMembers start numbers.now.items }
     ensures { IsLeastOutside result numbers.now.items }
 {

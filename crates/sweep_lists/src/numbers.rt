@@ -1,8 +1,9 @@
 //! A list of pages or indices with a table beside it. Only the methods here write the two, always both, so that the table says
 //! what the list says.
 
-ghost use Rattle.std.specs.Prelude.{◌≡◌, ◌<◌, ◌≤◌, ◌==◌, ◌||◌, ℕ, false, [], ◌∷◌, ◌++◌, length, IfOk, OnOk, OnErr, slice_index_or};
+ghost use Rattle.std.specs.Prelude.{◌≡◌, ◌<◌, ◌≤◌, ◌==◌, ◌||◌, ℕ, false, true, nat_lt, [], ◌∷◌, ◌++◌, length, IfOk, OnOk, OnErr, slice_index_or};
 ghost use Rattle.sweep_laws.specs.Lists.{has, erase};
+ghost use Rattle.sweep_lists.specs.Tables.{AreMembers};
 
 use crate::entries::Entries;
 use fallible_list::NoMemory;
@@ -82,6 +83,35 @@ impl Numbers {
             Some(seen) => *seen,
             None => self.items.has(item),
         }
+    }
+
+    // How many numbers from 0 on the table tells to be there. Those of a last stride that is not whole are left out.
+    pub(crate) fn told(&self) -> u32
+        ensures { AreMembers result self.now.items }
+    {
+        strides_told(&self.seen).min(u32::MAX as usize) as u32
+    }
+
+    // The first number from `start` on of which the table does not tell that it is there.
+    pub(crate) fn skip_told(&self, start: u32) -> u32
+        requires { AreMembers start self.now.items }
+        ensures below { AreMembers result self.now.items }
+        ensures stops { result < self.now.reach → result < 4294967295 → has result self.now.items ≡ false }
+    {
+        let seen = self.seen.as_slice();
+        let bound = seen.len().min(u32::MAX as usize);
+        let mut free = start as usize;
+        while free < bound && seen[free] {
+            free += 1;
+        }
+        free as u32
+    }
+
+    // Whether the table tells of a number.
+    pub(crate) fn reaches(&self, item: u32) -> bool
+        ensures { result ≡ nat_lt item self.now.reach }
+    {
+        (item as usize) < self.seen.len()
     }
 
     /// Makes room for `space` numbers at least. It fails only where there is less room.
@@ -165,4 +195,16 @@ fn tell_all(seen: &mut [bool], items: &[u32])
             seen[item as usize] = true;
         }
     }
+}
+
+// How many places a table has in front that all say true, in whole strides: each is looked through at once.
+fn strides_told(seen: &[bool]) -> usize
+    ensures bound { result ≤ length seen.now }
+    ensures told { (i : ℕ) → i < result → slice_index_or seen.now i false ≡ true }
+{
+    let mut end = 0;
+    while 32 <= seen.len() - end && !seen[end..end + 32].contains(&false) {
+        end += 32;
+    }
+    end
 }
