@@ -1,5 +1,5 @@
 -- A table that tells which numbers a list has.
-use Rattle.std.proofs.Common.{◌≡◌, ◌≢◌, ℕ, ◌+◌, ◌-◌, ◌<◌, ◌≤◌, ◌==◌, Bool, true, false, ◌||◌, eqb, eq-eqb, ne_eqb, List, [], ◌∷◌, length, get_or, set, take, drop, refl, sym, ap, ◌∙◌, arith, get_or-set_other, get_or-set_same}
+use Rattle.std.proofs.Common.{◌≡◌, ◌≢◌, ℕ, suc, ◌+◌, ◌-◌, ◌<◌, ◌≤◌, ◌==◌, Bool, true, false, ◌||◌, eqb, eq-eqb, ne_eqb, List, [], ◌∷◌, length, get_or, set, take, drop, refl, sym, ap, ◌∙◌, arith, get_or-set_other, get_or-set_same}
 use Rattle.std.specs.Bool.{beq}
 use Rattle.std.specs.Prelude.{slice_range}
 use Rattle.std.proofs.lemmas.Bool.{or_parts}
@@ -83,3 +83,10 @@ stride_more seen end inside told none i low = dite (dec_le end i)
     let within : k < length (slice_range seen end (end + 32)) = omega (arith, length-take n (drop end seen), length-drop end seen) in
     ap (λ m. get_or seen m false) (sym e) ∙ sym (get_or-drop end seen k false) ∙ sym (get_or-take n (drop end seen) k false l) ∙ is_true _ (none k false (omega arith) within))
     (λ s. told i (omega arith))
+
+-- numbers below a bound leave out all others
+pub none_beyond : (bound : ℕ) (xs : List ℕ) → ((k : ℕ) → k < length xs → get_or xs k 0 < bound) → (i : ℕ) → bound ≤ i → has i xs ≡ false
+none_beyond bound [] below i high = refl
+none_beyond bound (x ∷ xs) below i high =
+    let first : x < bound = below 0 (omega arith) in
+    rw (ne_eqb x i (λ e. omega arith)) (none_beyond bound xs (λ k low. below (suc k) (omega arith)) i high)

@@ -180,13 +180,59 @@ impl Numbers {
         requires { length items.now ≤ self.old.space }
         ensures { self.new ≡ record self.old { items = items.now } }
     {
+        let _ = self.replace(items);
+    }
+
+    // The same. Answers whether the table reaches over all of them, so that none is beyond it.
+    pub(crate) fn replace(&mut self, items: &[u32]) -> bool
+        requires { length items.now ≤ self.old.space }
+        ensures items { self.new ≡ record self.old { items = items.now } }
+        ensures within { result ≡ true → (i : ℕ) → self.old.reach ≤ i → has i items.now ≡ false }
+    {
         self.items.copy_from(items);
         self.seen.fill(false);
-        tell_all(&mut self.seen, items);
+        tell(&mut self.seen, items)
     }
 }
 
-// The table tells of some numbers that they are there.
+// The table tells of some numbers that they are there. Answers whether it reaches over all of them.
+fn tell(seen: &mut [bool], items: &[u32]) -> bool
+    ensures told { (i : ℕ) → i < length seen.old → slice_index_or seen.new i false ≡ (slice_index_or seen.old i false || has i items.now) }
+    ensures within { result ≡ true → (k : ℕ) → k < length items.now → slice_index_or items.now k 0 < length seen.old }
+{
+    if are_below(items, seen.len()) {
+        tell_within(seen, items);
+        true
+    } else {
+        tell_all(seen, items);
+        false
+    }
+}
+
+// Whether all numbers are seen to be below a bound. No test stands between them, so that many are looked at at once.
+fn are_below(items: &[u32], bound: usize) -> bool
+    ensures { result ≡ true → (k : ℕ) → k < length items.now → slice_index_or items.now k 0 < bound }
+{
+    let mut top = 0;
+    for &item in items {
+        if top < item {
+            top = item;
+        }
+    }
+    (top as usize) < bound
+}
+
+// The table tells of some numbers, all within it, that they are there.
+fn tell_within(seen: &mut [bool], items: &[u32])
+    requires { (k : ℕ) → k < length items.now → slice_index_or items.now k 0 < length seen.old }
+    ensures { (i : ℕ) → i < length seen.old → slice_index_or seen.new i false ≡ (slice_index_or seen.old i false || has i items.now) }
+{
+    for &item in items {
+        seen[item as usize] = true;
+    }
+}
+
+// The table tells of some numbers that they are there, of those within it.
 fn tell_all(seen: &mut [bool], items: &[u32])
     ensures { (i : ℕ) → i < length seen.old → slice_index_or seen.new i false ≡ (slice_index_or seen.old i false || has i items.now) }
 {
