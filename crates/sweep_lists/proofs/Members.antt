@@ -90,3 +90,10 @@ none_beyond bound [] below i high = refl
 none_beyond bound (x ∷ xs) below i high =
     let first : x < bound = below 0 (omega arith) in
     rw (ne_eqb x i (λ e. omega arith)) (none_beyond bound xs (λ k low. below (suc k) (omega arith)) i high)
+
+-- a number that is not there is not there either once another leaves
+pub gone_erased : (i x : ℕ) (xs : List ℕ) → has i xs ≡ false → has i (erase x xs) ≡ false
+gone_erased i x [] e = refl
+gone_erased i x (y ∷ xs) e = let p = or_parts (y == i) (has i xs) e in dite (ℕ_discrete y x)
+    (λ s. rw (eq-eqb y x s) p.1)
+    (λ o. rw (ne_eqb y x o, p.0) (gone_erased i x xs p.1))

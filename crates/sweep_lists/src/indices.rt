@@ -1,7 +1,7 @@
 //! The allocated indices of a life, with the least free one beside them. Only the methods here write the two: an index that comes
 //! raises the least free one, and a sweep finds it anew.
 
-ghost use Rattle.std.specs.Prelude.{◌≡◌, ◌<◌, ◌≤◌, ◌==◌, ℕ, true, false, [], ◌∷◌, ◌++◌, length, IfOk, OnOk, OnErr};
+ghost use Rattle.std.specs.Prelude.{◌≡◌, ◌<◌, ◌≤◌, ◌==◌, [], ◌∷◌, ◌++◌, length, IfOk, OnOk, OnErr};
 ghost use Rattle.sweep_laws.specs.Lists.{has, least_outside};
 ghost use Rattle.sweep_lists.specs.Tables.{AreMembers, IsLeastOutside};
 
@@ -128,22 +128,8 @@ impl Indices {
         requires { length indices.now ≤ self.old.space }
         ensures { self.new ≡ record self.old { items = indices.now } }
     {
-        let within = self.numbers.replace(indices);
-        self.free = first_free(&self.numbers, within);
-    }
-}
-
-// The first number that is not there, or u32::MAX where all below it are. Where none is beyond the table, the list is not
-// looked through.
-fn first_free(numbers: &Numbers, within: bool) -> u32
-    requires { within ≡ true → (i : ℕ) → numbers.now.reach ≤ i → has i numbers.now.items ≡ false }
-    ensures { IsLeastOutside result numbers.now.items }
-{
-    let free = numbers.skip_told(numbers.told());
-    if within || numbers.reaches(free) {
-        free
-    } else {
-        first_beyond(numbers, free)
+        self.numbers.copy_from(indices);
+        self.free = first_outside(&self.numbers, self.numbers.told());
     }
 }
 
@@ -160,7 +146,7 @@ fn first_outside(numbers: &Numbers, start: u32) -> u32
     }
 }
 
-// The same behind the table, where each number is looked for in the list.
+// The same behind the table.
 #[inline(never)]
 fn first_beyond(numbers: &Numbers, start: u32) -> u32
     requires { AreMembers start numbers.now.items }

@@ -17,18 +17,20 @@ pub struct Numbers {
     items: Entries<u32>,
     // For each number below the bound, whether it is among the items.
     seen: Vec<bool>,
+    // Whether it is known that all items are below the bound. Then nothing is scanned for a number beyond it.
+    within: bool,
 }
 
 impl Model for Numbers {
     ghost use Rattle.std.specs.Prelude.{ℕ};
     ghost use Rattle.sweep_lists.specs.Room.{Tabled};
-    ghost use Rattle.sweep_lists.specs.Tables.{TellsMembers};
+    ghost use Rattle.sweep_lists.specs.Tables.{AreTold};
 
     ghost Value = { Tabled ℕ };
 
     ghost view = { λ numbers. record { items = numbers.items.items; space = numbers.items.space; reach = numbers.seen.len } };
 
-    ghost invariant = { λ numbers. TellsMembers numbers.seen.items numbers.items.items };
+    ghost invariant = { λ numbers. AreTold numbers.seen.items numbers.within numbers.items.items };
 }
 
 impl Numbers {
@@ -39,6 +41,7 @@ impl Numbers {
         Numbers {
             items: Entries::new(alloc),
             seen: Vec::new(alloc),
+            within: true,
         }
     }
 
@@ -50,6 +53,7 @@ impl Numbers {
         Ok(Numbers {
             items: Entries::new(alloc),
             seen,
+            within: true,
         })
     }
 
@@ -81,7 +85,7 @@ impl Numbers {
     {
         match self.seen.get(item as usize) {
             Some(seen) => *seen,
-            None => self.items.has(item),
+            None => !self.within && self.items.has(item),
         }
     }
 
@@ -146,6 +150,8 @@ impl Numbers {
         self.items.push(item);
         if (item as usize) < self.seen.len() {
             self.seen[item as usize] = true;
+        } else {
+            self.within = false;
         }
     }
 
@@ -180,25 +186,16 @@ impl Numbers {
         requires { length items.now ≤ self.old.space }
         ensures { self.new ≡ record self.old { items = items.now } }
     {
-        let _ = self.replace(items);
-    }
-
-    // The same. Answers whether the table reaches over all of them, so that none is beyond it.
-    pub(crate) fn replace(&mut self, items: &[u32]) -> bool
-        requires { length items.now ≤ self.old.space }
-        ensures items { self.new ≡ record self.old { items = items.now } }
-        ensures within { result ≡ true → (i : ℕ) → self.old.reach ≤ i → has i items.now ≡ false }
-    {
         self.items.copy_from(items);
         self.seen.fill(false);
-        tell(&mut self.seen, items)
+        self.within = tell(&mut self.seen, items);
     }
 }
 
 // The table tells of some numbers that they are there. Answers whether it reaches over all of them.
 fn tell(seen: &mut [bool], items: &[u32]) -> bool
     ensures told { (i : ℕ) → i < length seen.old → slice_index_or seen.new i false ≡ (slice_index_or seen.old i false || has i items.now) }
-    ensures within { result ≡ true → (k : ℕ) → k < length items.now → slice_index_or items.now k 0 < length seen.old }
+    ensures within { result ≡ true → (i : ℕ) → length seen.old ≤ i → has i items.now ≡ false }
 {
     if are_below(items, seen.len()) {
         tell_within(seen, items);
