@@ -3,7 +3,7 @@
 ghost use Rattle.std.specs.Prelude.{◌≡◌, ◌==◌, ◌<◌, ◌+◌, ◌*◌, ◌^◌, OnOk, true, not, length, map, option_map, option_copied, unwrap_or, [], ◌∷◌};
 ghost use Rattle.std.specs.List.{find, list_all, position};
 ghost use Rattle.std.specs.Option.{is_some};
-ghost use Rattle.sweep_laws.specs.Lists.{has, rises, is_before as stands_before};
+ghost use Rattle.sweep_laws.specs.Lists.{has, rises};
 ghost use Rattle.sweep_laws.specs.Reading.{is_settled, is_swept_set, life_at, no_life};
 ghost use Rattle.sweep_laws.specs.NeedsOfMarkEnd.{busy_hand, hands_are_idle, first_claim, no_claims, claim_index as claimed_at, is_idle, unsettled_word, words_are_settled, first_unpopped, sets_are_popped, wrong_mark, marks_are_allocated};
 ghost use Rattle.sweep_laws.specs.Needs.{next_needs};
@@ -26,28 +26,22 @@ fn packed(pair: (u32, u32)) -> u64
     (1 << 32) * u64::from(pair.0) + u64::from(pair.1)
 }
 
-// Whether a pair stands before another: by the first parts, and then by the second ones, which is one comparison of the packed pairs.
-fn is_before(a: (u32, u32), b: (u32, u32)) -> bool
-    ensures { result ≡ stands_before a b }
-{
-    packed(a) < packed(b)
-}
-
-// Whether pairs strictly rise.
+// Whether pairs strictly rise. Of the pair before, the packed number is kept, so that each pair is packed once, and those that do
+// not rise are counted, which takes no branch.
 fn is_rising(marks: &[(u32, u32)]) -> bool
     ensures { result ≡ rises marks.now }
 {
     let Some((first, rest)) = marks.split_first() else {
         return true;
     };
-    let mut last = *first;
+    let mut last = packed(*first);
+    let mut falls = 0;
     for mark in rest {
-        if !is_before(last, *mark) {
-            return false;
-        }
-        last = *mark;
+        let number = packed(*mark);
+        falls += usize::from(number <= last);
+        last = number;
     }
-    true
+    falls == 0
 }
 
 // Whether the part of a set is swept in a generation.
