@@ -4,3 +4,4 @@ mod FirstFound
 mod Zeros
 mod Tried
 mod Packed
+mod Runs

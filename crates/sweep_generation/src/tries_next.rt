@@ -1,10 +1,10 @@
 //! The needs of a mark end, in their order. They read, and write nothing.
 
-ghost use Rattle.std.specs.Prelude.{◌≡◌, ◌==◌, ◌<◌, ◌+◌, ◌*◌, ◌^◌, OnOk, true, not, length, map, option_map, option_copied, unwrap_or, [], ◌∷◌};
-ghost use Rattle.std.specs.List.{find, list_all, position};
+ghost use Rattle.std.specs.Prelude.{◌≡◌, ◌==◌, ◌&&◌, ◌<◌, ◌+◌, ◌*◌, ◌^◌, OnOk, true, not, length, map, option_map, option_copied, unwrap_or, [], ◌∷◌};
+ghost use Rattle.std.specs.List.{find, list_all, position, prefix_len};
 ghost use Rattle.std.specs.Option.{is_some};
 ghost use Rattle.sweep_laws.specs.Lists.{has, rises};
-ghost use Rattle.sweep_laws.specs.Reading.{is_settled, is_swept_set, life_at, no_life};
+ghost use Rattle.sweep_laws.specs.Reading.{allocated_at, is_settled, is_swept_set};
 ghost use Rattle.sweep_laws.specs.NeedsOfMarkEnd.{busy_hand, hands_are_idle, first_claim, no_claims, claim_index as claimed_at, is_idle, unsettled_word, words_are_settled, first_unpopped, sets_are_popped, wrong_mark, marks_are_allocated};
 ghost use Rattle.sweep_laws.specs.Needs.{next_needs};
 ghost use Rattle.sweep_laws.specs.Tries.{Tried};
@@ -13,7 +13,7 @@ ghost use Rattle.sweep_lists.specs.Views.{hand_view, life_view, set_view};
 use crate::state::Core;
 use crate::tries::{demand, narrow};
 use sweep_laws::{Found, StepFault};
-use sweep_lists::{CoreHand, CoreSet, Life};
+use sweep_lists::{CoreHand, CoreSet, Indices};
 
 // Mark ends are made below this generation.
 const LAST_GENERATION: u64 = 1 << 63;
@@ -140,14 +140,17 @@ fn find_unpopped(sets: &[CoreSet], generation: u64) -> Option<&CoreSet>
     None
 }
 
-// Whether an index is allocated in a life.
-fn has_allocated(life: Option<&Life>, index: u32) -> bool
-    ensures { result ≡ has index (unwrap_or (option_map (λ life. life_view life.now) life.entry) no_life).allocated }
+// How many marks at the front are of a page and name one of its indices.
+fn count_named(allocated: &Indices, page: u32, marks: &[(u32, u32)]) -> usize
+    ensures { result ≡ prefix_len (λ mark. mark.0 == page && has mark.1 allocated.now.items) marks.now }
 {
-    match life {
-        Some(life) => life.allocated.has(index),
-        None => false,
+    for i in 0..marks.len() {
+        let mark = marks[i];
+        if mark.0 != page || !allocated.has(mark.1) {
+            return i;
+        }
     }
+    marks.len()
 }
 
 impl Core {
@@ -208,27 +211,29 @@ impl Core {
         }
     }
 
-    // The first life that begins at a page, where that of the page before it is known: the same for the same page.
-    fn next_life<'a>(&'a self, page: u32, last: u32, life: Option<&'a Life>) -> Option<&'a Life>
-        requires { option_map (λ life. life_view life.now) life ≡ life_at self.now last }
-        ensures { option_map (λ life. life_view life.now) result ≡ life_at self.now page }
+    // How many marks at the front are of a page and name allocated indices of its life.
+    fn count_allocated(&self, page: u32, marks: &[(u32, u32)]) -> usize
+        ensures { result ≡ prefix_len (λ mark. mark.0 == page && has mark.1 (allocated_at self.now page)) marks.now }
     {
-        if page == last { life } else { self.life(page) }
+        match self.life(page) {
+            Some(life) => count_named(&life.allocated, page, marks),
+            None => 0,
+        }
     }
 
     // The index of the first mark that names no allocated one. The marks of one page stand together, so its life is looked up
-    // once.
+    // once, and those that name allocated ones are passed at once.
     fn wrong_mark(&self, marks: &[(u32, u32)]) -> Option<u32>
         ensures { result ≡ wrong_mark self.now marks.now }
     {
-        let mut page = 0;
-        let mut life = self.life(page);
-        for mark in marks {
-            life = self.next_life(mark.0, page, life);
-            page = mark.0;
-            if !has_allocated(life, mark.1) {
+        let mut rest = marks;
+        while let Some((mark, _)) = rest.split_first() {
+            let count = self.count_allocated(mark.0, rest);
+            if count == 0 {
                 return Some(mark.1);
             }
+            let (_, after) = rest.split_at(count);
+            rest = after;
         }
         None
     }

@@ -1,22 +1,26 @@
-use Rattle.std.proofs.Common.{ℕ, get_or, not, sym, ap, ◌∙◌}
-use Rattle.std.specs.Prelude.{Option, option_map, unwrap_or}
-use Rattle.sweep_laws.specs.Lists.{has}
-use Rattle.sweep_laws.specs.Reading.{no_life}
-use Rattle.sweep_laws.specs.State.{LifeState}
-use Rattle.sweep_laws.specs.NeedsOfMarkEnd.{is_allocated}
-use Rattle.sweep_generation.proofs.FirstFound.{found_next, none_next}
+use Rattle.std.proofs.Common.{◌∙◌, ℕ, ap, sym}
+use Rattle.std.specs.Prelude.{option_map}
+use Rattle.std.specs.List.{prefix_len}
+use Rattle.std.proofs.lemmas.List.Sums.{prefix_len-le-length}
+use Rattle.sweep_laws.specs.Reading.{allocated_at}
+use Rattle.sweep_laws.specs.NeedsOfMarkEnd.{wrong_mark}
+use Rattle.sweep_generation.proofs.Runs.{is_of, wrong_past, wrong_first}
 use Rattle.sweep_generation.proofs.state.Core.wrong_mark.Goals as goal
 
-pub returns-then-not-has_allocated : goal.returns-then-not-has_allocated
-returns-then-not-has_allocated c =
-    let is = c.has_allocated.ensures ∙ ap (λ (life : Option LifeState). has (get_or c.args.marks.now c.loop-mark.mark-index (0, 0)).1 (unwrap_or life no_life).allocated) c.next_life-life.ensures in
-    sym (ap (option_map (λ (mark : ℕ × ℕ). mark.1))
-    (found_next (λ (mark : ℕ × ℕ). not (is_allocated c.args.self.now mark)) c.args.marks.now c.loop-mark.mark-index (0, 0) c.loop-mark-test.true c.loop-mark.invariant.none (ap not (sym is ∙ c.if-not-has_allocated.true))))
+pub split_at-requires : goal.split_at-requires
+split_at-requires c =
+    let page = c.in-Some.mark.now.0 in
+    rw c.count_allocated-count.ensures (prefix_len-le-length (is_of page (allocated_at c.args.self.now page)) c.loop-mark.rest.now)
 
 pub loop-mark-preserved : goal.loop-mark-preserved
 loop-mark-preserved c =
-    let is = c.has_allocated.ensures ∙ ap (λ (life : Option LifeState). has (get_or c.args.marks.now c.loop-mark.mark-index (0, 0)).1 (unwrap_or life no_life).allocated) c.next_life-life.ensures in
-    record {
-      none = none_next (λ (mark : ℕ × ℕ). not (is_allocated c.args.self.now mark)) c.args.marks.now c.loop-mark.mark-index (0, 0) c.loop-mark-test.true c.loop-mark.invariant.none (ap not (sym is ∙ c.if-not-has_allocated.false));
-      life = c.next_life-life.ensures;
-    }
+    rw (c.split_at.ensures.back, c.count_allocated-count.ensures)
+    (c.loop-mark.invariant ∙ ap (option_map (λ (mark : ℕ × ℕ). mark.1)) (wrong_past c.args.self.now c.in-Some.mark.now.0 c.loop-mark.rest.now))
+
+pub returns-then-count-eq0 : goal.returns-then-count-eq0
+returns-then-count-eq0 c =
+    let page = c.in-Some.mark.now.0 in
+    let at = c.in-Some.ensures.cases.0 in
+    let none = sym (ap (prefix_len (is_of page (allocated_at c.args.self.now page))) at) ∙ sym c.count_allocated-count.ensures ∙ c.if-count-eq0.true in
+    sym (c.loop-mark.invariant ∙ ap (wrong_mark c.args.self.now) at
+    ∙ ap (option_map (λ (mark : ℕ × ℕ). mark.1)) (wrong_first c.args.self.now c.in-Some.mark.now c.in-Some.field-0-1.now none))
