@@ -1,6 +1,6 @@
 -- Pairs as numbers.
-use Rattle.std.proofs.Common.{◌≡◌, ℕ, ◌+◌, ◌*◌, ◌^◌, ◌<◌, ◌≤◌, ◌==◌, ◌&&◌, ◌||◌, Bool, true, false, leb, List, [], ◌∷◌, refl, inl, inr, sym, ◌∙◌, eq-eqb, ne_eqb, arith}
-use Rattle.std.proofs.lemmas.Bool.{cases_lt, lt-ltb, le-ltb, lt-leb, le-leb}
+use Rattle.std.proofs.Common.{◌≡◌, ℕ, ◌+◌, ◌*◌, ◌^◌, ◌<◌, ◌≤◌, ◌==◌, ◌&&◌, ◌||◌, Bool, true, false, List, [], ◌∷◌, refl, inl, inr, sym, ◌∙◌, eq-eqb, ne_eqb, arith}
+use Rattle.std.proofs.lemmas.Bool.{cases_lt, cases_eq, lt-ltb, le-ltb}
 use mir.Val.{bool_byte as from_bool}
 use Rattle.std.specs.Prelude.{nat_lt}
 use Rattle.sweep_laws.specs.Lists.{is_before, rises_after}
@@ -20,50 +20,56 @@ packed_less a b c d low high = elim (cases_lt a c) [
   ]
 ]
 
--- of pairs the last of which has a number: how many fell, and whether all rise where those behind it rise
-pub record RisesFrom (number falls : ℕ) (pairs : List (ℕ × ℕ)) (all : Bool) : Type 0 where
+-- of pairs the last of which has a number: how many of those that are done rose, and whether all rise where those behind it do
+pub record RisesFrom (number risen done : ℕ) (pairs : List (ℕ × ℕ)) (all : Bool) : Type 0 where
   pub last : ℕ × ℕ
   pub fits : last.1 < 2 ^ 32
   pub packed : number ≡ 2 ^ 32 * last.0 + last.1
-  pub rise : all ≡ ((falls == 0) && rises_after last pairs)
+  pub few : risen ≤ done
+  pub rise : all ≡ ((risen == done) && rises_after last pairs)
 
-none_fell : (b : Bool) (n : ℕ) → (n == 0) && (true && b) ≡ ((n + 0 == 0) && b)
-none_fell b n = let e : n + 0 ≡ n = omega arith in rw e refl
+same_more : (a b : ℕ) → (a + 1 == b + 1) ≡ (a == b)
+same_more a b = elim (cases_eq a b) [
+  | inl same ↦ rw (eq-eqb a b same, eq-eqb (a + 1) (b + 1) (omega arith)) refl
+  | inr other ↦ rw (ne_eqb a b other, ne_eqb (a + 1) (b + 1) (λ e. other (omega arith))) refl
+]
 
-one_fell : (b : Bool) (n : ℕ) → (n == 0) && (false && b) ≡ ((n + 1 == 0) && b)
-one_fell b n = rw (ne_eqb (n + 1) 0 (λ e. omega arith)) (go (n == 0))
+one_rose : (b : Bool) (n k : ℕ) → (n == k) && (true && b) ≡ ((n + 1 == k + 1) && b)
+one_rose b n k = rw (same_more n k) refl
+
+none_rose : (b : Bool) (n k : ℕ) → n ≤ k → (n == k) && (false && b) ≡ ((n + 0 == k + 1) && b)
+none_rose b n k few = rw (ne_eqb (n + 0) (k + 1) (λ e. omega arith)) (go (n == k))
   where
     go : (z : Bool) → z && (false && b) ≡ false
     go true = refl
     go false = refl
 
-pub fall_le : (b : Bool) → from_bool b ≤ 1
-fall_le true = omega arith
-fall_le false = omega arith
+pub rise_le : (b : Bool) → from_bool b ≤ 1
+rise_le true = omega arith
+rise_le false = omega arith
 
--- one pair more, which falls where its number is no greater
-pub number_more : (n m falls : ℕ) (q : ℕ × ℕ) (pairs : List (ℕ × ℕ)) (all : Bool) → RisesFrom n falls (q ∷ pairs) all → q.1 < 2 ^ 32 → m ≡ 2 ^ 32 * q.0 + q.1 → RisesFrom m (falls + from_bool (leb m n)) pairs all
-number_more n m falls q pairs all from fits at = record {
+-- one pair more, which rises where its number is greater
+pub number_more : (n m risen done : ℕ) (q : ℕ × ℕ) (pairs : List (ℕ × ℕ)) (all : Bool) → RisesFrom n risen done (q ∷ pairs) all → q.1 < 2 ^ 32 → m ≡ 2 ^ 32 * q.0 + q.1 → RisesFrom m (risen + from_bool (nat_lt n m)) (done + 1) pairs all
+number_more n m risen done q pairs all from fits at = record {
   last = q;
   fits = fits;
   packed = at;
+  few = omega (arith, rise_le (nat_lt n m), from.few);
   rise = from.rise ∙ elim (cases_lt n m) [
     | inl more ↦
         let same : nat_lt n m ≡ is_before from.last q = cc (packed_less from.last.0 from.last.1 q.0 q.1 from.fits fits) in
         let is : is_before from.last q ≡ true = sym same ∙ lt-ltb n m more in
-        let no : leb m n ≡ false = lt-leb m n more in
-        rw (is, no) (none_fell (rises_after q pairs) falls)
+        rw (is, lt-ltb n m more) (one_rose (rises_after q pairs) risen done)
     | inr less ↦
         let same : nat_lt n m ≡ is_before from.last q = cc (packed_less from.last.0 from.last.1 q.0 q.1 from.fits fits) in
         let is : is_before from.last q ≡ false = sym same ∙ le-ltb n m less in
-        let no : leb m n ≡ true = le-leb m n less in
-        rw (is, no) (one_fell (rises_after q pairs) falls)
+        rw (is, le-ltb n m less) (none_rose (rises_after q pairs) risen done from.few)
   ];
 }
 
--- behind the last pair, all rise where none fell
-pub number_all : (n falls : ℕ) (all : Bool) → RisesFrom n falls [] all → (falls == 0) ≡ all
-number_all n falls all from = go (falls == 0) ∙ sym from.rise
+-- behind the last pair, all rise where all that are done rose
+pub number_all : (n risen done : ℕ) (all : Bool) → RisesFrom n risen done [] all → (risen == done) ≡ all
+number_all n risen done all from = go (risen == done) ∙ sym from.rise
   where
     go : (z : Bool) → z ≡ (z && true)
     go true = refl

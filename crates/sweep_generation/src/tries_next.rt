@@ -1,6 +1,6 @@
 //! The needs of a mark end, in their order. They read, and write nothing.
 
-ghost use Rattle.std.specs.Prelude.{◌≡◌, ◌==◌, ◌&&◌, ◌<◌, ◌+◌, ◌*◌, ◌^◌, OnOk, true, not, length, map, option_map, option_copied, unwrap_or, [], ◌∷◌};
+ghost use Rattle.std.specs.Prelude.{◌≡◌, ◌==◌, ◌&&◌, ◌<◌, ◌+◌, ◌*◌, ◌^◌, OnOk, true, not, length, map, option_map, option_copied, [], ◌∷◌};
 ghost use Rattle.std.specs.List.{find, list_all, position, prefix_len};
 ghost use Rattle.std.specs.Option.{is_some};
 ghost use Rattle.sweep_laws.specs.Lists.{has, rises};
@@ -8,7 +8,7 @@ ghost use Rattle.sweep_laws.specs.Reading.{allocated_at, is_settled, is_swept_se
 ghost use Rattle.sweep_laws.specs.NeedsOfMarkEnd.{busy_hand, hands_are_idle, first_claim, no_claims, claim_index as claimed_at, is_idle, unsettled_word, words_are_settled, first_unpopped, sets_are_popped, wrong_mark, marks_are_allocated};
 ghost use Rattle.sweep_laws.specs.Needs.{next_needs};
 ghost use Rattle.sweep_laws.specs.Tries.{Tried};
-ghost use Rattle.sweep_lists.specs.Views.{hand_view, life_view, set_view};
+ghost use Rattle.sweep_lists.specs.Views.{hand_view, set_view};
 
 use crate::state::Core;
 use crate::tries::{demand, narrow};
@@ -26,8 +26,8 @@ fn packed(pair: (u32, u32)) -> u64
     (1 << 32) * u64::from(pair.0) + u64::from(pair.1)
 }
 
-// Whether pairs strictly rise. Of the pair before, the packed number is kept, so that each pair is packed once, and those that do
-// not rise are counted, which takes no branch.
+// Whether pairs strictly rise. Of the pair before, the packed number is kept, so that each pair is packed once, and those that
+// rise are counted, which takes no branch.
 fn is_rising(marks: &[(u32, u32)]) -> bool
     ensures { result ≡ rises marks.now }
 {
@@ -35,13 +35,13 @@ fn is_rising(marks: &[(u32, u32)]) -> bool
         return true;
     };
     let mut last = packed(*first);
-    let mut falls = 0;
+    let mut risen = 0;
     for mark in rest {
         let number = packed(*mark);
-        falls += usize::from(number <= last);
+        risen += usize::from(last < number);
         last = number;
     }
-    falls == 0
+    risen == rest.len()
 }
 
 // Whether the part of a set is swept in a generation.
@@ -140,12 +140,14 @@ fn find_unpopped(sets: &[CoreSet], generation: u64) -> Option<&CoreSet>
     None
 }
 
-// How many marks at the front are of a page and name one of its indices.
+// How many marks at the front are of a page and name one of its indices. It stays a function of its own, so that its loop counts
+// nothing but the marks.
+#[inline(never)]
 fn count_named(allocated: &Indices, page: u32, marks: &[(u32, u32)]) -> usize
     ensures { result ≡ prefix_len (λ mark. mark.0 == page && has mark.1 allocated.now.items) marks.now }
 {
     for i in 0..marks.len() {
-        let mark = marks[i];
+        let mark = &marks[i];
         if mark.0 != page || !allocated.has(mark.1) {
             return i;
         }
