@@ -1,7 +1,8 @@
 -- The pairs that words mark.
-use Rattle.std.proofs.Common.{◌≡◌, ℕ, zero, suc, ◌+◌, ◌*◌, ◌/◌, ◌%◌, ◌^◌, ◌<◌, ◌≤◌, Bool, true, false, cond, ◌==◌, ◌||◌, ◌&&◌, eqb, ltb, List, [], ◌∷◌, ◌++◌, refl, sym, ◌∙◌, ap, subst, arith, inl, inr, eq-eqb, append-nil, append_assoc, w64, ◌⊎◌}
+use Rattle.std.proofs.Common.{◌≡◌, ℕ, zero, suc, ◌+◌, ◌*◌, ◌/◌, ◌%◌, ◌^◌, ◌<◌, ◌≤◌, Bool, true, false, cond, ◌==◌, ◌||◌, ◌&&◌, eqb, ltb, List, [], ◌∷◌, ◌++◌, length, take, get_or, refl, sym, ◌∙◌, ap, subst, arith, inl, inr, eq-eqb, append-nil, append_assoc, w64, ◌⊎◌}
 use Rattle.std.proofs.lemmas.Bool.{cases_eq, cases_lt, cases_Bool, both_ways, ne_eqb, lt-ltb, le-ltb, and_parts, eqb-true}
 use Rattle.std.proofs.lemmas.Cmp.{then_total, on_total, nat_cmp_total, ranked}
+use Rattle.std.proofs.lemmas.List.{length-append, take_all}
 use Rattle.std.proofs.lemmas.List.Folds.{list_any-append}
 use Rattle.std.proofs.lemmas.List.Sums.{sum_by-append}
 use Rattle.std.proofs.lemmas.Map.Lookups.{CmpEqualImpliesEq, exact_pairs, exact_unsigned}
@@ -15,8 +16,10 @@ use Rattle.std.specs.Int.Bits.{bit_and}
 use Rattle.std.specs.List.{AllByRecursion}
 use Rattle.std.specs.List.Sorted.{IsStrictlySortedBy}
 use Rattle.std.specs.Ordering.{nat_cmp}
+use Rattle.std.specs.Int.Count.{ones}
 use Rattle.span_state.specs.Bits.{count_below, one_if}
-use Rattle.span_state.specs.Groups.{word_pairs, group_pairs, page_pairs, grid_pairs}
+use Rattle.span_state.specs.Counts.{ones-count}
+use Rattle.span_state.specs.Groups.{IsWritten, word_pairs, group_pairs, page_pairs, grid_pairs, pairs_of, row_of, word_of}
 use Rattle.span_state.specs.MarkSet.{pair_cmp, IsRising, has_pair, pairs_at}
 
 -- ---- the order of pairs
@@ -488,3 +491,102 @@ unfolding group_pairs
 pushed-all all pairs page group word none so_far =
     let nothing : word_pairs 64 page group word ≡ [] = no-pairs 64 page group word (λ i lt. rw none (bit_at-zero i)) in
     sym (append-nil pairs) ∙ ap (λ (ps : List (ℕ × ℕ)). pairs ++ ps) (sym nothing) ∙ so_far
+
+-- the lowest bit's pair is one more than those of the word without it
+pub length-lowest : (page group word k : ℕ) → k < 64 → bit_at word k ≡ 1 → ((i : ℕ) → i < k → bit_at word i ≡ 0)
+    → length (group_pairs ((page, group), word)) ≡ suc (length (group_pairs ((page, group), without word k)))
+unfolding group_pairs
+length-lowest page group word k lt on below = ap (λ (ps : List (ℕ × ℕ)). length ps) (lowest-first 64 page group word k (omega arith) lt on below)
+
+-- a word with no bit has no pairs
+pub length-none : (page group word : ℕ) → word ≡ 0 → length (group_pairs ((page, group), word)) ≡ 0
+unfolding group_pairs
+length-none page group word none = ap (λ (ps : List (ℕ × ℕ)). length ps) (no-pairs 64 page group word (λ i lt. rw none (bit_at-zero i)))
+
+-- a word has as many pairs as set bits
+length-word_pairs : (n page group word : ℕ) → length (word_pairs n page group word) ≡ count_below n (λ b. bit_at word b == 1)
+unfolding count_below bit_pair
+length-word_pairs zero page group word = refl
+length-word_pairs (suc n) page group word =
+    let rest = length-word_pairs n page group word in
+    let split = length-append (word_pairs n page group word) (bit_pair page group word n) in
+    elim (cases_Bool (bit_at word n == 1)) [
+      | inl on ↦ (let split' = rw on at split in rw on (omega arith))
+      | inr off ↦ (let split' = rw off at split in rw off (omega arith))
+    ]
+
+pub length-group_pairs : (page group word : ℕ) → word < 2 ^ 64 → length (group_pairs ((page, group), word)) ≡ ones word
+unfolding group_pairs
+length-group_pairs page group word fits = length-word_pairs 64 page group word ∙ sym (ones-count 64 word fits)
+
+-- the first pages and groups have no more pairs than all of them
+pub length-page_pairs : (n m page : ℕ) (words : ℕ → ℕ) → n ≤ m → length (page_pairs n page words) ≤ length (page_pairs m page words)
+length-page_pairs n zero page words le = let is : n ≡ 0 = omega arith in rw is (omega arith)
+length-page_pairs n (suc m) page words le =
+    elim (cases_lt n (suc m)) [
+      | inl lt ↦ (
+          let rest = length-page_pairs n m page words (omega arith) in
+          let split = length-append (page_pairs m page words) (group_pairs ((page, m), words m)) in
+          omega arith)
+      | inr ge ↦ (let is : n ≡ suc m = omega arith in rw is (omega arith))
+    ]
+
+pub length-grid_pairs : (n m : ℕ) (sizes : ℕ → ℕ) (words : ℕ → ℕ → ℕ) → n ≤ m → length (grid_pairs n sizes words) ≤ length (grid_pairs m sizes words)
+length-grid_pairs n zero sizes words le = let is : n ≡ 0 = omega arith in rw is (omega arith)
+length-grid_pairs n (suc m) sizes words le =
+    elim (cases_lt n (suc m)) [
+      | inl lt ↦ (
+          let rest = length-grid_pairs n m sizes words (omega arith) in
+          let split = length-append (grid_pairs m sizes words) (page_pairs (sizes m) m (words m)) in
+          omega arith)
+      | inr ge ↦ (let is : n ≡ suc m = omega arith in rw is (omega arith))
+    ]
+
+-- ---- pairs that are written over a list
+
+-- nothing is written yet
+pub written-none : (list : List (ℕ × ℕ)) (at : ℕ) → IsWritten list list at at []
+written-none list at = record { front = sym (append-nil (take at list)); behind = omega arith; long = refl }
+
+-- what is written behind what was
+pub written-more : (old mid new : List (ℕ × ℕ)) (start at to : ℕ) (ps qs : List (ℕ × ℕ)) → IsWritten old mid start at ps → IsWritten mid new at to qs → IsWritten old new start to (ps ++ qs)
+written-more old mid new start at to ps qs a b = record {
+  front = b.front ∙ ap (λ (l : List (ℕ × ℕ)). l ++ qs) a.front ∙ append_assoc (take start old) ps qs;
+  behind = (let x = a.behind in let y = b.behind in let both = length-append ps qs in omega arith);
+  long = b.long ∙ a.long;
+}
+
+-- written over all places
+pub written-all : (old new : List (ℕ × ℕ)) (at : ℕ) (pairs : List (ℕ × ℕ)) → length old ≡ length pairs → IsWritten old new 0 at pairs → new ≡ pairs
+written-all old new at pairs same w =
+    let behind = w.behind in
+    let long = w.long in
+    sym (take_all at new (omega arith)) ∙ w.front
+
+-- ---- how many there are, and the room for them
+
+-- one group more is counted
+pub marks-more : (row : List ℕ) (group page marks word : ℕ) → marks ≡ length (page_pairs group page (λ g. get_or row g 0)) → word ≡ get_or row group 0 → word < 2 ^ 64
+    → marks + ones word ≡ length (page_pairs (group + 1) page (λ g. get_or row g 0))
+marks-more row group page marks word so_far is fits =
+    let next : group + 1 ≡ suc group = omega arith in
+    let more = length-group_pairs page group word fits in
+    let same : length (group_pairs ((page, group), word)) ≡ length (group_pairs ((page, group), get_or row group 0)) = ap (λ (w : ℕ). length (group_pairs ((page, group), w))) is in
+    let split = length-append (page_pairs group page (λ g. get_or row g 0)) (group_pairs ((page, group), get_or row group 0)) in
+    rw next (omega arith)
+
+-- where there is room for all groups of a page, there is room for the next
+pub room-group : (row : List ℕ) (group page start at room word : ℕ) → group < length row → word ≡ get_or row group 0 → at ≡ start + length (page_pairs group page (λ g. get_or row g 0))
+    → start + length (page_pairs (length row) page (λ g. get_or row g 0)) ≤ room → at + length (group_pairs ((page, group), word)) ≤ room
+room-group row group page start at room word lt is so_far all =
+    let more = length-page_pairs (suc group) (length row) page (λ g. get_or row g 0) (omega arith) in
+    let split = length-append (page_pairs group page (λ g. get_or row g 0)) (group_pairs ((page, group), get_or row group 0)) in
+    rw is (omega arith)
+
+-- where there is room for all pages, there is room for the next
+pub room-page : (rows : List (List ℕ)) (row : List ℕ) (page at room : ℕ) → page < length rows → row ≡ row_of rows page → at ≡ length (grid_pairs page (λ q. length (row_of rows q)) (word_of rows))
+    → length (pairs_of rows) ≤ room → at + length (page_pairs (length row) page (λ g. get_or row g 0)) ≤ room
+room-page rows row page at room lt is so_far all =
+    let more = length-grid_pairs (suc page) (length rows) (λ q. length (row_of rows q)) (word_of rows) (omega arith) in
+    let split = length-append (grid_pairs page (λ q. length (row_of rows q)) (word_of rows)) (page_pairs (length (row_of rows page)) page (word_of rows page)) in
+    rw is (omega arith)

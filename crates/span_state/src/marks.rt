@@ -1,6 +1,6 @@
 ghost use Rattle.std.specs.Prelude.{◌≡◌, ◌↔◌, ℕ, ◌+◌, ◌-◌, ◌*◌, ◌^◌, ◌<◌, ◌≤◌, ◌==◌, ◌||◌, ◌&&◌, [], ◌∷◌, ◌++◌, ◌≢◌, false, length, min, slice_index, true, IsOk, OnOk, OnErr, IfOk};
 ghost use Rattle.std.specs.Int.{bit_at};
-ghost use Rattle.span_state.specs.Groups.{group_pairs, page_pairs, row_of};
+ghost use Rattle.span_state.specs.Groups.{IsWritten, group_pairs, page_pairs, row_of};
 ghost use Rattle.span_state.specs.MarkSet.{is_marked, marked_count, dead_of, pairs_at, IsRising};
 
 use crate::row::Row;
@@ -150,11 +150,37 @@ impl Marks {
         ensures pairs { IfOk result (λ pairs. pairs ≡ self.now.pairs) }
         ensures rising { IsRising self.now.pairs }
     {
-        let mut pairs = List::new(self.alloc);
+        let total = self.total()?;
+        let mut pairs = Vec::new(self.alloc);
+        pairs.resize(total, (0, 0))?;
+        self.write(pairs.as_mut_slice());
+        Ok(List::from_vec(pairs))
+    }
+
+    // How many pairs are marked, so that their list can get its room at once.
+    fn total(&self) -> Result<usize, NoMemory>
+        ensures total { IfOk result (λ total. total ≡ length self.now.pairs) }
+        ensures rising { IsRising self.now.pairs }
+    {
+        let mut total: usize = 0;
         for page in 0..self.rows.len() {
-            push_row(&mut pairs, page as u32, &self.rows[page])?;
+            match total.checked_add(marks_in(&self.rows[page])) {
+                Some(sum) => total = sum,
+                None => return Err(NoMemory),
+            }
         }
-        Ok(pairs)
+        Ok(total)
+    }
+
+    // Writes the marked pairs into as many places.
+    fn write(&self, pairs: &mut [(u32, u32)])
+        requires { length pairs.old ≡ length self.now.pairs }
+        ensures { pairs.new ≡ self.now.pairs }
+    {
+        let mut at = 0;
+        for page in 0..self.rows.len() {
+            at = write_row(pairs, at, page as u32, &self.rows[page]);
+        }
     }
 }
 
@@ -199,32 +225,46 @@ fn count_row(row: &Row) -> u32
     count
 }
 
-// Puts the pairs that a page's row marks at the end.
-fn push_row(pairs: &mut List<(u32, u32)>, page: u32, row: &Row) -> Result<(), NoMemory>
+// How many indices a page's row marks.
+fn marks_in(row: &Row) -> usize
     requires { length row.now ≤ 2 ^ 26 }
-    ensures { OnOk result (pairs.new ≡ pairs.old ++ page_pairs (length row.now) page (λ g. slice_index row.now g)) }
+    ensures { (page : ℕ) → result ≡ length (page_pairs (length row.now) page (λ g. slice_index row.now g)) }
 {
+    let mut marks: usize = 0;
     for group in 0..row.len() {
-        push_group(pairs, page, group as u32, row.word(group as u32))?;
+        marks += row.word(group as u32).count_ones() as usize;
     }
-    Ok(())
+    marks
 }
 
-// Puts the pairs that a word marks at the end, from set bit to set bit.
-fn push_group(
-    pairs: &mut List<(u32, u32)>,
-    page: u32,
-    group: u32,
-    word: u64,
-) -> Result<(), NoMemory>
-    requires { group < 2 ^ 26 }
-    ensures { OnOk result (pairs.new ≡ pairs.old ++ group_pairs ((page, group), word)) }
+// Writes the pairs that a page's row marks from a place on, and answers the place behind them.
+fn write_row(pairs: &mut [(u32, u32)], start: usize, page: u32, row: &Row) -> usize
+    requires groups { length row.now ≤ 2 ^ 26 }
+    requires room { start + length (page_pairs (length row.now) page (λ g. slice_index row.now g)) ≤ length pairs.old }
+    ensures { IsWritten pairs.old pairs.new start result (page_pairs (length row.now) page (λ g. slice_index row.now g)) }
 {
+    let mut at = start;
+    for group in 0..row.len() {
+        at = write_group(pairs, at, page, group as u32, row.word(group as u32));
+    }
+    at
+}
+
+// Writes the pairs that a word marks from a place on, from set bit to set bit, and answers the place behind them.
+#[inline]
+fn write_group(pairs: &mut [(u32, u32)], start: usize, page: u32, group: u32, word: u64) -> usize
+    requires group { group < 2 ^ 26 }
+    requires room { start + length (group_pairs ((page, group), word)) ≤ length pairs.old }
+    ensures { IsWritten pairs.old pairs.new start result (group_pairs ((page, group), word)) }
+{
+    let first = 64 * group;
+    let mut at = start;
     let mut left = word;
     while left != 0 {
         let bit = left.trailing_zeros();
-        pairs.push((page, 64 * group + bit))?;
+        pairs[at] = (page, first + bit);
+        at += 1;
         left &= !(1 << bit);
     }
-    Ok(())
+    at
 }
