@@ -1,5 +1,5 @@
 -- The pairs that words mark.
-use Rattle.std.proofs.Common.{◌≡◌, ℕ, zero, suc, ◌+◌, ◌*◌, ◌/◌, ◌%◌, ◌^◌, ◌<◌, ◌≤◌, Bool, true, false, cond, ◌==◌, ◌||◌, ◌&&◌, eqb, ltb, List, [], ◌∷◌, ◌++◌, length, take, get_or, refl, sym, ◌∙◌, ap, subst, arith, inl, inr, eq-eqb, append-nil, append_assoc, w64, ◌⊎◌}
+use Rattle.std.proofs.Common.{◌≡◌, ℕ, zero, suc, ◌+◌, ◌-◌, ◌*◌, ◌/◌, ◌%◌, ◌^◌, ◌<◌, ◌≤◌, Bool, true, false, cond, ◌==◌, ◌||◌, ◌&&◌, eqb, ltb, List, [], ◌∷◌, ◌++◌, length, take, get_or, refl, sym, ◌∙◌, ap, subst, arith, inl, inr, eq-eqb, append-nil, append_assoc, w64, ◌⊎◌}
 use Rattle.std.proofs.lemmas.Bool.{cases_eq, cases_lt, cases_Bool, both_ways, ne_eqb, lt-ltb, le-ltb, and_parts, eqb-true}
 use Rattle.std.proofs.lemmas.Cmp.{then_total, on_total, nat_cmp_total, ranked}
 use Rattle.std.proofs.lemmas.List.{length-append, take_all}
@@ -7,7 +7,7 @@ use Rattle.std.proofs.lemmas.List.Folds.{list_any-append}
 use Rattle.std.proofs.lemmas.List.Sums.{sum_by-append}
 use Rattle.std.proofs.lemmas.Map.Lookups.{CmpEqualImpliesEq, exact_pairs, exact_unsigned}
 use Rattle.std.proofs.lemmas.Nat.{and_le_l}
-use Rattle.std.proofs.lemmas.Nat.Bits.{bit_at-zero, bit_at_clear_same, bit_at_clear_other}
+use Rattle.std.proofs.lemmas.Nat.Bits.{bit_at-zero, bit_at-suc, bit_at_lowest, bit_at_and, bit_at_clear_same, bit_at_clear_other, same_from_bits_below}
 use Rattle.std.specs.declared.cmp.Ordering.{Ordering}
 use Rattle.std.specs.declared.cmp.Ordering.TheVariants.{Less, Equal, Greater}
 use Rattle.std.specs.Cmp.{IsTotalOrder, nat_cmp_is}
@@ -439,15 +439,6 @@ rising-one (x ∷ xs) (y ∷ ys) first second same = by (pair_cmp x y) refl (ris
 abbrev pub without : ℕ → ℕ → ℕ
 without word k = bit_and word (bit_not w64 (1 * 2 ^ k % 2 ^ 64))
 
--- without a bit that is set a word is smaller
-pub without-less : (word k : ℕ) → k < 64 → bit_at word k ≡ 1 → without word k < word
-without-less word k within on =
-    let gone : bit_at (without word k) k ≡ 0 = bit_at_clear_same w64 word k within in
-    elim (cases_eq (without word k) word) [
-      | inl same ↦ absurd (let both : bit_at (without word k) k ≡ bit_at word k = ap (λ (x : ℕ). bit_at x k) same in omega arith)
-      | inr other ↦ omega (arith, and_le_l word (bit_not w64 (1 * 2 ^ k % 2 ^ 64)))
-    ]
-
 -- bits that are all off mark nothing
 no-pairs : (n page group word : ℕ) → ((i : ℕ) → i < n → bit_at word i ≡ 0) → word_pairs n page group word ≡ []
 no-pairs zero page group word off = refl
@@ -562,6 +553,53 @@ written-all old new at pairs same w =
     let behind = w.behind in
     let long = w.long in
     sym (take_all at new (omega arith)) ∙ w.front
+
+-- ---- a word less one
+
+-- bits from the lowest set one on
+minus-at : (k word : ℕ) → bit_at word k ≡ 1 → ((i : ℕ) → i < k → bit_at word i ≡ 0) → bit_at (word - 1) k ≡ 0
+minus-at zero word on below =
+    let odd : word % 2 ≡ 1 = sym (bit_at_lowest word) ∙ on in
+    let left : (word - 1) % 2 ≡ 0 = omega arith in
+    bit_at_lowest (word - 1) ∙ left
+minus-at (suc k) word on below =
+    let even : word % 2 ≡ 0 = sym (bit_at_lowest word) ∙ below 0 (omega arith) in
+    let half : (word - 1) / 2 ≡ word / 2 - 1 = omega arith in
+    bit_at-suc (word - 1) k ∙ ap (λ (n : ℕ). bit_at n k) half
+    ∙ minus-at k (word / 2) (sym (bit_at-suc word k) ∙ on) (λ i lt. sym (bit_at-suc word i) ∙ below (suc i) (omega arith))
+
+minus-above : (k i word : ℕ) → bit_at word k ≡ 1 → ((j : ℕ) → j < k → bit_at word j ≡ 0) → k < i → bit_at (word - 1) i ≡ bit_at word i
+minus-above k zero word on below lt = absurd (omega arith)
+minus-above zero (suc i) word on below lt =
+    let odd : word % 2 ≡ 1 = sym (bit_at_lowest word) ∙ on in
+    let half : (word - 1) / 2 ≡ word / 2 = omega arith in
+    bit_at-suc (word - 1) i ∙ ap (λ (n : ℕ). bit_at n i) half ∙ sym (bit_at-suc word i)
+minus-above (suc k) (suc i) word on below lt =
+    let even : word % 2 ≡ 0 = sym (bit_at_lowest word) ∙ below 0 (omega arith) in
+    let half : (word - 1) / 2 ≡ word / 2 - 1 = omega arith in
+    bit_at-suc (word - 1) i ∙ ap (λ (n : ℕ). bit_at n i) half
+    ∙ minus-above k i (word / 2) (sym (bit_at-suc word k) ∙ on) (λ j less. sym (bit_at-suc word j) ∙ below (suc j) (omega arith)) (omega arith)
+    ∙ sym (bit_at-suc word i)
+
+-- the bits that a word has in common with the number before it are all but the lowest set one
+pub without-lowest : (word k : ℕ) → word < 2 ^ 64 → k < 64 → bit_at word k ≡ 1 → ((i : ℕ) → i < k → bit_at word i ≡ 0) → bit_and word (word - 1) ≡ without word k
+without-lowest word k fits lt on below =
+    let small = and_le_l word (word - 1) in
+    let small' = and_le_l word (bit_not w64 (1 * 2 ^ k % 2 ^ 64)) in
+    same_from_bits_below 64 (bit_and word (word - 1)) (without word k) (omega arith) (omega arith) (λ i inside. (
+    let both = bit_at_and word (word - 1) i in
+    elim (cases_eq i k) [
+      | inl same ↦ (
+          let off : bit_at (word - 1) i ≡ 0 = ap (λ (n : ℕ). bit_at (word - 1) n) same ∙ minus-at k word on below in
+          let gone : bit_at (without word k) i ≡ 0 = ap (λ (n : ℕ). bit_at (without word k) n) same ∙ bit_at_clear_same w64 word k lt in
+          omega arith)
+      | inr other ↦ (
+          let kept : bit_at (without word k) i ≡ bit_at word i = bit_at_clear_other w64 word k lt i inside other in
+          elim (cases_lt i k) [
+            | inl less ↦ (let off = below i less in omega arith)
+            | inr past ↦ (let same = minus-above k i word on below (omega arith) in omega arith)
+          ])
+    ]))
 
 -- ---- how many there are, and the room for them
 

@@ -164,7 +164,7 @@ impl Marks {
     {
         let mut total: usize = 0;
         for page in 0..self.rows.len() {
-            match total.checked_add(marks_in(&self.rows[page])) {
+            match total.checked_add(marks_in(self.rows[page].words())) {
                 Some(sum) => total = sum,
                 None => return Err(NoMemory),
             }
@@ -179,7 +179,7 @@ impl Marks {
     {
         let mut at = 0;
         for page in 0..self.rows.len() {
-            at = write_row(pairs, at, page as u32, &self.rows[page]);
+            at = write_row(pairs, at, page as u32, self.rows[page].words());
         }
     }
 }
@@ -225,27 +225,27 @@ fn count_row(row: &Row) -> u32
     count
 }
 
-// How many indices a page's row marks.
-fn marks_in(row: &Row) -> usize
-    requires { length row.now ≤ 2 ^ 26 }
-    ensures { (page : ℕ) → result ≡ length (page_pairs (length row.now) page (λ g. slice_index row.now g)) }
+// How many indices the words of a page's row mark.
+fn marks_in(words: &[u64]) -> usize
+    requires { length words.now ≤ 2 ^ 26 }
+    ensures { (page : ℕ) → result ≡ length (page_pairs (length words.now) page (λ g. slice_index words.now g)) }
 {
     let mut marks: usize = 0;
-    for group in 0..row.len() {
-        marks += row.word(group as u32).count_ones() as usize;
+    for group in 0..words.len() {
+        marks += words[group].count_ones() as usize;
     }
     marks
 }
 
-// Writes the pairs that a page's row marks from a place on, and answers the place behind them.
-fn write_row(pairs: &mut [(u32, u32)], start: usize, page: u32, row: &Row) -> usize
-    requires groups { length row.now ≤ 2 ^ 26 }
-    requires room { start + length (page_pairs (length row.now) page (λ g. slice_index row.now g)) ≤ length pairs.old }
-    ensures { IsWritten pairs.old pairs.new start result (page_pairs (length row.now) page (λ g. slice_index row.now g)) }
+// Writes the pairs that the words of a page's row mark from a place on, and answers the place behind them.
+fn write_row(pairs: &mut [(u32, u32)], start: usize, page: u32, words: &[u64]) -> usize
+    requires groups { length words.now ≤ 2 ^ 26 }
+    requires room { start + length (page_pairs (length words.now) page (λ g. slice_index words.now g)) ≤ length pairs.old }
+    ensures { IsWritten pairs.old pairs.new start result (page_pairs (length words.now) page (λ g. slice_index words.now g)) }
 {
     let mut at = start;
-    for group in 0..row.len() {
-        at = write_group(pairs, at, page, group as u32, row.word(group as u32));
+    for group in 0..words.len() {
+        at = write_group(pairs, at, page, group as u32, words[group]);
     }
     at
 }
@@ -264,7 +264,8 @@ fn write_group(pairs: &mut [(u32, u32)], start: usize, page: u32, group: u32, wo
         let bit = left.trailing_zeros();
         pairs[at] = (page, first + bit);
         at += 1;
-        left &= !(1 << bit);
+        left &= left - 1;
     }
-    at
+    // the place counted anew, so that the loop needs no count beside its pointer
+    start + word.count_ones() as usize
 }

@@ -37,6 +37,13 @@ impl Row {
         self.words.len()
     }
 
+    /// The words of the groups that have one.
+    pub(crate) fn words(&self) -> &[u64]
+        ensures { result.now ≡ self.now }
+    {
+        self.words.as_slice()
+    }
+
     /// The word of a group.
     pub(crate) fn word(&self, group: u32) -> u64
         ensures { result ≡ slice_index self.now group }

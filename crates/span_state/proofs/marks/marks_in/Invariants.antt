@@ -5,6 +5,6 @@ use Rattle.span_state.proofs.marks.marks_in.Given as goal
 -- the groups so far are counted
 abbrev pub invariant-loop-group : goal.invariant-loop-group
 invariant-loop-group l = record {
-  exact : (page : ℕ) → l.marks ≡ length (page_pairs l.group page (λ g. get_or l.row g 0));
+  exact : (page : ℕ) → l.marks ≡ length (page_pairs l.group page (λ g. get_or l.words g 0));
   few : l.marks ≤ 64 * l.group;
 }

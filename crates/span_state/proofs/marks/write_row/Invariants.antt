@@ -4,4 +4,4 @@ use Rattle.span_state.proofs.marks.write_row.Given as goal
 
 -- the groups so far are written
 abbrev pub invariant-loop-group : goal.invariant-loop-group
-invariant-loop-group l = IsWritten l.fn.pairs l.pairs l.start l.at (page_pairs l.group l.page (λ g. get_or l.row g 0))
+invariant-loop-group l = IsWritten l.fn.pairs l.pairs l.start l.at (page_pairs l.group l.page (λ g. get_or l.words g 0))

@@ -10,5 +10,5 @@ write_row-at-requires-clause-room c =
     let lt : c.loop-page.page < length c.self.inside.rows.items = search rules in
     let row = row-read c.self.inside.rows.items c.loop-page.page c.index.result.now lt c.index.ensures in
     let all : length c.args.pairs.now ≡ length (pairs_of c.self.inside.rows.items) = c.requires ∙ ap (λ (m : MarkSet). length m.pairs) (sym c.self.view_is) in
-    room-page c.self.inside.rows.items c.index.result.now c.loop-page.page c.loop-page.at _ lt row (let behind = c.loop-page.invariant.behind in omega arith)
+    room-page c.self.inside.rows.items c.words.result.now c.loop-page.page c.loop-page.at _ lt (c.words.ensures ∙ row) (let behind = c.loop-page.invariant.behind in omega arith)
     (let long = c.loop-page.invariant.long in omega arith)
