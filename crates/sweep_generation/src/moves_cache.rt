@@ -28,13 +28,27 @@ pub(crate) fn uncache(core: &mut Core, worker: u32, page: u32) -> Result<Reply, 
     Ok(Reply::Done)
 }
 
-// Allocates an object.
+// Allocates an object. Mostly it is the next one of a span in the worker's cache.
+#[inline]
 pub(crate) fn allocate(
     core: &mut Core,
     worker: u32,
     page: u32,
     index: u32,
 ) -> Result<Reply, StepFault>
+    ensures { Steps core.old core.new (Move.Allocate worker page index) result }
+{
+    if !core.is_usual(worker, page, index) {
+        return allocate_rarely(core, worker, page, index);
+    }
+    core.lives.allocate(page, index)?;
+    Ok(Reply::Done)
+}
+
+// The same in any span: each need is tried in its order.
+#[cold]
+#[inline(never)]
+fn allocate_rarely(core: &mut Core, worker: u32, page: u32, index: u32) -> Result<Reply, StepFault>
     ensures { Steps core.old core.new (Move.Allocate worker page index) result }
 {
     core.try_allocate(worker, page, index)?;

@@ -15,8 +15,20 @@ use crate::moves_sweep::{acquire, drop_popped, release, stale_uncache};
 use crate::state::Core;
 use sweep_laws::{Move, Reply, StepFault};
 
-// Makes one move.
+// Makes one move. By far the most are allocations: they are not to pay for what the others need.
+#[inline]
 pub(crate) fn step_by(core: &mut Core, mv: &Move) -> Result<Reply, StepFault>
+    ensures { Steps core.old core.new mv.now result }
+{
+    match mv {
+        Move::Allocate(worker, page, index) => allocate(core, *worker, *page, *index),
+        _ => step_rarely(core, mv),
+    }
+}
+
+// The same for each of the moves.
+#[inline(never)]
+fn step_rarely(core: &mut Core, mv: &Move) -> Result<Reply, StepFault>
     ensures { Steps core.old core.new mv.now result }
 {
     match mv {
@@ -47,6 +59,7 @@ pub(crate) fn step_by(core: &mut Core, mv: &Move) -> Result<Reply, StepFault>
 /// ownership, is tidy as a new one is, and has space: room for as many entries as there are pages
 /// (`Core::make_room`), and in no set more claimed cells than that. A Take asks beside that for a prepared life
 /// (`Core::make_life_room`), and a Claim for a set with fewer claimed cells than there are pages. The room stays.
+#[inline]
 pub fn step(core: &mut Core, mv: Move) -> Result<Reply, StepFault>
     ensures exact { Steps core.old core.new mv result }
     ensures owned { Owned core.old → Owned core.new }

@@ -1,9 +1,9 @@
 //! The needs of Take, Give and Allocate, in their order. They read, and write nothing.
 
-ghost use Rattle.std.specs.Prelude.{◌≡◌, ◌<◌, ◌≤◌, ◌+◌, OnOk, length, [], ◌∷◌};
+ghost use Rattle.std.specs.Prelude.{◌≡◌, ◌<◌, ◌≤◌, ◌+◌, true, None, OnOk, length, [], ◌∷◌};
 ghost use Rattle.sweep_laws.specs.Reading.{life_of};
-ghost use Rattle.sweep_laws.specs.NeedsOfRange.{need, run_in_range, class_in_range};
-ghost use Rattle.sweep_laws.specs.NeedsOfPages.{nothing_allocated, run_is_free, run_owner, is_at_hand, may_allocate, is_least_free, free_index};
+ghost use Rattle.sweep_laws.specs.NeedsOfRange.{need, refusal, run_in_range, class_in_range};
+ghost use Rattle.sweep_laws.specs.NeedsOfPages.{is_holder, nothing_allocated, run_is_free, run_owner, is_at_hand, may_allocate, is_least_free, free_index};
 ghost use Rattle.sweep_laws.specs.Needs.{take_needs, give_needs, allocate_needs};
 ghost use Rattle.sweep_laws.specs.Tries.{Tried};
 
@@ -133,6 +133,31 @@ impl Core {
     {
         let free = self.free_index(page);
         demand(free == Some(index), Found::Index(free))
+    }
+
+    // Whether an index is the least free one of the first life that begins at the page.
+    #[inline(always)]
+    fn is_free_next(&self, page: u32, index: u32) -> bool
+        ensures { result ≡ is_holder index (free_index self.now page) }
+    {
+        match self.free_index(page) {
+            Some(free) => free == index,
+            None => false,
+        }
+    }
+
+    // Whether an allocation is the usual one, in a span that the worker has cached, and all its needs are met. Where it is not,
+    // they may be met nonetheless.
+    #[inline(always)]
+    pub(crate) fn is_usual(&self, worker: u32, page: u32, index: u32) -> bool
+        ensures { result ≡ true → refusal (allocate_needs self.now worker page index) ≡ None }
+    {
+        if self.hands.len() <= worker as usize || self.words.len() <= page as usize {
+            return false;
+        }
+        self.hands[worker as usize].cached.has(page)
+            && self.words.at(page) == self.generation + 3
+            && self.is_free_next(page, index)
     }
 
     pub(crate) fn try_allocate(&self, worker: u32, page: u32, index: u32) -> Result<(), StepFault>
