@@ -138,10 +138,10 @@ impl Core {
     // Whether an index is the least free one of the first life that begins at the page.
     #[inline(always)]
     fn is_free_next(&self, page: u32, index: u32) -> bool
-        ensures { result ≡ is_holder index (free_index self.now page) }
+        ensures { result ≡ true → is_holder index (free_index self.now page) ≡ true }
     {
-        match self.free_index(page) {
-            Some(free) => free == index,
+        match self.lives.find_told(page) {
+            Some(life) => life.allocated.least_free(life.count) == Some(index),
             None => false,
         }
     }
@@ -155,7 +155,7 @@ impl Core {
         if self.hands.len() <= worker as usize || self.words.len() <= page as usize {
             return false;
         }
-        self.hands[worker as usize].cached.has(page)
+        self.hands[worker as usize].cached.tells(page)
             && self.words.at(page) == self.generation + 3
             && self.is_free_next(page, index)
     }

@@ -1,7 +1,7 @@
 //! A plain list with room. All lists of a core stand on it: to put something in never takes memory within the room, and where
 //! there is none the list stays as it was.
 
-ghost use Rattle.std.specs.Prelude.{◌≡◌, ◌<◌, ◌≤◌, ◌==◌, ℕ, [], ◌∷◌, ◌++◌, length, map, OnOk, OnErr, ◌^◌};
+ghost use Rattle.std.specs.Prelude.{◌≡◌, ◌<◌, ◌≤◌, ◌==◌, ℕ, nat_lt, [], ◌∷◌, ◌++◌, length, map, OnOk, OnErr, ◌^◌};
 ghost use Rattle.std.specs.List.{position};
 ghost use Rattle.sweep_laws.specs.Lists.{has, erase, put_cell};
 
@@ -59,6 +59,14 @@ impl<T> Entries<T> {
         self.items.is_empty()
     }
 
+    // Whether there is room for one item more.
+    #[inline(always)]
+    pub(crate) fn has_room(&self) -> bool
+        ensures { result ≡ nat_lt (length self.now.items) self.now.space }
+    {
+        self.items.len() < self.space
+    }
+
     /// Makes room for `space` items at least. It fails only where there is less room.
     pub fn reserve(&mut self, space: usize) -> Result<(), NoMemory>
         ensures items { self.new.items ≡ self.old.items }
@@ -102,7 +110,7 @@ impl<T: Drop> Entries<T> {
         requires { length self.old.items < self.old.space }
         ensures { self.new ≡ record self.old { items = self.old.items ++ item ∷ [] } }
     {
-        let _ = self.items.push(item);
+        self.items.push_reserved(item);
     }
 }
 

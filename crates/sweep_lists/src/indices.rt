@@ -1,7 +1,7 @@
 //! The allocated indices of a life, with the least free one beside them. Only the methods here write the two: an index that comes
 //! raises the least free one, and a sweep finds it anew.
 
-ghost use Rattle.std.specs.Prelude.{◌≡◌, ◌<◌, ◌≤◌, ◌==◌, [], ◌∷◌, ◌++◌, length, IfOk, OnOk, OnErr};
+ghost use Rattle.std.specs.Prelude.{◌≡◌, ◌<◌, ◌≤◌, ◌==◌, true, nat_lt, [], ◌∷◌, ◌++◌, length, IfOk, OnOk, OnErr};
 ghost use Rattle.sweep_laws.specs.Lists.{has, least_outside};
 ghost use Rattle.sweep_lists.specs.Tables.{AreMembers, IsLeastOutside};
 
@@ -90,6 +90,14 @@ impl Indices {
         }
     }
 
+    // Whether there is room for one index more.
+    #[inline(always)]
+    pub(crate) fn has_room(&self) -> bool
+        ensures { result ≡ nat_lt (length self.now.items) self.now.space }
+    {
+        self.numbers.has_room()
+    }
+
     /// Makes room for `space` indices at least. It fails only where there is less room.
     pub fn reserve(&mut self, space: usize) -> Result<(), NoMemory>
         ensures items { self.new.items ≡ self.old.items }
@@ -120,7 +128,9 @@ impl Indices {
         ensures { self.new ≡ record self.old { items = self.old.items ++ index ∷ [] } }
     {
         self.numbers.push(index);
-        self.free = first_outside(&self.numbers, self.free);
+        if index == self.free {
+            self.free = next_outside(&self.numbers, index);
+        }
     }
 
     /// Has the indices of a slice in place of its own.
@@ -133,7 +143,22 @@ impl Indices {
     }
 }
 
+// The least number that is not there, once the least one that was not there came: mostly the next one.
+#[inline(always)]
+fn next_outside(numbers: &Numbers, came: u32) -> u32
+    requires below { AreMembers came numbers.now.items }
+    requires came { has came numbers.now.items ≡ true }
+    ensures { IsLeastOutside result numbers.now.items }
+{
+    if came < u32::MAX && numbers.tells_free(came + 1) {
+        came + 1
+    } else {
+        first_outside(numbers, came)
+    }
+}
+
 // The first number from `start` on that is not there, or u32::MAX where all below it are.
+#[inline(never)]
 fn first_outside(numbers: &Numbers, start: u32) -> u32
     requires { AreMembers start numbers.now.items }
     ensures { IsLeastOutside result numbers.now.items }

@@ -47,7 +47,24 @@ impl Life {
     }
 
     // An index is allocated.
+    #[inline(always)]
     pub(crate) fn allocate(&mut self, index: u32) -> Result<(), NoMemory>
+        ensures ok { OnOk result (life_view self.new ≡ allocated_too index (life_view self.old)) }
+        ensures err { OnErr result (self.new ≡ self.old) }
+        ensures room { LifeRoom self.old → LifeRoom self.new }
+        ensures full { OnErr result (self.old.allocated.space ≤ length self.old.allocated.items) }
+    {
+        if !self.allocated.has_room() {
+            return self.allocate_more(index);
+        }
+        self.allocated.push(index);
+        Ok(())
+    }
+
+    // The same with more room.
+    #[cold]
+    #[inline(never)]
+    fn allocate_more(&mut self, index: u32) -> Result<(), NoMemory>
         ensures ok { OnOk result (life_view self.new ≡ allocated_too index (life_view self.old)) }
         ensures err { OnErr result (self.new ≡ self.old) }
         ensures room { LifeRoom self.old → LifeRoom self.new }

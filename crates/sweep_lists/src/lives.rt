@@ -1,7 +1,7 @@
 //! All spans, with a table by page beside them. Only the methods here write the two, always both. A life comes and goes under the
 //! heap lock; a mark end writes what each keeps.
 
-ghost use Rattle.std.specs.Prelude.{◌≡◌, ◌==◌, ◌≤◌, ◌<◌, true, map, length, OnOk, OnErr, IfOk, option_map, [], ◌∷◌, ◌++◌};
+ghost use Rattle.std.specs.Prelude.{◌≡◌, ◌==◌, ◌≤◌, ◌<◌, true, map, length, nat_lt, if◌then◌else◌, None, OnOk, OnErr, IfOk, option_map, [], ◌∷◌, ◌++◌};
 ghost use Rattle.std.specs.List.{All, find};
 ghost use Rattle.sweep_laws.specs.ChangesOfLives.{marks_at, mark_life, change_life, drop_life as dropped_life, keep_marked as kept_marked, allocate_index as allocated_too};
 ghost use Rattle.sweep_laws.specs.Lists.{rises};
@@ -75,6 +75,7 @@ impl Lives {
 
     /// The first life that begins at a page: one look into the table for a page of the region, a scan of the lives for
     /// another.
+    #[inline(always)]
     pub fn find(&self, page: u32) -> Option<&Life>
         ensures { option_map (λ life. life_view life.now) result ≡ find (λ life. life.page == page) self.now.items }
     {
@@ -82,6 +83,17 @@ impl Lives {
             Some(i) => self.places[i].as_ref(),
             None => None,
         }
+    }
+
+    /// The same where the table reaches over the page, None where it does not.
+    #[inline(always)]
+    pub fn find_told(&self, page: u32) -> Option<&Life>
+        ensures { option_map (λ life. life_view life.now) result ≡ (if nat_lt page self.now.reach then find (λ life. life.page == page) self.now.items else None) }
+    {
+        if page as usize >= self.starts.len() {
+            return None;
+        }
+        self.find(page)
     }
 
     /// Makes room for `space` lives at least. It fails only where there is less room.
@@ -160,6 +172,7 @@ impl Lives {
 
     /// An index of the first life that begins at a page is allocated. It fails only where as many are allocated as the
     /// life has objects.
+    #[inline(always)]
     pub fn allocate(&mut self, page: u32, index: u32) -> Result<(), NoMemory>
         ensures ok { OnOk result (self.new ≡ record self.old { items = change_life page (allocated_too index) self.old.items }) }
         ensures err { OnErr result (self.new ≡ self.old) }

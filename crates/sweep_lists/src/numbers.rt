@@ -1,7 +1,7 @@
 //! A list of pages or indices with a table beside it. Only the methods here write the two, always both, so that the table says
 //! what the list says.
 
-ghost use Rattle.std.specs.Prelude.{◌≡◌, ◌<◌, ◌≤◌, ◌==◌, ◌||◌, ℕ, false, true, nat_lt, [], ◌∷◌, ◌++◌, length, IfOk, OnOk, OnErr, slice_index_or};
+ghost use Rattle.std.specs.Prelude.{◌≡◌, ◌<◌, ◌≤◌, ◌==◌, ◌&&◌, ◌||◌, not, ℕ, false, true, nat_lt, [], ◌∷◌, ◌++◌, length, IfOk, OnOk, OnErr, slice_index_or};
 ghost use Rattle.sweep_laws.specs.Lists.{has, erase};
 ghost use Rattle.sweep_lists.specs.Tables.{AreMembers};
 
@@ -87,6 +87,36 @@ impl Numbers {
             Some(seen) => *seen,
             None => !self.within && self.items.has(item),
         }
+    }
+
+    /// Whether the table tells that a number is there: it tells nothing of a number beyond its bound.
+    #[inline(always)]
+    pub fn tells(&self, item: u32) -> bool
+        ensures { result ≡ (nat_lt item self.now.reach && has item self.now.items) }
+    {
+        match self.seen.get(item as usize) {
+            Some(seen) => *seen,
+            None => false,
+        }
+    }
+
+    // Whether the table tells that a number is not there.
+    #[inline(always)]
+    pub(crate) fn tells_free(&self, item: u32) -> bool
+        ensures { result ≡ (nat_lt item self.now.reach && not (has item self.now.items)) }
+    {
+        match self.seen.get(item as usize) {
+            Some(seen) => !*seen,
+            None => false,
+        }
+    }
+
+    // Whether there is room for one number more.
+    #[inline(always)]
+    pub(crate) fn has_room(&self) -> bool
+        ensures { result ≡ nat_lt (length self.now.items) self.now.space }
+    {
+        self.items.has_room()
     }
 
     // How many numbers from 0 on the table tells to be there. Those of a last stride that is not whole are left out.

@@ -13,6 +13,7 @@ use crate::life::Life;
 use fallible_list::NoMemory;
 
 // The first place whose life begins at a page: one look into the table for a page of the region, a scan for another.
+#[inline(always)]
 pub(crate) fn first_at(
     starts: &Vec<Option<usize>>,
     places: &Vec<Option<Life>>,
@@ -28,6 +29,8 @@ pub(crate) fn first_at(
 }
 
 // The same without the table.
+#[cold]
+#[inline(never)]
 fn scan(places: &[Option<Life>], page: u32) -> Option<usize>
     ensures { result ≡ position (λ place. begins page (place_view place)) places.now }
 {
@@ -109,6 +112,7 @@ pub(crate) fn keep_marked_at(place: &mut Option<Life>) -> Result<(), NoMemory>
 }
 
 // An index of the life of a place is allocated.
+#[inline(always)]
 pub(crate) fn allocate_at(place: &mut Option<Life>, index: u32) -> Result<(), NoMemory>
     ensures ok { OnOk result (place_view place.new ≡ option_map (allocated_too index) (place_view place.old)) }
     ensures err { OnErr result (place.new ≡ place.old) }
