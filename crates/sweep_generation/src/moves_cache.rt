@@ -2,7 +2,7 @@
 //! taken out again (`mcache.go`, `refill`; `mcentral.go`, `cacheSpan` and `uncacheSpan`). Over a mark end the span stays cached with
 //! the word G+1, and only its worker may begin to sweep it.
 
-ghost use Rattle.std.specs.Prelude.{◌≡◌};
+ghost use Rattle.std.specs.Prelude.{◌≡◌, true, false, Ok};
 ghost use Rattle.sweep_laws.specs.Step.{Steps};
 
 use crate::state::Core;
@@ -28,8 +28,7 @@ pub(crate) fn uncache(core: &mut Core, worker: u32, page: u32) -> Result<Reply, 
     Ok(Reply::Done)
 }
 
-// Allocates an object. Mostly it is the next one of a span in the worker's cache.
-#[inline]
+// Allocates an object.
 pub(crate) fn allocate(
     core: &mut Core,
     worker: u32,
@@ -38,20 +37,23 @@ pub(crate) fn allocate(
 ) -> Result<Reply, StepFault>
     ensures { Steps core.old core.new (Move.Allocate worker page index) result }
 {
-    if !core.is_usual(worker, page, index) {
-        return allocate_rarely(core, worker, page, index);
-    }
+    core.try_allocate(worker, page, index)?;
     core.lives.allocate(page, index)?;
     Ok(Reply::Done)
 }
 
-// The same in any span: each need is tried in its order.
-#[cold]
+// Allocates an object where that is the usual move, in a span that the worker has cached. Answers whether it is done; else nothing
+// changed, and it may be allowed nonetheless.
 #[inline(never)]
-fn allocate_rarely(core: &mut Core, worker: u32, page: u32, index: u32) -> Result<Reply, StepFault>
-    ensures { Steps core.old core.new (Move.Allocate worker page index) result }
+pub(crate) fn allocate_usual(core: &mut Core, worker: u32, page: u32, index: u32) -> bool
+    ensures done { result ≡ true → Steps core.old core.new (Move.Allocate worker page index) (Ok Reply.Done) }
+    ensures same { result ≡ false → core.new ≡ core.old }
 {
-    core.try_allocate(worker, page, index)?;
-    core.lives.allocate(page, index)?;
-    Ok(Reply::Done)
+    if !core.is_usual(worker, page, index) {
+        return false;
+    }
+    match core.lives.allocate(page, index) {
+        Ok(()) => true,
+        Err(_) => false,
+    }
 }

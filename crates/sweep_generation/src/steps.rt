@@ -7,7 +7,7 @@ ghost use Rattle.sweep_laws.specs.Step.{Steps};
 ghost use Rattle.sweep_laws.specs.Tidy.{IsTidy, HasSpace, IsProvided};
 
 use crate::mark_end::next;
-use crate::moves_cache::{allocate, cache, uncache};
+use crate::moves_cache::{allocate, allocate_usual, cache, uncache};
 use crate::moves_lock::{lock, unlock};
 use crate::moves_pages::{give, take};
 use crate::moves_sets::{claim, fill, pop_swept, pop_unswept};
@@ -15,20 +15,8 @@ use crate::moves_sweep::{acquire, drop_popped, release, stale_uncache};
 use crate::state::Core;
 use sweep_laws::{Move, Reply, StepFault};
 
-// Makes one move. By far the most are allocations: they are not to pay for what the others need.
-#[inline]
+// Makes one move.
 pub(crate) fn step_by(core: &mut Core, mv: &Move) -> Result<Reply, StepFault>
-    ensures { Steps core.old core.new mv.now result }
-{
-    match mv {
-        Move::Allocate(worker, page, index) => allocate(core, *worker, *page, *index),
-        _ => step_rarely(core, mv),
-    }
-}
-
-// The same for each of the moves.
-#[inline(never)]
-fn step_rarely(core: &mut Core, mv: &Move) -> Result<Reply, StepFault>
     ensures { Steps core.old core.new mv.now result }
 {
     match mv {
@@ -53,6 +41,28 @@ fn step_rarely(core: &mut Core, mv: &Move) -> Result<Reply, StepFault>
     }
 }
 
+// The same where the move is given away.
+#[inline(never)]
+fn step_given(core: &mut Core, mv: Move) -> Result<Reply, StepFault>
+    ensures { Steps core.old core.new mv result }
+{
+    step_by(core, &mv)
+}
+
+// The same, with a look first for the usual move: by far the most are allocations in the cache, and they are not to pay for what
+// the others need.
+#[inline(always)]
+fn step_usual(core: &mut Core, mv: Move) -> Result<Reply, StepFault>
+    ensures { Steps core.old core.new mv result }
+{
+    if let Move::Allocate(worker, page, index) = &mv {
+        if allocate_usual(core, *worker, *page, *index) {
+            return Ok(Reply::Done);
+        }
+    }
+    step_given(core, mv)
+}
+
 /// Makes one move. It is done and answered as defined, or refused at the first need that fails with what was
 /// found; or memory ran out. After a refusal and without memory nothing changed. Memory is not asked for where
 /// the lists that the move puts something into have room. So it does not run out in a core that has the rule of
@@ -68,5 +78,5 @@ pub fn step(core: &mut Core, mv: Move) -> Result<Reply, StepFault>
     ensures space { HasSpace core.old → IsProvided core.old mv → HasSpace core.new }
     ensures memory { Owned core.old → IsTidy core.old → HasSpace core.old → IsProvided core.old mv → result ≢ Err StepFault.NoMemory }
 {
-    step_by(core, &mv)
+    step_usual(core, mv)
 }

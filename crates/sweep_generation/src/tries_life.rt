@@ -141,7 +141,10 @@ impl Core {
         ensures { result ≡ true → is_holder index (free_index self.now page) ≡ true }
     {
         match self.lives.find_told(page) {
-            Some(life) => life.allocated.least_free(life.count) == Some(index),
+            Some(life) => match life.allocated.least_free(life.count) {
+                Some(free) => free == index,
+                None => false,
+            },
             None => false,
         }
     }

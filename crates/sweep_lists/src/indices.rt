@@ -129,7 +129,7 @@ impl Indices {
     {
         self.numbers.push(index);
         if index == self.free {
-            self.free = next_outside(&self.numbers, index);
+            raise(&mut self.free, &self.numbers);
         }
     }
 
@@ -143,22 +143,31 @@ impl Indices {
     }
 }
 
-// The least number that is not there, once the least one that was not there came: mostly the next one.
+// The least number that was not there came: mostly the next one is the least now.
 #[inline(always)]
-fn next_outside(numbers: &Numbers, came: u32) -> u32
-    requires below { AreMembers came numbers.now.items }
-    requires came { has came numbers.now.items ≡ true }
-    ensures { IsLeastOutside result numbers.now.items }
+fn raise(free: &mut u32, numbers: &Numbers)
+    requires below { AreMembers free.old numbers.now.items }
+    requires came { has free.old numbers.now.items ≡ true }
+    ensures { IsLeastOutside free.new numbers.now.items }
 {
+    let came = *free;
     if came < u32::MAX && numbers.tells_free(came + 1) {
-        came + 1
+        *free = came + 1;
     } else {
-        first_outside(numbers, came)
+        raise_on(free, numbers);
     }
 }
 
-// The first number from `start` on that is not there, or u32::MAX where all below it are.
+// The same where it is another one.
 #[inline(never)]
+fn raise_on(free: &mut u32, numbers: &Numbers)
+    requires { AreMembers free.old numbers.now.items }
+    ensures { IsLeastOutside free.new numbers.now.items }
+{
+    *free = first_outside(numbers, *free);
+}
+
+// The first number from `start` on that is not there, or u32::MAX where all below it are.
 fn first_outside(numbers: &Numbers, start: u32) -> u32
     requires { AreMembers start numbers.now.items }
     ensures { IsLeastOutside result numbers.now.items }
