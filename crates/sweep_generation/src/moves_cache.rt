@@ -2,7 +2,7 @@
 //! taken out again (`mcache.go`, `refill`; `mcentral.go`, `cacheSpan` and `uncacheSpan`). Over a mark end the span stays cached with
 //! the word G+1, and only its worker may begin to sweep it.
 
-ghost use Rattle.std.specs.Prelude.{◌≡◌, true, false, Ok};
+ghost use Rattle.std.specs.Prelude.{◌≡◌, true, false, Ok, Err};
 ghost use Rattle.sweep_laws.specs.Step.{Steps};
 
 use crate::state::Core;
@@ -42,18 +42,60 @@ pub(crate) fn allocate(
     Ok(Reply::Done)
 }
 
-// Allocates an object where that is the usual move, in a span that the worker has cached. Answers whether it is done; else nothing
-// changed, and it may be allowed nonetheless.
+// The same, with a look first for the usual allocation, in a span that the worker has cached: each need is asked once there, and no
+// fault is made.
+#[inline(always)]
+pub(crate) fn allocate_usual(
+    core: &mut Core,
+    worker: u32,
+    page: u32,
+    index: u32,
+) -> Result<Reply, StepFault>
+    ensures { Steps core.old core.new (Move.Allocate worker page index) result }
+{
+    let mut fault = StepFault::NoMemory;
+    if is_allocated(core, worker, page, index, &mut fault) {
+        Ok(Reply::Done)
+    } else {
+        Err(fault)
+    }
+}
+
+// The same. Answers whether it is done; where it is not, `fault` tells why. It is written only where a need fails: without memory
+// it stays as it is.
 #[inline(never)]
-pub(crate) fn allocate_usual(core: &mut Core, worker: u32, page: u32, index: u32) -> bool
+fn is_allocated(core: &mut Core, worker: u32, page: u32, index: u32, fault: &mut StepFault) -> bool
+    requires { fault.old ≡ StepFault.NoMemory }
     ensures done { result ≡ true → Steps core.old core.new (Move.Allocate worker page index) (Ok Reply.Done) }
-    ensures same { result ≡ false → core.new ≡ core.old }
+    ensures refused { result ≡ false → Steps core.old core.new (Move.Allocate worker page index) (Err fault.new) }
 {
     if !core.is_usual(worker, page, index) {
-        return false;
+        return is_allocated_rarely(core, worker, page, index, fault);
     }
     match core.lives.allocate(page, index) {
         Ok(()) => true,
         Err(_) => false,
+    }
+}
+
+// The same where it is not seen to be the usual one.
+#[cold]
+#[inline(never)]
+fn is_allocated_rarely(
+    core: &mut Core,
+    worker: u32,
+    page: u32,
+    index: u32,
+    fault: &mut StepFault,
+) -> bool
+    ensures done { result ≡ true → Steps core.old core.new (Move.Allocate worker page index) (Ok Reply.Done) }
+    ensures refused { result ≡ false → Steps core.old core.new (Move.Allocate worker page index) (Err fault.new) }
+{
+    match allocate(core, worker, page, index) {
+        Ok(_) => true,
+        Err(found) => {
+            *fault = found;
+            false
+        }
     }
 }

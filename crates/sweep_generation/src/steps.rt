@@ -56,9 +56,7 @@ fn step_usual(core: &mut Core, mv: Move) -> Result<Reply, StepFault>
     ensures { Steps core.old core.new mv result }
 {
     if let Move::Allocate(worker, page, index) = &mv {
-        if allocate_usual(core, *worker, *page, *index) {
-            return Ok(Reply::Done);
-        }
+        return allocate_usual(core, *worker, *page, *index);
     }
     step_given(core, mv)
 }
