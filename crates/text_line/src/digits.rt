@@ -1,6 +1,6 @@
 //! The hexadecimal digits of a number, written from the last to the first.
 
-ghost use Rattle.std.specs.Prelude.{◌≡◌, ◌+◌, ◌/◌, ◌%◌, ◌<◌, ◌≤◌, ◌∷◌, ◌++◌, false, drop};
+ghost use Rattle.std.specs.Prelude.{◌≡◌, ◌+◌, ◌^◌, ◌/◌, ◌%◌, ◌<◌, ◌≤◌, [], ◌∷◌, ◌++◌, false, drop, length, take};
 ghost use Rattle.std.specs.Fmt.{digit_glyph, digits};
 
 /// The most digits of a number of 64 bits, which are those of a decimal one.
@@ -41,4 +41,32 @@ fn write_pair(byte: u64, buffer: &mut [u8; 2 * MAX_DIGITS], at: usize)
     let (high, low) = (PAIRS[place], PAIRS[place + 1]);
     buffer[at + 1] = low;
     buffer[at] = high;
+}
+
+/// Writes the ten digits of a number that has as many, at a place.
+pub(crate) fn write_ten(number: u64, bytes: &mut [u8], at: usize)
+    requires many { 2 ^ 36 ≤ number }
+    requires few { number < 2 ^ 40 }
+    requires within { at + 10 ≤ length bytes.old }
+    ensures written { take (at + 10) bytes.new ≡ take at bytes.old ++ digits 16 false number }
+    ensures same_length { length bytes.new ≡ length bytes.old }
+{
+    append_pair(number / 0x1_0000_0000, bytes, at);
+    append_pair(number / 0x100_0000 % 256, bytes, at + 2);
+    append_pair(number / 0x1_0000 % 256, bytes, at + 4);
+    append_pair(number / 0x100 % 256, bytes, at + 6);
+    append_pair(number % 256, bytes, at + 8);
+}
+
+// Writes the two digits of a byte behind what stands before a place.
+fn append_pair(byte: u64, bytes: &mut [u8], at: usize)
+    requires byte { byte < 256 }
+    requires within { at + 2 ≤ length bytes.old }
+    ensures written { take (at + 2) bytes.new ≡ take at bytes.old ++ digit_glyph false (byte / 16) ∷ digit_glyph false (byte % 16) ∷ [] }
+    ensures same_length { length bytes.new ≡ length bytes.old }
+{
+    let place = byte as usize * 2;
+    let (high, low) = (PAIRS[place], PAIRS[place + 1]);
+    bytes[at] = high;
+    bytes[at + 1] = low;
 }

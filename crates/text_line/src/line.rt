@@ -1,9 +1,10 @@
 //! One line of text while it is put together, without memory of its own.
 
-ghost use Rattle.std.specs.Prelude.{◌≡◌, ◌+◌, ◌-◌, ◌<◌, ◌≤◌, List, ℕ, [], ◌++◌, false, drop, length, take, decimal};
+ghost use Rattle.std.specs.Prelude.{◌≡◌, ◌+◌, ◌-◌, ◌^◌, ◌<◌, ◌≤◌, List, ℕ, [], ◌++◌, false, drop, length, take, decimal};
 ghost use Rattle.std.specs.Fmt.{digits};
 
-use crate::digits::{MAX_DIGITS, write_hexadecimal};
+use crate::counter::Counter;
+use crate::digits::{MAX_DIGITS, write_hexadecimal, write_ten};
 use itoa::write_digits;
 use std::marker::Model;
 
@@ -90,6 +91,42 @@ impl TextLine {
 
     /// Appends a number in hexadecimal digits, of which the letters are small.
     pub fn push_hexadecimal(&mut self, number: u64)
+        requires { length self.old ≤ 64 }
+        ensures text { self.new ≡ self.old ++ digits 16 false number }
+        ensures short { length self.new ≤ length self.old + 64 }
+    {
+        if number >= 0x10_0000_0000 && number < 0x100_0000_0000 {
+            self.push_ten(number);
+            return;
+        }
+        self.push_any_hexadecimal(number);
+    }
+
+    /// Appends the digits of a counted number.
+    pub fn push_counter(&mut self, counter: &Counter)
+        requires { length self.old ≤ 108 }
+        ensures text { self.new ≡ self.old ++ counter.now }
+        ensures short { length self.new ≤ length self.old + 20 }
+    {
+        let (digits, start) = counter.parts();
+        self.push_digits(digits, start);
+    }
+
+    // Appends the hexadecimal digits of a number that has ten, as most addresses do.
+    fn push_ten(&mut self, number: u64)
+        requires many { 2 ^ 36 ≤ number }
+        requires few { number < 2 ^ 40 }
+        requires room { length self.old ≤ 64 }
+        ensures text { self.new ≡ self.old ++ digits 16 false number }
+        ensures short { length self.new ≤ length self.old + 10 }
+    {
+        write_ten(number, &mut self.bytes, self.used);
+        self.used += 10;
+    }
+
+    // Appends the hexadecimal digits of any number.
+    #[inline(never)]
+    fn push_any_hexadecimal(&mut self, number: u64)
         requires { length self.old ≤ 64 }
         ensures text { self.new ≡ self.old ++ digits 16 false number }
         ensures short { length self.new ≤ length self.old + 64 }
