@@ -6,26 +6,26 @@ ghost use Rattle.cycle_history.specs.Text.{answer_line, answer_text, journal_lin
 use cycle_history::{Answer, Prof, Total};
 use page_bitmap::Line;
 use span_state::SweepNote;
-use text_line::TextLine;
+use text_line::{Counter, TextLine};
 
 /// What has a line of its own in a report.
 pub(crate) trait ReportLine {
     // the line of the item with this number, without its line feed
     ghost printed: { ℕ → Self → List ℕ };
 
-    /// Puts together the line of the item with this number. Some kinds of lines don't show the number.
-    fn push_line(&self, text: &mut TextLine, number: u64)
+    /// Puts together the line of the item whose number is counted. Some kinds of lines don't show the number.
+    fn push_line(&self, text: &mut TextLine, counter: &Counter)
         requires { text.old ≡ [] }
-        ensures text { text.new ≡ printed number self.now ++ 10 ∷ [] }
+        ensures text { (number : ℕ) → counter.now ≡ decimal number → text.new ≡ printed number self.now ++ 10 ∷ [] }
         ensures short { length text.new ≤ 128 };
 }
 
 impl ReportLine for Answer {
     ghost printed = { answer_line };
 
-    fn push_line(&self, text: &mut TextLine, number: u64) {
+    fn push_line(&self, text: &mut TextLine, counter: &Counter) {
         text.push(b"o ");
-        text.push_decimal(number);
+        text.push_counter(counter);
         push_answer(text, *self);
         text.push(b"\n");
     }
@@ -34,9 +34,9 @@ impl ReportLine for Answer {
 impl ReportLine for Line {
     ghost printed = { journal_line };
 
-    fn push_line(&self, text: &mut TextLine, number: u64) {
+    fn push_line(&self, text: &mut TextLine, counter: &Counter) {
         text.push(b"j ");
-        text.push_decimal(number);
+        text.push_counter(counter);
         text.push(b" ");
         push_journal(text, *self);
         text.push(b"\n");
@@ -46,7 +46,7 @@ impl ReportLine for Line {
 impl ReportLine for SweepNote {
     ghost printed = { λ _ note. sweep_line note };
 
-    fn push_line(&self, text: &mut TextLine, _number: u64) {
+    fn push_line(&self, text: &mut TextLine, _counter: &Counter) {
         text.push(b"s ");
         text.push_decimal(u64::from(self.cycle));
         push_field(text, u64::from(self.page));
@@ -59,7 +59,7 @@ impl ReportLine for SweepNote {
 impl ReportLine for Total {
     ghost printed = { λ _ total. total_line total };
 
-    fn push_line(&self, text: &mut TextLine, _number: u64) {
+    fn push_line(&self, text: &mut TextLine, _counter: &Counter) {
         text.push(b"t ");
         text.push_decimal(u64::from(self.class));
         push_field(text, self.mallocs);
@@ -71,7 +71,7 @@ impl ReportLine for Total {
 impl ReportLine for Prof {
     ghost printed = { λ _ prof. profile_line prof };
 
-    fn push_line(&self, text: &mut TextLine, _number: u64) {
+    fn push_line(&self, text: &mut TextLine, _counter: &Counter) {
         text.push(b"p ");
         text.push_decimal(u64::from(self.mark));
         push_field(text, u64::from(self.stack));

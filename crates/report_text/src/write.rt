@@ -13,7 +13,7 @@ ghost use Rattle.edge_io.specs.Puts.{Puts, PutsFront};
 use crate::lines::ReportLine;
 use cycle_history::Report;
 use edge_io::{Failed, Output, Sink};
-use text_line::TextLine;
+use text_line::{Counter, TextLine};
 
 /// Appends the text of the report, or after [`Failed`] a front of it. Failed comes only where the sink's count rose. It
 /// takes no memory. The sweeps are in the order of their cycles and first pages, the totals in that of their classes, and
@@ -66,10 +66,12 @@ fn put_lines<K: Sink, X: ReportLine>(out: &mut Output<'_, K>, items: &[X]) -> Re
     ensures cause { HasCause (K.faults (sink_of out.old)) (K.faults (sink_of out.new)) result }
 {
     let mut line = TextLine::new();
+    let mut counter = Counter::new();
     for (number, item) in items.iter().enumerate() {
         line.clear();
-        item.push_line(&mut line, number as u64);
+        item.push_line(&mut line, &counter);
         out.put(line.as_slice())?;
+        counter.advance(number as u64);
     }
     Ok(())
 }

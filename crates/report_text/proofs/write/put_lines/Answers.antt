@@ -5,9 +5,10 @@ use Rattle.report_text.proofs.write.put_lines.Goals as goal
 
 pub loop-number-preserved : goal.loop-number-preserved
 loop-number-preserved g c = record {
+  counted = search rules;
   same_sink = search rules;
   written = put_more g.X.ReportLine.printed _ _ _ _ _ _ c.args.items.now c.loop-number.number _ c.loop-number-test.true c.index-items-number.is c.loop-number.invariant.written
-      (rw (c.as_slice.ensures.text, c.push_line.ensures.text) at c.in_ok-put.ensures.ok);
+      (rw (c.as_slice.ensures.text, c.push_line.ensures.text c.loop-number.number c.loop-number.invariant.counted) at c.in_ok-put.ensures.ok);
   faults = search rules;
 }
 
