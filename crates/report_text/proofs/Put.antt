@@ -1,9 +1,10 @@
 -- Putting numbered lines behind what waits, one at a time.
-use Rattle.std.proofs.Common.{◌≡◌, ℕ, ◌+◌, ◌<◌, ◌≤◌, List, [], ◌∷◌, ◌++◌, length, take, drop, get_or, Option, sym, ap, subst, ◌∙◌, arith}
+use Rattle.std.proofs.Common.{◌≡◌, ℕ, ◌+◌, ◌<◌, ◌≤◌, List, [], ◌∷◌, ◌++◌, append_assoc, codes, decimal, length, take, drop, get_or, Option, sym, ap, subst, ◌∙◌, arith}
 use Rattle.std.proofs.lemmas.List.{append-nil, take_more, take_all, take-append-drop, length-take-le}
 use Rattle.edge_io.specs.Front.{Sends}
 use Rattle.edge_io.specs.Text.{text}
-use Rattle.cycle_history.specs.Text.{numbered}
+use Rattle.cycle_history.specs.declared.Answer.{Answer}
+use Rattle.cycle_history.specs.Text.{answer_line, answer_text, numbered}
 use Rattle.edge_io.specs.Puts.{Puts, PutsFront}
 use Rattle.edge_io.proofs.Put.{puts-then, puts_nothing, text-append}
 
@@ -35,6 +36,12 @@ rest_behind {X} line xs i =
     let split : numbered line 0 xs ≡ first ++ others =
     ap (λ (ys : List X). numbered line 0 ys) (sym (take-append-drop i xs)) ∙ numbered-append line 0 (take i xs) (drop i xs) in
     (text others, ap text split ∙ text-append first others)
+
+-- an answer's line, of which the front stands
+pub answer_line_is : (n : ℕ) (answer : Answer) → (codes "o " ++ decimal n) ++ (answer_text answer ++ 10 ∷ []) ≡ answer_line n answer ++ 10 ∷ []
+answer_line_is n answer =
+    let rest = answer_text answer in
+    ap (λ (bytes : List ℕ). 111 ∷ 32 ∷ bytes) (sym (append_assoc (decimal n) rest (10 ∷ [])) ∙ ap (λ (bytes : List ℕ). (decimal n ++ bytes) ++ 10 ∷ []) (sym (append-nil rest)))
 
 -- ---- one line at a time
 

@@ -1,7 +1,7 @@
 //! The lines of a report, one at a time.
 
 ghost use Rattle.std.specs.Prelude.{◌≡◌, ℕ, ◌+◌, ◌≤◌, List, [], ◌∷◌, ◌++◌, decimal, length};
-ghost use Rattle.cycle_history.specs.Text.{answer_line, answer_text, journal_line, journal_text, profile_line, sweep_line, total_line};
+ghost use Rattle.cycle_history.specs.Text.{answer_text, journal_line, journal_text, profile_line, sweep_line, total_line};
 
 use cycle_history::{Answer, Prof, Total};
 use page_bitmap::Line;
@@ -18,17 +18,6 @@ pub(crate) trait ReportLine {
         requires { text.old ≡ [] }
         ensures text { (number : ℕ) → counter.now ≡ decimal number → text.new ≡ printed number self.now ++ 10 ∷ [] }
         ensures short { length text.new ≤ 128 };
-}
-
-impl ReportLine for Answer {
-    ghost printed = { answer_line };
-
-    fn push_line(&self, text: &mut TextLine, counter: &Counter) {
-        text.push(b"o ");
-        text.push_counter(counter);
-        push_answer(text, *self);
-        text.push(b"\n");
-    }
 }
 
 impl ReportLine for Line {
@@ -82,8 +71,8 @@ impl ReportLine for Prof {
     }
 }
 
-// Appends what stands behind the number of an answer.
-fn push_answer(text: &mut TextLine, answer: Answer)
+/// Appends what stands behind the number of an answer.
+pub(crate) fn push_answer(text: &mut TextLine, answer: Answer)
     requires { length text.old ≤ 24 }
     ensures text { text.new ≡ text.old ++ answer_text answer }
     ensures short { length text.new ≤ 96 }

@@ -4,6 +4,8 @@
 mod counter;
 mod digits;
 mod line;
+mod object_line;
 
 pub use counter::Counter;
 pub use line::TextLine;
+pub use object_line::ObjectLine;
