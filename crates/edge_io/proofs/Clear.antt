@@ -11,7 +11,7 @@ use Rattle.edge_io.specs.Reading.{KeepsMore, TakesLine, line_of}
 use Rattle.edge_io.specs.Line.{HasNoFeed}
 use Rattle.std.proofs.lemmas.List.{take_more, get_or-drop, length-drop}
 
-split_slice : (b : List ℕ) (s n e : ℕ) → s + n ≤ e → slice_range b s e ≡ slice_range b s (s + n) ++ slice_range b (s + n) e
+pub split_slice : (b : List ℕ) (s n e : ℕ) → s + n ≤ e → slice_range b s e ≡ slice_range b s (s + n) ++ slice_range b (s + n) e
 split_slice b s n e le =
     let count : s + n - s ≡ n = omega arith in
     let whole : e - s ≡ n + (e - (s + n)) = omega arith in

@@ -4,10 +4,12 @@ use Rattle.std.specs.List.{AllByRecursion}
 use Rattle.std.specs.Str.Parse.{digits_value, digits_value_after}
 use Rattle.std.specs.Char.{digit_value}
 use Rattle.std.proofs.lemmas.Fmt.{decimal_step_wide, decimal_digit, decimal_by_steps_wide, decimal_is_IsNumeral_wide}
-use Rattle.std.proofs.lemmas.List.{drop_all, drop_more, take_rest}
+use Rattle.std.proofs.lemmas.Bool.{cases_lt}
+use Rattle.std.proofs.lemmas.List.{append_cancel_right, drop_all, drop_more, take-append-drop, take_rest}
 use Rattle.std.proofs.Math.ListN.{get_or}
+use Rattle.std.proofs.Math.Seq.{take-append_seam}
 use Rattle.std.proofs.Math.Nat.{pow-le-pow_right, pow-succ'}
-use Rattle.trace_reader.specs.Words.{IsDigit, IsField, NoDigitFirst}
+use Rattle.trace_reader.specs.Words.{IsDigit, IsFed, IsField, NoDigitFirst}
 
 pub AllByRecursion-push : {X : Type 0} (P : X → Type 0) (xs : List X) (x : X) → AllByRecursion P xs → P x → AllByRecursion P (xs ++ x ∷ [])
 AllByRecursion-push P [] x all here = (here, tt)
@@ -51,6 +53,12 @@ pub below_more : (n digit from at : ℕ) → n < 10 ^ (at - from) → digit < 10
 below_more n digit from at small low begun =
     let one_more : at + 1 - from ≡ suc (at - from) = omega arith in
     let ten : 10 ^ (at + 1 - from) ≡ 10 * 10 ^ (at - from) = ap (λ (k : ℕ). 10 ^ k) one_more ∙ pow-succ' 10 (at - from) in
+    omega (arith, ten, small, low)
+
+pub below_step : (n digit k : ℕ) → n < 10 ^ k → digit < 10 → 10 * n + digit < 10 ^ (k + 1)
+below_step n digit k small low =
+    let one_more : k + 1 ≡ suc k = omega arith in
+    let ten : 10 ^ (k + 1) ≡ 10 * 10 ^ k = ap (λ (m : ℕ). 10 ^ m) one_more ∙ pow-succ' 10 k in
     omega (arith, ten, small, low)
 
 -- so many digits at most
@@ -189,3 +197,29 @@ pub behind_text : (text bytes tail : List ℕ) (found : Option (ℕ × Bor (List
 behind_text text bytes tail None e none = λ n rest field.
     none n rest (record { spelled = append_same text tail (decimal n ++ rest) (sym e ∙ field.spelled); small = field.small; ended = field.ended })
 behind_text text bytes tail (Some f) e field = record { spelled = e ∙ ap (λ (x : List ℕ). text ++ x) field.spelled; small = field.small; ended = field.ended }
+
+-- a digit stands before the line feed
+pub digit_before_feed : (bytes : List ℕ) (end at : ℕ) → IsFed bytes end → at ≤ end → 48 ≤ get_or bytes at 0 → at < end
+digit_before_feed bytes end at fed inside digit = elim (cases_lt at end) [
+  | inl less ↦ less
+  | inr past ↦ (
+      let here : at ≡ end = omega arith in
+      let low : 48 ≤ get_or bytes end 0 = subst (λ (k : ℕ). 48 ≤ get_or bytes k 0) here digit in
+      absurd (omega (arith, low, fed.1)))
+]
+
+-- the next digit of a number that begins at `start`
+pub goes_on_from : (front bytes : List ℕ) (start count n : ℕ) → 1 ≤ n → n < 10 ^ 20 → start + count < length bytes → IsDigit (get_or bytes (start + count) 0)
+    → front ≡ decimal n ++ drop (start + count) bytes → front ≡ decimal (10 * n + (get_or bytes (start + count) 0 - 48)) ++ drop (start + (count + 1)) bytes
+goes_on_from front bytes start count n positive small inside digit so_far =
+    let next : start + count + 1 ≡ start + (count + 1) = omega arith in
+    subst (λ (k : ℕ). front ≡ decimal (10 * n + (get_or bytes (start + count) 0 - 48)) ++ drop k bytes) next (goes_on_at front bytes (start + count) n positive small inside digit so_far)
+
+-- the line before the place where the rest of the bytes begins
+pub line_before : (bytes front : List ℕ) (end at : ℕ) → at ≡ end → bytes ≡ front ++ drop at bytes → take end bytes ≡ front
+line_before bytes front end at here e =
+    append_cancel_right (take end bytes) front (drop end bytes) (take-append-drop end bytes ∙ subst (λ (k : ℕ). bytes ≡ front ++ drop k bytes) here e)
+
+-- the line at the front of what is lent
+pub line_front : (line whole ahead kept : List ℕ) → kept ≡ line → whole ≡ line ++ ahead → take (length kept) whole ≡ line
+line_front line whole ahead kept e f = rw (e, f) (take-append_seam line ahead)

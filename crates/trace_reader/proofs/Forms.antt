@@ -1,12 +1,12 @@
 -- What is left of a line behind each of its fields.
-use Rattle.std.proofs.Common.{◌≡◌, ◌==◌, ◌∙◌, subst, length, ℕ, ◌^◌, ◌<◌, Bool, true, false, List, [], ◌++◌, codes, decimal, sym, inl, arith}
+use Rattle.std.proofs.Common.{◌≡◌, ◌==◌, ◌∙◌, subst, length, ℕ, ◌^◌, ◌<◌, Bool, true, false, List, [], ◌∷◌, ◌++◌, ap, append_assoc, codes, decimal, drop, take, sym, inl, arith}
 use Rattle.trace_reader.specs.declared.statement.HeapForm.{HeapForm}
 use Rattle.trace_reader.specs.declared.statement.AllocForm.{AllocForm}
 use Rattle.trace_reader.specs.declared.statement.Statement.TheVariants.{Heap, Alloc, Gc, Mark}
-use Rattle.trace_reader.specs.Spelling.{kind}
+use Rattle.trace_reader.specs.Spelling.{kind, line_for}
 use Rattle.trace_reader.specs.Words.{IsField, NoDigitFirst}
 use Rattle.trace_reader.specs.Says.{Says}
-use Rattle.trace_reader.proofs.Digits.{one_field}
+use Rattle.trace_reader.proofs.Digits.{line_before, one_field}
 
 -- the rest behind a field is what the text and the number leave
 behind : (text bytes : List ℕ) (n : ℕ) (rest : List ℕ) → IsField text bytes n rest → (m : ℕ) (q : List ℕ) → bytes ≡ text ++ (decimal m ++ q) → m < 10 ^ 20 → NoDigitFirst q → rest ≡ q
@@ -105,3 +105,25 @@ heap_end line r1 r2 r3 r4 r5 c p r s g f1 f2 f3 f4 f5 none h says = none (behind
 -- what is not empty is not []
 pub not_empty : (bytes : List ℕ) → (length bytes == 0) ≡ false → bytes ≡ [] → ⊥
 not_empty bytes test e = (let some : (length {A = ℕ} [] == 0) ≡ false = subst (λ (b : List ℕ). (length b == 0) ≡ false) e test in absurd cc)
+
+-- a line that is read by places, up to its line feed
+
+pub mark_before : (bytes : List ℕ) (end a b at lo hi : ℕ) → bytes ≡ 109 ∷ 32 ∷ drop 2 bytes → drop 2 bytes ≡ decimal lo ++ drop a bytes → drop a bytes ≡ 32 ∷ drop b bytes
+    → drop b bytes ≡ decimal hi ++ drop at bytes → at ≡ end → take end bytes ≡ line_for (Mark lo hi)
+mark_before bytes end a b at lo hi start low blank high here =
+    let whole : bytes ≡ 109 ∷ 32 ∷ (decimal lo ++ 32 ∷ (decimal hi ++ drop at bytes)) =
+    start ∙ ap (λ (x : List ℕ). 109 ∷ 32 ∷ x) (low ∙ ap (λ (x : List ℕ). decimal lo ++ x) (blank ∙ ap (λ (x : List ℕ). 32 ∷ x) high)) in
+    line_before bytes (line_for (Mark lo hi)) end at here (whole ∙ sym (together (drop at bytes))) where
+      together : (rest : List ℕ) → line_for (Mark lo hi) ++ rest ≡ 109 ∷ 32 ∷ (decimal lo ++ 32 ∷ (decimal hi ++ rest))
+      together rest = simp append_assoc
+
+pub alloc_before : (bytes : List ℕ) (end a b c d at : ℕ) (e : AllocForm) → bytes ≡ 97 ∷ 32 ∷ drop 2 bytes → drop 2 bytes ≡ decimal e.proc ++ drop a bytes → drop a bytes ≡ 32 ∷ drop b bytes
+    → drop b bytes ≡ decimal e.size ++ drop c bytes → drop c bytes ≡ kind e.scan ++ drop d bytes → drop d bytes ≡ decimal e.stack ++ drop at bytes → at ≡ end
+    → take end bytes ≡ line_for (Alloc e)
+alloc_before bytes end a b c d at e start proc blank size scan stack here =
+    let whole : bytes ≡ 97 ∷ 32 ∷ (decimal e.proc ++ 32 ∷ (decimal e.size ++ (kind e.scan ++ (decimal e.stack ++ drop at bytes)))) =
+    start ∙ ap (λ (x : List ℕ). 97 ∷ 32 ∷ x) (proc ∙ ap (λ (x : List ℕ). decimal e.proc ++ x) (blank ∙ ap (λ (x : List ℕ). 32 ∷ x)
+    (size ∙ ap (λ (x : List ℕ). decimal e.size ++ x) (scan ∙ ap (λ (x : List ℕ). kind e.scan ++ x) stack)))) in
+    line_before bytes (line_for (Alloc e)) end at here (whole ∙ sym (together (drop at bytes))) where
+      together : (rest : List ℕ) → line_for (Alloc e) ++ rest ≡ 97 ∷ 32 ∷ (decimal e.proc ++ 32 ∷ (decimal e.size ++ (kind e.scan ++ (decimal e.stack ++ rest))))
+      together rest = simp append_assoc

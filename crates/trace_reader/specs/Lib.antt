@@ -12,3 +12,4 @@ pub mod Follows
 pub mod Taken
 pub mod Told
 pub mod Read
+pub mod Short

@@ -1,5 +1,5 @@
 -- What stands at the front of bytes.
-use Rattle.std.specs.Prelude.{◌≡◌, ℕ, ◌^◌, ◌<◌, ◌≤◌, ◌⊎◌, List, [], ◌∷◌, ◌++◌, decimal, drop, length}
+use Rattle.std.specs.Prelude.{◌≡◌, ℕ, ◌^◌, ◌<◌, ◌≤◌, ◌⊎◌, List, [], ◌∷◌, ◌++◌, decimal, drop, length, slice_index}
 
 abbrev pub IsDigit : ℕ → Type 0
 IsDigit byte = (48 ≤ byte) × (byte ≤ 57)
@@ -20,3 +20,7 @@ pub record IsNumberAt (bytes : List ℕ) (start n end : ℕ) : Type 0 where
   pub spelled : drop start bytes ≡ decimal n ++ drop end bytes
   pub small : n < 10 ^ 19
   pub inside : end ≤ length bytes
+
+-- a line feed stands at that place
+abbrev pub IsFed : List ℕ → ℕ → Type 0
+IsFed bytes end = (end < length bytes) × (slice_index bytes end ≡ 10)

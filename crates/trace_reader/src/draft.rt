@@ -1,6 +1,6 @@
 //! A trace while its lines are read: what those behind the header said so far.
 
-ghost use Rattle.std.specs.Prelude.{◌≡◌, ◌≢◌, ◌<◌, ◌≤◌, [], ◌∷◌, ◌++◌, List as Items, ℕ, None, Some, IfErr, IfOk, MatchBool, MatchOption, OnOk};
+ghost use Rattle.std.specs.Prelude.{◌≡◌, ◌≢◌, ◌<◌, ◌≤◌, [], ◌∷◌, ◌++◌, List as Items, ℕ, None, Some, IfErr, IfOk, MatchBool, MatchOption, OnOk, length, take};
 ghost use Rattle.std.specs.List.{AllByRecursion, flat_map};
 ghost use Rattle.trace_reader.specs.declared.statement.Statement.{Statement as Said};
 ghost use Rattle.trace_reader.specs.declared.statement.Statement.TheVariants.{Alloc, End, Gc, Mark};
@@ -75,29 +75,34 @@ impl Draft {
     }
 
     /// Takes the next line, if it is not the last one, or tells what is wrong with it. The answer is whether it is the last
-    /// one, which changes nothing. Nearly all lines are `a` and `m` lines with short numbers: they are tried first.
+    /// one, which changes nothing. The line stands before `end`. Nearly all lines are `a` and `m` lines with short numbers:
+    /// they are tried first, with the line feed behind them.
     #[inline(always)]
     pub(crate) fn take_line(
         &mut self,
         alloc: Global,
-        line: &[u8],
+        ahead: &[u8],
+        end: usize,
         number: u64,
     ) -> Result<bool, TraceFault>
+        requires { end ≤ length ahead.now }
         ensures took { IfOk result (λ last. MatchBool last
-            ((said line.now ≡ Some End) × (self.new ≡ self.old))
-            (MatchOption (said line.now) ⊥ (λ s. Took self.old self.new s))) }
+            ((said (take end ahead.now) ≡ Some End) × (self.new ≡ self.old))
+            (MatchOption (said (take end ahead.now)) ⊥ (λ s. Took self.old self.new s))) }
         ensures no_read { NoReadFault result }
-        ensures fault { IfErr result (λ fault. IsOfTrace fault → (past : Items Said) → Follows past self.old → said_fault number past (said line.now) ≡ Some fault) }
+        ensures fault { IfErr result (λ fault. IsOfTrace fault → (past : Items Said) → Follows past self.old → said_fault number past (said (take end ahead.now)) ≡ Some fault) }
     {
-        if let Some(form) = short_alloc(line) {
-            self.take_event(alloc, form, number)?;
-            return Ok(false);
+        if end < ahead.len() && ahead[end] == b'\n' {
+            if let Some(short) = short_alloc(ahead, end) {
+                self.take_event(alloc, short.form(), number)?;
+                return Ok(false);
+            }
+            if let Some((lo, hi)) = short_mark(ahead, end) {
+                self.take_mark(u128::from(lo), u128::from(hi), number)?;
+                return Ok(false);
+            }
         }
-        if let Some((lo, hi)) = short_mark(line) {
-            self.take_mark(u128::from(lo), u128::from(hi), number)?;
-            return Ok(false);
-        }
-        self.take_any_line(alloc, line, number)
+        self.take_any_line(alloc, &ahead[..end], number)
     }
 
     // The same of a line of any form. It stands apart, since a whole statement is large to return.

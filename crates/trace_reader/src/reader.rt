@@ -118,7 +118,8 @@ fn read_cycles<S: Source>(
     let mut draft = Draft::new(alloc, procs);
     loop {
         read_line(lines)?;
-        if draft.take_line(alloc, lines.line(), lines.number())? {
+        let end = lines.line().len();
+        if draft.take_line(alloc, lines.line_and_ahead(), end, lines.number())? {
             return Ok(draft.finish(alloc)?);
         }
     }

@@ -1,52 +1,83 @@
-//! The lines that a trace has most of, whose numbers fit in 64 bits.
+//! The lines that a trace has most of, whose numbers have few digits.
 //!
-//! They are read by places in the line, with no part of it lent, and no statement is made of them. What these functions
-//! don't find may still be a line of the same kind, as one with a number of 20 digits.
+//! They are read by places, with no part of the line lent, and no statement is made of them. Each line is read with the line
+//! feed behind it: as that is no digit and no blank, no place on the way to it is compared with the line's end. What these
+//! functions don't find may still be a line of the same kind, as one with a number of 20 digits.
 
-ghost use Rattle.std.specs.Prelude.{◌≡◌, ◌∷◌, ◌++◌, IfSome, drop, true};
+ghost use Rattle.std.specs.Prelude.{◌≡◌, ◌≢◌, ◌≤◌, ◌∷◌, ◌++◌, IfSome, drop, take, true};
 ghost use Rattle.trace_reader.specs.Spelling.{kind};
 ghost use Rattle.trace_reader.specs.Says.{Says};
+ghost use Rattle.trace_reader.specs.Words.{IsFed, IsNumberAt};
+ghost use Rattle.trace_reader.specs.Short.{short_form};
 ghost use Rattle.trace_reader.specs.declared.statement.Statement.TheVariants.{Alloc, Mark};
 
 use crate::statement::AllocForm;
-use crate::words::short_number;
 
-/// The numbers of an `a` line, if each has up to 19 digits.
+/// The most digits of a number here. It is a constant, and small, so that the loop over them can be written out.
+const DIGITS: usize = 8;
+
+/// The numbers of an `a` line.
+#[derive(Clone, Copy)]
+pub(crate) struct ShortAlloc {
+    pub proc: u32,
+    pub size: u32,
+    pub scan: bool,
+    pub stack: u32,
+}
+
+impl ShortAlloc {
+    /// The same numbers as a form.
+    #[inline(always)]
+    pub(crate) fn form(self) -> AllocForm
+        ensures { result ≡ short_form self }
+    {
+        AllocForm {
+            proc: u128::from(self.proc),
+            size: u128::from(self.size),
+            scan: self.scan,
+            stack: u128::from(self.stack),
+        }
+    }
+}
+
+/// The numbers of an `a` line before the line feed at `end`, if each has few digits.
 #[inline(always)]
-pub(crate) fn short_alloc(line: &[u8]) -> Option<AllocForm>
-    ensures { IfSome result (λ form. Says line.now (Alloc form)) }
+pub(crate) fn short_alloc(bytes: &[u8], end: usize) -> Option<ShortAlloc>
+    requires { IsFed bytes.now end }
+    ensures { IfSome result (λ found. Says (take end bytes.now) (Alloc (short_form found))) }
 {
-    if !begins_with(line, b'a') {
+    if !begins_with(bytes, end, b'a') {
         return None;
     }
-    let (proc, at) = short_number(line, 2)?;
-    let at = behind_blank(line, at)?;
-    let (size, at) = short_number(line, at)?;
-    let (scan, at) = behind_kind(line, at)?;
-    let (stack, at) = short_number(line, at)?;
-    if at < line.len() {
+    let (proc, at) = few_digits(bytes, end, 2)?;
+    let at = behind_blank(bytes, end, at)?;
+    let (size, at) = few_digits(bytes, end, at)?;
+    let (scan, at) = behind_kind(bytes, end, at)?;
+    let (stack, at) = few_digits(bytes, end, at)?;
+    if at != end {
         return None;
     }
-    Some(AllocForm {
-        proc: u128::from(proc),
-        size: u128::from(size),
+    Some(ShortAlloc {
+        proc,
+        size,
         scan,
-        stack: u128::from(stack),
+        stack,
     })
 }
 
-/// The first and the last object of an `m` line, if each has up to 19 digits.
+/// The first and the last object of an `m` line before the line feed at `end`, if each has few digits.
 #[inline(always)]
-pub(crate) fn short_mark(line: &[u8]) -> Option<(u64, u64)>
-    ensures { IfSome result (λ found. Says line.now (Mark found.0 found.1)) }
+pub(crate) fn short_mark(bytes: &[u8], end: usize) -> Option<(u32, u32)>
+    requires { IsFed bytes.now end }
+    ensures { IfSome result (λ found. Says (take end bytes.now) (Mark found.0 found.1)) }
 {
-    if !begins_with(line, b'm') {
+    if !begins_with(bytes, end, b'm') {
         return None;
     }
-    let (lo, at) = short_number(line, 2)?;
-    let at = behind_blank(line, at)?;
-    let (hi, at) = short_number(line, at)?;
-    if at < line.len() {
+    let (lo, at) = few_digits(bytes, end, 2)?;
+    let at = behind_blank(bytes, end, at)?;
+    let (hi, at) = few_digits(bytes, end, at)?;
+    if at != end {
         return None;
     }
     Some((lo, hi))
@@ -54,18 +85,22 @@ pub(crate) fn short_mark(line: &[u8]) -> Option<(u64, u64)>
 
 // Whether the line begins with this byte and a blank.
 #[inline(always)]
-fn begins_with(line: &[u8], byte: u8) -> bool
-    ensures { result ≡ true → line.now ≡ byte ∷ 32 ∷ drop 2 line.now }
+fn begins_with(bytes: &[u8], end: usize, byte: u8) -> bool
+    requires fed { IsFed bytes.now end }
+    requires no_feed { byte ≢ 10 }
+    ensures { result ≡ true → (bytes.now ≡ byte ∷ 32 ∷ drop 2 bytes.now) × (2 ≤ end) }
 {
-    line.len() >= 2 && line[0] == byte && line[1] == b' '
+    bytes[0] == byte && bytes[1] == b' '
 }
 
 // The place behind the blank that stands at this one.
 #[inline(always)]
-fn behind_blank(bytes: &[u8], at: usize) -> Option<usize>
-    ensures { IfSome result (λ next. drop at bytes.now ≡ 32 ∷ drop next bytes.now) }
+fn behind_blank(bytes: &[u8], end: usize, at: usize) -> Option<usize>
+    requires fed { IsFed bytes.now end }
+    requires inside { at ≤ end }
+    ensures { IfSome result (λ next. (drop at bytes.now ≡ 32 ∷ drop next bytes.now) × (next ≤ end)) }
 {
-    if at < bytes.len() && bytes[at] == b' ' {
+    if bytes[at] == b' ' {
         Some(at + 1)
     } else {
         None
@@ -74,16 +109,42 @@ fn behind_blank(bytes: &[u8], at: usize) -> Option<usize>
 
 // Whether an object has pointers, as is said at this place, and the place behind that.
 #[inline(always)]
-fn behind_kind(bytes: &[u8], at: usize) -> Option<(bool, usize)>
-    ensures { IfSome result (λ found. drop at bytes.now ≡ kind found.0 ++ drop found.1 bytes.now) }
+fn behind_kind(bytes: &[u8], end: usize, at: usize) -> Option<(bool, usize)>
+    requires fed { IsFed bytes.now end }
+    requires inside { at ≤ end }
+    ensures { IfSome result (λ found. (drop at bytes.now ≡ kind found.0 ++ drop found.1 bytes.now) × (found.1 ≤ end)) }
 {
-    let at = behind_blank(bytes, at)?;
-    if at >= bytes.len() {
-        return None;
-    }
+    let at = behind_blank(bytes, end, at)?;
     match bytes[at] {
-        b's' => Some((true, behind_blank(bytes, at + 1)?)),
-        b'n' => Some((false, behind_blank(bytes, at + 1)?)),
+        b's' => Some((true, behind_blank(bytes, end, at + 1)?)),
+        b'n' => Some((false, behind_blank(bytes, end, at + 1)?)),
         _ => None,
     }
+}
+
+// The number that begins at this place, and the place at which it ends. Only 0 begins with 0. It may be that further digits
+// follow.
+#[inline(always)]
+fn few_digits(bytes: &[u8], end: usize, start: usize) -> Option<(u32, usize)>
+    requires fed { IsFed bytes.now end }
+    requires inside { start ≤ end }
+    ensures { IfSome result (λ found. IsNumberAt bytes.now start found.0 found.1 × (found.1 ≤ end)) }
+{
+    if !bytes[start].is_ascii_digit() {
+        return None;
+    }
+    let mut value = u32::from(bytes[start] - b'0');
+    if value == 0 {
+        return Some((0, start + 1));
+    }
+    let mut count = 1;
+    while count < DIGITS {
+        let byte = bytes[start + count];
+        if !byte.is_ascii_digit() {
+            return Some((value, start + count));
+        }
+        value = 10 * value + u32::from(byte - b'0');
+        count += 1;
+    }
+    Some((value, start + DIGITS))
 }
