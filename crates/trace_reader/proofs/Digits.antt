@@ -223,3 +223,7 @@ line_before bytes front end at here e =
 -- the line at the front of what is lent
 pub line_front : (line whole ahead kept : List ℕ) → kept ≡ line → whole ≡ line ++ ahead → take (length kept) whole ≡ line
 line_front line whole ahead kept e f = rw (e, f) (take-append_seam line ahead)
+
+-- what is left of a byte without a 0, as a number of 32 bits, is a digit's worth
+pub digit_of : (byte : ℕ) → byte < 2 ^ 32 → (byte + 4294967248) % 4294967296 ≤ 9 → IsDigit byte × ((byte + 4294967248) % 4294967296 ≡ byte - 48)
+digit_of byte small low = ((omega arith, omega arith), omega arith)

@@ -13,8 +13,14 @@ ghost use Rattle.trace_reader.specs.declared.statement.Statement.TheVariants.{Al
 
 use crate::statement::AllocForm;
 
-/// The most digits of a number here. It is a constant, and small, so that the loop over them can be written out.
-const DIGITS: usize = 8;
+/// The most digits of a processor, of a size, and of a stack or an object. A size may have more, but seldom has.
+const PROC_DIGITS: usize = 2;
+
+const SIZE_DIGITS: usize = 8;
+
+const DIGITS: usize = 6;
+
+const NOUGHT: u32 = b'0' as u32;
 
 /// The numbers of an `a` line.
 #[derive(Clone, Copy)]
@@ -49,11 +55,11 @@ pub(crate) fn short_alloc(bytes: &[u8], end: usize) -> Option<ShortAlloc>
     if !begins_with(bytes, end, b'a') {
         return None;
     }
-    let (proc, at) = few_digits(bytes, end, 2)?;
+    let (proc, at) = few_digits(bytes, end, 2, PROC_DIGITS)?;
     let at = behind_blank(bytes, end, at)?;
-    let (size, at) = few_digits(bytes, end, at)?;
+    let (size, at) = few_digits(bytes, end, at, SIZE_DIGITS)?;
     let (scan, at) = behind_kind(bytes, end, at)?;
-    let (stack, at) = few_digits(bytes, end, at)?;
+    let (stack, at) = few_digits(bytes, end, at, DIGITS)?;
     if at != end {
         return None;
     }
@@ -74,9 +80,9 @@ pub(crate) fn short_mark(bytes: &[u8], end: usize) -> Option<(u32, u32)>
     if !begins_with(bytes, end, b'm') {
         return None;
     }
-    let (lo, at) = few_digits(bytes, end, 2)?;
+    let (lo, at) = few_digits(bytes, end, 2, DIGITS)?;
     let at = behind_blank(bytes, end, at)?;
-    let (hi, at) = few_digits(bytes, end, at)?;
+    let (hi, at) = few_digits(bytes, end, at, DIGITS)?;
     if at != end {
         return None;
     }
@@ -122,29 +128,30 @@ fn behind_kind(bytes: &[u8], end: usize, at: usize) -> Option<(bool, usize)>
     }
 }
 
-// The number that begins at this place, and the place at which it ends. Only 0 begins with 0. It may be that further digits
-// follow.
+// The number of up to `most` digits that begins at this place, and the place at which it ends. Only 0 begins with 0. It may be
+// that further digits follow. As `most` is a constant, the loop is written out.
 #[inline(always)]
-fn few_digits(bytes: &[u8], end: usize, start: usize) -> Option<(u32, usize)>
+fn few_digits(bytes: &[u8], end: usize, start: usize, most: usize) -> Option<(u32, usize)>
     requires fed { IsFed bytes.now end }
     requires inside { start ≤ end }
+    requires few { (1 ≤ most) × (most ≤ 9) }
     ensures { IfSome result (λ found. IsNumberAt bytes.now start found.0 found.1 × (found.1 ≤ end)) }
 {
-    if !bytes[start].is_ascii_digit() {
+    let mut value = u32::from(bytes[start]).wrapping_sub(NOUGHT);
+    if value > 9 {
         return None;
     }
-    let mut value = u32::from(bytes[start] - b'0');
     if value == 0 {
         return Some((0, start + 1));
     }
     let mut count = 1;
-    while count < DIGITS {
-        let byte = bytes[start + count];
-        if !byte.is_ascii_digit() {
+    while count < most {
+        let digit = u32::from(bytes[start + count]).wrapping_sub(NOUGHT);
+        if digit > 9 {
             return Some((value, start + count));
         }
-        value = 10 * value + u32::from(byte - b'0');
+        value = 10 * value + digit;
         count += 1;
     }
-    Some((value, start + DIGITS))
+    Some((value, start + most))
 }

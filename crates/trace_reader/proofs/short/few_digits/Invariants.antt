@@ -7,9 +7,9 @@ invariant-loop-count l = record {
   positive : 1 ≤ l.value;
   small : l.value < 10 ^ l.count;
   begun : 1 ≤ l.count;
-  few : l.count ≤ 8;
+  few : l.count ≤ l.most;
   inside : l.start + l.count ≤ l.end;
 }
 
 abbrev pub decreases-loop-count : goal.decreases-loop-count
-decreases-loop-count l = 8 - l.count
+decreases-loop-count l = l.most - l.count
