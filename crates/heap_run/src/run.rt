@@ -18,7 +18,7 @@ ghost use Rattle.profile_cycle.specs.Sampling.{countdown};
 use crate::cycle::run_workers;
 use crate::merge::merge;
 use crate::profile::Profile;
-use crate::queues::queues_of;
+use crate::queues::{empty_list, queues_of};
 use crate::sorting::file_notes;
 use cycle_history::{Answer, Place, Report, Total, marks_of, totals_of};
 use edge_io::{Gate, List, NoMemory};
@@ -106,6 +106,11 @@ impl Run {
         ensures begun { IfOk result (λ run. HasBegun trace.now 0 run) }
         ensures each { IfOk result (λ run. run.profile.each ≡ each) }
     {
+        let objects = objects_of(trace);
+        let answers = empty_list(alloc, objects)?;
+        let sampled = empty_list(alloc, objects)?;
+        let buckets = empty_list(alloc, objects)?;
+        let places = empty_list(alloc, objects)?;
         let procs = processors(alloc, &trace.header)?;
         let (shared, driver) = Shared::new(alloc, trace.header.chunks, trace.header.goal)?;
         let (profile, tally) = Profile::new(alloc, trace, each)?;
@@ -114,12 +119,12 @@ impl Run {
             driver: Hand::new(alloc, driver, tally),
             procs,
             marks: Marks::empty(alloc),
-            answers: List::new(alloc),
+            answers,
             sweeps: List::new(alloc),
-            sampled: List::new(alloc),
-            buckets: List::new(alloc),
+            sampled,
+            buckets,
             profile,
-            places: List::new(alloc),
+            places,
         })
     }
 
@@ -310,6 +315,18 @@ fn processors(alloc: Global, header: &Header) -> Result<Vec<Proc>, NoMemory>
         procs.push(Proc::new(alloc, number, header)?)?;
     }
     Ok(procs)
+}
+
+// How many objects a trace has: the lists of all objects get so much room at once, and need not move as they grow.
+fn objects_of(trace: &Trace) -> usize
+    requires { length (events_of trace.now) ≤ 1000000 }
+    ensures { result ≡ length (events_of trace.now) }
+{
+    let mut objects = 0;
+    for cycle in 0..trace.cycles.len() {
+        objects += trace.cycles.as_slice()[cycle].events.len();
+    }
+    objects
 }
 
 // By how many bytes sweeping is paced in a cycle: by the distance of the mark end before it.

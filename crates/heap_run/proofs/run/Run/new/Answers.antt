@@ -10,11 +10,11 @@ returns-clause-begun c =
       procs = (let a = c.in_ok-procs.ensures.length in omega (arith, c.in_ok-procs.procs.ok.0));
       empty = c.in_ok-procs.ensures.empty;
       marks = c.empty.ensures.pairs;
-      answers = c.new-4.ensures;
-      sweeps = c.new-5.ensures;
-      sampled = c.new-6.ensures;
-      buckets = c.new-7.ensures;
-      places = c.new-8.ensures;
+      answers = c.in_ok-answers.ensures;
+      sweeps = c.new-4.ensures;
+      sampled = c.in_ok-sampled.ensures;
+      buckets = c.in_ok-buckets.ensures;
+      places = c.in_ok-places.ensures;
       dead = c.empty.ensures.dead;
       tally = c.new-3.ensures.tally ∙ c.in_ok-profile.ensures.tally;
       some = c.in_ok-profile.ensures.some;
