@@ -7,7 +7,7 @@ ghost use Rattle.sweep_laws.specs.Owned.{Owned};
 ghost use Rattle.sweep_laws.specs.Step.{needs_of, after, reply_of};
 ghost use Rattle.sweep_laws.specs.Tidy.{IsTidy, HasSpace, IsProvided};
 
-use sweep_generation::{Core, Move, Reply, step};
+use sweep_generation::{Core, Move, Reply, step_met};
 
 // Makes a move whose needs are met and that is provided for: it is done.
 pub(crate) fn make(core: &mut Core, mv: Move) -> Reply
@@ -22,7 +22,7 @@ pub(crate) fn make(core: &mut Core, mv: Move) -> Reply
     ensures tidy { IsTidy core.new }
     ensures space { HasSpace core.new }
 {
-    match step(core, mv) {
+    match step_met(core, mv) {
         Ok(reply) => reply,
         Err(_) => unreachable!(),
     }

@@ -28,7 +28,7 @@ mod words;
 
 pub use run::run_moves;
 pub use state::Core;
-pub use steps::step;
+pub use steps::{step, step_met};
 pub use sweep_laws::{Claimed, Found, Kind, Move, Reply, Role, StepFault};
 pub use sweep_lists::{CoreHand, CoreSet, Entries, Indices, Life, Numbers};
 pub use words::role;

@@ -2,11 +2,13 @@
 //! swept; then the marks become what each life keeps, the sets of the other part become those to sweep, and the generation rises
 //! by 2, so that each word means something else without being written.
 
-ghost use Rattle.std.specs.Prelude.{◌≡◌, ◌≤◌, ℕ, map};
+ghost use Rattle.std.specs.Prelude.{◌≡◌, ◌≤◌, ℕ, map, None};
 ghost use Rattle.std.specs.List.{All};
 ghost use Rattle.sweep_laws.specs.ChangesOfHands.{forget_swept as swept_forgotten};
 ghost use Rattle.sweep_laws.specs.ChangesOfSets.{empty_unswept as unswept_emptied};
 ghost use Rattle.sweep_lists.specs.Views.{hand_view, set_view, HandRoom};
+ghost use Rattle.sweep_laws.specs.Needs.{next_needs};
+ghost use Rattle.sweep_laws.specs.NeedsOfRange.{refusal};
 ghost use Rattle.sweep_laws.specs.Step.{Steps};
 
 use crate::state::Core;
@@ -40,6 +42,14 @@ pub(crate) fn next(core: &mut Core, marks: &[(u32, u32)]) -> Result<Reply, StepF
     ensures { Steps core.old core.new (Move.Next marks.now) result }
 {
     core.try_next(marks)?;
+    next_met(core, marks)
+}
+
+// The same where all needs are met, so that none is tried.
+pub(crate) fn next_met(core: &mut Core, marks: &[(u32, u32)]) -> Result<Reply, StepFault>
+    requires met { refusal (next_needs core.old marks.now) ≡ None }
+    ensures { Steps core.old core.new (Move.Next marks.now) result }
+{
     core.lives.mark(marks)?;
     empty_unswept(&mut core.sets, core.generation);
     forget_swept(&mut core.hands);

@@ -2,7 +2,9 @@
 //! taken out again (`mcache.go`, `refill`; `mcentral.go`, `cacheSpan` and `uncacheSpan`). Over a mark end the span stays cached with
 //! the word G+1, and only its worker may begin to sweep it.
 
-ghost use Rattle.std.specs.Prelude.{◌≡◌, true, false, Ok, Err};
+ghost use Rattle.std.specs.Prelude.{◌≡◌, true, false, Ok, Err, None};
+ghost use Rattle.sweep_laws.specs.Needs.{allocate_needs};
+ghost use Rattle.sweep_laws.specs.NeedsOfRange.{refusal};
 ghost use Rattle.sweep_laws.specs.Step.{Steps};
 
 use crate::state::Core;
@@ -98,4 +100,19 @@ fn is_allocated_rarely(
             false
         }
     }
+}
+
+// The same where all needs are met, so that none is tried.
+#[inline(always)]
+pub(crate) fn allocate_met(
+    core: &mut Core,
+    worker: u32,
+    page: u32,
+    index: u32,
+) -> Result<Reply, StepFault>
+    requires met { refusal (allocate_needs core.old worker page index) ≡ None }
+    ensures { Steps core.old core.new (Move.Allocate worker page index) result }
+{
+    core.lives.allocate(page, index)?;
+    Ok(Reply::Done)
 }

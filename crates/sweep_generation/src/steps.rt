@@ -1,13 +1,14 @@
 //! One move: the only way by which a core changes. A move first tries all its needs, which write nothing, then makes room, and
 //! writes last; so a refused move, and one without memory, leaves the core as it was.
 
-ghost use Rattle.std.specs.Prelude.{◌≡◌, ◌≢◌, Err};
+ghost use Rattle.std.specs.Prelude.{◌≡◌, ◌≢◌, Err, None};
 ghost use Rattle.sweep_laws.specs.Owned.{Owned};
-ghost use Rattle.sweep_laws.specs.Step.{Steps};
+ghost use Rattle.sweep_laws.specs.NeedsOfRange.{refusal};
+ghost use Rattle.sweep_laws.specs.Step.{Steps, needs_of};
 ghost use Rattle.sweep_laws.specs.Tidy.{IsTidy, HasSpace, IsProvided};
 
-use crate::mark_end::next;
-use crate::moves_cache::{allocate, allocate_usual, cache, uncache};
+use crate::mark_end::{next, next_met};
+use crate::moves_cache::{allocate, allocate_met, allocate_usual, cache, uncache};
 use crate::moves_lock::{lock, unlock};
 use crate::moves_pages::{give, take};
 use crate::moves_sets::{claim, fill, pop_swept, pop_unswept};
@@ -77,4 +78,32 @@ pub fn step(core: &mut Core, mv: Move) -> Result<Reply, StepFault>
     ensures memory { Owned core.old → IsTidy core.old → HasSpace core.old → IsProvided core.old mv → result ≢ Err StepFault.NoMemory }
 {
     step_usual(core, mv)
+}
+
+// Makes a move whose needs are met.
+#[inline(always)]
+fn step_allowed(core: &mut Core, mv: Move) -> Result<Reply, StepFault>
+    requires met { refusal (needs_of core.old mv) ≡ None }
+    ensures { Steps core.old core.new mv result }
+{
+    match mv {
+        Move::Allocate(worker, page, index) => allocate_met(core, worker, page, index),
+        Move::Next(marks) => next_met(core, marks.as_slice()),
+        _ => step_given(core, mv),
+    }
+}
+
+/// Makes one move whose needs are all met, as [`step`] does, but tries none of them for the two moves of which a trace has most:
+/// an allocation, and a mark end, whose marks need not be looked through once more. For a caller that proves the needs.
+#[inline]
+pub fn step_met(core: &mut Core, mv: Move) -> Result<Reply, StepFault>
+    requires met { refusal (needs_of core.old mv) ≡ None }
+    ensures exact { Steps core.old core.new mv result }
+    ensures owned { Owned core.old → Owned core.new }
+    ensures tidy { Owned core.old → IsTidy core.old → IsTidy core.new }
+    ensures room { core.new.room ≡ core.old.room }
+    ensures space { HasSpace core.old → IsProvided core.old mv → HasSpace core.new }
+    ensures memory { Owned core.old → IsTidy core.old → HasSpace core.old → IsProvided core.old mv → result ≢ Err StepFault.NoMemory }
+{
+    step_allowed(core, mv)
 }
