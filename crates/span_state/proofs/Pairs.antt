@@ -1,13 +1,13 @@
 -- The pairs that words mark.
-use Rattle.std.proofs.Common.{◌≡◌, ℕ, zero, suc, ◌+◌, ◌-◌, ◌*◌, ◌/◌, ◌%◌, ◌^◌, ◌<◌, ◌≤◌, Bool, true, false, cond, ◌==◌, ◌||◌, ◌&&◌, eqb, ltb, List, [], ◌∷◌, ◌++◌, length, take, get_or, refl, sym, ◌∙◌, ap, subst, arith, inl, inr, eq-eqb, append-nil, append_assoc, w64, ◌⊎◌}
+use Rattle.std.proofs.Common.{◌≡◌, ℕ, zero, suc, ◌+◌, ◌-◌, ◌*◌, ◌/◌, ◌%◌, ◌^◌, ◌<◌, ◌≤◌, Bool, true, false, cond, ◌==◌, ◌||◌, ◌&&◌, eqb, ltb, List, [], ◌∷◌, ◌++◌, length, get_or, refl, sym, ◌∙◌, ap, subst, arith, inl, inr, eq-eqb, append-nil, append_assoc, w64, ◌⊎◌}
 use Rattle.std.proofs.lemmas.Bool.{cases_eq, cases_lt, cases_Bool, both_ways, ne_eqb, lt-ltb, le-ltb, and_parts, eqb-true}
 use Rattle.std.proofs.lemmas.Cmp.{then_total, on_total, nat_cmp_total, ranked}
-use Rattle.std.proofs.lemmas.List.{length-append, take_all}
+use Rattle.std.proofs.lemmas.List.{length-append}
 use Rattle.std.proofs.lemmas.List.Folds.{list_any-append}
 use Rattle.std.proofs.lemmas.List.Sums.{sum_by-append}
 use Rattle.std.proofs.lemmas.Map.Lookups.{CmpEqualImpliesEq, exact_pairs, exact_unsigned}
 use Rattle.std.proofs.lemmas.Nat.{and_le_l}
-use Rattle.std.proofs.lemmas.Nat.Bits.{bit_at-zero, bit_at-suc, bit_at_lowest, bit_at_and, bit_at_clear_same, bit_at_clear_other, same_from_bits_below}
+use Rattle.std.proofs.lemmas.Nat.Bits.{bit_at-zero, bit_at-suc, bit_at_lowest, bit_at_and, bit_at_clear_same, bit_at_clear_other, bit_at_ones, same_from_bits_below}
 use Rattle.std.specs.declared.cmp.Ordering.{Ordering}
 use Rattle.std.specs.declared.cmp.Ordering.TheVariants.{Less, Equal, Greater}
 use Rattle.std.specs.Cmp.{IsTotalOrder, nat_cmp_is}
@@ -19,7 +19,7 @@ use Rattle.std.specs.Ordering.{nat_cmp}
 use Rattle.std.specs.Int.Count.{ones}
 use Rattle.span_state.specs.Bits.{count_below, one_if}
 use Rattle.span_state.specs.Counts.{ones-count}
-use Rattle.span_state.specs.Groups.{IsWritten, word_pairs, group_pairs, page_pairs, grid_pairs, pairs_of, row_of, word_of}
+use Rattle.span_state.specs.Groups.{word_pairs, group_pairs, page_pairs, grid_pairs, pairs_of, row_of, word_of}
 use Rattle.span_state.specs.MarkSet.{pair_cmp, IsRising, has_pair, pairs_at}
 
 -- ---- the order of pairs
@@ -476,12 +476,10 @@ pushed-lowest all pairs new page group word k lt on below so_far push =
     ∙ append_assoc pairs ((page, 64 * group + k) ∷ []) (word_pairs 64 page group (without word k))
     ∙ ap (λ (ps : List (ℕ × ℕ)). pairs ++ ps) (sym first) ∙ so_far
 
--- no bit is left
-pub pushed-all : (all pairs : List (ℕ × ℕ)) (page group word : ℕ) → word ≡ 0 → pairs ++ group_pairs ((page, group), word) ≡ all → pairs ≡ all
-unfolding group_pairs
-pushed-all all pairs page group word none so_far =
-    let nothing : word_pairs 64 page group word ≡ [] = no-pairs 64 page group word (λ i lt. rw none (bit_at-zero i)) in
-    sym (append-nil pairs) ∙ ap (λ (ps : List (ℕ × ℕ)). pairs ++ ps) (sym nothing) ∙ so_far
+-- no pair is left
+pub pushed-all : (all pairs left : List (ℕ × ℕ)) → length left ≡ 0 → pairs ++ left ≡ all → pairs ≡ all
+pushed-all all pairs [] none so_far = sym (append-nil pairs) ∙ so_far
+pushed-all all pairs (p ∷ left) none so_far = absurd (omega arith)
 
 -- the lowest bit's pair is one more than those of the word without it
 pub length-lowest : (page group word k : ℕ) → k < 64 → bit_at word k ≡ 1 → ((i : ℕ) → i < k → bit_at word i ≡ 0)
@@ -490,9 +488,17 @@ unfolding group_pairs
 length-lowest page group word k lt on below = ap (λ (ps : List (ℕ × ℕ)). length ps) (lowest-first 64 page group word k (omega arith) lt on below)
 
 -- a word with no bit has no pairs
-pub length-none : (page group word : ℕ) → word ≡ 0 → length (group_pairs ((page, group), word)) ≡ 0
+length-none : (page group word : ℕ) → word ≡ 0 → length (group_pairs ((page, group), word)) ≡ 0
 unfolding group_pairs
 length-none page group word none = ap (λ (ps : List (ℕ × ℕ)). length ps) (no-pairs 64 page group word (λ i lt. rw none (bit_at-zero i)))
+
+-- a word with pairs has a bit
+pub some-bit : (page group word : ℕ) → 0 < length (group_pairs ((page, group), word)) → 0 < word
+some-bit page group word some =
+    elim (cases_eq word 0) [
+      | inl none ↦ (let nothing = length-none page group word none in omega arith)
+      | inr bit ↦ omega arith
+    ]
 
 -- a word has as many pairs as set bits
 length-word_pairs : (n page group word : ℕ) → length (word_pairs n page group word) ≡ count_below n (λ b. bit_at word b == 1)
@@ -533,26 +539,46 @@ length-grid_pairs n (suc m) sizes words le =
       | inr ge ↦ (let is : n ≡ suc m = omega arith in rw is (omega arith))
     ]
 
--- ---- pairs that are written over a list
+-- ---- a word with all bits set
 
--- nothing is written yet
-pub written-none : (list : List (ℕ × ℕ)) (at : ℕ) → IsWritten list list at at []
-written-none list at = record { front = sym (append-nil (take at list)); behind = omega arith; long = refl }
+-- each bit marks one pair more
+pub all-more : (n page group : ℕ) → n < 64 → word_pairs (suc n) page group (2 ^ 64 - 1) ≡ word_pairs n page group (2 ^ 64 - 1) ++ (page, 64 * group + n) ∷ []
+all-more n page group lt =
+    let on : (bit_at (2 ^ 64 - 1) n == 1) ≡ true = rw (bit_at_ones 64 n lt) refl in
+    rw on refl
 
--- what is written behind what was
-pub written-more : (old mid new : List (ℕ × ℕ)) (start at to : ℕ) (ps qs : List (ℕ × ℕ)) → IsWritten old mid start at ps → IsWritten mid new at to qs → IsWritten old new start to (ps ++ qs)
-written-more old mid new start at to ps qs a b = record {
-  front = b.front ∙ ap (λ (l : List (ℕ × ℕ)). l ++ qs) a.front ∙ append_assoc (take start old) ps qs;
-  behind = (let x = a.behind in let y = b.behind in let both = length-append ps qs in omega arith);
-  long = b.long ∙ a.long;
-}
+length-all-to : (n page group : ℕ) → n ≤ 64 → length (word_pairs n page group (2 ^ 64 - 1)) ≡ n
+length-all-to zero page group few = refl
+length-all-to (suc n) page group few =
+    let rest = length-all-to n page group (omega arith) in
+    let more = ap (λ (ps : List (ℕ × ℕ)). length ps) (all-more n page group (omega arith)) in
+    let split = length-append (word_pairs n page group (2 ^ 64 - 1)) ((page, 64 * group + n) ∷ []) in
+    omega arith
 
--- written over all places
-pub written-all : (old new : List (ℕ × ℕ)) (at : ℕ) (pairs : List (ℕ × ℕ)) → length old ≡ length pairs → IsWritten old new 0 at pairs → new ≡ pairs
-written-all old new at pairs same w =
-    let behind = w.behind in
-    let long = w.long in
-    sym (take_all at new (omega arith)) ∙ w.front
+pub length-all : (page group : ℕ) → length (group_pairs ((page, group), 2 ^ 64 - 1)) ≡ 64
+unfolding group_pairs
+length-all page group = length-all-to 64 page group (omega arith)
+
+-- the pair of the next bit is pushed
+pub pushed-bit : (old pairs new : List (ℕ × ℕ)) (n page group : ℕ) → n < 64 → pairs ≡ old ++ word_pairs n page group (2 ^ 64 - 1) → new ≡ pairs ++ (page, 64 * group + n) ∷ []
+    → new ≡ old ++ word_pairs (n + 1) page group (2 ^ 64 - 1)
+pushed-bit old pairs new n page group lt so_far push =
+    let next : n + 1 ≡ suc n = omega arith in
+    push ∙ ap (λ (ps : List (ℕ × ℕ)). ps ++ (page, 64 * group + n) ∷ []) so_far ∙ append_assoc old (word_pairs n page group (2 ^ 64 - 1)) ((page, 64 * group + n) ∷ [])
+    ∙ ap (λ (ps : List (ℕ × ℕ)). old ++ ps) (sym (all-more n page group lt)) ∙ ap (λ (m : ℕ). old ++ word_pairs m page group (2 ^ 64 - 1)) (sym next)
+
+-- the pairs of all bits are pushed
+pub pushed-bits : (old pairs : List (ℕ × ℕ)) (n page group : ℕ) → n ≡ 64 → pairs ≡ old ++ word_pairs n page group (2 ^ 64 - 1) → pairs ≡ old ++ group_pairs ((page, group), 2 ^ 64 - 1)
+unfolding group_pairs
+pushed-bits old pairs n page group all so_far = so_far ∙ ap (λ (m : ℕ). old ++ word_pairs m page group (2 ^ 64 - 1)) all
+
+-- there is room for the next
+pub room-bit : (old pairs : List (ℕ × ℕ)) (n page group room : ℕ) → n < 64 → pairs ≡ old ++ word_pairs n page group (2 ^ 64 - 1) → length old + 64 ≤ room → length pairs < room
+room-bit old pairs n page group room lt so_far all =
+    let long = ap (λ (ps : List (ℕ × ℕ)). length ps) so_far in
+    let split = length-append old (word_pairs n page group (2 ^ 64 - 1)) in
+    let few = length-all-to n page group (omega arith) in
+    omega arith
 
 -- ---- a word less one
 
@@ -614,17 +640,20 @@ marks-more row group page marks word so_far is fits =
     rw next (omega arith)
 
 -- where there is room for all groups of a page, there is room for the next
-pub room-group : (row : List ℕ) (group page start at room word : ℕ) → group < length row → word ≡ get_or row group 0 → at ≡ start + length (page_pairs group page (λ g. get_or row g 0))
-    → start + length (page_pairs (length row) page (λ g. get_or row g 0)) ≤ room → at + length (group_pairs ((page, group), word)) ≤ room
-room-group row group page start at room word lt is so_far all =
+pub room-group : (row : List ℕ) (group page word room : ℕ) (old pairs : List (ℕ × ℕ)) → group < length row → word ≡ get_or row group 0 → pairs ≡ old ++ page_pairs group page (λ g. get_or row g 0)
+    → length old + length (page_pairs (length row) page (λ g. get_or row g 0)) ≤ room → length pairs + length (group_pairs ((page, group), word)) ≤ room
+room-group row group page word room old pairs lt is so_far all =
     let more = length-page_pairs (suc group) (length row) page (λ g. get_or row g 0) (omega arith) in
     let split = length-append (page_pairs group page (λ g. get_or row g 0)) (group_pairs ((page, group), get_or row group 0)) in
+    let long = ap (λ (ps : List (ℕ × ℕ)). length ps) so_far in
+    let both = length-append old (page_pairs group page (λ g. get_or row g 0)) in
     rw is (omega arith)
 
 -- where there is room for all pages, there is room for the next
-pub room-page : (rows : List (List ℕ)) (row : List ℕ) (page at room : ℕ) → page < length rows → row ≡ row_of rows page → at ≡ length (grid_pairs page (λ q. length (row_of rows q)) (word_of rows))
-    → length (pairs_of rows) ≤ room → at + length (page_pairs (length row) page (λ g. get_or row g 0)) ≤ room
-room-page rows row page at room lt is so_far all =
+pub room-page : (rows : List (List ℕ)) (row : List ℕ) (page room : ℕ) (pairs : List (ℕ × ℕ)) → page < length rows → row ≡ row_of rows page
+    → pairs ≡ grid_pairs page (λ q. length (row_of rows q)) (word_of rows) → length (pairs_of rows) ≤ room → length pairs + length (page_pairs (length row) page (λ g. get_or row g 0)) ≤ room
+room-page rows row page room pairs lt is so_far all =
     let more = length-grid_pairs (suc page) (length rows) (λ q. length (row_of rows q)) (word_of rows) (omega arith) in
     let split = length-append (grid_pairs page (λ q. length (row_of rows q)) (word_of rows)) (page_pairs (length (row_of rows page)) page (word_of rows page)) in
+    let long = ap (λ (ps : List (ℕ × ℕ)). length ps) so_far in
     rw is (omega arith)

@@ -1,5 +1,5 @@
 -- How marks are kept: for each page a row of words of 64 bits, each for a group of 64 neighbouring indices.
-use Rattle.std.specs.Prelude.{◌≡◌, ℕ, zero, suc, ◌+◌, ◌*◌, ◌^◌, ◌≤◌, ◌==◌, List, [], ◌∷◌, ◌++◌, length, take, slice_index, slice_index_or, if◌then◌else◌}
+use Rattle.std.specs.Prelude.{ℕ, zero, suc, ◌+◌, ◌*◌, ◌^◌, ◌≤◌, ◌==◌, List, [], ◌∷◌, ◌++◌, length, slice_index, slice_index_or, if◌then◌else◌}
 use Rattle.std.specs.Int.{bit_at}
 
 -- the pairs that the lowest `n` bits of a group's word mark
@@ -37,9 +37,3 @@ pairs_of rows = grid_pairs (length rows) (λ page. length (row_of rows page)) (w
 pub record AreRows (rows : List (List ℕ)) : Type 0 where
   pub pages : length rows ≤ 2 ^ 32
   pub groups : (page : ℕ) → length (row_of rows page) ≤ 2 ^ 26
-
--- The pairs are written over a list, from the first place up to the second.
-pub record IsWritten (old new : List (ℕ × ℕ)) (start at : ℕ) (pairs : List (ℕ × ℕ)) : Type 0 where
-  pub front : take at new ≡ take start old ++ pairs
-  pub behind : at ≡ start + length pairs
-  pub long : length new ≡ length old

@@ -1,6 +1,6 @@
-ghost use Rattle.std.specs.Prelude.{◌≡◌, ◌↔◌, ℕ, ◌+◌, ◌-◌, ◌*◌, ◌^◌, ◌<◌, ◌≤◌, ◌==◌, ◌||◌, ◌&&◌, [], ◌∷◌, ◌++◌, ◌≢◌, false, length, min, slice_index, true, IsOk, OnOk, OnErr, IfOk};
+ghost use Rattle.std.specs.Prelude.{◌≡◌, ◌↔◌, ℕ, ◌+◌, ◌-◌, ◌*◌, ◌^◌, ◌<◌, ◌≤◌, ◌==◌, ◌||◌, ◌&&◌, [], ◌∷◌, ◌++◌, ◌≢◌, false, length, min, slice_index, true, vec_capacity, IsOk, OnOk, OnErr, IfOk};
 ghost use Rattle.std.specs.Int.{bit_at};
-ghost use Rattle.span_state.specs.Groups.{IsWritten, group_pairs, page_pairs, row_of};
+ghost use Rattle.span_state.specs.Groups.{group_pairs, page_pairs, row_of};
 ghost use Rattle.span_state.specs.MarkSet.{is_marked, marked_count, dead_of, pairs_at, IsRising};
 
 use crate::row::Row;
@@ -151,9 +151,10 @@ impl Marks {
         ensures rising { IsRising self.now.pairs }
     {
         let total = self.total()?;
-        let mut pairs = Vec::new(self.alloc);
-        pairs.resize(total, (0, 0))?;
-        self.write(pairs.as_mut_slice());
+        let mut pairs = Vec::with_capacity(self.alloc, total)?;
+        for page in 0..self.rows.len() {
+            push_row(&mut pairs, page as u32, self.rows[page].words());
+        }
         Ok(List::from_vec(pairs))
     }
 
@@ -170,17 +171,6 @@ impl Marks {
             }
         }
         Ok(total)
-    }
-
-    // Writes the marked pairs into as many places.
-    fn write(&self, pairs: &mut [(u32, u32)])
-        requires { length pairs.old ≡ length self.now.pairs }
-        ensures { pairs.new ≡ self.now.pairs }
-    {
-        let mut at = 0;
-        for page in 0..self.rows.len() {
-            at = write_row(pairs, at, page as u32, self.rows[page].words());
-        }
     }
 }
 
@@ -237,35 +227,59 @@ fn marks_in(words: &[u64]) -> usize
     marks
 }
 
-// Writes the pairs that the words of a page's row mark from a place on, and answers the place behind them.
-fn write_row(pairs: &mut [(u32, u32)], start: usize, page: u32, words: &[u64]) -> usize
+// Puts the pairs that the words of a page's row mark at the end of a list with room for them.
+#[inline]
+fn push_row(pairs: &mut Vec<(u32, u32)>, page: u32, words: &[u64])
     requires groups { length words.now ≤ 2 ^ 26 }
-    requires room { start + length (page_pairs (length words.now) page (λ g. slice_index words.now g)) ≤ length pairs.old }
-    ensures { IsWritten pairs.old pairs.new start result (page_pairs (length words.now) page (λ g. slice_index words.now g)) }
+    requires room { length pairs.old.items + length (page_pairs (length words.now) page (λ g. slice_index words.now g)) ≤ vec_capacity pairs.old }
+    ensures items { pairs.new.items ≡ pairs.old.items ++ page_pairs (length words.now) page (λ g. slice_index words.now g) }
+    ensures capacity { vec_capacity pairs.new ≡ vec_capacity pairs.old }
 {
-    let mut at = start;
     for group in 0..words.len() {
-        at = write_group(pairs, at, page, group as u32, words[group]);
+        push_group(pairs, page, group as u32, words[group]);
     }
-    at
 }
 
-// Writes the pairs that a word marks from a place on, from set bit to set bit, and answers the place behind them.
+// Does so for one word. Many have all bits set, which need not be searched for.
 #[inline]
-fn write_group(pairs: &mut [(u32, u32)], start: usize, page: u32, group: u32, word: u64) -> usize
+fn push_group(pairs: &mut Vec<(u32, u32)>, page: u32, group: u32, word: u64)
     requires group { group < 2 ^ 26 }
-    requires room { start + length (group_pairs ((page, group), word)) ≤ length pairs.old }
-    ensures { IsWritten pairs.old pairs.new start result (group_pairs ((page, group), word)) }
+    requires room { length pairs.old.items + length (group_pairs ((page, group), word)) ≤ vec_capacity pairs.old }
+    ensures items { pairs.new.items ≡ pairs.old.items ++ group_pairs ((page, group), word) }
+    ensures capacity { vec_capacity pairs.new ≡ vec_capacity pairs.old }
 {
-    let first = 64 * group;
-    let mut at = start;
+    if word == u64::MAX {
+        push_all(pairs, page, group);
+    } else {
+        push_set(pairs, page, group, word);
+    }
+}
+
+// Does so for a word with all bits set.
+#[inline]
+fn push_all(pairs: &mut Vec<(u32, u32)>, page: u32, group: u32)
+    requires group { group < 2 ^ 26 }
+    requires room { length pairs.old.items + 64 ≤ vec_capacity pairs.old }
+    ensures items { pairs.new.items ≡ pairs.old.items ++ group_pairs ((page, group), 2 ^ 64 - 1) }
+    ensures capacity { vec_capacity pairs.new ≡ vec_capacity pairs.old }
+{
+    for bit in 0..64 {
+        pairs.push_reserved((page, 64 * group + bit));
+    }
+}
+
+// Does so for any word, from set bit to set bit. They are counted first, since a loop of known length is unrolled.
+#[inline]
+fn push_set(pairs: &mut Vec<(u32, u32)>, page: u32, group: u32, word: u64)
+    requires group { group < 2 ^ 26 }
+    requires room { length pairs.old.items + length (group_pairs ((page, group), word)) ≤ vec_capacity pairs.old }
+    ensures items { pairs.new.items ≡ pairs.old.items ++ group_pairs ((page, group), word) }
+    ensures capacity { vec_capacity pairs.new ≡ vec_capacity pairs.old }
+{
     let mut left = word;
-    while left != 0 {
+    for pushed in 0..word.count_ones() {
         let bit = left.trailing_zeros();
-        pairs[at] = (page, first + bit);
-        at += 1;
+        pairs.push_reserved((page, 64 * group + bit));
         left &= left - 1;
     }
-    // the place counted anew, so that the loop needs no count beside its pointer
-    start + word.count_ones() as usize
 }
