@@ -58,7 +58,7 @@ done
 
 # The most memory that the program had, in bytes.
 peak() {
-  /usr/bin/time -f %M -o "$folder/peak" crates/alloc_tool/out/alloc_tool run <"$folder/$1" >/dev/null
+  /usr/bin/time -f %M -o "$folder/peak" ./goheap run <"$folder/$1" >/dev/null
   echo $(($(cat "$folder/peak") * 1024))
 }
 
