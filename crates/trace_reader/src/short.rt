@@ -2,7 +2,8 @@
 //!
 //! They are read by places, with no part of the line lent, and no statement is made of them. Each line is read with the line
 //! feed behind it: as that is no digit and no blank, no place on the way to it is compared with the line's end. What these
-//! functions don't find may still be a line of the same kind, as one with a number of 20 digits.
+//! functions don't find may still be a line of the same kind, as one with a number of 20 digits. The two that read a whole line stand
+//! apart from the loop over the lines: there each number would be kept in memory from digit to digit for want of registers.
 
 ghost use Rattle.std.specs.Prelude.{◌≡◌, ◌≢◌, ◌≤◌, ◌∷◌, ◌++◌, IfSome, drop, take, true};
 ghost use Rattle.trace_reader.specs.Spelling.{kind};
@@ -47,7 +48,7 @@ impl ShortAlloc {
 }
 
 /// The numbers of an `a` line before the line feed at `end`, if each has few digits.
-#[inline(always)]
+#[inline(never)]
 pub(crate) fn short_alloc(bytes: &[u8], end: usize) -> Option<ShortAlloc>
     requires { IsFed bytes.now end }
     ensures { IfSome result (λ found. Says (take end bytes.now) (Alloc (short_form found))) }
@@ -72,7 +73,7 @@ pub(crate) fn short_alloc(bytes: &[u8], end: usize) -> Option<ShortAlloc>
 }
 
 /// The first and the last object of an `m` line before the line feed at `end`, if each has few digits.
-#[inline(always)]
+#[inline(never)]
 pub(crate) fn short_mark(bytes: &[u8], end: usize) -> Option<(u32, u32)>
     requires { IsFed bytes.now end }
     ensures { IfSome result (λ found. Says (take end bytes.now) (Mark found.0 found.1)) }
