@@ -1,8 +1,13 @@
 -- The events and answers of each processor.
-use Rattle.std.proofs.Common.{◌≡◌, ◌≢◌, ℕ, zero, suc, ◌+◌, ◌<◌, ◌≤◌, eqb, List, [], ◌∷◌, ◌++◌, map, reverse, set, take, drop, length, get_or, refl, sym, ◌∙◌, ap, arith, inl, inr}
+use Rattle.std.proofs.Common.{◌≡◌, ◌≢◌, ℕ, zero, suc, ◌+◌, ◌-◌, ◌<◌, ◌≤◌, eqb, All, List, [], ◌∷◌, ◌++◌, map, replicate, reverse, set, take, drop, length, get_or, refl, sym, ◌∙◌, ap, arith, inl, inr}
+use Rattle.std.specs.List.{AllByRecursion}
 use Rattle.std.proofs.lemmas.Bool.{cases_Bool, cases_eq, eq-eqb, ne_eqb}
-use Rattle.std.proofs.lemmas.List.{append-nil, append_assoc, get_or-set_same, get_or-set_other, length-append, length-take-le, map-append, reverse-append, take_all, take_more, take-append-drop, length-reverse}
+use Rattle.std.proofs.lemmas.List.{append-nil, append_assoc, get_or-set_same, get_or-set_other, length-append, length-take-le, reverse-append, take_all, take_more, take-append-drop, length-reverse}
+use Rattle.std.proofs.Math.Seq.{drop-append_seam}
+use Rattle.std.proofs.lemmas.List.Elements.{recursion_from_All}
 use Rattle.trace_reader.specs.declared.trace.Event.{Event}
+use Rattle.profile_cycle.specs.declared.buckets.Bucket.{Bucket}
+use Rattle.sample_laws.specs.Numbers.{number_of}
 use Rattle.heap_run.specs.Served.{answers_by, events_by}
 
 -- ---- lists behind lists
@@ -89,20 +94,57 @@ empty-more [] (suc w) all = refl
 empty-more (l ∷ lists) zero all = all zero
 empty-more (l ∷ lists) (suc w) all = empty-more lists w (λ v. all (suc v))
 
--- the queues with one event more
-pub queues-more : (queues : List (List Event)) (queue : List Event) (events : List Event) (i : ℕ) (e : Event) → i < length events → e ≡ get_or events i e → e.proc < length queues
-    → ((w : ℕ) → get_or queues w [] ≡ events_by w (take i events)) → queue ≡ get_or queues e.proc [] ++ e ∷ [] → (w : ℕ) → get_or (set queues e.proc queue) w [] ≡ events_by w (take (i + 1) events)
-queues-more queues queue events i e lt here inside each grown w =
-    let more : events_by w (take (i + 1) events) ≡ events_by w (take i events) ++ events_by w (e ∷ []) = events-more w events i e lt ∙ ap (λ (x : Event). events_by w (take i events) ++ events_by w (x ∷ [])) (sym here) in
+-- ---- the parts of the processors
+
+-- the parts with one event more
+pub parts-more : {X : Type 0} (lists : List (List X)) (list : List X) (events : List Event) (items : List X) (i : ℕ) (e : Event) (a : X) → i < length events → length items ≡ length events → e ≡ get_or events i e → a ≡ get_or items i a
+    → e.proc < length lists → ((w : ℕ) → get_or lists w [] ≡ answers_by w (take i events) (take i items)) → list ≡ get_or lists e.proc [] ++ a ∷ [] → (w : ℕ) → get_or (set lists e.proc list) w [] ≡ answers_by w (take (i + 1) events) (take (i + 1) items)
+parts-more lists list events items i e a lt same here there inside each grown w =
+    let low : i < length items = omega arith in
+    let even : length (take i items) ≡ length (take i events) = length-take-le i items (omega arith) ∙ sym (length-take-le i events (omega arith)) in
+    let event : take (i + 1) events ≡ take i events ++ e ∷ [] = take_more events i e lt ∙ ap (λ (x : Event). take i events ++ x ∷ []) (sym here) in
+    let item : take (i + 1) items ≡ take i items ++ a ∷ [] = take_more items i a low ∙ ap (λ (x : _). take i items ++ x ∷ []) (sym there) in
+    let more : answers_by w (take (i + 1) events) (take (i + 1) items) ≡ answers_by w (take i events) (take i items) ++ answers_by w (e ∷ []) (a ∷ []) =
+    ap (λ (l : List Event). answers_by w l (take (i + 1) items)) event ∙ ap (λ (l : List _). answers_by w (take i events ++ e ∷ []) l) item ∙ answers-append w (take i events) (e ∷ []) (take i items) (a ∷ []) even in
     elim (cases_eq w e.proc) [
-      | inl same ↦ (
-          let at : get_or (set queues e.proc queue) e.proc [] ≡ queue = get_or-set_same queues e.proc queue [] inside in
-          let at' : get_or (set queues e.proc queue) w [] ≡ queue = rw same at in
-          let old : get_or queues e.proc [] ≡ events_by w (take i events) = rw (sym same) (each w) in
-          at' ∙ grown ∙ ap (λ (l : List Event). l ++ e ∷ []) old ∙ ap (λ (l : List Event). events_by w (take i events) ++ l) (sym (one-event w e (sym same))) ∙ sym more)
-      | inr other ↦ get_or-set_other queues e.proc w queue [] other ∙ each w ∙ sym (append-nil (events_by w (take i events)))
-          ∙ ap (λ (l : List Event). events_by w (take i events) ++ l) (sym (no-event w e (λ q. other (sym q)))) ∙ sym more
+      | inl mine ↦ (
+          let at : get_or (set lists e.proc list) e.proc [] ≡ list = get_or-set_same lists e.proc list [] inside in
+          let at' : get_or (set lists e.proc list) w [] ≡ list = rw mine at in
+          let old : get_or lists e.proc [] ≡ answers_by w (take i events) (take i items) = rw (sym mine) (each w) in
+          at' ∙ grown ∙ ap (λ (l : List _). l ++ a ∷ []) old ∙ ap (λ (l : List _). answers_by w (take i events) (take i items) ++ l) (sym (one-answer w e a (sym mine))) ∙ sym more)
+      | inr other ↦ get_or-set_other lists e.proc w list [] other ∙ each w ∙ sym (append-nil (answers_by w (take i events) (take i items)))
+          ∙ ap (λ (l : List _). answers_by w (take i events) (take i items) ++ l) (sym (no-answer w e a (λ q. other (sym q)))) ∙ sym more
     ]
+
+-- a single processor has all of them
+pub all-mine : {X : Type 0} (events : List Event) (items : List X) → AllByRecursion (λ (e : Event). e.proc < 1) events → length items ≡ length events → (w : ℕ) → answers_by w events items ≡ get_or (items ∷ []) w []
+all-mine [] [] below same zero = refl
+all-mine [] [] below same (suc w) = refl
+all-mine [] (a ∷ items) below same w = absurd (omega arith)
+all-mine (e ∷ events) [] below same w = absurd (omega arith)
+all-mine (e ∷ events) (a ∷ items) below same zero = rw (eq-eqb e.proc 0 (let b = below.0 in omega arith)) (ap (λ (l : List _). a ∷ l) (all-mine events items below.1 (omega arith) 0))
+all-mine (e ∷ events) (a ∷ items) below same (suc w) = rw (ne_eqb e.proc (suc w) (λ q. (let b = below.0 in omega arith))) (all-mine events items below.1 (omega arith) (suc w))
+
+pub one-part : {X : Type 0} (events : List Event) (items : List X) (lists : List (List X)) (n : ℕ) → n ≡ 1 → All (λ (e : Event). e.proc < n) events → length items ≡ length events → lists ≡ items ∷ [] → (w : ℕ) → get_or lists w [] ≡ answers_by w events items
+one-part events items lists n one below same is w =
+    let low : All (λ (e : Event). e.proc < 1) events = rw (sym one) below in
+    ap (λ (l : List (List _)). get_or l w []) is ∙ sym (all-mine events items (recursion_from_All (λ (e : Event). e.proc < 1) events low) same w)
+
+-- of the events themselves the parts are the events of the processors
+pub answers-self : (w : ℕ) (events : List Event) → answers_by w events events ≡ events_by w events
+answers-self w [] = refl
+answers-self w (e ∷ events) = elim (cases_Bool (eqb e.proc w)) [
+  | inl on ↦ rw on (ap (λ (l : List Event). e ∷ l) (answers-self w events))
+  | inr off ↦ rw off (answers-self w events)
+]
+
+-- and of their numbers those of the events
+pub answers-map : {X : Type 0} (f : Event → X) (w : ℕ) (events : List Event) → answers_by w events (map f events) ≡ map f (events_by w events)
+answers-map f w [] = refl
+answers-map f w (e ∷ events) = elim (cases_Bool (eqb e.proc w)) [
+  | inl on ↦ rw on (ap (λ (l : List _). f e ∷ l) (answers-map f w events))
+  | inr off ↦ rw off (answers-map f w events)
+]
 
 -- ---- lists, one item more
 
@@ -202,22 +244,37 @@ merged-push events given i at next first old now more d a s lt inside is_at size
       merges-more events given i at next more d a lt inside is_at low mine was,
     )
 
--- ---- numbers, one more
+-- ---- the numbers of buckets
 
--- the numbers of a worker's events with one event more
-pub numbers-more : (f : Event → ℕ) (lists : List (List ℕ)) (list : List ℕ) (events : List Event) (i : ℕ) (e : Event) → i < length events → e ≡ get_or events i e → e.proc < length lists
-    → ((w : ℕ) → get_or lists w [] ≡ map f (events_by w (take i events))) → list ≡ get_or lists e.proc [] ++ f e ∷ [] → (w : ℕ) → get_or (set lists e.proc list) w [] ≡ map f (events_by w (take (i + 1) events))
-numbers-more f lists list events i e lt here inside each grown w =
-    let more : events_by w (take (i + 1) events) ≡ events_by w (take i events) ++ events_by w (e ∷ []) = events-more w events i e lt ∙ ap (λ (x : Event). events_by w (take i events) ++ events_by w (x ∷ [])) (sym here) in
-    let mapped : map f (events_by w (take (i + 1) events)) ≡ map f (events_by w (take i events)) ++ map f (events_by w (e ∷ [])) = ap (λ (l : List Event). map f l) more ∙ map-append f (events_by w (take i events)) (events_by w (e ∷ [])) in
-    elim (cases_eq w e.proc) [
-      | inl same ↦ (
-          let at : get_or (set lists e.proc list) e.proc [] ≡ list = get_or-set_same lists e.proc list [] inside in
-          let at' : get_or (set lists e.proc list) w [] ≡ list = rw same at in
-          let old : get_or lists e.proc [] ≡ map f (events_by w (take i events)) = rw (sym same) (each w) in
-          let one : map f (events_by w (e ∷ [])) ≡ f e ∷ [] = ap (λ (l : List Event). map f l) (one-event w e (sym same)) in
-          at' ∙ grown ∙ ap (λ (l : List ℕ). l ++ f e ∷ []) old ∙ ap (λ (l : List ℕ). map f (events_by w (take i events)) ++ l) (sym one) ∙ sym mapped)
-      | inr other ↦ (
-          let none : map f (events_by w (e ∷ [])) ≡ [] = ap (λ (l : List Event). map f l) (no-event w e (λ q. other (sym q))) in
-          get_or-set_other lists e.proc w list [] other ∙ each w ∙ sym (append-nil (map f (events_by w (take i events)))) ∙ ap (λ (l : List ℕ). map f (events_by w (take i events)) ++ l) (sym none) ∙ sym mapped)
-    ]
+no-buckets : (known : List Bucket) → length known ≡ 0 → known ≡ []
+no-buckets [] none = refl
+no-buckets (b ∷ known) none = absurd (omega arith)
+
+-- where no bucket is known
+pub no-numbers : (known : List Bucket) (events : List Event) → length known ≡ 0 → map (number_of known) events ≡ replicate (length events) 0
+no-numbers known [] none = refl
+no-numbers known (e ∷ events) none =
+    let zeros = no-numbers known events none in
+    let number : number_of known e ≡ 0 = rw (no-buckets known none) (elim (cases_Bool (eqb e.size 0)) [ inl on ↦ rw on refl | inr off ↦ rw off refl ]) in
+    ap (λ (n : ℕ). n ∷ map (number_of known) events) number ∙ ap (λ (l : List ℕ). 0 ∷ l) zeros
+
+-- the numbers behind those of the cycles before, by processors
+pub numbers-behind : (f : Event → ℕ) (w : ℕ) (events : List Event) (old all : List ℕ) (n : ℕ) → all ≡ old ++ map f events → n ≡ length old → answers_by w events (take (length all - n) (drop n all)) ≡ map f (events_by w events)
+numbers-behind f w events old all n is at =
+    let rest : drop n all ≡ map f events = rw (is, at) (drop-append_seam old (map f events)) in
+    let long : length all ≡ length old + length (map f events) = ap (λ (l : List ℕ). length l) is ∙ length-append old (map f events) in
+    let whole : take (length all - n) (map f events) ≡ map f events = take_all (length all - n) (map f events) (omega arith) in
+    ap (λ (l : List ℕ). answers_by w events (take (length all - n) l)) rest ∙ ap (λ (l : List ℕ). answers_by w events l) whole ∙ answers-map f w events
+
+-- ---- what a single processor gave
+
+-- is what all events came to
+pub merged-one : {X : Type 0} (events : List Event) (given : List (List X)) (only : List X) → length given ≡ 1 → only ≡ get_or given 0 [] → All (λ (e : Event). e.proc < length given) events
+    → ((w : ℕ) → length (get_or given w []) ≡ length (events_by w events)) → (length only ≡ length events) × ((w : ℕ) → answers_by w events only ≡ get_or given w [])
+merged-one events [] only one is below sizes = absurd (omega arith)
+merged-one events (g ∷ h ∷ given) only one is below sizes = absurd (omega arith)
+merged-one events (g ∷ []) only one is below sizes =
+    let all : AllByRecursion (λ (e : Event). e.proc < 1) events = recursion_from_All (λ (e : Event). e.proc < 1) events below in
+    let mine : events_by 0 events ≡ events = sym (answers-self 0 events) ∙ all-mine events events all refl 0 in
+    let same : length only ≡ length events = ap (λ (l : List _). length l) is ∙ sizes 0 ∙ ap (λ (l : List Event). length l) mine in
+    (same, λ w. all-mine events only all same w ∙ ap (λ (l : List _). get_or (l ∷ []) w []) is)

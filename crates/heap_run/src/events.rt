@@ -8,7 +8,6 @@ ghost use Rattle.sample_laws.specs.Countdowns.{flag, flags, spends, spent};
 ghost use Rattle.heap_run.specs.Counts.{Counts};
 ghost use Rattle.heap_run.specs.Turns.{HasActed, IsCaching, SaysAnswers};
 
-use crate::queues::empty_list;
 use cycle_history::Answer;
 use edge_io::{Gate, List, NoMemory};
 use large_objects::alloc_large;
@@ -53,17 +52,18 @@ pub(crate) fn answer_all<G: Gate>(
     ensures spent { IfOk result (λ o. proc.new.countdown ≡ spent proc.old.countdown (reverse events.now) (reverse o.answers)) }
     ensures counts { IfOk result (λ o. Counts shop.now.marks.now (sampled_counts o.sampled buckets.now) hand.old hand.new) }
 {
-    let mut outcomes = Outcomes {
-        answers: empty_list(alloc, events.len())?,
-        sampled: empty_list(alloc, events.len())?,
-    };
+    let mut answers = Vec::with_capacity(alloc, events.len())?;
+    let mut samples = Vec::with_capacity(alloc, events.len())?;
     for (turn, event) in events.iter().enumerate() {
         gate.before(proc.number(), turn as u64);
         let (answer, sampled) = answer(shop, proc, hand, event, buckets[turn])?;
-        outcomes.answers.push(answer)?;
-        outcomes.sampled.push(sampled)?;
+        answers.push_reserved(answer);
+        samples.push_reserved(sampled);
     }
-    Ok(outcomes)
+    Ok(Outcomes {
+        answers: List::from_vec(answers),
+        sampled: List::from_vec(samples),
+    })
 }
 
 // Answers one event, which has a bucket of this number, and says whether its object is sampled.

@@ -9,6 +9,7 @@
 
 mod cycle;
 mod events;
+mod lists;
 mod merge;
 mod profile;
 mod queues;

@@ -16,9 +16,10 @@ ghost use Rattle.sweep_laws.specs.Start.{copies};
 ghost use Rattle.profile_cycle.specs.Sampling.{countdown};
 
 use crate::cycle::run_workers;
+use crate::lists::empty_list;
 use crate::merge::merge;
 use crate::profile::Profile;
-use crate::queues::{empty_list, queues_of};
+use crate::queues::queues_of;
 use crate::sorting::file_notes;
 use cycle_history::{Answer, Place, Report, Total, marks_of, totals_of};
 use edge_io::{Gate, List, NoMemory};

@@ -13,13 +13,17 @@ use Rattle.heap_run.proofs.events.answer_all.Goals as goal
 
 pub loop-turn-init : goal.loop-turn-init
 loop-turn-init g c = record {
-  acted = rw c.in_ok-empty_list.ensures (acted-none (SaysAnswers [] []) c.args.hand.now c.requires.idle tt);
+  acted = rw c.in_ok-answers.ensures.items (acted-none (SaysAnswers [] []) c.args.hand.now c.requires.idle tt);
   caching = c.requires.caching;
   number = refl;
-  size = ap (λ (l : List Bool). length l) c.in_ok-empty_list-2.ensures;
-  sampled = rw c.in_ok-empty_list-2.ensures refl;
+  size = ap (λ (l : List Bool). length l) c.in_ok-samples.ensures.items;
+  long = c.in_ok-answers.ensures.len;
+  long_too = c.in_ok-samples.ensures.len;
+  room = c.in_ok-answers.ensures.exact;
+  room_too = c.in_ok-samples.ensures.exact;
+  sampled = rw c.in_ok-samples.ensures.items refl;
   spent_is = refl;
-  counts = rw c.in_ok-empty_list-2.ensures (counts-none c.args.shop.now.marks.now c.args.hand.now c.args.hand.now refl refl);
+  counts = rw c.in_ok-samples.ensures.items (counts-none c.args.shop.now.marks.now c.args.hand.now c.args.hand.now refl refl);
 }
 
 pub answer-requires-clause-counts : goal.answer-requires-clause-counts
@@ -40,6 +44,12 @@ answer-requires-clause-idle g c = c.loop-turn.invariant.acted.idle
 pub answer-requires-clause-caching : goal.answer-requires-clause-caching
 answer-requires-clause-caching g c = rw (ap (λ (v : View). v.generation) c.loop-turn.invariant.acted.view) c.loop-turn.invariant.caching
 
+pub push_reserved-requires : goal.push_reserved-requires
+push_reserved-requires g c = (let i = c.loop-turn.invariant in let l = i.long in let r = i.room in let t = c.loop-turn-test.true in omega arith)
+
+pub push_reserved-requires-in-loop-turn : goal.push_reserved-requires-in-loop-turn
+push_reserved-requires-in-loop-turn g c = (let i = c.loop-turn.invariant in let l = i.long_too in let r = i.room_too in let t = c.loop-turn-test.true in omega arith)
+
 pub loop-turn-preserved : goal.loop-turn-preserved
 loop-turn-preserved g c =
     let i = c.loop-turn.invariant in
@@ -48,27 +58,31 @@ loop-turn-preserved g c =
     let few : c.loop-turn.turn < length c.args.buckets.now = (let b = c.requires.buckets in let t = c.loop-turn-test.true in omega arith) in
     let es : reverse (take (c.loop-turn.turn + 1) c.args.events.now) ≡ e ∷ reverse (take c.loop-turn.turn c.args.events.now) =
     ap (λ (l : List Event). reverse l) (take_more c.args.events.now c.loop-turn.turn d c.loop-turn-test.true) ∙ reverse-append (take c.loop-turn.turn c.args.events.now) (e ∷ []) in
-    let an : reverse (c.loop-turn.outcomes.answers ++ c.in_ok-answer.answer ∷ []) ≡ c.in_ok-answer.answer ∷ reverse c.loop-turn.outcomes.answers = reverse-append c.loop-turn.outcomes.answers (c.in_ok-answer.answer ∷ []) in
-    let fl : reverse (c.loop-turn.outcomes.sampled ++ c.in_ok-answer.sampled ∷ []) ≡ c.in_ok-answer.sampled ∷ reverse c.loop-turn.outcomes.sampled = reverse-append c.loop-turn.outcomes.sampled (c.in_ok-answer.sampled ∷ []) in
-    let longer = length-append c.loop-turn.outcomes.sampled (c.in_ok-answer.sampled ∷ []) in
+    let an : reverse (c.loop-turn.answers.items ++ c.in_ok-answer.answer ∷ []) ≡ c.in_ok-answer.answer ∷ reverse c.loop-turn.answers.items = reverse-append c.loop-turn.answers.items (c.in_ok-answer.answer ∷ []) in
+    let fl : reverse (c.loop-turn.samples.items ++ c.in_ok-answer.sampled ∷ []) ≡ c.in_ok-answer.sampled ∷ reverse c.loop-turn.samples.items = reverse-append c.loop-turn.samples.items (c.in_ok-answer.sampled ∷ []) in
+    let longer = length-append c.loop-turn.samples.items (c.in_ok-answer.sampled ∷ []) in
     record {
-      acted = rw c.in_ok-push.ensures.ok (acted-then _ _ _ c.args.hand.now c.loop-turn.hand c.answer.new.hand i.acted c.in_ok-answer.ensures.acted
-          (λ first later was now. answers-more c.args.events.now c.loop-turn.outcomes.answers c.loop-turn.turn _ c.in_ok-answer.answer first later c.loop-turn-test.true was now));
+      acted = rw c.push_reserved.ensures.items (acted-then _ _ _ c.args.hand.now c.loop-turn.hand c.answer.new.hand i.acted c.in_ok-answer.ensures.acted
+          (λ first later was now. answers-more c.args.events.now c.loop-turn.answers.items c.loop-turn.turn _ c.in_ok-answer.answer first later c.loop-turn-test.true was now));
       caching = rw (sym (ap (λ (v : View). v.generation) i.acted.view)) c.in_ok-answer.ensures.caching;
       number = c.in_ok-answer.ensures.number ∙ i.number;
-      size = ap (λ (l : List Bool). length l) c.in_ok-push-2.ensures.ok ∙ (let s = i.size in omega arith);
-      sampled = rw (c.in_ok-push.ensures.ok, c.in_ok-push-2.ensures.ok, es, an, fl) (flags-more c.args.proc.now.countdown (take c.loop-turn.turn c.args.events.now) c.loop-turn.outcomes.answers c.loop-turn.outcomes.sampled e c.in_ok-answer.answer c.in_ok-answer.sampled i.sampled
+      size = ap (λ (l : List Bool). length l) c.push_reserved-in-loop-turn.ensures.items ∙ (let s = i.size in omega arith);
+      long = c.push_reserved.ensures.len ∙ (let s = i.long in omega arith);
+      long_too = c.push_reserved-in-loop-turn.ensures.len ∙ (let s = i.long_too in omega arith);
+      room = c.push_reserved.ensures.capacity ∙ i.room;
+      room_too = c.push_reserved-in-loop-turn.ensures.capacity ∙ i.room_too;
+      sampled = rw (c.push_reserved.ensures.items, c.push_reserved-in-loop-turn.ensures.items, es, an, fl) (flags-more c.args.proc.now.countdown (take c.loop-turn.turn c.args.events.now) c.loop-turn.answers.items c.loop-turn.samples.items e c.in_ok-answer.answer c.in_ok-answer.sampled i.sampled
           (c.in_ok-answer.ensures.sampled ∙ ap (λ (x : Countdown). flag x e c.in_ok-answer.answer) i.spent_is));
-      spent_is = rw (c.in_ok-push.ensures.ok, es, an) (c.in_ok-answer.ensures.spent ∙ ap (λ (x : Countdown). spends x e c.in_ok-answer.answer) i.spent_is);
-      counts = rw c.in_ok-push-2.ensures.ok (counts-then c.args.shop.now.marks.now (sampled_counts c.loop-turn.outcomes.sampled (take c.loop-turn.turn c.args.buckets.now)) (one_count c.in_ok-answer.sampled (get_or c.args.buckets.now c.loop-turn.turn 0)) _ c.args.hand.now c.loop-turn.hand c.answer.new.hand
+      spent_is = rw (c.push_reserved.ensures.items, es, an) (c.in_ok-answer.ensures.spent ∙ ap (λ (x : Countdown). spends x e c.in_ok-answer.answer) i.spent_is);
+      counts = rw c.push_reserved-in-loop-turn.ensures.items (counts-then c.args.shop.now.marks.now (sampled_counts c.loop-turn.samples.items (take c.loop-turn.turn c.args.buckets.now)) (one_count c.in_ok-answer.sampled (get_or c.args.buckets.now c.loop-turn.turn 0)) _ c.args.hand.now c.loop-turn.hand c.answer.new.hand
           i.counts c.in_ok-answer.ensures.counts
-          (λ b. counts-next c.loop-turn.outcomes.sampled c.args.buckets.now c.loop-turn.turn c.in_ok-answer.sampled b few i.size));
+          (λ b. counts-next c.loop-turn.samples.items c.args.buckets.now c.loop-turn.turn c.in_ok-answer.sampled b few i.size));
     }
 
 pub returns-clause-acted : goal.returns-clause-acted
 returns-clause-acted g c =
     let whole = take_all c.loop-turn.turn c.args.events.now c.loop-turn-test.false in
-    rw whole at c.loop-turn.invariant.acted
+    rw c.from_vec.ensures (rw whole at c.loop-turn.invariant.acted)
 
 pub returns-clause-caching : goal.returns-clause-caching
 returns-clause-caching g c = c.loop-turn.invariant.caching
@@ -79,14 +93,14 @@ returns-clause-number g c = c.loop-turn.invariant.number
 pub returns-clause-sampled : goal.returns-clause-sampled
 returns-clause-sampled g c =
     let whole = take_all c.loop-turn.turn c.args.events.now c.loop-turn-test.false in
-    rw whole at c.loop-turn.invariant.sampled
+    rw (c.from_vec.ensures, c.from_vec-2.ensures) (rw whole at c.loop-turn.invariant.sampled)
 
 pub returns-clause-spent : goal.returns-clause-spent
 returns-clause-spent g c =
     let whole = take_all c.loop-turn.turn c.args.events.now c.loop-turn-test.false in
-    rw whole at c.loop-turn.invariant.spent_is
+    rw c.from_vec.ensures (rw whole at c.loop-turn.invariant.spent_is)
 
 pub returns-clause-counts : goal.returns-clause-counts
 returns-clause-counts g c =
     let whole = take_all c.loop-turn.turn c.args.buckets.now (let l = c.loop-turn-test.false in let b = c.requires.buckets in omega arith) in
-    rw whole at c.loop-turn.invariant.counts
+    rw c.from_vec-2.ensures (rw whole at c.loop-turn.invariant.counts)
