@@ -55,9 +55,9 @@ impl Marks {
         ensures dead { self.new.deaths ≡ self.old.deaths }
         ensures err { OnErr result (self.new ≡ self.old) }
     {
-        let group = index / 64;
+        let group = (index / 64) as usize;
         let row = page as usize;
-        if row < self.rows.len() && (group as usize) < self.rows[row].len() {
+        if row < self.rows.len() && group < self.rows[row].len() {
             self.rows[row].set_bit(group, index % 64);
             return Ok(());
         }

@@ -56,13 +56,13 @@ impl Row {
     }
 
     /// Sets a bit of the word of a group that has one.
-    pub(crate) fn set_bit(&mut self, group: u32, bit: u32)
+    pub(crate) fn set_bit(&mut self, group: usize, bit: u32)
         requires has_word { group < length self.old }
         requires bit { bit < 64 }
         ensures set { (g : ℕ) → slice_index self.new g ≡ (if g == group then bit_or (slice_index self.old group) (1 * 2 ^ bit % 2 ^ 64) else slice_index self.old g) }
         ensures len { length self.new ≡ length self.old }
     {
-        self.words[group as usize] |= 1 << bit;
+        self.words[group] |= 1 << bit;
     }
 
     /// Sets the word of a group. Without memory each word stays as it was.
