@@ -10,11 +10,11 @@ ghost use Rattle.cycle_history.specs.Found.{AreFound, IsPlaceOf};
 
 use crate::Answer;
 use edge_io::{List, NoMemory};
-use size_classes::{Kind, PAGE_SIZE, REGION_START, class_of, slot_size, span_class, span_objects};
+use size_classes::{Kind, PAGE_SIZE, REGION_START, class_of, slot_size, span_objects};
 use trace_reader::{Event, Trace};
 
-// How many span classes there are.
-const SPAN_CLASSES: usize = 136;
+// The bytes of a page.
+const PAGE: u32 = PAGE_SIZE as u32;
 
 /// Where an object lies.
 #[derive(Clone, Copy, Debug, PartialEq, Eq)]
@@ -26,6 +26,7 @@ pub struct Place {
 }
 
 /// Finds the places of a cycle's objects, which have these events, and puts them behind those of the objects before.
+#[inline(never)]
 pub(crate) fn find_places(
     trace: &Trace,
     cycle: u32,
@@ -44,44 +45,33 @@ pub(crate) fn find_places(
     ensures found { OnOk result (AreFound trace.now answers.now places.new) }
 {
     let first = places.len();
-    let mut last_pages = [0; SPAN_CLASSES];
     for number in 0..events.len() {
-        let Event { size, scan, .. } = events[number];
-        places.push(find_place(size, scan, answers[first + number], &mut last_pages))?;
+        places.push(find_place(events[number].size, answers[first + number]))?;
     }
     Ok(())
 }
 
-// The place of an object of this size, with pointers or without, with this answer, if it is placed. For each span class
-// `last_pages` has the page at which the span begins where an object was found last: most lie where the one before lies.
-fn find_place(
-    size: u64,
-    scan: bool,
-    answer: Answer,
-    last_pages: &mut [u32; SPAN_CLASSES],
-) -> Option<Place>
+// The place of an object of this size with this answer, if it is placed.
+fn find_place(size: u64, answer: Answer) -> Option<Place>
     requires size { size ≤ 2 ^ 40 }
     requires place { (address : ℕ) → answer ≡ Placed address → HasPlace size address }
     ensures { IsPlaceOf size answer result }
 {
     match answer {
-        Answer::Placed(address) => Some(place_of(size, scan, address, last_pages)),
+        Answer::Placed(address) => Some(place_of(size, address)),
         Answer::Zero | Answer::Missed(_) => None,
     }
 }
 
 // The place of an object of this size at this address, which has one.
-fn place_of(size: u64, scan: bool, address: u64, last_pages: &mut [u32; SPAN_CLASSES]) -> Place
+fn place_of(size: u64, address: u64) -> Place
     requires size { size ≤ 2 ^ 40 }
     requires place { HasPlace size address }
     ensures { IsPlace size address result.page result.index }
 {
     let behind = address - REGION_START;
     match class_of(size) {
-        Kind::Small(class) => {
-            let last_page = &mut last_pages[span_class(class, scan) as usize];
-            small_place(class, behind, last_page)
-        }
+        Kind::Small(class) => small_place(class, behind),
         _ => Place {
             page: (behind / PAGE_SIZE) as u32,
             index: 0,
@@ -89,9 +79,9 @@ fn place_of(size: u64, scan: bool, address: u64, last_pages: &mut [u32; SPAN_CLA
     }
 }
 
-// The place of a small object that begins so many bytes behind the start of the region. Its span is most often the one that
-// begins at `last_page`, so that one is tried before any is searched for, and `last_page` is told where another one is found.
-fn small_place(class: u8, behind: u64, last_page: &mut u32) -> Place
+// The place of a small object that begins so many bytes behind the start of the region. Most spans have a single page, so
+// that the object's own is tried before any is searched for.
+fn small_place(class: u8, behind: u64) -> Place
     requires is_class { IsClass class }
     requires place { (page : ℕ) × (k : ℕ) × (page < 2 ^ 16) × (k < objects_of class) × (behind ≡ 8192 * page + slot_of class * k) }
     ensures index { result.index < objects_of class }
@@ -99,50 +89,43 @@ fn small_place(class: u8, behind: u64, last_page: &mut u32) -> Place
 {
     let slot = slot_size(class);
     let count = span_objects(class);
-    if let Some(index) = slot_in(*last_page, slot, count, behind) {
-        return Place {
-            page: *last_page,
+    let behind = behind as u32;
+    match slot_at(behind % PAGE, slot, count) {
+        Some(index) => Place {
+            page: behind / PAGE,
             index,
-        };
+        },
+        None => search_place(behind, slot, count),
     }
-    let place = search_place(slot, count, behind);
-    *last_page = place.page;
-    place
 }
 
 // The place of an object whose span has so many slots of this size. Its span begins at the object's page or at one of the few
 // before it: the last from which the object is a slot. It stands alone, since it is seldom needed.
 #[inline(never)]
-fn search_place(slot: u32, count: u32, behind: u64) -> Place
-    requires slot { (1 ≤ slot) × (slot ≤ 32768) }
-    requires count { count ≤ 1024 }
-    requires place { (page : ℕ) × (k : ℕ) × (page < 2 ^ 16) × (k < count) × (behind ≡ 8192 * page + slot * k) }
+fn search_place(behind: u32, slot: u32, count: u32) -> Place
+    requires slot { 1 ≤ slot }
+    requires place { (page : ℕ) × (k : ℕ) × (k < count) × (behind ≡ 8192 * page + slot * k) }
     ensures index { result.index < count }
     ensures start { behind ≡ 8192 * result.page + slot * result.index }
 {
-    let mut page = (behind / PAGE_SIZE) as u32;
+    let mut page = behind / PAGE;
     loop {
-        match slot_in(page, slot, count, behind) {
+        match slot_at(behind - page * PAGE, slot, count) {
             Some(index) => return Place { page, index },
             None => page -= 1,
         }
     }
 }
 
-// Which of so many slots of a span that begins at the page begins so many bytes behind the start of the region, if one does.
-fn slot_in(page: u32, slot: u32, count: u32, behind: u64) -> Option<u32>
-    requires slot { (1 ≤ slot) × (slot ≤ 32768) }
-    requires count { count ≤ 1024 }
-    ensures some { IfSome result (λ index. (index < count) × (behind ≡ 8192 * page + slot * index)) }
-    ensures none { result ≡ None → (k : ℕ) → k < count → behind ≢ 8192 * page + slot * k }
+// Which of so many slots begins so many bytes behind the start of their span, if one does.
+fn slot_at(behind: u32, slot: u32, count: u32) -> Option<u32>
+    requires slot { 1 ≤ slot }
+    ensures some { IfSome result (λ index. (index < count) × (behind ≡ slot * index)) }
+    ensures none { result ≡ None → (k : ℕ) → k < count → behind ≢ slot * k }
 {
-    let start = u64::from(page) * PAGE_SIZE;
-    if behind < start || behind - start >= u64::from(slot * count) {
-        return None;
-    }
-    let offset = (behind - start) as u32;
-    if offset % slot == 0 {
-        Some(offset / slot)
+    let index = behind / slot;
+    if index < count && behind % slot == 0 {
+        Some(index)
     } else {
         None
     }

@@ -1,4 +1,4 @@
-use Rattle.std.proofs.Common.{◌≡◌, ℕ, ◌+◌, ◌*◌, ◌<◌, ◌∙◌, ap, arith, inl, inr}
+use Rattle.std.proofs.Common.{◌≡◌, ℕ, ◌+◌, ◌*◌, ◌<◌, arith, inl, inr}
 use Rattle.std.proofs.lemmas.Bool.{cases_eq}
 use Rattle.cycle_history.proofs.places.search_place.Goals as goal
 
@@ -7,12 +7,12 @@ before : (c : goal.In-None) (page k : ℕ) → k < c.args.count → c.args.behin
 before c page k lt is =
     let le = c.loop-index.invariant.not_past page k lt is in
     elim (cases_eq page c.loop-index.page) [
-      | inl same ↦ absurd (c.slot_in.ensures.none c.in-None.is k lt (is ∙ ap (λ (n : ℕ). 8192 * n + c.args.slot * k) same))
+      | inl same ↦ absurd (c.slot_at.ensures.none c.in-None.is k lt (omega arith))
       | inr other ↦ omega arith
     ]
 
 first : (c : goal.In-None) → 0 < c.loop-index.page
-first c = let place = c.requires.place in let lt = before c place.0 place.1 place.3 place.4 in omega arith
+first c = let place = c.requires.place in let lt = before c place.0 place.1 place.2 place.3 in omega arith
 
 pub overflow_sub-page : goal.overflow_sub-page
 overflow_sub-page c = first c
