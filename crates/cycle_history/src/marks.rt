@@ -1,6 +1,6 @@
 //! The marks of a mark end.
 
-ghost use Rattle.std.specs.Prelude.{◌≡◌, ℕ, ◌+◌, ◌-◌, ◌<◌, ◌≤◌, true, false, length, slice_get, Some, IfOk, OnOk};
+ghost use Rattle.std.specs.Prelude.{◌≡◌, ℕ, ◌+◌, ◌-◌, ◌<◌, ◌≤◌, true, false, length, slice_get, slice_index_or, Some, IfOk, OnOk};
 ghost use Rattle.cycle_history.specs.Requests.{last_cycle, marked_by};
 ghost use Rattle.cycle_history.specs.Found.{AreFound};
 ghost use Rattle.cycle_history.specs.Marked.{AreMarksBelow, AreMarksOf, ArePlaces, IsLimited, LivedBefore, marks_at, objects_before};
@@ -13,6 +13,12 @@ use edge_io::{List, NoMemory};
 use span_state::Marks;
 use std::alloc::Global;
 use trace_reader::Trace;
+
+// So many objects are looked at at once for one that is sampled,
+const STRIDE: usize = 8;
+
+// and so many are gone through one by one from the stride on that has one.
+const PIECE: usize = 64;
 
 /// The marks of mark end `mark`, from 1 to the trace's last: the places of the objects that it marks, and for each page
 /// the buckets of the sampled objects that lay there, lived in the cycle before and are not marked.
@@ -106,6 +112,7 @@ impl Objects<'_> {
 
     // Counts the sampled objects that died among the dead of their pages: those that lived in the cycle before, which
     // has this first object, and that the mark end doesn't mark.
+    #[inline(never)]
     fn bury_all(&self, marks: &mut Marks, first: usize) -> Result<(), NoMemory>
         requires given { AreOf self.now }
         requires first { first ≡ objects_before self.now.trace.now (self.now.mark - 1) }
@@ -122,8 +129,39 @@ impl Objects<'_> {
         self.bury(marks, &mut marked, first, self.answers.len())
     }
 
-    // Does so for the objects from low up to high, all of which lived.
+    // Does so for the objects from low up to high, all of which lived. Few are sampled, or none: strides of them are passed over
+    // where no object is, and the others are gone through one by one.
+    #[inline(always)]
     fn bury(
+        &self,
+        marks: &mut Marks,
+        marked: &mut Walk,
+        low: usize,
+        high: usize,
+    ) -> Result<(), NoMemory>
+        requires given { AreOf self.now }
+        requires order { low ≤ high }
+        requires high { high ≤ length self.now.answers.now }
+        requires lived { (i : ℕ) → low ≤ i → i < high → LivedBefore self.now.trace.now self.now.mark i }
+        requires spans { marked.old.spans.now ≡ marks_at self.now.trace.now self.now.mark }
+        requires behind { IsBehind marked.old low }
+        requires below { AreMarksBelow self.now.trace.now self.now.mark self.now.answers.now self.now.sampled.now self.now.buckets.now (length self.now.answers.now) low marks.old }
+        ensures spans { marked.new.spans.now ≡ marked.old.spans.now }
+        ensures behind { OnOk result (IsBehind marked.new high) }
+        ensures below { OnOk result (AreMarksBelow self.now.trace.now self.now.mark self.now.answers.now self.now.sampled.now self.now.buckets.now (length self.now.answers.now) high marks.new) }
+    {
+        let mut next = pass_unset(self.sampled, low, high);
+        while next < high {
+            let end = next + PIECE.min(high - next);
+            self.bury_each(marks, marked, next, end)?;
+            next = pass_unset(self.sampled, end, high);
+        }
+        Ok(())
+    }
+
+    // Does so for each of the objects from low up to high. It stands alone, so that where none is sampled little is done.
+    #[inline(never)]
+    fn bury_each(
         &self,
         marks: &mut Marks,
         marked: &mut Walk,
@@ -165,4 +203,35 @@ impl Objects<'_> {
             None => Ok(()),
         }
     }
+}
+
+// How far whole strides of flags from low on have none that is set, up to high. The last of them may reach beyond high.
+fn pass_unset(flags: &[bool], low: usize, high: usize) -> usize
+    requires order { low ≤ high }
+    requires high { high ≤ length flags.now }
+    ensures order { low ≤ result }
+    ensures high { result ≤ high }
+    ensures unset { (i : ℕ) → low ≤ i → i < result → slice_index_or flags.now i false ≡ false }
+{
+    let bound = high.min(flags.len().saturating_sub(STRIDE - 1));
+    let mut end = low;
+    while end < bound && !is_any_set(flags, end) {
+        end += STRIDE;
+    }
+    end.min(high)
+}
+
+// Whether any flag of the stride that begins at the start is set. All are looked at, so that one compare does.
+fn is_any_set(flags: &[bool], start: usize) -> bool
+    requires { start + 8 ≤ length flags.now }
+    ensures { result ≡ false → (i : ℕ) → start ≤ i → i < start + 8 → slice_index_or flags.now i false ≡ false }
+{
+    flags[start]
+        | flags[start + 1]
+        | flags[start + 2]
+        | flags[start + 3]
+        | flags[start + 4]
+        | flags[start + 5]
+        | flags[start + 6]
+        | flags[start + 7]
 }

@@ -1,12 +1,17 @@
-use Rattle.std.proofs.Common.{◌≡◌, length}
+use Rattle.std.proofs.Common.{◌≡◌, ◌-◌, ◌≤◌, length}
 use Rattle.cycle_history.specs.Marked.{AreMarksBelow}
 use Rattle.cycle_history.specs.MarkedLoops.{IsBehind}
 use Rattle.cycle_history.proofs.marks.Objects.bury.Given as goal
 
 -- the objects so far are settled
-abbrev pub invariant-loop-object : goal.invariant-loop-object
-invariant-loop-object l = record {
+abbrev pub invariant-loop-next : goal.invariant-loop-next
+invariant-loop-next l = record {
+  order : l.low ≤ l.next;
+  inside : l.next ≤ l.high;
   spans : l.marked.spans.now ≡ l.fn.marked.spans.now;
-  behind : IsBehind l.marked l.object;
-  below : AreMarksBelow l.self.trace.now l.self.mark l.self.answers.now l.self.sampled.now l.self.buckets.now (length l.self.answers.now) l.object l.marks;
+  behind : IsBehind l.marked l.next;
+  below : AreMarksBelow l.self.trace.now l.self.mark l.self.answers.now l.self.sampled.now l.self.buckets.now (length l.self.answers.now) l.next l.marks;
 }
+
+abbrev pub decreases-loop-next : goal.decreases-loop-next
+decreases-loop-next l = l.high - l.next
