@@ -146,6 +146,8 @@ impl Marks {
     }
 
     /// The marked pairs of page and index, in rising order.
+    // It stands alone, so that its loops have the registers.
+    #[inline(never)]
     pub fn pairs(&self) -> Result<List<(u32, u32)>, NoMemory>
         ensures pairs { IfOk result (λ pairs. pairs ≡ self.now.pairs) }
         ensures rising { IsRising self.now.pairs }
