@@ -56,6 +56,7 @@ impl Model for Lent {
 }
 
 // Makes a step that changes no body: the core's move of it, which is allowed and provided for, and the change of the view.
+#[inline(always)]
 pub(crate) fn apply(
     shared: &Shared,
     core: &mut Core,
@@ -86,6 +87,7 @@ pub(crate) fn apply(
 }
 
 // Makes a step on a body that the worker has and keeps.
+#[inline(always)]
 pub(crate) fn apply_of(
     shared: &Shared,
     core: &mut Core,

@@ -9,7 +9,9 @@ ghost use Rattle.sweep_laws.specs.Tidy.{IsTidy, HasSpace, IsProvided};
 
 use sweep_generation::{Core, Move, Reply, step_met};
 
-// Makes a move whose needs are met and that is provided for: it is done.
+// Makes a move whose needs are met and that is provided for: it is done. It is always written out where it is called, and so are the
+// functions that hand a move on, so that the kind of the move is known there and no move goes through memory.
+#[inline(always)]
 pub(crate) fn make(core: &mut Core, mv: Move) -> Reply
     requires owned { Owned core.old }
     requires tidy { IsTidy core.old }

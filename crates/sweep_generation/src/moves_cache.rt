@@ -113,6 +113,20 @@ pub(crate) fn allocate_met(
     requires met { refusal (allocate_needs core.old worker page index) ≡ None }
     ensures { Steps core.old core.new (Move.Allocate worker page index) result }
 {
-    core.lives.allocate(page, index)?;
-    Ok(Reply::Done)
+    if is_put(core, worker, page, index) {
+        Ok(Reply::Done)
+    } else {
+        Err(StepFault::NoMemory)
+    }
+}
+
+// The same. Answers whether it is done; where it is not, memory ran out.
+#[inline(always)]
+fn is_put(core: &mut Core, worker: u32, page: u32, index: u32) -> bool
+    requires met { refusal (allocate_needs core.old worker page index) ≡ None }
+    ensures done { result ≡ true → Steps core.old core.new (Move.Allocate worker page index) (Ok Reply.Done) }
+    ensures refused { result ≡ false → Steps core.old core.new (Move.Allocate worker page index) (Err StepFault.NoMemory) }
+{
+    let _worker = worker;
+    core.lives.allocate(page, index).is_ok()
 }

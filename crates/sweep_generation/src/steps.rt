@@ -80,22 +80,33 @@ pub fn step(core: &mut Core, mv: Move) -> Result<Reply, StepFault>
     step_usual(core, mv)
 }
 
-// Makes a move whose needs are met.
-#[inline(always)]
-fn step_allowed(core: &mut Core, mv: Move) -> Result<Reply, StepFault>
+// Makes a move whose needs are met, and that is no allocation. A mark end tries none of them.
+#[inline(never)]
+fn step_given_met(core: &mut Core, mv: Move) -> Result<Reply, StepFault>
     requires met { refusal (needs_of core.old mv) ≡ None }
     ensures { Steps core.old core.new mv result }
 {
-    match mv {
-        Move::Allocate(worker, page, index) => allocate_met(core, worker, page, index),
+    match &mv {
         Move::Next(marks) => next_met(core, marks.as_slice()),
-        _ => step_given(core, mv),
+        _ => step_by(core, &mv),
     }
+}
+
+// The same for any move, with a look first for an allocation, as in `step_usual`.
+#[inline(always)]
+fn step_usual_met(core: &mut Core, mv: Move) -> Result<Reply, StepFault>
+    requires met { refusal (needs_of core.old mv) ≡ None }
+    ensures { Steps core.old core.new mv result }
+{
+    if let Move::Allocate(worker, page, index) = &mv {
+        return allocate_met(core, *worker, *page, *index);
+    }
+    step_given_met(core, mv)
 }
 
 /// Makes one move whose needs are all met, as [`step`] does, but tries none of them for the two moves of which a trace has most:
 /// an allocation, and a mark end, whose marks need not be looked through once more. For a caller that proves the needs.
-#[inline]
+#[inline(always)]
 pub fn step_met(core: &mut Core, mv: Move) -> Result<Reply, StepFault>
     requires met { refusal (needs_of core.old mv) ≡ None }
     ensures exact { Steps core.old core.new mv result }
@@ -105,5 +116,5 @@ pub fn step_met(core: &mut Core, mv: Move) -> Result<Reply, StepFault>
     ensures space { HasSpace core.old → IsProvided core.old mv → HasSpace core.new }
     ensures memory { Owned core.old → IsTidy core.old → HasSpace core.old → IsProvided core.old mv → result ≢ Err StepFault.NoMemory }
 {
-    step_allowed(core, mv)
+    step_usual_met(core, mv)
 }
