@@ -1,5 +1,5 @@
 -- What a mark end asks of the objects before it: whose places are marked, and which sampled objects died.
-use Rattle.std.specs.Prelude.{◌≡◌, ℕ, zero, suc, ◌-◌, ◌<◌, ◌≤◌, Bool, true, false, List, [], ◌∷◌, length, take, map, reverse, slice_index, Some, ◌⊎◌, ◌↔◌}
+use Rattle.std.specs.Prelude.{◌≡◌, ℕ, zero, suc, ◌-◌, ◌<◌, ◌≤◌, Bool, true, false, List, [], ◌∷◌, length, take, map, reverse, slice_index, slice_index_or, Some, ◌⊎◌, ◌↔◌}
 use Rattle.std.specs.List.{AllByRecursion, flat_map, slice_get}
 use Rattle.page_alloc.specs.Lists.{In}
 use Rattle.span_state.specs.MarkSet.{MarkSet, is_marked, dead_of}
@@ -28,6 +28,11 @@ objects_before t m = length (flat_map (λ c. c.events) (take m t.cycles))
 -- Each placed answer is a place of its object's size, in a span that begins at a page of the region.
 abbrev pub ArePlaces : Trace → List Answer → Type 0
 ArePlaces t answers = (i address : ℕ) → slice_get answers i ≡ Some (Placed address) → (page : ℕ) × (k : ℕ) × (page < region_of t) × LiesAt t answers i page k
+
+-- None of the first n objects is sampled.
+pub record AreClear (sampled : List Bool) (n : ℕ) : Type 0 where
+  pub inside : n ≤ length sampled
+  pub unset : (i : ℕ) → i < n → slice_index_or sampled i false ≡ false
 
 -- Object i lived in the cycle before mark end m: it is of that cycle, or marked by the mark end before. Asked of the
 -- placed objects before mark end m.

@@ -3,7 +3,7 @@
 ghost use Rattle.std.specs.Prelude.{◌≡◌, ℕ, ◌+◌, ◌-◌, ◌<◌, ◌≤◌, true, false, length, slice_get, slice_index_or, Some, IfOk, OnOk};
 ghost use Rattle.cycle_history.specs.Requests.{last_cycle, marked_by};
 ghost use Rattle.cycle_history.specs.Found.{AreFound};
-ghost use Rattle.cycle_history.specs.Marked.{AreMarksBelow, AreMarksOf, ArePlaces, IsLimited, LivedBefore, marks_at, objects_before};
+ghost use Rattle.cycle_history.specs.Marked.{AreClear, AreMarksBelow, AreMarksOf, ArePlaces, IsLimited, LivedBefore, marks_at, objects_before};
 ghost use Rattle.cycle_history.specs.MarkedLoops.{AreOf, IsBehind};
 
 use crate::Answer;
@@ -25,8 +25,9 @@ const PIECE: usize = 64;
 ///
 /// Each list has one entry for each object before the mark end, and a placed answer is a place of its object's size in
 /// the region. `places` is kept from mark end to mark end: it has the places of the objects before the mark end before,
-/// and gets those of the cycle behind it, so that each object's place is found once. It takes time in the objects of
-/// that cycle and in the marks of the mark end and of the one before it, and in nothing else.
+/// and gets those of the cycle behind it, so that each object's place is found once. `clear` is kept, too: none of so many first
+/// objects is sampled. It takes time in the objects of that cycle and in the marks of the mark end and of the one before it, of
+/// which those before are looked at only where some object is sampled, and in nothing else.
 pub fn marks_of(
     alloc: Global,
     trace: &Trace,
@@ -35,6 +36,7 @@ pub fn marks_of(
     sampled: &List<bool>,
     buckets: &List<u32>,
     places: &mut List<Option<Place>>,
+    clear: &mut usize,
 ) -> Result<Marks, NoMemory>
     requires limited { IsLimited trace.now }
     requires first { 1 ≤ mark }
@@ -45,9 +47,11 @@ pub fn marks_of(
     requires places { ArePlaces trace.now answers.now }
     requires kept { length places.old ≡ objects_before trace.now (mark - 1) }
     requires found { AreFound trace.now answers.now places.old }
+    requires clear { AreClear sampled.now clear.old }
     ensures marks { IfOk result (λ marks. AreMarksOf trace.now mark answers.now sampled.now buckets.now marks) }
     ensures kept { OnOk result (length places.new ≡ objects_before trace.now mark) }
     ensures found { OnOk result (AreFound trace.now answers.now places.new) }
+    ensures clear { OnOk result (AreClear sampled.now clear.new) }
 {
     let first = places.len();
     let events = trace.cycles.as_slice()[mark as usize - 1].events.as_slice();
@@ -62,7 +66,10 @@ pub fn marks_of(
     };
     let mut marks = Marks::empty(alloc);
     objects.mark_all(&mut marks)?;
-    objects.bury_all(&mut marks, first)?;
+    *clear = clear_end(sampled.as_slice(), *clear);
+    if *clear < sampled.len() {
+        objects.bury_all(&mut marks, first)?;
+    }
     Ok(marks)
 }
 
@@ -203,6 +210,18 @@ impl Objects<'_> {
             None => Ok(()),
         }
     }
+}
+
+// How many first flags are not set, where so many are known not to be.
+fn clear_end(flags: &[bool], known: usize) -> usize
+    requires { AreClear flags.now known }
+    ensures clear { AreClear flags.now result }
+{
+    let mut end = pass_unset(flags, known, flags.len());
+    while end < flags.len() && !flags[end] {
+        end += 1;
+    }
+    end
 }
 
 // How far whole strides of flags from low on have none that is set, up to high. The last of them may reach beyond high.

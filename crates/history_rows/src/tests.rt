@@ -106,7 +106,10 @@ fn marks(
     let buckets = [10, 11, 12, 13, 14, 15, 16, 17];
     let sampled = List::from_vec(Vec::from_slice(alloc, &sampled[..count])?);
     let buckets = List::from_vec(Vec::from_slice(alloc, &buckets[..count])?);
-    marks_of(alloc, trace, mark, &answers, &sampled, &buckets, places)
+    let mut clear = 0;
+    marks_of(
+        alloc, trace, mark, &answers, &sampled, &buckets, places, &mut clear,
+    )
 }
 
 #[test]

@@ -89,6 +89,7 @@ fn all_marks(alloc: Global, trace: &Trace, lists: &mut Lists) -> Result<(u64, u6
     let mut dead: u64 = 0;
     for mark in 1..trace.cycles.len() {
         lists.grow(trace, mark - 1)?;
+        let mut clear = 0;
         let found = marks_of(
             alloc,
             trace,
@@ -97,6 +98,7 @@ fn all_marks(alloc: Global, trace: &Trace, lists: &mut Lists) -> Result<(u64, u6
             &lists.sampled,
             &lists.buckets,
             &mut places,
+            &mut clear,
         )?;
         marks = marks.saturating_add(u64::from(found.count(0)));
         dead = dead.saturating_add(found.dead(0).len() as u64);

@@ -11,3 +11,6 @@ marks_of-requires-clause-found c =
     let all = c.loop-mark.invariant.filled.all_answers in
     subst (λ (answers : List Answer). AreFound c.args.trace.now answers c.loop-mark.places) (sym more.1)
     (found-kept c.args.trace.now c.loop-mark.lists.answers more.0 c.loop-mark.places (omega arith) c.loop-mark.invariant.found)
+
+pub marks_of-requires-clause-clear : goal.marks_of-requires-clause-clear
+marks_of-requires-clause-clear c = record { inside = omega arith; unset = λ i low. absurd (omega arith) }
