@@ -114,24 +114,24 @@ row_of-set rows page row q lt =
     ]
 
 -- a word of a page's row is put
-pub put-of : (old mid new : List (List ℕ)) (page group word : ℕ) (row : List ℕ) → page < length mid → ((q : ℕ) → row_of mid q ≡ row_of old q) → new ≡ set mid page row
+pub put-of : (old mid new : List (List ℕ)) (page group word : ℕ) (row : List ℕ) → page < length mid → ((q g : ℕ) → word_of mid q g ≡ word_of old q g) → new ≡ set mid page row
     → ((g : ℕ) → get_or row g 0 ≡ cond (g == group) word (word_of mid page g)) → IsPut old new page group word
 put-of old mid new page group word row lt same is put q g =
     let at : word_of new q g ≡ get_or (cond (q == page) row (row_of mid q)) g 0 = ap (λ (rows : List (List ℕ)). word_of rows q g) is ∙ ap (λ (r : List ℕ). get_or r g 0) (row_of-set mid page row q lt) in
     elim (cases_eq q page) [
       | inl here ↦ (
           let on : (q == page) ≡ true = eq-eqb q page here in
-          let own : word_of mid page g ≡ word_of old q g = ap (λ (r : List ℕ). get_or r g 0) (same page) ∙ ap (λ (p : ℕ). word_of old p g) (sym here) in
+          let own : word_of mid page g ≡ word_of old q g = same page g ∙ ap (λ (p : ℕ). word_of old p g) (sym here) in
           let at' : word_of new q g ≡ get_or row g 0 = at ∙ rw on refl in
           rw on (at' ∙ put g ∙ ap (λ (w : ℕ). cond (g == group) word w) own))
       | inr other ↦ (
           let off : (q == page) ≡ false = ne_eqb q page other in
           let at' : word_of new q g ≡ word_of mid q g = at ∙ rw off refl in
-          rw off (at' ∙ ap (λ (r : List ℕ). get_or r g 0) (same q)))
+          rw off (at' ∙ same q g))
     ]
 
 -- a page's row has the same words
-pub kept-of : (old mid new : List (List ℕ)) (page : ℕ) (row : List ℕ) → page < length mid → ((q : ℕ) → row_of mid q ≡ row_of old q) → new ≡ set mid page row
+pub kept-of : (old mid new : List (List ℕ)) (page : ℕ) (row : List ℕ) → page < length mid → ((q g : ℕ) → word_of mid q g ≡ word_of old q g) → new ≡ set mid page row
     → ((g : ℕ) → get_or row g 0 ≡ word_of mid page g) → pairs_of new ≡ pairs_of old
 kept-of old mid new page row lt same is kept =
     pairs_of-same old new (λ q g.
@@ -139,18 +139,11 @@ kept-of old mid new page row lt same is kept =
     elim (cases_eq q page) [
       | inl here ↦ (
           let on : (q == page) ≡ true = eq-eqb q page here in
-          at ∙ rw on (kept g ∙ ap (λ (r : List ℕ). get_or r g 0) (same page) ∙ ap (λ (p : ℕ). word_of old p g) (sym here)))
+          at ∙ rw on (kept g ∙ same page g ∙ ap (λ (p : ℕ). word_of old p g) (sym here)))
       | inr other ↦ (
           let off : (q == page) ≡ false = ne_eqb q page other in
-          at ∙ rw off (ap (λ (r : List ℕ). get_or r g 0) (same q)))
+          at ∙ rw off (same q g))
     ]))
-
--- more rows that are empty
-pub rows-reached : (old new : List (List ℕ)) → AreRows old → ((q : ℕ) → row_of new q ≡ row_of old q) → length new ≤ 2 ^ 32 → AreRows new
-rows-reached old new are same few = record {
-  pages = few;
-  groups = λ page. (let size = ap (λ (r : List ℕ). length r) (same page) in let old_size = are.groups page in omega arith);
-}
 
 -- a longer row
 pub rows-put : (mid new : List (List ℕ)) (page : ℕ) (row : List ℕ) → AreRows mid → page < length mid → new ≡ set mid page row → length row ≤ 2 ^ 26 → AreRows new
@@ -229,7 +222,7 @@ pub has-set : (old : List (List ℕ)) (page index : ℕ) (was row : List ℕ) �
 has-set old page index was row lt is put =
     let word : ℕ = word_of old page (index / 64) in
     let puts : IsPut old (set old page row) page (index / 64) (set_bit word (index % 64)) =
-    put-of old old (set old page row) page (index / 64) (set_bit word (index % 64)) row lt (λ q. refl) refl
+    put-of old old (set old page row) page (index / 64) (set_bit word (index % 64)) row lt (λ q g. refl) refl
     (λ g. put g ∙ ap (λ (r : List ℕ). cond (g == index / 64) (set_bit (get_or r (index / 64) 0) (index % 64)) (get_or r g 0)) is) in
     has-added old (set old page row) page index word (λ b less. word-shows old page (index / 64) word b refl less) puts
 

@@ -649,6 +649,14 @@ room-group row group page word room old pairs lt is so_far all =
     let both = length-append old (page_pairs group page (λ g. get_or row g 0)) in
     rw is (omega arith)
 
+-- one group more is pushed
+pub pushed-group : (row : List ℕ) (group next page word : ℕ) (old pairs new : List (ℕ × ℕ)) → next ≡ suc group → word ≡ get_or row group 0 → pairs ≡ old ++ page_pairs group page (λ g. get_or row g 0)
+    → new ≡ pairs ++ group_pairs ((page, group), word) → new ≡ old ++ page_pairs next page (λ g. get_or row g 0)
+pushed-group row group next page word old pairs new one is so_far push =
+    push ∙ ap (λ (w : ℕ). pairs ++ group_pairs ((page, group), w)) is ∙ ap (λ (ps : List (ℕ × ℕ)). ps ++ group_pairs ((page, group), get_or row group 0)) so_far
+    ∙ append_assoc old (page_pairs group page (λ g. get_or row g 0)) (group_pairs ((page, group), get_or row group 0))
+    ∙ ap (λ (n : ℕ). old ++ page_pairs n page (λ g. get_or row g 0)) (sym one)
+
 -- where there is room for all pages, there is room for the next
 pub room-page : (rows : List (List ℕ)) (row : List ℕ) (page room : ℕ) (pairs : List (ℕ × ℕ)) → page < length rows → row ≡ row_of rows page
     → pairs ≡ grid_pairs page (λ q. length (row_of rows q)) (word_of rows) → length (pairs_of rows) ≤ room → length pairs + length (page_pairs (length row) page (λ g. get_or row g 0)) ≤ room

@@ -1,6 +1,6 @@
 ghost use Rattle.std.specs.Prelude.{◌≡◌, ◌↔◌, ℕ, ◌+◌, ◌-◌, ◌*◌, ◌^◌, ◌<◌, ◌≤◌, ◌==◌, ◌||◌, ◌&&◌, [], ◌∷◌, ◌++◌, ◌≢◌, false, length, min, slice_index, true, vec_capacity, IsOk, OnOk, OnErr, IfOk};
 ghost use Rattle.std.specs.Int.{bit_at};
-ghost use Rattle.span_state.specs.Groups.{group_pairs, page_pairs, row_of};
+ghost use Rattle.span_state.specs.Groups.{group_pairs, page_pairs, word_of, AreRows};
 ghost use Rattle.span_state.specs.MarkSet.{is_marked, marked_count, dead_of, pairs_at, IsRising};
 
 use crate::row::Row;
@@ -11,7 +11,8 @@ use std::marker::Model;
 
 /// The marks of a mark end: which objects survive, and the buckets of the sampled objects that died.
 ///
-/// They take memory for each page up to the highest that has a mark, and on each page up to its highest marked index.
+/// They take 128 bytes of marks for each page up to the highest that has a mark, and more only on a page where an index of
+/// 1024 or above is marked.
 #[derive(Drop)]
 pub struct Marks {
     // a row of words for each page
@@ -57,14 +58,14 @@ impl Marks {
     {
         let group = (index / 64) as usize;
         let row = page as usize;
-        if row < self.rows.len() && group < self.rows[row].len() {
-            self.rows[row].set_bit(group, index % 64);
+        if group < 16 && row < self.rows.len() {
+            self.rows[row].set_near(group, index % 64);
             return Ok(());
         }
         self.add_past(page, index)
     }
 
-    // The same where the page may have no row or the group no word yet.
+    // The same where the page may have no row yet, or the group is none of the first 16.
     #[cold]
     #[inline(never)]
     fn add_past(&mut self, page: u32, index: u32) -> Result<(), NoMemory>
@@ -155,7 +156,7 @@ impl Marks {
         let total = self.total()?;
         let mut pairs = Vec::with_capacity(self.alloc, total)?;
         for page in 0..self.rows.len() {
-            push_row(&mut pairs, page as u32, self.rows[page].words());
+            push_row(&mut pairs, page as u32, &self.rows[page]);
         }
         Ok(List::from_vec(pairs))
     }
@@ -167,7 +168,7 @@ impl Marks {
     {
         let mut total: usize = 0;
         for page in 0..self.rows.len() {
-            match total.checked_add(marks_in(self.rows[page].words())) {
+            match total.checked_add(marks_in(&self.rows[page])) {
                 Some(sum) => total = sum,
                 None => return Err(NoMemory),
             }
@@ -178,9 +179,9 @@ impl Marks {
 
 // Makes rows up to that of the page. Without memory no word changes.
 fn reach(rows: &mut Vec<Row>, alloc: Global, page: u32) -> Result<(), NoMemory>
-    ensures rows { (q : ℕ) → row_of rows.new.items q ≡ row_of rows.old.items q }
+    ensures words { (q g : ℕ) → word_of rows.new.items q g ≡ word_of rows.old.items q g }
     ensures reached { OnOk result (page < length rows.new.items) }
-    ensures few { (size : ℕ) → length rows.old.items ≤ size → page < size → length rows.new.items ≤ size }
+    ensures are { AreRows rows.old.items → AreRows rows.new.items }
 {
     if (page as usize) < rows.len() {
         return Ok(());
@@ -193,9 +194,9 @@ fn reach(rows: &mut Vec<Row>, alloc: Global, page: u32) -> Result<(), NoMemory>
 #[inline(never)]
 fn add_rows(rows: &mut Vec<Row>, alloc: Global, page: u32) -> Result<(), NoMemory>
     requires { length rows.old.items ≤ page }
-    ensures rows { (q : ℕ) → row_of rows.new.items q ≡ row_of rows.old.items q }
+    ensures words { (q g : ℕ) → word_of rows.new.items q g ≡ word_of rows.old.items q g }
     ensures reached { OnOk result (page < length rows.new.items) }
-    ensures few { (size : ℕ) → length rows.old.items ≤ size → page < size → length rows.new.items ≤ size }
+    ensures are { AreRows rows.old.items → AreRows rows.new.items }
 {
     let page = page as usize;
     rows.reserve(page + 1 - rows.len())?;
@@ -217,28 +218,38 @@ fn count_row(row: &Row) -> u32
     count
 }
 
-// How many indices the words of a page's row mark.
-fn marks_in(words: &[u64]) -> usize
-    requires { length words.now ≤ 2 ^ 26 }
-    ensures { (page : ℕ) → result ≡ length (page_pairs (length words.now) page (λ g. slice_index words.now g)) }
+// How many indices a page's row marks.
+fn marks_in(row: &Row) -> usize
+    requires { length row.now ≤ 2 ^ 26 }
+    ensures { (page : ℕ) → result ≡ length (page_pairs (length row.now) page (λ g. slice_index row.now g)) }
 {
     let mut marks: usize = 0;
-    for group in 0..words.len() {
-        marks += words[group].count_ones() as usize;
+    let near = row.near();
+    for group in 0..16 {
+        marks += near[group].count_ones() as usize;
+    }
+    let far = row.far();
+    for group in 0..far.len() {
+        marks += far[group].count_ones() as usize;
     }
     marks
 }
 
-// Puts the pairs that the words of a page's row mark at the end of a list with room for them.
+// Puts the pairs that a page's row marks at the end of a list with room for them.
 #[inline]
-fn push_row(pairs: &mut Vec<(u32, u32)>, page: u32, words: &[u64])
-    requires groups { length words.now ≤ 2 ^ 26 }
-    requires room { length pairs.old.items + length (page_pairs (length words.now) page (λ g. slice_index words.now g)) ≤ vec_capacity pairs.old }
-    ensures items { pairs.new.items ≡ pairs.old.items ++ page_pairs (length words.now) page (λ g. slice_index words.now g) }
+fn push_row(pairs: &mut Vec<(u32, u32)>, page: u32, row: &Row)
+    requires groups { length row.now ≤ 2 ^ 26 }
+    requires room { length pairs.old.items + length (page_pairs (length row.now) page (λ g. slice_index row.now g)) ≤ vec_capacity pairs.old }
+    ensures items { pairs.new.items ≡ pairs.old.items ++ page_pairs (length row.now) page (λ g. slice_index row.now g) }
     ensures capacity { vec_capacity pairs.new ≡ vec_capacity pairs.old }
 {
-    for group in 0..words.len() {
-        push_group(pairs, page, group as u32, words[group]);
+    let near = row.near();
+    for group in 0..16 {
+        push_group(pairs, page, group as u32, near[group]);
+    }
+    let far = row.far();
+    for group in 0..far.len() {
+        push_group(pairs, page, 16 + group as u32, far[group]);
     }
 }
 

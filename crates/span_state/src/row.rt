@@ -1,32 +1,38 @@
 //! The words of one page.
 
-ghost use Rattle.std.specs.Prelude.{◌≡◌, ℕ, ◌*◌, ◌%◌, ◌^◌, ◌<◌, ◌≤◌, ◌==◌, if◌then◌else◌, [], length, slice_index, bit_or, OnOk, OnErr};
+ghost use Rattle.std.specs.Prelude.{◌≡◌, ℕ, ◌+◌, ◌*◌, ◌%◌, ◌^◌, ◌<◌, ◌≤◌, ◌==◌, if◌then◌else◌, length, slice_index, bit_or, OnOk, OnErr};
 
 use fallible_list::NoMemory;
 use std::alloc::Global;
 use std::marker::Model;
 
-/// A word of marks for each group of 64 indices of a page, as far as one was set; the others are 0.
+/// A word of marks for each group of 64 indices of a page. The words of the first 16 groups lie in the row itself, and
+/// those of further groups behind it, as far as one was set; the others are 0.
 #[derive(Drop)]
 pub(crate) struct Row {
-    words: Vec<u64>,
+    near: [u64; 16],
+    far: Vec<u64>,
 }
 
 impl Model for Row {
-    ghost use Rattle.std.specs.Prelude.{ℕ, List as Items};
+    ghost use Rattle.std.specs.Prelude.{◌≡◌, ℕ, ◌++◌, length, List as Items};
 
     ghost Value = { Items ℕ };
 
-    ghost view = { λ row. row.words.items };
+    ghost view = { λ row. row.near ++ row.far.items };
+
+    ghost invariant = { λ row. length row.near ≡ 16 };
 }
 
 impl Row {
-    /// No word is set.
+    /// Each word is 0, and none lies behind the row.
     pub(crate) fn new(alloc: Global) -> Self
-        ensures { result ≡ [] }
+        ensures len { length result ≡ 16 }
+        ensures words { (g : ℕ) → slice_index result g ≡ 0 }
     {
         Row {
-            words: Vec::new(alloc),
+            near: [0; 16],
+            far: Vec::new(alloc),
         }
     }
 
@@ -34,35 +40,50 @@ impl Row {
     pub(crate) fn len(&self) -> usize
         ensures { result ≡ length self.now }
     {
-        self.words.len()
+        16 + self.far.len()
     }
 
-    /// The words of the groups that have one.
-    pub(crate) fn words(&self) -> &[u64]
-        ensures { result.now ≡ self.now }
+    /// The words of the first 16 groups.
+    #[inline]
+    pub(crate) fn near(&self) -> &[u64; 16]
+        ensures len { 16 ≤ length self.now }
+        ensures words { (g : ℕ) → g < 16 → slice_index result.now g ≡ slice_index self.now g }
     {
-        self.words.as_slice()
+        &self.near
+    }
+
+    /// The words of the further groups that have one, from group 16 on.
+    #[inline]
+    pub(crate) fn far(&self) -> &[u64]
+        ensures len { length self.now ≡ 16 + length result.now }
+        ensures words { (g : ℕ) → slice_index result.now g ≡ slice_index self.now (16 + g) }
+    {
+        self.far.as_slice()
     }
 
     /// The word of a group.
     pub(crate) fn word(&self, group: u32) -> u64
         ensures { result ≡ slice_index self.now group }
     {
-        if (group as usize) < self.words.len() {
-            self.words[group as usize]
+        let group = group as usize;
+        if group < 16 {
+            self.near[group]
+        } else if group - 16 < self.far.len() {
+            self.far[group - 16]
         } else {
             0
         }
     }
 
-    /// Sets a bit of the word of a group that has one.
-    pub(crate) fn set_bit(&mut self, group: usize, bit: u32)
-        requires has_word { group < length self.old }
+    /// Sets a bit of the word of one of the first 16 groups.
+    #[inline]
+    pub(crate) fn set_near(&mut self, group: usize, bit: u32)
+        requires near { group < 16 }
         requires bit { bit < 64 }
         ensures set { (g : ℕ) → slice_index self.new g ≡ (if g == group then bit_or (slice_index self.old group) (1 * 2 ^ bit % 2 ^ 64) else slice_index self.old g) }
         ensures len { length self.new ≡ length self.old }
     {
-        self.words[group] |= 1 << bit;
+        self.near[group] |= 1 << bit;
     }
 
     /// Sets the word of a group. Without memory each word stays as it was.
@@ -71,26 +92,26 @@ impl Row {
         ensures same { OnErr result ((g : ℕ) → slice_index self.new g ≡ slice_index self.old g) }
         ensures few { (size : ℕ) → length self.old ≤ size → group < size → length self.new ≤ size }
     {
-        if (group as usize) < self.words.len() {
-            self.words[group as usize] = word;
+        let group = group as usize;
+        if group < 16 {
+            self.near[group] = word;
             return Ok(());
         }
-        self.set_past(group, word)
+        set_far(&mut self.far, group - 16, word)
     }
+}
 
-    // The same where the group is past the last word.
-    #[cold]
-    #[inline(never)]
-    fn set_past(&mut self, group: u32, word: u64) -> Result<(), NoMemory>
-        ensures set { OnOk result ((g : ℕ) → slice_index self.new g ≡ (if g == group then word else slice_index self.old g)) }
-        ensures same { OnErr result ((g : ℕ) → slice_index self.new g ≡ slice_index self.old g) }
-        ensures few { (size : ℕ) → length self.old ≤ size → group < size → length self.new ≤ size }
-    {
-        let group = group as usize;
-        while self.words.len() <= group {
-            self.words.push(0)?;
-        }
-        self.words[group] = word;
-        Ok(())
+// Sets one of the words behind a row, which may be past the last. Without memory each word stays as it was.
+#[cold]
+#[inline(never)]
+fn set_far(far: &mut Vec<u64>, at: usize, word: u64) -> Result<(), NoMemory>
+    ensures set { OnOk result ((g : ℕ) → slice_index far.new.items g ≡ (if g == at then word else slice_index far.old.items g)) }
+    ensures same { OnErr result ((g : ℕ) → slice_index far.new.items g ≡ slice_index far.old.items g) }
+    ensures few { (size : ℕ) → length far.old.items ≤ size → at < size → length far.new.items ≤ size }
+{
+    while far.len() <= at {
+        far.push(0)?;
     }
+    far[at] = word;
+    Ok(())
 }

@@ -1,12 +1,12 @@
-use Rattle.std.proofs.Common.{◌≡◌, ℕ, suc, ◌-◌, ◌<◌, ◌≤◌, length}
-use Rattle.span_state.specs.Groups.{row_of}
+use Rattle.std.proofs.Common.{◌≡◌, ℕ, suc, ◌-◌, length}
+use Rattle.span_state.specs.Groups.{AreRows, word_of}
 use Rattle.span_state.proofs.marks.add_rows.Given as goal
 
--- empty rows were put at the end
+-- rows of words that are 0 were put at the end
 abbrev pub invariant-loop-alloc : goal.invariant-loop-alloc
 invariant-loop-alloc l = record {
-  same : (q : ℕ) → row_of l.rows.items q ≡ row_of l.fn.rows.items q;
-  few : (size : ℕ) → length l.fn.rows.items ≤ size → l.fn.page < size → length l.rows.items ≤ size;
+  same : (q g : ℕ) → word_of l.rows.items q g ≡ word_of l.fn.rows.items q g;
+  are : AreRows l.fn.rows.items → AreRows l.rows.items;
 }
 
 abbrev pub decreases-loop-alloc : goal.decreases-loop-alloc
