@@ -9,5 +9,5 @@ returns-in_err-distance-clause-fault c =
     rw (p.1, p.2) (λ of past follows. distance_number c.args.self.now c.args.distance c.args.number _ c.in_err-distance.ensures.fault past follows)
 
 pub returns-clause-took : goal.returns-clause-took
-returns-clause-took c = rw (c.new.ensures, ← c.in_ok-distance.ensures.same)
+returns-clause-took c = rw (c.in_ok-marks.ensures, ← c.in_ok-distance.ensures.same)
     (took_mark_end c.args.self.now c.end_cycle.new.self c.in_ok-distance.distance c.in_ok-end_cycle.ensures c.in_ok-distance.ensures.fits.0 c.in_ok-distance.ensures.fits.1 (omega arith))
