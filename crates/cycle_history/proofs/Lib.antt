@@ -3,6 +3,7 @@ pub mod Meets
 pub mod Plain
 pub mod Cycles
 pub mod OnePlace
+mod Room
 pub mod Firsts
 pub mod Rising
 pub mod Found

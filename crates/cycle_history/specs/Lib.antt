@@ -10,6 +10,8 @@ pub mod Sound
 pub mod Broken
 pub mod Text
 pub mod Places
+pub mod Packed
+pub mod PackedLaws
 pub mod Marked
 pub mod Found
 pub mod MarkedLoops

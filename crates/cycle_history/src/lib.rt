@@ -20,7 +20,7 @@ pub use laws::{
 };
 pub use marks::marks_of;
 use page_bitmap::Line;
-pub use places::Place;
+pub use places::{PackedPlace, Place};
 use span_state::SweepNote;
 pub use totals::totals_of;
 

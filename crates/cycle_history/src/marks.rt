@@ -8,7 +8,7 @@ ghost use Rattle.cycle_history.specs.MarkedLoops.{AreOf, IsBehind};
 
 use crate::Answer;
 use crate::lookups::{Walk, spans_at};
-use crate::places::{Place, find_places};
+use crate::places::{PackedPlace, find_places};
 use edge_io::{List, NoMemory};
 use span_state::Marks;
 use std::alloc::Global;
@@ -35,7 +35,7 @@ pub fn marks_of(
     answers: &List<Answer>,
     sampled: &List<bool>,
     buckets: &List<u32>,
-    places: &mut List<Option<Place>>,
+    places: &mut List<PackedPlace>,
     clear: &mut usize,
 ) -> Result<Marks, NoMemory>
     requires limited { IsLimited trace.now }
@@ -82,7 +82,7 @@ struct Objects<'a> {
     sampled: &'a [bool],
     buckets: &'a [u32],
     // where each placed object lies
-    places: &'a [Option<Place>],
+    places: &'a [PackedPlace],
 }
 
 impl Objects<'_> {
@@ -110,7 +110,7 @@ impl Objects<'_> {
     {
         let places = self.places;
         for object in low..high {
-            if let Some(place) = places[object] {
+            if let Some(place) = places[object].place() {
                 marks.add(place.page, place.index)?;
             }
         }
@@ -205,7 +205,7 @@ impl Objects<'_> {
         requires below { AreMarksBelow self.now.trace.now self.now.mark self.now.answers.now self.now.sampled.now self.now.buckets.now (length self.now.answers.now) object marks.old }
         ensures { OnOk result (AreMarksBelow self.now.trace.now self.now.mark self.now.answers.now self.now.sampled.now self.now.buckets.now (length self.now.answers.now) (object + 1) marks.new) }
     {
-        match self.places[object] {
+        match self.places[object].place() {
             Some(place) => marks.add_dead(place.page, self.buckets[object]),
             None => Ok(()),
         }

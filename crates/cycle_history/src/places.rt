@@ -7,14 +7,22 @@ ghost use Rattle.cycle_history.specs.declared.Answer.TheVariants.{Placed};
 ghost use Rattle.cycle_history.specs.Places.{HasPlace, IsPlace};
 ghost use Rattle.cycle_history.specs.Marked.{ArePlaces, IsLimited, objects_before};
 ghost use Rattle.cycle_history.specs.Found.{AreFound, IsPlaceOf};
+ghost use Rattle.cycle_history.specs.Packed.{HasRoom};
 
 use crate::Answer;
 use edge_io::{List, NoMemory};
 use size_classes::{Kind, PAGE_SIZE, REGION_START, class_of, slot_size, span_objects};
+use std::marker::Model;
 use trace_reader::{Event, Trace};
 
 // The bytes of a page.
 const PAGE: u32 = PAGE_SIZE as u32;
+
+// An index is below this, since no span has more objects.
+const INDICES: u32 = 1024;
+
+// The code that stands for no place.
+const NO_PLACE: u32 = u32::MAX;
 
 /// Where an object lies.
 #[derive(Clone, Copy, Debug, PartialEq, Eq)]
@@ -25,6 +33,57 @@ pub struct Place {
     pub index: u32,
 }
 
+/// A place or none, in four bytes. Contracts see the place or none.
+#[derive(Clone, Copy, Debug)]
+pub struct PackedPlace {
+    code: u32,
+}
+
+impl Model for PackedPlace {
+    ghost use Rattle.std.specs.Prelude.{Option};
+    ghost use Rattle.cycle_history.specs.declared.places.Place.{Place};
+
+    ghost Value = { Option Place };
+
+    ghost use Rattle.cycle_history.specs.Packed.{packed, unpacked};
+    ghost use Rattle.cycle_history.specs.PackedLaws.{packed-of};
+
+    ghost view = { λ p. unpacked p.code };
+
+    ghost inverse = { λ place. record { code = packed place } };
+
+    ghost inverse_ok = { λ p h i. record { code = packed-of p.code i } };
+}
+
+impl PackedPlace {
+    /// Packs a place that has room, or none.
+    pub(crate) fn new(place: Option<Place>) -> Self
+        requires room { IfSome place HasRoom }
+        ensures { result ≡ place }
+    {
+        match place {
+            Some(place) => PackedPlace {
+                code: place.page * INDICES + place.index,
+            },
+            None => PackedPlace { code: NO_PLACE },
+        }
+    }
+
+    /// The place or none.
+    #[inline]
+    pub fn place(self) -> Option<Place>
+        ensures { result ≡ self }
+    {
+        if self.code == NO_PLACE {
+            return None;
+        }
+        Some(Place {
+            page: self.code / INDICES,
+            index: self.code % INDICES,
+        })
+    }
+}
+
 /// Finds the places of a cycle's objects, which have these events, and puts them behind those of the objects before.
 #[inline(never)]
 pub(crate) fn find_places(
@@ -32,7 +91,7 @@ pub(crate) fn find_places(
     cycle: u32,
     events: &[Event],
     answers: &[Answer],
-    places: &mut List<Option<Place>>,
+    places: &mut List<PackedPlace>,
 ) -> Result<(), NoMemory>
     requires limited { IsLimited trace.now }
     requires inside { cycle < length trace.now.cycles }
@@ -46,7 +105,8 @@ pub(crate) fn find_places(
 {
     let first = places.len();
     for number in 0..events.len() {
-        places.push(find_place(events[number].size, answers[first + number]))?;
+        let place = find_place(events[number].size, answers[first + number]);
+        places.push(PackedPlace::new(place))?;
     }
     Ok(())
 }
@@ -55,7 +115,8 @@ pub(crate) fn find_places(
 fn find_place(size: u64, answer: Answer) -> Option<Place>
     requires size { size ≤ 2 ^ 40 }
     requires place { (address : ℕ) → answer ≡ Placed address → HasPlace size address }
-    ensures { IsPlaceOf size answer result }
+    ensures place { IsPlaceOf size answer result }
+    ensures room { IfSome result HasRoom }
 {
     match answer {
         Answer::Placed(address) => Some(place_of(size, address)),

@@ -21,7 +21,7 @@ use crate::merge::merge;
 use crate::profile::Profile;
 use crate::queues::queues_of;
 use crate::sorting::file_notes;
-use cycle_history::{Answer, Place, Report, Total, marks_of, totals_of};
+use cycle_history::{Answer, PackedPlace, Report, Total, marks_of, totals_of};
 use edge_io::{Gate, List, NoMemory};
 use page_bitmap::Line;
 use proc_cache::Proc;
@@ -95,7 +95,7 @@ pub(crate) struct Run {
     pub(crate) buckets: List<u32>,
     pub(crate) profile: Profile,
     // Where each object before the last mark end lies.
-    pub(crate) places: List<Option<Place>>,
+    pub(crate) places: List<PackedPlace>,
 }
 
 impl Run {

@@ -3,7 +3,7 @@ ghost use Rattle.cycle_history.specs.Marked.{objects_before};
 ghost use Rattle.cycle_history.specs.Found.{AreFound};
 ghost use Rattle.history_rows.specs.Example.{answers, event_of_size, example};
 
-use cycle_history::{Answer, Place, Total, marks_of, totals_of};
+use cycle_history::{Answer, PackedPlace, Total, marks_of, totals_of};
 use fallible_list::{List, NoMemory};
 use span_state::Marks;
 use std::alloc::Global;
@@ -92,7 +92,7 @@ fn marks(
     trace: &Trace,
     mark: u32,
     count: usize,
-    places: &mut List<Option<Place>>,
+    places: &mut List<PackedPlace>,
 ) -> Result<Marks, NoMemory>
     requires trace { trace.now ≡ example }
     requires mark { ((mark ≡ 1) × (count ≡ 5)) ⊎ ((mark ≡ 2) × (count ≡ 8)) }

@@ -49,15 +49,15 @@ bounds-answers-first c =
     let lt = c.loop-number-test.true in
     omega arith
 
-pub find_place-requires-clause-size : goal.find_place-requires-clause-size
+pub find_place-place-requires-clause-size : goal.find_place-place-requires-clause-size
 unfolding none
-find_place-requires-clause-size c =
+find_place-place-requires-clause-size c =
     size-fits c.args.trace.now (objects_before c.args.trace.now c.args.cycle + c.loop-number.number) (get_or c.args.events.now c.loop-number.number none) c.requires.limited
     (cycle-event c.args.trace.now c.args.cycle c.loop-number.number c.args.events.now none c.requires.inside c.requires.events c.loop-number-test.true)
 
-pub find_place-requires-clause-place : goal.find_place-requires-clause-place
+pub find_place-place-requires-clause-place : goal.find_place-place-requires-clause-place
 unfolding none
-find_place-requires-clause-place c = λ address is. (
+find_place-place-requires-clause-place c = λ address is. (
     let more = cycle-more c.args.trace.now c.args.cycle c.args.events.now c.requires.inside c.requires.events in
     let all = c.requires.answers in
     let lt = c.loop-number-test.true in
@@ -79,17 +79,18 @@ loop-number-preserved c =
     let inside : c.len-first.result + n < length c.args.answers.now = omega arith in
     let pushed = c.in_ok-push.ensures.ok in
     let size = c.loop-number.invariant.all in
-    let found : IsFound t c.args.answers.now (c.len-first.result + n) c.find_place.result =
-    found-of t c.args.answers.now (c.len-first.result + n) (get_or c.args.events.now n none) (get_or c.args.answers.now (c.len-first.result + n) (Placed 0)) c.find_place.result
+    let found : IsFound t c.args.answers.now (c.len-first.result + n) c.new.result =
+    subst (λ (x : Option Place). IsFound t c.args.answers.now (c.len-first.result + n) x) (sym c.new.ensures)
+    (found-of t c.args.answers.now (c.len-first.result + n) (get_or c.args.events.now n none) (get_or c.args.answers.now (c.len-first.result + n) (Placed 0)) c.find_place-place.result
     (event t c.args.cycle n c.len-first.result c.args.events.now (get_or c.args.events.now n none) first
     (cycle-event t c.args.cycle n c.args.events.now none c.requires.inside c.requires.events c.loop-number-test.true))
     (slice_get-get_or c.args.answers.now (c.len-first.result + n) (Placed 0) inside)
-    c.find_place.ensures in
+    c.find_place-place.ensures.place) in
     record {
-      all = ap (λ (xs : List (Option Place)). length xs) pushed ∙ length_push c.loop-number.places c.find_place.result ∙ omega arith;
+      all = ap (λ (xs : List (Option Place)). length xs) pushed ∙ length_push c.loop-number.places c.new.result ∙ omega arith;
       found = subst (λ (xs : List (Option Place)). AreFound t c.args.answers.now xs) (sym pushed)
-          (found-more t c.args.answers.now c.loop-number.places c.find_place.result c.loop-number.invariant.found
-          (subst (λ (k : ℕ). IsFound t c.args.answers.now k c.find_place.result) (sym size) found));
+          (found-more t c.args.answers.now c.loop-number.places c.new.result c.loop-number.invariant.found
+          (subst (λ (k : ℕ). IsFound t c.args.answers.now k c.new.result) (sym size) found));
     }
 
 pub returns-clause-kept : goal.returns-clause-kept

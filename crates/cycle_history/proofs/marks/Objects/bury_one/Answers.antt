@@ -1,4 +1,4 @@
-use Rattle.std.proofs.Common.{◌≡◌, ℕ, ◌+◌, ◌<◌, length, get_or, Some, None, Result, Ok, Err, OnOk, refl, ◌∙◌, ap, subst, arith}
+use Rattle.std.proofs.Common.{◌≡◌, ℕ, ◌+◌, ◌<◌, length, get_or, Some, None, Result, Ok, Err, OnOk, refl, sym, ◌∙◌, ap, subst, arith}
 use Rattle.std.proofs.lemmas.Option.{slice_get-get_or}
 use Rattle.cycle_history.specs.Places.{LiesAt}
 use Rattle.cycle_history.specs.Marked.{HasDied}
@@ -19,7 +19,7 @@ returns-in-Some c =
     let answers = given.all_answers in
     let lt = c.requires.inside in
     let inside : i < length o.places.now = omega arith in
-    let lies = given.found i (Some c.in-Some.place) (slice_get-get_or o.places.now i None inside ∙ ap Some c.in-Some.is) in
+    let lies = given.found i (Some c.in-Some.place) (slice_get-get_or o.places.now i c.index-self-object.result inside ∙ ap Some (sym c.place.ensures ∙ c.in-Some.is)) in
     let died : HasDied o.trace.now o.mark o.answers.now o.sampled.now c.in-Some.place.page i = record {
       is_sampled = c.requires.sampled;
       lived = c.requires.lived;
@@ -41,7 +41,7 @@ returns-in-None c =
     let answers = given.all_answers in
     let lt = c.requires.inside in
     let inside : i < length o.places.now = omega arith in
-    let nowhere = given.found i None (slice_get-get_or o.places.now i None inside ∙ ap Some c.in-None.is) in
+    let nowhere = given.found i None (slice_get-get_or o.places.now i c.index-self-object.result inside ∙ ap Some (sym c.place.ensures ∙ c.in-None.is)) in
     below-undead o.trace.now o.mark o.answers.now o.sampled.now o.buckets.now (length o.answers.now) i (i + 1) c.args.marks.now (omega arith)
     (λ j le less page died. (let same : j ≡ i = omega arith in nowhere page died.index (subst (λ (n : ℕ). LiesAt o.trace.now o.answers.now n page died.index) same died.lies)))
     c.requires.below

@@ -1,4 +1,5 @@
 use Rattle.std.proofs.Common.{◌≡◌, ◌≢◌, ℕ, ◌+◌, ◌<◌, length, get_or, Option, Some, None, sym, ◌∙◌, ap, subst, arith}
+use Rattle.std.proofs.lemmas.List.{get_or_read}
 use Rattle.std.proofs.lemmas.Option.{slice_get-get_or}
 use Rattle.span_state.specs.MarkSet.{MarkSet}
 use Rattle.cycle_history.specs.declared.places.Place.{Place}
@@ -23,15 +24,16 @@ loop-object-preserved c =
     let lt = c.loop-object-test.true in
     let inside : i < length o.places.now = omega arith in
     let low = c.loop-object.auto.object in
-    elim c.match-places-object.branch [
+    let read : c.place.result ≡ get_or o.places.now i None = c.place.ensures ∙ get_or_read o.places.now i c.index-places-object.result inside c.index-places-object.is None in
+    elim c.match-place.branch [
       | in-Some+in_ok-add w ↦ (
-          let lies = given.found i (Some w.in-Some.place) (slice_get-get_or o.places.now i None inside ∙ ap Some w.in-Some.is) in
+          let lies = given.found i (Some w.in-Some.place) (slice_get-get_or o.places.now i None inside ∙ ap Some (sym read ∙ w.in-Some.is)) in
           let at : IsMarkedAt o.trace.now o.mark o.answers.now w.in-Some.place.page w.in-Some.place.index i = record { marked = c.requires.marked i low lt; lies = lies } in
           subst (λ (marks : MarkSet). AreMarksBelow o.trace.now o.mark o.answers.now o.sampled.now o.buckets.now (i + 1) 0 marks) (sym w.marks-is)
           (below-marked o.trace.now o.mark o.answers.now o.sampled.now o.buckets.now i 0 w.in-Some.place.page w.in-Some.place.index c.loop-object.marks w.add.new.self
           c.loop-object.invariant at w.in_ok-add.ensures.marked w.in_ok-add.ensures.dead))
       | in_default w ↦ (
-          let none : get_or o.places.now i None ≡ None = none-of (get_or o.places.now i None) w.in_default.not-Some in
+          let none : get_or o.places.now i None ≡ None = sym read ∙ none-of c.place.result w.in_default.not-Some in
           let nowhere = given.found i None (slice_get-get_or o.places.now i None inside ∙ ap Some none) in
           subst (λ (marks : MarkSet). AreMarksBelow o.trace.now o.mark o.answers.now o.sampled.now o.buckets.now (i + 1) 0 marks) (sym w.marks-is)
           (below-unmarked o.trace.now o.mark o.answers.now o.sampled.now o.buckets.now i (i + 1) 0 c.loop-object.marks (omega arith)
