@@ -12,7 +12,7 @@ use Rattle.trace_reader.specs.declared.trace.Event.{Event}
 use Rattle.cycle_history.specs.declared.Answer.{Answer}
 use Rattle.cycle_history.specs.declared.Answer.TheVariants.{Zero}
 use Rattle.cycle_history.specs.declared.Total.{Total}
-use Rattle.cycle_history.specs.declared.totals.Count.{Count}
+use Rattle.cycle_history.specs.declared.totals.Counts.{Counts}
 use Rattle.cycle_history.specs.Needs.{Need, IsNeed}
 use Rattle.cycle_history.specs.Requests.{Request, requests_from, requests_of, marked_by, last_cycle, is_within}
 use Rattle.cycle_history.specs.Objects.{Object, is_placed, live}
@@ -143,7 +143,7 @@ last-request t n r h =
 -- ---- counts
 
 -- none of the objects
-pub counts-none : (t : Trace) (answers : List Answer) (counts : List Count) → ((class : ℕ) → ((of_class counts class).mallocs ≡ 0) × ((of_class counts class).frees ≡ 0)) → AreCounts t answers 0 counts
+pub counts-none : (t : Trace) (answers : List Answer) (counts : Counts) → ((class : ℕ) → ((of_class counts class).mallocs ≡ 0) × ((of_class counts class).frees ≡ 0)) → AreCounts t answers 0 counts
 counts-none t answers counts zeros = record {
   few = λ class. (let z = zeros class in let a = z.0 in let b = z.1 in ((omega arith), (omega arith)));
   mallocs = λ objects class first lt. (zeros class).0 ∙ empty objects first.asked (is_placed_of class);
@@ -155,7 +155,7 @@ counts-none t answers counts zeros = record {
     empty (o ∷ objects) h test = absurd h
 
 -- an object that isn't placed
-pub counts-other : (t : Trace) (answers : List Answer) (n : ℕ) (r : Request) (a : Answer) (counts : List Count) → slice_get (requests_from 0 t.cycles) n ≡ Some r → slice_get answers n ≡ Some a → is_placed a ≡ false
+pub counts-other : (t : Trace) (answers : List Answer) (n : ℕ) (r : Request) (a : Answer) (counts : Counts) → slice_get (requests_from 0 t.cycles) n ≡ Some r → slice_get answers n ≡ Some a → is_placed a ≡ false
     → AreCounts t answers n counts → AreCounts t answers (n + 1) counts
 counts-other t answers n r a counts at-r at-a off old = record {
   few = λ class. (let f = old.few class in let x = f.0 in let y = f.1 in ((omega arith), (omega arith)));
@@ -174,7 +174,7 @@ counts-other t answers n r a counts at-r at-a off old = record {
     passed test o os out = rw out (omega arith)
 
 -- a placed object of a class
-pub counts-placed : (t : Trace) (answers : List Answer) (n : ℕ) (r : Request) (a : Answer) (old new : List Count) (class : ℕ) (lives : Bool)
+pub counts-placed : (t : Trace) (answers : List Answer) (n : ℕ) (r : Request) (a : Answer) (old new : Counts) (class : ℕ) (lives : Bool)
     → slice_get (requests_from 0 t.cycles) n ≡ Some r → slice_get answers n ≡ Some a → is_placed a ≡ true
     → ((scan : Bool) (need : Need) → IsNeed r.event.size scan need → need.class / 2 ≡ class) → 1 ≤ r.event.size
     → lives ≡ (leb (objects_before t (last_cycle t)) n || is_within (marks_at t (last_cycle t)) n)
@@ -249,7 +249,7 @@ rising-more (x ∷ totals) total rising above = (
   rising-more totals total rising.1 (λ y h. above y (inr h)),
 )
 
-pub listed-none : (counts : List Count) → AreListed counts 0 []
+pub listed-none : (counts : Counts) → AreListed counts 0 []
 listed-none counts = record {
   order = tt;
   below = λ total h. absurd h;
@@ -260,7 +260,7 @@ listed-none counts = record {
 }
 
 -- a class without objects is left out
-pub listed-empty : (counts : List Count) (class : ℕ) (totals : List Total) → (of_class counts class).mallocs ≡ 0 → AreListed counts class totals → AreListed counts (class + 1) totals
+pub listed-empty : (counts : Counts) (class : ℕ) (totals : List Total) → (of_class counts class).mallocs ≡ 0 → AreListed counts class totals → AreListed counts (class + 1) totals
 listed-empty counts class totals empty listed = record {
   order = listed.order;
   below = λ total h. (let lt = listed.below total h in omega arith);
@@ -274,7 +274,7 @@ listed-empty counts class totals empty listed = record {
 }
 
 -- and any other is told
-pub listed-more : (counts : List Count) (class : ℕ) (totals : List Total) (total : Total) → total.class ≡ class → 1 ≤ total.mallocs → total.mallocs ≡ (of_class counts class).mallocs → total.frees ≡ (of_class counts class).frees
+pub listed-more : (counts : Counts) (class : ℕ) (totals : List Total) (total : Total) → total.class ≡ class → 1 ≤ total.mallocs → total.mallocs ≡ (of_class counts class).mallocs → total.frees ≡ (of_class counts class).frees
     → AreListed counts class totals → AreListed counts (class + 1) (totals ++ total ∷ [])
 listed-more counts class totals total is positive mallocs frees listed = record {
   order = rising-more totals total listed.order (λ x h. (let lt = listed.below x h in omega arith));
@@ -325,7 +325,7 @@ count-some test (x ∷ objects) o h on =
     ]
 
 -- all of them are the totals of the objects
-pub listed-all : (t : Trace) (answers : List Answer) (counts : List Count) (totals : List Total) (objects : List Object) → length answers ≡ length (requests_from 0 t.cycles)
+pub listed-all : (t : Trace) (answers : List Answer) (counts : Counts) (totals : List Total) (objects : List Object) → length answers ≡ length (requests_from 0 t.cycles)
     → AreCounts t answers (length answers) counts → AreListed counts 68 totals → AreObjectsOf t answers objects → AreTotals (marked_by t) (last_cycle t) objects totals
 listed-all t answers counts totals objects all are listed of =
     let first : AreFirstOf t answers (length answers) objects = record {

@@ -1,19 +1,22 @@
 -- What is counted of the objects of each size class.
-use Rattle.std.specs.Prelude.{◌≡◌, ℕ, ◌<◌, ◌≤◌, Bool, ◌&&◌, not, List, map, reverse, take, slice_index_or, Some, ◌↔◌}
+use Rattle.std.specs.Prelude.{◌≡◌, ℕ, ◌+◌, ◌<◌, ◌≤◌, nat_le, Bool, ◌&&◌, ◌||◌, not, List, length, map, reverse, take, slice_index_or, Some, ◌↔◌}
 use Rattle.std.specs.List.{slice_get}
 use Rattle.page_alloc.specs.Lists.{In, count}
 use Rattle.trace_reader.specs.declared.trace.Trace.{Trace}
+use Rattle.trace_reader.specs.declared.trace.Cycle.{Cycle}
 use Rattle.trace_reader.specs.declared.trace.Event.{Event}
 use Rattle.trace_reader.specs.Limits.{events_of}
 use Rattle.cycle_history.specs.declared.Answer.{Answer}
 use Rattle.cycle_history.specs.declared.Answer.TheVariants.{Zero}
 use Rattle.cycle_history.specs.declared.Total.{Total}
+use Rattle.cycle_history.specs.declared.totals.Asked.{Asked}
 use Rattle.cycle_history.specs.declared.totals.Count.{Count}
+use Rattle.cycle_history.specs.declared.totals.Counts.{Counts}
 use Rattle.cycle_history.specs.declared.totals.Living.{Living}
-use Rattle.cycle_history.specs.Requests.{requests_from, requests_of, marked_by, last_cycle}
+use Rattle.cycle_history.specs.Requests.{requests_from, requests_of, is_within, marked_by, last_cycle}
 use Rattle.cycle_history.specs.Objects.{Object, live}
 use Rattle.cycle_history.specs.Orders.{AreRisingTotals}
-use Rattle.cycle_history.specs.Marked.{marks_at, objects_before}
+use Rattle.cycle_history.specs.Marked.{IsLimited, marks_at, objects_before}
 use Rattle.cycle_history.specs.MarkedLoops.{IsBehind}
 use Rattle.cycle_history.specs.Rules.{AreAnswered}
 use Rattle.cycle_history.specs.Sweeps.{is_placed_of}
@@ -33,15 +36,18 @@ pub record AreFirstOf (t : Trace) (answers : List Answer) (n : ℕ) (objects : L
   pub printed : map (λ (o : Object). o.answer) objects ≡ reverse (take n answers)
 
 -- What was counted of a class; of a class that has no place nothing was.
-abbrev pub of_class : List Count → ℕ → Count
-of_class counts class = slice_index_or counts class (record { mallocs = 0; frees = 0 })
+abbrev pub of_class : Counts → ℕ → Count
+of_class counts class = record {
+  mallocs = slice_index_or counts.living class 0 + slice_index_or counts.dead class 0;
+  frees = slice_index_or counts.dead class 0;
+}
 
 -- An object is placed in a span of the class and doesn't live in the last cycle.
 abbrev pub is_freed_of : Trace → ℕ → Object → Bool
 is_freed_of t class o = is_placed_of class o && not (live (marked_by t) (last_cycle t) o)
 
 -- The counts are those of the first n objects.
-pub record AreCounts (t : Trace) (answers : List Answer) (n : ℕ) (counts : List Count) : Type 0 where
+pub record AreCounts (t : Trace) (answers : List Answer) (n : ℕ) (counts : Counts) : Type 0 where
   pub few : (class : ℕ) → ((of_class counts class).mallocs ≤ n) × ((of_class counts class).frees ≤ n)
   pub mallocs : (objects : List Object) (class : ℕ) → AreFirstOf t answers n objects → class < 68 → (of_class counts class).mallocs ≡ count (is_placed_of class) objects
   pub frees : (objects : List Object) (class : ℕ) → AreFirstOf t answers n objects → class < 68 → (of_class counts class).frees ≡ count (is_freed_of t class) objects
@@ -52,8 +58,21 @@ pub record AreLiving (t : Trace) (n : ℕ) (living : Living) : Type 0 where
   pub spans : living.marked.spans.now ≡ marks_at t (last_cycle t)
   pub behind : IsBehind living.marked n
 
+-- All objects from low up to high live in the last cycle, where they are placed, or all don't.
+abbrev pub LiveAlike : Trace → Bool → ℕ → ℕ → Type 0
+LiveAlike t lives low high = (i : ℕ) → low ≤ i → i < high → (nat_le (objects_before t (last_cycle t)) i || is_within (marks_at t (last_cycle t)) i) ≡ lives
+
+-- The objects are those of a cycle of a trace within the limits, and there is an answer for each object of the trace.
+pub record AreAsked (asked : Asked) : Type 0 where
+  pub limited : IsLimited asked.trace.now
+  pub answers : length asked.answers.now ≡ length (events_of asked.trace.now)
+  pub zeros : AreZeros asked.trace.now asked.answers.now
+  pub inside : asked.cycle < length asked.trace.now.cycles
+  pub events : (d : Cycle) → asked.events.now ≡ (slice_index_or asked.trace.now.cycles asked.cycle d).events
+  pub first : asked.first ≡ objects_before asked.trace.now asked.cycle
+
 -- The totals are those of the classes below a bound that have objects.
-pub record AreListed (counts : List Count) (bound : ℕ) (totals : List Total) : Type 0 where
+pub record AreListed (counts : Counts) (bound : ℕ) (totals : List Total) : Type 0 where
   pub order : AreRisingTotals totals
   pub below : (total : Total) → In total totals → total.class < bound
   pub some : (total : Total) → In total totals → 1 ≤ total.mallocs

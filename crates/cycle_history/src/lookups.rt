@@ -1,6 +1,6 @@
 //! The spans of numbers that a mark end marks, and whether they have a number.
 
-ghost use Rattle.std.specs.Prelude.{◌≡◌, ◌+◌, ◌<◌, ◌≤◌};
+ghost use Rattle.std.specs.Prelude.{◌≡◌, ℕ, ◌+◌, ◌<◌, ◌≤◌, length, slice_index_or};
 ghost use Rattle.trace_reader.specs.Limits.{AreSpans};
 ghost use Rattle.cycle_history.specs.Requests.{is_within, last_cycle};
 ghost use Rattle.cycle_history.specs.Marked.{marks_at};
@@ -21,8 +21,8 @@ pub(crate) fn spans_at(trace: &Trace, mark: u32) -> &[Span]
     }
 }
 
-/// A walk along spans that rise, beside numbers that do so too: each number is asked for at most once, and no span is
-/// looked at again that ends below it.
+/// A walk along spans that rise, beside numbers that do so too: each number is asked for at most once, alone or in a
+/// run, and no span is looked at again that ends below it.
 #[derive(Drop)]
 pub(crate) struct Walk<'a> {
     /// The spans.
@@ -42,9 +42,44 @@ impl Walk<'_> {
         ensures spans { self.new.spans.now ≡ self.old.spans.now }
         ensures behind { IsBehind self.new (number + 1) }
     {
+        self.pass(number);
+        self.next < self.spans.len() && self.spans[self.next].lo as usize <= number
+    }
+
+    /// Whether one of the spans has the number, and up to which number, the end at most, the answer stays the same.
+    pub(crate) fn run(&mut self, number: usize, end: usize) -> (bool, usize)
+        requires rise { AreSpans 0 self.old.spans.now }
+        requires behind { IsBehind self.old number }
+        requires order { number < end }
+        ensures has { (i : ℕ) → number ≤ i → i < result.1 → is_within self.old.spans.now i ≡ result.0 }
+        ensures order { (number < result.1) × (result.1 ≤ end) }
+        ensures spans { self.new.spans.now ≡ self.old.spans.now }
+        ensures behind { IsBehind self.new result.1 }
+    {
+        self.pass(number);
+        if self.next == self.spans.len() {
+            return (false, end);
+        }
+        let span = self.spans[self.next];
+        let has = span.lo as usize <= number;
+        let stop = if has {
+            span.hi as usize + 1
+        } else {
+            span.lo as usize
+        };
+        (has, stop.min(end))
+    }
+
+    // Leaves the spans behind that end below the number.
+    #[inline(always)]
+    fn pass(&mut self, number: usize)
+        requires { IsBehind self.old number }
+        ensures spans { self.new.spans.now ≡ self.old.spans.now }
+        ensures behind { IsBehind self.new number }
+        ensures next { (d : Span) → self.new.next < length self.new.spans.now → number ≤ (slice_index_or self.new.spans.now self.new.next d).hi }
+    {
         while self.next < self.spans.len() && (self.spans[self.next].hi as usize) < number {
             self.next += 1;
         }
-        self.next < self.spans.len() && self.spans[self.next].lo as usize <= number
     }
 }

@@ -1,16 +1,15 @@
 //! The totals of a trace's size classes.
 
-ghost use Rattle.std.specs.Prelude.{◌≡◌, ℕ, ◌+◌, ◌/◌, ◌^◌, ◌<◌, ◌≤◌, ◌==◌, ◌&&◌, ◌||◌, nat_le, not, Bool, List as Items, length, slice_index_or, IfOk};
+ghost use Rattle.std.specs.Prelude.{◌≡◌, ℕ, ◌+◌, ◌/◌, ◌^◌, ◌<◌, ◌≤◌, ◌==◌, ◌&&◌, ◌||◌, nat_le, not, Bool, List as Items, length, IfOk};
 ghost use Rattle.page_alloc.specs.Lists.{one_if};
 ghost use Rattle.trace_reader.specs.Limits.{AreSpans, events_of};
 ghost use Rattle.cycle_history.specs.Needs.{Need, IsNeed};
 ghost use Rattle.cycle_history.specs.Requests.{is_within, last_cycle, marked_by};
 ghost use Rattle.cycle_history.specs.Objects.{Object, is_placed as is_placed_at};
 ghost use Rattle.cycle_history.specs.Sweeps.{AreTotals};
-ghost use Rattle.trace_reader.specs.declared.trace.Cycle.{Cycle};
 ghost use Rattle.cycle_history.specs.Marked.{IsLimited, objects_before};
 ghost use Rattle.cycle_history.specs.MarkedLoops.{IsBehind};
-ghost use Rattle.cycle_history.specs.Counted.{AreCounts, AreLiving, AreObjectsOf, AreZeros, of_class};
+ghost use Rattle.cycle_history.specs.Counted.{AreAsked, AreCounts, AreLiving, AreObjectsOf, AreZeros, LiveAlike, of_class};
 
 use crate::lookups::{Walk, spans_at};
 use crate::{Answer, Total};
@@ -50,7 +49,7 @@ pub fn totals_of(
     let counts = counts_of(trace, answers.as_slice());
     let mut totals = List::new(alloc);
     for class in 0..CLASSES {
-        let count = counts[class];
+        let count = counts.of(class);
         if count.mallocs != 0 {
             totals.push(Total {
                 class: class as u8,
@@ -63,7 +62,7 @@ pub fn totals_of(
 }
 
 // What there is of each size class.
-fn counts_of(trace: &Trace, answers: &[Answer]) -> [Count; CLASSES]
+fn counts_of(trace: &Trace, answers: &[Answer]) -> Counts
     requires limited { IsLimited trace.now }
     requires answers { length answers.now ≡ length (events_of trace.now) }
     requires zeros { AreZeros trace.now answers.now }
@@ -78,63 +77,126 @@ fn counts_of(trace: &Trace, answers: &[Answer]) -> [Count; CLASSES]
             next: 0,
         },
     };
-    let mut counts = no_counts();
+    let mut counts = Counts::none();
     let mut first = 0;
     for cycle in 0..cycles.len() {
         let events = cycles[cycle].events.as_slice();
-        count_cycle(
+        let asked = Asked {
             trace,
             cycle,
             events,
             first,
             answers,
-            &mut living,
-            &mut counts,
-        );
+        };
+        asked.count(&mut living, &mut counts);
         first += events.len();
     }
     counts
 }
 
-// Counts the objects of a cycle, which has these events and this first object.
-fn count_cycle(
-    trace: &Trace,
+// The objects of a cycle.
+#[derive(Drop)]
+struct Asked<'a> {
+    trace: &'a Trace,
     cycle: usize,
-    events: &[Event],
+    // their events
+    events: &'a [Event],
+    // the first of them
     first: usize,
-    answers: &[Answer],
-    living: &mut Living,
-    counts: &mut [Count; CLASSES],
-)
-    requires limited { IsLimited trace.now }
-    requires answers { length answers.now ≡ length (events_of trace.now) }
-    requires zeros { AreZeros trace.now answers.now }
-    requires inside { cycle < length trace.now.cycles }
-    requires events { (d : Cycle) → events.now ≡ (slice_index_or trace.now.cycles cycle d).events }
-    requires first { first ≡ objects_before trace.now cycle }
-    requires living { AreLiving trace.now first living.old }
-    requires counted { AreCounts trace.now answers.now first counts.old }
-    ensures living { AreLiving trace.now (first + length events.now) living.new }
-    ensures counted { AreCounts trace.now answers.now (first + length events.now) counts.new }
-{
-    for number in 0..events.len() {
-        let object = first + number;
-        if is_placed(answers[object]) {
-            let class = size_class(events[number].size);
-            let lives = living.has(object);
-            add(counts, class, lives);
+    // what all objects of the trace got
+    answers: &'a [Answer],
+}
+
+impl Asked<'_> {
+    // Counts them, in runs of objects that all live or all don't.
+    fn count(&self, living: &mut Living, counts: &mut Counts)
+        requires given { AreAsked self.now }
+        requires living { AreLiving self.now.trace.now self.now.first living.old }
+        requires counted { AreCounts self.now.trace.now self.now.answers.now self.now.first counts.old }
+        ensures living { AreLiving self.now.trace.now (self.now.first + length self.now.events.now) living.new }
+        ensures counted { AreCounts self.now.trace.now self.now.answers.now (self.now.first + length self.now.events.now) counts.new }
+    {
+        let end = self.first + self.events.len();
+        let mut low = self.first;
+        while low < end {
+            let (lives, high) = living.run(low, end);
+            if lives {
+                self.count_run(low, high, true, counts);
+            } else {
+                self.count_run(low, high, false, counts);
+            }
+            low = high;
+        }
+    }
+
+    // Counts those from low up to high, which all live in the last cycle or all don't. It is written out at each call,
+    // so that its loop doesn't ask.
+    #[inline(always)]
+    fn count_run(&self, low: usize, high: usize, lives: bool, counts: &mut Counts)
+        requires given { AreAsked self.now }
+        requires low { self.now.first ≤ low }
+        requires order { low ≤ high }
+        requires high { high ≤ self.now.first + length self.now.events.now }
+        requires lives { LiveAlike self.now.trace.now lives low high }
+        requires counted { AreCounts self.now.trace.now self.now.answers.now low counts.old }
+        ensures { AreCounts self.now.trace.now self.now.answers.now high counts.new }
+    {
+        for object in low..high {
+            if is_placed(self.answers[object]) {
+                let class = size_class(self.events[object - self.first].size);
+                counts.add(class, lives);
+            }
         }
     }
 }
 
-// Nothing counted.
-fn no_counts() -> [Count; CLASSES]
-    ensures { (k : ℕ) → ((of_class result k).mallocs ≡ 0) × ((of_class result k).frees ≡ 0) }
-{
-    [Count {
-        mallocs: 0,
-        frees: 0,
-    }; CLASSES]
+// The placed objects of each size class.
+#[derive(Clone, Copy)]
+struct Counts {
+    // those that live in the last cycle
+    living: [u64; CLASSES],
+    // and those that don't
+    dead: [u64; CLASSES],
+}
+
+impl Counts {
+    // Nothing counted.
+    fn none() -> Self
+        ensures { (k : ℕ) → ((of_class result k).mallocs ≡ 0) × ((of_class result k).frees ≡ 0) }
+    {
+        Counts {
+            living: [0; CLASSES],
+            dead: [0; CLASSES],
+        }
+    }
+
+    // What was counted of a class.
+    fn of(&self, class: usize) -> Count
+        requires class { class < 68 }
+        requires room { (of_class self.now class).mallocs < 2 ^ 64 }
+        ensures { result ≡ of_class self.now class }
+    {
+        let frees = self.dead[class];
+        Count {
+            mallocs: self.living[class] + frees,
+            frees,
+        }
+    }
+
+    // Counts a placed object.
+    #[inline(always)]
+    fn add(&mut self, class: u8, lives: bool)
+        requires class { class < 68 }
+        requires room { (k : ℕ) → (of_class self.old k).mallocs < 2 ^ 63 }
+        ensures mallocs { (k : ℕ) → (of_class self.new k).mallocs ≡ one_if (k == class) + (of_class self.old k).mallocs }
+        ensures frees { (k : ℕ) → (of_class self.new k).frees ≡ one_if (k == class && not lives) + (of_class self.old k).frees }
+    {
+        if lives {
+            self.living[class as usize] += 1;
+        } else {
+            self.dead[class as usize] += 1;
+        }
+    }
 }
 
 fn is_placed(answer: Answer) -> bool
@@ -153,29 +215,21 @@ struct Living<'a> {
 }
 
 impl Living<'_> {
-    // Whether an object is one of them, where it is placed.
-    fn has(&mut self, object: usize) -> bool
+    // Whether an object is one of them, where it is placed, and up to which object, the end at most, the answer stays
+    // the same.
+    fn run(&mut self, object: usize, end: usize) -> (bool, usize)
         requires rise { AreSpans 0 self.old.marked.spans.now }
         requires behind { IsBehind self.old.marked object }
-        ensures has { result ≡ (nat_le self.old.newest object || is_within self.old.marked.spans.now object) }
+        requires order { object < end }
+        ensures lives { (i : ℕ) → object ≤ i → i < result.1 → (nat_le self.old.newest i || is_within self.old.marked.spans.now i) ≡ result.0 }
+        ensures order { (object < result.1) × (result.1 ≤ end) }
         ensures same { (self.new.newest ≡ self.old.newest) × (self.new.marked.spans.now ≡ self.old.marked.spans.now) }
-        ensures behind { IsBehind self.new.marked (object + 1) }
+        ensures behind { IsBehind self.new.marked result.1 }
     {
-        object >= self.newest || self.marked.has(object)
-    }
-}
-
-// Counts a placed object.
-fn add(counts: &mut [Count; CLASSES], class: u8, lives: bool)
-    requires class { class < 68 }
-    requires room { (k : ℕ) → ((of_class counts.old k).mallocs < 2 ^ 63) × ((of_class counts.old k).frees < 2 ^ 63) }
-    ensures mallocs { (k : ℕ) → (of_class counts.new k).mallocs ≡ one_if (k == class) + (of_class counts.old k).mallocs }
-    ensures frees { (k : ℕ) → (of_class counts.new k).frees ≡ one_if (k == class && not lives) + (of_class counts.old k).frees }
-{
-    let count = &mut counts[class as usize];
-    count.mallocs += 1;
-    if !lives {
-        count.frees += 1;
+        if object >= self.newest {
+            return (true, end);
+        }
+        self.marked.run(object, end.min(self.newest))
     }
 }
 

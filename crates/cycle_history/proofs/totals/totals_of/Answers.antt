@@ -2,6 +2,7 @@ use Rattle.std.proofs.Common.{◌≡◌, ℕ, ◌+◌, List, ◌∷◌, [], ◌+
 use Rattle.std.proofs.lemmas.List.{length-map}
 use Rattle.trace_reader.specs.declared.trace.Event.{Event}
 use Rattle.cycle_history.specs.declared.Answer.{Answer}
+use Rattle.cycle_history.specs.declared.totals.Count.{Count}
 use Rattle.cycle_history.specs.declared.Total.{Total}
 use Rattle.cycle_history.specs.Requests.{Request, requests_from}
 use Rattle.cycle_history.specs.Counted.{AreCounts, AreListed, of_class}
@@ -14,14 +15,17 @@ pub loop-class-preserved : goal.loop-class-preserved
 loop-class-preserved c =
     let counts = c.counts_of-counts.result in
     let class = c.loop-class.class in
+    let is = c.of-count.ensures in
+    let mallocs : c.of-count.result.mallocs ≡ (of_class counts class).mallocs = ap (λ (x : Count). x.mallocs) is in
+    let frees : c.of-count.result.frees ≡ (of_class counts class).frees = ap (λ (x : Count). x.frees) is in
     elim c.if-count-ne0.branch [
       | then-count-ne0+in_ok-push w ↦ (
-          let total : Total = record { class = class; mallocs = (of_class counts class).mallocs; frees = (of_class counts class).frees } in
+          let total : Total = record { class = class; mallocs = c.of-count.result.mallocs; frees = c.of-count.result.frees } in
           let pushed : w.push.new.self ≡ c.loop-class.totals ++ total ∷ [] = w.in_ok-push.ensures.ok in
           let some = w.if-count-ne0.true in
           subst (λ (totals : List Total). AreListed counts (class + 1) totals) (sym (w.totals-is ∙ pushed))
-          (listed-more counts class c.loop-class.totals total refl (omega arith) refl refl c.loop-class.invariant))
-      | else-count-ne0 w ↦ subst (λ (totals : List Total). AreListed counts (class + 1) totals) (sym w.totals-is) (listed-empty counts class c.loop-class.totals w.if-count-ne0.false c.loop-class.invariant)
+          (listed-more counts class c.loop-class.totals total refl (omega arith) mallocs frees c.loop-class.invariant))
+      | else-count-ne0 w ↦ subst (λ (totals : List Total). AreListed counts (class + 1) totals) (sym w.totals-is) (listed-empty counts class c.loop-class.totals (sym mallocs ∙ w.if-count-ne0.false) c.loop-class.invariant)
     ]
 
 pub returns : goal.returns

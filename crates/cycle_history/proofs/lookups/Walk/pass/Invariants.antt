@@ -1,6 +1,6 @@
 use Rattle.std.proofs.Common.{◌≡◌, ℕ, ◌-◌, ◌<◌, ◌≤◌, length, get_or}
 use Rattle.trace_reader.specs.declared.trace.Span.{Span}
-use Rattle.cycle_history.proofs.lookups.Walk.has.Given as goal
+use Rattle.cycle_history.proofs.lookups.Walk.pass.Given as goal
 
 -- the spans left behind so far end below the number
 abbrev pub invariant-loop-self : goal.invariant-loop-self
