@@ -55,7 +55,7 @@ pub fn marks_of(
 {
     let first = places.len();
     let events = trace.cycles.as_slice()[mark as usize - 1].events.as_slice();
-    find_places(trace, mark - 1, events, answers.as_slice(), places)?;
+    find_places(alloc, trace, mark - 1, events, answers.as_slice(), places)?;
     let objects = Objects {
         trace,
         mark,

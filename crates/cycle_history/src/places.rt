@@ -1,6 +1,6 @@
 //! Where an object lies, found from its size and its address.
 
-ghost use Rattle.std.specs.Prelude.{◌≡◌, ◌≢◌, ℕ, ◌+◌, ◌*◌, ◌^◌, ◌<◌, ◌≤◌, length, slice_index_or, None, IfSome, OnOk};
+ghost use Rattle.std.specs.Prelude.{◌≡◌, ◌≢◌, ℕ, ◌+◌, ◌*◌, ◌^◌, ◌<◌, ◌≤◌, length, slice_index_or, vec_capacity, vec_len, None, IfSome, OnOk};
 ghost use Rattle.size_classes.specs.Classes.{IsClass, slot_of, objects_of};
 ghost use Rattle.trace_reader.specs.declared.trace.Cycle.{Cycle};
 ghost use Rattle.cycle_history.specs.declared.Answer.TheVariants.{Placed};
@@ -12,7 +12,9 @@ ghost use Rattle.cycle_history.specs.Packed.{HasRoom};
 use crate::Answer;
 use edge_io::{List, NoMemory};
 use size_classes::{Kind, PAGE_SIZE, REGION_START, class_of, slot_size, span_objects};
+use std::alloc::Global;
 use std::marker::Model;
+use std::mem::replace;
 use trace_reader::{Event, Trace};
 
 // The bytes of a page.
@@ -84,9 +86,11 @@ impl PackedPlace {
     }
 }
 
-/// Finds the places of a cycle's objects, which have these events, and puts them behind those of the objects before.
+/// Finds the places of a cycle's objects, which have these events, and puts them behind those of the objects before. Without memory
+/// the list may be lost.
 #[inline(never)]
 pub(crate) fn find_places(
+    alloc: Global,
     trace: &Trace,
     cycle: u32,
     events: &[Event],
@@ -103,12 +107,38 @@ pub(crate) fn find_places(
     ensures kept { OnOk result (length places.new ≡ objects_before trace.now (cycle + 1)) }
     ensures found { OnOk result (AreFound trace.now answers.now places.new) }
 {
+    let mut items = replace(places, List::new(alloc)).into_vec();
+    items.reserve(events.len())?;
+    push_places(trace, cycle, events, answers, &mut items);
+    *places = List::from_vec(items);
+    Ok(())
+}
+
+// Does so in a list that has room for them.
+#[inline(always)]
+fn push_places(
+    trace: &Trace,
+    cycle: u32,
+    events: &[Event],
+    answers: &[Answer],
+    places: &mut Vec<PackedPlace>,
+)
+    requires limited { IsLimited trace.now }
+    requires inside { cycle < length trace.now.cycles }
+    requires events { (d : Cycle) → events.now ≡ (slice_index_or trace.now.cycles cycle d).events }
+    requires answers { length answers.now ≡ objects_before trace.now (cycle + 1) }
+    requires placed { ArePlaces trace.now answers.now }
+    requires kept { length places.old.items ≡ objects_before trace.now cycle }
+    requires found { AreFound trace.now answers.now places.old.items }
+    requires room { vec_len places.old + length events.now ≤ vec_capacity places.old }
+    ensures kept { length places.new.items ≡ objects_before trace.now (cycle + 1) }
+    ensures found { AreFound trace.now answers.now places.new.items }
+{
     let first = places.len();
     for number in 0..events.len() {
         let place = find_place(events[number].size, answers[first + number]);
-        places.push(PackedPlace::new(place))?;
+        places.push_reserved(PackedPlace::new(place));
     }
-    Ok(())
 }
 
 // The place of an object of this size with this answer, if it is placed.

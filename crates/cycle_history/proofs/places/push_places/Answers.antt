@@ -11,7 +11,7 @@ use Rattle.cycle_history.specs.declared.places.Place.{Place}
 use Rattle.cycle_history.specs.Marked.{objects_before}
 use Rattle.cycle_history.specs.Found.{AreFound, IsFound}
 use Rattle.cycle_history.proofs.Found.{cycle-event, cycle-few, cycle-more, found-more, found-of, has-place, size-fits}
-use Rattle.cycle_history.proofs.places.find_places.Goals as goal
+use Rattle.cycle_history.proofs.places.push_places.Goals as goal
 
 none : Event
 none = record { proc = 0; size = 0; scan = false; stack = 0 }
@@ -61,11 +61,20 @@ find_place-place-requires-clause-place c = λ address is. (
     let more = cycle-more c.args.trace.now c.args.cycle c.args.events.now c.requires.inside c.requires.events in
     let all = c.requires.answers in
     let lt = c.loop-number-test.true in
-    let first : c.len-first.result ≡ objects_before c.args.trace.now c.args.cycle = c.len-first.ensures ∙ c.requires.kept in
+    let first : c.len-first.result ≡ objects_before c.args.trace.now c.args.cycle = (let l = c.len-first.ensures in let k = c.requires.kept in omega (arith, c.args.places.now.ok.0)) in
     has-place c.args.trace.now c.args.answers.now (c.len-first.result + c.loop-number.number) address (get_or c.args.events.now c.loop-number.number none) c.requires.limited c.requires.placed
     (event c.args.trace.now c.args.cycle c.loop-number.number c.len-first.result c.args.events.now (get_or c.args.events.now c.loop-number.number none) first
     (cycle-event c.args.trace.now c.args.cycle c.loop-number.number c.args.events.now none c.requires.inside c.requires.events c.loop-number-test.true))
     (answer c.args.answers.now (c.len-first.result + c.loop-number.number) address (omega arith) is))
+
+pub push_reserved-requires : goal.push_reserved-requires
+push_reserved-requires c =
+    let room = c.requires.room in
+    let lt = c.loop-number-test.true in
+    let all = c.loop-number.invariant.all in
+    let same = c.loop-number.invariant.capacity in
+    let first = c.len-first.ensures in
+    omega (arith, c.loop-number.places.ok.0, c.args.places.now.ok.0)
 
 pub loop-number-preserved : goal.loop-number-preserved
 unfolding none
@@ -75,9 +84,9 @@ loop-number-preserved c =
     let more = cycle-more t c.args.cycle c.args.events.now c.requires.inside c.requires.events in
     let all = c.requires.answers in
     let lt = c.loop-number-test.true in
-    let first : c.len-first.result ≡ objects_before t c.args.cycle = c.len-first.ensures ∙ c.requires.kept in
+    let first : c.len-first.result ≡ objects_before t c.args.cycle = (let l = c.len-first.ensures in let k = c.requires.kept in omega (arith, c.args.places.now.ok.0)) in
     let inside : c.len-first.result + n < length c.args.answers.now = omega arith in
-    let pushed = c.in_ok-push.ensures.ok in
+    let pushed = c.push_reserved.ensures.items in
     let size = c.loop-number.invariant.all in
     let found : IsFound t c.args.answers.now (c.len-first.result + n) c.new.result =
     subst (λ (x : Option Place). IsFound t c.args.answers.now (c.len-first.result + n) x) (sym c.new.ensures)
@@ -87,9 +96,10 @@ loop-number-preserved c =
     (slice_get-get_or c.args.answers.now (c.len-first.result + n) (Placed 0) inside)
     c.find_place-place.ensures.place) in
     record {
-      all = ap (λ (xs : List (Option Place)). length xs) pushed ∙ length_push c.loop-number.places c.new.result ∙ omega arith;
+      all = ap (λ (xs : List (Option Place)). length xs) pushed ∙ length_push c.loop-number.places.items c.new.result ∙ omega arith;
+      capacity = c.push_reserved.ensures.capacity ∙ c.loop-number.invariant.capacity;
       found = subst (λ (xs : List (Option Place)). AreFound t c.args.answers.now xs) (sym pushed)
-          (found-more t c.args.answers.now c.loop-number.places c.new.result c.loop-number.invariant.found
+          (found-more t c.args.answers.now c.loop-number.places.items c.new.result c.loop-number.invariant.found
           (subst (λ (k : ℕ). IsFound t c.args.answers.now k c.new.result) (sym size) found));
     }
 
