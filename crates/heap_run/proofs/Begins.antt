@@ -60,6 +60,7 @@ pub record HasStarted (t : Trace) (workers slots : ℕ) (run : Run) : Type 0 whe
   pub sampled : run.sampled ≡ []
   pub buckets : run.buckets ≡ []
   pub places : run.places ≡ []
+  pub clear : run.clear ≡ 0
   pub dead : (page : ℕ) → dead_of run.marks page ≡ []
   pub tally : run.driver.tally ≡ record { ring = run.profile.ring; view = first_tally }
   pub some : 1 ≤ run.profile.ring.buckets
@@ -128,6 +129,7 @@ begun-first t workers slots run many s =
         notes = s.notes;
         kept = ap (λ (l : List (Option Place)). length l) s.places;
         found = found-none t run.answers run.places s.places;
+        clear = record { inside = (let zero = s.clear in omega arith); unset = λ i low. (let zero = s.clear in absurd (omega arith)) };
       };
       objects = [];
       asked = asked-none t run.answers s.answers;

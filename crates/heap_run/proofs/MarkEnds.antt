@@ -13,7 +13,7 @@ use Rattle.worker_log.specs.Logs.{placings}
 use Rattle.worker_log.specs.Entries.{is_seen_empty, many}
 use Rattle.worker_log.proofs.Logs.{many-append}
 use Rattle.cycle_history.specs.Found.{AreFound}
-use Rattle.cycle_history.specs.Marked.{AreMarksOf, AreObjectsBefore, objects_before}
+use Rattle.cycle_history.specs.Marked.{AreClear, AreMarksOf, AreObjectsBefore, objects_before}
 use Rattle.cycle_history.specs.Objects.{Object}
 use Rattle.cycle_history.specs.Requests.{marked_by, region_of}
 use Rattle.sound_run.specs.Run.{IsRun}
@@ -187,6 +187,7 @@ pub record MarkRan (t : Trace) (c : ℕ) (old new : Run) (e : Hand) (marks : Mar
   pub profile : HasMarked t c old new marks
   pub kept : length new.places ≡ objects_before t (suc c)
   pub places : AreFound t new.answers new.places
+  pub clear : AreClear new.sampled new.clear
 
 pub mark-begins : (t : Trace) (c : ℕ) (old new : Run) (e : Hand) (marks : MarkSet) (pairs : List (ℕ × ℕ)) → HasRun t c old → MarkRan t c old new e marks pairs → HasBegun t (suc c) new
 mark-begins t c old new e marks pairs ran m =
@@ -213,6 +214,7 @@ mark-begins t c old new e marks pairs ran m =
         notes = m.notes ∙ s.notes;
         kept = m.kept;
         found = m.places;
+        clear = m.clear;
       };
       objects = ran.objects;
       asked = rw m.profile.answers ran.asked;

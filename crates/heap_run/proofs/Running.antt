@@ -1,12 +1,12 @@
 -- A run from its start over its cycles to its report.
-use Rattle.std.proofs.Common.{◌≡◌, ℕ, zero, suc, ◌+◌, ◌*◌, ◌<◌, ◌≤◌, true, false, ◌&&◌, eqb, ltb, cond, List, [], ◌∷◌, ◌++◌, map, reverse, take, length, get_or, Option, Some, refl, sym, ◌∙◌, ap, arith, ◌⊎◌, inl, inr, subst}
+use Rattle.std.proofs.Common.{◌≡◌, ℕ, zero, suc, ◌+◌, ◌*◌, ◌<◌, ◌≤◌, Bool, true, false, ◌&&◌, eqb, ltb, cond, List, [], ◌∷◌, ◌++◌, map, reverse, take, length, get_or, Option, Some, refl, sym, ◌∙◌, ap, arith, ◌⊎◌, inl, inr, subst}
 use Rattle.std.specs.List.{AllByRecursion, flat_map}
 use Rattle.std.specs.Prelude.{All, ◌^◌}
 use Rattle.std.specs.List.Sorted.{IsNonDecreasingBy, IsPermutation, IsStrictlySortedBy}
 use Rattle.std.specs.declared.cmp.Ordering.TheVariants.{Less, Equal, Greater}
 use Rattle.std.specs.Ordering.{nat_cmp, ordering_then}
 use Rattle.std.proofs.lemmas.Bool.{cases_Bool, eq-eqb}
-use Rattle.std.proofs.lemmas.List.{length-append, length-reverse, reverse-reverse, take_all}
+use Rattle.std.proofs.lemmas.List.{get_or_append_left, length-append, length-reverse, reverse-reverse, take_all}
 use lib.ListN.{get_elem?}
 use mathlib.Core.Option.{some}
 use Rattle.page_bitmap.specs.Counts.{one_if}
@@ -37,7 +37,7 @@ use Rattle.cycle_history.specs.declared.Report.{Report}
 use Rattle.cycle_history.specs.declared.places.Place.{Place}
 use Rattle.cycle_history.specs.Counted.{AreObjectsOf}
 use Rattle.cycle_history.specs.Found.{AreFound}
-use Rattle.cycle_history.specs.Marked.{AreObjectsBefore, IsLimited}
+use Rattle.cycle_history.specs.Marked.{AreClear, AreObjectsBefore, IsLimited}
 use Rattle.cycle_history.specs.Objects.{Object}
 use Rattle.cycle_history.specs.Requests.{last_cycle, marked_by, region_of}
 use Rattle.cycle_history.specs.Sound.{HasAnswers, HasForm, IsSoundAndUsed, past_in}
@@ -245,6 +245,13 @@ drives-on start procs d e is driving =
       uncached = λ i past. subst (λ (w : Seen). (part_at w i).cached ≡ []) (sym is) (now.uncached i past);
     }
 
+-- where none of the first objects is sampled, none is with more objects behind
+clear-more : (old more : List Bool) (n : ℕ) → AreClear old n → AreClear (old ++ more) n
+clear-more old more n clear = record {
+  inside = (let long = length-append old more in let within = clear.inside in omega arith);
+  unset = λ i low. get_or_append_left old more false i (let within = clear.inside in omega arith) ∙ clear.unset i low;
+}
+
 -- What a cycle's calls left: the workers worked, the answers were merged, and the notes filed.
 pub record CycleRan (t : Trace) (c : ℕ) (d : Cycle) (old new : Run) (queues : List (List Event)) (given : List (List Answer)) (ended : Hand) : Type 0 where
   pub inside : c < length t.cycles
@@ -263,6 +270,7 @@ pub record CycleRan (t : Trace) (c : ℕ) (d : Cycle) (old new : Run) (queues : 
   pub notes : new.driver.notes.items ≡ []
   pub shared : new.shared ≡ old.shared
   pub places : new.places ≡ old.places
+  pub clear : new.clear ≡ old.clear
   pub tallied : HasTallied t c d old new queues given more ended
 
 pub cycle-run : (t : Trace) (c : ℕ) (d : Cycle) (old new : Run) (queues : List (List Event)) (given : List (List Answer)) (ended : Hand) → WithinLimits t → HasBegun t c old → CycleRan t c d old new queues given ended → HasRun t c new
@@ -309,6 +317,8 @@ cycle-run t c d old new queues given ended limits begun ran =
         kept = ap (λ (l : List (Option Place)). length l) ran.places ∙ s.kept;
         found = subst (λ (l : List Answer). AreFound t l new.places) (sym ran.grown) (subst (λ (l : List (Option Place)). AreFound t (old.answers ++ ran.more) l) (sym ran.places)
             (found-kept t old.answers ran.more old.places (let k = s.kept in omega arith) s.found));
+        clear = subst (λ (n : ℕ). AreClear new.sampled n) (sym ran.clear) (subst (λ (l : List Bool). AreClear l old.clear) (sym ran.tallied.flags_grown)
+            (clear-more old.sampled ran.tallied.given_flags old.clear s.clear));
       };
       objects = goes.news ++ begun.objects;
       past = goes.past;

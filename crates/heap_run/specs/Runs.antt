@@ -5,7 +5,7 @@ use Rattle.span_state.specs.MarkSet.{has_pair}
 use Rattle.trace_reader.specs.declared.trace.Trace.{Trace}
 use Rattle.cycle_history.specs.Requests.{marked_by, region_of}
 use Rattle.cycle_history.specs.Objects.{Object}
-use Rattle.cycle_history.specs.Marked.{AreObjectsBefore, objects_before}
+use Rattle.cycle_history.specs.Marked.{AreClear, AreObjectsBefore, objects_before}
 use Rattle.cycle_history.specs.Found.{AreFound}
 use Rattle.run_laws.specs.CycleSoFar.{CycleSoFar}
 use Rattle.run_laws.specs.Facts.{Marks}
@@ -33,6 +33,7 @@ pub record IsSet (t : Trace) (c : ℕ) (run : Run) : Type 0 where
   pub notes : run.driver.notes.items ≡ []
   pub kept : length run.places ≡ objects_before t c
   pub found : AreFound t run.answers run.places
+  pub clear : AreClear run.sampled run.clear
 
 -- The marks of the view, of the journal as the cycle began, are those of the objects so far.
 abbrev pub AreMarked : Trace → ℕ → List Object → Seen → Type 0

@@ -94,8 +94,9 @@ pub(crate) struct Run {
     pub(crate) sampled: List<bool>,
     pub(crate) buckets: List<u32>,
     pub(crate) profile: Profile,
-    // Where each object before the last mark end lies.
+    // Where each object before the last mark end lies, and so many first ones of which none is sampled.
     pub(crate) places: List<PackedPlace>,
+    pub(crate) clear: usize,
 }
 
 impl Run {
@@ -126,6 +127,7 @@ impl Run {
             buckets,
             profile,
             places,
+            clear: 0,
         })
     }
 
@@ -216,6 +218,7 @@ impl Run {
             &self.sampled,
             &self.buckets,
             &mut self.places,
+            &mut self.clear,
         )?;
         let pairs = marks.pairs()?;
         reset(&self.shared, &mut self.driver.worker);

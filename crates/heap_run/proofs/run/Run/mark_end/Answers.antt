@@ -105,6 +105,7 @@ returns-clause-begun c =
       buckets = old.buckets;
       profile = c.next_cycle.new.self;
       places = c.marks_of.new.places;
+      clear = c.marks_of.new.clear;
     } in
     let kept : length c.marks_of.new.places ≡ objects_before t (suc c.args.cycle) = rw n at c.in_ok-marks.ensures.kept in
     let least = some-cycle 0 (λ _. ⊥) t.cycles c.requires.limits.cycles in
@@ -135,5 +136,6 @@ returns-clause-begun c =
       };
       kept = kept;
       places = c.in_ok-marks.ensures.found;
+      clear = c.in_ok-marks.ensures.clear;
     }) in
     rw n begun

@@ -15,6 +15,7 @@ returns-clause-begun c =
       sampled = c.in_ok-sampled.ensures;
       buckets = c.in_ok-buckets.ensures;
       places = c.in_ok-places.ensures;
+      clear = refl;
       dead = c.empty.ensures.dead;
       tally = c.new-3.ensures.tally ∙ c.in_ok-profile.ensures.tally;
       some = c.in_ok-profile.ensures.some;

@@ -158,6 +158,7 @@ returns-clause-ran g c =
       buckets = c.queues_of.new.numbers;
       profile = c.end_sweep.new.self;
       places = old.places;
+      clear = old.clear;
     } in
     let start : Hand = record { worker = c.pages_taken-pages.new.w; notes = old.driver.notes; tally = old.driver.tally } in
     let ran = c.in_ok-given.ensures.ran in
@@ -208,6 +209,7 @@ returns-clause-ran g c =
       notes = filed.0;
       shared = refl;
       places = refl;
+      clear = refl;
       tallied = tallied;
     })
 
