@@ -259,12 +259,16 @@ no-numbers known (e ∷ events) none =
     ap (λ (n : ℕ). n ∷ map (number_of known) events) number ∙ ap (λ (l : List ℕ). 0 ∷ l) zeros
 
 -- the numbers behind those of the cycles before, by processors
-pub numbers-behind : (f : Event → ℕ) (w : ℕ) (events : List Event) (old all : List ℕ) (n : ℕ) → all ≡ old ++ map f events → n ≡ length old → answers_by w events (take (length all - n) (drop n all)) ≡ map f (events_by w events)
-numbers-behind f w events old all n is at =
+pub numbers-last : (f : Event → ℕ) (events : List Event) (old all : List ℕ) (n : ℕ) → all ≡ old ++ map f events → n ≡ length old → take (length all - n) (drop n all) ≡ map f events
+numbers-last f events old all n is at =
     let rest : drop n all ≡ map f events = rw (is, at) (drop-append_seam old (map f events)) in
     let long : length all ≡ length old + length (map f events) = ap (λ (l : List ℕ). length l) is ∙ length-append old (map f events) in
     let whole : take (length all - n) (map f events) ≡ map f events = take_all (length all - n) (map f events) (omega arith) in
-    ap (λ (l : List ℕ). answers_by w events (take (length all - n) l)) rest ∙ ap (λ (l : List ℕ). answers_by w events l) whole ∙ answers-map f w events
+    ap (λ (l : List ℕ). take (length all - n) l) rest ∙ whole
+
+-- and each processor's are those of its events
+pub numbers-behind : (f : Event → ℕ) (w : ℕ) (events : List Event) (old all : List ℕ) (n : ℕ) → all ≡ old ++ map f events → n ≡ length old → answers_by w events (take (length all - n) (drop n all)) ≡ map f (events_by w events)
+numbers-behind f w events old all n is at = ap (λ (l : List ℕ). answers_by w events l) (numbers-last f events old all n is at) ∙ answers-map f w events
 
 -- ---- what a single processor gave
 

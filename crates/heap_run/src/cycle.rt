@@ -44,11 +44,11 @@ pub(crate) fn run_processors<G: Gate>(
     requires distance { 8192 ≤ shop.now.distance }
     requires marks { shop.now.marks.now.pairs ≡ driver.old.worker.view.marks }
     requires parts { length driver.old.worker.view.parts ≡ 70 }
-    requires count { vec_len queues.now.events ≡ vec_len procs.old }
-    requires buckets { vec_len queues.now.buckets ≡ vec_len procs.old }
-    requires numbered { AreNumbered shop.now.ring.now.buckets queues.now.events.items queues.now.buckets.items }
+    requires count { length queues.now.events ≡ vec_len procs.old }
+    requires buckets { length queues.now.buckets ≡ vec_len procs.old }
+    requires numbered { AreNumbered shop.now.ring.now.buckets queues.now.events queues.now.buckets }
     requires few { vec_len procs.old ≤ 64 }
-    requires sizes { (w : ℕ) → All (λ e. e.size ≤ 2 ^ 40) (slice_index_or queues.now.events.items w []) }
+    requires sizes { (w : ℕ) → All (λ e. e.size ≤ 2 ^ 40) (slice_index_or queues.now.events w []) }
     requires driving { IsDriving driver.old.worker procs.old.items driver.old }
     requires collecting { IsCollecting driver.old }
     requires counts { MayCount shop.now.ring.now shop.now.marks.now driver.old.tally }
@@ -57,18 +57,18 @@ pub(crate) fn run_processors<G: Gate>(
     ensures driving { OnOk result (IsDriving driver.old.worker procs.new.items driver.new) }
     ensures procs { OnOk result (vec_len procs.new ≡ vec_len procs.old) }
     ensures collecting { OnOk result (IsCollecting driver.new) }
-    ensures answered { IfOk result (λ given. HaveAnswered queues.now.events.items given.answers.items driver.new.worker) }
+    ensures answered { IfOk result (λ given. HaveAnswered queues.now.events given.answers.items driver.new.worker) }
     ensures size { IfOk result (λ given. (vec_len given.answers ≡ vec_len procs.old) × (vec_len given.sampled ≡ vec_len procs.old)) }
-    ensures sampled { IfOk result (λ given. HaveSampled queues.now.events.items given.answers.items given.sampled.items procs.old.items procs.new.items) }
-    ensures counts { IfOk result (λ given. Counts shop.now.marks.now (all_counts (vec_len procs.old) given.sampled.items queues.now.buckets.items) driver.old driver.new) }
+    ensures sampled { IfOk result (λ given. HaveSampled queues.now.events given.answers.items given.sampled.items procs.old.items procs.new.items) }
+    ensures counts { IfOk result (λ given. Counts shop.now.marks.now (all_counts (vec_len procs.old) given.sampled.items queues.now.buckets) driver.old driver.new) }
 {
     let mut given = Given {
         answers: Vec::new(alloc),
         sampled: Vec::new(alloc),
     };
     for p in 0..procs.len() {
-        let events = queues.events[p].as_slice();
-        let buckets = queues.buckets[p].as_slice();
+        let events = queues.events.of(p);
+        let buckets = queues.buckets.of(p);
         let proc = &mut procs[p];
         let outcomes = run_processor(alloc, shop, driver, proc, events, buckets, gate)?;
         given.answers.push(outcomes.answers)?;
@@ -188,22 +188,22 @@ pub(crate) fn run_workers<G: Gate>(
     requires distance { 8192 ≤ shop.now.distance }
     requires marks { shop.now.marks.now.pairs ≡ driver.old.worker.view.marks }
     requires parts { length driver.old.worker.view.parts ≡ 70 }
-    requires count { vec_len queues.events ≡ vec_len procs.old }
-    requires buckets { vec_len queues.buckets ≡ vec_len procs.old }
-    requires numbered { AreNumbered shop.now.ring.now.buckets queues.events.items queues.buckets.items }
+    requires count { length queues.events ≡ vec_len procs.old }
+    requires buckets { length queues.buckets ≡ vec_len procs.old }
+    requires numbered { AreNumbered shop.now.ring.now.buckets queues.events queues.buckets }
     requires few { vec_len procs.old ≤ 64 }
     requires background { background ≤ 4 }
-    requires sizes { (w : ℕ) → All (λ e. e.size ≤ 2 ^ 40) (slice_index_or queues.events.items w []) }
+    requires sizes { (w : ℕ) → All (λ e. e.size ≤ 2 ^ 40) (slice_index_or queues.events w []) }
     requires driving { IsDriving driver.old.worker procs.old.items driver.old }
     requires collecting { IsCollecting driver.old }
     requires counts { MayCount shop.now.ring.now shop.now.marks.now driver.old.tally }
     requires drives { driver.old.tally.view.drives ≡ true }
     requires quiet { (w : ℕ) → SaysNone (part_at driver.old.worker w).log }
-    ensures ran { IfOk result (λ given. HasWorked queues.events.items given.answers.items driver.old procs.new.items driver.new) }
+    ensures ran { IfOk result (λ given. HasWorked queues.entry.events given.answers.items driver.old procs.new.items driver.new) }
     ensures procs { OnOk result (vec_len procs.new ≡ vec_len procs.old) }
     ensures size { IfOk result (λ given. (vec_len given.answers ≡ vec_len procs.old) × (vec_len given.sampled ≡ vec_len procs.old)) }
-    ensures sampled { IfOk result (λ given. HaveSampled queues.events.items given.answers.items given.sampled.items procs.old.items procs.new.items) }
-    ensures counts { IfOk result (λ given. Counts shop.now.marks.now (all_counts (vec_len procs.old) given.sampled.items queues.buckets.items) driver.old driver.new) }
+    ensures sampled { IfOk result (λ given. HaveSampled queues.entry.events given.answers.items given.sampled.items procs.old.items procs.new.items) }
+    ensures counts { IfOk result (λ given. Counts shop.now.marks.now (all_counts (vec_len procs.old) given.sampled.items queues.entry.buckets) driver.old driver.new) }
 {
     let given = run_processors(alloc, shop, driver, procs, &queues, gate)?;
     run_sweepers(alloc, shop, driver, background, gate)?;

@@ -19,7 +19,7 @@ use crate::cycle::run_workers;
 use crate::lists::empty_list;
 use crate::merge::merge;
 use crate::profile::Profile;
-use crate::queues::queues_of;
+use crate::queues::{number_all, queues_of};
 use crate::sorting::file_notes;
 use cycle_history::{Answer, PackedPlace, Report, Total, marks_of, totals_of};
 use edge_io::{Gate, List, NoMemory};
@@ -171,13 +171,10 @@ impl Run {
         ensures each { OnOk result (self.new.profile.each ≡ self.old.profile.each) }
     {
         let events = trace.cycles.as_slice()[cycle as usize].events.as_slice();
-        let queues = queues_of(
-            alloc,
-            trace.header.procs,
-            events,
-            &self.profile.known,
-            &mut self.buckets,
-        )?;
+        let before = self.buckets.len();
+        number_all(alloc, events, &self.profile.known, &mut self.buckets)?;
+        let numbers = &self.buckets.as_slice()[before..];
+        let queues = queues_of(alloc, trace.header.procs, events, numbers)?;
         let pages = self.shared.pages_taken(&mut self.driver.worker);
         let shop = Shop {
             shared: &self.shared,

@@ -11,7 +11,7 @@ invariant-loop-p g l = record {
   driving : IsDriving l.initial.driver.worker l.procs.items l.driver;
   long : vec_len l.procs ≡ vec_len l.initial.procs;
   collecting : IsCollecting l.driver;
-  answered : HaveAnsweredTo l.queues.events.items l.p l.given.answers.items l.driver.worker;
-  sampled : HaveSampledTo l.queues.events.items l.p l.given.answers.items l.given.sampled.items l.initial.procs.items l.procs.items;
-  counts : Counts l.shop.marks.now (all_counts l.p l.given.sampled.items l.queues.buckets.items) l.initial.driver l.driver;
+  answered : HaveAnsweredTo l.queues.events l.p l.given.answers.items l.driver.worker;
+  sampled : HaveSampledTo l.queues.events l.p l.given.answers.items l.given.sampled.items l.initial.procs.items l.procs.items;
+  counts : Counts l.shop.marks.now (all_counts l.p l.given.sampled.items l.queues.buckets) l.initial.driver l.driver;
 }

@@ -86,7 +86,7 @@ end_cycle-requires-clause-drives g c =
 
 pub returns-clause-sampled : goal.returns-clause-sampled
 returns-clause-sampled g c =
-    sampled-keeps c.args.queues.events.items c.in_ok-given.given.answers.items c.in_ok-given.given.sampled.items c.args.procs.now.items c.run_processors.new.procs.items c.end_cycle.new.procs.items
+    sampled-keeps c.args.queues.events c.in_ok-given.given.answers.items c.in_ok-given.given.sampled.items c.args.procs.now.items c.run_processors.new.procs.items c.end_cycle.new.procs.items
     c.in_ok-given.ensures.sampled (let n = c.in_ok-given.ensures.procs in omega (arith, c.args.procs.now.ok.0, c.run_processors.new.procs.ok.0)) c.in_ok-end_cycle.ensures.countdowns
 
 pub returns-clause-counts : goal.returns-clause-counts

@@ -1,13 +1,8 @@
 use Rattle.std.proofs.Common.{◌∙◌, ◌<◌, ◌++◌, [], ◌∷◌, List, false, length, get_or, ap, arith}
 use Rattle.std.proofs.lemmas.List.{get_or_default}
-use Rattle.std.proofs.lemmas.Result.{IfOk-weaker}
 use Rattle.trace_reader.specs.declared.trace.Event.{Event}
-use Rattle.heap_run.proofs.Queued.{one-part, parts-more}
+use Rattle.heap_run.proofs.Queued.{parts-more}
 use Rattle.heap_run.proofs.queues.parts_of.Goals as goal
-
-pub returns-then-procs-eq1-clause-parts : goal.returns-then-procs-eq1-clause-parts
-returns-then-procs-eq1-clause-parts g c =
-    IfOk-weaker c.one_part.result _ _ (λ lists is. one-part c.args.events.now c.args.items.now lists.items c.args.procs c.if-procs-eq1.true c.requires.below c.requires.sizes is) c.one_part.ensures
 
 pub loop-at-preserved : goal.loop-at-preserved
 loop-at-preserved g c =

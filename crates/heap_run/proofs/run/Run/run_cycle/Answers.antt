@@ -21,6 +21,7 @@ use Rattle.heap_run.specs.Turns.{IsDriving}
 use Rattle.heap_run.specs.declared.run.Run.{Run}
 use Rattle.heap_run.proofs.Counting.{counts-as}
 use Rattle.heap_run.proofs.Profiling.{HasTallied}
+use Rattle.heap_run.proofs.Queued.{numbers-behind, numbers-last}
 use Rattle.heap_run.proofs.Running.{blank-collecting, blank-none, cycle-fits, cycle-run, events-of, given-sizes, procs-below, sizes-by, some-cycle}
 use Rattle.heap_run.proofs.Sampling.{sampled-sizes}
 use Rattle.heap_run.proofs.Telling.{map-below}
@@ -47,13 +48,18 @@ queues_of-requires-clause-below g c =
 
 pub queues_of-requires-clause-sizes : goal.queues_of-requires-clause-sizes
 queues_of-requires-clause-sizes g c =
+    ap (λ (l : List ℕ). length l) (numbers-last (number_of c.args.self.now.profile.known) c.as_slice-events.result.now c.args.self.now.buckets c.as_slice-2.result.now c.len-before.result (c.as_slice-2.ensures ∙ c.in_ok-number_all.ensures) c.len-before.ensures)
+    ∙ length-map _ _
+
+pub number_all-requires : goal.number_all-requires
+number_all-requires g c =
     let t = c.args.trace.now in
     let d = c.index-as_slice-cycle.result in
     let least = some-cycle 0 (λ _. ⊥) t.cycles c.requires.limits.cycles in
     let inside : c.args.cycle < length t.cycles = (let i = c.requires.inside in omega arith) in
     let ev = events-of c.as_slice-events.result.now c.as_slice.result.now t.cycles c.args.cycle d c.as_slice-events.ensures c.as_slice.ensures in
     let fits : AllByRecursion (EventFits t.header.procs) c.as_slice-events.result.now = subst (λ (l : List Event). AllByRecursion (EventFits t.header.procs) l) (sym ev) (cycle-fits t c.args.cycle d c.requires.limits inside) in
-    all-sizes t.header.procs c.as_slice-events.result.now fits
+    record { sizes = all-sizes t.header.procs c.as_slice-events.result.now fits }
 
 pub run_workers-requires-clause-sizes : goal.run_workers-requires-clause-sizes
 run_workers-requires-clause-sizes g c κs low w =
@@ -63,7 +69,7 @@ run_workers-requires-clause-sizes g c κs low w =
     let inside : c.args.cycle < length t.cycles = (let i = c.requires.inside in omega arith) in
     let ev = events-of c.as_slice-events.result.now c.as_slice.result.now t.cycles c.args.cycle d c.as_slice-events.ensures c.as_slice.ensures in
     let fits : AllByRecursion (EventFits t.header.procs) c.as_slice-events.result.now = subst (λ (l : List Event). AllByRecursion (EventFits t.header.procs) l) (sym ev) (cycle-fits t c.args.cycle d c.requires.limits inside) in
-    sizes-by t.header.procs w c.as_slice-events.result.now (get_or c.in_ok-queues.queues.events.items w []) (c.in_ok-queues.ensures.queues w) fits
+    sizes-by t.header.procs w c.as_slice-events.result.now (get_or c.in_ok-queues.queues.events w []) (c.in_ok-queues.ensures.queues w) fits
 
 pub run_workers-requires-clause-counts : goal.run_workers-requires-clause-counts
 run_workers-requires-clause-counts g c κs low = record { ring = c.requires.begun.profiled.ring; dead = c.requires.begun.counting.may }
@@ -73,12 +79,12 @@ run_workers-requires-clause-drives g c κs low = c.requires.begun.profiled.drive
 
 pub run_workers-requires-clause-numbered : goal.run_workers-requires-clause-numbered
 run_workers-requires-clause-numbered g c κs low = record {
-  sizes = λ w. ap (λ (l : List ℕ). length l) (c.in_ok-queues.ensures.buckets w) ∙ length-map _ _ ∙ ap (λ (l : List Event). length l) (sym (c.in_ok-queues.ensures.queues w));
+  sizes = λ w. ap (λ (l : List ℕ). length l) (c.in_ok-queues.ensures.buckets w ∙ numbers-behind (number_of c.args.self.now.profile.known) w c.as_slice-events.result.now c.args.self.now.buckets c.as_slice-2.result.now c.len-before.result (c.as_slice-2.ensures ∙ c.in_ok-number_all.ensures) c.len-before.ensures) ∙ length-map _ _ ∙ ap (λ (l : List Event). length l) (sym (c.in_ok-queues.ensures.queues w));
   below = λ w. (
       let room = c.requires.begun.profiled.room in
       let bound = c.args.self.now.profile.ring.buckets in
       let some = c.requires.begun.profiled.some in
-      subst (λ (l : List ℕ). All (λ b. b < bound) l) (sym (c.in_ok-queues.ensures.buckets w))
+      subst (λ (l : List ℕ). All (λ b. b < bound) l) (sym (c.in_ok-queues.ensures.buckets w ∙ numbers-behind (number_of c.args.self.now.profile.known) w c.as_slice-events.result.now c.args.self.now.buckets c.as_slice-2.result.now c.len-before.result (c.as_slice-2.ensures ∙ c.in_ok-number_all.ensures) c.len-before.ensures))
       (All-from_recursion (λ (b : ℕ). b < bound) (map (number_of c.args.self.now.profile.known) (events_by w c.as_slice-events.result.now))
       (map-below bound (number_of c.args.self.now.profile.known) (events_by w c.as_slice-events.result.now) (λ e. number-below c.args.self.now.profile.known e bound some room))));
 }
@@ -100,13 +106,13 @@ merge-requires-clause-below g c =
     let inside : c.args.cycle < length t.cycles = (let i = c.requires.inside in omega arith) in
     let ev = events-of c.as_slice-events.result.now c.as_slice.result.now t.cycles c.args.cycle d c.as_slice-events.ensures c.as_slice.ensures in
     let fits : AllByRecursion (EventFits t.header.procs) c.as_slice-events.result.now = subst (λ (l : List Event). AllByRecursion (EventFits t.header.procs) l) (sym ev) (cycle-fits t c.args.cycle d c.requires.limits inside) in
-    let count : length c.as_slice-2.result.now ≡ t.header.procs = (let a = c.as_slice-2.ensures.len in let b = c.in_ok-given.ensures.size.0 in let e = c.requires.begun.set.procs in omega (arith, c.args.self.now.procs.ok.0)) in
-    procs-below t.header.procs (length c.as_slice-2.result.now) c.as_slice-events.result.now count fits
+    let count : length c.as_slice-3.result.now ≡ t.header.procs = (let a = c.as_slice-3.ensures.len in let b = c.in_ok-given.ensures.size.0 in let e = c.requires.begun.set.procs in omega (arith, c.args.self.now.procs.ok.0)) in
+    procs-below t.header.procs (length c.as_slice-3.result.now) c.as_slice-events.result.now count fits
 
 pub merge-requires-clause-sizes : goal.merge-requires-clause-sizes
 merge-requires-clause-sizes g c w =
-    ap (λ (l : List (List Answer)). length (get_or l w [])) c.as_slice-2.ensures.value
-    ∙ given-sizes c.in_ok-queues.queues.events.items c.in_ok-given.given.answers.items c.as_slice-events.result.now c.run_workers.new.driver.worker c.in_ok-given.ensures.ran.answered c.in_ok-queues.ensures.queues w
+    ap (λ (l : List (List Answer)). length (get_or l w [])) c.as_slice-3.ensures.value
+    ∙ given-sizes c.in_ok-queues.queues.events c.in_ok-given.given.answers.items c.as_slice-events.result.now c.run_workers.new.driver.worker c.in_ok-given.ensures.ran.answered c.in_ok-queues.ensures.queues w
 
 pub merge-requires-2-clause-below : goal.merge-requires-2-clause-below
 merge-requires-2-clause-below g c =
@@ -116,16 +122,16 @@ merge-requires-2-clause-below g c =
     let inside : c.args.cycle < length t.cycles = (let i = c.requires.inside in omega arith) in
     let ev = events-of c.as_slice-events.result.now c.as_slice.result.now t.cycles c.args.cycle d c.as_slice-events.ensures c.as_slice.ensures in
     let fits : AllByRecursion (EventFits t.header.procs) c.as_slice-events.result.now = subst (λ (l : List Event). AllByRecursion (EventFits t.header.procs) l) (sym ev) (cycle-fits t c.args.cycle d c.requires.limits inside) in
-    let count : length c.as_slice-3.result.now ≡ t.header.procs = (let a = c.as_slice-3.ensures.len in let b = c.in_ok-given.ensures.size.1 in let e = c.requires.begun.set.procs in omega (arith, c.args.self.now.procs.ok.0)) in
-    procs-below t.header.procs (length c.as_slice-3.result.now) c.as_slice-events.result.now count fits
+    let count : length c.as_slice-4.result.now ≡ t.header.procs = (let a = c.as_slice-4.ensures.len in let b = c.in_ok-given.ensures.size.1 in let e = c.requires.begun.set.procs in omega (arith, c.args.self.now.procs.ok.0)) in
+    procs-below t.header.procs (length c.as_slice-4.result.now) c.as_slice-events.result.now count fits
 
 pub merge-requires-2-clause-sizes : goal.merge-requires-2-clause-sizes
 merge-requires-2-clause-sizes g c w =
     let queue = c.in_ok-queues.ensures.queues in
-    let answered = given-sizes c.in_ok-queues.queues.events.items c.in_ok-given.given.answers.items c.as_slice-events.result.now c.run_workers.new.driver.worker c.in_ok-given.ensures.ran.answered queue in
-    let as_many : (v : ℕ) → length (get_or c.in_ok-given.given.answers.items v []) ≡ length (get_or c.in_ok-queues.queues.events.items v []) = λ v. answered v ∙ ap (λ (l : List Event). length l) (sym (queue v)) in
-    ap (λ l. length (get_or l w [])) c.as_slice-3.ensures.value
-    ∙ sampled-sizes c.in_ok-queues.queues.events.items c.in_ok-given.given.answers.items c.in_ok-given.given.sampled.items c.args.self.now.procs.items c.run_workers.new.procs.items c.in_ok-given.ensures.sampled
+    let answered = given-sizes c.in_ok-queues.queues.events c.in_ok-given.given.answers.items c.as_slice-events.result.now c.run_workers.new.driver.worker c.in_ok-given.ensures.ran.answered queue in
+    let as_many : (v : ℕ) → length (get_or c.in_ok-given.given.answers.items v []) ≡ length (get_or c.in_ok-queues.queues.events v []) = λ v. answered v ∙ ap (λ (l : List Event). length l) (sym (queue v)) in
+    ap (λ l. length (get_or l w [])) c.as_slice-4.ensures.value
+    ∙ sampled-sizes c.in_ok-queues.queues.events c.in_ok-given.given.answers.items c.in_ok-given.given.sampled.items c.args.self.now.procs.items c.run_workers.new.procs.items c.in_ok-given.ensures.sampled
     (let a = c.in_ok-given.ensures.size.1 in omega (arith, c.args.self.now.procs.ok.0)) (let a = c.in_ok-queues.ensures.length.0 in let e = c.requires.begun.set.procs in omega (arith, c.args.self.now.procs.ok.0)) as_many w
     ∙ ap (λ (l : List Event). length l) (queue w)
 
@@ -155,14 +161,14 @@ returns-clause-ran g c =
       answers = c.merge.new.merged;
       sweeps = c.file_notes.new.sweeps;
       sampled = c.merge-2.new.merged;
-      buckets = c.queues_of.new.numbers;
+      buckets = c.number_all.new.numbers;
       profile = c.end_sweep.new.self;
       places = old.places;
       clear = old.clear;
     } in
     let start : Hand = record { worker = c.pages_taken-pages.new.w; notes = old.driver.notes; tally = old.driver.tally } in
     let ran = c.in_ok-given.ensures.ran in
-    let worked : HasWorked c.in_ok-queues.queues.events.items c.in_ok-given.given.answers.items old.driver new.procs.items c.run_workers.new.driver = record {
+    let worked : HasWorked c.in_ok-queues.queues.events c.in_ok-given.given.answers.items old.driver new.procs.items c.run_workers.new.driver = record {
       driving = subst (λ (w : Seen). IsDriving w new.procs.items c.run_workers.new.driver) c.pages_taken-pages.ensures.same ran.driving;
       collecting = ran.collecting;
       answered = ran.answered;
@@ -173,18 +179,18 @@ returns-clause-ran g c =
     let n = c.in_ok-merge-2.ensures in
     let same_procs : length new.procs.items ≡ length old.procs.items = (let p = c.in_ok-given.ensures.procs in omega (arith, c.args.self.now.procs.ok.0, c.run_workers.new.procs.ok.0)) in
     let size : vec_len old.procs ≡ length old.procs.items = omega (arith, c.args.self.now.procs.ok.0) in
-    let given_counts : Counts old.marks (all_counts (length old.procs.items) c.in_ok-given.given.sampled.items c.in_ok-queues.queues.buckets.items) start c.run_workers.new.driver =
-    subst (λ (k : ℕ). Counts old.marks (all_counts k c.in_ok-given.given.sampled.items c.in_ok-queues.queues.buckets.items) start c.run_workers.new.driver) size c.in_ok-given.ensures.counts in
-    let tallied : HasTallied t c.args.cycle d old new c.in_ok-queues.queues.events.items c.in_ok-given.given.answers.items m.0 c.run_workers.new.driver = record {
+    let given_counts : Counts old.marks (all_counts (length old.procs.items) c.in_ok-given.given.sampled.items c.in_ok-queues.queues.buckets) start c.run_workers.new.driver =
+    subst (λ (k : ℕ). Counts old.marks (all_counts k c.in_ok-given.given.sampled.items c.in_ok-queues.queues.buckets) start c.run_workers.new.driver) size c.in_ok-given.ensures.counts in
+    let tallied : HasTallied t c.args.cycle d old new c.in_ok-queues.queues.events c.in_ok-given.given.answers.items m.0 c.run_workers.new.driver = record {
       procs = all-procs t.header.procs (length old.procs.items) _ c.requires.begun.set.procs (cycle-fits t c.args.cycle d c.requires.limits inside);
-      numbers_grown = c.in_ok-queues.ensures.numbers ∙ ap (λ (l : List Event). old.buckets ++ map (number_of old.profile.known) l) ev;
-      number_parts = c.in_ok-queues.queues.buckets.items;
-      numbers_are = λ w. c.in_ok-queues.ensures.buckets w ∙ ap (λ (l : List Event). map (number_of old.profile.known) (events_by w l)) ev;
+      numbers_grown = c.in_ok-number_all.ensures ∙ ap (λ (l : List Event). old.buckets ++ map (number_of old.profile.known) l) ev;
+      number_parts = c.in_ok-queues.queues.buckets;
+      numbers_are = λ w. (c.in_ok-queues.ensures.buckets w ∙ numbers-behind (number_of c.args.self.now.profile.known) w c.as_slice-events.result.now c.args.self.now.buckets c.as_slice-2.result.now c.len-before.result (c.as_slice-2.ensures ∙ c.in_ok-number_all.ensures) c.len-before.ensures) ∙ ap (λ (l : List Event). map (number_of old.profile.known) (events_by w l)) ev;
       flag_parts = c.in_ok-given.given.sampled.items;
       given_flags = n.0;
       flags_grown = n.1;
       flags_long = n.2 ∙ ap (λ (l : List Event). length l) ev;
-      flags_merged = λ w. ap (λ (l : List Event). answers_by w l n.0) (sym ev) ∙ n.3 w ∙ ap (λ l. get_or l w []) c.as_slice-3.ensures.value;
+      flags_merged = λ w. ap (λ (l : List Event). answers_by w l n.0) (sym ev) ∙ n.3 w ∙ ap (λ l. get_or l w []) c.as_slice-4.ensures.value;
       sampled = c.in_ok-given.ensures.sampled;
       counts = counts-as old.marks _ start c.run_workers.new.driver old.driver c.run_workers.new.driver given_counts refl refl refl refl;
       first = c.end_sweep.ensures.first;
@@ -192,7 +198,7 @@ returns-clause-ran g c =
       profile = c.end_sweep.ensures.profile;
     } in
     let filed = c.in_ok-file_notes.ensures in
-    cycle-run t c.args.cycle d old new c.in_ok-queues.queues.events.items c.in_ok-given.given.answers.items c.run_workers.new.driver c.requires.limits c.requires.begun (record {
+    cycle-run t c.args.cycle d old new c.in_ok-queues.queues.events c.in_ok-given.given.answers.items c.run_workers.new.driver c.requires.limits c.requires.begun (record {
       inside = inside;
       queued = λ w. c.in_ok-queues.ensures.queues w ∙ ap (λ (l : List Event). events_by w l) ev;
       worked = worked;
@@ -200,7 +206,7 @@ returns-clause-ran g c =
       more = m.0;
       grown = m.1;
       long = m.2 ∙ ap (λ (l : List Event). length l) ev;
-      merged = λ w. ap (λ (l : List Event). answers_by w l m.0) (sym ev) ∙ m.3 w ∙ ap (λ (l : List (List Answer)). get_or l w []) c.as_slice-2.ensures.value;
+      merged = λ w. ap (λ (l : List Event). answers_by w l m.0) (sym ev) ∙ m.3 w ∙ ap (λ (l : List (List Answer)). get_or l w []) c.as_slice-3.ensures.value;
       sorted = filed.1.0;
       filed = filed.1.1;
       permutation = filed.1.2;
