@@ -9,6 +9,9 @@ use std::alloc::Global;
 use std::collections::BTreeMap;
 use std::marker::Model;
 
+// The rows get room for so many more than are needed, since to make room again moves them all.
+const ROOM: usize = 1024;
+
 /// The marks of a mark end: which objects survive, and the buckets of the sampled objects that died.
 ///
 /// They take 128 bytes of marks for each page up to the highest that has a mark, and more only on a page where an index of
@@ -198,11 +201,20 @@ fn add_rows(rows: &mut Vec<Row>, alloc: Global, page: u32) -> Result<(), NoMemor
     ensures reached { OnOk result (page < length rows.new.items) }
     ensures are { AreRows rows.old.items → AreRows rows.new.items }
 {
+    make_room(rows, page)?;
     let page = page as usize;
-    rows.reserve(page + 1 - rows.len())?;
     while rows.len() <= page {
         rows.push(Row::new(alloc))?;
     }
+    Ok(())
+}
+
+// Makes room for the rows up to that of the page, and for some more.
+fn make_room(rows: &mut Vec<Row>, page: u32) -> Result<(), NoMemory>
+    ensures { rows.new.items ≡ rows.old.items }
+{
+    let missing = (page as usize).saturating_sub(rows.len());
+    rows.reserve(missing.saturating_add(ROOM))?;
     Ok(())
 }
 
