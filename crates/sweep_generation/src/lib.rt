@@ -3,7 +3,8 @@
 //! A span is touched by one worker at a time: who holds, sweeps or has cached it. The generation word of its first page
 //! tells which of these it is, and each move writes the word last. What is of no worker is written under the heap lock
 //! (lives and owners), by whoever has an index of it (sets), or by a mark end, while no worker has anything in hand.
-//! `docs/ownership-core.md` states the rules.
+//! `docs/ownership-core.md` states the rules. [`step`] makes a move or refuses it; [`step_met`] is for a caller that proves
+//! what the move needs.
 #![tactic(auto)]
 
 mod mark_end;

@@ -1,5 +1,6 @@
 //! One move: the only way by which a core changes. A move first tries all its needs, which write nothing, then makes room, and
-//! writes last; so a refused move, and one without memory, leaves the core as it was.
+//! writes last; so a refused move, and one without memory, leaves the core as it was. For a caller that proves what a move needs,
+//! `step_met` does not try the needs of the two moves of which there are most.
 
 ghost use Rattle.std.specs.Prelude.{◌≡◌, ◌≢◌, Err, None};
 ghost use Rattle.sweep_laws.specs.Owned.{Owned};
@@ -50,8 +51,7 @@ fn step_given(core: &mut Core, mv: Move) -> Result<Reply, StepFault>
     step_by(core, &mv)
 }
 
-// The same, with a look first for the usual move: by far the most are allocations in the cache, and they are not to pay for what
-// the others need.
+// The same, with a look first for an allocation, which is not to pay for what the others need.
 #[inline(always)]
 fn step_usual(core: &mut Core, mv: Move) -> Result<Reply, StepFault>
     ensures { Steps core.old core.new mv result }
