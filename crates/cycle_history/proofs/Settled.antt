@@ -1,15 +1,17 @@
 -- How the marks of the objects below a bound grow with the bound.
-use Rattle.std.proofs.Common.{◌≡◌, ◌≢◌, ℕ, ◌+◌, ◌<◌, ◌≤◌, Bool, false, ◌||◌, ◌&&◌, eqb, List, [], ◌∷◌, ◌++◌, length, map, get_or, refl, sym, ◌∙◌, ap, subst, arith, ◌⊎◌, inl, inr}
+use Rattle.std.proofs.Common.{◌≡◌, ◌≢◌, ℕ, ◌+◌, ◌<◌, ◌≤◌, Bool, true, false, ◌||◌, ◌&&◌, eqb, List, [], ◌∷◌, ◌++◌, length, map, get_or, refl, sym, ◌∙◌, ap, subst, arith, ◌⊎◌, inl, inr}
 use Rattle.std.proofs.lemmas.Bool.{cases_lt, cases_eq, or_cases, or_left, or_right, and_parts, and_from, eqb-true, eq-eqb}
 use Rattle.std.proofs.lemmas.List.{reverse-append}
-use Rattle.std.proofs.lemmas.Option.{slice_get_within}
+use Rattle.std.proofs.lemmas.Option.{slice_get_within, get_or_from_slice_get}
 use Rattle.span_state.specs.MarkSet.{MarkSet, is_marked, dead_of, has_pair}
 use Rattle.trace_reader.specs.declared.trace.Trace.{Trace}
 use Rattle.trace_reader.specs.declared.trace.Event.{Event}
 use Rattle.cycle_history.specs.declared.Answer.{Answer}
 use Rattle.cycle_history.specs.declared.Answer.TheVariants.{Placed}
+use Rattle.cycle_history.specs.declared.lookups.Walk.{Walk}
 use Rattle.cycle_history.specs.Places.{IsPlace, LiesAt}
 use Rattle.cycle_history.specs.Marked.{AreBuckets, AreMarksBelow, AreMarksOf, HasDied, IsMarkedAt}
+use Rattle.cycle_history.specs.MarkedLoops.{IsBehind}
 use Rattle.cycle_history.proofs.OnePlace.{place-one}
 
 -- an object lies at one place
@@ -57,6 +59,21 @@ below-undead t m answers sampled buckets bound low high marks le quiet below = r
     is = old.is;
   });
 }
+
+-- so it does past objects that aren't sampled
+pub below-unsampled : (t : Trace) (m : ℕ) (answers : List Answer) (sampled : List Bool) (buckets : List ℕ) (bound low high : ℕ) (marks : MarkSet) → low ≤ high
+    → ((i : ℕ) → low ≤ i → i < high → get_or sampled i false ≡ false) → AreMarksBelow t m answers sampled buckets bound low marks → AreMarksBelow t m answers sampled buckets bound high marks
+below-unsampled t m answers sampled buckets bound low high marks order unset below =
+    below-undead t m answers sampled buckets bound low high marks order
+    (λ i le lt page died. (
+    let on = get_or_from_slice_get sampled i true false died.is_sampled in
+    let off = unset i le lt in
+    absurd cc))
+    below
+
+-- a walk that is behind a number is behind each above it
+pub behind-more : (walk : Walk) (low high : ℕ) → low ≤ high → IsBehind walk low → IsBehind walk high
+behind-more walk low high order behind = record { inside = behind.inside; below = λ k d lt. (let less = behind.below k d lt in omega arith) }
 
 -- the list of buckets of one object more
 bucket-more : (died more : ℕ → Type 0) (buckets list : List ℕ) (o b : ℕ) → AreBuckets died buckets list → ((i : ℕ) → died i → i < o) → b ≡ get_or buckets o 0

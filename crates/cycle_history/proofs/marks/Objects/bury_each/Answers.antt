@@ -9,7 +9,7 @@ use Rattle.cycle_history.specs.declared.marks.Objects.{Objects}
 use Rattle.cycle_history.specs.Marked.{AreMarksBelow, HasDied}
 use Rattle.cycle_history.specs.MarkedLoops.{IsBehind}
 use Rattle.cycle_history.proofs.Rising.{marks-rise, marks-within}
-use Rattle.cycle_history.proofs.Settled.{below-undead}
+use Rattle.cycle_history.proofs.Settled.{behind-more, below-undead}
 use Rattle.cycle_history.proofs.marks.Objects.bury_each.Goals.{then-sampled-object+then-not-has+in_ok-bury_one, else-sampled-object, else-sampled-object-via-then-sampled-object+else-not-has, else-sampled-object-via-else-sampled-object}
 use Rattle.cycle_history.proofs.marks.Objects.bury_each.Goals as goal
 
@@ -34,10 +34,6 @@ undead-more o i marks undead below =
     below-undead o.trace.now o.mark o.answers.now o.sampled.now o.buckets.now (length o.answers.now) i (i + 1) marks (omega arith)
     (λ j le less page died. (let same : j ≡ i = omega arith in undead page (subst (λ (n : ℕ). HasDied o.trace.now o.mark o.answers.now o.sampled.now page n) same died)))
     below
-
--- a walk that is behind a number is behind the next
-behind-more : (walk : Walk) (n : ℕ) → IsBehind walk n → IsBehind walk (n + 1)
-behind-more walk n behind = record { inside = behind.inside; below = λ k d lt. (let less = behind.below k d lt in omega arith) }
 
 pub loop-object-preserved : goal.loop-object-preserved
 loop-object-preserved c =
@@ -65,7 +61,7 @@ loop-object-preserved c =
             let moved : c.if-sampled-object.marked ≡ c.loop-object.marked = w.marked-is ∙ w'.marked-is in
             record {
               spans = ap (λ (x : Walk). x.spans.now) moved ∙ before.spans;
-              behind = subst (λ (x : Walk). IsBehind x (i + 1)) (sym moved) (behind-more c.loop-object.marked i before.behind);
+              behind = subst (λ (x : Walk). IsBehind x (i + 1)) (sym moved) (behind-more c.loop-object.marked i (i + 1) (omega arith) before.behind);
               below = subst (λ (marks : MarkSet). AreMarksBelow o.trace.now o.mark o.answers.now o.sampled.now o.buckets.now (length o.answers.now) (i + 1) marks) (sym w.marks-is)
                   (undead-more o i c.loop-object.marks (λ page died. (
                   let on = get_or_from_slice_get o.sampled.now i true false died.is_sampled in
