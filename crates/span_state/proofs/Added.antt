@@ -1,17 +1,16 @@
 -- What one more mark changes.
-use Rattle.std.proofs.Common.{◌≡◌, ℕ, suc, ◌-◌, min, ◌≤◌, ltb, length, get_or, get_or-set_same, get_or-set_other, ◌+◌, ◌*◌, ◌/◌, ◌%◌, ◌^◌, ◌<◌, Bool, true, false, cond, not, ◌==◌, ◌||◌, ◌&&◌, eqb, nat_eq, List, [], ◌∷◌, Some, w64, refl, sym, ◌∙◌, ap, arith, inl, inr, ◌⊎◌, eq-eqb}
+use Rattle.std.proofs.Common.{◌≡◌, ℕ, suc, ◌-◌, min, ltb, length, get_or, ◌+◌, ◌*◌, ◌/◌, ◌%◌, ◌^◌, ◌<◌, Bool, true, false, cond, not, ◌==◌, ◌||◌, ◌&&◌, eqb, nat_eq, List, [], ◌∷◌, Some, w64, refl, sym, ◌∙◌, ap, arith, inl, inr, ◌⊎◌, eq-eqb}
 use Rattle.std.proofs.lemmas.Bool.{cases_eq, cases_lt, cases_Bool, both_ways, ne_eqb, eqb-true, and_parts, and_from, or_parts, lt-ltb, le-ltb}
 use Rattle.std.proofs.lemmas.Nat.{one_shl, pow_pos}
 use Rattle.std.proofs.lemmas.Nat.Bits.{and_pow, bit_at-lt, bit_at-zero, bit_at_set_same, bit_at_set_other}
-use Rattle.std.proofs.Math.ListN.{set, length-set}
-use Rattle.std.proofs.lemmas.List.{get_or_default, get_or_past}
+use Rattle.std.proofs.lemmas.List.{get_or_past}
 use Rattle.std.proofs.lemmas.List.Sums.{sum_by-cons}
 use Rattle.std.specs.Int.{bit_at}
 use Rattle.std.specs.Int.Bits.{bit_and, bit_or}
 use Rattle.std.specs.Int.Count.{ones}
 use Rattle.std.specs.Map.{lookup, set_value}
 use Rattle.span_state.specs.Bits.{count_below, with_bit}
-use Rattle.span_state.specs.Groups.{AreRows, page_pairs, pairs_of, row_of, word_of}
+use Rattle.span_state.specs.Groups.{page_pairs, pairs_of, row_of, word_of}
 use Rattle.span_state.specs.MarkSet.{IsRising, has_pair, pairs_at}
 use Rattle.span_state.specs.Counts.{ones-count}
 use Rattle.span_state.proofs.Pairs.{or_false, has-grid_pairs, pairs_at-grid_pairs, pairs_at-page_more, rising-grid_pairs, rising-one}
@@ -90,72 +89,25 @@ pairs_of-same old new same =
     (λ q k. has-pairs_of new q k ∙ ap (λ (w : ℕ). bit_at w (k % 64) == 1) (same q (k / 64)) ∙ sym (has-pairs_of old q k))
 
 -- a page has as many pairs as its row marks
-pub pairs_at-row : (rows : List (List ℕ)) (q : ℕ) → q < length rows → pairs_at (pairs_of rows) q ≡ pairs_at (page_pairs (length (row_of rows q)) q (word_of rows q)) q
-pairs_at-row rows q lt =
-    let on : ltb q (length rows) ≡ true = lt-ltb _ _ lt in
-    pairs_at-grid_pairs (length rows) (λ page. length (row_of rows page)) (word_of rows) q ∙ rw on refl
+pub pairs_at-row : (rows : List (List ℕ)) (q : ℕ) → pairs_at (pairs_of rows) q ≡ pairs_at (page_pairs (length (row_of rows q)) q (word_of rows q)) q
+pairs_at-row rows q =
+    let all = pairs_at-grid_pairs (length rows) (λ page. length (row_of rows page)) (word_of rows) q in
+    elim (cases_lt q (length rows)) [
+      | inl lt ↦ (let on : ltb q (length rows) ≡ true = lt-ltb _ _ lt in all ∙ rw on refl)
+      | inr le ↦ (
+          let off : ltb q (length rows) ≡ false = le-ltb _ _ le in
+          all ∙ rw off (sym (ap (λ (row : List ℕ). pairs_at (page_pairs (length row) q (λ g. get_or row g 0)) q) (get_or_past rows q [] le))))
+    ]
 
-pub pairs_at-past : (rows : List (List ℕ)) (q : ℕ) → length rows ≤ q → pairs_at (pairs_of rows) q ≡ 0
-pairs_at-past rows q le =
-    let off : ltb q (length rows) ≡ false = le-ltb _ _ le in
-    pairs_at-grid_pairs (length rows) (λ page. length (row_of rows page)) (word_of rows) q ∙ rw off refl
+-- a page without a row has none
+pub pairs_at-none : (rows : List (List ℕ)) (q : ℕ) → row_of rows q ≡ [] → pairs_at (pairs_of rows) q ≡ 0
+pairs_at-none rows q none = pairs_at-row rows q ∙ ap (λ (row : List ℕ). pairs_at (page_pairs (length row) q (λ g. get_or row g 0)) q) none
 
 -- ---- one more pair
 
 -- the words are the old ones, but for one
 abbrev pub IsPut : List (List ℕ) → List (List ℕ) → ℕ → ℕ → ℕ → Type 0
 IsPut old new page group word = (q g : ℕ) → word_of new q g ≡ cond (q == page && g == group) word (word_of old q g)
-
-row_of-set : (rows : List (List ℕ)) (page : ℕ) (row : List ℕ) (q : ℕ) → page < length rows → row_of (set rows page row) q ≡ cond (q == page) row (row_of rows q)
-row_of-set rows page row q lt =
-    elim (cases_eq q page) [
-      | inl same ↦ (let on : (q == page) ≡ true = eq-eqb q page same in rw (on, same) (get_or-set_same rows page row [] lt))
-      | inr other ↦ (let off : (q == page) ≡ false = ne_eqb q page other in rw off (get_or-set_other rows page q row [] other))
-    ]
-
--- a word of a page's row is put
-pub put-of : (old mid new : List (List ℕ)) (page group word : ℕ) (row : List ℕ) → page < length mid → ((q g : ℕ) → word_of mid q g ≡ word_of old q g) → new ≡ set mid page row
-    → ((g : ℕ) → get_or row g 0 ≡ cond (g == group) word (word_of mid page g)) → IsPut old new page group word
-put-of old mid new page group word row lt same is put q g =
-    let at : word_of new q g ≡ get_or (cond (q == page) row (row_of mid q)) g 0 = ap (λ (rows : List (List ℕ)). word_of rows q g) is ∙ ap (λ (r : List ℕ). get_or r g 0) (row_of-set mid page row q lt) in
-    elim (cases_eq q page) [
-      | inl here ↦ (
-          let on : (q == page) ≡ true = eq-eqb q page here in
-          let own : word_of mid page g ≡ word_of old q g = same page g ∙ ap (λ (p : ℕ). word_of old p g) (sym here) in
-          let at' : word_of new q g ≡ get_or row g 0 = at ∙ rw on refl in
-          rw on (at' ∙ put g ∙ ap (λ (w : ℕ). cond (g == group) word w) own))
-      | inr other ↦ (
-          let off : (q == page) ≡ false = ne_eqb q page other in
-          let at' : word_of new q g ≡ word_of mid q g = at ∙ rw off refl in
-          rw off (at' ∙ same q g))
-    ]
-
--- a page's row has the same words
-pub kept-of : (old mid new : List (List ℕ)) (page : ℕ) (row : List ℕ) → page < length mid → ((q g : ℕ) → word_of mid q g ≡ word_of old q g) → new ≡ set mid page row
-    → ((g : ℕ) → get_or row g 0 ≡ word_of mid page g) → pairs_of new ≡ pairs_of old
-kept-of old mid new page row lt same is kept =
-    pairs_of-same old new (λ q g.
-    (let at : word_of new q g ≡ get_or (cond (q == page) row (row_of mid q)) g 0 = ap (λ (rows : List (List ℕ)). word_of rows q g) is ∙ ap (λ (r : List ℕ). get_or r g 0) (row_of-set mid page row q lt) in
-    elim (cases_eq q page) [
-      | inl here ↦ (
-          let on : (q == page) ≡ true = eq-eqb q page here in
-          at ∙ rw on (kept g ∙ same page g ∙ ap (λ (p : ℕ). word_of old p g) (sym here)))
-      | inr other ↦ (
-          let off : (q == page) ≡ false = ne_eqb q page other in
-          at ∙ rw off (same q g))
-    ]))
-
--- a longer row
-pub rows-put : (mid new : List (List ℕ)) (page : ℕ) (row : List ℕ) → AreRows mid → page < length mid → new ≡ set mid page row → length row ≤ 2 ^ 26 → AreRows new
-rows-put mid new page row are lt is few = record {
-  pages = (let size = ap (λ (rows : List (List ℕ)). length rows) is ∙ length-set mid page row in let all = are.pages in omega arith);
-  groups = λ q. (
-      let at : length (row_of new q) ≡ length (cond (q == page) row (row_of mid q)) = ap (λ (rows : List (List ℕ)). length (row_of rows q)) is ∙ ap (λ (r : List ℕ). length r) (row_of-set mid page row q lt) in
-      elim (cases_Bool (q == page)) [
-        | inl on ↦ (let at' : length (row_of new q) ≡ length row = at ∙ rw on refl in omega arith)
-        | inr off ↦ (let at' : length (row_of new q) ≡ length (row_of mid q) = at ∙ rw off refl in let all = are.groups q in omega arith)
-      ]);
-}
 
 -- With its bit set in its group's word, a pair is marked besides those that were.
 pub has-added : (old new : List (List ℕ)) (page index word : ℕ)
@@ -216,15 +168,9 @@ word-shows rows page group word bit is lt =
     sym (has ∙ rw (g, b, is) refl)
 
 -- a bit set in a word of a page's row marks one pair besides
-pub has-set : (old : List (List ℕ)) (page index : ℕ) (was row : List ℕ) → page < length old → was ≡ row_of old page
-    → ((g : ℕ) → get_or row g 0 ≡ cond (g == index / 64) (set_bit (get_or was (index / 64) 0) (index % 64)) (get_or was g 0))
-    → (q k : ℕ) → has_pair (pairs_of (set old page row)) q k ≡ (has_pair (pairs_of old) q k || (q == page && k == index))
-has-set old page index was row lt is put =
-    let word : ℕ = word_of old page (index / 64) in
-    let puts : IsPut old (set old page row) page (index / 64) (set_bit word (index % 64)) =
-    put-of old old (set old page row) page (index / 64) (set_bit word (index % 64)) row lt (λ q g. refl) refl
-    (λ g. put g ∙ ap (λ (r : List ℕ). cond (g == index / 64) (set_bit (get_or r (index / 64) 0) (index % 64)) (get_or r g 0)) is) in
-    has-added old (set old page row) page index word (λ b less. word-shows old page (index / 64) word b refl less) puts
+pub has-set : (old new : List (List ℕ)) (page index : ℕ) → IsPut old new page (index / 64) (set_bit (word_of old page (index / 64)) (index % 64))
+    → (q k : ℕ) → has_pair (pairs_of new) q k ≡ (has_pair (pairs_of old) q k || (q == page && k == index))
+has-set old new page index put = has-added old new page index (word_of old page (index / 64)) (λ b less. word-shows old page (index / 64) _ b refl less) put
 
 -- rows that mark a pair besides, which was marked, mark the same pairs
 pub same-again : (old new : List (List ℕ)) (page index : ℕ) → has_pair (pairs_of old) page index ≡ true
@@ -239,13 +185,9 @@ same-again old new page index on more =
           more q k ∙ rw was refl)
     ])
 
--- the row that was read
-pub row-read : (rows : List (List ℕ)) (page : ℕ) (row : List ℕ) → page < length rows → row ≡ get_or rows page row → row ≡ row_of rows page
-row-read rows page row lt is = is ∙ get_or_default rows page row [] lt
-
--- no word past the rows marks anything
-pub word-past : (rows : List (List ℕ)) (page group : ℕ) → length rows ≤ page → 0 ≡ word_of rows page group
-word-past rows page group le = sym (ap (λ (row : List ℕ). get_or row group 0) (get_or_past rows page [] le) ∙ get_or_past [] group 0 (omega arith))
+-- no word of a page without a row marks anything
+pub word-none : (rows : List (List ℕ)) (page group : ℕ) → row_of rows page ≡ [] → 0 ≡ word_of rows page group
+word-none rows page group none = sym (ap (λ (row : List ℕ). get_or row group 0) none ∙ get_or_past [] group 0 (omega arith))
 
 -- the ones of one word more
 pub count-more : (row : List ℕ) (group page count word result : ℕ) → count ≡ min (pairs_at (page_pairs group page (λ g. get_or row g 0)) page) (2 ^ 32 - 1) → word ≡ get_or row group 0 → word < 2 ^ 64

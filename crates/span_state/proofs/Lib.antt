@@ -1,5 +1,6 @@
 pub mod Added
 pub mod Pairs
-pub mod Rows
+pub mod RowWords
 pub mod Sweeps
+pub mod Table
 pub mod Words

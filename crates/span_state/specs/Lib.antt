@@ -3,3 +3,4 @@ pub mod Counts
 pub mod Groups
 pub mod MarkSet
 pub mod Spans
+pub mod Table

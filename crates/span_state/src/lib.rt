@@ -4,6 +4,7 @@
 mod body;
 mod marks;
 mod row;
+mod rows;
 mod sweep;
 
 pub use body::Body;

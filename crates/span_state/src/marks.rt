@@ -1,25 +1,23 @@
 ghost use Rattle.std.specs.Prelude.{◌≡◌, ◌↔◌, ℕ, ◌+◌, ◌-◌, ◌*◌, ◌^◌, ◌<◌, ◌≤◌, ◌==◌, ◌||◌, ◌&&◌, [], ◌∷◌, ◌++◌, ◌≢◌, false, length, min, slice_index, true, vec_capacity, IsOk, OnOk, OnErr, IfOk};
 ghost use Rattle.std.specs.Int.{bit_at};
-ghost use Rattle.span_state.specs.Groups.{group_pairs, page_pairs, word_of, AreRows};
+ghost use Rattle.span_state.specs.Groups.{group_pairs, page_pairs};
 ghost use Rattle.span_state.specs.MarkSet.{is_marked, marked_count, dead_of, pairs_at, IsRising};
 
 use crate::row::Row;
+use crate::rows::Rows;
 use fallible_list::{List, NoMemory};
 use std::alloc::Global;
 use std::collections::BTreeMap;
 use std::marker::Model;
 
-// The rows get room for so many more than are needed, since to make room again moves them all.
-const ROOM: usize = 1024;
-
 /// The marks of a mark end: which objects survive, and the buckets of the sampled objects that died.
 ///
-/// They take 128 bytes of marks for each page up to the highest that has a mark, and more only on a page where an index of
-/// 1024 or above is marked.
+/// They take eight bytes for each page up to the highest that has a mark, 152 more for a page that has one, and more only on
+/// a page where an index of 1024 or above is marked.
 #[derive(Drop)]
 pub struct Marks {
-    // a row of words for each page
-    rows: Vec<Row>,
+    // a row of words for each page that has a mark
+    rows: Rows,
     // the dead buckets of a page
     dead: BTreeMap<u32, List<u32>>,
     alloc: Global,
@@ -31,9 +29,9 @@ impl Model for Marks {
 
     ghost Value = { MarkSet };
 
-    ghost view = { λ m. record { pairs = pairs_of m.rows.items; deaths = m.dead.entries } };
+    ghost view = { λ m. record { pairs = pairs_of m.rows; deaths = m.dead.entries } };
 
-    ghost invariant = { λ m. AreRows m.rows.items };
+    ghost invariant = { λ m. AreRows m.rows };
 }
 
 impl Marks {
@@ -43,7 +41,7 @@ impl Marks {
         ensures dead { (page : ℕ) → dead_of result page ≡ [] }
     {
         Marks {
-            rows: Vec::new(alloc),
+            rows: Rows::new(alloc),
             dead: BTreeMap::new(alloc),
             alloc,
         }
@@ -60,9 +58,7 @@ impl Marks {
         ensures err { OnErr result (self.new ≡ self.old) }
     {
         let group = (index / 64) as usize;
-        let row = page as usize;
-        if group < 16 && row < self.rows.len() {
-            self.rows[row].set_near(group, index % 64);
+        if group < 16 && self.rows.set_near(page as usize, group, index % 64) {
             return Ok(());
         }
         self.add_past(page, index)
@@ -85,8 +81,7 @@ impl Marks {
         if word & bit != 0 {
             return Ok(());
         }
-        reach(&mut self.rows, self.alloc, page)?;
-        self.rows[page as usize].set(group, word | bit)
+        self.rows.put(self.alloc, page as usize, group, word | bit)
     }
 
     /// Puts a bucket at the end of the page's dead.
@@ -110,11 +105,9 @@ impl Marks {
         ensures count { result ≡ min (marked_count self.now page) (2 ^ 32 - 1) }
         ensures none { (result ≡ 0) ↔ ((index : ℕ) → is_marked self.now page index ≡ false) }
     {
-        let page = page as usize;
-        if page < self.rows.len() {
-            count_row(&self.rows[page])
-        } else {
-            0
+        match self.rows.row(page as usize) {
+            Some(row) => count_row(row),
+            None => 0,
         }
     }
 
@@ -124,11 +117,9 @@ impl Marks {
             → (bit_at result bit == 1) ≡ is_marked self.now page (64 * group + bit) }
         ensures rising { IsRising self.now.pairs }
     {
-        let page = page as usize;
-        if page < self.rows.len() {
-            self.rows[page].word(group)
-        } else {
-            0
+        match self.rows.row(page as usize) {
+            Some(row) => row.word(group),
+            None => 0,
         }
     }
 
@@ -159,7 +150,9 @@ impl Marks {
         let total = self.total()?;
         let mut pairs = Vec::with_capacity(self.alloc, total)?;
         for page in 0..self.rows.len() {
-            push_row(&mut pairs, page as u32, &self.rows[page]);
+            if let Some(row) = self.rows.row(page) {
+                push_row(&mut pairs, page as u32, row);
+            }
         }
         Ok(List::from_vec(pairs))
     }
@@ -171,51 +164,15 @@ impl Marks {
     {
         let mut total: usize = 0;
         for page in 0..self.rows.len() {
-            match total.checked_add(marks_in(&self.rows[page])) {
-                Some(sum) => total = sum,
-                None => return Err(NoMemory),
+            if let Some(row) = self.rows.row(page) {
+                match total.checked_add(marks_in(row)) {
+                    Some(sum) => total = sum,
+                    None => return Err(NoMemory),
+                }
             }
         }
         Ok(total)
     }
-}
-
-// Makes rows up to that of the page. Without memory no word changes.
-fn reach(rows: &mut Vec<Row>, alloc: Global, page: u32) -> Result<(), NoMemory>
-    ensures words { (q g : ℕ) → word_of rows.new.items q g ≡ word_of rows.old.items q g }
-    ensures reached { OnOk result (page < length rows.new.items) }
-    ensures are { AreRows rows.old.items → AreRows rows.new.items }
-{
-    if (page as usize) < rows.len() {
-        return Ok(());
-    }
-    add_rows(rows, alloc, page)
-}
-
-// Puts rows at the end up to that of the page, which is past the last.
-#[cold]
-#[inline(never)]
-fn add_rows(rows: &mut Vec<Row>, alloc: Global, page: u32) -> Result<(), NoMemory>
-    requires { length rows.old.items ≤ page }
-    ensures words { (q g : ℕ) → word_of rows.new.items q g ≡ word_of rows.old.items q g }
-    ensures reached { OnOk result (page < length rows.new.items) }
-    ensures are { AreRows rows.old.items → AreRows rows.new.items }
-{
-    make_room(rows, page)?;
-    let page = page as usize;
-    while rows.len() <= page {
-        rows.push(Row::new(alloc))?;
-    }
-    Ok(())
-}
-
-// Makes room for the rows up to that of the page, and for some more.
-fn make_room(rows: &mut Vec<Row>, page: u32) -> Result<(), NoMemory>
-    ensures { rows.new.items ≡ rows.old.items }
-{
-    let missing = (page as usize).saturating_sub(rows.len());
-    rows.reserve(missing.saturating_add(ROOM))?;
-    Ok(())
 }
 
 // How many indices a page's row marks, or 2^32 - 1 where there are more.

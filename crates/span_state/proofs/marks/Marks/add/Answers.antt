@@ -1,30 +1,23 @@
-use Rattle.std.proofs.Common.{ℕ, ◌<◌, ◌==◌, ◌||◌, ◌&&◌, List, length, refl, ◌∙◌, ap, rules}
-use Rattle.std.proofs.Math.ListN.{set}
+use Rattle.std.proofs.Common.{ℕ, ◌==◌, ◌||◌, ◌&&◌, List, refl, ◌∙◌, ap}
 use Rattle.span_state.specs.MarkSet.{MarkSet, is_marked}
-use Rattle.span_state.proofs.Added.{has-set, rising-pairs_of, row-read, same-again}
+use Rattle.span_state.proofs.Added.{has-set, rising-pairs_of, same-again}
 use Rattle.span_state.proofs.marks.Marks.add.Goals as goal
 
-pub returns-then-row-len-clause-marked : goal.returns-then-row-len-clause-marked
-returns-then-row-len-clause-marked c =
-    let old = c.self.inside.rows.items in
-    let lt : c.args.page < length old = search rules in
-    let row = row-read old c.args.page c.index_mut.result.now lt c.index_mut.ensures.value in
-    λ q k. has-set old c.args.page c.args.index c.index_mut.result.now c.set_near.new.self lt row c.set_near.ensures.set q k
+pub returns-then-set_near-clause-marked : goal.returns-then-set_near-clause-marked
+returns-then-set_near-clause-marked c = λ q k.
+    has-set c.self.inside.rows c.set_near.new.self c.args.page c.args.index (c.set_near.ensures.set c.if-set_near.true) q k
     ∙ ap (λ (m : MarkSet). is_marked m q k || (q == c.args.page && k == c.args.index)) c.self.view_is
 
-pub returns-then-row-len-clause-again : goal.returns-then-row-len-clause-again
-returns-then-row-len-clause-again c =
-    let old = c.self.inside.rows.items in
-    let lt : c.args.page < length old = search rules in
-    let row = row-read old c.args.page c.index_mut.result.now lt c.index_mut.ensures.value in
-    let more = has-set old c.args.page c.args.index c.index_mut.result.now c.set_near.new.self lt row c.set_near.ensures.set in
+pub returns-then-set_near-clause-again : goal.returns-then-set_near-clause-again
+returns-then-set_near-clause-again c =
+    let more = has-set c.self.inside.rows c.set_near.new.self c.args.page c.args.index (c.set_near.ensures.set c.if-set_near.true) in
     λ on. (
       refl,
       ap (λ (pairs : List (ℕ × ℕ)). record { pairs = pairs; deaths = c.self.inside.dead.entries })
-          (same-again old (set old c.args.page c.set_near.new.self) c.args.page c.args.index
+          (same-again c.self.inside.rows c.set_near.new.self c.args.page c.args.index
           (ap (λ (m : MarkSet). is_marked m c.args.page c.args.index) c.self.view_is ∙ on) more)
           ∙ c.self.view_is,
     )
 
-pub returns-then-row-len-clause-rising : goal.returns-then-row-len-clause-rising
-returns-then-row-len-clause-rising c = rising-pairs_of (set c.self.inside.rows.items c.args.page c.set_near.new.self)
+pub returns-then-set_near-clause-rising : goal.returns-then-set_near-clause-rising
+returns-then-set_near-clause-rising c = rising-pairs_of c.set_near.new.self

@@ -5,6 +5,6 @@ use Rattle.span_state.proofs.marks.Marks.pairs.Given as goal
 -- the pairs of the pages so far are pushed
 abbrev pub invariant-loop-page : goal.invariant-loop-page
 invariant-loop-page l = record {
-  items : l.pairs.items ≡ grid_pairs l.page (λ page. length (row_of l.self-inside.rows.items page)) (word_of l.self-inside.rows.items);
-  room : length (pairs_of l.self-inside.rows.items) ≤ vec_capacity l.pairs;
+  items : l.pairs.items ≡ grid_pairs l.page (λ page. length (row_of l.self-inside.rows page)) (word_of l.self-inside.rows);
+  room : length (pairs_of l.self-inside.rows) ≤ vec_capacity l.pairs;
 }

@@ -1,6 +1,6 @@
 use Rattle.std.proofs.Common.{◌≡◌, ℕ, ◌+◌, ◌-◌, List, length, get_or, sym, ◌∙◌, ap, arith}
 use Rattle.std.proofs.lemmas.List.{length-append}
-use Rattle.span_state.proofs.Rows.{far-at}
+use Rattle.span_state.proofs.RowWords.{far-at}
 use Rattle.span_state.proofs.row.Row.far.Goals as goal
 
 pub returns-clause-len : goal.returns-clause-len

@@ -1,6 +1,6 @@
 use Rattle.std.proofs.Common.{ℕ, List, length, get_or, sym, ◌∙◌, ap, arith}
 use Rattle.std.proofs.lemmas.List.{length-append}
-use Rattle.span_state.proofs.Rows.{near-at}
+use Rattle.span_state.proofs.RowWords.{near-at}
 use Rattle.span_state.proofs.row.Row.near.Goals as goal
 
 pub returns-clause-len : goal.returns-clause-len

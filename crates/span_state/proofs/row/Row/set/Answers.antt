@@ -1,6 +1,6 @@
 use Rattle.std.proofs.Common.{ℕ, ◌==◌, cond, List, get_or, ◌∙◌, ap, arith}
 use Rattle.std.proofs.lemmas.Result.{on_ok_weaker, on_err_weaker}
-use Rattle.span_state.proofs.Rows.{put-far, same-far}
+use Rattle.span_state.proofs.RowWords.{put-far, same-far}
 use Rattle.span_state.proofs.row.Row.set.Goals as goal
 
 pub returns-clause-set : goal.returns-clause-set

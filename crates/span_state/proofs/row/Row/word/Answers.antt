@@ -1,6 +1,6 @@
 use Rattle.std.proofs.Common.{ℕ, ◌-◌, ◌<◌, ◌≤◌, List, length, get_or, sym, ◌∙◌, ap, arith, rules}
 use Rattle.std.proofs.lemmas.List.{get_or_past, get_or_read}
-use Rattle.span_state.proofs.Rows.{near-at, far-at}
+use Rattle.span_state.proofs.RowWords.{near-at, far-at}
 use Rattle.span_state.proofs.row.Row.word.Goals as goal
 
 pub returns-then-group-lt16 : goal.returns-then-group-lt16
