@@ -1,6 +1,6 @@
 //! One move: the only way by which a core changes. A move first tries all its needs, which write nothing, then makes room, and
 //! writes last; so a refused move, and one without memory, leaves the core as it was. For a caller that proves what a move needs,
-//! `step_met` does not try the needs of the two moves of which there are most.
+//! `step_met` does not try the needs of an allocation, the move of which there are most, and of a mark end, the move that has most to try.
 
 ghost use Rattle.std.specs.Prelude.{◌≡◌, ◌≢◌, Err, None};
 ghost use Rattle.sweep_laws.specs.Owned.{Owned};
@@ -104,8 +104,8 @@ fn step_usual_met(core: &mut Core, mv: Move) -> Result<Reply, StepFault>
     step_given_met(core, mv)
 }
 
-/// Makes one move whose needs are all met, as [`step`] does, but tries none of them for the two moves of which a trace has most:
-/// an allocation, and a mark end, whose marks need not be looked through once more. For a caller that proves the needs.
+/// Makes one move whose needs are all met, as [`step`] does, but tries none of them for an allocation, the move of which a trace has
+/// most, and for a mark end, whose marks need not be looked through once more. For a caller that proves the needs.
 #[inline(always)]
 pub fn step_met(core: &mut Core, mv: Move) -> Result<Reply, StepFault>
     requires met { refusal (needs_of core.old mv) ≡ None }
