@@ -7,6 +7,7 @@ pub mod Cycles
 pub mod Parts
 pub mod Acted
 pub mod Queued
+pub mod Gains
 pub mod Driving
 pub mod Reaching
 pub mod Settling

@@ -1,4 +1,5 @@
 pub mod Parts
+pub mod Gains
 pub mod Served
 pub mod Swept
 pub mod Turns

@@ -1,6 +1,6 @@
 //! One cycle of a run: the turns of all workers, and its end.
 
-ghost use Rattle.std.specs.Prelude.{◌≡◌, ℕ, ◌^◌, ◌<◌, ◌≤◌, [], All, List as Items, length, slice_index_or, vec_len, true, IfOk, OnOk};
+ghost use Rattle.std.specs.Prelude.{◌≡◌, ℕ, ◌^◌, ◌<◌, ◌≤◌, [], All, List as Items, length, slice_index_or, vec_len, true, OnOk};
 ghost use Rattle.span_laws.specs.Asks.{IsIdle};
 ghost use Rattle.proc_cache.specs.Cache.{Cache};
 ghost use Rattle.heap_run.specs.Parts.{part_at};
@@ -8,6 +8,7 @@ ghost use Rattle.heap_run.specs.Settled.{HasFlushed, HasSettled, HasWorked};
 ghost use Rattle.span_set.specs.Tallies.{MayCount};
 ghost use Rattle.sample_laws.specs.Counted.{all_counts};
 ghost use Rattle.heap_run.specs.Counts.{AreNumbered, Counts, HaveSampled, KeepCountdowns, no_counts};
+ghost use Rattle.heap_run.specs.Gains.{HaveKept, gains};
 ghost use Rattle.heap_run.specs.Turns.{HaveAnswered, IsCollecting, IsDriving, KeepsAnswers, SaysNone, no_cache};
 
 use crate::queues::Queues;
@@ -20,7 +21,7 @@ use span_set::{Hand, Shop};
 use std::alloc::Global;
 use sweeper::finish;
 
-/// What the events of a cycle came to, processor by processor: their answers, and which of the objects are sampled.
+/// The lists in which each processor puts what its events come to: the answers, and which of the objects are sampled.
 #[derive(Drop)]
 pub(crate) struct Given {
     pub answers: Vec<List<Answer>>,
@@ -30,7 +31,8 @@ pub(crate) struct Given {
 // The number of the first background sweeper.
 const SWEEPERS: u32 = 64;
 
-/// Each processor answers its events of the cycle, in rising order of the processors.
+/// Each processor answers its events of the cycle, in rising order of the processors, and puts what they come to behind what is in
+/// its lists. Without memory the lists may be lost.
 pub(crate) fn run_processors<G: Gate>(
     alloc: Global,
     shop: &Shop,
@@ -38,7 +40,8 @@ pub(crate) fn run_processors<G: Gate>(
     procs: &mut Vec<Proc>,
     queues: &Queues,
     gate: &G,
-) -> Result<Given, NoMemory>
+    given: &mut Given,
+) -> Result<(), NoMemory>
     requires here { driver.old.worker.here ≡ true }
     requires table { driver.old.worker.table ≡ shop.now.shared.now }
     requires distance { 8192 ≤ shop.now.distance }
@@ -46,6 +49,7 @@ pub(crate) fn run_processors<G: Gate>(
     requires parts { length driver.old.worker.view.parts ≡ 70 }
     requires count { length queues.now.events ≡ vec_len procs.old }
     requires buckets { length queues.now.buckets ≡ vec_len procs.old }
+    requires lists { (vec_len given.old.answers ≡ vec_len procs.old) × (vec_len given.old.sampled ≡ vec_len procs.old) }
     requires numbered { AreNumbered shop.now.ring.now.buckets queues.now.events queues.now.buckets }
     requires few { vec_len procs.old ≤ 64 }
     requires sizes { (w : ℕ) → All (λ e. e.size ≤ 2 ^ 40) (slice_index_or queues.now.events w []) }
@@ -57,24 +61,23 @@ pub(crate) fn run_processors<G: Gate>(
     ensures driving { OnOk result (IsDriving driver.old.worker procs.new.items driver.new) }
     ensures procs { OnOk result (vec_len procs.new ≡ vec_len procs.old) }
     ensures collecting { OnOk result (IsCollecting driver.new) }
-    ensures answered { IfOk result (λ given. HaveAnswered queues.now.events given.answers.items driver.new.worker) }
-    ensures size { IfOk result (λ given. (vec_len given.answers ≡ vec_len procs.old) × (vec_len given.sampled ≡ vec_len procs.old)) }
-    ensures sampled { IfOk result (λ given. HaveSampled queues.now.events given.answers.items given.sampled.items procs.old.items procs.new.items) }
-    ensures counts { IfOk result (λ given. Counts shop.now.marks.now (all_counts (vec_len procs.old) given.sampled.items queues.now.buckets) driver.old driver.new) }
+    ensures answered { OnOk result (HaveAnswered queues.now.events (gains given.old.answers.items given.new.answers.items) driver.new.worker) }
+    ensures size { OnOk result ((vec_len given.new.answers ≡ vec_len procs.old) × (vec_len given.new.sampled ≡ vec_len procs.old)) }
+    ensures sampled { OnOk result (HaveSampled queues.now.events (gains given.old.answers.items given.new.answers.items) (gains given.old.sampled.items given.new.sampled.items) procs.old.items procs.new.items) }
+    ensures counts { OnOk result (Counts shop.now.marks.now (all_counts (vec_len procs.old) (gains given.old.sampled.items given.new.sampled.items) queues.now.buckets) driver.old driver.new) }
+    ensures kept { OnOk result (HaveKept given.old.answers.items given.new.answers.items × HaveKept given.old.sampled.items given.new.sampled.items) }
 {
-    let mut given = Given {
-        answers: Vec::new(alloc),
-        sampled: Vec::new(alloc),
-    };
     for p in 0..procs.len() {
         let events = queues.events.of(p);
         let buckets = queues.buckets.of(p);
         let proc = &mut procs[p];
-        let outcomes = run_processor(alloc, shop, driver, proc, events, buckets, gate)?;
-        given.answers.push(outcomes.answers)?;
-        given.sampled.push(outcomes.sampled)?;
+        let answers = &mut given.answers[p];
+        let sampled = &mut given.sampled[p];
+        run_processor(
+            alloc, shop, driver, proc, events, buckets, gate, answers, sampled,
+        )?;
     }
-    Ok(given)
+    Ok(())
 }
 
 /// Each processor flushes its cache, where it has not done so in this cycle.
@@ -173,7 +176,7 @@ pub(crate) fn end_cycle(
 }
 
 /// All of a cycle: the processors answer their events, the background sweepers sweep, the scavenger scavenges, and the cycle ends.
-/// The queues are let go before what came of them is merged, so that both are never in memory.
+/// The queues are let go before what came of them is merged, so that both are never in memory. Without memory the lists may be lost.
 pub(crate) fn run_workers<G: Gate>(
     alloc: Global,
     shop: &Shop,
@@ -182,7 +185,8 @@ pub(crate) fn run_workers<G: Gate>(
     queues: Queues,
     background: u32,
     gate: &G,
-) -> Result<Given, NoMemory>
+    given: &mut Given,
+) -> Result<(), NoMemory>
     requires here { driver.old.worker.here ≡ true }
     requires table { driver.old.worker.table ≡ shop.now.shared.now }
     requires distance { 8192 ≤ shop.now.distance }
@@ -190,6 +194,7 @@ pub(crate) fn run_workers<G: Gate>(
     requires parts { length driver.old.worker.view.parts ≡ 70 }
     requires count { length queues.events ≡ vec_len procs.old }
     requires buckets { length queues.buckets ≡ vec_len procs.old }
+    requires lists { (vec_len given.old.answers ≡ vec_len procs.old) × (vec_len given.old.sampled ≡ vec_len procs.old) }
     requires numbered { AreNumbered shop.now.ring.now.buckets queues.events queues.buckets }
     requires few { vec_len procs.old ≤ 64 }
     requires background { background ≤ 4 }
@@ -199,15 +204,16 @@ pub(crate) fn run_workers<G: Gate>(
     requires counts { MayCount shop.now.ring.now shop.now.marks.now driver.old.tally }
     requires drives { driver.old.tally.view.drives ≡ true }
     requires quiet { (w : ℕ) → SaysNone (part_at driver.old.worker w).log }
-    ensures ran { IfOk result (λ given. HasWorked queues.entry.events given.answers.items driver.old procs.new.items driver.new) }
+    ensures ran { OnOk result (HasWorked queues.entry.events (gains given.old.answers.items given.new.answers.items) driver.old procs.new.items driver.new) }
     ensures procs { OnOk result (vec_len procs.new ≡ vec_len procs.old) }
-    ensures size { IfOk result (λ given. (vec_len given.answers ≡ vec_len procs.old) × (vec_len given.sampled ≡ vec_len procs.old)) }
-    ensures sampled { IfOk result (λ given. HaveSampled queues.entry.events given.answers.items given.sampled.items procs.old.items procs.new.items) }
-    ensures counts { IfOk result (λ given. Counts shop.now.marks.now (all_counts (vec_len procs.old) given.sampled.items queues.entry.buckets) driver.old driver.new) }
+    ensures size { OnOk result ((vec_len given.new.answers ≡ vec_len procs.old) × (vec_len given.new.sampled ≡ vec_len procs.old)) }
+    ensures sampled { OnOk result (HaveSampled queues.entry.events (gains given.old.answers.items given.new.answers.items) (gains given.old.sampled.items given.new.sampled.items) procs.old.items procs.new.items) }
+    ensures counts { OnOk result (Counts shop.now.marks.now (all_counts (vec_len procs.old) (gains given.old.sampled.items given.new.sampled.items) queues.entry.buckets) driver.old driver.new) }
+    ensures kept { OnOk result (HaveKept given.old.answers.items given.new.answers.items × HaveKept given.old.sampled.items given.new.sampled.items) }
 {
-    let given = run_processors(alloc, shop, driver, procs, &queues, gate)?;
+    run_processors(alloc, shop, driver, procs, &queues, gate, given)?;
     run_sweepers(alloc, shop, driver, background, gate)?;
     run_scavenger(alloc, shop, driver, gate)?;
     end_cycle(alloc, shop, driver, procs)?;
-    Ok(given)
+    Ok(())
 }

@@ -6,6 +6,7 @@ ghost use Rattle.span_set.specs.Tallies.{MayCount};
 ghost use Rattle.sample_laws.specs.Counted.{one_count, sampled_counts};
 ghost use Rattle.sample_laws.specs.Countdowns.{flag, flags, spends, spent};
 ghost use Rattle.heap_run.specs.Counts.{Counts};
+ghost use Rattle.heap_run.specs.Gains.{HasKept, behind};
 ghost use Rattle.heap_run.specs.Turns.{HasActed, IsCaching, SaysAnswers};
 
 use cycle_history::Answer;
@@ -15,17 +16,12 @@ use proc_cache::{Proc, Refused, alloc, count_placed, flush};
 use size_classes::{Kind, PAGE_SIZE, class_of, span_class};
 use span_set::{Hand, Shop};
 use std::alloc::Global;
+use std::mem::replace;
 use trace_reader::Event;
 
-/// What the events of a processor came to: their answers, and which of the objects are sampled.
-#[derive(Drop)]
-pub(crate) struct Outcomes {
-    pub answers: List<Answer>,
-    pub sampled: List<bool>,
-}
-
-/// Answers the events of a processor in a cycle, in their order, which have buckets with these numbers. Before each it passes the gate,
-/// with the processor's number and the event's place among these.
+/// Answers the events of a processor in a cycle, in their order, which have buckets with these numbers, and puts the answers, and
+/// which of the objects are sampled, behind those before. Before each event it passes the gate, with the processor's number and
+/// the event's place among these. Without memory both lists may be lost.
 pub(crate) fn answer_all<G: Gate>(
     alloc: Global,
     shop: &Shop,
@@ -34,7 +30,9 @@ pub(crate) fn answer_all<G: Gate>(
     events: &[Event],
     buckets: &[u32],
     gate: &G,
-) -> Result<Outcomes, NoMemory>
+    answers: &mut List<Answer>,
+    sampled: &mut List<bool>,
+) -> Result<(), NoMemory>
     requires here { hand.old.worker.here ≡ true }
     requires table { hand.old.worker.table ≡ shop.now.shared.now }
     requires distance { 8192 ≤ shop.now.distance }
@@ -45,25 +43,27 @@ pub(crate) fn answer_all<G: Gate>(
     requires counts { MayCount shop.now.ring.now shop.now.marks.now hand.old.tally }
     requires buckets { length buckets.now ≡ length events.now }
     requires known { All (λ b. b < shop.now.ring.now.buckets) buckets.now }
-    ensures acted { IfOk result (λ o. HasActed (SaysAnswers (reverse events.now) (reverse o.answers)) hand.old hand.new) }
+    ensures acted { OnOk result (HasActed (SaysAnswers (reverse events.now) (reverse (behind answers.old answers.new))) hand.old hand.new) }
     ensures caching { OnOk result (IsCaching hand.old.worker.view.generation hand.new.worker.view.own proc.new) }
     ensures number { OnOk result (proc.new.number ≡ proc.old.number) }
-    ensures sampled { IfOk result (λ o. reverse o.sampled ≡ flags proc.old.countdown (reverse events.now) (reverse o.answers)) }
-    ensures spent { IfOk result (λ o. proc.new.countdown ≡ spent proc.old.countdown (reverse events.now) (reverse o.answers)) }
-    ensures counts { IfOk result (λ o. Counts shop.now.marks.now (sampled_counts o.sampled buckets.now) hand.old hand.new) }
+    ensures sampled { OnOk result (reverse (behind sampled.old sampled.new) ≡ flags proc.old.countdown (reverse events.now) (reverse (behind answers.old answers.new))) }
+    ensures spent { OnOk result (proc.new.countdown ≡ spent proc.old.countdown (reverse events.now) (reverse (behind answers.old answers.new))) }
+    ensures counts { OnOk result (Counts shop.now.marks.now (sampled_counts (behind sampled.old sampled.new) buckets.now) hand.old hand.new) }
+    ensures kept { OnOk result (HasKept answers.old answers.new × HasKept sampled.old sampled.new) }
 {
-    let mut answers = Vec::with_capacity(alloc, events.len())?;
-    let mut samples = Vec::with_capacity(alloc, events.len())?;
+    let mut given = replace(answers, List::new(alloc)).into_vec();
+    let mut flags = replace(sampled, List::new(alloc)).into_vec();
+    given.reserve(events.len())?;
+    flags.reserve(events.len())?;
     for (turn, event) in events.iter().enumerate() {
         gate.before(proc.number(), turn as u64);
-        let (answer, sampled) = answer(shop, proc, hand, event, buckets[turn])?;
-        answers.push_reserved(answer);
-        samples.push_reserved(sampled);
+        let (answer, flag) = answer(shop, proc, hand, event, buckets[turn])?;
+        given.push_reserved(answer);
+        flags.push_reserved(flag);
     }
-    Ok(Outcomes {
-        answers: List::from_vec(answers),
-        sampled: List::from_vec(samples),
-    })
+    *answers = List::from_vec(given);
+    *sampled = List::from_vec(flags);
+    Ok(())
 }
 
 // Answers one event, which has a bucket of this number, and says whether its object is sampled.

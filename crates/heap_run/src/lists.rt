@@ -1,6 +1,6 @@
-//! Lists that grow by many items at once.
+//! Lists that are empty at first, and grow by many items at once.
 
-ghost use Rattle.std.specs.Prelude.{◌≡◌, [], ◌++◌, replicate, IfOk, OnOk};
+ghost use Rattle.std.specs.Prelude.{◌≡◌, ℕ, [], ◌++◌, replicate, slice_index_or, vec_len, IfOk, OnOk};
 
 use edge_io::{List, NoMemory};
 use std::alloc::Global;
@@ -15,19 +15,20 @@ pub(crate) fn empty_list<T: Drop>(alloc: Global, room: usize) -> Result<List<T>,
     Ok(List::from_vec(items))
 }
 
-/// Puts items behind those of a list, in one copy.
-pub(crate) fn append<T: Copy + Drop>(
+/// An empty list for each processor, with room for so many items.
+pub(crate) fn empty_lists<T: Drop>(
     alloc: Global,
-    list: &mut List<T>,
-    more: &[T],
-) -> Result<(), NoMemory>
-    ensures { OnOk result (list.new ≡ list.old ++ more.now) }
+    procs: u32,
+    room: usize,
+) -> Result<Vec<List<T>>, NoMemory>
+    ensures length { IfOk result (λ lists. vec_len lists ≡ procs) }
+    ensures empty { IfOk result (λ lists. (w : ℕ) → slice_index_or lists.items w [] ≡ []) }
 {
-    let mut items = replace(list, List::new(alloc)).into_vec();
-    let grown = items.extend_from_slice(more);
-    *list = List::from_vec(items);
-    grown?;
-    Ok(())
+    let mut lists = Vec::new(alloc);
+    for _proc in 0..procs {
+        lists.push(empty_list(alloc, room)?)?;
+    }
+    Ok(lists)
 }
 
 /// Puts so many zeros behind the numbers of a list.

@@ -6,7 +6,7 @@ ghost use Rattle.std.specs.List.{AllByRecursion};
 ghost use Rattle.profile_cycle.specs.Naming.{HasSize};
 ghost use Rattle.sample_laws.specs.Numbers.{number_of};
 
-use crate::lists::{append_zeros, empty_list};
+use crate::lists::{append_zeros, empty_lists};
 use edge_io::{List, NoMemory};
 use profile_cycle::Buckets;
 use size_classes::{Kind, PAGE_SIZE, class_of, slot_size};
@@ -145,18 +145,6 @@ fn parts_of<T: Copy + Drop>(
     let mut lists = empty_lists(alloc, procs, share)?;
     for (at, event) in events.iter().enumerate() {
         lists[event.proc as usize].push(items[at])?;
-    }
-    Ok(lists)
-}
-
-// An empty list for each processor, with room for so many items.
-fn empty_lists<T: Drop>(alloc: Global, procs: u32, room: usize) -> Result<Vec<List<T>>, NoMemory>
-    ensures length { IfOk result (λ lists. vec_len lists ≡ procs) }
-    ensures empty { IfOk result (λ lists. (w : ℕ) → slice_index_or lists.items w [] ≡ []) }
-{
-    let mut lists = Vec::new(alloc);
-    for _proc in 0..procs {
-        lists.push(empty_list(alloc, room)?)?;
     }
     Ok(lists)
 }

@@ -15,9 +15,9 @@ ghost use Rattle.heap_run.specs.Turns.{no_cache};
 ghost use Rattle.sweep_laws.specs.Start.{copies};
 ghost use Rattle.profile_cycle.specs.Sampling.{countdown};
 
-use crate::cycle::run_workers;
+use crate::cycle::{Given, run_workers};
 use crate::lists::empty_list;
-use crate::merge::merge;
+use crate::merge::{lend, take_back};
 use crate::profile::Profile;
 use crate::queues::{number_all, queues_of};
 use crate::sorting::file_notes;
@@ -183,7 +183,10 @@ impl Run {
             distance: distance_before(trace, cycle),
             pages,
         };
-        let given = run_workers(
+        let answers = lend(alloc, trace.header.procs, &mut self.answers)?;
+        let sampled = lend(alloc, trace.header.procs, &mut self.sampled)?;
+        let mut given = Given { answers, sampled };
+        run_workers(
             alloc,
             &shop,
             &mut self.driver,
@@ -191,10 +194,12 @@ impl Run {
             queues,
             background,
             gate,
+            &mut given,
         )?;
         self.profile.end_sweep(&mut self.driver.tally, cycle);
-        merge(alloc, events, given.answers.as_slice(), &mut self.answers)?;
-        merge(alloc, events, given.sampled.as_slice(), &mut self.sampled)?;
+        let Given { answers, sampled } = given;
+        take_back(alloc, events, answers, &mut self.answers)?;
+        take_back(alloc, events, sampled, &mut self.sampled)?;
         file_notes(alloc, &mut self.driver.notes, &mut self.sweeps)?;
         Ok(())
     }

@@ -10,10 +10,12 @@ ghost use Rattle.span_set.specs.Tallies.{MayCount};
 ghost use Rattle.sample_laws.specs.Counted.{sampled_counts};
 ghost use Rattle.sample_laws.specs.Countdowns.{flags, spent};
 ghost use Rattle.heap_run.specs.Counts.{Counts, IsOut, no_counts};
+ghost use Rattle.heap_run.specs.Gains.{HasKept, behind};
 ghost use Rattle.heap_run.specs.Turns.{HasActed, IsCaching, SaysAnswers, SaysNone, TookTurn};
 
-use crate::events::{Outcomes, answer_all};
-use edge_io::{Gate, NoMemory};
+use crate::events::answer_all;
+use cycle_history::Answer;
+use edge_io::{Gate, List, NoMemory};
 use proc_cache::{Proc, flush};
 use scavenger::scavenge_to;
 use span_set::{Hand, Shop};
@@ -26,7 +28,8 @@ use trace_reader::Event;
 // The number of the scavenger's worker.
 const SCAVENGER: u32 = 68;
 
-/// A processor answers its events of the cycle.
+/// A processor answers its events of the cycle, and puts the answers, and which of the objects are sampled, behind those before.
+/// Without memory both lists may be lost.
 pub(crate) fn run_processor<G: Gate>(
     alloc: Global,
     shop: &Shop,
@@ -35,7 +38,9 @@ pub(crate) fn run_processor<G: Gate>(
     events: &[Event],
     buckets: &[u32],
     gate: &G,
-) -> Result<Outcomes, NoMemory>
+    answers: &mut List<Answer>,
+    sampled: &mut List<bool>,
+) -> Result<(), NoMemory>
     requires here { driver.old.worker.here ≡ true }
     requires table { driver.old.worker.table ≡ shop.now.shared.now }
     requires distance { 8192 ≤ shop.now.distance }
@@ -50,17 +55,20 @@ pub(crate) fn run_processor<G: Gate>(
     requires drives { driver.old.tally.view.drives ≡ true }
     requires buckets { length buckets.now ≡ length events.now }
     requires known { All (λ b. b < shop.now.ring.now.buckets) buckets.now }
-    ensures turn { IfOk result (λ o. TookTurn proc.old.number (SaysAnswers (reverse events.now) (reverse o.answers)) driver.old driver.new) }
+    ensures turn { OnOk result (TookTurn proc.old.number (SaysAnswers (reverse events.now) (reverse (behind answers.old answers.new))) driver.old driver.new) }
     ensures caching { OnOk result (IsCaching driver.old.worker.view.generation (part_at driver.new.worker proc.old.number) proc.new) }
     ensures number { OnOk result (proc.new.number ≡ proc.old.number) }
-    ensures sampled { IfOk result (λ o. reverse o.sampled ≡ flags proc.old.countdown (reverse events.now) (reverse o.answers)) }
-    ensures spent { IfOk result (λ o. proc.new.countdown ≡ spent proc.old.countdown (reverse events.now) (reverse o.answers)) }
-    ensures counts { IfOk result (λ o. Counts shop.now.marks.now (sampled_counts o.sampled buckets.now) driver.old driver.new) }
+    ensures sampled { OnOk result (reverse (behind sampled.old sampled.new) ≡ flags proc.old.countdown (reverse events.now) (reverse (behind answers.old answers.new))) }
+    ensures spent { OnOk result (proc.new.countdown ≡ spent proc.old.countdown (reverse events.now) (reverse (behind answers.old answers.new))) }
+    ensures counts { OnOk result (Counts shop.now.marks.now (sampled_counts (behind sampled.old sampled.new) buckets.now) driver.old driver.new) }
+    ensures kept { OnOk result (HasKept answers.old answers.new × HasKept sampled.old sampled.new) }
 {
     let mut hand = send_out(alloc, shop, driver, proc.number())?;
-    let outcomes = answer_all(alloc, shop, proc, &mut hand, events, buckets, gate)?;
+    answer_all(
+        alloc, shop, proc, &mut hand, events, buckets, gate, answers, sampled,
+    )?;
     bring_back(shop, driver, hand)?;
-    Ok(outcomes)
+    Ok(())
 }
 
 /// A processor flushes its cache, where it has not done so in this cycle.

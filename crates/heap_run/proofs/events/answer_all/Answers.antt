@@ -1,30 +1,44 @@
-use Rattle.std.proofs.Common.{◌≡◌, ◌∙◌, ◌+◌, ◌<◌, ◌++◌, Bool, false, List, [], ◌∷◌, reverse, take, length, get_or, refl, ap, sym, arith}
+use Rattle.std.proofs.Common.{◌≡◌, ◌∙◌, ◌+◌, ◌<◌, ◌≤◌, ◌++◌, Bool, false, List, [], ◌∷◌, reverse, take, length, get_or, refl, ap, sym, arith}
 use Rattle.std.proofs.lemmas.List.{length-append, reverse-append, take_all, take_more}
 use Rattle.trace_reader.specs.declared.trace.Event.{Event}
+use Rattle.cycle_history.specs.declared.Answer.{Answer}
 use Rattle.profile_cycle.specs.Sampling.{Countdown}
 use Rattle.sample_laws.specs.Counted.{one_count, sampled_counts}
 use Rattle.sample_laws.specs.Countdowns.{flag, spends}
 use Rattle.heap_run.proofs.Counting.{counts-may, counts-none, counts-then}
 use Rattle.heap_run.proofs.Sampling.{counts-next, flags-more}
 use Rattle.span_laws.specs.declared.view.View.{View}
+use Rattle.heap_run.specs.Gains.{behind}
 use Rattle.heap_run.specs.Turns.{SaysAnswers}
+use Rattle.heap_run.proofs.Gains.{behind-none, behind-push, kept-none, kept-push}
 use Rattle.heap_run.proofs.Acted.{acted-none, acted-then, answers-more}
 use Rattle.heap_run.proofs.events.answer_all.Goals as goal
 
 pub loop-turn-init : goal.loop-turn-init
-loop-turn-init g c = record {
-  acted = rw c.in_ok-answers.ensures.items (acted-none (SaysAnswers [] []) c.args.hand.now c.requires.idle tt);
-  caching = c.requires.caching;
-  number = refl;
-  size = ap (λ (l : List Bool). length l) c.in_ok-samples.ensures.items;
-  long = c.in_ok-answers.ensures.len;
-  long_too = c.in_ok-samples.ensures.len;
-  room = c.in_ok-answers.ensures.exact;
-  room_too = c.in_ok-samples.ensures.exact;
-  sampled = rw c.in_ok-samples.ensures.items refl;
-  spent_is = refl;
-  counts = rw c.in_ok-samples.ensures.items (counts-none c.args.shop.now.marks.now c.args.hand.now c.args.hand.now refl refl);
-}
+loop-turn-init g c =
+    let same : c.reserve.new.self.items ≡ c.args.answers.now = c.reserve.ensures.items ∙ c.into_vec-given.ensures ∙ c.replace.ensures.value in
+    let same_too : c.reserve-2.new.self.items ≡ c.args.sampled.now = c.reserve-2.ensures.items ∙ c.into_vec-flags.ensures ∙ c.replace-2.ensures.value in
+    let none = behind-none c.args.answers.now c.reserve.new.self.items same in
+    let none_too = behind-none c.args.sampled.now c.reserve-2.new.self.items same_too in
+    let long = ap (λ (l : List Answer). length l) same in
+    let long_too = ap (λ (l : List Bool). length l) same_too in
+    let room = c.in_ok-reserve.ensures.ok in
+    let room_too = c.in_ok-reserve-2.ensures.ok in
+    record {
+      acted = rw none (acted-none (SaysAnswers [] []) c.args.hand.now c.requires.idle tt);
+      caching = c.requires.caching;
+      number = refl;
+      size = ap (λ (l : List Bool). length l) none_too;
+      long = omega (arith, c.reserve.new.self.ok.0);
+      long_too = omega (arith, c.reserve-2.new.self.ok.0);
+      room = omega (arith, c.reserve.new.self.ok.0);
+      room_too = omega (arith, c.reserve-2.new.self.ok.0);
+      kept = kept-none c.args.answers.now c.reserve.new.self.items same;
+      kept_too = kept-none c.args.sampled.now c.reserve-2.new.self.items same_too;
+      sampled = rw none_too refl;
+      spent_is = refl;
+      counts = rw none_too (counts-none c.args.shop.now.marks.now c.args.hand.now c.args.hand.now refl refl);
+    }
 
 pub answer-requires-clause-counts : goal.answer-requires-clause-counts
 answer-requires-clause-counts g c = counts-may c.args.shop.now.ring.now c.args.shop.now.marks.now _ c.args.hand.now c.loop-turn.hand c.requires.counts c.loop-turn.invariant.counts
@@ -58,25 +72,35 @@ loop-turn-preserved g c =
     let few : c.loop-turn.turn < length c.args.buckets.now = (let b = c.requires.buckets in let t = c.loop-turn-test.true in omega arith) in
     let es : reverse (take (c.loop-turn.turn + 1) c.args.events.now) ≡ e ∷ reverse (take c.loop-turn.turn c.args.events.now) =
     ap (λ (l : List Event). reverse l) (take_more c.args.events.now c.loop-turn.turn d c.loop-turn-test.true) ∙ reverse-append (take c.loop-turn.turn c.args.events.now) (e ∷ []) in
-    let an : reverse (c.loop-turn.answers.items ++ c.in_ok-answer.answer ∷ []) ≡ c.in_ok-answer.answer ∷ reverse c.loop-turn.answers.items = reverse-append c.loop-turn.answers.items (c.in_ok-answer.answer ∷ []) in
-    let fl : reverse (c.loop-turn.samples.items ++ c.in_ok-answer.sampled ∷ []) ≡ c.in_ok-answer.sampled ∷ reverse c.loop-turn.samples.items = reverse-append c.loop-turn.samples.items (c.in_ok-answer.sampled ∷ []) in
-    let longer = length-append c.loop-turn.samples.items (c.in_ok-answer.sampled ∷ []) in
+    let was = c.args.answers.now in
+    let was_too = c.args.sampled.now in
+    let low : length was ≤ length c.loop-turn.given.items = (let l = i.long in omega (arith, c.loop-turn.given.ok.0)) in
+    let low_too : length was_too ≤ length c.loop-turn.flags.items = (let l = i.long_too in omega (arith, c.loop-turn.flags.ok.0)) in
+    let got = behind was c.loop-turn.given.items in
+    let got_too = behind was_too c.loop-turn.flags.items in
+    let more : behind was c.push_reserved.new.self.items ≡ got ++ c.in_ok-answer.answer ∷ [] = ap (λ (l : List Answer). behind was l) c.push_reserved.ensures.items ∙ behind-push was c.loop-turn.given.items c.in_ok-answer.answer low in
+    let more_too : behind was_too c.push_reserved-in-loop-turn.new.self.items ≡ got_too ++ c.in_ok-answer.flag ∷ [] = ap (λ (l : List Bool). behind was_too l) c.push_reserved-in-loop-turn.ensures.items ∙ behind-push was_too c.loop-turn.flags.items c.in_ok-answer.flag low_too in
+    let an : reverse (got ++ c.in_ok-answer.answer ∷ []) ≡ c.in_ok-answer.answer ∷ reverse got = reverse-append got (c.in_ok-answer.answer ∷ []) in
+    let fl : reverse (got_too ++ c.in_ok-answer.flag ∷ []) ≡ c.in_ok-answer.flag ∷ reverse got_too = reverse-append got_too (c.in_ok-answer.flag ∷ []) in
+    let longer = length-append got_too (c.in_ok-answer.flag ∷ []) in
     record {
-      acted = rw c.push_reserved.ensures.items (acted-then _ _ _ c.args.hand.now c.loop-turn.hand c.answer.new.hand i.acted c.in_ok-answer.ensures.acted
-          (λ first later was now. answers-more c.args.events.now c.loop-turn.answers.items c.loop-turn.turn _ c.in_ok-answer.answer first later c.loop-turn-test.true was now));
+      acted = rw more (acted-then _ _ _ c.args.hand.now c.loop-turn.hand c.answer.new.hand i.acted c.in_ok-answer.ensures.acted
+          (λ first later was now. answers-more c.args.events.now got c.loop-turn.turn _ c.in_ok-answer.answer first later c.loop-turn-test.true was now));
       caching = rw (sym (ap (λ (v : View). v.generation) i.acted.view)) c.in_ok-answer.ensures.caching;
       number = c.in_ok-answer.ensures.number ∙ i.number;
-      size = ap (λ (l : List Bool). length l) c.push_reserved-in-loop-turn.ensures.items ∙ (let s = i.size in omega arith);
+      size = ap (λ (l : List Bool). length l) more_too ∙ (let s = i.size in omega arith);
       long = c.push_reserved.ensures.len ∙ (let s = i.long in omega arith);
       long_too = c.push_reserved-in-loop-turn.ensures.len ∙ (let s = i.long_too in omega arith);
-      room = c.push_reserved.ensures.capacity ∙ i.room;
-      room_too = c.push_reserved-in-loop-turn.ensures.capacity ∙ i.room_too;
-      sampled = rw (c.push_reserved.ensures.items, c.push_reserved-in-loop-turn.ensures.items, es, an, fl) (flags-more c.args.proc.now.countdown (take c.loop-turn.turn c.args.events.now) c.loop-turn.answers.items c.loop-turn.samples.items e c.in_ok-answer.answer c.in_ok-answer.sampled i.sampled
+      room = rw c.push_reserved.ensures.capacity i.room;
+      room_too = rw c.push_reserved-in-loop-turn.ensures.capacity i.room_too;
+      kept = rw c.push_reserved.ensures.items (kept-push was c.loop-turn.given.items c.in_ok-answer.answer low i.kept);
+      kept_too = rw c.push_reserved-in-loop-turn.ensures.items (kept-push was_too c.loop-turn.flags.items c.in_ok-answer.flag low_too i.kept_too);
+      sampled = rw (more, more_too, es, an, fl) (flags-more c.args.proc.now.countdown (take c.loop-turn.turn c.args.events.now) got got_too e c.in_ok-answer.answer c.in_ok-answer.flag i.sampled
           (c.in_ok-answer.ensures.sampled ∙ ap (λ (x : Countdown). flag x e c.in_ok-answer.answer) i.spent_is));
-      spent_is = rw (c.push_reserved.ensures.items, es, an) (c.in_ok-answer.ensures.spent ∙ ap (λ (x : Countdown). spends x e c.in_ok-answer.answer) i.spent_is);
-      counts = rw c.push_reserved-in-loop-turn.ensures.items (counts-then c.args.shop.now.marks.now (sampled_counts c.loop-turn.samples.items (take c.loop-turn.turn c.args.buckets.now)) (one_count c.in_ok-answer.sampled (get_or c.args.buckets.now c.loop-turn.turn 0)) _ c.args.hand.now c.loop-turn.hand c.answer.new.hand
+      spent_is = rw (more, es, an) (c.in_ok-answer.ensures.spent ∙ ap (λ (x : Countdown). spends x e c.in_ok-answer.answer) i.spent_is);
+      counts = rw more_too (counts-then c.args.shop.now.marks.now (sampled_counts got_too (take c.loop-turn.turn c.args.buckets.now)) (one_count c.in_ok-answer.flag (get_or c.args.buckets.now c.loop-turn.turn 0)) _ c.args.hand.now c.loop-turn.hand c.answer.new.hand
           i.counts c.in_ok-answer.ensures.counts
-          (λ b. counts-next c.loop-turn.samples.items c.args.buckets.now c.loop-turn.turn c.in_ok-answer.sampled b few i.size));
+          (λ b. counts-next got_too c.args.buckets.now c.loop-turn.turn c.in_ok-answer.flag b few i.size));
     }
 
 pub returns-clause-acted : goal.returns-clause-acted
@@ -104,3 +128,6 @@ pub returns-clause-counts : goal.returns-clause-counts
 returns-clause-counts g c =
     let whole = take_all c.loop-turn.turn c.args.buckets.now (let l = c.loop-turn-test.false in let b = c.requires.buckets in omega arith) in
     rw c.from_vec-2.ensures (rw whole at c.loop-turn.invariant.counts)
+
+pub returns-clause-kept : goal.returns-clause-kept
+returns-clause-kept g c = (rw c.from_vec.ensures c.loop-turn.invariant.kept, rw c.from_vec-2.ensures c.loop-turn.invariant.kept_too)

@@ -26,26 +26,26 @@ bring_back-requires-clause-drives g c = ap (λ (s : Standing). s.view.drives) c.
 pub bring_back-requires-clause-of_ring : goal.bring_back-requires-clause-of_ring
 bring_back-requires-clause-of_ring g c =
     (counts-may c.args.shop.now.ring.now c.args.shop.now.marks.now _ c.in_ok-hand.hand c.answer_all.new.hand
-    (out-may c.args.shop.now.ring.now c.args.shop.now.marks.now _ c.args.driver.now c.in_ok-hand.hand c.requires.counts c.in_ok-hand.ensures.hand) c.in_ok-outcomes.ensures.counts).ring
+    (out-may c.args.shop.now.ring.now c.args.shop.now.marks.now _ c.args.driver.now c.in_ok-hand.hand c.requires.counts c.in_ok-hand.ensures.hand) c.in_ok-answer_all.ensures.counts).ring
 
 pub bring_back-requires-clause-split : goal.bring_back-requires-clause-split
-bring_back-requires-clause-split g c = out-split c.args.shop.now.marks.now _ _ c.args.driver.now c.in_ok-hand.hand c.answer_all.new.hand c.in_ok-hand.ensures.hand c.in_ok-outcomes.ensures.counts
+bring_back-requires-clause-split g c = out-split c.args.shop.now.marks.now _ _ c.args.driver.now c.in_ok-hand.hand c.answer_all.new.hand c.in_ok-hand.ensures.hand c.in_ok-answer_all.ensures.counts
 
 pub bring_back-requires-clause-cycle : goal.bring_back-requires-clause-cycle
-bring_back-requires-clause-cycle g c = out-cycle c.args.shop.now.marks.now _ _ c.args.driver.now c.send_out.new.driver c.in_ok-hand.hand c.answer_all.new.hand c.in_ok-hand.ensures.hand c.in_ok-hand.ensures.tally c.in_ok-outcomes.ensures.counts
+bring_back-requires-clause-cycle g c = out-cycle c.args.shop.now.marks.now _ _ c.args.driver.now c.send_out.new.driver c.in_ok-hand.hand c.answer_all.new.hand c.in_ok-hand.ensures.hand c.in_ok-hand.ensures.tally c.in_ok-answer_all.ensures.counts
 
 pub returns-clause-turn : goal.returns-clause-turn
 returns-clause-turn g c =
     let o : HandsOut c.args.proc.now.number c.args.driver.now c.in_ok-hand.hand = handed c.args.proc.now.number _ c.args.driver.now c.in_ok-hand.hand c.requires.driver c.requires.parts c.requires.number (c.number.ensures) c.in_ok-hand.ensures.hand in
-    turn-back _ c.args.proc.now.number c.args.driver.now c.in_ok-hand.hand c.answer_all.new.hand c.bring_back.new.driver o c.in_ok-outcomes.ensures.acted c.bring_back.ensures.worker
+    turn-back _ c.args.proc.now.number c.args.driver.now c.in_ok-hand.hand c.answer_all.new.hand c.bring_back.new.driver o c.in_ok-answer_all.ensures.acted c.bring_back.ensures.worker
     (c.in_ok-bring_back.ensures.notes ∙ ap (λ n. n.items ++ c.answer_all.new.hand.notes.items) c.in_ok-hand.ensures.notes)
 
 pub returns-clause-caching : goal.returns-clause-caching
 returns-clause-caching g c =
     let o : HandsOut c.args.proc.now.number c.args.driver.now c.in_ok-hand.hand = handed c.args.proc.now.number _ c.args.driver.now c.in_ok-hand.hand c.requires.driver c.requires.parts c.requires.number (c.number.ensures) c.in_ok-hand.ensures.hand in
-    back-caching _ c.args.proc.now.number c.args.driver.now c.in_ok-hand.hand c.answer_all.new.hand c.bring_back.new.driver c.answer_all.new.proc o c.in_ok-outcomes.ensures.acted c.bring_back.ensures.worker c.in_ok-outcomes.ensures.caching
+    back-caching _ c.args.proc.now.number c.args.driver.now c.in_ok-hand.hand c.answer_all.new.hand c.bring_back.new.driver c.answer_all.new.proc o c.in_ok-answer_all.ensures.acted c.bring_back.ensures.worker c.in_ok-answer_all.ensures.caching
 
 pub returns-clause-counts : goal.returns-clause-counts
 returns-clause-counts g c =
     counts-turn c.args.shop.now.marks.now _ _ c.args.driver.now c.send_out.new.driver c.in_ok-hand.hand c.answer_all.new.hand c.bring_back.new.driver c.in_ok-hand.ensures.hand c.in_ok-hand.ensures.notes c.in_ok-hand.ensures.tally
-    c.in_ok-outcomes.ensures.counts c.in_ok-bring_back.ensures.notes c.bring_back.ensures.tally
+    c.in_ok-answer_all.ensures.counts c.in_ok-bring_back.ensures.notes c.bring_back.ensures.tally

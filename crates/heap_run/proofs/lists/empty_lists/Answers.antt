@@ -1,6 +1,6 @@
 use Rattle.std.proofs.Common.{arith}
 use Rattle.heap_run.proofs.Queued.{none-more}
-use Rattle.heap_run.proofs.queues.empty_lists.Goals as goal
+use Rattle.heap_run.proofs.lists.empty_lists.Goals as goal
 
 pub loop-proc-preserved : goal.loop-proc-preserved
 loop-proc-preserved g c = record {

@@ -1,6 +1,6 @@
 use Rattle.std.proofs.Common.{◌≡◌, ℕ, ◌++◌, [], List, length, take, vec_len, slice_index, slice_index_or}
 use Rattle.sample_laws.specs.By.{answers_by, events_by}
-use Rattle.heap_run.proofs.merge.merge_all.Given as goal
+use Rattle.heap_run.proofs.merge.merge.Given as goal
 
 abbrev pub invariant-loop-event : goal.invariant-loop-event
 invariant-loop-event g l = record {
