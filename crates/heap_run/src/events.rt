@@ -22,6 +22,8 @@ use trace_reader::Event;
 /// Answers the events of a processor in a cycle, in their order, which have buckets with these numbers, and puts the answers, and
 /// which of the objects are sampled, behind those before. Before each event it passes the gate, with the processor's number and
 /// the event's place among these. Without memory both lists may be lost.
+// It stands alone, so that its loop has the registers.
+#[inline(never)]
 pub(crate) fn answer_all<G: Gate>(
     alloc: Global,
     shop: &Shop,

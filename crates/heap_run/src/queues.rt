@@ -1,6 +1,6 @@
 //! The events of a cycle, processor by processor, with the numbers of their buckets.
 
-ghost use Rattle.std.specs.Prelude.{◌≡◌, ℕ, ◌^◌, ◌<◌, ◌≤◌, ◌++◌, ◌∷◌, [], All, length, map, vec_len, slice_index_or, if◌then◌else◌, IfOk, OnOk};
+ghost use Rattle.std.specs.Prelude.{◌≡◌, ℕ, ◌^◌, ◌<◌, ◌≤◌, ◌++◌, ◌∷◌, [], All, length, map, vec_len, slice_index_or, IfOk, OnOk};
 ghost use Rattle.heap_run.specs.Served.{answers_by, events_by};
 ghost use Rattle.std.specs.List.{AllByRecursion};
 ghost use Rattle.profile_cycle.specs.Naming.{HasSize};

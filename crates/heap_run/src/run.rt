@@ -1,6 +1,6 @@
 //! The run of a whole trace.
 
-ghost use Rattle.std.specs.Prelude.{◌≡◌, ℕ, suc, ◌+◌, ◌++◌, ◌^◌, ◌<◌, ◌≤◌, [], true, List as Items, length, slice_index_or, vec_len, None, Some, IfOk, OnOk};
+ghost use Rattle.std.specs.Prelude.{◌≡◌, ℕ, ◌+◌, ◌++◌, ◌^◌, ◌<◌, ◌≤◌, [], true, List as Items, length, slice_index_or, vec_len, None, Some, IfOk, OnOk};
 ghost use Rattle.page_alloc.specs.Journal.{past_of};
 ghost use Rattle.trace_reader.specs.Limits.{WithinLimits, events_of};
 ghost use Rattle.cycle_history.specs.Counted.{AreObjectsOf, AreZeros};

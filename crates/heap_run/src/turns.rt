@@ -11,7 +11,7 @@ ghost use Rattle.sample_laws.specs.Counted.{sampled_counts};
 ghost use Rattle.sample_laws.specs.Countdowns.{flags, spent};
 ghost use Rattle.heap_run.specs.Counts.{Counts, IsOut, no_counts};
 ghost use Rattle.heap_run.specs.Gains.{HasKept, behind};
-ghost use Rattle.heap_run.specs.Turns.{HasActed, IsCaching, SaysAnswers, SaysNone, TookTurn};
+ghost use Rattle.heap_run.specs.Turns.{IsCaching, SaysAnswers, SaysNone, TookTurn};
 
 use crate::events::answer_all;
 use cycle_history::Answer;
