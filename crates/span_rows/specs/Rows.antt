@@ -1,5 +1,5 @@
 -- What the rows' helpers tell of a worker.
-use Rattle.std.specs.Prelude.{◌≡◌, ℕ, ◌<◌, Bool, true, false, None, List, ◌++◌, length}
+use Rattle.std.specs.Prelude.{◌≡◌, ℕ, ◌<◌, Bool, true, false, None, List, length}
 use Rattle.atomic_table.specs.Seated.{TableId}
 use Rattle.sweep_laws.specs.Lists.{has}
 use Rattle.sweep_laws.specs.Reading.{is_swept_set}
@@ -10,9 +10,10 @@ use Rattle.span_laws.specs.BodyAsks.{IsFullBody, IsUsed}
 use Rattle.span_laws.specs.Asks.{HasBody, IsFresh, IsIdle}
 use Rattle.span_laws.specs.declared.view.Part.{Part}
 use Rattle.span_laws.specs.Logs.{is_placing_at}
+use Rattle.span_laws.specs.Scans.{logs}
 use Rattle.span_laws.specs.declared.said.Said.TheVariants.{Reads}
 use Rattle.worker_log.specs.declared.Entry.{Entry}
-use Rattle.span_laws.specs.Views.{Seen, acts, parts_of}
+use Rattle.span_laws.specs.Views.{Seen, parts_of}
 use Rattle.span_laws.specs.OwnSteps.{after_said}
 use Rattle.worker_log.specs.Entries.{is_placing_in, is_pop_of, is_seen_empty, many}
 
@@ -75,15 +76,11 @@ ArePlaced pairs w = (p k : ℕ) → has_pair pairs p k ≡ true → 0 < many (is
 abbrev pub KeepsPlaced : Seen → Seen → Type 0
 KeepsPlaced old new = (p k : ℕ) → 0 < many (is_placing_at p k) old.view.own.log → 0 < many (is_placing_at p k) new.view.own.log
 
--- A worker whose log has these entries more.
-abbrev pub with_log : List Entry → Seen → Seen
-with_log said w = record w { view = acts w.view (record w.view.own { log = said ++ w.view.own.log }) }
-
 -- It read the generation and looked at sets, and saw each unswept set below n empty.
 pub record SeesBelow (n : ℕ) (old new : Seen) : Type 0 where
   pub said : List Entry
   pub seen : (k : ℕ) → k < n → is_swept_set old.view.generation k ≡ false → 0 < many (is_seen_empty k) said
-  pub view : new ≡ with_log said (after_said (Reads 1 old.view.generation) old)
+  pub view : new ≡ logs said (after_said (Reads 1 old.view.generation) old)
 
 -- So it saw all of them, where the answer is true.
 abbrev pub SeesEmpty : Seen → Seen → Bool → Type 0

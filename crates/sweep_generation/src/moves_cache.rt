@@ -40,8 +40,7 @@ pub(crate) fn allocate(
     ensures { Steps core.old core.new (Move.Allocate worker page index) result }
 {
     core.try_allocate(worker, page, index)?;
-    core.lives.allocate(page, index)?;
-    Ok(Reply::Done)
+    allocate_met(core, worker, page, index)
 }
 
 // The same, with a look first for the usual allocation, in a span that the worker has cached: each need is asked once there, and no

@@ -78,8 +78,8 @@ impl Numbers {
         self.items.is_empty()
     }
 
-    /// Whether a number is there: one look into the table where the number is below its bound, a scan of the list
-    /// where it is not.
+    /// Whether a number is there: one look into the table where the number is below its bound. Beyond it the list is scanned,
+    /// but not where all items are known to be below the bound.
     pub fn has(&self, item: u32) -> bool
         ensures { result ≡ has item self.now.items }
     {

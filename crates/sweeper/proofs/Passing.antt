@@ -1,8 +1,9 @@
 -- Looks over many pages or sets, as parts of a call.
-use Rattle.std.proofs.Common.{◌≡◌, ℕ, List, [], ◌∷◌, refl, ap, sym, subst, ◌∙◌, arith}
+use Rattle.std.proofs.Common.{◌≡◌, ℕ, false, List, [], ◌∷◌, refl, ap, sym, subst, ◌∙◌, arith}
 use Rattle.std.proofs.lemmas.List.{append-nil}
 use Rattle.std.specs.List.{AllByRecursion}
 use Rattle.sweep_laws.specs.Counts.{total}
+use Rattle.sweep_laws.specs.Reading.{is_swept_set}
 use Rattle.worker_log.specs.declared.Entry.{Entry}
 use Rattle.worker_log.specs.declared.Entry.TheVariants.{Looked, LookedEmptyCell, Popped, Pushed, Swept, Took, Missed, Gave, Allocated, Found, Read, Added}
 use Rattle.worker_log.specs.Logs.{sweepings}
@@ -14,7 +15,7 @@ use Rattle.span_set.specs.declared.hand.Hand.{Hand}
 use Rattle.sweeper.specs.Entries.{pages_given}
 use Rattle.sweeper.specs.Steps.{CoversPages, SweepsNone}
 use Rattle.sweeper.specs.Work.{OnlySweeps, Stays, Works}
-use Rattle.sweeper.proofs.Counting.{none-append, nothing-none, nothing-sweeps, notes-none, sweeps-append}
+use Rattle.sweeper.proofs.Counting.{none-append, none-both, nothing-none, nothing-sweeps, notes-none, sweeps-append}
 use Rattle.sweeper.proofs.Popping.{one_none, one_quiet}
 use Rattle.sweeper.proofs.Working.{works-step}
 
@@ -28,20 +29,30 @@ pub record Looks (g : ℕ) (said : List Entry) : Type 0 where
 looks_nothing : (g : ℕ) → Looks g []
 looks_nothing g = record { sweeps = nothing-sweeps g; none = nothing-none; given = refl; unswept = λ p. refl }
 
-looks_found : (g page word : ℕ) (said : List Entry) → Looks g said → Looks g (Found page word ∷ said)
-looks_found g page word said r = record {
-  sweeps = sweeps-append g (Found page word ∷ []) said
-      (record { unplaced = refl; unspent = refl; swept_pages = refl; given = λ p. refl; pushed = λ p. refl; unpopped = λ j p s. refl; unlooked = λ j s. refl; untouched = λ p. refl }) r.sweeps;
-  none = none-append (Found page word ∷ []) said
-      (record { none = refl; plain = record { takes_none = record { untaken = refl; unmissed = refl }; unclaimed = refl; unread = λ i. refl } }) r.none;
-  given = (let x = r.given in omega arith);
-  unswept = λ p. let x = r.unswept p in omega arith;
+-- a first entry and those behind it
+pub looks_more : (g : ℕ) (e : Entry) (said : List Entry) → Looks g (e ∷ []) → Looks g said → Looks g (e ∷ said)
+looks_more g e said a r = record {
+  sweeps = sweeps-append g (e ∷ []) said a.sweeps r.sweeps;
+  none = none-append (e ∷ []) said a.none r.none;
+  given = (let x = a.given in let y = r.given in omega arith);
+  unswept = λ p. none-both (is_sweep_of p) (e ∷ []) said (a.unswept p) (r.unswept p);
 }
+
+looks_found : (g page word : ℕ) → Looks g (Found page word ∷ [])
+looks_found g page word = record {
+  sweeps = record { unplaced = refl; unspent = refl; swept_pages = refl; given = λ p. refl; pushed = λ p. refl; unpopped = λ j p s. refl; unlooked = λ j s. refl; untouched = λ p. refl };
+  none = record { none = refl; plain = record { takes_none = record { untaken = refl; unmissed = refl }; unclaimed = refl; unread = λ i. refl } };
+  given = refl;
+  unswept = λ p. refl;
+}
+
+pub looks_empty : (g s x y : ℕ) → is_swept_set g s ≡ false → Looks g (Looked s x y ∷ [])
+looks_empty g s x y off = record { sweeps = one_quiet s x y g off; none = one_none s x y; given = refl; unswept = λ p. refl }
 
 -- pages that are passed over
 pub passing_looks : (g h from to : ℕ) (said : List Entry) → AllByRecursion (IsPassing h from to) said → Looks g said
 passing_looks g h from to [] a = looks_nothing g
-passing_looks g h from to (Found page word ∷ said) a = looks_found g page word said (passing_looks g h from to said a.1)
+passing_looks g h from to (Found page word ∷ said) a = looks_more g (Found page word) said (looks_found g page word) (passing_looks g h from to said a.1)
 passing_looks g h from to (Looked s x y ∷ said) a = absurd a.0
 passing_looks g h from to (LookedEmptyCell s i ∷ said) a = absurd a.0
 passing_looks g h from to (Popped s p ∷ said) a = absurd a.0
@@ -63,35 +74,20 @@ covers_passed g h marks from to said w q = record {
 }
 
 -- sets that are seen empty
-pub empty_sweeps : (g : ℕ) (said : List Entry) → AllByRecursion (IsEmptyLook g) said → OnlySweeps g said
-empty_sweeps g [] a = nothing-sweeps g
-empty_sweeps g (Looked s x y ∷ said) a = sweeps-append g (Looked s x y ∷ []) said (one_quiet s x y g a.0.0) (empty_sweeps g said a.1)
-empty_sweeps g (Found p w ∷ said) a = absurd a.0
-empty_sweeps g (LookedEmptyCell s i ∷ said) a = absurd a.0
-empty_sweeps g (Popped s p ∷ said) a = absurd a.0
-empty_sweeps g (Pushed s p ∷ said) a = absurd a.0
-empty_sweeps g (Swept s ∷ said) a = absurd a.0
-empty_sweeps g (Took m l ∷ said) a = absurd a.0
-empty_sweeps g (Missed m l ∷ said) a = absurd a.0
-empty_sweeps g (Gave p m ∷ said) a = absurd a.0
-empty_sweeps g (Allocated x ∷ said) a = absurd a.0
-empty_sweeps g (Read w x ∷ said) a = absurd a.0
-empty_sweeps g (Added w x ∷ said) a = absurd a.0
-
-pub empty_none : (g : ℕ) (said : List Entry) → AllByRecursion (IsEmptyLook g) said → SweepsNone said
-empty_none g [] a = nothing-none
-empty_none g (Looked s x y ∷ said) a = none-append (Looked s x y ∷ []) said (one_none s x y) (empty_none g said a.1)
-empty_none g (Found p w ∷ said) a = absurd a.0
-empty_none g (LookedEmptyCell s i ∷ said) a = absurd a.0
-empty_none g (Popped s p ∷ said) a = absurd a.0
-empty_none g (Pushed s p ∷ said) a = absurd a.0
-empty_none g (Swept s ∷ said) a = absurd a.0
-empty_none g (Took m l ∷ said) a = absurd a.0
-empty_none g (Missed m l ∷ said) a = absurd a.0
-empty_none g (Gave p m ∷ said) a = absurd a.0
-empty_none g (Allocated x ∷ said) a = absurd a.0
-empty_none g (Read w x ∷ said) a = absurd a.0
-empty_none g (Added w x ∷ said) a = absurd a.0
+pub empty_looks : (g : ℕ) (said : List Entry) → AllByRecursion (IsEmptyLook g) said → Looks g said
+empty_looks g [] a = looks_nothing g
+empty_looks g (Looked s x y ∷ said) a = looks_more g (Looked s x y) said (looks_empty g s x y a.0.0) (empty_looks g said a.1)
+empty_looks g (Found p w ∷ said) a = absurd a.0
+empty_looks g (LookedEmptyCell s i ∷ said) a = absurd a.0
+empty_looks g (Popped s p ∷ said) a = absurd a.0
+empty_looks g (Pushed s p ∷ said) a = absurd a.0
+empty_looks g (Swept s ∷ said) a = absurd a.0
+empty_looks g (Took m l ∷ said) a = absurd a.0
+empty_looks g (Missed m l ∷ said) a = absurd a.0
+empty_looks g (Gave p m ∷ said) a = absurd a.0
+empty_looks g (Allocated x ∷ said) a = absurd a.0
+empty_looks g (Read w x ∷ said) a = absurd a.0
+empty_looks g (Added w x ∷ said) a = absurd a.0
 
 -- a step of the worker that only adds such entries
 pub logs_works : (old : Hand) (said : List Entry) (new : Seen) → new ≡ logs said old.worker → OnlySweeps old.worker.view.generation said → sweepings said ≡ [] → old.worker.view.own.popped ≡ []

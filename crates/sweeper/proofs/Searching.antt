@@ -21,9 +21,9 @@ use Rattle.sweeper.specs.Sweeps.{SweepsOne, SweepsSpan}
 use Rattle.sweeper.specs.Work.{IsPlain, SawAllEmpty, Works, note_by}
 use Rattle.sweeper.specs.declared.answers.One.TheVariants.{Swept, NothingLeft}
 use Rattle.sweeper.specs.declared.sweep.Tried.TheVariants.{Swept as WasSwept, Gone, Empty}
-use Rattle.sweeper.proofs.Counting.{none-append, nothing-none, some-new, some-old, sweeps-append}
-use Rattle.sweeper.proofs.Passing.{empty_none, empty_sweeps, logs_works}
-use Rattle.sweeper.proofs.Popping.{one_none, one_quiet, swept_more}
+use Rattle.sweeper.proofs.Counting.{none-append, nothing-none, some-new, some-old}
+use Rattle.sweeper.proofs.Passing.{empty_looks, logs_works, looks_empty, looks_more}
+use Rattle.sweeper.proofs.Popping.{swept_more}
 use Rattle.sweeper.proofs.Working.{works-as, works-both, works-nothing}
 
 -- a call of this crate leaves what the next one asks
@@ -99,19 +99,19 @@ module _ (P : List Entry → Type 0) (grow : (xs ys : List Entry) → SweepsNone
 
   -- all that were left are empty
   pub looks_past : FindsUnswept n now.worker w None → Works [] (λ said. P said × SawSome old.worker.view.generation 272 said) old (record now { worker = w })
-  looks_past f = let g = now.worker.view.generation in let none = empty_none g f.0 f.1.only in
+  looks_past f = let g = now.worker.view.generation in let looks = empty_looks g f.0 f.1.only in
       works-both (λ said. P said × SawSome old.worker.view.generation n said) (λ s. s ≡ f.0) (λ said. P said × SawSome old.worker.view.generation 272 said) [] old now (record now { worker = w }) d
-      (logs_works now f.0 w f.2 (empty_sweeps g f.0 f.1.only) none.none d.popped)
+      (logs_works now f.0 w f.2 looks.sweeps looks.none.none d.popped)
       (λ x y p q. subst (λ (l : List Entry). P (l ++ x) × SawSome old.worker.view.generation 272 (l ++ x)) (sym q)
-      (grow f.0 x none p.0, saw_on old.worker.view.generation n 272 f.0 x p.1 (subst (λ (z : ℕ). SeesEmpty z n 272 f.0) same_gen f.1)))
+      (grow f.0 x looks.none p.0, saw_on old.worker.view.generation n 272 f.0 x p.1 (subst (λ (z : ℕ). SeesEmpty z n 272 f.0) same_gen f.1)))
 
   -- all up to one are empty
   pub looks_to : (i : ℕ) → FindsUnswept n now.worker w (Some i) → Works [] (λ said. P said × SawSome old.worker.view.generation i said) old (record now { worker = w })
-  looks_to i f = let g = now.worker.view.generation in let j = nth_unswept g i in let none = empty_none g f.0 f.1.only in let e = Looked j f.4.0 f.4.1 in let said = e ∷ f.0 in let all = none-append (e ∷ []) f.0 (one_none j f.4.0 f.4.1) none in
+  looks_to i f = let g = now.worker.view.generation in let j = nth_unswept g i in let looks = empty_looks g f.0 f.1.only in let e = Looked j f.4.0 f.4.1 in let said = e ∷ f.0 in let all = looks_more g e f.0 (looks_empty g j f.4.0 f.4.1 (nth_unswept_off g i)) looks in
       works-both (λ said. P said × SawSome old.worker.view.generation n said) (λ s. s ≡ said) (λ said. P said × SawSome old.worker.view.generation i said) [] old now (record now { worker = w }) d
-      (logs_works now said w f.4.3 (sweeps-append g (e ∷ []) f.0 (one_quiet j f.4.0 f.4.1 g (nth_unswept_off g i)) (empty_sweeps g f.0 f.1.only)) all.none d.popped)
+      (logs_works now said w f.4.3 all.sweeps all.none.none d.popped)
       (λ x y p q. subst (λ (l : List Entry). P (l ++ x) × SawSome old.worker.view.generation i (l ++ x)) (sym q)
-      (grow said x all p.0, λ k l. some-new-one k l x (saw_on old.worker.view.generation n i f.0 x p.1 (subst (λ (z : ℕ). SeesEmpty z n i f.0) same_gen f.1) k l)))
+      (grow said x all.none p.0, λ k l. some-new-one k l x (saw_on old.worker.view.generation n i f.0 x p.1 (subst (λ (z : ℕ). SeesEmpty z n i f.0) same_gen f.1) k l)))
     where
       some-new-one : (k : ℕ) → k < i → (x : List Entry) → 0 < many (is_seen_empty (nth_unswept old.worker.view.generation k)) (f.0 ++ x) → 0 < many (is_seen_empty (nth_unswept old.worker.view.generation k)) (Looked (nth_unswept now.worker.view.generation i) f.4.0 f.4.1 ∷ (f.0 ++ x))
       some-new-one k l x m = omega arith

@@ -1,4 +1,5 @@
-//! The hexadecimal digits of a number, written from the last to the first.
+//! The hexadecimal digits of a number, a byte's two at a time: those of any number from the last to the first, those of a number
+//! that has ten of them from the first to the last.
 
 ghost use Rattle.std.specs.Prelude.{◌≡◌, ◌+◌, ◌^◌, ◌/◌, ◌%◌, ◌<◌, ◌≤◌, [], ◌∷◌, ◌++◌, false, drop, length, take};
 ghost use Rattle.std.specs.Fmt.{digit_glyph, digits};
@@ -43,7 +44,7 @@ fn write_pair(byte: u64, buffer: &mut [u8; 2 * MAX_DIGITS], at: usize)
     buffer[at] = high;
 }
 
-/// Writes the ten digits of a number that has as many, at a place.
+/// Writes the ten digits of a number that has as many, at a place; what stands before it stays.
 pub(crate) fn write_ten(number: u64, bytes: &mut [u8], at: usize)
     requires many { 2 ^ 36 ≤ number }
     requires few { number < 2 ^ 40 }

@@ -174,7 +174,8 @@ impl Draft {
         Ok(())
     }
 
-    // Takes a `gc` line. The new marks get room for as many as the mark end before has.
+    // Takes a `gc` line. The new marks get room for as many as the mark end before has: the cycles of one trace are alike, so
+    // they need not move as they grow. All that was asked for so is at most as much as was read.
     fn take_mark_end(
         &mut self,
         alloc: Global,
@@ -190,7 +191,7 @@ impl Draft {
         if self.cycles.len() >= MAX_MARK_ENDS {
             return Err(TraceFault::Limit(number, Which::MarkEnds));
         }
-        let marks = empty_list(alloc, kept_by(self.cycles.as_slice()).len())?;
+        let marks = List::with_room(alloc, kept_by(self.cycles.as_slice()).len())?;
         self.distance = Some(distance);
         self.marks = marks;
         self.next = 0;
@@ -236,12 +237,13 @@ impl Draft {
         self.end_cycle_at(alloc, distance)
     }
 
-    // Ends the cycle with a mark end of this distance. The next events get room for as many as this cycle has.
+    // Ends the cycle with a mark end of this distance. The next events get room for as many as this cycle has, for the same reason
+    // as the marks of a `gc` line.
     #[inline(never)]
     fn end_cycle_at(&mut self, alloc: Global, distance: u64) -> Result<(), NoMemory>
         ensures { OnOk result (self.new ≡ ended_at self.old (Some distance)) }
     {
-        let room = empty_list(alloc, self.events.len())?;
+        let room = List::with_room(alloc, self.events.len())?;
         let events = replace(&mut self.events, room);
         let marks = replace(&mut self.marks, List::new(alloc));
         let mark = Some(MarkEnd { distance, marks });
@@ -263,15 +265,4 @@ fn kept_by(cycles: &[Cycle]) -> &[Span]
         return &[];
     };
     end.marks.as_slice()
-}
-
-// An empty list with room for so many items. The cycles of one trace are alike: with room for as many items as the cycle
-// before has, a list need not move as it grows. Room is asked only for as many as were read before, so all the lists take
-// at most as much again.
-fn empty_list<T: Drop>(alloc: Global, room: usize) -> Result<List<T>, NoMemory>
-    ensures { IfOk result (λ list. list ≡ []) }
-{
-    let mut items = Vec::new(alloc);
-    items.reserve(room)?;
-    Ok(List::from_vec(items))
 }
