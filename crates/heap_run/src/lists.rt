@@ -6,15 +6,6 @@ use edge_io::{List, NoMemory};
 use std::alloc::Global;
 use std::mem::replace;
 
-/// An empty list with room for so many items, so that it need not move as it grows to that.
-pub(crate) fn empty_list<T: Drop>(alloc: Global, room: usize) -> Result<List<T>, NoMemory>
-    ensures { IfOk result (λ list. list ≡ []) }
-{
-    let mut items = Vec::new(alloc);
-    items.reserve(room)?;
-    Ok(List::from_vec(items))
-}
-
 /// An empty list for each processor, with room for so many items.
 pub(crate) fn empty_lists<T: Drop>(
     alloc: Global,
@@ -26,7 +17,7 @@ pub(crate) fn empty_lists<T: Drop>(
 {
     let mut lists = Vec::new(alloc);
     for _proc in 0..procs {
-        lists.push(empty_list(alloc, room)?)?;
+        lists.push(List::with_room(alloc, room)?)?;
     }
     Ok(lists)
 }

@@ -16,7 +16,6 @@ ghost use Rattle.sweep_laws.specs.Start.{copies};
 ghost use Rattle.profile_cycle.specs.Sampling.{countdown};
 
 use crate::cycle::{Given, run_workers};
-use crate::lists::empty_list;
 use crate::merge::{lend, take_back};
 use crate::profile::Profile;
 use crate::queues::{number_all, queues_of};
@@ -109,10 +108,10 @@ impl Run {
         ensures each { IfOk result (λ run. run.profile.each ≡ each) }
     {
         let objects = objects_of(trace);
-        let answers = empty_list(alloc, objects)?;
-        let sampled = empty_list(alloc, objects)?;
-        let buckets = empty_list(alloc, objects)?;
-        let places = empty_list(alloc, objects)?;
+        let answers = List::with_room(alloc, objects)?;
+        let sampled = List::with_room(alloc, objects)?;
+        let buckets = List::with_room(alloc, objects)?;
+        let places = List::with_room(alloc, objects)?;
         let procs = processors(alloc, &trace.header)?;
         let (shared, driver) = Shared::new(alloc, trace.header.chunks, trace.header.goal)?;
         let (profile, tally) = Profile::new(alloc, trace, each)?;
