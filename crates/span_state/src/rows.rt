@@ -71,6 +71,7 @@ impl Rows {
             ≡ (if q == page && g == group then bit_or (word_of self.old page group) (1 * 2 ^ bit % 2 ^ 64) else word_of self.old q g) }
         ensures are { AreRows self.old → AreRows self.new }
         ensures same { result ≡ false → self.new ≡ self.old }
+        ensures none { result ≡ false → row_of self.old page ≡ [] }
     {
         if page >= self.places.len() {
             return false;
