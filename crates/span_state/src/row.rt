@@ -36,13 +36,6 @@ impl Row {
         }
     }
 
-    /// How many groups have a word.
-    pub(crate) fn len(&self) -> usize
-        ensures { result ≡ length self.now }
-    {
-        16 + self.far.len()
-    }
-
     /// The words of the first 16 groups.
     #[inline]
     pub(crate) fn near(&self) -> &[u64; 16]
