@@ -57,14 +57,13 @@ impl Marks {
         ensures dead { self.new.deaths ≡ self.old.deaths }
         ensures err { OnErr result (self.new ≡ self.old) }
     {
-        let group = (index / 64) as usize;
-        if group < 16 && self.rows.set_near(page as usize, group, index % 64) {
+        if index < 1024 && self.rows.set_near(page as usize, index) {
             return Ok(());
         }
         self.add_past(page, index)
     }
 
-    // The same where the page may have no row yet, or the group is none of the first 16.
+    // The same where the page may have no row yet, or the index is none of the first 1024.
     #[cold]
     #[inline(never)]
     fn add_past(&mut self, page: u32, index: u32) -> Result<(), NoMemory>
