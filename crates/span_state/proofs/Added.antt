@@ -1,5 +1,5 @@
 -- What one more mark changes.
-use Rattle.std.proofs.Common.{◌≡◌, ℕ, suc, ◌-◌, min, ltb, length, get_or, ◌+◌, ◌*◌, ◌/◌, ◌%◌, ◌^◌, ◌<◌, Bool, true, false, cond, not, ◌==◌, ◌||◌, ◌&&◌, eqb, nat_eq, List, [], ◌∷◌, Some, w64, refl, sym, ◌∙◌, ap, arith, inl, inr, ◌⊎◌, eq-eqb}
+use Rattle.std.proofs.Common.{◌≡◌, ℕ, ltb, length, get_or, ◌+◌, ◌*◌, ◌/◌, ◌%◌, ◌^◌, ◌<◌, Bool, true, false, cond, not, ◌==◌, ◌||◌, ◌&&◌, eqb, nat_eq, List, [], ◌∷◌, Some, w64, refl, sym, ◌∙◌, ap, arith, inl, inr, ◌⊎◌, eq-eqb}
 use Rattle.std.proofs.lemmas.Bool.{cases_eq, cases_lt, cases_Bool, both_ways, ne_eqb, eqb-true, and_parts, and_from, or_parts, lt-ltb, le-ltb}
 use Rattle.std.proofs.lemmas.Nat.{one_shl, pow_pos}
 use Rattle.std.proofs.lemmas.Nat.Bits.{and_pow, bit_at-lt, bit_at-zero, bit_at_set_same, bit_at_set_other}
@@ -7,13 +7,11 @@ use Rattle.std.proofs.lemmas.List.{get_or_past}
 use Rattle.std.proofs.lemmas.List.Sums.{sum_by-cons}
 use Rattle.std.specs.Int.{bit_at}
 use Rattle.std.specs.Int.Bits.{bit_and, bit_or}
-use Rattle.std.specs.Int.Count.{ones}
 use Rattle.std.specs.Map.{lookup, set_value}
-use Rattle.span_state.specs.Bits.{count_below, with_bit}
+use Rattle.span_state.specs.Bits.{with_bit}
 use Rattle.span_state.specs.Groups.{page_pairs, pairs_of, row_of, word_of}
 use Rattle.span_state.specs.MarkSet.{IsRising, has_pair, pairs_at}
-use Rattle.span_state.specs.Counts.{ones-count}
-use Rattle.span_state.proofs.Pairs.{or_false, has-grid_pairs, pairs_at-grid_pairs, pairs_at-page_more, rising-grid_pairs, rising-one}
+use Rattle.span_state.proofs.Pairs.{or_false, has-grid_pairs, length-page_pairs-own, pairs_at-grid_pairs, rising-grid_pairs, rising-one}
 use Rattle.span_state.proofs.Words.{same_place}
 
 -- ---- a bit of a word
@@ -89,7 +87,7 @@ pairs_of-same old new same =
     (λ q k. has-pairs_of new q k ∙ ap (λ (w : ℕ). bit_at w (k % 64) == 1) (same q (k / 64)) ∙ sym (has-pairs_of old q k))
 
 -- a page has as many pairs as its row marks
-pub pairs_at-row : (rows : List (List ℕ)) (q : ℕ) → pairs_at (pairs_of rows) q ≡ pairs_at (page_pairs (length (row_of rows q)) q (word_of rows q)) q
+pairs_at-row : (rows : List (List ℕ)) (q : ℕ) → pairs_at (pairs_of rows) q ≡ pairs_at (page_pairs (length (row_of rows q)) q (word_of rows q)) q
 pairs_at-row rows q =
     let all = pairs_at-grid_pairs (length rows) (λ page. length (row_of rows page)) (word_of rows) q in
     elim (cases_lt q (length rows)) [
@@ -98,6 +96,11 @@ pairs_at-row rows q =
           let off : ltb q (length rows) ≡ false = le-ltb _ _ le in
           all ∙ rw off (sym (ap (λ (row : List ℕ). pairs_at (page_pairs (length row) q (λ g. get_or row g 0)) q) (get_or_past rows q [] le))))
     ]
+
+-- the pairs of a page are as many as its row marks
+pub pairs_at-marks : (rows : List (List ℕ)) (q : ℕ) (row : List ℕ) → row ≡ row_of rows q → length (page_pairs (length row) q (λ g. get_or row g 0)) ≡ pairs_at (pairs_of rows) q
+pairs_at-marks rows q row is =
+    length-page_pairs-own (length row) q (λ g. get_or row g 0) ∙ ap (λ (r : List ℕ). pairs_at (page_pairs (length r) q (λ g. get_or r g 0)) q) is ∙ sym (pairs_at-row rows q)
 
 -- a page without a row has none
 pub pairs_at-none : (rows : List (List ℕ)) (q : ℕ) → row_of rows q ≡ [] → pairs_at (pairs_of rows) q ≡ 0
@@ -188,15 +191,6 @@ same-again old new page index on more =
 -- no word of a page without a row marks anything
 pub word-none : (rows : List (List ℕ)) (page group : ℕ) → row_of rows page ≡ [] → 0 ≡ word_of rows page group
 word-none rows page group none = sym (ap (λ (row : List ℕ). get_or row group 0) none ∙ get_or_past [] group 0 (omega arith))
-
--- the ones of one word more
-pub count-more : (row : List ℕ) (group page count word result : ℕ) → count ≡ min (pairs_at (page_pairs group page (λ g. get_or row g 0)) page) (2 ^ 32 - 1) → word ≡ get_or row group 0 → word < 2 ^ 64
-    → result ≡ min (count + ones word) (2 ^ 32 - 1) → result ≡ min (pairs_at (page_pairs (group + 1) page (λ g. get_or row g 0)) page) (2 ^ 32 - 1)
-count-more row group page count word result so_far is fits sum =
-    let next : group + 1 ≡ suc group = omega arith in
-    let more = pairs_at-page_more group page (λ g. get_or row g 0) in
-    let bits : ones word ≡ count_below 64 (λ b. bit_at (get_or row group 0) b == 1) = ones-count 64 word fits ∙ ap (λ (w : ℕ). count_below 64 (λ b. bit_at w b == 1)) is in
-    rw next (omega arith)
 
 -- a page with no pair has no marked index
 pub none-marked : (pairs : List (ℕ × ℕ)) (page k : ℕ) → pairs_at pairs page ≡ 0 → has_pair pairs page k ≡ false

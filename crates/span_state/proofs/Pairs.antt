@@ -234,7 +234,7 @@ pairs_at-page_pairs-other (suc n) page words q ne =
     omega arith
 
 -- one group more
-pub pairs_at-page_more : (n page : ℕ) (words : ℕ → ℕ) → pairs_at (page_pairs (suc n) page words) page ≡ pairs_at (page_pairs n page words) page + count_below 64 (λ b. bit_at (words n) b == 1)
+pairs_at-page_more : (n page : ℕ) (words : ℕ → ℕ) → pairs_at (page_pairs (suc n) page words) page ≡ pairs_at (page_pairs n page words) page + count_below 64 (λ b. bit_at (words n) b == 1)
 pairs_at-page_more n page words =
     let f : (page == page) ≡ true = eq-eqb page page refl in
     let group : pairs_at (group_pairs ((page, n), words n)) page ≡ count_below 64 (λ b. bit_at (words n) b == 1) = pairs_at-group_pairs page n (words n) page ∙ rw f refl in
@@ -515,6 +515,17 @@ length-word_pairs (suc n) page group word =
 pub length-group_pairs : (page group word : ℕ) → word < 2 ^ 64 → length (group_pairs ((page, group), word)) ≡ ones word
 unfolding group_pairs
 length-group_pairs page group word fits = length-word_pairs 64 page group word ∙ sym (ones-count 64 word fits)
+
+-- all pairs of a page's words are of the page
+pub length-page_pairs-own : (n page : ℕ) (words : ℕ → ℕ) → length (page_pairs n page words) ≡ pairs_at (page_pairs n page words) page
+unfolding group_pairs
+length-page_pairs-own zero page words = refl
+length-page_pairs-own (suc n) page words =
+    let rest = length-page_pairs-own n page words in
+    let split = length-append (page_pairs n page words) (group_pairs ((page, n), words n)) in
+    let more = pairs_at-page_more n page words in
+    let here = length-word_pairs 64 page n (words n) in
+    omega arith
 
 -- the first pages and groups have no more pairs than all of them
 pub length-page_pairs : (n m page : ℕ) (words : ℕ → ℕ) → n ≤ m → length (page_pairs n page words) ≤ length (page_pairs m page words)

@@ -1,7 +1,7 @@
 ghost use Rattle.std.specs.Prelude.{◌≡◌, ◌↔◌, ℕ, ◌+◌, ◌-◌, ◌*◌, ◌^◌, ◌<◌, ◌≤◌, ◌==◌, ◌||◌, ◌&&◌, [], ◌∷◌, ◌++◌, ◌≢◌, false, length, min, slice_index, true, vec_capacity, IsOk, OnOk, OnErr, IfOk};
 ghost use Rattle.std.specs.Int.{bit_at};
 ghost use Rattle.span_state.specs.Groups.{group_pairs, page_pairs};
-ghost use Rattle.span_state.specs.MarkSet.{is_marked, marked_count, dead_of, pairs_at, IsRising};
+ghost use Rattle.span_state.specs.MarkSet.{is_marked, marked_count, dead_of, IsRising};
 
 use crate::row::Row;
 use crate::rows::Rows;
@@ -57,14 +57,13 @@ impl Marks {
         ensures dead { self.new.deaths ≡ self.old.deaths }
         ensures err { OnErr result (self.new ≡ self.old) }
     {
-        let group = (index / 64) as usize;
-        if group < 16 && self.rows.set_near(page as usize, group, index % 64) {
+        if index < 1024 && self.rows.set_near(page as usize, index) {
             return Ok(());
         }
         self.add_past(page, index)
     }
 
-    // The same where the page may have no row yet, or the group is none of the first 16.
+    // The same where the page may have no row yet, or the index is none of the first 1024.
     #[cold]
     #[inline(never)]
     fn add_past(&mut self, page: u32, index: u32) -> Result<(), NoMemory>
@@ -106,7 +105,7 @@ impl Marks {
         ensures none { (result ≡ 0) ↔ ((index : ℕ) → is_marked self.now page index ≡ false) }
     {
         match self.rows.row(page as usize) {
-            Some(row) => count_row(row),
+            Some(row) => marks_in(row).min(u32::MAX as usize) as u32,
             None => 0,
         }
     }
@@ -173,18 +172,6 @@ impl Marks {
         }
         Ok(total)
     }
-}
-
-// How many indices a page's row marks, or 2^32 - 1 where there are more.
-fn count_row(row: &Row) -> u32
-    requires { length row.now ≤ 2 ^ 26 }
-    ensures { (page : ℕ) → result ≡ min (pairs_at (page_pairs (length row.now) page (λ g. slice_index row.now g)) page) (2 ^ 32 - 1) }
-{
-    let mut count: u32 = 0;
-    for group in 0..row.len() {
-        count = count.saturating_add(row.word(group as u32).count_ones());
-    }
-    count
 }
 
 // How many indices a page's row marks.

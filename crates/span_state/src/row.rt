@@ -1,6 +1,6 @@
 //! The words of one page.
 
-ghost use Rattle.std.specs.Prelude.{◌≡◌, ℕ, ◌+◌, ◌*◌, ◌%◌, ◌^◌, ◌<◌, ◌≤◌, ◌==◌, if◌then◌else◌, length, slice_index, bit_or, OnOk, OnErr};
+ghost use Rattle.std.specs.Prelude.{◌≡◌, ℕ, ◌+◌, ◌*◌, ◌/◌, ◌%◌, ◌^◌, ◌<◌, ◌≤◌, ◌==◌, if◌then◌else◌, length, slice_index, bit_or, OnOk, OnErr};
 
 use fallible_list::NoMemory;
 use std::alloc::Global;
@@ -36,13 +36,6 @@ impl Row {
         }
     }
 
-    /// How many groups have a word.
-    pub(crate) fn len(&self) -> usize
-        ensures { result ≡ length self.now }
-    {
-        16 + self.far.len()
-    }
-
     /// The words of the first 16 groups.
     #[inline]
     pub(crate) fn near(&self) -> &[u64; 16]
@@ -75,15 +68,15 @@ impl Row {
         }
     }
 
-    /// Sets a bit of the word of one of the first 16 groups.
+    /// Sets the bit of one of the first 1024 indices.
+    // The index comes whole: a shift looks at its lowest six bits alone, so that `% 64` right beside it costs nothing.
     #[inline]
-    pub(crate) fn set_near(&mut self, group: usize, bit: u32)
-        requires near { group < 16 }
-        requires bit { bit < 64 }
-        ensures set { (g : ℕ) → slice_index self.new g ≡ (if g == group then bit_or (slice_index self.old group) (1 * 2 ^ bit % 2 ^ 64) else slice_index self.old g) }
+    pub(crate) fn set_near(&mut self, index: u32)
+        requires { index < 1024 }
+        ensures set { (g : ℕ) → slice_index self.new g ≡ (if g == index / 64 then bit_or (slice_index self.old (index / 64)) (1 * 2 ^ (index % 64) % 2 ^ 64) else slice_index self.old g) }
         ensures len { length self.new ≡ length self.old }
     {
-        self.near[group] |= 1 << bit;
+        self.near[(index / 64) as usize] |= 1 << (index % 64);
     }
 
     /// Sets the word of a group. Without memory each word stays as it was.

@@ -1,6 +1,6 @@
 //! The rows of words of all pages.
 
-ghost use Rattle.std.specs.Prelude.{◌≡◌, ℕ, ◌*◌, ◌%◌, ◌^◌, ◌<◌, ◌≤◌, ◌==◌, ◌&&◌, [], true, false, if◌then◌else◌, length, slice_index, bit_or, IfOk, OnOk, OnErr, MatchOption};
+ghost use Rattle.std.specs.Prelude.{◌≡◌, ℕ, ◌*◌, ◌/◌, ◌%◌, ◌^◌, ◌<◌, ◌≤◌, ◌==◌, ◌&&◌, [], true, false, if◌then◌else◌, length, slice_index, bit_or, IfOk, OnOk, OnErr, MatchOption};
 ghost use Rattle.span_state.specs.Groups.{row_of, word_of, AreRows};
 ghost use Rattle.span_state.specs.Table.{table_of, ArePlaces};
 
@@ -62,15 +62,15 @@ impl Rows {
         Some(&self.rows[place - 1])
     }
 
-    /// Sets a bit of the word of one of the first 16 groups of a page, if the page has a row. Whether it has.
+    /// Sets the bit of one of the first 1024 indices of a page, if the page has a row. Whether it has.
     #[inline]
-    pub(crate) fn set_near(&mut self, page: usize, group: usize, bit: u32) -> bool
-        requires near { group < 16 }
-        requires bit { bit < 64 }
+    pub(crate) fn set_near(&mut self, page: usize, index: u32) -> bool
+        requires { index < 1024 }
         ensures set { result ≡ true → (q g : ℕ) → word_of self.new q g
-            ≡ (if q == page && g == group then bit_or (word_of self.old page group) (1 * 2 ^ bit % 2 ^ 64) else word_of self.old q g) }
+            ≡ (if q == page && g == index / 64 then bit_or (word_of self.old page (index / 64)) (1 * 2 ^ (index % 64) % 2 ^ 64) else word_of self.old q g) }
         ensures are { AreRows self.old → AreRows self.new }
         ensures same { result ≡ false → self.new ≡ self.old }
+        ensures none { result ≡ false → row_of self.old page ≡ [] }
     {
         if page >= self.places.len() {
             return false;
@@ -79,7 +79,7 @@ impl Rows {
         if place == 0 {
             return false;
         }
-        self.rows[place - 1].set_near(group, bit);
+        self.rows[place - 1].set_near(index);
         true
     }
 

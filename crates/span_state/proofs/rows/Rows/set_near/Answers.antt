@@ -1,4 +1,4 @@
-use Rattle.std.proofs.Common.{◌≡◌, ℕ, ◌<◌, ◌==◌, cond, List, length, get_or, ◌∙◌, ap, arith, rules}
+use Rattle.std.proofs.Common.{◌≡◌, ℕ, ◌/◌, ◌%◌, ◌<◌, ◌==◌, cond, List, length, get_or, ◌∙◌, ap, arith, rules}
 use Rattle.std.proofs.lemmas.Grind.{get_or_default_zero}
 use Rattle.span_state.proofs.Added.{set_bit}
 use Rattle.span_state.proofs.Table.{own-row, rows-put, word-put}
@@ -13,8 +13,8 @@ returns-clause-set c =
     let is : place ≡ get_or places c.args.page 0 = c.index-place.ensures ∙ get_or_default_zero places c.args.page place lt in
     let some : 0 < place = omega arith in
     let row = own-row places rows c.args.page place c.index_mut.result.now c.self.invariant some is c.index_mut.ensures.value in
-    rw (← c.self.view_is) (λ on. word-put places rows c.args.page place c.args.group _ c.set_near.new.self c.self.invariant some is
-    (λ g. c.set_near.ensures.set g ∙ ap (λ (r : List ℕ). cond (g == c.args.group) (set_bit (get_or r c.args.group 0) c.args.bit) (get_or r g 0)) row))
+    rw (← c.self.view_is) (λ on. word-put places rows c.args.page place (c.args.index / 64) _ c.set_near.new.self c.self.invariant some is
+    (λ g. c.set_near.ensures.set g ∙ ap (λ (r : List ℕ). cond (g == c.args.index / 64) (set_bit (get_or r (c.args.index / 64) 0) (c.args.index % 64)) (get_or r g 0)) row))
 
 pub returns-clause-are : goal.returns-clause-are
 returns-clause-are c =
