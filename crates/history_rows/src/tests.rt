@@ -1,5 +1,5 @@
 ghost use Rattle.std.specs.Prelude.{◌≡◌, ◌-◌, ◌≤◌, ◌⊎◌, length, take, IfOk, OnOk};
-ghost use Rattle.cycle_history.specs.Marked.{objects_before};
+ghost use Rattle.cycle_history.specs.Marked.{AreClear, objects_before};
 ghost use Rattle.cycle_history.specs.Found.{AreFound};
 ghost use Rattle.history_rows.specs.Example.{answers, event_of_size, example};
 
@@ -86,29 +86,31 @@ fn first_answers(alloc: Global, count: usize) -> Result<List<Answer>, NoMemory>
     Ok(List::from_vec(Vec::from_slice(alloc, &all[..count])?))
 }
 
-// Of the first objects all but numbers 3 and 7 are sampled; the bucket of object n is n + 10.
+// The bucket of object n is n + 10.
 fn marks(
     alloc: Global,
     trace: &Trace,
     mark: u32,
     count: usize,
+    sampled: &[bool; 8],
     places: &mut List<PackedPlace>,
+    clear: &mut usize,
 ) -> Result<Marks, NoMemory>
     requires trace { trace.now ≡ example }
     requires mark { ((mark ≡ 1) × (count ≡ 5)) ⊎ ((mark ≡ 2) × (count ≡ 8)) }
     requires kept { length places.old ≡ objects_before example (mark - 1) }
     requires found { AreFound example (take count answers) places.old }
+    requires clear { AreClear (take count sampled.now) clear.old }
     ensures kept { OnOk result (length places.new ≡ count) }
     ensures found { OnOk result (AreFound example (take count answers) places.new) }
+    ensures clear { OnOk result (AreClear (take count sampled.now) clear.new) }
 {
     let answers = first_answers(alloc, count)?;
-    let sampled = [true, true, true, false, true, true, true, false];
     let buckets = [10, 11, 12, 13, 14, 15, 16, 17];
     let sampled = List::from_vec(Vec::from_slice(alloc, &sampled[..count])?);
     let buckets = List::from_vec(Vec::from_slice(alloc, &buckets[..count])?);
-    let mut clear = 0;
     marks_of(
-        alloc, trace, mark, &answers, &sampled, &buckets, places, &mut clear,
+        alloc, trace, mark, &answers, &sampled, &buckets, places, clear,
     )
 }
 
@@ -116,9 +118,12 @@ fn marks(
 fn marks_of_two_mark_ends(rt: HostRuntime) -> Result<(), Fail> {
     let trace = trace(rt.alloc())?;
     let mut places = List::new(rt.alloc());
+    let mut clear = 0;
+    // all but objects 3 and 7
+    let sampled = [true, true, true, false, true, true, true, false];
 
     // object 2 is marked, but of size 0
-    let first = marks(rt.alloc(), &trace, 1, 5, &mut places)?;
+    let first = marks(rt.alloc(), &trace, 1, 5, &sampled, &mut places, &mut clear)?;
     assert_eq!(rt; first.pairs()?.as_slice(), [(0, 0), (3, 8)].as_slice());
     for (page, dead) in [
         (0, [11].as_slice()),
@@ -129,10 +134,37 @@ fn marks_of_two_mark_ends(rt: HostRuntime) -> Result<(), Fail> {
     }
 
     // object 6 is marked, but refused; object 3 dies, but isn't sampled; objects 1 and 4 died before
-    let second = marks(rt.alloc(), &trace, 2, 8, &mut places)?;
+    let second = marks(rt.alloc(), &trace, 2, 8, &sampled, &mut places, &mut clear)?;
     assert_eq!(rt; second.pairs()?.as_slice(), [(0, 0), (10, 340)].as_slice());
     for (page, dead) in [(0, [15].as_slice()), (3, [].as_slice()), (5, [].as_slice())] {
         assert_eq!(rt; second.dead(page), dead, "at page {page}");
+    }
+    Ok(())
+}
+
+// No dead is looked for. Object 0 has the region's first bytes, so index 0 of page 0; object 3 of 1400 bytes has a slot of 1408,
+// and its address is 3 * 8192 + 8 * 1408 behind the region's start; object 7 has a slot of 24, and is 10 * 8192 + 340 * 24 behind.
+#[test]
+fn marks_of_two_mark_ends_where_none_is_sampled(rt: HostRuntime) -> Result<(), Fail> {
+    let trace = trace(rt.alloc())?;
+    let mut places = List::new(rt.alloc());
+    let mut clear = 0;
+    let sampled = [false; 8];
+
+    // objects 1 and 4 die
+    let first = marks(rt.alloc(), &trace, 1, 5, &sampled, &mut places, &mut clear)?;
+    assert_eq!(rt; clear, 5);
+    assert_eq!(rt; first.pairs()?.as_slice(), [(0, 0), (3, 8)].as_slice());
+    for page in [0, 3, 5] {
+        assert!(rt; first.dead(page).is_empty(), "at page {page}");
+    }
+
+    // objects 3 and 5 die
+    let second = marks(rt.alloc(), &trace, 2, 8, &sampled, &mut places, &mut clear)?;
+    assert_eq!(rt; clear, 8);
+    assert_eq!(rt; second.pairs()?.as_slice(), [(0, 0), (10, 340)].as_slice());
+    for page in [0, 3, 5, 10] {
+        assert!(rt; second.dead(page).is_empty(), "at page {page}");
     }
     Ok(())
 }

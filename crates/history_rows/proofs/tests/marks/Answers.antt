@@ -1,9 +1,9 @@
-use Rattle.std.proofs.Common.{◌≡◌, ◌-◌, ◌∙◌, List, length, take, ap, sym, subst, arith}
+use Rattle.std.proofs.Common.{◌-◌, ◌∙◌, List, ap, sym, subst}
 use Rattle.trace_reader.specs.declared.trace.Trace.{Trace}
 use Rattle.cycle_history.specs.declared.Answer.{Answer}
 use Rattle.cycle_history.specs.Found.{AreFound}
 use Rattle.cycle_history.specs.Marked.{ArePlaces, objects_before}
-use Rattle.history_rows.specs.Example.{answers, example}
+use Rattle.history_rows.specs.Example.{example}
 use Rattle.history_rows.proofs.Facts.{ready}
 use Rattle.history_rows.proofs.tests.marks.Goals as goal
 
@@ -19,6 +19,3 @@ pub marks_of-requires-clause-found : goal.marks_of-requires-clause-found
 marks_of-requires-clause-found c =
     subst (λ (t : Trace). AreFound t c.in_ok-answers.answers c.args.places.now) (sym c.requires.trace)
     (subst (λ (xs : List Answer). AreFound example xs c.args.places.now) (sym c.in_ok-answers.ensures) c.requires.found)
-
-pub marks_of-requires-clause-clear : goal.marks_of-requires-clause-clear
-marks_of-requires-clause-clear c = record { inside = omega arith; unset = λ i low. absurd (omega arith) }

@@ -1,4 +1,4 @@
-use Rattle.std.proofs.Common.{◌≡◌, [], ◌∷◌, length, take, arith}
+use Rattle.std.proofs.Common.{[], ◌∷◌, take, arith}
 use Rattle.cycle_history.specs.declared.Answer.TheVariants.{Placed, Missed}
 use Rattle.cycle_history.proofs.Found.{found-kept}
 use Rattle.history_rows.specs.Example.{answers, example}
