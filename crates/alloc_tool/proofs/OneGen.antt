@@ -1,5 +1,5 @@
 -- A word with a seed and a number of objects.
-use Rattle.std.proofs.Common.{◌≡◌, ℕ, List, [], ◌∷◌, length, get_or, codes, Option, Some, None, MatchOption, refl, arith, String, string_bytes}
+use Rattle.std.proofs.Common.{◌≡◌, ℕ, List, [], ◌∷◌, length, get_or, Option, Some, None, MatchOption, refl, arith, String, string_bytes}
 use Rattle.std.specs.declared.alloc.Global.{Global}
 use Rattle.made_lines.specs.Asks.{Asks}
 use Rattle.made_lines.specs.declared.wanted.Wanted.{Wanted}

@@ -1,5 +1,5 @@
 -- Each way in which a call that needs no runtime ends.
-use Rattle.std.proofs.Common.{◌≡◌, ◌≢◌, ℕ, List, [], ◌∷◌, Option, String, codes, inl, inr, refl, sym, ◌∙◌, subst, arith}
+use Rattle.std.proofs.Common.{◌≡◌, ◌≢◌, ℕ, List, [], ◌∷◌, Option, String, codes, inl, inr, refl, sym, ◌∙◌, subst}
 use Rattle.std.specs.declared.alloc.Global.{Global}
 use Rattle.edge_io.specs.Causes.{Rose}
 use Rattle.edge_io.specs.Front.{AppendsFront}

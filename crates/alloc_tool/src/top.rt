@@ -1,9 +1,6 @@
 //! The whole program over any source and sinks.
 
-ghost use Rattle.std.specs.Prelude.{◌≡◌, ◌≢◌, ◌≤◌, ◌↔◌, ◌⊎◌, Bool, false, List, ℕ, IfErr, IfOk, IsErrOf, IsTrue, Some};
-ghost use Rattle.std.specs.Io.KnownBytes.{Appends};
-ghost use Rattle.edge_io.specs.Causes.{Rose};
-ghost use Rattle.edge_io.specs.Front.{AppendsFront};
+ghost use Rattle.std.specs.Prelude.{◌≡◌, ◌≢◌, ◌≤◌, ◌↔◌, Bool, false, List, ℕ, IfErr, IfOk, IsErrOf, IsTrue, Some};
 ghost use Rattle.edge_io.specs.Reading.{IsSameSource, is_dry, lines_left, number_of, room_of, source_of};
 ghost use Rattle.trace_reader.specs.declared.fault.TraceFault.TheVariants.{ReadFault};
 ghost use Rattle.trace_reader.specs.declared.trace.Trace.{Trace as ATrace};
@@ -15,8 +12,6 @@ ghost use Rattle.alloc_tool.specs.Checked.{AcceptsSound};
 ghost use Rattle.alloc_tool.specs.Demo.{Demos};
 ghost use Rattle.alloc_tool.specs.Outcome.{Outcome};
 ghost use Rattle.alloc_tool.specs.Plain.{Plain, Writes};
-ghost use Rattle.alloc_tool.specs.Texts.{status_text};
-ghost use Rattle.alloc_tool.specs.Told.{Tells};
 ghost use Rattle.alloc_tool.specs.Top.{BreaksOff, IsComplete, IsRefused, IsStatusOfRun, IsUndisturbed};
 ghost use Rattle.alloc_tool.specs.WholeInput.{ReadsAll};
 ghost use Rattle.alloc_tool.specs.Words.{IsCheck, IsDemo, IsRun, IsRunWith, IsWord};

@@ -1,9 +1,8 @@
 //! The objects that may be marked.
 
-ghost use Rattle.std.specs.Prelude.{◌≡◌, ◌⊎◌, ℕ, ◌<◌, ◌≤◌, true, IfOk, IfSome, OnOk};
+ghost use Rattle.std.specs.Prelude.{◌≡◌, ℕ, ◌<◌, ◌≤◌, true, IfOk, IfSome};
 ghost use Rattle.page_alloc.specs.Lists.{In};
 ghost use Rattle.size_classes.specs.Classes.{IsLeastClass, pages_of, slot_of};
-ghost use Rattle.span_state.specs.MarkSet.{is_marked};
 ghost use Rattle.cache_rows.specs.declared.objects.Object.{Object};
 ghost use Rattle.cache_rows.specs.Ready.{AreLive, IsAt};
 

@@ -1,7 +1,7 @@
 //! Looks at the heads and tails of a class's sets. They change nothing and move no body, so that a call that finds all sets empty costs
 //! little.
 
-ghost use Rattle.std.specs.Prelude.{◌≡◌, ◌≢◌, ◌<◌, true, false, IfSome, MatchOption, Ok};
+ghost use Rattle.std.specs.Prelude.{◌≡◌, ◌<◌, true, false, IfSome, MatchOption, Ok};
 ghost use Rattle.page_bitmap.specs.Counts.{one_if};
 ghost use Rattle.worker_log.specs.SetNumbers.{swept_set, unswept_set};
 ghost use Rattle.span_set.specs.Tallies.{Frees};

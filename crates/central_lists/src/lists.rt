@@ -1,13 +1,11 @@
 ghost use Rattle.std.specs.Prelude.{◌≡◌, ◌<◌, ◌≤◌, length, true, None};
 ghost use Rattle.page_bitmap.specs.Counts.{one_if};
-ghost use Rattle.worker_log.specs.SetNumbers.{swept_set, unswept_set};
+ghost use Rattle.worker_log.specs.SetNumbers.{swept_set};
 ghost use Rattle.worker_log.specs.Entries.{is_pop_of, many};
 ghost use Rattle.span_set.specs.Sweeps.{MaySweep};
 ghost use Rattle.span_set.specs.Tallies.{Frees, MayCount};
 ghost use Rattle.central_lists.specs.Lists.{Caches, LooksFirst};
-ghost use Rattle.central_lists.specs.Looks.{SawEmpty, Whatever};
 ghost use Rattle.central_lists.specs.Tries.{Searches, SearchesFull, SweepsOne, TriesAll, TriesOne};
-ghost use Rattle.central_lists.specs.Works.{Does, nothing};
 
 use crate::answers::{FromSets, Look, One, Search, Through};
 use crate::glances::{sees_empty, sees_none};

@@ -1,6 +1,6 @@
 //! Judging the report of a trace that stands before it.
 
-ghost use Rattle.std.specs.Prelude.{◌≡◌, ℕ, IfErr, OnOk};
+ghost use Rattle.std.specs.Prelude.{ℕ, IfErr, OnOk};
 ghost use Rattle.trace_reader.specs.declared.trace.Trace.{Trace as ATrace};
 ghost use Rattle.trace_reader.specs.Limits.{WithinLimits};
 ghost use Rattle.cycle_history.specs.declared.Report.{Report as AReport};

@@ -9,7 +9,7 @@ use Rattle.cycle_history.specs.declared.Report.{Report}
 use Rattle.cycle_history.specs.Requests.{Marking, marked_by, last_cycle}
 use Rattle.cycle_history.specs.Objects.{Object, is_placed}
 use Rattle.cycle_history.specs.Profile as profile
-use Rattle.cycle_history.specs.Profile.{Bucket, Samples, SamplesBy, samples_in, placed_by, passing, allocs_at, frees_at, bucket_of, IsProf, IsChanged, IsOf, IsProfile, IsProfileOfEach, IsProfileIn}
+use Rattle.cycle_history.specs.Profile.{Bucket, Samples, SamplesBy, samples_in, placed_by, passing, allocs_at, frees_at, IsChanged, IsProfile, IsProfileOfEach, IsProfileIn}
 use Rattle.cycle_history.specs.Sound.{HasProfileIn}
 
 -- ---- lists

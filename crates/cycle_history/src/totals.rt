@@ -7,7 +7,7 @@ ghost use Rattle.cycle_history.specs.Needs.{Need, IsNeed};
 ghost use Rattle.cycle_history.specs.Requests.{is_within, last_cycle, marked_by};
 ghost use Rattle.cycle_history.specs.Objects.{Object, is_placed as is_placed_at};
 ghost use Rattle.cycle_history.specs.Sweeps.{AreTotals};
-ghost use Rattle.cycle_history.specs.Marked.{IsLimited, objects_before};
+ghost use Rattle.cycle_history.specs.Marked.{IsLimited};
 ghost use Rattle.cycle_history.specs.MarkedLoops.{IsBehind};
 ghost use Rattle.cycle_history.specs.Counted.{AreAsked, AreCounts, AreLiving, AreObjectsOf, AreZeros, LiveAlike, of_class};
 

@@ -1,6 +1,6 @@
 //! A map of the 512 pages of a chunk, in eight words of 64 bits.
 
-ghost use Rattle.std.specs.Prelude.{◌≡◌, ℕ, ◌+◌, ◌-◌, ◌<◌, ◌≤◌, Bool, true, false, not, ◌&&◌, IfSome, IfNone};
+ghost use Rattle.std.specs.Prelude.{◌≡◌, ℕ, ◌+◌, ◌-◌, ◌<◌, ◌≤◌, true, false, not, ◌&&◌, IfSome, IfNone};
 ghost use Rattle.page_bitmap.specs.Counts.{count_run};
 ghost use Rattle.page_bitmap.specs.Runs.{IsEmpty, IsRun, SetsRun};
 ghost use Rattle.page_bitmap.specs.Words.{has_page};

@@ -1,6 +1,6 @@
 //! The pages of a chunk.
 
-ghost use Rattle.std.specs.Prelude.{◌≡◌, ℕ, ◌+◌, ◌≤◌, true, false, IfSome, IfNone};
+ghost use Rattle.std.specs.Prelude.{◌≡◌, ◌+◌, ◌≤◌, true, false, IfSome, IfNone};
 ghost use Rattle.page_bitmap.specs.Counts.{count_run};
 ghost use Rattle.page_bitmap.specs.Runs.{
   HasNoRun,

@@ -1,6 +1,6 @@
 //! Runs in a map of 512 pages, found a word at a time.
 
-ghost use Rattle.std.specs.Prelude.{◌≡◌, ℕ, ◌+◌, ◌≤◌, Bool, IfSome, IfNone};
+ghost use Rattle.std.specs.Prelude.{ℕ, ◌+◌, ◌≤◌, Bool, IfSome, IfNone};
 ghost use Rattle.page_bitmap.specs.Runs.{
   HasNoRun,
   IsBackRun,

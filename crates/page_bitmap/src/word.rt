@@ -1,6 +1,6 @@
 //! Ones in a word of 64 bits.
 
-ghost use Rattle.std.specs.Prelude.{◌≡◌, ℕ, ◌+◌, ◌-◌, ◌<◌, ◌≤◌, Bool, true, false, IfSome, IfNone};
+ghost use Rattle.std.specs.Prelude.{◌≡◌, ℕ, ◌+◌, ◌-◌, ◌<◌, ◌≤◌, true, false, IfSome, IfNone};
 ghost use Rattle.page_bitmap.specs.Words.{has_bit};
 ghost use Rattle.page_bitmap.specs.WordRuns.{
   IsBitRun,

@@ -1,4 +1,4 @@
-ghost use Rattle.std.specs.Prelude.{◌≡◌, ℕ, ◌+◌, ◌*◌, ◌/◌, ◌<◌, ◌≤◌, [], true};
+ghost use Rattle.std.specs.Prelude.{◌≡◌, ◌+◌, ◌*◌, ◌/◌, ◌<◌, ◌≤◌, [], true};
 ghost use Rattle.proc_cache.specs.Cache.{address_of};
 ghost use Rattle.proc_cache.specs.Hits.{HitsCache};
 ghost use Rattle.proc_cache.specs.Serves.{Serves};

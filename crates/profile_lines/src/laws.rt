@@ -1,6 +1,6 @@
 //! Laws that lead from the calls of a run's tallies to the lines of a sound report.
 
-ghost use Rattle.std.specs.Prelude.{◌≡◌, ℕ, suc, ◌-◌, ◌^◌, ◌<◌, ◌≤◌, Bool, List, [], ◌++◌, length, map};
+ghost use Rattle.std.specs.Prelude.{◌≡◌, ℕ, suc, ◌^◌, ◌<◌, ◌≤◌, Bool, List, [], ◌++◌, length, map};
 ghost use Rattle.page_alloc.specs.Lists.{In};
 ghost use Rattle.profile_cycle.specs.declared.buckets.Bucket.{Bucket};
 ghost use Rattle.profile_cycle.specs.declared.calls.Call.{Call};
@@ -22,7 +22,7 @@ ghost use Rattle.run_laws.specs.Profile.{AreCalls};
 ghost use Rattle.cycle_history.specs.Profile.{IsProfile, IsProfileOfEach, Samples};
 ghost use Rattle.profile_lines.specs.Read.{AreDifferent, AreFew, IsOrder, all_lines, changed_lines, count_of};
 ghost use Rattle.profile_lines.specs.Counted.{AreMadeIn, AreNamed, HasCounted, IsCounting, ShowsMarkEnd, by_bucket};
-ghost use Rattle.profile_lines.specs.Told.{HasTold, counts_at};
+ghost use Rattle.profile_lines.specs.Told.{HasTold};
 
 use profile_cycle::a_pair_is_a_bucket_where_an_event_has_it;
 

@@ -2,7 +2,6 @@
 
 ghost use Rattle.std.specs.Prelude.{◌≤◌, ℕ, IfOk};
 ghost use Rattle.page_alloc.specs.Journal.{at_end};
-ghost use Rattle.trace_reader.specs.declared.trace.Trace.{Trace as ATrace};
 ghost use Rattle.cycle_history.specs.declared.Report.{Report as AReport};
 ghost use Rattle.cycle_history.specs.Requests.{region_of};
 ghost use Rattle.cycle_history.specs.Sound.{HasJournal, past_in};

@@ -1,10 +1,10 @@
 //! Rule 6: how small objects fill the lives of a cycle.
 
-ghost use Rattle.std.specs.Prelude.{◌≡◌, ℕ, ◌≤◌, ◌<◌, length, slice_index_or, IfErr, IfNone, IfOk, IfSome, MatchBool, OnOk, slice_set, Some as Just, None as Nothing};
+ghost use Rattle.std.specs.Prelude.{◌≡◌, ◌≤◌, ◌<◌, length, slice_index_or, IfErr, IfNone, IfOk, IfSome, MatchBool, OnOk, slice_set, Some as Just, None as Nothing};
 ghost use Rattle.cycle_history.specs.Requests.{marked_by};
 ghost use Rattle.cycle_history.specs.Rules.{AreFilled};
 ghost use Rattle.report_rules.specs.Placing.{BreaksFilling};
-ghost use Rattle.report_check.specs.Filling.{HasRoom, IsEmptyFilling, IsTakenUp, filled_by, fill_at, newest_by, next_in as next_of, place_of as place_in};
+ghost use Rattle.report_check.specs.Filling.{HasRoom, IsEmptyFilling, IsTakenUp, filled_by, next_in as next_of, place_of as place_in};
 ghost use Rattle.report_check.specs.Fitting.{AreHeld, IsFitting, IsFreeAt, IsLeft, IsOthers, IsOwn, IsStaying, IsUnfitting};
 
 use crate::CheckFault;

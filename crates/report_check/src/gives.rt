@@ -1,6 +1,6 @@
 //! Rule 7, as far as the journal's Gives tell it.
 
-ghost use Rattle.std.specs.Prelude.{◌≡◌, ◌<◌, true, List as Notes, IfErr, MatchBool, OnOk};
+ghost use Rattle.std.specs.Prelude.{◌<◌, true, List as Notes, IfErr, MatchBool, OnOk};
 ghost use Rattle.span_state.specs.declared.sweep.SweepNote.{SweepNote as Note};
 ghost use Rattle.cycle_history.specs.Requests.{last_cycle, marked_by};
 ghost use Rattle.report_rules.specs.Closing.{BreaksSweeps};

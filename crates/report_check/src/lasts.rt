@@ -1,6 +1,6 @@
 //! The last cycle in which each object lives.
 
-ghost use Rattle.std.specs.Prelude.{◌≡◌, ◌<◌, ◌≤◌, true, List as Numbers, length, take, map, IfOk};
+ghost use Rattle.std.specs.Prelude.{◌≡◌, ◌<◌, ◌≤◌, true, map, IfOk};
 ghost use Rattle.cycle_history.specs.declared.Report.{Report as AReport};
 ghost use Rattle.cycle_history.specs.Marked.{IsLimited};
 ghost use Rattle.cycle_history.specs.Requests.{is_within};

@@ -1,6 +1,6 @@
 //! What is counted of the lives from mark end to mark end.
 
-ghost use Rattle.std.specs.Prelude.{◌≡◌, ℕ, ◌+◌, ◌-◌, ◌^◌, ◌<◌, ◌≤◌, ◌&&◌, not, nat_le, Bool, length, take, IfOk, OnOk};
+ghost use Rattle.std.specs.Prelude.{◌≡◌, ℕ, ◌+◌, ◌-◌, ◌^◌, ◌<◌, ◌≤◌, ◌&&◌, not, nat_le, Bool, length, IfOk, OnOk};
 ghost use Rattle.page_alloc.specs.Lists.{count, one_if};
 ghost use Rattle.cycle_history.specs.Marked.{objects_before};
 ghost use Rattle.cycle_history.specs.Requests.{last_cycle};

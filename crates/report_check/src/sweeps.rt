@@ -1,6 +1,6 @@
 //! Rule 7: the sweeps of the lives that the mark ends find alive.
 
-ghost use Rattle.std.specs.Prelude.{◌≡◌, ◌≤◌, ◌<◌, ◌^◌, ℕ, false, length, slice_index_or, List as Notes, IfErr, IfOk, IfSome, MatchBool, MatchOption, OnOk, Some as Just, None as Nothing};
+ghost use Rattle.std.specs.Prelude.{◌≡◌, ◌≤◌, ◌<◌, ◌^◌, false, length, slice_index_or, List as Notes, IfErr, IfOk, IfSome, MatchBool, MatchOption, OnOk, Some as Just, None as Nothing};
 ghost use Rattle.std.specs.List.{slice_get};
 ghost use Rattle.cycle_history.specs.Orders.{IsSweepBefore};
 ghost use Rattle.cycle_history.specs.Requests.{last_cycle, marked_by};

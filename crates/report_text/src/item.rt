@@ -1,6 +1,6 @@
 //! What the lines of a report say, and which may stand behind which.
 
-ghost use Rattle.std.specs.Prelude.{◌≡◌, MatchBool, OnOk};
+ghost use Rattle.std.specs.Prelude.{◌≡◌, MatchBool};
 ghost use Rattle.report_text.specs.Items.{IsFirst, IsNext, MayFollow, rank};
 
 use crate::order::Ordered;

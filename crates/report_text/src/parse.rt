@@ -1,6 +1,6 @@
 //! What a line says, whatever stands before it.
 
-ghost use Rattle.std.specs.Prelude.{◌≡◌, ◌≢◌, ◌∷◌, List, ℕ, MatchOption};
+ghost use Rattle.std.specs.Prelude.{◌≡◌, ◌≢◌, ◌∷◌, ℕ, MatchOption};
 ghost use Rattle.page_bitmap.specs.declared.line.Line.{Line as ALine};
 ghost use Rattle.span_state.specs.declared.sweep.SweepNote.{SweepNote as ANote};
 ghost use Rattle.cycle_history.specs.declared.Answer.{Answer as AnAnswer};

@@ -14,9 +14,8 @@ use Rattle.cycle_history.specs.Objects.{Object}
 use Rattle.cycle_history.specs.Sound.{IsScavenged}
 use Rattle.sweep_laws.specs.Lists.{has}
 use Rattle.sweep_laws.specs.Named.{begins}
-use Rattle.sweep_laws.specs.Reading.{life_in, life_of, no_life, allocated_at}
+use Rattle.sweep_laws.specs.Reading.{life_in}
 use Rattle.sweep_laws.specs.NeedsOfRange.{refusal}
-use Rattle.sweep_laws.specs.NeedsOfMarkEnd.{is_idle}
 use Rattle.sweep_laws.specs.Needs.{next_needs}
 use Rattle.sweep_laws.specs.ChangesOfLives.{marks_at, mark_life}
 use Rattle.sweep_laws.specs.Changes.{after_next}

@@ -5,7 +5,7 @@
 //! in one cycle, wholly by the steps.
 #![tactic(auto)]
 
-ghost use Rattle.std.specs.Prelude.{ℕ, ◌&&◌, ◌==◌, List, [], ◌∷◌, ◌++◌};
+ghost use Rattle.std.specs.Prelude.{ℕ, ◌&&◌, ◌==◌, [], ◌∷◌, ◌++◌};
 ghost use Rattle.worker_log.specs.Logs.{placings};
 ghost use Rattle.cycle_history.specs.Sound.{IsScavenged};
 ghost use Rattle.page_bitmap.specs.declared.line.Line.TheVariants.{Take, Miss};

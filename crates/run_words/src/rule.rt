@@ -1,6 +1,6 @@
 //! Which words are those of `run`.
 
-ghost use Rattle.std.specs.Prelude.{◌≡◌, ◌≤◌, ◌↔◌, [], ◌∷◌, IsTrue, codes, map, string_bytes};
+ghost use Rattle.std.specs.Prelude.{◌≡◌, ◌↔◌, [], ◌∷◌, IsTrue, codes, map, string_bytes};
 ghost use Rattle.run_words.specs.Options.{AreKnown, AreOfRun};
 ghost use Rattle.run_words.specs.Words.{IsDigit, IsJoined, IsSplit};
 

@@ -7,7 +7,7 @@
 //! numbers over bits. Which steps keep a run so is said by the crates above.
 #![tactic(auto)]
 
-ghost use Rattle.std.specs.Prelude.{◌≡◌, ℕ, suc, Bool, List};
+ghost use Rattle.std.specs.Prelude.{ℕ, suc, Bool, List};
 ghost use Rattle.page_bitmap.specs.declared.line.Line.{Line};
 ghost use Rattle.page_alloc.specs.Lists.{In};
 ghost use Rattle.page_alloc.specs.Lives.{Life, open_lives};

@@ -31,7 +31,7 @@ use Rattle.sweep_laws.proofs.Forms.{kept_of}
 use Rattle.sweep_laws.proofs.HeapMoves.{free_before}
 use Rattle.sweep_laws.proofs.Lives.{alike_begins, changed_alike}
 use Rattle.sweep_laws.proofs.LivesChange.{begins_append_else, begins_drop}
-use Rattle.sweep_laws.proofs.Naming.{has_times, times_has, times_erase, times_erase_else}
+use Rattle.sweep_laws.proofs.Naming.{has_times, times_erase, times_erase_else}
 use Rattle.sweep_laws.proofs.Standings.{free_word, sweeping_list}
 use Rattle.sweep_laws.proofs.Totals.{part_le, times_end, times_end_else}
 use Rattle.swept_set_laws.specs.Entered.{IsSettled}

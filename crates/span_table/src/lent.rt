@@ -1,10 +1,10 @@
-ghost use Rattle.std.specs.Prelude.{◌≡◌, ℕ, ◌+◌, ◌<◌, ◌≤◌, true, None, Some, length, vec_len};
+ghost use Rattle.std.specs.Prelude.{◌≡◌, ◌<◌, true, None, length};
 ghost use Rattle.sweep_laws.specs.NeedsOfRange.{refusal};
 ghost use Rattle.sweep_laws.specs.Step.{needs_of, after, reply_of};
 ghost use Rattle.sweep_laws.specs.Tidy.{IsProvided};
 ghost use Rattle.span_laws.specs.Moves.{move_of, move_on};
 ghost use Rattle.span_laws.specs.Cycle.{Kept};
-ghost use Rattle.span_laws.specs.Truth.{IsSo, IsSoOf};
+ghost use Rattle.span_laws.specs.Truth.{IsSo};
 ghost use Rattle.span_laws.specs.Suits.{Suits, SuitsOf, PlacesAlone, IsQuiet};
 ghost use Rattle.span_laws.specs.Views.{acts, span_of};
 ghost use Rattle.span_laws.specs.OwnSteps.{told, told_of};

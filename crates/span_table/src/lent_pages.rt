@@ -1,12 +1,10 @@
-ghost use Rattle.std.specs.Prelude.{◌≡◌, ◌⊎◌, ℕ, ◌+◌, ◌-◌, ◌*◌, ◌/◌, ◌<◌, ◌≤◌, true, None, Some, List, length, OnOk, OnErr, IfOk};
+ghost use Rattle.std.specs.Prelude.{◌≡◌, ◌-◌, ◌*◌, ◌/◌, ◌<◌, ◌≤◌, true, None, Some, List, IfOk};
 ghost use Rattle.page_alloc.specs.Owners.{taken};
-ghost use Rattle.page_alloc.specs.Lives.{open_lives};
-ghost use Rattle.page_alloc.specs.FreeRuns.{HasNoRun, IsSpanSize};
-ghost use Rattle.page_alloc.specs.Journal.{IsBy, Legal, past_of};
-ghost use Rattle.page_alloc.specs.Heap.{HasMoreRoom};
+ghost use Rattle.page_alloc.specs.FreeRuns.{IsSpanSize};
+ghost use Rattle.page_alloc.specs.Journal.{Legal, past_of};
 ghost use Rattle.size_classes.specs.Classes.{IsClass, objects_of, slot_of};
 ghost use Rattle.sweep_laws.specs.Lists.{has};
-ghost use Rattle.span_laws.specs.TakeAnswers.{IsNew, IsToldOf, NoRunFree, TakesNew, TakesSpan, TriesSpan, cycle_at};
+ghost use Rattle.span_laws.specs.TakeAnswers.{IsNew, IsToldOf, TakesSpan, TriesSpan};
 ghost use Rattle.span_laws.specs.ScavengeAnswers.{StepsOnce};
 ghost use Rattle.span_laws.specs.BodyAsks.{IsEmptyBody};
 ghost use Rattle.span_laws.specs.Asks.{HasBody, KnowsJournal};

@@ -1,13 +1,13 @@
-ghost use Rattle.std.specs.Prelude.{◌≡◌, ℕ, ◌+◌, ◌<◌, ◌≤◌, true, false, None, Some, length};
+ghost use Rattle.std.specs.Prelude.{◌≡◌, ℕ, ◌<◌, ◌≤◌, true, false, None, Some, length};
 ghost use Rattle.sweep_laws.specs.Lists.{has};
-ghost use Rattle.sweep_laws.specs.Reading.{cell_of, class_of_set, is_swept_set, set_of};
+ghost use Rattle.sweep_laws.specs.Reading.{cell_of, is_swept_set, set_of};
 ghost use Rattle.span_laws.specs.Answers.{IsAhead, IsOfSet, RaisesSwept, RaisesUnswept};
 ghost use Rattle.span_laws.specs.Asks.{HasBody};
 ghost use Rattle.span_laws.specs.Logs.{is_look};
 ghost use Rattle.worker_log.specs.SetNumbers.{is_full_set};
 ghost use Rattle.worker_log.specs.Entries.{is_placing_in, is_pop_of, is_seen_empty, many};
-ghost use Rattle.span_laws.specs.Views.{has_cell, span_of};
-ghost use Rattle.span_laws.specs.OwnSteps.{after_of, after_said};
+ghost use Rattle.span_laws.specs.Views.{has_cell};
+ghost use Rattle.span_laws.specs.OwnSteps.{after_said};
 
 use crate::homes::{put_home, take_home};
 use crate::lent::{Lent, apply, note};

@@ -1,16 +1,12 @@
-ghost use Rattle.std.specs.Prelude.{◌≡◌, ℕ, ◌+◌, ◌%◌, ◌^◌, ◌<◌, ◌≤◌, true, None, Some, length};
+ghost use Rattle.std.specs.Prelude.{◌≡◌, ℕ, ◌+◌, ◌%◌, ◌^◌, ◌<◌, ◌≤◌, true, None};
 ghost use Rattle.sweep_laws.specs.Lists.{has};
 ghost use Rattle.span_state.specs.Bits.{HasFree, with_bit};
 ghost use Rattle.span_state.specs.Spans.{allocated, IsSameSpan};
-ghost use Rattle.sweep_laws.specs.NeedsOfRange.{refusal};
-ghost use Rattle.sweep_laws.specs.Step.{needs_of};
 ghost use Rattle.span_laws.specs.Answers.{AcquiresSpan, UncachesSpan};
 ghost use Rattle.span_laws.specs.BodyAsks.{HasMarks};
 ghost use Rattle.span_laws.specs.Asks.{HasBody, HasSpan, MayPlace};
-ghost use Rattle.span_laws.specs.Moves.{move_on};
-ghost use Rattle.span_laws.specs.Rule.{Rule};
-ghost use Rattle.span_laws.specs.Views.{Seen, acts, span_of};
-ghost use Rattle.span_laws.specs.OwnSteps.{after_of, after_said, told, told_of};
+ghost use Rattle.span_laws.specs.Views.{acts, span_of};
+ghost use Rattle.span_laws.specs.OwnSteps.{after_of, after_said, told};
 
 use crate::lent::{Lent, apply, apply_of, note};
 use crate::lent_scans::take_waiting;
@@ -20,7 +16,7 @@ use atomic_table::Seat;
 use page_alloc::Pages;
 use span_laws::{Acquired, Said, SaidOf, Uncached, View};
 use span_state::Body;
-use sweep_generation::{Core, Move};
+use sweep_generation::Move;
 
 // Adds to a word that counts modulo 2^64, and answers the value before.
 fn count(shared: &Shared, seat: &mut Seat<(), View>, word: u64, value: &mut u64, number: u64) -> u64

@@ -1,7 +1,7 @@
 //! The heap lock. Any worker takes it while nobody has it, and only its holder lets it go; these two moves alone write it. It
 //! guards what Take and Give write: lives and owners.
 
-ghost use Rattle.std.specs.Prelude.{◌≡◌, ◌<◌, ◌≤◌, length};
+ghost use Rattle.std.specs.Prelude.{◌<◌};
 ghost use Rattle.sweep_laws.specs.Step.{Steps};
 
 use crate::state::Core;

@@ -2,7 +2,6 @@
 //! `freeSpan`). Take writes the word of a page that no span has, and Give that of a span that its worker holds: so nobody else
 //! looks at the word meanwhile.
 
-ghost use Rattle.std.specs.Prelude.{◌≡◌};
 ghost use Rattle.sweep_laws.specs.Step.{Steps};
 
 use crate::owners::put_owner;

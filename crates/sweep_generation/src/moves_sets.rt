@@ -2,7 +2,6 @@
 //! Claim raises the tail, and Fill writes the cell and lets go of the span. Of swept sets an entry is the span itself, so
 //! PopSwept holds it; of unswept ones it is a hint alone, so PopUnswept notes the entry, and the word decides who sweeps.
 
-ghost use Rattle.std.specs.Prelude.{◌≡◌};
 ghost use Rattle.sweep_laws.specs.Step.{Steps};
 
 use crate::state::Core;

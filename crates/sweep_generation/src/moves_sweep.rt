@@ -2,7 +2,6 @@
 //! a worker that popped the span's entry, or one that had it cached over a mark end. Only Release writes what is allocated, since
 //! only then is it known that nobody else has the span.
 
-ghost use Rattle.std.specs.Prelude.{◌≡◌};
 ghost use Rattle.sweep_laws.specs.Step.{Steps};
 
 use crate::state::Core;

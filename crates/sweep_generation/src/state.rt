@@ -30,7 +30,7 @@ pub struct Core {
 }
 
 impl Model for Core {
-    ghost use Rattle.std.specs.Prelude.{◌≤◌, vec_capacity};
+    ghost use Rattle.std.specs.Prelude.{◌≤◌};
     ghost use Rattle.sweep_laws.specs.State.{CoreState};
 
     ghost Value = { CoreState };

@@ -2,8 +2,8 @@
 
 ghost use Rattle.std.specs.Prelude.{◌≡◌, ◌<◌, ◌≤◌, ◌+◌, true, None, OnOk, length, [], ◌∷◌};
 ghost use Rattle.sweep_laws.specs.Reading.{life_of};
-ghost use Rattle.sweep_laws.specs.NeedsOfRange.{need, refusal, run_in_range, class_in_range};
-ghost use Rattle.sweep_laws.specs.NeedsOfPages.{is_holder, nothing_allocated, run_is_free, run_owner, is_at_hand, may_allocate, is_least_free, free_index};
+ghost use Rattle.sweep_laws.specs.NeedsOfRange.{refusal, run_in_range};
+ghost use Rattle.sweep_laws.specs.NeedsOfPages.{is_holder, nothing_allocated, run_is_free, is_at_hand, may_allocate, is_least_free, free_index};
 ghost use Rattle.sweep_laws.specs.Needs.{take_needs, give_needs, allocate_needs};
 ghost use Rattle.sweep_laws.specs.Tries.{Tried};
 

@@ -1,6 +1,6 @@
 //! What a generation word says of its span (`mheap.go`, `mspan.sweepgen`). Nothing is written here.
 
-ghost use Rattle.std.specs.Prelude.{◌≡◌, ℕ, ◌≤◌, ◌^◌};
+ghost use Rattle.std.specs.Prelude.{◌≡◌, ◌≤◌, ◌^◌};
 ghost use Rattle.sweep_laws.specs.Roles.{role_of};
 
 use sweep_laws::Role;

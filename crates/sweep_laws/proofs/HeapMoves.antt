@@ -11,7 +11,7 @@ use Rattle.sweep_laws.specs.Reading.{cell_of, is_swept_set, life_in}
 use Rattle.sweep_laws.specs.ChangesOfHands.{hold, let_go}
 use Rattle.sweep_laws.specs.ChangesOfLives.{new_life, drop_life}
 use Rattle.sweep_laws.specs.Counts.{one_if, times}
-use Rattle.sweep_laws.specs.Named.{is_covered, covers, owner, begins, is_class, only, names_in}
+use Rattle.sweep_laws.specs.Named.{is_covered, covers, owner, begins, only, names_in}
 use Rattle.sweep_laws.specs.OwnedLives.{LivesFit, ObjectsFit}
 use Rattle.sweep_laws.specs.Standing.{tally, is_free, is_swept, Page, Kept}
 use Rattle.sweep_laws.proofs.Totals.{times_append, times_end, times_end_else, two_parts_le}

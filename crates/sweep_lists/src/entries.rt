@@ -1,7 +1,7 @@
 //! A plain list with room. All lists of a core stand on it: to put something in never takes memory within the room, and where
 //! there is none the list stays as it was.
 
-ghost use Rattle.std.specs.Prelude.{◌≡◌, ◌<◌, ◌≤◌, ◌==◌, ℕ, nat_lt, [], ◌∷◌, ◌++◌, length, map, OnOk, OnErr, ◌^◌};
+ghost use Rattle.std.specs.Prelude.{◌≡◌, ◌<◌, ◌≤◌, ◌==◌, nat_lt, [], ◌∷◌, ◌++◌, length, map, OnOk, OnErr, ◌^◌};
 ghost use Rattle.std.specs.List.{position};
 ghost use Rattle.sweep_laws.specs.Lists.{has, erase, put_cell};
 

@@ -1,7 +1,7 @@
 //! A queue of spans. Any worker pushes and pops: the tail rises as an index is given away, the head as an entry is taken, and a
 //! cell is written once, by the worker that has its index. A mark end empties the sets that are to be filled next.
 
-ghost use Rattle.std.specs.Prelude.{◌≡◌, ◌≤◌, ◌<◌, ◌+◌, ℕ, map, length, OnOk, OnErr, slice_set, slice_index_or};
+ghost use Rattle.std.specs.Prelude.{◌≡◌, ◌≤◌, ◌<◌, ◌+◌, ℕ, map, OnOk, OnErr, slice_set, slice_index_or};
 ghost use Rattle.std.specs.List.{All};
 ghost use Rattle.sweep_laws.specs.Reading.{no_set};
 ghost use Rattle.sweep_laws.specs.ChangesOfSets.{name_page as page_named, raise_head as head_raised, raise_tail as tail_raised};

@@ -1,6 +1,6 @@
 //! The life that the next Take uses: its lists are made before, so that a Take takes no memory.
 
-ghost use Rattle.std.specs.Prelude.{◌≡◌, ◌≤◌, ◌<◌, [], OnOk, OnErr, IfOk, max};
+ghost use Rattle.std.specs.Prelude.{◌≡◌, ◌<◌, OnOk, OnErr, IfOk, max};
 ghost use Rattle.sweep_laws.specs.ChangesOfLives.{new_life, left_prepared};
 ghost use Rattle.sweep_lists.specs.KeptSpare.{IsPrepared};
 ghost use Rattle.sweep_lists.specs.Views.{life_view, LifeRoom};

@@ -21,9 +21,9 @@ use Rattle.span_laws.specs.Views.{Seen, acts}
 use Rattle.span_laws.specs.OwnSteps.{after_said}
 use Rattle.span_laws.specs.declared.view.Part.{Part}
 use Rattle.worker_log.specs.Entries.{many}
-use Rattle.span_rows.specs.Rows.{ArePlaced, HasPlaced, IsFreeDriver, IsIdleDriver, KeepsPlaced}
+use Rattle.span_rows.specs.Rows.{HasPlaced, IsFreeDriver, IsIdleDriver, KeepsPlaced}
 use Rattle.span_rows.proofs.Driving.{own_of}
-use Rattle.span_set.specs.Tallies.{Frees, MayCount, frees_all, freeing}
+use Rattle.span_set.specs.Tallies.{Frees, frees_all, freeing}
 use Rattle.span_set.specs.declared.hand.Hand.{Hand}
 use Rattle.span_set.proofs.Tallies.{may-still}
 use Rattle.sweeper.specs.NewSpans.{MakesSpan}

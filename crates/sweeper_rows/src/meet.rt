@@ -1,4 +1,4 @@
-ghost use Rattle.std.specs.Prelude.{◌≡◌, ◌<◌, ◌≤◌, length};
+ghost use Rattle.std.specs.Prelude.{◌<◌, ◌≤◌, length};
 ghost use Rattle.sweeper_rows.specs.Rows.{IsReady};
 
 use span_set::{Hand, PopBase, SetId, Shop, pop_unswept};

@@ -1,4 +1,4 @@
-ghost use Rattle.std.specs.Prelude.{◌≡◌, ◌<◌, ◌≤◌, OnOk};
+ghost use Rattle.std.specs.Prelude.{◌≡◌, ◌<◌, OnOk};
 ghost use Rattle.span_rows.specs.Rows.{IsFreeDriver};
 ghost use Rattle.sweeper_rows.specs.Rows.{IsReady, IsStage};
 

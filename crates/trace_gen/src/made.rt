@@ -1,6 +1,5 @@
 ghost use Rattle.std.specs.Prelude.{◌≡◌, ◌+◌, ◌*◌, ◌≤◌, ◌<◌, ◌^◌, IfOk, OnOk};
 ghost use Rattle.rand_pcg.specs.Lcg.{Lcg};
-ghost use Rattle.rand_pcg.specs.Pcg.{pcg32};
 ghost use Rattle.trace_gen.specs.Made.{event_by, events_from, generator_at, made_cycle, made_trace, marks_at, next_object, size_by};
 
 use edge_io::{List, NoMemory};

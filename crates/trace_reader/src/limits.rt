@@ -1,6 +1,6 @@
 //! The first two lines, and the numbers of each line against their limits.
 
-ghost use Rattle.std.specs.Prelude.{◌≡◌, ◌*◌, ◌^◌, ◌<◌, ◌≤◌, [], ◌∷◌, List, ℕ, Some, IfErr, IfOk, MatchBool};
+ghost use Rattle.std.specs.Prelude.{◌≡◌, ◌^◌, ◌<◌, ◌≤◌, [], ◌∷◌, List, ℕ, Some, IfErr, IfOk, MatchBool};
 ghost use Rattle.std.specs.Option.{option_map};
 ghost use Rattle.trace_reader.specs.declared.fault.TraceFault.TheVariants.{Limit, Malformed};
 ghost use Rattle.trace_reader.specs.declared.statement.Statement.{Statement as Said};

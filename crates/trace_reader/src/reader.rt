@@ -1,6 +1,6 @@
 //! Reading a trace, line by line.
 
-ghost use Rattle.std.specs.Prelude.{◌≡◌, ◌*◌, ◌≤◌, ◌⊎◌, [], ◌∷◌, ◌++◌, true, List as Items, IfErr, IfOk, IsErrOf, IsOk, MatchResult, OnOk};
+ghost use Rattle.std.specs.Prelude.{◌≡◌, ◌⊎◌, [], ◌∷◌, ◌++◌, true, List as Items, IfErr, IfOk, IsErrOf, IsOk, MatchResult, OnOk};
 ghost use Rattle.std.specs.List.{flat_map};
 ghost use Rattle.edge_io.specs.Line.{IsLine};
 ghost use Rattle.edge_io.specs.Reading.{IsSameSource, is_dry, line_of, number_of, source_of};

@@ -1,6 +1,6 @@
 //! Takes and gives of mixed sizes.
 
-ghost use Rattle.std.specs.Prelude.{◌≡◌, ◌≤◌, ◌<◌, IfOk};
+ghost use Rattle.std.specs.Prelude.{◌≡◌, ◌≤◌, ◌<◌};
 ghost use Rattle.page_alloc.specs.FreeRuns.{IsSpanSize};
 ghost use Rattle.page_alloc.specs.Journal.{IsBy};
 

@@ -1,6 +1,4 @@
-use Rattle.std.proofs.Common.{Err, ap, refl, subst, sym}
-use Rattle.demo_lines.specs.Summary.{summary_text}
-use Rattle.edge_io.specs.Front.{AppendsFront}
+use Rattle.std.proofs.Common.{Err, ap, subst}
 use Rattle.trace_reader.specs.declared.trace.Trace.{Trace}
 use Rattle.alloc_tool.specs.Demo.{Demos}
 use Rattle.alloc_tool.proofs.Demos.{failed_demo, shown_demo, spent_after, spent_demo}

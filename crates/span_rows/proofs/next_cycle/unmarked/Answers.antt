@@ -1,4 +1,4 @@
-use Rattle.std.proofs.Common.{◌≡◌, ◌∙◌, ◌<◌, ℕ, Bool, true, ◌&&◌, ◌||◌, eqb, List, sym, ap, subst}
+use Rattle.std.proofs.Common.{◌≡◌, ◌∙◌, ◌<◌, ℕ, true, ◌&&◌, ◌||◌, eqb, List, sym, ap, subst}
 use Rattle.std.proofs.lemmas.Bool.{eqb-true}
 use Rattle.sweep_laws.proofs.NeedsMet.{both}
 use Rattle.span_state.specs.MarkSet.{has_pair}

@@ -1,4 +1,3 @@
-use Rattle.std.proofs.Common.{inl, inr}
 use Rattle.cycle_history.specs.Requests.{last_cycle, marked_by}
 use Rattle.report_check.specs.Items.{objects_of}
 use Rattle.report_check.specs.Sampling.{samples_by}
