@@ -25,6 +25,7 @@ use edge_io::{Gate, List, NoMemory};
 use page_bitmap::Line;
 use proc_cache::Proc;
 use profile_cycle::Tally;
+use size_classes::PAGE_SIZE;
 use span_set::{Hand, Shop, reset};
 use span_state::{Marks, SweepNote};
 use span_table::{Shared, Worker};
@@ -36,7 +37,7 @@ use trace_reader::{Header, Trace};
 const MARKING: u64 = 1048576;
 
 // The least distance by which sweeping is paced, a page.
-const LEAST: u64 = 8192;
+const LEAST: u64 = PAGE_SIZE;
 
 /// What is asked of a run besides its trace.
 #[derive(Clone, Copy, Debug, PartialEq, Eq)]

@@ -30,10 +30,11 @@ ghost use Rattle.page_alloc.specs.FreeRuns.{HasNoRun, IsFirstFit, IsLongestFree,
 ghost use Rattle.page_alloc.specs.Journal.{IsBy, past_of, Legal};
 
 use crate::levels::Levels;
-use crate::runs::{CHUNK_PAGES, chunk_behind, free_run, scavenge_run, take_run, top_run};
+use crate::runs::{chunk_behind, free_run, scavenge_run, take_run, top_run};
 use crate::starts::{last_start, mark_start};
 use fallible_list::NoMemory;
 use page_bitmap::{Bitmap, Chunk, Line, Run};
+use size_classes::CHUNK_PAGES;
 use std::alloc::Global;
 use std::marker::Model;
 
@@ -92,7 +93,7 @@ impl Pages {
             search: 0,
             top: 0,
             starts: vec![in alloc; Bitmap::empty(); count]?,
-            lengths: vec![in alloc; 0; 512 * count]?,
+            lengths: vec![in alloc; 0; CHUNK_PAGES as usize * count]?,
             journal: Vec::new(alloc),
             goal,
             live: 0,

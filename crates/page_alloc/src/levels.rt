@@ -7,10 +7,10 @@ ghost use Rattle.page_summary.specs.Sums.{AreSums, AreSumsBut, IsSum, max_of};
 ghost use Rattle.page_alloc.specs.Levels.{AreRight, AreRightBut};
 ghost use Rattle.page_alloc.specs.Region.{HasNoRunIn, IsFirstRunIn, free_in};
 
-use crate::runs::CHUNK_PAGES;
 use fallible_list::NoMemory;
 use page_bitmap::Chunk;
 use page_summary::{Place, Sum, descend, merge, rebuild};
+use size_classes::CHUNK_PAGES;
 use std::alloc::Global;
 
 /// The pages that an entry of each level below the top covers.

@@ -27,9 +27,7 @@ ghost use Rattle.page_alloc.specs.Region.{
 };
 
 use page_bitmap::{Chunk, Run};
-
-/// The pages of a chunk.
-pub const CHUNK_PAGES: u32 = 512;
+use size_classes::CHUNK_PAGES;
 
 /// The most pages that one scavenging step releases (ours).
 const SCAVENGE_PAGES: u32 = 64;

@@ -4,8 +4,8 @@ ghost use Rattle.std.specs.Prelude.{◌≡◌, ℕ, ◌*◌, ◌<◌, ◌≤◌,
 ghost use Rattle.page_bitmap.specs.Runs.{SetsRun};
 ghost use Rattle.page_alloc.specs.Region.{IsLastIn, pages_in};
 
-use crate::runs::CHUNK_PAGES;
 use page_bitmap::Bitmap;
+use size_classes::CHUNK_PAGES;
 
 /// Says of a page whether it is the first of a span.
 pub(crate) fn mark_start(starts: &mut [Bitmap], page: u32, begins: bool)

@@ -29,7 +29,7 @@ use Rattle.span_laws.specs.Views.{Seen, acts, span_at, span_of}
 use Rattle.span_laws.specs.OwnSteps.{after_of, after_said}
 use Rattle.span_laws.proofs.WordMoves.{span_else}
 use Rattle.span_set.specs.declared.hand.Hand.{Hand}
-use Rattle.sweeper.specs.Steps.{Settles}
+use Rattle.sweeper.specs.Settles.{Settles}
 use Rattle.proc_cache.specs.Cache.{Cache, slot_at, with_slot}
 use Rattle.proc_cache.specs.Flushes.{Flushes, FlushesCache, FlushesSpan, IsFlushing}
 use Rattle.proc_cache.specs.Serves.{IsUsedCache, Serves, is_flushed}

@@ -11,6 +11,7 @@ use crate::lives::{OpenLife, no_lives};
 use crate::places::take_up_to;
 use cycle_history::Report;
 use edge_io::NoMemory;
+use size_classes::CHUNK_PAGES;
 use std::alloc::Global;
 use trace_reader::Trace;
 
@@ -29,7 +30,7 @@ impl Opened {
         requires { trace.now.header.chunks ≤ 128 }
         ensures { IfOk result (λ opened. (report : AReport) (c : ℕ) → IsOpenTo trace.now report c opened) }
     {
-        let lives = no_lives(alloc, 512 * trace.header.chunks as usize)?;
+        let lives = no_lives(alloc, CHUNK_PAGES as usize * trace.header.chunks as usize)?;
         Ok(Opened { lives, read: 0 })
     }
 

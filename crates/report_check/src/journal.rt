@@ -17,7 +17,7 @@ use cycle_history::Report;
 use edge_io::NoMemory;
 use page_alloc::Pages;
 use page_bitmap::Line;
-use size_classes::span_pages;
+use size_classes::{CHUNK_PAGES, span_pages};
 use std::alloc::Global;
 use trace_reader::Trace;
 
@@ -29,7 +29,7 @@ pub(crate) fn judge_journal(alloc: Global, trace: &Trace, report: &Report) -> Re
 {
     let last = trace.cycles.len() as u32 - 1;
     let answers = report.answers.as_slice().len() as u64;
-    let region = 512 * trace.header.chunks;
+    let region = CHUNK_PAGES * trace.header.chunks;
     let mut pages = Pages::new(alloc, trace.header.chunks, trace.header.goal)?;
     let mut newest = 0;
     let mut number = 0;

@@ -20,6 +20,7 @@ use crate::items::Item;
 use crate::journal::cycle_of;
 use crate::lives::{OpenLife, Seat, has_life, no_lives, seat_of, take_up};
 use cycle_history::{Answer, Report};
+use size_classes::CHUNK_PAGES;
 use std::alloc::Global;
 use trace_reader::{Span, Trace};
 
@@ -38,7 +39,7 @@ pub(crate) fn judge_places(
     ensures places { OnOk result (AreSeated (marked_by trace.now) (past_in report.now) (objects_of items.new)) }
     ensures fault { IfErr result (IsFaultOf 4 (BreaksPlaces (marked_by trace.now) (past_in report.now) (objects_of items.old))) }
 {
-    let mut lives = no_lives(alloc, 512 * trace.header.chunks as usize)?;
+    let mut lives = no_lives(alloc, CHUNK_PAGES as usize * trace.header.chunks as usize)?;
     let mut next = 0;
     let mut first = 0;
     let mut bound = items.len();

@@ -9,6 +9,7 @@ use crate::shared::{Shared, Size};
 use atomic_table::Table;
 use fallible_list::NoMemory;
 use page_alloc::Pages;
+use size_classes::CHUNK_PAGES;
 use span_state::Body;
 use std::alloc::Global;
 use std::marker::Model;
@@ -50,7 +51,7 @@ impl Shared {
         requires few { chunks ≤ 128 }
         ensures { IfOk result (λ made. made.1 ≡ record { here = true; table = made.0; number = 69; view = first_view (512 * chunks) goal 70 }) }
     {
-        let count = 512 * chunks;
+        let count = CHUNK_PAGES * chunks;
         let pages = Pages::new(alloc, chunks, goal)?;
         let mut core = Core::new(alloc, count, WORKERS)?;
         core.make_room()?;

@@ -12,7 +12,7 @@ use Rattle.span_laws.specs.Calls.{is_missing, is_placing, number_added, pages_sw
 use Rattle.sweep_laws.specs.Counts.{total}
 use Rattle.sweeper.specs.Entries.{is_added, is_emptying_of, is_giving_of, is_keeping_of, is_look_of, is_push_at, is_read}
 use Rattle.sweeper.specs.Work.{IsPlain, OnlySweeps, TakesNone, note_by, notes_of}
-use Rattle.sweeper.specs.Steps.{SweepsNone}
+use Rattle.sweeper.specs.Tries.{SweepsNone}
 
 -- sums add up
 pub total-append : (number : Entry → ℕ) (xs ys : List Entry) → total number (xs ++ ys) ≡ total number xs + total number ys

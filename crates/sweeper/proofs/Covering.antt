@@ -27,7 +27,8 @@ use Rattle.span_laws.specs.Logs.{is_finding_at}
 use Rattle.span_laws.specs.Scans.{AcquiresUnmarked, IsUnmarked, PassesPages, logs}
 use Rattle.sweeper.specs.Entries.{is_added, is_read, pages_given}
 use Rattle.sweeper.specs.Reclaims.{HasPassed, HasReclaimed, Reclaims, SparesMarked, chunks_of}
-use Rattle.sweeper.specs.Steps.{CoversChunks, CoversPage, CoversPages, ReclaimsChunk, ReclaimsNext, ReclaimsPage, Settles}
+use Rattle.sweeper.specs.ReclaimSteps.{CoversChunks, CoversPage, CoversPages, ReclaimsChunk, ReclaimsNext, ReclaimsPage}
+use Rattle.sweeper.specs.Settles.{Settles}
 use Rattle.sweeper.specs.Work.{IsPlain, Stays, TakesNone, Works, notes_of}
 use Rattle.sweeper.proofs.Counting.{plain-append, some-old, takes-append, total-append}
 use Rattle.sweeper.proofs.Passing.{covers_passed, logs_works, passing_looks}

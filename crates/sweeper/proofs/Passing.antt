@@ -13,7 +13,8 @@ use Rattle.span_laws.specs.Scans.{IsEmptyLook, IsPassing, PassesPages, logs}
 use Rattle.span_laws.specs.Views.{Seen}
 use Rattle.span_set.specs.declared.hand.Hand.{Hand}
 use Rattle.sweeper.specs.Entries.{pages_given}
-use Rattle.sweeper.specs.Steps.{CoversPages, SweepsNone}
+use Rattle.sweeper.specs.ReclaimSteps.{CoversPages}
+use Rattle.sweeper.specs.Tries.{SweepsNone}
 use Rattle.sweeper.specs.Work.{OnlySweeps, Stays, Works}
 use Rattle.sweeper.proofs.Counting.{none-append, none-both, nothing-none, nothing-sweeps, notes-none, sweeps-append}
 use Rattle.sweeper.proofs.Popping.{one_none, one_quiet}

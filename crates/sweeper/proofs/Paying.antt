@@ -18,7 +18,8 @@ use Rattle.span_set.specs.declared.hand.Hand.{Hand}
 use Rattle.span_set.proofs.Tallies.{frees-both, frees-none}
 use Rattle.sweeper.specs.Entries.{is_read}
 use Rattle.sweeper.specs.Pays.{HasPaid, Pays, target_of}
-use Rattle.sweeper.specs.Steps.{ReadsSwept, SawSome, SweepsNext, SweepsNone, SweepsSet, SweepsSome, SweepsUntil}
+use Rattle.sweeper.specs.PaySteps.{ReadsSwept, SweepsSet, SweepsSome, SweepsUntil}
+use Rattle.sweeper.specs.Tries.{SawSome, SweepsNext, SweepsNone}
 use Rattle.sweeper.specs.Sweeps.{Finishes, SweepsSpan}
 use Rattle.sweeper.specs.Work.{Does, IsPlain, SawAllEmpty, Stays, Works}
 use Rattle.sweeper.specs.declared.answers.Paid.TheVariants.{Reached, NothingLeft}

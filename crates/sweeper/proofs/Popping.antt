@@ -24,7 +24,8 @@ use Rattle.span_laws.specs.OwnSteps.{after_said}
 use Rattle.span_set.specs.Pops.{IsLookAt, LooksLast, PopsUnswept}
 use Rattle.span_set.specs.declared.answers.PopBase.TheVariants.{Popped as PoppedBase, Empty as EmptyBase}
 use Rattle.span_set.specs.declared.hand.Hand.{Hand}
-use Rattle.sweeper.specs.Steps.{Settles, SweepsNone, TriesEntry}
+use Rattle.sweeper.specs.Settles.{Settles}
+use Rattle.sweeper.specs.Tries.{SweepsNone, TriesEntry}
 use Rattle.sweeper.specs.Sweeps.{SweepsSpan}
 use Rattle.sweeper.specs.Work.{Does, OnlySweeps, Stays, note_by, notes_of}
 use Rattle.sweeper.specs.declared.sweep.Tried.TheVariants.{Swept as WasSwept, Gone, Empty}

@@ -16,7 +16,7 @@ use Rattle.span_set.specs.declared.hand.Hand.{Hand}
 use Rattle.span_laws.specs.Scans.{FindsUnswept, SeesEmpty, nth_unswept}
 use Rattle.span_laws.specs.Views.{Seen}
 use Rattle.span_laws.proofs.Scans.{nth_unswept_off}
-use Rattle.sweeper.specs.Steps.{DropsSome, SawSome, SweepsNext, SweepsNone, TriesEntry}
+use Rattle.sweeper.specs.Tries.{DropsSome, SawSome, SweepsNext, SweepsNone, TriesEntry}
 use Rattle.sweeper.specs.Sweeps.{SweepsOne, SweepsSpan}
 use Rattle.sweeper.specs.Work.{IsPlain, SawAllEmpty, Works, note_by}
 use Rattle.sweeper.specs.declared.answers.One.TheVariants.{Swept, NothingLeft}

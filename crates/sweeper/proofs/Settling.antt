@@ -30,7 +30,7 @@ use Rattle.span_laws.proofs.Uses.{apart_of}
 use Rattle.span_set.specs.declared.hand.Hand.{Hand}
 use Rattle.sweep_laws.specs.Counts.{total}
 use Rattle.sweeper.specs.Entries.{pages_given}
-use Rattle.sweeper.specs.Steps.{GoesHome, Settles}
+use Rattle.sweeper.specs.Settles.{GoesHome, Settles}
 use Rattle.sweeper.specs.Sweeps.{SweepsSpan}
 use Rattle.sweeper.specs.Work.{Does, OnlySweeps, Stays, note_by, notes_of}
 

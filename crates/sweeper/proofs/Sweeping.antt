@@ -26,7 +26,7 @@ use Rattle.span_set.specs.Sweeps.{SweepsBody, SweepsInHand, note_of}
 use Rattle.span_set.specs.declared.hand.Hand.{Hand}
 use Rattle.span_set.specs.declared.sets.SetId.{SetId}
 use Rattle.span_set.proofs.Numbers.{few, swept_is, swept_low}
-use Rattle.sweeper.specs.Steps.{GoesHome, Settles}
+use Rattle.sweeper.specs.Settles.{GoesHome, Settles}
 
 none_below : (n : ℕ) (f : ℕ → Bool) (k : ℕ) → count_below n f ≡ 0 → k < n → f k ≡ false
 unfolding count_below

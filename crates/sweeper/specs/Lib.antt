@@ -1,7 +1,10 @@
 pub mod Entries
 pub mod NewSpans
+pub mod PaySteps
 pub mod Pays
+pub mod ReclaimSteps
 pub mod Reclaims
-pub mod Steps
+pub mod Settles
 pub mod Sweeps
+pub mod Tries
 pub mod Work

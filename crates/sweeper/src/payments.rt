@@ -2,7 +2,7 @@ ghost use Rattle.std.specs.Prelude.{◌≡◌, ◌<◌, ◌≤◌, [], true, Non
 ghost use Rattle.span_set.specs.Sets.{unswept_of};
 ghost use Rattle.span_set.specs.Tallies.{Frees, MayCount};
 ghost use Rattle.sweeper.specs.Pays.{Pays, target_of};
-ghost use Rattle.sweeper.specs.Steps.{ReadsSwept, SweepsSet, SweepsUntil};
+ghost use Rattle.sweeper.specs.PaySteps.{ReadsSwept, SweepsSet, SweepsUntil};
 ghost use Rattle.sweeper.specs.Sweeps.{Finishes};
 
 use crate::answers::Paid;

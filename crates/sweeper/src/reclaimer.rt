@@ -1,15 +1,13 @@
 ghost use Rattle.std.specs.Prelude.{◌≡◌, ◌*◌, ◌<◌, ◌≤◌, [], true, None, OnOk, length};
 ghost use Rattle.span_set.specs.Tallies.{Frees, MayCount};
 ghost use Rattle.sweeper.specs.Reclaims.{Reclaims};
-ghost use Rattle.sweeper.specs.Steps.{ReclaimsChunk, ReclaimsNext};
+ghost use Rattle.sweeper.specs.ReclaimSteps.{ReclaimsChunk, ReclaimsNext};
 
 use crate::settle::settle;
 use fallible_list::NoMemory;
+use size_classes::CHUNK_PAGES;
 use span_set::{Hand, Shop};
 use span_state::Body;
-
-// The pages of a chunk.
-const CHUNK: u32 = 512;
 
 // How many pages the span of a body has.
 fn pages_of(body: &Body) -> u32
@@ -68,8 +66,8 @@ fn reclaim_chunk(shop: &Shop, hand: &mut Hand, chunk: u32, region: u32) -> Resul
     ensures did { ReclaimsChunk chunk hand.old hand.new result }
     ensures tally { Frees shop.now.marks.now hand.old hand.new }
 {
-    let mut next = CHUNK * chunk;
-    let end = region.min(next + CHUNK);
+    let mut next = CHUNK_PAGES * chunk;
+    let end = region.min(next + CHUNK_PAGES);
     let mut given: u32 = 0;
     hand.reserve_note()?;
     while let Some((behind, pages)) = reclaim_next(shop, hand, next, end)? {
@@ -97,7 +95,7 @@ pub fn reclaim(shop: &Shop, hand: &mut Hand, pages: u32) -> Result<u32, NoMemory
     ensures tally { Frees shop.now.marks.now hand.old hand.new }
 {
     let region = shop.shared.region(&hand.worker);
-    let chunks = region.div_ceil(CHUNK);
+    let chunks = region.div_ceil(CHUNK_PAGES);
     let mut given: u32 = 0;
     for _ in 0..chunks {
         if given >= pages {

@@ -2,7 +2,7 @@ ghost use Rattle.std.specs.Prelude.{◌≡◌, ◌<◌, ◌≤◌, true, None, l
 ghost use Rattle.span_laws.specs.Asks.{IsUntouched};
 ghost use Rattle.span_set.specs.Sweeps.{MaySweep};
 ghost use Rattle.span_set.specs.Tallies.{Frees, MayCount};
-ghost use Rattle.sweeper.specs.Steps.{Settles};
+ghost use Rattle.sweeper.specs.Settles.{Settles};
 
 use span_set::{Hand, SetId, Shop, push, sweep_in_hand};
 use span_state::{Body, SweepNote};

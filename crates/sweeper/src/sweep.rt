@@ -2,7 +2,7 @@ ghost use Rattle.std.specs.Prelude.{◌≡◌, ◌<◌, ◌≤◌, [], true, Non
 ghost use Rattle.span_set.specs.Sets.{unswept_of};
 ghost use Rattle.span_set.specs.Tallies.{Frees, MayCount};
 ghost use Rattle.span_laws.specs.Scans.{nth_unswept};
-ghost use Rattle.sweeper.specs.Steps.{SweepsNext, TriesEntry};
+ghost use Rattle.sweeper.specs.Tries.{SweepsNext, TriesEntry};
 ghost use Rattle.sweeper.specs.Sweeps.{SweepsOne};
 
 use crate::answers::One;

@@ -23,7 +23,7 @@ use Rattle.span_set.specs.Pops.{PopsUnswept, with_looks}
 use Rattle.span_set.specs.Tallies.{Frees}
 use Rattle.span_set.specs.declared.answers.PopBase.TheVariants.{Popped as PoppedBase, Empty as EmptyBase}
 use Rattle.span_set.specs.declared.hand.Hand.{Hand}
-use Rattle.sweeper.specs.Steps.{GoesHome, Settles}
+use Rattle.sweeper.specs.Settles.{GoesHome, Settles}
 use Rattle.span_rows.specs.Rows.{IsFreeDriver}
 use Rattle.span_rows.proofs.Driving.{own_fresh, own_idle, own_used, still_free}
 use Rattle.sweeper_rows.specs.Rows.{IsReady}

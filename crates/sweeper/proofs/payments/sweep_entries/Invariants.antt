@@ -1,6 +1,6 @@
 use Rattle.span_set.specs.Sets.{unswept_of}
 use Rattle.span_set.specs.Tallies.{Frees}
-use Rattle.sweeper.specs.Steps.{SweepsSome}
+use Rattle.sweeper.specs.PaySteps.{SweepsSome}
 use Rattle.sweeper.proofs.payments.sweep_entries.Given as goal
 
 abbrev pub invariant-loop : goal.invariant-loop

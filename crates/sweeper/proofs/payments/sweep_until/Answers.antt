@@ -3,7 +3,7 @@ use Rattle.std.specs.Prelude.{Ok, Some, None}
 use Rattle.std.proofs.lemmas.Result.{err_from_is_err_and}
 use Rattle.span_laws.specs.Scans.{nth_unswept}
 use Rattle.span_set.proofs.Tallies.{frees-as, frees-both, may-still}
-use Rattle.sweeper.specs.Steps.{SweepsUntil}
+use Rattle.sweeper.specs.PaySteps.{SweepsUntil}
 use Rattle.sweeper.proofs.Paying.{read_frees, until_more, until_none, until_past, until_read, until_reached, until_to, until_wants}
 use Rattle.sweeper.proofs.payments.sweep_until.Goals as goal
 

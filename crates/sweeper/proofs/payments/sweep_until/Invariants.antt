@@ -1,7 +1,7 @@
 use Rattle.std.proofs.Common.{◌-◌, ◌≤◌}
 use Rattle.std.specs.Prelude.{Ok, None}
 use Rattle.span_set.specs.Tallies.{Frees}
-use Rattle.sweeper.specs.Steps.{SweepsUntil}
+use Rattle.sweeper.specs.PaySteps.{SweepsUntil}
 use Rattle.sweeper.proofs.payments.sweep_until.Given as goal
 
 abbrev pub invariant-loop-index : goal.invariant-loop-index

@@ -1,6 +1,6 @@
 use Rattle.std.proofs.Common.{[]}
 use Rattle.span_set.specs.Tallies.{Frees}
-use Rattle.sweeper.specs.Steps.{CoversChunks}
+use Rattle.sweeper.specs.ReclaimSteps.{CoversChunks}
 use Rattle.sweeper.specs.Work.{Works}
 use Rattle.sweeper.proofs.reclaimer.reclaim.Given as goal
 

@@ -2,7 +2,7 @@ use Rattle.std.proofs.Common.{[], ℕ, ◌*◌, subst, arith}
 use Rattle.std.proofs.lemmas.Result.{err_from_is_err_and}
 use Rattle.span_set.proofs.Tallies.{frees-both, frees-none, may-still}
 use Rattle.std.specs.Prelude.{Ok, Some}
-use Rattle.sweeper.specs.Steps.{CoversPages, ReclaimsNext}
+use Rattle.sweeper.specs.ReclaimSteps.{CoversPages, ReclaimsNext}
 use Rattle.sweeper.specs.Work.{Works}
 use Rattle.sweeper.proofs.Covering.{chunk_done, chunk_more, chunk_none, chunk_stops, chunk_wants}
 use Rattle.sweeper.proofs.reclaimer.reclaim_chunk.Goals as goal

@@ -1,6 +1,6 @@
 use Rattle.std.proofs.Common.{[], length, ◌<◌, ◌≤◌, ◌*◌, ◌-◌}
 use Rattle.span_set.specs.Tallies.{Frees}
-use Rattle.sweeper.specs.Steps.{CoversPages}
+use Rattle.sweeper.specs.ReclaimSteps.{CoversPages}
 use Rattle.sweeper.specs.Work.{Works}
 use Rattle.sweeper.proofs.reclaimer.reclaim_chunk.Given as goal
 

@@ -1,7 +1,7 @@
 use Rattle.std.proofs.Common.{◌+◌, ℕ, subst, sym, arith}
 use Rattle.std.proofs.lemmas.Result.{err_from_is_err_and}
 use Rattle.std.specs.Prelude.{Ok, Some}
-use Rattle.sweeper.specs.Steps.{ReclaimsNext}
+use Rattle.sweeper.specs.ReclaimSteps.{ReclaimsNext}
 use Rattle.sweeper.proofs.Covering.{next_got, next_none, next_wants}
 use Rattle.sweeper.proofs.reclaimer.reclaim_next.Goals as goal
 

@@ -1,6 +1,6 @@
 use Rattle.span_set.specs.Sets.{unswept_of}
 use Rattle.span_set.specs.Tallies.{Frees}
-use Rattle.sweeper.specs.Steps.{DropsSome}
+use Rattle.sweeper.specs.Tries.{DropsSome}
 use Rattle.sweeper.proofs.sweep.sweep_next.Given as goal
 
 abbrev pub invariant-loop : goal.invariant-loop

@@ -1,7 +1,7 @@
 use Rattle.std.proofs.Common.{[], ap, refl, sym, subst, ◌∙◌, ◌<◌, ℕ, length, arith}
 use Rattle.span_laws.specs.Scans.{nth_unswept}
 use Rattle.span_set.proofs.Tallies.{frees-as, frees-both, frees-none, may-still}
-use Rattle.sweeper.specs.Steps.{SawSome, SweepsNone}
+use Rattle.sweeper.specs.Tries.{SawSome, SweepsNone}
 use Rattle.sweeper.specs.Work.{Works}
 use Rattle.sweeper.proofs.Counting.{none-append}
 use Rattle.sweeper.proofs.Searching.{all_seen, finds_more, finds_none, looks_past, looks_to, one_swept}

@@ -1,6 +1,6 @@
 use Rattle.std.proofs.Common.{◌-◌, ◌≤◌}
 use Rattle.span_set.specs.Tallies.{Frees}
-use Rattle.sweeper.specs.Steps.{FindsNone}
+use Rattle.sweeper.specs.Tries.{FindsNone}
 use Rattle.sweeper.proofs.sweep.sweep_one.Given as goal
 
 abbrev pub invariant-loop-index : goal.invariant-loop-index
