@@ -30,7 +30,10 @@ impl Objects<'_> {
         let keys = Keys::of(alloc, self.report.sweeps.as_slice(), true)?;
         let answers = self.report.answers.as_slice().len() as u64;
         let journal = self.report.journal.as_slice();
-        let mut lives = no_lives(alloc, CHUNK_PAGES as usize * self.trace.header.chunks as usize)?;
+        let mut lives = no_lives(
+            alloc,
+            CHUNK_PAGES as usize * self.trace.header.chunks as usize,
+        )?;
         for number in 0..journal.len() {
             let line = journal[number];
             if let Line::Give { cycle, page, .. } = line {
