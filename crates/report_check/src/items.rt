@@ -60,7 +60,7 @@ impl Item {
             ),
         };
         Item {
-            proc: event.proc,
+            proc: u32::from(event.proc),
             cycle: asked.cycle,
             class,
             pages,

@@ -77,7 +77,7 @@ fn event(words: &mut Pcg32, number: u32) -> Event
     let first = words.next_word();
     let second = words.next_word();
     Event {
-        proc: first % 8,
+        proc: (first % 8) as u8,
         size: size(number, second),
         scan: first / 8 % 2 == 0,
         stack: first / 16 % 32,

@@ -34,7 +34,7 @@ const MAX_MARKS: u32 = 20_000_000;
 #[derive(Drop)]
 pub(crate) struct Draft {
     /// The processors of the header.
-    procs: u32,
+    procs: u8,
     /// The cycles that ended, without the one whose marks may go on.
     cycles: List<Cycle>,
     /// The events of the cycle behind them.
@@ -56,7 +56,7 @@ pub(crate) struct Draft {
 
 impl Draft {
     /// Nothing was said yet.
-    pub(crate) fn new(alloc: Global, procs: u32) -> Self
+    pub(crate) fn new(alloc: Global, procs: u8) -> Self
         ensures told { told_of result ≡ [] }
         ensures follows { (past : Items Said) → IsStart past procs → Follows past result }
     {

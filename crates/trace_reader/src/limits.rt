@@ -70,7 +70,7 @@ fn limited_header(form: HeapForm, number: u64) -> Result<Header, TraceFault>
 }
 
 /// The event of these numbers, or the first that is past its limit.
-pub(crate) fn limited_event(form: AllocForm, number: u64, procs: u32) -> Result<Event, TraceFault>
+pub(crate) fn limited_event(form: AllocForm, number: u64, procs: u8) -> Result<Event, TraceFault>
     ensures event { IfOk result (λ e. alloc_of e ≡ Alloc form) }
     ensures fits { IfOk result (λ e. EventFits procs e) }
     ensures no_read { NoReadFault result }
@@ -86,7 +86,7 @@ pub(crate) fn limited_event(form: AllocForm, number: u64, procs: u32) -> Result<
         return Err(TraceFault::Limit(number, Which::Stack));
     }
     Ok(Event {
-        proc: form.proc as u32,
+        proc: form.proc as u8,
         size: form.size as u64,
         scan: form.scan,
         stack: form.stack as u32,

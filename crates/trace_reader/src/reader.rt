@@ -43,7 +43,7 @@ pub fn read_trace<S: Source>(alloc: Global, lines: &mut Lines<'_, S>) -> Result<
 {
     read_title(lines)?;
     let header = read_header(lines)?;
-    let cycles = read_cycles(alloc, lines, header.procs)?;
+    let cycles = read_cycles(alloc, lines, header.procs as u8)?;
     Ok(Trace { header, cycles })
 }
 
@@ -105,7 +105,7 @@ fn read_header<S: Source>(lines: &mut Lines<'_, S>) -> Result<Header, TraceFault
 fn read_cycles<S: Source>(
     alloc: Global,
     lines: &mut Lines<'_, S>,
-    procs: u32,
+    procs: u8,
 ) -> Result<List<Cycle>, TraceFault>
     ensures same_source { IsSameSource lines.old lines.new }
     ensures lines { IfOk result (λ cycles. TakesLines S.left lines.old lines.new (flat_map cycle_statements cycles ++ End ∷ [])) }

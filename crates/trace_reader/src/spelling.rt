@@ -30,7 +30,7 @@ pub(crate) fn push_alloc_line(line: &mut TextLine, event: Event)
     ensures { line.new ≡ alloc_line (form_of event) ++ 10 ∷ [] }
 {
     line.push(b"a ");
-    line.push_short(event.proc);
+    line.push_short(u32::from(event.proc));
     line.push(b" ");
     line.push_decimal(event.size);
     line.push(kind_text(event.scan));

@@ -34,14 +34,14 @@ pub struct Cycle {
 /// An allocation. Its object's number is its place among all events, from 0.
 #[derive(Clone, Copy, Debug, PartialEq, Eq)]
 pub struct Event {
-    /// The processor that allocates, below the header's.
-    pub proc: u32,
     /// The bytes asked for, from 0 to 2^40.
     pub size: u64,
-    /// Whether the object has pointers.
-    pub scan: bool,
     /// The number of the stack that allocates, up to 999999.
     pub stack: u32,
+    /// The processor that allocates, below the header's.
+    pub proc: u8,
+    /// Whether the object has pointers.
+    pub scan: bool,
 }
 
 /// The end of a marking.
