@@ -1,9 +1,8 @@
 #!/usr/bin/env bash
-# Times the marks of all mark ends of a trace, and its totals. Each trace has 10,000 mark ends over 1,000,000 objects of
-# 30 sizes; each mark end marks every second object of the cycle before it, and as many of the first objects as its row
-# says. Each time is the least processor time of three runs, less that of a run which reads the trace and makes the
-# answers alone. All is measured in this run; look at the ratios, since the seconds are this machine's. OBJECTS and ENDS
-# change the numbers.
+# Times the totals of a trace. It has 10,000 mark ends over 1,000,000 objects of 30 sizes; each mark end marks every second
+# object of the cycle before it, and the first 50 objects. The time is the least processor time of three runs, less that of
+# a run which reads the trace and makes the answers alone. All is measured in this run; look at the ratio, since the
+# seconds are this machine's. OBJECTS and ENDS change the numbers.
 set -euo pipefail
 cd "$(dirname "$0")/.."
 objects=${OBJECTS:-1000000}
@@ -13,23 +12,20 @@ bin=crates/bench/out/bench
 input=$(mktemp)
 trap 'rm -f "$input"' EXIT
 
-# trace LONG: a trace whose mark ends all mark the first LONG objects, which must be of the first cycle.
-trace() {
-  awk -v ends="$ends" -v objects="$objects" -v long="$1" 'BEGIN {
-    print "goheap 1"
-    print "heap 128 procs 1 rate 0 seed 1 goal 65536"
-    for (c = 0; c <= ends; c++) {
-      first = int(objects * c / (ends + 1))
-      next_first = int(objects * (c + 1) / (ends + 1))
-      for (i = first; i < next_first; i++) print "a 0 " 16 + 40 * (i % 30) " s 0"
-      if (c == ends) break
-      print "gc 1000000"
-      print "m 0 " long - 1
-      if (c > 0) for (i = first; i < next_first; i += 2) print "m " i " " i
-    }
-    print "end"
-  }' > "$input"
-}
+awk -v ends="$ends" -v objects="$objects" 'BEGIN {
+  print "goheap 1"
+  print "heap 128 procs 1 rate 0 seed 1 goal 65536"
+  for (c = 0; c <= ends; c++) {
+    first = int(objects * c / (ends + 1))
+    next_first = int(objects * (c + 1) / (ends + 1))
+    for (i = first; i < next_first; i++) print "a 0 " 16 + 40 * (i % 30) " s 0"
+    if (c == ends) break
+    print "gc 1000000"
+    print "m 0 49"
+    if (c > 0) for (i = first; i < next_first; i += 2) print "m " i " " i
+  }
+  print "end"
+}' > "$input"
 
 # seconds WORD: the least processor seconds of three runs on the trace
 seconds() {
@@ -41,13 +37,8 @@ seconds() {
   echo "$best"
 }
 
-for long in 1 50 90; do
-  trace "$long"
-  lists=$(seconds lists)
-  marks=$(seconds marks)
-  totals=$(seconds totals)
-  awk -v l="$lists" -v m="$marks" -v t="$totals" -v n="$ends" -v o="$objects" -v k="$long" 'BEGIN {
-    printf "%d mark ends, %d objects, %d long: reading %.2f s, all marks %.2f s (%.1f times), totals %.2f s (%.2f times)\n",
-      n, o, k, l, m - l, (m - l) / l, t - l, (t - l) / l
-  }'
-done
+lists=$(seconds lists)
+totals=$(seconds totals)
+awk -v l="$lists" -v t="$totals" -v n="$ends" -v o="$objects" 'BEGIN {
+  printf "%d mark ends, %d objects: reading %.2f s, totals %.2f s (%.2f times)\n", n, o, l, t - l, (t - l) / l
+}'

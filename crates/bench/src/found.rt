@@ -33,15 +33,8 @@ pub fn print(rt: &impl Print, found: &Found) -> io::Result<()> {
                 freed,
             },
         ) => println!(rt; "marks: marked {marked}, kept {kept}, freed {freed}"),
-        Found::History(
-            Sums {
-                objects,
-                marks,
-                dead,
-                classes,
-            },
-        ) => println!(rt;
-            "history: objects {objects}, marks {marks}, dead {dead}, classes {classes}"
+        Found::History(Sums { objects, classes }) => println!(rt;
+            "history: objects {objects}, classes {classes}"
         ),
         Found::Profile(objects) => println!(rt; "profile: objects {objects}"),
     }

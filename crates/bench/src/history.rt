@@ -1,10 +1,9 @@
-//! The marks of each mark end of a trace from standard input, and its totals: what `bench/history.sh` times.
+//! The totals of a trace from standard input: what `bench/history.sh` times.
 //!
-//! Object n lies at index 0 of a span at page n, modulo the region's pages; every second object is sampled, and there are
-//! 64 buckets. The word is how far to go: `lists` makes the answers alone, `marks` finds all marks, and `totals` the
-//! totals alone. The objects, the marks and the dead of page 0, summed over the mark ends, and the size classes are answered.
+//! Object n lies at index 0 of a span at page n, modulo the region's pages. The word is how far to go: `lists` makes the answers
+//! alone, and `totals` finds the totals too. The objects and the size classes are answered.
 
-mod lists;
+mod answers;
 mod work;
 
 use crate::stop::Stop;
@@ -21,14 +20,13 @@ pub fn asked<S: Source>(
 ) -> Result<Sums, Stop> {
     match words {
         [word] if word.as_str() == "lists" => found(alloc, lines, Work::Lists),
-        [word] if word.as_str() == "marks" => found(alloc, lines, Work::Marks),
         [word] if word.as_str() == "totals" => found(alloc, lines, Work::Totals),
         _ => Err(Stop::Words),
     }
 }
 
 pub fn few<S: Source>(alloc: Global, lines: &mut Lines<'_, S>) -> Result<Sums, Stop> {
-    found(alloc, lines, Work::All)
+    found(alloc, lines, Work::Totals)
 }
 
 fn found<S: Source>(alloc: Global, lines: &mut Lines<'_, S>, work: Work) -> Result<Sums, Stop> {

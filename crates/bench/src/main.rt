@@ -5,7 +5,7 @@
 //! - `bitmap`: searches in a chunk of pages (`bitmap`)
 //! - `pages`: takes, gives and searches in a region (`pages`)
 //! - `marks`: marks and sweeps of full spans (`marks`)
-//! - `history`: marks and totals of a trace from standard input (`history`)
+//! - `history`: totals of a trace from standard input (`history`)
 //! - `profile`: samples and counts of the sampled profile (`profile`)
 //!
 //! The layers' modules say their words. No words do a few calls in each layer.

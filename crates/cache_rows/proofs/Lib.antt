@@ -1,4 +1,3 @@
 pub mod Living
-pub mod Rising
 pub mod Kept
 pub mod Turning

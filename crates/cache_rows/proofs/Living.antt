@@ -200,5 +200,5 @@ module _ (table : TableId) (w : Seen) (c : Cache) (r : IsServed table w c) (s : 
   each_known [] sub = tt
   each_known (p ∷ rest) sub = (known_pair p (has_own m.pairs p (sub p (inl refl))), each_known rest (λ x i. sub x (inr i)))
 
-  pub all_known : (pairs : List (ℕ × ℕ)) → pairs ≡ m.pairs → AllByRecursion (IsKnown w.number w.view) pairs
-  all_known pairs e = subst (AllByRecursion (IsKnown w.number w.view)) (sym e) (each_known m.pairs (λ p i. i))
+  pub all_known : AllByRecursion (IsKnown w.number w.view) m.pairs
+  all_known = each_known m.pairs (λ p i. i)

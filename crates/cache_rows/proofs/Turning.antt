@@ -1,7 +1,7 @@
 -- A processor's worker goes over a mark end.
 use Rattle.std.proofs.Common.{◌≡◌, ◌≢◌, ℕ, zero, suc, ◌<◌, true, true≢false, List, [], ◌∷◌, ◌++◌, map, length, get_or, refl, ap, sym, subst, ◌∙◌, arith, eq-eqb}
 use Rattle.std.specs.List.{AllByRecursion}
-use Rattle.std.specs.Prelude.{All, Option, Some, OnErr, OnOk, Result, Ok, Err}
+use Rattle.std.specs.Prelude.{All, Option, Some, IfOk, OnErr, OnOk, Result, Ok, Err}
 use Rattle.std.proofs.lemmas.List.Elements.{All-nil, All-push}
 use Rattle.fallible_list.specs.declared.list.NoMemory.{NoMemory}
 use Rattle.std.proofs.lemmas.List.{length-map}
@@ -14,8 +14,8 @@ use Rattle.page_alloc.specs.Lists.{In}
 use Rattle.page_bitmap.specs.declared.line.Line.{Line}
 use Rattle.profile_cycle.specs.History.{RingId, Standing, calls}
 use Rattle.profile_cycle.specs.declared.calls.What.TheVariants.{AfterSweep, NextCycle}
-use Rattle.span_state.specs.MarkSet.{IsRising, MarkSet, dead_of}
-use Rattle.sweep_laws.specs.Lists.{has, rises}
+use Rattle.span_state.specs.MarkSet.{MarkSet, dead_of}
+use Rattle.sweep_laws.specs.Lists.{has}
 use Rattle.sweep_laws.specs.Reading.{is_swept_set}
 use Rattle.sweep_laws.specs.OwnedLives.{EachAt}
 use Rattle.sweep_laws.proofs.Naming.{set_here}
@@ -43,7 +43,6 @@ use Rattle.proc_cache.proofs.Serving.{serves_rested, serves_through, used_rested
 use Rattle.cache_rows.specs.Ready.{AreLive, AreObjects, Grows, HasSettled, HasSwept, IsPrepared, IsReady, IsServed, MayPublish}
 use Rattle.cache_rows.specs.declared.objects.Object.{Object}
 use Rattle.cache_rows.proofs.Living.{all_known}
-use Rattle.cache_rows.proofs.Rising.{rises-from}
 
 -- ---- steps that change no body
 
@@ -191,12 +190,12 @@ next_served table w c pairs r = record {
   used = used_rested w.view.own;
 }
 
-pub next_ready : (table table' : TableId) (ring ring' : RingId) (marks : MarkSet) (old new : Hand) (c : Cache) (pairs : List (ℕ × ℕ)) → table' ≡ table → ring' ≡ ring → IsReady table ring marks old c → new.worker ≡ after_next pairs old.worker → new.tally ≡ calls old.tally NextCycle
-    → (m : MarkSet) → m.pairs ≡ pairs → ((page : ℕ) → All (λ b. b < 2) (dead_of m page)) → IsReady table' ring' m new c
-next_ready table table' ring ring' marks old new c pairs same same_ring r w n m is dead =
+pub next_ready : (table table' : TableId) (ring ring' : RingId) (marks m : MarkSet) (old new : Hand) (c : Cache) → table' ≡ table → ring' ≡ ring → IsReady table ring marks old c → new.worker ≡ after_next m.pairs old.worker → new.tally ≡ calls old.tally NextCycle
+    → ((page : ℕ) → All (λ b. b < 2) (dead_of m page)) → IsReady table' ring' m new c
+next_ready table table' ring ring' marks m old new c same same_ring r w n dead =
     subst (λ (t : TableId). IsReady t ring' m new c) (sym same) (subst (λ (q : RingId). IsReady table q m new c) (sym same_ring) (record {
-      served = subst (λ (x : Seen). IsServed table x c) (sym w) (next_served table old.worker c pairs r.served);
-      same_marks = is ∙ sym (ap (λ (x : Seen). x.view.marks) w);
+      served = subst (λ (x : Seen). IsServed table x c) (sym w) (next_served table old.worker c m.pairs r.served);
+      same_marks = sym (ap (λ (x : Seen). x.view.marks) w);
       counts = record { ring = ap (λ (t : Standing). t.ring) n ∙ r.counts.ring; dead = λ page. subst (λ (b : ℕ). All (λ x. x < b) (dead_of m page)) (sym r.two) (dead page) };
       publishes = record { ring = ap (λ (t : Standing). t.ring) n ∙ r.publishes.ring; drives = ap (λ (t : Standing). t.view.drives) n ∙ r.publishes.drives; alone = ap (λ (t : Standing). t.view.out) n ∙ r.publishes.alone };
       two = r.two;
@@ -227,13 +226,12 @@ dead_ready table ring m h c r page bucket m' (Ok done) low here others pairs sam
         (All-push (λ b. b < ring.buckets) (dead_of m page) bucket (r.counts.dead page) (let t = r.two in omega arith))))
         (λ d. subst (λ (xs : List ℕ). All (λ b. b < ring.buckets) xs) (sym (others q d)) (r.counts.dead q))
 
--- the marks of a mark end are made
-pub prepared : (table : TableId) (w : Seen) (c : Cache) (before m : MarkSet) (objects : List Object) (pairs : List (ℕ × ℕ)) → IsServed table w c → HasSettled w c → before.pairs ≡ w.view.marks → AreObjects w.view.own.log objects → AreLive before objects m
-    → pairs ≡ m.pairs → IsRising m.pairs → IsPrepared w c m pairs
-prepared table w c before m objects pairs r s same are live e rising = record {
+-- the marks of a mark end are made, where there was memory for them
+pub prepared : (table : TableId) (w : Seen) (c : Cache) (before : MarkSet) (objects : List Object) (made : Result MarkSet NoMemory) → IsServed table w c → HasSettled w c → before.pairs ≡ w.view.marks → AreObjects w.view.own.log objects
+    → IfOk made (AreLive before objects) → IfOk made (IsPrepared w c)
+prepared table w c before objects (Err none) r s same are live = tt
+prepared table w c before objects (Ok m) r s same are live = record {
   settled = s;
-  same = sym e;
-  rising = ap rises e ∙ rises-from m.pairs rising;
-  known = all_known table w c r s before m objects are same live pairs e;
+  known = all_known table w c r s before m objects are same live;
   dead = λ page. subst (All (λ b. b < 2)) (sym (live.dead page)) (All-nil (λ b. b < 2));
 }

@@ -8,7 +8,7 @@ use Rattle.atomic_table.specs.Seated.{TableId}
 use Rattle.profile_cycle.specs.History.{RingId, Standing}
 use Rattle.span_state.specs.MarkSet.{MarkSet, dead_of, is_marked}
 use Rattle.page_alloc.specs.Lists.{In}
-use Rattle.sweep_laws.specs.Lists.{has, rises}
+use Rattle.sweep_laws.specs.Lists.{has}
 use Rattle.sweep_laws.specs.Reading.{is_swept_set}
 use Rattle.worker_log.specs.declared.Entry.{Entry}
 use Rattle.worker_log.specs.declared.Placing.{Placing}
@@ -88,10 +88,8 @@ pub record AreLive (before : MarkSet) (objects : List Object) (m : MarkSet) : Ty
 abbrev pub IsPlaced : ℕ → ℕ → Seen → Type 0
 IsPlaced size at w = (class : ℕ) × (scan : Bool) × (a : Placing) × IsLeastClass size class × In a (placings w.view.own.log) × (a.class ≡ span_class_of class scan) × (at ≡ address_of a.page (slot_of class) a.index)
 
--- the driver has settled, and these marks, whose pairs are these and rise, may be those of the next mark end; no sample is dead
-pub record IsPrepared (w : Seen) (c : Cache) (m : MarkSet) (pairs : List (ℕ × ℕ)) : Type 0 where
+-- the driver has settled, and these marks may be those of the next mark end; no sample is dead
+pub record IsPrepared (w : Seen) (c : Cache) (m : MarkSet) : Type 0 where
   pub settled : HasSettled w c
-  pub same : m.pairs ≡ pairs
-  pub rising : rises pairs ≡ true
-  pub known : AllByRecursion (IsKnown w.number w.view) pairs
+  pub known : AllByRecursion (IsKnown w.number w.view) m.pairs
   pub dead : (page : ℕ) → All (λ b. b < 2) (dead_of m page)

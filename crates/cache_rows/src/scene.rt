@@ -129,7 +129,7 @@ impl Scene {
             distance: 8192,
             pages: 0,
         };
-        let (marks, pairs) = prepare(
+        let marks = prepare(
             self.alloc,
             &shop,
             &mut self.hand,
@@ -143,7 +143,7 @@ impl Scene {
             &self.marks,
             &mut self.hand,
             &self.proc,
-            pairs,
+            &marks,
         );
         self.marks = marks;
         self.objects = List::new(self.alloc);

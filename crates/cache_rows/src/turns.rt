@@ -1,10 +1,6 @@
 //! What a processor does on the driver of a table, beside whom no worker has anything: it places objects, and goes over a mark end.
 
-ghost use Rattle.std.specs.Prelude.{◌≡◌, ℕ, ◌<◌, ◌≤◌, true, All, IfOk, OnOk};
-ghost use Rattle.std.specs.List.{AllByRecursion};
-ghost use Rattle.sweep_laws.specs.Lists.{rises};
-ghost use Rattle.span_state.specs.MarkSet.{MarkSet, dead_of};
-ghost use Rattle.span_laws.specs.MarkEndAsks.{IsKnown};
+ghost use Rattle.std.specs.Prelude.{◌≡◌, ◌<◌, ◌≤◌, IfOk, OnOk};
 ghost use Rattle.cache_rows.specs.Ready.{AreObjects, Grows, HasSettled, HasSwept, IsPlaced, IsPrepared, IsReady};
 
 use crate::objects::{Object, mark_all, slot_on_page};
@@ -184,7 +180,7 @@ pub(crate) fn settle(shop: &Shop, hand: &mut Hand, proc: &Proc) -> Result<(), No
     Ok(())
 }
 
-// Sweeps all that is left, and settles; then the marks of these pages' indices, which live on, and the pairs of the marks.
+// Sweeps all that is left, and settles; then the marks of these pages' indices, which live on.
 pub(crate) fn prepare(
     alloc: Global,
     shop: &Shop,
@@ -192,38 +188,34 @@ pub(crate) fn prepare(
     proc: &mut Proc,
     objects: &List<Object>,
     live: &[(u32, u32)],
-) -> Result<(Marks, List<(u32, u32)>), NoMemory>
+) -> Result<Marks, NoMemory>
     requires ready { IsReady shop.now.shared.now shop.now.ring.now shop.now.marks.now hand.old proc.old }
     requires objects { AreObjects hand.old.worker.view.own.log objects.now }
     requires distance { 8192 ≤ shop.now.distance }
     ensures ready { IsReady shop.now.shared.now shop.now.ring.now shop.now.marks.now hand.new proc.new }
     ensures grows { Grows hand.old.worker hand.new.worker }
-    ensures prepared { IfOk result (λ made. IsPrepared hand.new.worker proc.new made.0 made.1) }
+    ensures prepared { IfOk result (λ marks. IsPrepared hand.new.worker proc.new marks) }
 {
     sweep_all(shop, hand, proc)?;
     settle(shop, hand, proc)?;
-    let marks = mark_all(alloc, shop.marks, objects.as_slice(), live)?;
-    let pairs = marks.pairs()?;
-    Ok((marks, pairs))
+    mark_all(alloc, shop.marks, objects.as_slice(), live)
 }
 
-// Ends the mark phase, with these pairs of pages and indices as the marks.
+// Ends the mark phase, with the next marks behind those of the one before.
 pub(crate) fn turn(
     shared: &mut Shared,
     ring: &mut Ring,
     marks: &Marks,
     hand: &mut Hand,
     proc: &Proc,
-    pairs: List<(u32, u32)>,
+    next: &Marks,
 )
     requires ready { IsReady shared.old ring.old marks.now hand.old proc.now }
-    requires settled { HasSettled hand.old.worker proc.now }
-    requires rising { rises pairs ≡ true }
-    requires known { AllByRecursion (IsKnown hand.old.worker.number hand.old.worker.view) pairs }
-    ensures { (m : MarkSet) → m.pairs ≡ pairs → ((page : ℕ) → All (λ b. b < 2) (dead_of m page)) → IsReady shared.new ring.new m hand.new proc.now }
+    requires prepared { IsPrepared hand.old.worker proc.now next.now }
+    ensures { IsReady shared.new ring.new next.now hand.new proc.now }
 {
     let _marks = marks;
     let _proc = proc;
-    shared.next_generation(&mut hand.worker, pairs);
+    shared.next_generation(&mut hand.worker, next);
     ring.next_cycle(&mut hand.tally);
 }

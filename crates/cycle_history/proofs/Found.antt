@@ -106,7 +106,7 @@ get-front (x ∷ xs) ys zero lt = refl
 get-front (x ∷ xs) ys (suc i) lt = get-front xs ys i (omega arith)
 
 -- what was found of an object is found of it where more answers follow
-lies-more : (t : Trace) (old more : List Answer) (i page k : ℕ) → LiesAt t old i page k → LiesAt t (old ++ more) i page k
+pub lies-more : (t : Trace) (old more : List Answer) (i page k : ℕ) → LiesAt t old i page k → LiesAt t (old ++ more) i page k
 lies-more t old more i page k lies = record {
   event = lies.event;
   address = lies.address;
@@ -115,7 +115,7 @@ lies-more t old more i page k lies = record {
   place = lies.place;
 }
 
-lies-less : (t : Trace) (old more : List Answer) (i page k : ℕ) → i < length old → LiesAt t (old ++ more) i page k → LiesAt t old i page k
+pub lies-less : (t : Trace) (old more : List Answer) (i page k : ℕ) → i < length old → LiesAt t (old ++ more) i page k → LiesAt t old i page k
 lies-less t old more i page k lt lies = record {
   event = lies.event;
   address = lies.address;

@@ -8,6 +8,7 @@ pub mod Firsts
 pub mod Rising
 pub mod Found
 pub mod Settled
+pub mod Kept
 pub mod Walked
 pub mod OfObjects
 pub mod Counted

@@ -1,5 +1,5 @@
 -- How the marks of the objects below a bound grow with the bound.
-use Rattle.std.proofs.Common.{◌≡◌, ◌≢◌, ℕ, ◌+◌, ◌<◌, ◌≤◌, Bool, true, false, ◌||◌, ◌&&◌, eqb, List, [], ◌∷◌, ◌++◌, length, map, get_or, refl, sym, ◌∙◌, ap, subst, arith, ◌⊎◌, inl, inr}
+use Rattle.std.proofs.Common.{◌≡◌, ◌≢◌, ℕ, ◌+◌, ◌<◌, ◌≤◌, Bool, true, false, ◌||◌, ◌&&◌, eqb, List, [], ◌∷◌, ◌++◌, length, map, get_or, Option, Some, None, refl, sym, ◌∙◌, ap, subst, arith, ◌⊎◌, inl, inr}
 use Rattle.std.proofs.lemmas.Bool.{cases_lt, cases_eq, or_cases, or_left, or_right, and_parts, and_from, eqb-true, eq-eqb}
 use Rattle.std.proofs.lemmas.List.{reverse-append}
 use Rattle.std.proofs.lemmas.Option.{slice_get_within, get_or_from_slice_get}
@@ -9,6 +9,7 @@ use Rattle.trace_reader.specs.declared.trace.Event.{Event}
 use Rattle.cycle_history.specs.declared.Answer.{Answer}
 use Rattle.cycle_history.specs.declared.Answer.TheVariants.{Placed}
 use Rattle.cycle_history.specs.declared.lookups.Walk.{Walk}
+use Rattle.cycle_history.specs.declared.places.Place.{Place}
 use Rattle.cycle_history.specs.Places.{IsPlace, LiesAt}
 use Rattle.cycle_history.specs.Marked.{AreBuckets, AreMarksBelow, AreMarksOf, HasDied, IsMarkedAt}
 use Rattle.cycle_history.specs.MarkedLoops.{IsBehind}
@@ -26,6 +27,11 @@ lies-one t answers i p q j k a b =
     let size : b.event.size ≡ a.event.size = ap (λ (e : Event). e.size) event in
     let same : IsPlace a.event.size a.address q k = subst (λ (s : ℕ). IsPlace s a.address q k) size (subst (λ (x : ℕ). IsPlace b.event.size x q k) address b.place) in
     place-one a.event.size a.address p q j k a.place same
+
+-- what holds no place is none
+pub none-of : (x : Option Place) → ((p : Place) → x ≢ Some p) → x ≡ None
+none-of None h = cc
+none-of (Some p) h = absurd (h p cc)
 
 -- the bound of the places moves past objects that aren't marked
 pub below-unmarked : (t : Trace) (m : ℕ) (answers : List Answer) (sampled : List Bool) (buckets : List ℕ) (low high late : ℕ) (marks : MarkSet) → low ≤ high

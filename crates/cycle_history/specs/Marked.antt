@@ -44,6 +44,14 @@ pub record IsMarkedAt (t : Trace) (m : ℕ) (answers : List Answer) (page k i : 
   pub marked : marked_by t m i ≡ true
   pub lies : LiesAt t answers i page k
 
+-- The marks name the places of just the objects that mark end m marks, by these answers.
+abbrev pub ArePlacesOf : Trace → ℕ → List Answer → MarkSet → Type 0
+ArePlacesOf t m answers marks = (page k : ℕ) → (is_marked marks page k ≡ true) ↔ ((i : ℕ) × IsMarkedAt t m answers page k i)
+
+-- No two objects that lived in the cycle before mark end m lie at one place.
+abbrev pub LieApart : Trace → ℕ → List Answer → Type 0
+LieApart t m answers = (i j page k : ℕ) → LivedBefore t m i → LivedBefore t m j → LiesAt t answers i page k → LiesAt t answers j page k → i ≡ j
+
 -- Object i is sampled, lies in a span that begins at the page, lived in the cycle before mark end m and isn't marked by it.
 pub record HasDied (t : Trace) (m : ℕ) (answers : List Answer) (sampled : List Bool) (page i : ℕ) : Type 0 where
   pub is_sampled : slice_get sampled i ≡ Some true
@@ -67,7 +75,7 @@ pub record AreBuckets (named : ℕ → Type 0) (buckets list : List ℕ) : Type 
 -- The marks of mark end m, by the answers of the objects before it: the places of those that it marks, and for each page
 -- the buckets of the sampled objects that died there.
 pub record AreMarksOf (t : Trace) (m : ℕ) (answers : List Answer) (sampled : List Bool) (buckets : List ℕ) (marks : MarkSet) : Type 0 where
-  pub places : (page k : ℕ) → (is_marked marks page k ≡ true) ↔ ((i : ℕ) × IsMarkedAt t m answers page k i)
+  pub places : ArePlacesOf t m answers marks
   pub dead : (page : ℕ) → AreBuckets (λ i. HasDied t m answers sampled page i) buckets (dead_of marks page)
 
 -- The same of the objects below two bounds: one for the places, and one for the dead.

@@ -1,12 +1,15 @@
 -- What the search for a mark end's places is given, and how far it has come.
-use Rattle.std.specs.Prelude.{◌≡◌, ℕ, ◌<◌, ◌≤◌, List, length, drop, slice_index_or}
+use Rattle.std.specs.Prelude.{◌≡◌, ℕ, ◌-◌, ◌<◌, ◌≤◌, true, List, [], length, drop, slice_index_or, ◌⊎◌, ◌↔◌}
+use Rattle.span_state.specs.MarkSet.{MarkSet, is_marked, dead_of}
+use Rattle.trace_reader.specs.declared.trace.Trace.{Trace}
 use Rattle.trace_reader.specs.declared.trace.Span.{Span}
 use Rattle.trace_reader.specs.Limits.{AreSpans}
+use Rattle.cycle_history.specs.declared.Answer.{Answer}
 use Rattle.cycle_history.specs.declared.lookups.Walk.{Walk}
 use Rattle.cycle_history.specs.declared.marks.Objects.{Objects}
-use Rattle.cycle_history.specs.Requests.{is_within, last_cycle}
+use Rattle.cycle_history.specs.Requests.{is_within, last_cycle, marked_by}
 use Rattle.cycle_history.specs.Found.{AreFound}
-use Rattle.cycle_history.specs.Marked.{IsLimited, objects_before}
+use Rattle.cycle_history.specs.Marked.{IsLimited, IsMarkedAt, LieApart, objects_before}
 
 -- The objects are those before a mark end of a trace within the limits.
 pub record AreOf (objects : Objects) : Type 0 where
@@ -18,6 +21,13 @@ pub record AreOf (objects : Objects) : Type 0 where
   pub all_buckets : length objects.buckets.now ≡ objects_before objects.trace.now objects.mark
   pub all_places : length objects.places.now ≡ objects_before objects.trace.now objects.mark
   pub found : AreFound objects.trace.now objects.answers.now objects.places.now
+  pub apart : LieApart objects.trace.now objects.mark objects.answers.now
+
+-- The marks name the places of just the objects that the mark end before mark end m marked, but for those below the bound
+-- that mark end m doesn't mark, and there are no dead.
+pub record AreKept (t : Trace) (m : ℕ) (answers : List Answer) (bound : ℕ) (marks : MarkSet) : Type 0 where
+  pub places : (page k : ℕ) → (is_marked marks page k ≡ true) ↔ ((i : ℕ) × ((bound ≤ i) ⊎ (marked_by t m i ≡ true)) × IsMarkedAt t (m - 1) answers page k i)
+  pub dead : (page : ℕ) → dead_of marks page ≡ []
 
 -- The spans that the walk has left behind end below the number.
 pub record IsBehind (walk : Walk) (number : ℕ) : Type 0 where

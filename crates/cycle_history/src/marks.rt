@@ -1,10 +1,10 @@
 //! The marks of a mark end.
 
-ghost use Rattle.std.specs.Prelude.{◌≡◌, ℕ, ◌+◌, ◌-◌, ◌<◌, ◌≤◌, true, false, length, slice_get, slice_index_or, Some, IfOk, OnOk};
+ghost use Rattle.std.specs.Prelude.{◌≡◌, ℕ, ◌+◌, ◌-◌, ◌<◌, ◌≤◌, true, false, length, slice_get, slice_index_or, Some, OnOk};
 ghost use Rattle.cycle_history.specs.Requests.{last_cycle, marked_by};
 ghost use Rattle.cycle_history.specs.Found.{AreFound};
-ghost use Rattle.cycle_history.specs.Marked.{AreClear, AreMarksBelow, AreMarksOf, ArePlaces, IsLimited, LivedBefore, marks_at, objects_before};
-ghost use Rattle.cycle_history.specs.MarkedLoops.{AreOf, IsBehind};
+ghost use Rattle.cycle_history.specs.Marked.{AreClear, AreMarksBelow, AreMarksOf, ArePlaces, ArePlacesOf, IsLimited, LieApart, LivedBefore, marks_at, objects_before};
+ghost use Rattle.cycle_history.specs.MarkedLoops.{AreKept, AreOf, IsBehind};
 
 use crate::Answer;
 use crate::lookups::{Walk, spans_at};
@@ -20,14 +20,19 @@ const STRIDE: usize = 8;
 // and so many are gone through one by one from the stride on that has one.
 const PIECE: usize = 64;
 
-/// The marks of mark end `mark`, from 1 to the trace's last: the places of the objects that it marks, and for each page
+/// Makes the marks of mark end `mark`, from 1 to the trace's last: the places of the objects that it marks, and for each page
 /// the buckets of the sampled objects that lay there, lived in the cycle before and are not marked.
 ///
 /// Each list has one entry for each object before the mark end, and a placed answer is a place of its object's size in
-/// the region. `places` is kept from mark end to mark end: it has the places of the objects before the mark end before,
-/// and gets those of the cycle behind it, so that each object's place is found once. `clear` is kept, too: none of so many first
-/// objects is sampled. It takes time in the objects of that cycle and in the marks of the mark end and of the one before it, of
-/// which those before are looked at only where some object is sampled, and in nothing else.
+/// the region. No two objects that lived in the cycle before lie at one place.
+///
+/// `marks` are lent: they come with the places that the mark end before marks, none before mark end 1, and go with those of
+/// this one. Without memory nothing is known of them. `places` is kept from mark end to mark end: it has the places of the
+/// objects before the mark end before, and gets those of the cycle behind it, so that each object's place is found once.
+/// `clear` is kept, too: none of so many first objects is sampled.
+///
+/// It takes time in the objects of that cycle, in the spans of the mark end and of the one before it, in the objects that
+/// only the one before marks and, where some object is sampled, in all that it marks, and in nothing else.
 pub fn marks_of(
     alloc: Global,
     trace: &Trace,
@@ -37,7 +42,8 @@ pub fn marks_of(
     buckets: &List<u32>,
     places: &mut List<PackedPlace>,
     clear: &mut usize,
-) -> Result<Marks, NoMemory>
+    marks: &mut Marks,
+) -> Result<(), NoMemory>
     requires limited { IsLimited trace.now }
     requires first { 1 ≤ mark }
     requires last { mark ≤ last_cycle trace.now }
@@ -48,7 +54,9 @@ pub fn marks_of(
     requires kept { length places.old ≡ objects_before trace.now (mark - 1) }
     requires found { AreFound trace.now answers.now places.old }
     requires clear { AreClear sampled.now clear.old }
-    ensures marks { IfOk result (λ marks. AreMarksOf trace.now mark answers.now sampled.now buckets.now marks) }
+    requires before { ArePlacesOf trace.now (mark - 1) answers.now marks.old }
+    requires apart { LieApart trace.now mark answers.now }
+    ensures marks { OnOk result (AreMarksOf trace.now mark answers.now sampled.now buckets.now marks.new) }
     ensures kept { OnOk result (length places.new ≡ objects_before trace.now mark) }
     ensures found { OnOk result (AreFound trace.now answers.now places.new) }
     ensures clear { OnOk result (AreClear sampled.now clear.new) }
@@ -64,13 +72,13 @@ pub fn marks_of(
         buckets: buckets.as_slice(),
         places: places.as_slice(),
     };
-    let mut marks = Marks::empty(alloc);
-    objects.mark_all(&mut marks)?;
+    marks.forget_dead();
+    objects.mark_all(marks, first)?;
     *clear = clear_end(sampled.as_slice(), *clear);
     if *clear < sampled.len() {
-        objects.bury_all(&mut marks, first)?;
+        objects.bury_all(marks, first)?;
     }
-    Ok(marks)
+    Ok(())
 }
 
 // What is known of the objects before a mark end.
@@ -86,15 +94,85 @@ struct Objects<'a> {
 }
 
 impl Objects<'_> {
-    // Marks the places of the objects that the mark end marks. It stands alone, so that its loop has the registers.
+    // Makes the marks of this mark end from those of the one before, but for the dead: unmarks what only the one before
+    // marked, and marks what this one marks of the cycle before, which has this first object. It stands alone, so that its
+    // loops have the registers.
     #[inline(never)]
-    fn mark_all(&self, marks: &mut Marks) -> Result<(), NoMemory>
+    fn mark_all(&self, marks: &mut Marks, first: usize) -> Result<(), NoMemory>
         requires given { AreOf self.now }
-        requires below { AreMarksBelow self.now.trace.now self.now.mark self.now.answers.now self.now.sampled.now self.now.buckets.now 0 0 marks.old }
+        requires first { first ≡ objects_before self.now.trace.now (self.now.mark - 1) }
+        requires kept { AreKept self.now.trace.now self.now.mark self.now.answers.now 0 marks.old }
         ensures { OnOk result (AreMarksBelow self.now.trace.now self.now.mark self.now.answers.now self.now.sampled.now self.now.buckets.now (length self.now.answers.now) 0 marks.new) }
     {
-        for span in spans_at(self.trace, self.mark) {
-            self.mark_span(marks, span.lo as usize, span.hi as usize + 1)?;
+        let spans = spans_at(self.trace, self.mark);
+        let mut marked = Walk { spans, next: 0 };
+        for span in spans_at(self.trace, self.mark - 1) {
+            self.unmark(marks, &mut marked, span.lo as usize, span.hi as usize + 1);
+        }
+        self.mark_from(marks, &mut marked, first)
+    }
+
+    // Unmarks the places of the objects from low up to high that this mark end doesn't mark. The mark end before marked them all.
+    #[inline(always)]
+    fn unmark(&self, marks: &mut Marks, marked: &mut Walk, low: usize, high: usize)
+        requires given { AreOf self.now }
+        requires order { low ≤ high }
+        requires high { high ≤ length self.now.answers.now }
+        requires old { (i : ℕ) → low ≤ i → i < high → marked_by self.now.trace.now (self.now.mark - 1) i ≡ true }
+        requires spans { marked.old.spans.now ≡ marks_at self.now.trace.now self.now.mark }
+        requires behind { IsBehind marked.old low }
+        requires kept { AreKept self.now.trace.now self.now.mark self.now.answers.now low marks.old }
+        ensures spans { marked.new.spans.now ≡ marked.old.spans.now }
+        ensures behind { IsBehind marked.new high }
+        ensures kept { AreKept self.now.trace.now self.now.mark self.now.answers.now high marks.new }
+    {
+        let mut next = low;
+        while next < high {
+            let (stay, end) = marked.run(next, high);
+            if !stay {
+                self.unmark_run(marks, next, end);
+            }
+            next = end;
+        }
+    }
+
+    // Unmarks the places of the objects from low up to high, all of which only the mark end before marked.
+    #[inline(always)]
+    fn unmark_run(&self, marks: &mut Marks, low: usize, high: usize)
+        requires given { AreOf self.now }
+        requires order { low ≤ high }
+        requires high { high ≤ length self.now.answers.now }
+        requires old { (i : ℕ) → low ≤ i → i < high → marked_by self.now.trace.now (self.now.mark - 1) i ≡ true }
+        requires unmarked { (i : ℕ) → low ≤ i → i < high → marked_by self.now.trace.now self.now.mark i ≡ false }
+        requires kept { AreKept self.now.trace.now self.now.mark self.now.answers.now low marks.old }
+        ensures { AreKept self.now.trace.now self.now.mark self.now.answers.now high marks.new }
+    {
+        let places = self.places;
+        for object in low..high {
+            if let Some(place) = places[object].place() {
+                marks.remove(place.page, place.index);
+            }
+        }
+    }
+
+    // Marks the places of the objects from the first on that the mark end marks.
+    #[inline(always)]
+    fn mark_from(&self, marks: &mut Marks, marked: &mut Walk, first: usize) -> Result<(), NoMemory>
+        requires given { AreOf self.now }
+        requires order { first ≤ length self.now.answers.now }
+        requires spans { marked.old.spans.now ≡ marks_at self.now.trace.now self.now.mark }
+        requires behind { IsBehind marked.old first }
+        requires below { AreMarksBelow self.now.trace.now self.now.mark self.now.answers.now self.now.sampled.now self.now.buckets.now first 0 marks.old }
+        ensures { OnOk result (AreMarksBelow self.now.trace.now self.now.mark self.now.answers.now self.now.sampled.now self.now.buckets.now (length self.now.answers.now) 0 marks.new) }
+    {
+        let all = self.answers.len();
+        let mut next = first;
+        while next < all {
+            let (has, end) = marked.run(next, all);
+            if has {
+                self.mark_span(marks, next, end)?;
+            }
+            next = end;
         }
         Ok(())
     }

@@ -13,6 +13,7 @@ use Rattle.cycle_history.specs.declared.places.Place.{Place}
 use Rattle.cycle_history.specs.Found.{AreFound}
 use Rattle.cycle_history.specs.Marked.{AreObjectsBefore}
 use Rattle.cycle_history.specs.Requests.{marked_by, region_of}
+use Rattle.cycle_history.proofs.Kept.{no-marks}
 use Rattle.run_laws.specs.Reached.{Began}
 use Rattle.run_laws.proofs.Ends.{began-first}
 use Rattle.span_laws.specs.Asks.{IsIdle}
@@ -130,6 +131,7 @@ begun-first t workers slots run many s =
         kept = ap (λ (l : List (Option Place)). length l) s.places;
         found = found-none t run.answers run.places s.places;
         clear = record { inside = (let zero = s.clear in omega arith); unset = λ i low. (let zero = s.clear in absurd (omega arith)) };
+        placed = no-marks t run.answers run.marks s.marks;
       };
       objects = [];
       asked = asked-none t run.answers s.answers;

@@ -12,8 +12,9 @@ use Rattle.worker_log.specs.declared.Entry.TheVariants.{Read}
 use Rattle.worker_log.specs.Logs.{placings}
 use Rattle.worker_log.specs.Entries.{is_seen_empty, many}
 use Rattle.worker_log.proofs.Logs.{many-append}
+use Rattle.cycle_history.specs.declared.Answer.{Answer}
 use Rattle.cycle_history.specs.Found.{AreFound}
-use Rattle.cycle_history.specs.Marked.{AreClear, AreMarksOf, AreObjectsBefore, objects_before}
+use Rattle.cycle_history.specs.Marked.{AreClear, AreMarksOf, AreObjectsBefore, ArePlacesOf, objects_before}
 use Rattle.cycle_history.specs.Objects.{Object}
 use Rattle.cycle_history.specs.Requests.{marked_by, region_of}
 use Rattle.sound_run.specs.Run.{IsRun}
@@ -215,6 +216,7 @@ mark-begins t c old new e marks pairs ran m =
         kept = m.kept;
         found = m.places;
         clear = m.clear;
+        placed = subst (λ (l : List Answer). ArePlacesOf t (suc c) l new.marks) (sym m.profile.answers) (subst (λ (x : MarkSet). ArePlacesOf t (suc c) old.answers x) (sym m.profile.marks_are) m.profile.found.places);
       };
       objects = ran.objects;
       asked = rw m.profile.answers ran.asked;

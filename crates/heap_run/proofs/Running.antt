@@ -1,10 +1,8 @@
 -- A run from its start over its cycles to its report.
-use Rattle.std.proofs.Common.{◌≡◌, ℕ, zero, suc, ◌+◌, ◌*◌, ◌<◌, ◌≤◌, Bool, true, false, ◌&&◌, eqb, ltb, cond, List, [], ◌∷◌, ◌++◌, map, reverse, take, length, get_or, Option, Some, refl, sym, ◌∙◌, ap, arith, ◌⊎◌, inl, inr, subst}
+use Rattle.std.proofs.Common.{◌≡◌, ℕ, zero, suc, ◌+◌, ◌*◌, ◌<◌, ◌≤◌, Bool, true, false, ◌&&◌, eqb, List, [], ◌∷◌, ◌++◌, map, reverse, take, length, get_or, Option, Some, refl, sym, ◌∙◌, ap, arith, ◌⊎◌, inl, inr, subst}
 use Rattle.std.specs.List.{AllByRecursion, flat_map}
 use Rattle.std.specs.Prelude.{All, ◌^◌}
-use Rattle.std.specs.List.Sorted.{IsNonDecreasingBy, IsPermutation, IsStrictlySortedBy}
-use Rattle.std.specs.declared.cmp.Ordering.TheVariants.{Less, Equal, Greater}
-use Rattle.std.specs.Ordering.{nat_cmp, ordering_then}
+use Rattle.std.specs.List.Sorted.{IsNonDecreasingBy, IsPermutation}
 use Rattle.std.proofs.lemmas.Bool.{cases_Bool, eq-eqb}
 use Rattle.std.proofs.lemmas.List.{get_or_append_left, length-append, length-reverse, reverse-reverse, take_all}
 use lib.ListN.{get_elem?}
@@ -12,8 +10,7 @@ use mathlib.Core.Option.{some}
 use Rattle.page_bitmap.specs.Counts.{one_if}
 use Rattle.page_bitmap.specs.declared.line.Line.{Line}
 use Rattle.page_alloc.specs.Lists.{In}
-use Rattle.span_state.specs.MarkSet.{IsRising, has_pair, pair_cmp}
-use Rattle.sweep_laws.specs.Lists.{is_before, rises, rises_after}
+use Rattle.span_state.specs.MarkSet.{MarkSet, has_pair}
 use Rattle.worker_log.specs.declared.Entry.{Entry}
 use Rattle.worker_log.specs.declared.Entry.TheVariants.{Looked, LookedEmptyCell, Popped, Pushed, Swept, Took, Missed as MissedEntry, Gave, Allocated, Found, Read, Added}
 use Rattle.worker_log.specs.declared.Placing.{Placing}
@@ -37,13 +34,14 @@ use Rattle.cycle_history.specs.declared.Report.{Report}
 use Rattle.cycle_history.specs.declared.places.Place.{Place}
 use Rattle.cycle_history.specs.Counted.{AreObjectsOf}
 use Rattle.cycle_history.specs.Found.{AreFound}
-use Rattle.cycle_history.specs.Marked.{AreClear, AreObjectsBefore, IsLimited}
+use Rattle.cycle_history.specs.Marked.{AreClear, AreObjectsBefore, ArePlacesOf, IsLimited}
 use Rattle.cycle_history.specs.Objects.{Object}
 use Rattle.cycle_history.specs.Requests.{last_cycle, marked_by, region_of}
 use Rattle.cycle_history.specs.Sound.{HasAnswers, HasForm, IsSoundAndUsed, past_in}
 use Rattle.cycle_history.specs.Sweeps.{AreTotals}
 use Rattle.cycle_history.proofs.Firsts.{before-le}
 use Rattle.cycle_history.proofs.Found.{found-kept}
+use Rattle.cycle_history.proofs.Kept.{marks-grow}
 use Rattle.cycle_history.proofs.OfObjects.{answers-before}
 use Rattle.run_laws.specs.Reached.{Began, Reached}
 use Rattle.run_laws.proofs.Ends.{reached-sound}
@@ -130,40 +128,6 @@ known-each n v all (m ∷ rest) sub h = (known-pair n v m (h m.0 m.1 (has-own al
 -- all marks of a mark end are known, where what it marks is allocated
 pub known-all : (n : ℕ) (v : View) (pairs : List (ℕ × ℕ)) → ((p k : ℕ) → has_pair pairs p k ≡ true → has_pair (allocated_pairs n v) p k ≡ true) → AllByRecursion (IsKnown n v) pairs
 known-all n v pairs h = known-each n v pairs pairs (λ m i. i) h
-
--- ---- marks that rise
-
-before-less : (x y : ℕ × ℕ) → pair_cmp x y ≡ Less → is_before x y ≡ true
-before-less x y h =
-    elim (cases_Bool (ltb x.0 y.0)) [
-      | inl on ↦ rw on refl
-      | inr off ↦ (
-          let h' : ordering_then (cond (eqb x.0 y.0) Equal Greater) (nat_cmp x.1 y.1) ≡ Less = rw off at h in
-          elim (cases_Bool (eqb x.0 y.0)) [
-            | inl same ↦ (
-                let h'' : nat_cmp x.1 y.1 ≡ Less = rw same at h' in
-                elim (cases_Bool (ltb x.1 y.1)) [
-                  | inl less ↦ rw (off, same, less) refl
-                  | inr more ↦ (
-                      let g : cond (eqb x.1 y.1) Equal Greater ≡ Less = rw more at h'' in
-                      elim (cases_Bool (eqb x.1 y.1)) [
-                        | inl one ↦ (let e : Equal ≡ Less = rw one at g in absurd (cc))
-                        | inr two ↦ (let e : Greater ≡ Less = rw two at g in absurd (cc))
-                      ])
-                ])
-            | inr other ↦ (let e : Greater ≡ Less = rw other at h' in absurd (cc))
-          ])
-    ]
-
-rises-behind : (x : ℕ × ℕ) (xs : List (ℕ × ℕ)) → AllByRecursion (λ y. pair_cmp x y ≡ Less) xs → IsStrictlySortedBy pair_cmp xs → rises_after x xs ≡ true
-unfolding IsStrictlySortedBy
-rises-behind x [] first rest = refl
-rises-behind x (y ∷ xs) first rest = rw (before-less x y first.0) (rises-behind y xs rest.0 rest.1)
-
-pub rises-from : (pairs : List (ℕ × ℕ)) → IsRising pairs → rises pairs ≡ true
-unfolding IsStrictlySortedBy
-rises-from [] h = refl
-rises-from (x ∷ xs) h = rises-behind x xs h.0 h.1
 
 -- ---- the events of a cycle
 
@@ -252,6 +216,9 @@ clear-more old more n clear = record {
   unset = λ i low. get_or_append_left old more false i (let within = clear.inside in omega arith) ∙ clear.unset i low;
 }
 
+pub limited : (t : Trace) → WithinLimits t → IsLimited t
+limited t limits = record { header = limits.header; events = limits.events; cycles = limits.cycles; objects = limits.objects; mark_ends = limits.mark_ends }
+
 -- What a cycle's calls left: the workers worked, the answers were merged, and the notes filed.
 pub record CycleRan (t : Trace) (c : ℕ) (d : Cycle) (old new : Run) (queues : List (List Event)) (given : List (List Answer)) (ended : Hand) : Type 0 where
   pub inside : c < length t.cycles
@@ -271,6 +238,7 @@ pub record CycleRan (t : Trace) (c : ℕ) (d : Cycle) (old new : Run) (queues : 
   pub shared : new.shared ≡ old.shared
   pub places : new.places ≡ old.places
   pub clear : new.clear ≡ old.clear
+  pub marks : new.marks ≡ old.marks
   pub tallied : HasTallied t c d old new queues given more ended
 
 pub cycle-run : (t : Trace) (c : ℕ) (d : Cycle) (old new : Run) (queues : List (List Event)) (given : List (List Answer)) (ended : Hand) → WithinLimits t → HasBegun t c old → CycleRan t c d old new queues given ended → HasRun t c new
@@ -319,6 +287,8 @@ cycle-run t c d old new queues given ended limits begun ran =
             (found-kept t old.answers ran.more old.places (let k = s.kept in omega arith) s.found));
         clear = subst (λ (n : ℕ). AreClear new.sampled n) (sym ran.clear) (subst (λ (l : List Bool). AreClear l old.clear) (sym ran.tallied.flags_grown)
             (clear-more old.sampled ran.tallied.given_flags old.clear s.clear));
+        placed = subst (λ (l : List Answer). ArePlacesOf t c l new.marks) (sym ran.grown) (subst (λ (m : MarkSet). ArePlacesOf t c (old.answers ++ ran.more) m) (sym ran.marks)
+            (marks-grow t c old.answers ran.more old.marks (limited t limits) before s.placed));
       };
       objects = goes.news ++ begun.objects;
       past = goes.past;
@@ -335,9 +305,6 @@ cycle-run t c d old new queues given ended limits begun ran =
     }
 
 -- ---- the report
-
-pub limited : (t : Trace) → WithinLimits t → IsLimited t
-limited t limits = record { header = limits.header; events = limits.events; cycles = limits.cycles; objects = limits.objects; mark_ends = limits.mark_ends }
 
 pub run-all : (t : Trace) (answers : List Answer) (objects : List Object) → 1 ≤ length t.cycles → AreObjectsBefore t (suc (last_cycle t)) answers objects → AreObjectsOf t answers objects
 run-all t answers objects least asked =

@@ -5,7 +5,7 @@ use Rattle.span_state.specs.MarkSet.{has_pair}
 use Rattle.trace_reader.specs.declared.trace.Trace.{Trace}
 use Rattle.cycle_history.specs.Requests.{marked_by, region_of}
 use Rattle.cycle_history.specs.Objects.{Object}
-use Rattle.cycle_history.specs.Marked.{AreClear, AreObjectsBefore, objects_before}
+use Rattle.cycle_history.specs.Marked.{AreClear, AreObjectsBefore, ArePlacesOf, objects_before}
 use Rattle.cycle_history.specs.Found.{AreFound}
 use Rattle.run_laws.specs.CycleSoFar.{CycleSoFar}
 use Rattle.run_laws.specs.Facts.{Marks}
@@ -19,8 +19,8 @@ use Rattle.heap_run.specs.Settled.{HasFlushed}
 use Rattle.heap_run.specs.Turns.{IsDriving}
 use Rattle.heap_run.specs.declared.run.Run.{Run}
 
--- The run has its table and its workers, in cycle c of the trace; no note waits to be filed, and the lists that the next mark end asks for go as
--- far as the last one.
+-- The run has its table and its workers, in cycle c of the trace; no note waits to be filed, and the lists and the marks that the next mark end
+-- asks for are those of the last one.
 pub record IsSet (t : Trace) (c : ℕ) (run : Run) : Type 0 where
   pub here : run.driver.worker.here ≡ true
   pub table : run.driver.worker.table ≡ run.shared
@@ -34,6 +34,7 @@ pub record IsSet (t : Trace) (c : ℕ) (run : Run) : Type 0 where
   pub kept : length run.places ≡ objects_before t c
   pub found : AreFound t run.answers run.places
   pub clear : AreClear run.sampled run.clear
+  pub placed : ArePlacesOf t c run.answers run.marks
 
 -- The marks of the view, of the journal as the cycle began, are those of the objects so far.
 abbrev pub AreMarked : Trace → ℕ → List Object → Seen → Type 0

@@ -86,7 +86,7 @@ pub(crate) struct Run {
     // The driver, with the notes of the cycle's sweeps.
     pub(crate) driver: Hand,
     pub(crate) procs: Vec<Proc>,
-    // The marks of the last mark end.
+    // The marks of the last mark end, which the next one changes.
     pub(crate) marks: Marks,
     pub(crate) answers: List<Answer>,
     pub(crate) sweeps: List<SweepNote>,
@@ -212,7 +212,7 @@ impl Run {
         ensures begun { OnOk result (HasBegun trace.now (cycle + 1) self.new) }
         ensures each { OnOk result (self.new.profile.each ≡ self.old.profile.each) }
     {
-        let marks = marks_of(
+        marks_of(
             alloc,
             trace,
             cycle + 1,
@@ -221,11 +221,11 @@ impl Run {
             &self.buckets,
             &mut self.places,
             &mut self.clear,
+            &mut self.marks,
         )?;
-        let pairs = marks.pairs()?;
         reset(&self.shared, &mut self.driver.worker);
-        self.shared.next_generation(&mut self.driver.worker, pairs);
-        self.marks = marks;
+        self.shared
+            .next_generation(&mut self.driver.worker, &self.marks);
         self.profile.next_cycle(&mut self.driver.tally, cycle)?;
         Ok(())
     }

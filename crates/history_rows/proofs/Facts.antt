@@ -1,6 +1,8 @@
--- The example is within the limits, its answers are places, and they are zero where a size is 0.
-use Rattle.std.proofs.Common.{◌≡◌, ℕ, zero, suc, ◌+◌, ◌*◌, ◌/◌, ◌^◌, ◌<◌, ◌≤◌, ◌↔◌, true, List, [], ◌∷◌, length, take, Some, refl, sym, ◌∙◌, ap, subst, arith, ◌⊎◌, inl, inr}
+-- The example is within the limits, its answers are places of which no two that live are the same, and they are zero where a size is 0.
+use Rattle.std.proofs.Common.{◌≡◌, ℕ, zero, suc, ◌+◌, ◌*◌, ◌/◌, ◌^◌, ◌<◌, ◌≤◌, ◌↔◌, true, cond, eqb, List, [], ◌∷◌, length, drop, take, Some, refl, sym, ◌∙◌, ap, subst, arith, ◌⊎◌, inl, inr}
 use Rattle.std.specs.List.{slice_get}
+use Rattle.std.proofs.lemmas.List.{length-take}
+use Rattle.std.proofs.lemmas.Option.{slice_get_within}
 use Rattle.size_classes.specs.Classes.{slot_of, pages_of, objects_of, span_class_of}
 use Rattle.size_classes.proofs.Steps.{least, serves}
 use Rattle.trace_reader.specs.declared.trace.Event.{Event}
@@ -8,9 +10,11 @@ use Rattle.trace_reader.specs.Limits.{AreCycles, EventFits, HeaderFits, IsMarked
 use Rattle.cycle_history.specs.declared.Answer.{Answer}
 use Rattle.cycle_history.specs.declared.Answer.TheVariants.{Placed, Zero, Missed}
 use Rattle.cycle_history.specs.Requests.{last_cycle}
-use Rattle.cycle_history.specs.Places.{IsPlace}
-use Rattle.cycle_history.specs.Marked.{ArePlaces, IsLimited, objects_before}
+use Rattle.cycle_history.specs.Places.{IsPlace, LiesAt}
+use Rattle.cycle_history.specs.Marked.{ArePlaces, IsLimited, LieApart, LivedBefore, objects_before}
 use Rattle.cycle_history.specs.Counted.{AreZeros}
+use Rattle.cycle_history.proofs.Found.{lies-more}
+use Rattle.cycle_history.proofs.Settled.{lies-one}
 use Rattle.history_rows.specs.Example.{answers, event_of_size, example, first, second, third, span}
 
 fits : (size : ℕ) → size ≤ 2 ^ 40 → EventFits 1 (event_of_size size)
@@ -148,6 +152,89 @@ eight = (
   ),
 )
 
+-- ---- no two at one place
+
+-- where the placed objects lie
+small_at : (i low high size class page k address : ℕ) → slice_get (events_of example) i ≡ Some (event_of_size size) → slice_get answers i ≡ Some (Placed address) → low < size → size ≤ high → size ≤ 32768
+    → serves low high class ≡ true → k < objects_of class → address ≡ 0xc000000000 + 8192 * page + slot_of class * k → LiesAt example answers i page k
+small_at i low high size class page k address asked answered above within small served inside start = record {
+  event = event_of_size size;
+  address = address;
+  asked = asked;
+  answered = answered;
+  place = small_place low high size class page k address above within small served inside start;
+}
+
+object-0 : LiesAt example answers 0 0 0
+unfolding slot_of objects_of
+object-0 = small_at 0 8 16 16 2 0 0 0xc000000000 refl refl (omega arith) (omega arith) (omega arith) refl (omega arith) refl
+
+object-1 : LiesAt example answers 1 0 1
+unfolding slot_of objects_of
+object-1 = small_at 1 8 16 16 2 0 1 0xc000000010 refl refl (omega arith) (omega arith) (omega arith) refl (omega arith) refl
+
+object-3 : LiesAt example answers 3 3 8
+unfolding slot_of objects_of
+object-3 = small_at 3 1280 1408 1400 35 3 8 0xc000008c00 refl refl (omega arith) (omega arith) (omega arith) refl (omega arith) refl
+
+object-4 : LiesAt example answers 4 5 0
+object-4 = record { event = event_of_size 40000; address = 0xc00000a000; asked = refl; answered = refl; place = large_place 40000 5 0xc00000a000 (omega arith) refl }
+
+object-5 : LiesAt example answers 5 0 1
+unfolding slot_of objects_of
+object-5 = small_at 5 8 16 16 2 0 1 0xc000000010 refl refl (omega arith) (omega arith) (omega arith) refl (omega arith) refl
+
+object-7 : LiesAt example answers 7 10 340
+unfolding slot_of objects_of
+object-7 = small_at 7 16 24 24 3 10 340 0xc000015fe0 refl refl (omega arith) (omega arith) (omega arith) refl (omega arith) refl
+
+-- an object that lies at a place is told by the place
+told : (who : ℕ → ℕ → ℕ) (i page k p j : ℕ) → LiesAt example answers i page k → LiesAt example answers i p j → who p j ≡ i → i ≡ who page k
+told who i page k p j lies own is = (let one = lies-one example answers i p page j k own lies in sym is ∙ (λ n. who (one.0 n) (one.1 n)))
+
+-- of those before mark end 1
+abbrev of_first : ℕ → ℕ → ℕ
+of_first page k = cond (eqb page 0) k (cond (eqb page 3) 3 4)
+
+first-told : (i page k : ℕ) → i < 5 → LiesAt example answers i page k → i ≡ of_first page k
+first-told zero page k lt lies = told of_first 0 page k 0 0 lies object-0 refl
+first-told (suc zero) page k lt lies = told of_first 1 page k 0 1 lies object-1 refl
+first-told (suc (suc zero)) page k lt lies = (let none = lies.answered in cc)
+first-told (suc (suc (suc zero))) page k lt lies = told of_first 3 page k 3 8 lies object-3 refl
+first-told (suc (suc (suc (suc zero)))) page k lt lies = told of_first 4 page k 5 0 lies object-4 refl
+first-told (suc (suc (suc (suc (suc i))))) page k lt lies = absurd (omega arith)
+
+-- of those before mark end 2 that lived in the cycle before it
+abbrev of_second : ℕ → ℕ → ℕ
+of_second page k = cond (eqb page 0) (cond (eqb k 0) 0 5) (cond (eqb page 3) 3 7)
+
+second-told : (i page k : ℕ) → i < 8 → LivedBefore example 2 i → LiesAt example answers i page k → i ≡ of_second page k
+second-told zero page k lt lived lies = told of_second 0 page k 0 0 lies object-0 refl
+second-told (suc zero) page k lt lived lies = absurd (elim lived [ inl late ↦ omega arith | inr marked ↦ cc ])
+second-told (suc (suc zero)) page k lt lived lies = (let none = lies.answered in cc)
+second-told (suc (suc (suc zero))) page k lt lived lies = told of_second 3 page k 3 8 lies object-3 refl
+second-told (suc (suc (suc (suc zero)))) page k lt lived lies = absurd (elim lived [ inl late ↦ omega arith | inr marked ↦ cc ])
+second-told (suc (suc (suc (suc (suc zero))))) page k lt lived lies = told of_second 5 page k 0 1 lies object-5 refl
+second-told (suc (suc (suc (suc (suc (suc zero)))))) page k lt lived lies = (let none = lies.answered in cc)
+second-told (suc (suc (suc (suc (suc (suc (suc zero))))))) page k lt lived lies = told of_second 7 page k 10 340 lies object-7 refl
+second-told (suc (suc (suc (suc (suc (suc (suc (suc i)))))))) page k lt lived lies = absurd (omega arith)
+
+within : (count i page k : ℕ) → LiesAt example (take count answers) i page k → i < count
+within count i page k lies =
+    let lt = slice_get_within (take count answers) i (Placed lies.address) lies.answered in
+    let few = length-take count answers in
+    omega arith
+
+first-apart : LieApart example 1 (take 5 answers)
+first-apart i j page k a b lies other =
+    first-told i page k (within 5 i page k lies) (lies-more example (take 5 answers) (drop 5 answers) i page k lies)
+    ∙ sym (first-told j page k (within 5 j page k other) (lies-more example (take 5 answers) (drop 5 answers) j page k other))
+
+second-apart : LieApart example 2 (take 8 answers)
+second-apart i j page k a b lies other =
+    second-told i page k (within 8 i page k lies) a (lies-more example (take 8 answers) (drop 8 answers) i page k lies)
+    ∙ sym (second-told j page k (within 8 j page k other) b (lies-more example (take 8 answers) (drop 8 answers) j page k other))
+
 -- what the search for the marks of a mark end asks
 pub record IsReady (mark count : ℕ) : Type 0 where
   pub first : 1 ≤ mark
@@ -155,12 +242,13 @@ pub record IsReady (mark count : ℕ) : Type 0 where
   pub before : count ≡ objects_before example mark
   pub few : count ≤ 8
   pub places : ArePlaces example (take count answers)
+  pub apart : LieApart example mark (take count answers)
 
 pub ready : (mark count : ℕ) → ((mark ≡ 1) × (count ≡ 5)) ⊎ ((mark ≡ 2) × (count ≡ 8)) → IsReady mark count
 ready mark count h =
     elim h [
-      | inl one ↦ rw (one.0, one.1) (record { first = omega arith; last = omega arith; before = refl; few = omega arith; places = are-places (take 5 answers) five })
-      | inr two ↦ rw (two.0, two.1) (record { first = omega arith; last = omega arith; before = refl; few = omega arith; places = are-places (take 8 answers) eight })
+      | inl one ↦ rw (one.0, one.1) (record { first = omega arith; last = omega arith; before = refl; few = omega arith; places = are-places (take 5 answers) five; apart = first-apart })
+      | inr two ↦ rw (two.0, two.1) (record { first = omega arith; last = omega arith; before = refl; few = omega arith; places = are-places (take 8 answers) eight; apart = second-apart })
     ]
 
 -- ---- zeros

@@ -1,5 +1,5 @@
 ghost use Rattle.std.specs.Prelude.{◌≡◌, ◌-◌, ◌≤◌, ◌⊎◌, length, take, IfOk, OnOk};
-ghost use Rattle.cycle_history.specs.Marked.{AreClear, objects_before};
+ghost use Rattle.cycle_history.specs.Marked.{AreClear, ArePlacesOf, objects_before};
 ghost use Rattle.cycle_history.specs.Found.{AreFound};
 ghost use Rattle.history_rows.specs.Example.{answers, event_of_size, example};
 
@@ -87,7 +87,7 @@ fn first_answers(alloc: Global, count: usize) -> Result<List<Answer>, NoMemory>
 }
 
 // The bucket of object n is n + 10.
-fn marks(
+fn next_marks(
     alloc: Global,
     trace: &Trace,
     mark: u32,
@@ -95,12 +95,15 @@ fn marks(
     sampled: &[bool; 8],
     places: &mut List<PackedPlace>,
     clear: &mut usize,
-) -> Result<Marks, NoMemory>
+    marks: &mut Marks,
+) -> Result<(), NoMemory>
     requires trace { trace.now ≡ example }
     requires mark { ((mark ≡ 1) × (count ≡ 5)) ⊎ ((mark ≡ 2) × (count ≡ 8)) }
     requires kept { length places.old ≡ objects_before example (mark - 1) }
     requires found { AreFound example (take count answers) places.old }
     requires clear { AreClear (take count sampled.now) clear.old }
+    requires before { ArePlacesOf example (mark - 1) (take count answers) marks.old }
+    ensures marks { OnOk result (ArePlacesOf example mark (take count answers) marks.new) }
     ensures kept { OnOk result (length places.new ≡ count) }
     ensures found { OnOk result (AreFound example (take count answers) places.new) }
     ensures clear { OnOk result (AreClear (take count sampled.now) clear.new) }
@@ -110,7 +113,7 @@ fn marks(
     let sampled = List::from_vec(Vec::from_slice(alloc, &sampled[..count])?);
     let buckets = List::from_vec(Vec::from_slice(alloc, &buckets[..count])?);
     marks_of(
-        alloc, trace, mark, &answers, &sampled, &buckets, places, clear,
+        alloc, trace, mark, &answers, &sampled, &buckets, places, clear, marks,
     )
 }
 
@@ -119,25 +122,44 @@ fn marks_of_two_mark_ends(rt: HostRuntime) -> Result<(), Fail> {
     let trace = trace(rt.alloc())?;
     let mut places = List::new(rt.alloc());
     let mut clear = 0;
+    let mut marks = Marks::empty(rt.alloc());
     // all but objects 3 and 7
     let sampled = [true, true, true, false, true, true, true, false];
 
     // object 2 is marked, but of size 0
-    let first = marks(rt.alloc(), &trace, 1, 5, &sampled, &mut places, &mut clear)?;
-    assert_eq!(rt; first.pairs()?.as_slice(), [(0, 0), (3, 8)].as_slice());
+    next_marks(
+        rt.alloc(),
+        &trace,
+        1,
+        5,
+        &sampled,
+        &mut places,
+        &mut clear,
+        &mut marks,
+    )?;
+    assert_eq!(rt; marks.pairs()?.as_slice(), [(0, 0), (3, 8)].as_slice());
     for (page, dead) in [
         (0, [11].as_slice()),
         (5, [14].as_slice()),
         (3, [].as_slice()),
     ] {
-        assert_eq!(rt; first.dead(page), dead, "at page {page}");
+        assert_eq!(rt; marks.dead(page), dead, "at page {page}");
     }
 
     // object 6 is marked, but refused; object 3 dies, but isn't sampled; objects 1 and 4 died before
-    let second = marks(rt.alloc(), &trace, 2, 8, &sampled, &mut places, &mut clear)?;
-    assert_eq!(rt; second.pairs()?.as_slice(), [(0, 0), (10, 340)].as_slice());
+    next_marks(
+        rt.alloc(),
+        &trace,
+        2,
+        8,
+        &sampled,
+        &mut places,
+        &mut clear,
+        &mut marks,
+    )?;
+    assert_eq!(rt; marks.pairs()?.as_slice(), [(0, 0), (10, 340)].as_slice());
     for (page, dead) in [(0, [15].as_slice()), (3, [].as_slice()), (5, [].as_slice())] {
-        assert_eq!(rt; second.dead(page), dead, "at page {page}");
+        assert_eq!(rt; marks.dead(page), dead, "at page {page}");
     }
     Ok(())
 }
@@ -149,22 +171,41 @@ fn marks_of_two_mark_ends_where_none_is_sampled(rt: HostRuntime) -> Result<(), F
     let trace = trace(rt.alloc())?;
     let mut places = List::new(rt.alloc());
     let mut clear = 0;
+    let mut marks = Marks::empty(rt.alloc());
     let sampled = [false; 8];
 
     // objects 1 and 4 die
-    let first = marks(rt.alloc(), &trace, 1, 5, &sampled, &mut places, &mut clear)?;
+    next_marks(
+        rt.alloc(),
+        &trace,
+        1,
+        5,
+        &sampled,
+        &mut places,
+        &mut clear,
+        &mut marks,
+    )?;
     assert_eq!(rt; clear, 5);
-    assert_eq!(rt; first.pairs()?.as_slice(), [(0, 0), (3, 8)].as_slice());
+    assert_eq!(rt; marks.pairs()?.as_slice(), [(0, 0), (3, 8)].as_slice());
     for page in [0, 3, 5] {
-        assert!(rt; first.dead(page).is_empty(), "at page {page}");
+        assert!(rt; marks.dead(page).is_empty(), "at page {page}");
     }
 
     // objects 3 and 5 die
-    let second = marks(rt.alloc(), &trace, 2, 8, &sampled, &mut places, &mut clear)?;
+    next_marks(
+        rt.alloc(),
+        &trace,
+        2,
+        8,
+        &sampled,
+        &mut places,
+        &mut clear,
+        &mut marks,
+    )?;
     assert_eq!(rt; clear, 8);
-    assert_eq!(rt; second.pairs()?.as_slice(), [(0, 0), (10, 340)].as_slice());
+    assert_eq!(rt; marks.pairs()?.as_slice(), [(0, 0), (10, 340)].as_slice());
     for page in [0, 3, 5, 10] {
-        assert!(rt; second.dead(page).is_empty(), "at page {page}");
+        assert!(rt; marks.dead(page).is_empty(), "at page {page}");
     }
     Ok(())
 }

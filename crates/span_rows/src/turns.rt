@@ -2,7 +2,7 @@ ghost use Rattle.std.specs.Prelude.{◌≡◌, ℕ, ◌*◌, ◌<◌, ◌≤◌,
 ghost use Rattle.span_state.specs.Spans.{IsSameSpan, allocated};
 ghost use Rattle.span_rows.specs.Rows.{ArePlaced, HasPlaced, HasTurned, IsFreeDriver, KeepsCached, KeepsPlaced, SeesEmpty};
 
-use fallible_list::{List, NoMemory};
+use fallible_list::NoMemory;
 use span_set::{SetId, claim, fill, push, reset};
 use span_state::{Body, Marks};
 use span_table::{Acquired, Shared, Worker};
@@ -81,9 +81,17 @@ pub fn turn(shared: &mut Shared, w: &mut Worker, marks: &Marks) -> Result<(), No
     }
     reset(shared, w);
     shared.settle(w);
-    let pairs = marks.pairs()?;
-    shared.next_generation(w, pairs);
+    shared.next_generation(w, marks);
     Ok(())
+}
+
+// The mark of the first object of the page.
+fn one_mark(alloc: Global, page: u32) -> Result<Marks, NoMemory>
+    ensures { IfOk result (λ marks. marks.pairs ≡ (page, 0) ∷ []) }
+{
+    let mut marks = Marks::empty(alloc);
+    marks.add(page, 0)?;
+    Ok(marks)
 }
 
 /// Ends the first mark phase, where the first object of the page alone is marked.
@@ -105,8 +113,8 @@ pub fn turn_one(
     }
     reset(shared, w);
     shared.settle(w);
-    let marks = vec![in alloc; (page, 0)]?;
-    shared.next_generation(w, List::from_vec(marks));
+    let marks = one_mark(alloc, page)?;
+    shared.next_generation(w, &marks);
     Ok(())
 }
 

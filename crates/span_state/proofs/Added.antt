@@ -1,15 +1,15 @@
--- What one more mark changes.
+-- What one mark more changes, and one less.
 use Rattle.std.proofs.Common.{◌≡◌, ℕ, ltb, length, get_or, ◌+◌, ◌*◌, ◌/◌, ◌%◌, ◌^◌, ◌<◌, Bool, true, false, cond, not, ◌==◌, ◌||◌, ◌&&◌, eqb, nat_eq, List, [], ◌∷◌, Some, w64, refl, sym, ◌∙◌, ap, arith, inl, inr, ◌⊎◌, eq-eqb}
 use Rattle.std.proofs.lemmas.Bool.{cases_eq, cases_lt, cases_Bool, both_ways, ne_eqb, eqb-true, and_parts, and_from, or_parts, lt-ltb, le-ltb}
 use Rattle.std.proofs.lemmas.Nat.{one_shl, pow_pos}
-use Rattle.std.proofs.lemmas.Nat.Bits.{and_pow, bit_at-lt, bit_at-zero, bit_at_set_same, bit_at_set_other}
+use Rattle.std.proofs.lemmas.Nat.Bits.{and_pow, bit_at-lt, bit_at-zero, bit_at_set_same, bit_at_set_other, bit_at_clear_same, bit_at_clear_other}
 use Rattle.std.proofs.lemmas.List.{get_or_past}
 use Rattle.std.proofs.lemmas.List.Sums.{sum_by-cons}
 use Rattle.std.specs.Int.{bit_at}
 use Rattle.std.specs.Int.Bits.{bit_and, bit_or}
 use Rattle.std.specs.Map.{lookup, set_value}
 use Rattle.span_state.specs.Bits.{with_bit}
-use Rattle.span_state.specs.Groups.{page_pairs, pairs_of, row_of, word_of}
+use Rattle.span_state.specs.Groups.{clear_bit, page_pairs, pairs_of, row_of, word_of}
 use Rattle.span_state.specs.MarkSet.{IsRising, has_pair, pairs_at}
 use Rattle.span_state.proofs.Pairs.{or_false, has-grid_pairs, length-page_pairs-own, pairs_at-grid_pairs, rising-grid_pairs, rising-one}
 use Rattle.span_state.proofs.Words.{same_place}
@@ -112,6 +112,19 @@ pairs_at-none rows q none = pairs_at-row rows q ∙ ap (λ (row : List ℕ). pai
 abbrev pub IsPut : List (List ℕ) → List (List ℕ) → ℕ → ℕ → ℕ → Type 0
 IsPut old new page group word = (q g : ℕ) → word_of new q g ≡ cond (q == page && g == group) word (word_of old q g)
 
+-- pairs of other groups differ
+apart-groups : (q page k index : ℕ) → (q == page && k / 64 == index / 64) ≡ false → (q == page && k == index) ≡ false
+apart-groups q page k index off =
+    elim (cases_Bool (q == page && k == index)) [
+      | inr isnt ↦ isnt
+      | inl is ↦ absurd (
+          let both = and_parts (q == page) (k == index) is in
+          let places : k ≡ index = eqb-true k index both.1 in
+          let groups : eqb (k / 64) (index / 64) ≡ true = eq-eqb (k / 64) (index / 64) (ap (λ (n : ℕ). n / 64) places) in
+          let on : (q == page && k / 64 == index / 64) ≡ true = and_from (q == page) (k / 64 == index / 64) both.0 groups in
+          both_ways _ off on)
+    ]
+
 -- With its bit set in its group's word, a pair is marked besides those that were.
 pub has-added : (old new : List (List ℕ)) (page index word : ℕ)
     → ((b : ℕ) → b < 64 → (bit_at word b == 1) ≡ has_pair (pairs_of old) page (64 * (index / 64) + b)) → IsPut old new page (index / 64) (set_bit word (index % 64))
@@ -147,17 +160,54 @@ has-added old new page index word is put q k =
       | inr off ↦ (
           let at' : word_of new q (k / 64) ≡ word_of old q (k / 64) = at ∙ rw off refl in
           let now' : has_pair (pairs_of new) q k ≡ has_pair (pairs_of old) q k = now ∙ ap (λ (w : ℕ). bit_at w (k % 64) == 1) at' ∙ sym was in
-          let isnt : (q == page && k == index) ≡ false =
-          elim (cases_Bool (q == page && k == index)) [
-            | inr isnt ↦ isnt
-            | inl is ↦ absurd (
-                let both = and_parts (q == page) (k == index) is in
-                let places : k ≡ index = eqb-true k index both.1 in
-                let groups : eqb (k / 64) (index / 64) ≡ true = eq-eqb (k / 64) (index / 64) (ap (λ (n : ℕ). n / 64) places) in
-                let on : (q == page && k / 64 == index / 64) ≡ true = and_from (q == page) (k / 64 == index / 64) both.0 groups in
-                both_ways _ off on)
-          ] in
-          now' ∙ rw isnt (sym (or_false _)))
+          now' ∙ rw (apart-groups q page k index off) (sym (or_false _)))
+    ]
+
+-- ---- one pair less
+
+and_false : (b : Bool) → (b && false) ≡ false
+and_false true = refl
+and_false false = refl
+
+and_true : (b : Bool) → (b && true) ≡ b
+and_true true = refl
+and_true false = refl
+
+-- With its bit cleared in its group's word, a pair is not marked, and the others are as they were.
+pub has-cleared : (old new : List (List ℕ)) (page index : ℕ) → IsPut old new page (index / 64) (clear_bit (word_of old page (index / 64)) (index % 64))
+    → (q k : ℕ) → has_pair (pairs_of new) q k ≡ (has_pair (pairs_of old) q k && not (q == page && k == index))
+has-cleared old new page index put q k =
+    let now = has-pairs_of new q k in
+    let was = has-pairs_of old q k in
+    let at = put q (k / 64) in
+    let within : index % 64 < 64 = omega arith in
+    let inside : k % 64 < 64 = omega arith in
+    elim (cases_Bool (q == page && k / 64 == index / 64)) [
+      | inl on ↦ (
+          let both = and_parts (q == page) (k / 64 == index / 64) on in
+          let pages : q ≡ page = eqb-true q page both.0 in
+          let groups : k / 64 ≡ index / 64 = eqb-true (k / 64) (index / 64) both.1 in
+          let here = both.0 in
+          let at' : word_of new q (k / 64) ≡ clear_bit (word_of old page (index / 64)) (index % 64) = at ∙ rw on refl in
+          elim (cases_eq (k % 64) (index % 64)) [
+            | inl bits ↦ (
+                let there : eqb k index ≡ true = eq-eqb k index (same_place index k groups bits) in
+                let bit : bit_at (word_of new q (k / 64)) (k % 64) ≡ 0 =
+                ap (λ (w : ℕ). bit_at w (k % 64)) at' ∙ ap (bit_at (clear_bit (word_of old page (index / 64)) (index % 64))) bits
+                ∙ bit_at_clear_same w64 (word_of old page (index / 64)) (index % 64) within in
+                now ∙ rw (bit, here, there) (sym (and_false _)))
+            | inr other ↦ (
+                let isnt : eqb k index ≡ false = ne_eqb k index (λ e. other (ap (λ n. n % 64) e)) in
+                let word : word_of old page (index / 64) ≡ word_of old q (k / 64) = (λ i. word_of old (sym pages i) (sym groups i)) in
+                let bit : bit_at (word_of new q (k / 64)) (k % 64) ≡ bit_at (word_of old q (k / 64)) (k % 64) =
+                ap (λ (w : ℕ). bit_at w (k % 64)) at' ∙ bit_at_clear_other w64 (word_of old page (index / 64)) (index % 64) within (k % 64) inside other
+                ∙ ap (λ (w : ℕ). bit_at w (k % 64)) word in
+                now ∙ ap (λ (n : ℕ). n == 1) bit ∙ sym was ∙ rw (here, isnt) (sym (and_true _)))
+          ])
+      | inr off ↦ (
+          let at' : word_of new q (k / 64) ≡ word_of old q (k / 64) = at ∙ rw off refl in
+          let now' : has_pair (pairs_of new) q k ≡ has_pair (pairs_of old) q k = now ∙ ap (λ (w : ℕ). bit_at w (k % 64) == 1) at' ∙ sym was in
+          now' ∙ rw (apart-groups q page k index off) (sym (and_true _)))
     ]
 
 -- ---- what the code asks

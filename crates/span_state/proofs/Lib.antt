@@ -1,4 +1,5 @@
 pub mod Added
+pub mod Indices
 pub mod Pairs
 pub mod RowWords
 pub mod Sweeps

@@ -224,7 +224,7 @@ unfolding group_pairs
 pairs_at-group_pairs page group word q = pairs_at-word_pairs 64 page group word q
 
 -- a page's pairs are of no other page
-pairs_at-page_pairs-other : (n page : ℕ) (words : ℕ → ℕ) (q : ℕ) → (page ≡ q → ⊥) → pairs_at (page_pairs n page words) q ≡ 0
+pub pairs_at-page_pairs-other : (n page : ℕ) (words : ℕ → ℕ) (q : ℕ) → (page ≡ q → ⊥) → pairs_at (page_pairs n page words) q ≡ 0
 pairs_at-page_pairs-other zero page words q ne = refl
 pairs_at-page_pairs-other (suc n) page words q ne =
     let rest = pairs_at-page_pairs-other n page words q ne in
@@ -234,7 +234,7 @@ pairs_at-page_pairs-other (suc n) page words q ne =
     omega arith
 
 -- one group more
-pairs_at-page_more : (n page : ℕ) (words : ℕ → ℕ) → pairs_at (page_pairs (suc n) page words) page ≡ pairs_at (page_pairs n page words) page + count_below 64 (λ b. bit_at (words n) b == 1)
+pub pairs_at-page_more : (n page : ℕ) (words : ℕ → ℕ) → pairs_at (page_pairs (suc n) page words) page ≡ pairs_at (page_pairs n page words) page + count_below 64 (λ b. bit_at (words n) b == 1)
 pairs_at-page_more n page words =
     let f : (page == page) ≡ true = eq-eqb page page refl in
     let group : pairs_at (group_pairs ((page, n), words n)) page ≡ count_below 64 (λ b. bit_at (words n) b == 1) = pairs_at-group_pairs page n (words n) page ∙ rw f refl in
@@ -440,7 +440,7 @@ abbrev pub without : ℕ → ℕ → ℕ
 without word k = bit_and word (bit_not w64 (1 * 2 ^ k % 2 ^ 64))
 
 -- bits that are all off mark nothing
-no-pairs : (n page group word : ℕ) → ((i : ℕ) → i < n → bit_at word i ≡ 0) → word_pairs n page group word ≡ []
+pub no-pairs : (n page group word : ℕ) → ((i : ℕ) → i < n → bit_at word i ≡ 0) → word_pairs n page group word ≡ []
 no-pairs zero page group word off = refl
 no-pairs (suc n) page group word off =
     let rest = no-pairs n page group word (λ i lt. off i (omega arith)) in
@@ -448,7 +448,7 @@ no-pairs (suc n) page group word off =
     rw (rest, b) refl
 
 -- the lowest bit's pair comes first, and then come those of the word without it
-lowest-first : (n page group word k : ℕ) → n ≤ 64 → k < n → bit_at word k ≡ 1 → ((i : ℕ) → i < k → bit_at word i ≡ 0)
+pub lowest-first : (n page group word k : ℕ) → n ≤ 64 → k < n → bit_at word k ≡ 1 → ((i : ℕ) → i < k → bit_at word i ≡ 0)
     → word_pairs n page group word ≡ (page, 64 * group + k) ∷ word_pairs n page group (without word k)
 lowest-first zero page group word k few lt on below = absurd (omega arith)
 lowest-first (suc n) page group word k few lt on below =

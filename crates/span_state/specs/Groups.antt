@@ -1,6 +1,7 @@
 -- How marks are kept: for each page a row of words of 64 bits, each for a group of 64 neighbouring indices.
-use Rattle.std.specs.Prelude.{ℕ, zero, suc, ◌+◌, ◌*◌, ◌^◌, ◌≤◌, ◌==◌, List, [], ◌∷◌, ◌++◌, length, slice_index, slice_index_or, if◌then◌else◌}
-use Rattle.std.specs.Int.{bit_at}
+use Rattle.std.specs.Prelude.{ℕ, zero, suc, ◌+◌, ◌*◌, ◌%◌, ◌^◌, ◌≤◌, ◌==◌, List, [], ◌∷◌, ◌++◌, length, slice_index, slice_index_or, if◌then◌else◌}
+use Rattle.std.specs.Int.{bit_at, bit_not, w64}
+use Rattle.std.specs.Int.Bits.{bit_and}
 
 -- the pairs that the lowest `n` bits of a group's word mark
 abbrev pub word_pairs : ℕ → ℕ → ℕ → ℕ → List (ℕ × ℕ)
@@ -28,6 +29,10 @@ row_of rows page = slice_index_or rows page []
 -- the word of a group; a group past the end of its row marks nothing
 abbrev pub word_of : List (List ℕ) → ℕ → ℕ → ℕ
 word_of rows page group = slice_index (row_of rows page) group
+
+-- a word with its bit i cleared
+abbrev pub clear_bit : ℕ → ℕ → ℕ
+clear_bit word i = bit_and word (bit_not w64 (1 * 2 ^ i % 2 ^ 64))
 
 -- the pairs that all words mark
 abbrev pub pairs_of : List (List ℕ) → List (ℕ × ℕ)

@@ -1,5 +1,5 @@
 -- What contracts see of the marks of a mark end.
-use Rattle.std.specs.Prelude.{ℕ, Bool, ◌==◌, ◌&&◌, List, [], count_by, unwrap_or}
+use Rattle.std.specs.Prelude.{ℕ, Bool, ◌==◌, ◌&&◌, if◌then◌else◌, List, [], ◌∷◌, count_by, unwrap_or}
 use Rattle.std.specs.declared.cmp.Ordering.{Ordering}
 use Rattle.std.specs.Ordering.{nat_cmp, ordering_then}
 use Rattle.std.specs.List.{list_any}
@@ -27,6 +27,11 @@ has_pair pairs page index = list_any (λ p. p.0 == page && p.1 == index) pairs
 -- how many of the pairs are of the page
 abbrev pub pairs_at : List (ℕ × ℕ) → ℕ → ℕ
 pairs_at pairs page = count_by (λ p. p.0 == page) pairs
+
+-- the indices of the page among the pairs, in their order
+abbrev pub indices_at : ℕ → List (ℕ × ℕ) → List ℕ
+indices_at page [] = []
+indices_at page (p ∷ pairs) = if p.0 == page then p.1 ∷ indices_at page pairs else indices_at page pairs
 
 -- whether the index of the page is marked
 abbrev pub is_marked : MarkSet → ℕ → ℕ → Bool

@@ -1,7 +1,8 @@
-ghost use Rattle.std.specs.Prelude.{◌≡◌, ◌↔◌, ℕ, ◌+◌, ◌-◌, ◌*◌, ◌^◌, ◌<◌, ◌≤◌, ◌==◌, ◌||◌, ◌&&◌, [], ◌∷◌, ◌++◌, ◌≢◌, false, length, min, slice_index, true, vec_capacity, IsOk, OnOk, OnErr, IfOk};
+ghost use Rattle.std.specs.Prelude.{◌≡◌, ◌↔◌, ℕ, ◌+◌, ◌-◌, ◌*◌, ◌^◌, ◌<◌, ◌≤◌, ◌==◌, ◌||◌, ◌&&◌, [], ◌∷◌, ◌++◌, ◌≢◌, false, not, length, min, slice_index, true, vec_capacity, IsOk, OnOk, OnErr, IfOk};
 ghost use Rattle.std.specs.Int.{bit_at};
+ghost use Rattle.std.specs.Int.Count.{ones};
 ghost use Rattle.span_state.specs.Groups.{group_pairs, page_pairs};
-ghost use Rattle.span_state.specs.MarkSet.{is_marked, marked_count, dead_of, IsRising};
+ghost use Rattle.span_state.specs.MarkSet.{is_marked, marked_count, indices_at, dead_of, IsRising};
 
 use crate::row::Row;
 use crate::rows::Rows;
@@ -83,6 +84,24 @@ impl Marks {
         self.rows.put(self.alloc, page as usize, group, word | bit)
     }
 
+    /// Unmarks the index of the page. Where it is not marked nothing changes. It takes no memory.
+    #[inline]
+    pub fn remove(&mut self, page: u32, index: u32)
+        ensures marked { (q k : ℕ) → is_marked self.new q k ≡ (is_marked self.old q k && not (q == page && k == index)) }
+        ensures rising { IsRising self.new.pairs }
+        ensures dead { self.new.deaths ≡ self.old.deaths }
+    {
+        self.rows.clear(page as usize, index);
+    }
+
+    /// Forgets all dead buckets.
+    pub fn forget_dead(&mut self)
+        ensures dead { (page : ℕ) → dead_of self.new page ≡ [] }
+        ensures pairs { self.new.pairs ≡ self.old.pairs }
+    {
+        self.dead = BTreeMap::new(self.alloc);
+    }
+
     /// Puts a bucket at the end of the page's dead.
     pub fn add_dead(&mut self, page: u32, bucket: u32) -> Result<(), NoMemory>
         ensures dead { OnOk result (dead_of self.new page ≡ dead_of self.old page ++ bucket ∷ []) }
@@ -104,9 +123,29 @@ impl Marks {
         ensures count { result ≡ min (marked_count self.now page) (2 ^ 32 - 1) }
         ensures none { (result ≡ 0) ↔ ((index : ℕ) → is_marked self.now page index ≡ false) }
     {
+        self.len_at(page).min(u32::MAX as usize) as u32
+    }
+
+    /// How many indices of the page are marked.
+    pub fn len_at(&self, page: u32) -> usize
+        ensures { result ≡ length (indices_at page self.now.pairs) }
+    {
         match self.rows.row(page as usize) {
-            Some(row) => marks_in(row).min(u32::MAX as usize) as u32,
+            Some(row) => marks_in(row),
             None => 0,
+        }
+    }
+
+    /// Has the marked indices of the page, in rising order, in place of what is in the vector. There is room for them, and no
+    /// memory is taken.
+    pub fn copy_indices(&self, page: u32, indices: &mut Vec<u32>)
+        requires room { length (indices_at page self.now.pairs) ≤ vec_capacity indices.old }
+        ensures items { indices.new.items ≡ indices_at page self.now.pairs }
+        ensures capacity { vec_capacity indices.new ≡ vec_capacity indices.old }
+    {
+        indices.clear();
+        if let Some(row) = self.rows.row(page as usize) {
+            push_indices(indices, row);
         }
     }
 
@@ -156,6 +195,14 @@ impl Marks {
         Ok(List::from_vec(pairs))
     }
 
+    /// That the marked pairs rise, for a caller whose proof needs it. It does nothing.
+    #[inline(always)]
+    pub fn rising(&self)
+        ensures { IsRising self.now.pairs }
+    {
+        let _rows = &self.rows;
+    }
+
     // How many pairs are marked, so that their list can get its room at once.
     fn total(&self) -> Result<usize, NoMemory>
         ensures total { IfOk result (λ total. total ≡ length self.now.pairs) }
@@ -182,13 +229,25 @@ fn marks_in(row: &Row) -> usize
     let mut marks: usize = 0;
     let near = row.near();
     for group in 0..16 {
-        marks += near[group].count_ones() as usize;
+        marks += bits_in(near[group]);
     }
     let far = row.far();
     for group in 0..far.len() {
-        marks += far[group].count_ones() as usize;
+        marks += bits_in(far[group]);
     }
     marks
+}
+
+// How many bits of a word are set. Most words have none, which need not be counted.
+#[inline]
+fn bits_in(word: u64) -> usize
+    ensures { result ≡ ones word }
+{
+    if word == 0 {
+        0
+    } else {
+        word.count_ones() as usize
+    }
 }
 
 // Puts the pairs that a page's row marks at the end of a list with room for them.
@@ -249,6 +308,40 @@ fn push_set(pairs: &mut Vec<(u32, u32)>, page: u32, group: u32, word: u64)
     for pushed in 0..word.count_ones() {
         let bit = left.trailing_zeros();
         pairs.push_reserved((page, 64 * group + bit));
+        left &= left - 1;
+    }
+}
+
+// Puts the indices that a page's row marks at the end of a list with room for them.
+#[inline]
+fn push_indices(indices: &mut Vec<u32>, row: &Row)
+    requires groups { length row.now ≤ 2 ^ 26 }
+    requires room { (page : ℕ) → length indices.old.items + length (indices_at page (page_pairs (length row.now) page (λ g. slice_index row.now g))) ≤ vec_capacity indices.old }
+    ensures items { (page : ℕ) → indices.new.items ≡ indices.old.items ++ indices_at page (page_pairs (length row.now) page (λ g. slice_index row.now g)) }
+    ensures capacity { vec_capacity indices.new ≡ vec_capacity indices.old }
+{
+    let near = row.near();
+    for group in 0..16 {
+        push_bits(indices, group as u32, near[group]);
+    }
+    let far = row.far();
+    for group in 0..far.len() {
+        push_bits(indices, 16 + group as u32, far[group]);
+    }
+}
+
+// Does so for one word, from set bit to set bit. Most words have none.
+#[inline]
+fn push_bits(indices: &mut Vec<u32>, group: u32, word: u64)
+    requires group { group < 2 ^ 26 }
+    requires room { (page : ℕ) → length indices.old.items + length (indices_at page (group_pairs ((page, group), word))) ≤ vec_capacity indices.old }
+    ensures items { (page : ℕ) → indices.new.items ≡ indices.old.items ++ indices_at page (group_pairs ((page, group), word)) }
+    ensures capacity { vec_capacity indices.new ≡ vec_capacity indices.old }
+{
+    let mut left = word;
+    while left != 0 {
+        let bit = left.trailing_zeros();
+        indices.push_reserved(64 * group + bit);
         left &= left - 1;
     }
 }

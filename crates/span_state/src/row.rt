@@ -1,6 +1,7 @@
 //! The words of one page.
 
-ghost use Rattle.std.specs.Prelude.{◌≡◌, ℕ, ◌+◌, ◌*◌, ◌/◌, ◌%◌, ◌^◌, ◌<◌, ◌≤◌, ◌==◌, if◌then◌else◌, length, slice_index, bit_or, OnOk, OnErr};
+ghost use Rattle.std.specs.Prelude.{◌≡◌, ℕ, ◌+◌, ◌*◌, ◌/◌, ◌%◌, ◌^◌, ◌<◌, ◌≤◌, ◌==◌, if◌then◌else◌, length, slice_index, bit_or, bit_and, OnOk, OnErr};
+ghost use Rattle.span_state.specs.Groups.{clear_bit};
 
 use fallible_list::NoMemory;
 use std::alloc::Global;
@@ -79,6 +80,19 @@ impl Row {
         self.near[(index / 64) as usize] |= 1 << (index % 64);
     }
 
+    /// Clears the bit of an index. It takes no memory.
+    #[inline]
+    pub(crate) fn clear(&mut self, index: u32)
+        ensures clear { (g : ℕ) → slice_index self.new g ≡ (if g == index / 64 then clear_bit (slice_index self.old (index / 64)) (index % 64) else slice_index self.old g) }
+        ensures len { length self.new ≡ length self.old }
+    {
+        if index < 1024 {
+            self.near[(index / 64) as usize] &= !(1 << (index % 64));
+        } else {
+            clear_far(&mut self.far, (index / 64) as usize - 16, index % 64);
+        }
+    }
+
     /// Sets the word of a group. Without memory each word stays as it was.
     pub(crate) fn set(&mut self, group: u32, word: u64) -> Result<(), NoMemory>
         ensures set { OnOk result ((g : ℕ) → slice_index self.new g ≡ (if g == group then word else slice_index self.old g)) }
@@ -107,4 +121,17 @@ fn set_far(far: &mut Vec<u64>, at: usize, word: u64) -> Result<(), NoMemory>
     }
     far[at] = word;
     Ok(())
+}
+
+// Clears a bit of one of the words behind a row, if it is there.
+#[cold]
+#[inline(never)]
+fn clear_far(far: &mut Vec<u64>, at: usize, bit: u32)
+    requires { bit < 64 }
+    ensures clear { (g : ℕ) → slice_index far.new.items g ≡ (if g == at then clear_bit (slice_index far.old.items at) bit else slice_index far.old.items g) }
+    ensures len { length far.new.items ≡ length far.old.items }
+{
+    if at < far.len() {
+        far[at] &= !(1 << bit);
+    }
 }

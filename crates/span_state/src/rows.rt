@@ -1,7 +1,7 @@
 //! The rows of words of all pages.
 
 ghost use Rattle.std.specs.Prelude.{◌≡◌, ℕ, ◌*◌, ◌/◌, ◌%◌, ◌^◌, ◌<◌, ◌≤◌, ◌==◌, ◌&&◌, [], true, false, if◌then◌else◌, length, slice_index, bit_or, IfOk, OnOk, OnErr, MatchOption};
-ghost use Rattle.span_state.specs.Groups.{row_of, word_of, AreRows};
+ghost use Rattle.span_state.specs.Groups.{clear_bit, row_of, word_of, AreRows};
 ghost use Rattle.span_state.specs.Table.{table_of, ArePlaces};
 
 use crate::row::Row;
@@ -81,6 +81,23 @@ impl Rows {
         }
         self.rows[place - 1].set_near(index);
         true
+    }
+
+    /// Clears the bit of an index of a page, if the page has a row. It takes no memory.
+    #[inline]
+    pub(crate) fn clear(&mut self, page: usize, index: u32)
+        ensures clear { (q g : ℕ) → word_of self.new q g
+            ≡ (if q == page && g == index / 64 then clear_bit (word_of self.old page (index / 64)) (index % 64) else word_of self.old q g) }
+        ensures are { AreRows self.old → AreRows self.new }
+    {
+        if page >= self.places.len() {
+            return;
+        }
+        let place = self.places[page];
+        if place == 0 {
+            return;
+        }
+        self.rows[place - 1].clear(index);
     }
 
     /// Sets the word of a group of a page, which gets a row if it has none. Without memory each word stays as it was.

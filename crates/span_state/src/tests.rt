@@ -144,3 +144,59 @@ fn marks_in_any_order(rt: HostRuntime) -> Result<(), Fail> {
     assert_eq!(rt; pairs.as_slice(), rising.as_slice());
     Ok(())
 }
+
+#[test]
+fn marks_that_are_taken_back(rt: HostRuntime) -> Result<(), Fail> {
+    let mut marks = marks_out_of_order(rt.alloc())?;
+    // marked ones in and past a row, one that is not marked in each, one of a page without a row, and one of a page past the last
+    let removed = [
+        (5, 63),
+        (FAR_PAGE, FAR_INDEX),
+        (2, FAR_INDEX),
+        (5, 62),
+        (2, FAR_INDEX + 64),
+        (5, FAR_INDEX),
+        (3, 0),
+        (3, FAR_INDEX),
+        (FAR_PAGE + 1, 0),
+    ];
+    for (page, index) in removed {
+        marks.remove(page, index);
+        assert!(rt; !marks.marked(page, index), "{page}, {index}");
+    }
+    let left = [(2, 1023), (5, 0), (5, 64), (FAR_PAGE, 0)];
+    assert_eq!(rt; marks.pairs()?.as_slice(), left.as_slice());
+
+    assert_eq!(rt; marks.dead(5), [9, 9, 3].as_slice());
+    marks.forget_dead();
+    for page in [2, 5, FAR_PAGE] {
+        assert!(rt; marks.dead(page).is_empty(), "at page {page}");
+    }
+    assert_eq!(rt; marks.pairs()?.as_slice(), left.as_slice());
+    Ok(())
+}
+
+// The marked indices of a page.
+fn indices_of(alloc: Global, marks: &Marks, page: u32) -> Result<Vec<u32>, NoMemory> {
+    let mut indices = Vec::with_capacity(alloc, marks.len_at(page))?;
+    marks.copy_indices(page, &mut indices);
+    Ok(indices)
+}
+
+#[test]
+fn indices_of_pages(rt: HostRuntime) -> Result<(), Fail> {
+    let marks = marks_out_of_order(rt.alloc())?;
+    // the page, and its marked indices; page 3 and the last have no row
+    let rows = [
+        (5, [0, 63, 64].as_slice()),
+        (2, [1023, FAR_INDEX].as_slice()),
+        (FAR_PAGE, [0, FAR_INDEX].as_slice()),
+        (3, [].as_slice()),
+        (FAR_PAGE + 1, [].as_slice()),
+    ];
+    for (page, wanted) in rows {
+        let indices = indices_of(rt.alloc(), &marks, page)?;
+        assert_eq!(rt; indices.as_slice(), wanted, "{page}");
+    }
+    Ok(())
+}

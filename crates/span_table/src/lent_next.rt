@@ -1,17 +1,15 @@
-ghost use Rattle.std.specs.Prelude.{◌≡◌, true, Some};
-ghost use Rattle.sweep_laws.specs.Lists.{rises};
+ghost use Rattle.std.specs.Prelude.{◌≡◌, Some};
 ghost use Rattle.span_laws.specs.Asks.{KnowsJournal};
 ghost use Rattle.span_laws.specs.MarkEndAsks.{MayMark, MaySettle};
 ghost use Rattle.span_laws.specs.Settles.{SettlesCycle};
 ghost use Rattle.span_laws.specs.MarkEnds.{after_next};
 
 use crate::lent::{Counts, Lent};
-use crate::make::make;
+use crate::make::make_next;
 use crate::seat::{mark, tell_journal};
 use crate::shared::Shared;
-use fallible_list::List;
 use page_alloc::Pages;
-use sweep_generation::Move;
+use span_state::Marks;
 
 impl Lent {
     // See `Shared::settle`.
@@ -24,14 +22,14 @@ impl Lent {
     }
 
     // See `Shared::next_generation`.
-    pub(crate) fn next_generation(&mut self, shared: &Shared, marks: List<(u32, u32)>)
+    pub(crate) fn next_generation(&mut self, shared: &Shared, marks: &Marks)
         requires table { self.old.table ≡ shared.now }
-        requires rising { rises marks ≡ true }
-        requires may { MayMark self.old.number self.old.view marks }
-        ensures { self.new ≡ after_next marks self.old }
+        requires may { MayMark self.old.number self.old.view marks.now.pairs }
+        ensures { self.new ≡ after_next marks.now.pairs self.old }
     {
-        mark(shared, &mut self.seat, self.number, &marks);
-        make(&mut self.core, Move::Next(marks));
+        marks.rising();
+        mark(shared, &mut self.seat, self.number, marks);
+        make_next(&mut self.core, marks);
         self.counts = Counts {
             swept: 0,
             spent: 0,

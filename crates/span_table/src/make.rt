@@ -1,13 +1,15 @@
 ghost use Rattle.std.specs.Prelude.{◌≡◌, ℕ, ◌+◌, ◌<◌, ◌≤◌, None, true, length, slice_index_or};
-ghost use Rattle.sweep_laws.specs.Changes.{after_give, after_take};
+ghost use Rattle.sweep_laws.specs.Changes.{after_give, after_next, after_take};
 ghost use Rattle.sweep_laws.specs.Lists.{has};
 ghost use Rattle.sweep_laws.specs.Reading.{allocated_at, hand_of};
+ghost use Rattle.sweep_laws.specs.Needs.{next_needs};
 ghost use Rattle.sweep_laws.specs.NeedsOfRange.{refusal};
 ghost use Rattle.sweep_laws.specs.Owned.{Owned};
 ghost use Rattle.sweep_laws.specs.Step.{needs_of, after, reply_of};
 ghost use Rattle.sweep_laws.specs.Tidy.{IsTidy, HasSpace, IsProvided};
 
-use sweep_generation::{Core, Move, Reply, step_met};
+use span_state::Marks;
+use sweep_generation::{Core, Move, Reply, next_marked, step_met};
 
 // Makes a move whose needs are met and that is provided for: it is done. It is always written out where it is called, and so are the
 // functions that hand a move on, so that the kind of the move is known there and no move goes through memory.
@@ -26,6 +28,23 @@ pub(crate) fn make(core: &mut Core, mv: Move) -> Reply
 {
     match step_met(core, mv) {
         Ok(reply) => reply,
+        Err(_) => unreachable!(),
+    }
+}
+
+// Makes the move of a mark end with these marks, as `make` does.
+pub(crate) fn make_next(core: &mut Core, marks: &Marks)
+    requires owned { Owned core.old }
+    requires tidy { IsTidy core.old }
+    requires space { HasSpace core.old }
+    requires allowed { refusal (next_needs core.old marks.now.pairs) ≡ None }
+    ensures state { core.new ≡ after_next core.old marks.now.pairs }
+    ensures owned { Owned core.new }
+    ensures tidy { IsTidy core.new }
+    ensures space { HasSpace core.new }
+{
+    match next_marked(core, marks) {
+        Ok(_) => {}
         Err(_) => unreachable!(),
     }
 }

@@ -7,10 +7,9 @@ ghost use Rattle.span_laws.specs.Scanned.{found_in, looks_in};
 
 use crate::shared::Shared;
 use atomic_table::{Play, Seat};
-use fallible_list::List;
 use page_alloc::Pages;
 use span_laws::{Said, SaidOf, View};
-use span_state::Body;
+use span_state::{Body, Marks};
 use std::marker::{Brand, PhantomData};
 use sweep_generation::Core;
 
@@ -175,12 +174,7 @@ pub(crate) fn hand(shared: &Shared, seat: &mut Seat<(), View>, from: u32, to: u3
     hand_as::<Brand>(shared, seat, from, to);
 }
 
-fn mark_as<J: Marking>(
-    shared: &Shared,
-    seat: &mut Seat<(), View>,
-    _number: u32,
-    _marks: &List<(u32, u32)>,
-)
+fn mark_as<J: Marking>(shared: &Shared, seat: &mut Seat<(), View>, _number: u32, _marks: &Marks)
     requires { seat.old.table_id ≡ shared.now }
     ensures table { seat.new.table_id ≡ seat.old.table_id }
     ensures view { seat.new.me.0 ≡ marked J.number J.marks seat.old.me.0 }
@@ -189,15 +183,10 @@ fn mark_as<J: Marking>(
 }
 
 // The view of a worker goes over a mark end.
-pub(crate) fn mark(
-    shared: &Shared,
-    seat: &mut Seat<(), View>,
-    number: u32,
-    marks: &List<(u32, u32)>,
-)
+pub(crate) fn mark(shared: &Shared, seat: &mut Seat<(), View>, number: u32, marks: &Marks)
     requires { seat.old.table_id ≡ shared.now }
     ensures table { seat.new.table_id ≡ seat.old.table_id }
-    ensures view { seat.new.me.0 ≡ marked number marks.now seat.old.me.0 }
+    ensures view { seat.new.me.0 ≡ marked number marks.now.pairs seat.old.me.0 }
 {
     mark_as::<Brand>(shared, seat, number, marks);
 }

@@ -3,7 +3,7 @@ ghost use Rattle.page_alloc.specs.Owners.{taken};
 ghost use Rattle.page_alloc.specs.FreeRuns.{IsSpanSize};
 ghost use Rattle.page_alloc.specs.Journal.{Legal, past_of};
 ghost use Rattle.page_bitmap.specs.declared.line.Line.{Line};
-ghost use Rattle.sweep_laws.specs.Lists.{has, rises};
+ghost use Rattle.sweep_laws.specs.Lists.{has};
 ghost use Rattle.span_laws.specs.TakeAnswers.{IsToldOf, TakesSpan, TriesSpan};
 ghost use Rattle.span_laws.specs.ScavengeAnswers.{StepsOnce};
 ghost use Rattle.span_laws.specs.BodyAsks.{IsEmptyBody};
@@ -21,7 +21,7 @@ use fallible_list::{List, NoMemory};
 use page_alloc::Pages;
 use page_bitmap::Line;
 use span_laws::{Refused, Said, Step};
-use span_state::Body;
+use span_state::{Body, Marks};
 use std::alloc::Global;
 
 impl Shared {
@@ -118,15 +118,15 @@ impl Shared {
     }
 
     /// Ends a mark phase (`mgc.go`, `gcMarkTermination`): the generation rises by 2, each span waits for its sweep, the
-    /// unswept sets become the swept ones, and all logs and the words 2 to 4 begin anew. `marks` has pairs of a first page
-    /// and an index, in rising order. No worker is out, and nothing was written since the driver was told of the journal.
-    pub fn next_generation(&mut self, driver: &mut Worker, marks: List<(u32, u32)>)
+    /// unswept sets become the swept ones, and all logs and the words 2 to 4 begin anew. `marks` names an object by the
+    /// first page of its span and its index. No worker is out, and nothing was written since the driver was told of the journal.
+    /// Takes no memory.
+    pub fn next_generation(&mut self, driver: &mut Worker, marks: &Marks)
         requires here { driver.old.here ≡ true }
         requires table { driver.old.table ≡ self.old }
-        requires rising { rises marks ≡ true }
-        requires may { MayMark driver.old.number driver.old.view marks }
+        requires may { MayMark driver.old.number driver.old.view marks.now.pairs }
         ensures table { self.new ≡ self.old }
-        ensures view { driver.new ≡ after_next marks driver.old }
+        ensures view { driver.new ≡ after_next marks.now.pairs driver.old }
     {
         let Some(lent) = &mut driver.lent else {
             unreachable!()

@@ -4,7 +4,7 @@
 //! tells which of these it is, and each move writes the word last. What is of no worker is written under the heap lock
 //! (lives and owners), by whoever has an index of it (sets), or by a mark end, while no worker has anything in hand.
 //! `docs/ownership-core.md` states the rules. [`step`] makes a move or refuses it; [`step_met`] is for a caller that proves
-//! what the move needs.
+//! what the move needs, and [`next_marked`] for such a caller that has the marks of a mark end and not their pairs.
 #![tactic(auto)]
 
 mod mark_end;
@@ -27,6 +27,7 @@ mod tries_sets;
 mod unpopped;
 mod words;
 
+pub use mark_end::next_marked;
 pub use run::run_moves;
 pub use state::Core;
 pub use steps::{step, step_met};

@@ -1,5 +1,6 @@
 -- The marks of one page.
 use Rattle.std.proofs.Common.{◌≡◌, ℕ, suc, eq-eqb, ◌<◌, ◌==◌, Bool, true, false, if◌then◌else◌, List, [], ◌∷◌, ◌++◌, length, get_or, map, refl, ap, arith}
+use Rattle.span_state.specs.MarkSet.{indices_at}
 use Rattle.sweep_laws.specs.ChangesOfLives.{marks_at}
 
 by_test : (b : Bool) (x : ℕ) (all front back : List ℕ) → all ≡ front ++ back → (if b then x ∷ all else all) ≡ (if b then x ∷ front else front) ++ back
@@ -19,3 +20,8 @@ all-here page (m ∷ ms) here = rw (eq-eqb m.0 page (here 0 m (omega arith))) (a
 pub seconds-here : (page : ℕ) (ms : List (ℕ × ℕ)) → ((k : ℕ) (d : ℕ × ℕ) → k < length ms → (get_or ms k d).0 ≡ page) → map (λ (m : ℕ × ℕ). m.1) ms ≡ marks_at page ms
 seconds-here page [] here = refl
 seconds-here page (m ∷ ms) here = rw (eq-eqb m.0 page (here 0 m (omega arith))) (ap (λ ns. m.1 ∷ ns) (seconds-here page ms (λ k d low. here (suc k) d (omega arith))))
+
+-- the marks of a page are its indices among the pairs
+pub marks-indices : (page : ℕ) (ms : List (ℕ × ℕ)) → indices_at page ms ≡ marks_at page ms
+marks-indices page [] = refl
+marks-indices page (m ∷ ms) = ap (λ (ns : List ℕ). if m.0 == page then m.1 ∷ ns else ns) (marks-indices page ms)

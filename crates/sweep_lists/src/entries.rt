@@ -3,9 +3,11 @@
 
 ghost use Rattle.std.specs.Prelude.{◌≡◌, ◌<◌, ◌≤◌, ◌==◌, nat_lt, [], ◌∷◌, ◌++◌, length, map, OnOk, OnErr, ◌^◌};
 ghost use Rattle.std.specs.List.{position};
+ghost use Rattle.sweep_laws.specs.ChangesOfLives.{marks_at};
 ghost use Rattle.sweep_laws.specs.Lists.{has, erase, put_cell};
 
 use fallible_list::NoMemory;
+use span_state::Marks;
 use std::alloc::Global;
 use std::marker::Model;
 
@@ -147,6 +149,14 @@ impl Entries<u32> {
     {
         let _ = self.items.resize(pairs.len(), 0);
         put_seconds(&mut self.items, pairs);
+    }
+
+    // Has the marked indices of a page in place of its own.
+    pub(crate) fn copy_marked(&mut self, marks: &Marks, page: u32)
+        requires { length (marks_at page marks.now.pairs) ≤ self.old.space }
+        ensures { self.new ≡ record self.old { items = marks_at page marks.now.pairs } }
+    {
+        marks.copy_indices(page, &mut self.items);
     }
 }
 

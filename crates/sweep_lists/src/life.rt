@@ -11,6 +11,7 @@ use crate::entries::Entries;
 use crate::indices::Indices;
 use crate::marks::run_of;
 use fallible_list::NoMemory;
+use span_state::Marks;
 
 /// A span from its Take to its Give.
 #[derive(Debug, Drop)]
@@ -101,6 +102,24 @@ impl Life {
         let run = run_of(marks, self.page, hint);
         self.keep_marks(&marks[run.start..run.end]);
         run.end
+    }
+
+    // Makes room for the marks of this life.
+    pub(crate) fn reserve_marked(&mut self, marks: &Marks) -> Result<(), NoMemory>
+        ensures view { life_view self.new ≡ life_view self.old }
+        ensures ok { OnOk result (length (marks_at self.new.page marks.now.pairs) ≤ self.new.kept.space) }
+        ensures room { LifeRoom self.old → LifeRoom self.new }
+        ensures full { OnErr result (self.old.kept.space < length (marks_at self.old.page marks.now.pairs)) }
+    {
+        self.kept.reserve(marks.len_at(self.page))
+    }
+
+    // What is kept is what is marked.
+    pub(crate) fn set_marked(&mut self, marks: &Marks)
+        requires { length (marks_at self.old.page marks.now.pairs) ≤ self.old.kept.space }
+        ensures { self.new ≡ marked marks.now.pairs 0 self.old }
+    {
+        self.kept.copy_marked(marks, self.page);
     }
 
     // What is kept is what some marks name, all of them in this life.

@@ -10,10 +10,11 @@ ghost use Rattle.sweep_lists.specs.Views.{life_view, LifeRoom};
 
 use crate::life::Life;
 use crate::places::{
-    allocate_at, first_at, keep_marked_at, make_place, mark_all, next_at, take_pages, tell_next,
-    tell_start,
+    allocate_at, first_at, keep_marked_at, make_place, mark_all, mark_all_by, next_at, take_pages,
+    tell_next, tell_start,
 };
 use fallible_list::NoMemory;
+use span_state::Marks;
 use std::alloc::Global;
 use std::marker::Model;
 
@@ -193,5 +194,15 @@ impl Lives {
     {
         make_place(&mut self.places, &mut self.starts, self.used + 1);
         mark_all(&mut self.places, marks)
+    }
+
+    /// Each life keeps its marks. It fails only where a life has more marks than objects.
+    pub fn mark_by(&mut self, marks: &Marks) -> Result<(), NoMemory>
+        ensures ok { OnOk result (self.new ≡ record self.old { items = map (mark_life marks.now.pairs) self.old.items }) }
+        ensures err { OnErr result (self.new ≡ self.old) }
+        ensures full { OnErr result (All (λ life. length (marks_at life.page marks.now.pairs) ≤ life.count) self.old.items → ⊥) }
+    {
+        make_place(&mut self.places, &mut self.starts, self.used + 1);
+        mark_all_by(&mut self.places, marks)
     }
 }

@@ -11,6 +11,7 @@ ghost use Rattle.sweep_lists.specs.There.{TellsPlaces, told, first_told};
 
 use crate::life::Life;
 use fallible_list::NoMemory;
+use span_state::Marks;
 
 // The first place whose life begins at a page: one look into the table for a page of the region, a scan for another.
 #[inline(always)]
@@ -262,5 +263,64 @@ fn set_marks_at(place: &mut Option<Life>, marks: &[(u32, u32)], hint: usize) -> 
     match place {
         Some(life) => life.set_marks(marks, hint),
         None => hint,
+    }
+}
+
+// Each life keeps its marks, out of the table of marks. It fails only where one has more marks than objects.
+pub(crate) fn mark_all_by(places: &mut [Option<Life>], marks: &Marks) -> Result<(), NoMemory>
+    ensures ok { OnOk result (map place_view places.new ≡ map (option_map (mark_life marks.now.pairs)) (map place_view places.old)) }
+    ensures err { OnErr result (map place_view places.new ≡ map place_view places.old) }
+    ensures room { All PlaceRoom places.old → All PlaceRoom places.new }
+    ensures full { OnErr result (All PlaceRoom places.old → All (λ life. length (marks_at life.page marks.now.pairs) ≤ life.count) (there (map place_view places.old)) → ⊥) }
+{
+    reserve_marked(places, marks)?;
+    set_marked(places, marks);
+    Ok(())
+}
+
+// Each life gets room for its marks. It fails only where one has more marks than objects.
+fn reserve_marked(places: &mut [Option<Life>], marks: &Marks) -> Result<(), NoMemory>
+    ensures view { map place_view places.new ≡ map place_view places.old }
+    ensures ok { OnOk result (All (λ place. IfSome place (λ life. length (marks_at life.page marks.now.pairs) ≤ life.kept.space)) places.new) }
+    ensures room { All PlaceRoom places.old → All PlaceRoom places.new }
+    ensures full { OnErr result (All PlaceRoom places.old → All (λ life. length (marks_at life.page marks.now.pairs) ≤ life.count) (there (map place_view places.old)) → ⊥) }
+{
+    for k in 0..places.len() {
+        reserve_marked_at(&mut places[k], marks)?;
+    }
+    Ok(())
+}
+
+// The life of a place gets room for its marks.
+fn reserve_marked_at(place: &mut Option<Life>, marks: &Marks) -> Result<(), NoMemory>
+    ensures view { place_view place.new ≡ place_view place.old }
+    ensures ok { OnOk result (IfSome place.new (λ life. length (marks_at life.page marks.now.pairs) ≤ life.kept.space)) }
+    ensures room { PlaceRoom place.old → PlaceRoom place.new }
+    ensures full { OnErr result (PlaceRoom place.old → IfSome (place_view place.old) (λ life. length (marks_at life.page marks.now.pairs) ≤ life.count) → ⊥) }
+{
+    match place {
+        Some(life) => life.reserve_marked(marks),
+        None => Ok(()),
+    }
+}
+
+// Each life keeps its marks.
+fn set_marked(places: &mut [Option<Life>], marks: &Marks)
+    requires { All (λ place. IfSome place (λ life. length (marks_at life.page marks.now.pairs) ≤ life.kept.space)) places.old }
+    ensures view { map place_view places.new ≡ map (option_map (mark_life marks.now.pairs)) (map place_view places.old) }
+    ensures room { All PlaceRoom places.old → All PlaceRoom places.new }
+{
+    for k in 0..places.len() {
+        set_marked_at(&mut places[k], marks);
+    }
+}
+
+// The life of a place keeps its marks.
+fn set_marked_at(place: &mut Option<Life>, marks: &Marks)
+    requires { IfSome place.old (λ life. length (marks_at life.page marks.now.pairs) ≤ life.kept.space) }
+    ensures { place.new ≡ marked_place marks.now.pairs 0 place.old }
+{
+    if let Some(life) = place {
+        life.set_marked(marks);
     }
 }

@@ -1,4 +1,5 @@
 use Rattle.std.proofs.Common.{List, subst}
+use Rattle.std.specs.Prelude.{IfOk}
 use Rattle.cache_rows.specs.declared.objects.Object.{Object}
 use Rattle.cache_rows.specs.Ready.{AreLive}
 use Rattle.cache_rows.proofs.Living.{grows-trans, objects-grow}
@@ -8,16 +9,11 @@ use Rattle.cache_rows.proofs.turns.prepare.Goals as goal
 pub returns-in_err-settle-clause-grows : goal.returns-in_err-settle-clause-grows
 returns-in_err-settle-clause-grows c = grows-trans c.args.hand.now.worker c.sweep_all.new.hand.worker c.settle.new.hand.worker c.sweep_all.ensures.grows c.settle.ensures.grows
 
-pub returns-in_err-marks-clause-grows : goal.returns-in_err-marks-clause-grows
-returns-in_err-marks-clause-grows c = grows-trans c.args.hand.now.worker c.sweep_all.new.hand.worker c.settle.new.hand.worker c.sweep_all.ensures.grows c.settle.ensures.grows
-
-pub returns-in_err-pairs-clause-grows : goal.returns-in_err-pairs-clause-grows
-returns-in_err-pairs-clause-grows c = grows-trans c.args.hand.now.worker c.sweep_all.new.hand.worker c.settle.new.hand.worker c.sweep_all.ensures.grows c.settle.ensures.grows
-
 pub returns-clause-grows : goal.returns-clause-grows
 returns-clause-grows c = grows-trans c.args.hand.now.worker c.sweep_all.new.hand.worker c.settle.new.hand.worker c.sweep_all.ensures.grows c.settle.ensures.grows
 
 pub returns-clause-prepared : goal.returns-clause-prepared
 returns-clause-prepared c = let r = c.settle.ensures.ready in
-    prepared c.args.shop.now.shared.now c.settle.new.hand.worker c.sweep_all.new.proc c.args.shop.now.marks.now c.in_ok-marks.marks c.args.objects.now c.in_ok-pairs.pairs r.served c.in_ok-settle.ensures.settled r.same_marks
-    (objects-grow c.args.hand.now.worker c.settle.new.hand.worker c.args.objects.now (grows-trans c.args.hand.now.worker c.sweep_all.new.hand.worker c.settle.new.hand.worker c.sweep_all.ensures.grows c.settle.ensures.grows) c.requires.objects) (subst (λ (os : List Object). AreLive c.args.shop.now.marks.now os c.in_ok-marks.marks) c.as_slice.ensures c.in_ok-marks.ensures) c.in_ok-pairs.ensures.pairs c.pairs.ensures.rising
+    prepared c.args.shop.now.shared.now c.settle.new.hand.worker c.sweep_all.new.proc c.args.shop.now.marks.now c.args.objects.now c.mark_all.result r.served c.in_ok-settle.ensures.settled r.same_marks
+    (objects-grow c.args.hand.now.worker c.settle.new.hand.worker c.args.objects.now (grows-trans c.args.hand.now.worker c.sweep_all.new.hand.worker c.settle.new.hand.worker c.sweep_all.ensures.grows c.settle.ensures.grows) c.requires.objects)
+    (subst (λ (os : List Object). IfOk c.mark_all.result (AreLive c.args.shop.now.marks.now os)) c.as_slice.ensures c.mark_all.ensures)

@@ -1,26 +1,21 @@
-use Rattle.std.proofs.Common.{◌≡◌, ℕ, List, ◌++◌, sym, subst}
+use Rattle.std.proofs.Common.{◌++◌, sym, subst}
 use Rattle.atomic_table.specs.Seated.{TableId}
-use Rattle.span_state.specs.MarkSet.{IsRising}
-use Rattle.span_laws.specs.MarkEndAsks.{MayMark}
-use Rattle.span_laws.specs.MarkEnds.{after_next}
 use Rattle.span_rows.specs.Rows.{HasTurned}
 use Rattle.span_rows.proofs.Driving.{may_mark, may_settle, seen_empty, turned, turned_cached, turned_region}
-use Rattle.span_rows.proofs.Rising.{rises-from}
 use Rattle.span_rows.proofs.turns.turn.Goals as goal
 
 pub returns-clause-turned : goal.returns-clause-turned
 returns-clause-turned c = let w = c.args.w.now in let w1 = c.sees_all_empty.new.w in let w2 = c.reset.new.driver in let w3 = c.settle.new.driver in let e = c.settle.ensures in
     subst (λ (x : TableId). HasTurned x c.args.marks.now.pairs c.next_generation.new.driver) (sym c.next_generation.ensures.table)
-    (turned c.args.shared.now w w1 w2 c.requires.free c.if-not-sees_all_empty.ensures c.reset.ensures c.args.marks.now.pairs w3 c.requires.generation (e.0 ++ w2.view.before) e.1 c.next_generation.new.driver
-    (subst (λ (m : List (ℕ × ℕ)). c.next_generation.new.driver ≡ after_next m w3) c.in_ok-pairs.ensures.pairs c.next_generation.ensures.view))
+    (turned c.args.shared.now w w1 w2 c.requires.free c.if-not-sees_all_empty.ensures c.reset.ensures c.args.marks.now.pairs w3 c.requires.generation (e.0 ++ w2.view.before) e.1 c.next_generation.new.driver c.next_generation.ensures.view)
 
 pub returns-clause-region : goal.returns-clause-region
 returns-clause-region c = let w3 = c.settle.new.driver in let e = c.settle.ensures in
-    turned_region c.args.shared.now c.args.w.now c.sees_all_empty.new.w c.reset.new.driver c.requires.free c.if-not-sees_all_empty.ensures c.reset.ensures c.in_ok-pairs.pairs w3 (e.0 ++ c.reset.new.driver.view.before) e.1 c.next_generation.new.driver c.next_generation.ensures.view
+    turned_region c.args.shared.now c.args.w.now c.sees_all_empty.new.w c.reset.new.driver c.requires.free c.if-not-sees_all_empty.ensures c.reset.ensures c.args.marks.now.pairs w3 (e.0 ++ c.reset.new.driver.view.before) e.1 c.next_generation.new.driver c.next_generation.ensures.view
 
 pub returns-clause-kept : goal.returns-clause-kept
 returns-clause-kept c = let w3 = c.settle.new.driver in let e = c.settle.ensures in
-    turned_cached c.args.shared.now c.args.w.now c.sees_all_empty.new.w c.reset.new.driver c.requires.free c.if-not-sees_all_empty.ensures c.reset.ensures c.in_ok-pairs.pairs w3 (e.0 ++ c.reset.new.driver.view.before) e.1 c.next_generation.new.driver c.next_generation.ensures.view
+    turned_cached c.args.shared.now c.args.w.now c.sees_all_empty.new.w c.reset.new.driver c.requires.free c.if-not-sees_all_empty.ensures c.reset.ensures c.args.marks.now.pairs w3 (e.0 ++ c.reset.new.driver.view.before) e.1 c.next_generation.new.driver c.next_generation.ensures.view
 
 pub reset-requires-clause-empty : goal.reset-requires-clause-empty
 reset-requires-clause-empty c = λ k l u. seen_empty c.args.shared.now c.args.w.now c.sees_all_empty.new.w c.requires.free c.if-not-sees_all_empty.ensures k l u
@@ -28,10 +23,6 @@ reset-requires-clause-empty c = λ k l u. seen_empty c.args.shared.now c.args.w.
 pub settle-requires-clause-may : goal.settle-requires-clause-may
 settle-requires-clause-may c = may_settle c.args.shared.now c.args.w.now c.sees_all_empty.new.w c.reset.new.driver c.requires.free c.if-not-sees_all_empty.ensures c.reset.ensures
 
-pub next_generation-requires-clause-rising : goal.next_generation-requires-clause-rising
-next_generation-requires-clause-rising c = rises-from c.in_ok-pairs.pairs (subst IsRising (sym c.in_ok-pairs.ensures.pairs) c.in_ok-pairs.ensures.rising)
-
 pub next_generation-requires-clause-may : goal.next_generation-requires-clause-may
 next_generation-requires-clause-may c = let e = c.settle.ensures in
-    subst (MayMark c.settle.new.driver.number c.settle.new.driver.view) (sym c.in_ok-pairs.ensures.pairs)
-    (may_mark c.args.shared.now c.args.w.now c.sees_all_empty.new.w c.reset.new.driver c.requires.free c.if-not-sees_all_empty.ensures c.reset.ensures c.args.marks.now.pairs c.settle.new.driver c.requires.placed c.requires.generation (e.0 ++ c.reset.new.driver.view.before) e.1)
+    may_mark c.args.shared.now c.args.w.now c.sees_all_empty.new.w c.reset.new.driver c.requires.free c.if-not-sees_all_empty.ensures c.reset.ensures c.args.marks.now.pairs c.settle.new.driver c.requires.placed c.requires.generation (e.0 ++ c.reset.new.driver.view.before) e.1

@@ -1,4 +1,4 @@
-use Rattle.std.proofs.Common.{◌≡◌, ℕ, List, [], ◌∷◌, ◌++◌, sym, subst, ◌∙◌}
+use Rattle.std.proofs.Common.{◌≡◌, ℕ, List, [], ◌∷◌, ◌++◌, sym, subst}
 use Rattle.atomic_table.specs.Seated.{TableId}
 use Rattle.span_laws.specs.MarkEndAsks.{MayMark}
 use Rattle.span_laws.specs.MarkEnds.{after_next}
@@ -10,7 +10,7 @@ pub returns-clause-turned : goal.returns-clause-turned
 returns-clause-turned c = let w = c.args.w.now in let w1 = c.sees_all_empty.new.w in let w2 = c.reset.new.driver in let w3 = c.settle.new.driver in let e = c.settle.ensures in
     subst (λ (x : TableId). HasTurned x ((c.args.page, 0) ∷ []) c.next_generation.new.driver) (sym c.next_generation.ensures.table)
     (turned c.args.shared.now w w1 w2 c.requires.free c.if-not-sees_all_empty.ensures c.reset.ensures ((c.args.page, 0) ∷ []) w3 c.requires.generation (e.0 ++ w2.view.before) e.1 c.next_generation.new.driver
-    (subst (λ (m : List (ℕ × ℕ)). c.next_generation.new.driver ≡ after_next m w3) (c.from_vec.ensures ∙ c.in_ok-marks.ensures.items) c.next_generation.ensures.view))
+    (subst (λ (m : List (ℕ × ℕ)). c.next_generation.new.driver ≡ after_next m w3) c.in_ok-marks.ensures c.next_generation.ensures.view))
 
 pub returns-clause-region : goal.returns-clause-region
 returns-clause-region c = let w3 = c.settle.new.driver in let e = c.settle.ensures in
@@ -24,5 +24,5 @@ settle-requires-clause-may c = may_settle c.args.shared.now c.args.w.now c.sees_
 
 pub next_generation-requires-clause-may : goal.next_generation-requires-clause-may
 next_generation-requires-clause-may c = let e = c.settle.ensures in
-    subst (MayMark c.settle.new.driver.number c.settle.new.driver.view) (sym (c.from_vec.ensures ∙ c.in_ok-marks.ensures.items))
+    subst (MayMark c.settle.new.driver.number c.settle.new.driver.view) (sym c.in_ok-marks.ensures)
     (may_mark c.args.shared.now c.args.w.now c.sees_all_empty.new.w c.reset.new.driver c.requires.free c.if-not-sees_all_empty.ensures c.reset.ensures ((c.args.page, 0) ∷ []) c.settle.new.driver (placed_one c.args.page c.args.w.now c.requires.placed) c.requires.generation (e.0 ++ c.reset.new.driver.view.before) e.1)

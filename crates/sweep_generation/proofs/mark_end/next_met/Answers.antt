@@ -1,23 +1,16 @@
-use Rattle.std.proofs.Common.{◌∙◌, ◌≤◌, ◌+◌, ◌^◌, List, length, map, ap, refl, sym, subst, arith}
+use Rattle.std.proofs.Common.{◌<◌, ◌^◌, ℕ, ap, subst, sym}
 use Rattle.std.proofs.lemmas.Bool.{ltb-true}
-use Rattle.std.specs.List.{All}
-use Rattle.sweep_lists.specs.declared.set.CoreSet.{CoreSet}
-use Rattle.sweep_lists.specs.declared.hand.CoreHand.{CoreHand}
 use Rattle.sweep_laws.specs.Needs.{next_needs}
 use Rattle.sweep_laws.specs.State.{CoreState}
 use Rattle.sweep_laws.proofs.NeedsMet.{all_met}
-use Rattle.sweep_lists.specs.Views.{set_view, HandRoom}
-use Rattle.sweep_generation.specs.Unpopped.{count_unpopped}
-use Rattle.sweep_generation.proofs.Seen.{kept-same-room, kept-sets, kept-hands, kept-generation}
+use Rattle.sweep_generation.proofs.Seen.{kept-same-room}
 use Rattle.sweep_generation.proofs.mark_end.next_met.Goals as goal
 
 pub invariant_of-core-2 : goal.invariant_of-core-2
-invariant_of-core-2 c =
+invariant_of-core-2 c = kept-same-room _ c.mark.new.self _ c.in_ok-mark.ensures.ok c.core.invariant
+
+pub begin_cycle-requires : goal.begin_cycle-requires
+begin_cycle-requires c =
     let met = all_met (next_needs c.args.core.now c.args.marks.now) c.requires.met in
-    let low = ltb-true c.args.core.now.generation (2 ^ 63) met.1.1.0 in
     let is = ap (λ (s : CoreState). s.generation) c.core.view_is in
-    let counted = c.count_unpopped-core-inside.ensures ∙ ap (λ (xs : List CoreSet). count_unpopped (c.core.inside.generation + 2) 0 (map set_view xs)) c.deref.ensures.value in
-    let k1 = kept-same-room _ c.mark.new.self _ c.in_ok-mark.ensures.ok c.core.invariant in
-    let k2 = kept-sets _ c.empty_unswept.new.sets (c.empty_unswept.ensures.room c.core.inside.room (subst (λ (xs : List CoreSet). All (λ (x : CoreSet). c.core.inside.room ≤ x.cells.space) xs) (sym c.deref_mut.ensures.value) c.core.invariant.sets_room)) _ refl k1 in
-    let k3 = kept-hands _ c.forget_swept.new.hands (c.forget_swept.ensures.room (length c.core.inside.words) c.core.inside.room (subst (λ (xs : List CoreHand). All (HandRoom (length c.core.inside.words) c.core.inside.room) xs) (sym c.deref_mut-2.ensures.value) c.core.invariant.hands_room)) k2 in
-    kept-generation _ (c.core.inside.generation + 2) (omega (arith, low, is)) c.count_unpopped-core-inside.result counted k3
+    subst (λ (n : ℕ). n < 2 ^ 63) (sym is) (ltb-true c.args.core.now.generation (2 ^ 63) met.1.1.0)

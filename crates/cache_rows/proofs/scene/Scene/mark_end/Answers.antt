@@ -7,7 +7,7 @@ pub invariant_of-self : goal.invariant_of-self
 invariant_of-self c = (c.prepare.ensures.ready, objects-grow c.self.inside.hand.worker c.prepare.new.hand.worker c.self.inside.objects c.prepare.ensures.grows c.self.invariant.1)
 
 pub invariant_of-self-2 : goal.invariant_of-self-2
-invariant_of-self-2 c = let p = c.in_ok-marks.ensures.prepared in (
-  c.turn.ensures c.in_ok-marks.marks p.same p.dead,
+invariant_of-self-2 c = (
+  c.turn.ensures,
   subst (AreObjects c.turn.new.hand.worker.view.own.log) (sym c.new.ensures) (objects-none c.turn.new.hand.worker.view.own.log),
 )

@@ -1,17 +1,12 @@
-use Rattle.std.proofs.Common.{◌≡◌, ◌≢◌, ℕ, ◌+◌, ◌<◌, length, get_or, Option, Some, None, sym, ◌∙◌, ap, subst, arith}
+use Rattle.std.proofs.Common.{◌≡◌, ℕ, ◌+◌, ◌<◌, length, get_or, Some, None, sym, ◌∙◌, ap, subst, arith}
 use Rattle.std.proofs.lemmas.List.{get_or_read}
 use Rattle.std.proofs.lemmas.Option.{slice_get-get_or}
 use Rattle.span_state.specs.MarkSet.{MarkSet}
-use Rattle.cycle_history.specs.declared.places.Place.{Place}
 use Rattle.cycle_history.specs.Places.{LiesAt}
 use Rattle.cycle_history.specs.Marked.{AreMarksBelow, IsMarkedAt}
-use Rattle.cycle_history.proofs.Settled.{below-marked, below-unmarked}
+use Rattle.cycle_history.proofs.Settled.{below-marked, below-unmarked, none-of}
 use Rattle.cycle_history.proofs.marks.Objects.mark_span.Goals.{in-Some+in_ok-add, in_default}
 use Rattle.cycle_history.proofs.marks.Objects.mark_span.Goals as goal
-
-none-of : (x : Option Place) → ((p : Place) → x ≢ Some p) → x ≡ None
-none-of None h = cc
-none-of (Some p) h = absurd (h p cc)
 
 pub loop-object-preserved : goal.loop-object-preserved
 loop-object-preserved c =

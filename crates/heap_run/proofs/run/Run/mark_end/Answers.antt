@@ -1,9 +1,10 @@
-use Rattle.std.proofs.Common.{◌≡◌, ℕ, suc, ◌+◌, ◌-◌, ◌<◌, ◌≤◌, List, length, reverse, refl, sym, ◌∙◌, ap, arith, subst}
+use Rattle.std.proofs.Common.{◌≡◌, ℕ, suc, ◌+◌, ◌-◌, ◌<◌, ◌≤◌, List, length, reverse, refl, ◌∙◌, ap, arith}
 use Rattle.std.proofs.lemmas.List.{length-map}
 use Rattle.cycle_history.proofs.OfObjects.{answers-before}
 use Rattle.cycle_history.specs.Marked.{AreMarksOf, objects_before}
+use Rattle.cycle_history.specs.Requests.{region_of}
 use Rattle.sound_run.proofs.OfObjects.{run-places}
-use Rattle.span_state.specs.MarkSet.{IsRising}
+use Rattle.run_laws.proofs.MarksOf.{live-apart}
 use Rattle.span_set.specs.declared.hand.Hand.{Hand}
 use Rattle.heap_run.specs.Runs.{HasBegun}
 use Rattle.heap_run.specs.declared.run.Run.{Run}
@@ -13,7 +14,7 @@ use Rattle.span_laws.specs.MarkEnds.{allocated_pairs}
 use Rattle.sample_laws.specs.Counted.{events_before}
 use Rattle.sample_laws.specs.Numbers.{number_of}
 use Rattle.heap_run.proofs.Telling.{few-marked}
-use Rattle.heap_run.proofs.Running.{few-answers, rises-from, some-cycle}
+use Rattle.heap_run.proofs.Running.{few-answers, some-cycle}
 use Rattle.heap_run.proofs.run.Run.mark_end.Goals as goal
 
 pub marks_of-requires-clause-answers : goal.marks_of-requires-clause-answers
@@ -42,8 +43,16 @@ marks_of-requires-clause-kept c =
     let back : c.args.cycle + 1 - 1 ≡ c.args.cycle = omega arith in
     rw back c.requires.ran.set.kept
 
-pub next_generation-requires-clause-rising : goal.next_generation-requires-clause-rising
-next_generation-requires-clause-rising c = rises-from c.in_ok-pairs.pairs (subst IsRising (sym c.in_ok-pairs.ensures.pairs) c.in_ok-pairs.ensures.rising)
+pub marks_of-requires-clause-before : goal.marks_of-requires-clause-before
+marks_of-requires-clause-before c =
+    let back : c.args.cycle + 1 - 1 ≡ c.args.cycle = omega arith in
+    rw back c.requires.ran.set.placed
+
+pub marks_of-requires-clause-apart : goal.marks_of-requires-clause-apart
+marks_of-requires-clause-apart c =
+    let ran = c.requires.ran in
+    let n : c.args.cycle + 1 ≡ suc c.args.cycle = omega arith in
+    rw n (live-apart c.args.trace.now (region_of c.args.trace.now) c.args.trace.now.header.goal c.args.cycle ran.past ran.objects c.args.self.now.answers ran.reached.run ran.asked)
 
 pub next_generation-requires-clause-may : goal.next_generation-requires-clause-may
 next_generation-requires-clause-may c =
@@ -53,9 +62,9 @@ next_generation-requires-clause-may c =
     let e : Hand = record { worker = c.reset.new.driver; notes = old.driver.notes; tally = old.driver.tally } in
     let few : length old.procs.items ≤ 64 = (let p = ran.set.procs in let h = c.requires.limits.header.procs.1 in omega arith) in
     let r = has-reset old.procs.items old.driver e ran.set.parts few ran.set.driving ran.flushed c.reset.ensures refl in
-    let found : AreMarksOf c.args.trace.now (suc c.args.cycle) old.answers old.sampled old.buckets c.in_ok-marks.marks = rw n at c.in_ok-marks.ensures.marks in
+    let found : AreMarksOf c.args.trace.now (suc c.args.cycle) old.answers old.sampled old.buckets c.marks_of.new.marks = rw n at c.in_ok-marks_of.ensures.marks in
     let early : c.args.cycle < 10001 = (let a = c.requires.before in let b = c.requires.limits.mark_ends in omega arith) in
-    may-mark c.args.trace.now c.args.cycle old e old.sampled old.buckets c.in_ok-marks.marks c.in_ok-pairs.pairs early few ran r found c.in_ok-pairs.ensures.pairs
+    may-mark c.args.trace.now c.args.cycle old e old.sampled old.buckets c.marks_of.new.marks c.marks_of.new.marks.pairs early few ran r found refl
 
 pub next_cycle-requires-clause-ring : goal.next_cycle-requires-clause-ring
 next_cycle-requires-clause-ring c = c.requires.ran.profiled.ring
@@ -93,12 +102,12 @@ returns-clause-begun c =
     let e : Hand = record { worker = c.reset.new.driver; notes = old.driver.notes; tally = old.driver.tally } in
     let few : length old.procs.items ≤ 64 = (let p = ran.set.procs in let h = c.requires.limits.header.procs.1 in omega arith) in
     let r = has-reset old.procs.items old.driver e ran.set.parts few ran.set.driving ran.flushed c.reset.ensures refl in
-    let found : AreMarksOf t (suc c.args.cycle) old.answers old.sampled old.buckets c.in_ok-marks.marks = rw n at c.in_ok-marks.ensures.marks in
+    let found : AreMarksOf t (suc c.args.cycle) old.answers old.sampled old.buckets c.marks_of.new.marks = rw n at c.in_ok-marks_of.ensures.marks in
     let new : Run = record {
       shared = c.next_generation.new.self;
       driver = record { worker = c.next_generation.new.driver; notes = old.driver.notes; tally = c.next_cycle.new.tally };
       procs = old.procs;
-      marks = c.in_ok-marks.marks;
+      marks = c.marks_of.new.marks;
       answers = old.answers;
       sweeps = old.sweeps;
       sampled = old.sampled;
@@ -107,12 +116,12 @@ returns-clause-begun c =
       places = c.marks_of.new.places;
       clear = c.marks_of.new.clear;
     } in
-    let kept : length c.marks_of.new.places ≡ objects_before t (suc c.args.cycle) = rw n at c.in_ok-marks.ensures.kept in
+    let kept : length c.marks_of.new.places ≡ objects_before t (suc c.args.cycle) = rw n at c.in_ok-marks_of.ensures.kept in
     let least = some-cycle 0 (λ _. ⊥) t.cycles c.requires.limits.cycles in
     let inside : c.args.cycle < length t.cycles = (let b = c.requires.before in omega arith) in
-    let begun : HasBegun t (suc c.args.cycle) new = mark-begins t c.args.cycle old new e c.in_ok-marks.marks c.in_ok-pairs.pairs ran (record {
+    let begun : HasBegun t (suc c.args.cycle) new = mark-begins t c.args.cycle old new e c.marks_of.new.marks c.marks_of.new.marks.pairs ran (record {
       reset = r;
-      same = c.in_ok-pairs.ensures.pairs;
+      same = refl;
       worker = c.next_generation.ensures.view;
       notes = refl;
       shared = c.next_generation.ensures.table;
@@ -135,7 +144,7 @@ returns-clause-begun c =
         read = c.in_ok-next_cycle.ensures.read;
       };
       kept = kept;
-      places = c.in_ok-marks.ensures.found;
-      clear = c.in_ok-marks.ensures.clear;
+      places = c.in_ok-marks_of.ensures.found;
+      clear = c.in_ok-marks_of.ensures.clear;
     }) in
     rw n begun

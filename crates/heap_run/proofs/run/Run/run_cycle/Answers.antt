@@ -238,6 +238,7 @@ returns-clause-ran g c =
       shared = refl;
       places = refl;
       clear = refl;
+      marks = refl;
       tallied = tallied;
     })
 
