@@ -199,7 +199,10 @@ class Recording(Folder):
             error = open(theirs, "w", closefd=False) if terminal else io.StringIO()
             with unittest.mock.patch("sys.stderr", error):
                 record.main(words)
-            said = os.read(ours, 10000).decode() if terminal else error.getvalue()
+            said = "" if terminal else error.getvalue()
+            # A terminal gives what was written in pieces. The last piece of progress clears its line.
+            while terminal and "\r\033[K" not in said:
+                said += os.read(ours, 10000).decode()
             self.assertEqual("\r90 lines of the log" in said, terminal)
         signal.signal(signal.SIGINT, signal.default_int_handler)
         os.close(ours)
