@@ -46,7 +46,7 @@ slice_clear b s n inside clear =
 
 -- bytes behind the line are taken
 pub kept_more : {S : Type 0} (left : S → Option (List ℕ)) (old new : Lines S) (n : ℕ)
-    → ((i : ℕ) → i < n → slice_index old.buffer (old.start + i) ≢ 10) → length old.buffer ≡ 8192
+    → ((i : ℕ) → i < n → slice_index old.buffer (old.start + i) ≢ 10) → length old.buffer ≡ 32768
     → old.begin + old.used ≡ old.start → old.start + n ≤ old.end
     → new.source.now ≡ old.source.now → new.buffer ≡ old.buffer → new.begin ≡ old.begin → new.start ≡ old.start + n → new.end ≡ old.end
     → new.used ≡ old.used + n → old.room ≡ new.room + n
@@ -75,7 +75,7 @@ with_feed b s n inside feed =
 
 -- a line is taken with its line feed
 pub takes_line : {S : Type 0} (left : S → Option (List ℕ)) (old new : Lines S) (n : ℕ)
-    → ((i : ℕ) → i < n → slice_index old.buffer (old.start + i) ≢ 10) → slice_index old.buffer (old.start + n) ≡ 10 → length old.buffer ≡ 8192
+    → ((i : ℕ) → i < n → slice_index old.buffer (old.start + i) ≢ 10) → slice_index old.buffer (old.start + n) ≡ 10 → length old.buffer ≡ 32768
     → old.start + n < old.end → n ≤ 120
     → new.source.now ≡ old.source.now → new.buffer ≡ old.buffer → new.begin ≡ old.start → new.start ≡ old.start + (n + 1) → new.end ≡ old.end
     → new.used ≡ n → old.room ≡ new.room + n + 1

@@ -314,9 +314,10 @@ fn numbers_of_all_lengths_are_written(rt: HostRuntime) -> Result<(), Fail> {
 #[test]
 fn a_failed_write_leaves_a_front(rt: HostRuntime) -> Result<(), Fail> {
     let alloc = rt.alloc();
-    // 990 bytes of the objects 0 to 99 and 11 bytes of each later one: of 8192, 8184 are those of the first 754
+    // 990 bytes of the objects 0 to 99, 11 bytes of each one up to 999 and 12 of each later one: of 32768, 32766 are those of the
+    // first 2823
     let long = Row {
-        answers: &[Answer::Zero; 1000],
+        answers: &[Answer::Zero; 4000],
         ..NOTHING
     };
     let none = written(alloc, long, &[0])?;
@@ -324,11 +325,16 @@ fn a_failed_write_leaves_a_front(rt: HostRuntime) -> Result<(), Fail> {
     assert!(rt; none.held.is_empty());
     let front = written(alloc, long, &[1])?;
     assert!(rt; !front.whole);
-    assert_eq!(rt; front.held.len(), 8184);
+    assert_eq!(rt; front.held.len(), 32766);
     assert!(rt; front.held.as_slice().starts_with(b"o 0 zero\no 1 zero\n"));
-    assert!(rt; front.held.as_slice().ends_with(b"o 752 zero\no 753 zero\n"));
+    assert!(rt;
+        front
+            .held
+            .as_slice()
+            .ends_with(b"o 2821 zero\no 2822 zero\n")
+    );
     let all = written(alloc, long, &[])?;
     assert!(rt; all.whole);
-    assert_eq!(rt; all.held.len(), 10894);
+    assert_eq!(rt; all.held.len(), 46894);
     Ok(())
 }

@@ -26,29 +26,31 @@ fn faults_before_a_failed_read(rt: HostRuntime) -> Result<(), Fail> {
     Ok(())
 }
 
-// A trace of three blocks and a rest, over streams that give and take whole blocks: 2000 events of 11 bytes. The report has
-// lines of 17 to 20 bytes, and a block of it is as many whole lines as 8192 bytes hold.
+// A trace of three blocks, over streams that give and take whole blocks: 8000 events of 11 bytes. The report has lines of 17 to 20
+// bytes, and a block of it is as many whole lines as 32768 bytes hold.
 #[test]
 fn each_block_fails(rt: HostRuntime) -> Result<(), Fail> {
     let alloc = rt.alloc();
     let header = "heap 1 procs 1 rate 0 seed 1 goal 512";
-    let input = repeated(alloc, header, "a 0 16 n 2\n", 2000)?;
-    let mut report = placed(alloc, 2000, 16)?;
-    report.push_str(
-        "j 0 0 take 0 1 5\nj 1 0 take 1 1 5\nj 2 0 take 2 1 5\nj 3 0 take 3 1 5\nt 2 2000 0\nend\n",
-    )?;
+    let input = repeated(alloc, header, "a 0 16 n 2\n", 8000)?;
+    let mut report = placed(alloc, 8000, 16)?;
+    for page in 0..16u32 {
+        let line = format!(in alloc; "j {page} 0 take {page} 1 5\n")?;
+        report.push_str(line.as_str())?;
+    }
+    report.push_str("t 2 8000 0\nend\n")?;
     let rows: [(&[u64], &[u64], u8, usize); 11] = [
         (&[0], &[], 5, 0),
         (&[1], &[], 5, 0),
         (&[2], &[], 5, 0),
         (&[3], &[], 5, 0),
-        (&[4], &[], 0, 38973),
+        (&[4], &[], 0, 159189),
         (&[], &[0], 6, 0),
-        (&[], &[1], 6, 8174),
-        (&[], &[2], 6, 16363),
-        (&[], &[3], 6, 24550),
-        (&[], &[4], 6, 32730),
-        (&[], &[5], 0, 38973),
+        (&[], &[1], 6, 32750),
+        (&[], &[2], 6, 65510),
+        (&[], &[3], 6, 98270),
+        (&[], &[4], 6, 131030),
+        (&[], &[5], 0, 159189),
     ];
     for (reads, writes, status, held) in rows {
         let found = call(&rt, &["run"], input.as_bytes(), reads, writes)?;
@@ -60,6 +62,6 @@ fn each_block_fails(rt: HostRuntime) -> Result<(), Fail> {
             "at {reads:?} {writes:?}"
         );
     }
-    assert_eq!(rt; report.len(), 38973);
+    assert_eq!(rt; report.len(), 159189);
     Ok(())
 }

@@ -5,7 +5,7 @@ ghost use Rattle.std.specs.Prelude.{◌≡◌, ◌≤◌, ◌-◌, ◌==◌, ◌
 use std::marker::Model;
 
 /// The bytes of the buffer.
-pub(super) const BUFFER: usize = 8192;
+pub(super) const BUFFER: usize = 32768;
 
 /// Bytes that wait in a buffer; contracts see them and the room behind them.
 #[derive(Drop)]
@@ -18,14 +18,14 @@ pub(super) struct Waiting {
 impl Model for Waiting {
     ghost Value = { List ℕ × ℕ };
 
-    ghost view = { λ w. (drop w.start (take w.end w.buffer), 8192 - w.end) };
+    ghost view = { λ w. (drop w.start (take w.end w.buffer), 32768 - w.end) };
 
-    ghost invariant = { λ w. (w.start ≤ w.end) × (w.end ≤ 8192) };
+    ghost invariant = { λ w. (w.start ≤ w.end) × (w.end ≤ 32768) };
 }
 
 impl Waiting {
     pub(super) fn new() -> Self
-        ensures { result ≡ ([], 8192) }
+        ensures { result ≡ ([], 32768) }
     {
         Waiting {
             buffer: [0; BUFFER],
@@ -75,7 +75,7 @@ impl Waiting {
 
     /// Lets go of all.
     pub(super) fn clear(&mut self)
-        ensures { self.new ≡ ([], 8192) }
+        ensures { self.new ≡ ([], 32768) }
     {
         self.start = 0;
         self.end = 0;
