@@ -1,4 +1,4 @@
-ghost use Rattle.std.specs.Prelude.{◌≡◌, ◌-◌, ◌≤◌, ◌⊎◌, length, take, IfOk, OnOk};
+ghost use Rattle.std.specs.Prelude.{◌≡◌, ◌-◌, ◌≤◌, ◌⊎◌, [], length, take, IfOk, OnOk};
 ghost use Rattle.cycle_history.specs.Marked.{AreClear, ArePlacesOf, objects_before};
 ghost use Rattle.cycle_history.specs.Found.{AreFound};
 ghost use Rattle.history_rows.specs.Example.{answers, event_of_size, example};
@@ -86,6 +86,29 @@ fn first_answers(alloc: Global, count: usize) -> Result<List<Answer>, NoMemory>
     Ok(List::from_vec(Vec::from_slice(alloc, &all[..count])?))
 }
 
+// What is kept from mark end to mark end: where the objects lie, of how many first ones none is sampled, and the marks.
+#[derive(Drop)]
+struct Kept {
+    places: List<PackedPlace>,
+    clear: usize,
+    marks: Marks,
+}
+
+impl Kept {
+    // What is kept before the first mark end.
+    fn nothing(alloc: Global) -> Self
+        ensures places { result.places ≡ [] }
+        ensures clear { result.clear ≡ 0 }
+        ensures marks { result.marks.pairs ≡ [] }
+    {
+        Kept {
+            places: List::new(alloc),
+            clear: 0,
+            marks: Marks::empty(alloc),
+        }
+    }
+}
+
 // The bucket of object n is n + 10.
 fn next_marks(
     alloc: Global,
@@ -93,73 +116,62 @@ fn next_marks(
     mark: u32,
     count: usize,
     sampled: &[bool; 8],
-    places: &mut List<PackedPlace>,
-    clear: &mut usize,
-    marks: &mut Marks,
+    kept: &mut Kept,
 ) -> Result<(), NoMemory>
     requires trace { trace.now ≡ example }
     requires mark { ((mark ≡ 1) × (count ≡ 5)) ⊎ ((mark ≡ 2) × (count ≡ 8)) }
-    requires kept { length places.old ≡ objects_before example (mark - 1) }
-    requires found { AreFound example (take count answers) places.old }
-    requires clear { AreClear (take count sampled.now) clear.old }
-    requires before { ArePlacesOf example (mark - 1) (take count answers) marks.old }
-    ensures marks { OnOk result (ArePlacesOf example mark (take count answers) marks.new) }
-    ensures kept { OnOk result (length places.new ≡ count) }
-    ensures found { OnOk result (AreFound example (take count answers) places.new) }
-    ensures clear { OnOk result (AreClear (take count sampled.now) clear.new) }
+    requires kept { length kept.old.places ≡ objects_before example (mark - 1) }
+    requires found { AreFound example (take count answers) kept.old.places }
+    requires clear { AreClear (take count sampled.now) kept.old.clear }
+    requires before { ArePlacesOf example (mark - 1) (take count answers) kept.old.marks }
+    ensures marks { OnOk result (ArePlacesOf example mark (take count answers) kept.new.marks) }
+    ensures kept { OnOk result (length kept.new.places ≡ count) }
+    ensures found { OnOk result (AreFound example (take count answers) kept.new.places) }
+    ensures clear { OnOk result (AreClear (take count sampled.now) kept.new.clear) }
 {
     let answers = first_answers(alloc, count)?;
     let buckets = [10, 11, 12, 13, 14, 15, 16, 17];
     let sampled = List::from_vec(Vec::from_slice(alloc, &sampled[..count])?);
     let buckets = List::from_vec(Vec::from_slice(alloc, &buckets[..count])?);
     marks_of(
-        alloc, trace, mark, &answers, &sampled, &buckets, places, clear, marks,
+        alloc,
+        trace,
+        mark,
+        &answers,
+        &sampled,
+        &buckets,
+        &mut kept.places,
+        &mut kept.clear,
+        &mut kept.marks,
     )
 }
 
 #[test]
 fn marks_of_two_mark_ends(rt: HostRuntime) -> Result<(), Fail> {
     let trace = trace(rt.alloc())?;
-    let mut places = List::new(rt.alloc());
-    let mut clear = 0;
-    let mut marks = Marks::empty(rt.alloc());
+    let mut kept = Kept::nothing(rt.alloc());
     // all but objects 3 and 7
     let sampled = [true, true, true, false, true, true, true, false];
 
     // object 2 is marked, but of size 0
-    next_marks(
-        rt.alloc(),
-        &trace,
-        1,
-        5,
-        &sampled,
-        &mut places,
-        &mut clear,
-        &mut marks,
-    )?;
-    assert_eq!(rt; marks.pairs()?.as_slice(), [(0, 0), (3, 8)].as_slice());
+    next_marks(rt.alloc(), &trace, 1, 5, &sampled, &mut kept)?;
+    assert_eq!(rt; kept.marks.pairs()?.as_slice(), [(0, 0), (3, 8)].as_slice());
     for (page, dead) in [
         (0, [11].as_slice()),
         (5, [14].as_slice()),
         (3, [].as_slice()),
     ] {
-        assert_eq!(rt; marks.dead(page), dead, "at page {page}");
+        assert_eq!(rt; kept.marks.dead(page), dead, "at page {page}");
     }
 
     // object 6 is marked, but refused; object 3 dies, but isn't sampled; objects 1 and 4 died before
-    next_marks(
-        rt.alloc(),
-        &trace,
-        2,
-        8,
-        &sampled,
-        &mut places,
-        &mut clear,
-        &mut marks,
-    )?;
-    assert_eq!(rt; marks.pairs()?.as_slice(), [(0, 0), (10, 340)].as_slice());
+    next_marks(rt.alloc(), &trace, 2, 8, &sampled, &mut kept)?;
+    assert_eq!(rt;
+        kept.marks.pairs()?.as_slice(),
+        [(0, 0), (10, 340)].as_slice()
+    );
     for (page, dead) in [(0, [15].as_slice()), (3, [].as_slice()), (5, [].as_slice())] {
-        assert_eq!(rt; marks.dead(page), dead, "at page {page}");
+        assert_eq!(rt; kept.marks.dead(page), dead, "at page {page}");
     }
     Ok(())
 }
@@ -169,43 +181,26 @@ fn marks_of_two_mark_ends(rt: HostRuntime) -> Result<(), Fail> {
 #[test]
 fn marks_of_two_mark_ends_where_none_is_sampled(rt: HostRuntime) -> Result<(), Fail> {
     let trace = trace(rt.alloc())?;
-    let mut places = List::new(rt.alloc());
-    let mut clear = 0;
-    let mut marks = Marks::empty(rt.alloc());
+    let mut kept = Kept::nothing(rt.alloc());
     let sampled = [false; 8];
 
     // objects 1 and 4 die
-    next_marks(
-        rt.alloc(),
-        &trace,
-        1,
-        5,
-        &sampled,
-        &mut places,
-        &mut clear,
-        &mut marks,
-    )?;
-    assert_eq!(rt; clear, 5);
-    assert_eq!(rt; marks.pairs()?.as_slice(), [(0, 0), (3, 8)].as_slice());
+    next_marks(rt.alloc(), &trace, 1, 5, &sampled, &mut kept)?;
+    assert_eq!(rt; kept.clear, 5);
+    assert_eq!(rt; kept.marks.pairs()?.as_slice(), [(0, 0), (3, 8)].as_slice());
     for page in [0, 3, 5] {
-        assert!(rt; marks.dead(page).is_empty(), "at page {page}");
+        assert!(rt; kept.marks.dead(page).is_empty(), "at page {page}");
     }
 
     // objects 3 and 5 die
-    next_marks(
-        rt.alloc(),
-        &trace,
-        2,
-        8,
-        &sampled,
-        &mut places,
-        &mut clear,
-        &mut marks,
-    )?;
-    assert_eq!(rt; clear, 8);
-    assert_eq!(rt; marks.pairs()?.as_slice(), [(0, 0), (10, 340)].as_slice());
+    next_marks(rt.alloc(), &trace, 2, 8, &sampled, &mut kept)?;
+    assert_eq!(rt; kept.clear, 8);
+    assert_eq!(rt;
+        kept.marks.pairs()?.as_slice(),
+        [(0, 0), (10, 340)].as_slice()
+    );
     for page in [0, 3, 5, 10] {
-        assert!(rt; marks.dead(page).is_empty(), "at page {page}");
+        assert!(rt; kept.marks.dead(page).is_empty(), "at page {page}");
     }
     Ok(())
 }

@@ -7,7 +7,7 @@ use Rattle.history_rows.proofs.Facts.{limited}
 use Rattle.history_rows.proofs.tests.marks_of_two_mark_ends_where_none_is_sampled.Goals as goal
 
 pub next_marks-requires-clause-before : goal.next_marks-requires-clause-before
-next_marks-requires-clause-before g c = no-marks example (take 5 answers) c.empty-marks.result c.empty-marks.ensures.pairs
+next_marks-requires-clause-before g c = no-marks example (take 5 answers) c.nothing-kept.result.marks c.nothing-kept.ensures.marks
 
 pub next_marks-requires-2-clause-found : goal.next_marks-requires-2-clause-found
 next_marks-requires-2-clause-found g c = (
@@ -16,4 +16,4 @@ next_marks-requires-2-clause-found g c = (
 
 pub next_marks-requires-2-clause-before : goal.next_marks-requires-2-clause-before
 next_marks-requires-2-clause-before g c =
-    marks-grow example 1 (take 5 answers) (Placed 0xc000000010 ∷ Missed 4 ∷ Placed 0xc000015fe0 ∷ []) c.next_marks.new.marks limited refl c.in_ok-next_marks.ensures.marks
+    marks-grow example 1 (take 5 answers) (Placed 0xc000000010 ∷ Missed 4 ∷ Placed 0xc000015fe0 ∷ []) c.next_marks.new.kept.marks limited refl c.in_ok-next_marks.ensures.marks

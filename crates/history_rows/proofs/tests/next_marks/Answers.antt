@@ -17,13 +17,13 @@ marks_of-requires-clause-kept c = c.requires.kept ∙ ap (λ (t : Trace). object
 
 pub marks_of-requires-clause-found : goal.marks_of-requires-clause-found
 marks_of-requires-clause-found c =
-    subst (λ (t : Trace). AreFound t c.in_ok-answers.answers c.args.places.now) (sym c.requires.trace)
-    (subst (λ (xs : List Answer). AreFound example xs c.args.places.now) (sym c.in_ok-answers.ensures) c.requires.found)
+    subst (λ (t : Trace). AreFound t c.in_ok-answers.answers c.args.kept.now.places) (sym c.requires.trace)
+    (subst (λ (xs : List Answer). AreFound example xs c.args.kept.now.places) (sym c.in_ok-answers.ensures) c.requires.found)
 
 pub marks_of-requires-clause-before : goal.marks_of-requires-clause-before
 marks_of-requires-clause-before c =
-    subst (λ (t : Trace). ArePlacesOf t (c.args.mark - 1) c.in_ok-answers.answers c.args.marks.now) (sym c.requires.trace)
-    (subst (λ (xs : List Answer). ArePlacesOf example (c.args.mark - 1) xs c.args.marks.now) (sym c.in_ok-answers.ensures) c.requires.before)
+    subst (λ (t : Trace). ArePlacesOf t (c.args.mark - 1) c.in_ok-answers.answers c.args.kept.now.marks) (sym c.requires.trace)
+    (subst (λ (xs : List Answer). ArePlacesOf example (c.args.mark - 1) xs c.args.kept.now.marks) (sym c.in_ok-answers.ensures) c.requires.before)
 
 pub marks_of-requires-clause-apart : goal.marks_of-requires-clause-apart
 marks_of-requires-clause-apart c =
