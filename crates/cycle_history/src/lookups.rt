@@ -21,8 +21,8 @@ pub(crate) fn spans_at(trace: &Trace, mark: u32) -> &[Span]
     }
 }
 
-/// A walk along spans that rise, beside numbers that do so too: each number is asked for at most once, alone or in a
-/// run, and no span is looked at again that ends below it.
+/// A walk along spans that rise, beside numbers that do so too: each number is asked for at most once, in a run, and no span is
+/// looked at again that ends below it.
 #[derive(Drop)]
 pub(crate) struct Walk<'a> {
     /// The spans.
@@ -33,18 +33,6 @@ pub(crate) struct Walk<'a> {
 
 impl Walk<'_> {
     ghost use Rattle.cycle_history.specs.MarkedLoops.{IsBehind};
-
-    /// Whether one of the spans has the number.
-    pub(crate) fn has(&mut self, number: usize) -> bool
-        requires rise { AreSpans 0 self.old.spans.now }
-        requires behind { IsBehind self.old number }
-        ensures has { result ≡ is_within self.old.spans.now number }
-        ensures spans { self.new.spans.now ≡ self.old.spans.now }
-        ensures behind { IsBehind self.new (number + 1) }
-    {
-        self.pass(number);
-        self.next < self.spans.len() && self.spans[self.next].lo as usize <= number
-    }
 
     /// Whether one of the spans has the number, and up to which number, the end at most, the answer stays the same.
     pub(crate) fn run(&mut self, number: usize, end: usize) -> (bool, usize)

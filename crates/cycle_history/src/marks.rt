@@ -14,11 +14,8 @@ use span_state::Marks;
 use std::alloc::Global;
 use trace_reader::Trace;
 
-// So many objects are looked at at once for one that is sampled,
+// So many objects are looked at at once for one that is sampled.
 const STRIDE: usize = 8;
-
-// and so many are gone through one by one from the stride on that has one.
-const PIECE: usize = 64;
 
 /// Makes the marks of mark end `mark`, from 1 to the trace's last: the places of the objects that it marks, and for each page
 /// the buckets of the sampled objects that lay there, lived in the cycle before and are not marked.
@@ -31,8 +28,8 @@ const PIECE: usize = 64;
 /// objects before the mark end before, and gets those of the cycle behind it, so that each object's place is found once.
 /// `clear` is kept, too: none of so many first objects is sampled.
 ///
-/// It takes time in the objects of that cycle, in the spans of the mark end and of the one before it, in the objects that
-/// only the one before marks and, where some object is sampled, in all that it marks, and in nothing else.
+/// It takes time in the objects of that cycle, in the spans of the mark end and of the one before it, and in the objects that
+/// only the one before marks, and in nothing else.
 pub fn marks_of(
     alloc: Global,
     trace: &Trace,
@@ -214,8 +211,7 @@ impl Objects<'_> {
         self.bury(marks, &mut marked, first, self.answers.len())
     }
 
-    // Does so for the objects from low up to high, all of which lived. Few are sampled, or none: strides of them are passed over
-    // where no object is, and the others are gone through one by one.
+    // Does so for the objects from low up to high, all of which lived. Those that the mark end marks are passed over in runs.
     #[inline(always)]
     fn bury(
         &self,
@@ -235,38 +231,30 @@ impl Objects<'_> {
         ensures behind { OnOk result (IsBehind marked.new high) }
         ensures below { OnOk result (AreMarksBelow self.now.trace.now self.now.mark self.now.answers.now self.now.sampled.now self.now.buckets.now (length self.now.answers.now) high marks.new) }
     {
-        let mut next = pass_unset(self.sampled, low, high);
+        let mut next = low;
         while next < high {
-            let end = next + PIECE.min(high - next);
-            self.bury_each(marks, marked, next, end)?;
-            next = pass_unset(self.sampled, end, high);
+            let (lives, end) = marked.run(next, high);
+            if !lives {
+                self.bury_run(marks, next, end)?;
+            }
+            next = end;
         }
         Ok(())
     }
 
-    // Does so for each of the objects from low up to high. It stands alone, so that where none is sampled little is done.
-    #[inline(never)]
-    fn bury_each(
-        &self,
-        marks: &mut Marks,
-        marked: &mut Walk,
-        low: usize,
-        high: usize,
-    ) -> Result<(), NoMemory>
+    // Does so for the objects from low up to high, all of which died.
+    fn bury_run(&self, marks: &mut Marks, low: usize, high: usize) -> Result<(), NoMemory>
         requires given { AreOf self.now }
         requires order { low ≤ high }
         requires high { high ≤ length self.now.answers.now }
         requires lived { (i : ℕ) → low ≤ i → i < high → LivedBefore self.now.trace.now self.now.mark i }
-        requires spans { marked.old.spans.now ≡ marks_at self.now.trace.now self.now.mark }
-        requires behind { IsBehind marked.old low }
+        requires unmarked { (i : ℕ) → low ≤ i → i < high → marked_by self.now.trace.now self.now.mark i ≡ false }
         requires below { AreMarksBelow self.now.trace.now self.now.mark self.now.answers.now self.now.sampled.now self.now.buckets.now (length self.now.answers.now) low marks.old }
-        ensures spans { marked.new.spans.now ≡ marked.old.spans.now }
-        ensures behind { OnOk result (IsBehind marked.new high) }
-        ensures below { OnOk result (AreMarksBelow self.now.trace.now self.now.mark self.now.answers.now self.now.sampled.now self.now.buckets.now (length self.now.answers.now) high marks.new) }
+        ensures { OnOk result (AreMarksBelow self.now.trace.now self.now.mark self.now.answers.now self.now.sampled.now self.now.buckets.now (length self.now.answers.now) high marks.new) }
     {
         let sampled = self.sampled;
         for object in low..high {
-            if sampled[object] && !marked.has(object) {
+            if sampled[object] {
                 self.bury_one(marks, object)?;
             }
         }
@@ -295,27 +283,25 @@ fn clear_end(flags: &[bool], known: usize) -> usize
     requires { AreClear flags.now known }
     ensures clear { AreClear flags.now result }
 {
-    let mut end = pass_unset(flags, known, flags.len());
+    let mut end = pass_unset(flags, known);
     while end < flags.len() && !flags[end] {
         end += 1;
     }
     end
 }
 
-// How far whole strides of flags from low on have none that is set, up to high. The last of them may reach beyond high.
-fn pass_unset(flags: &[bool], low: usize, high: usize) -> usize
-    requires order { low ≤ high }
-    requires high { high ≤ length flags.now }
+// How far whole strides of flags from low on have none that is set.
+fn pass_unset(flags: &[bool], low: usize) -> usize
+    requires { low ≤ length flags.now }
     ensures order { low ≤ result }
-    ensures high { result ≤ high }
+    ensures inside { result ≤ length flags.now }
     ensures unset { (i : ℕ) → low ≤ i → i < result → slice_index_or flags.now i false ≡ false }
 {
-    let bound = high.min(flags.len().saturating_sub(STRIDE - 1));
     let mut end = low;
-    while end < bound && !is_any_set(flags, end) {
+    while STRIDE <= flags.len() - end && !is_any_set(flags, end) {
         end += STRIDE;
     }
-    end.min(high)
+    end
 }
 
 // Whether any flag of the stride that begins at the start is set. All are looked at, so that one compare does.
