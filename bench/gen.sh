@@ -27,7 +27,7 @@ time_of() {
 
 # The most bytes of memory of a run.
 peak() {
-  /usr/bin/time -f %M -o "$text.peak" crates/alloc_tool/out/alloc_tool gen 1 "$1" >/dev/null
+  /usr/bin/time -f %M -o "$text.peak" crates/goheap/out/goheap gen 1 "$1" >/dev/null
   echo $(($(cat "$text.peak") * 1024))
 }
 

@@ -39,7 +39,7 @@ C
 cc -shared -fPIC -O1 -o "$folder/refuse.so" "$folder/refuse.c" -ldl
 
 ./goheap run <examples/one-object.trace >/dev/null # built, if need be, before anything is refused
-program=crates/alloc_tool/out/alloc_tool
+program=crates/goheap/out/goheap
 runs=0
 told=0
 failed=0

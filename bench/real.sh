@@ -11,7 +11,7 @@ trace=$(readlink -f "$1")
 . "$(dirname "$(readlink -f "$0")")/timing.sh"
 awk=${AWK:-awk}
 rounds=9
-program=crates/alloc_tool/out/alloc_tool
+program=crates/goheap/out/goheap
 
 cp "$trace" "$folder/real"
 (head -2 "$trace"; echo end) >"$folder/empty"

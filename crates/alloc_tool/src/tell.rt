@@ -13,7 +13,7 @@ use text_line::TextLine;
 use trace_reader::{TraceFault, Which};
 
 /// Words that are not known: tells the usage, and answers the status.
-pub(crate) fn refuse_words<E: Sink>(errors: &mut E) -> u8
+pub fn refuse_words<E: Sink>(errors: &mut E) -> u8
     ensures status { result ≡ 2 }
     ensures told { Tells E.held E.faults errors.old errors.new usage }
 {
@@ -34,7 +34,7 @@ pub(crate) fn stop_writing<E: Sink>(errors: &mut E) -> u8
 }
 
 /// A trace that was not taken, or want of memory: tells why, and answers the status.
-pub(crate) fn refuse_trace<E: Sink>(errors: &mut E, fault: TraceFault) -> u8
+pub fn refuse_trace<E: Sink>(errors: &mut E, fault: TraceFault) -> u8
     ensures status { result ≡ fault_status fault }
     ensures told { Tells E.held E.faults errors.old errors.new (fault_text fault) }
 {

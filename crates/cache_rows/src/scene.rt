@@ -45,20 +45,17 @@ impl Scene {
             seed: 1,
             goal: 512,
         };
-        let (shared, driver) = Shared::new(alloc, 1, 512)?;
-        let (ring, tally) = Ring::new(alloc, 2)?;
-        let marks = Marks::empty(alloc);
-        let hand = Hand::new(alloc, driver, tally);
         let proc = Proc::new(alloc, 0, &header)?;
-        let objects = List::new(alloc);
+        let (ring, tally) = Ring::new(alloc, 2)?;
+        let (shared, driver) = Shared::new(alloc, 1, 512)?;
         Ok(Scene {
             alloc,
             shared,
-            marks,
+            marks: Marks::empty(alloc),
             ring,
-            hand,
+            hand: Hand::new(alloc, driver, tally),
             proc,
-            objects,
+            objects: List::new(alloc),
             pages: 0,
         })
     }

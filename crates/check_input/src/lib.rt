@@ -8,6 +8,3 @@ mod stop;
 pub use judge::{Judge, check_input};
 pub use read::read_pair;
 pub use stop::{Stop, Verdict};
-
-#[cfg(test)]
-mod tests;

@@ -4,6 +4,3 @@
 mod write;
 
 pub use write::write_classes;
-
-#[cfg(test)]
-mod tests;

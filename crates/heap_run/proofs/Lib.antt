@@ -6,7 +6,6 @@ pub mod Ended
 pub mod Cycles
 pub mod Parts
 pub mod Acted
-pub mod Queued
 pub mod Gains
 pub mod Driving
 pub mod Reaching

@@ -55,7 +55,7 @@ use Rattle.heap_run.specs.Counts.{Counts, HaveSampled, countdown_at, dead_at}
 use Rattle.heap_run.specs.Profiled.{HasCountedIn, IsProfiled, IsToldIn}
 use Rattle.heap_run.specs.Runs.{HasBegun}
 use Rattle.heap_run.specs.declared.run.Run.{Run}
-use Rattle.heap_run.proofs.Queued.{answers-reverse, events-reverse}
+use Rattle.run_lists.proofs.Queued.{answers-reverse, events-reverse}
 use Rattle.heap_run.proofs.Reaching.{Goes, map-reverse}
 use Rattle.heap_run.proofs.Unsampled.{none-sample}
 

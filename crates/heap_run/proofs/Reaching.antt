@@ -38,7 +38,7 @@ use Rattle.heap_run.specs.Settled.{HasSettled}
 use Rattle.heap_run.specs.Swept.{AreCollected}
 use Rattle.heap_run.specs.Turns.{HaveAnswered, SaysAnswers}
 use Rattle.heap_run.proofs.Ended.{ended-facts}
-use Rattle.heap_run.proofs.Queued.{answers-reverse, events-reverse}
+use Rattle.run_lists.proofs.Queued.{answers-reverse, events-reverse}
 use Rattle.heap_run.proofs.Served.{AreObjects, objects-of}
 use Rattle.heap_run.proofs.Sorted.{notes-sorted}
 

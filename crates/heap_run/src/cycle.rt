@@ -11,11 +11,11 @@ ghost use Rattle.heap_run.specs.Counts.{AreNumbered, Counts, HaveSampled, KeepCo
 ghost use Rattle.heap_run.specs.Gains.{HaveKept, gains};
 ghost use Rattle.heap_run.specs.Turns.{HaveAnswered, IsCollecting, IsDriving, KeepsAnswers, SaysNone, no_cache};
 
-use crate::queues::Queues;
 use crate::turns::{flush_processor, run_processor, run_scavenger, run_sweeper};
 use cycle_history::Answer;
 use edge_io::{Gate, List, NoMemory};
 use proc_cache::Proc;
+use run_lists::Queues;
 use scavenger::scavenge_to;
 use span_set::{Hand, Shop};
 use std::alloc::Global;

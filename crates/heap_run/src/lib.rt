@@ -10,12 +10,8 @@
 
 mod cycle;
 mod events;
-mod lists;
-mod merge;
 mod profile;
-mod queues;
 mod run;
-mod sorting;
 mod turns;
 
 pub use run::{Options, Ran, run_trace};

@@ -16,15 +16,13 @@ ghost use Rattle.sweep_laws.specs.Start.{copies};
 ghost use Rattle.profile_cycle.specs.Sampling.{countdown};
 
 use crate::cycle::{Given, run_workers};
-use crate::merge::{lend, take_back};
 use crate::profile::Profile;
-use crate::queues::{number_all, queues_of};
-use crate::sorting::file_notes;
 use cycle_history::{Answer, PackedPlace, Report, Total, marks_of, totals_of};
 use edge_io::{Gate, List, NoMemory};
 use page_bitmap::Line;
 use proc_cache::Proc;
 use profile_cycle::Tally;
+use run_lists::{file_notes, lend, number_all, queues_of, take_back};
 use size_classes::PAGE_SIZE;
 use span_set::{Hand, Shop, reset};
 use span_state::{Marks, SweepNote};

@@ -6,6 +6,3 @@ mod write;
 
 pub use wanted::{Wanted, read_words};
 pub use write::{MadeFault, write_made};
-
-#[cfg(test)]
-mod tests;

@@ -8,6 +8,3 @@ mod runs;
 mod starts;
 
 pub use allocator::{NoRun, Pages};
-
-#[cfg(test)]
-mod tests;

@@ -10,6 +10,3 @@ mod word;
 pub use bitmap::Bitmap;
 pub use chunk::Chunk;
 pub use line::{Line, Run};
-
-#[cfg(test)]
-mod tests;

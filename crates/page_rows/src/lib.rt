@@ -1,8 +1,12 @@
-//! Sums of runs of pages that were worked by hand: their words, and merges of them. And the pages of a region beside a plain
-//! body that goes page by page.
+//! Pages, worked by hand: what a chunk and a region answer, and sums of runs of pages, their words and merges. And the pages of
+//! a region beside a plain body that goes page by page.
 #![tactic(auto)]
 
 #[cfg(test)]
+mod chunk;
+#[cfg(test)]
 mod plain_body;
+#[cfg(test)]
+mod region;
 #[cfg(test)]
 mod tests;

@@ -8,8 +8,6 @@ mod lines;
 mod order;
 mod parse;
 mod reader;
-#[cfg(test)]
-mod tests;
 mod words;
 mod write;
 
@@ -17,5 +15,6 @@ pub use fault::ReportFault;
 pub use laws::{
     a_text_is_not_refused, bytes_have_one_refusal, lines_in_turn_begin_a_text, text_of_one_report,
 };
+pub use order::Ordered;
 pub use reader::read_report;
 pub use write::write_report;

@@ -6,8 +6,8 @@ ghost use Rattle.cycle_history.specs.Orders.{IsProfBefore, IsSweepBefore, IsTota
 use cycle_history::{Prof, Total};
 use span_state::SweepNote;
 
-/// What a report lists in an order.
-pub(crate) trait Ordered {
+/// What a report lists in an order. Whoever makes a report shows by it that its lists rise.
+pub trait Ordered {
     // the first comes before the second
     ghost Before: { Self → Self → Type 0 };
 

@@ -6,6 +6,3 @@ mod rule;
 
 pub use options::{RunOptions, read_options};
 pub use rule::are_of_run;
-
-#[cfg(test)]
-mod tests;

@@ -10,6 +10,3 @@ mod sweep;
 pub use body::Body;
 pub use marks::Marks;
 pub use sweep::{SweepNote, Swept};
-
-#[cfg(test)]
-mod tests;

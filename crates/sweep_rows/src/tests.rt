@@ -66,24 +66,37 @@ fn roles_of_words(rt: HostRuntime) {
     }
 }
 
-#[test]
-fn small_runs(rt: HostRuntime) -> Result<(), Fail> {
-    let alloc = rt.alloc();
-    let mut core = Core::new(alloc, 1, 2)?;
-    gives(&rt, &mut core, Move::Acquire(0, 0), word(0));
-    gives(&rt, &mut core, Move::Lock(0), DONE);
-    gives(&rt, &mut core, Move::Lock(1), holder(0));
+// The lock of one page, which two workers ask for.
+fn locks(rt: &impl Abort, core: &mut Core) {
+    gives(rt, core, Move::Acquire(0, 0), word(0));
+    gives(rt, core, Move::Lock(0), DONE);
+    gives(rt, core, Move::Lock(1), holder(0));
     assert_eq!(rt; core.lock(), Some(0));
+}
 
-    let mut core = Core::new(alloc, 1, 2)?;
+#[test]
+fn lock_of_a_page(rt: HostRuntime) -> Result<(), Fail> {
+    let mut core = Core::new(rt.alloc(), 1, 2)?;
+    locks(&rt, &mut core);
+    Ok(())
+}
+
+// A span is taken, and claims a cell that is not filled.
+fn first_claim(rt: &impl Abort, core: &mut Core) -> Result<(), Fail> {
     core.make_room()?;
     core.make_life_room(341)?;
-    gives(&rt, &mut core, Move::Lock(0), DONE);
-    gives(&rt, &mut core, Move::Take(0, 0, 1, 341, 6), DONE);
-    gives(&rt, &mut core, Move::Unlock(0), DONE);
-    gives(&rt, &mut core, Move::Claim(0, 24, 0), Ok(Reply::Index(0)));
-    gives(&rt, &mut core, Move::PopSwept(1, 24), not(Found::Cell(0)));
+    gives(rt, core, Move::Lock(0), DONE);
+    gives(rt, core, Move::Take(0, 0, 1, 341, 6), DONE);
+    gives(rt, core, Move::Unlock(0), DONE);
+    gives(rt, core, Move::Claim(0, 24, 0), Ok(Reply::Index(0)));
+    gives(rt, core, Move::PopSwept(1, 24), not(Found::Cell(0)));
     Ok(())
+}
+
+#[test]
+fn claim_of_a_page(rt: HostRuntime) -> Result<(), Fail> {
+    let mut core = Core::new(rt.alloc(), 1, 2)?;
+    first_claim(&rt, &mut core)
 }
 
 // Generation 4 of eight pages and three workers. The lock, and a Take without it.
@@ -307,46 +320,69 @@ fn third_mark_end(rt: &impl Abort, alloc: Global, core: &mut Core) -> Result<(),
     Ok(())
 }
 
-#[test]
-fn three_cycles(rt: HostRuntime) -> Result<(), Fail> {
-    let alloc = rt.alloc();
-    let mut core = Core::new(alloc, 8, 3)?;
-    first_cycle(&rt, &mut core);
-    first_sets(&rt, &mut core);
-    first_mark_end(&rt, alloc, &mut core)?;
-    marks_of_the_first(&rt, alloc, &mut core)?;
-    pops_of_unswept(&rt, &mut core);
-    sweeps(&rt, &mut core);
-    sweep_of_another(&rt, &mut core);
-    second_mark_end(&rt, alloc, &mut core)?;
-    stale_cached(&rt, &mut core);
-    queued_again(&rt, &mut core);
-    third_mark_end(&rt, alloc, &mut core)?;
+// Four generations, with a mark end behind each of the first three.
+fn generations(rt: &impl Abort, alloc: Global, core: &mut Core) -> Result<(), Fail> {
+    first_cycle(rt, core);
+    first_sets(rt, core);
+    first_mark_end(rt, alloc, core)?;
+    marks_of_the_first(rt, alloc, core)?;
+    pops_of_unswept(rt, core);
+    sweeps(rt, core);
+    sweep_of_another(rt, core);
+    second_mark_end(rt, alloc, core)?;
+    stale_cached(rt, core);
+    queued_again(rt, core);
+    third_mark_end(rt, alloc, core)?;
     assert_eq!(rt; core.generation(), 10);
     Ok(())
 }
 
 #[test]
-fn made_states(rt: HostRuntime) -> Result<(), Fail> {
-    let alloc = rt.alloc();
-    let last = 1 << 63;
-    let mut core = Core::with_sets(alloc, 1, 1, last, List::new(alloc))?;
-    gives(&rt, &mut core, next(alloc, &[])?, word(last));
+fn three_cycles(rt: HostRuntime) -> Result<(), Fail> {
+    let mut core = Core::new(rt.alloc(), 8, 3)?;
+    generations(&rt, rt.alloc(), &mut core)
+}
 
+// A mark end needs a generation behind it.
+fn last_generation(rt: &impl Abort, alloc: Global, core: &mut Core) -> Result<(), Fail> {
+    gives(rt, core, next(alloc, &[])?, word(1 << 63));
+    Ok(())
+}
+
+#[test]
+fn generations_are_limited(rt: HostRuntime) -> Result<(), Fail> {
+    let alloc = rt.alloc();
+    let mut core = Core::with_sets(alloc, 1, 1, 1 << 63, List::new(alloc))?;
+    last_generation(&rt, alloc, &mut core)
+}
+
+// A set whose tail is at its limit, behind seven entries that left it.
+fn full_set(alloc: Global) -> Result<List<CoreSet>, Fail> {
     let mut sets = Vec::new(alloc);
     sets.push(CoreSet {
         head: 7,
         tail: 4294967295,
         cells: Entries::new(alloc),
     })?;
-    let mut core = Core::with_sets(alloc, 5, 1, 4, List::from_vec(sets))?;
-    gives(&rt, &mut core, Move::Lock(0), DONE);
-    gives(&rt, &mut core, Move::Take(0, 0, 5, 1, 0), DONE);
+    Ok(List::from_vec(sets))
+}
+
+// A claim in that set.
+fn claim_behind_the_limit(rt: &impl Abort, core: &mut Core) {
+    gives(rt, core, Move::Lock(0), DONE);
+    gives(rt, core, Move::Take(0, 0, 5, 1, 0), DONE);
     gives(
-        &rt,
-        &mut core,
+        rt,
+        core,
         Move::Claim(0, 0, 0),
         not(Found::HeadTail(7, 4294967295)),
     );
+}
+
+#[test]
+fn tails_are_limited(rt: HostRuntime) -> Result<(), Fail> {
+    let alloc = rt.alloc();
+    let mut core = Core::with_sets(alloc, 5, 1, 4, full_set(alloc)?)?;
+    claim_behind_the_limit(&rt, &mut core);
     Ok(())
 }

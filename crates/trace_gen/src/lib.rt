@@ -6,6 +6,3 @@ mod made;
 
 pub use laws::a_made_trace_is_within_limits;
 pub use made::make_trace;
-
-#[cfg(test)]
-mod tests;

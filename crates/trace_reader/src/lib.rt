@@ -22,6 +22,3 @@ pub use laws::{
 pub use print::print_trace;
 pub use reader::{expect_end, read_trace};
 pub use trace::{Cycle, Event, Header, MarkEnd, Span, Trace};
-
-#[cfg(test)]
-mod tests;

@@ -24,7 +24,7 @@ use Rattle.heap_run.specs.declared.run.Run.{Run}
 use Rattle.heap_run.proofs.Counting.{counts-as}
 use Rattle.heap_run.proofs.Gains.{gains-length, lent-several, taken-back}
 use Rattle.heap_run.proofs.Profiling.{HasTallied}
-use Rattle.heap_run.proofs.Queued.{numbers-behind, numbers-last}
+use Rattle.run_lists.proofs.Queued.{numbers-behind, numbers-last}
 use Rattle.heap_run.proofs.Running.{blank-collecting, blank-none, cycle-fits, cycle-run, events-of, given-sizes, procs-below, sizes-by, some-cycle}
 use Rattle.heap_run.proofs.Sampling.{sampled-sizes}
 use Rattle.heap_run.proofs.Telling.{map-below}

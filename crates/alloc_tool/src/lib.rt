@@ -1,0 +1,15 @@
+//! `goheap`: Go's memory allocator, driven by a trace, over any source and sinks.
+//!
+//! `run` reads a trace and writes its report. `check` reads a trace and behind it a report, and says whether the report is sound.
+//! `demo` makes a trace, runs and checks it, and sums up. The program of these words, over the standard streams, is the
+//! crate `goheap`.
+#![tactic(auto)]
+
+mod demo;
+mod generate;
+mod judging;
+mod tell;
+mod top;
+
+pub use tell::{refuse_trace, refuse_words};
+pub use top::{goheap, goheap_plain};

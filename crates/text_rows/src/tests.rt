@@ -1,0 +1,340 @@
+//! Reports over a sink in memory. The expected texts are written by hand from the format.
+
+mod order;
+mod reading;
+
+use cycle_history::{Answer, Prof, Report, Total};
+use edge_io::{Lines, List, MemorySink, MemorySource};
+use order::rises;
+use page_bitmap::Line;
+use report_text::{read_report, write_report};
+use span_state::SweepNote;
+use std::alloc::Global;
+use std::test::Fail;
+
+const MAX: u32 = 4294967295;
+
+const LONG_MAX: u64 = 18446744073709551615;
+
+const NOTHING: Row<'static> = Row {
+    answers: &[],
+    journal: &[],
+    sweeps: &[],
+    totals: &[],
+    profile: &[],
+    text: "end\n",
+};
+
+// The lists of a report, and its text.
+#[derive(Clone, Copy)]
+struct Row<'a> {
+    answers: &'a [Answer],
+    journal: &'a [Line],
+    sweeps: &'a [SweepNote],
+    totals: &'a [Total],
+    profile: &'a [Prof],
+    text: &'a str,
+}
+
+fn take(cycle: u32, page: u32, pages: u32, class: u8) -> Line {
+    Line::Take {
+        cycle,
+        page,
+        pages,
+        class,
+    }
+}
+
+fn miss(cycle: u32, pages: u32, class: u8) -> Line {
+    Line::Miss {
+        cycle,
+        pages,
+        class,
+    }
+}
+
+fn give(cycle: u32, page: u32, pages: u32) -> Line {
+    Line::Give { cycle, page, pages }
+}
+
+fn scav(cycle: u32, page: u32, pages: u32) -> Line {
+    Line::Scav { cycle, page, pages }
+}
+
+fn sweep(cycle: u32, page: u32, kept: u32, freed: u32) -> SweepNote {
+    SweepNote {
+        cycle,
+        page,
+        kept,
+        freed,
+    }
+}
+
+fn total(class: u8, mallocs: u64, frees: u64) -> Total {
+    Total {
+        class,
+        mallocs,
+        frees,
+    }
+}
+
+fn bucket(mark: u32, stack: u32, size: u64, allocs: u64, frees: u64) -> Prof {
+    Prof {
+        mark,
+        stack,
+        size,
+        allocs,
+        frees,
+    }
+}
+
+// What a call of the writer left.
+#[derive(Drop)]
+struct Outcome {
+    whole: bool,
+    held: Vec<u8>,
+}
+
+// Writes the row's report into a sink in memory, of whose writes those of these numbers fail.
+fn written(alloc: Global, row: Row<'_>, failing: &[u64]) -> Result<Outcome, Fail> {
+    let report = Report {
+        answers: List::from_vec(row.answers.to_vec(alloc)?),
+        journal: List::from_vec(row.journal.to_vec(alloc)?),
+        sweeps: List::from_vec(row.sweeps.to_vec(alloc)?),
+        totals: List::from_vec(row.totals.to_vec(alloc)?),
+        profile: List::from_vec(row.profile.to_vec(alloc)?),
+    };
+    let mut sink = MemorySink::new(alloc, List::from_vec(failing.to_vec(alloc)?));
+    let rising = rises(report.sweeps.as_slice())
+        && rises(report.totals.as_slice())
+        && rises(report.profile.as_slice());
+    let whole = rising && write_report(&mut sink, &report).is_ok();
+    Ok(Outcome {
+        whole,
+        held: sink.held().to_vec(alloc)?,
+    })
+}
+
+// Whether reading the text gives a report that is written as it.
+fn is_read_back(alloc: Global, text: &[u8]) -> Result<bool, Fail> {
+    let bytes = List::from_vec(text.to_vec(alloc)?);
+    let mut source = MemorySource::new(bytes, List::new(alloc));
+    let mut lines = Lines::new(&mut source, 4_294_967_296);
+    let Ok(report) = read_report(alloc, &mut lines) else {
+        return Ok(false);
+    };
+    let mut sink = MemorySink::new(alloc, List::new(alloc));
+    let whole = write_report(&mut sink, &report).is_ok();
+    Ok(whole && sink.held() == text)
+}
+
+#[test]
+fn small_reports_are_written(rt: HostRuntime) -> Result<(), Fail> {
+    let alloc = rt.alloc();
+    let first = Answer::Placed(0xc0_0000_0000);
+    let one_object = Row {
+        answers: &[first],
+        journal: &[take(0, 0, 1, 6)],
+        totals: &[total(3, 1, 0)],
+        text: "o 0 0xc000000000\nj 0 0 take 0 1 6\nt 3 1 0\nend\n",
+        ..NOTHING
+    };
+    let used_again = Row {
+        answers: &[first, Answer::Placed(0xc0_0000_0018), first],
+        journal: &[take(0, 0, 1, 6)],
+        sweeps: &[sweep(1, 0, 1, 1)],
+        totals: &[total(3, 3, 1)],
+        text: "o 0 0xc000000000\no 1 0xc000000018\no 2 0xc000000000\nj 0 0 take 0 1 6\ns 1 0 1 1\nt 3 3 1\nend\n",
+        ..NOTHING
+    };
+    let given_back = Row {
+        answers: &[first, first],
+        journal: &[take(0, 0, 1, 6), give(1, 0, 1), take(1, 0, 1, 6)],
+        sweeps: &[sweep(1, 0, 0, 1)],
+        totals: &[total(3, 2, 1)],
+        text: "o 0 0xc000000000\no 1 0xc000000000\nj 0 0 take 0 1 6\nj 1 1 give 0 1\nj 2 1 take 0 1 6\ns 1 0 0 1\nt 3 2 1\nend\n",
+        ..NOTHING
+    };
+    for row in [NOTHING, one_object, used_again, given_back] {
+        let outcome = written(alloc, row, &[])?;
+        assert!(rt; outcome.whole);
+        assert_eq!(rt; outcome.held.as_slice(), row.text.as_bytes());
+        assert!(rt; is_read_back(alloc, row.text.as_bytes())?);
+    }
+    Ok(())
+}
+
+#[test]
+fn reports_of_large_objects_are_written(rt: HostRuntime) -> Result<(), Fail> {
+    let alloc = rt.alloc();
+    let first = Answer::Placed(0xc0_0000_0000);
+    let next = Answer::Placed(0xc0_0000_8000);
+    let two_classes = Row {
+        answers: &[first, next],
+        journal: &[take(0, 0, 4, 134), take(0, 4, 5, 0)],
+        totals: &[total(0, 1, 0), total(67, 1, 0)],
+        text: "o 0 0xc000000000\no 1 0xc000008000\nj 0 0 take 0 4 134\nj 1 0 take 4 5 0\nt 0 1 0\nt 67 1 0\nend\n",
+        ..NOTHING
+    };
+    let scavenged = Row {
+        answers: &[first],
+        journal: &[
+            take(0, 0, 128, 1),
+            give(1, 0, 128),
+            scav(1, 64, 64),
+            scav(1, 0, 64),
+        ],
+        sweeps: &[sweep(1, 0, 0, 1)],
+        totals: &[total(0, 1, 1)],
+        text: "o 0 0xc000000000\nj 0 0 take 0 128 1\nj 1 1 give 0 128\nj 2 1 scav 64 64\nj 3 1 scav 0 64\ns 1 0 0 1\nt 0 1 1\nend\n",
+        ..NOTHING
+    };
+    for row in [two_classes, scavenged] {
+        let outcome = written(alloc, row, &[])?;
+        assert!(rt; outcome.whole);
+        assert_eq!(rt; outcome.held.as_slice(), row.text.as_bytes());
+        assert!(rt; is_read_back(alloc, row.text.as_bytes())?);
+    }
+    Ok(())
+}
+
+#[test]
+fn a_report_of_a_full_region_is_written(rt: HostRuntime) -> Result<(), Fail> {
+    let [first, second, third, fourth] = [
+        Answer::Placed(0xc0_0000_0000),
+        Answer::Placed(0xc0_0010_0000),
+        Answer::Placed(0xc0_0020_0000),
+        Answer::Placed(0xc0_0030_0000),
+    ];
+    let full_region = Row {
+        answers: &[first, second, third, fourth, Answer::Missed(6)],
+        journal: &[
+            take(0, 0, 128, 1),
+            take(0, 128, 128, 1),
+            take(0, 256, 128, 1),
+            take(0, 384, 128, 1),
+            give(1, 0, 128),
+            give(1, 256, 128),
+            miss(1, 129, 1),
+        ],
+        sweeps: &[
+            sweep(1, 0, 0, 1),
+            sweep(1, 128, 1, 0),
+            sweep(1, 256, 0, 1),
+            sweep(1, 384, 1, 0),
+        ],
+        totals: &[total(0, 4, 2)],
+        text: "o 0 0xc000000000\no 1 0xc000100000\no 2 0xc000200000\no 3 0xc000300000\no 4 miss 6\nj 0 0 take 0 128 1\nj 1 0 take 128 128 1\nj 2 0 take 256 128 1\nj 3 0 take 384 128 1\nj 4 1 give 0 128\nj 5 1 give 256 128\nj 6 1 miss 129 1\ns 1 0 0 1\ns 1 128 1 0\ns 1 256 0 1\ns 1 384 1 0\nt 0 4 2\nend\n",
+        ..NOTHING
+    };
+    let outcome = written(rt.alloc(), full_region, &[])?;
+    assert!(rt; outcome.whole);
+    assert_eq!(rt; outcome.held.as_slice(), full_region.text.as_bytes());
+    Ok(())
+}
+
+#[test]
+fn profiles_are_written(rt: HostRuntime) -> Result<(), Fail> {
+    let alloc = rt.alloc();
+    let first = Answer::Placed(0xc0_0000_0000);
+    let second = Answer::Placed(0xc0_0000_0018);
+    let third = Answer::Placed(0xc0_0000_0030);
+    let one_mark_end = Row {
+        answers: &[first, second, third],
+        journal: &[take(0, 0, 1, 6)],
+        sweeps: &[sweep(1, 0, 1, 2)],
+        totals: &[total(3, 3, 2)],
+        profile: &[bucket(1, 7, 24, 3, 2)],
+        text: "o 0 0xc000000000\no 1 0xc000000018\no 2 0xc000000030\nj 0 0 take 0 1 6\ns 1 0 1 2\nt 3 3 2\np 1 7 24 3 2\nend\n",
+    };
+    let each_mark_end = Row {
+        answers: &[first, second, third, second],
+        journal: &[take(0, 0, 1, 6)],
+        sweeps: &[sweep(1, 0, 1, 2), sweep(2, 0, 1, 1)],
+        totals: &[total(3, 4, 3)],
+        profile: &[bucket(1, 7, 24, 3, 2), bucket(2, 7, 24, 4, 3)],
+        text: "o 0 0xc000000000\no 1 0xc000000018\no 2 0xc000000030\no 3 0xc000000018\nj 0 0 take 0 1 6\ns 1 0 1 2\ns 2 0 1 1\nt 3 4 3\np 1 7 24 3 2\np 2 7 24 4 3\nend\n",
+    };
+    let last_mark_end = Row {
+        profile: &[bucket(2, 7, 24, 4, 3)],
+        text: "o 0 0xc000000000\no 1 0xc000000018\no 2 0xc000000030\no 3 0xc000000018\nj 0 0 take 0 1 6\ns 1 0 1 2\ns 2 0 1 1\nt 3 4 3\np 2 7 24 4 3\nend\n",
+        ..each_mark_end
+    };
+    for row in [one_mark_end, each_mark_end, last_mark_end] {
+        let outcome = written(alloc, row, &[])?;
+        assert!(rt; outcome.whole);
+        assert_eq!(rt; outcome.held.as_slice(), row.text.as_bytes());
+        assert!(rt; is_read_back(alloc, row.text.as_bytes())?);
+    }
+    Ok(())
+}
+
+#[test]
+fn numbers_of_all_lengths_are_written(rt: HostRuntime) -> Result<(), Fail> {
+    let alloc = rt.alloc();
+    let row = Row {
+        answers: &[
+            Answer::Placed(0),
+            Answer::Placed(LONG_MAX),
+            Answer::Placed(0xabcd_ef98_7654_3210),
+            Answer::Zero,
+            Answer::Missed(0),
+            Answer::Missed(LONG_MAX),
+        ],
+        journal: &[
+            take(0, 0, 0, 0),
+            take(MAX, MAX, MAX, 255),
+            miss(3, 134217728, 1),
+            miss(MAX, MAX, 255),
+            give(MAX, MAX, MAX),
+            scav(MAX, MAX, MAX),
+        ],
+        sweeps: &[
+            sweep(0, 0, 0, 0),
+            sweep(1, 2, 3, 4),
+            sweep(MAX, MAX, MAX, MAX),
+        ],
+        totals: &[total(0, 0, 0), total(255, LONG_MAX, LONG_MAX)],
+        profile: &[
+            bucket(0, 0, 0, 0, 0),
+            bucket(1, 2, 3, 4, 5),
+            bucket(1, 2, 4, 0, 0),
+            bucket(1, 3, 0, 0, 0),
+            bucket(MAX, MAX, LONG_MAX, LONG_MAX, LONG_MAX),
+        ],
+        text: "o 0 0x0\no 1 0xffffffffffffffff\no 2 0xabcdef9876543210\no 3 zero\no 4 miss 0\no 5 miss 18446744073709551615\nj 0 0 take 0 0 0\nj 1 4294967295 take 4294967295 4294967295 255\nj 2 3 miss 134217728 1\nj 3 4294967295 miss 4294967295 255\nj 4 4294967295 give 4294967295 4294967295\nj 5 4294967295 scav 4294967295 4294967295\ns 0 0 0 0\ns 1 2 3 4\ns 4294967295 4294967295 4294967295 4294967295\nt 0 0 0\nt 255 18446744073709551615 18446744073709551615\np 0 0 0 0 0\np 1 2 3 4 5\np 1 2 4 0 0\np 1 3 0 0 0\np 4294967295 4294967295 18446744073709551615 18446744073709551615 18446744073709551615\nend\n",
+    };
+    let outcome = written(alloc, row, &[])?;
+    assert!(rt; outcome.whole);
+    assert_eq!(rt; outcome.held.as_slice(), row.text.as_bytes());
+    assert!(rt; is_read_back(alloc, row.text.as_bytes())?);
+    Ok(())
+}
+
+#[test]
+fn a_failed_write_leaves_a_front(rt: HostRuntime) -> Result<(), Fail> {
+    let alloc = rt.alloc();
+    // 990 bytes of the objects 0 to 99, 11 bytes of each one up to 999 and 12 of each later one: of 32768, 32766 are those of the
+    // first 2823
+    let long = Row {
+        answers: &[Answer::Zero; 4000],
+        ..NOTHING
+    };
+    let none = written(alloc, long, &[0])?;
+    assert!(rt; !none.whole);
+    assert!(rt; none.held.is_empty());
+    let front = written(alloc, long, &[1])?;
+    assert!(rt; !front.whole);
+    assert_eq!(rt; front.held.len(), 32766);
+    assert!(rt; front.held.as_slice().starts_with(b"o 0 zero\no 1 zero\n"));
+    assert!(rt;
+        front
+            .held
+            .as_slice()
+            .ends_with(b"o 2821 zero\no 2822 zero\n")
+    );
+    let all = written(alloc, long, &[])?;
+    assert!(rt; all.whole);
+    assert_eq!(rt; all.held.len(), 46894);
+    Ok(())
+}
