@@ -48,14 +48,17 @@ impl Scene {
         let proc = Proc::new(alloc, 0, &header)?;
         let (ring, tally) = Ring::new(alloc, 2)?;
         let (shared, driver) = Shared::new(alloc, 1, 512)?;
+        let marks = Marks::empty(alloc);
+        let hand = Hand::new(alloc, driver, tally);
+        let objects = List::new(alloc);
         Ok(Scene {
             alloc,
             shared,
-            marks: Marks::empty(alloc),
+            marks,
             ring,
-            hand: Hand::new(alloc, driver, tally),
+            hand,
             proc,
-            objects: List::new(alloc),
+            objects,
             pages: 0,
         })
     }

@@ -24,8 +24,8 @@ struct Scene {
 fn start(alloc: Global) -> Result<Scene, NoMemory>
     ensures { IfOk result (λ s. IsReady s.shared s.ring s.marks s.hand) }
 {
-    let (shared, driver) = Shared::new(alloc, 1, 512)?;
     let (ring, tally) = Ring::new(alloc, 1)?;
+    let (shared, driver) = Shared::new(alloc, 1, 512)?;
     Ok(Scene {
         shared,
         marks: Marks::empty(alloc),
@@ -49,6 +49,17 @@ fn finds_none(rt: &impl Abort, shop: &Shop, hand: &mut Hand, class: u8) -> Resul
     Ok(())
 }
 
+// No class has a span.
+fn all_find_none(rt: &impl Abort, shop: &Shop, hand: &mut Hand) -> Result<(), NoMemory>
+    requires ready { IsReady shop.now.shared.now shop.now.ring.now shop.now.marks.now hand.old }
+    requires distance { 8192 ≤ shop.now.distance }
+{
+    for class in 0..136 {
+        finds_none(rt, shop, hand, class)?;
+    }
+    Ok(())
+}
+
 #[test]
 fn new_table_has_no_span(rt: HostRuntime) -> Result<(), Fail> {
     let alloc = rt.alloc();
@@ -65,9 +76,7 @@ fn new_table_has_no_span(rt: HostRuntime) -> Result<(), Fail> {
         distance: 8192,
         pages: 0,
     };
-    for class in 0..136 {
-        finds_none(&rt, &shop, &mut hand, class)?;
-    }
+    all_find_none(&rt, &shop, &mut hand)?;
     assert_eq!(rt; hand.notes.len(), 0);
     Ok(())
 }

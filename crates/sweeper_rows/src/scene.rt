@@ -1,5 +1,6 @@
-ghost use Rattle.std.specs.Prelude.{◌≡◌, ◌<◌, OnOk};
-ghost use Rattle.span_rows.specs.Rows.{IsFreeDriver};
+ghost use Rattle.std.specs.Prelude.{◌≡◌, ◌<◌, ℕ, [], OnOk};
+ghost use Rattle.span_rows.specs.Rows.{HasTurned, IsFreeDriver};
+ghost use Rattle.span_state.specs.MarkSet.{dead_of};
 ghost use Rattle.sweeper_rows.specs.Rows.{IsReady, IsStage};
 
 use crate::meet::{Met, meet_entry, meet_page};
@@ -70,11 +71,30 @@ fn add_spans(
     Ok(())
 }
 
+// Takes all these spans in the first cycle, and ends it with a mark end. All that may run out of memory stands here, where nothing is owned.
+fn pass_mark_end(
+    shared: &mut Shared,
+    w: &mut Worker,
+    marks: &mut Marks,
+    spans: &[(u32, bool)],
+) -> Result<(), NoMemory>
+    requires free { IsFreeDriver shared.old w.old }
+    requires generation { w.old.view.generation ≡ 4 }
+    requires unmarked { marks.old.pairs ≡ [] }
+    requires undead { (page : ℕ) → dead_of marks.old page ≡ [] }
+    ensures turned { OnOk result (HasTurned shared.new marks.new.pairs w.new) }
+    ensures undead { OnOk result ((page : ℕ) → dead_of marks.new page ≡ []) }
+{
+    count(shared, w);
+    add_spans(shared, w, marks, spans)?;
+    turn(shared, w, marks)
+}
+
 impl Scene {
     /// A region of one chunk in its first cycle, without spans.
     pub fn first(alloc: Global) -> Result<Scene, NoMemory> {
-        let (shared, w) = start(alloc, 1, GOAL)?;
         let (ring, tally) = Ring::new(alloc, 2)?;
+        let (shared, w) = start(alloc, 1, GOAL)?;
         let marks = Marks::empty(alloc);
         let hand = Hand::new(alloc, w, tally);
         Ok(Scene {
@@ -95,12 +115,10 @@ impl Scene {
         if chunks == 0 || chunks > 128 {
             return Err(NoMemory);
         }
-        let (mut shared, mut w) = start(alloc, chunks, GOAL)?;
         let (ring, tally) = Ring::new(alloc, 2)?;
+        let (mut shared, mut w) = start(alloc, chunks, GOAL)?;
         let mut marks = Marks::empty(alloc);
-        count(&shared, &mut w);
-        add_spans(&shared, &mut w, &mut marks, spans)?;
-        turn(&mut shared, &mut w, &marks)?;
+        pass_mark_end(&mut shared, &mut w, &mut marks, spans)?;
         let hand = Hand::new(alloc, w, tally);
         Ok(Scene {
             shared,
