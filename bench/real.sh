@@ -2,7 +2,7 @@
 # real.sh TRACE: what `goheap run` costs on any trace that it accepts, measured in one run on one machine: its instructions
 # a line, as callgrind counts them, its time beside `wc -l` and an awk sum of one field, and what mark ends cost, as the
 # instructions of 1,000,000 objects with 100 mark ends beside those of the same objects without. Each time is the median
-# of nine, less the median of nine for a trace without objects. AWK names the awk to be measured beside (default: awk);
+# of 25, less the median of 25 for a trace without objects. AWK names the awk to be measured beside (default: awk);
 # mawk takes two thirds of gawk's time, and half of the original awk's.
 set -eu
 
@@ -10,7 +10,7 @@ set -eu
 trace=$(readlink -f "$1")
 . "$(dirname "$(readlink -f "$0")")/timing.sh"
 awk=${AWK:-awk}
-rounds=9
+rounds=25
 program=crates/goheap/out/goheap
 
 cp "$trace" "$folder/real"
