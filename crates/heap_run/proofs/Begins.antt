@@ -32,7 +32,7 @@ use Rattle.profile_cycle.specs.Sampling.{Countdown, countdown}
 use Rattle.profile_lines.specs.Counted.{IsCounting}
 use Rattle.profile_lines.specs.Read.{AreDifferent, IsOrder}
 use Rattle.profile_lines.specs.Told.{HasTold}
-use Rattle.heap_run.specs.Naming.{KnowsBuckets}
+use Rattle.run_profile.specs.Naming.{KnowsBuckets}
 use Rattle.heap_run.specs.Parts.{part_at, unheard}
 use Rattle.heap_run.specs.Runs.{HasBegun}
 use Rattle.heap_run.specs.Turns.{IsCaching, no_cache}

@@ -19,5 +19,4 @@ pub mod Sampling
 pub mod Profiling
 pub mod Telling
 pub mod Last
-pub mod Naming
 pub mod Unsampled

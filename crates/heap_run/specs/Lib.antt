@@ -4,7 +4,6 @@ pub mod Served
 pub mod Swept
 pub mod Turns
 pub mod Counts
-pub mod Naming
 pub mod Settled
 pub mod Last
 pub mod Profiled

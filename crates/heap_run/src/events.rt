@@ -1,6 +1,6 @@
 //! The events of a processor in a cycle.
 
-ghost use Rattle.std.specs.Prelude.{◌≡◌, ◌*◌, ◌^◌, ◌<◌, ◌≤◌, [], ◌∷◌, All, length, reverse, true, false, IfOk, OnOk};
+ghost use Rattle.std.specs.Prelude.{◌≡◌, ◌^◌, ◌<◌, ◌≤◌, [], ◌∷◌, All, length, reverse, true, false, IfOk, OnOk};
 ghost use Rattle.span_laws.specs.Asks.{IsIdle};
 ghost use Rattle.span_set.specs.Tallies.{MayCount};
 ghost use Rattle.sample_laws.specs.Counted.{one_count, sampled_counts};
@@ -11,9 +11,9 @@ ghost use Rattle.heap_run.specs.Turns.{HasActed, IsCaching, SaysAnswers};
 
 use cycle_history::Answer;
 use edge_io::{Gate, List, NoMemory};
-use large_objects::alloc_large;
+use large_objects::{alloc_large, large_slot};
 use proc_cache::{Proc, Refused, alloc, count_placed, flush};
-use size_classes::{Kind, PAGE_SIZE, class_of, span_class};
+use size_classes::{Kind, class_of, span_class};
 use span_set::{Hand, Shop};
 use std::alloc::Global;
 use std::mem::replace;
@@ -111,11 +111,4 @@ fn answer(
             }
         }
     }
-}
-
-// The bytes of the slot of a large object.
-fn large_slot(pages: u32) -> u64
-    ensures { result ≡ 8192 * pages }
-{
-    PAGE_SIZE * u64::from(pages)
 }

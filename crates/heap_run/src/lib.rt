@@ -10,7 +10,6 @@
 
 mod cycle;
 mod events;
-mod profile;
 mod run;
 mod turns;
 

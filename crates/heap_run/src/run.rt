@@ -1,28 +1,20 @@
 //! The run of a whole trace.
 
-ghost use Rattle.std.specs.Prelude.{◌≡◌, ℕ, ◌+◌, ◌++◌, ◌^◌, ◌<◌, ◌≤◌, [], true, List as Items, length, slice_index_or, vec_len, None, Some, IfOk, OnOk};
-ghost use Rattle.page_alloc.specs.Journal.{past_of};
+ghost use Rattle.std.specs.Prelude.{◌≡◌, ℕ, ◌+◌, ◌^◌, ◌<◌, ◌≤◌, [], length, slice_index_or, vec_len, None, Some, IfOk, OnOk};
 ghost use Rattle.trace_reader.specs.Limits.{WithinLimits, events_of};
-ghost use Rattle.cycle_history.specs.Counted.{AreObjectsOf, AreZeros};
-ghost use Rattle.cycle_history.specs.Objects.{Object};
-ghost use Rattle.cycle_history.specs.Requests.{last_cycle, marked_by};
+ghost use Rattle.cycle_history.specs.Requests.{last_cycle};
 ghost use Rattle.cycle_history.specs.Sound.{HasForm, IsSoundAndUsed};
-ghost use Rattle.cycle_history.specs.Sweeps.{AreTotals};
-ghost use Rattle.profile_lines.specs.Read.{AreFew, IsOrder, all_lines};
-ghost use Rattle.span_laws.specs.Asks.{KnowsJournal};
 ghost use Rattle.heap_run.specs.Last.{IsLeft};
 ghost use Rattle.heap_run.specs.Turns.{no_cache};
 ghost use Rattle.sweep_laws.specs.Start.{copies};
 ghost use Rattle.profile_cycle.specs.Sampling.{countdown};
 
 use crate::cycle::{Given, run_workers};
-use crate::profile::Profile;
-use cycle_history::{Answer, PackedPlace, Report, Total, marks_of, totals_of};
+use cycle_history::{Answer, PackedPlace, Report, marks_of};
 use edge_io::{Gate, List, NoMemory};
-use page_bitmap::Line;
 use proc_cache::Proc;
-use profile_cycle::Tally;
 use run_lists::{file_notes, lend, number_all, queues_of, take_back};
+use run_profile::{Profile, read_rest};
 use size_classes::PAGE_SIZE;
 use span_set::{Hand, Shop, reset};
 use span_state::{Marks, SweepNote};
@@ -272,40 +264,6 @@ impl Run {
             driver,
         })
     }
-}
-
-// Reads what a report has besides what the run kept: the lines of the last mark end into the profile, the whole journal and the totals.
-// It stands alone, so that the run is let go at one place where memory runs out.
-fn read_rest(
-    alloc: Global,
-    trace: &Trace,
-    answers: &List<Answer>,
-    shared: &Shared,
-    driver: &mut Worker,
-    tally: &mut Tally,
-    profile: &mut Profile,
-) -> Result<(List<Line>, List<Total>), NoMemory>
-    requires limits { WithinLimits trace.now }
-    requires ring { tally.old.ring ≡ profile.old.ring }
-    requires drives { tally.old.view.drives ≡ true }
-    requires alone { tally.old.view.out ≡ 0 }
-    requires room { length profile.old.known ≤ profile.old.ring.buckets }
-    requires order { IsOrder profile.old.known profile.old.order }
-    requires few { AreFew (length profile.old.known) tally.old.view.calls }
-    requires here { driver.old.here ≡ true }
-    requires table { driver.old.table ≡ shared.now }
-    requires told { KnowsJournal driver.old.view.own }
-    requires answers { length answers.now ≡ length (events_of trace.now) }
-    requires zeros { AreZeros trace.now answers.now }
-    ensures lines { OnOk result (profile.new.lines ≡ profile.old.lines ++ all_lines profile.old.known tally.old.view.calls (last_cycle trace.now) profile.old.order) }
-    ensures same { OnOk result (driver.new ≡ driver.old) }
-    ensures journal { IfOk result (λ rest. driver.old.view.own.journal ≡ Some (past_of rest.0)) }
-    ensures totals { IfOk result (λ rest. (objects : Items Object) → AreObjectsOf trace.now answers.now objects → AreTotals (marked_by trace.now) (last_cycle trace.now) objects rest.1) }
-{
-    profile.read_last(tally, trace.cycles.len() as u32 - 1)?;
-    let journal = shared.journal_copy(alloc, driver)?;
-    let totals = totals_of(alloc, trace, answers)?;
-    Ok((journal, totals))
 }
 
 // The processors, with empty caches.

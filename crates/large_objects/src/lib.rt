@@ -4,6 +4,8 @@
 #![tactic(auto)]
 
 mod larges;
+mod slot;
 
 pub use larges::alloc_large;
+pub use slot::large_slot;
 pub use sweeper::Refused;

@@ -7,7 +7,7 @@ use Rattle.report_check.specs.declared.filling.Fill.{Fill}
 use Rattle.report_check.specs.declared.filling.Newest.{Newest}
 use Rattle.report_check.specs.declared.filling.Filling.{Filling}
 use Rattle.report_check.specs.Known.{IsSatFrom}
-use Rattle.report_check.specs.Tops.{AreNoTops, IsRaised}
+use Rattle.life_tops.specs.Tops.{AreNoTops, IsRaised, lives_of}
 
 -- An item is small where it is placed in a span of a size class above 0.
 abbrev pub IsSmallItem : Item → Type 0
@@ -46,7 +46,7 @@ pub record IsTakenUp (old new : Filling) (item : Item) (last : ℕ) : Type 0 whe
 
 -- There is room for so many lives, and so many processors' span classes.
 pub record HasRoom (filling : Filling) (lives places : ℕ) : Type 0 where
-  pub tops : length filling.tops.rows.items ≡ lives
+  pub tops : lives_of filling.tops ≡ lives
   pub fills : length filling.fills.items ≡ lives
   pub newest : length filling.newest.items ≡ places
 

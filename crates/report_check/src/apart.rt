@@ -7,8 +7,8 @@ ghost use Rattle.report_rules.specs.Placing.{BreaksApart};
 
 use crate::CheckFault;
 use crate::objects::Objects;
-use crate::tops::Tops;
 use cycle_history::Answer;
+use life_tops::Tops;
 use std::alloc::Global;
 
 impl Objects<'_> {

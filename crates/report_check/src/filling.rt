@@ -4,15 +4,16 @@ ghost use Rattle.std.specs.Prelude.{◌≡◌, ◌≤◌, ◌<◌, length, slice
 ghost use Rattle.cycle_history.specs.Requests.{marked_by};
 ghost use Rattle.cycle_history.specs.Rules.{AreFilled};
 ghost use Rattle.report_rules.specs.Placing.{BreaksFilling};
+ghost use Rattle.life_tops.specs.Tops.{lives_of};
 ghost use Rattle.report_check.specs.Filling.{HasRoom, IsEmptyFilling, IsTakenUp, filled_by, next_in as next_of, place_of as place_in};
 ghost use Rattle.report_check.specs.Fitting.{AreHeld, IsFitting, IsFreeAt, IsLeft, IsOthers, IsOwn, IsStaying, IsUnfitting};
 
 use crate::CheckFault;
 use crate::items::Item;
 use crate::objects::Objects;
-use crate::tops::Tops;
 use cycle_history::Answer;
 use edge_io::NoMemory;
+use life_tops::Tops;
 use std::alloc::Global;
 
 /// The span classes: two for each of 68 size classes (`mheap.go`).
@@ -110,7 +111,7 @@ impl Filling {
     // Takes up an object with its last cycle.
     fn take_up(&mut self, item: &Item, last: u32) -> Result<(), NoMemory>
         requires life { item.now.life < length self.old.fills.items }
-        requires row { item.now.life < length self.old.tops.rows.items }
+        requires row { item.now.life < lives_of self.old.tops }
         requires place { place_in item.now.proc item.now.class < length self.old.newest.items }
         requires last { last < 20000 }
         requires index { item.now.index < 20000 }

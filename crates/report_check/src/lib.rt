@@ -30,7 +30,6 @@ mod profile;
 mod sampled;
 mod sorted;
 mod sweeps;
-mod tops;
 mod totals;
 
 pub use fault::CheckFault;

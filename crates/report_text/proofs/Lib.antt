@@ -1,5 +1,3 @@
-pub mod Put
-pub mod Whole
 pub mod Fields
 pub mod OneItem
 pub mod Unique

@@ -1,15 +1,14 @@
-//! The text of a report, both ways: its one writer, its reader, and the law that a text is of at most one report.
+//! The text of a report, both ways: its reader, the law that a text is of at most one report, and its one writer, which stands in
+//! `report_writer`.
 #![tactic(auto)]
 
 mod fault;
 mod item;
 mod laws;
-mod lines;
 mod order;
 mod parse;
 mod reader;
 mod words;
-mod write;
 
 pub use fault::ReportFault;
 pub use laws::{
@@ -17,4 +16,4 @@ pub use laws::{
 };
 pub use order::Ordered;
 pub use reader::read_report;
-pub use write::write_report;
+pub use report_writer::write_report;

@@ -1,7 +1,6 @@
 //! Looks over many pages or sets by one call. At run time each is a loop over words; what it tells comes into the log by one step.
 
 ghost use Rattle.std.specs.Prelude.{◌≡◌, ◌≢◌, ◌↔◌, ℕ, ◌+◌, ◌<◌, ◌≤◌, [], true, false, MatchOption, length, slice_index};
-ghost use Rattle.span_state.specs.MarkSet.{is_marked};
 ghost use Rattle.sweep_laws.specs.Reading.{set_of};
 ghost use Rattle.span_laws.specs.Answers.{AcquiresSpan};
 ghost use Rattle.span_laws.specs.Cycle.{Kept};
@@ -19,20 +18,10 @@ use page_alloc::Pages;
 use span_laws::{SaidOf, View};
 use span_state::{Body, Marks};
 use sweep_generation::{Core, Move};
+use sweep_reads::first_waiting;
 
 // How many unswept sets there are: for each span class a full and a partial one.
 const SETS: u32 = 272;
-
-// Whether an object of the page's span is marked. Most spans that have a mark have one at their first object, so that is looked at
-// first.
-fn has_mark(marks: &Marks, page: u32) -> bool
-    ensures { (result ≡ false) ↔ ((index : ℕ) → is_marked marks.now page index ≡ false) }
-{
-    if marks.marked(page, 0) {
-        return true;
-    }
-    marks.count(page) > 0
-}
 
 // The first page of some that has the word of a span that waits, and no mark. Beyond the used pages no span waits, so they are
 // not looked at.
@@ -43,14 +32,8 @@ fn next_unmarked(core: &Core, marks: &Marks, from: u32, to: u32) -> Option<u32>
         (NoneWaits core.now marks.now.pairs from to)
         (λ page. (from ≤ page) × (page < to) × (slice_index core.now.words page + 2 ≡ core.now.generation) × IsUnmarked marks.now.pairs page × NoneWaits core.now marks.now.pairs from page) }
 {
-    let words = core.words();
-    let waiting = core.generation() - 2;
-    for page in from..to.min(core.used_end()) {
-        if words[page as usize] == waiting && !has_mark(marks, page) {
-            return Some(page);
-        }
-    }
-    None
+    let end = to.min(core.used_end());
+    first_waiting(core.words(), core.generation(), marks, from, end)
 }
 
 // The number of the unswept set at a place in the order of sweeping.

@@ -25,7 +25,6 @@ mod tries_life;
 mod tries_next;
 mod tries_sets;
 mod unpopped;
-mod words;
 
 pub use mark_end::next_marked;
 pub use run::run_moves;
@@ -33,4 +32,4 @@ pub use state::Core;
 pub use steps::{step, step_met};
 pub use sweep_laws::{Claimed, Found, Kind, Move, Reply, Role, StepFault};
 pub use sweep_lists::{CoreHand, CoreSet, Entries, Indices, Life, Numbers};
-pub use words::role;
+pub use sweep_reads::role;

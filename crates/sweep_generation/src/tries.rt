@@ -14,6 +14,7 @@ use crate::scan::first_lister;
 use crate::state::Core;
 use sweep_laws::{Found, Kind, StepFault};
 use sweep_lists::Life;
+use sweep_reads::waits;
 
 // Tries a need: `found` is what it finds where it is not met.
 pub(crate) fn demand(met: bool, found: Found) -> Result<(), StepFault>
@@ -115,10 +116,7 @@ impl Core {
         self.try_worker(worker)?;
         self.try_page(page)?;
         let word = self.words.at(page);
-        demand(
-            word.checked_add(2) == Some(self.generation),
-            Found::Word(word),
-        )
+        demand(waits(word, self.generation), Found::Word(word))
     }
 
     pub(crate) fn try_release(&self, worker: u32, page: u32) -> Result<(), StepFault>
@@ -175,9 +173,6 @@ impl Core {
         self.try_page(page)?;
         self.try_list(Kind::Popped, worker, page)?;
         let word = self.words.at(page);
-        demand(
-            word.checked_add(2) != Some(self.generation),
-            Found::Word(word),
-        )
+        demand(!waits(word, self.generation), Found::Word(word))
     }
 }

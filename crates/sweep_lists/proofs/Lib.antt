@@ -4,8 +4,6 @@ mod There
 mod Told
 mod Begins
 pub mod Cells
-pub mod OfPage
 pub mod Changing
 mod Frees
 mod Members
-mod Rising

@@ -5,5 +5,4 @@ pub mod KeptLives
 pub mod KeptSpare
 pub mod Views
 pub mod Loops
-pub mod Marks
 pub mod Bare

@@ -9,7 +9,6 @@ mod hand;
 mod indices;
 mod life;
 mod lives;
-mod marks;
 mod numbers;
 mod places;
 mod set;

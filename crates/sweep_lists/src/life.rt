@@ -9,9 +9,9 @@ ghost use Rattle.sweep_lists.specs.Views.{life_view, LifeRoom};
 
 use crate::entries::Entries;
 use crate::indices::Indices;
-use crate::marks::run_of;
 use fallible_list::NoMemory;
 use span_state::Marks;
+use sweep_reads::run_of;
 
 /// A span from its Take to its Give.
 #[derive(Debug, Drop)]

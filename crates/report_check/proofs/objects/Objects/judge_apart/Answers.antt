@@ -1,7 +1,8 @@
 use Rattle.std.proofs.Common.{◌+◌, length, refl, sym, ◌∙◌, ap, subst, arith}
 use Rattle.std.proofs.lemmas.Option.{slice_get-get_or}
 use Rattle.cycle_history.specs.Objects.{is_placed}
-use Rattle.report_check.specs.declared.tops.Tops.{Tops}
+use Rattle.life_tops.specs.declared.tops.Tops.{Tops}
+use Rattle.life_tops.specs.Tops.{lives_of}
 use Rattle.report_check.specs.Known.{AreTops}
 use Rattle.report_check.proofs.Lost.{not-placed}
 use Rattle.report_check.proofs.Clearing.{tops-more, tops-other, clear-more, clear-other, clear-breaks, clear-all, placed-inside}
@@ -37,14 +38,14 @@ loop-number-preserved c =
           let is = w.at.ensures in
           let raised = w.in_ok-raise.ensures in
           record {
-            lives = ap (λ (x : Tops). length x.rows.items) w.tops-is ∙ raised.lives ∙ c.loop-number.invariant.lives;
+            lives = ap lives_of w.tops-is ∙ raised.lives ∙ c.loop-number.invariant.lives;
             tops = subst (λ (x : Tops). AreTops items lasts (n + 1) x) (sym w.tops-is) (tops-more items lasts n _ c.loop-number.tops w.raise.new.self at (ap is_placed w.in-Placed.is) raised c.loop-number.invariant.tops);
             clear = clear-more items lasts n _ c.loop-number.tops at c.loop-number.invariant.tops (omega arith) c.loop-number.invariant.clear;
           })
       | in_default w ↦ (
           let off = not-placed _ w.in_default.not-Placed in
           record {
-            lives = ap (λ (x : Tops). length x.rows.items) w.tops-is ∙ c.loop-number.invariant.lives;
+            lives = ap lives_of w.tops-is ∙ c.loop-number.invariant.lives;
             tops = subst (λ (x : Tops). AreTops items lasts (n + 1) x) (sym w.tops-is) (tops-other items lasts n _ c.loop-number.tops at off c.loop-number.invariant.tops);
             clear = clear-other items lasts n _ at off c.loop-number.invariant.clear;
           })

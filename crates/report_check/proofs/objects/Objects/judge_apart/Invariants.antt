@@ -1,11 +1,12 @@
 use Rattle.std.proofs.Common.{◌≡◌, length}
+use Rattle.life_tops.specs.Tops.{lives_of}
 use Rattle.report_check.specs.Known.{AreClear, AreTops}
 use Rattle.report_check.proofs.objects.Objects.judge_apart.Given as goal
 
 -- the items so far are clear of each other
 abbrev pub invariant-loop-number : goal.invariant-loop-number
 invariant-loop-number l = record {
-  lives : length l.tops.rows.items ≡ length l.self.report.now.journal;
+  lives : lives_of l.tops ≡ length l.self.report.now.journal;
   tops : AreTops l.self.items.now l.self.lasts.now l.number l.tops;
   clear : AreClear l.self.items.now l.self.lasts.now l.number;
 }

@@ -1,5 +1,5 @@
 use Rattle.std.proofs.Common.{List, ℕ, length, refl, ◌∙◌, ap, arith}
-use Rattle.sweep_lists.proofs.OfPage.{marks-indices}
+use Rattle.sweep_reads.proofs.OfPage.{marks-indices}
 use Rattle.sweep_lists.proofs.entries.Entries+u32.copy_marked.Goals as goal
 
 pub copy_indices-requires : goal.copy_indices-requires

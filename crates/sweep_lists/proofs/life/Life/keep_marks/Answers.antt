@@ -1,5 +1,5 @@
 use Rattle.std.proofs.Common.{refl, arith}
-use Rattle.sweep_lists.proofs.OfPage.{all-here, seconds-here}
+use Rattle.sweep_reads.proofs.OfPage.{all-here, seconds-here}
 use Rattle.sweep_lists.proofs.life.Life.keep_marks.Goals as goal
 
 pub copy_seconds-requires : goal.copy_seconds-requires

@@ -1,8 +1,0 @@
-use Rattle.std.proofs.Common.{◌≡◌, ℕ, ◌-◌, ap}
-use Rattle.cycle_history.specs.Requests.{last_cycle}
-use Rattle.heap_run.proofs.run.read_rest.Goals as goal
-
-pub returns-clause-lines : goal.returns-clause-lines
-returns-clause-lines c =
-    let last : c.len.result - 1 ≡ last_cycle c.args.trace.now = ap (λ (n : ℕ). n - 1) c.len.ensures in
-    rw last at c.in_ok-read_last.ensures.lines

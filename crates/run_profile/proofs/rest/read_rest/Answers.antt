@@ -1,0 +1,8 @@
+use Rattle.std.proofs.Common.{◌≡◌, ℕ, ◌-◌, ap}
+use Rattle.cycle_history.specs.Requests.{last_cycle}
+use Rattle.run_profile.proofs.rest.read_rest.Goals as goal
+
+pub returns-clause-lines : goal.returns-clause-lines
+returns-clause-lines c =
+    let last : c.len.result - 1 ≡ last_cycle c.args.trace.now = ap (λ (n : ℕ). n - 1) c.len.ensures in
+    rw last at c.in_ok-read_last.ensures.lines

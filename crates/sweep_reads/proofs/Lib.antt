@@ -1,0 +1,2 @@
+pub mod OfPage
+mod Rising
