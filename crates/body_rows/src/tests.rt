@@ -54,25 +54,26 @@ fn swept(rt: &impl Abort, marks: &Marks, count: u32) -> (Swept, u32, Option<u32>
 // Bodies are handed from thread to thread, and marks are shared by threads.
 fn crosses_threads<T: Send + Sync>(_: &T) {}
 
+// The count; the marked indices, from .. up to ..; after the sweep: kept, freed, the lowest free index.
+const SWEPT: &[(u32, u32, u32, u32, u32, Option<u32>)] = &[
+    (1, 0, 0, 0, 1, Some(0)),
+    (1, 0, 1, 1, 0, None),
+    (64, 0, 63, 63, 1, Some(63)),
+    (64, 63, 64, 1, 63, Some(0)),
+    (64, 0, 64, 64, 0, None),
+    (341, 0, 1, 1, 340, Some(1)),
+    (341, 0, 64, 64, 277, Some(64)),
+    (341, 0, 65, 65, 276, Some(65)),
+    (341, 63, 65, 2, 339, Some(0)),
+    (341, 0, 341, 341, 0, None),
+    (1024, 0, 1023, 1023, 1, Some(1023)),
+    (1024, 1023, 1024, 1, 1023, Some(0)),
+    (1024, 0, 1024, 1024, 0, None),
+];
+
 #[test]
 fn bodies_at_word_borders(rt: HostRuntime) -> Result<(), Fail> {
-    // the count; the marked indices, from .. up to ..; after the sweep: kept, freed, the lowest free index
-    let rows = [
-        (1, 0, 0, 0, 1, Some(0)),
-        (1, 0, 1, 1, 0, None),
-        (64, 0, 63, 63, 1, Some(63)),
-        (64, 63, 64, 1, 63, Some(0)),
-        (64, 0, 64, 64, 0, None),
-        (341, 0, 1, 1, 340, Some(1)),
-        (341, 0, 64, 64, 277, Some(64)),
-        (341, 0, 65, 65, 276, Some(65)),
-        (341, 63, 65, 2, 339, Some(0)),
-        (341, 0, 341, 341, 0, None),
-        (1024, 0, 1023, 1023, 1, Some(1023)),
-        (1024, 1023, 1024, 1, 1023, Some(0)),
-        (1024, 0, 1024, 1024, 0, None),
-    ];
-    for (count, low, high, kept, freed, free) in rows {
+    for &(count, low, high, kept, freed, free) in SWEPT {
         assert!(rt; 1 <= count && count <= 1024 && high <= count);
         let marks = marks_of(rt.alloc(), low, high)?;
         let (swept, next, lowest) = swept(&rt, &marks, count);

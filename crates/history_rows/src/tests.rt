@@ -7,6 +7,7 @@ use cycle_history::{Answer, PackedPlace, Total, marks_of, totals_of};
 use fallible_list::{List, NoMemory};
 use span_state::Marks;
 use std::alloc::Global;
+use std::process::Abort;
 use std::test::Fail;
 use trace_reader::{Cycle, Event, Header, MarkEnd, Span, Trace};
 
@@ -146,6 +147,22 @@ fn next_marks(
     )
 }
 
+// Wants these marks, and of these pages these dead.
+fn expect_marks<R: AllocGlobal + Abort>(
+    rt: &R,
+    marks: &Marks,
+    wanted: &[(u32, u32)],
+    dead: &[(u32, &[u32])],
+) -> Result<(), Fail> {
+    for (page, buckets) in dead {
+        assert_eq!(rt; marks.dead(*page), *buckets, "at page {page}");
+    }
+    let pairs = marks.pairs()?;
+    assert_eq!(rt; pairs.as_slice(), wanted);
+    Ok(())
+}
+
+// Object 2 is marked, but of size 0; object 6 is marked, but refused; object 3 dies, but isn't sampled; objects 1 and 4 died before.
 #[test]
 fn marks_of_two_mark_ends(rt: HostRuntime) -> Result<(), Fail> {
     let trace = trace(rt.alloc())?;
@@ -153,56 +170,46 @@ fn marks_of_two_mark_ends(rt: HostRuntime) -> Result<(), Fail> {
     // all but objects 3 and 7
     let sampled = [true, true, true, false, true, true, true, false];
 
-    // object 2 is marked, but of size 0
     next_marks(rt.alloc(), &trace, 1, 5, &sampled, &mut kept)?;
-    assert_eq!(rt; kept.marks.pairs()?.as_slice(), [(0, 0), (3, 8)].as_slice());
-    for (page, dead) in [
-        (0, [11].as_slice()),
-        (5, [14].as_slice()),
-        (3, [].as_slice()),
-    ] {
-        assert_eq!(rt; kept.marks.dead(page), dead, "at page {page}");
-    }
+    let dead: [(u32, &[u32]); 3] = [(0, &[11]), (5, &[14]), (3, &[])];
+    expect_marks(&rt, &kept.marks, &[(0, 0), (3, 8)], &dead)?;
 
-    // object 6 is marked, but refused; object 3 dies, but isn't sampled; objects 1 and 4 died before
     next_marks(rt.alloc(), &trace, 2, 8, &sampled, &mut kept)?;
-    assert_eq!(rt;
-        kept.marks.pairs()?.as_slice(),
-        [(0, 0), (10, 340)].as_slice()
-    );
-    for (page, dead) in [(0, [15].as_slice()), (3, [].as_slice()), (5, [].as_slice())] {
-        assert_eq!(rt; kept.marks.dead(page), dead, "at page {page}");
-    }
-    Ok(())
+    let dead: [(u32, &[u32]); 3] = [(0, &[15]), (3, &[]), (5, &[])];
+    expect_marks(&rt, &kept.marks, &[(0, 0), (10, 340)], &dead)
 }
 
-// No dead is looked for. Object 0 has the region's first bytes, so index 0 of page 0; object 3 of 1400 bytes has a slot of 1408,
-// and its address is 3 * 8192 + 8 * 1408 behind the region's start; object 7 has a slot of 24, and is 10 * 8192 + 340 * 24 behind.
+const NO_DEAD: [(u32, &[u32]); 4] = [(0, &[]), (3, &[]), (5, &[]), (10, &[])];
+
+// No dead is looked for: objects 1 and 4 die, and then 3 and 5. Object 0 has the region's first bytes, so index 0 of page 0; object 3 of
+// 1400 bytes has a slot of 1408, and its address is 3 * 8192 + 8 * 1408 behind the region's start; object 7 has a slot of 24, and is
+// 10 * 8192 + 340 * 24 behind.
 #[test]
 fn marks_of_two_mark_ends_where_none_is_sampled(rt: HostRuntime) -> Result<(), Fail> {
     let trace = trace(rt.alloc())?;
     let mut kept = Kept::nothing(rt.alloc());
     let sampled = [false; 8];
 
-    // objects 1 and 4 die
     next_marks(rt.alloc(), &trace, 1, 5, &sampled, &mut kept)?;
-    assert_eq!(rt; kept.clear, 5);
-    assert_eq!(rt; kept.marks.pairs()?.as_slice(), [(0, 0), (3, 8)].as_slice());
-    for page in [0, 3, 5] {
-        assert!(rt; kept.marks.dead(page).is_empty(), "at page {page}");
-    }
+    let first = kept.clear;
+    expect_marks(&rt, &kept.marks, &[(0, 0), (3, 8)], &NO_DEAD)?;
 
-    // objects 3 and 5 die
     next_marks(rt.alloc(), &trace, 2, 8, &sampled, &mut kept)?;
-    assert_eq!(rt; kept.clear, 8);
-    assert_eq!(rt;
-        kept.marks.pairs()?.as_slice(),
-        [(0, 0), (10, 340)].as_slice()
-    );
-    for page in [0, 3, 5, 10] {
-        assert!(rt; kept.marks.dead(page).is_empty(), "at page {page}");
+    assert_eq!(rt; (first, kept.clear), (5, 8));
+    expect_marks(&rt, &kept.marks, &[(0, 0), (10, 340)], &NO_DEAD)
+}
+
+// Wants of totals the classes, the placed objects, and those of them that don't live in the last cycle.
+fn expect_totals<R: Abort>(rt: &R, totals: &[Total], rows: &[(u8, u64, u64)]) {
+    assert_eq!(rt; totals.len(), rows.len());
+    for (total, (class, mallocs, frees)) in totals.iter().zip(rows) {
+        let want = Total {
+            class: *class,
+            mallocs: *mallocs,
+            frees: *frees,
+        };
+        assert_eq!(rt; *total, want);
     }
-    Ok(())
 }
 
 #[test]
@@ -210,16 +217,7 @@ fn totals_of_five_classes(rt: HostRuntime) -> Result<(), Fail> {
     let trace = trace(rt.alloc())?;
     let answers = first_answers(rt.alloc(), 9)?;
     let totals = totals_of(rt.alloc(), &trace, &answers)?;
-    // the class, the placed objects, and those of them that don't live in cycle 2
     let rows = [(0, 1, 1), (2, 3, 2), (3, 1, 0), (35, 1, 1), (67, 1, 0)];
-    assert_eq!(rt; totals.len(), rows.len());
-    for (total, (class, mallocs, frees)) in totals.as_slice().iter().zip(rows) {
-        let want = Total {
-            class,
-            mallocs,
-            frees,
-        };
-        assert_eq!(rt; *total, want);
-    }
+    expect_totals(&rt, totals.as_slice(), &rows);
     Ok(())
 }

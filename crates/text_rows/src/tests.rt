@@ -10,6 +10,7 @@ use page_bitmap::Line;
 use report_text::{read_report, write_report};
 use span_state::SweepNote;
 use std::alloc::Global;
+use std::process::Abort;
 use std::test::Fail;
 
 const MAX: u32 = 4294967295;
@@ -88,31 +89,48 @@ fn bucket(mark: u32, stack: u32, size: u64, allocs: u64, frees: u64) -> Prof {
     }
 }
 
-// What a call of the writer left.
-#[derive(Drop)]
-struct Outcome {
-    whole: bool,
-    held: Vec<u8>,
+/// The first lists of a report.
+type Front = (List<Answer>, List<Line>);
+
+fn front_of(alloc: Global, row: Row<'_>) -> Result<Front, Fail> {
+    let answers = row.answers.to_vec(alloc)?;
+    let journal = row.journal.to_vec(alloc)?;
+    Ok((List::from_vec(answers), List::from_vec(journal)))
 }
 
-// Writes the row's report into a sink in memory, of whose writes those of these numbers fail.
-fn written(alloc: Global, row: Row<'_>, failing: &[u64]) -> Result<Outcome, Fail> {
-    let report = Report {
-        answers: List::from_vec(row.answers.to_vec(alloc)?),
-        journal: List::from_vec(row.journal.to_vec(alloc)?),
-        sweeps: List::from_vec(row.sweeps.to_vec(alloc)?),
-        totals: List::from_vec(row.totals.to_vec(alloc)?),
-        profile: List::from_vec(row.profile.to_vec(alloc)?),
-    };
-    let mut sink = MemorySink::new(alloc, List::from_vec(failing.to_vec(alloc)?));
+/// The last lists of a report.
+type Tail = (List<SweepNote>, List<Total>, List<Prof>);
+
+fn tail_of(alloc: Global, row: Row<'_>) -> Result<Tail, Fail> {
+    let sweeps = row.sweeps.to_vec(alloc)?;
+    let totals = row.totals.to_vec(alloc)?;
+    let profile = row.profile.to_vec(alloc)?;
+    Ok((
+        List::from_vec(sweeps),
+        List::from_vec(totals),
+        List::from_vec(profile),
+    ))
+}
+
+// The report of a row.
+fn report_of(alloc: Global, row: Row<'_>) -> Result<Report, Fail> {
+    let (answers, journal) = front_of(alloc, row)?;
+    let (sweeps, totals, profile) = tail_of(alloc, row)?;
+    Ok(Report {
+        answers,
+        journal,
+        sweeps,
+        totals,
+        profile,
+    })
+}
+
+// Whether the lists of the report rise, and it is written whole.
+fn is_written(report: &Report, sink: &mut MemorySink) -> bool {
     let rising = rises(report.sweeps.as_slice())
         && rises(report.totals.as_slice())
         && rises(report.profile.as_slice());
-    let whole = rising && write_report(&mut sink, &report).is_ok();
-    Ok(Outcome {
-        whole,
-        held: sink.held().to_vec(alloc)?,
-    })
+    rising && write_report(sink, report).is_ok()
 }
 
 // Whether reading the text gives a report that is written as it.
@@ -128,56 +146,86 @@ fn is_read_back(alloc: Global, text: &[u8]) -> Result<bool, Fail> {
     Ok(whole && sink.held() == text)
 }
 
+// Whether the row's report is written as the row's text.
+fn is_written_so(alloc: Global, row: Row<'_>) -> Result<bool, Fail> {
+    let report = report_of(alloc, row)?;
+    let mut sink = MemorySink::new(alloc, List::new(alloc));
+    let whole = is_written(&report, &mut sink);
+    Ok(whole && sink.held() == row.text.as_bytes())
+}
+
+// Wants that the row's report is written as the row's text, and that this is read back.
+fn expect_text<R: AllocGlobal + Abort>(rt: &R, row: Row<'_>) -> Result<(), Fail> {
+    let text = row.text;
+    assert!(rt; is_written_so(rt.alloc(), row)?, "writing {text}");
+    assert!(rt;
+        is_read_back(rt.alloc(), text.as_bytes())?,
+        "reading {text}"
+    );
+    Ok(())
+}
+
+const FIRST: Answer = Answer::Placed(0xc0_0000_0000);
+
 #[test]
-fn small_reports_are_written(rt: HostRuntime) -> Result<(), Fail> {
-    let alloc = rt.alloc();
-    let first = Answer::Placed(0xc0_0000_0000);
-    let one_object = Row {
-        answers: &[first],
+fn an_empty_report_is_written(rt: HostRuntime) -> Result<(), Fail> {
+    expect_text(&rt, NOTHING)
+}
+
+#[test]
+fn one_object_is_written(rt: HostRuntime) -> Result<(), Fail> {
+    let row = Row {
+        answers: &[FIRST],
         journal: &[take(0, 0, 1, 6)],
         totals: &[total(3, 1, 0)],
         text: "o 0 0xc000000000\nj 0 0 take 0 1 6\nt 3 1 0\nend\n",
         ..NOTHING
     };
-    let used_again = Row {
-        answers: &[first, Answer::Placed(0xc0_0000_0018), first],
+    expect_text(&rt, row)
+}
+
+#[test]
+fn a_place_that_is_used_again_is_written(rt: HostRuntime) -> Result<(), Fail> {
+    let row = Row {
+        answers: &[FIRST, Answer::Placed(0xc0_0000_0018), FIRST],
         journal: &[take(0, 0, 1, 6)],
         sweeps: &[sweep(1, 0, 1, 1)],
         totals: &[total(3, 3, 1)],
         text: "o 0 0xc000000000\no 1 0xc000000018\no 2 0xc000000000\nj 0 0 take 0 1 6\ns 1 0 1 1\nt 3 3 1\nend\n",
         ..NOTHING
     };
-    let given_back = Row {
-        answers: &[first, first],
+    expect_text(&rt, row)
+}
+
+#[test]
+fn a_span_that_is_given_back_is_written(rt: HostRuntime) -> Result<(), Fail> {
+    let row = Row {
+        answers: &[FIRST, FIRST],
         journal: &[take(0, 0, 1, 6), give(1, 0, 1), take(1, 0, 1, 6)],
         sweeps: &[sweep(1, 0, 0, 1)],
         totals: &[total(3, 2, 1)],
         text: "o 0 0xc000000000\no 1 0xc000000000\nj 0 0 take 0 1 6\nj 1 1 give 0 1\nj 2 1 take 0 1 6\ns 1 0 0 1\nt 3 2 1\nend\n",
         ..NOTHING
     };
-    for row in [NOTHING, one_object, used_again, given_back] {
-        let outcome = written(alloc, row, &[])?;
-        assert!(rt; outcome.whole);
-        assert_eq!(rt; outcome.held.as_slice(), row.text.as_bytes());
-        assert!(rt; is_read_back(alloc, row.text.as_bytes())?);
-    }
-    Ok(())
+    expect_text(&rt, row)
 }
 
 #[test]
-fn reports_of_large_objects_are_written(rt: HostRuntime) -> Result<(), Fail> {
-    let alloc = rt.alloc();
-    let first = Answer::Placed(0xc0_0000_0000);
-    let next = Answer::Placed(0xc0_0000_8000);
-    let two_classes = Row {
-        answers: &[first, next],
+fn a_large_object_is_written(rt: HostRuntime) -> Result<(), Fail> {
+    let row = Row {
+        answers: &[FIRST, Answer::Placed(0xc0_0000_8000)],
         journal: &[take(0, 0, 4, 134), take(0, 4, 5, 0)],
         totals: &[total(0, 1, 0), total(67, 1, 0)],
         text: "o 0 0xc000000000\no 1 0xc000008000\nj 0 0 take 0 4 134\nj 1 0 take 4 5 0\nt 0 1 0\nt 67 1 0\nend\n",
         ..NOTHING
     };
-    let scavenged = Row {
-        answers: &[first],
+    expect_text(&rt, row)
+}
+
+#[test]
+fn scavenged_pages_are_written(rt: HostRuntime) -> Result<(), Fail> {
+    let row = Row {
+        answers: &[FIRST],
         journal: &[
             take(0, 0, 128, 1),
             give(1, 0, 128),
@@ -189,13 +237,7 @@ fn reports_of_large_objects_are_written(rt: HostRuntime) -> Result<(), Fail> {
         text: "o 0 0xc000000000\nj 0 0 take 0 128 1\nj 1 1 give 0 128\nj 2 1 scav 64 64\nj 3 1 scav 0 64\ns 1 0 0 1\nt 0 1 1\nend\n",
         ..NOTHING
     };
-    for row in [two_classes, scavenged] {
-        let outcome = written(alloc, row, &[])?;
-        assert!(rt; outcome.whole);
-        assert_eq!(rt; outcome.held.as_slice(), row.text.as_bytes());
-        assert!(rt; is_read_back(alloc, row.text.as_bytes())?);
-    }
-    Ok(())
+    expect_text(&rt, row)
 }
 
 #[test]
@@ -227,51 +269,47 @@ fn a_report_of_a_full_region_is_written(rt: HostRuntime) -> Result<(), Fail> {
         text: "o 0 0xc000000000\no 1 0xc000100000\no 2 0xc000200000\no 3 0xc000300000\no 4 miss 6\nj 0 0 take 0 128 1\nj 1 0 take 128 128 1\nj 2 0 take 256 128 1\nj 3 0 take 384 128 1\nj 4 1 give 0 128\nj 5 1 give 256 128\nj 6 1 miss 129 1\ns 1 0 0 1\ns 1 128 1 0\ns 1 256 0 1\ns 1 384 1 0\nt 0 4 2\nend\n",
         ..NOTHING
     };
-    let outcome = written(rt.alloc(), full_region, &[])?;
-    assert!(rt; outcome.whole);
-    assert_eq!(rt; outcome.held.as_slice(), full_region.text.as_bytes());
-    Ok(())
+    expect_text(&rt, full_region)
 }
 
+const SECOND: Answer = Answer::Placed(0xc0_0000_0018);
+
+const THIRD: Answer = Answer::Placed(0xc0_0000_0030);
+
 #[test]
-fn profiles_are_written(rt: HostRuntime) -> Result<(), Fail> {
-    let alloc = rt.alloc();
-    let first = Answer::Placed(0xc0_0000_0000);
-    let second = Answer::Placed(0xc0_0000_0018);
-    let third = Answer::Placed(0xc0_0000_0030);
-    let one_mark_end = Row {
-        answers: &[first, second, third],
+fn a_profile_is_written(rt: HostRuntime) -> Result<(), Fail> {
+    let row = Row {
+        answers: &[FIRST, SECOND, THIRD],
         journal: &[take(0, 0, 1, 6)],
         sweeps: &[sweep(1, 0, 1, 2)],
         totals: &[total(3, 3, 2)],
         profile: &[bucket(1, 7, 24, 3, 2)],
         text: "o 0 0xc000000000\no 1 0xc000000018\no 2 0xc000000030\nj 0 0 take 0 1 6\ns 1 0 1 2\nt 3 3 2\np 1 7 24 3 2\nend\n",
     };
-    let each_mark_end = Row {
-        answers: &[first, second, third, second],
+    expect_text(&rt, row)
+}
+
+#[test]
+fn profiles_of_two_mark_ends_are_written(rt: HostRuntime) -> Result<(), Fail> {
+    let each = Row {
+        answers: &[FIRST, SECOND, THIRD, SECOND],
         journal: &[take(0, 0, 1, 6)],
         sweeps: &[sweep(1, 0, 1, 2), sweep(2, 0, 1, 1)],
         totals: &[total(3, 4, 3)],
         profile: &[bucket(1, 7, 24, 3, 2), bucket(2, 7, 24, 4, 3)],
         text: "o 0 0xc000000000\no 1 0xc000000018\no 2 0xc000000030\no 3 0xc000000018\nj 0 0 take 0 1 6\ns 1 0 1 2\ns 2 0 1 1\nt 3 4 3\np 1 7 24 3 2\np 2 7 24 4 3\nend\n",
     };
-    let last_mark_end = Row {
+    expect_text(&rt, each)?;
+    let last = Row {
         profile: &[bucket(2, 7, 24, 4, 3)],
         text: "o 0 0xc000000000\no 1 0xc000000018\no 2 0xc000000030\no 3 0xc000000018\nj 0 0 take 0 1 6\ns 1 0 1 2\ns 2 0 1 1\nt 3 4 3\np 2 7 24 4 3\nend\n",
-        ..each_mark_end
+        ..each
     };
-    for row in [one_mark_end, each_mark_end, last_mark_end] {
-        let outcome = written(alloc, row, &[])?;
-        assert!(rt; outcome.whole);
-        assert_eq!(rt; outcome.held.as_slice(), row.text.as_bytes());
-        assert!(rt; is_read_back(alloc, row.text.as_bytes())?);
-    }
-    Ok(())
+    expect_text(&rt, last)
 }
 
 #[test]
 fn numbers_of_all_lengths_are_written(rt: HostRuntime) -> Result<(), Fail> {
-    let alloc = rt.alloc();
     let row = Row {
         answers: &[
             Answer::Placed(0),
@@ -304,37 +342,39 @@ fn numbers_of_all_lengths_are_written(rt: HostRuntime) -> Result<(), Fail> {
         ],
         text: "o 0 0x0\no 1 0xffffffffffffffff\no 2 0xabcdef9876543210\no 3 zero\no 4 miss 0\no 5 miss 18446744073709551615\nj 0 0 take 0 0 0\nj 1 4294967295 take 4294967295 4294967295 255\nj 2 3 miss 134217728 1\nj 3 4294967295 miss 4294967295 255\nj 4 4294967295 give 4294967295 4294967295\nj 5 4294967295 scav 4294967295 4294967295\ns 0 0 0 0\ns 1 2 3 4\ns 4294967295 4294967295 4294967295 4294967295\nt 0 0 0\nt 255 18446744073709551615 18446744073709551615\np 0 0 0 0 0\np 1 2 3 4 5\np 1 2 4 0 0\np 1 3 0 0 0\np 4294967295 4294967295 18446744073709551615 18446744073709551615 18446744073709551615\nend\n",
     };
-    let outcome = written(alloc, row, &[])?;
-    assert!(rt; outcome.whole);
-    assert_eq!(rt; outcome.held.as_slice(), row.text.as_bytes());
-    assert!(rt; is_read_back(alloc, row.text.as_bytes())?);
-    Ok(())
+    expect_text(&rt, row)
 }
 
+// Whether of a report, where these writes fail, so many bytes are held, which begin and end with these, and whether it is said that it is
+// written whole.
+fn leaves(
+    alloc: Global,
+    report: &Report,
+    failing: &[u64],
+    wanted: (bool, usize, &[u8], &[u8]),
+) -> Result<bool, Fail> {
+    let mut sink = MemorySink::new(alloc, List::from_vec(failing.to_vec(alloc)?));
+    let whole = is_written(report, &mut sink);
+    let held = sink.held();
+    let (is_whole, length, front, tail) = wanted;
+    Ok(whole == is_whole && held.len() == length && held.starts_with(front) && held.ends_with(tail))
+}
+
+// 990 bytes of the objects 0 to 99, 11 bytes of each one up to 999 and 12 of each later one: of 32768, 32766 are those of the
+// first 2823
 #[test]
 fn a_failed_write_leaves_a_front(rt: HostRuntime) -> Result<(), Fail> {
-    let alloc = rt.alloc();
-    // 990 bytes of the objects 0 to 99, 11 bytes of each one up to 999 and 12 of each later one: of 32768, 32766 are those of the
-    // first 2823
     let long = Row {
         answers: &[Answer::Zero; 4000],
         ..NOTHING
     };
-    let none = written(alloc, long, &[0])?;
-    assert!(rt; !none.whole);
-    assert!(rt; none.held.is_empty());
-    let front = written(alloc, long, &[1])?;
-    assert!(rt; !front.whole);
-    assert_eq!(rt; front.held.len(), 32766);
-    assert!(rt; front.held.as_slice().starts_with(b"o 0 zero\no 1 zero\n"));
-    assert!(rt;
-        front
-            .held
-            .as_slice()
-            .ends_with(b"o 2821 zero\no 2822 zero\n")
-    );
-    let all = written(alloc, long, &[])?;
-    assert!(rt; all.whole);
-    assert_eq!(rt; all.held.len(), 46894);
+    let report = report_of(rt.alloc(), long)?;
+    let begin = b"o 0 zero\no 1 zero\n".as_slice();
+    let none = leaves(rt.alloc(), &report, &[0], (false, 0, b"", b""))?;
+    let tail = b"o 2821 zero\no 2822 zero\n".as_slice();
+    let front = leaves(rt.alloc(), &report, &[1], (false, 32766, begin, tail))?;
+    let tail = b"o 3999 zero\nend\n".as_slice();
+    let all = leaves(rt.alloc(), &report, &[], (true, 46894, begin, tail))?;
+    assert_eq!(rt; (none, front, all), (true, true, true));
     Ok(())
 }

@@ -1,5 +1,7 @@
 //! The program over streams in memory. The expected texts are written by hand from the rules of docs/.
 
+ghost use Rattle.std.specs.Prelude.{◌≡◌, ◌≤◌};
+
 use alloc_tool::{goheap, goheap_plain};
 use edge_io::{Lines, List, MemorySink, MemorySource, OpenGate};
 use std::alloc::Global;
@@ -14,14 +16,72 @@ mod judged;
 mod pieces;
 mod streams;
 
+// The second line of most traces.
+const SMALL: &str = "heap 1 procs 1 rate 0 seed 1 goal 512";
+
 const HEAD: &str = "goheap 1\nheap 1 procs 1 rate 0 seed 1 goal 512\n";
 
-// What a call of the program left.
-#[derive(Drop)]
-struct Outcome {
+// Script in memory: how many bytes a call gives or takes at most, and the numbers of the reads, of the writes and of the writes of what
+// is told that fail.
+#[derive(Clone, Copy)]
+struct Script<'a> {
+    most: u64,
+    reads: &'a [u64],
+    writes: &'a [u64],
+    tells: &'a [u64],
+}
+
+// Script that give and take all at once, of which these reads and writes fail.
+fn failing<'a>(reads: &'a [u64], writes: &'a [u64]) -> Script<'a>
+    ensures { result.most ≡ 18446744073709551615 }
+{
+    Script {
+        most: u64::MAX,
+        reads,
+        writes,
+        tells: &[],
+    }
+}
+
+// What is to be written: these bytes, or some that begin and end with these.
+#[derive(Clone, Copy)]
+enum Text<'a> {
+    Is(&'a [u8]),
+    Round(&'a [u8], &'a [u8]),
+}
+
+// Whether the bytes are what is to be written.
+fn fits(text: Text<'_>, bytes: &[u8]) -> bool {
+    match text {
+        Text::Is(whole) => bytes == whole,
+        Text::Round(front, tail) => bytes.starts_with(front) && bytes.ends_with(tail),
+    }
+}
+
+// What a call is to leave.
+#[derive(Clone, Copy)]
+struct Wanted<'a> {
     status: u8,
-    written: Vec<u8>,
-    told: Vec<u8>,
+    written: Text<'a>,
+    told: &'a str,
+}
+
+// An answer that is written whole.
+fn answered<'a>(text: &'a str) -> Wanted<'a> {
+    Wanted {
+        status: 0,
+        written: Text::Is(text.as_bytes()),
+        told: "",
+    }
+}
+
+// A call that writes nothing, and tells this.
+fn refused<'a>(status: u8, told: &'a str) -> Wanted<'a> {
+    Wanted {
+        status,
+        written: Text::Is(b""),
+        told,
+    }
 }
 
 // The words as the program takes them.
@@ -33,39 +93,69 @@ fn words_of(alloc: Global, words: &[&str]) -> Result<Vec<String>, Fail> {
     Ok(owned)
 }
 
-// A call of `goheap` over streams in memory; of its reads those of these numbers fail, and of its writes likewise.
-fn call<R: Threads + Wait + Sync + AllocGlobal>(
+// A source of these bytes.
+fn source_of(alloc: Global, input: &[u8], script: Script<'_>) -> Result<MemorySource, Fail>
+    requires { 1 ≤ script.most }
+{
+    let reads = List::from_vec(script.reads.to_vec(alloc)?);
+    let bytes = List::from_vec(input.to_vec(alloc)?);
+    Ok(MemorySource::in_pieces(bytes, script.most, reads))
+}
+
+// A sink of which these writes fail.
+fn sink_of(alloc: Global, most: u64, writes: &[u64]) -> Result<MemorySink, Fail>
+    requires { 1 ≤ most }
+{
+    let writes = List::from_vec(writes.to_vec(alloc)?);
+    Ok(MemorySink::in_pieces(alloc, most, writes))
+}
+
+// A call of `goheap`, and what it is to leave.
+fn expect_over<R: Threads + Wait + Sync + AllocGlobal + Abort>(
     rt: &R,
+    at: &str,
+    words: &Vec<String>,
+    source: &mut MemorySource,
+    output: &mut MemorySink,
+    errors: &mut MemorySink,
+    wanted: Wanted<'_>,
+) -> Result<(), Fail> {
+    let status = goheap(rt, rt.alloc(), words, source, output, errors, &OpenGate);
+    assert_eq!(rt; status, wanted.status, "at {at} {words:?}");
+    assert_eq!(rt; errors.held(), wanted.told.as_bytes(), "at {at} {words:?}");
+    assert!(rt; fits(wanted.written, output.held()), "at {at} {words:?}");
+    Ok(())
+}
+
+// A call of `goheap` over such streams, and what it is to leave. Where that is not so, it is told at which row, `at`.
+fn expect<R: Threads + Wait + Sync + AllocGlobal + Abort>(
+    rt: &R,
+    at: &str,
     words: &[&str],
     input: &[u8],
-    reads: &[u64],
-    writes: &[u64],
-) -> Result<Outcome, Fail> {
+    script: Script<'_>,
+    wanted: Wanted<'_>,
+) -> Result<(), Fail>
+    requires { 1 ≤ script.most }
+{
     let alloc = rt.alloc();
     let words = words_of(alloc, words)?;
-    let reads = List::from_vec(reads.to_vec(alloc)?);
-    let writes = List::from_vec(writes.to_vec(alloc)?);
-    let mut source = MemorySource::new(List::from_vec(input.to_vec(alloc)?), reads);
-    let mut output = MemorySink::new(alloc, writes);
-    let mut errors = MemorySink::new(alloc, List::new(alloc));
-    let status = goheap(
+    let mut source = source_of(alloc, input, script)?;
+    let mut output = sink_of(alloc, script.most, script.writes)?;
+    let mut errors = sink_of(alloc, script.most, script.tells)?;
+    expect_over(
         rt,
-        alloc,
+        at,
         &words,
         &mut source,
         &mut output,
         &mut errors,
-        &OpenGate,
-    );
-    Ok(Outcome {
-        status,
-        written: output.held().to_vec(alloc)?,
-        told: errors.held().to_vec(alloc)?,
-    })
+        wanted,
+    )
 }
 
 // Lines of events, and the report of them without its last line.
-const ANSWERED: [(&str, &str); 16] = [
+const ANSWERED: &[(&str, &str)] = &[
     ("", ""),
     (
         "a 0 24 s 1\n",
@@ -149,7 +239,7 @@ const ANSWERED: [(&str, &str); 16] = [
 // The second line and the lines behind it, and the report of them without its last line: of two processors each has a span of its own, and takes
 // no slot of the other's; 64 processors without an event print nothing; a freed run is scavenged 64 pages at a
 // time.
-const WITH_HEADS: [(&str, &str, &str); 3] = [
+const WITH_HEADS: &[(&str, &str, &str)] = &[
     (
         "heap 1 procs 2 rate 0 seed 1 goal 512",
         "a 0 8 s 1\na 1 8 s 1\ngc 1\nm 0 0\na 1 8 s 1\n",
@@ -166,7 +256,7 @@ const WITH_HEADS: [(&str, &str, &str); 3] = [
 
 // Lines of events that are all sampled, the report of them without its profile and its last line, and the profile of the last mark end and
 // of each: an object of size 0; three objects of which one lives on; and the same with one object more, behind a second mark end.
-const SAMPLED: [(&str, &str, &str, &str); 3] = [
+const SAMPLED: &[(&str, &str, &str, &str)] = &[
     ("a 0 0 n 3\ngc 1\nm 0 0\n", "o 0 zero\n", "", ""),
     (
         "a 0 24 s 7\na 0 24 s 7\na 0 24 s 7\ngc 1\nm 0 0\n",
@@ -182,59 +272,50 @@ const SAMPLED: [(&str, &str, &str, &str); 3] = [
     ),
 ];
 
-// Wants that the words answer a trace with this report, and tell nothing.
-fn expect_answer<R: Threads + Wait + Sync + AllocGlobal + Abort>(
+// Wants that the trace of these lines behind this second line has this report.
+fn expect_report<R: Threads + Wait + Sync + AllocGlobal + Abort>(
     rt: &R,
     words: &[&str],
-    input: &str,
-    report: &str,
+    head: &str,
+    lines: &str,
+    text: &str,
+    profile: &str,
 ) -> Result<(), Fail> {
-    let found = call(rt, words, input.as_bytes(), &[], &[])?;
-    assert_eq!(rt; found.status, 0, "at {words:?} {input}");
-    assert_eq!(rt;
-        found.written.as_slice(),
-        report.as_bytes(),
-        "at {words:?} {input}"
-    );
-    assert_eq!(rt; found.told.len(), 0, "at {words:?} {input}");
-    Ok(())
+    let input = format!(in rt.alloc(); "goheap 1\n{head}\n{lines}end\n")?;
+    let report = format!(in rt.alloc(); "{text}{profile}end\n")?;
+    let wanted = answered(report.as_str());
+    expect(
+        rt,
+        lines,
+        words,
+        input.as_bytes(),
+        failing(&[], &[]),
+        wanted,
+    )
 }
 
-#[test]
-fn processors_and_goals_are_served(rt: HostRuntime) -> Result<(), Fail> {
-    for (head, lines, text) in WITH_HEADS {
-        let input = format!(in rt.alloc(); "goheap 1\n{head}\n{lines}end\n")?;
-        let report = format!(in rt.alloc(); "{text}end\n")?;
-        for words in [["run"].as_slice(), ["run", "--background=0"].as_slice()] {
-            expect_answer(&rt, words, input.as_str(), report.as_str())?;
-        }
-    }
-    Ok(())
-}
-
+// With and without background sweepers.
 #[test]
 fn traces_are_answered(rt: HostRuntime) -> Result<(), Fail> {
-    for (lines, text) in ANSWERED {
-        let input = format!(in rt.alloc(); "{HEAD}{lines}end\n")?;
-        let report = format!(in rt.alloc(); "{text}end\n")?;
-        for words in [["run"].as_slice(), ["run", "--background=0"].as_slice()] {
-            expect_answer(&rt, words, input.as_str(), report.as_str())?;
-        }
+    for &(lines, text) in ANSWERED {
+        expect_report(&rt, &["run"], SMALL, lines, text, "")?;
+        expect_report(&rt, &["run", "--background=0"], SMALL, lines, text, "")?;
+    }
+    for &(head, lines, text) in WITH_HEADS {
+        expect_report(&rt, &["run"], head, lines, text, "")?;
+        expect_report(&rt, &["run", "--background=0"], head, lines, text, "")?;
     }
     Ok(())
 }
 
 #[test]
 fn profiles_have_their_form(rt: HostRuntime) -> Result<(), Fail> {
-    for (lines, text, last, each) in SAMPLED {
-        let head = "heap 1 procs 1 rate 1 seed 1 goal 512";
-        let input = format!(in rt.alloc(); "goheap 1\n{head}\n{lines}end\n")?;
-        let report = format!(in rt.alloc(); "{text}{last}end\n")?;
+    let head = "heap 1 procs 1 rate 1 seed 1 goal 512";
+    for &(lines, text, last, each) in SAMPLED {
         let words = ["run", "--background=0"].as_slice();
-        expect_answer(&rt, words, input.as_str(), report.as_str())?;
-        let report = format!(in rt.alloc(); "{text}{each}end\n")?;
+        expect_report(&rt, words, head, lines, text, last)?;
         let words = ["run", "--each", "--background=0"].as_slice();
-        expect_answer(&rt, words, input.as_str(), report.as_str())?;
+        expect_report(&rt, words, head, lines, text, each)?;
     }
     Ok(())
 }
@@ -249,8 +330,27 @@ fn repeated(alloc: Global, header: &str, line: &str, times: u32) -> Result<Strin
     Ok(text)
 }
 
-// The lines of so many objects that stand one behind the other, from the start of the region on.
-fn placed(alloc: Global, count: u64, slot: u64) -> Result<String, Fail> {
+// Wants this of a trace of so many events on this line.
+fn expect_repeated<R: Threads + Wait + Sync + AllocGlobal + Abort>(
+    rt: &R,
+    header: &str,
+    line: &str,
+    times: u32,
+    wanted: Wanted<'_>,
+) -> Result<(), Fail> {
+    let input = repeated(rt.alloc(), header, line, times)?;
+    expect(
+        rt,
+        line,
+        &["run"],
+        input.as_bytes(),
+        failing(&[], &[]),
+        wanted,
+    )
+}
+
+// The lines of so many objects that stand one behind the other, from the start of the region on, and these lines behind them.
+fn placed(alloc: Global, count: u64, slot: u64, behind: &str) -> Result<String, Fail> {
     let mut text = String::new(alloc);
     let mut address: u64 = 0xc000000000;
     for id in 0..count {
@@ -258,27 +358,25 @@ fn placed(alloc: Global, count: u64, slot: u64) -> Result<String, Fail> {
         text.push_str(line.as_str())?;
         address = address.saturating_add(slot);
     }
+    text.push_str(behind)?;
     Ok(text)
 }
 
 // Spans fill up, and then the region.
 #[test]
 fn many_objects(rt: HostRuntime) -> Result<(), Fail> {
-    let small = "heap 1 procs 1 rate 0 seed 1 goal 512";
-    let page = repeated(rt.alloc(), small, "a 0 24 s 1\n", 342)?;
-    let found = call(&rt, &["run"], page.as_bytes(), &[], &[])?;
-    let mut report = placed(rt.alloc(), 341, 24)?;
-    report.push_str("o 341 0xc000002000\nj 0 0 take 0 1 6\nj 1 0 take 1 1 6\nt 3 342 0\nend\n")?;
-    assert_eq!(rt; found.status, 0);
-    assert_eq!(rt; found.written.as_slice(), report.as_bytes());
-
-    let region = repeated(rt.alloc(), small, "a 0 32768 n 1\n", 130)?;
-    let found = call(&rt, &["run"], region.as_bytes(), &[], &[])?;
     let tail =
         b"\nj 127 0 take 508 4 135\nj 128 0 miss 4 135\nj 129 0 miss 4 135\nt 67 128 0\nend\n".as_slice();
-    assert_eq!(rt; found.status, 0);
-    assert!(rt; found.written.as_slice().ends_with(tail));
-    Ok(())
+    let wanted = Wanted {
+        status: 0,
+        written: Text::Round(b"o 0 0xc000000000\n", tail),
+        told: "",
+    };
+    expect_repeated(&rt, SMALL, "a 0 32768 n 1\n", 130, wanted)?;
+    let behind = "o 341 0xc000002000\nj 0 0 take 0 1 6\nj 1 0 take 1 1 6\nt 3 342 0\nend\n";
+    let report = placed(rt.alloc(), 341, 24, behind)?;
+    let wanted = answered(report.as_str());
+    expect_repeated(&rt, SMALL, "a 0 24 s 1\n", 342, wanted)
 }
 
 // The report of a region that is taken page by page, given back, and taken again, from its first miss on.
@@ -303,35 +401,46 @@ fn emptied(alloc: Global) -> Result<String, Fail> {
     Ok(text)
 }
 
-// A whole region is given back page by page.
-#[test]
-fn region_is_emptied(rt: HostRuntime) -> Result<(), Fail> {
-    let alloc = rt.alloc();
+// A trace of 513 objects of a page each, a mark end at which none is marked, and one object more.
+fn emptying(alloc: Global) -> Result<String, Fail> {
     let mut input = String::from_str(alloc, HEAD)?;
     for _ in 0..513u32 {
         input.push_str("a 0 8192 n 1\n")?;
     }
     input.push_str("gc 1\na 0 8192 n 1\nend\n")?;
-    let found = call(&rt, &["run"], input.as_bytes(), &[], &[])?;
-    let tail = emptied(alloc)?;
-    assert_eq!(rt; found.status, 0);
-    assert!(rt; found.written.as_slice().ends_with(tail.as_bytes()));
-    Ok(())
+    Ok(input)
+}
+
+// A whole region is given back page by page.
+#[test]
+fn region_is_emptied(rt: HostRuntime) -> Result<(), Fail> {
+    let input = emptying(rt.alloc())?;
+    let tail = emptied(rt.alloc())?;
+    let wanted = Wanted {
+        status: 0,
+        written: Text::Round(b"o 0 0xc000000000\n", tail.as_bytes()),
+        told: "",
+    };
+    expect(
+        &rt,
+        "a whole region",
+        &["run"],
+        input.as_bytes(),
+        failing(&[], &[]),
+        wanted,
+    )
 }
 
 // A million objects are taken, and no more.
 #[test]
 fn objects_are_limited(rt: HostRuntime) -> Result<(), Fail> {
     let most = "heap 2 procs 1 rate 0 seed 1 goal 1024";
-    let full = repeated(rt.alloc(), most, "a 0 8 s 1\n", 1_000_000)?;
-    let found = call(&rt, &["run"], full.as_bytes(), &[], &[])?;
-    assert_eq!(rt; found.status, 0);
-    let over = repeated(rt.alloc(), most, "a 0 8 s 1\n", 1_000_001)?;
-    let found = call(&rt, &["run"], over.as_bytes(), &[], &[])?;
-    assert_eq!(rt; found.status, 3);
-    assert_eq!(rt;
-        found.told.as_slice(),
-        b"goheap: trace line 1000003: limit objects\n".as_slice()
-    );
-    Ok(())
+    let wanted = Wanted {
+        status: 0,
+        written: Text::Round(b"o 0 0xc000000000\n", b" 1000000 0\nend\n"),
+        told: "",
+    };
+    expect_repeated(&rt, most, "a 0 8 s 1\n", 1_000_000, wanted)?;
+    let wanted = refused(3, "goheap: trace line 1000003: limit objects\n");
+    expect_repeated(&rt, most, "a 0 8 s 1\n", 1_000_001, wanted)
 }

@@ -166,18 +166,23 @@ const LONG_LINES: [FaultRow; 4] = [
     ),
 ];
 
-// What is wrong with a text of at most so many bytes, if anything is, where the read of this number fails.
+// What is wrong with a text of at most so many bytes, if anything is.
+fn fault_in(alloc: Global, source: &mut MemorySource, limit: u64) -> Option<ReportFault> {
+    let mut lines = Lines::new(source, limit);
+    read_report(alloc, &mut lines).err()
+}
+
+// The same of these bytes, where the read of this number fails.
 fn fault_of(
     alloc: Global,
     text: &str,
     limit: u64,
     failing: &[u64],
 ) -> Result<Option<ReportFault>, Fail> {
-    let bytes = List::from_vec(text.as_bytes().to_vec(alloc)?);
-    let failing = List::from_vec(failing.to_vec(alloc)?);
-    let mut source = MemorySource::new(bytes, failing);
-    let mut lines = Lines::new(&mut source, limit);
-    Ok(read_report(alloc, &mut lines).err())
+    let bytes = text.as_bytes().to_vec(alloc)?;
+    let failing = failing.to_vec(alloc)?;
+    let mut source = MemorySource::new(List::from_vec(bytes), List::from_vec(failing));
+    Ok(fault_in(alloc, &mut source, limit))
 }
 
 // The line of this number of each text is malformed.
@@ -196,42 +201,41 @@ fn all_are_malformed<R: Abort + AllocGlobal>(
 
 #[test]
 fn lines_of_no_form(rt: HostRuntime) -> Result<(), Fail> {
-    let tables = [
-        ENDS.as_slice(),
-        OBJECTS.as_slice(),
-        ADDRESSES.as_slice(),
-        MISSES.as_slice(),
-        CHANGES.as_slice(),
-        PAST_THEIR_TYPES.as_slice(),
-        CLOSINGS.as_slice(),
-    ];
-    for table in tables {
-        all_are_malformed(&rt, table, 1)?;
-    }
-    for table in [NUMBERS.as_slice(), SORTS.as_slice(), KINDS.as_slice()] {
-        all_are_malformed(&rt, table, 2)?;
+    all_are_malformed(&rt, &ENDS, 1)?;
+    all_are_malformed(&rt, &OBJECTS, 1)?;
+    all_are_malformed(&rt, &ADDRESSES, 1)?;
+    all_are_malformed(&rt, &MISSES, 1)?;
+    all_are_malformed(&rt, &CHANGES, 1)?;
+    all_are_malformed(&rt, &PAST_THEIR_TYPES, 1)?;
+    all_are_malformed(&rt, &CLOSINGS, 1)?;
+    all_are_malformed(&rt, &NUMBERS, 2)?;
+    all_are_malformed(&rt, &SORTS, 2)?;
+    all_are_malformed(&rt, &KINDS, 2)
+}
+
+fn all_have_faults<R: Abort + AllocGlobal>(rt: &R, table: &[FaultRow]) -> Result<(), Fail> {
+    for &(text, limit, fault) in table {
+        assert_eq!(rt; fault_of(rt.alloc(), text, limit, &[])?, fault, "at {text}");
     }
     Ok(())
 }
 
+// A text, the read that fails, and what is told. Behind a line that is refused nothing is read.
+const FAILING: &[(&str, u64, ReportFault)] = &[
+    ("end\n", 0, ReadFault),
+    ("end\n", 1, ReadFault),
+    ("o 0 ze", 1, ReadFault),
+    ("o 1 zero\nend\n", 1, Malformed(1)),
+];
+
 #[test]
 fn ends_and_limits(rt: HostRuntime) -> Result<(), Fail> {
-    let alloc = rt.alloc();
-    for table in [
-        EARLY_ENDS.as_slice(),
-        LIMITS.as_slice(),
-        LONG_LINES.as_slice(),
-    ] {
-        for &(text, limit, fault) in table {
-            assert_eq!(rt; fault_of(alloc, text, limit, &[])?, fault, "at {text}");
-        }
+    all_have_faults(&rt, &EARLY_ENDS)?;
+    all_have_faults(&rt, &LIMITS)?;
+    all_have_faults(&rt, &LONG_LINES)?;
+    for &(text, failing, fault) in FAILING {
+        let found = fault_of(rt.alloc(), text, MOST, &[failing])?;
+        assert_eq!(rt; found, Some(fault), "at {text}");
     }
-    for (text, failing) in [("end\n", 0), ("end\n", 1), ("o 0 ze", 1)] {
-        let fault = fault_of(alloc, text, MOST, &[failing])?;
-        assert_eq!(rt; fault, Some(ReadFault), "at {text}");
-    }
-    // behind a line that is refused nothing is read
-    let fault = fault_of(alloc, "o 1 zero\nend\n", MOST, &[1])?;
-    assert_eq!(rt; fault, Some(Malformed(1)));
     Ok(())
 }

@@ -3,7 +3,7 @@
 use super::*;
 
 // The words, and the lines.
-const ROWS: [(&str, &str); 3] = [
+const ROWS: &[(&str, &str)] = &[
     (
         "1",
         "objects 1\nplaced 1\nrefused 0\nmark ends 0\nmallocs 1\nfrees 0\nsampled 0 0\ncheck ok\n",
@@ -21,16 +21,25 @@ const ROWS: [(&str, &str); 3] = [
 // A made trace is summed up, and nothing is read.
 #[test]
 fn made_traces_are_summed_up(rt: HostRuntime) -> Result<(), Fail> {
-    for (objects, lines) in ROWS {
+    for &(objects, lines) in ROWS {
         // A read would fail.
-        let found = call(&rt, &["demo", "1", objects], b"goheap 1\n", &[0], &[])?;
-        assert_eq!(rt; found.status, 0, "at {objects}");
-        assert_eq!(rt; found.written.as_slice(), lines.as_bytes(), "at {objects}");
-        assert!(rt; found.told.is_empty());
+        let words = ["demo", "1", objects];
+        expect(
+            &rt,
+            objects,
+            &words,
+            b"goheap 1\n",
+            failing(&[0], &[]),
+            answered(lines),
+        )?;
     }
-    let found = call(&rt, &["demo", "1", "1"], b"", &[], &[0])?;
-    assert_eq!(rt; found.status, 6);
-    assert_eq!(rt; found.told.as_slice(), b"goheap: write fault\n".as_slice());
-    assert!(rt; found.written.is_empty());
-    Ok(())
+    let wanted = refused(6, "goheap: write fault\n");
+    expect(
+        &rt,
+        "",
+        &["demo", "1", "1"],
+        b"",
+        failing(&[], &[0]),
+        wanted,
+    )
 }

@@ -1,7 +1,6 @@
 //! Words that are not known, and faulty traces.
 
 use super::*;
-use std::process::Abort;
 use trace_reader::{TraceFault, Which, read_trace};
 
 // Whole inputs, in which `/` stands for a line feed and `[120]` for so many bytes, and what is told of them: ends of input and long lines at each line, and what stands behind `end`.
@@ -159,6 +158,10 @@ heap 1 procs 1 rate 1073741824 seed 1 goal 512";
 const LONG: &str =
     "123456789012345678901234567890123456789012345678901234567890123456789012345678901234567890123456789012345678901234567890";
 
+// A line of 121 bytes.
+const LONGER: &str =
+    "1234567890123456789012345678901234567890123456789012345678901234567890123456789012345678901234567890123456789012345678901";
+
 // Wants that the input of a row is refused with status 3 and the row's text, and that nothing is written. A row has its
 // line, a bar, and what is told of it; `front` and `behind` stand round the line, and `told` before what is told.
 fn expect_refused<R: Threads + Wait + Sync + AllocGlobal + Abort>(
@@ -171,19 +174,22 @@ fn expect_refused<R: Threads + Wait + Sync + AllocGlobal + Abort>(
     let (line, reason) = row.split_once('|').ok_or("no bar")?;
     let input = format!(in rt.alloc(); "{front}{line}{behind}")?;
     let text = format!(in rt.alloc(); "goheap: trace line {told}{reason}\n")?;
-    let found = call(rt, &["run"], input.as_bytes(), &[], &[])?;
-    assert_eq!(rt; found.status, 3, "at {row}");
-    assert_eq!(rt; found.told.as_slice(), text.as_bytes(), "at {row}");
-    assert_eq!(rt; found.written.len(), 0, "at {row}");
-    Ok(())
+    let wanted = refused(3, text.as_str());
+    expect(
+        rt,
+        row,
+        &["run"],
+        input.as_bytes(),
+        failing(&[], &[]),
+        wanted,
+    )
 }
 
 // The row with its line feeds and long lines written out.
 fn written_out(alloc: Global, row: &str) -> Result<String, Fail> {
-    let over = format!(in alloc; "{LONG}1")?;
     let row = row.replace(alloc, "/", "\n")?;
     let row = row.as_str().replace(alloc, "[120]", LONG)?;
-    Ok(row.as_str().replace(alloc, "[121]", over.as_str())?)
+    Ok(row.as_str().replace(alloc, "[121]", LONGER)?)
 }
 
 #[test]
@@ -205,15 +211,13 @@ fn faulty_traces_are_refused(rt: HostRuntime) -> Result<(), Fail> {
 #[test]
 fn good_headers_are_taken(rt: HostRuntime) -> Result<(), Fail> {
     for line in GOOD_HEADERS.lines() {
-        let input = format!(in rt.alloc(); "goheap 1\n{line}\nend\n")?;
-        let found = call(&rt, &["run"], input.as_bytes(), &[], &[])?;
-        assert_eq!(rt; found.status, 0, "at {line}");
+        expect_report(&rt, &["run"], line, "", "", "")?;
     }
     Ok(())
 }
 
 // Words of the command line that are neither `run` with its options, `check` or `classes` alone, nor `gen` or `demo` with two numbers.
-const OTHER_WORDS: [&[&str]; 37] = [
+const OTHER_WORDS: &[&[&str]] = &[
     &[],
     &[""],
     &["Run"],
@@ -257,91 +261,93 @@ const OTHER_WORDS: [&[&str]; 37] = [
 #[test]
 fn other_words_are_refused(rt: HostRuntime) -> Result<(), Fail> {
     let usage =
-        b"usage: goheap run [--background=N] [--each] / check / gen SEED OBJECTS / demo SEED OBJECTS / classes\n".as_slice();
-    for words in OTHER_WORDS {
+        "usage: goheap run [--background=N] [--each] / check / gen SEED OBJECTS / demo SEED OBJECTS / classes\n";
+    for &words in OTHER_WORDS {
         // A read or a write would fail.
-        let found = call(&rt, words, b"goheap 1\n", &[0], &[0])?;
-        assert_eq!(rt; found.status, 2, "at {words:?}");
-        assert_eq!(rt; found.told.as_slice(), usage, "at {words:?}");
-        assert_eq!(rt; found.written.len(), 0, "at {words:?}");
+        expect(
+            &rt,
+            "",
+            words,
+            b"goheap 1\n",
+            failing(&[0], &[0]),
+            refused(2, usage),
+        )?;
     }
     Ok(())
 }
 
-// The table of size classes is written, and nothing is read.
-#[test]
-fn classes_are_written(rt: HostRuntime) -> Result<(), Fail> {
+// Wants that these words write this, and read nothing, and that where the first write fails, it is told.
+fn expect_unread<R: Threads + Wait + Sync + AllocGlobal + Abort>(
+    rt: &R,
+    words: &[&str],
+    written: Text<'_>,
+) -> Result<(), Fail> {
+    let wanted = Wanted {
+        status: 0,
+        written,
+        told: "",
+    };
     // A read would fail.
-    let found = call(&rt, &["classes"], b"goheap 1\n", &[0], &[])?;
-    assert_eq!(rt; found.status, 0);
-    assert!(rt; found.told.is_empty());
-    assert!(rt; found.written.as_slice().starts_with(b"c 1 8 1 1024\n"));
-    assert!(rt; found.written.as_slice().ends_with(b"\nc 67 32768 4 1\n"));
-    let found = call(&rt, &["classes"], b"", &[], &[0])?;
-    assert_eq!(rt; found.status, 6);
-    assert_eq!(rt; found.told.as_slice(), b"goheap: write fault\n".as_slice());
-    assert!(rt; found.written.is_empty());
-    Ok(())
+    expect(rt, "", words, b"goheap 1\n", failing(&[0], &[]), wanted)?;
+    let wanted = refused(6, "goheap: write fault\n");
+    expect(rt, "", words, b"", failing(&[], &[0]), wanted)
 }
 
-// A made trace is written, and nothing is read. Its event is that of a generator that was written apart.
+// The table of size classes is written, and a made trace, whose event is that of a generator that was written apart.
 #[test]
-fn made_traces_are_written(rt: HostRuntime) -> Result<(), Fail> {
-    // A read would fail.
-    let found = call(&rt, &["gen", "1", "1"], b"goheap 1\n", &[0], &[])?;
-    assert_eq!(rt; found.status, 0);
-    assert!(rt; found.told.is_empty());
-    assert_eq!(rt;
-        found.written.as_slice(),
-        b"goheap 1\nheap 128 procs 8 rate 524288 seed 1 goal 65536\na 6 758 s 6\nend\n".as_slice()
-    );
-    let found = call(&rt, &["gen", "1", "1"], b"", &[], &[0])?;
-    assert_eq!(rt; found.status, 6);
-    assert_eq!(rt; found.told.as_slice(), b"goheap: write fault\n".as_slice());
-    assert!(rt; found.written.is_empty());
+fn classes_and_made_traces_are_written(rt: HostRuntime) -> Result<(), Fail> {
+    let classes = Text::Round(b"c 1 8 1 1024\n", b"\nc 67 32768 4 1\n");
+    expect_unread(&rt, &["classes"], classes)?;
+    let made =
+        b"goheap 1\nheap 128 procs 8 rate 524288 seed 1 goal 65536\na 6 758 s 6\nend\n".as_slice();
+    expect_unread(&rt, &["gen", "1", "1"], Text::Is(made))
+}
+
+// Wants that a word that needs the runtime is refused without it.
+fn expect_plain<R: AllocGlobal + Abort>(rt: &R, word: &str) -> Result<(), Fail> {
+    let alloc = rt.alloc();
+    let words = words_of(alloc, &[word])?;
+    let mut source = source_of(alloc, b"goheap 1\n", failing(&[], &[]))?;
+    let mut output = MemorySink::new(alloc, List::new(alloc));
+    let mut errors = MemorySink::new(alloc, List::new(alloc));
+    let status = goheap_plain(alloc, &words, &mut source, &mut output, &mut errors);
+    let silent = output.held().is_empty();
+    let told = errors.held().starts_with(b"usage: goheap run ");
+    assert!(rt; status == 2 && silent && told, "at {word}");
     Ok(())
 }
 
 // The words that need the runtime, without it.
 #[test]
 fn plain_words_are_refused(rt: HostRuntime) -> Result<(), Fail> {
-    let alloc = rt.alloc();
-    let input = format!(in alloc; "{HEAD}a 0 24 s 1\nend\n")?;
-    for word in ["run", "demo"] {
-        let words = words_of(alloc, &[word])?;
-        let bytes = List::from_vec(input.as_bytes().to_vec(alloc)?);
-        let mut source = MemorySource::new(bytes, List::from_vec(vec![in alloc; 0]?));
-        let mut output = MemorySink::new(alloc, List::from_vec(vec![in alloc; 0]?));
-        let mut errors = MemorySink::new(alloc, List::new(alloc));
-        assert_eq!(rt;
-            goheap_plain(alloc, &words, &mut source, &mut output, &mut errors),
-            2
-        );
-        assert_eq!(rt; output.held().len(), 0);
-        assert!(rt; errors.held().starts_with(b"usage: goheap run "));
-    }
-    Ok(())
+    expect_plain(&rt, "run")?;
+    expect_plain(&rt, "demo")
 }
 
-// Line 3 is met with a limit of so many bytes.
+// A limit of the bytes that are read, and how many cycles a trace of one object then has, or why it is refused.
+const LIMITS: &[(u64, Result<usize, TraceFault>)] = &[
+    (0, Err(TraceFault::Limit(1, Which::Bytes))),
+    (8, Err(TraceFault::Limit(1, Which::Bytes))),
+    (9, Err(TraceFault::Limit(2, Which::Bytes))),
+    (57, Err(TraceFault::Limit(3, Which::Bytes))),
+    (58, Err(TraceFault::Limit(4, Which::Bytes))),
+    (61, Err(TraceFault::Limit(4, Which::Bytes))),
+    (62, Ok(1)),
+];
+
+// How many cycles a trace of one object has, where so many bytes are read at most.
+fn cycles_within(alloc: Global, limit: u64) -> Result<Result<usize, TraceFault>, Fail> {
+    let input = b"goheap 1\nheap 1 procs 1 rate 0 seed 1 goal 512\na 0 24 s 1\nend\n";
+    let mut source = source_of(alloc, input, failing(&[], &[]))?;
+    let mut lines = Lines::new(&mut source, limit);
+    Ok(read_trace(alloc, &mut lines).map(|trace| trace.cycles.len()))
+}
+
+// Each line is met with a limit of so many bytes.
 #[test]
 fn bytes_are_limited(rt: HostRuntime) -> Result<(), Fail> {
-    let alloc = rt.alloc();
-    let input = format!(in alloc; "{HEAD}a 0 24 s 1\nend\n")?;
-    let rows = [
-        (0, Err(TraceFault::Limit(1, Which::Bytes))),
-        (8, Err(TraceFault::Limit(1, Which::Bytes))),
-        (9, Err(TraceFault::Limit(2, Which::Bytes))),
-        (57, Err(TraceFault::Limit(3, Which::Bytes))),
-        (58, Err(TraceFault::Limit(4, Which::Bytes))),
-        (61, Err(TraceFault::Limit(4, Which::Bytes))),
-        (62, Ok(1)),
-    ];
-    for (limit, wanted) in rows {
-        let bytes = List::from_vec(input.as_bytes().to_vec(alloc)?);
-        let mut source = MemorySource::new(bytes, List::new(alloc));
-        let mut lines = Lines::new(&mut source, limit);
-        let found = read_trace(alloc, &mut lines).map(|trace| trace.cycles.len());
+    for &(limit, wanted) in LIMITS {
+        let found = cycles_within(rt.alloc(), limit)?;
         assert_eq!(rt; found, wanted, "at {limit}");
     }
     Ok(())

@@ -7,7 +7,7 @@ type Row = (&'static str, &'static str, u8, &'static str);
 
 const APART: &str = "a 0 24 s 1\na 0 24 n 1\n";
 
-const ROWS: [Row; 12] = [
+const ROWS: &[Row] = &[
     (
         APART,
         "o 0 0xc000000000\no 1 0xc000002000\nj 0 0 take 0 1 6\nj 1 0 take 1 1 7\nt 3 2 0\nend\n",
@@ -57,50 +57,65 @@ const ROWS: [Row; 12] = [
     ),
 ];
 
+// Wants this of the trace of these lines with this report behind it.
+fn expect_judged<R: Threads + Wait + Sync + AllocGlobal + Abort>(
+    rt: &R,
+    lines: &str,
+    report: &str,
+    wanted: Wanted<'_>,
+) -> Result<(), Fail> {
+    let input = format!(in rt.alloc(); "{HEAD}{lines}end\n{report}")?;
+    expect(
+        rt,
+        report,
+        &["check"],
+        input.as_bytes(),
+        failing(&[], &[]),
+        wanted,
+    )
+}
+
 // What `check` says of these.
 #[test]
 fn reports_are_judged(rt: HostRuntime) -> Result<(), Fail> {
-    for (lines, report, status, told) in ROWS {
-        let input = format!(in rt.alloc(); "{HEAD}{lines}end\n{report}")?;
-        let found = call(&rt, &["check"], input.as_bytes(), &[], &[])?;
-        assert_eq!(rt; found.status, status, "at {report}");
-        assert_eq!(rt; found.told.as_slice(), told.as_bytes(), "at {report}");
-        let written = if status == 0 {
-            b"check ok\n".as_slice()
+    for &(lines, report, status, told) in ROWS {
+        let wanted = if status == 0 {
+            answered("check ok\n")
         } else {
-            b"".as_slice()
+            refused(status, told)
         };
-        assert_eq!(rt; found.written.as_slice(), written, "at {report}");
+        expect_judged(&rt, lines, report, wanted)?;
     }
     Ok(())
+}
+
+// Wants that a report without its last line is sound.
+fn expect_sound<R: Threads + Wait + Sync + AllocGlobal + Abort>(
+    rt: &R,
+    lines: &str,
+    text: &str,
+) -> Result<(), Fail> {
+    let report = format!(in rt.alloc(); "{text}end\n")?;
+    expect_judged(rt, lines, report.as_str(), answered("check ok\n"))
 }
 
 // The reports of the table of answers are sound.
 #[test]
 fn answers_are_judged(rt: HostRuntime) -> Result<(), Fail> {
-    for (lines, report) in ANSWERED {
-        let input = format!(in rt.alloc(); "{HEAD}{lines}end\n{report}end\n")?;
-        let found = call(&rt, &["check"], input.as_bytes(), &[], &[])?;
-        assert_eq!(rt; found.status, 0, "at {lines}");
-        assert_eq!(rt;
-            found.written.as_slice(),
-            b"check ok\n".as_slice(),
-            "at {lines}"
-        );
+    for &(lines, text) in ANSWERED {
+        expect_sound(&rt, lines, text)?;
     }
     Ok(())
 }
 
+// A trace without events, with its report behind it.
+const EMPTY: &[u8] = b"goheap 1\nheap 1 procs 1 rate 0 seed 1 goal 512\nend\nend\n";
+
 // A read and a write that fail.
 #[test]
 fn judging_is_broken_off(rt: HostRuntime) -> Result<(), Fail> {
-    let input = format!(in rt.alloc(); "{HEAD}end\nend\n")?;
-    let found = call(&rt, &["check"], input.as_bytes(), &[0], &[])?;
-    assert_eq!(rt; found.status, 5);
-    assert_eq!(rt; found.told.as_slice(), b"goheap: read fault\n".as_slice());
-    let found = call(&rt, &["check"], input.as_bytes(), &[], &[0])?;
-    assert_eq!(rt; found.status, 6);
-    assert_eq!(rt; found.told.as_slice(), b"goheap: write fault\n".as_slice());
-    assert!(rt; found.written.is_empty());
-    Ok(())
+    let wanted = refused(5, "goheap: read fault\n");
+    expect(&rt, "", &["check"], EMPTY, failing(&[0], &[]), wanted)?;
+    let wanted = refused(6, "goheap: write fault\n");
+    expect(&rt, "", &["check"], EMPTY, failing(&[], &[0]), wanted)
 }
