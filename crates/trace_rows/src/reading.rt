@@ -144,7 +144,8 @@ fn read_thrice(alloc: Global, source: &mut MemorySource) -> Thrice {
 // Lines that have seen the end of the input are read again.
 #[test]
 fn nothing_is_read_behind_the_end(rt: HostRuntime) -> Result<(), Fail> {
-    let mut source = source_of(rt.alloc(), "goheap 1", &[])?;
+    // A third read would fail.
+    let mut source = source_of(rt.alloc(), "goheap 1", &[2])?;
     let found = read_thrice(rt.alloc(), &mut source);
     assert_eq!(rt; found, (Some(Truncated(1)), Some(Truncated(2)), None));
     Ok(())
