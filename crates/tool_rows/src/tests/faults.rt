@@ -303,12 +303,14 @@ fn classes_and_made_traces_are_written(rt: HostRuntime) -> Result<(), Fail> {
     expect_unread(&rt, &["gen", "1", "1"], Text::Is(made))
 }
 
-// Wants that a word that needs the runtime is refused without it.
+// Wants that a word that needs the runtime is refused without it, and that nothing is read or written.
 fn expect_plain<R: AllocGlobal + Abort>(rt: &R, word: &str) -> Result<(), Fail> {
     let alloc = rt.alloc();
     let words = words_of(alloc, &[word])?;
-    let mut source = source_of(alloc, b"goheap 1\n", failing(&[], &[]))?;
-    let mut output = MemorySink::new(alloc, List::new(alloc));
+    let input = b"goheap 1\nheap 1 procs 1 rate 0 seed 1 goal 512\na 0 24 s 1\nend\n";
+    // A read or a write would fail.
+    let mut output = sink_of(alloc, u64::MAX, &[0])?;
+    let mut source = source_of(alloc, input, failing(&[0], &[]))?;
     let mut errors = MemorySink::new(alloc, List::new(alloc));
     let status = goheap_plain(alloc, &words, &mut source, &mut output, &mut errors);
     let silent = output.held().is_empty();
