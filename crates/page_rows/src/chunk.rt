@@ -174,34 +174,50 @@ fn take_free(rt: &impl Abort, chunk: &mut Chunk, page: u32, n: u32)
     chunk.take(page, n);
 }
 
+/// The run with a first page and a number of pages, if one is wanted.
+fn wanted_run(want: Option<(u32, u32)>) -> Option<Run> {
+    match want {
+        Some((page, pages)) => Some(Run { page, pages }),
+        None => None,
+    }
+}
+
+fn expect_found(rt: &impl Abort, chunk: &Chunk, n: u32, from: u32, want: Option<u32>, case: usize) {
+    assert!(rt; 1 <= n && n <= 512 && from <= 512);
+    assert_eq!(rt; chunk.find(n, from), want, "case {case}");
+}
+
+fn expect_candidate(rt: &impl Abort, chunk: &Chunk, max: u32, want: Option<Run>, case: usize) {
+    assert!(rt; 1 <= max);
+    assert_eq!(rt; chunk.scavenge_candidate(max), want, "case {case}");
+}
+
+fn expect_scavenged(rt: &impl Abort, chunk: &Chunk, page: u32, n: u32, want: u32, case: usize) {
+    assert!(rt; page <= 512 && n <= 512 - page);
+    assert_eq!(rt; chunk.scavenged_in(page, n), want, "case {case}");
+}
+
+fn expect_sums(rt: &impl Abort, chunk: &Chunk, want: (u32, u32, u32), case: usize) {
+    assert_eq!(rt; chunk.sums(), want, "case {case}");
+}
+
+/// Asks a chunk, and wants the answer.
+fn expect(rt: &impl Abort, chunk: &Chunk, ask: Ask, case: usize) {
+    match ask {
+        Find(n, from, want) => expect_found(rt, chunk, n, from, want, case),
+        Candidate(max, want) => expect_candidate(rt, chunk, max, wanted_run(want), case),
+        Scavenged(page, n, want) => expect_scavenged(rt, chunk, page, n, want, case),
+        Sums(start, max, end) => expect_sums(rt, chunk, (start, max, end), case),
+    }
+}
+
 #[test]
 fn answers(rt: HostRuntime) {
-    for (number, (steps, ask)) in CASES.iter().enumerate() {
+    for (case, (steps, ask)) in CASES.iter().enumerate() {
         let mut chunk = Chunk::new();
         for step in *steps {
             act(&rt, &mut chunk, *step);
         }
-        match *ask {
-            Find(n, from, want) => {
-                assert!(rt; 1 <= n && n <= 512 && from <= 512);
-                assert_eq!(rt; chunk.find(n, from), want, "case {number}");
-            }
-            Candidate(max, want) => {
-                assert!(rt; 1 <= max);
-                let found = chunk
-                    .scavenge_candidate(max)
-                    .map(|run| (run.page, run.pages));
-                assert_eq!(rt; found, want, "case {number}");
-            }
-            Scavenged(page, n, want) => {
-                assert!(rt; page <= 512 && n <= 512 - page);
-                assert_eq!(rt; chunk.scavenged_in(page, n), want, "case {number}");
-            }
-            Sums(start, max, end) => assert_eq!(rt;
-                chunk.sums(),
-                (start, max, end),
-                "case {number}"
-            ),
-        }
+        expect(&rt, &chunk, *ask, case);
     }
 }

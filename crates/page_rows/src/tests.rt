@@ -46,53 +46,63 @@ fn merged<R: Abort + AllocGlobal>(
     Ok(((whole.start(), whole.max(), whole.end()), whole.bits()))
 }
 
+/// A sum's numbers, and its word.
+const WORDS: &[(Triple, u64)] = &[
+    ((0, 0, 0), 0),
+    ((1, 3, 2), 8_796_099_313_665),
+    ((512, 512, 512), 2_251_800_887_427_584),
+    ((0, 2_097_151, 0), 4_398_044_413_952),
+    ((2_097_152, 2_097_152, 2_097_152), 9_223_372_036_854_775_808),
+];
+
 #[test]
-fn words_of_sums(rt: HostRuntime) -> Result<(), Fail> {
-    let rows = [
-        ((0, 0, 0), 0),
-        ((1, 3, 2), 8_796_099_313_665),
-        ((512, 512, 512), 2_251_800_887_427_584),
-        ((0, 2_097_151, 0), 4_398_044_413_952),
-        ((2_097_152, 2_097_152, 2_097_152), 9_223_372_036_854_775_808),
-    ];
-    for (triple, bits) in rows {
+fn words_of_sums(rt: HostRuntime) {
+    for &(triple, bits) in WORDS {
         let sum = packed(MOST_PAGES, triple).expect(&rt, "a sum");
         assert_eq!(rt; sum.bits(), bits, "{triple:?}");
         assert_eq!(rt; (sum.start(), sum.max(), sum.end()), triple);
     }
-    Ok(())
 }
+
+const FULL: Triple = (512, 512, 512);
+
+const NONE: Triple = (0, 0, 0);
+
+const HALF: Triple = (1 << 20, 1 << 20, 1 << 20);
+
+/// The logarithm of an entry's pages, the entries' sums, and that of the joined pages.
+const MERGES: &[(u32, &[Triple], Triple)] = &[
+    (9, &[FULL, NONE], (512, 512, 0)),
+    (9, &[(0, 4, 4), (8, 8, 0)], (0, 12, 0)),
+    // one sum is that of its own pages
+    (9, &[(3, 7, 5)], (3, 7, 5)),
+    // a run that crosses three entries
+    (9, &[(0, 10, 10), FULL, (20, 20, 0)], (0, 542, 0)),
+    // the front and the back go on over whole entries
+    (9, &[FULL, FULL, (5, 9, 2)], (1029, 1029, 2)),
+    (9, &[(2, 9, 5), FULL, FULL], (2, 1029, 1029)),
+    // the longest run is inside one entry
+    (9, &[(1, 100, 1), (1, 99, 1)], (1, 100, 1)),
+    // runs that end at the entry's last page do not go on where the next entry begins taken
+    (9, &[(0, 7, 7), (0, 3, 0), (6, 6, 0)], (0, 7, 0)),
+    (
+        0,
+        &[(1, 1, 1), (0, 0, 0), (1, 1, 1), (1, 1, 1)],
+        (1, 2, 2),
+    ),
+    (12, &[NONE, NONE, NONE, NONE, NONE, NONE, NONE, NONE], NONE),
+    // all pages that a sum can say, and one entry of them less than whole
+    (20, &[HALF, HALF], (1 << 21, 1 << 21, 1 << 21)),
+    (
+        20,
+        &[HALF, (1_048_575, 1_048_575, 0)],
+        (2_097_151, 2_097_151, 0),
+    ),
+];
 
 #[test]
 fn sums_of_joined_pages(rt: HostRuntime) -> Result<(), Fail> {
-    let full = (512, 512, 512);
-    let none = (0, 0, 0);
-    let half = (1 << 20, 1 << 20, 1 << 20);
-    let rows: [(u32, &[Triple], Triple); 12] = [
-        (9, &[full, none], (512, 512, 0)),
-        (9, &[(0, 4, 4), (8, 8, 0)], (0, 12, 0)),
-        // one sum is that of its own pages
-        (9, &[(3, 7, 5)], (3, 7, 5)),
-        // a run that crosses three entries
-        (9, &[(0, 10, 10), full, (20, 20, 0)], (0, 542, 0)),
-        // the front and the back go on over whole entries
-        (9, &[full, full, (5, 9, 2)], (1029, 1029, 2)),
-        (9, &[(2, 9, 5), full, full], (2, 1029, 1029)),
-        // the longest run is inside one entry
-        (9, &[(1, 100, 1), (1, 99, 1)], (1, 100, 1)),
-        // runs that end at the entry's last page do not go on where the next entry begins taken
-        (9, &[(0, 7, 7), (0, 3, 0), (6, 6, 0)], (0, 7, 0)),
-        (0, &[(1, 1, 1), (0, 0, 0), (1, 1, 1), (1, 1, 1)], (1, 2, 2)),
-        (12, &[none, none, none, none, none, none, none, none], none),
-        // all pages that a sum can say, and one entry of them less than whole
-        (20, &[half, half], (1 << 21, 1 << 21, 1 << 21)),
-        (
-            20,
-            &[half, (1_048_575, 1_048_575, 0)],
-            (2_097_151, 2_097_151, 0),
-        ),
-    ];
-    for (log_pages, sums, whole) in rows {
+    for &(log_pages, sums, whole) in MERGES {
         let (triple, bits) = merged(&rt, log_pages, sums)?;
         assert_eq!(rt; triple, whole, "{sums:?}");
         assert_eq!(rt; bits == 1 << 63, whole.1 == MOST_PAGES);
