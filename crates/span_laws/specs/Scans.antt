@@ -1,9 +1,9 @@
 -- Looks over many pages or sets by one call: the entries that a log gains, and what they tell.
 use Rattle.std.specs.Prelude.{◌≡◌, ◌≢◌, ℕ, ◌+◌, ◌*◌, ◌-◌, ◌/◌, ◌%◌, ◌<◌, ◌≤◌, false, List, ◌∷◌, ◌++◌, Option, Some, None}
 use Rattle.std.specs.List.{AllByRecursion}
-use Rattle.span_state.specs.MarkSet.{has_pair}
 use Rattle.span_state.specs.declared.body.Body.{Body}
 use Rattle.sweep_laws.specs.Reading.{is_swept_set}
+use Rattle.sweep_reads.specs.Waiting.{HasNoMark}
 use Rattle.worker_log.specs.declared.Entry.{Entry}
 use Rattle.worker_log.specs.declared.Entry.TheVariants.{Looked, Found}
 use Rattle.worker_log.specs.Entries.{is_seen_empty, many}
@@ -16,10 +16,6 @@ use Rattle.span_laws.specs.Views.{Seen, acts}
 abbrev pub logs : List Entry → Seen → Seen
 logs said w = record w { view = acts w.view (record w.view.own { log = said ++ w.view.own.log }) }
 
--- no object of the page's span is marked
-abbrev pub IsUnmarked : List (ℕ × ℕ) → ℕ → Type 0
-IsUnmarked marks p = (k : ℕ) → has_pair marks p k ≡ false
-
 -- the entry found, at a page from one to another, another word than that of a span that waits
 abbrev pub IsPassing : ℕ → ℕ → ℕ → Entry → Type 0
 IsPassing g from to (Found page word) = (from ≤ page) × (page < to) × (word + 2 ≢ g)
@@ -28,12 +24,12 @@ IsPassing g from to _ = ⊥
 -- the entries are such, and tell of each of these pages without a mark
 pub record PassesPages (g : ℕ) (marks : List (ℕ × ℕ)) (from to : ℕ) (said : List Entry) : Type 0 where
   pub only : AllByRecursion (IsPassing g from to) said
-  pub whole : (p : ℕ) → from ≤ p → p < to → IsUnmarked marks p → 0 < many (is_finding_at p) said
+  pub whole : (p : ℕ) → from ≤ p → p < to → HasNoMark marks p → 0 < many (is_finding_at p) said
 
 -- it sweeps the first span from one page to another that waits and has no mark; or none of these pages has such a span
 abbrev pub AcquiresUnmarked : ℕ → ℕ → Seen → Seen → Option Body → Type 0
 AcquiresUnmarked from to old new (Some body) = (said : List Entry) × PassesPages old.view.generation old.view.marks from body.page said × (from ≤ body.page) × (body.page < to)
-    × IsUnmarked old.view.marks body.page × AcquiresSpan body.page (logs said old) new (Got body)
+    × HasNoMark old.view.marks body.page × AcquiresSpan body.page (logs said old) new (Got body)
 AcquiresUnmarked from to old new None = (said : List Entry) × PassesPages old.view.generation old.view.marks from to said × (new ≡ logs said old)
 
 -- the unswept sets in the order in which they are swept: by span class, the full set before the partial one

@@ -18,7 +18,7 @@ use Rattle.std.specs.List.Sorted.{IsStrictlySortedBy}
 use Rattle.std.specs.Ordering.{nat_cmp}
 use Rattle.std.specs.Int.Count.{ones}
 use Rattle.span_state.specs.Bits.{count_below, one_if}
-use Rattle.span_state.specs.Counts.{ones-count}
+use Rattle.span_state.specs.OneBits.{ones-count}
 use Rattle.span_state.specs.Groups.{word_pairs, group_pairs, page_pairs, grid_pairs, pairs_of, row_of, word_of}
 use Rattle.span_state.specs.MarkSet.{pair_cmp, IsRising, has_pair, pairs_at}
 

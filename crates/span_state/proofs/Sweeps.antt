@@ -8,7 +8,8 @@ use Rattle.std.specs.Int.{bit_at, bit_not}
 use Rattle.std.specs.Int.Bits.{bit_and}
 use Rattle.std.specs.Int.Count.{ones}
 use Rattle.span_state.specs.Bits.{bit_of, count_below}
-use Rattle.span_state.specs.Counts.{count_below-same, count_below-add, count_below-past, count_below-le, ones-count}
+use Rattle.span_state.specs.Counts.{count_below-same, count_below-add, count_below-past, count_below-le}
+use Rattle.span_state.specs.OneBits.{ones-count}
 
 -- The words of the first `groups` groups are swept: `taken` are the indices that were allocated, `marks` those that are marked.
 pub record IsSweptTo (groups : ℕ) (taken marks : ℕ → Bool) (bits : List ℕ) (kept freed : ℕ) : Type 0 where

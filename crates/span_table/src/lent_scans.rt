@@ -1,11 +1,12 @@
 //! Looks over many pages or sets by one call. At run time each is a loop over words; what it tells comes into the log by one step.
 
-ghost use Rattle.std.specs.Prelude.{◌≡◌, ◌≢◌, ◌↔◌, ℕ, ◌+◌, ◌<◌, ◌≤◌, [], true, false, MatchOption, length, slice_index};
+ghost use Rattle.std.specs.Prelude.{◌≡◌, ◌≢◌, ℕ, ◌+◌, ◌<◌, ◌≤◌, [], true, false, MatchOption, length, slice_index};
 ghost use Rattle.sweep_laws.specs.Reading.{set_of};
 ghost use Rattle.span_laws.specs.Answers.{AcquiresSpan};
 ghost use Rattle.span_laws.specs.Cycle.{Kept};
 ghost use Rattle.span_laws.specs.Scanned.{AreEmpty, NoneWaits};
-ghost use Rattle.span_laws.specs.Scans.{AcquiresUnmarked, FindsUnswept, IsUnmarked, nth_unswept};
+ghost use Rattle.span_laws.specs.Scans.{AcquiresUnmarked, FindsUnswept, nth_unswept};
+ghost use Rattle.sweep_reads.specs.Waiting.{HasNoMark};
 ghost use Rattle.span_laws.specs.declared.answers.Acquired.TheVariants.{Got};
 
 use crate::homes::take_home;
@@ -30,7 +31,7 @@ fn next_unmarked(core: &Core, marks: &Marks, from: u32, to: u32) -> Option<u32>
     requires low { 4 ≤ core.now.generation }
     ensures { MatchOption result
         (NoneWaits core.now marks.now.pairs from to)
-        (λ page. (from ≤ page) × (page < to) × (slice_index core.now.words page + 2 ≡ core.now.generation) × IsUnmarked marks.now.pairs page × NoneWaits core.now marks.now.pairs from page) }
+        (λ page. (from ≤ page) × (page < to) × (slice_index core.now.words page + 2 ≡ core.now.generation) × HasNoMark marks.now.pairs page × NoneWaits core.now marks.now.pairs from page) }
 {
     let end = to.min(core.used_end());
     first_waiting(core.words(), core.generation(), marks, from, end)

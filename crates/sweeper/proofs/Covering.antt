@@ -24,7 +24,8 @@ use Rattle.span_laws.specs.OwnSteps.{after_said}
 use Rattle.span_set.specs.declared.hand.Hand.{Hand}
 use Rattle.sweep_laws.specs.Counts.{total}
 use Rattle.span_laws.specs.Logs.{is_finding_at}
-use Rattle.span_laws.specs.Scans.{AcquiresUnmarked, IsUnmarked, PassesPages, logs}
+use Rattle.span_laws.specs.Scans.{AcquiresUnmarked, PassesPages, logs}
+use Rattle.sweep_reads.specs.Waiting.{HasNoMark}
 use Rattle.sweeper.specs.Entries.{is_added, is_read, pages_given}
 use Rattle.sweeper.specs.Reclaims.{HasPassed, HasReclaimed, Reclaims, SparesMarked, chunks_of}
 use Rattle.sweeper.specs.ReclaimSteps.{CoversChunks, CoversPage, CoversPages, ReclaimsChunk, ReclaimsNext, ReclaimsPage}
@@ -62,12 +63,12 @@ module _ (old : Hand) (none : old.worker.view.own.popped ≡ []) (page : ℕ) wh
         let z = swings marks page old.worker got h1 h2 note a t (ap (erase got.page) none) free in
         let kept : z.s.kept ≡ 0 = z.of_kept ∙ ap (λ (p : ℕ). count_below got.count (is_marked marks p)) a.0 ∙ none_counted got.count (is_marked marks page) unmarked in
         let at : z.s.page ≡ page = z.of_page ∙ a.0 in
-        let clear : IsUnmarked old.worker.view.marks page = (λ k. ap (λ (l : List (ℕ × ℕ)). has_pair l page k) (sym agree) ∙ unmarked k) in record {
+        let clear : HasNoMark old.worker.view.marks page = (λ k. ap (λ (l : List (ℕ × ℕ)). has_pair l page k) (sym agree) ∙ unmarked k) in record {
           said = z.said;
           did = record {
             covers = λ p l m u. let y = z.swept p in let x : eqb z.s.page p ≡ true = eq-eqb z.s.page p (at ∙ (let e : page ≡ p = omega arith in e)) in let v = ap one_if x in omega arith;
             given_is = (let g = z.gives kept in let q = z.of_pages in omega arith);
-            spares = λ p l. subst (IsUnmarked old.worker.view.marks) (sym at ∙ is_page z.s.page p (let y = z.swept p in omega arith)) clear;
+            spares = λ p l. subst (HasNoMark old.worker.view.marks) (sym at ∙ is_page z.s.page p (let y = z.swept p in omega arith)) clear;
             plain = z.sweeps.plain;
           };
           does = z.does;

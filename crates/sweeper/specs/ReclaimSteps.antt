@@ -6,14 +6,14 @@ use Rattle.worker_log.specs.Entries.{is_sweep_of, many}
 use Rattle.span_set.specs.declared.hand.Hand.{Hand}
 use Rattle.sweep_laws.specs.Counts.{total}
 use Rattle.span_laws.specs.Logs.{is_finding_at}
-use Rattle.span_laws.specs.Scans.{IsUnmarked}
+use Rattle.sweep_reads.specs.Waiting.{HasNoMark}
 use Rattle.sweeper.specs.Entries.{is_added, is_read, pages_given}
 use Rattle.sweeper.specs.Reclaims.{SparesMarked}
 use Rattle.sweeper.specs.Work.{IsPlain, TakesNone, Works}
 
 -- of a page without a mark the span was swept, or its word seen to be another than that of a span that waits
 abbrev pub CoversPage : List (ℕ × ℕ) → ℕ → List Entry → Type 0
-CoversPage marks p said = IsUnmarked marks p → 0 < many (is_sweep_of p) said + many (is_finding_at p) said
+CoversPage marks p said = HasNoMark marks p → 0 < many (is_sweep_of p) said + many (is_finding_at p) said
 
 -- so of the pages from one to another; so many pages were given back, and only spans without a mark swept
 pub record CoversPages (marks : List (ℕ × ℕ)) (from to given : ℕ) (said : List Entry) : Type 0 where

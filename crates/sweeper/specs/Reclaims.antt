@@ -6,7 +6,7 @@ use Rattle.worker_log.specs.Entries.{is_sweep_of, many}
 use Rattle.span_set.specs.declared.hand.Hand.{Hand}
 use Rattle.sweep_laws.specs.Counts.{total}
 use Rattle.span_laws.specs.Logs.{is_finding_at}
-use Rattle.span_laws.specs.Scans.{IsUnmarked}
+use Rattle.sweep_reads.specs.Waiting.{HasNoMark}
 use Rattle.sweeper.specs.Entries.{is_added, is_read, pages_given}
 use Rattle.sweeper.specs.Work.{TakesNone, Works}
 
@@ -23,11 +23,11 @@ HasPassed region said = ((i : ℕ) × (region ≤ 512 * i) × (0 < many (is_read
 pub record HasReclaimed (marks : List (ℕ × ℕ)) (region asked : ℕ) (said : List Entry) : Type 0 where
   pub enough : (asked ≤ total pages_given said) ⊎ HasPassed region said
   pub few : many (is_added 4) said ≤ chunks_of region
-  pub whole : (i p : ℕ) → 0 < many (is_read 4 i) said → p / 512 ≡ i → p < region → IsUnmarked marks p → 0 < many (is_sweep_of p) said + many (is_finding_at p) said
+  pub whole : (i p : ℕ) → 0 < many (is_read 4 i) said → p / 512 ≡ i → p < region → HasNoMark marks p → 0 < many (is_sweep_of p) said + many (is_finding_at p) said
 
 -- no span with a marked object is swept
 abbrev pub SparesMarked : List (ℕ × ℕ) → List Entry → Type 0
-SparesMarked marks said = (p : ℕ) → 0 < many (is_sweep_of p) said → IsUnmarked marks p
+SparesMarked marks said = (p : ℕ) → 0 < many (is_sweep_of p) said → HasNoMark marks p
 
 -- it gave so many pages back, or 2^32 - 1 where there are more, as its log tells; or memory ran out, and the sweeps before stand
 abbrev pub Reclaims : ℕ → Hand → Hand → Result ℕ NoMemory → Type 0

@@ -2,7 +2,8 @@ use Rattle.std.proofs.Common.{◌≡◌, ℕ, ◌-◌, ◌<◌, ◌≤◌, true,
 use Rattle.span_laws.specs.Answers.{AcquiresSpan}
 use Rattle.span_laws.specs.declared.answers.Acquired.TheVariants.{Got}
 use Rattle.span_laws.specs.Scanned.{NoneWaits, found_in}
-use Rattle.span_laws.specs.Scans.{IsUnmarked, PassesPages, logs}
+use Rattle.span_laws.specs.Scans.{PassesPages, logs}
+use Rattle.sweep_reads.specs.Waiting.{HasNoMark}
 use Rattle.span_laws.specs.Views.{Seen}
 use Rattle.span_laws.proofs.Scans.{found_keeps, passes_to}
 use Rattle.span_table.proofs.lent.Lent.acquire_unmarked.Goals as goal
@@ -37,7 +38,7 @@ returns-in-Some c = let i = c.self.inside in let a = c.args in let k = c.self.in
           (subst (λ (m : List (ℕ × ℕ)). NoneWaits i.core m a.from p) marks e.4) (p - a.from) (let l = e.0 in omega arith)),
       subst (λ (q : ℕ). a.from ≤ q) at e.0,
       subst (λ (q : ℕ). q < a.to) at e.1,
-      subst (λ (z : ℕ × List (ℕ × ℕ)). IsUnmarked z.1 z.0) (λ j. (at j, c.requires.marks j)) e.3,
+      subst (λ (z : ℕ × List (ℕ × ℕ)). HasNoMark z.1 z.0) (λ j. (at j, c.requires.marks j)) e.3,
       subst (λ (z : ℕ × Seen). AcquiresSpan z.0 z.1 (record { here = true; table = t.new.seat.table_id; number = i.number; view = t.new.seat.me.0 }) (Got t.result)) (λ j. (at j, before j)) t.ensures.got,
     )
   where
