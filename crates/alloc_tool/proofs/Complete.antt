@@ -1,17 +1,10 @@
 -- What is known of a run decides its status where no stream failed.
-use Rattle.std.proofs.Common.{◌≡◌, ℕ, inl, inr, List, [], ◌∷◌, ◌++◌, length, Option, Some, None, refl, ap, ◌∙◌, arith, length-append}
-use Rattle.std.specs.Io.KnownBytes.{Consumes}
+use Rattle.std.proofs.Common.{◌≡◌, ℕ, inl, inr, List, ◌++◌, Option, Some, None, ap, ◌∙◌}
 use Rattle.std.proofs.lemmas.List.{append-nil}
 use Rattle.trace_reader.specs.declared.trace.Trace.{Trace}
-use Rattle.trace_reader.specs.declared.fault.TraceFault.{TraceFault}
 use Rattle.trace_reader.specs.Limits.{Spells}
-use Rattle.trace_reader.specs.Refusal.{nothing_behind, pieces_of}
-use Rattle.alloc_tool.specs.WholeInput.{ReadsAll}
+use Rattle.whole_trace.specs.WholeInput.{ReadsAll}
 use Rattle.alloc_tool.specs.Top.{IsComplete, IsStatusOfRun}
-
-length-zero : (xs : List ℕ) → length xs ≡ 0 → xs ≡ []
-length-zero [] e = refl
-length-zero (x ∷ xs) e = absurd (omega arith)
 
 -- a run that answers read all bytes, and they are the trace's
 reads_these : (left' : Option (List ℕ)) (bytes : List ℕ) (trace : Trace) → ReadsAll (Some bytes) left' trace → Spells bytes trace
@@ -19,17 +12,6 @@ reads_these None bytes trace reads = absurd reads.1
 reads_these (Some rest) bytes trace reads =
     let e : bytes ≡ reads.0 = reads.1 ∙ ap (λ (xs : List ℕ). reads.0 ++ xs) reads.2 ∙ append-nil reads.0 in
     rw e reads.3
-
--- behind the bytes of a trace that were all taken, nothing is left to refuse
-pub nothing_left : (left mid : Option (List ℕ)) (bytes taken : List ℕ) (n : ℕ) (fault : TraceFault) → left ≡ Some bytes → Consumes left mid taken → taken ≡ bytes
-    → ((rest : List ℕ) → mid ≡ Some rest → nothing_behind n (pieces_of rest) ≡ Some fault) → ⊥
-nothing_left None mid bytes taken n fault told takes all fails = (let e : None ≡ Some bytes = told in cc)
-nothing_left (Some xs) None bytes taken n fault told takes all fails = absurd takes
-nothing_left (Some xs) (Some rest) bytes taken n fault told takes all fails =
-    let same : xs ≡ bytes = (let e : Some xs ≡ Some bytes = told in cc) in
-    let none : length rest ≡ 0 = omega (arith, ap length takes, ap length same, ap length all, length-append taken rest) in
-    let e : nothing_behind n (pieces_of []) ≡ Some fault = rw (length-zero rest none) at (fails rest refl) in
-    (let f : None ≡ Some fault = e in cc)
 
 -- the status is that of an answer or for want of memory, or of a refusal or for want of memory
 pub complete : (left left' : Option (List ℕ)) (bytes : List ℕ) (status : ℕ) → left ≡ Some bytes

@@ -1,13 +1,10 @@
 pub mod Asked
-pub mod Behind
 pub mod Complete
 pub mod Demos
-pub mod Ended
 pub mod Faults
 pub mod OneWord
 pub mod OneGen
 pub mod Outcomes
-pub mod Broken
 pub mod Plain
 pub mod Checked
 pub mod SoundPair

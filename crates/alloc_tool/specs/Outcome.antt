@@ -5,7 +5,9 @@ use Rattle.trace_reader.specs.declared.fault.TraceFault.{TraceFault}
 use Rattle.trace_reader.specs.Told.{IsOfTrace}
 use Rattle.alloc_tool.specs.Texts.{fault_text, status_text}
 use Rattle.alloc_tool.specs.Told.{Tells}
-use Rattle.alloc_tool.specs.Top.{AnswersAll, AnswersFront, BreaksOff, IsRefused}
+use Rattle.whole_trace.specs.BrokenOff.{BreaksOff}
+use Rattle.whole_trace.specs.Refused.{IsRefused}
+use Rattle.alloc_tool.specs.Top.{AnswersAll, AnswersFront}
 
 -- What each status says of the input, of the output and of what is told on the errors, where the answer has the profile of
 -- each mark end or that of the last. `left`, `held` and `shown` give

@@ -1,19 +1,15 @@
 //! The whole program over any source and sinks.
 
-ghost use Rattle.std.specs.Prelude.{◌≡◌, ◌≢◌, ◌≤◌, ◌↔◌, Bool, false, List, ℕ, IfErr, IfOk, IsErrOf, IsTrue, Some};
-ghost use Rattle.edge_io.specs.Reading.{IsSameSource, is_dry, lines_left, number_of, room_of, source_of};
-ghost use Rattle.trace_reader.specs.declared.fault.TraceFault.TheVariants.{ReadFault};
+ghost use Rattle.std.specs.Prelude.{◌≡◌, ◌≢◌, ◌≤◌, ◌↔◌, Bool, List, ℕ, IsTrue, Some};
 ghost use Rattle.trace_reader.specs.declared.trace.Trace.{Trace as ATrace};
 ghost use Rattle.trace_reader.specs.Limits.{Spells};
-ghost use Rattle.trace_reader.specs.Told.{HasReadCause, IsOfTrace};
 ghost use Rattle.class_lines.specs.Text.{classes_text};
 ghost use Rattle.trace_gen.specs.Made.{made_trace};
 ghost use Rattle.alloc_tool.specs.Checked.{AcceptsSound};
 ghost use Rattle.alloc_tool.specs.Demo.{Demos};
 ghost use Rattle.alloc_tool.specs.Outcome.{Outcome};
 ghost use Rattle.alloc_tool.specs.Plain.{Plain, Writes};
-ghost use Rattle.alloc_tool.specs.Top.{BreaksOff, IsComplete, IsRefused, IsStatusOfRun, IsUndisturbed};
-ghost use Rattle.alloc_tool.specs.WholeInput.{ReadsAll};
+ghost use Rattle.alloc_tool.specs.Top.{IsComplete, IsStatusOfRun, IsUndisturbed};
 ghost use Rattle.alloc_tool.specs.Words.{IsCheck, IsDemo, IsRun, IsRunWith, IsWord};
 
 use crate::demo::show_run;
@@ -21,17 +17,15 @@ use crate::generate::{generate, wanted_by};
 use crate::judging::judge_report;
 use crate::tell::{refuse_trace, refuse_words, stop_writing};
 use class_lines::write_classes;
-use edge_io::{Gate, Lines, NoMemory, Sink, Source};
+use edge_io::{Gate, NoMemory, Sink, Source};
 use heap_run::{Options, run_trace};
 use report_text::write_report;
 use run_words::{are_of_run, read_options};
 use std::alloc::Global;
 use std::sync::Wait;
 use std::thread::Threads;
-use trace_reader::{Trace, TraceFault, expect_end, read_trace};
-
-/// The most bytes of a trace.
-const MAX_BYTES: u64 = 67_108_864;
+use trace_reader::TraceFault;
+use whole_trace::read_whole;
 
 /// Does what the words say, and answers the exit status. It runs `run` and `demo` itself; all other words go to
 /// [`goheap_plain`].
@@ -154,7 +148,7 @@ fn run_by<S: Source, K: Sink, E: Sink, G: Gate>(
     ensures status { IsStatusOfRun result }
     ensures complete { (bytes : List ℕ) (trace : ATrace) → S.left input.old ≡ Some bytes → Spells bytes trace → result ≢ 3 }
 {
-    let trace = match read_all(alloc, input) {
+    let trace = match read_whole(alloc, input) {
         Ok(trace) => trace,
         Err(fault) => return refuse_trace(errors, fault),
     };
@@ -165,35 +159,4 @@ fn run_by<S: Source, K: Sink, E: Sink, G: Gate>(
         Ok(()) => 0,
         Err(_) => stop_writing(errors),
     }
-}
-
-// Reads a trace to the end of input.
-fn read_all<S: Source>(alloc: Global, input: &mut S) -> Result<Trace, TraceFault>
-    ensures trace { IfOk result (λ trace. ReadsAll (S.left input.old) (S.left input.new) trace) }
-    ensures refused { IfErr result (λ fault. IsOfTrace fault → IsRefused (S.left input.old) fault) }
-    ensures broken_off { IsErrOf result ReadFault → BreaksOff (S.left input.old) (S.left input.new) }
-    ensures cause { HasReadCause (S.faults input.old) (S.faults input.new) result }
-    ensures complete { (bytes : List ℕ) (trace : ATrace) → S.left input.old ≡ Some bytes → Spells bytes trace
-        → IfErr result (λ fault. IsOfTrace fault → ⊥) }
-{
-    let mut lines = Lines::new(input, MAX_BYTES);
-    read_lines(alloc, &mut lines)
-}
-
-// Reads a trace, and wants that nothing is left.
-fn read_lines<S: Source>(alloc: Global, lines: &mut Lines<'_, S>) -> Result<Trace, TraceFault>
-    requires fresh { is_dry lines.old ≡ false }
-    requires room { room_of lines.old ≡ 67108864 }
-    requires number { number_of lines.old ≡ 0 }
-    ensures same_source { IsSameSource lines.old lines.new }
-    ensures trace { IfOk result (λ trace. ReadsAll (lines_left S.left lines.old) (S.left (source_of lines.new)) trace) }
-    ensures refused { IfErr result (λ fault. IsOfTrace fault → IsRefused (lines_left S.left lines.old) fault) }
-    ensures broken_off { IsErrOf result ReadFault → BreaksOff (lines_left S.left lines.old) (S.left (source_of lines.new)) }
-    ensures cause { HasReadCause (S.faults (source_of lines.old)) (S.faults (source_of lines.new)) result }
-    ensures complete { (bytes : List ℕ) (trace : ATrace) → lines_left S.left lines.old ≡ Some bytes → Spells bytes trace
-        → IfErr result (λ fault. IsOfTrace fault → ⊥) }
-{
-    let trace = read_trace(alloc, lines)?;
-    expect_end(lines)?;
-    Ok(trace)
 }

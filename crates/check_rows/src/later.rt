@@ -1,7 +1,7 @@
 //! A table of traces and reports as text, for all rules, where nothing is sampled.
 
 ghost use Rattle.std.specs.Prelude.{IfOk};
-ghost use Rattle.cycle_history.specs.Marked.{IsLimited};
+ghost use Rattle.cycle_history.specs.Before.{IsLimited};
 
 use crate::profile::{self, Bucket, ProfileRow};
 use cycle_history::{Prof, Report};

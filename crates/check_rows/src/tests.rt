@@ -1,7 +1,7 @@
 //! Tables of traces and reports, for the rules 1 to 4.
 
 ghost use Rattle.std.specs.Prelude.{◌≤◌, IfOk};
-ghost use Rattle.cycle_history.specs.Marked.{IsLimited};
+ghost use Rattle.cycle_history.specs.Before.{IsLimited};
 
 use crate::{answers, journal, misses, places};
 use cycle_history::{Answer, Report};

@@ -1,7 +1,7 @@
 //! A table of traces and reports, for rule 8.
 
 ghost use Rattle.std.specs.Prelude.{IfOk};
-ghost use Rattle.cycle_history.specs.Marked.{IsLimited};
+ghost use Rattle.cycle_history.specs.Before.{IsLimited};
 
 use Answer::{Missed, Placed, Zero};
 use cycle_history::{Answer, Report, Total};

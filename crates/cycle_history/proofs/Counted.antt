@@ -19,7 +19,7 @@ use Rattle.cycle_history.specs.Objects.{Object, is_placed, live}
 use Rattle.cycle_history.specs.Orders.{IsTotalBefore, AreRisingTotals}
 use Rattle.cycle_history.specs.Rules.{IsObject, AreAnswered}
 use Rattle.cycle_history.specs.Sweeps.{is_placed_of, AreTotals}
-use Rattle.cycle_history.specs.Marked.{objects_before, marks_at}
+use Rattle.cycle_history.specs.Before.{objects_before, marks_at}
 use Rattle.cycle_history.specs.Counted.{AreCounts, AreFirstOf, AreListed, AreObjectsOf, is_freed_of, of_class}
 use Rattle.cycle_history.proofs.Firsts.{before-rise}
 use Rattle.cycle_history.proofs.Plain.{request_in}

@@ -10,7 +10,7 @@ use Rattle.cycle_history.specs.declared.Answer.{Answer}
 use Rattle.cycle_history.specs.declared.Answer.TheVariants.{Placed}
 use Rattle.cycle_history.specs.declared.places.Place.{Place}
 use Rattle.cycle_history.specs.Places.{HasPlace, IsPlace, LiesAt}
-use Rattle.cycle_history.specs.Marked.{ArePlaces, IsLimited, objects_before}
+use Rattle.cycle_history.specs.Before.{ArePlaces, IsLimited, objects_before}
 use Rattle.cycle_history.specs.Found.{AreFound, IsFound, IsPlaceOf}
 use Rattle.cycle_history.proofs.Counted.{get-split}
 use Rattle.cycle_history.proofs.Firsts.{before-le, before-more, event-at}

@@ -6,7 +6,8 @@ use Rattle.trace_reader.specs.declared.trace.Trace.{Trace}
 use Rattle.cycle_history.specs.declared.Answer.{Answer}
 use Rattle.cycle_history.specs.Requests.{marked_by}
 use Rattle.cycle_history.specs.Places.{LiesAt}
-use Rattle.cycle_history.specs.Marked.{AreMarksBelow, ArePlacesOf, IsLimited, IsMarkedAt, LieApart, objects_before}
+use Rattle.cycle_history.specs.Marked.{AreMarksBelow, ArePlacesOf, IsMarkedAt, LieApart}
+use Rattle.cycle_history.specs.Before.{IsLimited, objects_before}
 use Rattle.cycle_history.specs.MarkedLoops.{AreKept}
 use Rattle.cycle_history.proofs.Found.{lies-less, lies-more}
 use Rattle.cycle_history.proofs.Rising.{marked-early, marked-may}

@@ -19,7 +19,7 @@ use Rattle.cycle_history.specs.Requests.{Request, requests_from, requests_of}
 use Rattle.cycle_history.specs.Objects.{Object, is_placed, Sits}
 use Rattle.cycle_history.specs.Rules.{IsObject, AreAnswered}
 use Rattle.cycle_history.specs.Places.{IsPlace}
-use Rattle.cycle_history.specs.Marked.{AreObjectsBefore, objects_before, requests_before}
+use Rattle.cycle_history.specs.Before.{AreObjectsBefore, objects_before, requests_before}
 use Rattle.cycle_history.specs.Counted.{AreObjectsOf, AreZeros}
 use Rattle.cycle_history.proofs.Plain.{same_length}
 use Rattle.cycle_history.proofs.OnePlace.{place-one}

@@ -2,11 +2,12 @@
 use Rattle.std.proofs.Common.{◌≡◌, ℕ, ◌+◌, ◌-◌, ◌<◌, ◌≤◌, Bool, true, false, List, [], ◌∷◌, length, drop, get_or, refl, sym, ◌∙◌, ap, subst, arith, inl, inr}
 use Rattle.std.proofs.lemmas.List.{drop_more, drop_all}
 use Rattle.trace_reader.specs.declared.trace.Trace.{Trace}
-use Rattle.trace_reader.specs.declared.trace.Span.{Span}
-use Rattle.trace_reader.specs.Limits.{AreSpans}
+use Rattle.object_spans.specs.declared.span.Span.{Span}
+use Rattle.object_spans.specs.Rising.{AreSpans}
 use Rattle.cycle_history.specs.declared.Answer.{Answer}
 use Rattle.cycle_history.specs.Requests.{is_within, marked_by}
-use Rattle.cycle_history.specs.Marked.{HasDied, IsLimited, IsMarkedAt, marks_at, objects_before}
+use Rattle.cycle_history.specs.Marked.{HasDied, IsMarkedAt}
+use Rattle.cycle_history.specs.Before.{IsLimited, marks_at, objects_before}
 use Rattle.cycle_history.specs.MarkedLoops.{AreWalked}
 use Rattle.cycle_history.proofs.Rising.{marked-early, marks-rise, marks-within, span-low, within-above, within-at, within-rest}
 

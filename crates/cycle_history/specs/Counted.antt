@@ -16,7 +16,7 @@ use Rattle.cycle_history.specs.declared.totals.Living.{Living}
 use Rattle.cycle_history.specs.Requests.{requests_from, requests_of, is_within, marked_by, last_cycle}
 use Rattle.cycle_history.specs.Objects.{Object, live}
 use Rattle.cycle_history.specs.Orders.{AreRisingTotals}
-use Rattle.cycle_history.specs.Marked.{IsLimited, marks_at, objects_before}
+use Rattle.cycle_history.specs.Before.{IsLimited, marks_at, objects_before}
 use Rattle.cycle_history.specs.MarkedLoops.{IsBehind}
 use Rattle.cycle_history.specs.Rules.{AreAnswered}
 use Rattle.cycle_history.specs.Sweeps.{is_placed_of}

@@ -12,6 +12,7 @@ pub mod Text
 pub mod Places
 pub mod Packed
 pub mod PackedLaws
+pub mod Before
 pub mod Marked
 pub mod Found
 pub mod MarkedLoops

@@ -2,14 +2,15 @@
 use Rattle.std.specs.Prelude.{◌≡◌, ℕ, ◌-◌, ◌<◌, ◌≤◌, true, List, [], length, drop, slice_index_or, ◌⊎◌, ◌↔◌}
 use Rattle.span_state.specs.MarkSet.{MarkSet, is_marked, dead_of}
 use Rattle.trace_reader.specs.declared.trace.Trace.{Trace}
-use Rattle.trace_reader.specs.declared.trace.Span.{Span}
-use Rattle.trace_reader.specs.Limits.{AreSpans}
+use Rattle.object_spans.specs.declared.span.Span.{Span}
+use Rattle.object_spans.specs.Rising.{AreSpans}
 use Rattle.cycle_history.specs.declared.Answer.{Answer}
 use Rattle.cycle_history.specs.declared.lookups.Walk.{Walk}
 use Rattle.cycle_history.specs.declared.marks.Objects.{Objects}
 use Rattle.cycle_history.specs.Requests.{is_within, last_cycle, marked_by}
 use Rattle.cycle_history.specs.Found.{AreFound}
-use Rattle.cycle_history.specs.Marked.{IsLimited, IsMarkedAt, LieApart, objects_before}
+use Rattle.cycle_history.specs.Marked.{IsMarkedAt, LieApart}
+use Rattle.cycle_history.specs.Before.{IsLimited, objects_before}
 
 -- The objects are those before a mark end of a trace within the limits.
 pub record AreOf (objects : Objects) : Type 0 where

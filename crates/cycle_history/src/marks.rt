@@ -3,7 +3,8 @@
 ghost use Rattle.std.specs.Prelude.{◌≡◌, ℕ, ◌+◌, ◌-◌, ◌<◌, ◌≤◌, true, false, length, slice_get, slice_index_or, Some, OnOk};
 ghost use Rattle.cycle_history.specs.Requests.{last_cycle, marked_by};
 ghost use Rattle.cycle_history.specs.Found.{AreFound};
-ghost use Rattle.cycle_history.specs.Marked.{AreClear, AreMarksBelow, AreMarksOf, ArePlaces, ArePlacesOf, IsLimited, LieApart, LivedBefore, marks_at, objects_before};
+ghost use Rattle.cycle_history.specs.Marked.{AreMarksBelow, AreMarksOf, ArePlacesOf, LieApart, LivedBefore};
+ghost use Rattle.cycle_history.specs.Before.{AreClear, ArePlaces, IsLimited, marks_at, objects_before};
 ghost use Rattle.cycle_history.specs.MarkedLoops.{AreKept, AreOf, IsBehind};
 
 use crate::Answer;

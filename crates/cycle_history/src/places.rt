@@ -5,7 +5,7 @@ ghost use Rattle.size_classes.specs.Classes.{IsClass, slot_of, objects_of};
 ghost use Rattle.trace_reader.specs.declared.trace.Cycle.{Cycle};
 ghost use Rattle.cycle_history.specs.declared.Answer.TheVariants.{Placed};
 ghost use Rattle.cycle_history.specs.Places.{HasPlace, IsPlace};
-ghost use Rattle.cycle_history.specs.Marked.{ArePlaces, IsLimited, objects_before};
+ghost use Rattle.cycle_history.specs.Before.{ArePlaces, IsLimited, objects_before};
 ghost use Rattle.cycle_history.specs.Found.{AreFound, IsPlaceOf};
 ghost use Rattle.cycle_history.specs.Packed.{HasRoom};
 

@@ -2,12 +2,13 @@
 
 ghost use Rattle.std.specs.Prelude.{◌≡◌, ℕ, ◌+◌, ◌/◌, ◌^◌, ◌<◌, ◌≤◌, ◌==◌, ◌&&◌, ◌||◌, nat_le, not, Bool, List as Items, length, IfOk};
 ghost use Rattle.page_alloc.specs.Lists.{one_if};
-ghost use Rattle.trace_reader.specs.Limits.{AreSpans, events_of};
+ghost use Rattle.object_spans.specs.Rising.{AreSpans};
+ghost use Rattle.trace_reader.specs.Limits.{events_of};
 ghost use Rattle.cycle_history.specs.Needs.{Need, IsNeed};
 ghost use Rattle.cycle_history.specs.Requests.{is_within, last_cycle, marked_by};
 ghost use Rattle.cycle_history.specs.Objects.{Object, is_placed as is_placed_at};
 ghost use Rattle.cycle_history.specs.Sweeps.{AreTotals};
-ghost use Rattle.cycle_history.specs.Marked.{IsLimited};
+ghost use Rattle.cycle_history.specs.Before.{IsLimited};
 ghost use Rattle.cycle_history.specs.MarkedLoops.{IsBehind};
 ghost use Rattle.cycle_history.specs.Counted.{AreAsked, AreCounts, AreLiving, AreObjectsOf, AreZeros, LiveAlike, of_class};
 

@@ -11,7 +11,7 @@ use Rattle.trace_reader.specs.declared.trace.Trace.{Trace}
 use Rattle.cycle_history.specs.declared.Answer.{Answer}
 use Rattle.cycle_history.specs.declared.places.Place.{Place}
 use Rattle.cycle_history.specs.Found.{AreFound}
-use Rattle.cycle_history.specs.Marked.{AreObjectsBefore}
+use Rattle.cycle_history.specs.Before.{AreObjectsBefore}
 use Rattle.cycle_history.specs.Requests.{marked_by, region_of}
 use Rattle.cycle_history.proofs.Kept.{no-marks}
 use Rattle.run_laws.specs.Reached.{Began}

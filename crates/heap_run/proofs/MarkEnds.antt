@@ -14,7 +14,8 @@ use Rattle.worker_log.specs.Entries.{is_seen_empty, many}
 use Rattle.worker_log.proofs.Logs.{many-append}
 use Rattle.cycle_history.specs.declared.Answer.{Answer}
 use Rattle.cycle_history.specs.Found.{AreFound}
-use Rattle.cycle_history.specs.Marked.{AreClear, AreMarksOf, AreObjectsBefore, ArePlacesOf, objects_before}
+use Rattle.cycle_history.specs.Marked.{AreMarksOf, ArePlacesOf}
+use Rattle.cycle_history.specs.Before.{AreClear, AreObjectsBefore, objects_before}
 use Rattle.cycle_history.specs.Objects.{Object}
 use Rattle.cycle_history.specs.Requests.{marked_by, region_of}
 use Rattle.sound_run.specs.Run.{IsRun}

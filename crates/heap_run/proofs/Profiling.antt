@@ -16,7 +16,7 @@ use Rattle.trace_reader.specs.declared.trace.Cycle.{Cycle}
 use Rattle.trace_reader.specs.declared.trace.Event.{Event}
 use Rattle.trace_reader.specs.Limits.{events_of}
 use Rattle.cycle_history.specs.declared.Answer.{Answer}
-use Rattle.cycle_history.specs.Marked.{objects_before, requests_before}
+use Rattle.cycle_history.specs.Before.{objects_before, requests_before}
 use Rattle.cycle_history.specs.Objects.{Object, is_placed}
 use Rattle.cycle_history.specs.Profile.{passing, placed_by, samples_in, Samples, is_sample}
 use Rattle.cycle_history.specs.Requests.{marked_by, region_of}

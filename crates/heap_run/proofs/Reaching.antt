@@ -14,7 +14,7 @@ use Rattle.trace_reader.specs.Limits.{AreCycles}
 use Rattle.cycle_history.specs.declared.Answer.{Answer}
 use Rattle.cycle_history.specs.Requests.{Request, marked_by, region_of, requests_from}
 use Rattle.cycle_history.specs.Objects.{Object}
-use Rattle.cycle_history.specs.Marked.{AreObjectsBefore, requests_before}
+use Rattle.cycle_history.specs.Before.{AreObjectsBefore, requests_before}
 use Rattle.cycle_history.proofs.Plain.{request_in}
 use Rattle.worker_log.specs.declared.Entry.{Entry}
 use Rattle.worker_log.specs.declared.Sweeping.{Sweeping}

@@ -34,7 +34,8 @@ use Rattle.cycle_history.specs.declared.Report.{Report}
 use Rattle.cycle_history.specs.declared.places.Place.{Place}
 use Rattle.cycle_history.specs.Counted.{AreObjectsOf}
 use Rattle.cycle_history.specs.Found.{AreFound}
-use Rattle.cycle_history.specs.Marked.{AreClear, AreObjectsBefore, ArePlacesOf, IsLimited}
+use Rattle.cycle_history.specs.Marked.{ArePlacesOf}
+use Rattle.cycle_history.specs.Before.{AreClear, AreObjectsBefore, IsLimited}
 use Rattle.cycle_history.specs.Objects.{Object}
 use Rattle.cycle_history.specs.Requests.{last_cycle, marked_by, region_of}
 use Rattle.cycle_history.specs.Sound.{HasAnswers, HasForm, IsSoundAndUsed, past_in}

@@ -15,7 +15,8 @@ use Rattle.trace_reader.specs.declared.trace.Event.{Event}
 use Rattle.trace_reader.specs.Limits.{events_of}
 use Rattle.cycle_history.specs.declared.Answer.{Answer}
 use Rattle.cycle_history.specs.declared.Report.{Report}
-use Rattle.cycle_history.specs.Marked.{AreMarksOf, AreObjectsBefore}
+use Rattle.cycle_history.specs.Marked.{AreMarksOf}
+use Rattle.cycle_history.specs.Before.{AreObjectsBefore}
 use Rattle.cycle_history.specs.Objects.{Object}
 use Rattle.cycle_history.specs.Profile.{samples_in, is_sample}
 use Rattle.cycle_history.specs.Requests.{last_cycle, marked_by, region_of}

@@ -5,7 +5,8 @@ use Rattle.span_state.specs.MarkSet.{has_pair}
 use Rattle.trace_reader.specs.declared.trace.Trace.{Trace}
 use Rattle.cycle_history.specs.Requests.{marked_by, region_of}
 use Rattle.cycle_history.specs.Objects.{Object}
-use Rattle.cycle_history.specs.Marked.{AreClear, AreObjectsBefore, ArePlacesOf, objects_before}
+use Rattle.cycle_history.specs.Marked.{ArePlacesOf}
+use Rattle.cycle_history.specs.Before.{AreClear, AreObjectsBefore, objects_before}
 use Rattle.cycle_history.specs.Found.{AreFound}
 use Rattle.run_laws.specs.CycleSoFar.{CycleSoFar}
 use Rattle.run_laws.specs.Facts.{Marks}

@@ -11,7 +11,8 @@ use Rattle.cycle_history.specs.declared.Answer.{Answer}
 use Rattle.cycle_history.specs.declared.Answer.TheVariants.{Placed, Zero, Missed}
 use Rattle.cycle_history.specs.Requests.{last_cycle}
 use Rattle.cycle_history.specs.Places.{IsPlace, LiesAt}
-use Rattle.cycle_history.specs.Marked.{ArePlaces, IsLimited, LieApart, LivedBefore, objects_before}
+use Rattle.cycle_history.specs.Marked.{LieApart, LivedBefore}
+use Rattle.cycle_history.specs.Before.{ArePlaces, IsLimited, objects_before}
 use Rattle.cycle_history.specs.Counted.{AreZeros}
 use Rattle.cycle_history.proofs.Found.{lies-more}
 use Rattle.cycle_history.proofs.Settled.{lies-one}

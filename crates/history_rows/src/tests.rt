@@ -1,5 +1,6 @@
 ghost use Rattle.std.specs.Prelude.{◌≡◌, ◌-◌, ◌≤◌, ◌⊎◌, [], length, take, IfOk, OnOk};
-ghost use Rattle.cycle_history.specs.Marked.{AreClear, ArePlacesOf, objects_before};
+ghost use Rattle.cycle_history.specs.Marked.{ArePlacesOf};
+ghost use Rattle.cycle_history.specs.Before.{AreClear, objects_before};
 ghost use Rattle.cycle_history.specs.Found.{AreFound};
 ghost use Rattle.history_rows.specs.Example.{answers, event_of_size, example};
 

@@ -9,7 +9,7 @@ use Rattle.profile_cycle.specs.declared.buckets.Bucket.{Bucket}
 use Rattle.profile_cycle.specs.Naming.{buckets_of, is_same, pairs_of, slot_for}
 use Rattle.cycle_history.specs.declared.Answer.{Answer}
 use Rattle.cycle_history.specs.Objects.{Object}
-use Rattle.cycle_history.specs.Marked.{AreObjectsBefore}
+use Rattle.cycle_history.specs.Before.{AreObjectsBefore}
 use Rattle.cycle_history.specs.Sampled.{samples_in, stack_of}
 use Rattle.cycle_history.proofs.OfObjects.{known}
 use Rattle.sample_laws.proofs.Slots.{need-slot}

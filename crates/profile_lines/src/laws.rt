@@ -13,7 +13,7 @@ ghost use Rattle.trace_reader.specs.declared.trace.Trace.{Trace};
 ghost use Rattle.trace_reader.specs.Limits.{events_of};
 ghost use Rattle.cycle_history.specs.declared.Answer.{Answer};
 ghost use Rattle.cycle_history.specs.declared.Prof.{Prof};
-ghost use Rattle.cycle_history.specs.Marked.{AreObjectsBefore};
+ghost use Rattle.cycle_history.specs.Before.{AreObjectsBefore};
 ghost use Rattle.cycle_history.specs.Sampled.{samples_in};
 ghost use Rattle.cycle_history.specs.Requests.{Marking};
 ghost use Rattle.cycle_history.specs.Objects.{Object};

@@ -11,7 +11,7 @@ use Rattle.trace_reader.specs.Limits.{events_of, EventFits}
 use Rattle.cycle_history.specs.declared.Answer.{Answer}
 use Rattle.cycle_history.specs.declared.Answer.TheVariants.{Zero}
 use Rattle.cycle_history.specs.declared.Report.{Report}
-use Rattle.cycle_history.specs.Marked.{IsLimited}
+use Rattle.cycle_history.specs.Before.{IsLimited}
 use Rattle.cycle_history.specs.Requests.{Request, requests_of}
 use Rattle.cycle_history.specs.Objects.{Object}
 use Rattle.cycle_history.specs.Rules.{IsObject, AreAnswered}

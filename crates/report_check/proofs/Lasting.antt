@@ -6,11 +6,11 @@ use Rattle.std.proofs.lemmas.List.{length-map, get_or_past}
 use Rattle.std.proofs.lemmas.Option.{slice_get_within, slice_get-map, get_or_from_slice_get, slice_get_cases}
 use Rattle.trace_reader.specs.declared.trace.Trace.{Trace}
 use Rattle.trace_reader.specs.declared.trace.Cycle.{Cycle}
-use Rattle.trace_reader.specs.declared.trace.Span.{Span}
+use Rattle.object_spans.specs.declared.span.Span.{Span}
 use Rattle.trace_reader.specs.Limits.{AreCycles}
 use Rattle.cycle_history.specs.declared.Report.{Report}
 use Rattle.cycle_history.specs.Requests.{is_within, marked_by}
-use Rattle.cycle_history.specs.Marked.{IsLimited, marks_at, objects_before}
+use Rattle.cycle_history.specs.Before.{IsLimited, marks_at, objects_before}
 use Rattle.cycle_history.specs.Sound.{HasAnswers}
 use Rattle.cycle_history.proofs.Firsts.{before-rise, before-all}
 use Rattle.cycle_history.proofs.Rising.{marked-early, marked-may, marks-within}

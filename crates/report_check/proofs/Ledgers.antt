@@ -13,7 +13,7 @@ use Rattle.trace_reader.specs.declared.trace.Trace.{Trace}
 use Rattle.cycle_history.specs.declared.Report.{Report}
 use Rattle.cycle_history.specs.Requests.{marked_by}
 use Rattle.cycle_history.specs.Objects.{Object, freed, is_placed, kept, live}
-use Rattle.cycle_history.specs.Marked.{objects_before}
+use Rattle.cycle_history.specs.Before.{objects_before}
 use Rattle.cycle_history.specs.Sweeps.{IsUsedAgain}
 use Rattle.cycle_history.proofs.Firsts.{before-le, before-more, before-rise}
 use Rattle.report_check.specs.declared.items.Item.{Item}

@@ -15,15 +15,16 @@ use Rattle.trace_reader.specs.declared.trace.Trace.{Trace}
 use Rattle.trace_reader.specs.declared.trace.Cycle.{Cycle}
 use Rattle.trace_reader.specs.declared.trace.Event.{Event}
 use Rattle.trace_reader.specs.declared.trace.MarkEnd.{MarkEnd}
-use Rattle.trace_reader.specs.declared.trace.Span.{Span}
-use Rattle.trace_reader.specs.Limits.{events_of, AreCycles, AreSpans, IsMarked}
+use Rattle.object_spans.specs.declared.span.Span.{Span}
+use Rattle.object_spans.specs.Rising.{AreSpans}
+use Rattle.trace_reader.specs.Limits.{events_of, AreCycles, IsMarked}
 use Rattle.cycle_history.specs.declared.Answer.TheVariants.{Placed, Zero}
 use Rattle.cycle_history.specs.declared.Report.{Report}
 use Rattle.cycle_history.specs.Needs.{Need, IsNeed}
 use Rattle.cycle_history.specs.Requests.{Marking, Request, requests_from, requests_of, is_within, marked_by, spans_after, spans_of}
 use Rattle.cycle_history.specs.Objects.{Object, is_placed, live, start_of, Sits, IsSeated}
 use Rattle.cycle_history.specs.Rules.{AreSeated}
-use Rattle.cycle_history.specs.Marked.{IsLimited, marks_at, objects_before}
+use Rattle.cycle_history.specs.Before.{IsLimited, marks_at, objects_before}
 use Rattle.cycle_history.specs.Sound.{HasAnswers, past_in}
 use Rattle.cycle_history.proofs.Firsts.{before-rise, before-all, before-le}
 use Rattle.cycle_history.proofs.OfObjects.{number-get, request-of, requests-events}

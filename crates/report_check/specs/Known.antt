@@ -6,7 +6,7 @@ use Rattle.cycle_history.specs.declared.Report.{Report}
 use Rattle.cycle_history.specs.Requests.{marked_by}
 use Rattle.cycle_history.specs.Objects.{is_placed}
 use Rattle.cycle_history.specs.Rules.{AreMissed, AreSeated}
-use Rattle.cycle_history.specs.Marked.{IsLimited}
+use Rattle.cycle_history.specs.Before.{IsLimited}
 use Rattle.cycle_history.specs.Sound.{past_in, HasAnswers, HasJournal}
 use Rattle.report_check.specs.declared.items.Item.{Item}
 use Rattle.life_tops.specs.declared.tops.Tops.{Tops}

@@ -6,7 +6,7 @@ ghost use Rattle.page_bitmap.specs.declared.line.Line.TheVariants.{Give, Miss, S
 ghost use Rattle.page_alloc.specs.Owners.{owner};
 ghost use Rattle.page_alloc.specs.FreeRuns.{IsSpanSize};
 ghost use Rattle.page_alloc.specs.Journal.{IsBy, Legal, cycle_of as cycle_in, past_of};
-ghost use Rattle.cycle_history.specs.Marked.{IsLimited};
+ghost use Rattle.cycle_history.specs.Before.{IsLimited};
 ghost use Rattle.cycle_history.specs.Sound.{HasJournal};
 ghost use Rattle.report_rules.specs.Answers.{BreaksJournal};
 ghost use Rattle.report_check.specs.Fault.{IsFaultOf};

@@ -2,7 +2,7 @@
 
 ghost use Rattle.std.specs.Prelude.{◌≡◌, List as Things, IfErr, IfOk, OnOk};
 ghost use Rattle.cycle_history.specs.Broken.{MeetsUpTo};
-ghost use Rattle.cycle_history.specs.Marked.{IsLimited};
+ghost use Rattle.cycle_history.specs.Before.{IsLimited};
 ghost use Rattle.cycle_history.specs.Objects.{Object};
 ghost use Rattle.report_check.specs.declared.fault.CheckFault.TheVariants.{NoMemory as OutOfMemory};
 ghost use Rattle.report_check.specs.Fault.{IsFault, IsUpTo, MeetsChecked};

@@ -2,7 +2,7 @@
 
 ghost use Rattle.std.specs.Prelude.{◌≡◌, ◌<◌, ◌≤◌, true, map, IfOk};
 ghost use Rattle.cycle_history.specs.declared.Report.{Report as AReport};
-ghost use Rattle.cycle_history.specs.Marked.{IsLimited};
+ghost use Rattle.cycle_history.specs.Before.{IsLimited};
 ghost use Rattle.cycle_history.specs.Requests.{is_within};
 ghost use Rattle.cycle_history.specs.Sound.{HasAnswers};
 ghost use Rattle.report_check.specs.declared.items.Item.{Item as Entry};

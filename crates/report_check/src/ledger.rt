@@ -2,7 +2,7 @@
 
 ghost use Rattle.std.specs.Prelude.{◌≡◌, ℕ, ◌+◌, ◌-◌, ◌^◌, ◌<◌, ◌≤◌, ◌&&◌, not, nat_le, Bool, length, IfOk, OnOk};
 ghost use Rattle.page_alloc.specs.Lists.{count, one_if};
-ghost use Rattle.cycle_history.specs.Marked.{objects_before};
+ghost use Rattle.cycle_history.specs.Before.{objects_before};
 ghost use Rattle.cycle_history.specs.Requests.{last_cycle};
 ghost use Rattle.report_check.specs.Items.{objects_of};
 ghost use Rattle.report_check.specs.Known.{AreKnown};

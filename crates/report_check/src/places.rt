@@ -3,7 +3,7 @@
 ghost use Rattle.std.specs.Prelude.{◌≡◌, ℕ, ◌+◌, ◌≤◌, ◌<◌, length, take, true, IfErr, OnOk, Some, slice_set};
 ghost use Rattle.std.specs.List.{slice_get};
 ghost use Rattle.page_alloc.specs.Journal.{IsBy, at_end, past_of};
-ghost use Rattle.cycle_history.specs.Marked.{IsLimited, marks_at};
+ghost use Rattle.cycle_history.specs.Before.{IsLimited, marks_at};
 ghost use Rattle.cycle_history.specs.Objects.{is_placed};
 ghost use Rattle.cycle_history.specs.Requests.{is_within, last_cycle, marked_by, region_of};
 ghost use Rattle.cycle_history.specs.Rules.{AreSeated};

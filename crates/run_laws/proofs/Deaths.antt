@@ -18,7 +18,8 @@ use Rattle.cycle_history.specs.declared.Answer.TheVariants.{Placed}
 use Rattle.cycle_history.specs.Requests.{Request, requests_from, marked_by}
 use Rattle.cycle_history.specs.Objects.{Object, is_placed, live}
 use Rattle.cycle_history.specs.Places.{IsPlace}
-use Rattle.cycle_history.specs.Marked.{AreMarksOf, AreObjectsBefore, AreFalling, HasDied, LivedBefore, objects_before, requests_before}
+use Rattle.cycle_history.specs.Marked.{AreMarksOf, AreFalling, HasDied, LivedBefore}
+use Rattle.cycle_history.specs.Before.{AreObjectsBefore, objects_before, requests_before}
 use Rattle.cycle_history.proofs.Counted.{last-request}
 use Rattle.cycle_history.proofs.OfObjects.{get-number, number-get, known, request-of, object-of, sits-place, sits-one}
 use Rattle.sound_run.specs.Run.{IsRun}

@@ -20,7 +20,8 @@ use Rattle.sound_run.specs.Run.{IsRun}
 use Rattle.sound_run.specs.Spans.{AreMarks}
 use Rattle.sound_run.proofs.Ends.{next-keeps}
 use Rattle.cycle_history.specs.Places.{IsPlace, LiesAt}
-use Rattle.cycle_history.specs.Marked.{AreMarksOf, AreObjectsBefore, LieApart, LivedBefore, objects_before, requests_before}
+use Rattle.cycle_history.specs.Marked.{AreMarksOf, LieApart, LivedBefore}
+use Rattle.cycle_history.specs.Before.{AreObjectsBefore, objects_before, requests_before}
 use Rattle.sound_run.proofs.Live.{at_end-now, live-marked, live-of}
 use Rattle.cycle_history.proofs.Counted.{get-split}
 use Rattle.cycle_history.proofs.Plain.{request_in}

@@ -12,7 +12,7 @@ use Rattle.trace_reader.specs.declared.trace.Cycle.{Cycle}
 use Rattle.trace_reader.specs.declared.trace.Event.{Event}
 use Rattle.trace_reader.specs.Limits.{events_of}
 use Rattle.cycle_history.specs.declared.Answer.{Answer}
-use Rattle.cycle_history.specs.Marked.{AreObjectsBefore}
+use Rattle.cycle_history.specs.Before.{AreObjectsBefore}
 use Rattle.cycle_history.specs.Objects.{Object, is_placed}
 use Rattle.cycle_history.specs.Profile.{samples_in, is_sample}
 use Rattle.cycle_history.specs.Sampled.{stack_of}

@@ -6,7 +6,7 @@ ghost use Rattle.page_alloc.specs.Lists.{count};
 ghost use Rattle.trace_reader.specs.declared.trace.Event.{Event};
 ghost use Rattle.trace_reader.specs.declared.trace.Trace.{Trace};
 ghost use Rattle.trace_reader.specs.Limits.{events_of};
-ghost use Rattle.cycle_history.specs.Marked.{AreObjectsBefore};
+ghost use Rattle.cycle_history.specs.Before.{AreObjectsBefore};
 ghost use Rattle.cycle_history.specs.Profile.{samples_in, Samples, is_sample};
 ghost use Rattle.cycle_history.specs.declared.Answer.{Answer};
 ghost use Rattle.cycle_history.specs.Objects.{Object};

@@ -6,7 +6,7 @@ use Rattle.trace_reader.specs.declared.trace.Cycle.{Cycle}
 use Rattle.trace_reader.specs.Limits.{AreCycles}
 use Rattle.cycle_history.proofs.Cycles.{before-requests, before-next}
 use Rattle.cycle_history.specs.Requests.{requests_from, marked_by}
-use Rattle.cycle_history.specs.Marked.{objects_before}
+use Rattle.cycle_history.specs.Before.{objects_before}
 use Rattle.cycle_history.specs.Objects.{Object}
 use Rattle.sound_run.specs.Run.{Lasts}
 use Rattle.cycle_history.proofs.Firsts.{before-rise}

@@ -19,7 +19,8 @@ use Rattle.cycle_history.specs.Objects.{Object, is_placed, Sits}
 use Rattle.sound_run.specs.Run.{IsRun}
 use Rattle.sound_run.specs.Spans.{AreMarks}
 use Rattle.cycle_history.specs.Places.{IsPlace, LiesAt}
-use Rattle.cycle_history.specs.Marked.{AreMarksOf, AreObjectsBefore, ArePlaces, requests_before}
+use Rattle.cycle_history.specs.Marked.{AreMarksOf}
+use Rattle.cycle_history.specs.Before.{AreObjectsBefore, ArePlaces, requests_before}
 use Rattle.sound_run.proofs.Live.{at_end-now, by-later, legal-at_end, live-marked, live-of}
 use Rattle.sound_run.proofs.Seats.{same_number}
 

@@ -16,7 +16,8 @@ ghost use Rattle.trace_reader.specs.declared.trace.Trace.{Trace};
 ghost use Rattle.cycle_history.specs.declared.Answer.{Answer};
 ghost use Rattle.cycle_history.specs.Requests.{marked_by};
 ghost use Rattle.cycle_history.specs.Objects.{Object};
-ghost use Rattle.cycle_history.specs.Marked.{AreMarksOf, AreObjectsBefore};
+ghost use Rattle.cycle_history.specs.Marked.{AreMarksOf};
+ghost use Rattle.cycle_history.specs.Before.{AreObjectsBefore};
 ghost use Rattle.sound_run.specs.Run.{IsRun};
 ghost use Rattle.sound_run.specs.Spans.{AreMarks};
 

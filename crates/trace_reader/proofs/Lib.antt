@@ -6,7 +6,6 @@ pub mod Judging
 pub mod Reading
 pub mod Good
 pub mod Cycles
-pub mod Walk
 pub mod Keeping
 pub mod Body
 pub mod Whole

@@ -12,7 +12,7 @@ use Rattle.trace_reader.specs.declared.trace.Header.{Header}
 use Rattle.trace_reader.specs.declared.trace.Cycle.{Cycle}
 use Rattle.trace_reader.specs.declared.trace.Event.{Event}
 use Rattle.trace_reader.specs.declared.trace.MarkEnd.{MarkEnd}
-use Rattle.trace_reader.specs.declared.trace.Span.{Span}
+use Rattle.object_spans.specs.declared.span.Span.{Span}
 use Rattle.trace_reader.specs.Says.{said}
 use Rattle.trace_reader.specs.Spelling.{alloc_of, cycle_statements, form_of, heap_of, line_for, lines_of, mark_of, mark_statements, spelled}
 use Rattle.trace_reader.specs.Limits.{AreCycles, WithinLimits}

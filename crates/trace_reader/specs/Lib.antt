@@ -6,7 +6,6 @@ pub mod Checks
 pub mod Refusal
 pub mod Good
 pub mod Limits
-pub mod Kept
 pub mod Draft
 pub mod Follows
 pub mod Taken

@@ -6,7 +6,8 @@ use Rattle.trace_reader.specs.declared.trace.Header.{Header}
 use Rattle.trace_reader.specs.declared.trace.Cycle.{Cycle}
 use Rattle.trace_reader.specs.declared.trace.Event.{Event}
 use Rattle.trace_reader.specs.declared.trace.MarkEnd.{MarkEnd}
-use Rattle.trace_reader.specs.declared.trace.Span.{Span}
+use Rattle.object_spans.specs.declared.span.Span.{Span}
+use Rattle.object_spans.specs.Rising.{AreSpans}
 use Rattle.edge_io.specs.Text.{text}
 use Rattle.trace_reader.specs.Spelling.{lines_of}
 
@@ -32,11 +33,6 @@ events_of t = flat_map (λ c. c.events) t.cycles
 abbrev pub IsMarked : List Span → ℕ → Type 0
 IsMarked [] i = ⊥
 IsMarked (s ∷ ss) i = ((s.lo ≤ i) × (i ≤ s.hi)) ⊎ IsMarked ss i
-
--- each span begins above the end of the one before
-abbrev pub AreSpans : ℕ → List Span → Type 0
-AreSpans from [] = Unit {0}
-AreSpans from (s ∷ ss) = (from ≤ s.lo) × (s.lo ≤ s.hi) × (s.hi ≤ 999999) × AreSpans (s.hi + 1) ss
 
 -- A mark end stands between two neighbouring cycles. It marks objects of the cycle before it, which begins
 -- at object first, and objects that the mark end before it marked.

@@ -5,7 +5,6 @@ mod draft;
 mod fault;
 mod laws;
 mod limits;
-mod live;
 mod print;
 mod reader;
 mod short;
@@ -19,6 +18,7 @@ pub use laws::{
     a_trace_has_one_spelling, bytes_spell_one_trace, what_is_not_refused_is_spelled,
     what_is_refused_spells_no_trace, what_is_spelled_is_not_refused,
 };
+pub use object_spans::Span;
 pub use print::print_trace;
 pub use reader::{expect_end, read_trace};
-pub use trace::{Cycle, Event, Header, MarkEnd, Span, Trace};
+pub use trace::{Cycle, Event, Header, MarkEnd, Trace};

@@ -14,7 +14,8 @@ ghost use Rattle.trace_reader.specs.Told.{NoReadFault};
 
 use crate::fault::{TraceFault, Which};
 use crate::statement::{AllocForm, HeapForm, Statement, statement_of};
-use crate::trace::{Event, Header, Span};
+use crate::trace::{Event, Header};
+use object_spans::Span;
 
 /// Whether the line is the first one of a trace.
 pub(crate) fn is_title(line: &[u8]) -> bool

@@ -13,8 +13,9 @@ ghost use Rattle.edge_io.specs.Puts.{OutputPuts, OutputPutsFront};
 ghost use Rattle.trace_reader.specs.Spelling.{alloc_of, cycle_statements, heap_of, lines_of, mark_of, mark_statements, spelled};
 
 use crate::spelling::{push_alloc_line, push_gc_line, push_heap_line, push_mark_line};
-use crate::trace::{Cycle, Event, Header, MarkEnd, Span, Trace};
+use crate::trace::{Cycle, Event, Header, MarkEnd, Trace};
 use edge_io::{Failed, Output, Sink};
+use object_spans::Span;
 use text_line::TextLine;
 
 /// Appends the one text of the trace, or after [`Failed`] a front of it. Failed comes only where the sink's count rose.

@@ -3,7 +3,8 @@
 ghost use Rattle.std.specs.Prelude.{◌≡◌, [], ◌∷◌, ◌++◌};
 ghost use Rattle.trace_reader.specs.Spelling.{alloc_line, form_of, gc_line, kind, line_for, heap_of, mark_line};
 
-use crate::trace::{Event, Header, Span};
+use crate::trace::{Event, Header};
+use object_spans::Span;
 use text_line::TextLine;
 
 /// Puts the second line together.

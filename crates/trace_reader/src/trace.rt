@@ -1,4 +1,5 @@
 use edge_io::List;
+use object_spans::Span;
 
 /// What a heap did: allocations, and what was marked at each mark end. It is within the limits of the format.
 #[derive(Debug, Drop)]
@@ -51,11 +52,4 @@ pub struct MarkEnd {
     pub distance: u64,
     /// The marked objects, in rising order.
     pub marks: List<Span>,
-}
-
-/// The objects from `lo` to `hi`, both up to 999999.
-#[derive(Clone, Copy, Debug, PartialEq, Eq)]
-pub struct Span {
-    pub lo: u32,
-    pub hi: u32,
 }

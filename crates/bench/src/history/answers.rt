@@ -4,7 +4,7 @@ ghost use Rattle.std.specs.Prelude.{◌≡◌, ℕ, ◌+◌, ◌*◌, ◌^◌, �
 ghost use Rattle.std.specs.List.{slice_get};
 ghost use Rattle.trace_reader.specs.Limits.{events_of};
 ghost use Rattle.cycle_history.specs.declared.Answer.TheVariants.{Zero};
-ghost use Rattle.cycle_history.specs.Marked.{IsLimited, objects_before};
+ghost use Rattle.cycle_history.specs.Before.{IsLimited, objects_before};
 ghost use Rattle.bench.specs.Filled.{AreFilled};
 
 use cycle_history::Answer;

@@ -2,7 +2,7 @@
 
 ghost use Rattle.std.specs.Prelude.{length, OnOk};
 ghost use Rattle.trace_reader.specs.Limits.{events_of};
-ghost use Rattle.cycle_history.specs.Marked.{IsLimited};
+ghost use Rattle.cycle_history.specs.Before.{IsLimited};
 ghost use Rattle.bench.specs.Filled.{AreFilled};
 
 use crate::history::answers::grow;

@@ -2,7 +2,7 @@ use Rattle.std.proofs.Common.{◌≡◌, ◌≢◌, ℕ, zero, suc, ◌-◌, ◌
 use Rattle.trace_reader.specs.declared.trace.Cycle.{Cycle}
 use Rattle.trace_reader.specs.declared.trace.Trace.{Trace}
 use Rattle.cycle_history.specs.Requests.{spans_of, spans_after, last_cycle}
-use Rattle.cycle_history.specs.Marked.{marks_at}
+use Rattle.cycle_history.specs.Before.{marks_at}
 use Rattle.cycle_history.proofs.lookups.spans_at.Goals as goal
 
 after-at : (c : ℕ) (cycles : List Cycle) (d : Cycle) → c < length cycles → spans_after c cycles ≡ spans_of (get_or cycles c d).mark

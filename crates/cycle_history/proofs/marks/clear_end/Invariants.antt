@@ -1,5 +1,5 @@
 use Rattle.std.proofs.Common.{◌-◌, length}
-use Rattle.cycle_history.specs.Marked.{AreClear}
+use Rattle.cycle_history.specs.Before.{AreClear}
 use Rattle.cycle_history.proofs.marks.clear_end.Given as goal
 
 -- none is set so far

@@ -6,7 +6,8 @@ use Rattle.cycle_history.specs.declared.marks.Objects.{Objects}
 use Rattle.cycle_history.specs.declared.places.Place.{Place}
 use Rattle.cycle_history.specs.Requests.{last_cycle}
 use Rattle.cycle_history.specs.Found.{AreFound}
-use Rattle.cycle_history.specs.Marked.{AreMarksBelow, AreMarksOf, IsLimited, LieApart, objects_before}
+use Rattle.cycle_history.specs.Marked.{AreMarksBelow, AreMarksOf, LieApart}
+use Rattle.cycle_history.specs.Before.{IsLimited, objects_before}
 use Rattle.cycle_history.specs.MarkedLoops.{AreOf}
 use Rattle.cycle_history.proofs.Settled.{below-all, below-unsampled}
 use Rattle.cycle_history.proofs.marks.marks_of.Goals as goal

@@ -8,7 +8,7 @@ use Rattle.trace_reader.specs.Limits.{events_of}
 use Rattle.cycle_history.specs.declared.Answer.{Answer}
 use Rattle.cycle_history.specs.declared.Answer.TheVariants.{Placed}
 use Rattle.cycle_history.specs.declared.places.Place.{Place}
-use Rattle.cycle_history.specs.Marked.{objects_before}
+use Rattle.cycle_history.specs.Before.{objects_before}
 use Rattle.cycle_history.specs.Found.{AreFound, IsFound}
 use Rattle.cycle_history.proofs.Found.{cycle-event, cycle-few, cycle-more, found-more, found-of, has-place, size-fits}
 use Rattle.cycle_history.proofs.places.push_places.Goals as goal

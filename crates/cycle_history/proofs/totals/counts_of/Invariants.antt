@@ -1,6 +1,6 @@
 use Rattle.std.proofs.Common.{◌≡◌}
 use Rattle.cycle_history.specs.Counted.{AreCounts, AreLiving}
-use Rattle.cycle_history.specs.Marked.{objects_before}
+use Rattle.cycle_history.specs.Before.{objects_before}
 use Rattle.cycle_history.proofs.totals.counts_of.Given as goal
 
 -- the cycles so far are counted

@@ -2,7 +2,8 @@ use Rattle.std.proofs.Common.{◌-◌, ◌∙◌, List, ap, sym, subst}
 use Rattle.trace_reader.specs.declared.trace.Trace.{Trace}
 use Rattle.cycle_history.specs.declared.Answer.{Answer}
 use Rattle.cycle_history.specs.Found.{AreFound}
-use Rattle.cycle_history.specs.Marked.{ArePlaces, ArePlacesOf, LieApart, objects_before}
+use Rattle.cycle_history.specs.Marked.{ArePlacesOf, LieApart}
+use Rattle.cycle_history.specs.Before.{ArePlaces, objects_before}
 use Rattle.history_rows.specs.Example.{example}
 use Rattle.history_rows.proofs.Facts.{ready}
 use Rattle.history_rows.proofs.tests.next_marks.Goals as goal

@@ -1,6 +1,6 @@
 use Rattle.std.proofs.Common.{◌≡◌, ℕ, ◌+◌, ◌-◌, true, List, ◌++◌, take, drop, length, sym, ◌∙◌, ap, subst, arith}
 use Rattle.std.proofs.Math.Seq.{take-append_seam}
-use Rattle.cycle_history.specs.Marked.{marks_at}
+use Rattle.cycle_history.specs.Before.{marks_at}
 use Rattle.cycle_history.specs.Requests.{is_within}
 use Rattle.report_check.specs.Lasts.{AreLastsTo, AreSet}
 use Rattle.report_check.proofs.Lasting.{lasts-next, lasts-own, lasts-all, some-cycle}

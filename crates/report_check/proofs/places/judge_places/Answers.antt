@@ -4,10 +4,10 @@ use Rattle.page_bitmap.specs.declared.line.Line.{Line}
 use Rattle.page_alloc.specs.Journal.{past_of, at_end}
 use Rattle.trace_reader.specs.declared.trace.Cycle.{Cycle}
 use Rattle.trace_reader.specs.declared.trace.Trace.{Trace}
-use Rattle.trace_reader.specs.declared.trace.Span.{Span}
+use Rattle.object_spans.specs.declared.span.Span.{Span}
 use Rattle.cycle_history.specs.declared.Report.{Report}
 use Rattle.cycle_history.specs.Requests.{region_of}
-use Rattle.cycle_history.specs.Marked.{IsLimited, marks_at, objects_before}
+use Rattle.cycle_history.specs.Before.{IsLimited, marks_at, objects_before}
 use Rattle.cycle_history.specs.Sound.{HasAnswers, past_in}
 use Rattle.cycle_history.proofs.Firsts.{before-more, before-le}
 use Rattle.report_check.specs.declared.items.Item.{Item}

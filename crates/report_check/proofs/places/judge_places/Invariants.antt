@@ -1,6 +1,6 @@
 use Rattle.std.proofs.Common.{◌≡◌, ◌≤◌, take, length}
 use Rattle.page_alloc.specs.Journal.{IsBy, past_of}
-use Rattle.cycle_history.specs.Marked.{objects_before}
+use Rattle.cycle_history.specs.Before.{objects_before}
 use Rattle.cycle_history.specs.Requests.{region_of}
 use Rattle.report_check.specs.Lives.{AreLives}
 use Rattle.report_check.proofs.Settled.{AreSettled}

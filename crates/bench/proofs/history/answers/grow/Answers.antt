@@ -3,7 +3,7 @@ use Rattle.std.specs.List.{slice_get}
 use Rattle.trace_reader.specs.declared.trace.Cycle.{Cycle}
 use Rattle.trace_reader.specs.declared.trace.Event.{Event}
 use Rattle.trace_reader.specs.Limits.{events_of}
-use Rattle.cycle_history.specs.Marked.{objects_before}
+use Rattle.cycle_history.specs.Before.{objects_before}
 use Rattle.cycle_history.proofs.Firsts.{event-at}
 use Rattle.bench.specs.Filled.{AreFilled}
 use Rattle.bench.proofs.history.answers.grow.Goals as goal

@@ -1,5 +1,5 @@
 use Rattle.std.proofs.Common.{◌+◌}
-use Rattle.cycle_history.specs.Marked.{objects_before}
+use Rattle.cycle_history.specs.Before.{objects_before}
 use Rattle.bench.specs.Filled.{AreFilled}
 use Rattle.bench.proofs.history.answers.grow.Given as goal
 

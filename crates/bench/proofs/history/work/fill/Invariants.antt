@@ -1,4 +1,4 @@
-use Rattle.cycle_history.specs.Marked.{objects_before}
+use Rattle.cycle_history.specs.Before.{objects_before}
 use Rattle.bench.specs.Filled.{AreFilled}
 use Rattle.bench.proofs.history.work.fill.Given as goal
 

@@ -1,5 +1,6 @@
 use Rattle.std.proofs.Common.{◌≡◌, ◌-◌, length}
-use Rattle.cycle_history.specs.Marked.{AreMarksBelow, marks_at, objects_before}
+use Rattle.cycle_history.specs.Marked.{AreMarksBelow}
+use Rattle.cycle_history.specs.Before.{marks_at, objects_before}
 use Rattle.cycle_history.specs.MarkedLoops.{AreWalked, IsBehind}
 use Rattle.cycle_history.proofs.marks.Objects.bury_all.Given as goal
 

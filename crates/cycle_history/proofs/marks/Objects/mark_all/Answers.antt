@@ -1,9 +1,9 @@
 use Rattle.std.proofs.Common.{◌≡◌, ℕ, ◌-◌, List, ◌∙◌, arith}
-use Rattle.trace_reader.specs.declared.trace.Span.{Span}
+use Rattle.object_spans.specs.declared.span.Span.{Span}
 use Rattle.span_state.specs.MarkSet.{MarkSet}
 use Rattle.cycle_history.specs.declared.lookups.Walk.{Walk}
 use Rattle.cycle_history.specs.declared.marks.Objects.{Objects}
-use Rattle.cycle_history.specs.Marked.{marks_at, objects_before}
+use Rattle.cycle_history.specs.Before.{marks_at, objects_before}
 use Rattle.cycle_history.specs.MarkedLoops.{AreKept, IsBehind}
 use Rattle.cycle_history.proofs.Firsts.{before-rise}
 use Rattle.cycle_history.proofs.Kept.{kept-all, kept-past}

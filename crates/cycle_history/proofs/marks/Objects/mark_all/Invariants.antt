@@ -1,5 +1,5 @@
 use Rattle.std.proofs.Common.{◌≡◌, ◌-◌}
-use Rattle.cycle_history.specs.Marked.{marks_at, objects_before}
+use Rattle.cycle_history.specs.Before.{marks_at, objects_before}
 use Rattle.cycle_history.specs.MarkedLoops.{AreKept, AreWalked, IsBehind}
 use Rattle.cycle_history.proofs.marks.Objects.mark_all.Given as goal
 

@@ -13,7 +13,7 @@ use Rattle.cycle_history.specs.declared.totals.Counts.{Counts}
 use Rattle.cycle_history.specs.Needs.{IsNeed}
 use Rattle.cycle_history.specs.Objects.{is_placed}
 use Rattle.cycle_history.specs.Requests.{Request, requests_from}
-use Rattle.cycle_history.specs.Marked.{objects_before}
+use Rattle.cycle_history.specs.Before.{objects_before}
 use Rattle.cycle_history.specs.Counted.{AreAsked, AreCounts, AreZeros}
 use Rattle.cycle_history.proofs.OfObjects.{requests-events}
 use Rattle.cycle_history.proofs.Counted.{counts-other, counts-placed, get-some}

@@ -1,7 +1,8 @@
 use Rattle.std.proofs.Common.{◌≡◌, ℕ, suc, ◌+◌, ◌-◌, ◌<◌, ◌≤◌, List, length, reverse, refl, ◌∙◌, ap, arith}
 use Rattle.std.proofs.lemmas.List.{length-map}
 use Rattle.cycle_history.proofs.OfObjects.{answers-before}
-use Rattle.cycle_history.specs.Marked.{AreMarksOf, objects_before}
+use Rattle.cycle_history.specs.Marked.{AreMarksOf}
+use Rattle.cycle_history.specs.Before.{objects_before}
 use Rattle.cycle_history.specs.Requests.{region_of}
 use Rattle.sound_run.proofs.OfObjects.{run-places}
 use Rattle.run_laws.proofs.MarksOf.{live-apart}

@@ -1,6 +1,6 @@
 use Rattle.std.proofs.Common.{◌≡◌, ℕ, ◌+◌, List, length, replicate, refl, sym, ◌∙◌, ap, subst, arith}
 use Rattle.std.proofs.lemmas.List.{length-replicate}
-use Rattle.cycle_history.specs.Marked.{objects_before}
+use Rattle.cycle_history.specs.Before.{objects_before}
 use Rattle.trace_reader.specs.declared.trace.Cycle.{Cycle}
 use Rattle.report_check.specs.declared.ledger.Alive.{Alive}
 use Rattle.report_check.specs.Ledgers.{AddsItems, AreUsed}

@@ -1,7 +1,7 @@
 use Rattle.std.proofs.Common.{◌≡◌, ℕ, ◌+◌, ◌-◌, ◌<◌, List, length, Some, ap, subst, arith}
 use Rattle.std.specs.List.{slice_get}
 use Rattle.span_state.specs.declared.sweep.SweepNote.{SweepNote}
-use Rattle.cycle_history.specs.Marked.{objects_before}
+use Rattle.cycle_history.specs.Before.{objects_before}
 use Rattle.report_check.specs.Ledgers.{IsLedger}
 use Rattle.report_check.specs.Sweeping.{IsDisorder}
 use Rattle.report_check.specs.SaidSweeps.{AreSaidRight, IsNoteOf, SaysRight}

@@ -1,7 +1,7 @@
 use Rattle.std.proofs.Common.{◌≡◌, ℕ, ◌-◌, ◌<◌, ◌≤◌, Some}
 use Rattle.std.specs.List.{slice_get}
 use Rattle.span_state.specs.declared.sweep.SweepNote.{SweepNote}
-use Rattle.cycle_history.specs.Marked.{objects_before}
+use Rattle.cycle_history.specs.Before.{objects_before}
 use Rattle.cycle_history.specs.Requests.{last_cycle, marked_by}
 use Rattle.report_rules.specs.Closing.{IsRightSweep}
 use Rattle.report_check.specs.Items.{objects_of}

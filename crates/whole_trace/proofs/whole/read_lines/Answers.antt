@@ -4,11 +4,11 @@ use Rattle.std.proofs.lemmas.Result.{err_from_is_err_and}
 use Rattle.edge_io.specs.Text.{text}
 use Rattle.trace_reader.specs.declared.trace.Trace.{Trace}
 use Rattle.trace_reader.specs.Spelling.{lines_of}
-use Rattle.alloc_tool.proofs.Behind.{refused_behind}
-use Rattle.alloc_tool.proofs.Broken.{broken_behind, broken_in_trace}
-use Rattle.alloc_tool.proofs.Complete.{nothing_left}
-use Rattle.alloc_tool.proofs.Ended.{source_ended, Consumes-none}
-use Rattle.alloc_tool.proofs.top.read_lines.Goals as goal
+use Rattle.whole_trace.proofs.Behind.{refused_behind}
+use Rattle.whole_trace.proofs.Broken.{broken_behind, broken_in_trace}
+use Rattle.whole_trace.proofs.Left.{nothing_left}
+use Rattle.whole_trace.proofs.Ended.{source_ended, Consumes-none}
+use Rattle.whole_trace.proofs.whole.read_lines.Goals as goal
 
 pub returns-clause-trace : goal.returns-clause-trace
 returns-clause-trace g c =
@@ -21,14 +21,14 @@ returns-clause-trace g c =
 pub returns-in_err-trace-clause-refused : goal.returns-in_err-trace-clause-refused
 returns-in_err-trace-clause-refused g c =
     let p = err_from_is_err_and c.from_residual.result c.from_residual.ensures.1 in
-    rw (p.1, p.2) (λ of bytes e. inl (λ behind. rw (c.requires.number, c.requires.room) at (c.in_err-trace.ensures.refused.first of c.requires.fresh behind bytes e)))
+    λ left same. rw (p.1, p.2) (λ of bytes e. inl (λ behind. rw (c.requires.number, c.requires.room) at (c.in_err-trace.ensures.refused.first of c.requires.fresh behind bytes (same ∙ e))))
 
 pub returns-in_err-expect_end-clause-refused : goal.returns-in_err-expect_end-clause-refused
 returns-in_err-expect_end-clause-refused g c =
     let p = err_from_is_err_and c.from_residual-in_err-expect_end.result c.from_residual-in_err-expect_end.ensures.1 in
     let read = c.in_ok-trace.ensures.spelled in
     let number = rw c.requires.number at c.in_ok-trace.ensures.lines.number in
-    rw (p.1, p.2) (λ of. refused_behind _ _ read.0 c.in_ok-trace.trace _ _ read.1 (rw c.requires.room at read.2) number (c.in_err-expect_end.ensures.refused of))
+    λ left same. rw (p.1, p.2) (λ of. refused_behind left _ read.0 c.in_ok-trace.trace _ _ (rw same at read.1) (rw c.requires.room at read.2) number (c.in_err-expect_end.ensures.refused of))
 
 pub returns-in_err-trace-clause-complete : goal.returns-in_err-trace-clause-complete
 returns-in_err-trace-clause-complete g c = λ bytes t told spells.

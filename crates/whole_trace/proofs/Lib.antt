@@ -1,0 +1,4 @@
+pub mod Behind
+pub mod Broken
+pub mod Ended
+pub mod Left

@@ -1,0 +1,3 @@
+pub mod WholeInput
+pub mod Refused
+pub mod BrokenOff
