@@ -95,7 +95,7 @@ def main():
         print(line.format(crate, *(f"{row[kind]:.2f}" for kind in kinds), f"{sum(row.values()):.2f}"))
     sums = [sum(row[kind] for row in table.values()) for kind in kinds]
     print(line.format("the whole", *(f"{one:.1f}" for one in sums), f"{sum(sums):.1f}"))
-    print(f"wall time: {(time.monotonic() - began) / 60:.1f} minutes on {os.cpu_count()} processors; rt ci ended with {run.returncode}")
+    print(f"wall time: {(time.monotonic() - began) / 60:.1f} minutes on {len(os.sched_getaffinity(0))} processors; rt ci ended with {run.returncode}")
     return run.returncode
 
 
