@@ -85,11 +85,7 @@ const MERGES: &[(u32, &[Triple], Triple)] = &[
     (9, &[(1, 100, 1), (1, 99, 1)], (1, 100, 1)),
     // runs that end at the entry's last page do not go on where the next entry begins taken
     (9, &[(0, 7, 7), (0, 3, 0), (6, 6, 0)], (0, 7, 0)),
-    (
-        0,
-        &[(1, 1, 1), (0, 0, 0), (1, 1, 1), (1, 1, 1)],
-        (1, 2, 2),
-    ),
+    (0, &[(1, 1, 1), (0, 0, 0), (1, 1, 1), (1, 1, 1)], (1, 2, 2)),
     (12, &[NONE, NONE, NONE, NONE, NONE, NONE, NONE, NONE], NONE),
     // all pages that a sum can say, and one entry of them less than whole
     (20, &[HALF, HALF], (1 << 21, 1 << 21, 1 << 21)),
