@@ -15,9 +15,10 @@ use Rattle.check_input.specs.Judged.{IsSound, Stops}
 use Rattle.check_input.specs.Pair.{BreaksOff, IsReadFault, Refuses}
 use Rattle.trace_reader.specs.Told.{IsOfTrace}
 use Rattle.report_text.specs.Read.{IsOfReport}
-use Rattle.alloc_tool.specs.Checked.{BreaksAt, Checked, check_text, stop_status, stop_text}
-use Rattle.alloc_tool.specs.Texts.{report_fault_text, rule_text, status_text}
-use Rattle.alloc_tool.specs.Told.{Tells}
+use Rattle.alloc_tool.specs.Checked.{BreaksAt, Checked, check_text}
+use Rattle.stop_lines.specs.Stopped.{stop_status, stop_text}
+use Rattle.stop_lines.specs.Texts.{report_fault_text, rule_text, status_text}
+use Rattle.stop_lines.specs.Told.{Tells}
 
 clash : (s k n : ℕ) → (k ≡ n → ⊥) → s ≡ k → s ≡ n → ⊥
 clash s k n apart e f = apart (sym e ∙ f)

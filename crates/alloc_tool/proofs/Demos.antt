@@ -7,8 +7,8 @@ use Rattle.trace_reader.specs.declared.trace.Trace.{Trace}
 use Rattle.cycle_history.specs.declared.Report.{Report}
 use Rattle.demo_lines.specs.Summary.{summary_text}
 use Rattle.alloc_tool.specs.Demo.{Demos}
-use Rattle.alloc_tool.specs.Texts.{status_text, write_fault}
-use Rattle.alloc_tool.specs.Told.{Tells}
+use Rattle.stop_lines.specs.Texts.{status_text, write_fault}
+use Rattle.stop_lines.specs.Told.{Tells}
 use Rattle.alloc_tool.specs.Top.{IsAnswer}
 
 clash : (s k l : ℕ) → (k ≡ l → ⊥) → s ≡ k → s ≡ l → ⊥

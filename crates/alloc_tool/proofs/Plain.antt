@@ -7,8 +7,8 @@ use Rattle.class_lines.specs.Text.{classes_text}
 use Rattle.made_lines.specs.Asks.{made_text}
 use Rattle.alloc_tool.specs.Checked.{Checked}
 use Rattle.alloc_tool.specs.Plain.{Plain, Writes}
-use Rattle.alloc_tool.specs.Texts.{status_text, usage, write_fault}
-use Rattle.alloc_tool.specs.Told.{Tells}
+use Rattle.stop_lines.specs.Texts.{status_text, usage, write_fault}
+use Rattle.stop_lines.specs.Told.{Tells}
 use Rattle.alloc_tool.specs.Words.{IsCheck, IsClasses, IsGen}
 use Rattle.alloc_tool.proofs.Asked.{one_seeded}
 

@@ -1,5 +1,5 @@
 -- How a call of `check` ends, by its status.
-use Rattle.std.specs.Prelude.{◌≡◌, ◌≢◌, ℕ, List, [], ◌∷◌, ◌++◌, Option, ◌⊎◌}
+use Rattle.std.specs.Prelude.{◌≡◌, ◌≢◌, ℕ, List, [], ◌∷◌, ◌++◌, codes, Option, ◌⊎◌}
 use Rattle.std.specs.Io.KnownBytes.{Appends}
 use Rattle.edge_io.specs.Causes.{Rose}
 use Rattle.edge_io.specs.Front.{AppendsFront}
@@ -10,31 +10,15 @@ use Rattle.cycle_history.specs.declared.Report.{Report}
 use Rattle.report_text.specs.declared.fault.ReportFault.{ReportFault}
 use Rattle.report_text.specs.Read.{IsOfReport}
 use Rattle.report_check.specs.Fault.{BreaksRules, MeetsChecked}
-use Rattle.check_input.specs.declared.stop.Stop.{Stop}
-use Rattle.check_input.specs.declared.stop.Stop.TheVariants.{Trace as OfTrace, Report as OfReport, Verdict as OfVerdict}
-use Rattle.check_input.specs.declared.stop.Verdict.TheVariants.{Broken, NoMemory}
+use Rattle.check_input.specs.declared.stop.Stop.TheVariants.{Trace as OfTrace, Report as OfReport}
 use Rattle.check_input.specs.Judged.{IsSound}
 use Rattle.check_input.specs.Pair.{ArePair, BreaksOff, ReadsPair, Refuses}
-use Rattle.alloc_tool.specs.Texts.{check_ok, fault_status, fault_text, report_fault_text, report_status, rule_text, status_text}
-use Rattle.alloc_tool.specs.Told.{Tells}
+use Rattle.stop_lines.specs.Texts.{fault_text, report_fault_text, rule_text, status_text}
+use Rattle.stop_lines.specs.Told.{Tells}
 
 -- the line and its line feed that `check` writes where the report is sound
 abbrev pub check_text : List ℕ
-check_text = check_ok ++ 10 ∷ []
-
--- the status of a call that stops so
-abbrev pub stop_status : Stop → ℕ
-stop_status (OfTrace fault) = fault_status fault
-stop_status (OfReport fault) = report_status fault
-stop_status (OfVerdict (Broken rule line)) = 4
-stop_status (OfVerdict NoMemory) = 7
-
--- the line that tells so
-abbrev pub stop_text : Stop → List ℕ
-stop_text (OfTrace fault) = fault_text fault
-stop_text (OfReport fault) = report_fault_text fault
-stop_text (OfVerdict (Broken rule line)) = rule_text rule line
-stop_text (OfVerdict NoMemory) = status_text 7
+check_text = codes "check ok" ++ 10 ∷ []
 
 -- A trace was read, and behind it the text of a report to the end of the input, and the report breaks this rule first, at
 -- this line.

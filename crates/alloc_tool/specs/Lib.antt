@@ -1,5 +1,3 @@
-pub mod Texts
-pub mod Told
 pub mod Top
 pub mod Outcome
 pub mod Words

@@ -7,8 +7,8 @@ use Rattle.edge_io.specs.Front.{AppendsFront}
 use Rattle.class_lines.specs.Text.{classes_text}
 use Rattle.made_lines.specs.Asks.{made_text}
 use Rattle.alloc_tool.specs.Checked.{Checked}
-use Rattle.alloc_tool.specs.Texts.{status_text, usage}
-use Rattle.alloc_tool.specs.Told.{Tells}
+use Rattle.stop_lines.specs.Texts.{status_text, usage}
+use Rattle.stop_lines.specs.Told.{Tells}
 use Rattle.alloc_tool.specs.Words.{IsCheck, IsClasses, IsGen}
 
 -- In all of these `left`, `held` and `shown` give the bytes of the three streams where they tell them, and `reads`, `writes` and

@@ -5,10 +5,10 @@ ghost use Rattle.made_lines.specs.Asks.{made_text};
 ghost use Rattle.alloc_tool.specs.Plain.{Writes};
 ghost use Rattle.alloc_tool.specs.Words.{IsSeeded};
 
-use crate::tell::{refuse_trace, stop_writing};
 use edge_io::Sink;
 use made_lines::{MadeFault, Wanted, read_words, write_made};
 use std::alloc::Global;
+use stop_lines::{refuse_trace, stop_writing};
 use trace_reader::TraceFault;
 
 /// The made trace that the words ask for, if they are this word, `SEED` and `OBJECTS`.

@@ -6,15 +6,15 @@ ghost use Rattle.edge_io.specs.Causes.{Rose};
 ghost use Rattle.edge_io.specs.Front.{AppendsFront};
 ghost use Rattle.report_check.specs.Fault.{BreaksRules, MeetsChecked};
 ghost use Rattle.alloc_tool.specs.Checked.{Checked, check_text};
-ghost use Rattle.alloc_tool.specs.Texts.{status_text};
-ghost use Rattle.alloc_tool.specs.Told.{Tells};
+ghost use Rattle.stop_lines.specs.Texts.{status_text};
+ghost use Rattle.stop_lines.specs.Told.{Tells};
 
-use crate::tell::{refuse_pair, stop_writing};
 use check_input::{Judge, Verdict, check_input};
 use cycle_history::Report;
 use edge_io::{Sink, Source, write_all};
 use report_check::CheckFault;
 use std::alloc::Global;
+use stop_lines::{refuse_pair, stop_writing};
 use trace_reader::Trace;
 
 /// The rules of a sound report.

@@ -8,8 +8,7 @@
 mod demo;
 mod generate;
 mod judging;
-mod tell;
 mod top;
 
-pub use tell::{refuse_trace, refuse_words};
+pub use stop_lines::{refuse_trace, refuse_words};
 pub use top::{goheap, goheap_plain};

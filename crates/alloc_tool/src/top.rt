@@ -15,7 +15,6 @@ ghost use Rattle.alloc_tool.specs.Words.{IsCheck, IsDemo, IsRun, IsRunWith, IsWo
 use crate::demo::show_run;
 use crate::generate::{generate, wanted_by};
 use crate::judging::judge_report;
-use crate::tell::{refuse_trace, refuse_words, stop_writing};
 use class_lines::write_classes;
 use edge_io::{Gate, NoMemory, Sink, Source};
 use heap_run::{Options, run_trace};
@@ -24,6 +23,7 @@ use run_words::{are_of_run, read_options};
 use std::alloc::Global;
 use std::sync::Wait;
 use std::thread::Threads;
+use stop_lines::{refuse_trace, refuse_words, stop_writing};
 use trace_reader::TraceFault;
 use whole_trace::read_whole;
 

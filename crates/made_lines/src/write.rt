@@ -11,7 +11,7 @@ use crate::wanted::Wanted;
 use edge_io::Sink;
 use std::alloc::Global;
 use trace_gen::{a_made_trace_is_within_limits, make_trace};
-use trace_reader::print_trace;
+use trace_writer::print_trace;
 
 /// Why the text was not written whole.
 #[derive(Clone, Copy, Debug, PartialEq, Eq)]

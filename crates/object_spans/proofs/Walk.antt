@@ -1,22 +1,10 @@
 -- The walk along kept spans.
 use Rattle.std.proofs.Common.{◌≡◌, ℕ, zero, suc, ◌+◌, ◌<◌, ◌≤◌, Bool, true, false, ◌&&◌, ◌||◌, List, [], ◌∷◌, length, drop, Some, None, nat_lt, nat_le, slice_index_or, refl, sym, ap, ◌∙◌, subst, inl, inr, arith}
 use Rattle.std.proofs.lemmas.Bool.{cases_lt}
-use Rattle.std.proofs.lemmas.Bool.Decides.{nat_tests}
 use Rattle.object_spans.specs.declared.span.Span.{Span}
 use Rattle.object_spans.specs.Rising.{AreSpans}
 use Rattle.object_spans.specs.Kept.{AllLive, Asked, Passes, Skips, in_spans, lives}
-
-below_true : (a b : ℕ) → a < b → nat_lt a b ≡ true
-below_true a b less = grind (arith, nat_tests)
-
-below_false : (a b : ℕ) → b ≤ a → nat_lt a b ≡ false
-below_false a b less = grind (arith, nat_tests)
-
-at_most : (a b : ℕ) → a ≤ b → nat_le a b ≡ true
-at_most a b le = grind (arith, nat_tests)
-
-above : (a b : ℕ) → b < a → nat_le a b ≡ false
-above a b less = grind (arith, nat_tests)
+use Rattle.object_spans.proofs.Compare.{above, at_most, below_false, below_true}
 
 abbrev pub span_at : List Span → ℕ → Span
 span_at kept at = slice_index_or kept at (record { lo = 0; hi = 0 })

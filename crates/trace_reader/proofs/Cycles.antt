@@ -11,14 +11,15 @@ use Rattle.trace_reader.specs.declared.trace.MarkEnd.{MarkEnd}
 use Rattle.object_spans.specs.declared.span.Span.{Span}
 use Rattle.trace_reader.specs.Spelling.{alloc_of, cycle_statements, form_of, mark_of, mark_statements}
 use Rattle.object_spans.specs.Rising.{AreSpans}
+use Rattle.object_spans.proofs.Compare.{at_most, below_true}
 use Rattle.trace_reader.specs.Limits.{AreCycles, EventFits, IsMarked, marked_by}
 use Rattle.trace_reader.specs.Past.{before_mark_end, is_live, is_marked, mark_ends_of, marks_of, objects_of, procs_of}
 use Rattle.trace_reader.specs.Checks.{may_begin, may_follow}
 use Rattle.trace_reader.specs.Good.{AreGood, IsGood}
 use Rattle.trace_reader.specs.Follows.{IsBody}
 use Rattle.trace_reader.proofs.Saying.{Short, both, said_line}
-use Rattle.trace_reader.proofs.Judging.{below_true, onto}
-use Rattle.trace_reader.proofs.Good.{alloc_is_line, at_most, fault_none, gc_is_line, mark_is_line, pass, short_event, within_true}
+use Rattle.trace_reader.proofs.Judging.{onto}
+use Rattle.trace_reader.proofs.Good.{alloc_is_line, fault_none, gc_is_line, mark_is_line, pass, short_event, within_true}
 
 pub body_more : (past : List Statement) (s : Statement) → IsBody past → IsBody (s ∷ past)
 body_more [] s body = absurd body

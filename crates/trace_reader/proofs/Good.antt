@@ -2,9 +2,9 @@
 use Rattle.std.proofs.Common.{◌≡◌, ◌≢◌, ◌==◌, ℕ, ◌+◌, ◌^◌, ◌<◌, ◌≤◌, Bool, true, false, not, List, [], ◌∷◌, ◌++◌, length, map, codes, decimal, Option, None, nat_le, refl, ap, subst, arith, length-append}
 use Rattle.std.specs.List.{AllByRecursion, list_all}
 use Rattle.std.specs.Option.{option_map}
-use Rattle.std.proofs.lemmas.Bool.Decides.{nat_tests}
 use Rattle.std.proofs.lemmas.Fmt.{length-decimal-le_wide}
 use Rattle.edge_io.specs.Line.{IsLine}
+use Rattle.object_spans.proofs.Compare.{at_most, below_true}
 use Rattle.trace_reader.specs.declared.fault.Which.{Which}
 use Rattle.trace_reader.specs.declared.fault.TraceFault.{TraceFault}
 use Rattle.trace_reader.specs.declared.fault.TraceFault.TheVariants.{Malformed, Limit, BadMark}
@@ -21,7 +21,6 @@ use Rattle.trace_reader.specs.Refusal.{fault_if, first_of, statement_fault}
 use Rattle.trace_reader.specs.Good.{AreGood}
 use Rattle.trace_reader.proofs.Digits.{digits_decimal}
 use Rattle.trace_reader.proofs.Saying.{AllByRecursion-map, Short, both, of_both, said_line}
-use Rattle.trace_reader.proofs.Judging.{below_true}
 use Rattle.trace_reader.proofs.Reading.{All-append}
 
 -- Lengths, and no line feed
@@ -111,12 +110,7 @@ pub pass : (which : Which) (test : Bool) (rest : List (Which × Bool)) → test 
 pass which test rest e f = rw e f
 
 pub within_true : (least most n : ℕ) → least ≤ n → n ≤ most → within least most n ≡ true
-within_true least most n low high = both (nat_le least n) (nat_le n most) (at_most least n low) (at_most n most high) where
-  at_most : (a b : ℕ) → a ≤ b → nat_le a b ≡ true
-  at_most a b le = grind (arith, nat_tests)
-
-pub at_most : (a b : ℕ) → a ≤ b → nat_le a b ≡ true
-at_most a b le = grind (arith, nat_tests)
+within_true least most n low high = both (nat_le least n) (nat_le n most) (at_most least n low) (at_most n most high)
 
 -- The first two lines
 

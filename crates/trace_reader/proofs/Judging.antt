@@ -3,6 +3,7 @@ use Rattle.std.proofs.Common.{◌≡◌, ◌≢◌, ◌==◌, ℕ, ◌+◌, ◌-
 use Rattle.std.specs.List.{AllByRecursion, onto_first}
 use Rattle.std.proofs.lemmas.Bool.Decides.{nat_tests}
 use Rattle.edge_io.specs.Line.{IsLine}
+use Rattle.object_spans.proofs.Compare.{below_false, below_true}
 use Rattle.trace_reader.specs.declared.fault.TraceFault.{TraceFault}
 use Rattle.trace_reader.specs.declared.fault.TraceFault.TheVariants.{Malformed, Truncated, Limit}
 use Rattle.trace_reader.specs.declared.fault.Which.TheVariants.{Bytes}
@@ -14,12 +15,6 @@ use Rattle.trace_reader.specs.Good.{AreGood}
 use Rattle.trace_reader.proofs.Saying.{split_at, split_last}
 
 -- Pieces
-
-pub below_true : (a b : ℕ) → a < b → nat_lt a b ≡ true
-below_true a b less = grind (arith, nat_tests)
-
-pub below_false : (a b : ℕ) → b ≤ a → nat_lt a b ≡ false
-below_false a b less = grind (arith, nat_tests)
 
 onto_some : (x : ℕ) (pieces : List (List ℕ)) → (p : List ℕ) × (ps : List (List ℕ)) × (onto_first x pieces ≡ p ∷ ps) × (1 ≤ length p)
 onto_some x [] = (x ∷ [], [], refl, omega arith)

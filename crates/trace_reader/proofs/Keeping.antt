@@ -24,18 +24,15 @@ use Rattle.trace_reader.specs.Past.{before_mark_end, is_live, mark_ends_of, mark
 use Rattle.trace_reader.specs.Checks.{bad_mark, counts_within, event_numbers, may_begin, may_follow, numbers_within, passed}
 use Rattle.trace_reader.specs.Refusal.{fault_if, first_of, statement_fault}
 use Rattle.object_spans.specs.Kept.{Asked, Passes, in_spans, lives}
+use Rattle.object_spans.proofs.Compare.{above, at_most, below_false, below_true}
 use Rattle.trace_reader.specs.Draft.{AreEnded, HasEnd, ended, ended_at, ending, kept_of, marks_in, told_of}
 use Rattle.trace_reader.specs.Follows.{Counts, Follows, FollowsAt, IsBody, IsMarking, IsResting, IsStart, Took, begins, behind_spans, ends_in}
 use Rattle.trace_reader.proofs.Saying.{both}
-use Rattle.trace_reader.proofs.Judging.{below_false, below_true}
 use Rattle.trace_reader.proofs.Reading.{All-append}
-use Rattle.trace_reader.proofs.Good.{at_most, fault_none, pass, within_true}
+use Rattle.trace_reader.proofs.Good.{fault_none, pass, within_true}
 use Rattle.trace_reader.proofs.Cycles.{body_more, find_none, follows_any, follows_gc}
 
 -- Tests
-
-above : (a b : ℕ) → b < a → nat_le a b ≡ false
-above a b less = grind (arith, nat_tests)
 
 same : (a b : ℕ) → a ≡ b → (a == b) ≡ true
 same a b e = grind (arith, nat_tests)

@@ -13,4 +13,3 @@ pub mod Fits
 pub mod Spelled
 pub mod One
 pub mod Complete
-pub mod Put

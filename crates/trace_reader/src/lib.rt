@@ -5,10 +5,8 @@ mod draft;
 mod fault;
 mod laws;
 mod limits;
-mod print;
 mod reader;
 mod short;
-mod spelling;
 mod statement;
 mod trace;
 pub mod words;
@@ -19,6 +17,5 @@ pub use laws::{
     what_is_refused_spells_no_trace, what_is_spelled_is_not_refused,
 };
 pub use object_spans::Span;
-pub use print::print_trace;
 pub use reader::{expect_end, read_trace};
 pub use trace::{Cycle, Event, Header, MarkEnd, Trace};

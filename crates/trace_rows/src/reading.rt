@@ -5,7 +5,8 @@ use edge_io::{Lines, List, MemorySink, MemorySource};
 use std::alloc::Global;
 use std::process::Abort;
 use std::test::Fail;
-use trace_reader::{TraceFault, Which, expect_end, print_trace, read_trace};
+use trace_reader::{TraceFault, Which, expect_end, read_trace};
+use trace_writer::print_trace;
 
 const HEAD: &str = "goheap 1\nheap 1 procs 1 rate 0 seed 1 goal 512\n";
 

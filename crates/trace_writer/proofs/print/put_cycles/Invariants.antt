@@ -1,0 +1,13 @@
+use Rattle.std.proofs.Common.{◌≡◌, ◌≤◌, take}
+use Rattle.std.specs.List.{flat_map}
+use Rattle.edge_io.specs.Output.{sink_of}
+use Rattle.edge_io.specs.Puts.{OutputPuts}
+use Rattle.trace_reader.specs.Spelling.{cycle_statements, spelled}
+use Rattle.trace_writer.proofs.print.put_cycles.Given as goal
+
+abbrev pub invariant-loop-cycle : goal.invariant-loop-cycle
+invariant-loop-cycle g l = record {
+  same_sink : l.out.sink.ghost_name ≡ l.initial.out.sink.ghost_name;
+  written : OutputPuts g.K.Sink.held l.initial.out l.out (spelled (flat_map cycle_statements (take l.cycle-index l.cycles)));
+  faults : g.K.Sink.faults (sink_of l.initial.out) ≤ g.K.Sink.faults (sink_of l.out);
+}
