@@ -1,16 +1,15 @@
 //! Printing a trace.
 
-ghost use Rattle.std.specs.Prelude.{[], ◌≡◌, ◌∷◌, map, Some, OnErr, OnOk};
+ghost use Rattle.std.specs.Prelude.{[], ◌≡◌, ◌∷◌, codes, map, Some, OnErr, OnOk};
 ghost use Rattle.std.specs.Io.KnownBytes.{Appends};
 ghost use Rattle.std.specs.List.{flat_map};
 ghost use Rattle.edge_io.specs.Causes.{HasCause};
 ghost use Rattle.edge_io.specs.Front.{AppendsFront};
 ghost use Rattle.edge_io.specs.Output.{IsSameSink, sink_of, waiting_of};
 ghost use Rattle.edge_io.specs.Text.{text};
-ghost use Rattle.trace_reader.specs.declared.statement.Statement.TheVariants.{Title};
 ghost use Rattle.trace_reader.specs.Limits.{WithinLimits};
 ghost use Rattle.edge_io.specs.Puts.{OutputPuts, OutputPutsFront};
-ghost use Rattle.trace_reader.specs.Spelling.{alloc_of, cycle_statements, heap_of, lines_of, mark_of, mark_statements, spelled};
+ghost use Rattle.trace_reader.specs.Spelling.{alloc_of, cycle_statements, heap_of, line_for, lines_of, mark_of, mark_statements, spelled};
 
 use crate::spelling::{push_alloc_line, push_gc_line, push_heap_line, push_mark_line};
 use edge_io::{Failed, Output, Sink};
@@ -47,8 +46,8 @@ fn print_lines<K: Sink>(out: &mut Output<'_, K>, trace: &Trace) -> Result<(), Fa
 // Puts the first two lines behind what waits.
 fn put_head<K: Sink>(out: &mut Output<'_, K>, header: Header) -> Result<(), Failed>
     ensures same_sink { IsSameSink out.old out.new }
-    ensures ok { OnOk result (OutputPuts K.held out.old out.new (spelled (Title ∷ heap_of header ∷ []))) }
-    ensures err { OnErr result (OutputPutsFront K.held out.old out.new (spelled (Title ∷ heap_of header ∷ []))) }
+    ensures ok { OnOk result (OutputPuts K.held out.old out.new (text (codes "goheap 1" ∷ line_for (heap_of header) ∷ []))) }
+    ensures err { OnErr result (OutputPutsFront K.held out.old out.new (text (codes "goheap 1" ∷ line_for (heap_of header) ∷ []))) }
     ensures cause { HasCause (K.faults (sink_of out.old)) (K.faults (sink_of out.new)) result }
 {
     out.put(b"goheap 1\n")?;
