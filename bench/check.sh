@@ -30,7 +30,7 @@ make_trace() {
 make_trace 128 1000000 100 0 >"$folder/large"
 make_trace 128 1000000 100 1 >"$folder/sampled"
 make_trace 1 100000 10000 0 >"$folder/cycles"
-./goheap run <"$folder/large" >"$folder/large.report" # built, if need be, before anything is timed
+./goheap run <"$folder/large" >"$folder/large.report"
 
 run_run() { ./goheap run <"$folder/$1" >/dev/null; }
 run_check() { ./goheap check <"$folder/$1.pair" >/dev/null; }

@@ -8,7 +8,8 @@ cd "$(dirname "$(readlink -f "$0")")/.."
 objects=${OBJECTS:-1000000}
 text=$(mktemp)
 trap 'rm -f "$text" "$text.peak"' EXIT
-./goheap gen 1 "$objects" >"$text" # built, if need be, before anything is timed
+./goheap --build
+./goheap gen 1 "$objects" >"$text"
 
 gen() { ./goheap gen 1 "$objects"; }
 by_cat() { cat "$text"; }

@@ -32,7 +32,7 @@ trace 1000000 100 10 40 >"$folder/many"
 run_goheap() { ./goheap run <"$folder/$1" >/dev/null; }
 net() { echo $(($(median goheap "$1") - $(median goheap empty))); }
 
-run_goheap empty # built, if need be, before anything is timed
+run_goheap empty # once, before anything is timed
 for ((round = 0; round < rounds; round++)); do
   for name in empty without hundred many; do
     time_of goheap $name

@@ -31,7 +31,7 @@ time_of() {
 for span in 2000 4; do
   make_trace $span >"$folder/$span"
 done
-time_of "$folder/2000" >"$folder/first" # built, if need be, before anything is timed
+time_of "$folder/2000" >"$folder/first" # once, before anything is timed
 for span in 2000 4; do
   for round in 1 2 3 4 5; do
     time_of "$folder/$span"

@@ -38,7 +38,7 @@ void *realloc(void *block, size_t size) {
 C
 cc -shared -fPIC -O1 -o "$folder/refuse.so" "$folder/refuse.c" -ldl
 
-./goheap run <examples/one-object.trace >/dev/null # built, if need be, before anything is refused
+./goheap --build
 program=crates/goheap/out/goheap
 runs=0
 told=0

@@ -48,7 +48,7 @@ instructions() {
     sed -n 's/.*Collected : //p'
 }
 
-run_goheap real # built, if need be, and refused, if it is, before anything is timed
+run_goheap real # refused, if it is, before anything is timed
 for ((round = 0; round < rounds; round++)); do
   for tool in wc awk goheap; do
     time_of $tool empty

@@ -43,7 +43,7 @@ run_awk() { awk '{ s += $3 } END { print s }' <"$folder/$1" >/dev/null; }
 
 net() { echo $(($(median "$1" "$2.$3") - $(median "$1" "$2.0"))); }
 
-run_goheap small_sizes.0 # built, if need be, before anything is timed
+run_goheap small_sizes.0 # once, before anything is timed
 for ((round = 0; round < rounds; round++)); do
   for tool in wc awk; do
     time_of $tool small_sizes.0

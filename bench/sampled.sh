@@ -36,7 +36,7 @@ done
 run_goheap() { ./goheap run <"$folder/$1" >/dev/null; }
 net() { echo $(($(median goheap "$1.$2") - $(median goheap "empty.$2"))); }
 
-run_goheap empty.0 # built, if need be, before anything is timed
+run_goheap empty.0 # once, before anything is timed
 for ((round = 0; round < rounds; round++)); do
   for name in empty 1000 100000; do
     for rate in 0 1; do

@@ -1,6 +1,7 @@
-# What the scripts that time goheap have in common; they read this file at their start. It goes to the top of the repository, and has a
-# folder for what they make, which goes with them.
+# What the scripts that time goheap have in common; they read this file at their start. It goes to the top of the repository, has the
+# program proved and built, and has a folder for what they make, which goes with them.
 cd "$(dirname "$(readlink -f "${BASH_SOURCE[0]}")")/.."
+./goheap --build
 folder=$(mktemp -d)
 trap 'rm -rf "$folder"' EXIT
 

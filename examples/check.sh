@@ -5,6 +5,7 @@
 # recorded trace of a real program it compares the totals.
 set -u
 cd "$(dirname "$0")" || exit 1
+../goheap --build || exit 1
 failed=0
 for trace in *.trace; do
   if ! diff <(../goheap run <"$trace") "${trace%.trace}.report" >/dev/null; then

@@ -8,7 +8,7 @@ trap 'rm -rf "$folder"' EXIT
 goheap=../goheap
 usage="usage: goheap run [--background=N] [--each] / check / gen SEED OBJECTS / demo SEED OBJECTS / classes"
 failed=0
-"$goheap" run <one-object.trace >/dev/null || exit 1 # built, if need be
+"$goheap" --build || exit 1
 
 # wants NAME STATUS GOT TEXT: the run ended with that status, and standard error has that text, whole and alone.
 wants() {

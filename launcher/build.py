@@ -1,0 +1,162 @@
+#!/usr/bin/env python3
+"""Proves and builds the program, and says how far it is. Called by `goheap` alone.
+
+Usage: build.py CRATE...           proves these crates, the program first, as many side by side as there are processors, and builds it
+       build.py --minutes CRATE... says how many minutes that takes here if nothing is kept
+
+It works on a copy of the crates that the program stands on, under the user's folder of caches, so that no other crate is proved, and that
+work in the checkout goes on meanwhile. What was proved there stays, and a later build proves what has changed and what stands on it.
+"""
+import fcntl
+import hashlib
+import os
+import re
+import shutil
+import subprocess
+import sys
+import threading
+import time
+
+ROOT = os.path.dirname(os.path.dirname(os.path.abspath(__file__)))
+PROGRAM = f"{ROOT}/crates/goheap/out/goheap"
+# What a crate is proved from, and what the program is run on.
+PARTS = ("src", "specs", "proofs")
+# The memory that a check takes, in bytes, at most in nearly all cases.
+MEMORY = 4 << 30
+
+
+def lanes():
+    """How many crates to prove side by side: one a processor, and as many as the memory holds."""
+    held = os.sysconf("SC_PAGE_SIZE") * os.sysconf("SC_PHYS_PAGES")
+    return max(1, min(len(os.sched_getaffinity(0)), held // MEMORY))
+
+
+def lines_of_crates():
+    """The lines of crates.txt, by the names of their crates."""
+    with open(f"{ROOT}/crates.txt", encoding="utf-8") as file:
+        found = [(re.match(r"([a-z0-9_]+)[^:]*:(.*)", line), line) for line in file]
+    return {it[1]: (it[2].split(), line) for it, line in found if it}
+
+
+def minutes_of_proofs():
+    """The processor minutes of each crate's proof, by docs/gate.md."""
+    with open(f"{ROOT}/docs/gate.md", encoding="utf-8") as file:
+        return {it[1]: float(it[2]) for it in map(re.compile(r"\| `(\w+)` \| ([0-9.]+) \|").match, file) if it}
+
+
+class Work:
+    """What is still to be proved, in processor minutes."""
+
+    def __init__(self, names):
+        lines, costs = lines_of_crates(), minutes_of_proofs()
+        self.costs = {name: costs.get(name, 0.5) for name in names}
+        self.below = {name: [it for it in lines[name][0] if it in self.costs] for name in names}
+        self.whole, self.done, self.started = sum(self.costs.values()), set(), time.monotonic()
+
+    def chain(self, name, known):
+        """The minutes of the longest chain of crates that ends with this one."""
+        if name not in known:
+            known[name] = max([self.chain(it, known) for it in self.below[name]] or [0]) + (name not in self.done) * self.costs[name]
+        return known[name]
+
+    def minutes(self):
+        """The minutes until all is proved: what is left over the processors, and no less than its longest chain, at the pace so far."""
+        known, passed = {}, (time.monotonic() - self.started) / 60
+        done = sum(self.costs[it] for it in self.done)
+        left = max((self.whole - done) / lanes(), max(self.chain(it, known) for it in self.costs))
+        # (as docs/gate.md has it until some crates are through)
+        return left * (passed * lanes() + 8) / (done + 8)
+
+    def line(self):
+        return f"goheap: proved {len(self.done)} of {len(self.costs)} crates, about {round(self.minutes()) or 1} minutes left"
+
+
+def show(work, ended):
+    """Says how far the work is: on one line of a terminal every second, otherwise once a minute."""
+    is_terminal = sys.stderr.isatty()
+    while not ended.wait(1 if is_terminal else 60):
+        print(f"\r{work.line()}\033[K" if is_terminal else work.line(), end="" if is_terminal else "\n", file=sys.stderr, flush=True)
+    if is_terminal:
+        print("\r\033[K", end="", file=sys.stderr, flush=True)
+
+
+def copy_crates(names, tree):
+    """Makes the copy have these crates alone, as the checkout has them now."""
+    lines = lines_of_crates()
+    os.makedirs(f"{tree}/crates", exist_ok=True)
+    for name in set(os.listdir(f"{tree}/crates")) - set(names):
+        shutil.rmtree(f"{tree}/crates/{name}")
+    for name in names:
+        for part in PARTS:
+            shutil.rmtree(f"{tree}/crates/{name}/{part}", ignore_errors=True)
+            if os.path.isdir(f"{ROOT}/crates/{name}/{part}"):
+                shutil.copytree(f"{ROOT}/crates/{name}/{part}", f"{tree}/crates/{name}/{part}")
+    with open(f"{tree}/crates.txt", "w", encoding="utf-8") as file:
+        file.writelines(lines[name][1] for name in names)
+    shutil.copyfile(f"{ROOT}/HANDLES", f"{tree}/HANDLES")
+
+
+def prove(names, tree):
+    """Proves the crates of the copy, lowest first and side by side, and returns whether all passed."""
+    work, ended, said = Work(names), threading.Event(), []
+    telling = threading.Thread(target=show, args=(work, ended))
+    telling.start()
+    words = ["rt", "all", "check", "--jobs", str(lanes())]
+    try:
+        with subprocess.Popen(words, cwd=f"{tree}/crates", stdout=subprocess.PIPE, stderr=subprocess.STDOUT, stdin=subprocess.DEVNULL, text=True, errors="replace") as run:
+            for line in run.stdout:
+                said.append(line)
+                if line.startswith("== ") and line[3:].strip() in work.costs:
+                    work.done.add(line[3:].strip())
+    finally:
+        ended.set()
+        telling.join()
+    with open(f"{tree}/build.log", "w", encoding="utf-8") as file:
+        file.writelines(said)
+    if run.returncode:
+        print("".join(said[-40:]) + f"goheap: a proof failed; {tree}/build.log has all that was said", file=sys.stderr)
+    return not run.returncode
+
+
+def build(names):
+    """Proves the crates, builds the program, and puts it into the checkout. Returns the status to end with."""
+    caches = os.environ.get("XDG_CACHE_HOME") or os.path.expanduser("~/.cache")
+    tree = f"{caches}/goheap/{hashlib.sha256(ROOT.encode()).hexdigest()[:16]}"
+    os.makedirs(tree, exist_ok=True)
+    with open(f"{tree}/lock", "w", encoding="utf-8") as lock:
+        fcntl.flock(lock, fcntl.LOCK_EX)
+        begun = time.time()
+        copy_crates(names, tree)
+        if not prove(names, tree):
+            return 1
+        # the build runs the program once, on a stored trace
+        with open(f"{ROOT}/examples/one-object.trace", "rb") as trace:
+            status = subprocess.run(["rt", "run", "--", "run"], cwd=f"{tree}/crates/goheap", stdin=trace, stdout=sys.stderr, check=False).returncode
+        if status:
+            print("goheap: the build failed", file=sys.stderr)
+            return 1
+        os.makedirs(os.path.dirname(PROGRAM), exist_ok=True)
+        shutil.copy2(f"{tree}/crates/goheap/out/goheap", f"{PROGRAM}.new")
+        # what was edited meanwhile is newer than the program
+        os.utime(f"{PROGRAM}.new", (begun, begun))
+        os.replace(f"{PROGRAM}.new", PROGRAM)
+    print(f"goheap: proved and built, in {(time.time() - begun) / 60:.1f} minutes", file=sys.stderr)
+    return 0
+
+
+def main(words):
+    if words[0] == "--minutes":
+        work = Work(words[1:])
+        print(round(work.minutes()))
+        return 0
+    return build(words)
+
+
+if __name__ == "__main__":
+    try:
+        sys.exit(main(sys.argv[1:]))
+    except KeyboardInterrupt:
+        sys.exit(130)
+    except OSError as error:
+        print(f"goheap: cannot build: {error}", file=sys.stderr)
+        sys.exit(1)
