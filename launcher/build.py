@@ -3,6 +3,7 @@
 
 Usage: build.py CRATE...           proves these crates, the program first, as many side by side as there are processors, and builds it
        build.py --minutes CRATE... says how many minutes that takes here if nothing is kept
+       build.py --chain CRATE...   prints the longest chain of these crates, each with the minutes of its proof
 
 It works on a copy of the crates that the program stands on, under the user's folder of caches, so that no other crate is proved, and that
 work in the checkout goes on meanwhile. What was proved there stays, and a later build proves what has changed and what stands on it.
@@ -56,7 +57,8 @@ class Work:
     def chain(self, name, known):
         """The minutes of the longest chain of crates that ends with this one."""
         if name not in known:
-            known[name] = max([self.chain(it, known) for it in self.below[name]] or [0]) + (name not in self.done) * self.costs[name]
+            below = max([self.chain(it, known) for it in self.below[name]], default=0)
+            known[name] = below + (name not in self.done) * self.costs[name]
         return known[name]
 
     def minutes(self):
@@ -145,9 +147,15 @@ def build(names):
 
 
 def main(words):
+    work = Work(words[1:]) if words[0] in ("--minutes", "--chain") else None
     if words[0] == "--minutes":
-        work = Work(words[1:])
         print(round(work.minutes()))
+        return 0
+    if words[0] == "--chain":
+        known, name = {}, words[1]
+        while name:
+            print(f"{name} {work.costs[name]}")
+            name = max(work.below[name], key=lambda it: work.chain(it, known), default=None)
         return 0
     return build(words)
 
