@@ -4,10 +4,15 @@ The runtime writes a block for each allocation (`tracealloc`), each object that 
 (`tracegc`), each with a stack; a blank line ends a block, and `end tracegc` that of a mark end, which has a stack for each goroutine.
 See `tracealloc`, `tracefree` and `tracegc` in `mprof.go` of Go's runtime. Lines that belong to no block, such as the program's own
 output, are passed over and counted.
+
+A whole block is not read line by line: where it has the program counters of one before, and as many lines, it has its stack, and a frame
+that was seen before is told by its place and its program counter. What is not whole, or has other lines in it, is read line by line.
 """
 
+import codecs
+import io
 import re
-from typing import NamedTuple, Optional, Tuple
+from typing import FrozenSet, NamedTuple, Optional, Tuple
 
 ALLOC = re.compile(r"tracealloc\((0x[0-9a-f]+), (0x[0-9a-f]+)(?:, (.*))?\)\s*$")
 FREE = re.compile(r"tracefree\((0x[0-9a-f]+), (0x[0-9a-f]+)\)\s*$")
@@ -15,13 +20,25 @@ COLLECTION = re.compile(r"tracegc\(\)\s*$")
 HEADER = re.compile(r"trace(?:alloc|free|gc)\(")
 GOROUTINE = re.compile(r"goroutine (\d+) \[")
 MALLOCGC = re.compile(r"runtime\.mallocgc\((0x[0-9a-f]+), (0x[0-9a-f]+\??),")
+PROCS = re.compile(r"runtime\.procresize\((0x[0-9a-f]+)\??\)")
 PLACE = re.compile(r"\t(.+:\d+)(?: \+0x[0-9a-f]+)?(?: fp=.*)?\s*$")
 ELIDED = re.compile(r"\.\.\.(?:additional|\d+) frames elided\.\.\.")
+
+# The fronts of whole blocks, and the program counters of a stack.
+WHOLE_ALLOC = re.compile(
+    r"tracealloc\((0x[0-9a-f]+), (0x[0-9a-f]+)(?:, ([^\n]*))?\)\n(goroutine) (\d+) \[[^\n]*\nruntime\.mallocgc\((0x[0-9a-f]+), (0x[0-9a-f]+)(\??),"
+)
+WHOLE_FREE = re.compile(r"tracefree\((0x[0-9a-f]+), (0x[0-9a-f]+)\)\n")
+COUNTER = re.compile(r" pc=(0x[0-9a-f]+)")
 
 # Go prints at most 100 frames of a stack, each in two lines.
 MOST_LINES = 250
 # The largest size that a trace may have, in bytes.
 MOST_SIZE = 1 << 40
+# Characters that are read as one line; where a line of the log has more, the rest counts as lines of its own.
+MOST_LINE = 1 << 16
+# Bytes that are read at once.
+PIECE = 1 << 20
 
 
 class Allocation(NamedTuple):
@@ -34,6 +51,7 @@ class Allocation(NamedTuple):
     goroutine: int
     places: Tuple[str, ...]  # FILE:LINE of each frame, the innermost first
     functions: Tuple[str, ...]  # the function of each frame
+    procs: Optional[int] = None  # processors, where the stack is that of the runtime's start, which makes them
 
 
 class Free(NamedTuple):
@@ -44,6 +62,7 @@ class Free(NamedTuple):
 
 class Collection(NamedTuple):
     line: int
+    waiting: FrozenSet[int] = frozenset()  # the goroutines that wait in `runtime.GC` for this collection and its sweep
 
 
 class Broken(NamedTuple):
@@ -51,34 +70,72 @@ class Broken(NamedTuple):
 
     line: int
     what: str
+    starts: bool = False  # whether the runtime's start is in it
 
 
 class Foreign(NamedTuple):
     """A line that belongs to no block."""
 
     line: int
+    text: str = ""
 
 
 class Lines:
-    """Lines with their numbers, of which one may be put back."""
+    """A log's lines with their numbers, from pieces of its text. The last line may be put back."""
 
-    def __init__(self, lines):
-        self.lines = iter(lines)
-        self.number = 0
-        self.back = None
+    def __init__(self, pieces):
+        self.pieces = iter(pieces)
+        self.text, self.at, self.number = "", 0, 0
+
+    def more(self):
+        """Takes one piece more. Returns whether there was one."""
+        piece = next(self.pieces, None)
+        if piece is None:
+            return False
+        self.text = self.text[self.at :] + piece
+        self.at = 0
+        return True
 
     def next(self):
-        if self.back is not None:
-            line, self.back = self.back, None
-        else:
-            line = next(self.lines, None)
-        if line is not None:
-            self.number += 1
-        return line
+        end = self.text.find("\n", self.at) + 1
+        while not end and len(self.text) - self.at < MOST_LINE and self.more():
+            end = self.text.find("\n", self.at) + 1
+        end = min(end or len(self.text), self.at + MOST_LINE)
+        line = self.text[self.at : end]
+        self.at = end
+        self.number += bool(line)
+        return line or None
 
     def put_back(self, line):
-        self.back = line
+        self.at -= len(line)
         self.number -= 1
+
+    def block_end(self):
+        """Where the blank line of the block stands that begins here, or -1 where none comes soon."""
+        end = self.text.find("\n\n", self.at)
+        while end < 0 and len(self.text) - self.at < MOST_LINE and self.more():
+            end = self.text.find("\n\n", self.at)
+        return end
+
+    def pass_block(self, end):
+        """Goes on behind the blank line there. Returns the number of the block's first line."""
+        number = self.number + 1
+        self.number += self.text.count("\n", self.at, end + 2)
+        self.at = end + 2
+        return number
+
+
+def pieces_of(file, wait=lambda: True):
+    """The text of a file in pieces, as they come. `wait` waits for the next one, and answers whether to read on."""
+    source = getattr(file, "buffer", file)
+    decoder = io.IncrementalNewlineDecoder(codecs.getincrementaldecoder("utf-8")("surrogateescape"), True)
+    while wait():
+        data = source.read1(PIECE)
+        text = decoder.decode(data, not data)
+        if text:
+            yield text
+        if not data:
+            return
 
 
 def function_of(line):
@@ -93,6 +150,14 @@ def place_of(line):
         return place
     found = PLACE.match(line)
     return found and found.group(1)
+
+
+def frame_of(name, place):
+    """The place and the function of a frame's two lines; nothing where they are none, or are of the runtime's start, which says more."""
+    found = place_of(place) if place.startswith("\t") else None
+    if not found or "(" not in name or name.startswith(("\t", "created by ", "runtime.procresize(", "runtime.schedinit(")):
+        return None
+    return found, function_of(name)
 
 
 def rest_of_block(lines):
@@ -114,24 +179,29 @@ class Stack:
     """A stack as its lines come."""
 
     def __init__(self):
-        self.goroutine = self.asked = self.type_address = self.name = None
+        self.goroutine = self.asked = self.type_address = self.name = self.procs = None
+        self.starts = self.waits = False
         self.places, self.functions = [], []
-        self.foreign = 0
+        self.foreign, self.line = [], None
 
     def take(self, line):
         if line.startswith("\t"):
-            place = place_of(line)
-            if place and self.name is not None:
-                self.places.append(place)
-                self.functions.append(self.name)
-            self.foreign += not place
-            self.name = None
+            self.take_place(line)
         elif line.startswith("created by "):
             self.name = None
         elif "(" in line and self.goroutine is not None:
             self.take_function(line)
         else:
             self.take_other(line)
+
+    def take_place(self, line):
+        place = place_of(line)
+        if place and self.name is not None:
+            self.places.append(place)
+            self.functions.append(self.name)
+        if not place and not line.startswith("\tgoroutine running on other thread"):
+            self.foreign.append(line)
+        self.name = None
 
     def take_function(self, line):
         if self.asked is None and not self.places:
@@ -140,83 +210,199 @@ class Stack:
                 self.asked = int(found.group(1), 16)
                 address = found.group(2)
                 self.type_address = None if address.endswith("?") else int(address, 16)
-        self.name = function_of(line)
+        if self.name is not None:
+            # no place came behind it
+            self.foreign.append(self.line)
+        self.name, self.line = function_of(line), line
+        if self.name == "runtime.procresize":
+            found = PROCS.match(line)
+            self.procs = found and int(found.group(1), 16)
+        self.starts = self.starts or self.name == "runtime.schedinit"
+        self.waits = self.waits or self.name == "runtime.GC"
 
     def take_other(self, line):
+        self.starts = self.starts or line.startswith("runtime.schedinit(")
         found = GOROUTINE.search(line)
         if found and self.goroutine is None:
             self.goroutine = int(found.group(1))
         elif not ELIDED.match(line):
-            self.foreign += 1
+            self.foreign.append(line)
+
+    def frames(self):
+        """Places, functions, and the processors that the runtime's start makes."""
+        return tuple(self.places), tuple(self.functions), (self.procs or 1) if self.starts else None
 
 
 def allocation_of(number, header, stack):
     """The allocation that a block says, or Broken."""
     if stack.goroutine is None:
-        return Broken(number, "tracealloc without its goroutine")
+        return Broken(number, "tracealloc without its goroutine", stack.starts)
     if not stack.places:
-        return Broken(number, "tracealloc without a stack")
+        return Broken(number, "tracealloc without a stack", stack.starts)
     address, slot, type_name = header.groups()
     address, slot = int(address, 16), int(slot, 16)
     if max(slot, stack.asked or 0) > MOST_SIZE:
-        return Broken(number, "tracealloc of more than 2^40 bytes")
-    return Allocation(
-        number, address, slot, stack.asked, type_name, stack.type_address, stack.goroutine, tuple(stack.places), tuple(stack.functions)
-    )
+        return Broken(number, "tracealloc of more than 2^40 bytes", stack.starts)
+    return Allocation(number, address, slot, stack.asked, type_name, stack.type_address, stack.goroutine, *stack.frames())
 
 
-def allocation_events(lines, number, header):
-    rest, whole = rest_of_block(lines)
-    if not whole:
-        yield Broken(number, "the log ends within a tracealloc block")
-        return
-    stack = Stack()
-    for line in rest:
-        stack.take(line)
-    yield allocation_of(number, header, stack)
-    for _ in range(stack.foreign):
-        yield Foreign(number)
+class Reader:
+    """Goes through a log. Remembers the stacks by their program counters."""
 
+    def __init__(self, pieces):
+        self.lines = Lines(pieces)
+        self.known = {}  # how many line feeds a stack has, and its frames, by its program counters
+        self.seen = {}  # the place and the function of a frame
 
-def free_events(lines, number, header):
-    yield Free(number, int(header.group(1), 16), int(header.group(2), 16))
-    _, whole = rest_of_block(lines)
-    if not whole:
-        yield Broken(number, "the log ends within a tracefree block")
+    def events(self):
+        lines = self.lines
+        while True:
+            if lines.at == len(lines.text):
+                lines.more()
+            if lines.text.startswith("tracealloc(", lines.at):
+                event = self.whole_allocation()
+                if event is not None:
+                    yield event
+                    continue
+            elif lines.text.startswith("tracefree(", lines.at):
+                event = self.whole_free()
+                if event is not None:
+                    yield event
+                    continue
+            line = lines.next()
+            if line is None:
+                return
+            yield from self.read_on(line, lines.number)
 
-
-def collection_events(lines, number):
-    """A mark end's block has several stacks, and blank lines between them. Another block ends it too."""
-    yield Collection(number)
-    while True:
-        line = lines.next()
-        if line is None:
-            yield Broken(number, "the log ends within a tracegc block")
-            return
-        if line.startswith("end tracegc"):
-            return
-        if line.startswith("trace") and HEADER.match(line):
-            lines.put_back(line)
-            return
-
-
-def events(text):
-    """The allocations, frees and collections of a log in order, and what else is in it. `text` gives its lines."""
-    lines = Lines(text)
-    while True:
-        line = lines.next()
-        if line is None:
-            return
-        number = lines.number
+    def read_on(self, line, number):
+        """The events of a block that is read line by line, or of a line of none."""
         if not HEADER.search(line):
             if not line.isspace():
-                yield Foreign(number)
-            continue
-        if header := ALLOC.search(line):
-            yield from allocation_events(lines, number, header)
+                yield Foreign(number, line)
+        elif header := ALLOC.search(line):
+            yield from self.allocation_events(number, header)
         elif header := FREE.search(line):
-            yield from free_events(lines, number, header)
+            yield from self.free_events(number, header)
         elif COLLECTION.search(line):
-            yield from collection_events(lines, number)
+            yield from self.collection_events(number)
         else:
             yield Broken(number, "a block's first line is not whole")
+
+    def whole_allocation(self):
+        """The allocation of a whole block with nothing else in it, or nothing."""
+        lines = self.lines
+        end = lines.block_end()
+        header = end >= 0 and WHOLE_ALLOC.match(lines.text, lines.at, end)
+        if not header:
+            return None
+        feeds = lines.text.count("\n", header.end(), end)
+        frames = self.frames_of(lines.text, header.start(4), end, feeds)
+        if frames is None:
+            return None
+        address, slot, type_name, _, goroutine, asked, type_address, is_odd = header.groups()
+        slot, asked = int(slot, 16), int(asked, 16)
+        if slot > MOST_SIZE or asked > MOST_SIZE:
+            return None
+        number = lines.number + 1
+        lines.number += feeds + 4
+        lines.at = end + 2
+        return Allocation(number, int(address, 16), slot, asked, type_name, None if is_odd else int(type_address, 16), int(goroutine), *frames)
+
+    def frames_of(self, text, at, end, feeds):
+        """The frames of a block with so many line feeds, which its program counters tell where they were seen before; or nothing."""
+        counters = tuple(COUNTER.findall(text, at, end))
+        known = self.known.get(counters)
+        if known is None:
+            known = feeds, self.read_frames(text[at:end].split("\n")[1:])
+            created = text.rfind("\ncreated by ", at, end)
+            end = end if created < 0 else created
+            # A frame without a counter was inlined into the next one that has one; behind the last one nothing tells it.
+            if counters and known[1] and text.rfind("\n\t", at, end) < text.rfind(" pc=", at, end):
+                self.known[counters] = known
+        return known[1] if known[0] == feeds else None
+
+    def read_frames(self, lines):
+        """The frames of a stack's lines, each two; a frame that was seen before is told by its place and its program counter. Nothing where a
+        line is of no frame."""
+        if len(lines) % 2 or len(lines) >= MOST_LINES:
+            return None
+        if lines[-2].startswith("created by "):
+            del lines[-2:]
+        places, functions = [], []
+        for name, place in zip(lines[::2], lines[1::2]):
+            front, _, rest = place.partition(" fp=")
+            key = front + rest[rest.rfind(" pc=") :] if rest else name + place
+            frame = self.seen.get(key)
+            if frame is None:
+                frame = frame_of(name, place)
+                if frame is None:
+                    return None
+                self.seen[key] = frame
+            places.append(frame[0])
+            functions.append(frame[1])
+        return tuple(places), tuple(functions), None
+
+    def allocation_events(self, number, header):
+        rest, is_whole = rest_of_block(self.lines)
+        stack = Stack()
+        for line in rest:
+            stack.take(line)
+        if not is_whole:
+            yield Broken(number, "the log ends within a tracealloc block", stack.starts)
+            return
+        yield allocation_of(number, header, stack)
+        for line in stack.foreign:
+            yield Foreign(number, line)
+
+    def whole_free(self):
+        """The freed object of a whole block with nothing else in it, or nothing. Behind two lines a block has two of each frame."""
+        lines = self.lines
+        end = lines.block_end()
+        text, at = lines.text, lines.at
+        header = end >= 0 and WHOLE_FREE.match(text, at, end)
+        if not header or text.count("\n", at, end) != 1 + 2 * text.count("\n\t", at, end) or text.find("\ntrace", at, end) >= 0:
+            return None
+        if text.count("\n", at, end) > MOST_LINES:
+            return None
+        return Free(lines.pass_block(end), int(header.group(1), 16), int(header.group(2), 16))
+
+    def free_events(self, number, header):
+        yield Free(number, int(header.group(1), 16), int(header.group(2), 16))
+        rest, is_whole = rest_of_block(self.lines)
+        if not is_whole:
+            yield Broken(number, "the log ends within a tracefree block")
+        stack = Stack()
+        for line in rest:
+            stack.take(line)
+        for line in stack.foreign:
+            yield Foreign(number, line)
+
+    def collection_events(self, number):
+        """The block has a part for each goroutine, behind a blank line."""
+        waiting, foreign, stack = set(), [], Stack()
+        is_whole = False
+        while (line := self.lines.next()) is not None:
+            is_whole = line.startswith("end tracegc")
+            if not is_whole and line.startswith("trace") and HEADER.match(line):
+                self.lines.put_back(line)
+                is_whole = True
+            if is_whole:
+                break
+            if line.isspace():
+                stack = Stack()
+                continue
+            stack.take(line)
+            if stack.waits:
+                waiting.add(stack.goroutine)
+            foreign += stack.foreign
+            stack.foreign = []
+        yield Collection(number, frozenset(waiting))
+        if not is_whole:
+            yield Broken(number, "the log ends within a tracegc block")
+        for line in foreign:
+            yield Foreign(number, line)
+
+
+def events(pieces):
+    """The allocations, frees and collections of a log in order, and what else is in it. `pieces` gives its text, in lines or in any other pieces."""
+    return Reader(pieces).events()

@@ -1,8 +1,8 @@
 """Reads a report of goheap, line by line. What the report must meet is for `goheap check` to say."""
 
-from typing import List, NamedTuple, Optional, Tuple
+from typing import Dict, List, NamedTuple, Optional, Tuple
 
-from tool import Unusable, reading, whole
+from tool import Unusable, kind_of, named, reading, whole
 
 
 class Take(NamedTuple):
@@ -45,6 +45,9 @@ class Bucket(NamedTuple):
     frees: int
 
 
+# How a report is made of another text.
+MAKING = {"a trace": " (goheap run --each < trace > report)", "a log": " (record makes a trace of it)"}
+
 JOURNAL = {"take": Take, "miss": Miss, "give": Give, "scav": Scav}
 
 
@@ -54,12 +57,15 @@ class Report(NamedTuple):
     sweeps: List[Sweep]
     totals: List[Tuple[int, int, int]]  # size class, mallocs, frees
     buckets: List[Bucket]
+    misses: Dict[int, int]  # of each missed object, the number of the journal line that it names
 
 
 def read_report(lines, name="report"):
-    report = Report([], [], [], [], [])
+    report = Report([], [], [], [], [], {})
     ended = False
     for number, line in enumerate(lines, 1):
+        if number == 1 and kind_of(line) not in (None, "a report"):
+            raise Unusable(f"{name}: this is {kind_of(line)}, and no report{MAKING.get(kind_of(line), '')}")
         if ended:
             raise Unusable(f"{name}: line {number}: there are lines behind the end")
         words = line.split()
@@ -75,13 +81,15 @@ def read_report(lines, name="report"):
 def report_in(path):
     """The report in the file; - is standard input."""
     with reading(path) as file:
-        return read_report(file, "standard input" if path == "-" else path)
+        return read_report(file, named(path))
 
 
 def take_line(report, words):
     """Takes a line in. Returns whether it is the last one."""
     kind, rest = words[0], words[1:]
     if kind == "o":
+        if rest[1] == "miss":
+            report.misses[len(report.addresses)] = whole(rest[2])
         report.addresses.append({"zero": lambda: 0, "miss": lambda: None}.get(rest[1], lambda: int(rest[1], 16))())
     elif kind == "j":
         report.journal.append(JOURNAL[rest[2]](whole(rest[1]), *map(whole, rest[3:])))
@@ -99,17 +107,61 @@ def take_line(report, words):
     return False
 
 
-def read_stacks(lines, name="stacks"):
-    """The frames of each stack by its number, as `record` wrote them."""
-    stacks = {}
+class Stacks(NamedTuple):
+    """A stacks file: what it says of the recording, and the frames and the type of each stack by its number."""
+
+    header: Dict[str, str]
+    frames: Dict[int, List[str]]
+    types: Dict[int, str]
+
+    def number(self, name):
+        """The number that the header has under this name, or nothing."""
+        value = self.header.get(name, "")
+        return int(value) if value.isascii() and value.isdigit() else None
+
+
+FIRST = "# goheap stacks "
+
+
+def read_stack_file(lines, name="stacks"):
+    """A stacks file as `record` writes it. Older ones have no first lines, and no types."""
+    stacks = Stacks({}, {}, {})
+    has_types = False
     for at, line in enumerate(lines, 1):
-        number, *frames = line.rstrip("\n").split("\t")
-        if not number.isdecimal():
-            raise Unusable(f"{name}: line {at}: no stack's number")
-        stacks[int(number)] = frames
+        line = line.rstrip("\n")
+        if at == 1 and line.startswith(FIRST):
+            has_types = True
+            if line != FIRST + "2":
+                raise Unusable(f"{name}: line 1: the form of this stacks file is not read here")
+        elif at == 1 and kind_of(line):
+            raise Unusable(f"{name}: this is {kind_of(line)}, and no stacks file")
+        elif has_types and line.startswith("# ") and not stacks.frames:
+            key, _, value = line[2:].partition("\t")
+            stacks.header[key] = value
+        else:
+            take_stack(stacks, has_types, line.split("\t"), f"{name}: line {at}: no stack's number")
     return stacks
 
 
-def stacks_in(path):
+def take_stack(stacks, has_types, words, fault):
+    number, *rest = words
+    if not (number.isascii() and number.isdigit()):
+        raise Unusable(fault)
+    if has_types and rest:
+        stacks.types[int(number)] = rest.pop(0)
+    stacks.frames[int(number)] = rest
+
+
+def stack_file(path):
+    """The stacks file with what its first lines say."""
     with reading(path) as file:
-        return read_stacks(file, path)
+        return read_stack_file(file, named(path))
+
+
+def read_stacks(lines, name="stacks"):
+    """The frames of each stack by its number."""
+    return read_stack_file(lines, name).frames
+
+
+def stacks_in(path):
+    return stack_file(path).frames

@@ -21,14 +21,19 @@ class Faults(Folder):
             (["record", "--output", "/no/such/folder"], "", "/no/such/folder: No such file or directory"),
             (["record", "--program", odd], "", f"{odd}: no 64-bit little-endian ELF program"),
             (["record", "--program", elf], "", f"{elf}: the program is cut"),
-            (["record", "--output", "/dev/full"], data("small.allocfreetrace"), "No space left on device"),
+            (["record", "--output", "/dev/full"], data("small.allocfreetrace"), "/dev/full: No space left on device"),
             (["leaks", "no such report"], "", "no such report: No such file or directory"),
-            (["leaks", trace], "", f"{trace}: line 1: no line of a report"),
+            (["leaks", trace], "", f"{trace}: this is a trace, and no report (goheap run --each < trace > report)"),
+            (["leaks", path_of("small.allocfreetrace")], "", f"{path_of('small.allocfreetrace')}: line 1: no line of a report"),
+            (["picture", trace], "", f"{trace}: this is a trace, and no report (goheap run --each < trace > report)"),
+            (["leaks", "--trace", trace, "--stacks", trace], "", f"{trace}: this is a trace, and no stacks file"),
             (["leaks", odd], "", f"{odd}: line 1: no line of a report"),
             (["leaks", "-"], end[:-2], "standard input: line 2: no line of a report"),
             (["leaks", "-"], "o 0 zero\n", "standard input: the report has no end"),
-            (["leaks", "-", "--stacks", report_of], end, f"{report_of}: line 1: no stack's number"),
-            (["leaks", "--trace", report_of], "", f"{report_of}: no trace: its first line is not `goheap 1`"),
+            (["leaks", "-", "--stacks", report_of], end, f"{report_of}: this is a report, and no stacks file"),
+            (["leaks", "-", "--stacks", odd], end, f"{odd}: line 1: no stack's number"),
+            (["leaks", "--trace", report_of], "", f"{report_of}: this is a report, and no trace"),
+            (["leaks", "--trace", odd], "", f"{odd}: no trace: its first line is not `goheap 1`"),
             (["leaks", "--trace", cut], "", f"{cut}: line 4: no line of a trace"),
             (["leaks", report_of, "--trace", trace], "", f"{report_of} has 3 objects, and {trace} has 6: it is no report of this trace"),
             (["picture", "no such report"], "", "no such report: No such file or directory"),
@@ -63,10 +68,10 @@ class Faults(Folder):
             self.assertNotIn("Traceback", ran.stderr)
 
     def test_no_room(self):
-        for words in (["leaks", path_of("kinds.report")], ["picture", path_of("kinds.report")]):
+        for words in (["leaks", os.path.join(HERE, "..", "examples", "leak-by-stack.each")], ["picture", path_of("kinds.report")]):
             with open("/dev/full", "w") as full:
                 ran = subprocess.run([os.path.join(HERE, words[0]), *words[1:]], stdout=full, stderr=subprocess.PIPE, text=True)
-            self.assertEqual((ran.returncode, ran.stderr), (2, f"{words[0]}: No space left on device\n"))
+            self.assertEqual((ran.returncode, ran.stderr), (2, f"{words[0]}: standard output: No space left on device\n"))
 
     def test_closed_streams(self):
         for words, name in ((["record"], "input"), (["leaks", "-"], "input"), (["picture"], "input"), (["picture", path_of("kinds.report")], "output")):

@@ -61,7 +61,7 @@ class RealProgram(Folder):
         subprocess.run([go, "build", "-o", "small", "."], cwd=folder, env=env, check=True, capture_output=True)
         ran = subprocess.run(["./small"], cwd=folder, env={**env, "GODEBUG": "allocfreetrace=1"}, capture_output=True, text=True)
         self.log, self.stacks = self.put("log", ran.stderr), os.path.join(folder, "stacks")
-        status, text, said = run("record", self.log, "--program", os.path.join(folder, "small"), "--stacks", self.stacks, "--rate", "1")
+        status, text, said = run("record", self.log, "--program", os.path.join(folder, "small"), "--stacks", self.stacks, "--keep-last")
         self.assertEqual(status, 0, said)
         self.trace = self.put("trace", text)
 
@@ -83,14 +83,14 @@ class RealProgram(Folder):
         with open(self.trace) as file:
             made = subprocess.run([sys.executable, os.path.join(HERE, "..", "model", "run.py"), "--each"], stdin=file, capture_output=True, text=True)
         report_of = self.put("report", made.stdout)
-        status, table, said = run("leaks", report_of, "--stacks", self.stacks, "--top", "100")
+        status, table, said = run("leaks", report_of, "--stacks", self.stacks, "--buckets", "--top", "100")
         self.assertEqual((status, said), (0, ""))
         leaking = [row for row in rows(table) if "main.leak" in row]
         # The five nodes of 16 bytes are in use, and grew from one at each of the four mark ends behind the first.
         self.assertEqual([row[0:1] + row[3:9] for row in leaking], [["80B", "5", "5", "0", "16", "64B", "4/4"]])
-        functions = run("leaks", report_of, "--stacks", self.stacks, "--functions", "--top", "100")[1]
-        self.assertEqual([row[0:1] + row[5:8] for row in rows(functions) if row[-1] == "main.leak"], [["80B", "5", "64B", "4/4"]])
-        exact = run("leaks", "--trace", self.trace, "--stacks", self.stacks, "--top", "100")[1]
+        functions = run("leaks", report_of, "--stacks", self.stacks, "--top", "100")[1]
+        self.assertEqual([row[0:1] + row[5:9] for row in rows(functions) if row[-1] == "main.leak"], [["80B", "5", "80B", "64B", "4/4"]])
+        exact = run("leaks", "--trace", self.trace, "--stacks", self.stacks, "--buckets", "--top", "100")[1]
         self.assertEqual(table.splitlines()[1:], exact.splitlines()[1:])
         self.assertEqual(run("picture", report_of)[0], 0)
         status, counts, said = run("compare", self.log, self.trace, report_of)

@@ -25,7 +25,8 @@ def path_of(name):
 
 def run(name, *words, given=""):
     """Runs one of the tools, within this process, which takes less time than a new one. Returns its status, what it wrote and what it said."""
-    before = sys.stdin, sys.stdout, sys.stderr, signal.getsignal(signal.SIGINT), signal.getsignal(signal.SIGPIPE)
+    before = sys.stdin, sys.stdout, sys.stderr
+    handlers = {number: signal.getsignal(number) for number in (signal.SIGINT, signal.SIGTERM, signal.SIGPIPE)}
     with tempfile.NamedTemporaryFile("r", errors="surrogateescape") as written:
         sys.stdin = io.TextIOWrapper(io.BytesIO(given.encode(errors="surrogateescape")))
         sys.stdout, sys.stderr = open(written.name, "w"), io.StringIO()
@@ -35,9 +36,9 @@ def run(name, *words, given=""):
             sys.stdout.close()
             return ended.code, written.read(), sys.stderr.getvalue()
         finally:
-            sys.stdin, sys.stdout, sys.stderr = before[:3]
-            signal.signal(signal.SIGINT, before[3])
-            signal.signal(signal.SIGPIPE, before[4])
+            sys.stdin, sys.stdout, sys.stderr = before
+            for number, handler in handlers.items():
+                signal.signal(number, handler)
 
 
 def module(name):
@@ -65,6 +66,17 @@ class Folder(unittest.TestCase):
 
 def block(address, size="0x10", goroutine=1):
     return f"tracealloc({address:#x}, {size})\ngoroutine {goroutine} [running]:\nruntime.mallocgc({size}, 0x0, 0x0)\n\t/go/malloc.go:1\n\n"
+
+
+def text_of(path):
+    with open(path) as file:
+        return file.read()
+
+
+def body(text):
+    """The lines of a stacks file behind its first ones, without their types."""
+    lines = [line.split("\t") for line in text.splitlines(True) if not line.startswith("# ")]
+    return "".join("\t".join(line[:1] + line[2:]) for line in lines)
 
 
 def rows(text):

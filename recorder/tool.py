@@ -1,13 +1,24 @@
-"""What the tools have in common: how they open texts, and how they end where something is wrong."""
+"""What the tools have in common: how they open texts, how they write files whole or not at all, and how they end where something is wrong."""
 
 import argparse
+import contextlib
 import os
 import signal
+import stat
 import sys
+import tempfile
 
 
 class Unusable(Exception):
     """What was given cannot be used; the text says why."""
+
+
+class Stopped(BaseException):
+    """A signal asks the tool to end."""
+
+    def __init__(self, number):
+        super().__init__(number)
+        self.number = number
 
 
 def whole(text):
@@ -45,9 +56,140 @@ def reading(path):
     return stream(sys.stdin, "standard input") if path == "-" else open(path, encoding="utf-8", errors="surrogateescape")
 
 
-def writing(path):
-    """The file, emptied; - is standard output."""
-    return stream(sys.stdout, "standard output") if path == "-" else open(path, "w", encoding="utf-8", errors="surrogateescape")
+def named(path):
+    """A file's name, as it is told."""
+    return "standard input" if path == "-" else path
+
+
+# What goheap's texts begin with, by which a tool knows one that was given in the place of another.
+KINDS = (("goheap ", "a trace"), ("o 0 ", "a report"), ("# goheap stacks ", "a stacks file"), ("tracealloc(", "a log"), ("heap profile: ", "a heap profile"))
+
+
+def kind_of(line):
+    """What a text is that begins with this line, or nothing."""
+    return next((kind for front, kind in KINDS if line.startswith(front)), None)
+
+
+def size_text(size):
+    """So many bytes, as `go tool pprof` writes them."""
+    for unit, name in ((1 << 30, "GB"), (1 << 20, "MB"), (1 << 10, "kB")):
+        if abs(size) >= unit:
+            return f"{size / unit:.2f}{name}"
+    return f"{size:.0f}B"
+
+
+class Output:
+    """A file that is written whole or not at all: what is written goes to a temporary file beside it, which takes its name at the end of
+    the `with` where nothing was raised, and goes away else. `-` is standard output, and what is no regular file (a terminal, a pipe) is
+    written at the end alone. A fault names the file."""
+
+    def __init__(self, path, binary=False, errors="surrogateescape"):
+        self.path, self.binary, self.errors = path, binary, errors
+        self.name = "standard output" if path == "-" else path
+        self.temporary = self.file = None
+        self.settled = False
+
+    def __enter__(self):
+        try:
+            self.open()
+        except BaseException:
+            self.drop()
+            raise
+        return self
+
+    def open(self):
+        form = {} if self.binary else {"encoding": "utf-8", "errors": self.errors}
+        mode = "w+b" if self.binary else "w+"
+        if self.path == "-" and sys.stdout is None:
+            raise Unusable("standard output is closed")
+        if self.path != "-" and not self.is_special():
+            self.target = os.path.realpath(self.path)
+            self.temporary = f"{self.target}.{os.getpid()}.part"
+            with self.faults():
+                handle = os.open(self.temporary, os.O_RDWR | os.O_CREAT | os.O_TRUNC, 0o666)
+                if os.path.exists(self.target):
+                    os.fchmod(handle, stat.S_IMODE(os.stat(self.target).st_mode))
+            self.file = open(handle, mode, **form)
+        else:
+            self.file = tempfile.TemporaryFile(mode, **form)
+
+    def is_special(self):
+        """Whether the path is there, and no regular file. Refuses what could not be written over."""
+        if not os.path.exists(self.path):
+            return False
+        if os.path.isdir(self.path):
+            raise IsADirectoryError(21, "Is a directory", self.path)
+        if not os.access(self.path, os.W_OK):
+            raise PermissionError(13, "Permission denied", self.path)
+        return not os.path.isfile(self.path)
+
+    def faults(self):
+        return Named(self.name)
+
+    def write(self, text):
+        with self.faults():
+            self.file.write(text)
+
+    def settle(self):
+        """All that was written is in the file, or in the temporary one beside it; a fault comes now."""
+        if self.settled:
+            return
+        self.settled = True
+        with self.faults():
+            self.file.flush()
+            if self.temporary:
+                self.file.close()
+            else:
+                self.pour()
+
+    def pour(self):
+        """What was written goes to where it belongs."""
+        form = {} if self.binary else {"encoding": "utf-8", "errors": self.errors}
+        self.file.seek(0)
+        if self.path != "-":
+            with open(self.path, "wb" if self.binary else "w", **form) as out:
+                self.copy(out)
+        else:
+            self.copy(sys.stdout.buffer if self.binary else stream(sys.stdout, "standard output", self.errors))
+
+    def copy(self, out):
+        while piece := self.file.read(1 << 20):
+            out.write(piece)
+        out.flush()
+
+    def __exit__(self, kind, fault, _):
+        try:
+            if kind is None:
+                self.settle()
+                if self.temporary:
+                    with self.faults():
+                        os.replace(self.temporary, self.target)
+                    self.temporary = None
+        finally:
+            self.drop()
+
+    def drop(self):
+        """Nothing of what was not put in its place is left."""
+        with contextlib.suppress(OSError, AttributeError):
+            self.file.close()
+        if self.temporary:
+            with contextlib.suppress(FileNotFoundError):
+                os.unlink(self.temporary)
+            self.temporary = None
+
+
+class Named:
+    """Gives a fault of the system the name of the file that it is of."""
+
+    def __init__(self, name):
+        self.name = name
+
+    def __enter__(self):
+        return self
+
+    def __exit__(self, kind, fault, _):
+        if isinstance(fault, OSError) and fault.errno:
+            raise OSError(fault.errno, os.strerror(fault.errno), self.name) from None
 
 
 def told(error):
@@ -64,15 +206,33 @@ def drop_output():
         os.dup2(os.open(os.devnull, os.O_WRONLY), sys.stdout.fileno())
 
 
+def stop(number, _):
+    raise Stopped(number)
+
+
+def end_by(number):
+    """Ends the process as the signal does."""
+    drop_output()
+    signal.signal(number, signal.SIG_DFL)
+    os.kill(os.getpid(), number)
+    return 2
+
+
 def end(name, main, words):
     """Ends the process with the status that `main` answers, or with 2 and a line that says why there is none. A reader that closes its
-    pipe, as `head` does, ends the tool without a word."""
-    signal.signal(signal.SIGPIPE, signal.SIG_DFL)
-    signal.signal(signal.SIGINT, signal.SIG_DFL)
+    pipe, as `head` does, ends the tool without a word; so does an interrupt or SIGTERM, behind which no temporary file is left."""
+    signal.signal(signal.SIGPIPE, signal.SIG_IGN)
+    signal.signal(signal.SIGINT, stop)
+    signal.signal(signal.SIGTERM, stop)
     try:
         status = main(words)
         if sys.stdout is not None and not sys.stdout.closed:
-            sys.stdout.flush()
+            with Named("standard output"):
+                sys.stdout.flush()
+    except Stopped as stopped:
+        status = end_by(stopped.number)
+    except BrokenPipeError:
+        status = end_by(signal.SIGPIPE)
     except (Unusable, OSError, MemoryError) as error:
         print(f"{name}: {told(error)}", file=sys.stderr)
         drop_output()

@@ -2,7 +2,7 @@
 
 from typing import List, NamedTuple, Tuple
 
-from tool import Unusable, reading, whole
+from tool import Unusable, kind_of, named, reading, whole
 
 
 class Event(NamedTuple):
@@ -24,7 +24,10 @@ HEADER = ["heap", "procs", "rate", "seed", "goal"]
 
 def read_trace(lines, name="trace"):
     lines = enumerate(lines, 1)
-    if next(lines, (1, ""))[1].split() != ["goheap", "1"]:
+    first = next(lines, (1, ""))[1]
+    if kind_of(first) not in (None, "a trace"):
+        raise Unusable(f"{name}: this is {kind_of(first)}, and no trace")
+    if first.split() != ["goheap", "1"]:
         raise Unusable(f"{name}: no trace: its first line is not `goheap 1`")
     words = next(lines, (2, ""))[1].split()
     if words[::2] != HEADER or not all(word.isdecimal() for word in words[1::2]):
@@ -56,7 +59,7 @@ def take_line(trace, kind, *rest):
 
 def trace_in(path):
     with reading(path) as file:
-        return read_trace(file, path)
+        return read_trace(file, named(path))
 
 
 def is_marked(ranges, objects):

@@ -1,0 +1,3 @@
+module importer
+
+go 1.19
