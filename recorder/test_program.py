@@ -84,7 +84,9 @@ class RealProgram(Folder):
             made = subprocess.run([sys.executable, os.path.join(HERE, "..", "model", "run.py"), "--each"], stdin=file, capture_output=True, text=True)
         report_of = self.put("report", made.stdout)
         status, table, said = run("leaks", report_of, "--stacks", self.stacks, "--buckets", "--top", "100")
-        self.assertEqual((status, said), (0, ""))
+        self.assertEqual(status, 0)
+        # How many objects the runtime allocates behind the last mark end differs from run to run, and a share of some size is told.
+        self.assertRegex(said, r"^(leaks: [0-9]+ % of the objects \([0-9]+ of [0-9]+\) came behind the last mark end, and are in no count\n)?$")
         leaking = [row for row in rows(table) if "main.leak" in row]
         # The five nodes of 16 bytes are in use, and grew from one at each of the four mark ends behind the first.
         self.assertEqual([row[0:1] + row[3:9] for row in leaking], [["80B", "5", "5", "0", "16", "64B", "4/4"]])
