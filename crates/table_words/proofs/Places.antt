@@ -1,5 +1,5 @@
 -- Different names have different words: the name is read back from the place.
-use Rattle.std.proofs.Common.{◌≡◌, ◌≢◌, ℕ, ◌+◌, ◌-◌, ◌*◌, ◌/◌, ◌%◌, ◌<◌, ◌≤◌, ltb, true, false, refl, sym, ap, ◌∙◌, arith, mul-le-mul}
+use Rattle.std.proofs.Common.{◌≡◌, ℕ, ◌+◌, ◌-◌, ◌*◌, ◌/◌, ◌%◌, ◌<◌, ◌≤◌, ltb, true, false, refl, sym, ap, ◌∙◌, arith, mul-le-mul}
 use Rattle.std.proofs.lemmas.Bool.{lt-ltb}
 use native.Mathlib.Nat.{add-mul-div_left, add-mul-mod_self_left, div-eq_of_lt, mod-eq_of_lt}
 use Rattle.table_words.specs.Names.{Name, IsName, place, name_at, word_count, LockWord, GenerationWord, CounterWord, EventWord, PageWord, SetWord, CellWord}
@@ -31,9 +31,6 @@ module _ (R : ℕ) where
 
   pub place_once : (k l : Name) → IsName R k → IsName R l → place R k ≡ place R l → k ≡ l
   place_once k l i j e = sym (named k i) ∙ ap (name_at R) e ∙ named l j
-
-  pub places_apart : (k l : Name) → IsName R k → IsName R l → k ≢ l → place R k ≢ place R l
-  places_apart k l i j d e = d (place_once k l i j e)
 
   pub place_low : (k : Name) → IsName R k → place R k < word_count R
   place_low LockWord i = omega arith
