@@ -1,0 +1,4 @@
+pub mod Bits
+pub mod Sums
+pub mod WordRuns
+pub mod Pages
