@@ -1,0 +1,2 @@
+pub mod NamesRead
+pub mod Tails
