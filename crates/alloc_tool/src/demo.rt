@@ -9,6 +9,7 @@ use edge_io::{Gate, Sink};
 use heap_run::{Options, run_trace};
 use made_lines::Wanted;
 use std::alloc::Global;
+use std::sync::Wait;
 use stop_lines::{refuse_pair, refuse_trace, stop_writing};
 use trace_gen::{a_made_trace_is_within_limits, make_trace};
 use trace_reader::TraceFault;
@@ -20,7 +21,8 @@ const OPTIONS: Options = Options {
 };
 
 /// Makes the trace, runs it, judges the report, and writes the lines that sum it up. The report is never refused.
-pub(crate) fn show_run<K: Sink, E: Sink, G: Gate>(
+pub(crate) fn show_run<R: Wait, K: Sink, E: Sink, G: Gate>(
+    rt: &R,
     alloc: Global,
     wanted: Wanted,
     output: &mut K,
@@ -33,7 +35,7 @@ pub(crate) fn show_run<K: Sink, E: Sink, G: Gate>(
         return refuse_trace(errors, TraceFault::NoMemory);
     };
     a_made_trace_is_within_limits();
-    let Ok(ran) = run_trace(alloc, &trace, OPTIONS, gate) else {
+    let Ok(ran) = run_trace(rt, alloc, &trace, OPTIONS, gate) else {
         return refuse_trace(errors, TraceFault::NoMemory);
     };
     match write_summary(alloc, output, &trace, &ran.report) {

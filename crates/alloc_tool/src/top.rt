@@ -34,7 +34,7 @@ use whole_trace::read_whole;
 /// `output`; its options are `--each` and `--background=N` or `--background N`. `demo SEED OBJECTS` makes a trace, runs and
 /// judges it, and writes what came of it. Where a call does not answer, one line on `errors` says why.
 pub fn goheap<R: Threads + Wait + Sync, S: Source, K: Sink, E: Sink, G: Gate>(
-    _rt: &R,
+    rt: &R,
     alloc: Global,
     words: &[String],
     input: &mut S,
@@ -54,10 +54,10 @@ pub fn goheap<R: Threads + Wait + Sync, S: Source, K: Sink, E: Sink, G: Gate>(
         → IsUndisturbed S.left S.faults K.faults input.old input.new output.old output.new bytes → AcceptsSound bytes result }
 {
     if are_of_run(words) {
-        return run(alloc, words, input, output, errors, gate);
+        return run(rt, alloc, words, input, output, errors, gate);
     }
     match wanted_by(words, "demo") {
-        Some(wanted) => show_run(alloc, wanted, output, errors, gate),
+        Some(wanted) => show_run(rt, alloc, wanted, output, errors, gate),
         None => goheap_plain(alloc, words, input, output, errors),
     }
 }
@@ -108,7 +108,8 @@ fn classes<K: Sink, E: Sink>(output: &mut K, errors: &mut E) -> u8
 }
 
 // Reads the options, and runs a trace by them.
-fn run<S: Source, K: Sink, E: Sink, G: Gate>(
+fn run<R: Wait, S: Source, K: Sink, E: Sink, G: Gate>(
+    rt: &R,
     alloc: Global,
     words: &[String],
     input: &mut S,
@@ -128,14 +129,15 @@ fn run<S: Source, K: Sink, E: Sink, G: Gate>(
                 background: asked.background,
                 each: asked.each,
             };
-            run_by(alloc, options, input, output, errors, gate)
+            run_by(rt, alloc, options, input, output, errors, gate)
         }
         Err(NoMemory) => refuse_trace(errors, TraceFault::NoMemory),
     }
 }
 
 // Reads a trace, and writes its report.
-fn run_by<S: Source, K: Sink, E: Sink, G: Gate>(
+fn run_by<R: Wait, S: Source, K: Sink, E: Sink, G: Gate>(
+    rt: &R,
     alloc: Global,
     options: Options,
     input: &mut S,
@@ -152,7 +154,7 @@ fn run_by<S: Source, K: Sink, E: Sink, G: Gate>(
         Ok(trace) => trace,
         Err(fault) => return refuse_trace(errors, fault),
     };
-    let Ok(ran) = run_trace(alloc, &trace, options, gate) else {
+    let Ok(ran) = run_trace(rt, alloc, &trace, options, gate) else {
         return refuse_trace(errors, TraceFault::NoMemory);
     };
     match write_report(output, &ran.report) {

@@ -3,6 +3,7 @@ use crate::stop::Stop;
 use crate::{bitmap, history, marks, ownership, pages, profile, table};
 use edge_io::{Lines, Source};
 use std::alloc::Global;
+use std::sync::Wait;
 
 /// What is timed.
 #[derive(Clone, Copy, Debug, PartialEq, Eq)]
@@ -42,15 +43,16 @@ impl Layer {
     }
 
     /// What the words behind the layer's say. A trace is read from the lines, where it is wanted.
-    pub fn asked<S: Source>(
+    pub fn asked<R: Wait, S: Source>(
         self,
+        rt: &R,
         alloc: Global,
         words: &[String],
         lines: &mut Lines<'_, S>,
     ) -> Result<Found, Stop> {
         match self {
             Layer::Core => Ok(Found::Core(ownership::asked(alloc, words)?)),
-            Layer::Table => Ok(Found::Table(table::asked(alloc, words)?)),
+            Layer::Table => Ok(Found::Table(table::asked(rt, alloc, words)?)),
             Layer::Bitmap => Ok(Found::Bitmap(bitmap::asked(words)?)),
             Layer::Pages => Ok(Found::Pages(pages::asked(alloc, words)?)),
             Layer::Marks => Ok(Found::Marks(marks::asked(alloc, words)?)),
@@ -60,10 +62,15 @@ impl Layer {
     }
 
     /// A few calls.
-    pub fn few<S: Source>(self, alloc: Global, lines: &mut Lines<'_, S>) -> Result<Found, Stop> {
+    pub fn few<R: Wait, S: Source>(
+        self,
+        rt: &R,
+        alloc: Global,
+        lines: &mut Lines<'_, S>,
+    ) -> Result<Found, Stop> {
         match self {
             Layer::Core => Ok(Found::Core(ownership::few(alloc)?)),
-            Layer::Table => Ok(Found::Table(table::few(alloc)?)),
+            Layer::Table => Ok(Found::Table(table::few(rt, alloc)?)),
             Layer::Bitmap => Ok(Found::Bitmap(bitmap::few())),
             Layer::Pages => Ok(Found::Pages(pages::few(alloc)?)),
             Layer::Marks => Ok(Found::Marks(marks::few(alloc)?)),

@@ -58,7 +58,7 @@ fn main(rt: HostRuntime) -> io::Result<ExitCode> {
         let Some(layer) = Layer::named(name.as_str()) else {
             return Ok(status_of(Stop::Words));
         };
-        return match layer.asked(rt.alloc(), rest, &mut lines) {
+        return match layer.asked(&rt, rt.alloc(), rest, &mut lines) {
             Ok(found) => {
                 print(&rt, &found)?;
                 Ok(ExitCode::from(0))
@@ -67,7 +67,7 @@ fn main(rt: HostRuntime) -> io::Result<ExitCode> {
         };
     }
     for layer in Layer::ALL {
-        match layer.few(rt.alloc(), &mut lines) {
+        match layer.few(&rt, rt.alloc(), &mut lines) {
             Ok(found) => print(&rt, &found)?,
             Err(stop) => return Ok(status_of(stop)),
         }

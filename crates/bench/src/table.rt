@@ -5,12 +5,13 @@
 
 ghost use Rattle.std.specs.Prelude.{◌≡◌, true, None};
 ghost use Rattle.sweep_laws.specs.Lists.{has};
-ghost use Rattle.span_laws.specs.Asks.{HasBody};
+ghost use Rattle.span_laws.specs.Asks.{HasBody, IsAtWork};
 
 use crate::stop::Stop;
 use span_state::Body;
 use span_table::{Shared, Uncached, Worker};
 use std::alloc::Global;
+use std::sync::Wait;
 use sweep_generation::{Core, Move, StepFault, step};
 
 // The pages of a chunk, which the span has, and the workers of a table.
@@ -33,7 +34,7 @@ fn callee_of(word: &str) -> Option<Callee> {
     }
 }
 
-pub fn asked(alloc: Global, words: &[String]) -> Result<u64, Stop> {
+pub fn asked<R: Wait>(rt: &R, alloc: Global, words: &[String]) -> Result<u64, Stop> {
     let [name, rounds] = words else {
         return Err(Stop::Words);
     };
@@ -43,14 +44,14 @@ pub fn asked(alloc: Global, words: &[String]) -> Result<u64, Stop> {
     };
     match callee {
         Callee::Core => moves(alloc, rounds),
-        Callee::Table => calls(alloc, rounds),
+        Callee::Table => calls(rt, alloc, rounds),
     }
 }
 
 /// A few of both.
-pub fn few(alloc: Global) -> Result<u64, Stop> {
+pub fn few<R: Wait>(rt: &R, alloc: Global) -> Result<u64, Stop> {
     let moved = moves(alloc, 2)?;
-    let called = calls(alloc, 3)?;
+    let called = calls(rt, alloc, 3)?;
     Ok(moved.saturating_add(called))
 }
 
@@ -75,9 +76,9 @@ fn move_rounds(core: &mut Core, rounds: u64) -> Result<(), StepFault> {
 }
 
 // So many calls that do the same.
-fn calls(alloc: Global, rounds: u64) -> Result<u64, Stop> {
+fn calls<R: Wait>(rt: &R, alloc: Global, rounds: u64) -> Result<u64, Stop> {
     let (shared, mut worker) = Shared::new(alloc, 1, PAGES)?;
-    let Ok(body) = shared.take_span(&mut worker, PAGES, 0) else {
+    let Ok(body) = shared.take_span(rt, &mut worker, PAGES, 0) else {
         return Err(Stop::NoMemory);
     };
     call_rounds(&shared, &mut worker, &body, rounds);
@@ -85,8 +86,7 @@ fn calls(alloc: Global, rounds: u64) -> Result<u64, Stop> {
 }
 
 fn call_rounds(shared: &Shared, w: &mut Worker, body: &Body, rounds: u64)
-    requires here { w.old.here ≡ true }
-    requires table { w.old.table ≡ shared.now }
+    requires works { IsAtWork shared.now w.old }
     requires held { has body.now.page w.old.view.own.held ≡ true }
     requires unclaimed { w.old.view.own.claimed ≡ None }
     requires lent { HasBody w.old.view.own body.now }
@@ -97,13 +97,11 @@ fn call_rounds(shared: &Shared, w: &mut Worker, body: &Body, rounds: u64)
 }
 
 fn call_round(shared: &Shared, w: &mut Worker, body: &Body)
-    requires here { w.old.here ≡ true }
-    requires table { w.old.table ≡ shared.now }
+    requires works { IsAtWork shared.now w.old }
     requires held { has body.now.page w.old.view.own.held ≡ true }
     requires unclaimed { w.old.view.own.claimed ≡ None }
     requires lent { HasBody w.old.view.own body.now }
-    ensures here { w.new.here ≡ true }
-    ensures table { w.new.table ≡ shared.now }
+    ensures works { IsAtWork shared.now w.new }
     ensures held { has body.now.page w.new.view.own.held ≡ true }
     ensures unclaimed { w.new.view.own.claimed ≡ None }
     ensures lent { HasBody w.new.view.own body.now }

@@ -75,8 +75,7 @@ module _ (table : TableId) (ring : RingId) (marks : MarkSet) where
       → MayCount ring marks new.tally → MayPublish ring new.tally → IsReady table ring marks new d
   leaves_ready old new c d said r l v u counts publishes = record {
     served = (let s = r.served in record {
-      here = l.here ∙ s.here;
-      same_table = l.table ∙ s.same_table;
+      works = (l.table ∙ s.works.0, l.away ∙ s.works.1);
       driver = l.number ∙ s.driver;
       parts = ap (λ (z : View). length z.parts) l.view ∙ s.parts;
       others = λ i p other at. s.others i p other (ap (λ (z : View). get_elem? z.parts i) (sym l.view) ∙ at);
@@ -116,8 +115,7 @@ module _ (table : TableId) (ring : RingId) (marks : MarkSet) where
       → IsReady table ring marks new d
   counted_ready sampled bucket old new c d t r e w n = record {
     served = (let s = r.served in record {
-      here = ap (λ (x : Seen). x.here) w ∙ s.here;
-      same_table = ap (λ (x : Seen). x.table) w ∙ s.same_table;
+      works = (ap (λ (x : Seen). x.table) w ∙ s.works.0, ap (λ (x : Seen). x.away) w ∙ s.works.1);
       driver = ap (λ (x : Seen). x.number) w ∙ s.driver;
       parts = ap (λ (x : Seen). length x.view.parts) w ∙ s.parts;
       others = λ i p other at. s.others i p other (ap (λ (x : Seen). get_elem? x.view.parts i) (sym w) ∙ at);
@@ -209,12 +207,11 @@ sweep_grows old new (Err e) same = grows-same old.worker new.worker (ap (λ (h :
 
 -- a new processor on the driver of a new table; over variables, so that no list of parts is written out
 first_by : (table : TableId) (ring : RingId) (marks : MarkSet) (pages goal workers n : ℕ) (w : Seen) (h : Hand) (c : Cache) (t : Countdown) → ring.buckets ≡ 2 → marks.pairs ≡ [] → ((p : ℕ) → dead_of marks p ≡ []) → workers ≡ 70
-    → w ≡ record { here = true; table = table; number = 69; view = first_view pages goal workers } → h.worker ≡ w → h.tally ≡ record { ring = ring; view = no_calls } → c ≡ record { number = n; flushed = 0; slots = copies 136 None; countdown = t }
+    → w ≡ record { table = table; number = 69; away = []; journal = None; view = first_view pages goal workers } → h.worker ≡ w → h.tally ≡ record { ring = ring; view = no_calls } → c ≡ record { number = n; flushed = 0; slots = copies 136 None; countdown = t }
     → IsReady table ring marks h c
 first_by table ring marks pages goal workers n w h c t two none dead size at same tally made = let is = same ∙ at in record {
   served = record {
-    here = ap (λ (s : Seen). s.here) is;
-    same_table = ap (λ (s : Seen). s.table) is;
+    works = (ap (λ (s : Seen). s.table) is, ap (λ (s : Seen). s.away) is);
     driver = ap (λ (s : Seen). s.number) is;
     parts = ap (λ (s : Seen). length s.view.parts) is ∙ length-map-range_with_len (λ _. no_part) 0 workers ∙ size;
     others = λ i p other e. sym (at_here no_part (range_with_len 0 workers) i p (ap (λ (s : Seen). get_elem? s.view.parts i) (sym is) ∙ e));
@@ -233,6 +230,6 @@ first_by table ring marks pages goal workers n w h c t two none dead size at sam
   two = two;
 }
 
-pub first_ready : (table : TableId) (ring : RingId) (marks : MarkSet) (w : Seen) (h : Hand) (c : Cache) (t : Countdown) → ring.buckets ≡ 2 → marks.pairs ≡ [] → ((p : ℕ) → dead_of marks p ≡ []) → w ≡ record { here = true; table = table; number = 69; view = first_view 512 512 70 }
+pub first_ready : (table : TableId) (ring : RingId) (marks : MarkSet) (w : Seen) (h : Hand) (c : Cache) (t : Countdown) → ring.buckets ≡ 2 → marks.pairs ≡ [] → ((p : ℕ) → dead_of marks p ≡ []) → w ≡ record { table = table; number = 69; away = []; journal = None; view = first_view 512 512 70 }
     → h.worker ≡ w → h.tally ≡ record { ring = ring; view = no_calls } → c ≡ record { number = 0; flushed = 0; slots = copies 136 None; countdown = t } → IsReady table ring marks h c
 first_ready table ring marks w h c t two none dead at same tally made = first_by table ring marks 512 512 70 0 w h c t two none dead refl at same tally made

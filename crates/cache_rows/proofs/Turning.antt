@@ -48,13 +48,12 @@ use Rattle.cache_rows.proofs.Living.{all_known}
 
 -- a worker whose log has these entries more, that has reset these sets, and was told this journal
 abbrev pub quieted : List Entry → List ℕ → Option (List Line) → Seen → Seen
-quieted said sets journal w = record w { view = acts w.view (record w.view.own { log = said ++ w.view.own.log; reset = sets; journal = journal }) }
+quieted said sets journal w = record w { journal = journal; view = acts w.view (record w.view.own { log = said ++ w.view.own.log; reset = sets }) }
 
 module _ (table : TableId) (w : Seen) (c : Cache) (said : List Entry) (sets : List ℕ) (journal : Option (List Line)) where
   pub quiet_served : ((j p : ℕ) → many (is_pop_of j p) said ≡ 0) → IsServed table w c → IsServed table (quieted said sets journal w) c
   quiet_served none r = record {
-    here = r.here;
-    same_table = r.same_table;
+    works = r.works;
     driver = r.driver;
     parts = r.parts;
     others = r.others;
@@ -106,7 +105,7 @@ module _ (table : TableId) (w : Seen) (c : Cache) (r : IsServed table w c) where
       empty = s.seen;
     }
 
-    pub may_settle : MaySettle w.number w.view
+    pub may_settle : MaySettle w
     may_settle = record {
       rest = at_rest;
       used = each (λ h. (p : ℕ) → has p h.cached ≡ true → 0 < many (is_placing_in p) h.log) (λ p hp. r.used p hp (own_fresh p hp)) (λ p hp. absurd (true≢false (sym hp)));
@@ -124,26 +123,26 @@ none_popped : (h : ℕ) (j p : ℕ) → many (is_pop_of j p) (Read 1 h ∷ []) �
 none_popped h j p = refl
 
 -- the generation was read
-module _ (table : TableId) (c : Cache) (w w1 : Seen) (r : IsServed table w c) (s : HasSwept w c) (g : ℕ) (e1 : w1 ≡ quieted (Read 1 g ∷ []) w.view.own.reset w.view.own.journal w) where
+module _ (table : TableId) (c : Cache) (w w1 : Seen) (r : IsServed table w c) (s : HasSwept w c) (g : ℕ) (e1 : w1 ≡ quieted (Read 1 g ∷ []) w.view.own.reset w.journal w) where
   pub one_served : IsServed table w1 c
-  one_served = subst (λ (x : Seen). IsServed table x c) (sym e1) (quiet_served table w c (Read 1 g ∷ []) w.view.own.reset w.view.own.journal (none_popped g) r)
+  one_served = subst (λ (x : Seen). IsServed table x c) (sym e1) (quiet_served table w c (Read 1 g ∷ []) w.view.own.reset w.journal (none_popped g) r)
 
   pub one_swept : HasSwept w1 c
-  one_swept = subst (λ (x : Seen). HasSwept x c) (sym e1) (quiet_swept table w c (Read 1 g ∷ []) w.view.own.reset w.view.own.journal s)
+  one_swept = subst (λ (x : Seen). HasSwept x c) (sym e1) (quiet_swept table w c (Read 1 g ∷ []) w.view.own.reset w.journal s)
 
   pub one_grows : Grows w w1
   one_grows = (Read 1 g ∷ [], ap (λ (x : Seen). x.view.own.log) e1)
 
 -- the sets are reset, and the journal is told
-module _ (table : TableId) (c : Cache) (w w1 w2 w3 : Seen) (r : IsServed table w c) (s : HasSwept w c) (g : ℕ) (e1 : w1 ≡ quieted (Read 1 g ∷ []) w.view.own.reset w.view.own.journal w) (e2 : Resets w1 w2) where
-  two_is : w2 ≡ quieted (Read 1 w1.view.generation ∷ []) (w1.view.own.reset ++ e2.sets) w1.view.own.journal w1
+module _ (table : TableId) (c : Cache) (w w1 w2 w3 : Seen) (r : IsServed table w c) (s : HasSwept w c) (g : ℕ) (e1 : w1 ≡ quieted (Read 1 g ∷ []) w.view.own.reset w.journal w) (e2 : Resets w1 w2) where
+  two_is : w2 ≡ quieted (Read 1 w1.view.generation ∷ []) (w1.view.own.reset ++ e2.sets) w1.journal w1
   two_is = e2.view
 
   pub two_served : IsServed table w2 c
-  two_served = subst (λ (x : Seen). IsServed table x c) (sym two_is) (quiet_served table w1 c (Read 1 w1.view.generation ∷ []) (w1.view.own.reset ++ e2.sets) w1.view.own.journal (none_popped w1.view.generation) (one_served table c w w1 r s g e1))
+  two_served = subst (λ (x : Seen). IsServed table x c) (sym two_is) (quiet_served table w1 c (Read 1 w1.view.generation ∷ []) (w1.view.own.reset ++ e2.sets) w1.journal (none_popped w1.view.generation) (one_served table c w w1 r s g e1))
 
   pub two_swept : HasSwept w2 c
-  two_swept = subst (λ (x : Seen). HasSwept x c) (sym two_is) (quiet_swept table w1 c (Read 1 w1.view.generation ∷ []) (w1.view.own.reset ++ e2.sets) w1.view.own.journal (one_swept table c w w1 r s g e1))
+  two_swept = subst (λ (x : Seen). HasSwept x c) (sym two_is) (quiet_swept table w1 c (Read 1 w1.view.generation ∷ []) (w1.view.own.reset ++ e2.sets) w1.journal (one_swept table c w w1 r s g e1))
 
   generation_is : w2.view.generation ≡ w.view.generation
   generation_is = ap (λ (x : Seen). x.view.generation) two_is ∙ ap (λ (x : Seen). x.view.generation) e1
@@ -175,13 +174,12 @@ module _ (table : TableId) (c : Cache) (w w1 w2 w3 : Seen) (r : IsServed table w
 
 -- ---- the next cycle
 
-pub may_mark : (table : TableId) (w : Seen) (c : Cache) (pairs : List (ℕ × ℕ)) → IsServed table w c → HasSettled w c → AllByRecursion (IsKnown w.number w.view) pairs → MayMark w.number w.view pairs
+pub may_mark : (table : TableId) (w : Seen) (c : Cache) (pairs : List (ℕ × ℕ)) → IsServed table w c → HasSettled w c → AllByRecursion (IsKnown w.number w.view) pairs → MayMark w pairs
 may_mark table w c pairs r s known = record { rest = at_rest table w c r s.swept; reset = s.reset; early = s.early; known = known; told = s.told }
 
 next_served : (table : TableId) (w : Seen) (c : Cache) (pairs : List (ℕ × ℕ)) → IsServed table w c → IsServed table (after_next pairs w) c
 next_served table w c pairs r = record {
-  here = r.here;
-  same_table = r.same_table;
+  works = r.works;
   driver = r.driver;
   parts = length-map w.view.parts rested ∙ r.parts;
   others = λ i p other a. let z = map_at rested w.view.parts i p a in sym z.2 ∙ ap rested (r.others i z.0 other z.1);

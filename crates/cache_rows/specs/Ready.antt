@@ -16,7 +16,7 @@ use Rattle.worker_log.specs.Logs.{placings}
 use Rattle.worker_log.specs.Entries.{is_seen_empty, many}
 use Rattle.span_laws.specs.declared.view.Part.{Part}
 use Rattle.sound_run.specs.Run.{count_for}
-use Rattle.span_laws.specs.Asks.{IsIdle, KnowsJournal}
+use Rattle.span_laws.specs.Asks.{IsAtWork, IsIdle, KnowsJournal}
 use Rattle.span_laws.specs.MarkEndAsks.{IsKnown}
 use Rattle.span_laws.specs.Views.{Seen, no_part}
 use Rattle.span_set.specs.Tallies.{MayCount}
@@ -33,8 +33,7 @@ pub record MayPublish (r : RingId) (t : Standing) : Type 0 where
 
 -- the worker is the driver of the table and is idle, no other has anything, and the processor serves it
 pub record IsServed (table : TableId) (w : Seen) (c : Cache) : Type 0 where
-  pub here : w.here ≡ true
-  pub same_table : w.table ≡ table
+  pub works : IsAtWork table w
   pub driver : w.number ≡ 69
   pub parts : length w.view.parts ≡ 70
   pub others : (i : ℕ) (p : Part) → i ≢ 69 → get_elem? w.view.parts i ≡ some p → p ≡ no_part
@@ -59,7 +58,7 @@ pub record HasSwept (w : Seen) (c : Cache) : Type 0 where
 pub record HasSettled (w : Seen) (c : Cache) : Type 0 where
   pub swept : HasSwept w c
   pub reset : (k : ℕ) → k < 544 → is_swept_set w.view.generation k ≡ false → has k w.view.own.reset ≡ true
-  pub told : KnowsJournal w.view.own
+  pub told : KnowsJournal w
   pub early : w.view.generation < 8589934592
   pub below : (a : Placing) → In a (placings w.view.own.log) → a.index < count_for a.class
 

@@ -9,6 +9,7 @@ use span_state::{Marks, SweepNote};
 use span_table::Shared;
 use std::alloc::Global;
 use std::marker::Model;
+use std::sync::Wait;
 use sweeper::One;
 use trace_reader::{Event, Header};
 
@@ -69,7 +70,13 @@ impl Scene {
     }
 
     /// An object of 1 to 32768 bytes, which counts toward bucket 0 or 1.
-    pub fn small(&mut self, size: u64, scan: bool, bucket: u32) -> Result<Placed, Refused> {
+    pub fn small<R: Wait>(
+        &mut self,
+        rt: &R,
+        size: u64,
+        scan: bool,
+        bucket: u32,
+    ) -> Result<Placed, Refused> {
         if size == 0 || size > 32768 || bucket > 1 {
             return Err(Refused::NoMemory);
         }
@@ -87,6 +94,7 @@ impl Scene {
             stack: 0,
         };
         small(
+            rt,
             &shop,
             &mut self.hand,
             &mut self.proc,
@@ -97,7 +105,7 @@ impl Scene {
     }
 
     /// An object of so many pages, at least 5, which counts toward bucket 0 or 1.
-    pub fn large(&mut self, pages: u32, bucket: u32) -> Result<Placed, Refused> {
+    pub fn large<R: Wait>(&mut self, rt: &R, pages: u32, bucket: u32) -> Result<Placed, Refused> {
         if bucket > 1 {
             return Err(Refused::NoMemory);
         }
@@ -108,7 +116,14 @@ impl Scene {
             distance: 8192,
             pages: self.pages,
         };
-        large(&shop, &mut self.hand, &mut self.proc, pages.max(5), bucket)
+        large(
+            rt,
+            &shop,
+            &mut self.hand,
+            &mut self.proc,
+            pages.max(5),
+            bucket,
+        )
     }
 
     /// A sampled object of bucket 0 or 1 died in the span of the page.
@@ -121,7 +136,7 @@ impl Scene {
 
     /// A mark end behind a sweep of all spans. These objects live, each by the page of its span and its index. They lived at the mark end before, or are
     /// small ones that were placed since, in spans of one page; for others the call fails, and nothing is marked.
-    pub fn mark_end(&mut self, live: &[(u32, u32)]) -> Result<(), NoMemory> {
+    pub fn mark_end<R: Wait>(&mut self, rt: &R, live: &[(u32, u32)]) -> Result<(), NoMemory> {
         let shop = Shop {
             shared: &self.shared,
             marks: &self.marks,
@@ -130,6 +145,7 @@ impl Scene {
             pages: 0,
         };
         let marks = prepare(
+            rt,
             self.alloc,
             &shop,
             &mut self.hand,
@@ -151,7 +167,7 @@ impl Scene {
     }
 
     /// Reclaims so many pages.
-    pub fn reclaim(&mut self, pages: u32) -> Result<u32, NoMemory> {
+    pub fn reclaim<R: Wait>(&mut self, rt: &R, pages: u32) -> Result<u32, NoMemory> {
         let shop = Shop {
             shared: &self.shared,
             marks: &self.marks,
@@ -159,11 +175,11 @@ impl Scene {
             distance: 8192,
             pages: self.pages,
         };
-        reclaim_pages(&shop, &mut self.hand, &self.proc, pages)
+        reclaim_pages(rt, &shop, &mut self.hand, &self.proc, pages)
     }
 
     /// Sweeps the next span of the unswept sets.
-    pub fn sweep(&mut self) -> Result<One, NoMemory> {
+    pub fn sweep<R: Wait>(&mut self, rt: &R) -> Result<One, NoMemory> {
         let shop = Shop {
             shared: &self.shared,
             marks: &self.marks,
@@ -171,7 +187,7 @@ impl Scene {
             distance: 8192,
             pages: self.pages,
         };
-        sweep_next(&shop, &mut self.hand, &self.proc)
+        sweep_next(rt, &shop, &mut self.hand, &self.proc)
     }
 
     /// A span of a span class, from 0 to 135, for a cache. The scene is left.

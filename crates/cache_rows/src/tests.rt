@@ -2,6 +2,7 @@ use crate::Scene;
 use fallible_list::NoMemory;
 use proc_cache::{Placed, Refused};
 use std::process::Abort;
+use std::sync::Wait;
 use std::test::Fail;
 
 // A call on a scene.
@@ -63,16 +64,21 @@ fn placed(found: Result<Placed, Refused>) -> Result<Answer, NoMemory> {
     }
 }
 
-fn make(scene: &mut Scene, live: &[(u32, u32)], call: Call) -> Result<Answer, NoMemory> {
+fn make<R: Wait>(
+    rt: &R,
+    scene: &mut Scene,
+    live: &[(u32, u32)],
+    call: Call,
+) -> Result<Answer, NoMemory> {
     match call {
-        Call::Small(size, scan, bucket) => placed(scene.small(size, scan, bucket)),
-        Call::Large(pages, bucket) => placed(scene.large(pages, bucket)),
+        Call::Small(size, scan, bucket) => placed(scene.small(rt, size, scan, bucket)),
+        Call::Large(pages, bucket) => placed(scene.large(rt, pages, bucket)),
         Call::Die(page, bucket) => {
             scene.die(page, bucket)?;
             Ok(Answer::Done)
         }
         Call::MarkEnd => {
-            scene.mark_end(live)?;
+            scene.mark_end(rt, live)?;
             Ok(Answer::Done)
         }
         Call::Pace(pages) => {
@@ -92,14 +98,14 @@ fn make(scene: &mut Scene, live: &[(u32, u32)], call: Call) -> Result<Answer, No
 }
 
 // The calls answer as they should.
-fn try_rows(
-    rt: &impl Abort,
+fn try_rows<R: Abort + Wait>(
+    rt: &R,
     scene: &mut Scene,
     live: &[(u32, u32)],
     rows: &[(Call, Answer)],
 ) -> Result<(), NoMemory> {
     for (made, wanted) in rows {
-        let found = make(scene, live, *made)?;
+        let found = make(rt, scene, live, *made)?;
         assert_eq!(rt; found, *wanted);
     }
     Ok(())

@@ -13,6 +13,7 @@ use span_set::{Hand, Shop, reset};
 use span_state::Marks;
 use span_table::Shared;
 use std::alloc::Global;
+use std::sync::Wait;
 use sweeper::{One, finish, reclaim, sweep_one};
 use trace_reader::Event;
 
@@ -20,7 +21,8 @@ use trace_reader::Event;
 const LAST: u64 = 8_589_934_592;
 
 // A small object of this bucket, which is one of the objects from now on.
-pub(crate) fn small(
+pub(crate) fn small<R: Wait>(
+    rt: &R,
     shop: &Shop,
     hand: &mut Hand,
     proc: &mut Proc,
@@ -37,7 +39,7 @@ pub(crate) fn small(
     ensures ready { IsReady shop.now.shared.now shop.now.ring.now shop.now.marks.now hand.new proc.new }
     ensures objects { AreObjects hand.new.worker.view.own.log objects.new }
 {
-    let placed = place(shop, hand, proc, event, bucket)?;
+    let placed = place(rt, shop, hand, proc, event, bucket)?;
     let Some(slot) = slot_on_page(event.size) else {
         return Ok(placed);
     };
@@ -52,7 +54,8 @@ pub(crate) fn small(
 }
 
 // The same, without a note of the object.
-fn place(
+fn place<R: Wait>(
+    rt: &R,
     shop: &Shop,
     hand: &mut Hand,
     proc: &mut Proc,
@@ -68,11 +71,12 @@ fn place(
     ensures grows { Grows hand.old.worker hand.new.worker }
     ensures placed { IfOk result (λ p. IsPlaced event.size p.addr hand.new.worker) }
 {
-    alloc(proc, shop, hand, event, bucket)
+    alloc(rt, proc, shop, hand, event, bucket)
 }
 
 // A large object of so many pages and this bucket, behind a flush.
-pub(crate) fn large(
+pub(crate) fn large<R: Wait>(
+    rt: &R,
     shop: &Shop,
     hand: &mut Hand,
     proc: &mut Proc,
@@ -86,14 +90,15 @@ pub(crate) fn large(
     ensures ready { IsReady shop.now.shared.now shop.now.ring.now shop.now.marks.now hand.new proc.new }
     ensures grows { Grows hand.old.worker hand.new.worker }
 {
-    let Ok(()) = flush_now(shop, hand, proc) else {
+    let Ok(()) = flush_now(rt, shop, hand, proc) else {
         return Err(Refused::NoMemory);
     };
-    put_large(shop, hand, proc, pages, bucket)
+    put_large(rt, shop, hand, proc, pages, bucket)
 }
 
 // The same where the processor has flushed.
-fn put_large(
+fn put_large<R: Wait>(
+    rt: &R,
     shop: &Shop,
     hand: &mut Hand,
     proc: &mut Proc,
@@ -107,37 +112,43 @@ fn put_large(
     ensures ready { IsReady shop.now.shared.now shop.now.ring.now shop.now.marks.now hand.new proc.new }
     ensures grows { Grows hand.old.worker hand.new.worker }
 {
-    let addr = alloc_large(shop, hand, pages, 1)?;
+    let addr = alloc_large(rt, shop, hand, pages, 1)?;
     let slot = PAGE_SIZE * u64::from(pages);
     let sampled = count_placed(proc, shop, hand, slot, bucket);
     Ok(Placed { addr, sampled })
 }
 
 // The processor flushes, where it has not done so in this cycle.
-fn flush_now(shop: &Shop, hand: &mut Hand, proc: &mut Proc) -> Result<(), NoMemory>
+fn flush_now<R: Wait>(rt: &R, shop: &Shop, hand: &mut Hand, proc: &mut Proc) -> Result<(), NoMemory>
     requires ready { IsReady shop.now.shared.now shop.now.ring.now shop.now.marks.now hand.old proc.old }
     requires distance { 8192 ≤ shop.now.distance }
     ensures ready { IsReady shop.now.shared.now shop.now.ring.now shop.now.marks.now hand.new proc.new }
     ensures grows { Grows hand.old.worker hand.new.worker }
     ensures flushed { OnOk result (proc.new.flushed ≡ hand.new.worker.view.generation) }
 {
-    flush(proc, shop, hand)
+    flush(rt, proc, shop, hand)
 }
 
 // Flushes, and sweeps all that is left.
-pub(crate) fn sweep_all(shop: &Shop, hand: &mut Hand, proc: &mut Proc) -> Result<(), NoMemory>
+pub(crate) fn sweep_all<R: Wait>(
+    rt: &R,
+    shop: &Shop,
+    hand: &mut Hand,
+    proc: &mut Proc,
+) -> Result<(), NoMemory>
     requires ready { IsReady shop.now.shared.now shop.now.ring.now shop.now.marks.now hand.old proc.old }
     requires distance { 8192 ≤ shop.now.distance }
     ensures ready { IsReady shop.now.shared.now shop.now.ring.now shop.now.marks.now hand.new proc.new }
     ensures grows { Grows hand.old.worker hand.new.worker }
     ensures swept { OnOk result (HasSwept hand.new.worker proc.new) }
 {
-    flush_now(shop, hand, proc)?;
-    finish(shop, hand)
+    flush_now(rt, shop, hand, proc)?;
+    finish(rt, shop, hand)
 }
 
 // Reclaims so many pages.
-pub(crate) fn reclaim_pages(
+pub(crate) fn reclaim_pages<R: Wait>(
+    rt: &R,
     shop: &Shop,
     hand: &mut Hand,
     proc: &Proc,
@@ -149,18 +160,23 @@ pub(crate) fn reclaim_pages(
     ensures grows { Grows hand.old.worker hand.new.worker }
 {
     let _proc = proc;
-    reclaim(shop, hand, pages)
+    reclaim(rt, shop, hand, pages)
 }
 
 // The next sweep of a span in the unswept sets.
-pub(crate) fn sweep_next(shop: &Shop, hand: &mut Hand, proc: &Proc) -> Result<One, NoMemory>
+pub(crate) fn sweep_next<R: Wait>(
+    rt: &R,
+    shop: &Shop,
+    hand: &mut Hand,
+    proc: &Proc,
+) -> Result<One, NoMemory>
     requires ready { IsReady shop.now.shared.now shop.now.ring.now shop.now.marks.now hand.old proc.now }
     requires distance { 8192 ≤ shop.now.distance }
     ensures ready { IsReady shop.now.shared.now shop.now.ring.now shop.now.marks.now hand.new proc.now }
     ensures grows { Grows hand.old.worker hand.new.worker }
 {
     let _proc = proc;
-    sweep_one(shop, hand)
+    sweep_one(rt, shop, hand)
 }
 
 // Resets the unswept sets, and learns the whole journal. Fails where no mark end may come any more.
@@ -181,7 +197,8 @@ pub(crate) fn settle(shop: &Shop, hand: &mut Hand, proc: &Proc) -> Result<(), No
 }
 
 // Sweeps all that is left, and settles; then the marks of these pages' indices, which live on.
-pub(crate) fn prepare(
+pub(crate) fn prepare<R: Wait>(
+    rt: &R,
     alloc: Global,
     shop: &Shop,
     hand: &mut Hand,
@@ -196,7 +213,7 @@ pub(crate) fn prepare(
     ensures grows { Grows hand.old.worker hand.new.worker }
     ensures prepared { IfOk result (λ marks. IsPrepared hand.new.worker proc.new marks) }
 {
-    sweep_all(shop, hand, proc)?;
+    sweep_all(rt, shop, hand, proc)?;
     settle(shop, hand, proc)?;
     mark_all(alloc, shop.marks, objects.as_slice(), live)
 }

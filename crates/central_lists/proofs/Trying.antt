@@ -60,7 +60,7 @@ with_part h w = record w { view = acts w.view h }
 pub keeps_by : (a d : Seen) (h : Part) → d ≡ with_part h a → h.cached ≡ a.view.own.cached → h.fresh ≡ a.view.own.fresh → h.claimed ≡ a.view.own.claimed → h.reset ≡ a.view.own.reset
     → ((q : ℕ) → times q h.sweeping ≡ times q a.view.own.sweeping) → ((q : ℕ) → times q h.popped ≡ times q a.view.own.popped) → ((q : ℕ) → 0 < mine q a.view.own → span_at q h.spans ≡ span_at q a.view.own.spans) → Keeps a d
 keeps_by a d h e cached fresh claimed reset sweeping popped bodies = subst (Keeps a) (sym e) (record {
-  here = refl;
+  away = refl;
   table = refl;
   number = refl;
   view = refl;

@@ -2,6 +2,7 @@
 //! little.
 
 ghost use Rattle.std.specs.Prelude.{◌≡◌, ◌<◌, true, false, IfSome, MatchOption, Ok};
+ghost use Rattle.span_laws.specs.Asks.{IsAtWork};
 ghost use Rattle.page_bitmap.specs.Counts.{one_if};
 ghost use Rattle.worker_log.specs.SetNumbers.{swept_set, unswept_set};
 ghost use Rattle.span_set.specs.Tallies.{Frees};
@@ -15,8 +16,7 @@ use span_set::{Hand, SetId, Shop, swept_number, unswept_number};
 
 /// Whether an unswept set is seen empty.
 pub(crate) fn sees_empty(shop: &Shop, hand: &mut Hand, class: u8, full: bool) -> bool
-    requires here { hand.old.worker.here ≡ true }
-    requires table { hand.old.worker.table ≡ shop.now.shared.now }
+    requires works { IsAtWork shop.now.shared.now hand.old.worker }
     requires class { class < 136 }
     ensures empty { result ≡ true → Does hand.old.worker.view.generation class 0 nothing nothing (SawEmpty (unswept_set hand.old.worker.view.generation class (one_if full))) hand.old hand.new }
     ensures looked { Does hand.old.worker.view.generation class 0 nothing nothing Whatever hand.old hand.new }
@@ -30,8 +30,7 @@ pub(crate) fn sees_empty(shop: &Shop, hand: &mut Hand, class: u8, full: bool) ->
 
 /// The head of the swept partial set, where that is seen empty.
 pub(crate) fn sees_no_swept(shop: &Shop, hand: &mut Hand, class: u8) -> Option<u32>
-    requires here { hand.old.worker.here ≡ true }
-    requires table { hand.old.worker.table ≡ shop.now.shared.now }
+    requires works { IsAtWork shop.now.shared.now hand.old.worker }
     requires class { class < 136 }
     ensures saw { IfSome result (λ at. Does hand.old.worker.view.generation class 0 nothing nothing (Saw (swept_set hand.old.worker.view.generation class 0) (Empty at)) hand.old hand.new) }
     ensures looked { Does hand.old.worker.view.generation class 0 nothing nothing Whatever hand.old hand.new }
@@ -45,8 +44,7 @@ pub(crate) fn sees_no_swept(shop: &Shop, hand: &mut Hand, class: u8) -> Option<u
 
 /// The head of the swept partial set, where that and then both unswept sets of the class are seen empty.
 pub(crate) fn sees_none(shop: &Shop, hand: &mut Hand, class: u8) -> Option<u32>
-    requires here { hand.old.worker.here ≡ true }
-    requires table { hand.old.worker.table ≡ shop.now.shared.now }
+    requires works { IsAtWork shop.now.shared.now hand.old.worker }
     requires class { class < 136 }
     ensures none { MatchOption result
         (Does hand.old.worker.view.generation class 0 nothing nothing Whatever hand.old hand.new)

@@ -1,4 +1,5 @@
 ghost use Rattle.std.specs.Prelude.{◌≡◌, ◌<◌, ◌≤◌, length, true, None};
+ghost use Rattle.span_laws.specs.Asks.{IsAtWork};
 ghost use Rattle.page_bitmap.specs.Counts.{one_if};
 ghost use Rattle.worker_log.specs.SetNumbers.{swept_set};
 ghost use Rattle.worker_log.specs.Entries.{is_pop_of, many};
@@ -26,8 +27,7 @@ const TRIES: u32 = 100;
 /// 100. `NoMemory` comes only where a note of a sweep found no memory: what was swept and pushed before stands, and the worker holds
 /// no span more.
 pub fn cache_span(shop: &Shop, hand: &mut Hand, class: u8) -> Result<FromSets, NoMemory>
-    requires here { hand.old.worker.here ≡ true }
-    requires table { hand.old.worker.table ≡ shop.now.shared.now }
+    requires works { IsAtWork shop.now.shared.now hand.old.worker }
     requires distance { 8192 ≤ shop.now.distance }
     requires counts { MayCount shop.now.ring.now shop.now.marks.now hand.old.tally }
     requires marks { shop.now.marks.now.pairs ≡ hand.old.worker.view.marks }
@@ -48,8 +48,7 @@ pub fn cache_span(shop: &Shop, hand: &mut Hand, class: u8) -> Result<FromSets, N
 // The same where a set was not seen empty. It stands alone, so that a call that finds them all empty has no place for a body.
 #[inline(never)]
 fn search_sets(shop: &Shop, hand: &mut Hand, class: u8) -> Result<FromSets, NoMemory>
-    requires here { hand.old.worker.here ≡ true }
-    requires table { hand.old.worker.table ≡ shop.now.shared.now }
+    requires works { IsAtWork shop.now.shared.now hand.old.worker }
     requires distance { 8192 ≤ shop.now.distance }
     requires counts { MayCount shop.now.ring.now shop.now.marks.now hand.old.tally }
     requires marks { shop.now.marks.now.pairs ≡ hand.old.worker.view.marks }
@@ -70,8 +69,7 @@ fn search_sets(shop: &Shop, hand: &mut Hand, class: u8) -> Result<FromSets, NoMe
 
 // Looks into the swept partial set.
 fn look_first(shop: &Shop, hand: &mut Hand, class: u8) -> Result<Body, Look>
-    requires here { hand.old.worker.here ≡ true }
-    requires table { hand.old.worker.table ≡ shop.now.shared.now }
+    requires works { IsAtWork shop.now.shared.now hand.old.worker }
     requires class { class < 136 }
     ensures looks { LooksFirst hand.old.worker.view.generation class hand.old hand.new result }
     ensures tally { Frees shop.now.marks.now hand.old hand.new }
@@ -85,8 +83,7 @@ fn look_first(shop: &Shop, hand: &mut Hand, class: u8) -> Result<Body, Look>
 
 // Goes through the unswept sets of the class.
 fn search_unswept(shop: &Shop, hand: &mut Hand, class: u8) -> Result<Search, NoMemory>
-    requires here { hand.old.worker.here ≡ true }
-    requires table { hand.old.worker.table ≡ shop.now.shared.now }
+    requires works { IsAtWork shop.now.shared.now hand.old.worker }
     requires distance { 8192 ≤ shop.now.distance }
     requires counts { MayCount shop.now.ring.now shop.now.marks.now hand.old.tally }
     requires marks { shop.now.marks.now.pairs ≡ hand.old.worker.view.marks }
@@ -105,8 +102,7 @@ fn search_unswept(shop: &Shop, hand: &mut Hand, class: u8) -> Result<Search, NoM
 
 // Goes through the unswept full set, after so many tries of the partial one.
 fn search_full(shop: &Shop, hand: &mut Hand, class: u8, before: u32) -> Result<Search, NoMemory>
-    requires here { hand.old.worker.here ≡ true }
-    requires table { hand.old.worker.table ≡ shop.now.shared.now }
+    requires works { IsAtWork shop.now.shared.now hand.old.worker }
     requires distance { 8192 ≤ shop.now.distance }
     requires counts { MayCount shop.now.ring.now shop.now.marks.now hand.old.tally }
     requires marks { shop.now.marks.now.pairs ≡ hand.old.worker.view.marks }
@@ -133,8 +129,7 @@ fn look_through(
     full: bool,
     before: u32,
 ) -> Result<Through, NoMemory>
-    requires here { hand.old.worker.here ≡ true }
-    requires table { hand.old.worker.table ≡ shop.now.shared.now }
+    requires works { IsAtWork shop.now.shared.now hand.old.worker }
     requires distance { 8192 ≤ shop.now.distance }
     requires counts { MayCount shop.now.ring.now shop.now.marks.now hand.old.tally }
     requires marks { shop.now.marks.now.pairs ≡ hand.old.worker.view.marks }
@@ -159,8 +154,7 @@ fn try_all(
     full: bool,
     before: u32,
 ) -> Result<Through, NoMemory>
-    requires here { hand.old.worker.here ≡ true }
-    requires table { hand.old.worker.table ≡ shop.now.shared.now }
+    requires works { IsAtWork shop.now.shared.now hand.old.worker }
     requires distance { 8192 ≤ shop.now.distance }
     requires counts { MayCount shop.now.ring.now shop.now.marks.now hand.old.tally }
     requires marks { shop.now.marks.now.pairs ≡ hand.old.worker.view.marks }
@@ -183,8 +177,7 @@ fn try_all(
 
 // Pops one entry of an unswept set, and sweeps its span where that waits for its sweep.
 fn try_one(shop: &Shop, hand: &mut Hand, class: u8, full: bool) -> Result<One, NoMemory>
-    requires here { hand.old.worker.here ≡ true }
-    requires table { hand.old.worker.table ≡ shop.now.shared.now }
+    requires works { IsAtWork shop.now.shared.now hand.old.worker }
     requires distance { 8192 ≤ shop.now.distance }
     requires counts { MayCount shop.now.ring.now shop.now.marks.now hand.old.tally }
     requires marks { shop.now.marks.now.pairs ≡ hand.old.worker.view.marks }
@@ -208,8 +201,7 @@ fn try_one(shop: &Shop, hand: &mut Hand, class: u8, full: bool) -> Result<One, N
 
 // Sweeps a span of the class that the worker acquired: it is kept where it has a free index, else it goes to the full set.
 fn sweep_one(shop: &Shop, hand: &mut Hand, class: u8, body: Body) -> Option<Body>
-    requires here { hand.old.worker.here ≡ true }
-    requires table { hand.old.worker.table ≡ shop.now.shared.now }
+    requires works { IsAtWork shop.now.shared.now hand.old.worker }
     requires distance { 8192 ≤ shop.now.distance }
     requires counts { MayCount shop.now.ring.now shop.now.marks.now hand.old.tally }
     requires room { length hand.old.notes.items < hand.old.notes.space }

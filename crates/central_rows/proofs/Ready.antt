@@ -1,5 +1,5 @@
 -- A hand is as the rows ask it at the start, and after a look for a span to cache.
-use Rattle.std.proofs.Common.{◌≡◌, ℕ, ◌<◌, true, List, [], ap, sym, subst, ◌∙◌}
+use Rattle.std.proofs.Common.{◌≡◌, ℕ, ◌<◌, List, [], ap, sym, subst, ◌∙◌}
 use Rattle.std.specs.Prelude.{All}
 use Rattle.std.proofs.lemmas.List.Elements.{All-nil}
 use Rattle.atomic_table.specs.Seated.{TableId}
@@ -17,18 +17,16 @@ use Rattle.central_rows.specs.Rows.{IsReady}
 pub ready_after : (table : TableId) (ring : RingId) (m : MarkSet) (g class tried : ℕ) (more kept : ℕ → ℕ) (P : List Entry → Type 0) (old new : Hand) → Does g class tried more kept P old new → Frees m old new → IsReady table ring m old
     → IsReady table ring m new
 ready_after table ring m g class tried more kept P old new d f r = let k = d.keeps in record {
-  here = k.here ∙ r.here;
-  same = k.table ∙ r.same;
+  works = (k.table ∙ r.works.0, k.away ∙ r.works.1);
   unclaimed = k.claimed ∙ r.unclaimed;
   marked = r.marked ∙ sym (ap (λ (v : View). v.marks) k.view);
   counts = may-still m ring old new r.counts f;
 }
 
-pub first_ready : (table : TableId) (ring : RingId) (m : MarkSet) (pages goal workers : ℕ) (w : Seen) (h : Hand) → m.pairs ≡ [] → ((p : ℕ) → dead_of m p ≡ []) → w ≡ record { here = true; table = table; number = 69; view = first_view pages goal workers } → h.worker ≡ w
+pub first_ready : (table : TableId) (ring : RingId) (m : MarkSet) (pages goal workers : ℕ) (w : Seen) (h : Hand) → m.pairs ≡ [] → ((p : ℕ) → dead_of m p ≡ []) → w ≡ record { table = table; number = 69; away = []; journal = None; view = first_view pages goal workers } → h.worker ≡ w
     → h.tally ≡ record { ring = ring; view = no_calls } → IsReady table ring m h
 first_ready table ring m pages goal workers w h none dead at same tally = let is = same ∙ at in record {
-  here = ap (λ (s : Seen). s.here) is;
-  same = ap (λ (s : Seen). s.table) is;
+  works = (ap (λ (s : Seen). s.table) is, ap (λ (s : Seen). s.away) is);
   unclaimed = ap (λ (s : Seen). s.view.own.claimed) is;
   marked = none ∙ sym (ap (λ (s : Seen). s.view.marks) is);
   counts = record { ring = ap (λ (s : Standing). s.ring) tally; dead = λ p. subst (All (λ b. b < ring.buckets)) (sym (dead p)) (All-nil (λ b. b < ring.buckets)) };

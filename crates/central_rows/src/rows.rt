@@ -5,6 +5,7 @@ use central_lists::{FromSets, Look};
 use fallible_list::NoMemory;
 use std::alloc::Global;
 use std::process::Abort;
+use std::sync::Wait;
 use std::test::Fail;
 use sweeper::One;
 
@@ -63,35 +64,41 @@ fn marks_of(alloc: Global, runs: &[(u32, u32)]) -> Result<Vec<(u32, u32)>, NoMem
     Ok(marks)
 }
 
-fn mark_end(scene: &mut Scene, alloc: Global, runs: &[(u32, u32)]) -> Result<(), NoMemory> {
+fn mark_end<R: Wait>(
+    rt: &R,
+    scene: &mut Scene,
+    alloc: Global,
+    runs: &[(u32, u32)],
+) -> Result<(), NoMemory> {
     let marks = marks_of(alloc, runs)?;
-    scene.mark_end(marks.as_slice())
+    scene.mark_end(rt, marks.as_slice())
 }
 
-fn put(scene: &mut Scene) -> Result<(), NoMemory> {
-    match scene.small(SIZE, true, 0) {
+fn put<R: Wait>(rt: &R, scene: &mut Scene) -> Result<(), NoMemory> {
+    match scene.small(rt, SIZE, true, 0) {
         Ok(_) => Ok(()),
         Err(_) => Err(NoMemory),
     }
 }
 
-fn put_spans(scene: &mut Scene, spans: u32) -> Result<(), NoMemory> {
+fn put_spans<R: Wait>(rt: &R, scene: &mut Scene, spans: u32) -> Result<(), NoMemory> {
     for _ in 0..spans {
-        put(scene)?;
-        put(scene)?;
+        put(rt, scene)?;
+        put(rt, scene)?;
     }
     Ok(())
 }
 
 // Full spans on the first pages, and one more that is cached.
-fn fill(scene: &mut Scene, runs: &[(u32, u32)]) -> Result<(), NoMemory> {
+fn fill<R: Wait>(rt: &R, scene: &mut Scene, runs: &[(u32, u32)]) -> Result<(), NoMemory> {
     for run in runs {
-        put_spans(scene, run.0)?;
+        put_spans(rt, scene, run.0)?;
     }
-    put(scene)
+    put(rt, scene)
 }
 
-fn make(
+fn make<R: Wait>(
+    rt: &R,
     scene: &mut Scene,
     alloc: Global,
     later: &[(u32, u32)],
@@ -99,11 +106,11 @@ fn make(
 ) -> Result<Answer, NoMemory> {
     match call {
         Call::MarkEnd => {
-            mark_end(scene, alloc, later)?;
+            mark_end(rt, scene, alloc, later)?;
             Ok(Answer::Done)
         }
-        Call::Reclaim => Ok(Answer::Pages(scene.reclaim(1)?)),
-        Call::Sweep => match scene.sweep()? {
+        Call::Reclaim => Ok(Answer::Pages(scene.reclaim(rt, 1)?)),
+        Call::Sweep => match scene.sweep(rt)? {
             One::Swept(note) => Ok(Answer::Swept(note.page, note.kept, note.freed)),
             One::NothingLeft => Ok(Answer::NothingLeft),
         },
@@ -119,22 +126,22 @@ struct Case {
 }
 
 // Behind a mark end all spans wait for their sweep in the full set, in the order of their pages.
-fn try_calls<R: Abort + AllocGlobal>(
+fn try_calls<R: Abort + AllocGlobal + Wait>(
     rt: &R,
     scene: &mut Scene,
     row: &Case,
 ) -> Result<(), NoMemory> {
-    fill(scene, row.runs)?;
-    mark_end(scene, rt.alloc(), row.runs)?;
+    fill(rt, scene, row.runs)?;
+    mark_end(rt, scene, rt.alloc(), row.runs)?;
     for (made, wanted) in row.calls {
-        let found = make(scene, rt.alloc(), row.later, *made)?;
+        let found = make(rt, scene, rt.alloc(), row.later, *made)?;
         assert_eq!(rt; found, *wanted);
     }
     Ok(())
 }
 
 // The state in which the call is made. A scene is let go in one place, since each place costs the proof much.
-fn ready<R: Abort + AllocGlobal>(rt: &R, row: &Case) -> Result<Scene, NoMemory> {
+fn ready<R: Abort + AllocGlobal + Wait>(rt: &R, row: &Case) -> Result<Scene, NoMemory> {
     let mut scene = Scene::start(rt.alloc(), 0)?;
     try_calls(rt, &mut scene, row)?;
     Ok(scene)
@@ -152,7 +159,7 @@ fn asked(scene: Scene) -> Result<Answer, NoMemory> {
     }
 }
 
-fn try_case<R: Abort + AllocGlobal>(rt: &R, row: &Case) -> Result<(), NoMemory> {
+fn try_case<R: Abort + AllocGlobal + Wait>(rt: &R, row: &Case) -> Result<(), NoMemory> {
     let found = asked(ready(rt, row)?)?;
     assert_eq!(rt; found, row.wanted);
     Ok(())

@@ -9,6 +9,7 @@ use heap_run::{Options, run_trace};
 use report_text::read_report;
 use std::alloc::Global;
 use std::process::Abort;
+use std::sync::Wait;
 use std::test::Fail;
 use trace_reader::{Trace, read_trace};
 
@@ -149,7 +150,12 @@ fn report_of(alloc: Global, lines: &str, profile: &str) -> Result<Report, Fail> 
     }
 }
 
-fn run<R: Abort + AllocGlobal>(rt: &R, background: u32, each: bool, row: &Row) -> Result<(), Fail>
+fn run<R: Abort + AllocGlobal + Wait>(
+    rt: &R,
+    background: u32,
+    each: bool,
+    row: &Row,
+) -> Result<(), Fail>
     requires { background ≤ 4 }
 {
     let alloc = rt.alloc();
@@ -157,7 +163,7 @@ fn run<R: Abort + AllocGlobal>(rt: &R, background: u32, each: bool, row: &Row) -
     let profile = if each { row.each } else { row.last };
     let wanted = report_of(alloc, row.report, profile)?;
     let options = Options { background, each };
-    let Ok(ran) = run_trace(alloc, &trace, options, &OpenGate) else {
+    let Ok(ran) = run_trace(rt, alloc, &trace, options, &OpenGate) else {
         return Err("out of memory".into());
     };
     let found = &ran.report;

@@ -1,5 +1,5 @@
 -- What the turns of workers leave behind.
-use Rattle.std.proofs.Common.{◌≡◌, ℕ, suc, ◌+◌, ◌<◌, Bool, List, [], ◌∷◌, ◌++◌, map, reverse, take, length, get_or, Result, Ok, Err, OnOk, refl, sym, ◌∙◌, ap, arith, subst}
+use Rattle.std.proofs.Common.{◌≡◌, ◌≢◌, ℕ, suc, ◌+◌, ◌<◌, Bool, List, [], ◌∷◌, ◌++◌, map, reverse, take, length, get_or, Result, Ok, Err, OnOk, refl, sym, ◌∙◌, ap, arith, subst}
 use Rattle.std.proofs.lemmas.List.{append_assoc, append-nil, reverse-append, take_more}
 use Rattle.page_alloc.specs.Lists.{In}
 use Rattle.span_state.specs.declared.sweep.SweepNote.{SweepNote}
@@ -18,7 +18,7 @@ use Rattle.span_laws.specs.TakeAnswers.{cycle_at}
 use Rattle.span_laws.specs.Asks.{IsIdle}
 use Rattle.span_laws.specs.Calls.{note_in, notes_of}
 use Rattle.span_laws.specs.Views.{Seen, acts}
-use Rattle.span_laws.specs.Handed.{as_number}
+use Rattle.span_laws.specs.Handed.{handed, handed_out, handing, taking_in}
 use Rattle.span_laws.specs.declared.view.Part.{Part}
 use Rattle.span_laws.specs.declared.view.View.{View}
 use Rattle.span_set.specs.declared.hand.Hand.{Hand}
@@ -31,11 +31,11 @@ use Rattle.profile_cycle.specs.Sampling.{Countdown}
 use Rattle.proc_cache.specs.Cache.{Cache}
 use Rattle.proc_cache.specs.Flushes.{Flushes, IsFlushing}
 use Rattle.heap_run.specs.Counts.{IsOut}
-use Rattle.heap_run.specs.Parts.{IsSameRun, part_at, unheard}
+use Rattle.heap_run.specs.Parts.{IsSameRun, part_at}
 use Rattle.heap_run.specs.Served.{Tells}
 use Rattle.heap_run.specs.Swept.{note_at}
 use Rattle.heap_run.specs.Turns.{HasActed, IsCaching, SaysAnswers, SaysNone, TookTurn}
-use Rattle.heap_run.proofs.Parts.{others-stay, own-part, parts-handed, same-handed, same-trans}
+use Rattle.heap_run.proofs.Parts.{others-back, others-stay, own-part, part-back, part-out, same-back}
 
 -- ---- logs behind logs
 
@@ -205,7 +205,7 @@ acted-then P Q R a b c ab bc both =
       said = bc.said ++ ab.said;
       did = both ab.said bc.said ab.did bc.did;
       log = bc.log ∙ ap (λ (l : List Entry). bc.said ++ l) ab.log ∙ sym (append_assoc bc.said ab.said a.worker.view.own.log);
-      here = bc.here ∙ ab.here;
+      away = bc.away ∙ ab.away;
       table = bc.table ∙ ab.table;
       number = bc.number ∙ ab.number;
       view = bc.view ∙ ap (λ (v : View). acts v c.worker.view.own) ab.view;
@@ -222,7 +222,7 @@ acted-none P a idle p = record {
   said = [];
   did = p;
   log = refl;
-  here = refl;
+  away = refl;
   table = refl;
   number = refl;
   view = refl;
@@ -231,11 +231,11 @@ acted-none P a idle p = record {
 }
 
 pub acted-as : (P Q : List Entry → Type 0) (a b : Hand) → HasActed P a b → ((said : List Entry) → P said → Q said) → HasActed Q a b
-acted-as P Q a b ab f = record { said = ab.said; did = f ab.said ab.did; log = ab.log; here = ab.here; table = ab.table; number = ab.number; view = ab.view; idle = ab.idle; notes = ab.notes }
+acted-as P Q a b ab f = record { said = ab.said; did = f ab.said ab.did; log = ab.log; away = ab.away; table = ab.table; number = ab.number; view = ab.view; idle = ab.idle; notes = ab.notes }
 
 same-acted : (P : List Entry → Type 0) (a b : Hand) → HasActed P a b → IsSameRun a.worker b.worker
 same-acted P a b ab = record {
-  here = ab.here;
+  away = ab.away;
   table = ab.table;
   parts = ap (λ (v : View). length v.parts) ab.view;
   region = ap (λ (v : View). v.region) ab.view;
@@ -248,87 +248,23 @@ same-acted P a b ab = record {
 
 -- ---- turns
 
--- of a worker with the state, what its own calls did
+-- of a worker that is at work itself, what its own calls did
 pub turn-own : (P : List Entry → Type 0) (a b : Hand) → a.worker.number < length a.worker.view.parts → HasActed P a b → TookTurn a.worker.number P a b
 turn-own P a b lt ab =
     let long : length b.worker.view.parts ≡ length a.worker.view.parts = ap (λ (v : View). length v.parts) ab.view in
-    let old : part_at a.worker a.worker.number ≡ unheard a.worker.view.own = own-part a.worker lt in
-    let new : part_at b.worker b.worker.number ≡ unheard b.worker.view.own = own-part b.worker (let n = ab.number in omega arith) in
-    let now : part_at b.worker a.worker.number ≡ unheard b.worker.view.own = ap (λ (k : ℕ). part_at b.worker k) (sym ab.number) ∙ new in
+    let old : part_at a.worker a.worker.number ≡ a.worker.view.own = own-part a.worker lt in
+    let new : part_at b.worker b.worker.number ≡ b.worker.view.own = own-part b.worker (let n = ab.number in omega arith) in
+    let now : part_at b.worker a.worker.number ≡ b.worker.view.own = ap (λ (k : ℕ). part_at b.worker k) (sym ab.number) ∙ new in
     record {
       said = ab.said;
       did = ab.did;
       log = ap (λ (h : Part). h.log) now ∙ ab.log ∙ ap (λ (h : Part). ab.said ++ h.log) (sym old);
       number = ab.number;
       same = same-acted P a b ab;
-      idle = rw now (record { sweeping = ab.idle.sweeping; held = ab.idle.held; popped = ab.idle.popped; claimed = ab.idle.claimed });
+      idle = subst IsIdle (sym now) ab.idle;
       others = λ j other. others-stay a.worker b.worker j ab.number (ap (λ (v : View). v.parts) ab.view) other;
       notes = ab.notes;
     }
-
--- a worker that was handed out and taken in again, with its notes
-pub turn-out : (P : List Entry → Type 0) (i : ℕ) (old start end new : Hand) → old.worker.number ≡ 69 → length old.worker.view.parts ≡ 70 → i < 69 → start.worker ≡ as_number i old.worker → start.notes.items ≡ []
-    → HasActed P start end → new.worker ≡ as_number 69 end.worker → new.notes.items ≡ old.notes.items ++ end.notes.items → TookTurn i P old new
-turn-out P i old start end new number long lt out none acted back notes =
-    let room : old.worker.number < length old.worker.view.parts = omega arith in
-    let sn : start.worker.number ≡ i = ap (λ (w : Seen). w.number) out in
-    let same-start : IsSameRun old.worker start.worker = subst (λ (w : Seen). IsSameRun old.worker w) (sym out) (same-handed old.worker i) in
-    let at-start : (j : ℕ) → part_at start.worker j ≡ part_at old.worker j = λ j. ap (λ (w : Seen). part_at w j) out ∙ parts-handed old.worker i j room in
-    let inside : start.worker.number < length start.worker.view.parts = (let p = same-start.parts in omega arith) in
-    let turn = turn-own P start end inside acted in
-    let en : end.worker.number ≡ i = turn.number ∙ sn in
-    let inside-end : end.worker.number < length end.worker.view.parts = (let p = turn.same.parts in let q = same-start.parts in omega arith) in
-    let at-end : (j : ℕ) → part_at new.worker j ≡ part_at end.worker j = λ j. ap (λ (w : Seen). part_at w j) back ∙ parts-handed end.worker 69 j inside-end in
-    let same-end : IsSameRun end.worker new.worker = subst (λ (w : Seen). IsSameRun end.worker w) (sym back) (same-handed end.worker 69) in
-    let there : (part_at end.worker i).log ≡ turn.said ++ (part_at start.worker i).log = subst (λ (k : ℕ). (part_at end.worker k).log ≡ turn.said ++ (part_at start.worker k).log) sn turn.log in
-    let idle : IsIdle (part_at end.worker i) = subst (λ (k : ℕ). IsIdle (part_at end.worker k)) sn turn.idle in
-    record {
-      said = turn.said;
-      did = turn.did;
-      log = ap (λ (h : Part). h.log) (at-end i) ∙ there ∙ ap (λ (h : Part). turn.said ++ h.log) (at-start i);
-      number = ap (λ (w : Seen). w.number) back ∙ sym number;
-      same = same-trans old.worker start.worker new.worker same-start (same-trans start.worker end.worker new.worker turn.same same-end);
-      idle = rw (at-end i) idle;
-      others = λ j other. at-end j ∙ turn.others j (λ e. other (e ∙ sn)) ∙ at-start j;
-      notes = notes ∙ ap (λ (l : List SweepNote). old.notes.items ++ l) (turn.notes ∙ ap (λ (l : List SweepNote). l ++ notes_of start.worker.view.generation turn.said) none)
-          ∙ ap (λ (g : ℕ). old.notes.items ++ notes_of g turn.said) same-start.generation;
-    }
-
--- ---- caches
-
-pub serves-heard : (g : ℕ) (h k : Part) (c : Cache) → k ≡ unheard h → IsCaching g h c → IsCaching g k c
-serves-heard g h k c is are = rw is (record {
-  serves = record {
-    slots = λ j s at. (let one = are.serves.slots j s at in record { cached = one.cached; lent = one.lent; class = one.class; unpopped = one.unpopped });
-    all = are.serves.all;
-    once = are.serves.once;
-    fresh = are.serves.fresh;
-    early = are.serves.early;
-  };
-  used = are.used;
-})
-
-pub heard-serves : (g : ℕ) (h k : Part) (c : Cache) → k ≡ unheard h → IsCaching g k c → IsCaching g h c
-heard-serves g h k c is are =
-    let at : IsCaching g (unheard h) c = rw is at are in
-    record {
-      serves = record {
-        slots = λ j s there. (let one = at.serves.slots j s there in record { cached = one.cached; lent = one.lent; class = one.class; unpopped = one.unpopped });
-        all = at.serves.all;
-        once = at.serves.once;
-        fresh = at.serves.fresh;
-        early = at.serves.early;
-      };
-      used = at.used;
-    }
-
-pub idle-heard : (h k : Part) → k ≡ unheard h → IsIdle h → IsIdle k
-idle-heard h k is idle = rw is (record { sweeping = idle.sweeping; held = idle.held; popped = idle.popped; claimed = idle.claimed })
-
-pub heard-idle : (h k : Part) → k ≡ unheard h → IsIdle k → IsIdle h
-heard-idle h k is idle =
-    let at : IsIdle (unheard h) = rw is at idle in
-    record { sweeping = at.sweeping; held = at.held; popped = at.popped; claimed = at.claimed }
 
 -- ---- calls of the layers beneath
 
@@ -353,7 +289,7 @@ flush-acted test c d old new f = record {
   said = f.said;
   did = flushing-none f.said f.flushing;
   log = f.leaves.log;
-  here = f.leaves.here;
+  away = f.leaves.away;
   table = f.leaves.table;
   number = f.leaves.number;
   view = f.leaves.view;
@@ -400,7 +336,7 @@ works-acted P old new w no_miss idle = record {
   said = w.said;
   did = (few-none w.said w.does.sweeps.unplaced (no_miss w.said w.did), w.did);
   log = w.does.log;
-  here = w.does.stays.here;
+  away = w.does.stays.away;
   table = w.does.stays.table;
   number = w.does.stays.number;
   view = (let k = w.does.stays in view-stays old.worker.view new.worker.view k.region k.goal k.generation k.marks k.before k.carried k.parts);
@@ -420,53 +356,71 @@ pub record HandsOut (i : ℕ) (old start : Hand) : Type 0 where
   pub number : old.worker.number ≡ 69
   pub parts : length old.worker.view.parts ≡ 70
   pub low : i < 69
-  pub out : start.worker ≡ as_number i old.worker
+  pub out : start.worker ≡ handed_out i old.worker
   pub none : start.notes.items ≡ []
 
-out-part : (i : ℕ) (old start : Hand) → HandsOut i old start → part_at old.worker i ≡ unheard start.worker.view.own
-out-part i old start o =
-    let room : old.worker.number < length old.worker.view.parts = (let a = o.number in let b = o.parts in omega arith) in
-    let long : length (as_number i old.worker).view.parts ≡ length old.worker.view.parts = (same-handed old.worker i).parts in
-    let at : part_at (as_number i old.worker) i ≡ unheard (as_number i old.worker).view.own = own-part (as_number i old.worker) (let a = o.parts in let b = o.low in omega arith) in
-    sym (parts-handed old.worker i i room) ∙ at ∙ ap (λ (w : Seen). unheard w.view.own) (sym o.out)
+out-part : (i : ℕ) (old start : Hand) → HandsOut i old start → start.worker.view.own ≡ part_at old.worker i
+out-part i old start o = ap (λ (w : Seen). w.view.own) o.out ∙ part-out old.worker i o.number
+
+out-generation : (i : ℕ) (old start : Hand) → HandsOut i old start → start.worker.view.generation ≡ old.worker.view.generation
+out-generation i old start o = ap (λ (w : Seen). w.view.generation) o.out
 
 pub out-idle : (i : ℕ) (old start : Hand) → HandsOut i old start → IsIdle (part_at old.worker i) → IsIdle start.worker.view.own
-out-idle i old start o idle = heard-idle start.worker.view.own (part_at old.worker i) (out-part i old start o) idle
+out-idle i old start o idle = subst IsIdle (sym (out-part i old start o)) idle
 
 pub out-caching : (i : ℕ) (old start : Hand) (c : Cache) → HandsOut i old start → IsCaching old.worker.view.generation (part_at old.worker i) c → IsCaching start.worker.view.generation start.worker.view.own c
 out-caching i old start c o caching =
-    let g : start.worker.view.generation ≡ old.worker.view.generation = ap (λ (w : Seen). w.view.generation) o.out in
-    rw g (heard-serves old.worker.view.generation start.worker.view.own (part_at old.worker i) c (out-part i old start o) caching)
+    subst (λ (g : ℕ). IsCaching g start.worker.view.own c) (sym (out-generation i old start o))
+    (subst (λ (h : Part). IsCaching old.worker.view.generation h c) (sym (out-part i old start o)) caching)
 
 pub out-marks : (i : ℕ) (old start : Hand) → HandsOut i old start → start.worker.view.marks ≡ old.worker.view.marks
 out-marks i old start o = ap (λ (w : Seen). w.view.marks) o.out
 
 -- and taken in again
-pub turn-back : (P : List Entry → Type 0) (i : ℕ) (old start end new : Hand) → HandsOut i old start → HasActed P start end → new.worker ≡ as_number 69 end.worker → new.notes.items ≡ old.notes.items ++ end.notes.items → TookTurn i P old new
-turn-back P i old start end new o acted back notes = turn-out P i old start end new o.number o.parts o.low o.out o.none acted back notes
 
-back-part : (P : List Entry → Type 0) (i : ℕ) (old start end new : Hand) → HandsOut i old start → HasActed P start end → new.worker ≡ as_number 69 end.worker → part_at new.worker i ≡ unheard end.worker.view.own
+end-number : (P : List Entry → Type 0) (i : ℕ) (old start end : Hand) → HandsOut i old start → HasActed P start end → end.worker.number ≡ i
+end-number P i old start end o acted = acted.number ∙ ap (λ (w : Seen). w.number) o.out
+
+-- all of its view but its own part is as it was handed out
+pub out-stays : (P : List Entry → Type 0) (i : ℕ) (old start end : Hand) → HandsOut i old start → HasActed P start end → end.worker.view ≡ acts (handed 69 i old.worker.view) end.worker.view.own
+out-stays P i old start end o acted = acted.view ∙ ap (λ (w : Seen). acts w.view end.worker.view.own) o.out
+
+back-part : (P : List Entry → Type 0) (i : ℕ) (old start end new : Hand) → HandsOut i old start → HasActed P start end → new.worker ≡ taking_in end.worker (handing i old.worker) → part_at new.worker i ≡ end.worker.view.own
 back-part P i old start end new o acted back =
-    let en : end.worker.number ≡ i = acted.number ∙ ap (λ (w : Seen). w.number) o.out in
-    let long : length end.worker.view.parts ≡ length old.worker.view.parts =
-    ap (λ (v : View). length v.parts) acted.view ∙ ap (λ (w : Seen). length w.view.parts) o.out ∙ (same-handed old.worker i).parts in
-    let room : end.worker.number < length end.worker.view.parts = (let a = o.parts in let b = o.low in omega arith) in
-    let at : part_at end.worker end.worker.number ≡ unheard end.worker.view.own = own-part end.worker room in
-    let at' : part_at end.worker i ≡ unheard end.worker.view.own = ap (λ (k : ℕ). part_at end.worker k) (sym en) ∙ at in
-    ap (λ (w : Seen). part_at w i) back ∙ parts-handed end.worker 69 i room ∙ at'
+    let en = end-number P i old start end o acted in
+    let at : part_at (taking_in end.worker (handing i old.worker)) end.worker.number ≡ end.worker.view.own =
+    part-back (handing i old.worker) end.worker (λ e. (let n = o.number in let l = o.low in omega arith)) (let p = o.parts in let l = o.low in omega arith) in
+    ap (λ (w : Seen). part_at w i) back ∙ ap (λ (k : ℕ). part_at (taking_in end.worker (handing i old.worker)) k) (sym en) ∙ at
 
-pub back-caching : (P : List Entry → Type 0) (i : ℕ) (old start end new : Hand) (c : Cache) → HandsOut i old start → HasActed P start end → new.worker ≡ as_number 69 end.worker
+pub turn-back : (P : List Entry → Type 0) (i : ℕ) (old start end new : Hand) → HandsOut i old start → HasActed P start end → new.worker ≡ taking_in end.worker (handing i old.worker) → new.notes.items ≡ old.notes.items ++ end.notes.items → TookTurn i P old new
+turn-back P i old start end new o acted back notes =
+    let en = end-number P i old start end o acted in
+    let now = back-part P i old start end new o acted back in
+    let apart : end.worker.number ≢ 69 = λ e. (let l = o.low in omega arith) in
+    record {
+      said = acted.said;
+      did = acted.did;
+      log = ap (λ (h : Part). h.log) now ∙ acted.log ∙ ap (λ (h : Part). acted.said ++ h.log) (out-part i old start o);
+      number = ap (λ (w : Seen). w.number) back;
+      same = subst (λ (w : Seen). IsSameRun old.worker w) (sym back) (same-back old.worker end.worker i en);
+      idle = subst IsIdle (sym now) acted.idle;
+      others = λ j other. ap (λ (w : Seen). part_at w j) back
+          ∙ others-back (handing i old.worker) end.worker j (λ e. apart (e ∙ o.number)) (let n = o.number in let p = o.parts in omega arith) (λ e. other (e ∙ en));
+      notes = notes ∙ ap (λ (l : List SweepNote). old.notes.items ++ l) (acted.notes ∙ ap (λ (l : List SweepNote). l ++ notes_of start.worker.view.generation acted.said) o.none)
+          ∙ ap (λ (g : ℕ). old.notes.items ++ notes_of g acted.said) (out-generation i old start o);
+    }
+
+pub back-caching : (P : List Entry → Type 0) (i : ℕ) (old start end new : Hand) (c : Cache) → HandsOut i old start → HasActed P start end → new.worker ≡ taking_in end.worker (handing i old.worker)
     → IsCaching start.worker.view.generation end.worker.view.own c → IsCaching old.worker.view.generation (part_at new.worker i) c
 back-caching P i old start end new c o acted back caching =
-    let g : start.worker.view.generation ≡ old.worker.view.generation = ap (λ (w : Seen). w.view.generation) o.out in
-    let now : IsCaching old.worker.view.generation end.worker.view.own c = rw g at caching in
-    serves-heard old.worker.view.generation end.worker.view.own (part_at new.worker i) c (back-part P i old start end new o acted back) now
+    subst (λ (h : Part). IsCaching old.worker.view.generation h c) (sym (back-part P i old start end new o acted back))
+    (subst (λ (g : ℕ). IsCaching g end.worker.view.own c) (out-generation i old start o) caching)
 
 -- what was cached stays cached where the calls left it so
-pub back-cached : (P : List Entry → Type 0) (i : ℕ) (old start end new : Hand) → HandsOut i old start → HasActed P start end → new.worker ≡ as_number 69 end.worker → end.worker.view.own.cached ≡ start.worker.view.own.cached
+pub back-cached : (P : List Entry → Type 0) (i : ℕ) (old start end new : Hand) → HandsOut i old start → HasActed P start end → new.worker ≡ taking_in end.worker (handing i old.worker) → end.worker.view.own.cached ≡ start.worker.view.own.cached
     → (part_at new.worker i).cached ≡ (part_at old.worker i).cached
 back-cached P i old start end new o acted back same =
-    ap (λ (h : Part). h.cached) (back-part P i old start end new o acted back) ∙ same ∙ ap (λ (h : Part). h.cached) (sym (out-part i old start o))
+    ap (λ (h : Part). h.cached) (back-part P i old start end new o acted back) ∙ same ∙ ap (λ (h : Part). h.cached) (out-part i old start o)
 
 -- ---- one event after another
 
@@ -482,8 +436,12 @@ ok-map (Ok x) P Q f h = f h
 ok-map (Err e) P Q f h = h
 
 -- a worker that is out by its number
-pub handed : (i n : ℕ) (old start : Hand) → old.worker.number ≡ 69 → length old.worker.view.parts ≡ 70 → i < 69 → n ≡ i → IsOut n old start → HandsOut i old start
-handed i n old start number parts low same out = record { number = number; parts = parts; low = low; out = out.worker ∙ ap (λ (k : ℕ). as_number k old.worker) same; none = out.notes }
+pub hands-out : (i n : ℕ) (old start : Hand) → old.worker.number ≡ 69 → length old.worker.view.parts ≡ 70 → i < 69 → n ≡ i → IsOut n old start → HandsOut i old start
+hands-out i n old start number parts low same out = record { number = number; parts = parts; low = low; out = out.worker ∙ ap (λ (k : ℕ). handed_out k old.worker) same; none = out.notes }
+
+-- the driver that takes a worker in is the one that handed it out by its number
+pub brought-back : (i n : ℕ) (old left end new : Seen) → n ≡ i → left ≡ handing n old → new ≡ taking_in end left → new ≡ taking_in end (handing i old)
+brought-back i n old left end new same out back = back ∙ ap (λ (d : Seen). taking_in end d) (out ∙ ap (λ (k : ℕ). handing k old) same)
 
 -- what a hand did, as one tells that differs in its tally alone
 pub acted-alike : (P : List Entry → Type 0) (a b c : Hand) → HasActed P a b → c.worker ≡ b.worker → c.notes.items ≡ b.notes.items → HasActed P a c
@@ -491,7 +449,7 @@ acted-alike P a b c h worker notes = record {
   said = h.said;
   did = h.did;
   log = ap (λ (w : Seen). w.view.own.log) worker ∙ h.log;
-  here = ap (λ (w : Seen). w.here) worker ∙ h.here;
+  away = ap (λ (w : Seen). w.away) worker ∙ h.away;
   table = ap (λ (w : Seen). w.table) worker ∙ h.table;
   number = ap (λ (w : Seen). w.number) worker ∙ h.number;
   view = ap (λ (w : Seen). w.view) worker ∙ h.view ∙ ap (λ (w : Seen). acts a.worker.view w.view.own) (sym worker);

@@ -33,7 +33,7 @@ use Rattle.profile_lines.specs.Counted.{IsCounting}
 use Rattle.profile_lines.specs.Read.{AreDifferent, IsOrder}
 use Rattle.profile_lines.specs.Told.{HasTold}
 use Rattle.run_profile.specs.Naming.{KnowsBuckets}
-use Rattle.heap_run.specs.Parts.{part_at, unheard}
+use Rattle.heap_run.specs.Parts.{part_at}
 use Rattle.heap_run.specs.Runs.{HasBegun}
 use Rattle.heap_run.specs.Turns.{IsCaching, no_cache}
 use Rattle.heap_run.specs.declared.run.Run.{Run}
@@ -51,7 +51,7 @@ set-same a (x ∷ xs) (suc i) = ap (λ (l : List _). a ∷ l) (set-same a xs i)
 
 -- The first worker, and nothing else yet.
 pub record HasStarted (t : Trace) (workers slots : ℕ) (run : Run) : Type 0 where
-  pub worker : run.driver.worker ≡ record { here = true; table = run.shared; number = 69; view = first_view (region_of t) t.header.goal workers }
+  pub worker : run.driver.worker ≡ record { table = run.shared; number = 69; away = []; journal = None; view = first_view (region_of t) t.header.goal workers }
   pub notes : run.driver.notes.items ≡ []
   pub procs : length run.procs.items ≡ t.header.procs
   pub empty : (i : ℕ) → i < t.header.procs → get_or run.procs.items i no_cache ≡ record { number = i; flushed = 0; slots = copies slots None; countdown = countdown t.header.rate t.header.seed i [] }
@@ -72,9 +72,9 @@ pub record HasStarted (t : Trace) (workers slots : ℕ) (run : Run) : Type 0 whe
   pub before : run.profile.before.items ≡ map (λ (n : ℕ). record { allocs = 0; frees = 0 }) run.profile.order
   pub lines : run.profile.lines ≡ []
 
-first-part : (region goal workers i : ℕ) → unheard (get_or (parts_of 69 (first_view region goal workers)) i no_part) ≡ no_part
+first-part : (region goal workers i : ℕ) → get_or (parts_of 69 (first_view region goal workers)) i no_part ≡ no_part
 first-part region goal workers i =
-    ap (λ (ps : List Part). unheard (get_or ps i no_part)) (set-same no_part (range_with_len 0 workers) 69) ∙ ap unheard (get-same no_part (range_with_len 0 workers) i)
+    ap (λ (ps : List Part). get_or ps i no_part) (set-same no_part (range_with_len 0 workers) 69) ∙ get-same no_part (range_with_len 0 workers) i
 
 caching-none : (i slots : ℕ) (c : Countdown) → IsCaching 4 no_part (record { number = i; flushed = 0; slots = copies slots None; countdown = c })
 caching-none i slots c = record {
@@ -110,8 +110,7 @@ begun-first t workers slots run many s =
     let long : length (copies workers no_part) ≡ workers = length-map-range_with_len (λ _. no_part) 0 workers in
     record {
       set = record {
-        here = ap (λ (x : Seen). x.here) s.worker;
-        table = ap (λ (x : Seen). x.table) s.worker;
+        works = (ap (λ (x : Seen). x.table) s.worker, ap (λ (x : Seen). x.away) s.worker);
         parts = ap (λ (x : Seen). length x.view.parts) s.worker ∙ long ∙ many;
         region = ap (λ (x : Seen). x.view.region) s.worker;
         goal = ap (λ (x : Seen). x.view.goal) s.worker;

@@ -33,7 +33,7 @@ use Rattle.span_laws.specs.declared.view.View.{View}
 use Rattle.span_set.specs.Resets.{Resets}
 use Rattle.span_set.specs.declared.hand.Hand.{Hand}
 use Rattle.proc_cache.specs.Cache.{Cache}
-use Rattle.heap_run.specs.Parts.{part_at, unheard}
+use Rattle.heap_run.specs.Parts.{part_at}
 use Rattle.heap_run.specs.Runs.{HasBegun, HasRun}
 use Rattle.heap_run.specs.Settled.{HasFlushed}
 use Rattle.heap_run.specs.Turns.{HasActed, IsCaching, IsDriving, SaysNone, TookTurn, no_cache}
@@ -56,7 +56,7 @@ reset-acted old new r notes idle =
       said = Read 1 old.worker.view.generation ∷ [];
       did = (refl, refl);
       log = ap (λ (h : Part). h.log) is_own;
-      here = ap (λ (w : Seen). w.here) r.view;
+      away = ap (λ (w : Seen). w.away) r.view;
       table = ap (λ (w : Seen). w.table) r.view;
       number = ap (λ (w : Seen). w.number) r.view;
       view = ap (λ (w : Seen). w.view) r.view ∙ ap (λ (h : Part). acts old.worker.view h) (sym is_own);
@@ -75,7 +75,7 @@ pub record HasReset (procs : List Cache) (d e : Hand) : Type 0 where
   pub number : e.worker.number ≡ d.worker.number
   pub flushed : HasFlushed procs e.worker
   pub view : e.worker.view ≡ acts d.worker.view e.worker.view.own
-  pub journal : e.worker.view.own.journal ≡ d.worker.view.own.journal
+  pub journal : e.worker.journal ≡ d.worker.journal
   pub placed : placings e.worker.view.own.log ≡ placings d.worker.view.own.log
   pub reset : (k : ℕ) → k < 544 → is_swept_set e.worker.view.generation k ≡ false → has k e.worker.view.own.reset ≡ true
 
@@ -84,9 +84,9 @@ has-reset procs d e long few driving flushed r notes =
     let acted = reset-acted d e r notes (driver-idle d.worker procs d long driving) in
     let room : d.worker.number < length d.worker.view.parts = (let n = driving.number in omega arith) in
     let turn : TookTurn 69 SaysNone d e = subst (λ (k : ℕ). TookTurn k SaysNone d e) driving.number (turn-own SaysNone d e room acted) in
-    let old : part_at d.worker 69 ≡ unheard d.worker.view.own = ap (λ (k : ℕ). part_at d.worker k) (sym driving.number) ∙ own-part d.worker room in
+    let old : part_at d.worker 69 ≡ d.worker.view.own = ap (λ (k : ℕ). part_at d.worker k) (sym driving.number) ∙ own-part d.worker room in
     let en : e.worker.number ≡ 69 = turn.number ∙ driving.number in
-    let new : part_at e.worker 69 ≡ unheard e.worker.view.own = ap (λ (k : ℕ). part_at e.worker k) (sym en) ∙ own-part e.worker (let p = turn.same.parts in omega arith) in
+    let new : part_at e.worker 69 ≡ e.worker.view.own = ap (λ (k : ℕ). part_at e.worker k) (sym en) ∙ own-part e.worker (let p = turn.same.parts in omega arith) in
     let cached : (part_at e.worker 69).cached ≡ (part_at d.worker 69).cached = ap (λ (h : Part). h.cached) new ∙ ap (λ (w : Seen). w.view.own.cached) r.view ∙ ap (λ (h : Part). h.cached) (sym old) in
     let g : e.worker.view.generation ≡ d.worker.view.generation = turn.same.generation in
     record {
@@ -101,7 +101,7 @@ has-reset procs d e long few driving flushed r notes =
             subst (λ (l : List Entry). 0 < many (is_seen_empty k) l) (sym turn.log) some_there);
       };
       view = acted.view;
-      journal = ap (λ (w : Seen). w.view.own.journal) r.view;
+      journal = ap (λ (w : Seen). w.journal) r.view;
       placed = ap (λ (w : Seen). placings w.view.own.log) r.view;
       reset = λ k low unswept. r.unswept k low (ap (λ (n : ℕ). is_swept_set n k) (sym g) ∙ unswept);
     }
@@ -123,7 +123,7 @@ next-marks t c run past objects sampled buckets marks pairs e is asked found sam
     (subst (λ (l : List Line). IsRun (marked_by t) (region_of t) t.header.goal c l objects) (sym before) is) asked found
 
 pub may-mark : (t : Trace) (c : ℕ) (run : Run) (e : Hand) (sampled : List Bool) (buckets : List ℕ) (marks : MarkSet) (pairs : List (ℕ × ℕ)) → c < 10001 → length run.procs.items ≤ 64 → HasRun t c run
-    → HasReset run.procs.items run.driver e → AreMarksOf t (suc c) run.answers sampled buckets marks → pairs ≡ marks.pairs → MayMark e.worker.number e.worker.view pairs
+    → HasReset run.procs.items run.driver e → AreMarksOf t (suc c) run.answers sampled buckets marks → pairs ≡ marks.pairs → MayMark e.worker pairs
 may-mark t c run e sampled buckets marks pairs early few ran r found same =
     let long : length e.worker.view.parts ≡ 70 = r.driving.same.parts ∙ ran.set.parts in
     let next : CycleSoFar = record { cycle = suc c; before = ran.past; lines = []; carried = λ p k. false; marks = has_pair pairs; bits = λ p k. false; logs = λ w. []; news = []; notes = [] } in
@@ -148,7 +148,7 @@ set-map f (y ∷ xs) (suc n) x = ap (λ (l : List _). f y ∷ l) (set-map f xs n
 next-part : (w : Seen) (pairs : List (ℕ × ℕ)) (i : ℕ) → part_at (after_next pairs w) i ≡ rested (part_at w i)
 next-part w pairs i =
     let all : parts_of w.number (after_next pairs w).view ≡ map rested (parts_of w.number w.view) = set-map rested w.view.parts w.number w.view.own in
-    ap (λ (ps : List Part). unheard (get_or ps i no_part)) all ∙ ap unheard (get-map rested (parts_of w.number w.view) i no_part)
+    ap (λ (ps : List Part). get_or ps i no_part) all ∙ get-map rested (parts_of w.number w.view) i no_part
 
 caching-next : (g : ℕ) (h : Part) (c : Cache) → IsCaching g h c → IsCaching (g + 2) (rested h) c
 caching-next g h c are = record {
@@ -205,8 +205,10 @@ mark-begins t c old new e marks pairs ran m =
     (rw m.sweeps next)) in
     record {
       set = record {
-        here = ap (λ (w : Seen). w.here) m.worker ∙ r.driving.same.here ∙ s.here;
-        table = ap (λ (w : Seen). w.table) m.worker ∙ r.driving.same.table ∙ s.table ∙ sym m.shared;
+        works = (
+          ap (λ (w : Seen). w.table) m.worker ∙ r.driving.same.table ∙ s.works.0 ∙ sym m.shared,
+          ap (λ (w : Seen). w.away) m.worker ∙ r.driving.same.away ∙ s.works.1,
+        );
         parts = ap (λ (w : Seen). length w.view.parts) m.worker ∙ length-map e.worker.view.parts rested ∙ r.driving.same.parts ∙ s.parts;
         region = ap (λ (w : Seen). w.view.region) m.worker ∙ r.driving.same.region ∙ s.region;
         goal = ap (λ (w : Seen). w.view.goal) m.worker ∙ r.driving.same.goal ∙ s.goal;

@@ -108,7 +108,7 @@ pub record Goes (t : Trace) (c : ℕ) (d : Cycle) (objects : List Object) (answe
   pub past : List Line
   pub asked : AreObjectsBefore t (suc c) (answers ++ more) (news ++ objects)
   pub reached : Reached (marked_by t) (region_of t) t.header.goal c past (news ++ objects) (reverse (sweeps ++ sorted)) (has_pair (allocated_pairs driver.number driver.view))
-  pub journal : driver.view.own.journal ≡ Some past
+  pub journal : driver.journal ≡ Some past
   pub answered : AreAnsweredFrom (length (requests_before t c)) (map (request_in c) (reverse (get_or t.cycles c d).events)) news
   pub printed : map (λ (o : Object). o.answer) news ≡ reverse more
   pub e : CycleSoFar

@@ -274,8 +274,10 @@ cycle-run t c d old new queues given ended limits begun ran =
     let longer = length-append old.answers ran.more in
     record {
       set = record {
-        here = ap (λ (x : Seen). x.here) ran.worker ∙ same.here ∙ s.here;
-        table = ap (λ (x : Seen). x.table) ran.worker ∙ same.table ∙ s.table ∙ sym ran.shared;
+        works = (
+          ap (λ (x : Seen). x.table) ran.worker ∙ same.table ∙ s.works.0 ∙ sym ran.shared,
+          ap (λ (x : Seen). x.away) ran.worker ∙ same.away ∙ s.works.1,
+        );
         parts = ap (λ (x : Seen). length x.view.parts) ran.worker ∙ same.parts ∙ s.parts;
         region = ap (λ (x : Seen). x.view.region) ran.worker ∙ same.region ∙ s.region;
         goal = ap (λ (x : Seen). x.view.goal) ran.worker ∙ same.goal ∙ s.goal;
@@ -296,7 +298,7 @@ cycle-run t c d old new queues given ended limits begun ran =
       asked = subst (λ (l : List Answer). AreObjectsBefore t (suc c) l (goes.news ++ begun.objects)) (sym ran.grown) goes.asked;
       reached = subst (λ (l : List SweepNote). Reached (marked_by t) (region_of t) t.header.goal c goes.past (goes.news ++ begun.objects) (reverse l) (has_pair (allocated_pairs new.driver.worker.number new.driver.worker.view))) (sym ran.filed)
           (subst (λ (x : Seen). Reached (marked_by t) (region_of t) t.header.goal c goes.past (goes.news ++ begun.objects) (reverse (old.sweeps ++ ran.sorted)) (has_pair (allocated_pairs x.number x.view))) (sym ran.worker) goes.reached);
-      journal = ap (λ (x : Seen). x.view.own.journal) ran.worker ∙ goes.journal;
+      journal = ap (λ (x : Seen). x.journal) ran.worker ∙ goes.journal;
       flushed = subst (λ (x : Seen). HasFlushed new.procs.items x) (sym ran.worker) w.flushed;
       last = tells-last t c d queues given old.answers ran.more new.answers old.sweeps ran.sorted ended.notes.items new.sweeps v new.driver.worker ran.inside before ran.grown ran.filed ran.worker w.answered ran.queued ran.merged
           (subst (λ (k : ℕ). AreCollected k (λ i. (part_at v i).log) ended.notes.items) now w.collecting) ran.permutation begun.began.notes_older;
@@ -317,7 +319,7 @@ all-answers t answers objects least asked =
     let all : take (suc (last_cycle t)) t.cycles ≡ t.cycles = take_all (suc (last_cycle t)) t.cycles (omega arith) in
     answers-before t (suc (last_cycle t)) answers objects asked ∙ ap (λ (cs : List Cycle). length (flat_map (λ (x : Cycle). x.events) cs)) all
 
-pub report-sound : (t : Trace) (run : Run) (report : Report) (past : List Line) → WithinLimits t → HasRun t (last_cycle t) run → run.driver.worker.view.own.journal ≡ Some past → past_in report ≡ past → report.answers ≡ run.answers → report.sweeps ≡ run.sweeps
+pub report-sound : (t : Trace) (run : Run) (report : Report) (past : List Line) → WithinLimits t → HasRun t (last_cycle t) run → run.driver.worker.journal ≡ Some past → past_in report ≡ past → report.answers ≡ run.answers → report.sweeps ≡ run.sweeps
     → ((objects : List Object) → AreObjectsOf t run.answers objects → AreTotals (marked_by t) (last_cycle t) objects report.totals)
     → report.profile ≡ run.profile.lines ++ all_lines run.profile.known run.driver.tally.view.calls (last_cycle t) run.profile.order → IsSoundAndUsed t report × HasForm t report run.profile.each
 report-sound t run report past limits ran told journal printed sweeps totals lines =

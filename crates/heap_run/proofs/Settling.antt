@@ -1,12 +1,11 @@
 -- The end of a cycle, as the driver knows it.
-use Rattle.std.proofs.Common.{◌≡◌, ℕ, zero, suc, ◌+◌, ◌<◌, ◌≤◌, true, false, List, [], ◌∷◌, ◌++◌, map, reverse, set, length, get_or, Some, refl, sym, ◌∙◌, ap, arith, inl, inr, subst}
-use Rattle.std.proofs.lemmas.Bool.{cases_eq, cases_lt, eq-eqb}
+use Rattle.std.proofs.Common.{◌≡◌, ℕ, zero, suc, ◌+◌, ◌<◌, ◌≤◌, true, false, List, [], ◌∷◌, ◌++◌, map, reverse, set, length, get_or, refl, sym, ◌∙◌, ap, arith, inl, inr, subst}
+use Rattle.std.specs.Prelude.{◌==◌}
+use Rattle.std.proofs.lemmas.Bool.{cases_lt, eq-eqb}
 use Rattle.std.proofs.lemmas.List.{append-nil}
 use Rattle.page_bitmap.specs.declared.line.Line.{Line}
-use Rattle.span_state.specs.MarkSet.{has_pair}
 use Rattle.sweep_laws.specs.Lists.{has}
 use Rattle.sweep_laws.specs.Reading.{is_swept_set}
-use Rattle.sweep_laws.specs.OwnedLives.{EachAt}
 use Rattle.worker_log.specs.declared.Entry.{Entry}
 use Rattle.worker_log.specs.declared.Placing.{Placing}
 use Rattle.worker_log.specs.Logs.{placings, sweepings}
@@ -18,8 +17,8 @@ use Rattle.span_laws.specs.Asks.{IsFresh, IsIdle}
 use Rattle.span_laws.specs.MarkEndAsks.{IsAtRest, MaySettle}
 use Rattle.span_laws.specs.Cycle.{cycle_ended}
 use Rattle.span_laws.specs.Settles.{SettlesCycle}
-use Rattle.span_laws.specs.Views.{Seen, acts, parts_of}
-use Rattle.span_laws.specs.Handed.{knowing, knows}
+use Rattle.span_laws.specs.Views.{Seen, acts, drives}
+use Rattle.span_laws.specs.Handed.{knows}
 use Rattle.span_laws.specs.MarkEnds.{allocated_pairs, placed_pairs}
 use Rattle.span_laws.specs.declared.view.Part.{Part}
 use Rattle.span_state.specs.declared.sweep.SweepNote.{SweepNote}
@@ -29,52 +28,33 @@ use Rattle.sweeper.specs.Work.{IsPlain, SawAllEmpty, Works}
 use Rattle.heap_run.specs.Swept.{Made, note_at}
 use Rattle.proc_cache.specs.Cache.{Cache}
 use Rattle.scavenger.specs.Scavenges.{EndsScavenged}
-use Rattle.heap_run.specs.Parts.{IsSameRun, part_at, unheard}
+use Rattle.heap_run.specs.Parts.{IsSameRun, part_at}
 use Rattle.heap_run.specs.Settled.{HasFlushed, HasSettled}
 use Rattle.heap_run.specs.Turns.{HasActed, IsCollecting, IsDriving, KeepsAnswers, SaysAnswers, SaysNone, TookTurn, no_cache}
-use Rattle.heap_run.proofs.Parts.{each-part, log-at, others-stay, own-part, same-trans}
-use Rattle.heap_run.proofs.Acted.{acted-as, heard-idle, turn-own, works-acted}
+use Rattle.heap_run.proofs.Parts.{each-part, log-at, own-part, same-trans}
+use Rattle.heap_run.proofs.Acted.{acted-as, turn-own, works-acted}
 use Rattle.heap_run.proofs.Driving.{collecting-turn, driving-other, keeps-trans, keeps-turn, same-refl}
 
 -- ---- a worker that is told the journal
 
-pub known-acted : (a b : Hand) (past : List Line) → b.worker ≡ knows past a.worker → b.notes ≡ a.notes → IsIdle a.worker.view.own → HasActed SaysNone a b
-known-acted a b past is notes idle =
-    let view : b.worker.view ≡ knowing past a.worker.view = ap (λ (w : Seen). w.view) is in
-    let own : b.worker.view.own ≡ record a.worker.view.own { journal = Some past } = ap (λ (w : Seen). w.view.own) is in
-    record {
-      said = [];
-      did = (refl, refl);
-      log = ap (λ (h : Part). h.log) own;
-      here = ap (λ (w : Seen). w.here) is;
-      table = ap (λ (w : Seen). w.table) is;
-      number = ap (λ (w : Seen). w.number) is;
-      view = view ∙ ap (λ (h : Part). acts a.worker.view h) (sym own);
-      idle = record {
-        sweeping = ap (λ (h : Part). h.sweeping) own ∙ idle.sweeping;
-        held = ap (λ (h : Part). h.held) own ∙ idle.held;
-        popped = ap (λ (h : Part). h.popped) own ∙ idle.popped;
-        claimed = ap (λ (h : Part). h.claimed) own ∙ idle.claimed;
-      };
-      notes = ap (λ r. r.items) notes ∙ sym (append-nil a.notes.items);
-    }
+pub known-acted : (a b : Hand) → b.worker ≡ record a.worker { journal = b.worker.journal } → b.notes ≡ a.notes → IsIdle a.worker.view.own → HasActed SaysNone a b
+known-acted a b is notes idle = record {
+  said = [];
+  did = (refl, refl);
+  log = ap (λ (w : Seen). w.view.own.log) is;
+  away = ap (λ (w : Seen). w.away) is;
+  table = ap (λ (w : Seen). w.table) is;
+  number = ap (λ (w : Seen). w.number) is;
+  view = ap (λ (w : Seen). w.view) is ∙ ap (λ (w : Seen). acts a.worker.view w.view.own) (sym is);
+  idle = subst (λ (w : Seen). IsIdle w.view.own) (sym is) idle;
+  notes = ap (λ r. r.items) notes ∙ sym (append-nil a.notes.items);
+}
 
--- of what it was told the parts know nothing
-pub known-part : (w : Seen) (past : List Line) (i : ℕ) → w.number < length w.view.parts → part_at (knows past w) i ≡ part_at w i
-known-part w past i lt =
-    elim (cases_eq i w.number) [
-      | inl same ↦ subst (λ (k : ℕ). part_at (knows past w) k ≡ part_at w k) (sym same) (own-part (knows past w) lt ∙ sym (own-part w lt))
-      | inr other ↦ others-stay w (knows past w) i refl refl other
-    ]
+-- number 69 drives
+pub drives-driver : (w : Seen) → w.number ≡ 69 → drives w ≡ true
+drives-driver w number = ap (λ (n : ℕ). n == 69) number
 
 -- ---- all parts at rest
-
--- what holds of each part, as the shared spans have it
-pub each-own : (w : Seen) (P Q : Part → Type 0) → ((i : ℕ) → Q (part_at w i)) → ((h : Part) → Q (unheard h) → P h) → EachAt (parts_of w.number w.view) (λ i h. P h)
-each-own w P Q each f i h at = f h (each-part w Q each i h at)
-
-heard-rest : (h : Part) → IsIdle (unheard h) → IsIdle h
-heard-rest h idle = record { sweeping = idle.sweeping; held = idle.held; popped = idle.popped; claimed = idle.claimed }
 
 no-page : (p : ℕ) (pages : List ℕ) → pages ≡ [] → has p pages ≡ true → ⊥
 no-page p pages none h =
@@ -103,20 +83,19 @@ used-part start procs d i driving flushed p hc =
 
 pub at-rest : (start : Seen) (procs : List Cache) (d : Hand) → length d.worker.view.parts ≡ 70 → IsDriving start procs d → HasFlushed procs d.worker → IsAtRest d.worker.number d.worker.view
 at-rest start procs d long driving flushed =
-    let own : part_at d.worker 69 ≡ unheard d.worker.view.own =
+    let own : part_at d.worker 69 ≡ d.worker.view.own =
     ap (λ (k : ℕ). part_at d.worker k) (sym driving.number) ∙ own-part d.worker (let n = driving.number in omega arith) in
     record {
       driver = driving.number;
-      idle = each-own d.worker IsIdle IsIdle driving.idle heard-rest;
-      fresh = each-own d.worker IsFresh IsFresh (λ i. fresh-part start procs d i driving flushed) (λ h f. f);
+      idle = each-part d.worker IsIdle driving.idle;
+      fresh = each-part d.worker IsFresh (λ i. fresh-part start procs d i driving flushed);
       empty = λ k low unswept. (let s = flushed.empty k low unswept in subst (λ (l : List Entry). 0 < many (is_seen_empty k) l) (ap (λ (h : Part). h.log) own) s);
     }
 
-pub may-settle : (start : Seen) (procs : List Cache) (d : Hand) → length d.worker.view.parts ≡ 70 → IsDriving start procs d → HasFlushed procs d.worker → MaySettle d.worker.number d.worker.view
+pub may-settle : (start : Seen) (procs : List Cache) (d : Hand) → length d.worker.view.parts ≡ 70 → IsDriving start procs d → HasFlushed procs d.worker → MaySettle d.worker
 may-settle start procs d long driving flushed = record {
   rest = at-rest start procs d long driving flushed;
-  used = each-own d.worker (λ h. (p : ℕ) → has p h.cached ≡ true → 0 < many (is_placing_in p) h.log) (λ h. (p : ℕ) → has p h.cached ≡ true → 0 < many (is_placing_in p) h.log)
-      (λ i. used-part start procs d i driving flushed) (λ h f. f);
+  used = each-part d.worker (λ h. (p : ℕ) → has p h.cached ≡ true → 0 < many (is_placing_in p) h.log) (λ i. used-part start procs d i driving flushed);
 }
 
 -- ---- what is told as a cycle ends
@@ -130,8 +109,8 @@ placed-set (p ∷ ps) (suc n) h k same = ap (λ (l : List (ℕ × ℕ)). map (λ
 pub pairs-own : (w : Seen) (h : Part) → placings h.log ≡ placings w.view.own.log → allocated_pairs w.number (acts w.view h) ≡ allocated_pairs w.number w.view
 pairs-own w h same = ap (λ (l : List (ℕ × ℕ)). w.view.marks ++ l) (placed-set w.view.parts w.number h w.view.own same)
 
-pub settled : (old new : Seen) → old.number < length old.view.parts → EndsScavenged old → SettlesCycle old new → HasSettled new
-settled old new lt scavenged settles =
+pub settled : (old new : Seen) → EndsScavenged old → SettlesCycle old new → HasSettled new
+settled old new scavenged settles =
     let lines = settles.0 in
     let past = lines ++ old.view.before in
     let same : past ≡ scavenged.0 = settles.2 scavenged.0 scavenged.1 in
@@ -142,8 +121,8 @@ settled old new lt scavenged settles =
       before = refl;
       carried = refl;
       marks = refl;
-      bits = ap (λ (l : List (ℕ × ℕ)). has_pair l) (sym (pairs-own old (record old.view.own { journal = Some past }) refl));
-      logs = λ w. log-at old w ∙ sym (ap (λ (h : Part). h.log) (known-part old past w lt));
+      bits = refl;
+      logs = λ w. log-at old w;
       journal = refl;
       scavenged = subst (λ (l : List Line). IsScavenged old.view.region old.view.goal l) (sym same) scavenged.2;
     } in
@@ -175,26 +154,24 @@ driving-now start procs d driving = record {
 
 -- The driver was told the journal, and nothing else changed.
 pub record IsToldIn (d e : Hand) : Type 0 where
-  pub past : List Line
-  pub worker : e.worker ≡ knows past d.worker
+  pub worker : e.worker ≡ record d.worker { journal = e.worker.journal }
   pub notes : e.notes ≡ d.notes
-  pub low : d.worker.number < length d.worker.view.parts
 
 told-part : (d e : Hand) → IsToldIn d e → (i : ℕ) → part_at e.worker i ≡ part_at d.worker i
-told-part d e t i = ap (λ (w : Seen). part_at w i) t.worker ∙ known-part d.worker t.past i t.low
+told-part d e t i = ap (λ (w : Seen). part_at w i) t.worker
 
 told-same : (d e : Hand) → IsToldIn d e → IsSameRun d.worker e.worker
-told-same d e t = record {
-  here = ap (λ (w : Seen). w.here) t.worker;
-  table = ap (λ (w : Seen). w.table) t.worker;
-  parts = ap (λ (w : Seen). length w.view.parts) t.worker;
-  region = ap (λ (w : Seen). w.view.region) t.worker;
-  goal = ap (λ (w : Seen). w.view.goal) t.worker;
-  generation = ap (λ (w : Seen). w.view.generation) t.worker;
-  marks = ap (λ (w : Seen). w.view.marks) t.worker;
-  before = ap (λ (w : Seen). w.view.before) t.worker;
-  carried = ap (λ (w : Seen). w.view.carried) t.worker;
-}
+told-same d e t = subst (λ (w : Seen). IsSameRun d.worker w) (sym t.worker) (record {
+  away = refl;
+  table = refl;
+  parts = refl;
+  region = refl;
+  goal = refl;
+  generation = refl;
+  marks = refl;
+  before = refl;
+  carried = refl;
+})
 
 pub told-driving : (start : Seen) (procs : List Cache) (d e : Hand) → IsToldIn d e → IsDriving start procs d → IsDriving start procs e
 told-driving start procs d e t driving = record {
@@ -239,8 +216,8 @@ pub record HasSweptAll (start : Seen) (procs : List Cache) (d e : Hand) : Type 0
 
 own-idle : (d : Hand) → d.worker.number ≡ 69 → length d.worker.view.parts ≡ 70 → IsIdle (part_at d.worker 69) → IsIdle d.worker.view.own
 own-idle d number long idle =
-    let own : part_at d.worker 69 ≡ unheard d.worker.view.own = ap (λ (k : ℕ). part_at d.worker k) (sym number) ∙ own-part d.worker (omega arith) in
-    heard-idle d.worker.view.own (part_at d.worker 69) own idle
+    let own : part_at d.worker 69 ≡ d.worker.view.own = ap (λ (k : ℕ). part_at d.worker k) (sym number) ∙ own-part d.worker (omega arith) in
+    subst IsIdle own idle
 
 pub driver-idle : (start : Seen) (procs : List Cache) (d : Hand) → length d.worker.view.parts ≡ 70 → IsDriving start procs d → IsIdle d.worker.view.own
 driver-idle start procs d long driving = own-idle d driving.number long (driving.idle 69)
@@ -254,9 +231,9 @@ swept-all start procs d e long few driving collecting works =
     let P : List Entry → Type 0 = λ said. SaysNone said × (IsPlain said × SawAllEmpty d.worker.view.generation said) in
     let turn : TookTurn 69 P d e = subst (λ (k : ℕ). TookTurn k P d e) driving.number (turn-own P d e room acted) in
     let none : TookTurn 69 SaysNone d e = subst (λ (k : ℕ). TookTurn k SaysNone d e) driving.number (turn-own SaysNone d e room (acted-as P SaysNone d e acted (λ said p. p.0))) in
-    let old : part_at d.worker 69 ≡ unheard d.worker.view.own = ap (λ (k : ℕ). part_at d.worker k) (sym driving.number) ∙ own-part d.worker room in
+    let old : part_at d.worker 69 ≡ d.worker.view.own = ap (λ (k : ℕ). part_at d.worker k) (sym driving.number) ∙ own-part d.worker room in
     let en : e.worker.number ≡ 69 = turn.number ∙ driving.number in
-    let new : part_at e.worker 69 ≡ unheard e.worker.view.own = ap (λ (k : ℕ). part_at e.worker k) (sym en) ∙ own-part e.worker (let p = turn.same.parts in omega arith) in
+    let new : part_at e.worker 69 ≡ e.worker.view.own = ap (λ (k : ℕ). part_at e.worker k) (sym en) ∙ own-part e.worker (let p = turn.same.parts in omega arith) in
     let cached : (part_at e.worker 69).cached ≡ (part_at d.worker 69).cached = ap (λ (h : Part). h.cached) new ∙ works.does.stays.cached ∙ ap (λ (h : Part). h.cached) (sym old) in
     record {
       driving = driving-other P start procs 69 d e driving turn (omega arith) cached;

@@ -11,7 +11,7 @@ use Rattle.profile_cycle.specs.Sampling.{Countdown}
 use Rattle.profile_lines.specs.Counted.{AreMadeIn}
 use Rattle.run_laws.specs.CycleCalls.{dead_in, sum_of}
 use Rattle.sample_laws.specs.Countdowns.{flags, spent}
-use Rattle.span_laws.specs.Handed.{as_number}
+use Rattle.span_laws.specs.Handed.{handed_out}
 use Rattle.span_set.specs.declared.hand.Hand.{Hand}
 use Rattle.proc_cache.specs.Cache.{Cache}
 use Rattle.heap_run.specs.Turns.{no_cache}
@@ -43,7 +43,7 @@ no_counts bucket = 0
 
 -- A worker is handed out with this number, with no notes, and a tally that was split off.
 pub record IsOut (number : ℕ) (driver hand : Hand) : Type 0 where
-  pub worker : hand.worker ≡ as_number number driver.worker
+  pub worker : hand.worker ≡ handed_out number driver.worker
   pub notes : hand.notes.items ≡ []
   pub tally : hand.tally ≡ record driver.tally { view = split_off driver.tally.view }
 

@@ -1,5 +1,5 @@
 -- What the driver's logs tell of a run's last cycle: as a cycle ends they are still those of its workers.
-use Rattle.std.specs.Prelude.{◌≡◌, ℕ, ◌==◌, true, List, [], drop, reverse, slice_index_or, None, Some}
+use Rattle.std.specs.Prelude.{◌≡◌, ℕ, ◌==◌, List, [], drop, reverse, slice_index_or, None, Some}
 use Rattle.std.specs.List.Sorted.{IsPermutation}
 use Rattle.span_state.specs.declared.sweep.SweepNote.{SweepNote}
 use Rattle.trace_reader.specs.declared.trace.Trace.{Trace}
@@ -10,6 +10,7 @@ use Rattle.cycle_history.specs.Before.{objects_before}
 use Rattle.cycle_history.specs.Profile.{passing}
 use Rattle.cycle_history.specs.Requests.{last_cycle}
 use Rattle.cycle_history.specs.Sound.{past_in}
+use Rattle.span_laws.specs.Asks.{IsAtWork}
 use Rattle.span_laws.specs.Views.{Seen}
 use Rattle.heap_run.specs.declared.run.Ran.{Ran}
 use Rattle.heap_run.specs.Parts.{part_at}
@@ -33,10 +34,9 @@ pub record TellsLast (t : Trace) (c : ℕ) (answers : List Answer) (sweeps : Lis
   pub swept : AreCollected c (λ w. (part_at d w).log) notes
   pub filed : IsPermutation notes (passing (λ (n : SweepNote). n.cycle == c) sweeps)
 
--- What a run leaves is as its report says: the driver has the state, knows the report's journal as the whole journal, and its logs tell of the
+-- What a run leaves is as its report says: no other worker is out, and the driver knows the report's journal as the whole journal, and its logs tell of the
 -- last cycle.
 pub record IsLeft (t : Trace) (ran : Ran) : Type 0 where
-  pub here : ran.driver.here ≡ true
-  pub table : ran.driver.table ≡ ran.shared
-  pub journal : ran.driver.view.own.journal ≡ Some (past_in ran.report)
+  pub works : IsAtWork ran.shared ran.driver
+  pub journal : ran.driver.journal ≡ Some (past_in ran.report)
   pub last : TellsLast t (last_cycle t) ran.report.answers ran.report.sweeps ran.driver

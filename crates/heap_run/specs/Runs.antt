@@ -1,5 +1,5 @@
 -- How far a run of a trace has come.
-use Rattle.std.specs.Prelude.{◌≡◌, ℕ, suc, ◌+◌, ◌*◌, true, List, [], length, reverse, Some}
+use Rattle.std.specs.Prelude.{◌≡◌, ℕ, suc, ◌+◌, ◌*◌, List, [], length, reverse, Some}
 use Rattle.page_bitmap.specs.declared.line.Line.{Line}
 use Rattle.span_state.specs.MarkSet.{has_pair}
 use Rattle.trace_reader.specs.declared.trace.Trace.{Trace}
@@ -11,6 +11,7 @@ use Rattle.cycle_history.specs.Found.{AreFound}
 use Rattle.run_laws.specs.CycleSoFar.{CycleSoFar}
 use Rattle.run_laws.specs.Facts.{Marks}
 use Rattle.run_laws.specs.Reached.{Began, Reached}
+use Rattle.span_laws.specs.Asks.{IsAtWork}
 use Rattle.span_laws.specs.Views.{Seen}
 use Rattle.span_laws.specs.MarkEnds.{allocated_pairs}
 use Rattle.heap_run.specs.Last.{TellsLast}
@@ -20,11 +21,10 @@ use Rattle.heap_run.specs.Settled.{HasFlushed}
 use Rattle.heap_run.specs.Turns.{IsDriving}
 use Rattle.heap_run.specs.declared.run.Run.{Run}
 
--- The run has its table and its workers, in cycle c of the trace; no note waits to be filed, and the lists and the marks that the next mark end
+-- The driver is at work on the run's table, in cycle c of the trace; no note waits to be filed, and the lists and the marks that the next mark end
 -- asks for are those of the last one.
 pub record IsSet (t : Trace) (c : ℕ) (run : Run) : Type 0 where
-  pub here : run.driver.worker.here ≡ true
-  pub table : run.driver.worker.table ≡ run.shared
+  pub works : IsAtWork run.shared run.driver.worker
   pub parts : length run.driver.worker.view.parts ≡ 70
   pub region : run.driver.worker.view.region ≡ region_of t
   pub goal : run.driver.worker.view.goal ≡ t.header.goal
@@ -61,7 +61,7 @@ pub record HasRun (t : Trace) (c : ℕ) (run : Run) : Type 0 where
   pub past : List Line
   pub asked : AreObjectsBefore t (suc c) run.answers objects
   pub reached : Reached (marked_by t) (region_of t) t.header.goal c past objects (reverse run.sweeps) (has_pair (allocated_pairs run.driver.worker.number run.driver.worker.view))
-  pub journal : run.driver.worker.view.own.journal ≡ Some past
+  pub journal : run.driver.worker.journal ≡ Some past
   pub flushed : HasFlushed run.procs.items run.driver.worker
   pub profiled : IsProfiled t (suc c) objects run
   pub counted : HasCountedIn t c objects run

@@ -31,7 +31,7 @@ pub record HasSettled (d : Seen) : Type 0 where
   pub marks : e.marks ≡ has_pair d.view.marks
   pub bits : e.bits ≡ has_pair (allocated_pairs d.number d.view)
   pub logs : (w : ℕ) → e.logs w ≡ (part_at d w).log
-  pub journal : d.view.own.journal ≡ Some (past_after e)
+  pub journal : d.journal ≡ Some (past_after e)
   pub scavenged : IsScavenged d.view.region d.view.goal (past_after e)
 
 -- All workers had their turns, the processors gave these answers to their events, and the cycle ended.

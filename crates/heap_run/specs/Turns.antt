@@ -1,4 +1,4 @@
--- What a worker did while it had the state, and what the driver has when it took all of them in.
+-- What a worker did while it was out, and what the driver has when it took all of them in.
 use Rattle.std.specs.Prelude.{◌≡◌, ◌≢◌, ℕ, ◌<◌, ◌≤◌, List, [], ◌++◌, length, reverse, slice_index_or}
 use Rattle.trace_reader.specs.declared.trace.Event.{Event}
 use Rattle.cycle_history.specs.declared.Answer.{Answer}
@@ -22,7 +22,7 @@ pub record HasActed (P : List Entry → Type 0) (old new : Hand) : Type 0 where
   pub said : List Entry
   pub did : P said
   pub log : new.worker.view.own.log ≡ said ++ old.worker.view.own.log
-  pub here : new.worker.here ≡ old.worker.here
+  pub away : new.worker.away ≡ old.worker.away
   pub table : new.worker.table ≡ old.worker.table
   pub number : new.worker.number ≡ old.worker.number
   pub view : new.worker.view ≡ acts old.worker.view new.worker.view.own
@@ -42,7 +42,7 @@ pub record IsCaching (g : ℕ) (h : Part) (c : Cache) : Type 0 where
   pub serves : Serves g h c
   pub used : IsUsedCache h
 
--- By the driver's hand: worker i had the state, its log got these entries, which have the property P, and the driver their notes.
+-- By the driver's hand: worker i was out, its log got these entries, which have the property P, and the driver their notes.
 pub record TookTurn (i : ℕ) (P : List Entry → Type 0) (old new : Hand) : Type 0 where
   pub said : List Entry
   pub did : P said
@@ -61,7 +61,7 @@ HasNoCache h = h.cached ≡ []
 abbrev pub no_cache : Cache
 no_cache = record { number = 0; flushed = 0; slots = []; countdown = countdown 0 0 0 [] }
 
--- Since the driver had the state as it was at the start it has it again: nothing but the workers' parts changed, all workers are idle, and the
+-- The driver has taken in all workers that went out since the start: nothing but the workers' parts changed, all workers are idle, and the
 -- caches of the processors are as their workers' parts have them; no other worker has anything cached.
 pub record IsDriving (start : Seen) (procs : List Cache) (d : Hand) : Type 0 where
   pub number : d.worker.number ≡ 69

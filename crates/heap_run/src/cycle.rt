@@ -1,7 +1,7 @@
 //! One cycle of a run: the turns of all workers, and its end.
 
 ghost use Rattle.std.specs.Prelude.{◌≡◌, ℕ, ◌^◌, ◌<◌, ◌≤◌, [], All, List as Items, length, slice_index_or, vec_len, true, OnOk};
-ghost use Rattle.span_laws.specs.Asks.{IsIdle};
+ghost use Rattle.span_laws.specs.Asks.{IsAtWork, IsIdle};
 ghost use Rattle.proc_cache.specs.Cache.{Cache};
 ghost use Rattle.heap_run.specs.Parts.{part_at};
 ghost use Rattle.heap_run.specs.Settled.{HasFlushed, HasSettled, HasWorked};
@@ -19,6 +19,7 @@ use run_lists::Queues;
 use scavenger::scavenge_to;
 use span_set::{Hand, Shop};
 use std::alloc::Global;
+use std::sync::Wait;
 use sweeper::finish;
 
 /// The lists in which each processor puts what its events come to: the answers, and which of the objects are sampled.
@@ -33,7 +34,8 @@ const SWEEPERS: u32 = 64;
 
 /// Each processor answers its events of the cycle, in rising order of the processors, and puts what they come to behind what is in
 /// its lists. Without memory the lists may be lost.
-pub(crate) fn run_processors<G: Gate>(
+pub(crate) fn run_processors<R: Wait, G: Gate>(
+    rt: &R,
     alloc: Global,
     shop: &Shop,
     driver: &mut Hand,
@@ -42,8 +44,7 @@ pub(crate) fn run_processors<G: Gate>(
     gate: &G,
     given: &mut Given,
 ) -> Result<(), NoMemory>
-    requires here { driver.old.worker.here ≡ true }
-    requires table { driver.old.worker.table ≡ shop.now.shared.now }
+    requires works { IsAtWork shop.now.shared.now driver.old.worker }
     requires distance { 8192 ≤ shop.now.distance }
     requires marks { shop.now.marks.now.pairs ≡ driver.old.worker.view.marks }
     requires parts { length driver.old.worker.view.parts ≡ 70 }
@@ -74,21 +75,21 @@ pub(crate) fn run_processors<G: Gate>(
         let answers = &mut given.answers[p];
         let sampled = &mut given.sampled[p];
         run_processor(
-            alloc, shop, driver, proc, events, buckets, gate, answers, sampled,
+            rt, alloc, shop, driver, proc, events, buckets, gate, answers, sampled,
         )?;
     }
     Ok(())
 }
 
 /// Each processor flushes its cache, where it has not done so in this cycle.
-pub(crate) fn flush_processors(
+pub(crate) fn flush_processors<R: Wait>(
+    rt: &R,
     alloc: Global,
     shop: &Shop,
     driver: &mut Hand,
     procs: &mut Vec<Proc>,
 ) -> Result<(), NoMemory>
-    requires here { driver.old.worker.here ≡ true }
-    requires table { driver.old.worker.table ≡ shop.now.shared.now }
+    requires works { IsAtWork shop.now.shared.now driver.old.worker }
     requires distance { 8192 ≤ shop.now.distance }
     requires marks { shop.now.marks.now.pairs ≡ driver.old.worker.view.marks }
     requires parts { length driver.old.worker.view.parts ≡ 70 }
@@ -107,21 +108,21 @@ pub(crate) fn flush_processors(
     ensures own { OnOk result (part_at driver.new.worker 69 ≡ part_at driver.old.worker 69) }
 {
     for p in 0..procs.len() {
-        flush_processor(alloc, shop, driver, &mut procs[p])?;
+        flush_processor(rt, alloc, shop, driver, &mut procs[p])?;
     }
     Ok(())
 }
 
 /// The background sweepers sweep.
-pub(crate) fn run_sweepers<G: Gate>(
+pub(crate) fn run_sweepers<R: Wait, G: Gate>(
+    rt: &R,
     alloc: Global,
     shop: &Shop,
     driver: &mut Hand,
     background: u32,
     gate: &G,
 ) -> Result<(), NoMemory>
-    requires here { driver.old.worker.here ≡ true }
-    requires table { driver.old.worker.table ≡ shop.now.shared.now }
+    requires works { IsAtWork shop.now.shared.now driver.old.worker }
     requires distance { 8192 ≤ shop.now.distance }
     requires marks { shop.now.marks.now.pairs ≡ driver.old.worker.view.marks }
     requires parts { length driver.old.worker.view.parts ≡ 70 }
@@ -137,20 +138,20 @@ pub(crate) fn run_sweepers<G: Gate>(
     ensures keeps { OnOk result (KeepsAnswers driver.old.worker driver.new.worker) }
 {
     for number in SWEEPERS..SWEEPERS + background {
-        run_sweeper(alloc, shop, driver, number, gate)?;
+        run_sweeper(rt, alloc, shop, driver, number, gate)?;
     }
     Ok(())
 }
 
 /// Ends a cycle: sweeps what is left, has the processors flush that have not done so, scavenges to the goal, and settles.
-pub(crate) fn end_cycle(
+pub(crate) fn end_cycle<R: Wait>(
+    rt: &R,
     alloc: Global,
     shop: &Shop,
     driver: &mut Hand,
     procs: &mut Vec<Proc>,
 ) -> Result<(), NoMemory>
-    requires here { driver.old.worker.here ≡ true }
-    requires table { driver.old.worker.table ≡ shop.now.shared.now }
+    requires works { IsAtWork shop.now.shared.now driver.old.worker }
     requires distance { 8192 ≤ shop.now.distance }
     requires marks { shop.now.marks.now.pairs ≡ driver.old.worker.view.marks }
     requires parts { length driver.old.worker.view.parts ≡ 70 }
@@ -168,16 +169,17 @@ pub(crate) fn end_cycle(
     ensures counts { OnOk result (Counts shop.now.marks.now no_counts driver.old driver.new) }
     ensures settled { OnOk result (HasSettled driver.new.worker) }
 {
-    finish(shop, driver)?;
-    flush_processors(alloc, shop, driver, procs)?;
-    scavenge_to(shop.shared, &mut driver.worker)?;
+    finish(rt, shop, driver)?;
+    flush_processors(rt, alloc, shop, driver, procs)?;
+    scavenge_to(rt, shop.shared, &mut driver.worker)?;
     shop.shared.settle(&mut driver.worker);
     Ok(())
 }
 
 /// All of a cycle: the processors answer their events, the background sweepers sweep, the scavenger scavenges, and the cycle ends.
 /// The queues are let go before what came of them is merged, so that both are never in memory. Without memory the lists may be lost.
-pub(crate) fn run_workers<G: Gate>(
+pub(crate) fn run_workers<R: Wait, G: Gate>(
+    rt: &R,
     alloc: Global,
     shop: &Shop,
     driver: &mut Hand,
@@ -187,8 +189,7 @@ pub(crate) fn run_workers<G: Gate>(
     gate: &G,
     given: &mut Given,
 ) -> Result<(), NoMemory>
-    requires here { driver.old.worker.here ≡ true }
-    requires table { driver.old.worker.table ≡ shop.now.shared.now }
+    requires works { IsAtWork shop.now.shared.now driver.old.worker }
     requires distance { 8192 ≤ shop.now.distance }
     requires marks { shop.now.marks.now.pairs ≡ driver.old.worker.view.marks }
     requires parts { length driver.old.worker.view.parts ≡ 70 }
@@ -211,9 +212,9 @@ pub(crate) fn run_workers<G: Gate>(
     ensures counts { OnOk result (Counts shop.now.marks.now (all_counts (vec_len procs.old) (gains given.old.sampled.items given.new.sampled.items) queues.entry.buckets) driver.old driver.new) }
     ensures kept { OnOk result (HaveKept given.old.answers.items given.new.answers.items × HaveKept given.old.sampled.items given.new.sampled.items) }
 {
-    run_processors(alloc, shop, driver, procs, &queues, gate, given)?;
-    run_sweepers(alloc, shop, driver, background, gate)?;
-    run_scavenger(alloc, shop, driver, gate)?;
-    end_cycle(alloc, shop, driver, procs)?;
+    run_processors(rt, alloc, shop, driver, procs, &queues, gate, given)?;
+    run_sweepers(rt, alloc, shop, driver, background, gate)?;
+    run_scavenger(rt, alloc, shop, driver, gate)?;
+    end_cycle(rt, alloc, shop, driver, procs)?;
     Ok(())
 }

@@ -1,7 +1,7 @@
 //! The events of a processor in a cycle.
 
-ghost use Rattle.std.specs.Prelude.{◌≡◌, ◌^◌, ◌<◌, ◌≤◌, [], ◌∷◌, All, length, reverse, true, false, IfOk, OnOk};
-ghost use Rattle.span_laws.specs.Asks.{IsIdle};
+ghost use Rattle.std.specs.Prelude.{◌≡◌, ◌^◌, ◌<◌, ◌≤◌, [], ◌∷◌, All, length, reverse, false, IfOk, OnOk};
+ghost use Rattle.span_laws.specs.Asks.{IsAtWork, IsIdle};
 ghost use Rattle.span_set.specs.Tallies.{MayCount};
 ghost use Rattle.sample_laws.specs.Counted.{one_count, sampled_counts};
 ghost use Rattle.sample_laws.specs.Countdowns.{flag, flags, spends, spent};
@@ -17,6 +17,7 @@ use size_classes::{Kind, class_of, span_class};
 use span_set::{Hand, Shop};
 use std::alloc::Global;
 use std::mem::replace;
+use std::sync::Wait;
 use trace_reader::Event;
 
 /// Answers the events of a processor in a cycle, in their order, which have buckets with these numbers, and puts the answers, and
@@ -24,7 +25,8 @@ use trace_reader::Event;
 /// the event's place among these. Without memory both lists may be lost.
 // It stands alone, so that its loop has the registers.
 #[inline(never)]
-pub(crate) fn answer_all<G: Gate>(
+pub(crate) fn answer_all<R: Wait, G: Gate>(
+    rt: &R,
     alloc: Global,
     shop: &Shop,
     proc: &mut Proc,
@@ -35,8 +37,7 @@ pub(crate) fn answer_all<G: Gate>(
     answers: &mut List<Answer>,
     sampled: &mut List<bool>,
 ) -> Result<(), NoMemory>
-    requires here { hand.old.worker.here ≡ true }
-    requires table { hand.old.worker.table ≡ shop.now.shared.now }
+    requires works { IsAtWork shop.now.shared.now hand.old.worker }
     requires distance { 8192 ≤ shop.now.distance }
     requires marks { shop.now.marks.now.pairs ≡ hand.old.worker.view.marks }
     requires idle { IsIdle hand.old.worker.view.own }
@@ -59,7 +60,7 @@ pub(crate) fn answer_all<G: Gate>(
     flags.reserve(events.len())?;
     for (turn, event) in events.iter().enumerate() {
         gate.before(proc.number(), turn as u64);
-        let (answer, flag) = answer(shop, proc, hand, event, buckets[turn])?;
+        let (answer, flag) = answer(rt, shop, proc, hand, event, buckets[turn])?;
         given.push_reserved(answer);
         flags.push_reserved(flag);
     }
@@ -69,15 +70,15 @@ pub(crate) fn answer_all<G: Gate>(
 }
 
 // Answers one event, which has a bucket of this number, and says whether its object is sampled.
-fn answer(
+fn answer<R: Wait>(
+    rt: &R,
     shop: &Shop,
     proc: &mut Proc,
     hand: &mut Hand,
     event: &Event,
     bucket: u32,
 ) -> Result<(Answer, bool), NoMemory>
-    requires here { hand.old.worker.here ≡ true }
-    requires table { hand.old.worker.table ≡ shop.now.shared.now }
+    requires works { IsAtWork shop.now.shared.now hand.old.worker }
     requires distance { 8192 ≤ shop.now.distance }
     requires marks { shop.now.marks.now.pairs ≡ hand.old.worker.view.marks }
     requires idle { IsIdle hand.old.worker.view.own }
@@ -94,14 +95,14 @@ fn answer(
 {
     match class_of(event.size) {
         Kind::Zero => Ok((Answer::Zero, false)),
-        Kind::Small(_) => match alloc(proc, shop, hand, *event, bucket) {
+        Kind::Small(_) => match alloc(rt, proc, shop, hand, *event, bucket) {
             Ok(placed) => Ok((Answer::Placed(placed.addr), placed.sampled)),
             Err(Refused::NoRun { line }) => Ok((Answer::Missed(line), false)),
             Err(Refused::NoMemory) => Err(NoMemory),
         },
         Kind::Large(pages) => {
-            flush(proc, shop, hand)?;
-            match alloc_large(shop, hand, pages, span_class(0, event.scan)) {
+            flush(rt, proc, shop, hand)?;
+            match alloc_large(rt, shop, hand, pages, span_class(0, event.scan)) {
                 Ok(addr) => {
                     let sampled = count_placed(proc, shop, hand, large_slot(pages), bucket);
                     Ok((Answer::Placed(addr), sampled))

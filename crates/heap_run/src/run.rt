@@ -20,6 +20,7 @@ use span_set::{Hand, Shop, reset};
 use span_state::{Marks, SweepNote};
 use span_table::{Shared, Worker};
 use std::alloc::Global;
+use std::sync::Wait;
 use trace_reader::{Header, Trace};
 
 // The bytes of a mark end's distance that are left for the marking itself (`mgcpacer.go`, the heap's least trigger distance); what
@@ -52,7 +53,8 @@ pub struct Ran {
 /// Runs a trace within its limits: each processor's events by its own worker, in the order of the trace. Before
 /// each event a processor passes the gate with its number and the event's place among its own of the cycle, and before their
 /// first steps in a cycle the background sweepers (64 to 67) and the scavenger (68) pass it with turn 0.
-pub fn run_trace<G: Gate>(
+pub fn run_trace<R: Wait, G: Gate>(
+    rt: &R,
     alloc: Global,
     trace: &Trace,
     options: Options,
@@ -65,7 +67,7 @@ pub fn run_trace<G: Gate>(
     ensures left { IfOk result (λ ran. IsLeft trace.now ran) }
 {
     let mut run = Run::new(alloc, trace, options.each)?;
-    run.run_cycles(alloc, trace, options.background, gate)?;
+    run.run_cycles(rt, alloc, trace, options.background, gate)?;
     run.into_ran(alloc, trace)
 }
 
@@ -122,8 +124,9 @@ impl Run {
     }
 
     // Runs all cycles, with a mark end behind each but the last.
-    fn run_cycles<G: Gate>(
+    fn run_cycles<R: Wait, G: Gate>(
         &mut self,
+        rt: &R,
         alloc: Global,
         trace: &Trace,
         background: u32,
@@ -137,16 +140,17 @@ impl Run {
     {
         let last = trace.cycles.len() as u32 - 1;
         for cycle in 0..last {
-            self.run_cycle(alloc, trace, cycle, background, gate)?;
+            self.run_cycle(rt, alloc, trace, cycle, background, gate)?;
             self.mark_end(alloc, trace, cycle)?;
         }
-        self.run_cycle(alloc, trace, last, background, gate)?;
+        self.run_cycle(rt, alloc, trace, last, background, gate)?;
         Ok(())
     }
 
     // Runs a cycle to its end.
-    fn run_cycle<G: Gate>(
+    fn run_cycle<R: Wait, G: Gate>(
         &mut self,
+        rt: &R,
         alloc: Global,
         trace: &Trace,
         cycle: u32,
@@ -165,7 +169,7 @@ impl Run {
         number_all(alloc, events, &self.profile.known, &mut self.buckets)?;
         let numbers = &self.buckets.as_slice()[before..];
         let queues = queues_of(alloc, trace.header.procs, events, numbers)?;
-        let pages = self.shared.pages_taken(&mut self.driver.worker);
+        let pages = self.shared.pages_taken(rt, &mut self.driver.worker);
         let shop = Shop {
             shared: &self.shared,
             marks: &self.marks,
@@ -177,6 +181,7 @@ impl Run {
         let sampled = lend(alloc, trace.header.procs, &mut self.sampled)?;
         let mut given = Given { answers, sampled };
         run_workers(
+            rt,
             alloc,
             &shop,
             &mut self.driver,

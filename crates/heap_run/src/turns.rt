@@ -1,8 +1,9 @@
 //! The turns of a cycle's workers: each is handed out, works, and is taken in again, and the driver collects its notes.
 
-ghost use Rattle.std.specs.Prelude.{◌≡◌, ◌++◌, ◌^◌, ◌<◌, ◌≤◌, All, length, reverse, true, false, IfOk, OnOk};
-ghost use Rattle.span_laws.specs.Asks.{IsIdle};
-ghost use Rattle.span_laws.specs.Handed.{as_number};
+ghost use Rattle.std.specs.Prelude.{◌≡◌, ◌++◌, ◌∷◌, ◌^◌, ◌<◌, ◌≤◌, [], All, length, reverse, true, false, IfOk, OnOk};
+ghost use Rattle.span_laws.specs.Asks.{IsAtWork, IsIdle};
+ghost use Rattle.span_laws.specs.Handed.{handed, handing, taking_in};
+ghost use Rattle.span_laws.specs.Views.{acts};
 ghost use Rattle.span_state.specs.declared.sweep.SweepNote.{SweepNote};
 ghost use Rattle.heap_run.specs.Parts.{part_at};
 ghost use Rattle.profile_cycle.specs.History.{joined, lent};
@@ -21,6 +22,7 @@ use scavenger::scavenge_to;
 use span_set::{Hand, Shop};
 use span_state::SweepNote;
 use std::alloc::Global;
+use std::sync::Wait;
 use sweep_lists::Entries;
 use sweeper::finish;
 use trace_reader::Event;
@@ -30,7 +32,8 @@ const SCAVENGER: u32 = 68;
 
 /// A processor answers its events of the cycle, and puts the answers, and which of the objects are sampled, behind those before.
 /// Without memory both lists may be lost.
-pub(crate) fn run_processor<G: Gate>(
+pub(crate) fn run_processor<R: Wait, G: Gate>(
+    rt: &R,
     alloc: Global,
     shop: &Shop,
     driver: &mut Hand,
@@ -41,8 +44,7 @@ pub(crate) fn run_processor<G: Gate>(
     answers: &mut List<Answer>,
     sampled: &mut List<bool>,
 ) -> Result<(), NoMemory>
-    requires here { driver.old.worker.here ≡ true }
-    requires table { driver.old.worker.table ≡ shop.now.shared.now }
+    requires works { IsAtWork shop.now.shared.now driver.old.worker }
     requires distance { 8192 ≤ shop.now.distance }
     requires marks { shop.now.marks.now.pairs ≡ driver.old.worker.view.marks }
     requires driver { driver.old.worker.number ≡ 69 }
@@ -65,21 +67,21 @@ pub(crate) fn run_processor<G: Gate>(
 {
     let mut hand = send_out(alloc, shop, driver, proc.number())?;
     answer_all(
-        alloc, shop, proc, &mut hand, events, buckets, gate, answers, sampled,
+        rt, alloc, shop, proc, &mut hand, events, buckets, gate, answers, sampled,
     )?;
     bring_back(shop, driver, hand)?;
     Ok(())
 }
 
 /// A processor flushes its cache, where it has not done so in this cycle.
-pub(crate) fn flush_processor(
+pub(crate) fn flush_processor<R: Wait>(
+    rt: &R,
     alloc: Global,
     shop: &Shop,
     driver: &mut Hand,
     proc: &mut Proc,
 ) -> Result<(), NoMemory>
-    requires here { driver.old.worker.here ≡ true }
-    requires table { driver.old.worker.table ≡ shop.now.shared.now }
+    requires works { IsAtWork shop.now.shared.now driver.old.worker }
     requires distance { 8192 ≤ shop.now.distance }
     requires marks { shop.now.marks.now.pairs ≡ driver.old.worker.view.marks }
     requires driver { driver.old.worker.number ≡ 69 }
@@ -97,20 +99,20 @@ pub(crate) fn flush_processor(
     ensures counts { OnOk result (Counts shop.now.marks.now no_counts driver.old driver.new) }
 {
     let mut hand = send_out(alloc, shop, driver, proc.number())?;
-    flush(proc, shop, &mut hand)?;
+    flush(rt, proc, shop, &mut hand)?;
     bring_back(shop, driver, hand)
 }
 
 /// A background sweeper sweeps until nothing is left, behind the gate.
-pub(crate) fn run_sweeper<G: Gate>(
+pub(crate) fn run_sweeper<R: Wait, G: Gate>(
+    rt: &R,
     alloc: Global,
     shop: &Shop,
     driver: &mut Hand,
     number: u32,
     gate: &G,
 ) -> Result<(), NoMemory>
-    requires here { driver.old.worker.here ≡ true }
-    requires table { driver.old.worker.table ≡ shop.now.shared.now }
+    requires works { IsAtWork shop.now.shared.now driver.old.worker }
     requires distance { 8192 ≤ shop.now.distance }
     requires marks { shop.now.marks.now.pairs ≡ driver.old.worker.view.marks }
     requires driver { driver.old.worker.number ≡ 69 }
@@ -125,19 +127,19 @@ pub(crate) fn run_sweeper<G: Gate>(
 {
     let mut hand = send_out(alloc, shop, driver, number)?;
     gate.before(number, 0);
-    finish(shop, &mut hand)?;
+    finish(rt, shop, &mut hand)?;
     bring_back(shop, driver, hand)
 }
 
 /// The scavenger scavenges to the goal, behind the gate.
-pub(crate) fn run_scavenger<G: Gate>(
+pub(crate) fn run_scavenger<R: Wait, G: Gate>(
+    rt: &R,
     alloc: Global,
     shop: &Shop,
     driver: &mut Hand,
     gate: &G,
 ) -> Result<(), NoMemory>
-    requires here { driver.old.worker.here ≡ true }
-    requires table { driver.old.worker.table ≡ shop.now.shared.now }
+    requires works { IsAtWork shop.now.shared.now driver.old.worker }
     requires driver { driver.old.worker.number ≡ 69 }
     requires parts { length driver.old.worker.view.parts ≡ 70 }
     requires idle { IsIdle (part_at driver.old.worker 68) }
@@ -149,20 +151,20 @@ pub(crate) fn run_scavenger<G: Gate>(
 {
     let mut hand = send_out(alloc, shop, driver, SCAVENGER)?;
     gate.before(SCAVENGER, 0);
-    scavenge_to(shop.shared, &mut hand.worker)?;
+    scavenge_to(rt, shop.shared, &mut hand.worker)?;
     bring_back(shop, driver, hand)
 }
 
 // Hands the worker of a number out, with a tally of its own.
 fn send_out(alloc: Global, shop: &Shop, driver: &mut Hand, number: u32) -> Result<Hand, NoMemory>
-    requires here { driver.old.worker.here ≡ true }
-    requires table { driver.old.worker.table ≡ shop.now.shared.now }
+    requires works { IsAtWork shop.now.shared.now driver.old.worker }
     requires number { number < 69 }
+    requires driver { driver.old.worker.number ≡ 69 }
     requires part { number < length driver.old.worker.view.parts }
     requires ring { driver.old.tally.ring ≡ shop.now.ring.now }
     requires drives { driver.old.tally.view.drives ≡ true }
     ensures hand { IfOk result (λ hand. IsOut number driver.old hand) }
-    ensures away { OnOk result (driver.new.worker.here ≡ false) }
+    ensures away { OnOk result (driver.new.worker ≡ handing number driver.old.worker) }
     ensures notes { OnOk result (driver.new.notes ≡ driver.old.notes) }
     ensures tally { OnOk result (driver.new.tally ≡ record driver.old.tally { view = lent driver.old.tally.view }) }
 {
@@ -173,9 +175,10 @@ fn send_out(alloc: Global, shop: &Shop, driver: &mut Hand, number: u32) -> Resul
 
 // Takes a worker in, with its notes behind those collected before, and its tally.
 fn bring_back(shop: &Shop, driver: &mut Hand, hand: Hand) -> Result<(), NoMemory>
-    requires away { driver.old.worker.here ≡ false }
-    requires here { hand.worker.here ≡ true }
-    requires table { hand.worker.table ≡ shop.now.shared.now }
+    requires table { driver.old.worker.table ≡ shop.now.shared.now }
+    requires away { driver.old.worker.away ≡ hand.worker.number ∷ [] }
+    requires works { IsAtWork shop.now.shared.now hand.worker }
+    requires stays { hand.worker.view ≡ acts (handed 69 hand.worker.number driver.old.worker.view) hand.worker.view.own }
     requires idle { IsIdle hand.worker.view.own }
     requires part { 69 < length hand.worker.view.parts }
     requires ring { driver.old.tally.ring ≡ shop.now.ring.now }
@@ -183,7 +186,7 @@ fn bring_back(shop: &Shop, driver: &mut Hand, hand: Hand) -> Result<(), NoMemory
     requires of_ring { hand.tally.ring ≡ shop.now.ring.now }
     requires split { hand.tally.view.drives ≡ false }
     requires cycle { hand.tally.view.cycle ≡ driver.old.tally.view.cycle }
-    ensures worker { driver.new.worker ≡ as_number 69 hand.worker }
+    ensures worker { driver.new.worker ≡ taking_in hand.worker driver.old.worker }
     ensures notes { OnOk result (driver.new.notes.items ≡ driver.old.notes.items ++ hand.notes.items) }
     ensures tally { driver.new.tally ≡ record driver.old.tally { view = joined driver.old.tally.view hand.tally.view } }
 {

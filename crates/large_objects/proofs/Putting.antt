@@ -73,7 +73,7 @@ module _ (k bytes before at : ℕ) (b : Body) (old mid new : Hand) (holding : Is
   pub put_holds : Holds [] put_said old new
   put_holds = let e = all_view in record {
     log = ap (λ (s : Seen). s.view.own.log) e;
-    here = ap (λ (s : Seen). s.here) e;
+    away = ap (λ (s : Seen). s.away) e;
     table = ap (λ (s : Seen). s.table) e;
     number = ap (λ (s : Seen). s.number) e;
     view = subst (λ (s : Seen). s.view ≡ acts old.worker.view s.view.own) (sym e) refl;

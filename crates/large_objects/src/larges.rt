@@ -1,5 +1,5 @@
 ghost use Rattle.std.specs.Prelude.{◌≡◌, ◌<◌, ◌≤◌, true};
-ghost use Rattle.span_laws.specs.Asks.{IsIdle};
+ghost use Rattle.span_laws.specs.Asks.{IsAtWork, IsIdle};
 ghost use Rattle.span_set.specs.Tallies.{Frees, MayCount};
 ghost use Rattle.large_objects.specs.Larges.{AllocatesLarge, IsForOne, PutsObject};
 ghost use Rattle.proc_cache.specs.Findings.{IsHolding};
@@ -7,6 +7,7 @@ ghost use Rattle.proc_cache.specs.Findings.{IsHolding};
 use size_classes::{PAGE_SIZE, REGION_START};
 use span_set::{Hand, SetId, Shop, push};
 use span_state::Body;
+use std::sync::Wait;
 use sweeper::{Refused, new_span, pay};
 
 /// Allocates a large object in a span of its own, of so many pages, at least 5, and span class 0 or 1 (`mcache.go`, `allocLarge`): the span's
@@ -15,9 +16,14 @@ use sweeper::{Refused, new_span, pay};
 /// is sampled is the processor's to say (`proc_cache`, `count_placed`).
 ///
 /// NoRun comes with the Miss line of this call, only after each unswept set was seen empty.
-pub fn alloc_large(shop: &Shop, hand: &mut Hand, pages: u32, class: u8) -> Result<u64, Refused>
-    requires here { hand.old.worker.here ≡ true }
-    requires table { hand.old.worker.table ≡ shop.now.shared.now }
+pub fn alloc_large<R: Wait>(
+    rt: &R,
+    shop: &Shop,
+    hand: &mut Hand,
+    pages: u32,
+    class: u8,
+) -> Result<u64, Refused>
+    requires works { IsAtWork shop.now.shared.now hand.old.worker }
     requires distance { 8192 ≤ shop.now.distance }
     requires counts { MayCount shop.now.ring.now shop.now.marks.now hand.old.tally }
     requires marks { shop.now.marks.now.pairs ≡ hand.old.worker.view.marks }
@@ -28,18 +34,17 @@ pub fn alloc_large(shop: &Shop, hand: &mut Hand, pages: u32, class: u8) -> Resul
     ensures tally { Frees shop.now.marks.now hand.old hand.new }
 {
     let bytes = u64::from(pages) * PAGE_SIZE;
-    let Ok(_) = pay(shop, hand, bytes, pages) else {
+    let Ok(_) = pay(rt, shop, hand, bytes, pages) else {
         return Err(Refused::NoMemory);
     };
-    let body = new_span(shop, hand, pages, class)?;
+    let body = new_span(rt, shop, hand, pages, class)?;
     shop.shared.add_spent(&mut hand.worker, bytes);
     Ok(put_object(shop, hand, class, body))
 }
 
 // Places the object at index 0 of its new span, and lets the span go to the swept full set. Takes no memory.
 fn put_object(shop: &Shop, hand: &mut Hand, class: u8, body: Body) -> u64
-    requires here { hand.old.worker.here ≡ true }
-    requires table { hand.old.worker.table ≡ shop.now.shared.now }
+    requires works { IsAtWork shop.now.shared.now hand.old.worker }
     requires large { class < 2 }
     requires holds { IsHolding hand.old.worker.view.own body.page }
     requires body { IsForOne class body hand.old.worker }

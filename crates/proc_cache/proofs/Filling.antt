@@ -54,7 +54,7 @@ module _ (k p set g : ℕ) (old new : Hand) (idle : IsIdle old.worker.view.own)
   pub full_leaves : Leaves (Pushed set p ∷ Read 1 g ∷ []) old new
   full_leaves = record {
     log = ap (λ (w : Seen). w.view.own.log) view;
-    here = ap (λ (w : Seen). w.here) view;
+    away = ap (λ (w : Seen). w.away) view;
     table = ap (λ (w : Seen). w.table) view;
     number = ap (λ (w : Seen). w.number) view;
     view = subst (λ (w : Seen). w.view ≡ acts old.worker.view w.view.own) (sym view) refl;
@@ -102,7 +102,7 @@ module _ (k bytes before : ℕ) (b : Body) (old new : Hand) (holding : IsHolding
   pub span_leaves : Leaves (Added 3 bytes ∷ Read 3 before ∷ []) old new
   span_leaves = record {
     log = ap (λ (w : Seen). w.view.own.log) view;
-    here = ap (λ (w : Seen). w.here) view;
+    away = ap (λ (w : Seen). w.away) view;
     table = ap (λ (w : Seen). w.table) view;
     number = ap (λ (w : Seen). w.number) view;
     view = subst (λ (w : Seen). w.view ≡ acts old.worker.view w.view.own) (sym view) refl;
@@ -129,7 +129,7 @@ module _ (k bytes before : ℕ) (b : Body) (old new : Hand) (holding : IsHolding
 pub leaves_after : (pages : List ℕ) (later first : List Entry) (a b d : Hand) → Holds pages first a b → Leaves later b d → Leaves (later ++ first) a d
 leaves_after pages later first a b d x y = record {
   log = y.log ∙ ap (λ (l : List Entry). later ++ l) x.log ∙ sym (append_assoc later first a.worker.view.own.log);
-  here = y.here ∙ x.here;
+  away = y.away ∙ x.away;
   table = y.table ∙ x.table;
   number = y.number ∙ x.number;
   view = subst (λ (v : View). d.worker.view ≡ acts v d.worker.view.own) x.view y.view;

@@ -55,7 +55,7 @@ module _ (old new : Hand) (idle : IsIdle old.worker.view.own) (s : Span) (g befo
     flushing = (tt, (tt, (refl, (tt, (tt, (tt, tt))))));
     leaves = record {
       log = ap (λ (w : Seen). w.view.own.log) e ∙ ap (λ (l : List Entry). Gave s.page n ∷ l) log;
-      here = ap (λ (w : Seen). w.here) z;
+      away = ap (λ (w : Seen). w.away) z;
       table = ap (λ (w : Seen). w.table) z;
       number = ap (λ (w : Seen). w.number) z;
       view = subst (λ (w : Seen). w.view ≡ acts old.worker.view w.view.own) (sym z) refl;
@@ -81,7 +81,7 @@ module _ (old new : Hand) (idle : IsIdle old.worker.view.own) (s : Span) (g befo
     flushing = (tt, (tt, (tt, (refl, (tt, (tt, (tt, tt)))))));
     leaves = record {
       log = ap (λ (w : Seen). w.view.own.log) e ∙ ap (λ (l : List Entry). Pushed set s.page ∷ Read 1 r ∷ l) log;
-      here = ap (λ (w : Seen). w.here) z;
+      away = ap (λ (w : Seen). w.away) z;
       table = ap (λ (w : Seen). w.table) z;
       number = ap (λ (w : Seen). w.number) z;
       view = subst (λ (w : Seen). w.view ≡ acts old.worker.view w.view.own) (sym z) refl;
@@ -240,7 +240,7 @@ reads_only c old w g test idle e none = record {
   flushing = (tt, tt);
   leaves = record {
     log = ap (λ (s : Seen). s.view.own.log) e;
-    here = ap (λ (s : Seen). s.here) e;
+    away = ap (λ (s : Seen). s.away) e;
     table = ap (λ (s : Seen). s.table) e;
     number = ap (λ (s : Seen). s.number) e;
     view = subst (λ (s : Seen). s.view ≡ acts old.worker.view s.view.own) (sym e) refl;

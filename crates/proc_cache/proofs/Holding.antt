@@ -38,7 +38,7 @@ module _ (more : List ℕ) (P : List Entry → Type 0) (old new : Hand) (idle : 
   pub of_sweeper : Holds more w.said old new
   of_sweeper = let s = w.does.stays in let o = w.does.sweeps in record {
     log = w.does.log;
-    here = s.here;
+    away = s.away;
     table = s.table;
     number = s.number;
     view = (keeps_of old.worker new.worker s (w.popped ∙ sym idle.popped)).view;
@@ -72,7 +72,7 @@ module _ (class tried : ℕ) (more kept : ℕ → ℕ) (P : List Entry → Type 
   holds_list : (pages : List ℕ) → new.worker.view.own.held ≡ pages → Holds pages d.said old new
   holds_list pages e = let k = d.keeps in record {
     log = d.log;
-    here = k.here;
+    away = k.away;
     table = k.table;
     number = k.number;
     view = k.view;
@@ -102,7 +102,7 @@ module _ (class tried : ℕ) (more kept : ℕ → ℕ) (P : List Entry → Type 
 pub holds-then : (held pages : List ℕ) (later first : List Entry) (a b d : Hand) → Holds held first a b → Holds pages later b d → Holds pages (later ++ first) a d
 holds-then held pages later first a b d x y = record {
   log = y.log ∙ ap (λ (l : List Entry). later ++ l) x.log ∙ sym (append_assoc later first a.worker.view.own.log);
-  here = y.here ∙ x.here;
+  away = y.away ∙ x.away;
   table = y.table ∙ x.table;
   number = y.number ∙ x.number;
   view = subst (λ (v : View). d.worker.view ≡ acts v d.worker.view.own) x.view y.view;
@@ -128,7 +128,7 @@ holds-trans pages later first a b d x y = holds-then [] pages later first a b d 
 pub holds_nothing : (said : List Entry) (a b : Hand) → Holds [] said a b → Leaves said a b
 holds_nothing said a b x = record {
   log = x.log;
-  here = x.here;
+  away = x.away;
   table = x.table;
   number = x.number;
   view = x.view;

@@ -26,7 +26,7 @@ all-append P (x ∷ xs) ys a b = (a.0, all-append P xs ys a.1 b)
 pub leaves-trans : (later first : List Entry) (a b d : Hand) → Leaves first a b → Leaves later b d → Leaves (later ++ first) a d
 leaves-trans later first a b d x y = record {
   log = y.log ∙ ap (λ (l : List Entry). later ++ l) x.log ∙ sym (append_assoc later first a.worker.view.own.log);
-  here = y.here ∙ x.here;
+  away = y.away ∙ x.away;
   table = y.table ∙ x.table;
   number = y.number ∙ x.number;
   view = subst (λ v. d.worker.view ≡ acts v d.worker.view.own) x.view y.view;
@@ -41,7 +41,7 @@ leaves-trans later first a b d x y = record {
 pub leaves_from : (said : List Entry) (a b d : Hand) → a.worker ≡ b.worker → a.notes.items ≡ b.notes.items → Leaves said a d → Leaves said b d
 leaves_from said a b d w n x = record {
   log = x.log ∙ ap (λ (s : Seen). said ++ s.view.own.log) w;
-  here = x.here ∙ ap (λ (s : Seen). s.here) w;
+  away = x.away ∙ ap (λ (s : Seen). s.away) w;
   table = x.table ∙ ap (λ (s : Seen). s.table) w;
   number = x.number ∙ ap (λ (s : Seen). s.number) w;
   view = x.view ∙ ap (λ (s : Seen). acts s.view d.worker.view.own) w;
@@ -54,7 +54,7 @@ leaves_from said a b d w n x = record {
 pub leaves_nothing : (a b : Hand) → IsIdle a.worker.view.own → b.worker ≡ a.worker → b.notes.items ≡ a.notes.items → Leaves [] a b
 leaves_nothing a b idle w n = record {
   log = ap (λ (s : Seen). s.view.own.log) w;
-  here = ap (λ (s : Seen). s.here) w;
+  away = ap (λ (s : Seen). s.away) w;
   table = ap (λ (s : Seen). s.table) w;
   number = ap (λ (s : Seen). s.number) w;
   view = subst (λ (s : Seen). s.view ≡ acts a.worker.view s.view.own) (sym w) refl;

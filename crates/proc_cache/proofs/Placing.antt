@@ -72,7 +72,7 @@ module _ (k at : ℕ) (c d : Cache) (old : Hand) (w : Seen) (idle : IsIdle old.w
   pub placing_leaves : Leaves (Allocated placing ∷ []) old (record old { worker = w })
   placing_leaves = let e = h.worker in record {
     log = ap (λ (s : Seen). s.view.own.log) e;
-    here = ap (λ (s : Seen). s.here) e;
+    away = ap (λ (s : Seen). s.away) e;
     table = ap (λ (s : Seen). s.table) e;
     number = ap (λ (s : Seen). s.number) e;
     view = subst (λ (s : Seen). s.view ≡ acts old.worker.view s.view.own) (sym e) refl;

@@ -20,7 +20,7 @@ use Rattle.proc_cache.specs.Serves.{Serves}
 pub leaves_to : (said : List Entry) (a b d : Hand) → Leaves said a b → d.worker ≡ b.worker → d.notes.items ≡ b.notes.items → Leaves said a d
 leaves_to said a b d x w n = record {
   log = ap (λ (s : Seen). s.view.own.log) w ∙ x.log;
-  here = ap (λ (s : Seen). s.here) w ∙ x.here;
+  away = ap (λ (s : Seen). s.away) w ∙ x.away;
   table = ap (λ (s : Seen). s.table) w ∙ x.table;
   number = ap (λ (s : Seen). s.number) w ∙ x.number;
   view = subst (λ (s : Seen). s.view ≡ acts a.worker.view s.view.own) (sym w) x.view;

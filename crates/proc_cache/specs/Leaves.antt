@@ -15,7 +15,7 @@ use Rattle.span_set.specs.declared.hand.Hand.{Hand}
 -- the numbers that were added to word 2 are the pages of the swept spans, and each sweep has just its note
 pub record Leaves (said : List Entry) (old new : Hand) : Type 0 where
   pub log : new.worker.view.own.log ≡ said ++ old.worker.view.own.log
-  pub here : new.worker.here ≡ old.worker.here
+  pub away : new.worker.away ≡ old.worker.away
   pub table : new.worker.table ≡ old.worker.table
   pub number : new.worker.number ≡ old.worker.number
   pub view : new.worker.view ≡ acts old.worker.view new.worker.view.own
@@ -27,7 +27,7 @@ pub record Leaves (said : List Entry) (old new : Hand) : Type 0 where
 -- the same, but the worker holds these pages; its cached spans are what they were, and nothing was popped from a swept full set
 pub record Holds (pages : List ℕ) (said : List Entry) (old new : Hand) : Type 0 where
   pub log : new.worker.view.own.log ≡ said ++ old.worker.view.own.log
-  pub here : new.worker.here ≡ old.worker.here
+  pub away : new.worker.away ≡ old.worker.away
   pub table : new.worker.table ≡ old.worker.table
   pub number : new.worker.number ≡ old.worker.number
   pub view : new.worker.view ≡ acts old.worker.view new.worker.view.own

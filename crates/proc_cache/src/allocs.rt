@@ -1,8 +1,8 @@
-ghost use Rattle.std.specs.Prelude.{◌≡◌, ◌<◌, ◌≤◌, true, IfOk, OnOk, OnErr};
+ghost use Rattle.std.specs.Prelude.{◌≡◌, ◌<◌, ◌≤◌, IfOk, OnOk, OnErr};
 ghost use Rattle.size_classes.specs.Classes.{IsLeastClass, span_class_of};
 ghost use Rattle.profile_cycle.specs.Naming.{slot_for};
 ghost use Rattle.profile_cycle.specs.Sampling.{behind, is_sample};
-ghost use Rattle.span_laws.specs.Asks.{IsIdle};
+ghost use Rattle.span_laws.specs.Asks.{IsAtWork, IsIdle};
 ghost use Rattle.span_set.specs.Tallies.{Frees, MayCount};
 ghost use Rattle.proc_cache.specs.Allocs.{AllocatesIn, addr_of};
 ghost use Rattle.proc_cache.specs.Hits.{IsMissing};
@@ -16,6 +16,7 @@ use crate::refills::refill;
 use crate::samples::count_placed;
 use size_classes::{Kind, class_of, slot_size, span_class};
 use span_set::{Hand, Shop};
+use std::sync::Wait;
 use sweeper::Refused;
 use trace_reader::Event;
 
@@ -35,15 +36,15 @@ pub struct Placed {
 ///
 /// After a refusal the countdown is as it was, and no allocation is counted. NoRun comes with the Miss line of this call, as `refill` says. After NoMemory a cached span that was not flushed or pushed yet stays
 /// cached.
-pub fn alloc(
+pub fn alloc<R: Wait>(
+    rt: &R,
     proc: &mut Proc,
     shop: &Shop,
     hand: &mut Hand,
     event: Event,
     bucket: u32,
 ) -> Result<Placed, Refused>
-    requires here { hand.old.worker.here ≡ true }
-    requires table { hand.old.worker.table ≡ shop.now.shared.now }
+    requires works { IsAtWork shop.now.shared.now hand.old.worker }
     requires distance { 8192 ≤ shop.now.distance }
     requires counts { MayCount shop.now.ring.now shop.now.marks.now hand.old.tally }
     requires bucket { bucket < shop.now.ring.now.buckets }
@@ -66,16 +67,21 @@ pub fn alloc(
     let Kind::Small(class) = class_of(event.size) else {
         unreachable!()
     };
-    let addr = alloc_in(proc, shop, hand, span_class(class, event.scan))?;
+    let addr = alloc_in(rt, proc, shop, hand, span_class(class, event.scan))?;
     let slot = u64::from(slot_size(class));
     let sampled = count_placed(proc, shop, hand, slot, bucket);
     Ok(Placed { addr, sampled })
 }
 
 // The same for a span class, from 2 to 135.
-fn alloc_in(proc: &mut Proc, shop: &Shop, hand: &mut Hand, class: u8) -> Result<u64, Refused>
-    requires here { hand.old.worker.here ≡ true }
-    requires table { hand.old.worker.table ≡ shop.now.shared.now }
+fn alloc_in<R: Wait>(
+    rt: &R,
+    proc: &mut Proc,
+    shop: &Shop,
+    hand: &mut Hand,
+    class: u8,
+) -> Result<u64, Refused>
+    requires works { IsAtWork shop.now.shared.now hand.old.worker }
     requires distance { 8192 ≤ shop.now.distance }
     requires counts { MayCount shop.now.ring.now shop.now.marks.now hand.old.tally }
     requires marks { shop.now.marks.now.pairs ≡ hand.old.worker.view.marks }
@@ -91,19 +97,24 @@ fn alloc_in(proc: &mut Proc, shop: &Shop, hand: &mut Hand, class: u8) -> Result<
     ensures tally { Frees shop.now.marks.now hand.old hand.new }
     ensures used { IsUsedCache hand.new.worker.view.own }
 {
-    let Ok(()) = flush(proc, shop, hand) else {
+    let Ok(()) = flush(rt, proc, shop, hand) else {
         return Err(Refused::NoMemory);
     };
     match alloc_hit(proc, shop.shared, &mut hand.worker, class) {
         Hit::At(addr) => Ok(addr),
-        Hit::Miss => alloc_missed(proc, shop, hand, class),
+        Hit::Miss => alloc_missed(rt, proc, shop, hand, class),
     }
 }
 
 // The same where the processor has flushed and the cached span is absent or full.
-fn alloc_missed(proc: &mut Proc, shop: &Shop, hand: &mut Hand, class: u8) -> Result<u64, Refused>
-    requires here { hand.old.worker.here ≡ true }
-    requires table { hand.old.worker.table ≡ shop.now.shared.now }
+fn alloc_missed<R: Wait>(
+    rt: &R,
+    proc: &mut Proc,
+    shop: &Shop,
+    hand: &mut Hand,
+    class: u8,
+) -> Result<u64, Refused>
+    requires works { IsAtWork shop.now.shared.now hand.old.worker }
     requires distance { 8192 ≤ shop.now.distance }
     requires counts { MayCount shop.now.ring.now shop.now.marks.now hand.old.tally }
     requires marks { shop.now.marks.now.pairs ≡ hand.old.worker.view.marks }
@@ -121,7 +132,7 @@ fn alloc_missed(proc: &mut Proc, shop: &Shop, hand: &mut Hand, class: u8) -> Res
     ensures tally { Frees shop.now.marks.now hand.old hand.new }
     ensures used { IsUsedCache hand.new.worker.view.own }
 {
-    refill(proc, shop, hand, class)?;
+    refill(rt, proc, shop, hand, class)?;
     match alloc_hit(proc, shop.shared, &mut hand.worker, class) {
         Hit::At(addr) => Ok(addr),
         Hit::Miss => unreachable!(),

@@ -1,6 +1,6 @@
 ghost use Rattle.std.specs.Prelude.{◌≡◌, ◌<◌, ◌≤◌, true, false, length};
 ghost use Rattle.sweep_laws.specs.Lists.{has};
-ghost use Rattle.span_laws.specs.Asks.{HasBody, IsIdle};
+ghost use Rattle.span_laws.specs.Asks.{HasBody, IsAtWork, IsIdle};
 ghost use Rattle.span_set.specs.Tallies.{Frees, MayCount};
 ghost use Rattle.proc_cache.specs.Flushes.{FlushesCache, FlushesClass, FlushesSpan};
 ghost use Rattle.proc_cache.specs.Serves.{IsUsedCache, Serves, is_flushed};
@@ -10,6 +10,7 @@ use fallible_list::NoMemory;
 use span_set::{Hand, Shop};
 use span_state::Body;
 use span_table::Uncached;
+use std::sync::Wait;
 use sweeper::settle_span;
 
 // The span classes.
@@ -18,9 +19,8 @@ const CLASSES: u8 = 136;
 /// Empties the processor's cache where it has not done so since the last mark end (`mcache.go`, `prepareForSweep`): through the span
 /// classes in rising order, each span that was cached before is swept and put where it belongs, an emptied one goes back
 /// to the heap. After NoMemory the classes flushed so far are flushed, and the rest is cached.
-pub fn flush(proc: &mut Proc, shop: &Shop, hand: &mut Hand) -> Result<(), NoMemory>
-    requires here { hand.old.worker.here ≡ true }
-    requires table { hand.old.worker.table ≡ shop.now.shared.now }
+pub fn flush<R: Wait>(rt: &R, proc: &mut Proc, shop: &Shop, hand: &mut Hand) -> Result<(), NoMemory>
+    requires works { IsAtWork shop.now.shared.now hand.old.worker }
     requires distance { 8192 ≤ shop.now.distance }
     requires counts { MayCount shop.now.ring.now shop.now.marks.now hand.old.tally }
     requires marks { shop.now.marks.now.pairs ≡ hand.old.worker.view.marks }
@@ -36,15 +36,20 @@ pub fn flush(proc: &mut Proc, shop: &Shop, hand: &mut Hand) -> Result<(), NoMemo
     if proc.flushed == generation {
         return Ok(());
     }
-    flush_all(proc, shop, hand, generation)
+    flush_all(rt, proc, shop, hand, generation)
 }
 
 // The same for a processor that has not flushed in this cycle, at the generation that was read. A function of its own, so that `flush`, which
 // is called for each object, is small.
 #[inline(never)]
-fn flush_all(proc: &mut Proc, shop: &Shop, hand: &mut Hand, generation: u64) -> Result<(), NoMemory>
-    requires here { hand.old.worker.here ≡ true }
-    requires table { hand.old.worker.table ≡ shop.now.shared.now }
+fn flush_all<R: Wait>(
+    rt: &R,
+    proc: &mut Proc,
+    shop: &Shop,
+    hand: &mut Hand,
+    generation: u64,
+) -> Result<(), NoMemory>
+    requires works { IsAtWork shop.now.shared.now hand.old.worker }
     requires distance { 8192 ≤ shop.now.distance }
     requires counts { MayCount shop.now.ring.now shop.now.marks.now hand.old.tally }
     requires marks { shop.now.marks.now.pairs ≡ hand.old.worker.view.marks }
@@ -59,16 +64,21 @@ fn flush_all(proc: &mut Proc, shop: &Shop, hand: &mut Hand, generation: u64) -> 
     ensures used { IsUsedCache hand.old.worker.view.own → IsUsedCache hand.new.worker.view.own }
 {
     for class in 0..CLASSES {
-        flush_class(proc, shop, hand, class)?;
+        flush_class(rt, proc, shop, hand, class)?;
     }
     proc.flushed = generation;
     Ok(())
 }
 
 // Flushes one span class of a processor that has not flushed in this cycle.
-fn flush_class(proc: &mut Proc, shop: &Shop, hand: &mut Hand, class: u8) -> Result<(), NoMemory>
-    requires here { hand.old.worker.here ≡ true }
-    requires table { hand.old.worker.table ≡ shop.now.shared.now }
+fn flush_class<R: Wait>(
+    rt: &R,
+    proc: &mut Proc,
+    shop: &Shop,
+    hand: &mut Hand,
+    class: u8,
+) -> Result<(), NoMemory>
+    requires works { IsAtWork shop.now.shared.now hand.old.worker }
     requires distance { 8192 ≤ shop.now.distance }
     requires counts { MayCount shop.now.ring.now shop.now.marks.now hand.old.tally }
     requires marks { shop.now.marks.now.pairs ≡ hand.old.worker.view.marks }
@@ -88,14 +98,13 @@ fn flush_class(proc: &mut Proc, shop: &Shop, hand: &mut Hand, class: u8) -> Resu
     let Some(body) = proc.slots[class as usize].take() else {
         return Ok(());
     };
-    flush_span(shop, hand, body);
+    flush_span(rt, shop, hand, body);
     Ok(())
 }
 
 // Takes a stale span out of the cache, sweeps it, and puts it where it belongs.
-fn flush_span(shop: &Shop, hand: &mut Hand, body: Body)
-    requires here { hand.old.worker.here ≡ true }
-    requires table { hand.old.worker.table ≡ shop.now.shared.now }
+fn flush_span<R: Wait>(rt: &R, shop: &Shop, hand: &mut Hand, body: Body)
+    requires works { IsAtWork shop.now.shared.now hand.old.worker }
     requires distance { 8192 ≤ shop.now.distance }
     requires counts { MayCount shop.now.ring.now shop.now.marks.now hand.old.tally }
     requires marks { shop.now.marks.now.pairs ≡ hand.old.worker.view.marks }
@@ -111,7 +120,7 @@ fn flush_span(shop: &Shop, hand: &mut Hand, body: Body)
     match shop.shared.uncache(&mut hand.worker, &body) {
         Uncached::Fresh => unreachable!(),
         Uncached::Stale => {
-            settle_span(shop, hand, body);
+            settle_span(rt, shop, hand, body);
         }
     }
 }

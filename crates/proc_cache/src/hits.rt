@@ -1,4 +1,5 @@
-ghost use Rattle.std.specs.Prelude.{◌≡◌, ◌+◌, ◌*◌, ◌/◌, ◌<◌, ◌≤◌, [], true};
+ghost use Rattle.std.specs.Prelude.{◌≡◌, ◌+◌, ◌*◌, ◌/◌, ◌<◌, ◌≤◌, []};
+ghost use Rattle.span_laws.specs.Asks.{IsAtWork};
 ghost use Rattle.proc_cache.specs.Cache.{address_of};
 ghost use Rattle.proc_cache.specs.Hits.{HitsCache};
 ghost use Rattle.proc_cache.specs.Serves.{Serves};
@@ -29,8 +30,7 @@ fn address(page: u32, slot: u32, index: u32) -> u64
 /// processor has flushed in this cycle, and the worker holds no span. Miss exactly where no span is cached or the cached one has no free index; then nothing
 /// changes. Takes no memory, and waits for nobody.
 pub fn alloc_hit(proc: &mut Proc, shared: &Shared, w: &mut Worker, class: u8) -> Hit
-    requires here { w.old.here ≡ true }
-    requires table { w.old.table ≡ shared.now }
+    requires works { IsAtWork shared.now w.old }
     requires small { 2 ≤ class }
     requires class { class < 136 }
     requires held { w.old.view.own.held ≡ [] }

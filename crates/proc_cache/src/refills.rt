@@ -3,7 +3,7 @@ ghost use Rattle.sweep_laws.specs.Lists.{has};
 ghost use Rattle.size_classes.specs.Classes.{pages_of};
 ghost use Rattle.worker_log.specs.SetNumbers.{swept_set};
 ghost use Rattle.span_laws.specs.BodyAsks.{IsFullBody};
-ghost use Rattle.span_laws.specs.Asks.{IsIdle};
+ghost use Rattle.span_laws.specs.Asks.{IsAtWork, IsIdle};
 ghost use Rattle.span_laws.specs.Views.{span_of};
 ghost use Rattle.span_laws.specs.OwnSteps.{after_said};
 ghost use Rattle.span_set.specs.Tallies.{Frees, MayCount};
@@ -21,6 +21,7 @@ use size_classes::{PAGE_SIZE, span_pages};
 use span_set::{Hand, SetId, Shop, push};
 use span_state::Body;
 use span_table::{Said, Uncached};
+use std::sync::Wait;
 use sweeper::{Refused, new_span, pay};
 
 /// Where the span of a refilled cache comes from.
@@ -45,14 +46,14 @@ pub enum CacheFrom {
 ///
 /// After each refusal the slot of the class is empty, and the other classes are as they were. NoRun comes with the Miss line of
 /// this call, only after each unswept set was seen empty.
-pub fn refill(
+pub fn refill<R: Wait>(
+    rt: &R,
     proc: &mut Proc,
     shop: &Shop,
     hand: &mut Hand,
     class: u8,
 ) -> Result<CacheFrom, Refused>
-    requires here { hand.old.worker.here ≡ true }
-    requires table { hand.old.worker.table ≡ shop.now.shared.now }
+    requires works { IsAtWork shop.now.shared.now hand.old.worker }
     requires distance { 8192 ≤ shop.now.distance }
     requires counts { MayCount shop.now.ring.now shop.now.marks.now hand.old.tally }
     requires marks { shop.now.marks.now.pairs ≡ hand.old.worker.view.marks }
@@ -70,7 +71,7 @@ pub fn refill(
     ensures used { IsUsedBut class hand.new.worker.view.own proc.new }
 {
     leave_full(proc, shop, hand, class);
-    match find_span(shop, hand, class) {
+    match find_span(rt, shop, hand, class) {
         Ok((body, from)) => {
             keep_span(proc, shop, hand, class, body);
             Ok(from)
@@ -81,8 +82,7 @@ pub fn refill(
 
 // Lets the full span of a class, if there is one, go to the swept full set. Takes no memory.
 fn leave_full(proc: &mut Proc, shop: &Shop, hand: &mut Hand, class: u8)
-    requires here { hand.old.worker.here ≡ true }
-    requires table { hand.old.worker.table ≡ shop.now.shared.now }
+    requires works { IsAtWork shop.now.shared.now hand.old.worker }
     requires class { class < 136 }
     requires idle { IsIdle hand.old.worker.view.own }
     requires serves { Serves hand.old.worker.view.generation hand.old.worker.view.own proc.old }
@@ -103,8 +103,7 @@ fn leave_full(proc: &mut Proc, shop: &Shop, hand: &mut Hand, class: u8)
 // The same of a slot with a span. It stands alone, so that an empty slot has no place for a body.
 #[inline(never)]
 fn leave_span(proc: &mut Proc, shop: &Shop, hand: &mut Hand, class: u8)
-    requires here { hand.old.worker.here ≡ true }
-    requires table { hand.old.worker.table ≡ shop.now.shared.now }
+    requires works { IsAtWork shop.now.shared.now hand.old.worker }
     requires class { class < 136 }
     requires idle { IsIdle hand.old.worker.view.own }
     requires serves { Serves hand.old.worker.view.generation hand.old.worker.view.own proc.old }
@@ -125,8 +124,7 @@ fn leave_span(proc: &mut Proc, shop: &Shop, hand: &mut Hand, class: u8)
 
 // Takes a full span out of the cache, in which it is since this cycle, and pushes it.
 fn push_full(shop: &Shop, hand: &mut Hand, class: u8, body: Body)
-    requires here { hand.old.worker.here ≡ true }
-    requires table { hand.old.worker.table ≡ shop.now.shared.now }
+    requires works { IsAtWork shop.now.shared.now hand.old.worker }
     requires class { class < 136 }
     requires idle { IsIdle hand.old.worker.view.own }
     requires cached { IsCachedAt hand.old.worker.view.generation hand.old.worker.view.own class (span_of body) }
@@ -149,9 +147,13 @@ fn push_full(shop: &Shop, hand: &mut Hand, class: u8, body: Body)
 }
 
 // Pays for a span of a class, and finds one, which the worker holds.
-fn find_span(shop: &Shop, hand: &mut Hand, class: u8) -> Result<(Body, CacheFrom), Refused>
-    requires here { hand.old.worker.here ≡ true }
-    requires table { hand.old.worker.table ≡ shop.now.shared.now }
+fn find_span<R: Wait>(
+    rt: &R,
+    shop: &Shop,
+    hand: &mut Hand,
+    class: u8,
+) -> Result<(Body, CacheFrom), Refused>
+    requires works { IsAtWork shop.now.shared.now hand.old.worker }
     requires distance { 8192 ≤ shop.now.distance }
     requires counts { MayCount shop.now.ring.now shop.now.marks.now hand.old.tally }
     requires marks { shop.now.marks.now.pairs ≡ hand.old.worker.view.marks }
@@ -162,21 +164,21 @@ fn find_span(shop: &Shop, hand: &mut Hand, class: u8) -> Result<(Body, CacheFrom
     ensures tally { Frees shop.now.marks.now hand.old hand.new }
 {
     let pages = span_pages(class / 2);
-    let Ok(_) = pay(shop, hand, u64::from(pages) * PAGE_SIZE, 0) else {
+    let Ok(_) = pay(rt, shop, hand, u64::from(pages) * PAGE_SIZE, 0) else {
         return Err(Refused::NoMemory);
     };
-    take_span(shop, hand, class, pages)
+    take_span(rt, shop, hand, class, pages)
 }
 
 // Finds a span of a class that has so many pages: from the central lists, or a new one.
-fn take_span(
+fn take_span<R: Wait>(
+    rt: &R,
     shop: &Shop,
     hand: &mut Hand,
     class: u8,
     pages: u32,
 ) -> Result<(Body, CacheFrom), Refused>
-    requires here { hand.old.worker.here ≡ true }
-    requires table { hand.old.worker.table ≡ shop.now.shared.now }
+    requires works { IsAtWork shop.now.shared.now hand.old.worker }
     requires distance { 8192 ≤ shop.now.distance }
     requires counts { MayCount shop.now.ring.now shop.now.marks.now hand.old.tally }
     requires marks { shop.now.marks.now.pairs ≡ hand.old.worker.view.marks }
@@ -190,7 +192,7 @@ fn take_span(
     match cache_span(shop, hand, class) {
         Ok(FromSets::SweptPartial(body)) => Ok((body, CacheFrom::SweptPartial)),
         Ok(FromSets::SweptHere(body)) => Ok((body, CacheFrom::SweptHere)),
-        Ok(FromSets::NeedFresh { swept, tried }) => match new_span(shop, hand, pages, class) {
+        Ok(FromSets::NeedFresh { swept, tried }) => match new_span(rt, shop, hand, pages, class) {
             Ok(body) => Ok((body, CacheFrom::Fresh { swept, tried })),
             Err(refused) => Err(refused),
         },
@@ -200,8 +202,7 @@ fn take_span(
 
 // Caches a span that the worker holds, in the empty slot of its class, and adds its bytes to the spent ones. Takes no memory.
 fn keep_span(proc: &mut Proc, shop: &Shop, hand: &mut Hand, class: u8, body: Body)
-    requires here { hand.old.worker.here ≡ true }
-    requires table { hand.old.worker.table ≡ shop.now.shared.now }
+    requires works { IsAtWork shop.now.shared.now hand.old.worker }
     requires small { 2 ≤ class }
     requires class { class < 136 }
     requires holds { IsHolding hand.old.worker.view.own body.page }

@@ -8,7 +8,7 @@ ghost use Rattle.cycle_history.specs.Objects.{Object};
 ghost use Rattle.cycle_history.specs.Requests.{last_cycle, marked_by};
 ghost use Rattle.cycle_history.specs.Sweeps.{AreTotals};
 ghost use Rattle.profile_lines.specs.Read.{AreFew, IsOrder, all_lines};
-ghost use Rattle.span_laws.specs.Asks.{KnowsJournal};
+ghost use Rattle.span_laws.specs.Asks.{IsAtWork, KnowsJournal};
 
 use crate::Profile;
 use cycle_history::{Answer, Total, totals_of};
@@ -38,14 +38,13 @@ pub fn read_rest(
     requires room { length profile.old.known ≤ profile.old.ring.buckets }
     requires order { IsOrder profile.old.known profile.old.order }
     requires few { AreFew (length profile.old.known) tally.old.view.calls }
-    requires here { driver.old.here ≡ true }
-    requires table { driver.old.table ≡ shared.now }
-    requires told { KnowsJournal driver.old.view.own }
+    requires works { IsAtWork shared.now driver.old }
+    requires told { KnowsJournal driver.old }
     requires answers { length answers.now ≡ length (events_of trace.now) }
     requires zeros { AreZeros trace.now answers.now }
     ensures lines { OnOk result (profile.new.lines ≡ profile.old.lines ++ all_lines profile.old.known tally.old.view.calls (last_cycle trace.now) profile.old.order) }
     ensures same { OnOk result (driver.new ≡ driver.old) }
-    ensures journal { IfOk result (λ rest. driver.old.view.own.journal ≡ Some (past_of rest.0)) }
+    ensures journal { IfOk result (λ rest. driver.old.journal ≡ Some (past_of rest.0)) }
     ensures totals { IfOk result (λ rest. (objects : Items Object) → AreObjectsOf trace.now answers.now objects → AreTotals (marked_by trace.now) (last_cycle trace.now) objects rest.1) }
 {
     profile.read_last(tally, trace.cycles.len() as u32 - 1)?;

@@ -1,8 +1,11 @@
-ghost use Rattle.std.specs.Prelude.{◌≡◌, IfOk, true};
-ghost use Rattle.scavenger.specs.Scavenges.{EndsScavenged, IsReason, Scavenges};
+ghost use Rattle.std.specs.Prelude.{◌≡◌, IfOk, false, true};
+ghost use Rattle.span_laws.specs.Asks.{IsAtWork};
+ghost use Rattle.span_laws.specs.Views.{drives};
+ghost use Rattle.scavenger.specs.Scavenges.{EndsScavenged, IsReason, Scavenges, ScavengesApart};
 
 use fallible_list::NoMemory;
 use span_table::{Shared, Worker};
+use std::sync::Wait;
 
 /// Why the scavenger stopped.
 #[derive(Clone, Copy, Debug, PartialEq, Eq)]
@@ -36,19 +39,20 @@ fn reason_of(backed: u32, goal: u32) -> Reason
 }
 
 /// Scavenges to the goal: it makes scavenging steps until one releases nothing, and at most as many as the region has pages
-/// (`mgcscavenge.go`, `bgscavenge`; the goal in pages and the bound on steps are ours). The worker knows the whole journal then.
-/// After NoMemory the steps made before stand.
-pub fn scavenge_to(shared: &Shared, w: &mut Worker) -> Result<Stopped, NoMemory>
-    requires here { w.old.here ≡ true }
-    requires table { w.old.table ≡ shared.now }
-    ensures steps { Scavenges w.old w.new result }
-    ensures scavenged { IfOk result (λ _. EndsScavenged w.new) }
+/// (`mgcscavenge.go`, `bgscavenge`; the goal in pages and the bound on steps are ours). The driver knows the whole journal then;
+/// another worker knows that each of its steps stood behind some legal journal. After NoMemory the steps made before stand.
+pub fn scavenge_to<R: Wait>(rt: &R, shared: &Shared, w: &mut Worker) -> Result<Stopped, NoMemory>
+    requires works { IsAtWork shared.now w.old }
+    ensures same { w.new ≡ record w.old { journal = w.new.journal } }
+    ensures steps { drives w.old ≡ true → Scavenges w.old w.new result }
+    ensures scavenged { drives w.old ≡ true → IfOk result (λ _. EndsScavenged w.new) }
+    ensures apart { drives w.old ≡ false → ScavengesApart w.old w.new result }
 {
     let goal = shared.goal(w);
     let region = shared.region(w);
     let mut backed = 0;
     for _turn in 0..region {
-        let step = shared.scavenge_step(w)?;
+        let step = shared.scavenge_step(rt, w)?;
         backed = step.backed;
         if step.run.is_none() {
             let reason = reason_of(backed, goal);

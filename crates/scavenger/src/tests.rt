@@ -1,6 +1,7 @@
 //! Where scavenging stops, over one chunk.
 
-ghost use Rattle.std.specs.Prelude.{◌≡◌, true, IfOk};
+ghost use Rattle.std.specs.Prelude.{IfOk};
+ghost use Rattle.span_laws.specs.Asks.{IsAtWork};
 ghost use Rattle.page_alloc.specs.Journal.{IsBy};
 
 use super::*;
@@ -8,27 +9,25 @@ use page_alloc::Pages;
 use page_bitmap::Run;
 use span_table::{Shared, Worker};
 use std::alloc::Global;
+use std::sync::Wait;
 use std::test::Fail;
 
 /// A region of one chunk with its driver.
 fn fresh(alloc: Global, goal: u32) -> Result<(Shared, Worker), Fail>
-    ensures here { IfOk result (λ made. made.1.here ≡ true) }
-    ensures table { IfOk result (λ made. made.1.table ≡ made.0) }
+    ensures { IfOk result (λ made. IsAtWork made.0 made.1) }
 {
     Ok(Shared::new(alloc, 1, goal)?)
 }
 
 /// Takes a span of so many pages, from 5 on.
-fn take(shared: &Shared, w: &mut Worker, pages: u32) -> Result<(), Fail>
-    requires here { w.old.here ≡ true }
-    requires table { w.old.table ≡ shared.now }
-    ensures here { w.new.here ≡ true }
-    ensures table { w.new.table ≡ shared.now }
+fn take<R: Wait>(rt: &R, shared: &Shared, w: &mut Worker, pages: u32) -> Result<(), Fail>
+    requires works { IsAtWork shared.now w.old }
+    ensures works { IsAtWork shared.now w.new }
 {
     if pages < 5 {
         return Err("no span is that small".into());
     }
-    match shared.take_span(w, pages, 1) {
+    match shared.take_span(rt, w, pages, 1) {
         Ok(_) => Ok(()),
         Err(_) => Err("no run is free".into()),
     }
@@ -47,8 +46,8 @@ const TAKEN: [(u32, u32, Reason); 5] = [
 fn taken_pages_stay_backed(rt: HostRuntime) -> Result<(), Fail> {
     for (goal, pages, reason) in TAKEN {
         let (shared, mut driver) = fresh(rt.alloc(), goal)?;
-        take(&shared, &mut driver, pages)?;
-        let stopped = scavenge_to(&shared, &mut driver)?;
+        take(&rt, &shared, &mut driver, pages)?;
+        let stopped = scavenge_to(&rt, &shared, &mut driver)?;
         let answer = Stopped {
             backed: pages,
             reason,

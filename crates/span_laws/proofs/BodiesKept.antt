@@ -1,5 +1,5 @@
 -- The bodies agree with the lives, where one page and one part change.
-use Rattle.std.proofs.Common.{◌≡◌, ◌≢◌, ℕ, ◌<◌, ◌⊎◌, inl, inr, ⊎_elim, true, List, set, length, get_or, sym, ap, ◌∙◌, subst, arith}
+use Rattle.std.proofs.Common.{◌≡◌, ◌≢◌, ℕ, ◌<◌, ◌⊎◌, inl, inr, ⊎_elim, true, false, List, set, length, get_or, sym, ap, ◌∙◌, subst, arith}
 use Rattle.std.specs.Prelude.{Option, None}
 use mathlib.Core.Logic.{dite}
 use mathlib.Core.Option.{some, some-injective}
@@ -25,7 +25,8 @@ module _ (pages : ℕ) (past : List Line) (ls : List LifeState) (homes : List (O
       (lend : (q : ℕ) → q ≢ p → lends q h' ≡ lends q h) (span : (q : ℕ) → q ≢ p → span_at q h'.spans ≡ span_at q h.spans)
       (others : (m : ℕ) (x : Part) → m ≢ n → get_elem? ps m ≡ some x → lends p x ≡ 0)
       (mine : 0 < lends p h' → IsLent past' ls' h' p)
-      (there : p < pages → begins p ls' ≡ true → (0 < lends p h') ⊎ IsHome past' ls' homes' p) where
+      (there : p < pages → begins p ls' ≡ true → (0 < lends p h') ⊎ IsHome past' ls' homes' p)
+      (empty : (0 < lends p h') ⊎ (begins p ls' ≡ false) → get_or homes' p None ≡ None) where
     fits_else : (q : ℕ) → q ≢ p → (s : Span) → Fits past ls q s → Fits past' ls' q s
     fits_else q d s f = record { page = f.page; body = subst (IsBody s) (sym (life q d)) f.body; line = line s (λ e. d (sym f.page ∙ e)) f.line }
 
@@ -38,6 +39,17 @@ module _ (pages : ℕ) (past : List Line) (ls : List LifeState) (homes : List (O
     lent_else m x d a q l = dite (ℕ_discrete q p)
         (λ e. let z = others m x d a in let y : 0 < lends p x = subst (λ (z : ℕ). 0 < lends z x) e l in absurd (omega arith))
         (λ y. let r = b.lent m x a q l in (r.0, r.1, fits_else q y r.0 r.2))
+
+    -- the place of a body that is lent is empty
+    gone_here : (q : ℕ) → 0 < lends q h' → get_or homes' q None ≡ None
+    gone_here q l = dite (ℕ_discrete q p)
+        (λ e. ap (λ (z : ℕ). get_or homes' z None) e ∙ empty (inl (subst (λ (z : ℕ). 0 < lends z h') e l)))
+        (λ d. home q d ∙ b.gone n h at q (subst (λ (z : ℕ). 0 < z) (lend q d) l))
+
+    gone_else : (m : ℕ) (x : Part) → m ≢ n → get_elem? ps m ≡ some x → (q : ℕ) → 0 < lends q x → get_or homes' q None ≡ None
+    gone_else m x d a q l = dite (ℕ_discrete q p)
+        (λ e. let z = others m x d a in let y : 0 < lends p x = subst (λ (z : ℕ). 0 < lends z x) e l in absurd (omega arith))
+        (λ y. home q y ∙ b.gone m x a q l)
 
     own_at : get_elem? (set ps n h') n ≡ some h'
     own_at = set_here ps n h' (inside_at ps n h at)
@@ -63,6 +75,13 @@ module _ (pages : ℕ) (past : List Line) (ls : List LifeState) (homes : List (O
           (λ (t : (m ≡ n) × (h' ≡ x)). subst (λ (y : Part). IsLent past' ls' y q) t.1 (lent_here q (subst (λ (y : Part). 0 < lends q y) (sym t.1) l)))
           (λ (t : (m ≢ n) × (get_elem? ps m ≡ some x)). lent_else m x t.0 t.1 q l)
           (at_set ps n m h' x a);
+      gone = λ m x a q l. ⊎_elim
+          (λ (t : (m ≡ n) × (h' ≡ x)). gone_here q (subst (λ (y : Part). 0 < lends q y) (sym t.1) l))
+          (λ (t : (m ≢ n) × (get_elem? ps m ≡ some x)). gone_else m x t.0 t.1 q l)
+          (at_set ps n m h' x a);
+      bare = λ q g. dite (ℕ_discrete q p)
+          (λ e. ap (λ (z : ℕ). get_or homes' z None) e ∙ empty (inr (subst (λ (z : ℕ). begins z ls' ≡ false) e g)))
+          (λ d. home q d ∙ b.bare q (sym (begin q d) ∙ g));
       home = λ q l g. dite (ℕ_discrete q p)
           (λ e. subst (λ (z : ℕ). IsAway (set ps n h') z ⊎ IsHome past' ls' homes' z) (sym e) (home_here (subst (λ (z : ℕ). z < pages) e l) (subst (λ (z : ℕ). begins z ls' ≡ true) e g)))
           (λ d. home_else q d l g);
@@ -77,6 +96,11 @@ module _ (pages : ℕ) (past : List Line) (ls : List LifeState) (homes : List (O
         (let r = b.lent n h at q (subst (λ (z : ℕ). 0 < z) (lend q) (subst (λ (y : Part). 0 < lends q y) (sym t.1) l)) in let z : IsLent past ls h' q = (r.0, ap (span_at q) spans ∙ r.1, r.2) in z))
         (λ (t : (m ≢ n) × (get_elem? ps m ≡ some x)). b.lent m x t.1 q l)
         (at_set ps n m h' x a);
+    gone = λ m x a q l. ⊎_elim
+        (λ (t : (m ≡ n) × (h' ≡ x)). b.gone n h at q (subst (λ (z : ℕ). 0 < z) (lend q) (subst (λ (y : Part). 0 < lends q y) (sym t.1) l)))
+        (λ (t : (m ≢ n) × (get_elem? ps m ≡ some x)). b.gone m x t.1 q l)
+        (at_set ps n m h' x a);
+    bare = b.bare;
     home = λ q l g. ⊎_elim (λ (a : IsAway ps q). inl (away q a)) (λ (x : IsHome past ls homes q). inr x) (b.home q l g);
   }
     where

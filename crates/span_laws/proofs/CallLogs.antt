@@ -36,9 +36,9 @@ no-placing p (Added w x ∷ log) e = let z = no-placing p log (omega arith) in o
 
 pub keeps-refl : (a : Seen) → Keeps a a
 keeps-refl a = record {
-  here = refl;
   table = refl;
   number = refl;
+  away = refl;
   view = refl;
   cached = refl;
   fresh = refl;
@@ -52,9 +52,9 @@ keeps-refl a = record {
 -- two calls, of which the first lets go of no span that the worker had
 pub keeps-trans : (a b d : Seen) → Keeps a b → Keeps b d → ((q : ℕ) → 0 < mine q a.view.own → 0 < mine q b.view.own) → Keeps a d
 keeps-trans a b d x y still = record {
-  here = y.here ∙ x.here;
   table = y.table ∙ x.table;
   number = y.number ∙ x.number;
+  away = y.away ∙ x.away;
   view = y.view ∙ ap (λ v. acts v d.view.own) x.view;
   cached = y.cached ∙ x.cached;
   fresh = y.fresh ∙ x.fresh;

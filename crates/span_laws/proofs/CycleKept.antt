@@ -66,13 +66,11 @@ module _ (c : CoreState) (heap : PageHeap) (homes : List (Option Body)) (n : ℕ
 
   -- the record, from its parts
   pub cycle_moved : (c' : CoreState) (heap' : PageHeap) (h : Part) (lines : List Line) → heap'.past ≡ lines ++ v.before → ShowsCycle v.region v.goal c' (cycle_seen n (acts v h) lines (bits_of c'))
-      → ((past : List Line) → h.journal ≡ Some past → heap'.past ≡ past) → IsClaimUnplaced h → KeepsCycle c' heap' n (acts v h)
-  cycle_moved c' heap' h lines since shows told unplaced = record {
+      → IsClaimUnplaced h → KeepsCycle c' heap' n (acts v h)
+  cycle_moved c' heap' h lines since shows unplaced = record {
     lines = lines;
     since = since;
     shows = shows;
-    told = told;
-    others = λ m x a d. y.others m x (set_else v.parts n v.own m d ∙ sym (set_else v.parts n h m d) ∙ a) d;
     unplaced = λ m x a. dite (ℕ_discrete m n)
         (λ s. subst IsClaimUnplaced (some-injective h x (sym (set_here v.parts n h k.number) ∙ ap (get_elem? (set v.parts n h)) (sym s) ∙ a)) unplaced)
         (λ d. y.unplaced m x (set_else v.parts n v.own m d ∙ sym (set_else v.parts n h m d) ∙ a));
@@ -86,5 +84,5 @@ module _ (c : CoreState) (heap : PageHeap) (homes : List (Option Body)) (n : ℕ
   still_unplaced h claimed same d is part = same d.page ∙ own_unplaced d (sym claimed ∙ is) part
 
   -- no line is written
-  pub cycle_quiet : (c' : CoreState) (h : Part) → ShowsCycle v.region v.goal c' e → LookAlike h.log v.own.log → h.journal ≡ v.own.journal → IsClaimUnplaced h → KeepsCycle c' heap n (acts v h)
-  cycle_quiet c' h s alike journal unplaced = cycle_moved c' heap h y.lines y.since (quiet_shows c' h s alike) (λ past is. y.told past (sym journal ∙ is)) unplaced
+  pub cycle_quiet : (c' : CoreState) (h : Part) → ShowsCycle v.region v.goal c' e → LookAlike h.log v.own.log → IsClaimUnplaced h → KeepsCycle c' heap n (acts v h)
+  cycle_quiet c' h s alike unplaced = cycle_moved c' heap h y.lines y.since (quiet_shows c' h s alike) unplaced

@@ -109,7 +109,7 @@ module _ (c : CoreState) (heap : PageHeap) (homes : List (Option Body)) (n : ℕ
     release_cycle = let h = told_of Releases b v.own in let s = release-shows v.region v.goal c (e c heap homes n v k y) y.shows k.owned n b.page sweep a counts in
         cycle_moved c heap homes n v k y (after_release c n b.page) heap h y.lines y.since
         (seen_by c heap homes n v k y (after_release c n b.page) h y.lines _ _ s.2 (put_log c heap homes n v k y h (Swept sweep) refl))
-        y.told (still_unplaced c heap homes n v k y h refl (λ q. omega arith))
+        (still_unplaced c heap homes n v k y h refl (λ q. omega arith))
 
   -- an object is placed at an index
   module _ (b s : Span) (i : ℕ) (a : refusal (allocate_needs c n b.page i) ≡ None) (lent : span_at b.page v.own.spans ≡ Some s) (place : IsPlaceOf s b) (has_it : 0 < lends b.page v.own) (alone : PlacesAlone v.own (Places i) b)
@@ -158,7 +158,6 @@ module _ (c : CoreState) (heap : PageHeap) (homes : List (Option Body)) (n : ℕ
     place_cycle = let h = told_of (Places i) b v.own in let s = allocate-shows v.region v.goal c (e c heap homes n v k y) y.shows k.owned n life placing a here is_in one in
         cycle_moved c heap homes n v k y (after_allocate c b.page i) heap h y.lines y.since
         (seen_by c heap homes n v k y (after_allocate c b.page i) h y.lines _ _ s (put_log c heap homes n v k y h (Allocated placing) refl))
-        y.told
         (λ d is part. (let z = still d is part in let w = ap one_if (ne_eqb b.page d.page (λ t. elsewhere d is (sym t))) in omega arith))
       where
         still : Rattle.span_laws.specs.Cycle.IsClaimUnplaced v.own
@@ -186,7 +185,6 @@ module _ (c : CoreState) (heap : PageHeap) (homes : List (Option Body)) (n : ℕ
         (past ∙ (λ i. TakeLine (is_now i) b.page b.pages b.class ∷ y.since i))
         (seen_by c heap homes n v k y c' h (TakeLine (cycle_at v.generation) b.page b.pages b.class ∷ y.lines) _ _ s
         (put_log c heap homes n v k y h (Took (length (y.lines ++ v.before)) (TakeLine (cycle_at v.generation) b.page b.pages b.class)) (λ i. Took (sym (number_of b.life number) i) (TakeLine (is_now i) b.page b.pages b.class) ∷ v.own.log)))
-        (λ past none. absurd (Rattle.sweep_laws.proofs.NeedsMet.some_none past (sym none)))
         (still_unplaced c heap homes n v k y h refl (λ q. omega arith))
       where
         taken_owned : Owned (after_take (after_lock c n) n b.page b.pages b.count b.class)
@@ -203,7 +201,6 @@ module _ (c : CoreState) (heap : PageHeap) (homes : List (Option Body)) (n : ℕ
         cycle_moved c heap homes n v k y c' heap' h (GiveLine (cycle_at v.generation) p pages ∷ y.lines)
         (past ∙ (λ i. GiveLine (is_now i) p pages ∷ y.since i))
         (seen_by c heap homes n v k y c' h (GiveLine (cycle_at v.generation) p pages ∷ y.lines) _ _ s' (put_log c heap homes n v k y h (Gave p pages) refl))
-        (λ past none. absurd (Rattle.sweep_laws.proofs.NeedsMet.some_none past (sym none)))
         (still_unplaced c heap homes n v k y h refl (λ q. omega arith))
       where
         given_owned : Owned (after_give (after_lock c n) n p)

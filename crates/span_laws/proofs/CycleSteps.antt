@@ -82,51 +82,51 @@ module _ (c : CoreState) (heap : PageHeap) (homes : List (Option Body)) (n : ℕ
   -- a move that changes no body
   pub said_cycle : (s : Said) → Suits c v.own s → refusal (needs_of c (move_of n s)) ≡ None → KeepsCycle (after c (move_of n s)) heap n (acts v (told s v.own))
   said_cycle (Finds p w) u a = let h = told (Finds p w) v.own in
-      cycle_quiet c heap homes n v k y _ h (drop_popped-shows v.region v.goal c _ y.shows k.owned n p a) (quiet-alike (Found p w) v.own.log refl) refl (still_unplaced c heap homes n v k y h refl (λ q. omega arith))
+      cycle_quiet c heap homes n v k y _ h (drop_popped-shows v.region v.goal c _ y.shows k.owned n p a) (quiet-alike (Found p w) v.own.log refl) (still_unplaced c heap homes n v k y h refl (λ q. omega arith))
   said_cycle (Caches p) u a = let h = told (Caches p) v.own in
-      cycle_quiet c heap homes n v k y _ h (cache-shows v.region v.goal c _ y.shows k.owned n p a) (same_alike v.own.log) refl (still_unplaced c heap homes n v k y h refl (λ q. refl))
+      cycle_quiet c heap homes n v k y _ h (cache-shows v.region v.goal c _ y.shows k.owned n p a) (same_alike v.own.log) (still_unplaced c heap homes n v k y h refl (λ q. refl))
   said_cycle (Uncaches p) u a = let h = told (Uncaches p) v.own in
-      cycle_quiet c heap homes n v k y _ h (uncache-shows v.region v.goal c _ y.shows k.owned n p a) (same_alike v.own.log) refl (still_unplaced c heap homes n v k y h refl (λ q. refl))
+      cycle_quiet c heap homes n v k y _ h (uncache-shows v.region v.goal c _ y.shows k.owned n p a) (same_alike v.own.log) (still_unplaced c heap homes n v k y h refl (λ q. refl))
   said_cycle (UncachesStale p) u a = let h = told (UncachesStale p) v.own in
-      cycle_quiet c heap homes n v k y _ h (stale_uncache-shows v.region v.goal c _ y.shows k.owned n p a) (same_alike v.own.log) refl (still_unplaced c heap homes n v k y h refl (λ q. refl))
+      cycle_quiet c heap homes n v k y _ h (stale_uncache-shows v.region v.goal c _ y.shows k.owned n p a) (same_alike v.own.log) (still_unplaced c heap homes n v k y h refl (λ q. refl))
   said_cycle (Fills set page) u a = let h = told (Fills set page) v.own in let d : Claimed = record { set = set; index = u.0; page = page } in
       let is : (hand_of c n).claimed ≡ Some d = ap (λ (s : HandState). s.claimed) (own_hand c heap homes n v k) ∙ u.1 in
-      cycle_quiet c heap homes n v k y _ h (fill-shows v.region v.goal c _ y.shows k.owned n d a is (may_let_go d u.1)) (quiet-alike (Pushed set page) v.own.log refl) refl (λ x none. absurd (Rattle.sweep_laws.proofs.NeedsMet.some_none x (sym none)))
+      cycle_quiet c heap homes n v k y _ h (fill-shows v.region v.goal c _ y.shows k.owned n d a is (may_let_go d u.1)) (quiet-alike (Pushed set page) v.own.log refl) (λ x none. absurd (Rattle.sweep_laws.proofs.NeedsMet.some_none x (sym none)))
   said_cycle (PopsEntry set page) u a = let h = told (PopsEntry set page) v.own in
-      cycle_quiet c heap homes n v k y _ h (pop_unswept-shows v.region v.goal c _ y.shows k.owned n set a) (quiet-alike (Popped set page) v.own.log refl) refl (still_unplaced c heap homes n v k y h refl (λ q. omega arith))
+      cycle_quiet c heap homes n v k y _ h (pop_unswept-shows v.region v.goal c _ y.shows k.owned n set a) (quiet-alike (Popped set page) v.own.log refl) (still_unplaced c heap homes n v k y h refl (λ q. omega arith))
   said_cycle _ u a = absurd u
 
   -- an entry without a move
   pub note_cycle : (s : Said) → IsQuiet v.own s → KeepsCycle c heap n (acts v (told s v.own))
   note_cycle (Finds p w) q = let h = told (Finds p w) v.own in
-      cycle_quiet c heap homes n v k y c h y.shows (quiet-alike (Found p w) v.own.log refl) refl (still_unplaced c heap homes n v k y h refl (λ q. omega arith))
+      cycle_quiet c heap homes n v k y c h y.shows (quiet-alike (Found p w) v.own.log refl) (still_unplaced c heap homes n v k y h refl (λ q. omega arith))
   note_cycle (Looks set head tail) q = let h = told (Looks set head tail) v.own in
-      cycle_quiet c heap homes n v k y c h y.shows (quiet-alike (Looked set head tail) v.own.log refl) refl (still_unplaced c heap homes n v k y h refl (λ q. omega arith))
+      cycle_quiet c heap homes n v k y c h y.shows (quiet-alike (Looked set head tail) v.own.log refl) (still_unplaced c heap homes n v k y h refl (λ q. omega arith))
   note_cycle (LooksCell set index cell) q = by_cell cell
     where
       by_cell : (x : ℕ) → KeepsCycle c heap n (acts v (told (LooksCell set index x) v.own))
       by_cell zero = let h = told (LooksCell set index 0) v.own in
-          cycle_quiet c heap homes n v k y c h y.shows (quiet-alike (LookedEmptyCell set index) v.own.log refl) refl (still_unplaced c heap homes n v k y h refl (λ q. omega arith))
+          cycle_quiet c heap homes n v k y c h y.shows (quiet-alike (LookedEmptyCell set index) v.own.log refl) (still_unplaced c heap homes n v k y h refl (λ q. omega arith))
       by_cell (suc x) = let h = told (LooksCell set index (suc x)) v.own in
-          cycle_quiet c heap homes n v k y c h y.shows (same_alike v.own.log) refl (still_unplaced c heap homes n v k y h refl (λ q. refl))
+          cycle_quiet c heap homes n v k y c h y.shows (same_alike v.own.log) (still_unplaced c heap homes n v k y h refl (λ q. refl))
   note_cycle (Reads word value) q = let h = told (Reads word value) v.own in
-      cycle_quiet c heap homes n v k y c h y.shows (quiet-alike (Read word value) v.own.log refl) refl (still_unplaced c heap homes n v k y h refl (λ q. omega arith))
+      cycle_quiet c heap homes n v k y c h y.shows (quiet-alike (Read word value) v.own.log refl) (still_unplaced c heap homes n v k y h refl (λ q. omega arith))
   note_cycle (Adds word value number) q = let h = told (Adds word value number) v.own in
-      cycle_quiet c heap homes n v k y c h y.shows (all-alike (Added word number ∷ Read word value ∷ []) v.own.log (refl, (refl, tt))) refl (still_unplaced c heap homes n v k y h refl (λ q. omega arith))
+      cycle_quiet c heap homes n v k y c h y.shows (all-alike (Added word number ∷ Read word value ∷ []) v.own.log (refl, (refl, tt))) (still_unplaced c heap homes n v k y h refl (λ q. omega arith))
   note_cycle (Resets set) q = let h = told (Resets set) v.own in
-      cycle_quiet c heap homes n v k y c h y.shows (same_alike v.own.log) refl (still_unplaced c heap homes n v k y h refl (λ q. refl))
+      cycle_quiet c heap homes n v k y c h y.shows (same_alike v.own.log) (still_unplaced c heap homes n v k y h refl (λ q. refl))
   note_cycle _ q = absurd q
 
   -- a span that was at home is acquired
   pub acquire_cycle : (b : Body) (p : ℕ) → refusal (acquire_needs c n p) ≡ None → (c' : CoreState) → c' ≡ after_acquire c n p → KeepsCycle c' heap n (acts v (told_of Acquires (span_of b) v.own))
   acquire_cycle b p a c' same = let h = told_of Acquires (span_of b) v.own in subst (λ (s : CoreState). KeepsCycle s heap n (acts v h)) (sym same)
-      (cycle_quiet c heap homes n v k y _ h (acquire-shows v.region v.goal c _ y.shows k.owned n p a) (same_alike v.own.log) refl (still_unplaced c heap homes n v k y h refl (λ q. refl)))
+      (cycle_quiet c heap homes n v k y _ h (acquire-shows v.region v.goal c _ y.shows k.owned n p a) (same_alike v.own.log) (still_unplaced c heap homes n v k y h refl (λ q. refl)))
 
   -- an index is claimed, in a partial set for a span in which the worker placed nothing
   pub claim_cycle : (j p index : ℕ) → refusal (claim_needs c n j p) ≡ None → (is_full_set j ≡ false → many (is_placing_in p) v.own.log ≡ 0) → (c' : CoreState) → c' ≡ after_claim c n j p
       → KeepsCycle c' heap n (acts v (told (Claims j index p) v.own))
   claim_cycle j p index a none c' same = let h = told (Claims j index p) v.own in subst (λ (s : CoreState). KeepsCycle s heap n (acts v h)) (sym same)
-      (cycle_quiet c heap homes n v k y _ h (claim-shows v.region v.goal c _ y.shows k.owned n j p a) (same_alike v.own.log) refl (λ d is part. unplaced d (some_same _ d is) part))
+      (cycle_quiet c heap homes n v k y _ h (claim-shows v.region v.goal c _ y.shows k.owned n j p a) (same_alike v.own.log) (λ d is part. unplaced d (some_same _ d is) part))
     where
       some_same : (x d : Claimed) → Some x ≡ Some d → x ≡ d
       some_same x d z = cc
@@ -137,4 +137,4 @@ module _ (c : CoreState) (heap : PageHeap) (homes : List (Option Body)) (n : ℕ
   -- a span is popped from a swept set
   pub pop_cycle : (b : Body) (j : ℕ) → refusal (pop_swept_needs c n j) ≡ None → (c' : CoreState) → c' ≡ after_pop_swept c n j → KeepsCycle c' heap n (acts v (told_of (Pops j) (span_of b) v.own))
   pop_cycle b j a c' same = let h = told_of (Pops j) (span_of b) v.own in subst (λ (s : CoreState). KeepsCycle s heap n (acts v h)) (sym same)
-      (cycle_quiet c heap homes n v k y _ h (pop_swept-shows v.region v.goal c _ y.shows k.owned n j a) (quiet-alike (Popped j b.page) v.own.log refl) refl (still_unplaced c heap homes n v k y h refl (λ q. omega arith)))
+      (cycle_quiet c heap homes n v k y _ h (pop_swept-shows v.region v.goal c _ y.shows k.owned n j a) (quiet-alike (Popped j b.page) v.own.log refl) (still_unplaced c heap homes n v k y h refl (λ q. omega arith)))

@@ -1,5 +1,5 @@
 -- The cycle under way at lines without a move, as the state goes from worker to worker, at the start, at a mark end and as it ends.
-use Rattle.std.proofs.Common.{◌≡◌, ◌≢◌, ℕ, zero, suc, ◌+◌, ◌<◌, ◌≤◌, inl, inr, Bool, true, false, List, [], ◌∷◌, ◌++◌, length, map, get_or, refl, ap, sym, subst, ◌∙◌, arith}
+use Rattle.std.proofs.Common.{◌≡◌, ◌≢◌, ℕ, zero, suc, ◌+◌, ◌<◌, ◌≤◌, inl, inr, Bool, true, false, List, [], ◌∷◌, ◌++◌, length, map, get_or, refl, ap, sym, subst, ◌∙◌, arith, set}
 use Rattle.std.specs.Prelude.{None, Some, Option, slice_index, unwrap_or}
 use Rattle.std.specs.List.{AllByRecursion}
 use Rattle.std.proofs.Math.ListN.{length-set}
@@ -44,18 +44,14 @@ use Rattle.span_laws.specs.Cycle.{EndsCycle, IsClaimUnplaced, KeepsCycle, cycle_
 use Rattle.span_laws.specs.Rule.{Rule, logs_of}
 use Rattle.span_laws.specs.Views.{acts, first_view, hand_state, no_part, parts_of}
 use Rattle.span_laws.specs.OwnSteps.{told}
-use Rattle.span_laws.specs.Handed.{handed, knowing, parts_left}
 use Rattle.span_laws.specs.MarkEnds.{allocated_pairs, marked, rested}
 use Rattle.span_laws.specs.declared.said.Said.TheVariants.{Misses}
 use Rattle.span_laws.specs.declared.view.Part.{Part}
 use Rattle.span_laws.specs.declared.view.View.{View}
-use Rattle.span_laws.proofs.CycleKept.{cycle_moved, cycle_of, e, own_unplaced, put_log, quiet_shows, same_alike, seen_by, still_unplaced}
+use Rattle.span_laws.proofs.CycleKept.{cycle_moved, cycle_of, e, put_log, seen_by, still_unplaced}
 use Rattle.span_laws.proofs.CyclePairs.{pairs_are_bits}
 use Rattle.span_laws.proofs.Lives.{marks_has}
 use Rattle.span_laws.proofs.MarkEnd.{map_at, next_allowed, parts', silent}
-use Rattle.span_laws.proofs.Notes.{log_changes}
-use Rattle.span_laws.proofs.Parts.{set_else}
-use Rattle.span_laws.proofs.RuleKept.{logs_same}
 use Rattle.span_laws.proofs.Start.{at_here, set_here as copy_here}
 use Rattle.span_laws.proofs.Uses.{some_index}
 use Rattle.span_laws.proofs.WordMoves.{four}
@@ -64,24 +60,13 @@ use Rattle.span_laws.proofs.WordMoves.{four}
 pub spare_shows : (region goal : ℕ) (c : CoreState) (s : CycleSoFar) (x r : ℕ) → ShowsCycle region goal c s → ShowsCycle region goal (record c { prepared = x; room = r }) s
 spare_shows region goal c s x r y = record { under = y.under; bits = y.bits; marks = y.marks; lives = record { begin = y.lives.begin; same = y.lives.same }; room = y.room; tell = y.tell; size = y.size; by = y.by }
 
-none_known : (past : List Line) → None ≡ Some past → ⊥
-none_known past z = some_none past (sym z)
-
-known_is : (past known : List Line) → Some past ≡ Some known → past ≡ known
-known_is past known z = cc
-
-module _ (c : CoreState) (heap : PageHeap) (homes : List (Option Body)) (n : ℕ) (v : View) (k : Rule c heap homes n v) where
-  -- what the own part knows of the journal is no matter of the rule
-  pub journal_keeps : (o : Option (List Line)) → Rule c heap homes n (acts v (record v.own { journal = o }))
-  journal_keeps o = log_changes c heap homes n v k (record v.own { journal = o }) refl refl refl (λ j q. refl) (λ q i. refl) (λ s u m. inl m) (λ s i q m. inl m) (λ s x y m. inl m) (λ s. refl) refl refl refl refl heap refl refl k.legal k.cycle (λ q. refl) refl
-
 module _ (c : CoreState) (heap : PageHeap) (homes : List (Option Body)) (n : ℕ) (v : View) (k : Rule c heap homes n v) (y : KeepsCycle c heap n v) where
   -- more room for lines, and for lives
   pub room_cycle : (heap' : PageHeap) → HasMoreRoom heap heap' → KeepsCycle c heap' n v
-  room_cycle heap' m = record { lines = y.lines; since = m.past ∙ y.since; shows = y.shows; told = λ past is. m.past ∙ y.told past is; others = y.others; unplaced = y.unplaced }
+  room_cycle heap' m = record { lines = y.lines; since = m.past ∙ y.since; shows = y.shows; unplaced = y.unplaced }
 
   pub life_cycle : (x : ℕ) → KeepsCycle (record c { prepared = x }) heap n v
-  life_cycle x = record { lines = y.lines; since = y.since; shows = spare_shows v.region v.goal c _ x c.room y.shows; told = y.told; others = y.others; unplaced = y.unplaced }
+  life_cycle x = record { lines = y.lines; since = y.since; shows = spare_shows v.region v.goal c _ x c.room y.shows; unplaced = y.unplaced }
 
   -- ---- lines without a move
 
@@ -94,51 +79,28 @@ module _ (c : CoreState) (heap : PageHeap) (homes : List (Option Body)) (n : ℕ
       cycle_moved c heap homes n v k y c heap' h (MissLine (cycle_at v.generation) pages class ∷ y.lines) (past ∙ (λ i. MissLine (is_now i) pages class ∷ y.since i))
       (seen_by c heap homes n v k y c h (MissLine (cycle_at v.generation) pages class ∷ y.lines) _ _ (missed-shows v.region v.goal c (e c heap homes n v k y) y.shows n pages class follows')
       (put_log c heap homes n v k y h (Missed (length (y.lines ++ v.before)) (MissLine (cycle_at v.generation) pages class)) (λ i. Missed (sym long i) (MissLine (is_now i) pages class) ∷ v.own.log)))
-      (λ past none. absurd (none_known past none)) (still_unplaced c heap homes n v k y h refl (λ q. omega arith))
+      (still_unplaced c heap homes n v k y h refl (λ q. omega arith))
 
-  -- pages were scavenged, and the worker is told the journal
-  pub scav_cycle : (cycle page pages : ℕ) → cycle ≡ cycle_at v.generation → (heap' : PageHeap) → MayFollow v.region v.goal heap.past (Scav cycle page pages) → heap'.past ≡ Scav cycle page pages ∷ heap.past → KeepsCycle c heap' n (knowing heap'.past v)
-  scav_cycle cycle page pages is_now heap' follows past = let h : Part = record v.own { journal = Some heap'.past } in
+  -- pages were scavenged
+  pub scav_cycle : (cycle page pages : ℕ) → cycle ≡ cycle_at v.generation → (heap' : PageHeap) → MayFollow v.region v.goal heap.past (Scav cycle page pages) → heap'.past ≡ Scav cycle page pages ∷ heap.past → KeepsCycle c heap' n v
+  scav_cycle cycle page pages is_now heap' follows past =
       let follows' = subst (λ (z : ℕ × List Line). MayFollow v.region v.goal z.1 (Scav z.0 page pages)) (λ i. (is_now i, y.since i)) follows in
-      cycle_moved c heap homes n v k y c heap' h (Scav (cycle_at v.generation) page pages ∷ y.lines) (past ∙ (λ i. Scav (is_now i) page pages ∷ y.since i))
-      (seen_by c heap homes n v k y c h (Scav (cycle_at v.generation) page pages ∷ y.lines) _ _ (scav-shows v.region v.goal c (e c heap homes n v k y) y.shows page pages follows')
-      (λ m. ap (λ (l : List (List Entry)). log_of l m) (logs_same c heap homes n v k h refl)))
-      (λ known is. known_is heap'.past known is) (still_unplaced c heap homes n v k y h refl (λ q. refl))
-
-  -- the worker is told the journal
-  pub told_cycle : (heap' : PageHeap) → heap'.past ≡ heap.past → KeepsCycle c heap' n (knowing heap'.past v)
-  told_cycle heap' past = let h : Part = record v.own { journal = Some heap'.past } in
-      cycle_moved c heap homes n v k y c heap' h y.lines (past ∙ y.since) (quiet_shows c heap homes n v k y c h y.shows (same_alike v.own.log)) (λ known is. known_is heap'.past known is) (still_unplaced c heap homes n v k y h refl (λ q. refl))
+      record {
+        lines = Scav (cycle_at v.generation) page pages ∷ y.lines;
+        since = past ∙ (λ i. Scav (is_now i) page pages ∷ y.since i);
+        shows = scav-shows v.region v.goal c (e c heap homes n v k y) y.shows page pages follows';
+        unplaced = y.unplaced;
+      }
 
   -- ---- the state goes to another worker
 
-  abbrev left : Part
-  left = record v.own { journal = None }
-
-  -- each part is the own one or another
-  part_or : (P : Part → Type 0) (m : ℕ) (x : Part) → get_elem? (parts_left n v) m ≡ some x → P left → ((m ≢ n) → get_elem? (parts_of n v) m ≡ some x → P x) → P x
-  part_or P m x a own other = dite (ℕ_discrete m n)
-      (λ s. subst P (some-injective left x (sym (set_here v.parts n left k.number) ∙ ap (get_elem? (parts_left n v)) (sym s) ∙ a)) own)
-      (λ d. other d (set_else v.parts n v.own m d ∙ sym (set_else v.parts n left m d) ∙ a))
-
-  none_told : EachAt (parts_left n v) (λ m x. x.journal ≡ None)
-  none_told m x a = part_or (λ p. p.journal ≡ None) m x a refl (λ d b. y.others m x b d)
-
-  pub hand_cycle : (m : ℕ) → m < length v.parts → KeepsCycle c heap m (handed n m v)
-  hand_cycle m low = record {
+  pub seat_cycle : (m : ℕ) (x : Part) (ps : List Part) → set ps m x ≡ parts_of n v → KeepsCycle c heap m (record v { own = x; parts = ps })
+  seat_cycle m x ps same = record {
     lines = y.lines;
     since = y.since;
-    shows = subst (λ (l : List (List Entry)). ShowsCycle v.region v.goal c (cycle_of v y.lines (bits_of c) (log_of l))) (logs_same c heap homes n v k left refl ∙ ap (map (λ (h : Part). h.log)) (sym same)) y.shows;
-    told = λ past is. absurd (none_known past (sym (none_told m (get_or (parts_left n v) m no_part) (at_low (parts_left n v) m no_part long)) ∙ is));
-    others = subst (λ (l : List Part). EachAt l (λ i h. i ≢ m → h.journal ≡ None)) (sym same) (λ i x a d. none_told i x a);
-    unplaced = subst (λ (l : List Part). EachAt l (λ i h. IsClaimUnplaced h)) (sym same) (λ i x a. part_or IsClaimUnplaced i x a (own_unplaced c heap homes n v k y) (λ d b. y.unplaced i x b));
+    shows = subst (λ (l : List Part). ShowsCycle v.region v.goal c (cycle_of v y.lines (bits_of c) (log_of (map (λ (h : Part). h.log) l)))) (sym same) y.shows;
+    unplaced = subst (λ (l : List Part). EachAt l (λ i h. IsClaimUnplaced h)) (sym same) y.unplaced;
   }
-    where
-      same : parts_of m (handed n m v) ≡ parts_left n v
-      same = set-get_or (parts_left n v) m no_part
-
-      long : m < length (parts_left n v)
-      long = subst (λ (x : ℕ). m < x) (sym (length-set v.parts n left)) low
 
   -- ---- the end of a cycle
 
@@ -188,14 +150,11 @@ module _ (c : CoreState) (heap : PageHeap) (homes : List (Option Body)) (n : ℕ
 
     -- ---- a mark end
 
-    module _ (marks : List (ℕ × ℕ)) (rising : rises marks ≡ true) (known : AllByRecursion (IsKnown n v) marks) (knows : (past : List Line) × (v.own.journal ≡ Some past)) where
-      before_is : heap.past ≡ unwrap_or v.own.journal []
-      before_is = y.told knows.0 knows.1 ∙ sym (ap (λ (o : Option (List Line)). unwrap_or o []) knows.1)
-
+    module _ (marks : List (ℕ × ℕ)) (rising : rises marks ≡ true) (known : AllByRecursion (IsKnown n v) marks) (past : List Line) (before_is : heap.past ≡ past) where
       cycle_is : cycle_at v.generation + 1 ≡ cycle_at (v.generation + 2)
       cycle_is = let l = four c heap homes n v k in let g = k.generation in omega arith
 
-      next_shown : ShowsCycle v.region v.goal (after_next c marks) (cycle_seen n (marked n marks v) [] (bits_of (after_next c marks)))
+      next_shown : ShowsCycle v.region v.goal (after_next c marks) (cycle_seen n (marked n past marks v) [] (bits_of (after_next c marks)))
       next_shown = let s = next-shows v.region v.goal c (cycle_ended n v y.lines) ended_shown k.owned marks (next_allowed c heap homes n v k marks rising rest known) in
           subst (λ (z : ℕ × List Line × (ℕ → ℕ → Bool) × (ℕ → ℕ → Bool) × (ℕ → List Entry)). ShowsCycle v.region v.goal (after_next c marks)
           (record { cycle = z.0; before = z.1; lines = []; carried = has_pair (allocated_pairs n v); marks = z.2; bits = z.3; logs = z.4; news = []; notes = [] }))
@@ -207,13 +166,11 @@ module _ (c : CoreState) (heap : PageHeap) (homes : List (Option Body)) (n : ℕ
             (λ m. sym (ap (λ (l : List Part). get_or (map (λ (h : Part). h.log) l) m []) (parts' c heap homes n v k marks rising rest known) ∙ silent c heap homes n v k marks rising rest known (parts_of n v) m) i),
           )) s
 
-      pub next_cycle : (c' : CoreState) → c' ≡ after_next c marks → KeepsCycle c' heap n (marked n marks v)
-      next_cycle c' is = subst (λ (s : CoreState). KeepsCycle s heap n (marked n marks v)) (sym is) (record {
+      pub next_cycle : (c' : CoreState) → c' ≡ after_next c marks → KeepsCycle c' heap n (marked n past marks v)
+      next_cycle c' is = subst (λ (s : CoreState). KeepsCycle s heap n (marked n past marks v)) (sym is) (record {
         lines = [];
         since = before_is;
         shows = next_shown;
-        told = λ past none. absurd (none_known past none);
-        others = subst (λ (l : List Part). EachAt l (λ i h. i ≢ n → h.journal ≡ None)) (sym (parts' c heap homes n v k marks rising rest known)) (λ i x a d. (let z = map_at rested (parts_of n v) i x a in ap (λ (h : Part). h.journal) (sym z.2)));
         unplaced = subst (λ (l : List Part). EachAt l (λ i h. IsClaimUnplaced h)) (sym (parts' c heap homes n v k marks rising rest known)) (λ i x a. (let z = map_at rested (parts_of n v) i x a in subst IsClaimUnplaced z.2 (λ d claim part. refl)));
       })
 
@@ -226,8 +183,6 @@ start_cycle core core' heap v pages goal workers n is room low past view = subst
   since = past;
   shows = spare_shows pages goal (new_state pages workers) _ 0 (length (new_state pages workers).words)
       (subst (λ (z : ℕ → List Entry). ShowsCycle pages goal (new_state pages workers) (cycle_of (first_view pages goal workers) [] (bits_of (new_state pages workers)) z)) (λ i m. sym (silent_start m) i) (new-shows pages goal workers));
-  told = λ known none. absurd (none_known known none);
-  others = λ m x a d. ap (λ (h : Part). h.journal) (sym (part_is m x a));
   unplaced = λ m x a. subst IsClaimUnplaced (part_is m x a) (λ d claim part. refl);
 })
   where

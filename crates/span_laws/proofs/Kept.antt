@@ -1,8 +1,10 @@
 -- All that holds of the lent state stays at each call's step: the rule, and the cycle under way.
-use Rattle.std.proofs.Common.{◌≡◌, ℕ, ◌+◌, ◌-◌, ◌/◌, ◌<◌, ◌≤◌, ⊎_elim, ◌⊎◌, inl, inr, ltb, true, false, List, [], length, get_or, set, refl, ap, sym, subst, ◌∙◌, arith}
+use Rattle.std.proofs.Common.{◌≡◌, ℕ, ◌+◌, ◌-◌, ◌/◌, ◌<◌, ◌≤◌, ⊎_elim, ◌⊎◌, ◌≢◌, inl, inr, ltb, true, false, List, [], length, get_or, set, refl, ap, sym, subst, ◌∙◌, arith}
 use Rattle.std.specs.Prelude.{None, Some, Option, IfNone, IfSome}
 use Rattle.std.specs.List.{AllByRecursion}
 use Rattle.std.proofs.lemmas.Bool.{cases_lt, lt-ltb, ltb-true}
+use Rattle.std.proofs.lemmas.List.{set-get_or}
+use Rattle.std.proofs.Math.ListN.{length-set}
 use Rattle.page_alloc.specs.Heap.{AddsLine, HasMoreRoom, PageHeap}
 use Rattle.size_classes.proofs.Bounds.{objects_bounds}
 use Rattle.page_alloc.specs.Owners.{owner}
@@ -33,30 +35,32 @@ use Rattle.worker_log.specs.SetNumbers.{is_full_set}
 use Rattle.worker_log.specs.Entries.{is_placing_in, is_pop_of, many}
 use Rattle.span_laws.specs.TakeAnswers.{IsNew, cycle_at}
 use Rattle.span_laws.specs.Answers.{IsOfSet}
-use Rattle.span_laws.specs.Asks.{HasBody, KnowsJournal}
+use Rattle.span_laws.specs.Asks.{HasBody}
 use Rattle.span_laws.specs.MarkEndAsks.{IsAtRest, IsKnown}
 use Rattle.span_laws.specs.Cycle.{KeepsCycle, Kept}
 use Rattle.span_laws.specs.Moves.{move_of, move_on}
 use Rattle.span_laws.specs.Suits.{IsQuiet, PlacesAlone, Suits, SuitsOf}
 use Rattle.span_laws.specs.Truth.{IsSo}
-use Rattle.span_laws.specs.Views.{acts, first_view, hand_state, span_of}
+use Rattle.span_laws.specs.Views.{acts, first_view, hand_state, no_part, parts_of, span_of}
 use Rattle.span_laws.specs.OwnSteps.{told, told_of}
-use Rattle.span_laws.specs.Handed.{handed, knowing}
+use Rattle.span_laws.specs.Handed.{handed}
 use Rattle.span_laws.specs.MarkEnds.{marked}
 use Rattle.span_laws.specs.declared.said.Said.{Said}
 use Rattle.span_laws.specs.declared.said.Said.TheVariants.{Claims, Gives, Misses}
 use Rattle.span_laws.specs.declared.said.SaidOf.{SaidOf}
 use Rattle.span_laws.specs.declared.said.SaidOf.TheVariants.{Acquires, Releases, Takes, Pops, Places}
+use Rattle.span_laws.specs.declared.view.Part.{Part}
 use Rattle.span_laws.specs.declared.view.Span.{Span}
 use Rattle.span_laws.specs.declared.view.View.{View}
 use Rattle.span_laws.proofs.Allowed.{acquire_allowed, give_allowed, lock_allowed, pop_swept_allowed, take_allowed}
 use Rattle.span_laws.proofs.Calls.{acquire_rule, claim_rule, pop_rule, ready_rule, run_rule}
 use Rattle.span_laws.proofs.CycleLives.{give_cycle, place_cycle, release_cycle, take_cycle}
 use Rattle.span_laws.proofs.CycleSteps.{acquire_cycle, claim_cycle, note_cycle, pop_cycle, said_cycle}
-use Rattle.span_laws.proofs.CycleTurns.{hand_cycle, journal_keeps, life_cycle, miss_cycle, next_cycle, room_cycle, scav_cycle, start_cycle, told_cycle}
+use Rattle.span_laws.proofs.CycleTurns.{life_cycle, miss_cycle, next_cycle, room_cycle, scav_cycle, seat_cycle, start_cycle}
 use Rattle.span_laws.proofs.LifeMoves.{give_keeps}
 use Rattle.span_laws.proofs.MarkEnd.{next_keeps}
-use Rattle.span_laws.proofs.Notes.{hand_keeps, heap_keeps, miss_keeps, note_keeps, room_keeps}
+use Rattle.span_laws.proofs.Notes.{heap_keeps, miss_keeps, note_keeps, room_keeps, seat_keeps}
+use Rattle.span_laws.proofs.Parts.{set_apart}
 use Rattle.span_laws.proofs.RuleKept.{low_number, own_at, own_hand}
 use Rattle.span_laws.proofs.SaidKept.{of_keeps, said_keeps}
 use Rattle.span_laws.proofs.Start.{start_rule}
@@ -146,26 +150,32 @@ module _ (c : CoreState) (heap : PageHeap) (homes : List (Option Body)) (n : ℕ
         size last now (is ∙ cycle_now) heap' line.past);
   }
 
-  -- a scavenging step, and the worker is told the journal
-  pub kept_scav : (cycle : ℕ) → cycle ≡ (c.generation - 4) / 2 → (heap' : PageHeap) (o : Option Run) → IfSome o (λ run. AddsLine heap heap' (Scav cycle run.page run.pages)) → IfNone o (HasMoreRoom heap heap') → Kept c heap' homes n (knowing heap'.past v)
+  -- a scavenging step
+  pub kept_scav : (cycle : ℕ) → cycle ≡ (c.generation - 4) / 2 → (heap' : PageHeap) (o : Option Run) → IfSome o (λ run. AddsLine heap heap' (Scav cycle run.page run.pages)) → IfNone o (HasMoreRoom heap heap') → Kept c heap' homes n v
   kept_scav cycle is heap' (Some run) a s = record {
-    rule = journal_keeps c heap' homes n v
-        (heap_keeps c heap homes n v k.rule heap' a.region a.goal a.legal (subst (IsBy ((c.generation - 4) / 2)) (sym a.past) (omega arith)) (λ q. ap (λ (z : List Line). owner z q) a.past) (ap open_lives a.past)) (Some heap'.past);
+    rule = heap_keeps c heap homes n v k.rule heap' a.region a.goal a.legal (subst (IsBy ((c.generation - 4) / 2)) (sym a.past) (omega arith)) (λ q. ap (λ (z : List Line). owner z q) a.past) (ap open_lives a.past);
     cycle = scav_cycle c heap homes n v k.rule k.cycle cycle run.page run.pages (is ∙ cycle_now) heap' (line_may (Scav cycle run.page run.pages) a.may_follow) a.past;
   }
-  kept_scav cycle is heap' None a s = record { rule = journal_keeps c heap' homes n v (room_keeps c heap homes n v k.rule heap' s) (Some heap'.past); cycle = told_cycle c heap homes n v k.rule k.cycle heap' s.past }
-
-  pub kept_told : Kept c heap homes n (knowing heap.past v)
-  kept_told = record { rule = journal_keeps c heap homes n v k.rule (Some heap.past); cycle = told_cycle c heap homes n v k.rule k.cycle heap refl }
+  kept_scav cycle is heap' None a s = kept_room heap' s
 
   -- ---- the way of the state, and a mark end
 
-  pub kept_hand : (m : ℕ) → m < length v.parts → Kept c heap homes m (handed n m v)
-  kept_hand m low = record { rule = hand_keeps c heap homes n v k.rule m low; cycle = hand_cycle c heap homes n v k.rule k.cycle m low }
+  -- another worker has the state, and the parts are the same by number
+  kept_seat : (m : ℕ) (x : Part) (ps : List Part) → set ps m x ≡ parts_of n v → m < length ps → Kept c heap homes m (record v { own = x; parts = ps })
+  kept_seat m x ps same low = record { rule = seat_keeps c heap homes n v k.rule m x ps same low; cycle = seat_cycle c heap homes n v k.rule k.cycle m x ps same }
 
-  pub kept_next : (marks : List (ℕ × ℕ)) → rises marks ≡ true → IsAtRest n v → AllByRecursion (IsKnown n v) marks → KnowsJournal v.own → v.generation < 8589934592 → (c' : CoreState) → c' ≡ after_next c marks → Owned c' → IsTidy c' → HasSpace c'
-      → Kept c' heap homes n (marked n marks v)
-  kept_next marks rising rest known knows early c' e o t r = record { rule = next_keeps c heap homes n v k.rule marks rising rest known early c' e o t r; cycle = next_cycle c heap homes n v k.rule k.cycle rest marks rising known knows c' e }
+  pub kept_hand : (m : ℕ) → m < length v.parts → Kept c heap homes m (handed n m v)
+  kept_hand m low = kept_seat m (get_or (parts_of n v) m no_part) (parts_of n v) (set-get_or (parts_of n v) m no_part) (subst (λ (x : ℕ). m < x) (sym (length-set v.parts n v.own)) low)
+
+  pub kept_next : (marks : List (ℕ × ℕ)) → rises marks ≡ true → IsAtRest n v → AllByRecursion (IsKnown n v) marks → (past : List Line) → heap.past ≡ past → v.generation < 8589934592 → (c' : CoreState) → c' ≡ after_next c marks → Owned c' → IsTidy c' → HasSpace c'
+      → Kept c' heap homes n (marked n past marks v)
+  kept_next marks rising rest known past before early c' e o t r = record { rule = next_keeps c heap homes n v k.rule marks rising rest known past early c' e o t r; cycle = next_cycle c heap homes n v k.rule k.cycle rest marks rising known past before c' e }
+
+-- a worker that was handed out is taken in by number n, in whose view nothing but the own part changed since
+pub kept_join : (c : CoreState) (heap : PageHeap) (homes : List (Option Body)) (n m : ℕ) (v w : View) → Kept c heap homes m w → w ≡ acts (handed n m v) w.own → m ≢ n → n < length v.parts → Kept c heap homes n (record v { parts = set v.parts m w.own })
+kept_join c heap homes n m v w k stays d low =
+    kept_seat c heap homes m (acts (handed n m v) w.own) (subst (Kept c heap homes m) stays k) n v.own (set v.parts m w.own) (set_apart v.parts n m v.own w.own d)
+    (subst (λ (x : ℕ). n < x) (sym (length-set v.parts m w.own)) low)
 
 not_below : (a b : ℕ) → b ≤ a → ltb a b ≡ false
 not_below a b le = grind arith

@@ -50,7 +50,7 @@ use Rattle.span_laws.proofs.Lives.{appended_here, changed_here, drop_else, none_
 use Rattle.span_laws.proofs.Parts.{has3, has_none}
 use Rattle.span_laws.proofs.RuleKept.{own_at, turned}
 use Rattle.span_laws.proofs.TellsKept.{Leads, own_tells}
-use Rattle.span_laws.proofs.WordMoves.{as_own, enters, four, fresh_stays, kept, lent_now, not_waiting, once, own_tells_of, span_else, span_here, unsettled, word_else, word_here}
+use Rattle.span_laws.proofs.WordMoves.{as_own, enters, four, fresh_stays, gone_now, held_lent, kept, lent_now, not_waiting, once, own_tells_of, span_else, span_here, unsettled, word_else, word_here}
 
 some_same : {A : Type 0} (a b : A) → Some a ≡ Some b → a ≡ b
 some_same a b e = cc
@@ -122,6 +122,7 @@ module _ (c : CoreState) (heap : PageHeap) (homes : List (Option Body)) (n : ℕ
           },
         ))
         (λ y. inl (rw (unclaimed p (omega arith)) (omega arith)))
+        (λ _. gone_now c heap homes n v k p (let s = only_more in omega arith))
         (λ y. absurd (not_waiting c heap homes n v k _ (inl (word_here c heap homes n v k p g low)) y))
         (λ i a m. subst (λ (l : LifeState). 0 < times i l.allocated) (sym now) (subst (λ (z : List ℕ). 0 < times i z) (sym marks) m))
         (own_tells g c.words c.lives c.sets (set c.words p g) ls' c.sets p lead v.own h (own_tells_of c heap homes n v k)
@@ -180,6 +181,7 @@ module _ (c : CoreState) (heap : PageHeap) (homes : List (Option Body)) (n : ℕ
           },
         ))
         (λ y. inl (rw (unclaimed p (omega arith)) (omega arith)))
+        (λ _. k.bodies.bare p (free_begins p low free))
         (λ y. absurd (not_waiting c heap homes n v k _ (inl (word_here c heap homes n v k p g low)) y))
         (λ i a m. let z : 0 < times i no_life.allocated = subst (λ (l : LifeState). 0 < times i l.allocated) was a in absurd (omega arith))
         (own_tells g c.words c.lives c.sets (set c.words p g) ls' c.sets p lead v.own h (own_tells_of c heap homes n v k)
@@ -228,6 +230,7 @@ module _ (c : CoreState) (heap : PageHeap) (homes : List (Option Body)) (n : ℕ
         (λ q d. rw (times_erase_else q p v.own.held d) refl) (λ q d. refl)
         (λ l. let w : times p (erase p v.own.held) ≡ 0 = omega arith in let y : lends p h ≡ times p v.own.sweeping + times p v.own.cached + only (not (is_claimed p v.own.claimed)) 0 = ap (λ (z : ℕ). times p v.own.sweeping + times p v.own.cached + only (not (is_claimed p v.own.claimed)) z) w in absurd (omega arith))
         (λ y. absurd (true≢false (sym y ∙ gone)))
+        (λ _. gone_now c heap homes n v k p (held_lent c heap homes n v k p held free))
         (λ y. let w = word_here c heap homes n v k p 0 low in let f = four c heap homes n v k in absurd (zero_waits (get_or (set c.words p 0) p 0) w y))
         (λ i a m. let z = nothing (life_in p c.lives).allocated empty i in absurd (omega arith))
         (own_tells g c.words c.lives c.sets (set c.words p 0) ls' c.sets p lead v.own h (own_tells_of c heap homes n v k)

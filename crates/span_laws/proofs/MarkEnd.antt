@@ -1,5 +1,5 @@
 -- A mark end: its needs are met by what the driver's view tells, and it keeps the rule.
-use Rattle.std.proofs.Common.{◌≡◌, ◌≢◌, ℕ, zero, suc, ◌+◌, ◌-◌, ◌/◌, ◌^◌, ◌<◌, ◌≤◌, ◌⊎◌, inl, inr, ⊎_elim, Bool, ◌&&◌, ◌||◌, not, cond, eqb, ltb, eq-eqb, ne_eqb, true, false, true≢false, List, [], ◌∷◌, map, length, get_or, refl, ap, sym, subst, ◌∙◌, arith, lt-ltb}
+use Rattle.std.proofs.Common.{◌≡◌, ◌≢◌, ℕ, zero, suc, ◌+◌, ◌-◌, ◌/◌, ◌^◌, ◌<◌, ◌≤◌, ◌⊎◌, inl, inr, ⊎_elim, Bool, ◌&&◌, ◌||◌, not, cond, eqb, ltb, eq-eqb, ne_eqb, true, false, true≢false, List, [], ◌∷◌, map, length, get_or, refl, ap, sym, subst, ◌∙◌, arith, lt-ltb, set}
 use Rattle.std.specs.Prelude.{None, Option, option_map}
 use Rattle.std.specs.List.{AllByRecursion, find, position, prefix_len, range_with_len}
 use Rattle.std.specs.Option.{is_some}
@@ -268,7 +268,7 @@ module _ (c : CoreState) (heap : PageHeap) (homes : List (Option Body)) (n : ℕ
   abbrev ls' : List LifeState
   ls' = map (mark_life marks) c.lives
 
-  pub parts' : parts_of n (marked n marks v) ≡ map rested ps
+  pub parts' : set (map rested v.parts) n (rested v.own) ≡ map rested ps
   parts' = sym (map-set rested v.parts n v.own)
 
   -- what a mark end leaves of a life
@@ -307,8 +307,8 @@ module _ (c : CoreState) (heap : PageHeap) (homes : List (Option Body)) (n : ℕ
       word_of l e = let s = settled p l in let x : is_settled c.generation (c.generation + 2 + 3) ≡ true = subst (λ (z : ℕ). is_settled c.generation z ≡ true) e s in
           true≢false (sym x ∙ (let f = four c heap homes n v k in rw (ne_eqb (c.generation + 2 + 3) 0 (λ z. omega arith), ne_eqb (c.generation + 2 + 3) c.generation (λ z. omega arith), ne_eqb (c.generation + 2 + 3) (c.generation + 3) (λ z. omega arith)) refl))
 
-  pub next_keeps : v.generation < 8589934592 → (c' : CoreState) → c' ≡ after_next c marks → Owned c' → IsTidy c' → HasSpace c' → Rule c' heap homes n (marked n marks v)
-  next_keeps low c' e o t r = subst (λ (s : CoreState). Rule s heap homes n (marked n marks v)) (sym e) (record {
+  pub next_keeps : (past : List Line) → v.generation < 8589934592 → (c' : CoreState) → c' ≡ after_next c marks → Owned c' → IsTidy c' → HasSpace c' → Rule c' heap homes n (marked n past marks v)
+  next_keeps past low c' e o t r = subst (λ (s : CoreState). Rule s heap homes n (marked n past marks v)) (sym e) (record {
     owned = subst Owned e o;
     tidy = subst IsTidy e t;
     space = subst HasSpace e r;
@@ -326,7 +326,7 @@ module _ (c : CoreState) (heap : PageHeap) (homes : List (Option Body)) (n : ℕ
     cycle = is_by_more ((c.generation - 4) / 2) ((c.generation + 2 - 4) / 2) heap.past (omega arith) k.cycle;
     early = (let x = low in let g = k.generation in let y = (kept c heap homes n v k).generation.even in omega arith);
     names = λ s i. 0;
-    entered = empty_enters (c.generation + 2) (length c.words) c.words ls' (empty_unswept c.generation 0 c.sets) (map forget_swept c.hands) (logs_of n (marked n marks v)) (λ s i. 0)
+    entered = empty_enters (c.generation + 2) (length c.words) c.words ls' (empty_unswept c.generation 0 c.sets) (map forget_swept c.hands) (logs_of n (marked n past marks v)) (λ s i. 0)
         (λ s x a part. emptied_at c.generation 0 c.sets s x a (let z : 0 + s ≡ s = omega arith in ap (is_swept_set c.generation) z ∙ not_true (is_swept_set c.generation s) (sym (turns c.generation s) ∙ part)))
         (λ m h a. let x = map_at forget_swept c.hands m h a in ap (λ (z : HandState). z.claimed) (sym x.2) ∙ (idle m x.0 x.1).3)
         (λ m. ap (λ (l : List Part). get_or (map (λ (h : Part). h.log) l) m []) parts' ∙ silent ps m);
@@ -334,6 +334,8 @@ module _ (c : CoreState) (heap : PageHeap) (homes : List (Option Body)) (n : ℕ
       many = k.bodies.many;
       lent = λ m x a p l. let y = map_at rested ps m x a in
           subst (λ (z : Part). IsLent heap.past ls' z p) y.2 (let s = k.bodies.lent m y.0 y.1 p (subst (λ (z : Part). 0 < lends p z) (sym y.2) l) in let z : IsLent heap.past ls' (rested y.0) p = (s.0, s.1, fits_after p s.0 s.2) in z);
+      gone = λ m x a p l. let y = map_at rested ps m x a in k.bodies.gone m y.0 y.1 p (subst (λ (z : Part). 0 < lends p z) (sym y.2) l);
+      bare = λ p b. k.bodies.bare p (sym (marked_begins marks p c.lives) ∙ b);
       home = λ p l b. ⊎_elim (λ (a : IsAway ps p). inl (a.0, rested a.1, at_map rested ps a.0 a.1 a.2, a.3)) (λ (x : IsHome heap.past c.lives homes p). inr (x.0, x.1, fits_after p (span_of x.0) x.2))
           (k.bodies.home p l (sym (marked_begins marks p c.lives) ∙ b));
     });

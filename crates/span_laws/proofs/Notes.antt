@@ -40,9 +40,8 @@ use Rattle.span_laws.specs.Rule.{Rule, logs_of}
 use Rattle.span_laws.specs.Suits.{IsQuiet}
 use Rattle.span_laws.specs.Tells.{Tells}
 use Rattle.span_laws.specs.Truth.{IsSo}
-use Rattle.span_laws.specs.Views.{acts, hand_state, has_cell, no_part, parts_of, span_of}
+use Rattle.span_laws.specs.Views.{acts, hand_state, has_cell, parts_of, span_of}
 use Rattle.span_laws.specs.OwnSteps.{told}
-use Rattle.span_laws.specs.Handed.{handed, parts_left}
 use Rattle.span_laws.proofs.BodiesKept.{bodies_stay}
 use Rattle.span_laws.proofs.RuleKept.{moved, own_hand, part_at}
 use Rattle.span_laws.proofs.TellsKept.{own_tells, same_leads, tells_stay}
@@ -100,6 +99,8 @@ module _ (c : CoreState) (heap : PageHeap) (homes : List (Option Body)) (n : ℕ
           bodies_open b = record {
             many = b.many;
             lent = λ m x a q l. let r = b.lent m x a q l in (r.0, r.1, fits_open q r.0 r.2);
+            gone = b.gone;
+            bare = b.bare;
             home = λ q l g. ⊎_elim (λ (a : IsAway (set (parts_of n v) n h) q). inl a) (λ (x : IsHome heap.past c.lives homes q). inr (x.0, x.1, fits_open q (span_of x.0) x.2)) (b.home q l g);
           }
 
@@ -195,14 +196,14 @@ module _ (c : CoreState) (heap : PageHeap) (homes : List (Option Body)) (n : ℕ
     tells = k.tells;
   }
 
-  -- the state goes to another worker
-  pub hand_keeps : (m : ℕ) → m < length v.parts → Rule c heap homes m (handed n m v)
-  hand_keeps m low = let k = left_keeps in record {
+  -- another worker has the state, and the parts are the same by number
+  pub seat_keeps : (m : ℕ) (x : Part) (ps : List Part) → set ps m x ≡ parts_of n v → m < length ps → Rule c heap homes m (record v { own = x; parts = ps })
+  seat_keeps m x ps same low = record {
     owned = k.owned;
     tidy = k.tidy;
     space = k.space;
     unlocked = k.unlocked;
-    number = subst (λ (x : ℕ). m < x) (sym (length-set v.parts n left)) low;
+    number = low;
     hands = k.hands ∙ ap (λ (l : List Part). map hand_state l) (sym same);
     region = k.region;
     small = k.small;
@@ -220,12 +221,3 @@ module _ (c : CoreState) (heap : PageHeap) (homes : List (Option Body)) (n : ℕ
     marks = k.marks;
     tells = subst (λ (l : List Part). EachAt l (λ i h. Tells c.generation c.words c.lives c.sets h)) (sym same) k.tells;
   }
-    where
-      left : Part
-      left = record v.own { journal = None }
-
-      left_keeps : Rule c heap homes n (acts v left)
-      left_keeps = log_changes left refl refl refl (λ j q. refl) (λ q i. refl) (λ s u m. inl m) (λ s i q m. inl m) (λ s x y m. inl m) (λ s. refl) refl refl refl refl heap refl refl k.legal k.cycle (λ q. refl) refl
-
-      same : parts_of m (handed n m v) ≡ parts_left n v
-      same = set-get_or (parts_left n v) m no_part

@@ -23,6 +23,14 @@ set_else (x ∷ l) zero a (suc m) d = refl
 set_else (x ∷ l) (suc i) a zero d = refl
 set_else (x ∷ l) (suc i) a (suc m) d = set_else l i a m (λ e. d (ap suc e))
 
+-- two places of a list, each set once
+pub set_apart : {A : Type 0} (l : List A) (i m : ℕ) (a b : A) → m ≢ i → set (set l m b) i a ≡ set (set l i a) m b
+set_apart [] i m a b d = refl
+set_apart (x ∷ l) zero zero a b d = absurd (d refl)
+set_apart (x ∷ l) zero (suc m) a b d = refl
+set_apart (x ∷ l) (suc i) zero a b d = refl
+set_apart (x ∷ l) (suc i) (suc m) a b d = ap (λ ys. x ∷ ys) (set_apart l i m a b (λ e. d (ap suc e)))
+
 pub at_map : {A B : Type 0} (f : A → B) (l : List A) (n : ℕ) (a : A) → get_elem? l n ≡ some a → get_elem? (map f l) n ≡ some (f a)
 at_map f [] n a e = absurd (some-ne-none a (sym e))
 at_map f (x ∷ l) zero a e = ap (λ y. some (f y)) (some-injective x a e)

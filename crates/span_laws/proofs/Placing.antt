@@ -46,7 +46,7 @@ use Rattle.span_laws.proofs.LifeMoves.{begin_at}
 use Rattle.span_laws.proofs.Parts.{lends-le}
 use Rattle.span_laws.proofs.RuleKept.{own_at, own_hand, same_pops, turned}
 use Rattle.span_laws.proofs.TellsKept.{Leads, own_tells}
-use Rattle.span_laws.proofs.WordMoves.{four, kept, lent_now, own_tells_of, span_else, span_here}
+use Rattle.span_laws.proofs.WordMoves.{four, gone_now, kept, lent_now, own_tells_of, span_else, span_here}
 
 more_times : (j i : ℕ) (xs : List ℕ) → 0 < times j xs → 0 < times j (xs ++ i ∷ [])
 more_times j i xs l = dite (ℕ_discrete j i)
@@ -127,6 +127,7 @@ module _ (c : CoreState) (heap : PageHeap) (homes : List (Option Body)) (n : ℕ
           },
         ))
         (λ y. inl has)
+        (λ _. gone_now c heap homes n v k p has)
         (λ y. ap (λ (z : LifeState). z.kept) now ∙ k.marks.kept p low y)
         (λ j a m. subst (λ (z : LifeState). 0 < times j z.allocated) (sym now) (more_times j i l.allocated a))
         (own_tells g c.words c.lives c.sets c.words ls' c.sets p lead v.own h (own_tells_of c heap homes n v k) (own_tells_of c heap homes n v k).fresh

@@ -1,5 +1,5 @@
 -- What the rule says of the own part, and that it stays where a move changes the own hand as a step changes the own part.
-use Rattle.std.proofs.Common.{◌≡◌, ◌≢◌, ℕ, zero, suc, ◌-◌, ◌/◌, ◌^◌, ◌<◌, ◌≤◌, ◌⊎◌, ⊎_elim, true, List, [], ◌∷◌, length, get_or, set, map, refl, sym, ap, subst, ◌∙◌, arith}
+use Rattle.std.proofs.Common.{◌≡◌, ◌≢◌, ℕ, zero, suc, ◌-◌, ◌/◌, ◌^◌, ◌<◌, ◌≤◌, ◌⊎◌, ⊎_elim, true, List, [], ◌∷◌, length, get_or, set, map, refl, sym, ap, subst, ◌∙◌, arith, false}
 use Rattle.std.specs.Prelude.{None, Option}
 use Rattle.std.proofs.lemmas.List.{map-set, length-map, get_or-set_same, get_or-set_other}
 use mathlib.Core.Logic.{dite}
@@ -133,12 +133,13 @@ module _ (c : CoreState) (heap : PageHeap) (homes : List (Option Body)) (n : ℕ
           → length homes' ≡ length homes → (line : (s : Span) → s.page ≢ p → IsOpen heap.past s → IsOpen heap'.past s) → ((q : ℕ) → q ≢ p → get_or homes' q None ≡ get_or homes q None)
           → ((q : ℕ) → q ≢ p → lends q h ≡ lends q v.own) → ((q : ℕ) → q ≢ p → span_at q h.spans ≡ span_at q v.own.spans)
           → (0 < lends p h → IsLent heap'.past c'.lives h p) → (begins p c'.lives ≡ true → (0 < lends p h) ⊎ IsHome heap'.past c'.lives homes' p)
+          → ((0 < lends p h) ⊎ (begins p c'.lives ≡ false) → get_or homes' p None ≡ None)
           → (IsWaiting c.generation (get_or c'.words p 0) → (life_in p c'.lives).kept ≡ marks_at p v.marks)
           → ((i : ℕ) → 0 < times i (life_in p c.lives).allocated → 0 < times i (marks_at p v.marks) → 0 < times i (life_in p c'.lives).allocated)
           → Tells c.generation c'.words c'.lives c'.sets h → Rule c' heap' homes' n (acts v h)
-      turned names' entered lead life begin many line home lend span lent there kept still told =
+      turned names' entered lead life begin many line home lend span lent there empty kept still told =
           moved names' entered
           (bodies_turn (length c.words) heap.past c.lives homes (parts_of n v) k.bodies n v.own part_at heap'.past c'.lives homes' h p (many ∙ k.bodies.many) life begin line home lend span
-          (λ m x d at. let z = lends-le p x in let y = others m x d at in omega arith) lent (λ _. there))
+          (λ m x d at. let z = lends-le p x in let y = others m x d at in omega arith) lent (λ _. there) empty)
           (marked_turn c.generation c.words c.lives v.marks k.marks c'.words c'.lives p words lead.words life kept still)
           (tells_turn c.generation c.words c.lives c.sets c'.words c'.lives c'.sets p lead (parts_of n v) n h k.tells others told)

@@ -55,6 +55,7 @@ use Rattle.span_laws.proofs.BodiesKept.{bodies_stay}
 use Rattle.page_bitmap.specs.Counts.{one_if}
 use Rattle.span_laws.proofs.Parts.{alone, at_map, has3, lends-le}
 use Rattle.span_laws.proofs.LifeMoves.{unclaimed}
+use Rattle.span_laws.proofs.Lives.{none_here}
 use Rattle.span_laws.proofs.RuleKept.{log_else, log_own, logs_same, moved, own_at, part_at, turned}
 use Rattle.span_laws.proofs.TellsKept.{Leads, own_tells, tells_turn}
 use Rattle.span_laws.proofs.WordMoves.{as_own, held_lent, kept, lent_now, once, own_tells_of, span_else, span_here}
@@ -132,6 +133,9 @@ module _ (c : CoreState) (heap : PageHeap) (homes : List (Option Body)) (n : ℕ
         (λ q x. ap (λ (y : Bool). times q v.own.sweeping + times q v.own.cached + only (not y) (times q v.own.held)) (ne_eqb p q (λ z. x (sym z)) ∙ sym (ap (is_claimed q) free))) (λ q x. refl)
         (λ l. absurd (let z : lends p h ≡ times p v.own.sweeping + times p v.own.cached + 0 = ap (λ (y : Bool). times p v.own.sweeping + times p v.own.cached + only (not y) (times p v.own.held)) claimed in omega arith))
         (λ y. inr (b, get_or-set_same homes p (Some b) None (let z = k.bodies.many in omega arith), fits))
+        (λ z. ⊎_elim
+        (λ (l : 0 < lends p h). absurd (let y : lends p h ≡ times p v.own.sweeping + times p v.own.cached + 0 = ap (λ (y : Bool). times p v.own.sweeping + times p v.own.cached + only (not y) (times p v.own.held)) claimed in omega arith))
+        (λ (y : begins p c.lives ≡ false). absurd (let w = ap (λ (l : LifeState). length l.allocated) (none_here p c.lives y) in omega arith)) z)
         (λ y. k.marks.kept p low y) (λ i a m. a)
         (set_tells h refl refl (λ q i m. m) (λ s q u m. inl m) (λ q m. m) (λ s x y m. m) refl (set c.sets j (raise_tail s)) p lead (λ m. let a = (own_tells_of c heap homes n v k).passed m in let b = (lead.grow m).0 in omega arith)))
       where
@@ -182,7 +186,7 @@ module _ (c : CoreState) (heap : PageHeap) (homes : List (Option Body)) (n : ℕ
         p low (inl (omega arith)) k.names (log_entered h (λ j q. omega arith) entered) lead (λ q x. refl) (λ q x. refl) refl (λ z x y. y) (λ q x. refl)
         (λ q x. rw (times_erase_else q p v.own.held x)
         (sym (ap (λ (y : Option Claimed). times q v.own.sweeping + times q v.own.cached + only (not (is_claimed q y)) (times q v.own.held)) claimed ∙ ap (λ (y : Bool). times q v.own.sweeping + times q v.own.cached + only (not y) (times q v.own.held)) (ne_eqb p q (λ z. x (sym z))))))
-        (λ q x. refl) (λ l. absurd (omega arith)) (λ y. inr (filled_home y))
+        (λ q x. refl) (λ l. absurd (omega arith)) (λ y. inr (filled_home y)) (λ z. ⊎_elim (λ (l : 0 < lends p h). absurd (omega arith)) (λ (y : begins p c.lives ≡ false). k.bodies.bare p y) z)
         (λ y. k.marks.kept p low y) (λ i a m. a)
         (set_tells h refl refl (λ q i m. omega arith) (λ s q u m. inl (omega arith)) (λ q m. omega arith) (λ s x y m. omega arith) refl (set c.sets d.set (name_page d.index p s)) p lead (λ m. let a = (own_tells_of c heap homes n v k).passed m in let b = (lead.grow m).0 in omega arith)))
       where
@@ -230,6 +234,7 @@ module _ (c : CoreState) (heap : PageHeap) (homes : List (Option Body)) (n : ℕ
         (λ q x. rw (times_end_else q p v.own.held x) refl) (λ q x. span_else (span_of b) v.own.spans q x)
         (λ l. (span_of b, span_here (span_of b) v.own.spans, fits))
         (λ y. inl (rw (unclaimed c heap homes n v k p (omega arith)) (omega arith)))
+        (λ _. get_or-set_same homes p None None (let z = k.bodies.many in omega arith))
         (λ y. k.marks.kept p low y) (λ i a m. a)
         (set_tells h refl refl (λ q i m. omega arith) swept_pop (λ q m. omega arith) (λ s x y m. omega arith) refl (set c.sets j (raise_head s)) p lead (pop_passed j (raise_head s) pop_set refl p)))
       where

@@ -75,6 +75,8 @@ starts c heap homes workers n o t f low g lock owners lives sets hands region pa
     many = ap (λ (z : List (Option Body)). length z) places ∙ length-map-range_with_len (λ _. let z : Option Body = None in z) 0 (length c.words);
     lent = λ m x a p l. let e = at_here no_part (range_with_len 0 workers) m x (subst (λ (z : List Part). get_elem? z m ≡ some x) parts a) in
         let z : 0 < lends p no_part = subst (λ (y : Part). 0 < lends p y) (sym e) l in absurd (omega arith);
+    gone = λ m x a p l. none_home p;
+    bare = λ p b. none_home p;
     home = λ p l b. absurd (true≢false (sym b ∙ ap (begins p) lives));
   };
   marks = record {
@@ -93,6 +95,9 @@ starts c heap homes workers n o t f low g lock owners lives sets hands region pa
         passed = λ k. omega arith;
       });
 }
+  where
+    none_home : (p : ℕ) → get_or homes p None ≡ None
+    none_home p = ap (λ (z : List (Option Body)). get_or z p None) places ∙ get_here None (range_with_len 0 (length c.words)) p
 
 pub start_rule : (core core' : CoreState) (heap : PageHeap) (homes : List (Option Body)) (v : View) (pages goal workers n : ℕ) → core ≡ new_state pages workers → Owned core → IsTidy core → TailsFit core → core' ≡ record core { room = length core.words } → n < workers
     → heap.region ≡ pages → heap.goal ≡ goal → heap.past ≡ [] → homes ≡ copies pages None → pages ≤ 65536 → v ≡ first_view pages goal workers → Rule core' heap homes n v

@@ -143,13 +143,17 @@ module _ (c : CoreState) (heap : PageHeap) (homes : List (Option Body)) (n : ℕ
         (enters _ _ h (word_stays c.generation c.words c.lives p _ low (λ y. absurd (unsettled _ (inl w) y))) refl (λ q l x y s. s) (λ j q. refl))
         (word_leads p (c.generation - 1) low (λ y. omega arith) (λ i m. absurd (unsettled _ (inl w) m.1))) (λ q d. refl) (λ q d. refl) (length-set homes p None) (λ s d x. x) (λ q d. get_or-set_other homes p q None None d)
         (λ q d. let s = times_end_else q p v.own.sweeping d in omega arith) (λ q d. span_else (span_of b) v.own.spans q d)
-        (λ l. (span_of b, span_here (span_of b) v.own.spans, fits)) (λ g. inl (omega arith)) (λ x. k.marks.kept p low (inl w)) (λ i x y. x)
+        (λ l. (span_of b, span_here (span_of b) v.own.spans, fits)) (λ g. inl (omega arith)) (λ _. get_or-set_same homes p None None (let z = k.bodies.many in omega arith)) (λ x. k.marks.kept p low (inl w)) (λ i x y. x)
         (own_tells c.generation c.words c.lives c.sets (set c.words p (c.generation - 1)) c.lives c.sets p (word_leads p (c.generation - 1) low (λ y. omega arith) (λ i m. absurd (unsettled _ (inl w) m.1))) v.own h own_tells_of
         (fresh_stays p (c.generation - 1) low h refl refl (has_none p v.own.cached (omega arith))) (λ q i m. inl m) (λ s q u m. inl m) (λ s u m. inl m) (λ s i q m. inl m) (λ s x y m. inl m) own_tells_of.passed))
 
   -- the body that the own part has is that of its life
   pub lent_now : (p : ℕ) → 0 < lends p v.own → IsLent heap.past c.lives v.own p
   lent_now p l = k.bodies.lent n v.own (part_at c heap homes n v k) p l
+
+  -- its place at home is empty
+  pub gone_now : (p : ℕ) → 0 < lends p v.own → get_or homes p None ≡ None
+  gone_now p l = k.bodies.gone n v.own (part_at c heap homes n v k) p l
 
   word_entered : (p x : ℕ) → (h : Part) → p < length c.words → (IsSettled c.generation (get_or c.words p 0) → IsSettled c.generation x) → h.claimed ≡ v.own.claimed
       → ((q : ℕ) → q < length c.words → IsSettled c.generation (get_or c.words q 0) → 0 < length (life_in q c.lives).allocated → 0 < times q h.held + times q h.cached → 0 < times q v.own.held + times q v.own.cached)
@@ -169,7 +173,7 @@ module _ (c : CoreState) (heap : PageHeap) (homes : List (Option Body)) (n : ℕ
         subst (λ (s : CoreState). Rule s heap homes n (acts v h)) (sym e)
         (turned c heap homes n v k d heap homes h (subst Owned e o) (subst IsTidy e t) (subst HasSpace e r) refl (length-set c.words p x) refl (as_own h f same) refl refl refl k.legal k.cycle k.heap_owner
         p low (inl mine) k.names (word_entered p x h low still claims has log) lead (λ q d. refl) (λ q d. refl) refl (λ s d x. x) (λ q d. refl) lend (λ q d. ap (span_at q) spans)
-        (λ l. let y = lent_now p was in let z : IsLent heap.past c.lives h p = (y.0, ap (span_at p) spans ∙ y.1, y.2) in z) (λ g. inl is)
+        (λ l. let y = lent_now p was in let z : IsLent heap.past c.lives h p = (y.0, ap (span_at p) spans ∙ y.1, y.2) in z) (λ g. inl is) (λ _. gone_now p was)
         (λ y. k.marks.kept p low (waits (subst (IsWaiting c.generation) (word_here p x low) y))) (λ i a b. a)
         (own_tells c.generation c.words c.lives c.sets (set c.words p x) c.lives c.sets p lead v.own h own_tells_of fresh
         (λ q i m. inl (subst (λ (y : List Entry). 0 < many (is_placing_at q i) y) log m)) (λ s q u m. inl (subst (λ (y : List Entry). 0 < many (is_pop_of s q) y) log m)) (λ s u m. inl (subst (λ (y : List Entry). 0 < many (is_seen_empty s) y) log m))

@@ -1,5 +1,6 @@
 -- What calls ask of a worker's part, and of a body that it was lent.
 use Rattle.std.specs.Prelude.{◌≡◌, ◌⊎◌, ℕ, ◌+◌, ◌<◌, true, false, List, [], Some, None}
+use Rattle.atomic_table.specs.Seated.{TableId}
 use Rattle.page_bitmap.specs.declared.line.Line.{Line}
 use Rattle.sweep_laws.specs.Lists.{has}
 use Rattle.sweep_laws.specs.Counts.{times}
@@ -9,7 +10,7 @@ use Rattle.span_laws.specs.declared.view.Part.{Part}
 use Rattle.span_laws.specs.declared.view.Span.{Span}
 use Rattle.worker_log.specs.SetNumbers.{is_full_set}
 use Rattle.worker_log.specs.Entries.{many, is_placing_in, is_pop_of}
-use Rattle.span_laws.specs.Views.{span_at, span_of}
+use Rattle.span_laws.specs.Views.{Seen, span_at, span_of}
 use Rattle.span_laws.specs.BodyAsks.{IsSpanOf}
 
 -- how often the worker sweeps, holds or has cached a page
@@ -63,5 +64,9 @@ abbrev pub IsFresh : Part → Type 0
 IsFresh h = (p : ℕ) → has p h.cached ≡ true → has p h.fresh ≡ true
 
 -- the worker was told the whole journal, and nothing was written since
-abbrev pub KnowsJournal : Part → Type 0
-KnowsJournal h = (past : List Line) × (h.journal ≡ Some past)
+abbrev pub KnowsJournal : Seen → Type 0
+KnowsJournal w = (past : List Line) × (w.journal ≡ Some past)
+
+-- the worker is one of this table, and has nobody out
+abbrev pub IsAtWork : TableId → Seen → Type 0
+IsAtWork t w = (w.table ≡ t) × (w.away ≡ [])

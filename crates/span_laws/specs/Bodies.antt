@@ -58,10 +58,13 @@ IsAway parts p = (n : ℕ) × (h : Part) × (get_elem? parts n ≡ some h) × (0
 abbrev pub IsHome : List Line → List LifeState → List (Option Body) → ℕ → Type 0
 IsHome past lives homes p = (b : Body) × (slice_index_or homes p None ≡ Some b) × Fits past lives p (span_of b)
 
--- each body that is lent to a worker is as the worker's part says, and each other one is at home
+-- each body that is lent to a worker is as the worker's part says, and its place at home is empty, as that of a page without a span is;
+-- and each other one is at home
 pub record Bodies (pages : ℕ) (past : List Line) (lives : List LifeState) (homes : List (Option Body)) (parts : List Part) : Type 0 where
   pub many : length homes ≡ pages
   pub lent : EachAt parts (λ n h. (p : ℕ) → 0 < lends p h → IsLent past lives h p)
+  pub gone : EachAt parts (λ n h. (p : ℕ) → 0 < lends p h → slice_index_or homes p None ≡ None)
+  pub bare : (p : ℕ) → begins p lives ≡ false → slice_index_or homes p None ≡ None
   pub home : (p : ℕ) → p < pages → begins p lives ≡ true → IsAway parts p ⊎ IsHome past lives homes p
 
 -- a word says that the span waits for its sweep, cached or not

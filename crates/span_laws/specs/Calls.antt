@@ -55,9 +55,9 @@ notes_of g (e ∷ log) = notes_of g log ++ note_in g e
 -- nothing but the worker's own part changed; of that the spans that it has cached, its claim and its resets are the same, it sweeps what it
 -- swept and has popped what it had popped, and of each span that it had its body is the same
 pub record Keeps (old new : Seen) : Type 0 where
-  pub here : new.here ≡ old.here
   pub table : new.table ≡ old.table
   pub number : new.number ≡ old.number
+  pub away : new.away ≡ old.away
   pub view : new.view ≡ acts old.view new.view.own
   pub cached : new.view.own.cached ≡ old.view.own.cached
   pub fresh : new.view.own.fresh ≡ old.view.own.fresh

@@ -41,15 +41,17 @@ cycle_ended n v lines = cycle_seen n v lines (has_pair (allocated_pairs n v))
 abbrev pub IsClaimUnplaced : Part → Type 0
 IsClaimUnplaced h = (d : Claimed) → h.claimed ≡ Some d → is_full_set d.set ≡ false → many (is_placing_in d.page) h.log ≡ 0
 
--- What holds of the cycle under way: the journal is what it was at the last mark end and the lines since; the state shows the cycle; a
--- worker that was told the whole journal was told this one, and no other worker was; and what is claimed in partial sets is unplaced.
+-- What holds of the cycle under way: the journal is what it was at the last mark end and the lines since; the state shows the cycle;
+-- and what is claimed in partial sets is unplaced.
 pub record KeepsCycle (c : CoreState) (heap : PageHeap) (n : ℕ) (v : View) : Type 0 where
   pub lines : List Line
   pub since : heap.past ≡ lines ++ v.before
   pub shows : ShowsCycle v.region v.goal c (cycle_seen n v lines (bits_of c))
-  pub told : (past : List Line) → v.own.journal ≡ Some past → heap.past ≡ past
-  pub others : EachAt (parts_of n v) (λ m h. m ≢ n → h.journal ≡ None)
   pub unplaced : EachAt (parts_of n v) (λ m h. IsClaimUnplaced h)
+
+-- The journal that was told, if one was, is the heap's own.
+abbrev pub IsOwnJournal : PageHeap → Option (List Line) → Type 0
+IsOwnJournal heap journal = (past : List Line) → journal ≡ Some past → heap.past ≡ past
 
 -- All that holds of the lent state.
 pub record Kept (c : CoreState) (heap : PageHeap) (homes : List (Option Body)) (n : ℕ) (v : View) : Type 0 where

@@ -11,7 +11,7 @@ use Rattle.span_laws.specs.declared.view.Part.{Part}
 use Rattle.span_laws.specs.declared.view.View.{View}
 use Rattle.span_laws.specs.Logs.{is_placing_at}
 use Rattle.worker_log.specs.Entries.{many, is_placing_in, is_seen_empty}
-use Rattle.span_laws.specs.Views.{parts_of}
+use Rattle.span_laws.specs.Views.{Seen, parts_of}
 use Rattle.span_laws.specs.Asks.{IsIdle, IsFresh, KnowsJournal}
 
 -- a pair is a mark that the views carry, or an object that a log placed
@@ -27,14 +27,14 @@ pub record IsAtRest (n : ℕ) (v : View) : Type 0 where
   pub empty : (k : ℕ) → k < 544 → is_swept_set v.generation k ≡ false → 0 < many (is_seen_empty k) v.own.log
 
 -- what a mark end asks of the driver
-pub record MayMark (n : ℕ) (v : View) (marks : List (ℕ × ℕ)) : Type 0 where
-  pub rest : IsAtRest n v
-  pub reset : (k : ℕ) → k < 544 → is_swept_set v.generation k ≡ false → has k v.own.reset ≡ true
-  pub early : v.generation < 8589934592
-  pub known : AllByRecursion (IsKnown n v) marks
-  pub told : KnowsJournal v.own
+pub record MayMark (w : Seen) (marks : List (ℕ × ℕ)) : Type 0 where
+  pub rest : IsAtRest w.number w.view
+  pub reset : (k : ℕ) → k < 544 → is_swept_set w.view.generation k ≡ false → has k w.view.own.reset ≡ true
+  pub early : w.view.generation < 8589934592
+  pub known : AllByRecursion (IsKnown w.number w.view) marks
+  pub told : KnowsJournal w
 
 -- what the end of a cycle asks of the driver: in each span that a worker has cached it placed an object since the last mark end
-pub record MaySettle (n : ℕ) (v : View) : Type 0 where
-  pub rest : IsAtRest n v
-  pub used : EachAt (parts_of n v) (λ i h. (p : ℕ) → has p h.cached ≡ true → 0 < many (is_placing_in p) h.log)
+pub record MaySettle (w : Seen) : Type 0 where
+  pub rest : IsAtRest w.number w.view
+  pub used : EachAt (parts_of w.number w.view) (λ i h. (p : ℕ) → has p h.cached ≡ true → 0 < many (is_placing_in p) h.log)

@@ -1,8 +1,9 @@
 -- How a worker's own step changes what contracts see of it.
-use Rattle.std.specs.Prelude.{ℕ, zero, suc, ◌==◌, ◌&&◌, not, List, [], ◌∷◌, ◌++◌, Some, None, unwrap_or}
+use Rattle.std.specs.Prelude.{ℕ, zero, suc, ◌==◌, ◌&&◌, not, List, [], ◌∷◌, ◌++◌, Option, Some, None, unwrap_or}
 use Rattle.std.specs.List.{filter}
 use Rattle.sweep_laws.specs.Lists.{erase}
 use Rattle.span_state.specs.Bits.{bit_of, count_below}
+use Rattle.page_bitmap.specs.declared.line.Line.{Line}
 use Rattle.page_bitmap.specs.declared.line.Line.TheVariants.{Take as TakeLine, Miss as MissLine}
 use Rattle.worker_log.specs.declared.Entry.{Entry}
 use Rattle.worker_log.specs.declared.Entry.TheVariants.{Looked, LookedEmptyCell, Popped, Pushed, Swept, Took, Missed, Gave, Allocated, Found, Read, Added}
@@ -43,8 +44,8 @@ told (Finds page word) h = record h { popped = erase page h.popped; log = Found 
 told (Caches page) h = record h { held = erase page h.held; cached = h.cached ++ page ∷ []; fresh = h.fresh ++ page ∷ [] }
 told (Uncaches page) h = record h { cached = erase page h.cached; held = h.held ++ page ∷ []; fresh = without page h.fresh }
 told (UncachesStale page) h = record h { cached = erase page h.cached; sweeping = h.sweeping ++ page ∷ [] }
-told (Misses line cycle pages class) h = record h { log = Missed line (MissLine cycle pages class) ∷ h.log; journal = None }
-told (Gives page pages) h = record h { held = erase page h.held; log = Gave page pages ∷ h.log; journal = None }
+told (Misses line cycle pages class) h = record h { log = Missed line (MissLine cycle pages class) ∷ h.log }
+told (Gives page pages) h = record h { held = erase page h.held; log = Gave page pages ∷ h.log }
 told (Looks set head tail) h = record h { log = Looked set head tail ∷ h.log }
 told (LooksCell set index cell) h = record h { log = cell_entries set index cell ++ h.log; read = cells_read set index cell ++ h.read }
 told (Claims set index page) h = record h { claimed = Some (record { set = set; index = index; page = page }) }
@@ -58,13 +59,23 @@ told (Resets set) h = record h { reset = h.reset ++ set ∷ [] }
 abbrev pub told_of : SaidOf → Span → Part → Part
 told_of Acquires b h = record h { sweeping = h.sweeping ++ b.page ∷ []; popped = erase b.page h.popped; spans = b ∷ h.spans }
 told_of Releases b h = record h { sweeping = erase b.page h.sweeping; held = h.held ++ b.page ∷ []; swept = h.swept ++ b.page ∷ []; spans = b ∷ h.spans; log = swept_entry (unwrap_or (span_at b.page h.spans) no_span) b ∷ h.log }
-told_of (Takes cycle) b h = record h { held = h.held ++ b.page ∷ []; spans = b ∷ h.spans; log = Took b.life (TakeLine cycle b.page b.pages b.class) ∷ h.log; journal = None }
+told_of (Takes cycle) b h = record h { held = h.held ++ b.page ∷ []; spans = b ∷ h.spans; log = Took b.life (TakeLine cycle b.page b.pages b.class) ∷ h.log }
 told_of (Pops set) b h = record h { held = h.held ++ b.page ∷ []; spans = b ∷ h.spans; log = Popped set b.page ∷ h.log }
 told_of (Places index) b h = record h { spans = b ∷ h.spans; log = Allocated (record { page = b.page; index = index; number = b.life; class = b.class }) ∷ h.log }
 
+-- what is known of the journal after a step: nothing after one that writes to it
+abbrev pub heard : Said → Option (List Line) → Option (List Line)
+heard (Misses line cycle pages class) known = None
+heard (Gives page pages) known = None
+heard _ known = known
+
+abbrev pub heard_of : SaidOf → Option (List Line) → Option (List Line)
+heard_of (Takes cycle) known = None
+heard_of _ known = known
+
 -- a worker after one of its own steps
 abbrev pub after_said : Said → Seen → Seen
-after_said s w = record w { view = acts w.view (told s w.view.own) }
+after_said s w = record w { journal = heard s w.journal; view = acts w.view (told s w.view.own) }
 
 abbrev pub after_of : SaidOf → Span → Seen → Seen
-after_of s b w = record w { view = acts w.view (told_of s b w.view.own) }
+after_of s b w = record w { journal = heard_of s w.journal; view = acts w.view (told_of s b w.view.own) }

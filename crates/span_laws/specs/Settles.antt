@@ -8,5 +8,5 @@ use Rattle.span_laws.specs.Handed.{knows}
 
 -- The driver is told the whole journal, the lines of the cycle among it, and what is so of the cycle as it ends.
 abbrev pub SettlesCycle : Seen → Seen → Type 0
-SettlesCycle old new = (lines : List Line) × (new ≡ knows (lines ++ old.view.before) old) × IsToldOf old.view.own (lines ++ old.view.before)
+SettlesCycle old new = (lines : List Line) × (new ≡ knows (lines ++ old.view.before) old) × IsToldOf old (lines ++ old.view.before)
     × EndsCycle old.view.region old.view.goal (cycle_ended old.number old.view lines)

@@ -12,7 +12,6 @@ use Rattle.span_laws.specs.declared.said.Said.TheVariants.{Misses}
 use Rattle.span_laws.specs.declared.said.SaidOf.TheVariants.{Takes}
 use Rattle.span_laws.specs.BodyAsks.{IsEmptyBody}
 use Rattle.span_laws.specs.Asks.{IsUntouched, mine}
-use Rattle.span_laws.specs.declared.view.Part.{Part}
 use Rattle.span_laws.specs.Views.{Seen, span_of}
 use Rattle.span_laws.specs.OwnSteps.{after_of, after_said}
 
@@ -37,8 +36,8 @@ pub record TakesNew (n k : ℕ) (old new : Seen) (b : Body) : Type 0 where
   pub nothing : mine b.page old.view.own ≡ 0
 
 -- a journal is the one that the worker was told of, if nothing was written since
-abbrev pub IsToldOf : Part → List Line → Type 0
-IsToldOf h past = (known : List Line) → h.journal ≡ Some known → past ≡ known
+abbrev pub IsToldOf : Seen → List Line → Type 0
+IsToldOf w past = (known : List Line) → w.journal ≡ Some known → past ≡ known
 
 -- behind some legal journal no run of n pages is free
 abbrev pub NoRunFree : ℕ → Seen → List Line → Type 0
@@ -54,5 +53,5 @@ TakesSpan n class old new (Err WantsMemory) = new ≡ old
 -- the same, but where no run is free there is no line, and nothing changes: no run is free behind the journal that the worker was told of, if it was
 abbrev pub TriesSpan : ℕ → ℕ → Seen → Seen → Result (Option Body) NoMemory → Type 0
 TriesSpan n class old new (Ok (Some body)) = TakesNew n class old new body
-TriesSpan n class old new (Ok None) = (new ≡ old) × ((past : List Line) × IsToldOf old.view.own past × NoRunFree n old past)
+TriesSpan n class old new (Ok None) = (new ≡ old) × ((past : List Line) × IsToldOf old past × NoRunFree n old past)
 TriesSpan n class old new (Err none) = new ≡ old

@@ -1,21 +1,29 @@
--- What contracts see of workers: of each its table, its number and the view of its seat.
-use Rattle.std.specs.Prelude.{ℕ, ◌==◌, ◌&&◌, ◌||◌, Bool, false, List, [], ◌∷◌, Option, Some, None, slice_set}
+-- What contracts see of workers: of each its table, its number, whom it handed out, what it was told of the journal, and its view.
+use Rattle.std.specs.Prelude.{ℕ, ◌==◌, ◌&&◌, ◌||◌, Bool, false, List, [], ◌∷◌, Option, None, slice_set}
 use Rattle.std.specs.List.{find}
 use Rattle.sweep_laws.specs.State.{HandState}
 use Rattle.sweep_laws.specs.Start.{copies}
 use Rattle.atomic_table.specs.Seated.{TableId}
+use Rattle.page_bitmap.specs.declared.line.Line.{Line}
 use Rattle.span_state.specs.declared.body.Body.{Body}
 use Rattle.span_laws.specs.declared.view.Span.{Span}
 use Rattle.span_laws.specs.declared.view.Cell.{Cell}
 use Rattle.span_laws.specs.declared.view.Part.{Part}
 use Rattle.span_laws.specs.declared.view.View.{View}
 
--- what contracts see of a worker: whether the state is here, its table, its number and its seat's view
+-- what contracts see of a worker: its table; its number; the numbers that it handed out and has not taken in, which only the driver
+-- does; the whole journal, the newest line first, where it was told of it while it had nobody out, and nothing was written since; and
+-- its view
 pub record Seen : Type 0 where
-  pub here : Bool
   pub table : TableId
   pub number : ℕ
+  pub away : List ℕ
+  pub journal : Option (List Line)
   pub view : View
+
+-- the worker is the driver
+abbrev pub drives : Seen → Bool
+drives w = w.number == 69
 
 -- the hand of a part, as the core has it
 abbrev pub hand_state : Part → HandState
@@ -44,7 +52,7 @@ acts v h = record v { own = h }
 
 -- a part of nothing
 abbrev pub no_part : Part
-no_part = record { sweeping = []; held = []; cached = []; popped = []; claimed = None; swept = []; log = []; fresh = []; spans = []; read = []; reset = []; journal = None }
+no_part = record { sweeping = []; held = []; cached = []; popped = []; claimed = None; swept = []; log = []; fresh = []; spans = []; read = []; reset = [] }
 
 -- all parts of a view, the own one of number n in its place
 abbrev pub parts_of : ℕ → View → List Part
@@ -53,16 +61,3 @@ parts_of n v = slice_set v.parts n v.own
 -- the view of the first seat: nobody has anything
 abbrev pub first_view : ℕ → ℕ → ℕ → View
 first_view pages goal workers = record { region = pages; goal = goal; generation = 4; marks = []; before = []; carried = []; own = no_part; parts = copies workers no_part }
-
--- what is seen of a worker without the state
-abbrev pub no_seen : Seen
-no_seen = record {
-  here = false;
-  table = record { words = 0; slots = 0; views_name = 0; atom = 0; block = 0; offset = 0; slot_names = [] };
-  number = 0;
-  view = first_view 0 0 0;
-}
-
-abbrev pub seen_of : Option Seen → Seen
-seen_of None = no_seen
-seen_of (Some s) = s

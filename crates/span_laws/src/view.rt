@@ -55,8 +55,6 @@ pub struct Part {
     pub read: LinkedList<Cell>,
     /// The unswept sets that it has reset for the next mark end.
     pub reset: LinkedList<u64>,
-    /// The whole journal, the newest line first, where the worker was told of it and nothing was written since.
-    pub journal: Option<LinkedList<Line>>,
 }
 
 /// What a seat knows: its own part, the parts that wait, by number, and what all seats agree on.

@@ -1,5 +1,6 @@
 -- A driver beside whom no worker has anything of a span: it places an object, looks at sets and ends a mark phase.
 use Rattle.std.proofs.Common.{◌≡◌, ℕ, zero, suc, ◌+◌, ◌<◌, inl, inr, ◌&&◌, Bool, not, eqb, eq-eqb, true, false, true≢false, List, [], ◌∷◌, ◌++◌, map, length, refl, ap, sym, subst, ◌∙◌, arith}
+use Rattle.std.specs.Prelude.{None, Option}
 use Rattle.std.specs.List.{AllByRecursion, range_with_len}
 use Rattle.std.specs.Option.{unwrap_or}
 use Rattle.std.proofs.lemmas.Bool.{cases_Bool, eqb-true}
@@ -47,10 +48,9 @@ idle_part : IsIdle no_part
 idle_part = record { sweeping = refl; held = refl; popped = refl; claimed = refl }
 
 -- at the start no worker has anything; over variables, so that no list of parts is written out
-free_start : (t : TableId) (workers n pages goal : ℕ) (w : Seen) → w ≡ record { here = true; table = t; number = n; view = first_view pages goal workers } → n ≡ 69 → workers ≡ 70 → IsFreeDriver t w
+free_start : (t : TableId) (workers n pages goal : ℕ) (w : Seen) → w ≡ record { table = t; number = n; away = []; journal = None; view = first_view pages goal workers } → n ≡ 69 → workers ≡ 70 → IsFreeDriver t w
 free_start t workers n pages goal w e is many_is = subst (IsFreeDriver t) (sym e) (record {
-  here = refl;
-  table = refl;
+  works = (refl, refl);
   number = is;
   many = length-map-range_with_len (λ _. no_part) 0 workers ∙ many_is;
   idle = λ m x a. subst IsIdle (at_here no_part (range_with_len 0 workers) m x (subst (λ (l : List Part). get_elem? l m ≡ some x) (copy_here no_part workers n) a)) idle_part;
@@ -58,7 +58,7 @@ free_start t workers n pages goal w e is many_is = subst (IsFreeDriver t) (sym e
   used = λ m x a p h. absurd (true≢false (sym h ∙ ap (λ (y : Part). has p y.cached) (sym (at_here no_part (range_with_len 0 workers) m x (subst (λ (l : List Part). get_elem? l m ≡ some x) (copy_here no_part workers n) a)))));
 })
 
-pub starts : (t : TableId) (pages goal : ℕ) (w : Seen) → w ≡ record { here = true; table = t; number = 69; view = first_view pages goal 70 } → IsFreeDriver t w
+pub starts : (t : TableId) (pages goal : ℕ) (w : Seen) → w ≡ record { table = t; number = 69; away = []; journal = None; view = first_view pages goal 70 } → IsFreeDriver t w
 starts t pages goal w e = free_start t 70 69 pages goal w e refl refl
 
 -- the own part of an idle driver
@@ -67,7 +67,7 @@ own_of t w f = f.idle w.number w.view.own (set_here w.view.parts w.number w.view
 
 module _ (t : TableId) (w : Seen) (f : IsFreeDriver t w) where
   pub idle_of : IsIdleDriver t w
-  idle_of = record { here = f.here; table = f.table; number = f.number; many = f.many; idle = f.idle }
+  idle_of = record { works = f.works; number = f.number; many = f.many; idle = f.idle }
 
   low : w.number < length w.view.parts
   low = let m = f.many in let n = f.number in omega arith
@@ -85,10 +85,9 @@ module _ (t : TableId) (w : Seen) (f : IsFreeDriver t w) where
   own_used = f.used w.number w.view.own own_at
 
   -- the own part changes, and has nothing
-  pub still_free : (h : Part) (new : Seen) → new ≡ record w { view = acts w.view h } → IsIdle h → IsFresh h → UsesCached h → IsFreeDriver t new
-  still_free h new e idle fresh used = subst (IsFreeDriver t) (sym e) (record {
-    here = f.here;
-    table = f.table;
+  pub still_free : (known : Option (List Line)) (h : Part) (new : Seen) → new ≡ record w { journal = known; view = acts w.view h } → IsIdle h → IsFresh h → UsesCached h → IsFreeDriver t new
+  still_free known h new e idle fresh used = subst (IsFreeDriver t) (sym e) (record {
+    works = f.works;
     number = f.number;
     many = f.many;
     idle = λ m x a. each IsIdle idle f.idle m x a;
@@ -107,7 +106,7 @@ module _ (t : TableId) (w : Seen) (f : IsFreeDriver t w) where
   placed_free c j i p g s b w1 w2 w3 w4 e1 e2 e3 e4 sp bp =
       let all : w4 ≡ after_said (Fills j p) (after_said (Claims j i p) (after_said (Reads 1 g) (after_of (Places 0) b (after_of (Takes c) s w)))) = e4 ∙ ap (after_said (Fills j p)) (e3 ∙ ap (λ (x : Seen). after_said (Claims j i p) (after_said (Reads 1 g) x)) (e2 ∙ ap (after_of (Places 0) b) e1)) in
       let o = own_idle in (
-        still_free _ w4 all
+        still_free _ _ w4 all
             (record { sweeping = o.sweeping; held = ap (λ (xs : List ℕ). erase p (xs ++ s.page ∷ [])) o.held ∙ ap (λ (q : ℕ). erase p (q ∷ [])) sp ∙ gone p; popped = o.popped; claimed = refl }) own_fresh (λ q l. let z = own_used q l in omega arith),
         subst (HasPlaced p) (sym all) (let z = ap one_if (let y : (eqb b.page p && eqb 0 0) ≡ true = rw (eq-eqb b.page p bp, eq-eqb 0 0 refl) refl in y) in omega arith),
         λ q k h. subst (λ (x : Seen). 0 < many (is_placing_at q k) x.view.own.log) (sym all) (omega arith),
@@ -130,7 +129,7 @@ module _ (t : TableId) (w : Seen) (f : IsFreeDriver t w) (none : w.view.own.cach
       let all : w3 ≡ after_of (Places 0) b (after_said (Caches p) (after_of (Takes c) s w)) = e3 ∙ ap (after_of (Places 0) b) (e2 ∙ ap (after_said (Caches p)) e1) in
       let o = own_idle t w f in
       let one : w.view.own.cached ++ p ∷ [] ≡ p ∷ [] = ap (λ (xs : List ℕ). xs ++ p ∷ []) none in (
-        still_free t w f _ w3 all
+        still_free t w f _ _ w3 all
             (record { sweeping = o.sweeping; held = ap (λ (xs : List ℕ). erase p (xs ++ s.page ∷ [])) o.held ∙ ap (λ (q : ℕ). erase p (q ∷ [])) sp ∙ rw (eq-eqb p p refl) refl; popped = o.popped; claimed = o.claimed })
             (λ q l. ap (λ (x : ℕ). has x (w.view.own.fresh ++ p ∷ [])) (alone q p (w.view.own.cached ++ p ∷ []) one l) ∙ has_end_here p w.view.own.fresh)
             (λ q l. let z = ap one_if (eq-eqb b.page q (bp ∙ sym (alone q p (w.view.own.cached ++ p ∷ []) one l))) in omega arith),
@@ -206,23 +205,23 @@ sees_empty w w1 s k l u = let z = s.seen k l (ap (λ (x : Seen). is_swept_set x.
 
 -- the driver saw all unswept sets empty
 module _ (t : TableId) (w w1 : Seen) (f : IsFreeDriver t w) (s : SeesBelow 544 w w1) where
-  pub seen_here : w1.here ≡ true
-  seen_here = ap (λ (x : Seen). x.here) s.view ∙ f.here
-
   pub seen_table : w1.table ≡ t
-  seen_table = ap (λ (x : Seen). x.table) s.view ∙ f.table
+  seen_table = ap (λ (x : Seen). x.table) s.view ∙ f.works.0
+
+  pub seen_alone : w1.away ≡ []
+  seen_alone = ap (λ (x : Seen). x.away) s.view ∙ f.works.1
 
   pub seen_empty : (k : ℕ) → k < 544 → is_swept_set w1.view.generation k ≡ false → 0 < many (is_seen_empty k) w1.view.own.log
   seen_empty = sees_empty w w1 s
 
   pub seen_free : IsFreeDriver t w1
-  seen_free = let o = own_idle t w f in still_free t w f _ w1 s.view (record { sweeping = o.sweeping; held = o.held; popped = o.popped; claimed = o.claimed }) (own_fresh t w f)
+  seen_free = let o = own_idle t w f in still_free t w f _ _ w1 s.view (record { sweeping = o.sweeping; held = o.held; popped = o.popped; claimed = o.claimed }) (own_fresh t w f)
       (λ p l. let z = own_used t w f p l in let y = many-append (is_placing_in p) s.said (after_said (Reads 1 w.view.generation) w).view.own.log in omega arith)
 
 -- and all of them were reset
 module _ (t : TableId) (w w1 w2 : Seen) (f : IsFreeDriver t w) (s : SeesBelow 544 w w1) (r : ResetsBelow 544 w1 w2) where
   pub reset_free : IsFreeDriver t w2
-  reset_free = let o = own_idle t w1 (seen_free t w w1 f s) in still_free t w1 (seen_free t w w1 f s) _ w2 r.view (record { sweeping = o.sweeping; held = o.held; popped = o.popped; claimed = o.claimed }) (own_fresh t w1 (seen_free t w w1 f s))
+  reset_free = let o = own_idle t w1 (seen_free t w w1 f s) in still_free t w1 (seen_free t w w1 f s) _ _ w2 r.view (record { sweeping = o.sweeping; held = o.held; popped = o.popped; claimed = o.claimed }) (own_fresh t w1 (seen_free t w w1 f s))
       (λ p l. let z = own_used t w1 (seen_free t w w1 f s) p l in omega arith)
 
   reset_generation : w2.view.generation ≡ w1.view.generation
@@ -237,11 +236,11 @@ module _ (t : TableId) (w w1 w2 : Seen) (f : IsFreeDriver t w) (s : SeesBelow 54
         (let z = seen_empty t w w1 f s k l (ap (λ (x : Seen). is_swept_set x.view.generation k) (sym r.view) ∙ u) in omega arith);
   }
 
-  pub may_settle : MaySettle w2.number w2.view
+  pub may_settle : MaySettle w2
   may_settle = record { rest = at_rest; used = reset_free.used }
 
-  pub may_mark : (pairs : List (ℕ × ℕ)) (w3 : Seen) → ArePlaced pairs w → w.view.generation ≡ 4 → (past : List Line) → w3 ≡ knows past w2 → MayMark w3.number w3.view pairs
-  may_mark pairs w3 placed four past e = subst (λ (x : Seen). MayMark x.number x.view pairs) (sym e) (record {
+  pub may_mark : (pairs : List (ℕ × ℕ)) (w3 : Seen) → ArePlaced pairs w → w.view.generation ≡ 4 → (past : List Line) → w3 ≡ knows past w2 → MayMark w3 pairs
+  may_mark pairs w3 placed four past e = subst (λ (x : Seen). MayMark x pairs) (sym e) (record {
     rest = record {
       driver = told.number;
       idle = told.idle;
@@ -255,7 +254,7 @@ module _ (t : TableId) (w w1 w2 : Seen) (f : IsFreeDriver t w) (s : SeesBelow 54
   })
     where
       told : IsFreeDriver t (knows past w2)
-      told = let o = own_idle t w2 reset_free in still_free t w2 reset_free _ (knows past w2) refl (record { sweeping = o.sweeping; held = o.held; popped = o.popped; claimed = o.claimed }) (own_fresh t w2 reset_free) (own_used t w2 reset_free)
+      told = let o = own_idle t w2 reset_free in still_free t w2 reset_free _ _ (knows past w2) refl (record { sweeping = o.sweeping; held = o.held; popped = o.popped; claimed = o.claimed }) (own_fresh t w2 reset_free) (own_used t w2 reset_free)
 
       low_two : w2.number < length w2.view.parts
       low_two = let m = reset_free.many in let n = reset_free.number in omega arith
@@ -270,8 +269,7 @@ module _ (t : TableId) (w w1 w2 : Seen) (f : IsFreeDriver t w) (s : SeesBelow 54
   pub turned : (pairs : List (ℕ × ℕ)) (w3 : Seen) → w.view.generation ≡ 4 → (past : List Line) → w3 ≡ knows past w2 → (w4 : Seen) → w4 ≡ after_next pairs w3 → HasTurned t pairs w4
   turned pairs w3 four past e w4 e4 = subst (HasTurned t pairs) (sym (e4 ∙ ap (after_next pairs) e)) (record {
     idle = record {
-      here = reset_free.here;
-      table = reset_free.table;
+      works = reset_free.works;
       number = reset_free.number;
       many = length-map w2.view.parts rested ∙ reset_free.many;
       idle = λ m x a. (let z = map_at rested (parts_of w2.number (knows past w2).view) m x (subst (λ (l : List Part). get_elem? l m ≡ some x) parts_map a) in let i = told.idle m z.0 z.1 in
@@ -282,7 +280,7 @@ module _ (t : TableId) (w w1 w2 : Seen) (f : IsFreeDriver t w) (s : SeesBelow 54
   })
     where
       told : IsFreeDriver t (knows past w2)
-      told = let o = own_idle t w2 reset_free in still_free t w2 reset_free _ (knows past w2) refl (record { sweeping = o.sweeping; held = o.held; popped = o.popped; claimed = o.claimed }) (own_fresh t w2 reset_free) (own_used t w2 reset_free)
+      told = let o = own_idle t w2 reset_free in still_free t w2 reset_free _ _ (knows past w2) refl (record { sweeping = o.sweeping; held = o.held; popped = o.popped; claimed = o.claimed }) (own_fresh t w2 reset_free) (own_used t w2 reset_free)
 
       parts_map : parts_of w2.number (after_next pairs (knows past w2)).view ≡ map rested (parts_of w2.number (knows past w2).view)
       parts_map = sym (map-set rested w2.view.parts w2.number (knows past w2).view.own)

@@ -1,15 +1,16 @@
 -- A worker that has claimed nothing takes a step that leaves it so.
-use Rattle.std.proofs.Common.{◌≡◌, ℕ, suc, ◌<◌, ◌&&◌, eqb, eq-eqb, true, refl, ap, sym, subst, ◌∙◌, arith}
+use Rattle.std.proofs.Common.{◌≡◌, ℕ, suc, ◌<◌, ◌&&◌, eqb, eq-eqb, true, List, refl, ap, sym, subst, ◌∙◌, arith}
 use Rattle.std.specs.Prelude.{None, Option, Some, Result, Ok, Err}
 use Rattle.fallible_list.specs.declared.list.NoMemory.{NoMemory}
 use Rattle.atomic_table.specs.Seated.{TableId}
 use Rattle.span_state.specs.declared.body.Body.{Body}
 use Rattle.page_bitmap.specs.Counts.{one_if}
+use Rattle.page_bitmap.specs.declared.line.Line.{Line}
 use Rattle.sweep_laws.specs.Reading.{is_swept_set}
-use Rattle.span_laws.specs.TakeAnswers.{TakesSpan, TriesSpan}
-use Rattle.span_laws.specs.ScavengeAnswers.{StepsOnce}
+use Rattle.span_laws.specs.TakeAnswers.{TakesSpan, TriesSpan, cycle_at}
+use Rattle.span_laws.specs.ScavengeAnswers.{StepsOnce, past_scavenged, told_if}
 use Rattle.span_laws.specs.Answers.{AcquiresSpan, RaisesSwept, RaisesUnswept, UncachesSpan}
-use Rattle.span_laws.specs.Asks.{IsUntouched}
+use Rattle.span_laws.specs.Asks.{IsUntouched, KnowsJournal}
 use Rattle.span_laws.specs.declared.answers.Acquired.{Acquired}
 use Rattle.span_laws.specs.declared.answers.Acquired.TheVariants.{Got, Other}
 use Rattle.span_laws.specs.declared.answers.Refused.{Refused}
@@ -33,61 +34,66 @@ use Rattle.span_rows.specs.Claims.{KeepsClaim}
 use Rattle.span_rows.specs.Rows.{IsReady}
 
 -- the worker's own part changed, and has its claim
-keeps_acts : (old new : Seen) (part : Part) → new ≡ record old { view = acts old.view part } → part.claimed ≡ old.view.own.claimed → KeepsClaim old new
-keeps_acts old new part e same = record {
-  here = ap (λ (w : Seen). w.here) e;
+keeps_acts : (old new : Seen) (known : Option (List Line)) (part : Part) → new ≡ record old { journal = known; view = acts old.view part } → part.claimed ≡ old.view.own.claimed → KeepsClaim old new
+keeps_acts old new known part e same = record {
   table = ap (λ (w : Seen). w.table) e;
+  number = ap (λ (w : Seen). w.number) e;
+  away = ap (λ (w : Seen). w.away) e;
   generation = ap (λ (w : Seen). w.view.generation) e;
   claimed = ap (λ (w : Seen). w.view.own.claimed) e ∙ same;
 }
 
 then_keeps : (a b c : Seen) → KeepsClaim a b → KeepsClaim b c → KeepsClaim a c
-then_keeps a b c x y = record { here = y.here ∙ x.here; table = y.table ∙ x.table; generation = y.generation ∙ x.generation; claimed = y.claimed ∙ x.claimed }
+then_keeps a b c x y = record { table = y.table ∙ x.table; number = y.number ∙ x.number; away = y.away ∙ x.away; generation = y.generation ∙ x.generation; claimed = y.claimed ∙ x.claimed }
 
 pub pop_keeps : (set : ℕ) (old new : Seen) (a : Pop) → PopsSwept set old new a → KeepsClaim old new
-pop_keeps set old new (Taken b) p = then_keeps old p.2 new (keeps_acts old p.2 _ p.3.view refl) (keeps_acts p.2 new _ p.5 refl)
-pop_keeps set old new (Empty head tail) p = keeps_acts old new _ p.1.view refl
-pop_keeps set old new (NotYet head) p = then_keeps old p.1 new (keeps_acts old p.1 _ p.2.view refl) (keeps_acts p.1 new _ p.4 refl)
+pop_keeps set old new (Taken b) p = then_keeps old p.2 new (keeps_acts old p.2 _ _ p.3.view refl) (keeps_acts p.2 new _ _ p.5 refl)
+pop_keeps set old new (Empty head tail) p = keeps_acts old new _ _ p.1.view refl
+pop_keeps set old new (NotYet head) p = then_keeps old p.1 new (keeps_acts old p.1 _ _ p.2.view refl) (keeps_acts p.1 new _ _ p.4 refl)
 
 pub pop_base_keeps : (set : ℕ) (old new : Seen) (a : PopBase) → PopsUnswept set old new a → KeepsClaim old new
-pop_base_keeps set old new (PoppedBase page) p = then_keeps old p.2 new (keeps_acts old p.2 _ p.3.view refl) (keeps_acts p.2 new _ p.5 refl)
-pop_base_keeps set old new (EmptyBase head tail) p = keeps_acts old new _ p.1.view refl
+pop_base_keeps set old new (PoppedBase page) p = then_keeps old p.2 new (keeps_acts old p.2 _ _ p.3.view refl) (keeps_acts p.2 new _ _ p.5 refl)
+pop_base_keeps set old new (EmptyBase head tail) p = keeps_acts old new _ _ p.1.view refl
 
 module _ (t : TableId) (w : Seen) (r : IsReady t w) where
   pub ready_kept : (new : Seen) → KeepsClaim w new → IsReady t new
-  ready_kept new k = record { here = k.here ∙ r.here; table = k.table ∙ r.table; unclaimed = k.claimed ∙ r.unclaimed }
+  ready_kept new k = record { works = (k.table ∙ r.works.0, k.away ∙ r.works.1); number = k.number ∙ r.number; unclaimed = k.claimed ∙ r.unclaimed }
 
-  pub ready_acts : (part : Part) (new : Seen) → new ≡ record w { view = acts w.view part } → part.claimed ≡ None → IsReady t new
-  ready_acts part new e free = ready_kept new (keeps_acts w new part e (free ∙ sym r.unclaimed))
+  pub ready_acts : (known : Option (List Line)) (part : Part) (new : Seen) → new ≡ record w { journal = known; view = acts w.view part } → part.claimed ≡ None → IsReady t new
+  ready_acts known part new e free = ready_kept new (keeps_acts w new known part e (free ∙ sym r.unclaimed))
 
   pub ready_acquired : (page : ℕ) (new : Seen) (a : Acquired) → AcquiresSpan page w new a → IsReady t new
-  ready_acquired page new (Got b) a = ready_acts _ new a.1 r.unclaimed
-  ready_acquired page new (Other word) a = ready_acts _ new a.1 r.unclaimed
+  ready_acquired page new (Got b) a = ready_acts _ _ new a.1 r.unclaimed
+  ready_acquired page new (Other word) a = ready_acts _ _ new a.1 r.unclaimed
 
   pub ready_taken : (n class : ℕ) (new : Seen) (a : Result Body Refused) → TakesSpan n class w new a → IsReady t new
-  ready_taken n class new (Ok b) a = ready_acts _ new a.view r.unclaimed
-  ready_taken n class new (Err (NoRun line)) a = ready_acts _ new a.0 r.unclaimed
+  ready_taken n class new (Ok b) a = ready_acts _ _ new a.view r.unclaimed
+  ready_taken n class new (Err (NoRun line)) a = ready_acts _ _ new a.0 r.unclaimed
   ready_taken n class new (Err WantsMemory) a = subst (IsReady t) (sym a) r
 
   pub ready_tried : (n class : ℕ) (new : Seen) (a : Result (Option Body) NoMemory) → TriesSpan n class w new a → IsReady t new
-  ready_tried n class new (Ok (Some b)) a = ready_acts _ new a.view r.unclaimed
+  ready_tried n class new (Ok (Some b)) a = ready_acts _ _ new a.view r.unclaimed
   ready_tried n class new (Ok None) a = subst (IsReady t) (sym a.0) r
   ready_tried n class new (Err e) a = subst (IsReady t) (sym a) r
 
   pub ready_uncached : (b : Body) (new : Seen) (a : Uncached) → UncachesSpan b w new a → IsReady t new
-  ready_uncached b new Fresh a = ready_acts _ new a.1 r.unclaimed
-  ready_uncached b new Stale a = ready_acts _ new a.1 r.unclaimed
+  ready_uncached b new Fresh a = ready_acts _ _ new a.1 r.unclaimed
+  ready_uncached b new Stale a = ready_acts _ _ new a.1 r.unclaimed
 
   pub ready_raised : (set head tail page : ℕ) (new : Seen) (a : Result Body (ℕ × ℕ)) → RaisesSwept set head tail page w new a → IsReady t new
-  ready_raised set head tail page new (Ok b) a = ready_acts _ new a.1 r.unclaimed
-  ready_raised set head tail page new (Err found) a = ready_acts _ new a.1 r.unclaimed
+  ready_raised set head tail page new (Ok b) a = ready_acts _ _ new a.1 r.unclaimed
+  ready_raised set head tail page new (Err found) a = ready_acts _ _ new a.1 r.unclaimed
 
   pub ready_raised_unswept : (set head tail page : ℕ) (new : Seen) (a : Result (Unit {0}) (ℕ × ℕ)) → RaisesUnswept set head tail page w new a → IsReady t new
-  ready_raised_unswept set head tail page new (Ok done) a = ready_acts _ new a.1 r.unclaimed
-  ready_raised_unswept set head tail page new (Err found) a = ready_acts _ new a.1 r.unclaimed
+  ready_raised_unswept set head tail page new (Ok done) a = ready_acts _ _ new a.1 r.unclaimed
+  ready_raised_unswept set head tail page new (Err found) a = ready_acts _ _ new a.1 r.unclaimed
+
+  -- the driver knows the journal behind a scavenging step
+  pub stepped_knows : (new : Seen) (step : Step) → StepsOnce w new (Ok step) → KnowsJournal new
+  stepped_knows new step a = (_, ap (λ (x : Seen). x.journal) a.4 ∙ ap (λ (m : ℕ). told_if (eqb m 69) (past_scavenged (cycle_at w.view.generation) a.0 step.run)) r.number)
 
   pub ready_stepped : (new : Seen) (a : Result Step NoMemory) → StepsOnce w new a → IsReady t new
-  ready_stepped new (Ok step) a = ready_acts _ new a.4 r.unclaimed
+  ready_stepped new (Ok step) a = ready_acts _ _ new a.4 r.unclaimed
   ready_stepped new (Err e) a = subst (IsReady t) (sym a) r
 
 -- a cell that was read as filled

@@ -7,7 +7,7 @@ use Rattle.span_state.specs.MarkSet.{has_pair}
 use Rattle.span_state.specs.declared.body.Body.{Body}
 use Rattle.sweep_laws.specs.OwnedLives.{EachAt}
 use Rattle.span_laws.specs.BodyAsks.{IsFullBody, IsUsed}
-use Rattle.span_laws.specs.Asks.{HasBody, IsFresh, IsIdle}
+use Rattle.span_laws.specs.Asks.{HasBody, IsAtWork, IsFresh, IsIdle}
 use Rattle.span_laws.specs.declared.view.Part.{Part}
 use Rattle.span_laws.specs.Logs.{is_placing_at}
 use Rattle.span_laws.specs.Scans.{logs}
@@ -17,10 +17,10 @@ use Rattle.span_laws.specs.Views.{Seen, parts_of}
 use Rattle.span_laws.specs.OwnSteps.{after_said}
 use Rattle.worker_log.specs.Entries.{is_placing_in, is_pop_of, is_seen_empty, many}
 
--- The worker has the state of this table, and has claimed nothing.
+-- The driver of this table, who has nobody out, and has claimed nothing.
 pub record IsReady (t : TableId) (w : Seen) : Type 0 where
-  pub here : w.here ≡ true
-  pub table : w.table ≡ t
+  pub works : IsAtWork t w
+  pub number : w.number ≡ 69
   pub unclaimed : w.view.own.claimed ≡ None
 
 -- It holds a large span with its object, and has popped it from no swept set.
@@ -36,18 +36,16 @@ pub record HoldsLarge (w : Seen) (b : Body) : Type 0 where
 abbrev pub UsesCached : Part → Type 0
 UsesCached h = (p : ℕ) → has p h.cached ≡ true → 0 < many (is_placing_in p) h.log
 
--- The driver of this table, with the state, where no worker sweeps or holds a span, and none has claimed or popped anything.
+-- The driver of this table, who has nobody out, where no worker sweeps or holds a span, and none has claimed or popped anything.
 pub record IsIdleDriver (t : TableId) (w : Seen) : Type 0 where
-  pub here : w.here ≡ true
-  pub table : w.table ≡ t
+  pub works : IsAtWork t w
   pub number : w.number ≡ 69
   pub many : length w.view.parts ≡ 70
   pub idle : EachAt (parts_of w.number w.view) (λ m h. IsIdle h)
 
 -- The same, where each span in a cache was cached since the last mark end, and used.
 pub record IsFreeDriver (t : TableId) (w : Seen) : Type 0 where
-  pub here : w.here ≡ true
-  pub table : w.table ≡ t
+  pub works : IsAtWork t w
   pub number : w.number ≡ 69
   pub many : length w.view.parts ≡ 70
   pub idle : EachAt (parts_of w.number w.view) (λ m h. IsIdle h)

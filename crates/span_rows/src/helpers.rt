@@ -1,5 +1,6 @@
 ghost use Rattle.std.specs.Prelude.{◌≡◌, ◌<◌, IfOk, Some, false, true};
 ghost use Rattle.sweep_laws.specs.Reading.{is_swept_set};
+ghost use Rattle.span_laws.specs.Asks.{IsAtWork};
 ghost use Rattle.span_rows.specs.Claims.{KeepsClaim};
 ghost use Rattle.span_rows.specs.Rows.{HoldsLarge, IsReady};
 
@@ -8,14 +9,20 @@ use fallible_list::NoMemory;
 use span_set::{Claim, Pop, SetId, claim, pop_swept, push};
 use span_state::Body;
 use span_table::{Acquired, Refused, Shared, Uncached, Worker};
+use std::sync::Wait;
 
 // Takes a large span of so many pages, at least five, and places its one object.
-pub(crate) fn large(shared: &Shared, w: &mut Worker, pages: u32) -> Result<Body, Refused>
+pub(crate) fn large<R: Wait>(
+    rt: &R,
+    shared: &Shared,
+    w: &mut Worker,
+    pages: u32,
+) -> Result<Body, Refused>
     requires ready { IsReady shared.now w.old }
     ensures ready { IsReady shared.now w.new }
     ensures body { IfOk result (λ b. HoldsLarge w.new b) }
 {
-    let mut body = match shared.take_span(w, pages.max(5), 0) {
+    let mut body = match shared.take_span(rt, w, pages.max(5), 0) {
         Ok(body) => body,
         Err(refused) => return Err(refused),
     };
@@ -27,8 +34,8 @@ pub(crate) fn large(shared: &Shared, w: &mut Worker, pages: u32) -> Result<Body,
 pub(crate) fn claim_large(shared: &Shared, w: &mut Worker, body: Body) -> Claim
     requires ready { IsReady shared.now w.old }
     requires body { HoldsLarge w.old body }
-    ensures here { w.new.here ≡ w.old.here }
     ensures table { w.new.table ≡ w.old.table }
+    ensures away { w.new.away ≡ w.old.away }
     ensures generation { w.new.view.generation ≡ w.old.view.generation }
     ensures claimed { w.new.view.own.claimed ≡ Some (record { set = result.set; index = result.index; page = result.page }) }
 {
@@ -46,8 +53,7 @@ pub(crate) fn push_large(shared: &Shared, w: &mut Worker, body: Body)
 
 // Pops a swept set, which leaves the worker's claim.
 pub(crate) fn pop(shared: &Shared, w: &mut Worker, set: SetId) -> Pop
-    requires here { w.old.here ≡ true }
-    requires table { w.old.table ≡ shared.now }
+    requires works { IsAtWork shared.now w.old }
     requires class { set.class < 136 }
     ensures { KeepsClaim w.old w.new }
 {
@@ -171,7 +177,8 @@ pub(crate) fn found(shared: &Shared, w: &mut Worker, page: u32) -> Option<u64>
 
 // Takes a large span of so many pages, at least five, caches it, and takes it out: the word while it was cached, and what the way out
 // answers.
-pub(crate) fn cached(
+pub(crate) fn cached<R: Wait>(
+    rt: &R,
     shared: &Shared,
     w: &mut Worker,
     pages: u32,
@@ -179,7 +186,7 @@ pub(crate) fn cached(
     requires ready { IsReady shared.now w.old }
     ensures { IsReady shared.now w.new }
 {
-    let Ok(body) = shared.take_span(w, pages.max(5), 0) else {
+    let Ok(body) = shared.take_span(rt, w, pages.max(5), 0) else {
         return Err(NoMemory);
     };
     shared.mark_cached(w, &body);

@@ -1,4 +1,5 @@
-ghost use Rattle.std.specs.Prelude.{◌≡◌, ◌<◌, [], IfOk, OnOk, length, true};
+ghost use Rattle.std.specs.Prelude.{◌≡◌, ◌<◌, [], IfOk, OnOk, length};
+ghost use Rattle.span_laws.specs.Asks.{IsAtWork};
 ghost use Rattle.span_rows.specs.Rows.{HasCached, HasTurned, IsFreeDriver};
 
 use crate::turns::{LARGE, place, sees_all_empty, sweep, turn, turn_one};
@@ -7,16 +8,17 @@ use span_set::{PopBase, pop_unswept, reset};
 use span_state::{Body, Marks};
 use span_table::{Acquired, Shared, Uncached, Worker};
 use std::alloc::Global;
+use std::sync::Wait;
 
 // Takes a large span, caches it, and places its object.
-fn cached(shared: &Shared, w: &mut Worker) -> Result<Body, NoMemory>
+fn cached<R: Wait>(rt: &R, shared: &Shared, w: &mut Worker) -> Result<Body, NoMemory>
     requires free { IsFreeDriver shared.now w.old }
     requires none { w.old.view.own.cached ≡ [] }
     ensures free { OnOk result (IsFreeDriver shared.now w.new) }
     ensures generation { OnOk result (w.new.view.generation ≡ w.old.view.generation) }
     ensures cached { IfOk result (λ b. HasCached w.new b) }
 {
-    let Ok(mut body) = shared.take_span(w, 5, 0) else {
+    let Ok(mut body) = shared.take_span(rt, w, 5, 0) else {
         return Err(NoMemory);
     };
     shared.mark_cached(w, &body);
@@ -26,8 +28,7 @@ fn cached(shared: &Shared, w: &mut Worker) -> Result<Body, NoMemory>
 
 // The word of a cached span, and what its way out answers.
 fn uncached(shared: &Shared, w: &mut Worker, body: &Body) -> Result<(u64, Uncached), NoMemory>
-    requires here { w.old.here ≡ true }
-    requires table { w.old.table ≡ shared.now }
+    requires works { IsAtWork shared.now w.old }
     requires body { HasCached w.old body.now }
 {
     if body.page >= shared.region(w) {
@@ -40,7 +41,8 @@ fn uncached(shared: &Shared, w: &mut Worker, body: &Body) -> Result<(u64, Uncach
 }
 
 // A span stays cached over a mark end: its word then, and what its way out answers.
-pub(crate) fn stale(
+pub(crate) fn stale<R: Wait>(
+    rt: &R,
     alloc: Global,
     shared: &mut Shared,
     w: &mut Worker,
@@ -49,17 +51,15 @@ pub(crate) fn stale(
     requires generation { w.old.view.generation ≡ 4 }
     requires none { w.old.view.own.cached ≡ [] }
 {
-    let body = cached(shared, w)?;
+    let body = cached(rt, shared, w)?;
     turn(shared, w, &Marks::empty(alloc))?;
     uncached(shared, w, &body)
 }
 
 // The word that an acquire of a page finds; none where the span waits.
 fn word_at(shared: &Shared, w: &mut Worker, page: u32) -> Result<Option<u64>, NoMemory>
-    requires here { w.old.here ≡ true }
-    requires table { w.old.table ≡ shared.now }
-    ensures here { w.new.here ≡ true }
-    ensures table { w.new.table ≡ shared.now }
+    requires works { IsAtWork shared.now w.old }
+    ensures works { IsAtWork shared.now w.new }
 {
     if page >= shared.region(w) {
         return Err(NoMemory);
@@ -72,8 +72,8 @@ fn word_at(shared: &Shared, w: &mut Worker, page: u32) -> Result<Option<u64>, No
 
 // The same for worker 1.
 fn word_of_other(shared: &Shared, w: &mut Worker, page: u32) -> Result<Option<u64>, NoMemory>
-    requires here { w.old.here ≡ true }
-    requires table { w.old.table ≡ shared.now }
+    requires works { IsAtWork shared.now w.old }
+    requires driver { w.old.number ≡ 69 }
     requires parts { 1 < length w.old.view.parts }
 {
     let mut other = shared.hand_out(w, 1)?;
@@ -81,7 +81,8 @@ fn word_of_other(shared: &Shared, w: &mut Worker, page: u32) -> Result<Option<u6
 }
 
 // The driver sweeps a span behind a mark end, and worker 1 acquires its page: the page, and the word that is found.
-pub(crate) fn swept(
+pub(crate) fn swept<R: Wait>(
+    rt: &R,
     alloc: Global,
     shared: &mut Shared,
     w: &mut Worker,
@@ -89,7 +90,7 @@ pub(crate) fn swept(
     requires free { IsFreeDriver shared.old w.old }
     requires generation { w.old.view.generation ≡ 4 }
 {
-    let page = place(shared, w, 5)?;
+    let page = place(rt, shared, w, 5)?;
     turn_one(alloc, shared, w, page)?;
     if page >= shared.region(w) {
         return Err(NoMemory);
@@ -99,11 +100,16 @@ pub(crate) fn swept(
 }
 
 // Sweeps the span of a page, in which nothing is marked, and gives it back.
-fn give(alloc: Global, shared: &Shared, w: &mut Worker, page: u32) -> Result<(), NoMemory>
+fn give<R: Wait>(
+    rt: &R,
+    alloc: Global,
+    shared: &Shared,
+    w: &mut Worker,
+    page: u32,
+) -> Result<(), NoMemory>
     requires turned { HasTurned shared.now [] w.old }
     requires low { page < w.old.view.region }
-    ensures here { w.new.here ≡ true }
-    ensures table { w.new.table ≡ shared.now }
+    ensures works { IsAtWork shared.now w.new }
     ensures region { w.new.view.region ≡ w.old.view.region }
 {
     let Acquired::Got(body) = shared.acquire(w, page) else {
@@ -112,7 +118,7 @@ fn give(alloc: Global, shared: &Shared, w: &mut Worker, page: u32) -> Result<(),
     let mut body = body;
     body.sweep(&Marks::empty(alloc));
     shared.release_swept(w, &body);
-    shared.give_span(w, body);
+    shared.give_span(rt, w, body);
     Ok(())
 }
 
@@ -130,7 +136,8 @@ pub(crate) struct Returned {
 }
 
 // A large span is swept with nothing kept behind a mark end, and given back.
-pub(crate) fn given(
+pub(crate) fn given<R: Wait>(
+    rt: &R,
     alloc: Global,
     shared: &mut Shared,
     w: &mut Worker,
@@ -138,16 +145,16 @@ pub(crate) fn given(
     requires free { IsFreeDriver shared.old w.old }
     requires generation { w.old.view.generation ≡ 4 }
 {
-    let page = place(shared, w, 5)?;
+    let page = place(rt, shared, w, 5)?;
     turn(shared, w, &Marks::empty(alloc))?;
     if page >= shared.region(w) {
         return Err(NoMemory);
     }
-    let before = shared.pages_taken(w);
-    give(alloc, shared, w, page)?;
-    let behind = shared.pages_taken(w);
+    let before = shared.pages_taken(rt, w);
+    give(rt, alloc, shared, w, page)?;
+    let behind = shared.pages_taken(rt, w);
     let word = word_at(shared, w, page)?;
-    let Ok(body) = shared.take_span(w, 5, 0) else {
+    let Ok(body) = shared.take_span(rt, w, 5, 0) else {
         return Err(NoMemory);
     };
     Ok(Returned {
@@ -161,7 +168,8 @@ pub(crate) fn given(
 
 // Behind a mark end the one entry of the unswept full set of large spans is popped, and all unswept sets are reset: what was popped,
 // and what the set shows then.
-pub(crate) fn popped_and_reset(
+pub(crate) fn popped_and_reset<R: Wait>(
+    rt: &R,
     alloc: Global,
     shared: &mut Shared,
     w: &mut Worker,
@@ -169,7 +177,7 @@ pub(crate) fn popped_and_reset(
     requires free { IsFreeDriver shared.old w.old }
     requires generation { w.old.view.generation ≡ 4 }
 {
-    place(shared, w, 5)?;
+    place(rt, shared, w, 5)?;
     turn(shared, w, &Marks::empty(alloc))?;
     let popped = pop_unswept(shared, w, LARGE);
     if !sees_all_empty(shared, w) {
@@ -181,7 +189,8 @@ pub(crate) fn popped_and_reset(
 
 // Behind a mark end that marks the first of two large spans alone: the page of the span that is acquired, of those without a mark, where
 // none is before the second span.
-pub(crate) fn unmarked(
+pub(crate) fn unmarked<R: Wait>(
+    rt: &R,
     alloc: Global,
     shared: &mut Shared,
     w: &mut Worker,
@@ -189,8 +198,8 @@ pub(crate) fn unmarked(
     requires free { IsFreeDriver shared.old w.old }
     requires generation { w.old.view.generation ≡ 4 }
 {
-    let first = place(shared, w, 5)?;
-    let second = place(shared, w, 5)?;
+    let first = place(rt, shared, w, 5)?;
+    let second = place(rt, shared, w, 5)?;
     let mut marks = Marks::empty(alloc);
     marks.add(first, 0)?;
     turn(shared, w, &marks)?;
@@ -208,7 +217,8 @@ pub(crate) fn unmarked(
 }
 
 // Behind a mark end, where one full large span waits: the place of the first unswept set with an entry, and of the next one behind it.
-pub(crate) fn unswept(
+pub(crate) fn unswept<R: Wait>(
+    rt: &R,
     alloc: Global,
     shared: &mut Shared,
     w: &mut Worker,
@@ -216,7 +226,7 @@ pub(crate) fn unswept(
     requires free { IsFreeDriver shared.old w.old }
     requires generation { w.old.view.generation ≡ 4 }
 {
-    place(shared, w, 5)?;
+    place(rt, shared, w, 5)?;
     turn(shared, w, &Marks::empty(alloc))?;
     let first = shared.next_unswept(w, 0);
     Ok((first, shared.next_unswept(w, 1)))

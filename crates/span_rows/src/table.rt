@@ -9,6 +9,7 @@ use span_set::{Claim, Pop, PopBase, SetId, fill, pop_unswept};
 use span_state::Marks;
 use span_table::{Refused, Shared, Step, Uncached, Worker};
 use std::alloc::Global;
+use std::sync::Wait;
 
 // The shared spans of a region of one chunk, and the driver, who has claimed no cell.
 #[derive(Drop)]
@@ -35,19 +36,25 @@ fn without_body(pop: Pop) -> Popped {
 }
 
 // Pushes large spans of so many pages, at least five, to the full set.
-fn place_all(shared: &Shared, w: &mut Worker, spans: &[u32]) -> Result<(), NoMemory>
+fn place_all<R: Wait>(
+    rt: &R,
+    shared: &Shared,
+    w: &mut Worker,
+    spans: &[u32],
+) -> Result<(), NoMemory>
     requires free { IsFreeDriver shared.now w.old }
     ensures free { OnOk result (IsFreeDriver shared.now w.new) }
     ensures generation { OnOk result (w.new.view.generation ≡ w.old.view.generation) }
 {
     for pages in spans {
-        place(shared, w, (*pages).max(5))?;
+        place(rt, shared, w, (*pages).max(5))?;
     }
     Ok(())
 }
 
 // Ends the first mark phase behind such spans, of which none is marked.
-fn end_mark(
+fn end_mark<R: Wait>(
+    rt: &R,
     alloc: Global,
     shared: &mut Shared,
     w: &mut Worker,
@@ -57,7 +64,7 @@ fn end_mark(
     requires generation { w.old.view.generation ≡ 4 }
     ensures ready { OnOk result (IsReady shared.new w.new) }
 {
-    place_all(shared, w, spans)?;
+    place_all(rt, shared, w, spans)?;
     turn(shared, w, &Marks::empty(alloc))?;
     Ok(())
 }
@@ -70,23 +77,31 @@ impl Table {
     }
 
     // Behind a mark end, for which such spans were pushed to the full set.
-    pub(crate) fn behind_mark_end(alloc: Global, spans: &[u32]) -> Result<Table, NoMemory> {
+    pub(crate) fn behind_mark_end<R: Wait>(
+        rt: &R,
+        alloc: Global,
+        spans: &[u32],
+    ) -> Result<Table, NoMemory> {
         let (mut shared, mut driver) = start(alloc, 1, 512)?;
-        end_mark(alloc, &mut shared, &mut driver, spans)?;
+        end_mark(rt, alloc, &mut shared, &mut driver, spans)?;
         Ok(Table { shared, driver })
     }
 
     // `take_span` of so many pages, at least five, for a large span: its page.
-    pub(crate) fn take(&mut self, pages: u32) -> Result<u32, Refused> {
-        match self.shared.take_span(&mut self.driver, pages.max(5), 0) {
+    pub(crate) fn take<R: Wait>(&mut self, rt: &R, pages: u32) -> Result<u32, Refused> {
+        match self.shared.take_span(rt, &mut self.driver, pages.max(5), 0) {
             Ok(body) => Ok(body.page),
             Err(refused) => Err(refused),
         }
     }
 
     // `try_span` of the same.
-    pub(crate) fn try_take(&mut self, pages: u32) -> Result<Option<u32>, NoMemory> {
-        match self.shared.try_span(&mut self.driver, pages.max(5), 0) {
+    pub(crate) fn try_take<R: Wait>(
+        &mut self,
+        rt: &R,
+        pages: u32,
+    ) -> Result<Option<u32>, NoMemory> {
+        match self.shared.try_span(rt, &mut self.driver, pages.max(5), 0) {
             Ok(Some(body)) => Ok(Some(body.page)),
             Ok(None) => Ok(None),
             Err(none) => Err(none),
@@ -102,23 +117,31 @@ impl Table {
     }
 
     // Takes a large span, caches it, and takes it out: the word while it was cached, and what the way out answers.
-    pub(crate) fn cache(&mut self, pages: u32) -> Result<(u64, Uncached), NoMemory> {
-        cached(&self.shared, &mut self.driver, pages)
+    pub(crate) fn cache<R: Wait>(
+        &mut self,
+        rt: &R,
+        pages: u32,
+    ) -> Result<(u64, Uncached), NoMemory> {
+        cached(rt, &self.shared, &mut self.driver, pages)
     }
 
     // Takes a large span, places its object and pushes it to the full set: its page.
-    pub(crate) fn push(&mut self, pages: u32) -> Result<u32, Refused> {
+    pub(crate) fn push<R: Wait>(&mut self, rt: &R, pages: u32) -> Result<u32, Refused> {
         let Table { shared, driver } = self;
-        let body = large(shared, driver, pages)?;
+        let body = large(rt, shared, driver, pages)?;
         let page = body.page;
         push_large(shared, driver, body);
         Ok(page)
     }
 
     // The same by `claim` and `fill`: the claim, and what a pop answered between them.
-    pub(crate) fn claim(&mut self, pages: u32) -> Result<(Claim, Popped), Refused> {
+    pub(crate) fn claim<R: Wait>(
+        &mut self,
+        rt: &R,
+        pages: u32,
+    ) -> Result<(Claim, Popped), Refused> {
         let Table { shared, driver } = self;
-        let body = large(shared, driver, pages)?;
+        let body = large(rt, shared, driver, pages)?;
         let claim = claim_large(shared, driver, body);
         let between = without_body(pop(shared, driver, LARGE));
         fill(shared, driver, claim);
@@ -188,24 +211,24 @@ impl Table {
         self.shared.spent(&mut self.driver)
     }
 
-    pub(crate) fn pages_taken(&mut self) -> u32 {
-        self.shared.pages_taken(&mut self.driver)
+    pub(crate) fn pages_taken<R: Wait>(&mut self, rt: &R) -> u32 {
+        self.shared.pages_taken(rt, &mut self.driver)
     }
 
-    pub(crate) fn scavenge(&mut self) -> Result<Step, NoMemory> {
-        self.shared.scavenge_step(&mut self.driver)
+    pub(crate) fn scavenge<R: Wait>(&mut self, rt: &R) -> Result<Step, NoMemory> {
+        self.shared.scavenge_step(rt, &mut self.driver)
     }
 
     // `journal_copy`, behind a scavenging step, by which the driver knows the journal.
-    pub(crate) fn lines(&mut self, alloc: Global) -> Result<List<Line>, NoMemory> {
-        self.shared.scavenge_step(&mut self.driver)?;
+    pub(crate) fn lines<R: Wait>(&mut self, rt: &R, alloc: Global) -> Result<List<Line>, NoMemory> {
+        self.shared.scavenge_step(rt, &mut self.driver)?;
         self.shared.journal_copy(alloc, &mut self.driver)
     }
 
     // `close`, behind such a step: the taken pages and the lines of the pages that it answers.
-    pub(crate) fn close(self) -> Result<(u32, Vec<Line>), NoMemory> {
+    pub(crate) fn close<R: Wait>(self, rt: &R) -> Result<(u32, Vec<Line>), NoMemory> {
         let Table { shared, mut driver } = self;
-        shared.scavenge_step(&mut driver)?;
+        shared.scavenge_step(rt, &mut driver)?;
         let pages = shared.close(driver);
         Ok((pages.taken(), pages.into_journal()))
     }

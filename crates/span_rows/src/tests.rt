@@ -7,6 +7,7 @@ use span_set::PopBase;
 use span_table::{Refused, Uncached};
 use std::alloc::Global;
 use std::process::Abort;
+use std::sync::Wait;
 use std::test::Fail;
 
 // A call on a table.
@@ -79,10 +80,10 @@ fn page(taken: Result<u32, Refused>) -> Result<Answer, NoMemory> {
     }
 }
 
-fn sets(table: &mut Table, call: Call) -> Result<Answer, NoMemory> {
+fn sets<R: Wait>(rt: &R, table: &mut Table, call: Call) -> Result<Answer, NoMemory> {
     match call {
-        Call::Push(pages) => page(table.push(pages)),
-        Call::Claim(pages) => match table.claim(pages) {
+        Call::Push(pages) => page(table.push(rt, pages)),
+        Call::Claim(pages) => match table.claim(rt, pages) {
             Ok((claim, between)) => Ok(Answer::Claimed(
                 claim.set,
                 claim.index,
@@ -113,10 +114,10 @@ fn sets(table: &mut Table, call: Call) -> Result<Answer, NoMemory> {
     }
 }
 
-fn make(table: &mut Table, call: Call) -> Result<Answer, NoMemory> {
+fn make<R: Wait>(rt: &R, table: &mut Table, call: Call) -> Result<Answer, NoMemory> {
     match call {
-        Call::Take(pages) => page(table.take(pages)),
-        Call::TryTake(pages) => match table.try_take(pages)? {
+        Call::Take(pages) => page(table.take(rt, pages)),
+        Call::TryTake(pages) => match table.try_take(rt, pages)? {
             Some(page) => Ok(Answer::Page(page)),
             None => Ok(Answer::NoPage),
         },
@@ -124,7 +125,7 @@ fn make(table: &mut Table, call: Call) -> Result<Answer, NoMemory> {
             Some(word) => Ok(Answer::Is(word)),
             None => Ok(Answer::Got),
         },
-        Call::Cache(pages) => match table.cache(pages) {
+        Call::Cache(pages) => match table.cache(rt, pages) {
             Ok((word, way)) => Ok(Answer::Cached(word, way)),
             Err(_) => Err(NoMemory),
         },
@@ -134,15 +135,15 @@ fn make(table: &mut Table, call: Call) -> Result<Answer, NoMemory> {
         Call::AddSpent(bytes) => Ok(Answer::Is(table.add_spent(bytes))),
         Call::Spent => Ok(Answer::Is(table.spent())),
         Call::ClaimChunk => Ok(Answer::Is(table.claim_chunk())),
-        Call::PagesTaken => Ok(Answer::Is(u64::from(table.pages_taken()))),
+        Call::PagesTaken => Ok(Answer::Is(u64::from(table.pages_taken(rt)))),
         Call::Scavenge => {
-            let step = table.scavenge()?;
+            let step = table.scavenge(rt)?;
             match step.run {
                 Some(run) => Ok(Answer::Released(run.page, run.pages)),
                 None => Ok(Answer::Is(u64::from(step.backed))),
             }
         }
-        _ => sets(table, call),
+        _ => sets(rt, table, call),
     }
 }
 
@@ -290,16 +291,20 @@ const CASES: [Case; 10] = [
 ];
 
 // The calls answer as they should.
-fn try_rows<R: Abort>(rt: &R, table: &mut Table, rows: &[(Call, Answer)]) -> Result<(), NoMemory> {
+fn try_rows<R: Abort + Wait>(
+    rt: &R,
+    table: &mut Table,
+    rows: &[(Call, Answer)],
+) -> Result<(), NoMemory> {
     for (call, wanted) in rows {
-        let found = make(table, *call)?;
+        let found = make(rt, table, *call)?;
         assert_eq!(rt; found, *wanted);
     }
     Ok(())
 }
 
 // The calls of a case answer as they should. A table is let go in one place, since each place costs the proof much.
-fn try_case<R: Abort + AllocGlobal>(rt: &R, row: &Case) -> Result<(), NoMemory> {
+fn try_case<R: Abort + Wait + AllocGlobal>(rt: &R, row: &Case) -> Result<(), NoMemory> {
     let mut table = Table::new(rt.alloc(), row.goal)?;
     try_rows(rt, &mut table, row.calls)
 }
@@ -327,15 +332,15 @@ const LINES: [Line; 2] = [
     },
 ];
 
-fn try_lines<R: Abort + AllocGlobal>(rt: &R, table: &mut Table) -> Result<(), NoMemory> {
-    assert_eq!(rt; table.lines(rt.alloc())?.as_slice().len(), 0);
-    assert_eq!(rt; page(table.take(5))?, Answer::Page(0));
-    assert_eq!(rt; page(table.take(508))?, Answer::NoRun(1));
-    assert_eq!(rt; table.lines(rt.alloc())?.as_slice(), LINES.as_slice());
+fn try_lines<R: Abort + Wait + AllocGlobal>(rt: &R, table: &mut Table) -> Result<(), NoMemory> {
+    assert_eq!(rt; table.lines(rt, rt.alloc())?.as_slice().len(), 0);
+    assert_eq!(rt; page(table.take(rt, 5))?, Answer::Page(0));
+    assert_eq!(rt; page(table.take(rt, 508))?, Answer::NoRun(1));
+    assert_eq!(rt; table.lines(rt, rt.alloc())?.as_slice(), LINES.as_slice());
     Ok(())
 }
 
-fn try_journal<R: Abort + AllocGlobal>(rt: &R) -> Result<(), NoMemory> {
+fn try_journal<R: Abort + Wait + AllocGlobal>(rt: &R) -> Result<(), NoMemory> {
     let mut table = Table::new(rt.alloc(), 512)?;
     try_lines(rt, &mut table)
 }
@@ -343,7 +348,7 @@ fn try_journal<R: Abort + AllocGlobal>(rt: &R) -> Result<(), NoMemory> {
 #[test]
 fn the_journal_has_the_lines_as_they_were_made(rt: HostRuntime) -> Result<(), Fail> {
     try_journal(&rt)?;
-    let (taken, lines) = Table::new(rt.alloc(), 512)?.close()?;
+    let (taken, lines) = Table::new(rt.alloc(), 512)?.close(&rt)?;
     assert_eq!(rt; (taken, lines.len()), (0, 0));
     Ok(())
 }
@@ -411,8 +416,8 @@ const BEHIND: [Behind; 4] = [
     },
 ];
 
-fn try_behind<R: Abort + AllocGlobal>(rt: &R, row: &Behind) -> Result<(), NoMemory> {
-    let mut table = Table::behind_mark_end(rt.alloc(), row.spans)?;
+fn try_behind<R: Abort + Wait + AllocGlobal>(rt: &R, row: &Behind) -> Result<(), NoMemory> {
+    let mut table = Table::behind_mark_end(rt, rt.alloc(), row.spans)?;
     try_rows(rt, &mut table, row.calls)
 }
 
@@ -424,33 +429,33 @@ fn calls_answer_by_the_rules_behind_a_mark_end(rt: HostRuntime) -> Result<(), Fa
     Ok(())
 }
 
-fn stale_at_start(alloc: Global) -> Result<(u64, Uncached), NoMemory> {
+fn stale_at_start<R: Wait>(rt: &R, alloc: Global) -> Result<(u64, Uncached), NoMemory> {
     let (mut shared, mut driver) = start(alloc, 1, 512)?;
-    stale(alloc, &mut shared, &mut driver)
+    stale(rt, alloc, &mut shared, &mut driver)
 }
 
 // Cached at generation 4, its word is 7; the mark end leaves that, which is the word of a span cached before it.
 #[test]
 fn a_span_that_was_cached_before_a_mark_end_is_stale(rt: HostRuntime) -> Result<(), Fail> {
-    assert_eq!(rt; stale_at_start(rt.alloc())?, (7, Uncached::Stale));
+    assert_eq!(rt; stale_at_start(&rt, rt.alloc())?, (7, Uncached::Stale));
     Ok(())
 }
 
-fn swept_at_start(alloc: Global) -> Result<(u32, Option<u64>), NoMemory> {
+fn swept_at_start<R: Wait>(rt: &R, alloc: Global) -> Result<(u32, Option<u64>), NoMemory> {
     let (mut shared, mut driver) = start(alloc, 1, 512)?;
-    swept(alloc, &mut shared, &mut driver)
+    swept(rt, alloc, &mut shared, &mut driver)
 }
 
 // Swept at generation 6, its word is 6.
 #[test]
 fn a_swept_span_is_not_acquired_again(rt: HostRuntime) -> Result<(), Fail> {
-    assert_eq!(rt; swept_at_start(rt.alloc())?, (0, Some(6)));
+    assert_eq!(rt; swept_at_start(&rt, rt.alloc())?, (0, Some(6)));
     Ok(())
 }
 
-fn given_at_start(alloc: Global) -> Result<Returned, NoMemory> {
+fn given_at_start<R: Wait>(rt: &R, alloc: Global) -> Result<Returned, NoMemory> {
     let (mut shared, mut driver) = start(alloc, 1, 512)?;
-    given(alloc, &mut shared, &mut driver)
+    given(rt, alloc, &mut shared, &mut driver)
 }
 
 // The five pages are free again: their word is 0, and the next run of five is theirs.
@@ -463,44 +468,47 @@ fn a_span_that_was_given_back_leaves_its_pages_free(rt: HostRuntime) -> Result<(
         behind: 0,
         word: Some(0),
     };
-    assert_eq!(rt; given_at_start(rt.alloc())?, wanted);
+    assert_eq!(rt; given_at_start(&rt, rt.alloc())?, wanted);
     Ok(())
 }
 
-fn reset_at_start(alloc: Global) -> Result<(PopBase, PopBase), NoMemory> {
+fn reset_at_start<R: Wait>(rt: &R, alloc: Global) -> Result<(PopBase, PopBase), NoMemory> {
     let (mut shared, mut driver) = start(alloc, 1, 512)?;
-    popped_and_reset(alloc, &mut shared, &mut driver)
+    popped_and_reset(rt, alloc, &mut shared, &mut driver)
 }
 
 // The entry is of page 0. The head stands behind it, and the reset sets are empty until the generation rises.
 #[test]
 fn unswept_sets_are_reset_once_they_are_empty(rt: HostRuntime) -> Result<(), Fail> {
     let wanted = (PopBase::Popped(0), PopBase::Empty { head: 1, tail: 1 });
-    assert_eq!(rt; reset_at_start(rt.alloc())?, wanted);
+    assert_eq!(rt; reset_at_start(&rt, rt.alloc())?, wanted);
     Ok(())
 }
 
-fn unmarked_at_start(alloc: Global) -> Result<Option<u32>, NoMemory> {
+fn unmarked_at_start<R: Wait>(rt: &R, alloc: Global) -> Result<Option<u32>, NoMemory> {
     let (mut shared, mut driver) = start(alloc, 1, 512)?;
-    unmarked(alloc, &mut shared, &mut driver)
+    unmarked(rt, alloc, &mut shared, &mut driver)
 }
 
 // The first span, at page 0, has a mark and is left. The second one, at page 5, waits and has none.
 #[test]
 fn the_next_span_without_a_mark_is_acquired(rt: HostRuntime) -> Result<(), Fail> {
-    assert_eq!(rt; unmarked_at_start(rt.alloc())?, Some(5));
+    assert_eq!(rt; unmarked_at_start(&rt, rt.alloc())?, Some(5));
     Ok(())
 }
 
-fn unswept_at_start(alloc: Global) -> Result<(Option<u32>, Option<u32>), NoMemory> {
+fn unswept_at_start<R: Wait>(
+    rt: &R,
+    alloc: Global,
+) -> Result<(Option<u32>, Option<u32>), NoMemory> {
     let (mut shared, mut driver) = start(alloc, 1, 512)?;
-    unswept(alloc, &mut shared, &mut driver)
+    unswept(rt, alloc, &mut shared, &mut driver)
 }
 
 // The full set of class 0 comes first, and has the one entry.
 #[test]
 fn the_next_unswept_set_is_the_first_with_an_entry(rt: HostRuntime) -> Result<(), Fail> {
-    assert_eq!(rt; unswept_at_start(rt.alloc())?, (Some(0), None));
+    assert_eq!(rt; unswept_at_start(&rt, rt.alloc())?, (Some(0), None));
     Ok(())
 }
 

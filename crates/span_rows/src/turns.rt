@@ -1,5 +1,6 @@
-ghost use Rattle.std.specs.Prelude.{◌≡◌, ℕ, ◌*◌, ◌<◌, ◌≤◌, [], ◌∷◌, IfOk, OnOk, length, true};
+ghost use Rattle.std.specs.Prelude.{◌≡◌, ℕ, ◌*◌, ◌<◌, ◌≤◌, [], ◌∷◌, IfOk, OnOk, length};
 ghost use Rattle.span_state.specs.Spans.{IsSameSpan, allocated};
+ghost use Rattle.span_laws.specs.Asks.{IsAtWork};
 ghost use Rattle.span_rows.specs.Rows.{ArePlaced, HasPlaced, HasTurned, IsFreeDriver, KeepsCached, KeepsPlaced, SeesEmpty};
 
 use fallible_list::NoMemory;
@@ -7,6 +8,7 @@ use span_set::{SetId, claim, fill, push, reset};
 use span_state::{Body, Marks};
 use span_table::{Acquired, Shared, Worker};
 use std::alloc::Global;
+use std::sync::Wait;
 
 /// The full set of large spans.
 pub const LARGE: SetId = SetId {
@@ -29,7 +31,7 @@ pub fn start(alloc: Global, chunks: u32, goal: u32) -> Result<(Shared, Worker), 
 }
 
 /// Takes a large span of so many pages, places its object and pushes it to the full set. Answers its page.
-pub fn place(shared: &Shared, w: &mut Worker, pages: u32) -> Result<u32, NoMemory>
+pub fn place<R: Wait>(rt: &R, shared: &Shared, w: &mut Worker, pages: u32) -> Result<u32, NoMemory>
     requires free { IsFreeDriver shared.now w.old }
     requires large { 5 ≤ pages }
     ensures free { OnOk result (IsFreeDriver shared.now w.new) }
@@ -38,7 +40,7 @@ pub fn place(shared: &Shared, w: &mut Worker, pages: u32) -> Result<u32, NoMemor
     ensures generation { OnOk result (w.new.view.generation ≡ w.old.view.generation) }
     ensures region { OnOk result (w.new.view.region ≡ w.old.view.region) }
 {
-    let Ok(mut body) = shared.take_span(w, pages, 0) else {
+    let Ok(mut body) = shared.take_span(rt, w, pages, 0) else {
         return Err(NoMemory);
     };
     shared.note_alloc(w, &mut body, 0);
@@ -50,8 +52,7 @@ pub fn place(shared: &Shared, w: &mut Worker, pages: u32) -> Result<u32, NoMemor
 
 // Whether the worker sees all unswept sets empty.
 pub(crate) fn sees_all_empty(shared: &Shared, w: &mut Worker) -> bool
-    requires here { w.old.here ≡ true }
-    requires table { w.old.table ≡ shared.now }
+    requires works { IsAtWork shared.now w.old }
     ensures { SeesEmpty w.old w.new result }
 {
     let part = (shared.generation(w) / 2 % 2) as u32;
@@ -133,8 +134,8 @@ fn from_start(body: Body) -> Body
 pub fn sweep(shared: &Shared, w: &mut Worker, page: u32) -> Result<(), NoMemory>
     requires turned { HasTurned shared.now ((page, 0) ∷ []) w.old }
     requires low { page < w.old.view.region }
-    ensures here { w.new.here ≡ true }
-    ensures table { w.new.table ≡ shared.now }
+    ensures works { IsAtWork shared.now w.new }
+    ensures driver { w.new.number ≡ 69 }
     ensures parts { OnOk result (1 < length w.new.view.parts) }
 {
     let Acquired::Got(body) = shared.acquire(w, page) else {

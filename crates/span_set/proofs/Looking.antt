@@ -31,8 +31,8 @@ module _ (set head tail : ℕ) (old now : Seen) where
   first_look e passed = record { said = []; cells = []; looks = tt; view = e; passed = passed }
 
   module _ (l : LooksLast set head tail old now) where
-    pub still_here : old.here ≡ true → now.here ≡ true
-    still_here h = ap (λ (w : Seen). w.here) l.view ∙ h
+    pub same_away : now.away ≡ old.away
+    same_away = ap (λ (w : Seen). w.away) l.view
 
     pub same_table : now.table ≡ old.table
     same_table = ap (λ (w : Seen). w.table) l.view

@@ -26,8 +26,8 @@ module _ (old now : Seen) where
   }
 
   module _ (n : ℕ) (r : ResetsBelow n old now) where
-    pub reset_here : old.here ≡ true → now.here ≡ true
-    reset_here h = ap (λ (w : Seen). w.here) r.view ∙ h
+    pub reset_away : now.away ≡ old.away
+    reset_away = ap (λ (w : Seen). w.away) r.view
 
     pub reset_table : now.table ≡ old.table
     reset_table = ap (λ (w : Seen). w.table) r.view

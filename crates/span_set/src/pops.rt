@@ -1,5 +1,6 @@
 ghost use Rattle.std.specs.Prelude.{◌≡◌, ◌<◌, ◌≤◌, true, false};
 ghost use Rattle.sweep_laws.specs.Reading.{is_swept_set};
+ghost use Rattle.span_laws.specs.Asks.{IsAtWork};
 ghost use Rattle.span_laws.specs.Logs.{is_look};
 ghost use Rattle.worker_log.specs.Entries.{many};
 ghost use Rattle.span_set.specs.Pops.{PopsSwept, PopsUnswept, TriesSwept, TriesUnswept};
@@ -15,8 +16,7 @@ use span_table::{Shared, Worker};
 /// `Empty` comes only where head and tail, read in this call, were equal, and `NotYet` only where this call read 0 in the cell at
 /// the head. A try is lost only where head or tail rose, so the call ends.
 pub fn pop_swept(shared: &Shared, w: &mut Worker, set: SetId) -> Pop
-    requires here { w.old.here ≡ true }
-    requires table { w.old.table ≡ shared.now }
+    requires works { IsAtWork shared.now w.old }
     requires class { set.class < 136 }
     ensures { PopsSwept (swept_of w.old.view.generation set) w.old w.new result }
 {
@@ -41,8 +41,7 @@ pub fn pop_swept(shared: &Shared, w: &mut Worker, set: SetId) -> Pop
 /// `Empty` comes only where head and tail, read in this call, were equal. Cells of unswept sets are filled, so no answer says that
 /// one is not. The call ends for the same reason as `pop_swept`.
 pub fn pop_unswept(shared: &Shared, w: &mut Worker, set: SetId) -> PopBase
-    requires here { w.old.here ≡ true }
-    requires table { w.old.table ≡ shared.now }
+    requires works { IsAtWork shared.now w.old }
     requires class { set.class < 136 }
     ensures { PopsUnswept (unswept_of w.old.view.generation set) w.old w.new result }
 {
@@ -69,8 +68,7 @@ fn try_swept(
     head: u32,
     tail: u32,
 ) -> Result<Pop, (u32, u32)>
-    requires here { w.old.here ≡ true }
-    requires table { w.old.table ≡ shared.now }
+    requires works { IsAtWork shared.now w.old }
     requires set { set < 544 }
     requires part { is_swept_set w.old.view.generation set ≡ true }
     requires order { head ≤ tail }
@@ -99,8 +97,7 @@ fn try_unswept(
     head: u32,
     tail: u32,
 ) -> Result<PopBase, (u32, u32)>
-    requires here { w.old.here ≡ true }
-    requires table { w.old.table ≡ shared.now }
+    requires works { IsAtWork shared.now w.old }
     requires set { set < 544 }
     requires part { is_swept_set w.old.view.generation set ≡ false }
     requires order { head ≤ tail }

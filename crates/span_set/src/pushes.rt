@@ -1,6 +1,6 @@
 ghost use Rattle.std.specs.Prelude.{◌≡◌, ◌<◌, true, None, Some};
 ghost use Rattle.sweep_laws.specs.Lists.{has};
-ghost use Rattle.span_laws.specs.Asks.{HasBody};
+ghost use Rattle.span_laws.specs.Asks.{HasBody, IsAtWork};
 ghost use Rattle.span_laws.specs.OwnSteps.{after_said};
 ghost use Rattle.span_set.specs.Sets.{MayPush, swept_of};
 
@@ -13,8 +13,7 @@ use span_table::{Said, Shared, Worker};
 /// least, and the worker has not popped it from that set since the last mark end, nor placed an object in it for a
 /// partial set. The claim is to be filled (`mspanset.go`, `push`). Takes no memory.
 pub fn claim(shared: &Shared, w: &mut Worker, set: SetId, body: Body) -> Claim
-    requires here { w.old.here ≡ true }
-    requires table { w.old.table ≡ shared.now }
+    requires works { IsAtWork shared.now w.old }
     requires class { set.class < 136 }
     requires held { has body.page w.old.view.own.held ≡ true }
     requires unclaimed { w.old.view.own.claimed ≡ None }
@@ -37,8 +36,7 @@ pub fn claim(shared: &Shared, w: &mut Worker, set: SetId, body: Body) -> Claim
 
 /// Fills the cell of the worker's own claim, and lets go of the span. Takes no memory.
 pub fn fill(shared: &Shared, w: &mut Worker, claim: Claim)
-    requires here { w.old.here ≡ true }
-    requires table { w.old.table ≡ shared.now }
+    requires works { IsAtWork shared.now w.old }
     requires claimed { w.old.view.own.claimed ≡ Some (record { set = claim.set; index = claim.index; page = claim.page }) }
     ensures { w.new ≡ after_said (Said.Fills claim.set claim.page) w.old }
 {
@@ -48,8 +46,7 @@ pub fn fill(shared: &Shared, w: &mut Worker, claim: Claim)
 /// Pushes a span that the worker holds to the swept part of a set: `claim`, then `fill`, with what `claim` asks. Takes no
 /// memory.
 pub fn push(shared: &Shared, w: &mut Worker, set: SetId, body: Body)
-    requires here { w.old.here ≡ true }
-    requires table { w.old.table ≡ shared.now }
+    requires works { IsAtWork shared.now w.old }
     requires class { set.class < 136 }
     requires held { has body.page w.old.view.own.held ≡ true }
     requires unclaimed { w.old.view.own.claimed ≡ None }

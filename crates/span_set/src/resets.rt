@@ -1,4 +1,5 @@
 ghost use Rattle.std.specs.Prelude.{◌≡◌, ℕ, ◌<◌, true, false};
+ghost use Rattle.span_laws.specs.Asks.{IsAtWork};
 ghost use Rattle.sweep_laws.specs.Reading.{is_swept_set};
 ghost use Rattle.worker_log.specs.Entries.{is_seen_empty, many};
 ghost use Rattle.span_set.specs.Resets.{Resets};
@@ -7,8 +8,7 @@ use span_table::{Shared, Worker};
 
 /// Resets all unswept sets for the next mark end, where the driver saw each of them empty since the last one. Takes no memory.
 pub fn reset(shared: &Shared, driver: &mut Worker)
-    requires here { driver.old.here ≡ true }
-    requires table { driver.old.table ≡ shared.now }
+    requires works { IsAtWork shared.now driver.old }
     requires empty { (k : ℕ) → k < 544 → is_swept_set driver.old.view.generation k ≡ false → 0 < many (is_seen_empty k) driver.old.view.own.log }
     ensures { Resets driver.old driver.new }
 {

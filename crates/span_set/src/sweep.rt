@@ -1,4 +1,5 @@
 ghost use Rattle.std.specs.Prelude.{◌≡◌, ◌<◌, ◌≤◌, ◌∷◌, ◌++◌, [], true, length, All};
+ghost use Rattle.span_laws.specs.Asks.{IsAtWork};
 ghost use Rattle.span_set.specs.Sweeps.{MaySweep, SweepsBody, SweepsInHand, note_of};
 ghost use Rattle.span_set.specs.Tallies.{Frees, MayCount, frees_all};
 
@@ -21,8 +22,7 @@ fn count_dead(ring: &Ring, tally: &mut Tally, dead: &[u32])
 /// the note, for which it has room, its tally counts a free for each dead sample of the page (`mprof.go`, `mProf_Free`), and the
 /// word becomes G, by which the worker holds the span (`mgcsweep.go`, `sweep`). Takes no memory.
 pub fn sweep_in_hand(shop: &Shop, hand: &mut Hand, body: &mut Body) -> Swept
-    requires here { hand.old.worker.here ≡ true }
-    requires table { hand.old.worker.table ≡ shop.now.shared.now }
+    requires works { IsAtWork shop.now.shared.now hand.old.worker }
     requires distance { 8192 ≤ shop.now.distance }
     requires room { length hand.old.notes.items < hand.old.notes.space }
     requires may { MaySweep shop.now.marks.now body.old hand.old.worker }

@@ -1,21 +1,20 @@
-ghost use Rattle.std.specs.Prelude.{◌≡◌, ◌<◌, true, None, length};
+ghost use Rattle.std.specs.Prelude.{◌≡◌, None};
 ghost use Rattle.sweep_laws.specs.NeedsOfRange.{refusal};
 ghost use Rattle.sweep_laws.specs.Step.{needs_of, after, reply_of};
 ghost use Rattle.sweep_laws.specs.Tidy.{IsProvided};
 ghost use Rattle.span_laws.specs.Moves.{move_of, move_on};
-ghost use Rattle.span_laws.specs.Cycle.{Kept};
 ghost use Rattle.span_laws.specs.Truth.{IsSo};
 ghost use Rattle.span_laws.specs.Suits.{Suits, SuitsOf, PlacesAlone, IsQuiet};
-ghost use Rattle.span_laws.specs.Views.{acts, span_of};
-ghost use Rattle.span_laws.specs.OwnSteps.{told, told_of};
-ghost use Rattle.span_laws.specs.Handed.{as_number};
+ghost use Rattle.span_laws.specs.Views.{span_of};
+ghost use Rattle.span_table.specs.Holds.{Lends, at_work};
+ghost use Rattle.span_table.specs.Sights.{says, says_of};
 
 use crate::make::make;
-use crate::seat::{hand, tell, tell_of};
+use crate::seat::{Sight, tell, tell_of};
 use crate::shared::Shared;
 use atomic_table::Seat;
 use page_alloc::Pages;
-use span_laws::{Said, SaidOf, View};
+use span_laws::{Said, SaidOf};
 use span_state::Body;
 use std::marker::Model;
 use sweep_generation::{Core, Move, Reply};
@@ -29,7 +28,7 @@ pub struct Lent {
     // the body of each span, by its first page, while no worker has it
     pub(crate) homes: Vec<Option<Body>>,
     pub(crate) counts: Counts,
-    pub(crate) seat: Seat<(), View>,
+    pub(crate) seat: Seat<(), Sight>,
 }
 
 /// The words that count within a cycle, modulo 2^64.
@@ -44,15 +43,14 @@ pub struct Counts {
 }
 
 impl Model for Lent {
-    ghost use Rattle.std.specs.Prelude.{true};
     ghost use Rattle.span_laws.specs.Views.{Seen};
-    ghost use Rattle.span_laws.specs.Cycle.{Kept};
+    ghost use Rattle.span_table.specs.Holds.{Lends, at_work};
 
     ghost Value = { Seen };
 
-    ghost view = { λ l. record { here = true; table = l.seat.table_id; number = l.number; view = l.seat.me.0 } };
+    ghost view = { λ l. at_work l.seat.table_id l.number l.seat.me.0 };
 
-    ghost invariant = { λ l. Kept l.core l.pages l.homes.items l.number l.seat.me.0 };
+    ghost invariant = { λ l. Lends l.core l.pages l.homes.items l.number l.seat.me };
 }
 
 // Makes a step that changes no body: the core's move of it, which is allowed and provided for, and the change of the view.
@@ -63,20 +61,20 @@ pub(crate) fn apply(
     pages: &Pages,
     homes: &[Option<Body>],
     number: u32,
-    seat: &mut Seat<(), View>,
+    seat: &mut Seat<(), Sight>,
     said: &Said,
     mv: Move,
 ) -> Reply
     requires table { seat.old.table_id ≡ shared.now }
-    requires rule { Kept core.old pages.now homes.now number seat.old.me.0 }
+    requires rule { Lends core.old pages.now homes.now number seat.old.me }
     requires mv { mv ≡ move_of number said.now }
     requires so { IsSo core.old pages.now said.now }
-    requires suits { Suits core.old seat.old.me.0.own said.now }
+    requires suits { Suits core.old seat.old.me.0.view.own said.now }
     requires allowed { refusal (needs_of core.old mv) ≡ None }
     requires provided { IsProvided core.old mv }
     ensures table { seat.new.table_id ≡ seat.old.table_id }
-    ensures view { seat.new.me.0 ≡ acts seat.old.me.0 (told said.now seat.old.me.0.own) }
-    ensures rule { Kept core.new pages.now homes.now number seat.new.me.0 }
+    ensures view { seat.new.me ≡ (says said.now seat.old.me.0, seat.old.me.1) }
+    ensures rule { Lends core.new pages.now homes.now number seat.new.me }
     ensures state { core.new ≡ after core.old (move_of number said.now) }
     ensures reply { result ≡ reply_of core.old (move_of number said.now) }
 {
@@ -94,21 +92,21 @@ pub(crate) fn apply_of(
     pages: &Pages,
     homes: &[Option<Body>],
     number: u32,
-    seat: &mut Seat<(), View>,
+    seat: &mut Seat<(), Sight>,
     said: &SaidOf,
     body: &Body,
     mv: Move,
 ) -> Reply
     requires table { seat.old.table_id ≡ shared.now }
-    requires rule { Kept core.old pages.now homes.now number seat.old.me.0 }
+    requires rule { Lends core.old pages.now homes.now number seat.old.me }
     requires mv { mv ≡ move_on number said.now (span_of body.now) }
-    requires suits { SuitsOf core.old pages.now seat.old.me.0 said.now (span_of body.now) }
-    requires alone { PlacesAlone seat.old.me.0.own said.now (span_of body.now) }
+    requires suits { SuitsOf core.old pages.now seat.old.me.0.view said.now (span_of body.now) }
+    requires alone { PlacesAlone seat.old.me.0.view.own said.now (span_of body.now) }
     requires allowed { refusal (needs_of core.old mv) ≡ None }
     requires provided { IsProvided core.old mv }
     ensures table { seat.new.table_id ≡ seat.old.table_id }
-    ensures view { seat.new.me.0 ≡ acts seat.old.me.0 (told_of said.now (span_of body.now) seat.old.me.0.own) }
-    ensures rule { Kept core.new pages.now homes.now number seat.new.me.0 }
+    ensures view { seat.new.me ≡ (says_of said.now (span_of body.now) seat.old.me.0, seat.old.me.1) }
+    ensures rule { Lends core.new pages.now homes.now number seat.new.me }
 {
     let _pages = pages;
     let _homes = homes;
@@ -123,16 +121,16 @@ pub(crate) fn note(
     pages: &Pages,
     homes: &[Option<Body>],
     number: u32,
-    seat: &mut Seat<(), View>,
+    seat: &mut Seat<(), Sight>,
     said: &Said,
 )
     requires table { seat.old.table_id ≡ shared.now }
-    requires rule { Kept core.now pages.now homes.now number seat.old.me.0 }
+    requires rule { Lends core.now pages.now homes.now number seat.old.me }
     requires so { IsSo core.now pages.now said.now }
-    requires quiet { IsQuiet seat.old.me.0.own said.now }
+    requires quiet { IsQuiet seat.old.me.0.view.own said.now }
     ensures table { seat.new.table_id ≡ seat.old.table_id }
-    ensures view { seat.new.me.0 ≡ acts seat.old.me.0 (told said.now seat.old.me.0.own) }
-    ensures rule { Kept core.now pages.now homes.now number seat.new.me.0 }
+    ensures view { seat.new.me ≡ (says said.now seat.old.me.0, seat.old.me.1) }
+    ensures rule { Lends core.now pages.now homes.now number seat.new.me }
 {
     let _core = core;
     let _pages = pages;
@@ -147,10 +145,10 @@ impl Lent {
         core: Core,
         pages: Pages,
         homes: Vec<Option<Body>>,
-        seat: Seat<(), View>,
+        seat: Seat<(), Sight>,
     ) -> Lent
-        requires { Kept core pages homes.items number seat.me.0 }
-        ensures { result ≡ record { here = true; table = seat.table_id; number = number; view = seat.me.0 } }
+        requires { Lends core pages homes.items number seat.me }
+        ensures { result ≡ at_work seat.table_id number seat.me.0 }
     {
         let counts = Counts {
             swept: 0,
@@ -165,15 +163,5 @@ impl Lent {
             counts,
             seat,
         }
-    }
-
-    // The state goes to another worker.
-    pub(crate) fn become_worker(&mut self, shared: &Shared, number: u32)
-        requires table { self.old.table ≡ shared.now }
-        requires number { number < length self.old.view.parts }
-        ensures { self.new ≡ as_number number self.old }
-    {
-        hand(shared, &mut self.seat, self.number, number);
-        self.number = number;
     }
 }

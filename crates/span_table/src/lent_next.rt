@@ -15,7 +15,7 @@ impl Lent {
     // See `Shared::settle`.
     pub(crate) fn settle(&mut self, shared: &Shared)
         requires table { self.old.table ≡ shared.now }
-        requires may { MaySettle self.old.number self.old.view }
+        requires may { MaySettle self.old }
         ensures { SettlesCycle self.old self.new }
     {
         tell_journal(shared, &mut self.seat, &self.pages);
@@ -24,7 +24,7 @@ impl Lent {
     // See `Shared::next_generation`.
     pub(crate) fn next_generation(&mut self, shared: &Shared, marks: &Marks)
         requires table { self.old.table ≡ shared.now }
-        requires may { MayMark self.old.number self.old.view marks.now.pairs }
+        requires may { MayMark self.old marks.now.pairs }
         ensures { self.new ≡ after_next marks.now.pairs self.old }
     {
         marks.rising();
@@ -39,10 +39,10 @@ impl Lent {
 
     // The pages, without the rest of the state.
     pub(crate) fn into_pages(self) -> Pages
-        requires told { KnowsJournal self.view.own }
+        requires told { KnowsJournal self }
         ensures region { result.region ≡ self.view.region }
         ensures goal { result.goal ≡ self.view.goal }
-        ensures journal { self.view.own.journal ≡ Some result.past }
+        ensures journal { self.journal ≡ Some result.past }
     {
         let Lent { pages, .. } = self;
         pages

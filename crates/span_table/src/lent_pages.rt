@@ -1,29 +1,31 @@
-ghost use Rattle.std.specs.Prelude.{◌≡◌, ◌-◌, ◌*◌, ◌/◌, ◌<◌, ◌≤◌, true, None, Some, List, IfOk};
+ghost use Rattle.std.specs.Prelude.{◌≡◌, ◌==◌, ◌-◌, ◌*◌, ◌/◌, ◌<◌, ◌≤◌, true, None, Some, List, IfOk};
 ghost use Rattle.page_alloc.specs.Owners.{taken};
 ghost use Rattle.page_alloc.specs.FreeRuns.{IsSpanSize};
 ghost use Rattle.page_alloc.specs.Journal.{Legal, past_of};
 ghost use Rattle.size_classes.specs.Classes.{IsClass, objects_of, slot_of};
 ghost use Rattle.sweep_laws.specs.Lists.{has};
 ghost use Rattle.span_laws.specs.TakeAnswers.{IsNew, IsToldOf, TakesSpan, TriesSpan};
-ghost use Rattle.span_laws.specs.ScavengeAnswers.{StepsOnce};
+ghost use Rattle.span_laws.specs.ScavengeAnswers.{StepsOnce, told_if};
 ghost use Rattle.span_laws.specs.BodyAsks.{IsEmptyBody};
 ghost use Rattle.span_laws.specs.Asks.{HasBody, KnowsJournal};
 ghost use Rattle.span_laws.specs.Logs.{EndsSweptEmpty};
 ghost use Rattle.worker_log.specs.SweptLast.{is_swept_last};
 ghost use Rattle.span_laws.specs.Truth.{IsSo, IsSoOf};
-ghost use Rattle.span_laws.specs.Views.{acts, span_of};
-ghost use Rattle.span_laws.specs.OwnSteps.{after_said, told, told_of};
+ghost use Rattle.span_laws.specs.Views.{span_of};
+ghost use Rattle.span_laws.specs.OwnSteps.{after_said};
+ghost use Rattle.span_table.specs.Sights.{learns, says, says_of};
 
 use crate::lent::Lent;
 use crate::make::{give_run, take_run};
-use crate::seat::{tell, tell_journal, tell_of};
+use crate::seat::{Sight, forget_journal, tell, tell_journal, tell_of};
 use crate::shared::Shared;
+use crate::worker::DRIVER;
 use atomic_table::Seat;
 use fallible_list::{List, NoMemory};
 use page_alloc::Pages;
 use page_bitmap::Line;
 use size_classes::{PAGE_SIZE, slot_size, span_objects};
-use span_laws::{Refused, Said, SaidOf, Step, View};
+use span_laws::{Refused, Said, SaidOf, Step};
 use span_state::Body;
 use std::alloc::Global;
 use sweep_generation::Core;
@@ -66,11 +68,11 @@ fn new_body(page: u32, n: u32, class: u8, life: u64) -> Body
 }
 
 // A step tells a line: it is the journal's last.
-fn tell_line(shared: &Shared, core: &Core, pages: &Pages, seat: &mut Seat<(), View>, said: &Said)
+fn tell_line(shared: &Shared, core: &Core, pages: &Pages, seat: &mut Seat<(), Sight>, said: &Said)
     requires table { seat.old.table_id ≡ shared.now }
     requires so { IsSo core.now pages.now said.now }
     ensures table { seat.new.table_id ≡ seat.old.table_id }
-    ensures view { seat.new.me.0 ≡ acts seat.old.me.0 (told said.now seat.old.me.0.own) }
+    ensures view { seat.new.me ≡ (says said.now seat.old.me.0, seat.old.me.1) }
 {
     let _core = core;
     let _pages = pages;
@@ -78,14 +80,33 @@ fn tell_line(shared: &Shared, core: &Core, pages: &Pages, seat: &mut Seat<(), Vi
 }
 
 // The same of the line that took a body's run.
-fn tell_taken(shared: &Shared, pages: &Pages, seat: &mut Seat<(), View>, said: &SaidOf, body: &Body)
+fn tell_taken(
+    shared: &Shared,
+    pages: &Pages,
+    seat: &mut Seat<(), Sight>,
+    said: &SaidOf,
+    body: &Body,
+)
     requires table { seat.old.table_id ≡ shared.now }
     requires so { IsSoOf pages.now said.now (span_of body.now) }
     ensures table { seat.new.table_id ≡ seat.old.table_id }
-    ensures view { seat.new.me.0 ≡ acts seat.old.me.0 (told_of said.now (span_of body.now) seat.old.me.0.own) }
+    ensures view { seat.new.me ≡ (says_of said.now (span_of body.now) seat.old.me.0, seat.old.me.1) }
 {
     let _pages = pages;
     tell_of(shared, seat, said, body);
+}
+
+// The driver is told the whole journal, and another worker knows none.
+fn tell_driver(shared: &Shared, seat: &mut Seat<(), Sight>, pages: &Pages, number: u32)
+    requires table { seat.old.table_id ≡ shared.now }
+    ensures table { seat.new.table_id ≡ seat.old.table_id }
+    ensures view { seat.new.me ≡ (learns (told_if (number == 69) pages.now.past) seat.old.me.0, seat.old.me.1) }
+{
+    if number == DRIVER {
+        tell_journal(shared, seat, pages);
+    } else {
+        forget_journal(shared, seat);
+    }
 }
 
 impl Lent {
@@ -183,22 +204,22 @@ impl Lent {
         };
         let run = self.pages.scavenge(cycle);
         let backed = self.pages.backed();
-        tell_journal(shared, &mut self.seat, &self.pages);
+        tell_driver(shared, &mut self.seat, &self.pages, self.number);
         Ok(Step { run, backed })
     }
 
     // See `Shared::pages_taken`.
     pub(crate) fn pages_taken(&self) -> u32
-        ensures { (past : List Line) × Legal self.now.view.region self.now.view.goal past × IsToldOf self.now.view.own past × (result ≡ taken self.now.view.region past) }
+        ensures { (past : List Line) × Legal self.now.view.region self.now.view.goal past × IsToldOf self.now past × (result ≡ taken self.now.view.region past) }
     {
         self.pages.taken()
     }
 
     // See `Shared::journal_copy`.
     pub(crate) fn journal_copy(&self, alloc: Global) -> Result<List<Line>, NoMemory>
-        requires told { KnowsJournal self.now.view.own }
+        requires told { KnowsJournal self.now }
         ensures legal { IfOk result (λ lines. Legal self.now.view.region self.now.view.goal (past_of lines)) }
-        ensures journal { IfOk result (λ lines. self.now.view.own.journal ≡ Some (past_of lines)) }
+        ensures journal { IfOk result (λ lines. self.now.journal ≡ Some (past_of lines)) }
     {
         let mut lines = Vec::new(alloc);
         lines.extend_from_slice(self.pages.journal())?;

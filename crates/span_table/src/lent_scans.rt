@@ -3,20 +3,20 @@
 ghost use Rattle.std.specs.Prelude.{◌≡◌, ◌≢◌, ℕ, ◌+◌, ◌<◌, ◌≤◌, [], true, false, MatchOption, length, slice_index};
 ghost use Rattle.sweep_laws.specs.Reading.{set_of};
 ghost use Rattle.span_laws.specs.Answers.{AcquiresSpan};
-ghost use Rattle.span_laws.specs.Cycle.{Kept};
 ghost use Rattle.span_laws.specs.Scanned.{AreEmpty, NoneWaits};
 ghost use Rattle.span_laws.specs.Scans.{AcquiresUnmarked, FindsUnswept, nth_unswept};
 ghost use Rattle.sweep_reads.specs.Waiting.{HasNoMark};
 ghost use Rattle.span_laws.specs.declared.answers.Acquired.TheVariants.{Got};
+ghost use Rattle.span_table.specs.Holds.{Lends, at_work};
 
 use crate::homes::take_home;
 use crate::lent::Lent;
 use crate::make::make;
-use crate::seat::{tell_found, tell_looks, tell_of};
+use crate::seat::{Sight, tell_found, tell_looks, tell_of};
 use crate::shared::Shared;
 use atomic_table::Seat;
 use page_alloc::Pages;
-use span_laws::{SaidOf, View};
+use span_laws::SaidOf;
 use span_state::{Body, Marks};
 use sweep_generation::{Core, Move};
 use sweep_reads::first_waiting;
@@ -82,17 +82,17 @@ pub(crate) fn take_waiting(
     pages: &Pages,
     homes: &mut [Option<Body>],
     number: u32,
-    seat: &mut Seat<(), View>,
+    seat: &mut Seat<(), Sight>,
     page: u32,
 ) -> Body
     requires table { seat.old.table_id ≡ shared.now }
-    requires rule { Kept core.old pages.now homes.old number seat.old.me.0 }
+    requires rule { Lends core.old pages.now homes.old number seat.old.me }
     requires page { page < length core.old.words }
     requires waits { slice_index core.old.words page + 2 ≡ core.old.generation }
     ensures table { seat.new.table_id ≡ seat.old.table_id }
     ensures homes { length homes.new ≡ length homes.old }
-    ensures rule { Kept core.new pages.now homes.new number seat.new.me.0 }
-    ensures got { AcquiresSpan page (record { here = true; table = seat.old.table_id; number = number; view = seat.old.me.0 }) (record { here = true; table = seat.new.table_id; number = number; view = seat.new.me.0 }) (Got result) }
+    ensures rule { Lends core.new pages.now homes.new number seat.new.me }
+    ensures got { AcquiresSpan page (at_work seat.old.table_id number seat.old.me.0) (at_work seat.new.table_id number seat.new.me.0) (Got result) }
 {
     let _pages = pages;
     let body = take_home(homes, page);

@@ -5,26 +5,33 @@ ghost use Rattle.span_state.specs.Spans.{allocated, IsSameSpan};
 ghost use Rattle.span_laws.specs.Answers.{AcquiresSpan, UncachesSpan};
 ghost use Rattle.span_laws.specs.BodyAsks.{HasMarks};
 ghost use Rattle.span_laws.specs.Asks.{HasBody, HasSpan, MayPlace};
-ghost use Rattle.span_laws.specs.Views.{acts, span_of};
-ghost use Rattle.span_laws.specs.OwnSteps.{after_of, after_said, told};
+ghost use Rattle.span_laws.specs.Views.{span_of};
+ghost use Rattle.span_laws.specs.OwnSteps.{after_of, after_said};
+ghost use Rattle.span_table.specs.Sights.{says};
 
 use crate::lent::{Lent, apply, apply_of, note};
 use crate::lent_scans::take_waiting;
-use crate::seat::tell;
+use crate::seat::{Sight, tell};
 use crate::shared::Shared;
 use atomic_table::Seat;
 use page_alloc::Pages;
-use span_laws::{Acquired, Said, SaidOf, Uncached, View};
+use span_laws::{Acquired, Said, SaidOf, Uncached};
 use span_state::Body;
 use sweep_generation::Move;
 
 // Adds to a word that counts modulo 2^64, and answers the value before.
-fn count(shared: &Shared, seat: &mut Seat<(), View>, word: u64, value: &mut u64, number: u64) -> u64
+fn count(
+    shared: &Shared,
+    seat: &mut Seat<(), Sight>,
+    word: u64,
+    value: &mut u64,
+    number: u64,
+) -> u64
     requires { seat.old.table_id ≡ shared.now }
     ensures before { result ≡ value.old }
     ensures value { value.new ≡ (value.old + number) % 2 ^ 64 }
     ensures table { seat.new.table_id ≡ seat.old.table_id }
-    ensures view { seat.new.me.0 ≡ acts seat.old.me.0 (told (Said.Adds word result number) seat.old.me.0.own) }
+    ensures view { seat.new.me ≡ (says (Said.Adds word result number) seat.old.me.0, seat.old.me.1) }
 {
     let before = *value;
     tell(shared, seat, &Said::Adds(word, before, number));

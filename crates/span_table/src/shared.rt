@@ -1,5 +1,5 @@
+use crate::seat::Sight;
 use atomic_table::{Table, TableRule};
-use span_laws::View;
 use std::alloc::Global;
 use std::marker::Model;
 
@@ -14,18 +14,19 @@ pub struct Size {
 // A rule that every state meets.
 pub struct Anything;
 
-impl TableRule<(), View, Size> for Anything {
+impl TableRule<(), Sight, Size> for Anything {
+    ghost use Rattle.std.specs.Prelude.{None};
     ghost use Rattle.span_laws.specs.Views.{first_view};
 
     ghost holds = { λ _ _. Unit {0} };
 
-    ghost first = { λ k. first_view k.pages k.goal k.workers };
+    ghost first = { λ k. record { journal = None; view = first_view k.pages k.goal k.workers } };
 }
 
 /// What all workers share: until the state is in the table, a table of one word, by which views change.
 #[derive(Drop)]
 pub struct Shared {
-    pub(crate) table: Table<(), View, Size, Anything, Global>,
+    pub(crate) table: Table<(), Sight, Size, Anything, Global>,
 }
 
 impl Model for Shared {

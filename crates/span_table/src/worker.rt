@@ -1,11 +1,12 @@
-ghost use Rattle.std.specs.Prelude.{◌≡◌, ◌*◌, ◌<◌, ◌≤◌, IfOk, OnErr, None, true, false, length};
+ghost use Rattle.std.specs.Prelude.{◌≡◌, ◌*◌, ◌<◌, ◌≤◌, IfOk, OnErr, None, true, [], ◌∷◌, length};
 ghost use Rattle.sweep_laws.specs.Start.{copies};
-ghost use Rattle.span_laws.specs.Asks.{IsIdle};
-ghost use Rattle.span_laws.specs.Views.{Seen, first_view};
-ghost use Rattle.span_laws.specs.Handed.{as_number};
+ghost use Rattle.span_laws.specs.Asks.{IsAtWork, IsIdle};
+ghost use Rattle.span_laws.specs.Views.{acts, drives, first_view};
+ghost use Rattle.span_laws.specs.Handed.{handed, handed_out, handing, taking_in};
 
 use crate::lent::Lent;
 use crate::shared::{Shared, Size};
+use crate::waiting::Waiting;
 use atomic_table::Table;
 use fallible_list::NoMemory;
 use page_alloc::Pages;
@@ -13,26 +14,35 @@ use size_classes::CHUNK_PAGES;
 use span_state::Body;
 use std::alloc::Global;
 use std::marker::Model;
+use std::mem::replace;
 use sweep_generation::Core;
 
 // The number of workers.
 const WORKERS: u32 = 70;
 
 // The driver's number.
-const DRIVER: u32 = 69;
+pub(crate) const DRIVER: u32 = 69;
 
-/// A worker: the driver, or one that it handed out. One of them has the state.
+/// A worker: the driver, or one that it handed out.
 #[derive(Drop)]
 pub struct Worker {
-    pub(crate) lent: Option<Lent>,
+    pub(crate) hold: Hold,
+}
+
+/// What a worker has: the state, or a seat alone, while one that it handed out has the state.
+#[derive(Drop)]
+pub enum Hold {
+    Here(Lent),
+    Waits(Waiting),
 }
 
 impl Model for Worker {
-    ghost use Rattle.span_laws.specs.Views.{Seen, seen_of};
+    ghost use Rattle.span_laws.specs.Views.{Seen};
+    ghost use Rattle.span_table.specs.Workers.{seen_of};
 
     ghost Value = { Seen };
 
-    ghost view = { λ w. seen_of w.lent };
+    ghost view = { λ w. seen_of w.hold };
 }
 
 // No bodies are at home.
@@ -49,7 +59,7 @@ impl Shared {
     pub fn new(alloc: Global, chunks: u32, goal: u32) -> Result<(Shared, Worker), NoMemory>
         requires some { 1 ≤ chunks }
         requires few { chunks ≤ 128 }
-        ensures { IfOk result (λ made. made.1 ≡ record { here = true; table = made.0; number = 69; view = first_view (512 * chunks) goal 70 }) }
+        ensures { IfOk result (λ made. made.1 ≡ record { table = made.0; number = 69; away = []; journal = None; view = first_view (512 * chunks) goal 70 }) }
     {
         let count = CHUNK_PAGES * chunks;
         let pages = Pages::new(alloc, chunks, goal)?;
@@ -63,39 +73,49 @@ impl Shared {
         };
         let (table, seat) = Table::of_words(alloc, &[0], &size)?;
         let lent = Lent::of(DRIVER, core, pages, homes, seat);
-        Ok((Shared { table }, Worker { lent: Some(lent) }))
+        let driver = Worker {
+            hold: Hold::Here(lent),
+        };
+        Ok((Shared { table }, driver))
     }
 
-    /// Hands out the worker of a number, with the state and the part of that number: no other worker is out.
+    /// Hands out the worker of a number, with the part of that number. So far no other worker is out then.
     pub fn hand_out(&self, driver: &mut Worker, number: u32) -> Result<Worker, NoMemory>
-        requires here { driver.old.here ≡ true }
         requires table { driver.old.table ≡ self.now }
+        requires drives { drives driver.old ≡ true }
+        requires alone { driver.old.away ≡ [] }
         requires number { number < 69 }
         requires part { number < length driver.old.view.parts }
-        ensures away { IfOk result (λ _. driver.new.here ≡ false) }
-        ensures out { IfOk result (λ worker. worker ≡ as_number number driver.old) }
+        ensures driver { IfOk result (λ _. driver.new ≡ handing number driver.old) }
+        ensures worker { IfOk result (λ worker. worker ≡ handed_out number driver.old) }
         ensures err { OnErr result (driver.new ≡ driver.old) }
     {
-        let Some(mut lent) = driver.lent.take() else {
+        let Hold::Here(lent) = &mut driver.hold else {
             unreachable!()
         };
-        lent.become_worker(self, number);
-        Ok(Worker { lent: Some(lent) })
+        let waiting = lent.hand_out(self, number);
+        let hold = replace(&mut driver.hold, Hold::Waits(waiting));
+        Ok(Worker { hold })
     }
 
-    /// Takes a worker in, with the state. It sweeps and holds no span, has claimed nothing and has no popped entry; its
-    /// cached spans stay with its part.
+    /// Takes a worker in, with its part. It sweeps and holds no span, has claimed nothing and has no popped entry; its cached spans
+    /// stay with its part. So far nothing but that part changed in its view since it was handed out.
     pub fn take_in(&self, driver: &mut Worker, worker: Worker)
-        requires away { driver.old.here ≡ false }
-        requires here { worker.here ≡ true }
-        requires table { worker.table ≡ self.now }
+        requires table { driver.old.table ≡ self.now }
+        requires out { driver.old.away ≡ worker.number ∷ [] }
+        requires works { IsAtWork self.now worker }
         requires idle { IsIdle worker.view.own }
         requires part { 69 < length worker.view.parts }
-        ensures { driver.new ≡ as_number 69 worker }
+        requires stays { worker.view ≡ acts (handed 69 worker.number driver.old.view) worker.view.own }
+        ensures { driver.new ≡ taking_in worker driver.old }
     {
-        let Worker { lent } = worker;
-        let Some(mut lent) = lent else { unreachable!() };
-        lent.become_worker(self, DRIVER);
-        driver.lent = Some(lent);
+        let Worker { hold } = worker;
+        let Hold::Waits(waiting) = replace(&mut driver.hold, hold) else {
+            unreachable!()
+        };
+        let Hold::Here(lent) = &mut driver.hold else {
+            unreachable!()
+        };
+        lent.take_in(self, waiting);
     }
 }

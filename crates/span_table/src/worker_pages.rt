@@ -7,7 +7,7 @@ ghost use Rattle.sweep_laws.specs.Lists.{has};
 ghost use Rattle.span_laws.specs.TakeAnswers.{IsToldOf, TakesSpan, TriesSpan};
 ghost use Rattle.span_laws.specs.ScavengeAnswers.{StepsOnce};
 ghost use Rattle.span_laws.specs.BodyAsks.{IsEmptyBody};
-ghost use Rattle.span_laws.specs.Asks.{HasBody, KnowsJournal};
+ghost use Rattle.span_laws.specs.Asks.{HasBody, IsAtWork, KnowsJournal};
 ghost use Rattle.span_laws.specs.MarkEndAsks.{MayMark, MaySettle};
 ghost use Rattle.span_laws.specs.Logs.{EndsSweptEmpty};
 ghost use Rattle.span_laws.specs.Settles.{SettlesCycle};
@@ -16,41 +16,52 @@ ghost use Rattle.span_laws.specs.OwnSteps.{after_said};
 ghost use Rattle.span_laws.specs.MarkEnds.{after_next};
 
 use crate::shared::Shared;
-use crate::worker::Worker;
+use crate::worker::{Hold, Worker};
 use fallible_list::{List, NoMemory};
 use page_alloc::Pages;
 use page_bitmap::Line;
 use span_laws::{Refused, Said, Step};
 use span_state::{Body, Marks};
 use std::alloc::Global;
+use std::sync::Wait;
 
 impl Shared {
     /// Takes a run of n pages at first fit under the heap lock, for a span of this span class: the worker holds it at G (`mheap.go`,
     /// `allocSpan`). n is the pages of the small class, or at least 5 for span class 0 or 1. NoRun where no run of n pages is
     /// free, with the Miss line that says so; nothing else changes then. NoMemory where there was no room for a line or for the
     /// life of a span: nothing changes.
-    pub fn take_span(&self, w: &mut Worker, n: u32, class: u8) -> Result<Body, Refused>
-        requires here { w.old.here ≡ true }
-        requires table { w.old.table ≡ self.now }
+    pub fn take_span<R: Wait>(
+        &self,
+        _rt: &R,
+        w: &mut Worker,
+        n: u32,
+        class: u8,
+    ) -> Result<Body, Refused>
+        requires works { IsAtWork self.now w.old }
         requires size { IsSpanSize class n }
         requires class { class < 136 }
         ensures { TakesSpan n class w.old w.new result }
     {
-        let Some(lent) = &mut w.lent else {
+        let Hold::Here(lent) = &mut w.hold else {
             unreachable!()
         };
         lent.take_span(self, n, class)
     }
 
     /// The same, but None where no run of n pages is free, without a line.
-    pub fn try_span(&self, w: &mut Worker, n: u32, class: u8) -> Result<Option<Body>, NoMemory>
-        requires here { w.old.here ≡ true }
-        requires table { w.old.table ≡ self.now }
+    pub fn try_span<R: Wait>(
+        &self,
+        _rt: &R,
+        w: &mut Worker,
+        n: u32,
+        class: u8,
+    ) -> Result<Option<Body>, NoMemory>
+        requires works { IsAtWork self.now w.old }
         requires size { IsSpanSize class n }
         requires class { class < 136 }
         ensures { TriesSpan n class w.old w.new result }
     {
-        let Some(lent) = &mut w.lent else {
+        let Hold::Here(lent) = &mut w.hold else {
             unreachable!()
         };
         lent.try_span(self, n, class)
@@ -59,9 +70,8 @@ impl Shared {
     /// Gives a span back to the heap (`mheap.go`, `freeSpan`): the worker holds it at G, has claimed nothing, and nothing is
     /// allocated in it; the last sweep of its log is of this span with nothing kept, it took no run behind that, and it has not given
     /// back the span since. Takes no memory.
-    pub fn give_span(&self, w: &mut Worker, body: Body)
-        requires here { w.old.here ≡ true }
-        requires table { w.old.table ≡ self.now }
+    pub fn give_span<R: Wait>(&self, _rt: &R, w: &mut Worker, body: Body)
+        requires works { IsAtWork self.now w.old }
         requires held { has body.page w.old.view.own.held ≡ true }
         requires unclaimed { w.old.view.own.claimed ≡ None }
         requires lent { HasBody w.old.view.own body }
@@ -70,33 +80,31 @@ impl Shared {
         requires last { is_swept_last body.page w.old.view.own.log ≡ true }
         ensures { w.new ≡ after_said (Said.Gives body.page body.pages) w.old }
     {
-        let Some(lent) = &mut w.lent else {
+        let Hold::Here(lent) = &mut w.hold else {
             unreachable!()
         };
         lent.give_span(self, body);
     }
 
     /// One scavenging step under the heap lock. Its run is None where backed pages were at most the goal, or no free page was
-    /// backed; `backed` is the number of backed pages after the step. The worker knows the whole journal then.
-    pub fn scavenge_step(&self, w: &mut Worker) -> Result<Step, NoMemory>
-        requires here { w.old.here ≡ true }
-        requires table { w.old.table ≡ self.now }
+    /// backed; `backed` is the number of backed pages after the step. The driver knows the whole journal then.
+    pub fn scavenge_step<R: Wait>(&self, _rt: &R, w: &mut Worker) -> Result<Step, NoMemory>
+        requires works { IsAtWork self.now w.old }
         ensures { StepsOnce w.old w.new result }
     {
-        let Some(lent) = &mut w.lent else {
+        let Hold::Here(lent) = &mut w.hold else {
             unreachable!()
         };
         lent.scavenge_step(self)
     }
 
     /// The number of pages that spans have. Takes no memory.
-    pub fn pages_taken(&self, w: &mut Worker) -> u32
-        requires here { w.old.here ≡ true }
-        requires table { w.old.table ≡ self.now }
+    pub fn pages_taken<R: Wait>(&self, _rt: &R, w: &mut Worker) -> u32
+        requires works { IsAtWork self.now w.old }
         ensures same { w.new ≡ w.old }
-        ensures taken { (past : List Line) × Legal w.old.view.region w.old.view.goal past × IsToldOf w.old.view.own past × (result ≡ taken w.old.view.region past) }
+        ensures taken { (past : List Line) × Legal w.old.view.region w.old.view.goal past × IsToldOf w.old past × (result ≡ taken w.old.view.region past) }
     {
-        let Some(lent) = &mut w.lent else {
+        let Hold::Here(lent) = &mut w.hold else {
             unreachable!()
         };
         lent.pages_taken()
@@ -106,12 +114,11 @@ impl Shared {
     /// in this cycle and has an object of it, and the driver saw each unswept set empty. The driver is told the whole journal, and
     /// what is so of the cycle. Takes no memory.
     pub fn settle(&self, driver: &mut Worker)
-        requires here { driver.old.here ≡ true }
-        requires table { driver.old.table ≡ self.now }
-        requires may { MaySettle driver.old.number driver.old.view }
+        requires works { IsAtWork self.now driver.old }
+        requires may { MaySettle driver.old }
         ensures { SettlesCycle driver.old driver.new }
     {
-        let Some(lent) = &mut driver.lent else {
+        let Hold::Here(lent) = &mut driver.hold else {
             unreachable!()
         };
         lent.settle(self);
@@ -122,13 +129,12 @@ impl Shared {
     /// first page of its span and its index. No worker is out, and nothing was written since the driver was told of the journal.
     /// Takes no memory.
     pub fn next_generation(&mut self, driver: &mut Worker, marks: &Marks)
-        requires here { driver.old.here ≡ true }
-        requires table { driver.old.table ≡ self.old }
-        requires may { MayMark driver.old.number driver.old.view marks.now.pairs }
+        requires works { IsAtWork self.old driver.old }
+        requires may { MayMark driver.old marks.now.pairs }
         ensures table { self.new ≡ self.old }
         ensures view { driver.new ≡ after_next marks.now.pairs driver.old }
     {
-        let Some(lent) = &mut driver.lent else {
+        let Hold::Here(lent) = &mut driver.hold else {
             unreachable!()
         };
         lent.next_generation(self, marks);
@@ -136,14 +142,13 @@ impl Shared {
 
     /// A copy of the whole journal, which is legal. No worker is out, and nothing was written since the driver was told of it.
     pub fn journal_copy(&self, alloc: Global, driver: &mut Worker) -> Result<List<Line>, NoMemory>
-        requires here { driver.old.here ≡ true }
-        requires table { driver.old.table ≡ self.now }
-        requires told { KnowsJournal driver.old.view.own }
+        requires works { IsAtWork self.now driver.old }
+        requires told { KnowsJournal driver.old }
         ensures same { driver.new ≡ driver.old }
         ensures legal { IfOk result (λ lines. Legal driver.old.view.region driver.old.view.goal (past_of lines)) }
-        ensures journal { IfOk result (λ lines. driver.old.view.own.journal ≡ Some (past_of lines)) }
+        ensures journal { IfOk result (λ lines. driver.old.journal ≡ Some (past_of lines)) }
     {
-        let Some(lent) = &mut driver.lent else {
+        let Hold::Here(lent) = &mut driver.hold else {
             unreachable!()
         };
         lent.journal_copy(alloc)
@@ -152,15 +157,16 @@ impl Shared {
     /// The pages with their journal, as all workers left them. No worker is out, and nothing was written since the driver was
     /// told of the journal.
     pub fn close(self, driver: Worker) -> Pages
-        requires here { driver.here ≡ true }
-        requires table { driver.table ≡ self }
-        requires told { KnowsJournal driver.view.own }
+        requires works { IsAtWork self driver }
+        requires told { KnowsJournal driver }
         ensures region { result.region ≡ driver.view.region }
         ensures goal { result.goal ≡ driver.view.goal }
-        ensures journal { driver.view.own.journal ≡ Some result.past }
+        ensures journal { driver.journal ≡ Some result.past }
     {
-        let Worker { lent } = driver;
-        let Some(lent) = lent else { unreachable!() };
+        let Worker { hold } = driver;
+        let Hold::Here(lent) = hold else {
+            unreachable!()
+        };
         lent.into_pages()
     }
 }

@@ -1,8 +1,9 @@
-ghost use Rattle.std.specs.Prelude.{◌≡◌, ◌≤◌, [], true};
+ghost use Rattle.std.specs.Prelude.{◌≡◌, ◌≤◌, []};
+ghost use Rattle.span_laws.specs.Asks.{IsAtWork};
 ghost use Rattle.span_laws.specs.Scans.{AcquiresUnmarked, FindsUnswept};
 
 use crate::shared::Shared;
-use crate::worker::Worker;
+use crate::worker::{Hold, Worker};
 use span_state::{Body, Marks};
 
 impl Shared {
@@ -17,15 +18,14 @@ impl Shared {
         from: u32,
         to: u32,
     ) -> Option<Body>
-        requires here { w.old.here ≡ true }
-        requires table { w.old.table ≡ self.now }
+        requires works { IsAtWork self.now w.old }
         requires order { from ≤ to }
         requires pages { to ≤ w.old.view.region }
         requires marks { marks.now.pairs ≡ w.old.view.marks }
         requires unpopped { w.old.view.own.popped ≡ [] }
         ensures { AcquiresUnmarked from to w.old w.new result }
     {
-        let Some(lent) = &mut w.lent else {
+        let Hold::Here(lent) = &mut w.hold else {
             unreachable!()
         };
         lent.acquire_unmarked(self, marks, from, to)
@@ -35,12 +35,11 @@ impl Shared {
     /// one, from a place on, up to the first that is not empty (`mgcsweep.go`, `nextSpanForSweep`). Answers its place; none where all to
     /// the last are empty. The log tells each look, as `look` does. Takes no memory.
     pub fn next_unswept(&self, w: &mut Worker, from: u32) -> Option<u32>
-        requires here { w.old.here ≡ true }
-        requires table { w.old.table ≡ self.now }
+        requires works { IsAtWork self.now w.old }
         requires from { from ≤ 272 }
         ensures { FindsUnswept from w.old w.new result }
     {
-        let Some(lent) = &mut w.lent else {
+        let Hold::Here(lent) = &mut w.hold else {
             unreachable!()
         };
         lent.next_unswept(self, from)

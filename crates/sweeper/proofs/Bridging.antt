@@ -14,7 +14,7 @@ use Rattle.sweeper.specs.Work.{Stays, note_by, notes_of}
 -- what the worker has is kept
 pub keeps_of : (old new : Seen) → Stays old new → new.view.own.popped ≡ old.view.own.popped → Keeps old new
 keeps_of old new s popped = record {
-  here = s.here;
+  away = s.away;
   table = s.table;
   number = s.number;
   view = λ i. record { region = s.region i; goal = s.goal i; generation = s.generation i; marks = s.marks i; before = s.before i; carried = s.carried i; own = new.view.own; parts = s.parts i };

@@ -187,7 +187,7 @@ module _ (old : Hand) (region asked : ℕ) (size : region ≡ old.worker.view.re
             log = ap (λ (x : Seen). x.view.own.log) e;
             sweeps = record { unplaced = refl; unspent = refl; swept_pages = refl; given = λ p. refl; pushed = λ p. refl; unpopped = λ j p s. refl; unlooked = λ j s. refl; untouched = λ p. refl };
             held = ap (λ (x : Seen). x.view.own.held) e ∙ sym (append-nil now.worker.view.own.held);
-            stays = subst (Stays now.worker) (sym e) (record { here = refl; table = refl; number = refl; region = refl; goal = refl; generation = refl; marks = refl; before = refl; carried = refl; parts = refl; sweeping = refl; cached = refl; claimed = refl; fresh = refl; reset = refl; bodies = λ q h. refl });
+            stays = subst (Stays now.worker) (sym e) (record { away = refl; table = refl; number = refl; region = refl; goal = refl; generation = refl; marks = refl; before = refl; carried = refl; parts = refl; sweeping = refl; cached = refl; claimed = refl; fresh = refl; reset = refl; bodies = λ q h. refl });
           })
           refl refl (ap (λ (x : Seen). x.view.own.popped) e ∙ w.popped) refl
 

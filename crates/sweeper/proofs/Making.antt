@@ -46,7 +46,7 @@ module _ (n class : ℕ) (mid : Hand) (new : Seen) (b : Body) (t : TakesNew n cl
         sweeps = record { unplaced = refl; unspent = refl; swept_pages = refl; given = λ p. refl; pushed = λ p. refl; unpopped = λ j p s. refl; unlooked = λ j s. refl; untouched = λ p. refl };
         held = ap (λ (x : Seen). x.view.own.held) t.view;
         stays = subst (Stays mid.worker) (sym t.view) (record {
-          here = refl;
+          away = refl;
           table = refl;
           number = refl;
           region = refl;
@@ -85,7 +85,7 @@ module _ (n class line : ℕ) (mid : Hand) (new : Seen) (m : TakesSpan n class m
         log = ap (λ (x : Seen). x.view.own.log) m.0;
         sweeps = record { unplaced = refl; unspent = refl; swept_pages = refl; given = λ p. refl; pushed = λ p. refl; unpopped = λ j p s. refl; unlooked = λ j s. refl; untouched = λ p. refl };
         held = ap (λ (x : Seen). x.view.own.held) m.0 ∙ sym (append-nil mid.worker.view.own.held);
-        stays = subst (Stays mid.worker) (sym m.0) (record { here = refl; table = refl; number = refl; region = refl; goal = refl; generation = refl; marks = refl; before = refl; carried = refl; parts = refl; sweeping = refl; cached = refl; claimed = refl; fresh = refl; reset = refl; bodies = λ q h. refl });
+        stays = subst (Stays mid.worker) (sym m.0) (record { away = refl; table = refl; number = refl; region = refl; goal = refl; generation = refl; marks = refl; before = refl; carried = refl; parts = refl; sweeping = refl; cached = refl; claimed = refl; fresh = refl; reset = refl; bodies = λ q h. refl });
       })
       refl refl (ap (λ (x : Seen). x.view.own.popped) m.0 ∙ none) refl
 

@@ -98,6 +98,6 @@ logs_works old said new e sweeps none popped = works-step (λ s. s ≡ said) [] 
       log = ap (λ (x : Seen). x.view.own.log) e;
       sweeps = sweeps;
       held = ap (λ (x : Seen). x.view.own.held) e ∙ sym (append-nil old.worker.view.own.held);
-      stays = subst (Stays old.worker) (sym e) (record { here = refl; table = refl; number = refl; region = refl; goal = refl; generation = refl; marks = refl; before = refl; carried = refl; parts = refl; sweeping = refl; cached = refl; claimed = refl; fresh = refl; reset = refl; bodies = λ q h. refl });
+      stays = subst (Stays old.worker) (sym e) (record { away = refl; table = refl; number = refl; region = refl; goal = refl; generation = refl; marks = refl; before = refl; carried = refl; parts = refl; sweeping = refl; cached = refl; claimed = refl; fresh = refl; reset = refl; bodies = λ q h. refl });
     })
     (notes-none (cycle_at old.worker.view.generation) said none) refl (ap (λ (x : Seen). x.view.own.popped) e ∙ popped) refl

@@ -37,7 +37,7 @@ read_works word value a new other e none = works-step (λ said. IsPlain said × 
       log = ap (λ (x : Seen). x.view.own.log) e;
       sweeps = record { unplaced = refl; unspent = refl; swept_pages = refl; given = λ p. refl; pushed = λ p. refl; unpopped = λ j p s. refl; unlooked = λ j s. refl; untouched = λ p. refl };
       held = ap (λ (x : Seen). x.view.own.held) e ∙ sym (append-nil a.worker.view.own.held);
-      stays = subst (Stays a.worker) (sym e) (record { here = refl; table = refl; number = refl; region = refl; goal = refl; generation = refl; marks = refl; before = refl; carried = refl; parts = refl; sweeping = refl; cached = refl; claimed = refl; fresh = refl; reset = refl; bodies = λ q h. refl });
+      stays = subst (Stays a.worker) (sym e) (record { away = refl; table = refl; number = refl; region = refl; goal = refl; generation = refl; marks = refl; before = refl; carried = refl; parts = refl; sweeping = refl; cached = refl; claimed = refl; fresh = refl; reset = refl; bodies = λ q h. refl });
     })
     refl refl (ap (λ (x : Seen). x.view.own.popped) e ∙ none)
     (record { takes_none = record { untaken = refl; unmissed = refl }; unclaimed = refl; unread = λ i. rw other refl }, rw (eq-eqb word word refl, eq-eqb value value refl) (omega arith))

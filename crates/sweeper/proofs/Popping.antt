@@ -96,7 +96,7 @@ module _ (set : ℕ) where
       log = looks_log;
       sweeps = sweeps-append w.view.generation (Looked set head tail ∷ []) (l.said ++ Read 1 w.view.generation ∷ []) (one_quiet head tail w.view.generation off) (looks_sweeps w.view.generation w.view.generation off l.said l.looks);
       held = ap (λ (x : Seen). x.view.own.held) l.view ∙ sym (append-nil w.view.own.held);
-      stays = subst (Stays w) (sym l.view) (record { here = refl; table = refl; number = refl; region = refl; goal = refl; generation = refl; marks = refl; before = refl; carried = refl; parts = refl; sweeping = refl; cached = refl; claimed = refl; fresh = refl; reset = refl; bodies = λ q h. refl });
+      stays = subst (Stays w) (sym l.view) (record { away = refl; table = refl; number = refl; region = refl; goal = refl; generation = refl; marks = refl; before = refl; carried = refl; parts = refl; sweeping = refl; cached = refl; claimed = refl; fresh = refl; reset = refl; bodies = λ q h. refl });
     }
 
     pub looks_are : SweepsNone looks_said
@@ -124,7 +124,7 @@ module _ (set : ℕ) where
           untouched = λ p. refl;
         };
         held = ap (λ (x : Seen). x.view.own.held) e ∙ sym (append-nil now.view.own.held);
-        stays = subst (Stays now) (sym e) (record { here = refl; table = refl; number = refl; region = refl; goal = refl; generation = refl; marks = refl; before = refl; carried = refl; parts = refl; sweeping = refl; cached = refl; claimed = refl; fresh = refl; reset = refl; bodies = λ q h. refl });
+        stays = subst (Stays now) (sym e) (record { away = refl; table = refl; number = refl; region = refl; goal = refl; generation = refl; marks = refl; before = refl; carried = refl; parts = refl; sweeping = refl; cached = refl; claimed = refl; fresh = refl; reset = refl; bodies = λ q h. refl });
       }
 
       pub pop_does : Does [] pop_said w new
@@ -192,7 +192,7 @@ module _ (set : ℕ) (h : Hand) (unswept : is_swept_set h.worker.view.generation
           log = ap (λ (x : Seen). x.view.own.log) a.1;
           sweeps = record { unplaced = refl; unspent = refl; swept_pages = refl; given = λ p. refl; pushed = λ p. refl; unpopped = λ j p s. refl; unlooked = λ j s. refl; untouched = λ p. refl };
           held = ap (λ (x : Seen). x.view.own.held) a.1 ∙ sym (append-nil mid.view.own.held);
-          stays = subst (Stays mid) (sym a.1) (record { here = refl; table = refl; number = refl; region = refl; goal = refl; generation = refl; marks = refl; before = refl; carried = refl; parts = refl; sweeping = refl; cached = refl; claimed = refl; fresh = refl; reset = refl; bodies = λ q h. refl });
+          stays = subst (Stays mid) (sym a.1) (record { away = refl; table = refl; number = refl; region = refl; goal = refl; generation = refl; marks = refl; before = refl; carried = refl; parts = refl; sweeping = refl; cached = refl; claimed = refl; fresh = refl; reset = refl; bodies = λ q h. refl });
         } in
         let d = does-both h.worker mid new [] [] said₀ (Found page word ∷ []) does₀ step in
         let n : SweepsNone (Found page word ∷ said₀) = none-append (Found page word ∷ []) said₀ (record { none = refl; plain = record { takes_none = record { untaken = refl; unmissed = refl }; unclaimed = refl; unread = λ i. refl } }) none₀ in

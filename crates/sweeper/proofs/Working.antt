@@ -11,7 +11,7 @@ use Rattle.sweeper.specs.Work.{Does, OnlySweeps, Stays, Works, notes_of}
 use Rattle.sweeper.proofs.Counting.{notes-append, nothing-sweeps, sweeps-append}
 
 pub stays-same : (a : Seen) → Stays a a
-stays-same a = record { here = refl; table = refl; number = refl; region = refl; goal = refl; generation = refl; marks = refl; before = refl; carried = refl; parts = refl; sweeping = refl; cached = refl; claimed = refl; fresh = refl; reset = refl; bodies = λ q h. refl }
+stays-same a = record { away = refl; table = refl; number = refl; region = refl; goal = refl; generation = refl; marks = refl; before = refl; carried = refl; parts = refl; sweeping = refl; cached = refl; claimed = refl; fresh = refl; reset = refl; bodies = λ q h. refl }
 
 times_front : (q : ℕ) (xs ys : List ℕ) → times q (xs ++ ys) ≡ times q xs + times q ys
 times_front q [] ys = omega arith
@@ -20,7 +20,7 @@ times_front q (x ∷ xs) ys = let r = times_front q xs ys in omega arith
 module _ (a b d : Seen) (more also : List ℕ) (said then : List Entry) (x : Does more said a b) (y : Does also then b d) where
   stays-both : Stays a d
   stays-both = let s = x.stays in let t = y.stays in record {
-    here = t.here ∙ s.here;
+    away = t.away ∙ s.away;
     table = t.table ∙ s.table;
     number = t.number ∙ s.number;
     region = t.region ∙ s.region;

@@ -41,7 +41,7 @@ pub record OnlySweeps (g : ℕ) (said : List Entry) : Type 0 where
 
 -- What a worker has stays: all that others agree on, what it has cached, sweeps and claims, and the bodies of the spans that it had.
 pub record Stays (old new : Seen) : Type 0 where
-  pub here : new.here ≡ old.here
+  pub away : new.away ≡ old.away
   pub table : new.table ≡ old.table
   pub number : new.number ≡ old.number
   pub region : new.view.region ≡ old.view.region

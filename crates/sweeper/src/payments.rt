@@ -1,4 +1,5 @@
 ghost use Rattle.std.specs.Prelude.{◌≡◌, ◌<◌, ◌≤◌, [], true, None};
+ghost use Rattle.span_laws.specs.Asks.{IsAtWork};
 ghost use Rattle.span_set.specs.Sets.{unswept_of};
 ghost use Rattle.span_set.specs.Tallies.{Frees, MayCount};
 ghost use Rattle.sweeper.specs.Pays.{Pays, target_of};
@@ -9,6 +10,7 @@ use crate::answers::Paid;
 use crate::sweep::{set_at, sweep_next};
 use fallible_list::NoMemory;
 use span_set::{Hand, SetId, Shop};
+use std::sync::Wait;
 
 // No number of swept pages reaches it.
 const ALL: u128 = u128::MAX;
@@ -30,8 +32,7 @@ fn target(generation: u64, pages: u32, distance: u64, spent: u64, bytes: u64, cr
 
 // The swept pages, where they reach the target.
 fn reached(shop: &Shop, hand: &mut Hand, target: u128) -> Option<u64>
-    requires here { hand.old.worker.here ≡ true }
-    requires table { hand.old.worker.table ≡ shop.now.shared.now }
+    requires works { IsAtWork shop.now.shared.now hand.old.worker }
     ensures did { ReadsSwept target hand.old hand.new result }
 {
     let seen = shop.shared.swept(&mut hand.worker);
@@ -43,14 +44,14 @@ fn reached(shop: &Shop, hand: &mut Hand, target: u128) -> Option<u64>
 
 // Sweeps the spans of an unswept set that has an entry, until the swept pages, which it answers, reach the target; none where the
 // set was seen empty.
-fn sweep_entries(
+fn sweep_entries<R: Wait>(
+    rt: &R,
     shop: &Shop,
     hand: &mut Hand,
     set: SetId,
     target: u128,
 ) -> Result<Option<u64>, NoMemory>
-    requires here { hand.old.worker.here ≡ true }
-    requires table { hand.old.worker.table ≡ shop.now.shared.now }
+    requires works { IsAtWork shop.now.shared.now hand.old.worker }
     requires distance { 8192 ≤ shop.now.distance }
     requires marks { shop.now.marks.now.pairs ≡ hand.old.worker.view.marks }
     requires unclaimed { hand.old.worker.view.own.claimed ≡ None }
@@ -62,7 +63,7 @@ fn sweep_entries(
 {
     for _ in 0..u64::MAX {
         hand.reserve_note()?;
-        let Some(_) = sweep_next(shop, hand, set) else {
+        let Some(_) = sweep_next(rt, shop, hand, set) else {
             return Ok(None);
         };
         if let Some(seen) = reached(shop, hand, target) {
@@ -73,9 +74,13 @@ fn sweep_entries(
 }
 
 // The same through all unswept sets, where the swept pages don't reach the target before.
-fn sweep_until(shop: &Shop, hand: &mut Hand, target: u128) -> Result<Option<u64>, NoMemory>
-    requires here { hand.old.worker.here ≡ true }
-    requires table { hand.old.worker.table ≡ shop.now.shared.now }
+fn sweep_until<R: Wait>(
+    rt: &R,
+    shop: &Shop,
+    hand: &mut Hand,
+    target: u128,
+) -> Result<Option<u64>, NoMemory>
+    requires works { IsAtWork shop.now.shared.now hand.old.worker }
     requires distance { 8192 ≤ shop.now.distance }
     requires marks { shop.now.marks.now.pairs ≡ hand.old.worker.view.marks }
     requires unclaimed { hand.old.worker.view.own.claimed ≡ None }
@@ -89,7 +94,7 @@ fn sweep_until(shop: &Shop, hand: &mut Hand, target: u128) -> Result<Option<u64>
     }
     let mut next: u32 = 0;
     while let Some(index) = shop.shared.next_unswept(&mut hand.worker, next) {
-        if let Some(seen) = sweep_entries(shop, hand, set_at(index), target)? {
+        if let Some(seen) = sweep_entries(rt, shop, hand, set_at(index), target)? {
             return Ok(Some(seen));
         }
         next = index + 1;
@@ -103,9 +108,14 @@ fn sweep_until(shop: &Shop, hand: &mut Hand, target: u128) -> Result<Option<u64>
 ///
 /// `Reached` only where the swept pages, read in this call, were at least the target, and `NothingLeft` only where each unswept
 /// set was seen empty in this call. After NoMemory the sweeps before stand.
-pub fn pay(shop: &Shop, hand: &mut Hand, bytes: u64, credit: u32) -> Result<Paid, NoMemory>
-    requires here { hand.old.worker.here ≡ true }
-    requires table { hand.old.worker.table ≡ shop.now.shared.now }
+pub fn pay<R: Wait>(
+    rt: &R,
+    shop: &Shop,
+    hand: &mut Hand,
+    bytes: u64,
+    credit: u32,
+) -> Result<Paid, NoMemory>
+    requires works { IsAtWork shop.now.shared.now hand.old.worker }
     requires distance { 8192 ≤ shop.now.distance }
     requires marks { shop.now.marks.now.pairs ≡ hand.old.worker.view.marks }
     requires unclaimed { hand.old.worker.view.own.claimed ≡ None }
@@ -117,7 +127,7 @@ pub fn pay(shop: &Shop, hand: &mut Hand, bytes: u64, credit: u32) -> Result<Paid
     let generation = shop.shared.generation(&mut hand.worker);
     let spent = shop.shared.spent(&mut hand.worker);
     let target = target(generation, shop.pages, shop.distance, spent, bytes, credit);
-    match sweep_until(shop, hand, target)? {
+    match sweep_until(rt, shop, hand, target)? {
         Some(seen) => Ok(Paid::Reached {
             seen,
             target: target as u64,
@@ -127,9 +137,8 @@ pub fn pay(shop: &Shop, hand: &mut Hand, bytes: u64, credit: u32) -> Result<Paid
 }
 
 /// Sweeps until each unswept set was seen empty in this call. After NoMemory the sweeps before stand.
-pub fn finish(shop: &Shop, driver: &mut Hand) -> Result<(), NoMemory>
-    requires here { driver.old.worker.here ≡ true }
-    requires table { driver.old.worker.table ≡ shop.now.shared.now }
+pub fn finish<R: Wait>(rt: &R, shop: &Shop, driver: &mut Hand) -> Result<(), NoMemory>
+    requires works { IsAtWork shop.now.shared.now driver.old.worker }
     requires distance { 8192 ≤ shop.now.distance }
     requires marks { shop.now.marks.now.pairs ≡ driver.old.worker.view.marks }
     requires unclaimed { driver.old.worker.view.own.claimed ≡ None }
@@ -138,6 +147,6 @@ pub fn finish(shop: &Shop, driver: &mut Hand) -> Result<(), NoMemory>
     ensures did { Finishes driver.old driver.new result }
     ensures tally { Frees shop.now.marks.now driver.old driver.new }
 {
-    sweep_until(shop, driver, ALL)?;
+    sweep_until(rt, shop, driver, ALL)?;
     Ok(())
 }

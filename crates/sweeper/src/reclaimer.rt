@@ -1,4 +1,5 @@
 ghost use Rattle.std.specs.Prelude.{◌≡◌, ◌*◌, ◌<◌, ◌≤◌, [], true, None, OnOk, length};
+ghost use Rattle.span_laws.specs.Asks.{IsAtWork};
 ghost use Rattle.span_set.specs.Tallies.{Frees, MayCount};
 ghost use Rattle.sweeper.specs.Reclaims.{Reclaims};
 ghost use Rattle.sweeper.specs.ReclaimSteps.{ReclaimsChunk, ReclaimsNext};
@@ -8,6 +9,7 @@ use fallible_list::NoMemory;
 use size_classes::CHUNK_PAGES;
 use span_set::{Hand, Shop};
 use span_state::Body;
+use std::sync::Wait;
 
 // How many pages the span of a body has.
 fn pages_of(body: &Body) -> u32
@@ -18,14 +20,14 @@ fn pages_of(body: &Body) -> u32
 
 // Sweeps the first span that waits and has no marked object, of those at the pages from one to another, without popping it. Answers the
 // page behind its first page and the pages given back; none where there is no such span. There is room for a note, before and after.
-fn reclaim_next(
+fn reclaim_next<R: Wait>(
+    rt: &R,
     shop: &Shop,
     hand: &mut Hand,
     from: u32,
     to: u32,
 ) -> Result<Option<(u32, u32)>, NoMemory>
-    requires here { hand.old.worker.here ≡ true }
-    requires table { hand.old.worker.table ≡ shop.now.shared.now }
+    requires works { IsAtWork shop.now.shared.now hand.old.worker }
     requires distance { 8192 ≤ shop.now.distance }
     requires marks { shop.now.marks.now.pairs ≡ hand.old.worker.view.marks }
     requires room { length hand.old.notes.items < hand.old.notes.space }
@@ -46,15 +48,20 @@ fn reclaim_next(
     };
     let behind = body.page + 1;
     let pages = pages_of(&body);
-    settle(shop, hand, body);
+    settle(rt, shop, hand, body);
     hand.reserve_note()?;
     Ok(Some((behind, pages)))
 }
 
 // The same of all pages of a chunk, in rising order. Room for a note is made before the first page and behind each sweep.
-fn reclaim_chunk(shop: &Shop, hand: &mut Hand, chunk: u32, region: u32) -> Result<u32, NoMemory>
-    requires here { hand.old.worker.here ≡ true }
-    requires table { hand.old.worker.table ≡ shop.now.shared.now }
+fn reclaim_chunk<R: Wait>(
+    rt: &R,
+    shop: &Shop,
+    hand: &mut Hand,
+    chunk: u32,
+    region: u32,
+) -> Result<u32, NoMemory>
+    requires works { IsAtWork shop.now.shared.now hand.old.worker }
     requires distance { 8192 ≤ shop.now.distance }
     requires marks { shop.now.marks.now.pairs ≡ hand.old.worker.view.marks }
     requires unclaimed { hand.old.worker.view.own.claimed ≡ None }
@@ -70,7 +77,7 @@ fn reclaim_chunk(shop: &Shop, hand: &mut Hand, chunk: u32, region: u32) -> Resul
     let end = region.min(next + CHUNK_PAGES);
     let mut given: u32 = 0;
     hand.reserve_note()?;
-    while let Some((behind, pages)) = reclaim_next(shop, hand, next, end)? {
+    while let Some((behind, pages)) = reclaim_next(rt, shop, hand, next, end)? {
         given = given.saturating_add(pages);
         next = behind;
     }
@@ -83,9 +90,8 @@ fn reclaim_chunk(shop: &Shop, hand: &mut Hand, chunk: u32, region: u32) -> Resul
 /// chunks as the region has.
 ///
 /// Answers the pages given back, or 2^32 - 1 where there are more. After NoMemory the sweeps and the claims of chunks before stand.
-pub fn reclaim(shop: &Shop, hand: &mut Hand, pages: u32) -> Result<u32, NoMemory>
-    requires here { hand.old.worker.here ≡ true }
-    requires table { hand.old.worker.table ≡ shop.now.shared.now }
+pub fn reclaim<R: Wait>(rt: &R, shop: &Shop, hand: &mut Hand, pages: u32) -> Result<u32, NoMemory>
+    requires works { IsAtWork shop.now.shared.now hand.old.worker }
     requires distance { 8192 ≤ shop.now.distance }
     requires marks { shop.now.marks.now.pairs ≡ hand.old.worker.view.marks }
     requires unclaimed { hand.old.worker.view.own.claimed ≡ None }
@@ -105,7 +111,7 @@ pub fn reclaim(shop: &Shop, hand: &mut Hand, pages: u32) -> Result<u32, NoMemory
         if chunk >= u64::from(chunks) {
             return Ok(given);
         }
-        given = given.saturating_add(reclaim_chunk(shop, hand, chunk as u32, region)?);
+        given = given.saturating_add(reclaim_chunk(rt, shop, hand, chunk as u32, region)?);
     }
     Ok(given)
 }

@@ -1,17 +1,17 @@
 ghost use Rattle.std.specs.Prelude.{◌≡◌, ◌<◌, ◌≤◌, true, None, length};
-ghost use Rattle.span_laws.specs.Asks.{IsUntouched};
+ghost use Rattle.span_laws.specs.Asks.{IsAtWork, IsUntouched};
 ghost use Rattle.span_set.specs.Sweeps.{MaySweep};
 ghost use Rattle.span_set.specs.Tallies.{Frees, MayCount};
 ghost use Rattle.sweeper.specs.Settles.{Settles};
 
 use span_set::{Hand, SetId, Shop, push, sweep_in_hand};
 use span_state::{Body, SweepNote};
+use std::sync::Wait;
 
 /// Sweeps a span in hand, and puts it where it belongs: an emptied one goes back to the heap, a full one to the swept full set of
 /// its class, and any other to the swept partial set (`mgcsweep.go`, `sweep`). Answers the note of the sweep.
-pub fn settle(shop: &Shop, hand: &mut Hand, body: Body) -> SweepNote
-    requires here { hand.old.worker.here ≡ true }
-    requires table { hand.old.worker.table ≡ shop.now.shared.now }
+pub fn settle<R: Wait>(rt: &R, shop: &Shop, hand: &mut Hand, body: Body) -> SweepNote
+    requires works { IsAtWork shop.now.shared.now hand.old.worker }
     requires distance { 8192 ≤ shop.now.distance }
     requires room { length hand.old.notes.items < hand.old.notes.space }
     requires unclaimed { hand.old.worker.view.own.claimed ≡ None }
@@ -32,7 +32,7 @@ pub fn settle(shop: &Shop, hand: &mut Hand, body: Body) -> SweepNote
         freed: swept.freed,
     };
     if swept.kept == 0 {
-        shop.shared.give_span(&mut hand.worker, body);
+        shop.shared.give_span(rt, &mut hand.worker, body);
         return note;
     }
     let set = SetId {

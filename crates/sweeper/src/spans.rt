@@ -1,4 +1,5 @@
 ghost use Rattle.std.specs.Prelude.{◌≡◌, ◌<◌, ◌≤◌, [], true, None};
+ghost use Rattle.span_laws.specs.Asks.{IsAtWork};
 ghost use Rattle.page_alloc.specs.FreeRuns.{IsSpanSize};
 ghost use Rattle.span_set.specs.Tallies.{Frees, MayCount};
 ghost use Rattle.sweeper.specs.NewSpans.{MakesSpan, SweepsAndTakes};
@@ -9,6 +10,7 @@ use fallible_list::NoMemory;
 use span_set::{Hand, Shop};
 use span_state::Body;
 use span_table::Refused;
+use std::sync::Wait;
 
 /// Makes a span of n pages and this span class, which the worker then holds (`mheap.go`, `alloc` and `allocSpan`): it reclaims n
 /// pages and takes a run at first fit. Where no run fits, it sweeps all that is left in the unswept sets and takes again. n is the
@@ -16,9 +18,14 @@ use span_table::Refused;
 ///
 /// NoRun where no run of n pages is free then, with the Miss line that says so. After NoMemory the sweeps and the claims of chunks
 /// before stand, and the worker holds no further span.
-pub fn new_span(shop: &Shop, hand: &mut Hand, n: u32, class: u8) -> Result<Body, Refused>
-    requires here { hand.old.worker.here ≡ true }
-    requires table { hand.old.worker.table ≡ shop.now.shared.now }
+pub fn new_span<R: Wait>(
+    rt: &R,
+    shop: &Shop,
+    hand: &mut Hand,
+    n: u32,
+    class: u8,
+) -> Result<Body, Refused>
+    requires works { IsAtWork shop.now.shared.now hand.old.worker }
     requires distance { 8192 ≤ shop.now.distance }
     requires marks { shop.now.marks.now.pairs ≡ hand.old.worker.view.marks }
     requires unclaimed { hand.old.worker.view.own.claimed ≡ None }
@@ -29,20 +36,25 @@ pub fn new_span(shop: &Shop, hand: &mut Hand, n: u32, class: u8) -> Result<Body,
     ensures did { MakesSpan n class hand.old hand.new result }
     ensures tally { Frees shop.now.marks.now hand.old hand.new }
 {
-    let Ok(_) = reclaim(shop, hand, n) else {
+    let Ok(_) = reclaim(rt, shop, hand, n) else {
         return Err(Refused::NoMemory);
     };
-    match shop.shared.try_span(&mut hand.worker, n, class) {
+    match shop.shared.try_span(rt, &mut hand.worker, n, class) {
         Ok(Some(body)) => Ok(body),
-        Ok(None) => sweep_and_take(shop, hand, n, class),
+        Ok(None) => sweep_and_take(rt, shop, hand, n, class),
         Err(NoMemory) => Err(Refused::NoMemory),
     }
 }
 
 // Sweeps all that is left, and then takes.
-fn sweep_and_take(shop: &Shop, hand: &mut Hand, n: u32, class: u8) -> Result<Body, Refused>
-    requires here { hand.old.worker.here ≡ true }
-    requires table { hand.old.worker.table ≡ shop.now.shared.now }
+fn sweep_and_take<R: Wait>(
+    rt: &R,
+    shop: &Shop,
+    hand: &mut Hand,
+    n: u32,
+    class: u8,
+) -> Result<Body, Refused>
+    requires works { IsAtWork shop.now.shared.now hand.old.worker }
     requires distance { 8192 ≤ shop.now.distance }
     requires marks { shop.now.marks.now.pairs ≡ hand.old.worker.view.marks }
     requires unclaimed { hand.old.worker.view.own.claimed ≡ None }
@@ -53,8 +65,8 @@ fn sweep_and_take(shop: &Shop, hand: &mut Hand, n: u32, class: u8) -> Result<Bod
     ensures did { SweepsAndTakes n class hand.old hand.new result }
     ensures tally { Frees shop.now.marks.now hand.old hand.new }
 {
-    let Ok(()) = finish(shop, hand) else {
+    let Ok(()) = finish(rt, shop, hand) else {
         return Err(Refused::NoMemory);
     };
-    shop.shared.take_span(&mut hand.worker, n, class)
+    shop.shared.take_span(rt, &mut hand.worker, n, class)
 }

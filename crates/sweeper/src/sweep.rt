@@ -1,6 +1,7 @@
 ghost use Rattle.std.specs.Prelude.{◌≡◌, ◌<◌, ◌≤◌, [], true, None, length};
 ghost use Rattle.span_set.specs.Sets.{unswept_of};
 ghost use Rattle.span_set.specs.Tallies.{Frees, MayCount};
+ghost use Rattle.span_laws.specs.Asks.{IsAtWork};
 ghost use Rattle.span_laws.specs.Scans.{nth_unswept};
 ghost use Rattle.sweeper.specs.Tries.{SweepsNext, TriesEntry};
 ghost use Rattle.sweeper.specs.Sweeps.{SweepsOne};
@@ -11,6 +12,7 @@ use fallible_list::NoMemory;
 use span_set::{Hand, PopBase, SetId, Shop, pop_unswept};
 use span_state::SweepNote;
 use span_table::Acquired;
+use std::sync::Wait;
 
 // What one entry of an unswept set gave.
 #[derive(Drop)]
@@ -36,9 +38,8 @@ pub(crate) fn set_at(index: u32) -> SetId
 }
 
 // Pops one entry of an unswept set, and sweeps its span where it waits; else the entry is dropped.
-fn try_entry(shop: &Shop, hand: &mut Hand, set: SetId) -> Tried
-    requires here { hand.old.worker.here ≡ true }
-    requires table { hand.old.worker.table ≡ shop.now.shared.now }
+fn try_entry<R: Wait>(rt: &R, shop: &Shop, hand: &mut Hand, set: SetId) -> Tried
+    requires works { IsAtWork shop.now.shared.now hand.old.worker }
     requires distance { 8192 ≤ shop.now.distance }
     requires marks { shop.now.marks.now.pairs ≡ hand.old.worker.view.marks }
     requires room { length hand.old.notes.items < hand.old.notes.space }
@@ -54,16 +55,20 @@ fn try_entry(shop: &Shop, hand: &mut Hand, set: SetId) -> Tried
         PopBase::Empty { .. } => return Tried::Empty,
     };
     match shop.shared.acquire(&mut hand.worker, page) {
-        Acquired::Got(body) => Tried::Swept(settle(shop, hand, body)),
+        Acquired::Got(body) => Tried::Swept(settle(rt, shop, hand, body)),
         Acquired::Other(_) => Tried::Gone,
     }
 }
 
 // Sweeps the next span of an unswept set; none where the set was seen empty. Each try pops an entry, and a head has 32 bits, so
 // the call ends.
-pub(crate) fn sweep_next(shop: &Shop, hand: &mut Hand, set: SetId) -> Option<SweepNote>
-    requires here { hand.old.worker.here ≡ true }
-    requires table { hand.old.worker.table ≡ shop.now.shared.now }
+pub(crate) fn sweep_next<R: Wait>(
+    rt: &R,
+    shop: &Shop,
+    hand: &mut Hand,
+    set: SetId,
+) -> Option<SweepNote>
+    requires works { IsAtWork shop.now.shared.now hand.old.worker }
     requires distance { 8192 ≤ shop.now.distance }
     requires marks { shop.now.marks.now.pairs ≡ hand.old.worker.view.marks }
     requires room { length hand.old.notes.items < hand.old.notes.space }
@@ -75,7 +80,7 @@ pub(crate) fn sweep_next(shop: &Shop, hand: &mut Hand, set: SetId) -> Option<Swe
     ensures tally { Frees shop.now.marks.now hand.old hand.new }
 {
     for _ in 0..u64::MAX {
-        match try_entry(shop, hand, set) {
+        match try_entry(rt, shop, hand, set) {
             Tried::Swept(note) => return Some(note),
             Tried::Gone => {}
             Tried::Empty => return None,
@@ -90,9 +95,8 @@ pub(crate) fn sweep_next(shop: &Shop, hand: &mut Hand, set: SetId) -> Option<Swe
 ///
 /// `NothingLeft` only where each unswept set was seen empty in this call. NoMemory where there was no room for a note: nothing
 /// changes then.
-pub fn sweep_one(shop: &Shop, hand: &mut Hand) -> Result<One, NoMemory>
-    requires here { hand.old.worker.here ≡ true }
-    requires table { hand.old.worker.table ≡ shop.now.shared.now }
+pub fn sweep_one<R: Wait>(rt: &R, shop: &Shop, hand: &mut Hand) -> Result<One, NoMemory>
+    requires works { IsAtWork shop.now.shared.now hand.old.worker }
     requires distance { 8192 ≤ shop.now.distance }
     requires marks { shop.now.marks.now.pairs ≡ hand.old.worker.view.marks }
     requires unclaimed { hand.old.worker.view.own.claimed ≡ None }
@@ -104,7 +108,7 @@ pub fn sweep_one(shop: &Shop, hand: &mut Hand) -> Result<One, NoMemory>
     hand.reserve_note()?;
     let mut next: u32 = 0;
     while let Some(index) = shop.shared.next_unswept(&mut hand.worker, next) {
-        if let Some(note) = sweep_next(shop, hand, set_at(index)) {
+        if let Some(note) = sweep_next(rt, shop, hand, set_at(index)) {
             return Ok(One::Swept(note));
         }
         next = index + 1;

@@ -1,6 +1,6 @@
 -- A call of sweeper leaves a hand as the rows ask it.
 use Rattle.std.proofs.Common.{◌≡◌, List, [], ◌∷◌, true, refl, ap, sym, subst, ◌∙◌, ℕ, ◌<◌, ◌++◌, ◌&&◌, ◌||◌, eqb, false, true≢false, inl, inr, length, arith}
-use Rattle.std.specs.Prelude.{◌≢◌, All, None, Ok, Err, OnErr, OnOk, Result}
+use Rattle.std.specs.Prelude.{◌≢◌, All, None, Option, Ok, Err, OnErr, OnOk, Result}
 use Rattle.std.proofs.lemmas.Bool.{cases_Bool, eqb-true}
 use Rattle.std.proofs.lemmas.List.Elements.{All-push}
 use mathlib.Core.Logic.{dite}
@@ -9,6 +9,7 @@ use Rattle.fallible_list.specs.declared.list.NoMemory.{NoMemory}
 use Rattle.atomic_table.specs.Seated.{TableId}
 use Rattle.profile_cycle.specs.History.{RingId, Standing, calls, first_view}
 use Rattle.profile_cycle.specs.declared.calls.What.TheVariants.{AfterSweep, Freed, NextCycle}
+use Rattle.page_bitmap.specs.declared.line.Line.{Line}
 use Rattle.worker_log.specs.declared.Entry.{Entry}
 use Rattle.span_state.specs.MarkSet.{MarkSet, dead_of, has_pair, is_marked}
 use Rattle.span_state.specs.declared.body.Body.{Body}
@@ -50,8 +51,7 @@ module _ {X : Type 0} (of : Standing → X) (keeps : (t : Standing) (b : ℕ) �
 module _ (table : TableId) (ring : RingId) (m : MarkSet) (old new : Hand) (f : Frees m old new) (r : IsReady table ring m old) where
   ready_after : (more : List ℕ) (P : List Entry → Type 0) → Works more P old new → IsReady table ring m new
   ready_after more P w = let s = w.does.stays in record {
-    here = s.here ∙ r.here;
-    same = s.table ∙ r.same;
+    works = (s.table ∙ r.works.0, s.away ∙ r.works.1);
     unclaimed = s.claimed ∙ r.unclaimed;
     unpopped = w.popped;
     marked = r.marked ∙ sym s.marks;
@@ -62,10 +62,9 @@ module _ (table : TableId) (ring : RingId) (m : MarkSet) (old new : Hand) (f : F
   }
 
   -- the worker's own part changed, has claimed nothing and has popped nothing
-  pub ready_stays : (part : Part) → new.worker ≡ record old.worker { view = acts old.worker.view part } → part.claimed ≡ None → part.popped ≡ [] → IsReady table ring m new
-  ready_stays part e free none = record {
-    here = ap (λ (w : Seen). w.here) e ∙ r.here;
-    same = ap (λ (w : Seen). w.table) e ∙ r.same;
+  pub ready_stays : (known : Option (List Line)) (part : Part) → new.worker ≡ record old.worker { journal = known; view = acts old.worker.view part } → part.claimed ≡ None → part.popped ≡ [] → IsReady table ring m new
+  ready_stays known part e free none = record {
+    works = (ap (λ (w : Seen). w.table) e ∙ r.works.0, ap (λ (w : Seen). w.away) e ∙ r.works.1);
     unclaimed = ap (λ (w : Seen). w.view.own.claimed) e ∙ free;
     unpopped = ap (λ (w : Seen). w.view.own.popped) e ∙ none;
     marked = r.marked ∙ sym (ap (λ (w : Seen). w.view.marks) e);
@@ -103,14 +102,14 @@ module _ (table : TableId) (ring : RingId) (m : MarkSet) (h : Hand) (r : IsReady
   -- bytes were spent
   pub ready_spent : (before bytes : ℕ) (w : Seen) → w ≡ after_said (Adds 3 before bytes) h.worker → IsReady table ring m (record h { worker = w })
   ready_spent before bytes w e = subst (λ (x : Seen). IsReady table ring m (record h { worker = x })) (sym e)
-      (record { here = r.here; same = r.same; unclaimed = r.unclaimed; unpopped = r.unpopped; marked = r.marked; counts = r.counts; drives = r.drives; alone = r.alone; two = r.two })
+      (record { works = r.works; unclaimed = r.unclaimed; unpopped = r.unpopped; marked = r.marked; counts = r.counts; drives = r.drives; alone = r.alone; two = r.two })
 
   -- the driver's tally published, and was read
   module _ (ring' : RingId) (t t' : Standing) (same : ring' ≡ ring) (read : t' ≡ t) where
     published : (t0 : Standing) → t ≡ t0 → t0.ring ≡ ring → t0.view.drives ≡ true → t0.view.out ≡ 0 → IsReady table ring' m (record h { tally = t' })
     published t0 e of drives alone = subst (λ (x : RingId). IsReady table x m (record h { tally = t' })) (sym same)
         (subst (λ (x : Standing). IsReady table ring m (record h { tally = x })) (sym (read ∙ e))
-        (record { here = r.here; same = r.same; unclaimed = r.unclaimed; unpopped = r.unpopped; marked = r.marked; counts = record { ring = of; dead = r.counts.dead }; drives = drives; alone = alone; two = r.two }))
+        (record { works = r.works; unclaimed = r.unclaimed; unpopped = r.unpopped; marked = r.marked; counts = record { ring = of; dead = r.counts.dead }; drives = drives; alone = alone; two = r.two }))
 
     pub ready_published : t ≡ calls h.tally AfterSweep → IsReady table ring' m (record h { tally = t' })
     ready_published e = published (calls h.tally AfterSweep) e r.counts.ring r.drives r.alone
@@ -122,7 +121,7 @@ module _ (table : TableId) (ring : RingId) (m : MarkSet) (h : Hand) (r : IsReady
   pub ready_dead : (page bucket : ℕ) (m' : MarkSet) (a : Result (Unit {0}) NoMemory) → bucket < 2 → OnOk a (dead_of m' page ≡ dead_of m page ++ bucket ∷ []) → OnOk a ((q : ℕ) → q ≢ page → dead_of m' q ≡ dead_of m q) → m'.pairs ≡ m.pairs → OnErr a (m' ≡ m) → IsReady table ring m' h
   ready_dead page bucket m' (Err e) low here others pairs same = subst (λ (x : MarkSet). IsReady table ring x h) (sym same) r
   ready_dead page bucket m' (Ok done) low here others pairs same =
-      record { here = r.here; same = r.same; unclaimed = r.unclaimed; unpopped = r.unpopped; marked = pairs ∙ r.marked; counts = record { ring = r.counts.ring; dead = each }; drives = r.drives; alone = r.alone; two = r.two }
+      record { works = r.works; unclaimed = r.unclaimed; unpopped = r.unpopped; marked = pairs ∙ r.marked; counts = record { ring = r.counts.ring; dead = each }; drives = r.drives; alone = r.alone; two = r.two }
     where
       each : (q : ℕ) → All (λ b. b < ring.buckets) (dead_of m' q)
       each q = dite (ℕ_discrete q page)
@@ -164,8 +163,7 @@ module _ (table : TableId) (m : MarkSet) (w w' : Seen) (page : ℕ) (s : IsStage
 -- a hand is made for the driver
 pub ready_start : (table : TableId) (ring : RingId) (m : MarkSet) (h : Hand) (w : Seen) → IsIdleDriver table w → w.view.marks ≡ m.pairs → ((page : ℕ) → dead_of m page ≡ []) → h.worker ≡ w → h.tally ≡ record { ring = ring; view = first_view } → ring.buckets ≡ 2 → IsReady table ring m h
 ready_start table ring m h w free marks dead worker tally two = record {
-  here = ap (λ (x : Seen). x.here) worker ∙ free.here;
-  same = ap (λ (x : Seen). x.table) worker ∙ free.table;
+  works = (ap (λ (x : Seen). x.table) worker ∙ free.works.0, ap (λ (x : Seen). x.away) worker ∙ free.works.1);
   unclaimed = ap (λ (x : Seen). x.view.own.claimed) worker ∙ (own_of table w free).claimed;
   unpopped = ap (λ (x : Seen). x.view.own.popped) worker ∙ (own_of table w free).popped;
   marked = sym marks ∙ ap (λ (x : Seen). x.view.marks) (sym worker);

@@ -4,6 +4,7 @@ ghost use Rattle.sweeper_rows.specs.Rows.{IsReady};
 use span_set::{Hand, PopBase, SetId, Shop, pop_unswept};
 use span_state::SweepNote;
 use span_table::Acquired;
+use std::sync::Wait;
 use sweeper::settle_span;
 
 /// What a page or an entry of an unswept set leads to.
@@ -18,7 +19,7 @@ pub enum Met {
 }
 
 // Sweeps the span of a page, where it waits.
-pub(crate) fn meet_page(shop: &Shop, hand: &mut Hand, page: u32) -> Met
+pub(crate) fn meet_page<R: Wait>(rt: &R, shop: &Shop, hand: &mut Hand, page: u32) -> Met
     requires ready { IsReady shop.now.shared.now shop.now.ring.now shop.now.marks.now hand.old }
     requires distance { 8192 ≤ shop.now.distance }
     requires room { length hand.old.notes.items < hand.old.notes.space }
@@ -26,13 +27,13 @@ pub(crate) fn meet_page(shop: &Shop, hand: &mut Hand, page: u32) -> Met
     ensures { IsReady shop.now.shared.now shop.now.ring.now shop.now.marks.now hand.new }
 {
     match shop.shared.acquire(&mut hand.worker, page) {
-        Acquired::Got(body) => Met::Swept(settle_span(shop, hand, body)),
+        Acquired::Got(body) => Met::Swept(settle_span(rt, shop, hand, body)),
         Acquired::Other(word) => Met::Other(page, word),
     }
 }
 
 // Pops an entry of an unswept set, and sweeps its span where it waits.
-pub(crate) fn meet_entry(shop: &Shop, hand: &mut Hand, set: SetId) -> Met
+pub(crate) fn meet_entry<R: Wait>(rt: &R, shop: &Shop, hand: &mut Hand, set: SetId) -> Met
     requires ready { IsReady shop.now.shared.now shop.now.ring.now shop.now.marks.now hand.old }
     requires distance { 8192 ≤ shop.now.distance }
     requires room { length hand.old.notes.items < hand.old.notes.space }
@@ -44,7 +45,7 @@ pub(crate) fn meet_entry(shop: &Shop, hand: &mut Hand, set: SetId) -> Met
         PopBase::Empty { head, tail } => return Met::Empty(head, tail),
     };
     match shop.shared.acquire(&mut hand.worker, page) {
-        Acquired::Got(body) => Met::Swept(settle_span(shop, hand, body)),
+        Acquired::Got(body) => Met::Swept(settle_span(rt, shop, hand, body)),
         Acquired::Other(word) => Met::Other(page, word),
     }
 }

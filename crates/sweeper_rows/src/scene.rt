@@ -11,6 +11,7 @@ use span_set::{Hand, Shop};
 use span_state::Marks;
 use span_table::{Shared, Step, Worker};
 use std::alloc::Global;
+use std::sync::Wait;
 use sweeper::{One, Paid, Refused, finish, new_span, pay, reclaim, sweep_one};
 
 // The goal for backed pages.
@@ -38,7 +39,8 @@ fn count(shared: &Shared, w: &mut Worker)
 }
 
 // Takes a large span of so many pages, at least five, with its object, and marks that where it is to live on.
-fn add_span(
+fn add_span<R: Wait>(
+    rt: &R,
     shared: &Shared,
     w: &mut Worker,
     marks: &mut Marks,
@@ -48,7 +50,7 @@ fn add_span(
     requires stage { IsStage shared.now marks.old w.old }
     ensures stage { OnOk result (IsStage shared.now marks.new w.new) }
 {
-    let page = place(shared, w, pages.max(5))?;
+    let page = place(rt, shared, w, pages.max(5))?;
     if marked {
         return marks.add(page, 0);
     }
@@ -56,7 +58,8 @@ fn add_span(
 }
 
 // Takes all these spans.
-fn add_spans(
+fn add_spans<R: Wait>(
+    rt: &R,
     shared: &Shared,
     w: &mut Worker,
     marks: &mut Marks,
@@ -66,13 +69,14 @@ fn add_spans(
     ensures stage { OnOk result (IsStage shared.now marks.new w.new) }
 {
     for span in spans {
-        add_span(shared, w, marks, span.0, span.1)?;
+        add_span(rt, shared, w, marks, span.0, span.1)?;
     }
     Ok(())
 }
 
 // Takes all these spans in the first cycle, and ends it with a mark end. All that may run out of memory stands here, where nothing is owned.
-fn pass_mark_end(
+fn pass_mark_end<R: Wait>(
+    rt: &R,
     shared: &mut Shared,
     w: &mut Worker,
     marks: &mut Marks,
@@ -86,7 +90,7 @@ fn pass_mark_end(
     ensures undead { OnOk result ((page : ℕ) → dead_of marks.new page ≡ []) }
 {
     count(shared, w);
-    add_spans(shared, w, marks, spans)?;
+    add_spans(rt, shared, w, marks, spans)?;
     turn(shared, w, marks)
 }
 
@@ -107,7 +111,8 @@ impl Scene {
 
     /// A region of so many chunks, from 1 to 128, behind its first mark end, with large spans of so many pages, at least five each,
     /// and whether their objects are marked. NoMemory for other numbers of chunks.
-    pub fn after_mark_end(
+    pub fn after_mark_end<R: Wait>(
+        rt: &R,
         alloc: Global,
         chunks: u32,
         spans: &[(u32, bool)],
@@ -118,7 +123,7 @@ impl Scene {
         let (ring, tally) = Ring::new(alloc, 2)?;
         let (mut shared, mut w) = start(alloc, chunks, GOAL)?;
         let mut marks = Marks::empty(alloc);
-        pass_mark_end(&mut shared, &mut w, &mut marks, spans)?;
+        pass_mark_end(rt, &mut shared, &mut w, &mut marks, spans)?;
         let hand = Hand::new(alloc, w, tally);
         Ok(Scene {
             shared,
@@ -142,7 +147,7 @@ impl Scene {
     }
 
     /// The next sweep.
-    pub fn sweep(&mut self) -> Result<One, NoMemory> {
+    pub fn sweep<R: Wait>(&mut self, rt: &R) -> Result<One, NoMemory> {
         let Scene {
             shared,
             marks,
@@ -156,11 +161,11 @@ impl Scene {
             distance: 8192,
             pages: 0,
         };
-        sweep_one(&shop, hand)
+        sweep_one(rt, &shop, hand)
     }
 
     /// All sweeps that are left.
-    pub fn finish(&mut self) -> Result<(), NoMemory> {
+    pub fn finish<R: Wait>(&mut self, rt: &R) -> Result<(), NoMemory> {
         let Scene {
             shared,
             marks,
@@ -174,12 +179,13 @@ impl Scene {
             distance: 8192,
             pages: 0,
         };
-        finish(&shop, hand)
+        finish(rt, &shop, hand)
     }
 
     /// Pays for so many bytes with a credit, where so many pages were to be swept over a distance of at least 8192 bytes.
-    pub fn pay(
+    pub fn pay<R: Wait>(
         &mut self,
+        rt: &R,
         pages: u32,
         distance: u64,
         bytes: u64,
@@ -198,11 +204,11 @@ impl Scene {
             distance: distance.max(8192),
             pages,
         };
-        pay(&shop, hand, bytes, credit)
+        pay(rt, &shop, hand, bytes, credit)
     }
 
     /// Reclaims so many pages.
-    pub fn reclaim(&mut self, pages: u32) -> Result<u32, NoMemory> {
+    pub fn reclaim<R: Wait>(&mut self, rt: &R, pages: u32) -> Result<u32, NoMemory> {
         let Scene {
             shared,
             marks,
@@ -216,11 +222,11 @@ impl Scene {
             distance: 8192,
             pages: 0,
         };
-        reclaim(&shop, hand, pages)
+        reclaim(rt, &shop, hand, pages)
     }
 
     /// The page of a new large span of so many pages, at least five.
-    pub fn make(&mut self, pages: u32) -> Result<u32, Refused> {
+    pub fn make<R: Wait>(&mut self, rt: &R, pages: u32) -> Result<u32, Refused> {
         let Scene {
             shared,
             marks,
@@ -234,14 +240,14 @@ impl Scene {
             distance: 8192,
             pages: 0,
         };
-        match new_span(&shop, hand, pages.max(5), 1) {
+        match new_span(rt, &shop, hand, pages.max(5), 1) {
             Ok(body) => Ok(body.page),
             Err(refused) => Err(refused),
         }
     }
 
     /// Sweeps the span of a page of the region, where it waits, by its word. NoMemory for other pages.
-    pub fn meet(&mut self, page: u32) -> Result<Met, NoMemory> {
+    pub fn meet<R: Wait>(&mut self, rt: &R, page: u32) -> Result<Met, NoMemory> {
         let Scene {
             shared,
             marks,
@@ -259,11 +265,11 @@ impl Scene {
             distance: 8192,
             pages: 0,
         };
-        Ok(meet_page(&shop, hand, page))
+        Ok(meet_page(rt, &shop, hand, page))
     }
 
     /// Pops an entry of the unswept full set of large spans, and sweeps its span where it waits.
-    pub fn pop(&mut self) -> Result<Met, NoMemory> {
+    pub fn pop<R: Wait>(&mut self, rt: &R) -> Result<Met, NoMemory> {
         let Scene {
             shared,
             marks,
@@ -278,12 +284,12 @@ impl Scene {
             distance: 8192,
             pages: 0,
         };
-        Ok(meet_entry(&shop, hand, LARGE))
+        Ok(meet_entry(rt, &shop, hand, LARGE))
     }
 
     /// The next scavenging step.
-    pub fn scavenge(&mut self) -> Result<Step, NoMemory> {
-        self.shared.scavenge_step(&mut self.hand.worker)
+    pub fn scavenge<R: Wait>(&mut self, rt: &R) -> Result<Step, NoMemory> {
+        self.shared.scavenge_step(rt, &mut self.hand.worker)
     }
 
     /// The generation, the swept pages and the spent bytes of this cycle.
@@ -295,8 +301,8 @@ impl Scene {
     }
 
     /// How many pages spans have.
-    pub fn taken(&mut self) -> u32 {
-        self.shared.pages_taken(&mut self.hand.worker)
+    pub fn taken<R: Wait>(&mut self, rt: &R) -> u32 {
+        self.shared.pages_taken(rt, &mut self.hand.worker)
     }
 
     /// How many notes the hand has.

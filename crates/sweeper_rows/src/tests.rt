@@ -4,6 +4,7 @@ use profile_cycle::Count;
 use span_table::Step;
 use std::alloc::Global;
 use std::process::Abort;
+use std::sync::Wait;
 use std::test::Fail;
 use sweeper::{One, Paid, Refused};
 
@@ -114,7 +115,7 @@ fn samples(count: Count) -> Answer {
     Answer::Samples(count.allocs, count.frees)
 }
 
-fn make(scene: &mut Scene, call: Call) -> Result<Answer, NoMemory> {
+fn make<R: Wait>(rt: &R, scene: &mut Scene, call: Call) -> Result<Answer, NoMemory> {
     match call {
         Call::Spend(bytes) => {
             scene.spend(bytes);
@@ -124,24 +125,24 @@ fn make(scene: &mut Scene, call: Call) -> Result<Answer, NoMemory> {
             scene.die(page, bucket)?;
             Ok(Answer::Done)
         }
-        Call::Sweep => one(scene.sweep()),
+        Call::Sweep => one(scene.sweep(rt)),
         Call::Finish => {
-            scene.finish()?;
+            scene.finish(rt)?;
             Ok(Answer::Done)
         }
         Call::Pay(pages, distance, bytes, credit) => reached(scene.pay(
-            pages, distance, bytes, credit,
+            rt, pages, distance, bytes, credit,
         )),
-        Call::Reclaim(pages) => Ok(Answer::Many(u64::from(scene.reclaim(pages)?))),
-        Call::Make(pages) => made(scene.make(pages)),
-        Call::Meet(page) => met(scene.meet(page)),
-        Call::Pop => met(scene.pop()),
-        Call::Scavenge => Ok(stepped(scene.scavenge()?)),
+        Call::Reclaim(pages) => Ok(Answer::Many(u64::from(scene.reclaim(rt, pages)?))),
+        Call::Make(pages) => made(scene.make(rt, pages)),
+        Call::Meet(page) => met(scene.meet(rt, page)),
+        Call::Pop => met(scene.pop(rt)),
+        Call::Scavenge => Ok(stepped(scene.scavenge(rt)?)),
         Call::Counters => {
             let (generation, swept, spent) = scene.counters();
             Ok(Answer::Counts(generation, swept, spent))
         }
-        Call::Taken => Ok(Answer::Many(u64::from(scene.taken()))),
+        Call::Taken => Ok(Answer::Many(u64::from(scene.taken(rt)))),
         Call::Notes => Ok(Answer::Many(scene.notes() as u64)),
         Call::Sampled(bucket) => Ok(samples(scene.swept(bucket))),
         Call::Turned(bucket) => Ok(samples(scene.marked(bucket))),
@@ -149,9 +150,13 @@ fn make(scene: &mut Scene, call: Call) -> Result<Answer, NoMemory> {
 }
 
 // The calls answer as they should.
-fn try_rows<R: Abort>(rt: &R, scene: &mut Scene, rows: &[(Call, Answer)]) -> Result<(), NoMemory> {
+fn try_rows<R: Abort + Wait>(
+    rt: &R,
+    scene: &mut Scene,
+    rows: &[(Call, Answer)],
+) -> Result<(), NoMemory> {
     for (made, wanted) in rows {
-        let found = make(scene, *made)?;
+        let found = make(rt, scene, *made)?;
         assert_eq!(rt; found, *wanted);
     }
     Ok(())
@@ -415,13 +420,16 @@ const CASES: [Case; 16] = [
 ];
 
 // The calls of a case answer as they should. A scene is let go in one place, since each place costs the proof much.
-fn try_first<R: Abort + AllocGlobal>(rt: &R, rows: &[(Call, Answer)]) -> Result<(), NoMemory> {
+fn try_first<R: Abort + Wait + AllocGlobal>(
+    rt: &R,
+    rows: &[(Call, Answer)],
+) -> Result<(), NoMemory> {
     let mut scene = Scene::first(rt.alloc())?;
     try_rows(rt, &mut scene, rows)
 }
 
-fn try_case<R: Abort + AllocGlobal>(rt: &R, row: &Case) -> Result<(), NoMemory> {
-    let mut scene = Scene::after_mark_end(rt.alloc(), row.chunks, row.spans)?;
+fn try_case<R: Abort + Wait + AllocGlobal>(rt: &R, row: &Case) -> Result<(), NoMemory> {
+    let mut scene = Scene::after_mark_end(rt, rt.alloc(), row.chunks, row.spans)?;
     try_rows(rt, &mut scene, row.calls)
 }
 
@@ -481,24 +489,28 @@ const PAYMENTS: [Payment; 23] = [
     (u32::MAX, 8192, MOST, MOST, u32::MAX, None),
 ];
 
-fn pay_row(scene: &mut Scene, row: &Payment) -> Result<Option<(u64, u64)>, NoMemory> {
+fn pay_row<R: Wait>(
+    rt: &R,
+    scene: &mut Scene,
+    row: &Payment,
+) -> Result<Option<(u64, u64)>, NoMemory> {
     scene.spend(row.2);
-    match scene.pay(row.0, row.1, row.3, row.4)? {
+    match scene.pay(rt, row.0, row.1, row.3, row.4)? {
         Paid::Reached { seen, target } => Ok(Some((seen, target))),
         Paid::NothingLeft => Ok(None),
     }
 }
 
 // A payment in a new scene whose third span lives on.
-fn paid(alloc: Global, row: &Payment) -> Result<Option<(u64, u64)>, NoMemory> {
-    let mut scene = Scene::after_mark_end(alloc, 1, &PAID)?;
-    pay_row(&mut scene, row)
+fn paid<R: Wait>(rt: &R, alloc: Global, row: &Payment) -> Result<Option<(u64, u64)>, NoMemory> {
+    let mut scene = Scene::after_mark_end(rt, alloc, 1, &PAID)?;
+    pay_row(rt, &mut scene, row)
 }
 
 #[test]
 fn payments_reach_their_targets(rt: HostRuntime) -> Result<(), Fail> {
     for row in &PAYMENTS {
-        assert_eq!(rt; paid(rt.alloc(), row)?, row.5);
+        assert_eq!(rt; paid(&rt, rt.alloc(), row)?, row.5);
     }
     Ok(())
 }
@@ -529,21 +541,21 @@ const RECLAIMED: [(u32, bool); 5] = [
     (20, false),
 ];
 
-fn reclaim_row(scene: &mut Scene, asked: [u32; 3]) -> Result<[u32; 3], NoMemory> {
-    let first = scene.reclaim(asked[0])?;
-    let second = scene.reclaim(asked[1])?;
-    Ok([first, second, scene.reclaim(asked[2])?])
+fn reclaim_row<R: Wait>(rt: &R, scene: &mut Scene, asked: [u32; 3]) -> Result<[u32; 3], NoMemory> {
+    let first = scene.reclaim(rt, asked[0])?;
+    let second = scene.reclaim(rt, asked[1])?;
+    Ok([first, second, scene.reclaim(rt, asked[2])?])
 }
 
-fn reclaimed(alloc: Global, asked: [u32; 3]) -> Result<[u32; 3], NoMemory> {
-    let mut scene = Scene::after_mark_end(alloc, 2, &RECLAIMED)?;
-    reclaim_row(&mut scene, asked)
+fn reclaimed<R: Wait>(rt: &R, alloc: Global, asked: [u32; 3]) -> Result<[u32; 3], NoMemory> {
+    let mut scene = Scene::after_mark_end(rt, alloc, 2, &RECLAIMED)?;
+    reclaim_row(rt, &mut scene, asked)
 }
 
 #[test]
 fn reclaims_give_back_by_chunks(rt: HostRuntime) -> Result<(), Fail> {
     for (asked, given) in &RECLAIMS {
-        assert_eq!(rt; reclaimed(rt.alloc(), *asked)?, *given);
+        assert_eq!(rt; reclaimed(&rt, rt.alloc(), *asked)?, *given);
     }
     Ok(())
 }

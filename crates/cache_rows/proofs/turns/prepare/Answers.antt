@@ -7,13 +7,13 @@ use Rattle.cache_rows.proofs.Turning.{prepared}
 use Rattle.cache_rows.proofs.turns.prepare.Goals as goal
 
 pub returns-in_err-settle-clause-grows : goal.returns-in_err-settle-clause-grows
-returns-in_err-settle-clause-grows c = grows-trans c.args.hand.now.worker c.sweep_all.new.hand.worker c.settle.new.hand.worker c.sweep_all.ensures.grows c.settle.ensures.grows
+returns-in_err-settle-clause-grows g c = grows-trans c.args.hand.now.worker c.sweep_all.new.hand.worker c.settle.new.hand.worker c.sweep_all.ensures.grows c.settle.ensures.grows
 
 pub returns-clause-grows : goal.returns-clause-grows
-returns-clause-grows c = grows-trans c.args.hand.now.worker c.sweep_all.new.hand.worker c.settle.new.hand.worker c.sweep_all.ensures.grows c.settle.ensures.grows
+returns-clause-grows g c = grows-trans c.args.hand.now.worker c.sweep_all.new.hand.worker c.settle.new.hand.worker c.sweep_all.ensures.grows c.settle.ensures.grows
 
 pub returns-clause-prepared : goal.returns-clause-prepared
-returns-clause-prepared c = let r = c.settle.ensures.ready in
+returns-clause-prepared g c = let r = c.settle.ensures.ready in
     prepared c.args.shop.now.shared.now c.settle.new.hand.worker c.sweep_all.new.proc c.args.shop.now.marks.now c.args.objects.now c.mark_all.result r.served c.in_ok-settle.ensures.settled r.same_marks
     (objects-grow c.args.hand.now.worker c.settle.new.hand.worker c.args.objects.now (grows-trans c.args.hand.now.worker c.sweep_all.new.hand.worker c.settle.new.hand.worker c.sweep_all.ensures.grows c.settle.ensures.grows) c.requires.objects)
     (subst (λ (os : List Object). IfOk c.mark_all.result (AreLive c.args.shop.now.marks.now os)) c.as_slice.ensures c.mark_all.ensures)

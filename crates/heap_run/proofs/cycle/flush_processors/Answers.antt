@@ -8,7 +8,7 @@ use Rattle.heap_run.proofs.Driving.{collecting-turn, driving-turn, flushed-more,
 use Rattle.heap_run.proofs.cycle.flush_processors.Goals as goal
 
 pub loop-p-init : goal.loop-p-init
-loop-p-init c = record {
+loop-p-init g c = record {
   driving = c.requires.driving;
   long = refl;
   collecting = c.requires.collecting;
@@ -20,20 +20,20 @@ loop-p-init c = record {
 }
 
 pub flush_processor-requires-clause-counts : goal.flush_processor-requires-clause-counts
-flush_processor-requires-clause-counts c = counts-may c.args.shop.now.ring.now c.args.shop.now.marks.now no_counts c.args.driver.now c.loop-p.driver c.requires.counts c.loop-p.invariant.counts
+flush_processor-requires-clause-counts g c = counts-may c.args.shop.now.ring.now c.args.shop.now.marks.now no_counts c.args.driver.now c.loop-p.driver c.requires.counts c.loop-p.invariant.counts
 
 pub flush_processor-requires-clause-drives : goal.flush_processor-requires-clause-drives
-flush_processor-requires-clause-drives c = counts-drives c.args.shop.now.marks.now no_counts c.args.driver.now c.loop-p.driver c.loop-p.invariant.counts ∙ c.requires.drives
+flush_processor-requires-clause-drives g c = counts-drives c.args.shop.now.marks.now no_counts c.args.driver.now c.loop-p.driver c.loop-p.invariant.counts ∙ c.requires.drives
 
 pub flush_processor-requires-clause-caching : goal.flush_processor-requires-clause-caching
-flush_processor-requires-clause-caching c =
+flush_processor-requires-clause-caching g c =
     let i = c.loop-p.invariant in
     let inside : c.loop-p.p < length c.loop-p.procs.items = (let l = i.long in let t = c.loop-p-test.true in omega (arith, c.loop-p.procs.ok.0)) in
     let is : c.index_mut.result.now ≡ get_or c.loop-p.procs.items c.loop-p.p no_cache = c.index_mut.ensures.value ∙ get_or_default c.loop-p.procs.items c.loop-p.p _ no_cache inside in
     proc-caching c.args.driver.now.worker c.loop-p.procs.items c.loop-p.driver c.index_mut.result.now c.loop-p.p i.driving inside is
 
 pub loop-p-preserved : goal.loop-p-preserved
-loop-p-preserved c =
+loop-p-preserved g c =
     let i = c.loop-p.invariant in
     let inside : c.loop-p.p < length c.loop-p.procs.items = (let l = i.long in let t = c.loop-p-test.true in omega (arith, c.loop-p.procs.ok.0)) in
     let is : c.index_mut.result.now ≡ get_or c.loop-p.procs.items c.loop-p.p no_cache = c.index_mut.ensures.value ∙ get_or_default c.loop-p.procs.items c.loop-p.p _ no_cache inside in
@@ -54,4 +54,4 @@ loop-p-preserved c =
     }
 
 pub returns-clause-countdowns : goal.returns-clause-countdowns
-returns-clause-countdowns c = λ w low. c.loop-p.invariant.countdowns w
+returns-clause-countdowns g c = λ w low. c.loop-p.invariant.countdowns w

@@ -5,7 +5,7 @@ use Rattle.heap_run.specs.Turns.{IsCollecting, IsDriving, KeepsAnswers, no_cache
 use Rattle.heap_run.proofs.cycle.flush_processors.Given as goal
 
 abbrev pub invariant-loop-p : goal.invariant-loop-p
-invariant-loop-p l = record {
+invariant-loop-p g l = record {
   driving : IsDriving l.initial.driver.worker l.procs.items l.driver;
   long : vec_len l.procs ≡ vec_len l.initial.procs;
   collecting : IsCollecting l.driver;

@@ -7,19 +7,12 @@ use Rattle.heap_run.proofs.Driving.{collecting-turn, keeps-turn}
 use Rattle.heap_run.proofs.Settling.{driving-from, driving-now, mid-driving}
 use Rattle.heap_run.proofs.cycle.run_workers.Goals as goal
 
-pub end_cycle-requires-clause-here : goal.end_cycle-requires-clause-here
-end_cycle-requires-clause-here g c =
+pub end_cycle-requires-clause-works : goal.end_cycle-requires-clause-works
+end_cycle-requires-clause-works g c =
     let few : length c.run_processors.new.procs.items ≤ 64 = (let f = c.requires.few in let n = c.in_ok-run_processors.ensures.procs in omega (arith, c.run_processors.new.procs.ok.0)) in
     let mid = mid-driving c.args.driver.now.worker c.run_processors.new.procs.items c.run_processors.new.driver c.run_sweepers.new.driver c.run_scavenger.new.driver few c.in_ok-run_processors.ensures.driving c.in_ok-run_sweepers.ensures.driving
     c.in_ok-run_scavenger.ensures.turn c.in_ok-run_scavenger.ensures.cached in
-    mid.same.here ∙ c.requires.here
-
-pub end_cycle-requires-clause-table : goal.end_cycle-requires-clause-table
-end_cycle-requires-clause-table g c =
-    let few : length c.run_processors.new.procs.items ≤ 64 = (let f = c.requires.few in let n = c.in_ok-run_processors.ensures.procs in omega (arith, c.run_processors.new.procs.ok.0)) in
-    let mid = mid-driving c.args.driver.now.worker c.run_processors.new.procs.items c.run_processors.new.driver c.run_sweepers.new.driver c.run_scavenger.new.driver few c.in_ok-run_processors.ensures.driving c.in_ok-run_sweepers.ensures.driving
-    c.in_ok-run_scavenger.ensures.turn c.in_ok-run_scavenger.ensures.cached in
-    mid.same.table ∙ c.requires.table
+    (mid.same.table ∙ c.requires.works.0, mid.same.away ∙ c.requires.works.1)
 
 pub end_cycle-requires-clause-marks : goal.end_cycle-requires-clause-marks
 end_cycle-requires-clause-marks g c =
@@ -96,19 +89,12 @@ returns-clause-counts g c =
     let three = counts-then c.args.shop.now.marks.now _ no_counts _ c.args.driver.now c.run_sweepers.new.driver c.run_scavenger.new.driver two c.in_ok-run_scavenger.ensures.counts (λ k. sym (add-zero _)) in
     counts-then c.args.shop.now.marks.now _ no_counts _ c.args.driver.now c.run_scavenger.new.driver c.end_cycle.new.driver three c.in_ok-end_cycle.ensures.counts (λ k. sym (add-zero _))
 
-pub run_scavenger-requires-clause-here : goal.run_scavenger-requires-clause-here
-run_scavenger-requires-clause-here g c κs low =
+pub run_scavenger-requires-clause-works : goal.run_scavenger-requires-clause-works
+run_scavenger-requires-clause-works g c κs low =
     let few : length c.run_processors.new.procs.items ≤ 64 = (let f = c.requires.few in let n = c.in_ok-run_processors.ensures.procs in omega (arith, c.run_processors.new.procs.ok.0)) in
     let first = c.in_ok-run_processors.ensures.driving in
     let swept = c.in_ok-run_sweepers.ensures.driving c.run_processors.new.procs.items few (driving-now c.args.driver.now.worker c.run_processors.new.procs.items c.run_processors.new.driver first) in
-    swept.same.here ∙ first.same.here ∙ c.requires.here
-
-pub run_scavenger-requires-clause-table : goal.run_scavenger-requires-clause-table
-run_scavenger-requires-clause-table g c κs low =
-    let few : length c.run_processors.new.procs.items ≤ 64 = (let f = c.requires.few in let n = c.in_ok-run_processors.ensures.procs in omega (arith, c.run_processors.new.procs.ok.0)) in
-    let first = c.in_ok-run_processors.ensures.driving in
-    let swept = c.in_ok-run_sweepers.ensures.driving c.run_processors.new.procs.items few (driving-now c.args.driver.now.worker c.run_processors.new.procs.items c.run_processors.new.driver first) in
-    swept.same.table ∙ first.same.table ∙ c.requires.table
+    (swept.same.table ∙ first.same.table ∙ c.requires.works.0, swept.same.away ∙ first.same.away ∙ c.requires.works.1)
 
 pub run_scavenger-requires-clause-driver : goal.run_scavenger-requires-clause-driver
 run_scavenger-requires-clause-driver g c κs low =

@@ -18,7 +18,7 @@ use Rattle.heap_run.proofs.Counting.{counted-one, large-counts, ones-counts, ref
 use Rattle.heap_run.proofs.events.answer.Goals as goal
 
 pub returns-in-Ok-clause-acted : goal.returns-in-Ok-clause-acted
-returns-in-Ok-clause-acted c =
+returns-in-Ok-clause-acted g c =
     let e = c.args.event.now in
     let class = c.in-Ok.ensures.allocates.0 in
     let least = c.in-Ok.ensures.allocates.1 in
@@ -28,7 +28,7 @@ returns-in-Ok-clause-acted c =
     leaves-acted (SaysAnswers (e ∷ []) (Placed at ∷ [])) said c.args.hand.now c.alloc.new.hand did.2.1 (small-placed e class at said c.in-Small.ensures.0 c.in-Small.ensures.1 least did.2.2)
 
 pub returns-in-Err-NoRun-clause-acted : goal.returns-in-Err-NoRun-clause-acted
-returns-in-Err-NoRun-clause-acted c =
+returns-in-Err-NoRun-clause-acted g c =
     let e = c.args.event.now in
     let class = c.in-Err-NoRun.ensures.allocates.0 in
     let least = c.in-Err-NoRun.ensures.allocates.1 in
@@ -39,7 +39,7 @@ returns-in-Err-NoRun-clause-acted c =
     leaves-acted (SaysAnswers (e ∷ []) (Missed line ∷ [])) said c.args.hand.now c.alloc.new.hand did.4.1 (small-refused e class line said c.in-Small.ensures.0 c.in-Small.ensures.1 least did.4.3 did.4.4)
 
 pub returns-in-Ok-alloc_large-clause-acted : goal.returns-in-Ok-alloc_large-clause-acted
-returns-in-Ok-alloc_large-clause-acted c =
+returns-in-Ok-alloc_large-clause-acted g c =
     let e = c.args.event.now in
     let at = c.in-Ok-alloc_large.addr in
     let did = c.in-Ok-alloc_large.ensures.did.1 in
@@ -50,7 +50,7 @@ returns-in-Ok-alloc_large-clause-acted c =
     c.count_placed-sampled.ensures.worker (ap (λ n. n.items) c.count_placed-sampled.ensures.notes)
 
 pub returns-in-Ok-alloc_large-clause-caching : goal.returns-in-Ok-alloc_large-clause-caching
-returns-in-Ok-alloc_large-clause-caching c =
+returns-in-Ok-alloc_large-clause-caching g c =
     let did = c.in-Ok-alloc_large.ensures.did.1 in
     let g : c.flush.new.hand.worker.view.generation ≡ c.args.hand.now.worker.view.generation = ap (λ (v : View). v.generation) c.in_ok-flush-in-Large.ensures.flushes.1.leaves.view in
     let placed = holds-caching c.args.hand.now.worker.view.generation did.0 c.flush.new.hand c.alloc_large.new.hand c.flush.new.proc (sym g) did.1
@@ -58,25 +58,25 @@ returns-in-Ok-alloc_large-clause-caching c =
     caching-counted c.args.hand.now.worker.view.generation c.alloc_large.new.hand c.count_placed-sampled.new.hand c.flush.new.proc c.count_placed-sampled.new.proc _ c.count_placed-sampled.ensures.worker c.count_placed-sampled.ensures.cache placed
 
 pub alloc_large-requires-clause-counts : goal.alloc_large-requires-clause-counts
-alloc_large-requires-clause-counts c = may-still c.args.shop.now.marks.now c.args.shop.now.ring.now c.args.hand.now c.flush.new.hand c.requires.counts c.in_ok-flush-in-Large.ensures.tally
+alloc_large-requires-clause-counts g c = may-still c.args.shop.now.marks.now c.args.shop.now.ring.now c.args.hand.now c.flush.new.hand c.requires.counts c.in_ok-flush-in-Large.ensures.tally
 
 pub count_placed-sampled-requires-clause-ring : goal.count_placed-sampled-requires-clause-ring
-count_placed-sampled-requires-clause-ring c =
+count_placed-sampled-requires-clause-ring g c =
     (may-still c.args.shop.now.marks.now c.args.shop.now.ring.now c.flush.new.hand c.alloc_large.new.hand
     (may-still c.args.shop.now.marks.now c.args.shop.now.ring.now c.args.hand.now c.flush.new.hand c.requires.counts c.in_ok-flush-in-Large.ensures.tally) c.in-Ok-alloc_large.ensures.tally).ring
 
 pub returns-in-Ok-alloc_large-clause-sampled : goal.returns-in-Ok-alloc_large-clause-sampled
-returns-in-Ok-alloc_large-clause-sampled c =
+returns-in-Ok-alloc_large-clause-sampled g c =
     let slot : c.large_slot.result ≡ slot_for c.args.event.now.size = c.large_slot.ensures ∙ slot-large c.args.event.now.size c.in-Large.pages c.in-Large.ensures.0 c.in-Large.ensures.1 in
     c.count_placed-sampled.ensures.sampled ∙ ap (λ (x : Countdown). is_sample x c.large_slot.result) c.in_ok-flush-in-Large.ensures.countdown ∙ ap (λ (k : ℕ). is_sample c.args.proc.now.countdown k) slot
 
 pub returns-in-Ok-alloc_large-clause-spent : goal.returns-in-Ok-alloc_large-clause-spent
-returns-in-Ok-alloc_large-clause-spent c =
+returns-in-Ok-alloc_large-clause-spent g c =
     let slot : c.large_slot.result ≡ slot_for c.args.event.now.size = c.large_slot.ensures ∙ slot-large c.args.event.now.size c.in-Large.pages c.in-Large.ensures.0 c.in-Large.ensures.1 in
     ap (λ (x : Cache). x.countdown) c.count_placed-sampled.ensures.cache ∙ ap (λ (x : Countdown). behind x c.large_slot.result) c.in_ok-flush-in-Large.ensures.countdown ∙ ap (λ (k : ℕ). behind c.args.proc.now.countdown k) slot
 
 pub returns-in-Err-NoRun-alloc_large-clause-acted : goal.returns-in-Err-NoRun-alloc_large-clause-acted
-returns-in-Err-NoRun-alloc_large-clause-acted c =
+returns-in-Err-NoRun-alloc_large-clause-acted g c =
     let e = c.args.event.now in
     let line = c.in-Err-NoRun-alloc_large.line in
     let refused : AllocatesLarge c.args.shop.now.pages c.args.shop.now.distance c.in-Large.pages c.span_class.result c.flush.new.hand c.alloc_large.new.hand (Err (NoRun c.in-Err-NoRun-alloc_large.line)) =
@@ -87,7 +87,7 @@ returns-in-Err-NoRun-alloc_large-clause-acted c =
     (holds-acted (SaysAnswers (e ∷ []) (Missed line ∷ [])) said c.flush.new.hand c.alloc_large.new.hand did.1 (large-refused e c.in-Large.pages c.span_class.result line said c.in-Large.ensures.0 c.in-Large.ensures.1 c.span_class.ensures did.3 did.4))
 
 pub returns-in-Err-NoRun-alloc_large-clause-caching : goal.returns-in-Err-NoRun-alloc_large-clause-caching
-returns-in-Err-NoRun-alloc_large-clause-caching c =
+returns-in-Err-NoRun-alloc_large-clause-caching g c =
     let refused : AllocatesLarge c.args.shop.now.pages c.args.shop.now.distance c.in-Large.pages c.span_class.result c.flush.new.hand c.alloc_large.new.hand (Err (NoRun c.in-Err-NoRun-alloc_large.line)) =
     subst (λ (r : Refused). AllocatesLarge c.args.shop.now.pages c.args.shop.now.distance c.in-Large.pages c.span_class.result c.flush.new.hand c.alloc_large.new.hand (Err r)) c.in-Err-NoRun-alloc_large.field-0-is c.in-Err-NoRun-alloc_large.ensures.did in
     let did = refused.1 in
@@ -96,20 +96,20 @@ returns-in-Err-NoRun-alloc_large-clause-caching c =
     (caching-of c.args.hand.now.worker.view.generation c.flush.new.hand.worker.view.generation c.flush.new.hand.worker.view.own c.flush.new.proc g c.in_ok-flush-in-Large.ensures.serves (c.in_ok-flush-in-Large.ensures.used c.requires.caching.used))
 
 pub returns-in-Zero-clause-counts : goal.returns-in-Zero-clause-counts
-returns-in-Zero-clause-counts c = counted-one c.args.shop.now.marks.now false c.args.bucket c.args.hand.now c.args.hand.now refl refl
+returns-in-Zero-clause-counts g c = counted-one c.args.shop.now.marks.now false c.args.bucket c.args.hand.now c.args.hand.now refl refl
 
 pub returns-in-Ok-clause-counts : goal.returns-in-Ok-clause-counts
-returns-in-Ok-clause-counts c = ones-counts c.args.shop.now.marks.now c.args.bucket c.in-Ok.placed.sampled c.args.hand.now c.alloc.new.hand c.in-Ok.ensures.counted
+returns-in-Ok-clause-counts g c = ones-counts c.args.shop.now.marks.now c.args.bucket c.in-Ok.placed.sampled c.args.hand.now c.alloc.new.hand c.in-Ok.ensures.counted
 
 pub returns-in-Err-NoRun-clause-counts : goal.returns-in-Err-NoRun-clause-counts
-returns-in-Err-NoRun-clause-counts c = refused-counts c.args.shop.now.marks.now c.args.bucket c.args.hand.now c.alloc.new.hand c.in-Err-NoRun.ensures.frees
+returns-in-Err-NoRun-clause-counts g c = refused-counts c.args.shop.now.marks.now c.args.bucket c.args.hand.now c.alloc.new.hand c.in-Err-NoRun.ensures.frees
 
 pub returns-in-Ok-alloc_large-clause-counts : goal.returns-in-Ok-alloc_large-clause-counts
-returns-in-Ok-alloc_large-clause-counts c =
+returns-in-Ok-alloc_large-clause-counts g c =
     large-counts c.args.shop.now.marks.now c.args.bucket c.count_placed-sampled.result c.args.hand.now c.flush.new.hand c.alloc_large.new.hand c.count_placed-sampled.new.hand
     c.in_ok-flush-in-Large.ensures.tally c.in-Ok-alloc_large.ensures.tally (ap (λ n. n.items) c.count_placed-sampled.ensures.notes) c.count_placed-sampled.ensures.tally
 
 pub returns-in-Err-NoRun-alloc_large-clause-counts : goal.returns-in-Err-NoRun-alloc_large-clause-counts
-returns-in-Err-NoRun-alloc_large-clause-counts c =
+returns-in-Err-NoRun-alloc_large-clause-counts g c =
     refused-counts c.args.shop.now.marks.now c.args.bucket c.args.hand.now c.alloc_large.new.hand
     (frees-both c.args.shop.now.marks.now c.args.hand.now c.flush.new.hand c.alloc_large.new.hand c.in_ok-flush-in-Large.ensures.tally c.in-Err-NoRun-alloc_large.ensures.tally)

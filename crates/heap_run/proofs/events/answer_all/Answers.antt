@@ -43,11 +43,8 @@ loop-turn-init g c =
 pub answer-requires-clause-counts : goal.answer-requires-clause-counts
 answer-requires-clause-counts g c = counts-may c.args.shop.now.ring.now c.args.shop.now.marks.now _ c.args.hand.now c.loop-turn.hand c.requires.counts c.loop-turn.invariant.counts
 
-pub answer-requires-clause-here : goal.answer-requires-clause-here
-answer-requires-clause-here g c = c.loop-turn.invariant.acted.here ∙ c.requires.here
-
-pub answer-requires-clause-table : goal.answer-requires-clause-table
-answer-requires-clause-table g c = c.loop-turn.invariant.acted.table ∙ c.requires.table
+pub answer-requires-clause-works : goal.answer-requires-clause-works
+answer-requires-clause-works g c = let a = c.loop-turn.invariant.acted in (a.table ∙ c.requires.works.0, a.away ∙ c.requires.works.1)
 
 pub answer-requires-clause-marks : goal.answer-requires-clause-marks
 answer-requires-clause-marks g c = c.requires.marks ∙ sym (ap (λ (v : View). v.marks) c.loop-turn.invariant.acted.view)

@@ -1,17 +1,17 @@
 use Rattle.std.proofs.Common.{◌∙◌, ◌++◌, ap}
 use Rattle.profile_cycle.specs.History.{Standing}
 use Rattle.heap_run.proofs.Counting.{counts-may, counts-turn, out-cycle, out-may, out-split}
-use Rattle.heap_run.proofs.Acted.{HandsOut, back-caching, handed, out-caching, out-idle, turn-back}
+use Rattle.heap_run.proofs.Acted.{HandsOut, back-caching, brought-back, hands-out, out-caching, out-idle, turn-back}
 use Rattle.heap_run.proofs.turns.run_processor.Goals as goal
 
 pub answer_all-requires-clause-idle : goal.answer_all-requires-clause-idle
 answer_all-requires-clause-idle g c κs low =
-    let o : HandsOut c.args.proc.now.number c.args.driver.now c.in_ok-hand.hand = handed c.args.proc.now.number _ c.args.driver.now c.in_ok-hand.hand c.requires.driver c.requires.parts c.requires.number (c.number.ensures) c.in_ok-hand.ensures.hand in
+    let o : HandsOut c.args.proc.now.number c.args.driver.now c.in_ok-hand.hand = hands-out c.args.proc.now.number _ c.args.driver.now c.in_ok-hand.hand c.requires.driver c.requires.parts c.requires.number (c.number.ensures) c.in_ok-hand.ensures.hand in
     out-idle c.args.proc.now.number c.args.driver.now c.in_ok-hand.hand o c.requires.idle
 
 pub answer_all-requires-clause-caching : goal.answer_all-requires-clause-caching
 answer_all-requires-clause-caching g c κs low =
-    let o : HandsOut c.args.proc.now.number c.args.driver.now c.in_ok-hand.hand = handed c.args.proc.now.number _ c.args.driver.now c.in_ok-hand.hand c.requires.driver c.requires.parts c.requires.number (c.number.ensures) c.in_ok-hand.ensures.hand in
+    let o : HandsOut c.args.proc.now.number c.args.driver.now c.in_ok-hand.hand = hands-out c.args.proc.now.number _ c.args.driver.now c.in_ok-hand.hand c.requires.driver c.requires.parts c.requires.number (c.number.ensures) c.in_ok-hand.ensures.hand in
     out-caching c.args.proc.now.number c.args.driver.now c.in_ok-hand.hand c.args.proc.now o c.requires.caching
 
 pub answer_all-requires-clause-counts : goal.answer_all-requires-clause-counts
@@ -36,14 +36,14 @@ bring_back-requires-clause-cycle g c = out-cycle c.args.shop.now.marks.now _ _ c
 
 pub returns-clause-turn : goal.returns-clause-turn
 returns-clause-turn g c =
-    let o : HandsOut c.args.proc.now.number c.args.driver.now c.in_ok-hand.hand = handed c.args.proc.now.number _ c.args.driver.now c.in_ok-hand.hand c.requires.driver c.requires.parts c.requires.number (c.number.ensures) c.in_ok-hand.ensures.hand in
-    turn-back _ c.args.proc.now.number c.args.driver.now c.in_ok-hand.hand c.answer_all.new.hand c.bring_back.new.driver o c.in_ok-answer_all.ensures.acted c.bring_back.ensures.worker
+    let o : HandsOut c.args.proc.now.number c.args.driver.now c.in_ok-hand.hand = hands-out c.args.proc.now.number _ c.args.driver.now c.in_ok-hand.hand c.requires.driver c.requires.parts c.requires.number (c.number.ensures) c.in_ok-hand.ensures.hand in
+    turn-back _ c.args.proc.now.number c.args.driver.now c.in_ok-hand.hand c.answer_all.new.hand c.bring_back.new.driver o c.in_ok-answer_all.ensures.acted (brought-back c.args.proc.now.number _ c.args.driver.now.worker c.send_out.new.driver.worker c.answer_all.new.hand.worker c.bring_back.new.driver.worker (c.number.ensures) c.in_ok-hand.ensures.away c.bring_back.ensures.worker)
     (c.in_ok-bring_back.ensures.notes ∙ ap (λ n. n.items ++ c.answer_all.new.hand.notes.items) c.in_ok-hand.ensures.notes)
 
 pub returns-clause-caching : goal.returns-clause-caching
 returns-clause-caching g c =
-    let o : HandsOut c.args.proc.now.number c.args.driver.now c.in_ok-hand.hand = handed c.args.proc.now.number _ c.args.driver.now c.in_ok-hand.hand c.requires.driver c.requires.parts c.requires.number (c.number.ensures) c.in_ok-hand.ensures.hand in
-    back-caching _ c.args.proc.now.number c.args.driver.now c.in_ok-hand.hand c.answer_all.new.hand c.bring_back.new.driver c.answer_all.new.proc o c.in_ok-answer_all.ensures.acted c.bring_back.ensures.worker c.in_ok-answer_all.ensures.caching
+    let o : HandsOut c.args.proc.now.number c.args.driver.now c.in_ok-hand.hand = hands-out c.args.proc.now.number _ c.args.driver.now c.in_ok-hand.hand c.requires.driver c.requires.parts c.requires.number (c.number.ensures) c.in_ok-hand.ensures.hand in
+    back-caching _ c.args.proc.now.number c.args.driver.now c.in_ok-hand.hand c.answer_all.new.hand c.bring_back.new.driver c.answer_all.new.proc o c.in_ok-answer_all.ensures.acted (brought-back c.args.proc.now.number _ c.args.driver.now.worker c.send_out.new.driver.worker c.answer_all.new.hand.worker c.bring_back.new.driver.worker (c.number.ensures) c.in_ok-hand.ensures.away c.bring_back.ensures.worker) c.in_ok-answer_all.ensures.caching
 
 pub returns-clause-counts : goal.returns-clause-counts
 returns-clause-counts g c =

@@ -5,7 +5,7 @@ use Rattle.span_set.specs.declared.hand.Hand.{Hand}
 use Rattle.heap_run.specs.Turns.{HasActed, SaysNone}
 use Rattle.profile_cycle.specs.History.{Standing}
 use Rattle.heap_run.proofs.Counting.{counts-may, counts-none, counts-turn, out-cycle, out-may, out-split}
-use Rattle.heap_run.proofs.Acted.{HandsOut, back-cached, handed, ok-map, out-idle, turn-back}
+use Rattle.heap_run.proofs.Acted.{HandsOut, back-cached, brought-back, hands-out, ok-map, out-idle, turn-back}
 use Rattle.heap_run.proofs.Settling.{known-acted}
 use Rattle.heap_run.proofs.turns.run_scavenger.Goals as goal
 
@@ -28,21 +28,21 @@ bring_back-requires-clause-cycle g c = out-cycle c.args.shop.now.marks.now _ _ c
 
 pub returns-clause-turn : goal.returns-clause-turn
 returns-clause-turn g c =
-    let o : HandsOut 68 c.args.driver.now c.in_ok-hand.hand = handed 68 _ c.args.driver.now c.in_ok-hand.hand c.requires.driver c.requires.parts (omega arith) refl c.in_ok-hand.ensures.hand in
+    let o : HandsOut 68 c.args.driver.now c.in_ok-hand.hand = hands-out 68 _ c.args.driver.now c.in_ok-hand.hand c.requires.driver c.requires.parts (omega arith) refl c.in_ok-hand.ensures.hand in
     let idle = out-idle 68 c.args.driver.now c.in_ok-hand.hand o c.requires.idle in
     let end : Hand = (record { worker = c.scavenge_to.new.w; notes = c.in_ok-hand.hand.notes; tally = c.in_ok-hand.hand.tally }) in
-    let acted : HasActed SaysNone c.in_ok-hand.hand end = known-acted c.in_ok-hand.hand end _ c.in_ok-scavenge_to.ensures.steps.2.view refl idle in
-    ok-map c.bring_back.result _ _ (λ notes. turn-back SaysNone 68 c.args.driver.now c.in_ok-hand.hand end c.bring_back.new.driver o acted c.bring_back.ensures.worker
+    let acted : HasActed SaysNone c.in_ok-hand.hand end = known-acted c.in_ok-hand.hand end c.scavenge_to.ensures.same refl idle in
+    ok-map c.bring_back.result _ _ (λ notes. turn-back SaysNone 68 c.args.driver.now c.in_ok-hand.hand end c.bring_back.new.driver o acted (brought-back 68 _ c.args.driver.now.worker c.send_out.new.driver.worker end.worker c.bring_back.new.driver.worker refl c.in_ok-hand.ensures.away c.bring_back.ensures.worker)
     (notes ∙ ap (λ n. n.items ++ c.in_ok-hand.hand.notes.items) c.in_ok-hand.ensures.notes)) c.bring_back.ensures.notes
 
 pub returns-clause-cached : goal.returns-clause-cached
 returns-clause-cached g c =
-    let o : HandsOut 68 c.args.driver.now c.in_ok-hand.hand = handed 68 _ c.args.driver.now c.in_ok-hand.hand c.requires.driver c.requires.parts (omega arith) refl c.in_ok-hand.ensures.hand in
+    let o : HandsOut 68 c.args.driver.now c.in_ok-hand.hand = hands-out 68 _ c.args.driver.now c.in_ok-hand.hand c.requires.driver c.requires.parts (omega arith) refl c.in_ok-hand.ensures.hand in
     let idle = out-idle 68 c.args.driver.now c.in_ok-hand.hand o c.requires.idle in
     let end : Hand = (record { worker = c.scavenge_to.new.w; notes = c.in_ok-hand.hand.notes; tally = c.in_ok-hand.hand.tally }) in
-    let acted : HasActed SaysNone c.in_ok-hand.hand end = known-acted c.in_ok-hand.hand end _ c.in_ok-scavenge_to.ensures.steps.2.view refl idle in
-    ok-map c.bring_back.result _ _ (λ notes. back-cached SaysNone 68 c.args.driver.now c.in_ok-hand.hand end c.bring_back.new.driver o acted c.bring_back.ensures.worker
-    (ap (λ (w : Seen). w.view.own.cached) c.in_ok-scavenge_to.ensures.steps.2.view)) c.bring_back.ensures.notes
+    let acted : HasActed SaysNone c.in_ok-hand.hand end = known-acted c.in_ok-hand.hand end c.scavenge_to.ensures.same refl idle in
+    ok-map c.bring_back.result _ _ (λ notes. back-cached SaysNone 68 c.args.driver.now c.in_ok-hand.hand end c.bring_back.new.driver o acted (brought-back 68 _ c.args.driver.now.worker c.send_out.new.driver.worker end.worker c.bring_back.new.driver.worker refl c.in_ok-hand.ensures.away c.bring_back.ensures.worker)
+    (ap (λ (w : Seen). w.view.own.cached) c.scavenge_to.ensures.same)) c.bring_back.ensures.notes
 
 pub returns-clause-counts : goal.returns-clause-counts
 returns-clause-counts g c =

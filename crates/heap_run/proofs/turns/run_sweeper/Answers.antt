@@ -3,7 +3,7 @@ use Rattle.std.proofs.lemmas.Result.{err_from_is_err_and}
 use Rattle.heap_run.specs.Turns.{HasActed, SaysNone}
 use Rattle.profile_cycle.specs.History.{Standing}
 use Rattle.heap_run.proofs.Counting.{counts-may, counts-turn, frees-counts, out-cycle, out-may, out-split}
-use Rattle.heap_run.proofs.Acted.{HandsOut, acted-as, back-cached, handed, ok-map, out-idle, turn-back, works-acted}
+use Rattle.heap_run.proofs.Acted.{HandsOut, acted-as, back-cached, brought-back, hands-out, ok-map, out-idle, turn-back, works-acted}
 use Rattle.heap_run.proofs.turns.run_sweeper.Goals as goal
 
 pub finish-requires-clause-counts : goal.finish-requires-clause-counts
@@ -28,19 +28,19 @@ bring_back-requires-clause-cycle g c = out-cycle c.args.shop.now.marks.now _ _ c
 
 pub returns-clause-turn : goal.returns-clause-turn
 returns-clause-turn g c =
-    let o : HandsOut c.args.number c.args.driver.now c.in_ok-hand.hand = handed c.args.number _ c.args.driver.now c.in_ok-hand.hand c.requires.driver c.requires.parts c.requires.number refl c.in_ok-hand.ensures.hand in
+    let o : HandsOut c.args.number c.args.driver.now c.in_ok-hand.hand = hands-out c.args.number _ c.args.driver.now c.in_ok-hand.hand c.requires.driver c.requires.parts c.requires.number refl c.in_ok-hand.ensures.hand in
     let idle = out-idle c.args.number c.args.driver.now c.in_ok-hand.hand o c.requires.idle in
     let works = works-acted _ c.in_ok-hand.hand c.finish.new.driver c.in_ok-finish.ensures.did (λ said p. p.0.takes_none.unmissed) idle in
     let acted : HasActed SaysNone c.in_ok-hand.hand c.finish.new.driver = acted-as _ SaysNone c.in_ok-hand.hand c.finish.new.driver works (λ said p. p.0) in
-    ok-map c.bring_back.result _ _ (λ notes. turn-back SaysNone c.args.number c.args.driver.now c.in_ok-hand.hand c.finish.new.driver c.bring_back.new.driver o acted c.bring_back.ensures.worker
+    ok-map c.bring_back.result _ _ (λ notes. turn-back SaysNone c.args.number c.args.driver.now c.in_ok-hand.hand c.finish.new.driver c.bring_back.new.driver o acted (brought-back c.args.number _ c.args.driver.now.worker c.send_out.new.driver.worker c.finish.new.driver.worker c.bring_back.new.driver.worker refl c.in_ok-hand.ensures.away c.bring_back.ensures.worker)
     (notes ∙ ap (λ n. n.items ++ c.finish.new.driver.notes.items) c.in_ok-hand.ensures.notes)) c.bring_back.ensures.notes
 
 pub returns-clause-cached : goal.returns-clause-cached
 returns-clause-cached g c =
-    let o : HandsOut c.args.number c.args.driver.now c.in_ok-hand.hand = handed c.args.number _ c.args.driver.now c.in_ok-hand.hand c.requires.driver c.requires.parts c.requires.number refl c.in_ok-hand.ensures.hand in
+    let o : HandsOut c.args.number c.args.driver.now c.in_ok-hand.hand = hands-out c.args.number _ c.args.driver.now c.in_ok-hand.hand c.requires.driver c.requires.parts c.requires.number refl c.in_ok-hand.ensures.hand in
     let idle = out-idle c.args.number c.args.driver.now c.in_ok-hand.hand o c.requires.idle in
     let works = works-acted _ c.in_ok-hand.hand c.finish.new.driver c.in_ok-finish.ensures.did (λ said p. p.0.takes_none.unmissed) idle in
-    ok-map c.bring_back.result _ _ (λ notes. back-cached _ c.args.number c.args.driver.now c.in_ok-hand.hand c.finish.new.driver c.bring_back.new.driver o works c.bring_back.ensures.worker c.in_ok-finish.ensures.did.does.stays.cached) c.bring_back.ensures.notes
+    ok-map c.bring_back.result _ _ (λ notes. back-cached _ c.args.number c.args.driver.now c.in_ok-hand.hand c.finish.new.driver c.bring_back.new.driver o works (brought-back c.args.number _ c.args.driver.now.worker c.send_out.new.driver.worker c.finish.new.driver.worker c.bring_back.new.driver.worker refl c.in_ok-hand.ensures.away c.bring_back.ensures.worker) c.in_ok-finish.ensures.did.does.stays.cached) c.bring_back.ensures.notes
 
 pub returns-clause-counts : goal.returns-clause-counts
 returns-clause-counts g c =

@@ -11,10 +11,10 @@ use Rattle.span_set.proofs.Tallies.{frees-both, frees-none, may-still}
 use Rattle.large_objects.proofs.larges.alloc_large.Goals as goal
 
 pub returns-in_default-clause-did : goal.returns-in_default-clause-did
-returns-in_default-clause-did c = paid_nothing c.args.shop.now.pages c.args.shop.now.distance (c.from-bytes.result * 8192) c.args.pages c.args.hand.now c.pay.new.hand c.requires.idle c.in_default.ensures.did
+returns-in_default-clause-did g c = paid_nothing c.args.shop.now.pages c.args.shop.now.distance (c.from-bytes.result * 8192) c.args.pages c.args.hand.now c.pay.new.hand c.requires.idle c.in_default.ensures.did
 
 pub returns-in_err-body-clause-did : goal.returns-in_err-body-clause-did
-returns-in_err-body-clause-did c =
+returns-in_err-body-clause-did g c =
     let n = c.args.pages in
     let e : c.from-bytes.result * 8192 ≡ 8192 * n = (let a = c.from-bytes.ensures in omega arith) in
     let w = subst (λ (b : ℕ). Pays c.args.shop.now.pages c.args.shop.now.distance b n c.args.hand.now c.pay.new.hand (Ok c.in-Ok.field-0)) e c.in-Ok.ensures.did in
@@ -23,7 +23,7 @@ returns-in_err-body-clause-did c =
     rw (p.1, p.2) (large_refused c.args.shop.now.pages c.args.shop.now.distance n c.args.class c.args.hand.now c.pay.new.hand f.0 f.1 f.2 f.3 c.new_span.new.hand c.in_err-body.field-0.0 c.in_err-body.ensures.did)
 
 pub returns-clause-did : goal.returns-clause-did
-returns-clause-did c =
+returns-clause-did g c =
     let n = c.args.pages in
     let e : c.from-bytes.result * 8192 ≡ 8192 * n = (let a = c.from-bytes.ensures in omega arith) in
     let w = subst (λ (b : ℕ). Pays c.args.shop.now.pages c.args.shop.now.distance b n c.args.hand.now c.pay.new.hand (Ok c.in-Ok.field-0)) e c.in-Ok.ensures.did in
@@ -34,12 +34,12 @@ returns-clause-did c =
     (c.add_spent.ensures ∙ ap (λ (b : ℕ). after_said (Adds 3 c.add_spent.result b) m2.worker) e) refl c.put_object.ensures.puts
 
 pub new_span-requires-clause-counts : goal.new_span-requires-clause-counts
-new_span-requires-clause-counts c = may-still c.args.shop.now.marks.now c.args.shop.now.ring.now c.args.hand.now c.pay.new.hand c.requires.counts c.pay.ensures.tally
+new_span-requires-clause-counts g c = may-still c.args.shop.now.marks.now c.args.shop.now.ring.now c.args.hand.now c.pay.new.hand c.requires.counts c.pay.ensures.tally
 
 pub returns-in_err-body-clause-tally : goal.returns-in_err-body-clause-tally
-returns-in_err-body-clause-tally c = frees-both c.args.shop.now.marks.now c.args.hand.now c.pay.new.hand c.new_span.new.hand c.pay.ensures.tally c.new_span.ensures.tally
+returns-in_err-body-clause-tally g c = frees-both c.args.shop.now.marks.now c.args.hand.now c.pay.new.hand c.new_span.new.hand c.pay.ensures.tally c.new_span.ensures.tally
 
 pub returns-clause-tally : goal.returns-clause-tally
-returns-clause-tally c = let m = c.args.shop.now.marks.now in let mid : Hand = c.new_span.new.hand in let spent : Hand = record mid { worker = c.add_spent.new.w } in
+returns-clause-tally g c = let m = c.args.shop.now.marks.now in let mid : Hand = c.new_span.new.hand in let spent : Hand = record mid { worker = c.add_spent.new.w } in
     frees-both m c.args.hand.now mid c.put_object.new.hand (frees-both m c.args.hand.now c.pay.new.hand mid c.pay.ensures.tally c.new_span.ensures.tally)
     (frees-both m mid spent c.put_object.new.hand (frees-none m mid spent refl refl) (frees-none m spent c.put_object.new.hand (ap (λ r. r.items) c.put_object.ensures.puts.1) c.put_object.ensures.counted))

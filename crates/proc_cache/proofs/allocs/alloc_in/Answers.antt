@@ -8,14 +8,14 @@ use Rattle.span_set.proofs.Tallies.{frees-both, frees-none, may-still}
 use Rattle.proc_cache.proofs.allocs.alloc_in.Goals as goal
 
 pub returns-in_default-clause-allocates : goal.returns-in_default-clause-allocates
-returns-in_default-clause-allocates c = flush_refused c.args.shop.now.pages c.args.shop.now.distance c.args.class c.args.proc.now c.flush.new.proc c.args.hand.now c.flush.new.hand c.in_default.field-0 c.in_default.ensures.flushes
+returns-in_default-clause-allocates g c = flush_refused c.args.shop.now.pages c.args.shop.now.distance c.args.class c.args.proc.now c.flush.new.proc c.args.hand.now c.flush.new.hand c.in_default.field-0 c.in_default.ensures.flushes
 
 pub returns-in-At-clause-allocates : goal.returns-in-At-clause-allocates
-returns-in-At-clause-allocates c = flushed_hit c.args.shop.now.pages c.args.shop.now.distance c.args.class c.args.proc.now c.flush.new.proc c.args.hand.now c.flush.new.hand c.in-Ok.ensures.flushes c.flush.ensures.serves
+returns-in-At-clause-allocates g c = flushed_hit c.args.shop.now.pages c.args.shop.now.distance c.args.class c.args.proc.now c.flush.new.proc c.args.hand.now c.flush.new.hand c.in-Ok.ensures.flushes c.flush.ensures.serves
     c.in-At.addr c.alloc_hit.new.proc c.alloc_hit.new.w c.in-At.ensures.hits
 
 pub returns-in-Miss-clause-allocates : goal.returns-in-Miss-clause-allocates
-returns-in-Miss-clause-allocates c =
+returns-in-Miss-clause-allocates g c =
     let h = c.in-Miss.ensures.hits in let pages = c.args.shop.now.pages in let distance = c.args.shop.now.distance in let k = c.args.class in
     let d = c.alloc_missed.new.proc in let new = c.alloc_missed.new.hand in let r = c.alloc_missed.result in
     let mid : Hand = c.flush.new.hand in
@@ -24,16 +24,16 @@ returns-in-Miss-clause-allocates c =
     flushed_then pages distance k c.args.proc.now c.flush.new.proc c.args.hand.now mid c.in-Ok.ensures.flushes d new r b
 
 pub alloc_missed-requires-clause-counts : goal.alloc_missed-requires-clause-counts
-alloc_missed-requires-clause-counts c = may-still c.args.shop.now.marks.now c.args.shop.now.ring.now c.args.hand.now (record c.flush.new.hand { worker = c.alloc_hit.new.w }) c.requires.counts (frees-both c.args.shop.now.marks.now c.args.hand.now c.flush.new.hand (record c.flush.new.hand { worker = c.alloc_hit.new.w }) c.flush.ensures.tally (frees-none c.args.shop.now.marks.now c.flush.new.hand (record c.flush.new.hand { worker = c.alloc_hit.new.w }) refl refl))
+alloc_missed-requires-clause-counts g c = may-still c.args.shop.now.marks.now c.args.shop.now.ring.now c.args.hand.now (record c.flush.new.hand { worker = c.alloc_hit.new.w }) c.requires.counts (frees-both c.args.shop.now.marks.now c.args.hand.now c.flush.new.hand (record c.flush.new.hand { worker = c.alloc_hit.new.w }) c.flush.ensures.tally (frees-none c.args.shop.now.marks.now c.flush.new.hand (record c.flush.new.hand { worker = c.alloc_hit.new.w }) refl refl))
 
 pub returns-in-At-clause-countdown : goal.returns-in-At-clause-countdown
-returns-in-At-clause-countdown c = c.alloc_hit.ensures.countdown ∙ c.flush.ensures.countdown
+returns-in-At-clause-countdown g c = c.alloc_hit.ensures.countdown ∙ c.flush.ensures.countdown
 
 pub returns-in-At-clause-tally : goal.returns-in-At-clause-tally
-returns-in-At-clause-tally c = frees-both c.args.shop.now.marks.now c.args.hand.now c.flush.new.hand (record c.flush.new.hand { worker = c.alloc_hit.new.w }) c.flush.ensures.tally (frees-none c.args.shop.now.marks.now c.flush.new.hand (record c.flush.new.hand { worker = c.alloc_hit.new.w }) refl refl)
+returns-in-At-clause-tally g c = frees-both c.args.shop.now.marks.now c.args.hand.now c.flush.new.hand (record c.flush.new.hand { worker = c.alloc_hit.new.w }) c.flush.ensures.tally (frees-none c.args.shop.now.marks.now c.flush.new.hand (record c.flush.new.hand { worker = c.alloc_hit.new.w }) refl refl)
 
 pub returns-in-Miss-clause-countdown : goal.returns-in-Miss-clause-countdown
-returns-in-Miss-clause-countdown c = c.alloc_missed.ensures.countdown ∙ c.alloc_hit.ensures.countdown ∙ c.flush.ensures.countdown
+returns-in-Miss-clause-countdown g c = c.alloc_missed.ensures.countdown ∙ c.alloc_hit.ensures.countdown ∙ c.flush.ensures.countdown
 
 pub returns-in-Miss-clause-tally : goal.returns-in-Miss-clause-tally
-returns-in-Miss-clause-tally c = frees-both c.args.shop.now.marks.now c.args.hand.now (record c.flush.new.hand { worker = c.alloc_hit.new.w }) c.alloc_missed.new.hand (frees-both c.args.shop.now.marks.now c.args.hand.now c.flush.new.hand (record c.flush.new.hand { worker = c.alloc_hit.new.w }) c.flush.ensures.tally (frees-none c.args.shop.now.marks.now c.flush.new.hand (record c.flush.new.hand { worker = c.alloc_hit.new.w }) refl refl)) c.alloc_missed.ensures.tally
+returns-in-Miss-clause-tally g c = frees-both c.args.shop.now.marks.now c.args.hand.now (record c.flush.new.hand { worker = c.alloc_hit.new.w }) c.alloc_missed.new.hand (frees-both c.args.shop.now.marks.now c.args.hand.now c.flush.new.hand (record c.flush.new.hand { worker = c.alloc_hit.new.w }) c.flush.ensures.tally (frees-none c.args.shop.now.marks.now c.flush.new.hand (record c.flush.new.hand { worker = c.alloc_hit.new.w }) refl refl)) c.alloc_missed.ensures.tally

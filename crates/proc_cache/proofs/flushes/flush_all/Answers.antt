@@ -8,14 +8,14 @@ use Rattle.span_set.proofs.Tallies.{frees-both, frees-none, may-still}
 use Rattle.proc_cache.proofs.flushes.flush_all.Goals as goal
 
 pub loop-class-init : goal.loop-class-init
-loop-class-init c = record {
+loop-class-init g c = record {
   some = some_first c.args.proc.now c.args.hand.now c.requires.idle c.requires.serves;
   countdown = refl;
   tally = frees-none c.args.shop.now.marks.now c.args.hand.now c.args.hand.now refl refl;
 }
 
 pub loop-class-preserved : goal.loop-class-preserved
-loop-class-preserved c = record {
+loop-class-preserved g c = record {
   some = some_more c.args.proc.now c.args.hand.now c.loop-class.class c.loop-class.proc c.flush_class.new.proc c.loop-class.hand c.flush_class.new.hand c.loop-class.invariant.some
       c.in_ok-flush_class.ensures.flushes.0 c.in_ok-flush_class.ensures.flushes.1 c.flush_class.ensures.serves;
   countdown = c.flush_class.ensures.countdown ∙ c.loop-class.invariant.countdown;
@@ -23,7 +23,7 @@ loop-class-preserved c = record {
 }
 
 pub returns-clause-serves : goal.returns-clause-serves
-returns-clause-serves c =
+returns-clause-serves g c =
     let i = c.proc.inside in let d = c.loop-class.proc in let new = c.loop-class.hand in let old = c.args.hand.now in
     let e : Cache = record { number = i.number; flushed = c.args.generation; slots = spans_of i.slots.items; countdown = i.sampler } in
     let end : c.loop-class.class ≡ 136 = omega arith in
@@ -33,7 +33,7 @@ returns-clause-serves c =
     (c.requires.generation ∙ sym (ap (λ (v : View). v.generation) x.flushes.leaves.view))
 
 pub returns-clause-flushes : goal.returns-clause-flushes
-returns-clause-flushes c =
+returns-clause-flushes g c =
     let i = c.proc.inside in let d = c.loop-class.proc in let new = c.loop-class.hand in let old = c.args.hand.now in let g = old.worker.view.generation in
     let e : Cache = record { number = i.number; flushed = c.args.generation; slots = spans_of i.slots.items; countdown = i.sampler } in
     let end : c.loop-class.class ≡ 136 = omega arith in
@@ -45,13 +45,13 @@ returns-clause-flushes c =
     )
 
 pub flush_class-requires-clause-counts : goal.flush_class-requires-clause-counts
-flush_class-requires-clause-counts c = may-still c.args.shop.now.marks.now c.args.shop.now.ring.now c.args.hand.now c.loop-class.hand c.requires.counts c.loop-class.invariant.tally
+flush_class-requires-clause-counts g c = may-still c.args.shop.now.marks.now c.args.shop.now.ring.now c.args.hand.now c.loop-class.hand c.requires.counts c.loop-class.invariant.tally
 
 pub returns-in_err-flush_class-clause-tally : goal.returns-in_err-flush_class-clause-tally
-returns-in_err-flush_class-clause-tally c = frees-both c.args.shop.now.marks.now c.args.hand.now c.loop-class.hand c.flush_class.new.hand c.loop-class.invariant.tally c.flush_class.ensures.tally
+returns-in_err-flush_class-clause-tally g c = frees-both c.args.shop.now.marks.now c.args.hand.now c.loop-class.hand c.flush_class.new.hand c.loop-class.invariant.tally c.flush_class.ensures.tally
 
 pub returns-in_err-flush_class-clause-countdown : goal.returns-in_err-flush_class-clause-countdown
-returns-in_err-flush_class-clause-countdown c = c.flush_class.ensures.countdown ∙ c.loop-class.invariant.countdown
+returns-in_err-flush_class-clause-countdown g c = c.flush_class.ensures.countdown ∙ c.loop-class.invariant.countdown
 
 pub returns-clause-countdown : goal.returns-clause-countdown
-returns-clause-countdown c = ap (λ (z : Cache). z.countdown) c.proc.view_is ∙ c.loop-class.invariant.countdown
+returns-clause-countdown g c = ap (λ (z : Cache). z.countdown) c.proc.view_is ∙ c.loop-class.invariant.countdown

@@ -7,17 +7,17 @@ use Rattle.span_set.proofs.Tallies.{frees-both, may-still}
 use Rattle.proc_cache.proofs.refills.find_span.Goals as goal
 
 pub returns-in_default-clause-finds : goal.returns-in_default-clause-finds
-returns-in_default-clause-finds c = paid_nothing c.args.shop.now.pages c.args.shop.now.distance (c.from.result * 8192) 0 c.args.hand.now c.pay.new.hand c.requires.idle c.in_default.ensures.did
+returns-in_default-clause-finds g c = paid_nothing c.args.shop.now.pages c.args.shop.now.distance (c.from.result * 8192) 0 c.args.hand.now c.pay.new.hand c.requires.idle c.in_default.ensures.did
 
 pub returns-clause-finds : goal.returns-clause-finds
-returns-clause-finds c =
+returns-clause-finds g c =
     let e : c.from.result * 8192 ≡ bytes_of c.args.class = (let a = c.from.ensures in let b = c.span_pages-pages.ensures.pages in omega arith) in
     let w = subst (λ (b : ℕ). Pays c.args.shop.now.pages c.args.shop.now.distance b 0 c.args.hand.now c.pay.new.hand (Ok c.in-Ok.field-0)) e c.in-Ok.ensures.did in
     let p = paid c.args.shop.now.pages c.args.shop.now.distance (bytes_of c.args.class) 0 c.args.hand.now c.pay.new.hand c.requires.idle c.in-Ok.field-0 w in
     finds c.args.shop.now.pages c.args.shop.now.distance c.args.class c.args.hand.now c.pay.new.hand p.0 p.1 p.2 p.3 c.take_span.new.hand c.take_span.result c.take_span.ensures.comes
 
 pub take_span-requires-clause-counts : goal.take_span-requires-clause-counts
-take_span-requires-clause-counts c = may-still c.args.shop.now.marks.now c.args.shop.now.ring.now c.args.hand.now c.pay.new.hand c.requires.counts c.pay.ensures.tally
+take_span-requires-clause-counts g c = may-still c.args.shop.now.marks.now c.args.shop.now.ring.now c.args.hand.now c.pay.new.hand c.requires.counts c.pay.ensures.tally
 
 pub returns-clause-tally : goal.returns-clause-tally
-returns-clause-tally c = frees-both c.args.shop.now.marks.now c.args.hand.now c.pay.new.hand c.take_span.new.hand c.pay.ensures.tally c.take_span.ensures.tally
+returns-clause-tally g c = frees-both c.args.shop.now.marks.now c.args.hand.now c.pay.new.hand c.take_span.new.hand c.pay.ensures.tally c.take_span.ensures.tally

@@ -11,13 +11,13 @@ use Rattle.span_rows.proofs.Tables.{ready_taken, untouched_sets}
 use Rattle.span_rows.proofs.helpers.large.Goals as goal
 
 pub note_alloc-requires-clause-free : goal.note_alloc-requires-clause-free
-note_alloc-requires-clause-free c = record { inside = (let s = c.in-Ok.body.some_object in omega arith); free = c.in-Ok.ensures.is_new.empty 0; lowest = λ j l. absurd (omega arith) }
+note_alloc-requires-clause-free g c = record { inside = (let s = c.in-Ok.body.some_object in omega arith); free = c.in-Ok.ensures.is_new.empty 0; lowest = λ j l. absurd (omega arith) }
 
 pub returns-in-Err-clause-ready : goal.returns-in-Err-clause-ready
-returns-in-Err-clause-ready c = ready_taken c.args.shared.now c.args.w.now c.requires.ready c.max.result 0 c.take_span.new.w (Err c.in-Err.refused) c.in-Err.ensures
+returns-in-Err-clause-ready g c = ready_taken c.args.shared.now c.args.w.now c.requires.ready c.max.result 0 c.take_span.new.w (Err c.in-Err.refused) c.in-Err.ensures
 
 pub returns-clause-body : goal.returns-clause-body
-returns-clause-body c = let t = c.in-Ok.ensures in let a = c.note_alloc.ensures in let b = c.note_alloc.new.body in let old = c.in-Ok.body in
+returns-clause-body g c = let t = c.in-Ok.ensures in let a = c.note_alloc.ensures in let b = c.note_alloc.new.body in let old = c.in-Ok.body in
     let count : b.count ≡ 1 = a.same.count ∙ (t.is_new.large (omega arith)).0 in record {
       class = a.same.class ∙ t.is_new.class;
       held = ap (λ (x : Seen). has b.page x.view.own.held) (a.view ∙ ap (after_of (Places 0) (span_of b)) t.view)

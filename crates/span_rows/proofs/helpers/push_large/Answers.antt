@@ -15,4 +15,4 @@ push-requires-clause-may c = let b = c.requires.body in let g = c.args.w.now.vie
 }
 
 pub returns : goal.returns
-returns c = ready_acts c.args.shared.now c.args.w.now c.requires.ready _ c.push.new.w c.push.ensures refl
+returns c = ready_acts c.args.shared.now c.args.w.now c.requires.ready _ _ c.push.new.w c.push.ensures refl

@@ -13,12 +13,12 @@ raise_swept-requires-clause-read c = let cell = c.look_cell-cell.result in
     read_cell c.args.set c.args.head cell (cell - 1) c.args.w.now c.look_cell-cell.new.w c.look_cell-cell.ensures.view (let z = c.if-cell-eq0.false in omega arith)
 
 pub returns-then-cell-eq0 : goal.returns-then-cell-eq0
-returns-then-cell-eq0 c = ready_acts c.args.shared.now c.args.w.now c.requires.ready _ c.look_cell-cell.new.w c.look_cell-cell.ensures.view c.requires.ready.unclaimed
+returns-then-cell-eq0 c = ready_acts c.args.shared.now c.args.w.now c.requires.ready _ _ c.look_cell-cell.new.w c.look_cell-cell.ensures.view c.requires.ready.unclaimed
 
 pub returns-in-Ok : goal.returns-in-Ok
 returns-in-Ok c = let cell = c.look_cell-cell.result in
-    ready_raised c.args.shared.now c.look_cell-cell.new.w (ready_acts c.args.shared.now c.args.w.now c.requires.ready _ c.look_cell-cell.new.w c.look_cell-cell.ensures.view c.requires.ready.unclaimed) c.args.set c.args.head c.args.tail (cell - 1) c.raise_swept.new.w (Ok c.in-Ok.body) c.in-Ok.ensures
+    ready_raised c.args.shared.now c.look_cell-cell.new.w (ready_acts c.args.shared.now c.args.w.now c.requires.ready _ _ c.look_cell-cell.new.w c.look_cell-cell.ensures.view c.requires.ready.unclaimed) c.args.set c.args.head c.args.tail (cell - 1) c.raise_swept.new.w (Ok c.in-Ok.body) c.in-Ok.ensures
 
 pub returns-in-Err : goal.returns-in-Err
 returns-in-Err c = let cell = c.look_cell-cell.result in
-    ready_raised c.args.shared.now c.look_cell-cell.new.w (ready_acts c.args.shared.now c.args.w.now c.requires.ready _ c.look_cell-cell.new.w c.look_cell-cell.ensures.view c.requires.ready.unclaimed) c.args.set c.args.head c.args.tail (cell - 1) c.raise_swept.new.w (Err c.in-Err.found) c.in-Err.ensures
+    ready_raised c.args.shared.now c.look_cell-cell.new.w (ready_acts c.args.shared.now c.args.w.now c.requires.ready _ _ c.look_cell-cell.new.w c.look_cell-cell.ensures.view c.requires.ready.unclaimed) c.args.set c.args.head c.args.tail (cell - 1) c.raise_swept.new.w (Err c.in-Err.found) c.in-Err.ensures

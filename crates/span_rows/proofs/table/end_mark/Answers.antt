@@ -2,5 +2,5 @@ use Rattle.span_rows.proofs.Driving.{own_of}
 use Rattle.span_rows.proofs.table.end_mark.Goals as goal
 
 pub returns : goal.returns
-returns c = let i = c.in_ok-turn.ensures.turned.idle in
-    record { ready = record { here = i.here; table = i.table; unclaimed = (own_of c.turn-2.new.shared c.turn-2.new.w i).claimed } }
+returns g c = let i = c.in_ok-turn.ensures.turned.idle in
+    record { ready = record { works = i.works; number = i.number; unclaimed = (own_of c.turn-2.new.shared c.turn-2.new.w i).claimed } }

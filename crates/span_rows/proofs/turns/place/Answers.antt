@@ -9,17 +9,17 @@ use Rattle.span_rows.proofs.Driving.{own_idle, placed_free, untouched_pops}
 use Rattle.span_rows.proofs.turns.place.Goals as goal
 
 pub note_alloc-requires-clause-place : goal.note_alloc-requires-clause-place
-note_alloc-requires-clause-place c = let o = own_idle c.args.shared.now c.args.w.now c.requires.free in let t = c.in-Ok.ensures in
+note_alloc-requires-clause-place g c = let o = own_idle c.args.shared.now c.args.w.now c.requires.free in let t = c.in-Ok.ensures in
     rw t.view (inr (has_end_here c.in-Ok.body.page c.args.w.now.view.own.held, o.claimed, (t.is_new.large (omega arith)).0))
 
 pub note_alloc-requires-clause-free : goal.note_alloc-requires-clause-free
-note_alloc-requires-clause-free c = record { inside = (let s = c.in-Ok.body.some_object in omega arith); free = c.in-Ok.ensures.is_new.empty 0; lowest = λ j l. absurd (omega arith) }
+note_alloc-requires-clause-free g c = record { inside = (let s = c.in-Ok.body.some_object in omega arith); free = c.in-Ok.ensures.is_new.empty 0; lowest = λ j l. absurd (omega arith) }
 
 pub claim-claim-requires-clause-unclaimed : goal.claim-claim-requires-clause-unclaimed
-claim-claim-requires-clause-unclaimed c = let o = own_idle c.args.shared.now c.args.w.now c.requires.free in rw (c.note_alloc.ensures.view, c.in-Ok.ensures.view) o.claimed
+claim-claim-requires-clause-unclaimed g c = let o = own_idle c.args.shared.now c.args.w.now c.requires.free in rw (c.note_alloc.ensures.view, c.in-Ok.ensures.view) o.claimed
 
 pub claim-claim-requires-clause-may : goal.claim-claim-requires-clause-may
-claim-claim-requires-clause-may c = let t = c.in-Ok.ensures in let a = c.note_alloc.ensures in
+claim-claim-requires-clause-may g c = let t = c.in-Ok.ensures in let a = c.note_alloc.ensures in
     let count : c.note_alloc.new.body.count ≡ 1 = a.same.count ∙ (t.is_new.large (omega arith)).0 in record {
       class = a.same.class ∙ t.is_new.class;
       used = (0, (omega arith), a.body 0);
@@ -30,13 +30,13 @@ claim-claim-requires-clause-may c = let t = c.in-Ok.ensures in let a = c.note_al
     }
 
 pub returns-clause-free : goal.returns-clause-free
-returns-clause-free c = (placed_free c.args.shared.now c.args.w.now c.requires.free (cycle_at c.args.w.now.view.generation) c.claim-claim.result.set c.claim-claim.result.index c.note_alloc.new.body.page c.note_alloc.new.w.view.generation (span_of c.in-Ok.body) (span_of c.note_alloc.new.body)
+returns-clause-free g c = (placed_free c.args.shared.now c.args.w.now c.requires.free (cycle_at c.args.w.now.view.generation) c.claim-claim.result.set c.claim-claim.result.index c.note_alloc.new.body.page c.note_alloc.new.w.view.generation (span_of c.in-Ok.body) (span_of c.note_alloc.new.body)
     c.take_span.new.w c.note_alloc.new.w c.claim-claim.new.w c.fill.new.w c.in-Ok.ensures.view c.note_alloc.ensures.view
     (subst (λ (p : ℕ). c.claim-claim.new.w ≡ after_said (Claims c.claim-claim.result.set c.claim-claim.result.index p) (after_said (Reads 1 c.note_alloc.new.w.view.generation) c.note_alloc.new.w)) c.claim-claim.ensures.page c.claim-claim.ensures.view)
     (subst (λ (p : ℕ). c.fill.new.w ≡ after_said (Fills c.claim-claim.result.set p) c.claim-claim.new.w) c.claim-claim.ensures.page c.fill.ensures) (sym c.note_alloc.ensures.same.page) refl).0
 
 pub returns-clause-others : goal.returns-clause-others
-returns-clause-others c = (placed_free c.args.shared.now c.args.w.now c.requires.free (cycle_at c.args.w.now.view.generation) c.claim-claim.result.set c.claim-claim.result.index c.note_alloc.new.body.page c.note_alloc.new.w.view.generation (span_of c.in-Ok.body) (span_of c.note_alloc.new.body)
+returns-clause-others g c = (placed_free c.args.shared.now c.args.w.now c.requires.free (cycle_at c.args.w.now.view.generation) c.claim-claim.result.set c.claim-claim.result.index c.note_alloc.new.body.page c.note_alloc.new.w.view.generation (span_of c.in-Ok.body) (span_of c.note_alloc.new.body)
     c.take_span.new.w c.note_alloc.new.w c.claim-claim.new.w c.fill.new.w c.in-Ok.ensures.view c.note_alloc.ensures.view
     (subst (λ (p : ℕ). c.claim-claim.new.w ≡ after_said (Claims c.claim-claim.result.set c.claim-claim.result.index p) (after_said (Reads 1 c.note_alloc.new.w.view.generation) c.note_alloc.new.w)) c.claim-claim.ensures.page c.claim-claim.ensures.view)
     (subst (λ (p : ℕ). c.fill.new.w ≡ after_said (Fills c.claim-claim.result.set p) c.claim-claim.new.w) c.claim-claim.ensures.page c.fill.ensures) (sym c.note_alloc.ensures.same.page) refl).2

@@ -24,5 +24,5 @@ settle-requires-clause-may c = may_settle c.args.shared.now c.args.w.now c.sees_
 
 pub next_generation-requires-clause-may : goal.next_generation-requires-clause-may
 next_generation-requires-clause-may c = let e = c.settle.ensures in
-    subst (MayMark c.settle.new.driver.number c.settle.new.driver.view) (sym c.in_ok-marks.ensures)
+    subst (MayMark c.settle.new.driver) (sym c.in_ok-marks.ensures)
     (may_mark c.args.shared.now c.args.w.now c.sees_all_empty.new.w c.reset.new.driver c.requires.free c.if-not-sees_all_empty.ensures c.reset.ensures ((c.args.page, 0) ∷ []) c.settle.new.driver (placed_one c.args.page c.args.w.now c.requires.placed) c.requires.generation (e.0 ++ c.reset.new.driver.view.before) e.1)

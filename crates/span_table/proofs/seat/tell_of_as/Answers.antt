@@ -1,8 +1,7 @@
 use Rattle.std.proofs.Common.{rules, refl}
 use Rattle.atomic_table.specs.Table.{keeps}
-use Rattle.span_laws.specs.Views.{acts}
-use Rattle.span_laws.specs.OwnSteps.{told_of}
+use Rattle.span_table.specs.Sights.{says_of}
 use Rattle.span_table.proofs.seat.tell_of_as.Goals as goal
 
 pub load-requires : goal.load-requires
-load-requires g c = (search rules, search rules, λ s _ _ _ _. (acts c.args.seat.now.me.0 (told_of g.J.TellsOf.said g.J.TellsOf.span c.args.seat.now.me.0.own), keeps, tt, tt, refl))
+load-requires g c = (search rules, search rules, λ s _ _ _ _. (says_of g.J.TellsOf.said g.J.TellsOf.span c.args.seat.now.me.0, keeps, tt, tt, refl))

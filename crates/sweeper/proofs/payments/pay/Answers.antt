@@ -5,17 +5,17 @@ use Rattle.sweeper.proofs.Paying.{paid_all, paid_reached, paid_wants}
 use Rattle.sweeper.proofs.payments.pay.Goals as goal
 
 pub returns-in-None-clause-did : goal.returns-in-None-clause-did
-returns-in-None-clause-did c = let h = c.args.hand.now in let g = c.generation-generation in let s = c.spent-spent in let a = c.args in
+returns-in-None-clause-did g c = let h = c.args.hand.now in let g = c.generation-generation in let s = c.spent-spent in let a = c.args in
     paid_all a.shop.now.pages a.shop.now.distance a.bytes a.credit h c.requires.unpopped g.new.w s.new.w s.result g.result g.ensures.view s.ensures (record h { worker = s.new.w }) refl c.target-target.result
     (c.target-target.ensures ∙ ap (λ (x : ℕ). target_of x a.shop.now.pages a.shop.now.distance s.result a.bytes a.credit) g.ensures.value) c.sweep_until.new.hand (rw c.in-None.is at c.in_ok-seen.ensures.did)
 
 pub returns-in-Some-clause-did : goal.returns-in-Some-clause-did
-returns-in-Some-clause-did c = let h = c.args.hand.now in let g = c.generation-generation in let s = c.spent-spent in let a = c.args in
+returns-in-Some-clause-did g c = let h = c.args.hand.now in let g = c.generation-generation in let s = c.spent-spent in let a = c.args in
     paid_reached a.shop.now.pages a.shop.now.distance a.bytes a.credit h c.requires.unpopped g.new.w s.new.w s.result g.result g.ensures.view s.ensures (record h { worker = s.new.w }) refl c.target-target.result
     (c.target-target.ensures ∙ ap (λ (x : ℕ). target_of x a.shop.now.pages a.shop.now.distance s.result a.bytes a.credit) g.ensures.value) c.sweep_until.new.hand c.in-Some.seen (rw c.in-Some.is at c.in_ok-seen.ensures.did)
 
 pub returns-in_err-seen-clause-did : goal.returns-in_err-seen-clause-did
-returns-in_err-seen-clause-did c = let h = c.args.hand.now in let g = c.generation-generation in let s = c.spent-spent in let a = c.args in
+returns-in_err-seen-clause-did g c = let h = c.args.hand.now in let g = c.generation-generation in let s = c.spent-spent in let a = c.args in
     let p = err_from_is_err_and c.from_residual.result c.from_residual.ensures.1 in
     rw p.1 (paid_wants a.shop.now.pages a.shop.now.distance a.bytes a.credit h c.requires.unpopped g.new.w s.new.w s.result g.result g.ensures.view s.ensures (record h { worker = s.new.w }) refl c.target-target.result
     (c.target-target.ensures ∙ ap (λ (x : ℕ). target_of x a.shop.now.pages a.shop.now.distance s.result a.bytes a.credit) g.ensures.value) c.sweep_until.new.hand _ c.in_err-seen.ensures.did)

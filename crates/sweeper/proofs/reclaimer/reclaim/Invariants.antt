@@ -5,4 +5,4 @@ use Rattle.sweeper.specs.Work.{Works}
 use Rattle.sweeper.proofs.reclaimer.reclaim.Given as goal
 
 abbrev pub invariant-loop : goal.invariant-loop
-invariant-loop l = record { did : Works [] (CoversChunks l.fn.hand.worker.view.marks l.region l.counter l.given) l.fn.hand l.hand; tally : Frees l.shop.marks.now l.fn.hand l.hand }
+invariant-loop g l = record { did : Works [] (CoversChunks l.fn.hand.worker.view.marks l.region l.counter l.given) l.fn.hand l.hand; tally : Frees l.shop.marks.now l.fn.hand l.hand }

@@ -8,14 +8,14 @@ use Rattle.sweeper.proofs.Covering.{chunk_done, chunk_more, chunk_none, chunk_st
 use Rattle.sweeper.proofs.reclaimer.reclaim_chunk.Goals as goal
 
 pub returns-in_err-reserve_note-clause-did : goal.returns-in_err-reserve_note-clause-did
-returns-in_err-reserve_note-clause-did c = let f = c.from_residual in let e = c.in_err-reserve_note.ensures in let p = err_from_is_err_and f.result f.ensures.1 in
+returns-in_err-reserve_note-clause-did g c = let f = c.from_residual in let e = c.in_err-reserve_note.ensures in let p = err_from_is_err_and f.result f.ensures.1 in
     rw p.1 (chunk_stops c.args.hand.now (512 * c.args.chunk) c.requires.unpopped c.reserve_note.new.self _ c.args.chunk e.worker e.notes)
 
 pub returns-in_err-reserve_note-clause-tally : goal.returns-in_err-reserve_note-clause-tally
-returns-in_err-reserve_note-clause-tally c = let e = c.in_err-reserve_note.ensures in frees-none c.args.shop.now.marks.now c.args.hand.now c.reserve_note.new.self e.notes e.tally
+returns-in_err-reserve_note-clause-tally g c = let e = c.in_err-reserve_note.ensures in frees-none c.args.shop.now.marks.now c.args.hand.now c.reserve_note.new.self e.notes e.tally
 
 pub loop-behind-init : goal.loop-behind-init
-loop-behind-init c = let e = c.in_ok-reserve_note.ensures in record {
+loop-behind-init g c = let e = c.in_ok-reserve_note.ensures in record {
   did = chunk_none c.args.hand.now (512 * c.args.chunk) c.requires.unpopped c.reserve_note.new.self e.worker e.notes;
   before = (let m = c.min-end.ensures in let k = c.requires.chunk in omega arith);
   room = e.room;
@@ -23,7 +23,7 @@ loop-behind-init c = let e = c.in_ok-reserve_note.ensures in record {
 }
 
 pub loop-behind-preserved : goal.loop-behind-preserved
-loop-behind-preserved c = let l = c.loop-behind in let d : ReclaimsNext l.next c.min-end.result l.hand c.reclaim_next.new.hand (Ok (Some (c.in-Some.behind, c.in-Some.pages))) = (rw c.in-Some.is at c.in_ok-behind.ensures.did) in record {
+loop-behind-preserved g c = let l = c.loop-behind in let d : ReclaimsNext l.next c.min-end.result l.hand c.reclaim_next.new.hand (Ok (Some (c.in-Some.behind, c.in-Some.pages))) = (rw c.in-Some.is at c.in_ok-behind.ensures.did) in record {
   did = chunk_more c.args.hand.now (512 * c.args.chunk) l.next l.given l.hand c.reclaim_next.new.hand l.invariant.did c.in-Some.behind c.in-Some.pages c.saturating_add-given.result c.saturating_add-given.ensures d.2;
   before = d.1;
   room = c.in_ok-behind.ensures.room;
@@ -31,20 +31,20 @@ loop-behind-preserved c = let l = c.loop-behind in let d : ReclaimsNext l.next c
 }
 
 pub returns-in_err-behind-clause-did : goal.returns-in_err-behind-clause-did
-returns-in_err-behind-clause-did c = let l = c.loop-behind in let f = c.from_residual-in_err-behind in let p = err_from_is_err_and f.result f.ensures.1 in
+returns-in_err-behind-clause-did g c = let l = c.loop-behind in let f = c.from_residual-in_err-behind in let p = err_from_is_err_and f.result f.ensures.1 in
     rw p.1 (chunk_wants c.args.hand.now (512 * c.args.chunk) l.next l.given l.hand c.reclaim_next.new.hand l.invariant.did _ c.args.chunk c.min-end.result c.in_err-behind.ensures.did)
 
 pub returns-clause-did : goal.returns-clause-did
-returns-clause-did c = let l = c.loop-behind in let h = c.args.hand.now in
+returns-clause-did g c = let l = c.loop-behind in let h = c.args.hand.now in
     subst (λ (n : ℕ). Works [] (CoversPages h.worker.view.marks (512 * c.args.chunk) n l.given) h c.reclaim_next.new.hand)
     (let m = c.min-end.ensures in let r = c.requires.region in omega arith)
     (chunk_done h (512 * c.args.chunk) l.next l.given l.hand c.reclaim_next.new.hand l.invariant.did c.min-end.result (rw c.in_default.is at c.in_ok-behind.ensures.did))
 
 pub returns-clause-tally : goal.returns-clause-tally
-returns-clause-tally c = frees-both c.args.shop.now.marks.now c.args.hand.now c.loop-behind.hand c.reclaim_next.new.hand c.loop-behind.invariant.tally c.reclaim_next.ensures.tally
+returns-clause-tally g c = frees-both c.args.shop.now.marks.now c.args.hand.now c.loop-behind.hand c.reclaim_next.new.hand c.loop-behind.invariant.tally c.reclaim_next.ensures.tally
 
 pub reclaim_next-requires-clause-counts : goal.reclaim_next-requires-clause-counts
-reclaim_next-requires-clause-counts c = may-still c.args.shop.now.marks.now c.args.shop.now.ring.now c.args.hand.now c.loop-behind.hand c.requires.counts c.loop-behind.invariant.tally
+reclaim_next-requires-clause-counts g c = may-still c.args.shop.now.marks.now c.args.shop.now.ring.now c.args.hand.now c.loop-behind.hand c.requires.counts c.loop-behind.invariant.tally
 
 pub returns-in_err-behind-clause-tally : goal.returns-in_err-behind-clause-tally
-returns-in_err-behind-clause-tally c = frees-both c.args.shop.now.marks.now c.args.hand.now c.loop-behind.hand c.reclaim_next.new.hand c.loop-behind.invariant.tally c.reclaim_next.ensures.tally
+returns-in_err-behind-clause-tally g c = frees-both c.args.shop.now.marks.now c.args.hand.now c.loop-behind.hand c.reclaim_next.new.hand c.loop-behind.invariant.tally c.reclaim_next.ensures.tally

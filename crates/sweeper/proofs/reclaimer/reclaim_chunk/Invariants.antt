@@ -5,7 +5,7 @@ use Rattle.sweeper.specs.Work.{Works}
 use Rattle.sweeper.proofs.reclaimer.reclaim_chunk.Given as goal
 
 abbrev pub invariant-loop-behind : goal.invariant-loop-behind
-invariant-loop-behind l = record {
+invariant-loop-behind g l = record {
   did : Works [] (CoversPages l.fn.hand.worker.view.marks (512 * l.chunk) l.next l.given) l.fn.hand l.hand;
   before : l.next ≤ l.end;
   room : length l.hand.notes.items < l.hand.notes.space;
@@ -13,4 +13,4 @@ invariant-loop-behind l = record {
 }
 
 abbrev pub decreases-loop-behind : goal.decreases-loop-behind
-decreases-loop-behind l = l.end - l.next
+decreases-loop-behind g l = l.end - l.next

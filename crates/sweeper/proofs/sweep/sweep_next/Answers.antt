@@ -5,46 +5,43 @@ use Rattle.sweeper.proofs.Searching.{drops_more, drops_none, next_none, next_swe
 use Rattle.sweeper.proofs.sweep.sweep_next.Goals as goal
 
 pub loop-init : goal.loop-init
-loop-init c = record {
+loop-init g c = record {
   did = let h = c.args.hand.now in drops_none (unswept_of h.worker.view.generation c.args.set) h h refl c.requires.unpopped;
   tally = frees-none c.args.shop.now.marks.now c.args.hand.now c.args.hand.now refl refl;
 }
 
-pub try_entry-requires-clause-here : goal.try_entry-requires-clause-here
-try_entry-requires-clause-here c = c.loop.invariant.did.works.does.stays.here ∙ c.requires.here
-
-pub try_entry-requires-clause-table : goal.try_entry-requires-clause-table
-try_entry-requires-clause-table c = c.loop.invariant.did.works.does.stays.table ∙ c.requires.table
+pub try_entry-requires-clause-works : goal.try_entry-requires-clause-works
+try_entry-requires-clause-works g c = let s = c.loop.invariant.did.works.does.stays in (s.table ∙ c.requires.works.0, s.away ∙ c.requires.works.1)
 
 pub try_entry-requires-clause-marks : goal.try_entry-requires-clause-marks
-try_entry-requires-clause-marks c = c.requires.marks ∙ sym c.loop.invariant.did.works.does.stays.marks
+try_entry-requires-clause-marks g c = c.requires.marks ∙ sym c.loop.invariant.did.works.does.stays.marks
 
 pub try_entry-requires-clause-room : goal.try_entry-requires-clause-room
-try_entry-requires-clause-room c = subst (λ n. length n.items < n.space) (sym c.loop.invariant.did.notes) c.requires.room
+try_entry-requires-clause-room g c = subst (λ n. length n.items < n.space) (sym c.loop.invariant.did.notes) c.requires.room
 
 pub try_entry-requires-clause-unclaimed : goal.try_entry-requires-clause-unclaimed
-try_entry-requires-clause-unclaimed c = c.loop.invariant.did.works.does.stays.claimed ∙ c.requires.unclaimed
+try_entry-requires-clause-unclaimed g c = c.loop.invariant.did.works.does.stays.claimed ∙ c.requires.unclaimed
 
 pub try_entry-requires-clause-unpopped : goal.try_entry-requires-clause-unpopped
-try_entry-requires-clause-unpopped c = c.loop.invariant.did.works.popped
+try_entry-requires-clause-unpopped g c = c.loop.invariant.did.works.popped
 
 pub returns-in-Swept-clause-did : goal.returns-in-Swept-clause-did
-returns-in-Swept-clause-did c = let h = c.args.hand.now in
+returns-in-Swept-clause-did g c = let h = c.args.hand.now in
     next_swept (unswept_of h.worker.view.generation c.args.set) h c.loop.counter c.loop.hand c.try_entry.new.hand c.loop.invariant.did _ (ap (λ (g : ℕ). unswept_of g c.args.set) c.loop.invariant.did.works.does.stays.generation) c.in-Swept.note c.in-Swept.ensures.did
 
 pub returns-in-Empty-clause-did : goal.returns-in-Empty-clause-did
-returns-in-Empty-clause-did c = let h = c.args.hand.now in
+returns-in-Empty-clause-did g c = let h = c.args.hand.now in
     next_none (unswept_of h.worker.view.generation c.args.set) h c.loop.counter c.loop.hand c.try_entry.new.hand c.loop.invariant.did _ (ap (λ (g : ℕ). unswept_of g c.args.set) c.loop.invariant.did.works.does.stays.generation) c.in-Empty.ensures.did
 
 pub loop-preserved : goal.loop-preserved
-loop-preserved c = record {
+loop-preserved g c = record {
   did = let h = c.args.hand.now in
       drops_more (unswept_of h.worker.view.generation c.args.set) h c.loop.counter c.loop.hand c.try_entry.new.hand c.loop.invariant.did _ (ap (λ (g : ℕ). unswept_of g c.args.set) c.loop.invariant.did.works.does.stays.generation) c.in-Gone.ensures.did;
   tally = frees-both c.args.shop.now.marks.now c.args.hand.now c.loop.hand c.try_entry.new.hand c.loop.invariant.tally c.try_entry.ensures.tally;
 }
 
 pub unreachable-requires : goal.unreachable-requires
-unreachable-requires c = let a = c.loop.invariant.did.few in let e = c.loop-test.false in omega arith
+unreachable-requires g c = let a = c.loop.invariant.did.few in let e = c.loop-test.false in omega arith
 
 pub try_entry-requires-clause-counts : goal.try_entry-requires-clause-counts
-try_entry-requires-clause-counts c = may-still c.args.shop.now.marks.now c.args.shop.now.ring.now c.args.hand.now c.loop.hand c.requires.counts c.loop.invariant.tally
+try_entry-requires-clause-counts g c = may-still c.args.shop.now.marks.now c.args.shop.now.ring.now c.args.hand.now c.loop.hand c.requires.counts c.loop.invariant.tally

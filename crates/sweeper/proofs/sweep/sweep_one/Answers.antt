@@ -8,23 +8,23 @@ use Rattle.sweeper.proofs.Searching.{all_seen, finds_more, finds_none, looks_pas
 use Rattle.sweeper.proofs.sweep.sweep_one.Goals as goal
 
 pub loop-index-init : goal.loop-index-init
-loop-index-init c = record {
+loop-index-init g c = record {
   did = let h = c.args.hand.now in let e = c.in_ok-reserve_note.ensures in record { works = finds_none h c.reserve_note.new.self e.worker e.notes c.requires.unpopped; room = e.room };
   few = omega arith;
   tally = let e = c.in_ok-reserve_note.ensures in frees-none c.args.shop.now.marks.now c.args.hand.now c.reserve_note.new.self e.notes e.tally;
 }
 
 pub returns-clause-did : goal.returns-clause-did
-returns-clause-did c = let h = c.args.hand.now in let l = c.loop-index in let w = c.next_unswept.new.w in
+returns-clause-did g c = let h = c.args.hand.now in let l = c.loop-index in let w = c.next_unswept.new.w in
     all_seen h (record l.hand { worker = w }) (looks_past SweepsNone none-append h l.next l.hand l.invariant.did.works w c.in_default.ensures)
 
 pub returns-in-Some-sweep_next-clause-did : goal.returns-in-Some-sweep_next-clause-did
-returns-in-Some-sweep_next-clause-did c = let h = c.args.hand.now in let l = c.loop-index in let w = c.next_unswept.new.w in let i = c.in-Some.index in
+returns-in-Some-sweep_next-clause-did g c = let h = c.args.hand.now in let l = c.loop-index in let w = c.next_unswept.new.w in let i = c.in-Some.index in
     let d : Works [] (λ said. SweepsNone said × SawSome h.worker.view.generation i said) h (record l.hand { worker = w }) = looks_to SweepsNone none-append h l.next l.hand l.invariant.did.works w i c.in-Some.ensures in
     one_swept h i (record l.hand { worker = w }) c.sweep_next.new.hand d _ (c.set_at.ensures.number w.view.generation ∙ ap (λ (g : ℕ). nth_unswept g i) d.does.stays.generation) c.in-Some-sweep_next.note c.in-Some-sweep_next.ensures.did
 
 pub loop-index-preserved : goal.loop-index-preserved
-loop-index-preserved c = let h = c.args.hand.now in let l = c.loop-index in let w = c.next_unswept.new.w in let i = c.in-Some.index in let a = c.in_default-sweep_next.ensures.did in
+loop-index-preserved g c = let h = c.args.hand.now in let l = c.loop-index in let w = c.next_unswept.new.w in let i = c.in-Some.index in let a = c.in_default-sweep_next.ensures.did in
     let d : Works [] (λ said. SweepsNone said × SawSome h.worker.view.generation i said) h (record l.hand { worker = w }) = looks_to SweepsNone none-append h l.next l.hand l.invariant.did.works w i c.in-Some.ensures in record {
       did = record {
         works = finds_more h i (record l.hand { worker = w }) c.sweep_next.new.hand d _ (c.set_at.ensures.number w.view.generation ∙ ap (λ (g : ℕ). nth_unswept g i) d.does.stays.generation) a;
@@ -35,4 +35,4 @@ loop-index-preserved c = let h = c.args.hand.now in let l = c.loop-index in let 
     }
 
 pub sweep_next-requires-clause-counts : goal.sweep_next-requires-clause-counts
-sweep_next-requires-clause-counts c = may-still c.args.shop.now.marks.now c.args.shop.now.ring.now c.args.hand.now c.loop-index.hand c.requires.counts c.loop-index.invariant.tally
+sweep_next-requires-clause-counts g c = may-still c.args.shop.now.marks.now c.args.shop.now.ring.now c.args.hand.now c.loop-index.hand c.requires.counts c.loop-index.invariant.tally

@@ -4,10 +4,10 @@ use Rattle.cache_rows.specs.Ready.{AreObjects}
 use Rattle.cache_rows.proofs.scene.Scene.mark_end.Goals as goal
 
 pub invariant_of-self : goal.invariant_of-self
-invariant_of-self c = (c.prepare.ensures.ready, objects-grow c.self.inside.hand.worker c.prepare.new.hand.worker c.self.inside.objects c.prepare.ensures.grows c.self.invariant.1)
+invariant_of-self g c = (c.prepare.ensures.ready, objects-grow c.self.inside.hand.worker c.prepare.new.hand.worker c.self.inside.objects c.prepare.ensures.grows c.self.invariant.1)
 
 pub invariant_of-self-2 : goal.invariant_of-self-2
-invariant_of-self-2 c = (
+invariant_of-self-2 g c = (
   c.turn.ensures,
   subst (AreObjects c.turn.new.hand.worker.view.own.log) (sym c.new.ensures) (objects-none c.turn.new.hand.worker.view.own.log),
 )

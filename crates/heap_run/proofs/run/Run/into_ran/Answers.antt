@@ -50,8 +50,7 @@ returns-clause-left c =
     let s = c.in_ok-journal.ensures.same in
     let ran = c.requires.ran in
     record {
-      here = rw s ran.set.here;
-      table = rw s ran.set.table;
+      works = rw s ran.set.works;
       journal = rw s c.in_ok-journal.ensures.journal;
       last = rw s ran.last;
     }

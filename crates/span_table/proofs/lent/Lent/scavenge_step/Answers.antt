@@ -1,4 +1,4 @@
-use Rattle.std.proofs.Common.{◌≡◌, ℕ, ◌-◌, ◌/◌, ◌<◌, ◌≤◌, ◌⊎◌, inl, inr, ⊎_elim, List, ap, sym, subst, ◌∙◌}
+use Rattle.std.proofs.Common.{◌≡◌, ℕ, eqb, ◌-◌, ◌/◌, ◌<◌, ◌≤◌, ◌⊎◌, inl, inr, ⊎_elim, List, ap, sym, subst, ◌∙◌}
 use Rattle.std.specs.Prelude.{None, Some, Option, IfSome, IfNone}
 use Rattle.page_alloc.specs.Heap.{AddsLine, HasMoreRoom, PageHeap}
 use Rattle.page_alloc.specs.Owners.{backed}
@@ -8,11 +8,11 @@ use Rattle.page_bitmap.specs.declared.line.Line.{Line}
 use Rattle.page_bitmap.specs.declared.line.Line.TheVariants.{Scav}
 use Rattle.page_bitmap.specs.declared.line.Run.{Run}
 use Rattle.span_laws.specs.TakeAnswers.{IsToldOf}
-use Rattle.span_laws.specs.ScavengeAnswers.{Released, past_scavenged}
+use Rattle.span_laws.specs.ScavengeAnswers.{Released, past_scavenged, told_if}
 use Rattle.span_laws.specs.declared.view.View.{View}
-use Rattle.span_laws.specs.Views.{Seen}
-use Rattle.span_laws.specs.Handed.{knows}
+use Rattle.span_laws.specs.Views.{Seen, drives}
 use Rattle.span_laws.proofs.Kept.{kept_room, kept_scav}
+use Rattle.span_table.proofs.Lending.{own_if, own_room}
 use Rattle.span_table.proofs.lent.Lent.scavenge_step.Goals as goal
 
 released : (heap heap' : PageHeap) (cycle m : ℕ) (o : Option Run) → IfSome o (λ run. AddsLine heap heap' (Scav cycle run.page run.pages))
@@ -32,12 +32,16 @@ legal_behind heap heap' cycle (Some run) a s l = subst (λ (z : ℕ × ℕ). Leg
 legal_behind heap heap' cycle None a s l = subst (Legal heap.region heap.goal) (sym s.past) l
 
 pub invariant_of-self-2 : goal.invariant_of-self-2
-invariant_of-self-2 c = let i = c.self.inside in let v : View = i.seat.me.0 in let k = kept_room i.core i.pages i.homes.items i.number v c.self.invariant c.reserve_line.new.self c.reserve_line.ensures.same in
-    rw c.tell_journal.ensures.view (kept_scav i.core c.reserve_line.new.self i.homes.items i.number v k ((c.generation.result - 4) / 2) (ap (λ (g : ℕ). (g - 4) / 2) c.generation.ensures) c.scavenge-run.new.self
-    c.scavenge-run.result c.scavenge-run.ensures.released c.scavenge-run.ensures.same)
+invariant_of-self-2 c = let i = c.self.inside in let v : View = i.seat.me.0.view in let k = kept_room i.core i.pages i.homes.items i.number v c.self.invariant.kept c.reserve_line.new.self c.reserve_line.ensures.same in
+    rw c.tell_driver.ensures.view (record {
+      kept = kept_scav i.core c.reserve_line.new.self i.homes.items i.number v k ((c.generation.result - 4) / 2) (ap (λ (g : ℕ). (g - 4) / 2) c.generation.ensures) c.scavenge-run.new.self
+          c.scavenge-run.result c.scavenge-run.ensures.released c.scavenge-run.ensures.same;
+      own = own_if c.scavenge-run.new.self (eqb i.number 69);
+      empty = c.self.invariant.empty;
+    })
 
 pub returns : goal.returns
-returns c = let i = c.self.inside in let v : View = i.seat.me.0 in let kept = kept_room i.core i.pages i.homes.items i.number v c.self.invariant c.reserve_line.new.self c.reserve_line.ensures.same in let k = kept.rule in
+returns c = let i = c.self.inside in let v : View = i.seat.me.0.view in let kept = kept_room i.core i.pages i.homes.items i.number v c.self.invariant.kept c.reserve_line.new.self c.reserve_line.ensures.same in let k = kept.rule in
     let region = k.heap_region ∙ sym k.region ∙ ap (λ (w : Seen). w.view.region) c.self.view_is in
     let goal = sym k.goal ∙ ap (λ (w : Seen). w.view.goal) c.self.view_is in
     let now : (c.generation.result - 4) / 2 ≡ (c.args.self.now.view.generation - 4) / 2 = ap (λ (g : ℕ). (g - 4) / 2) (c.generation.ensures ∙ sym k.generation ∙ ap (λ (w : Seen). w.view.generation) c.self.view_is) in
@@ -45,8 +49,8 @@ returns c = let i = c.self.inside in let v : View = i.seat.me.0 in let kept = ke
     let behind = past ∙ ap (λ (z : ℕ). past_scavenged z c.reserve_line.new.self.past c.scavenge-run.result) now in (
       c.reserve_line.new.self.past,
       subst (λ (z : ℕ × ℕ × List Line). Legal z.0 z.1 z.2) (λ j. (region j, goal j, behind j)) (legal_behind c.reserve_line.new.self c.scavenge-run.new.self ((c.generation.result - 4) / 2) c.scavenge-run.result c.scavenge-run.ensures.released c.scavenge-run.ensures.same k.legal),
-      subst (λ (w : Seen). IsToldOf w.view.own c.reserve_line.new.self.past) c.self.view_is (λ known is. kept.cycle.told known is),
+      subst (λ (w : Seen). IsToldOf w c.reserve_line.new.self.past) c.self.view_is (own_room i.pages c.reserve_line.new.self i.seat.me.0.journal c.reserve_line.ensures.same c.self.invariant.own),
       subst (λ (z : ℕ × ℕ × ℕ). Released z.0 z.1 z.2 c.reserve_line.new.self.past c.backed-backed.result c.scavenge-run.result) (λ j. (now j, region j, goal j))
           (released c.reserve_line.new.self c.scavenge-run.new.self ((c.generation.result - 4) / 2) c.backed-backed.result c.scavenge-run.result c.scavenge-run.ensures.released c.scavenge-run.ensures.done c.scavenge-run.ensures.same c.backed-backed.ensures),
-      rw (c.tell_journal.ensures.table, c.tell_journal.ensures.view) (λ j. knows (behind j) (c.self.view_is j)),
+      rw (c.tell_driver.ensures.table, c.tell_driver.ensures.view) (λ j. record (c.self.view_is j) { journal = told_if (drives (c.self.view_is j)) (behind j) }),
     )
