@@ -1,6 +1,7 @@
 pub mod Requests
 pub mod Answered
 pub mod Numbered
+pub mod Pieces
 pub mod Journals
 pub mod Missed
 pub mod Faults

@@ -1,5 +1,6 @@
 pub mod Fault
 pub mod Items
+pub mod Pieces
 pub mod Asked
 pub mod Journal
 pub mod Lives

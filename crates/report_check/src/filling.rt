@@ -11,7 +11,7 @@ ghost use Rattle.report_check.specs.Fitting.{AreHeld, IsFitting, IsFreeAt, IsLef
 use crate::CheckFault;
 use crate::items::Item;
 use crate::objects::Objects;
-use cycle_history::Answer;
+use crate::piece::Piece;
 use edge_io::NoMemory;
 use life_tops::Tops;
 use std::alloc::Global;
@@ -49,18 +49,20 @@ impl Objects<'_> {
     ghost use Rattle.report_check.specs.Fault.{IsFaultOf};
     ghost use Rattle.report_check.specs.Items.{objects_of};
     ghost use Rattle.report_check.specs.Known.{AreKnown};
+    ghost use Rattle.report_check.specs.Pieces.{seen_by};
 
-    /// Whether each small object fills its life as it should: rule 6. It takes time in the objects and the marks.
-    pub(crate) fn judge_filling(&self, alloc: Global) -> Result<(), CheckFault>
+    /// Whether each small object of the piece fills its life as it should: rule 6. It takes time in the objects and the marks.
+    pub fn judge_filling(&self, alloc: Global, piece: Piece) -> Result<(), CheckFault>
+        requires piece { 1 ≤ piece.count }
         requires known { AreKnown self.now.trace.now self.now.report.now self.now.items.now self.now.lasts.now }
-        ensures filling { OnOk result (AreFilled (marked_by self.now.trace.now) (objects_of self.now.items.now)) }
-        ensures fault { IfErr result (IsFaultOf 6 (BreaksFilling (marked_by self.now.trace.now) (objects_of self.now.items.now))) }
+        ensures filling { OnOk result (AreFilled (marked_by self.now.trace.now) (objects_of (seen_by piece self.now.items.now))) }
+        ensures fault { IfErr result (IsFaultOf 6 (BreaksFilling (marked_by self.now.trace.now) (objects_of (seen_by piece self.now.items.now)))) }
     {
         let places = self.trace.header.procs as usize * SPAN_CLASSES;
         let mut filling = Filling::new(alloc, self.report.journal.len(), places)?;
         for number in 0..self.items.len() {
             let item = self.items[number];
-            if let Answer::Placed(_) = item.answer {
+            if piece.sees(&item) {
                 if !filling.fits(&item) {
                     let line = number as u64 + 1;
                     return Err(CheckFault::Broken { rule: 6, line });

@@ -22,7 +22,7 @@ impl Objects<'_> {
     ghost use Rattle.report_check.specs.Sweeping.{AllMayGive};
 
     /// Whether each Give is of a life of an earlier cycle whose sweep of this cycle prints that nothing was kept.
-    pub(crate) fn judge_gives(&self, alloc: Global) -> Result<(), CheckFault>
+    pub fn judge_gives(&self, alloc: Global) -> Result<(), CheckFault>
         requires known { AreKnown self.now.trace.now self.now.report.now self.now.items.now self.now.lasts.now }
         ensures gives { OnOk result (AllMayGive self.now.report.now) }
         ensures fault { IfErr result (IsFaultOf 7 (BreaksSweeps (marked_by self.now.trace.now) (last_cycle self.now.trace.now) self.now.report.now (objects_of self.now.items.now))) }

@@ -19,17 +19,24 @@ use trace_reader::Trace;
 
 /// An object with its answer, what it needs of a span, and where it sits.
 #[derive(Clone, Copy, Debug)]
-pub(crate) struct Item {
+pub struct Item {
+    /// The processor that asks.
     pub proc: u32,
+    /// The cycle in which it is asked for.
     pub cycle: u32,
-    /// The span class, and the pages, the bytes of a slot and the number of slots of such a span.
+    /// The span class.
     pub class: u8,
+    /// The pages of such a span.
     pub pages: u32,
+    /// The bytes of its slots.
     pub slot: u64,
+    /// The number of its slots.
     pub count: u32,
+    /// The answer that the report prints.
     pub answer: Answer,
-    /// The number of the Take line of the span in which it sits, and its index there.
+    /// The number of the Take line of the span in which it sits, once its seat is known.
     pub life: u64,
+    /// Its index there.
     pub index: u32,
 }
 
@@ -74,11 +81,7 @@ impl Item {
 }
 
 /// The objects of a trace with their answers, which the report prints: rule 1.
-pub(crate) fn items_of(
-    alloc: Global,
-    trace: &Trace,
-    report: &Report,
-) -> Result<List<Item>, CheckFault>
+pub fn items_of(alloc: Global, trace: &Trace, report: &Report) -> Result<List<Item>, CheckFault>
     requires limited { IsLimited trace.now }
     ensures answers { IfOk result (λ items. HasAnswers trace.now report.now (objects_of items)) }
     ensures fault { IfErr result (IsFaultOf 1 (BreaksAnswers trace.now report.now)) }

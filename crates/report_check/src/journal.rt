@@ -22,7 +22,7 @@ use std::alloc::Global;
 use trace_reader::Trace;
 
 /// Whether the report's journal is one that pages of the trace's region and goal can have: rule 2.
-pub(crate) fn judge_journal(alloc: Global, trace: &Trace, report: &Report) -> Result<(), CheckFault>
+pub fn judge_journal(alloc: Global, trace: &Trace, report: &Report) -> Result<(), CheckFault>
     requires limited { IsLimited trace.now }
     ensures journal { OnOk result (HasJournal trace.now report.now) }
     ensures fault { IfErr result (IsFaultOf 2 (BreaksJournal trace.now report.now)) }

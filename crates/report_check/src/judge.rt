@@ -14,6 +14,7 @@ use crate::journal::judge_journal;
 use crate::lasts::lasts_of;
 use crate::misses::judge_misses;
 use crate::objects::Objects;
+use crate::piece::Piece;
 use crate::places::judge_places;
 use crate::totals::judge_totals;
 use cycle_history::Report;
@@ -88,8 +89,12 @@ fn judge_settled(
         items,
         lasts: &lasts,
     };
-    objects.judge_apart(alloc)?;
-    objects.judge_filling(alloc)?;
+    let whole = Piece {
+        number: 0,
+        count: 1,
+    };
+    objects.judge_apart(alloc, whole)?;
+    objects.judge_filling(alloc, whole)?;
     objects.judge_sweeps(alloc)?;
     judge_totals(alloc, trace, report)?;
     objects.judge_profile(alloc)

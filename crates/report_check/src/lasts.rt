@@ -17,7 +17,7 @@ use trace_reader::{Span, Trace};
 
 /// The last cycle in which each object lives if it is placed: its own, or the last one whose mark end marks it. It takes
 /// time in the objects and the marks.
-pub(crate) fn lasts_of(alloc: Global, trace: &Trace, items: &[Item]) -> Result<Vec<u32>, NoMemory>
+pub fn lasts_of(alloc: Global, trace: &Trace, items: &[Item]) -> Result<Vec<u32>, NoMemory>
     requires limited { IsLimited trace.now }
     requires answers { (report : AReport) × HasAnswers trace.now report (objects_of items.now) }
     ensures { IfOk result (λ lasts. AreLasts trace.now items.now lasts.items) }

@@ -5,8 +5,8 @@
 //! filling (`filling`), sweeps (`gives` and `sweeps`, by what `ledger` counts at each mark end), totals (`totals`) and the
 //! profile (`profile`, by the samples of `sampled`, whose buckets are searched among `sorted` numbers).
 //! From rule 5 on each object has its seat (`objects`) and its last cycle (`lasts`), so that no rule searches for a life or
-//! asks the marks again. `totals` tries rule 8 alone too, where rule 1 is met. What breaks a rule is defined in the crate
-//! `report_rules`.
+//! asks the marks again. `totals` tries rule 8 alone too, where rule 1 is met. The parts are offered each by itself, and the rules
+//! 5 and 6 of a `piece` of the objects alone. What breaks a rule is defined in the crate `report_rules`.
 #![tactic(auto)]
 
 mod apart;
@@ -25,6 +25,7 @@ mod lines;
 mod lives;
 mod misses;
 mod objects;
+mod piece;
 mod places;
 mod profile;
 mod sampled;
@@ -33,5 +34,12 @@ mod sweeps;
 mod totals;
 
 pub use fault::CheckFault;
+pub use items::{Item, items_of};
+pub use journal::judge_journal;
 pub use judge::{check, check_first_rules};
+pub use lasts::lasts_of;
+pub use misses::judge_misses;
+pub use objects::Objects;
+pub use piece::Piece;
+pub use places::judge_places;
 pub use totals::judge_totals;

@@ -17,7 +17,7 @@ use page_bitmap::Line;
 use std::alloc::Global;
 
 /// Whether each missed object names a Miss line of its kind that no other names: rule 3.
-pub(crate) fn judge_misses(alloc: Global, report: &Report, items: &[Item]) -> Result<(), CheckFault>
+pub fn judge_misses(alloc: Global, report: &Report, items: &[Item]) -> Result<(), CheckFault>
     ensures misses { OnOk result (AreMissed (past_in report.now) (objects_of items.now)) }
     ensures fault { IfErr result (IsFaultOf 3 (BreaksMisses (past_in report.now) (objects_of items.now))) }
 {

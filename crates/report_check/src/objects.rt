@@ -6,9 +6,12 @@ use trace_reader::Trace;
 
 /// The objects of a report that meets the rules 1 to 4, in their seats.
 #[derive(Drop)]
-pub(crate) struct Objects<'a> {
+pub struct Objects<'a> {
+    /// The trace.
     pub trace: &'a Trace,
+    /// The report.
     pub report: &'a Report,
+    /// Its objects in their seats.
     pub items: &'a [Item],
     /// The last cycle in which each item lives, if it is placed.
     pub lasts: &'a [u32],

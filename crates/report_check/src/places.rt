@@ -26,7 +26,7 @@ use trace_reader::{Span, Trace};
 
 /// Whether each placed object sits in one life that is open while it lives: rule 4. Then each such item has its seat: the
 /// number of the life and the index. It takes time in the objects, the journal's lines, the marks and the chunks.
-pub(crate) fn judge_places(
+pub fn judge_places(
     alloc: Global,
     trace: &Trace,
     report: &Report,

@@ -30,7 +30,7 @@ impl Objects<'_> {
 
     /// Whether the profile is that of the samples, in the form that its first line is of: rule 9. It takes time in the
     /// objects and the profile's lines, but for a logarithm.
-    pub(crate) fn judge_profile(&self, alloc: Global) -> Result<(), CheckFault>
+    pub fn judge_profile(&self, alloc: Global) -> Result<(), CheckFault>
         requires known { AreKnown self.now.trace.now self.now.report.now self.now.items.now self.now.lasts.now }
         ensures profile { OnOk result (HasProfile self.now.trace.now self.now.report.now (objects_of self.now.items.now)) }
         ensures fault { IfErr result (IsFaultOf 9 (BreaksProfile self.now.trace.now self.now.report.now (objects_of self.now.items.now))) }

@@ -30,20 +30,44 @@ impl Objects<'_> {
     ghost use Rattle.report_check.specs.Fault.{IsFaultOf};
     ghost use Rattle.report_check.specs.Items.{objects_of};
     ghost use Rattle.report_check.specs.Known.{AreKnown};
-    ghost use Rattle.report_check.specs.Sweeping.{AllSwept, AreRightTo, IsFirstWrong, LacksSweep};
+    ghost use Rattle.report_check.specs.Sweeping.{AllMayGive, AllSwept, AreRightTo, IsFirstWrong, LacksSweep};
 
     /// Whether the sweeps are those of the lives that the mark ends find alive, and lives are given back where nothing of
     /// them is kept: rule 7. It takes time in the journal, the sweeps, the objects and the marks.
-    pub(crate) fn judge_sweeps(&self, alloc: Global) -> Result<(), CheckFault>
+    pub fn judge_sweeps(&self, alloc: Global) -> Result<(), CheckFault>
         requires known { AreKnown self.now.trace.now self.now.report.now self.now.items.now self.now.lasts.now }
         ensures sweeps { OnOk result (AreSwept (marked_by self.now.trace.now) (last_cycle self.now.trace.now) (past_in self.now.report.now) (objects_of self.now.items.now) self.now.report.now.sweeps) }
         ensures fault { IfErr result (IsFaultOf 7 (BreaksSweeps (marked_by self.now.trace.now) (last_cycle self.now.trace.now) self.now.report.now (objects_of self.now.items.now))) }
     {
         self.judge_gives(alloc)?;
+        self.judge_notes(alloc)?;
+        self.judge_lives(alloc)
+    }
+
+    /// Whether the sweeps are right and in order: rule 7, as far as the lines of the sweeps tell it. The fault is the first
+    /// that breaks the rule where no Give does.
+    pub fn judge_notes(&self, alloc: Global) -> Result<(), CheckFault>
+        requires known { AreKnown self.now.trace.now self.now.report.now self.now.items.now self.now.lasts.now }
+        ensures right { OnOk result (AreRightTo self.now.trace.now self.now.report.now (objects_of self.now.items.now) (length self.now.report.now.sweeps)) }
+        ensures fault { IfErr result (λ fault. AllMayGive self.now.report.now
+            → IsFaultOf 7 (BreaksSweeps (marked_by self.now.trace.now) (last_cycle self.now.trace.now) self.now.report.now (objects_of self.now.items.now)) fault) }
+    {
         if let Some(place) = self.first_wrong(alloc)? {
             let line = self.sweep_at(place);
             return Err(CheckFault::Broken { rule: 7, line });
         }
+        Ok(())
+    }
+
+    /// Whether each life that a mark end finds alive has a sweep: rule 7, as far as the lives tell it. The fault is the first
+    /// that breaks the rule where no Give does and no sweep.
+    pub fn judge_lives(&self, alloc: Global) -> Result<(), CheckFault>
+        requires known { AreKnown self.now.trace.now self.now.report.now self.now.items.now self.now.lasts.now }
+        ensures swept { OnOk result (AllSwept self.now.trace.now self.now.report.now) }
+        ensures fault { IfErr result (λ fault. AllMayGive self.now.report.now
+            → AreRightTo self.now.trace.now self.now.report.now (objects_of self.now.items.now) (length self.now.report.now.sweeps)
+            → IsFaultOf 7 (BreaksSweeps (marked_by self.now.trace.now) (last_cycle self.now.trace.now) self.now.report.now (objects_of self.now.items.now)) fault) }
+    {
         if !self.all_swept(alloc)? {
             let line = end_of(self.report);
             return Err(CheckFault::Broken { rule: 7, line });

@@ -3,7 +3,14 @@ use Rattle.report_check.specs.Fault.{IsFault, IsFaultOf}
 use Rattle.report_check.specs.declared.fault.CheckFault.{CheckFault}
 use Rattle.report_rules.specs.Published.{BreaksProfile}
 use Rattle.std.specs.Prelude.{OnOk}
-use Rattle.std.proofs.Common.{Result, Ok, Err}
+use Rattle.std.proofs.Common.{List, Result, Ok, Err, subst}
+use Rattle.trace_reader.specs.declared.trace.Trace.{Trace}
+use Rattle.cycle_history.specs.Requests.{marked_by}
+use Rattle.cycle_history.specs.Rules.{AreApart, AreFilled}
+use Rattle.report_rules.specs.Placing.{BreaksApart, BreaksFilling}
+use Rattle.report_check.specs.declared.items.Item.{Item}
+use Rattle.report_check.specs.Pieces.{seen_by}
+use Rattle.report_check.proofs.Pieces.{seen-whole}
 use Rattle.report_check.proofs.Faults.{fault-5, fault-6, fault-7, fault-8, fault-9, meets-9, err-from, err-map}
 use Rattle.report_check.proofs.judge.judge_settled.Goals as goal
 
@@ -11,29 +18,37 @@ ok-map : {T : Type 0} {P Q : Type 0} (r : Result T CheckFault) → (P → Q) →
 ok-map (Ok x) to h = to h
 ok-map (Err e) to h = tt
 
+-- what holds of the whole's objects holds of all
+all-apart : (t : Trace) (items : List Item) → AreApart (marked_by t) (objects_of (seen_by (record { number = 0; count = 1 }) items)) → AreApart (marked_by t) (objects_of items)
+all-apart t items is = subst (λ (xs : List Item). AreApart (marked_by t) (objects_of xs)) (seen-whole items) is
+
+all-filled : (t : Trace) (items : List Item) → AreFilled (marked_by t) (objects_of (seen_by (record { number = 0; count = 1 }) items)) → AreFilled (marked_by t) (objects_of items)
+all-filled t items is = subst (λ (xs : List Item). AreFilled (marked_by t) (objects_of xs)) (seen-whole items) is
+
 pub returns-in_err-judge_apart-clause-broken : goal.returns-in_err-judge_apart-clause-broken
 returns-in_err-judge_apart-clause-broken c =
     let s = c.requires.settled in
     err-from c.from_residual-in_err-judge_apart.result c.in_err-judge_apart.field-0.0 (IsFault c.args.trace.now c.args.report.now) c.from_residual-in_err-judge_apart.ensures.1
-    (fault-5 c.args.trace.now c.args.report.now (objects_of c.args.items.now) c.in_err-judge_apart.field-0.0 s.answers s.journal s.misses s.places c.in_err-judge_apart.ensures.fault)
+    (fault-5 c.args.trace.now c.args.report.now (objects_of c.args.items.now) c.in_err-judge_apart.field-0.0 s.answers s.journal s.misses s.places
+    (subst (λ (xs : List Item). IsFaultOf 5 (BreaksApart (marked_by c.args.trace.now) (objects_of xs)) c.in_err-judge_apart.field-0.0) (seen-whole c.args.items.now) c.in_err-judge_apart.ensures.fault))
 
 pub returns-in_err-judge_filling-clause-broken : goal.returns-in_err-judge_filling-clause-broken
 returns-in_err-judge_filling-clause-broken c =
     let s = c.requires.settled in
     err-from c.from_residual-in_err-judge_filling.result c.in_err-judge_filling.field-0.0 (IsFault c.args.trace.now c.args.report.now) c.from_residual-in_err-judge_filling.ensures.1
-    (fault-6 c.args.trace.now c.args.report.now (objects_of c.args.items.now) c.in_err-judge_filling.field-0.0 s.answers s.journal s.misses s.places c.in_ok-judge_apart.ensures.apart c.in_err-judge_filling.ensures.fault)
+    (fault-6 c.args.trace.now c.args.report.now (objects_of c.args.items.now) c.in_err-judge_filling.field-0.0 s.answers s.journal s.misses s.places (all-apart c.args.trace.now c.args.items.now c.in_ok-judge_apart.ensures.apart) (subst (λ (xs : List Item). IsFaultOf 6 (BreaksFilling (marked_by c.args.trace.now) (objects_of xs)) c.in_err-judge_filling.field-0.0) (seen-whole c.args.items.now) c.in_err-judge_filling.ensures.fault))
 
 pub returns-in_err-judge_sweeps-clause-broken : goal.returns-in_err-judge_sweeps-clause-broken
 returns-in_err-judge_sweeps-clause-broken c =
     let s = c.requires.settled in
     err-from c.from_residual-in_err-judge_sweeps.result c.in_err-judge_sweeps.field-0.0 (IsFault c.args.trace.now c.args.report.now) c.from_residual-in_err-judge_sweeps.ensures.1
-    (fault-7 c.args.trace.now c.args.report.now (objects_of c.args.items.now) c.in_err-judge_sweeps.field-0.0 s.answers s.journal s.misses s.places c.in_ok-judge_apart.ensures.apart c.in_ok-judge_filling.ensures.filling c.in_err-judge_sweeps.ensures.fault)
+    (fault-7 c.args.trace.now c.args.report.now (objects_of c.args.items.now) c.in_err-judge_sweeps.field-0.0 s.answers s.journal s.misses s.places (all-apart c.args.trace.now c.args.items.now c.in_ok-judge_apart.ensures.apart) (all-filled c.args.trace.now c.args.items.now c.in_ok-judge_filling.ensures.filling) c.in_err-judge_sweeps.ensures.fault)
 
 pub returns-in_err-judge_totals-clause-broken : goal.returns-in_err-judge_totals-clause-broken
 returns-in_err-judge_totals-clause-broken c =
     let s = c.requires.settled in
     err-from c.from_residual-in_err-judge_totals.result c.in_err-judge_totals.field-0.0 (IsFault c.args.trace.now c.args.report.now) c.from_residual-in_err-judge_totals.ensures.1
-    (fault-8 c.args.trace.now c.args.report.now (objects_of c.args.items.now) c.in_err-judge_totals.field-0.0 s.answers s.journal s.misses s.places c.in_ok-judge_apart.ensures.apart c.in_ok-judge_filling.ensures.filling c.in_ok-judge_sweeps.ensures.sweeps
+    (fault-8 c.args.trace.now c.args.report.now (objects_of c.args.items.now) c.in_err-judge_totals.field-0.0 s.answers s.journal s.misses s.places (all-apart c.args.trace.now c.args.items.now c.in_ok-judge_apart.ensures.apart) (all-filled c.args.trace.now c.args.items.now c.in_ok-judge_filling.ensures.filling) c.in_ok-judge_sweeps.ensures.sweeps
     (c.in_err-judge_totals.ensures.fault (objects_of c.args.items.now) s.answers))
 
 pub returns-clause-met : goal.returns-clause-met
@@ -42,7 +57,7 @@ returns-clause-met c =
     ok-map c.judge_profile.result (λ has. (
       objects_of c.args.items.now,
       meets-9 c.args.trace.now c.args.report.now (objects_of c.args.items.now) s.answers s.journal s.misses s.places
-          c.in_ok-judge_apart.ensures.apart c.in_ok-judge_filling.ensures.filling c.in_ok-judge_sweeps.ensures.sweeps (c.in_ok-judge_totals.ensures.totals (objects_of c.args.items.now) s.answers) has,
+          (all-apart c.args.trace.now c.args.items.now c.in_ok-judge_apart.ensures.apart) (all-filled c.args.trace.now c.args.items.now c.in_ok-judge_filling.ensures.filling) c.in_ok-judge_sweeps.ensures.sweeps (c.in_ok-judge_totals.ensures.totals (objects_of c.args.items.now) s.answers) has,
     )) c.judge_profile.ensures.profile
 
 pub returns-clause-broken : goal.returns-clause-broken
@@ -50,6 +65,6 @@ returns-clause-broken c =
     let s = c.requires.settled in
     err-map c.judge_profile.result (IsFaultOf 9 (BreaksProfile c.args.trace.now c.args.report.now (objects_of c.args.items.now))) (IsFault c.args.trace.now c.args.report.now)
     (λ (fault : CheckFault) is.
-    fault-9 c.args.trace.now c.args.report.now (objects_of c.args.items.now) fault s.answers s.journal s.misses s.places c.in_ok-judge_apart.ensures.apart c.in_ok-judge_filling.ensures.filling c.in_ok-judge_sweeps.ensures.sweeps
+    fault-9 c.args.trace.now c.args.report.now (objects_of c.args.items.now) fault s.answers s.journal s.misses s.places (all-apart c.args.trace.now c.args.items.now c.in_ok-judge_apart.ensures.apart) (all-filled c.args.trace.now c.args.items.now c.in_ok-judge_filling.ensures.filling) c.in_ok-judge_sweeps.ensures.sweeps
     (c.in_ok-judge_totals.ensures.totals (objects_of c.args.items.now) s.answers) is)
     c.judge_profile.ensures.fault

@@ -1,56 +1,72 @@
 use Rattle.std.proofs.Common.{◌+◌, length, refl, sym, ◌∙◌, ap, subst, arith}
 use Rattle.std.proofs.lemmas.Option.{slice_get-get_or}
-use Rattle.cycle_history.specs.Objects.{is_placed}
 use Rattle.life_tops.specs.declared.tops.Tops.{Tops}
 use Rattle.life_tops.specs.Tops.{lives_of}
 use Rattle.report_check.specs.Known.{AreTops}
-use Rattle.report_check.proofs.Lost.{not-placed}
+use Rattle.report_check.specs.Pieces.{seen_by}
 use Rattle.report_check.proofs.Clearing.{tops-more, tops-other, clear-more, clear-other, clear-breaks, clear-all, placed-inside}
-use Rattle.report_check.proofs.objects.Objects.judge_apart.Goals.{in-Placed+else-at-item+in_ok-raise, in_default}
+use Rattle.report_check.proofs.Pieces.{at-own, at-seen, known-seen, not-seen, report_of, seen-long}
+use Rattle.report_check.proofs.objects.Objects.judge_apart.Goals.{then-sees+else-at-item+in_ok-raise, else-sees}
 use Rattle.report_check.proofs.objects.Objects.judge_apart.Goals as goal
 
 pub returns-then-at-item-clause-fault : goal.returns-then-at-item-clause-fault
 returns-then-at-item-clause-fault c =
+    let t = c.args.self.now.trace.now in
     let items = c.args.self.now.items.now in
+    let seen = seen_by c.args.piece items in
+    let lasts = c.args.self.now.lasts.now in
     let n = c.loop-number.number in
-    let at = slice_get-get_or items n _ c.loop-number-test.true in
+    let is = c.if-sees.ensures in
+    let at = at-own c.args.piece items n _ (slice_get-get_or items n _ c.loop-number-test.true) is in
+    let known = known-seen c.args.piece t c.args.self.now.report.now items lasts c.requires.known in
     let above = c.if-at-item.true in
-    (refl, clear-breaks c.args.self.now.trace.now c.args.self.now.report.now items c.args.self.now.lasts.now n _ c.loop-number.tops c.requires.known at (ap is_placed c.in-Placed.is) c.loop-number.invariant.tops (omega arith) c.loop-number.invariant.clear)
+    (refl, clear-breaks t (report_of c.args.self.now.report.now seen) seen lasts n _ c.loop-number.tops known at is.0 c.loop-number.invariant.tops (omega arith) c.loop-number.invariant.clear)
 
 pub raise-requires : goal.raise-requires
 raise-requires c =
     let items = c.args.self.now.items.now in
     let n = c.loop-number.number in
     let at = slice_get-get_or items n _ c.loop-number-test.true in
-    let inside = placed-inside c.args.self.now.trace.now c.args.self.now.report.now items c.args.self.now.lasts.now n _ c.requires.known at (ap is_placed c.in-Placed.is) in
+    let inside = placed-inside c.args.self.now.trace.now c.args.self.now.report.now items c.args.self.now.lasts.now n _ c.requires.known at c.if-sees.ensures.0 in
     let lives = c.loop-number.invariant.lives in
     omega arith
 
 pub loop-number-preserved : goal.loop-number-preserved
 loop-number-preserved c =
+    let piece = c.args.piece in
     let items = c.args.self.now.items.now in
+    let seen = seen_by piece items in
     let lasts = c.args.self.now.lasts.now in
     let n = c.loop-number.number in
     let at = slice_get-get_or items n _ c.loop-number-test.true in
-    elim c.match-item.branch [
-      | in-Placed+else-at-item+in_ok-raise w ↦ (
+    elim c.if-sees.branch [
+      | then-sees+else-at-item+in_ok-raise w ↦ (
+          let is = w.if-sees.ensures in
+          let own = at-own piece items n _ at is in
           let below = w.if-at-item.false in
-          let is = w.at.ensures in
           let raised = w.in_ok-raise.ensures in
           record {
             lives = ap lives_of w.tops-is ∙ raised.lives ∙ c.loop-number.invariant.lives;
-            tops = subst (λ (x : Tops). AreTops items lasts (n + 1) x) (sym w.tops-is) (tops-more items lasts n _ c.loop-number.tops w.raise.new.self at (ap is_placed w.in-Placed.is) raised c.loop-number.invariant.tops);
-            clear = clear-more items lasts n _ c.loop-number.tops at c.loop-number.invariant.tops (omega arith) c.loop-number.invariant.clear;
+            tops = subst (λ (x : Tops). AreTops seen lasts (n + 1) x) (sym w.tops-is) (tops-more seen lasts n _ c.loop-number.tops w.raise.new.self own is.0 raised c.loop-number.invariant.tops);
+            clear = clear-more seen lasts n _ c.loop-number.tops own c.loop-number.invariant.tops (omega arith) c.loop-number.invariant.clear;
           })
-      | in_default w ↦ (
-          let off = not-placed _ w.in_default.not-Placed in
+      | else-sees w ↦ (
+          let other = at-seen piece items n _ at in
+          let off = not-seen piece _ w.if-sees.ensures in
           record {
             lives = ap lives_of w.tops-is ∙ c.loop-number.invariant.lives;
-            tops = subst (λ (x : Tops). AreTops items lasts (n + 1) x) (sym w.tops-is) (tops-other items lasts n _ c.loop-number.tops at off c.loop-number.invariant.tops);
-            clear = clear-other items lasts n _ at off c.loop-number.invariant.clear;
+            tops = subst (λ (x : Tops). AreTops seen lasts (n + 1) x) (sym w.tops-is) (tops-other seen lasts n _ c.loop-number.tops other off c.loop-number.invariant.tops);
+            clear = clear-other seen lasts n _ other off c.loop-number.invariant.clear;
           })
     ]
 
 pub returns-clause-apart : goal.returns-clause-apart
 returns-clause-apart c =
-    clear-all c.args.self.now.trace.now c.args.self.now.report.now c.args.self.now.items.now c.args.self.now.lasts.now c.loop-number.number c.requires.known c.loop-number-test.false c.loop-number.invariant.clear
+    let t = c.args.self.now.trace.now in
+    let items = c.args.self.now.items.now in
+    let seen = seen_by c.args.piece items in
+    let lasts = c.args.self.now.lasts.now in
+    let known = known-seen c.args.piece t c.args.self.now.report.now items lasts c.requires.known in
+    let long = seen-long c.args.piece items in
+    let end = c.loop-number-test.false in
+    clear-all t (report_of c.args.self.now.report.now seen) seen lasts c.loop-number.number known (omega arith) c.loop-number.invariant.clear
