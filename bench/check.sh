@@ -2,6 +2,10 @@
 # Measures `goheap check` beside `goheap run`, in one run on one machine: on a trace of 1000000 objects with 100 mark ends, on
 # the same where each object is sampled, and on one of 10000 mark ends over a small heap. Each time is the median of five. It
 # prints the ratio of both.
+#
+# Then it measures `goheap check --pieces=N` beside `goheap check` on the first of these. What of a call is reading is the time
+# of `check` on the same input with a malformed last line, which is read whole and not judged; the judging is what is left. It
+# prints the share of reading in `check`, and of each number of pieces how its judging and its peak of memory compare.
 set -eu
 
 . "$(dirname "$(readlink -f "$0")")/timing.sh"
@@ -46,4 +50,36 @@ for kind in large sampled cycles; do
   check=$(median check "$kind")
   awk -v kind="$kind" -v run="$run" -v check="$check" \
     'BEGIN { printf "%s: run %.3f s, check %.3f s, ratio %.2f\n", kind, run / 1e6, check / 1e6, check / run }'
+done
+
+# The large trace with its report, whose last line is malformed.
+sed '$ s/.*/x/' "$folder/large.pair" >"$folder/large.unread"
+
+run_read() { ./goheap check <"$folder/$1.unread" 2>"$folder/said" && exit 1 || grep -q malformed "$folder/said"; }
+run_pieces_1() { ./goheap check --pieces=1 <"$folder/$1.pair" >/dev/null; }
+run_pieces_4() { ./goheap check --pieces=4 <"$folder/$1.pair" >/dev/null; }
+run_whole() { run_check "$1"; }
+
+# peak WORD..: the most kilobytes that `goheap` with these words has at once on the large pair.
+peak() {
+  /usr/bin/time -f %M -o "$folder/peak" ./goheap "$@" <"$folder/large.pair" >/dev/null
+  tail -n 1 "$folder/peak"
+}
+
+for ((round = 0; round < rounds; round++)); do
+  for command in read whole pieces_1 pieces_4; do
+    time_of $command large
+  done
+done
+read=$(median read large)
+whole=$(median whole large)
+awk -v read="$read" -v whole="$whole" \
+  'BEGIN { printf "check: %.3f s, of which reading %.3f s (%.2f), judging %.3f s\n", whole / 1e6, read / 1e6, read / whole, (whole - read) / 1e6 }'
+memory=$(peak check)
+for pieces in 1 4; do
+  time=$(median pieces_$pieces large)
+  awk -v pieces=$pieces -v time="$time" -v read="$read" -v whole="$whole" -v peak="$(peak check --pieces=$pieces)" -v memory="$memory" 'BEGIN {
+    printf "check --pieces=%d: judging %.3f s, ratio %.2f; memory %d KB, ratio %.2f\n",
+      pieces, (time - read) / 1e6, (time - read) / (whole - read), peak, peak / memory
+  }'
 done

@@ -2,6 +2,7 @@
 use Rattle.std.proofs.Common.{◌≡◌, ℕ, List, [], ◌∷◌, codes, sym, ◌∙◌, String, arith}
 use Rattle.std.specs.declared.alloc.Global.{Global}
 use Rattle.trace_reader.proofs.Digits.{decimal_injective_wide}
+use Rattle.check_input.specs.Pieces.{AsksPieces}
 use Rattle.alloc_tool.specs.Words.{IsCheck, IsDemo, IsRun, IsSeeded}
 
 heads : (a b : List ℕ) (xs ys : List (List ℕ)) → a ∷ xs ≡ b ∷ ys → a ≡ b
@@ -33,3 +34,19 @@ one_seeded word words s o s' o' a b =
     let oa = a.few in
     let ob = b.few in
     (decimal_injective_wide s s' (omega arith) (omega arith) both.0, decimal_injective_wide o o' (omega arith) (omega arith) both.1)
+
+-- words that ask for a judging in pieces are none of the others
+pub run_or_pieces : (words : List (String Global)) (n : ℕ) → IsRun words → AsksPieces words n → ⊥
+run_or_pieces words n run pieces = (let e : codes "run" ≡ codes "check" = heads _ _ _ _ (sym run.2.1 ∙ pieces.spelled) in cc)
+
+one_or_two : (a x y : List ℕ) → a ∷ [] ≡ x ∷ y ∷ [] → ⊥
+one_or_two a x y e = cc
+
+two_or_three : (a b x y z : List ℕ) → a ∷ b ∷ [] ≡ x ∷ y ∷ z ∷ [] → ⊥
+two_or_three a b x y z e = cc
+
+pub check_or_pieces : (words : List (String Global)) (n : ℕ) → IsCheck words → AsksPieces words n → ⊥
+check_or_pieces words n check pieces = one_or_two _ _ _ (sym check ∙ pieces.spelled)
+
+pub pieces_or_seeded : (word : List ℕ) (words : List (String Global)) (n seed objects : ℕ) → AsksPieces words n → IsSeeded word words seed objects → ⊥
+pieces_or_seeded word words n seed objects pieces seeded = two_or_three _ _ _ _ _ (sym pieces.spelled ∙ seeded.spelled)

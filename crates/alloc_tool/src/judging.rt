@@ -1,19 +1,23 @@
 //! Judging a report that stands behind its trace.
 
-ghost use Rattle.std.specs.Prelude.{◌≡◌, ◌⊎◌};
+ghost use Rattle.std.specs.Prelude.{◌≡◌, ◌≤◌, ◌⊎◌, IfErr, OnOk};
 ghost use Rattle.std.specs.Io.KnownBytes.{Appends};
 ghost use Rattle.edge_io.specs.Causes.{Rose};
 ghost use Rattle.edge_io.specs.Front.{AppendsFront};
+ghost use Rattle.check_input.specs.Judged.{IsSound, Stops};
+ghost use Rattle.check_input.specs.Pair.{BreaksOff, HasReadCause, IsReadFault};
 ghost use Rattle.report_check.specs.Fault.{BreaksRules, MeetsChecked};
 ghost use Rattle.alloc_tool.specs.Checked.{Checked, check_text};
 ghost use Rattle.stop_lines.specs.Texts.{status_text};
 ghost use Rattle.stop_lines.specs.Told.{Tells};
 
-use check_input::{Judge, Verdict, check_input};
+use check_input::{Judge, Stop, Verdict, check_input, read_pair};
+use check_parallel::check_parallel;
 use cycle_history::Report;
 use edge_io::{Sink, Source, write_all};
 use report_check::CheckFault;
 use std::alloc::Global;
+use std::thread::Threads;
 use stop_lines::{refuse_pair, stop_writing};
 use trace_reader::Trace;
 
@@ -46,6 +50,47 @@ pub(crate) fn judge_report<S: Source, K: Sink, E: Sink>(
     match check_input(alloc, input, &Rules) {
         Ok(()) => say_ok(output, errors),
         Err(stop) => refuse_pair(errors, stop),
+    }
+}
+
+/// The same, but that the report is judged in so many pieces.
+pub(crate) fn judge_in_pieces<R: Threads + Sync, S: Source, K: Sink, E: Sink>(
+    rt: &R,
+    alloc: Global,
+    pieces: u32,
+    input: &mut S,
+    output: &mut K,
+    errors: &mut E,
+) -> u8
+    requires some { 1 ≤ pieces }
+    requires few { pieces ≤ 64 }
+    ensures { Checked S.left S.faults K.held K.faults E.held E.faults input.old input.new output.old output.new errors.old errors.new result }
+{
+    match check_in_pieces(rt, alloc, pieces, input) {
+        Ok(()) => say_ok(output, errors),
+        Err(stop) => refuse_pair(errors, stop),
+    }
+}
+
+// What `check_input` does with these rules, but that they are judged in so many pieces.
+fn check_in_pieces<R: Threads + Sync, S: Source>(
+    rt: &R,
+    alloc: Global,
+    pieces: u32,
+    input: &mut S,
+) -> Result<(), Stop>
+    requires some { 1 ≤ pieces }
+    requires few { pieces ≤ 64 }
+    ensures sound { OnOk result (IsSound MeetsChecked (S.left input.old) (S.left input.new)) }
+    ensures stopped { IfErr result (Stops BreaksRules (S.left input.old) (S.left input.new)) }
+    ensures broken_off { IfErr result (λ stop. IsReadFault stop → BreaksOff (S.left input.old) (S.left input.new)) }
+    ensures cause { HasReadCause (S.faults input.old) (S.faults input.new) result }
+{
+    let (trace, report) = read_pair(alloc, input)?;
+    match check_parallel(rt, alloc, &trace, &report, pieces) {
+        Ok(()) => Ok(()),
+        Err(CheckFault::Broken { rule, line }) => Err(Stop::Verdict(Verdict::Broken { rule, line })),
+        Err(CheckFault::NoMemory) => Err(Stop::Verdict(Verdict::NoMemory)),
     }
 }
 

@@ -5,7 +5,8 @@ ghost use Rattle.trace_reader.specs.declared.trace.Trace.{Trace as ATrace};
 ghost use Rattle.trace_reader.specs.Limits.{Spells};
 ghost use Rattle.class_lines.specs.Text.{classes_text};
 ghost use Rattle.trace_gen.specs.Made.{made_trace};
-ghost use Rattle.alloc_tool.specs.Checked.{AcceptsSound};
+ghost use Rattle.check_input.specs.Pieces.{AsksPieces};
+ghost use Rattle.alloc_tool.specs.Checked.{AcceptsSound, Checked};
 ghost use Rattle.alloc_tool.specs.Demo.{Demos};
 ghost use Rattle.alloc_tool.specs.Outcome.{Outcome};
 ghost use Rattle.alloc_tool.specs.Plain.{Plain, Writes};
@@ -14,7 +15,8 @@ ghost use Rattle.alloc_tool.specs.Words.{IsCheck, IsDemo, IsRun, IsRunWith, IsWo
 
 use crate::demo::show_run;
 use crate::generate::{generate, wanted_by};
-use crate::judging::judge_report;
+use crate::judging::{judge_in_pieces, judge_report};
+use check_input::pieces_of;
 use class_lines::write_classes;
 use edge_io::{Gate, NoMemory, Sink, Source};
 use heap_run::{Options, run_trace};
@@ -27,12 +29,13 @@ use stop_lines::{refuse_trace, refuse_words, stop_writing};
 use trace_reader::TraceFault;
 use whole_trace::read_whole;
 
-/// Does what the words say, and answers the exit status. It runs `run` and `demo` itself; all other words go to
-/// [`goheap_plain`].
+/// Does what the words say, and answers the exit status. It runs `run`, `demo` and `check --pieces=N` itself; all other words go
+/// to [`goheap_plain`].
 ///
 /// `words` are those behind the program's name. `run` reads a trace from `input` to its end and writes its report to
 /// `output`; its options are `--each` and `--background=N` or `--background N`. `demo SEED OBJECTS` makes a trace, runs and
-/// judges it, and writes what came of it. Where a call does not answer, one line on `errors` says why.
+/// judges it, and writes what came of it. `check --pieces=N` does what `check` does, with the objects in N pieces that are judged
+/// beside each other. Where a call does not answer, one line on `errors` says why.
 pub fn goheap<R: Threads + Wait + Sync, S: Source, K: Sink, E: Sink, G: Gate>(
     rt: &R,
     alloc: Global,
@@ -47,14 +50,21 @@ pub fn goheap<R: Threads + Wait + Sync, S: Source, K: Sink, E: Sink, G: Gate>(
     ensures run_words { IsRun words.now → IsStatusOfRun result }
     ensures demo { (seed objects : ℕ) → IsDemo words.now seed objects
         → Demos (made_trace seed objects) K.held K.faults E.held E.faults output.old output.new errors.old errors.new result × (input.new ≡ input.old) }
-    ensures other_words { (IsRun words.now → ⊥) → ((seed objects : ℕ) → IsDemo words.now seed objects → ⊥) → Plain S.left S.faults K.held K.faults E.held E.faults words.now input.old input.new output.old output.new errors.old errors.new result }
+    ensures in_pieces { (n : ℕ) → AsksPieces words.now n
+        → Checked S.left S.faults K.held K.faults E.held E.faults input.old input.new output.old output.new errors.old errors.new result }
+    ensures other_words { (IsRun words.now → ⊥) → ((seed objects : ℕ) → IsDemo words.now seed objects → ⊥) → ((n : ℕ) → AsksPieces words.now n → ⊥) → Plain S.left S.faults K.held K.faults E.held E.faults words.now input.old input.new output.old output.new errors.old errors.new result }
     ensures complete { IsRun words.now → (bytes : List ℕ)
         → IsUndisturbed S.left S.faults K.faults input.old input.new output.old output.new bytes → IsComplete bytes result }
     ensures check { IsCheck words.now → (bytes : List ℕ)
         → IsUndisturbed S.left S.faults K.faults input.old input.new output.old output.new bytes → AcceptsSound bytes result }
+    ensures accepts_in_pieces { (n : ℕ) → AsksPieces words.now n → (bytes : List ℕ)
+        → IsUndisturbed S.left S.faults K.faults input.old input.new output.old output.new bytes → AcceptsSound bytes result }
 {
     if are_of_run(words) {
         return run(rt, alloc, words, input, output, errors, gate);
+    }
+    if let Some(pieces) = pieces_of(words) {
+        return judge_in_pieces(rt, alloc, pieces, input, output, errors);
     }
     match wanted_by(words, "demo") {
         Some(wanted) => show_run(rt, alloc, wanted, output, errors, gate),

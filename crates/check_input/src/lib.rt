@@ -2,9 +2,11 @@
 #![tactic(auto)]
 
 mod judge;
+mod pieces;
 mod read;
 mod stop;
 
 pub use judge::{Judge, check_input};
+pub use pieces::pieces_of;
 pub use read::read_pair;
 pub use stop::{Stop, Verdict};

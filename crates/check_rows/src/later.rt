@@ -3,6 +3,7 @@
 ghost use Rattle.std.specs.Prelude.{IfOk};
 ghost use Rattle.cycle_history.specs.Before.{IsLimited};
 
+use crate::beside::agree;
 use crate::profile::{self, Bucket, ProfileRow};
 use cycle_history::{Prof, Report};
 use edge_io::{Lines, List, MemorySource};
@@ -11,6 +12,7 @@ use report_text::read_report;
 use std::alloc::Global;
 use std::process::Abort;
 use std::test::Fail;
+use std::thread::Threads;
 use trace_reader::{Trace, read_trace};
 
 /// The lines of a trace of one processor and one chunk, a report of it without its last line, and the rule and the line
@@ -55,7 +57,7 @@ fn report_with(alloc: Global, lines: &str, profile: &[Bucket]) -> Result<Report,
     Ok(report)
 }
 
-fn judge<R: Abort + AllocGlobal>(
+fn judge<R: Abort + AllocGlobal + Threads + Sync>(
     rt: &R,
     rate: u32,
     number: usize,
@@ -71,7 +73,7 @@ fn judge<R: Abort + AllocGlobal>(
         Err(CheckFault::NoMemory) => return Err("no memory".into()),
     };
     assert_eq!(rt; found, broken, "rate {rate}: row {number}");
-    Ok(())
+    agree(rt, &trace, &report)
 }
 
 #[test]
@@ -98,7 +100,7 @@ const THREE: &str = "a 0 24 s 1\na 0 24 s 1\na 0 24 s 1\ngc 1\nm 1 1\n";
 /// An object of 24 bytes that no mark end marks.
 const DEAD: &str = "a 0 24 s 1\ngc 1\n";
 
-const ROWS: [Row; 42] = [
+const ROWS: [Row; 45] = [
     // sound reports
     ("", "", None),
     (
@@ -168,6 +170,23 @@ const ROWS: [Row; 42] = [
         "a 0 24 s 1\na 0 24 s 1\n",
         "o 0 0xc000000000\no 1 0xc000000000\nj 0 0 take 0 1 6\nt 3 2 0\n",
         Some((5, 2)),
+    ),
+    // two size classes overlap, of which the one whose piece comes first has the higher line, with two pieces and with three
+    (
+        "a 0 16 s 1\na 0 8 s 1\na 0 8 s 1\na 0 16 s 1\n",
+        "o 0 0xc000000000\no 1 0xc000002000\no 2 0xc000002000\no 3 0xc000000000\nj 0 0 take 0 1 4\nj 1 0 take 1 1 2\n",
+        Some((5, 3)),
+    ),
+    (
+        "a 0 24 s 1\na 0 8 s 1\na 0 8 s 1\na 0 24 s 1\n",
+        "o 0 0xc000000000\no 1 0xc000002000\no 2 0xc000002000\no 3 0xc000000000\nj 0 0 take 0 1 6\nj 1 0 take 1 1 2\n",
+        Some((5, 3)),
+    ),
+    // a size class leaves a gap at a lower line than that of another one's overlap
+    (
+        "a 0 8 s 1\na 0 16 s 1\na 0 16 s 1\n",
+        "o 0 0xc000000008\no 1 0xc000002000\no 2 0xc000002000\nj 0 0 take 0 1 2\nj 1 0 take 1 1 4\n",
+        Some((5, 3)),
     ),
     // an object that two mark ends kept is still there
     (

@@ -2,10 +2,13 @@
 //!
 //! `tests` tries the rules 1 to 4 alone, over the tables of `answers`, `journal`, `misses` and `places`; `totals` tries rule 8
 //! alone; and `later` all nine rules, over its own table, where nothing is sampled, and that of `profile`, where all is.
+//! `beside` tries each of these reports by the judge in pieces too.
 #![tactic(auto)]
 
 #[cfg(test)]
 mod answers;
+#[cfg(test)]
+mod beside;
 #[cfg(test)]
 mod journal;
 #[cfg(test)]

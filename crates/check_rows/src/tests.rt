@@ -3,6 +3,7 @@
 ghost use Rattle.std.specs.Prelude.{◌≤◌, IfOk};
 ghost use Rattle.cycle_history.specs.Before.{IsLimited};
 
+use crate::beside::agree;
 use crate::{answers, journal, misses, places};
 use cycle_history::{Answer, Report};
 use edge_io::{Lines, List, MemorySource, NoMemory};
@@ -11,6 +12,7 @@ use report_check::{CheckFault, check_first_rules};
 use std::alloc::Global;
 use std::process::Abort;
 use std::test::Fail;
+use std::thread::Threads;
 use trace_reader::{Trace, read_trace};
 
 /// A trace of one processor and one chunk with these lines and this goal, a report of it, and the rule and the line that
@@ -47,7 +49,12 @@ fn report(alloc: Global, row: &Row) -> Result<Report, NoMemory> {
     })
 }
 
-fn judge<R: Abort + AllocGlobal>(rt: &R, rule: u32, number: usize, row: &Row) -> Result<(), Fail> {
+fn judge<R: Abort + AllocGlobal + Threads + Sync>(
+    rt: &R,
+    rule: u32,
+    number: usize,
+    row: &Row,
+) -> Result<(), Fail> {
     if row.goal > 65536 {
         return Err("no goal".into());
     }
@@ -60,10 +67,14 @@ fn judge<R: Abort + AllocGlobal>(rt: &R, rule: u32, number: usize, row: &Row) ->
         Err(CheckFault::NoMemory) => return Err("no memory".into()),
     };
     assert_eq!(rt; found, row.broken, "rule {rule}: row {number}");
-    Ok(())
+    agree(rt, &trace, &report)
 }
 
-fn judge_all<R: Abort + AllocGlobal>(rt: &R, rule: u32, rows: &[Row]) -> Result<(), Fail> {
+fn judge_all<R: Abort + AllocGlobal + Threads + Sync>(
+    rt: &R,
+    rule: u32,
+    rows: &[Row],
+) -> Result<(), Fail> {
     for (number, row) in rows.iter().enumerate() {
         judge(rt, rule, number, row)?;
     }

@@ -229,6 +229,14 @@ const OTHER_WORDS: &[&[&str]] = &[
     &["run", "--background=5"],
     &["run", "--each", "--each"],
     &["check", ""],
+    &["check", "--pieces=0"],
+    &["check", "--pieces=65"],
+    &["check", "--pieces=01"],
+    &["check", "--pieces=+1"],
+    &["check", "--pieces="],
+    &["check", "--pieces", "1"],
+    &["check", "--pieces=1", "--pieces=1"],
+    &["--pieces=1", "check"],
     &["classes", ""],
     &["gen", "1", "0"],
     &["gen", "1", "1000001"],
@@ -261,7 +269,7 @@ const OTHER_WORDS: &[&[&str]] = &[
 #[test]
 fn other_words_are_refused(rt: HostRuntime) -> Result<(), Fail> {
     let usage =
-        "usage: goheap run [--background=N] [--each] / check / gen SEED OBJECTS / demo SEED OBJECTS / classes\n";
+        "usage: goheap run [--background=N] [--each] / check [--pieces=N] / gen SEED OBJECTS / demo SEED OBJECTS / classes\n";
     for &words in OTHER_WORDS {
         // A read or a write would fail.
         expect(
@@ -303,10 +311,11 @@ fn classes_and_made_traces_are_written(rt: HostRuntime) -> Result<(), Fail> {
     expect_unread(&rt, &["gen", "1", "1"], Text::Is(made))
 }
 
-// Wants that a word that needs the runtime is refused without it, and that nothing is read or written.
-fn expect_plain<R: AllocGlobal + Abort>(rt: &R, word: &str) -> Result<(), Fail> {
+// Wants that words that need the runtime are refused without it, and that nothing is read or written.
+fn expect_plain<R: AllocGlobal + Abort>(rt: &R, words: &[&str]) -> Result<(), Fail> {
     let alloc = rt.alloc();
-    let words = words_of(alloc, &[word])?;
+    let count = words.len();
+    let words = words_of(alloc, words)?;
     let input = b"goheap 1\nheap 1 procs 1 rate 0 seed 1 goal 512\na 0 24 s 1\nend\n";
     // A read or a write would fail.
     let mut output = sink_of(alloc, u64::MAX, &[0])?;
@@ -315,15 +324,16 @@ fn expect_plain<R: AllocGlobal + Abort>(rt: &R, word: &str) -> Result<(), Fail> 
     let status = goheap_plain(alloc, &words, &mut source, &mut output, &mut errors);
     let silent = output.held().is_empty();
     let told = errors.held().starts_with(b"usage: goheap run ");
-    assert!(rt; status == 2 && silent && told, "at {word}");
+    assert!(rt; status == 2 && silent && told, "{count} words");
     Ok(())
 }
 
 // The words that need the runtime, without it.
 #[test]
 fn plain_words_are_refused(rt: HostRuntime) -> Result<(), Fail> {
-    expect_plain(&rt, "run")?;
-    expect_plain(&rt, "demo")
+    expect_plain(&rt, &["run"])?;
+    expect_plain(&rt, &["demo"])?;
+    expect_plain(&rt, &["check", "--pieces=1"])
 }
 
 // A limit of the bytes that are read, and how many cycles a trace of one object then has, or why it is refused.

@@ -57,9 +57,10 @@ const ROWS: &[Row] = &[
     ),
 ];
 
-// Wants this of the trace of these lines with this report behind it.
-fn expect_judged<R: Threads + Wait + Sync + AllocGlobal + Abort>(
+// Wants this of these words on the trace of these lines with this report behind it.
+fn expect_said<R: Threads + Wait + Sync + AllocGlobal + Abort>(
     rt: &R,
+    words: &[&str],
     lines: &str,
     report: &str,
     wanted: Wanted<'_>,
@@ -68,14 +69,24 @@ fn expect_judged<R: Threads + Wait + Sync + AllocGlobal + Abort>(
     expect(
         rt,
         report,
-        &["check"],
+        words,
         input.as_bytes(),
         failing(&[], &[]),
         wanted,
     )
 }
 
-// What `check` says of these.
+// Wants this of `check`, of the trace of these lines with this report behind it.
+fn expect_judged<R: Threads + Wait + Sync + AllocGlobal + Abort>(
+    rt: &R,
+    lines: &str,
+    report: &str,
+    wanted: Wanted<'_>,
+) -> Result<(), Fail> {
+    expect_said(rt, &["check"], lines, report, wanted)
+}
+
+// What `check` says of these, whole and in pieces.
 #[test]
 fn reports_are_judged(rt: HostRuntime) -> Result<(), Fail> {
     for &(lines, report, status, told) in ROWS {
@@ -85,6 +96,9 @@ fn reports_are_judged(rt: HostRuntime) -> Result<(), Fail> {
             refused(status, told)
         };
         expect_judged(&rt, lines, report, wanted)?;
+        expect_said(&rt, &["check", "--pieces=1"], lines, report, wanted)?;
+        expect_said(&rt, &["check", "--pieces=2"], lines, report, wanted)?;
+        expect_said(&rt, &["check", "--pieces=64"], lines, report, wanted)?;
     }
     Ok(())
 }

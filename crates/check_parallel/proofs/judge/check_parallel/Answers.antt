@@ -1,0 +1,11 @@
+use Rattle.report_check.specs.Fault.{IsFault}
+use Rattle.report_check.specs.declared.fault.CheckFault.{CheckFault}
+use Rattle.report_check.specs.declared.fault.CheckFault.TheVariants.{NoMemory}
+use Rattle.std.proofs.Common.{◌≡◌}
+use Rattle.report_check.proofs.Faults.{err-map}
+use Rattle.report_check.proofs.Sounding.{never-refused}
+use Rattle.check_parallel.proofs.judge.check_parallel.Goals as goal
+
+pub returns-clause-sound : goal.returns-clause-sound
+returns-clause-sound g c met =
+    err-map c.judge_rules.result (IsFault c.args.trace.now c.args.report.now) (λ (fault : CheckFault). fault ≡ NoMemory) (λ (fault : CheckFault) is. never-refused c.args.trace.now c.args.report.now fault is met) c.judge_rules.ensures.broken

@@ -1,0 +1,61 @@
+use Rattle.std.proofs.Common.{◌≡◌, List, length, sym, ◌∙◌, subst}
+use Rattle.cycle_history.specs.Rules.{AreMissed}
+use Rattle.cycle_history.specs.Sound.{past_in, HasAnswers}
+use Rattle.report_check.specs.declared.items.Item.{Item}
+use Rattle.report_check.specs.Items.{objects_of}
+use Rattle.report_check.specs.Fault.{IsFault}
+use Rattle.report_check.specs.Known.{AreSettledItems}
+use Rattle.report_check.proofs.Ledgers.{written}
+use Rattle.report_check.proofs.Carried.{answers-on, misses-on}
+use Rattle.report_check.proofs.Faults.{fault-1, fault-2, fault-3, fault-4, err-from}
+use Rattle.check_parallel.proofs.Answering.{if-err, if-ok, when-ok}
+use Rattle.check_parallel.proofs.settled.settled.Goals as goal
+
+pub returns-in_err-items-clause-broken : goal.returns-in_err-items-clause-broken
+returns-in_err-items-clause-broken g c =
+    let is = if-err c.join-items.result.0 c.in_err-items.field-0.0 _ c.in_err-items.was c.join-items.ensures.first.1 in
+    err-from c.from_residual.result c.in_err-items.field-0.0 (IsFault c.args.trace.now c.args.report.now) c.from_residual.ensures.1 (fault-1 c.args.trace.now c.args.report.now c.in_err-items.field-0.0 is)
+
+pub returns-in_err-journal-clause-broken : goal.returns-in_err-journal-clause-broken
+returns-in_err-journal-clause-broken g c =
+    let answers = if-ok c.join-items.result.0 c.in_ok-items.field-0 _ c.in_ok-items.was c.join-items.ensures.first.0 in
+    let is = if-err c.join-items.result.1 c.in_err-journal.field-0.0 _ c.in_err-journal.was c.join-items.ensures.second.1 in
+    err-from c.from_residual-in_err-journal.result c.in_err-journal.field-0.0 (IsFault c.args.trace.now c.args.report.now) c.from_residual-in_err-journal.ensures.1
+    (fault-2 c.args.trace.now c.args.report.now (objects_of c.in_ok-items.field-0) c.in_err-journal.field-0.0 answers is)
+
+pub returns-in_err-judge_misses-clause-broken : goal.returns-in_err-judge_misses-clause-broken
+returns-in_err-judge_misses-clause-broken g c =
+    let read = if-ok c.join-items.result.0 c.in_ok-items.field-0 _ c.in_ok-items.was c.join-items.ensures.first.0 in
+    let journal = when-ok c.join-items.result.1 _ _ c.in_ok-journal.was c.join-items.ensures.second.0 in
+    let same : c.deref.result.now ≡ c.in_ok-items.field-0 = c.deref.ensures.value ∙ c.into_vec-items.ensures in
+    let answers = subst (λ (items : List Item). HasAnswers c.args.trace.now c.args.report.now (objects_of items)) (sym same) read in
+    err-from c.from_residual-in_err-judge_misses.result c.in_err-judge_misses.field-0.0 (IsFault c.args.trace.now c.args.report.now) c.from_residual-in_err-judge_misses.ensures.1
+    (fault-3 c.args.trace.now c.args.report.now (objects_of c.deref.result.now) c.in_err-judge_misses.field-0.0 answers journal c.in_err-judge_misses.ensures.fault)
+
+pub returns-in_err-judge_places-clause-broken : goal.returns-in_err-judge_places-clause-broken
+returns-in_err-judge_places-clause-broken g c =
+    let first = if-ok c.join-items.result.0 c.in_ok-items.field-0 _ c.in_ok-items.was c.join-items.ensures.first.0 in
+    let journal = when-ok c.join-items.result.1 _ _ c.in_ok-journal.was c.join-items.ensures.second.0 in
+    let same : c.deref_mut.result.now ≡ c.in_ok-items.field-0 = c.deref_mut.ensures.value ∙ c.into_vec-items.ensures in
+    let read : c.deref_mut.result.now ≡ c.deref.result.now = c.deref_mut.ensures.value ∙ sym c.deref.ensures.value in
+    let answers = subst (λ (items : List Item). HasAnswers c.args.trace.now c.args.report.now (objects_of items)) (sym same) first in
+    let misses = subst (λ (items : List Item). AreMissed (past_in c.args.report.now) (objects_of items)) (sym read) c.in_ok-judge_misses.ensures.misses in
+    err-from c.from_residual-in_err-judge_places.result c.in_err-judge_places.field-0.0 (IsFault c.args.trace.now c.args.report.now) c.from_residual-in_err-judge_places.ensures.1
+    (fault-4 c.args.trace.now c.args.report.now (objects_of c.deref_mut.result.now) c.in_err-judge_places.field-0.0 answers journal misses c.in_err-judge_places.ensures.fault)
+
+pub returns-clause-settled : goal.returns-clause-settled
+returns-clause-settled g c =
+    let first = if-ok c.join-items.result.0 c.in_ok-items.field-0 _ c.in_ok-items.was c.join-items.ensures.first.0 in
+    let journal = when-ok c.join-items.result.1 _ _ c.in_ok-journal.was c.join-items.ensures.second.0 in
+    let same : c.deref_mut.result.now ≡ c.in_ok-items.field-0 = c.deref_mut.ensures.value ∙ c.into_vec-items.ensures in
+    let read : c.deref_mut.result.now ≡ c.deref.result.now = c.deref_mut.ensures.value ∙ sym c.deref.ensures.value in
+    let answers = subst (λ (items : List Item). HasAnswers c.args.trace.now c.args.report.now (objects_of items)) (sym same) first in
+    let misses = subst (λ (items : List Item). AreMissed (past_in c.args.report.now) (objects_of items)) (sym read) c.in_ok-judge_misses.ensures.misses in
+    let long : length c.judge_places.new.items ≡ c.into_vec-items.result.len = c.judge_places.auto.items ∙ c.deref_mut.ensures.len in
+    let whole = written c.into_vec-items.result.len c.judge_places.new.items c.into_vec-items.result.items long in
+    subst (λ (items : List Item). AreSettledItems c.args.trace.now c.args.report.now items) (sym whole) (record {
+      answers = answers-on c.args.trace.now c.args.report.now c.deref_mut.result.now c.judge_places.new.items c.judge_places.ensures.same answers;
+      journal = journal;
+      misses = misses-on (past_in c.args.report.now) c.deref_mut.result.now c.judge_places.new.items c.judge_places.ensures.same misses;
+      places = c.in_ok-judge_places.ensures.places;
+    })

@@ -1,0 +1,106 @@
+//! The rules in their order, by parts that are judged beside each other.
+
+ghost use Rattle.std.specs.Prelude.{◌≡◌, ◌≤◌, IfErr, OnOk};
+ghost use Rattle.std.specs.Thread.{IsSync};
+ghost use Rattle.cycle_history.specs.Before.{IsLimited};
+ghost use Rattle.report_check.specs.declared.fault.CheckFault.TheVariants.{NoMemory as OutOfMemory};
+ghost use Rattle.report_check.specs.Fault.{IsFault, MeetsChecked};
+ghost use Rattle.report_check.specs.Known.{AreKnown, AreSettledItems};
+ghost use Rattle.check_parallel.specs.Parts.{IsClosingJudged, IsInsideJudged};
+
+use crate::closing::judge_closing;
+use crate::pieces::judge_inside;
+use crate::settled::settled;
+use cycle_history::Report;
+use report_check::{CheckFault, Item, lasts_of};
+use std::alloc::Global;
+use std::thread::{Threads, join};
+use trace_reader::Trace;
+
+/// Tries the nine rules of a sound report, as `check` of `report_check` does, with the objects in so many pieces: the first that
+/// the report breaks, with the first of its lines that breaks it. A sound report is refused for want of memory alone.
+///
+/// A piece has the objects of some size classes, and is judged for the rules 5 and 6. Beside the pieces the other rules behind
+/// rule 4 are judged whole, each in a thread of its own where one can be made.
+pub fn check_parallel<R: Threads + Sync>(
+    rt: &R,
+    alloc: Global,
+    trace: &Trace,
+    report: &Report,
+    pieces: u32,
+) -> Result<(), CheckFault>
+    requires limited { IsLimited trace.now }
+    requires some { 1 ≤ pieces }
+    requires few { pieces ≤ 64 }
+    ensures met { OnOk result (MeetsChecked trace.now report.now) }
+    ensures broken { IfErr result (IsFault trace.now report.now) }
+    ensures sound { MeetsChecked trace.now report.now → IfErr result (λ fault. fault ≡ OutOfMemory) }
+{
+    judge_rules(rt, alloc, trace, report, pieces)
+}
+
+// The nine rules.
+fn judge_rules<R: Threads + Sync>(
+    rt: &R,
+    alloc: Global,
+    trace: &Trace,
+    report: &Report,
+    pieces: u32,
+) -> Result<(), CheckFault>
+    requires limited { IsLimited trace.now }
+    requires pieces { 1 ≤ pieces }
+    ensures met { OnOk result (MeetsChecked trace.now report.now) }
+    ensures broken { IfErr result (IsFault trace.now report.now) }
+{
+    let items = settled(rt, alloc, trace, report)?;
+    judge_settled(rt, alloc, trace, report, &items, pieces)
+}
+
+// The rules 5 to 9, over the objects in their seats.
+fn judge_settled<R: Threads + Sync>(
+    rt: &R,
+    alloc: Global,
+    trace: &Trace,
+    report: &Report,
+    items: &[Item],
+    pieces: u32,
+) -> Result<(), CheckFault>
+    requires limited { IsLimited trace.now }
+    requires settled { AreSettledItems trace.now report.now items.now }
+    requires pieces { 1 ≤ pieces }
+    ensures met { OnOk result (MeetsChecked trace.now report.now) }
+    ensures broken { IfErr result (IsFault trace.now report.now) }
+{
+    let lasts = lasts_of(alloc, trace, items)?;
+    let (inside, closing) = judge_beside(rt, alloc, trace, report, items, &lasts, pieces);
+    inside?;
+    closing
+}
+
+// The rules 5 and 6, and beside them the rules 7 to 9.
+fn judge_beside<R: Threads + Sync>(
+    rt: &R,
+    alloc: Global,
+    trace: &Trace,
+    report: &Report,
+    items: &[Item],
+    lasts: &[u32],
+    pieces: u32,
+) -> (Result<(), CheckFault>, Result<(), CheckFault>)
+    requires known { AreKnown trace.now report.now items.now lasts.now }
+    requires pieces { 1 ≤ pieces }
+    ensures inside { IsInsideJudged trace.now items.now result.0 }
+    ensures closing { IsClosingJudged trace.now report.now items.now result.1 }
+{
+    join(
+        rt,
+        || -> Result<(), CheckFault>
+            requires { IsSync R.row × AreKnown trace.now report.now items.now lasts.now × (1 ≤ pieces) }
+            ensures { IsInsideJudged trace.entry.now items.entry.now result }
+        { judge_inside(rt, alloc, trace, report, items, lasts, pieces) },
+        || -> Result<(), CheckFault>
+            requires { IsSync R.row × AreKnown trace.now report.now items.now lasts.now }
+            ensures { IsClosingJudged trace.entry.now report.entry.now items.entry.now result }
+        { judge_closing(rt, alloc, trace, report, items, lasts) },
+    )
+}

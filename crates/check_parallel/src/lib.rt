@@ -1,0 +1,14 @@
+//! The judge of reports in several threads.
+//!
+//! `check_parallel` answers what `check` of `report_check` answers. It judges the rules 1 to 4 whole (`settled`), the first two
+//! beside each other, and then beside each other: the overlaps and the filling in pieces of the size classes (`pieces`), whose answers are
+//! joined by the least line (`least`); and the sweeps in three parts, the totals and the profile (`closing`).
+#![tactic(auto)]
+
+mod closing;
+mod judge;
+mod least;
+mod pieces;
+mod settled;
+
+pub use judge::check_parallel;
