@@ -7,8 +7,8 @@ use Rattle.span_state.specs.declared.body.Body.{Body}
 use Rattle.page_bitmap.specs.Counts.{one_if}
 use Rattle.page_bitmap.specs.declared.line.Line.{Line}
 use Rattle.sweep_laws.specs.Reading.{is_swept_set}
-use Rattle.span_laws.specs.TakeAnswers.{TakesSpan, TriesSpan, cycle_at}
-use Rattle.span_laws.specs.ScavengeAnswers.{StepsOnce, past_scavenged, told_if}
+use Rattle.span_laws.specs.TakeAnswers.{TakesSpan, TriesSpan}
+use Rattle.span_laws.specs.ScavengeAnswers.{StepsOnce, told_if}
 use Rattle.span_laws.specs.Answers.{AcquiresSpan, RaisesSwept, RaisesUnswept, UncachesSpan}
 use Rattle.span_laws.specs.Asks.{IsUntouched, KnowsJournal}
 use Rattle.span_laws.specs.declared.answers.Acquired.{Acquired}
@@ -23,7 +23,7 @@ use Rattle.span_laws.specs.declared.said.Said.TheVariants.{Looks, LooksCell}
 use Rattle.span_laws.specs.declared.said.SaidOf.TheVariants.{Places, Takes}
 use Rattle.span_laws.specs.declared.view.Span.{Span}
 use Rattle.worker_log.specs.Entries.{is_pop_of, is_seen_empty, many}
-use Rattle.span_laws.specs.Views.{Seen, acts, has_cell}
+use Rattle.span_laws.specs.Views.{Seen, acts, drives, has_cell}
 use Rattle.span_laws.specs.OwnSteps.{after_of, after_said}
 use Rattle.span_set.specs.Pops.{PopsSwept, PopsUnswept}
 use Rattle.span_set.specs.declared.answers.Pop.{Pop}
@@ -89,8 +89,8 @@ module _ (t : TableId) (w : Seen) (r : IsReady t w) where
   ready_raised_unswept set head tail page new (Err found) a = ready_acts _ _ new a.1 r.unclaimed
 
   -- the driver knows the journal behind a scavenging step
-  pub stepped_knows : (new : Seen) (step : Step) → StepsOnce w new (Ok step) → KnowsJournal new
-  stepped_knows new step a = (_, ap (λ (x : Seen). x.journal) a.4 ∙ ap (λ (m : ℕ). told_if (eqb m 69) (past_scavenged (cycle_at w.view.generation) a.0 step.run)) r.number)
+  pub stepped_knows : (new : Seen) (known : List Line) → new ≡ record w { journal = told_if (drives w) known } → KnowsJournal new
+  stepped_knows new known e = (known, ap (λ (x : Seen). x.journal) e ∙ ap (λ (m : ℕ). told_if (eqb m 69) known) r.number)
 
   pub ready_stepped : (new : Seen) (a : Result Step NoMemory) → StepsOnce w new a → IsReady t new
   ready_stepped new (Ok step) a = ready_acts _ _ new a.4 r.unclaimed

@@ -35,6 +35,7 @@ pub(crate) fn claim_large(shared: &Shared, w: &mut Worker, body: Body) -> Claim
     requires ready { IsReady shared.now w.old }
     requires body { HoldsLarge w.old body }
     ensures table { w.new.table ≡ w.old.table }
+    ensures number { w.new.number ≡ w.old.number }
     ensures away { w.new.away ≡ w.old.away }
     ensures generation { w.new.view.generation ≡ w.old.view.generation }
     ensures claimed { w.new.view.own.claimed ≡ Some (record { set = result.set; index = result.index; page = result.page }) }
