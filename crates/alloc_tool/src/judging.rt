@@ -89,7 +89,10 @@ fn check_in_pieces<R: Threads + Sync, S: Source>(
     let (trace, report) = read_pair(alloc, input)?;
     match check_parallel(rt, alloc, &trace, &report, pieces) {
         Ok(()) => Ok(()),
-        Err(CheckFault::Broken { rule, line }) => Err(Stop::Verdict(Verdict::Broken { rule, line })),
+        Err(CheckFault::Broken { rule, line }) => Err(Stop::Verdict(Verdict::Broken {
+            rule,
+            line,
+        })),
         Err(CheckFault::NoMemory) => Err(Stop::Verdict(Verdict::NoMemory)),
     }
 }
