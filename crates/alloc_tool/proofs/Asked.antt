@@ -3,7 +3,7 @@ use Rattle.std.proofs.Common.{◌≡◌, ℕ, List, [], ◌∷◌, codes, sym, �
 use Rattle.std.specs.declared.alloc.Global.{Global}
 use Rattle.trace_reader.proofs.Digits.{decimal_injective_wide}
 use Rattle.check_input.specs.Pieces.{AsksPieces}
-use Rattle.alloc_tool.specs.Words.{IsCheck, IsDemo, IsRun, IsSeeded}
+use Rattle.alloc_tool.specs.Words.{IsCheck, IsDemo, IsHeap, IsRun, IsSeeded}
 
 heads : (a b : List ℕ) (xs ys : List (List ℕ)) → a ∷ xs ≡ b ∷ ys → a ≡ b
 heads a b xs ys e = cc
@@ -12,15 +12,21 @@ heads a b xs ys e = cc
 pub run_or_demo : (words : List (String Global)) (seed objects : ℕ) → IsRun words → IsDemo words seed objects → ⊥
 run_or_demo words seed objects run demo = (let e : codes "run" ≡ codes "demo" = heads _ _ _ _ (sym run.2.1 ∙ demo.spelled) in cc)
 
--- `check` is neither, nor `classes` or `gen`
+-- `check` is neither, nor `classes` or `gen`; nor is `heap`
 pub run_or_check : (words : List (String Global)) → IsRun words → IsCheck words → ⊥
 run_or_check words run check = (let e : codes "run" ≡ codes "check" = heads _ _ _ _ (sym run.2.1 ∙ check) in cc)
+
+pub run_or_heap : (words : List (String Global)) → IsRun words → IsHeap words → ⊥
+run_or_heap words run heap = (let e : codes "run" ≡ codes "heap" = heads _ _ _ _ (sym run.2.1 ∙ heap) in cc)
 
 one_or_three : (a x y z : List ℕ) → a ∷ [] ≡ x ∷ y ∷ z ∷ [] → ⊥
 one_or_three a x y z e = cc
 
 pub check_or_seeded : (word : List ℕ) (words : List (String Global)) (seed objects : ℕ) → IsCheck words → IsSeeded word words seed objects → ⊥
 check_or_seeded word words seed objects check seeded = one_or_three _ _ _ _ (sym check ∙ seeded.spelled)
+
+pub heap_or_seeded : (word : List ℕ) (words : List (String Global)) (seed objects : ℕ) → IsHeap words → IsSeeded word words seed objects → ⊥
+heap_or_seeded word words seed objects heap seeded = one_or_three _ _ _ _ (sym heap ∙ seeded.spelled)
 
 last_two : (a b c x y : List ℕ) → a ∷ b ∷ c ∷ [] ≡ a ∷ x ∷ y ∷ [] → (b ≡ x) × (c ≡ y)
 last_two a b c x y e = (cc, cc)
@@ -50,3 +56,6 @@ check_or_pieces words n check pieces = one_or_two _ _ _ (sym check ∙ pieces.sp
 
 pub pieces_or_seeded : (word : List ℕ) (words : List (String Global)) (n seed objects : ℕ) → AsksPieces words n → IsSeeded word words seed objects → ⊥
 pieces_or_seeded word words n seed objects pieces seeded = two_or_three _ _ _ _ _ (sym pieces.spelled ∙ seeded.spelled)
+
+pub heap_or_pieces : (words : List (String Global)) (n : ℕ) → IsHeap words → AsksPieces words n → ⊥
+heap_or_pieces words n heap pieces = one_or_two _ _ _ (sym heap ∙ pieces.spelled)

@@ -5,11 +5,12 @@ use Rattle.edge_io.specs.Causes.{Rose}
 use Rattle.edge_io.specs.Front.{AppendsFront}
 use Rattle.class_lines.specs.Text.{classes_text}
 use Rattle.made_lines.specs.Asks.{made_text}
+use Rattle.heap_lines.specs.Heaped.{Heaped}
 use Rattle.alloc_tool.specs.Checked.{Checked}
 use Rattle.alloc_tool.specs.Plain.{Plain, Writes}
 use Rattle.stop_lines.specs.Texts.{status_text, usage, write_fault}
 use Rattle.stop_lines.specs.Told.{Tells}
-use Rattle.alloc_tool.specs.Words.{IsCheck, IsClasses, IsGen}
+use Rattle.alloc_tool.specs.Words.{IsCheck, IsClasses, IsGen, IsHeap}
 use Rattle.alloc_tool.proofs.Asked.{one_seeded}
 
 clash : (s k l : ℕ) → (k ≡ l → ⊥) → s ≡ k → s ≡ l → ⊥
@@ -58,6 +59,15 @@ classes_or_check words is other = (let e : codes "classes" ∷ [] ≡ codes "che
 classes_or_gen : (words : List (String Global)) (seed objects : ℕ) → IsClasses words → IsGen words seed objects → ⊥
 classes_or_gen words seed objects is made = lengths _ _ _ _ (sym is ∙ made.spelled)
 
+heap_or_gen : (words : List (String Global)) (seed objects : ℕ) → IsHeap words → IsGen words seed objects → ⊥
+heap_or_gen words seed objects is made = lengths _ _ _ _ (sym is ∙ made.spelled)
+
+pub classes_or_heap : (words : List (String Global)) → IsClasses words → IsHeap words → ⊥
+classes_or_heap words is other = (let e : codes "classes" ∷ [] ≡ codes "heap" ∷ [] = sym is ∙ other in cc)
+
+pub check_or_heap : (words : List (String Global)) → IsCheck words → IsHeap words → ⊥
+check_or_heap words is other = (let e : codes "check" ∷ [] ≡ codes "heap" ∷ [] = sym is ∙ other in cc)
+
 -- the word `classes`
 pub classes_plain : {S K E : Type 0} (left : S → Option (List ℕ)) (reads : S → ℕ) (held : K → Option (List ℕ)) (writes : K → ℕ) (shown : E → Option (List ℕ)) (tells : E → ℕ) (words : List (String Global)) (input : S) (output output' : K) (errors errors' : E) (status : ℕ)
     → IsClasses words → Writes held writes shown tells classes_text output output' errors errors' status → status ≢ 7 → Plain left reads held writes shown tells words input input output output' errors errors' status
@@ -66,8 +76,9 @@ classes_plain left reads held writes shown tells words input output output' erro
   no_memory = λ _. memory;
   made = λ seed objects made. absurd (classes_or_gen words seed objects is made);
   check = λ other. absurd (classes_or_check words is other);
-  others = λ other _ _. absurd (other is);
-  unread = λ _. refl;
+  heap = λ other. absurd (classes_or_heap words is other);
+  others = λ other _ _ _. absurd (other is);
+  unread = λ _ _. refl;
 }
 
 -- the word `gen`
@@ -81,20 +92,22 @@ gen_plain left reads held writes shown tells words input output output' errors e
       subst (λ (k : ℕ). Writes held writes shown tells (made_text k o) output output' errors errors' status) same.0
       (subst (λ (k : ℕ). Writes held writes shown tells (made_text seed k) output output' errors errors' status) same.1 written);
   check = λ other. absurd (check_or_gen words seed objects other is);
-  others = λ _ _ other. absurd (other seed objects is);
-  unread = λ _. refl;
+  heap = λ other. absurd (heap_or_gen words seed objects other is);
+  others = λ _ _ _ other. absurd (other seed objects is);
+  unread = λ _ _. refl;
 }
 
 -- other words
 pub usage_plain : {S K E : Type 0} (left : S → Option (List ℕ)) (reads : S → ℕ) (held : K → Option (List ℕ)) (writes : K → ℕ) (shown : E → Option (List ℕ)) (tells : E → ℕ) (words : List (String Global)) (input : S) (output : K) (errors errors' : E) (status : ℕ)
-    → (IsClasses words → ⊥) → (IsCheck words → ⊥) → ((seed objects : ℕ) → IsGen words seed objects → ⊥) → status ≡ 2 → Tells shown tells errors errors' usage → Plain left reads held writes shown tells words input input output output errors errors' status
-usage_plain left reads held writes shown tells words input output errors errors' status no_classes no_check no_gen is told = record {
+    → (IsClasses words → ⊥) → (IsCheck words → ⊥) → (IsHeap words → ⊥) → ((seed objects : ℕ) → IsGen words seed objects → ⊥) → status ≡ 2 → Tells shown tells errors errors' usage → Plain left reads held writes shown tells words input input output output errors errors' status
+usage_plain left reads held writes shown tells words input output errors errors' status no_classes no_check no_heap no_gen is told = record {
   classes = λ classes. absurd (no_classes classes);
   no_memory = λ classes. absurd (no_classes classes);
   made = λ seed objects made. absurd (no_gen seed objects made);
   check = λ check. absurd (no_check check);
-  others = λ _ _ _. record { refused = is; unwritten = refl; told = told };
-  unread = λ _. refl;
+  heap = λ heap. absurd (no_heap heap);
+  others = λ _ _ _ _. record { refused = is; unwritten = refl; told = told };
+  unread = λ _ _. refl;
 }
 
 -- the word `check`
@@ -105,6 +118,20 @@ check_plain left reads held writes shown tells words input input' output output'
   no_memory = λ classes. absurd (classes_or_check words classes is);
   made = λ seed objects made. absurd (check_or_gen words seed objects is made);
   check = λ _. checked;
-  others = λ _ other _. absurd (other is);
-  unread = λ other. absurd (other is);
+  heap = λ heap. absurd (check_or_heap words is heap);
+  others = λ _ other _ _. absurd (other is);
+  unread = λ other _. absurd (other is);
+}
+
+-- the word `heap`
+pub heap_plain : {S K E : Type 0} (left : S → Option (List ℕ)) (reads : S → ℕ) (held : K → Option (List ℕ)) (writes : K → ℕ) (shown : E → Option (List ℕ)) (tells : E → ℕ) (words : List (String Global)) (input input' : S) (output output' : K) (errors errors' : E) (status : ℕ)
+    → IsHeap words → Heaped left reads held writes shown tells input input' output output' errors errors' status → Plain left reads held writes shown tells words input input' output output' errors errors' status
+heap_plain left reads held writes shown tells words input input' output output' errors errors' status is heaped = record {
+  classes = λ classes. absurd (classes_or_heap words classes is);
+  no_memory = λ classes. absurd (classes_or_heap words classes is);
+  made = λ seed objects made. absurd (heap_or_gen words seed objects is made);
+  check = λ check. absurd (check_or_heap words check is);
+  heap = λ _. heaped;
+  others = λ _ _ other _. absurd (other is);
+  unread = λ _ other. absurd (other is);
 }

@@ -17,6 +17,7 @@ use Rattle.report_text.proofs.Refused.{not_refused_law}
 use Rattle.report_text.proofs.Unique.{one_report}
 use Rattle.report_check.specs.Fault.{BreaksRules, MeetsChecked}
 use Rattle.check_input.specs.Pair.{ArePair, IsReportFault, IsTraceFault}
+use Rattle.heap_lines.specs.Heaped.{Heaped}
 use Rattle.alloc_tool.specs.Checked.{BreaksAt, Checked}
 use Rattle.alloc_tool.specs.Top.{IsUndisturbed}
 use Rattle.alloc_tool.proofs.Unbroken.{sound_unbroken}
@@ -79,6 +80,21 @@ sound_pair left reads held writes shown tells input input' output output' errors
       | inl zero ↦ inl zero
       | inr (inl three) ↦ absurd (let why = checked.refused three in no_fault bytes pair.front pair.rest t why.0 pair.split pair.spelled (why.2 why.1 bytes undisturbed.told))
       | inr (inr (inl four)) ↦ absurd (elim (checked.broken four) [
+        | inl why ↦ not_faulty bytes t r why.0 pair (why.2 why.1 bytes undisturbed.told)
+        | inr why ↦ not_broken (left input) (left input') bytes t r why.0 why.1 undisturbed.told pair meets why.2
+      ])
+      | inr (inr (inr seven)) ↦ inr seven
+    ]
+
+-- the same of `heap`
+pub sound_heap : {S K E : Type 0} (left : S → Option (List ℕ)) (reads : S → ℕ) (held : K → Option (List ℕ)) (writes : K → ℕ) (shown : E → Option (List ℕ)) (tells : E → ℕ) (input input' : S) (output output' : K) (errors errors' : E) (status : ℕ)
+    → Heaped left reads held writes shown tells input input' output output' errors errors' status → (bytes : List ℕ) (t : Trace) (r : Report)
+    → IsUndisturbed left reads writes input input' output output' bytes → ArePair bytes t r → MeetsChecked t r → (status ≡ 0) ⊎ (status ≡ 7)
+sound_heap left reads held writes shown tells input input' output output' errors errors' status heaped bytes t r undisturbed pair meets =
+    elim (heaped.complete undisturbed.read undisturbed.written) [
+      | inl zero ↦ inl zero
+      | inr (inl three) ↦ absurd (let why = heaped.refused three in no_fault bytes pair.front pair.rest t why.0 pair.split pair.spelled (why.2 why.1 bytes undisturbed.told))
+      | inr (inr (inl four)) ↦ absurd (elim (heaped.broken four) [
         | inl why ↦ not_faulty bytes t r why.0 pair (why.2 why.1 bytes undisturbed.told)
         | inr why ↦ not_broken (left input) (left input') bytes t r why.0 why.1 undisturbed.told pair meets why.2
       ])

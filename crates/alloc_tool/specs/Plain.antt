@@ -6,10 +6,11 @@ use Rattle.edge_io.specs.Causes.{Rose}
 use Rattle.edge_io.specs.Front.{AppendsFront}
 use Rattle.class_lines.specs.Text.{classes_text}
 use Rattle.made_lines.specs.Asks.{made_text}
+use Rattle.heap_lines.specs.Heaped.{Heaped}
 use Rattle.alloc_tool.specs.Checked.{Checked}
 use Rattle.stop_lines.specs.Texts.{status_text, usage}
 use Rattle.stop_lines.specs.Told.{Tells}
-use Rattle.alloc_tool.specs.Words.{IsCheck, IsClasses, IsGen}
+use Rattle.alloc_tool.specs.Words.{IsCheck, IsClasses, IsGen, IsHeap}
 
 -- In all of these `left`, `held` and `shown` give the bytes of the three streams where they tell them, and `reads`, `writes` and
 -- `tells` count their faults.
@@ -46,7 +47,9 @@ pub record Plain {S K E : Type 0} (left : S → Option (List ℕ)) (reads : S �
   pub made : (seed objects : ℕ) → IsGen words seed objects → Writes held writes shown tells (made_text seed objects) output output' errors errors' status
   -- `check` judges a report
   pub check : IsCheck words → Checked left reads held writes shown tells input input' output output' errors errors' status
+  -- `heap` judges a report and writes its profile
+  pub heap : IsHeap words → Heaped left reads held writes shown tells input input' output output' errors errors' status
   -- all other words are not known
-  pub others : (IsClasses words → ⊥) → (IsCheck words → ⊥) → ((seed objects : ℕ) → IsGen words seed objects → ⊥) → IsUnknown shown tells output output' errors errors' status
-  -- only `check` reads
-  pub unread : (IsCheck words → ⊥) → input' ≡ input
+  pub others : (IsClasses words → ⊥) → (IsCheck words → ⊥) → (IsHeap words → ⊥) → ((seed objects : ℕ) → IsGen words seed objects → ⊥) → IsUnknown shown tells output output' errors errors' status
+  -- only `check` and `heap` read
+  pub unread : (IsCheck words → ⊥) → (IsHeap words → ⊥) → input' ≡ input

@@ -37,3 +37,7 @@ IsDemo words seed objects = IsSeeded (codes "demo") words seed objects
 -- the one word `check`
 abbrev pub IsCheck : List (String Global) → Type 0
 IsCheck words = IsWord (codes "check") words
+
+-- the one word `heap`
+abbrev pub IsHeap : List (String Global) → Type 0
+IsHeap words = IsWord (codes "heap") words

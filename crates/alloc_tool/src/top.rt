@@ -11,7 +11,7 @@ ghost use Rattle.alloc_tool.specs.Demo.{Demos};
 ghost use Rattle.alloc_tool.specs.Outcome.{Outcome};
 ghost use Rattle.alloc_tool.specs.Plain.{Plain, Writes};
 ghost use Rattle.alloc_tool.specs.Top.{IsComplete, IsStatusOfRun, IsUndisturbed};
-ghost use Rattle.alloc_tool.specs.Words.{IsCheck, IsDemo, IsRun, IsRunWith, IsWord};
+ghost use Rattle.alloc_tool.specs.Words.{IsCheck, IsDemo, IsHeap, IsRun, IsRunWith, IsWord};
 
 use crate::demo::show_run;
 use crate::generate::{generate, wanted_by};
@@ -19,6 +19,7 @@ use crate::judging::{judge_in_pieces, judge_report};
 use check_input::pieces_of;
 use class_lines::write_classes;
 use edge_io::{Gate, NoMemory, Sink, Source};
+use heap_lines::show_heap;
 use heap_run::{Options, run_trace};
 use report_text::write_report;
 use run_words::{are_of_run, read_options};
@@ -59,6 +60,8 @@ pub fn goheap<R: Threads + Wait + Sync, S: Source, K: Sink, E: Sink, G: Gate>(
         → IsUndisturbed S.left S.faults K.faults input.old input.new output.old output.new bytes → AcceptsSound bytes result }
     ensures accepts_in_pieces { (n : ℕ) → AsksPieces words.now n → (bytes : List ℕ)
         → IsUndisturbed S.left S.faults K.faults input.old input.new output.old output.new bytes → AcceptsSound bytes result }
+    ensures heap { IsHeap words.now → (bytes : List ℕ)
+        → IsUndisturbed S.left S.faults K.faults input.old input.new output.old output.new bytes → AcceptsSound bytes result }
 {
     if are_of_run(words) {
         return run(rt, alloc, words, input, output, errors, gate);
@@ -74,8 +77,8 @@ pub fn goheap<R: Threads + Wait + Sync, S: Source, K: Sink, E: Sink, G: Gate>(
 
 /// Does what the words say where that needs no runtime, and answers the exit status. `classes` writes the table of size
 /// classes to `output`, and `gen SEED OBJECTS` a made trace. `check` reads a trace from `input` and directly behind it a report to
-/// the end, judges the report, and writes `check ok` where it is sound. All other words are not known yet, and `run` and `demo`
-/// need the runtime.
+/// the end, judges the report, and writes `check ok` where it is sound. `heap` does the same, and writes the heap profile as of the
+/// last mark end in its place. All other words are not known yet, and `run` and `demo` need the runtime.
 pub fn goheap_plain<S: Source, K: Sink, E: Sink>(
     alloc: Global,
     words: &[String],
@@ -86,12 +89,17 @@ pub fn goheap_plain<S: Source, K: Sink, E: Sink>(
     ensures words { Plain S.left S.faults K.held K.faults E.held E.faults words.now input.old input.new output.old output.new errors.old errors.new result }
     ensures check { IsCheck words.now → (bytes : List ℕ)
         → IsUndisturbed S.left S.faults K.faults input.old input.new output.old output.new bytes → AcceptsSound bytes result }
+    ensures heap { IsHeap words.now → (bytes : List ℕ)
+        → IsUndisturbed S.left S.faults K.faults input.old input.new output.old output.new bytes → AcceptsSound bytes result }
 {
     if is_word(words, "classes") {
         return classes(output, errors);
     }
     if is_word(words, "check") {
         return judge_report(alloc, input, output, errors);
+    }
+    if is_word(words, "heap") {
+        return show_heap(alloc, input, output, errors);
     }
     match wanted_by(words, "gen") {
         Some(wanted) => generate(alloc, wanted, output, errors),

@@ -86,17 +86,17 @@ one_said line x y left right = (one_item x y [] [] left.1 right.1 (ap (λ (l : L
 -- ---- one line
 
 -- at most so many bytes, none of them a line feed
-abbrev IsShort : ℕ → List ℕ → Type 0
+abbrev pub IsShort : ℕ → List ℕ → Type 0
 IsShort most bytes = (length bytes ≤ most) × HasNoFeed bytes
 
-join : (j k : ℕ) (xs ys : List ℕ) → IsShort j xs → IsShort k ys → IsShort (j + k) (xs ++ ys)
+pub join : (j k : ℕ) (xs ys : List ℕ) → IsShort j xs → IsShort k ys → IsShort (j + k) (xs ++ ys)
 join j k xs ys left right =
     let whole = length-append xs ys in
     let first = left.0 in
     let then = right.0 in
     (omega arith, All-append (λ b. b ≢ 10) xs ys left.1 right.1)
 
-number_short : (n : ℕ) → n < 2 ^ 64 → IsShort 20 (decimal n)
+pub number_short : (n : ℕ) → n < 2 ^ 64 → IsShort 20 (decimal n)
 number_short n small = (length-decimal-le 20 n (omega arith) (omega arith) small, AllByRecursion-map IsDigit (λ b. b ≢ 10) (λ b digit e. omega (arith, digit.0, e)) (decimal n) (digits_decimal n (omega arith)))
 
 not_ten : (b : ℕ) → (b == 10) ≡ false → b ≢ 10
@@ -115,10 +115,10 @@ nothing = (omega arith, tt)
 field : (text rest : List ℕ) (n k : ℕ) → list_all (λ b. not (b == 10)) text ≡ true → n < 2 ^ 64 → IsShort k rest → IsShort (length text + (20 + k)) (text ++ (decimal n ++ rest))
 field text rest n k test small short = join (length text) (20 + k) text (decimal n ++ rest) (omega arith, apart_test text test) (join 20 k (decimal n) rest (number_short n small) short)
 
-longer : (j k : ℕ) (xs : List ℕ) → j ≤ k → IsShort j xs → IsShort k xs
+pub longer : (j k : ℕ) (xs : List ℕ) → j ≤ k → IsShort j xs → IsShort k xs
 longer j k xs le short = let few = short.0 in (omega arith, short.1)
 
-hex_apart : (xs : List ℕ) → AllDigits 16 xs → HasNoFeed xs
+pub hex_apart : (xs : List ℕ) → AllDigits 16 xs → HasNoFeed xs
 hex_apart [] all = tt
 hex_apart (x ∷ xs) all = (λ e. high (subst (λ (c : ℕ). digit_value c < 16) e all.0), hex_apart xs all.1) where
   high : 36 < 16 → ⊥
@@ -139,7 +139,7 @@ length_hex n = length_onto 64 n []
 address_short : (n : ℕ) → n < 2 ^ 64 → IsShort 64 (digits 16 false n)
 address_short n small = (length_hex n, hex_apart (digits 16 false n) (digits_is_IsNumeral 16 false (omega arith) (omega arith) n (omega arith)).0.1)
 
-text_short : (text : List ℕ) → list_all (λ b. not (b == 10)) text ≡ true → IsShort (length text) text
+pub text_short : (text : List ℕ) → list_all (λ b. not (b == 10)) text ≡ true → IsShort (length text) text
 text_short text test = (omega arith, apart_test text test)
 
 answer_short : (answer : Answer) → AnswerFits answer → IsShort 67 (answer_text answer)

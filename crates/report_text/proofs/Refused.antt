@@ -22,16 +22,16 @@ use Rattle.report_text.proofs.Unique.{one_report}
 
 -- ---- where a line ends
 
-clear_feed : (xs rest : List ℕ) → HasNoFeed (xs ++ 10 ∷ rest) → ⊥
+pub clear_feed : (xs rest : List ℕ) → HasNoFeed (xs ++ 10 ∷ rest) → ⊥
 clear_feed [] rest all = all.0 refl
 clear_feed (x ∷ xs) rest all = clear_feed xs rest all.1
 
-feed_beyond : (line z s t : List ℕ) → HasNoFeed line → line ++ s ≡ z ++ 10 ∷ t → length line ≤ length z
+pub feed_beyond : (line z s t : List ℕ) → HasNoFeed line → line ++ s ≡ z ++ 10 ∷ t → length line ≤ length z
 feed_beyond [] z s t clear e = omega arith
 feed_beyond (l ∷ ls) [] s t clear e = let ten : l ≡ 10 = cc in absurd (clear.0 ten)
 feed_beyond (l ∷ ls) (z ∷ zs) s t clear e = let rest : ls ++ s ≡ zs ++ 10 ∷ t = cc in let more = feed_beyond ls zs s t clear.1 rest in omega arith
 
-line_ends : (line z s t : List ℕ) → HasNoFeed line → HasNoFeed z → line ++ 10 ∷ s ≡ z ++ 10 ∷ t → line ≡ z
+pub line_ends : (line z s t : List ℕ) → HasNoFeed line → HasNoFeed z → line ++ 10 ∷ s ≡ z ++ 10 ∷ t → line ≡ z
 line_ends [] [] s t clear apart e = refl
 line_ends [] (z ∷ zs) s t clear apart e = let ten : z ≡ 10 = cc in absurd (apart.0 ten)
 line_ends (l ∷ ls) [] s t clear apart e = let ten : l ≡ 10 = cc in absurd (clear.0 ten)

@@ -17,3 +17,4 @@ pub use laws::{
 pub use order::Ordered;
 pub use reader::read_report;
 pub use report_writer::write_report;
+pub use words::address;

@@ -85,7 +85,7 @@ pub(crate) fn byte_last(bytes: &[u8]) -> Option<u8>
 
 /// The address whose hexadecimal digits the bytes are. They are compared with the digits that it is written with, since a
 /// number has one text.
-pub(crate) fn address(bytes: &[u8]) -> Option<u64>
+pub fn address(bytes: &[u8]) -> Option<u64>
     ensures { MatchOption result
         ((n : ℕ) → ¬ IsAddress bytes.now n)
         (λ found. IsAddress bytes.now found) }

@@ -20,7 +20,7 @@ pub fn refuse_words<E: Sink>(errors: &mut E) -> u8
 {
     tell(
         errors,
-        b"usage: goheap run [--background=N] [--each] / check [--pieces=N] / gen SEED OBJECTS / demo SEED OBJECTS / classes\n",
+        b"usage: goheap run [--background=N] [--each] / check [--pieces=N] / gen SEED OBJECTS / demo SEED OBJECTS / classes / heap\n",
     );
     2
 }

@@ -1,4 +1,4 @@
-//! The words of the command line, each on its own: what `run`, `gen`, `classes` and `check` take, and what they write or refuse.
+//! The words of the command line, each on its own: what `run`, `gen`, `classes`, `check` and `heap` take, and what they write or refuse.
 #![tactic(auto)]
 
 #[cfg(test)]
@@ -7,5 +7,7 @@ mod checking;
 mod classes;
 #[cfg(test)]
 mod making;
+#[cfg(test)]
+mod profile;
 #[cfg(test)]
 mod running;

@@ -269,7 +269,7 @@ const OTHER_WORDS: &[&[&str]] = &[
 #[test]
 fn other_words_are_refused(rt: HostRuntime) -> Result<(), Fail> {
     let usage =
-        "usage: goheap run [--background=N] [--each] / check [--pieces=N] / gen SEED OBJECTS / demo SEED OBJECTS / classes\n";
+        "usage: goheap run [--background=N] [--each] / check [--pieces=N] / gen SEED OBJECTS / demo SEED OBJECTS / classes / heap\n";
     for &words in OTHER_WORDS {
         // A read or a write would fail.
         expect(

@@ -1,7 +1,7 @@
 use Rattle.std.proofs.Common.{ℕ, refl, subst}
 use Rattle.trace_gen.specs.Made.{made_trace}
 use Rattle.alloc_tool.specs.Demo.{Demos}
-use Rattle.alloc_tool.proofs.Asked.{check_or_pieces, check_or_seeded, one_seeded, pieces_or_seeded, run_or_check, run_or_demo, run_or_pieces}
+use Rattle.alloc_tool.proofs.Asked.{check_or_pieces, check_or_seeded, heap_or_pieces, heap_or_seeded, one_seeded, pieces_or_seeded, run_or_check, run_or_demo, run_or_heap, run_or_pieces}
 use Rattle.alloc_tool.proofs.Complete.{complete}
 use Rattle.alloc_tool.proofs.SoundPair.{sound_pair}
 use Rattle.alloc_tool.proofs.top.goheap.Goals as goal
@@ -65,3 +65,12 @@ returns-in-None-clause-in_pieces g c = λ n is. absurd (c.in_default.ensures n i
 
 pub returns-in-None-clause-accepts_in_pieces : goal.returns-in-None-clause-accepts_in_pieces
 returns-in-None-clause-accepts_in_pieces g c = λ n is. absurd (c.in_default.ensures n is)
+
+pub returns-then-are_of_run-clause-heap : goal.returns-then-are_of_run-clause-heap
+returns-then-are_of_run-clause-heap g c = λ heap. absurd (run_or_heap c.args.words.now (c.are_of_run.ensures.0 c.if-are_of_run.true) heap)
+
+pub returns-in-Some-clause-heap : goal.returns-in-Some-clause-heap
+returns-in-Some-clause-heap g c = λ heap. absurd (heap_or_pieces c.args.words.now _ heap c.in-Some.ensures)
+
+pub returns-in-Some-wanted_by-clause-heap : goal.returns-in-Some-wanted_by-clause-heap
+returns-in-Some-wanted_by-clause-heap g c = λ heap. absurd (heap_or_seeded _ c.args.words.now _ _ heap c.in-Some-wanted_by.ensures)

@@ -1,0 +1,9 @@
+pub mod Text
+pub mod Lawful
+pub mod Published
+pub mod Refusal
+pub mod Read
+pub mod Words
+pub mod Past
+pub mod Counting
+pub mod Laws
