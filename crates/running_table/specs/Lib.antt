@@ -1,0 +1,10 @@
+pub mod Running
+pub mod Seats
+pub mod Known
+pub mod Asks
+pub mod Plays
+pub mod Shown
+pub mod Sweeping
+pub mod Same
+pub mod Rows
+pub mod Scanned

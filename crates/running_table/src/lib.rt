@@ -1,0 +1,33 @@
+//! The running state of spans in one atomic table, on which all workers step at the same time.
+//!
+//! The words of the table are those of `table_words`; slot 0 has the pages with their journal, and slot p + 1 the body of the span
+//! that begins at page p. Each worker has a seat of the table. `specs/Running.antt` has the rule of the table: the words, the
+//! slots and the views of all seats show one state, of which the rule of `span_laws` holds. `specs/Plays.antt` says what each step
+//! tells, and `specs/Known.antt` what contracts see of a worker.
+#![tactic(auto)]
+
+mod caches;
+mod cells;
+mod counters;
+mod journals;
+mod laws;
+mod locks;
+mod places;
+mod plays;
+#[cfg(test)]
+mod rows;
+mod rule;
+mod scans;
+mod sets;
+mod shared;
+mod spans;
+mod steps;
+#[cfg(test)]
+mod tests;
+mod view;
+mod words;
+
+pub use laws::{a_span_is_swept_by_one, the_lock_stands_apart, the_table_shows_one_state};
+pub use rule::OneState;
+pub use shared::{Shared, Worker};
+pub use view::{Item, SeatView, Size};
