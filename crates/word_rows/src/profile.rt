@@ -11,12 +11,14 @@ use std::test::Fail;
 const MOST: u64 = 4_294_967_296;
 
 // Three objects of 24 bytes of stack 7, of which the mark end marks the first, with their report.
-const SAMPLED: &str = "goheap 1\nheap 1 procs 1 rate 1 seed 1 goal 512\na 0 24 s 7\na 0 24 s 7\na 0 24 s 7\ngc 1\nm 0 0\nend\no 0 0xc000000000\no 1 0xc000000018\no 2 0xc000000030\nj 0 0 take 0 1 6\ns 1 0 1 2\nt 3 3 2\np 1 7 24 3 2\nend\n";
+const SAMPLED: &str =
+    "goheap 1\nheap 1 procs 1 rate 1 seed 1 goal 512\na 0 24 s 7\na 0 24 s 7\na 0 24 s 7\ngc 1\nm 0 0\nend\no 0 0xc000000000\no 1 0xc000000018\no 2 0xc000000030\nj 0 0 take 0 1 6\ns 1 0 1 2\nt 3 3 2\np 1 7 24 3 2\nend\n";
 
 const ONE: &str = "heap profile: 1: 24 [3: 72] @ heap/2\n1: 24 [3: 72] @ 0x7\n";
 
 // An object at rate 0, where nothing is sampled, with its report.
-const UNSAMPLED: &str = "goheap 1\nheap 1 procs 1 rate 0 seed 1 goal 512\na 0 24 s 1\nend\no 0 0xc000000000\nj 0 0 take 0 1 6\nt 3 1 0\nend\n";
+const UNSAMPLED: &str =
+    "goheap 1\nheap 1 procs 1 rate 0 seed 1 goal 512\na 0 24 s 1\nend\no 0 0xc000000000\nj 0 0 take 0 1 6\nt 3 1 0\nend\n";
 
 // Inputs, the status of `heap`, what it writes and what it tells.
 const SHOWN: &[(&str, u8, &str, &str)] = &[

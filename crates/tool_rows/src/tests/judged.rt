@@ -123,7 +123,8 @@ fn answers_are_judged(rt: HostRuntime) -> Result<(), Fail> {
 }
 
 // Three objects of 24 bytes at rate 1, of which the mark end marks the first, with their report.
-const SAMPLED: &[u8] = b"goheap 1\nheap 1 procs 1 rate 1 seed 1 goal 512\na 0 24 s 7\na 0 24 s 7\na 0 24 s 7\ngc 1\nm 0 0\nend\no 0 0xc000000000\no 1 0xc000000018\no 2 0xc000000030\nj 0 0 take 0 1 6\ns 1 0 1 2\nt 3 3 2\np 1 7 24 3 2\nend\n";
+const SAMPLED: &[u8] =
+    b"goheap 1\nheap 1 procs 1 rate 1 seed 1 goal 512\na 0 24 s 7\na 0 24 s 7\na 0 24 s 7\ngc 1\nm 0 0\nend\no 0 0xc000000000\no 1 0xc000000018\no 2 0xc000000030\nj 0 0 take 0 1 6\ns 1 0 1 2\nt 3 3 2\np 1 7 24 3 2\nend\n";
 
 // What `heap` writes of sound reports, and what it tells of others.
 #[test]
@@ -134,7 +135,14 @@ fn profiles_are_written(rt: HostRuntime) -> Result<(), Fail> {
     expect(&rt, "none", &["heap"], EMPTY, failing(&[], &[]), text)?;
     let input = format!(in rt.alloc(); "{HEAD}end\np 1 1 8 1 0\nend\n")?;
     let wanted = refused(4, "goheap: report line 1: rule 9\n");
-    expect(&rt, "broken", &["heap"], input.as_bytes(), failing(&[], &[]), wanted)?;
+    expect(
+        &rt,
+        "broken",
+        &["heap"],
+        input.as_bytes(),
+        failing(&[], &[]),
+        wanted,
+    )?;
     let wanted = refused(6, "goheap: write fault\n");
     expect(&rt, "write", &["heap"], EMPTY, failing(&[], &[0]), wanted)
 }
