@@ -18,13 +18,13 @@ use Rattle.running_table.specs.Known.{Rests, known}
 use Rattle.running_table.specs.Seats.{SeatState, says, says_of}
 use Rattle.running_table.specs.declared.view.Item.{Item}
 
-module _ (n g : ℕ) (t t' : TableId) (m m' : SeatState) (r : Rests n g t m) (same : t' ≡ t) where
+module _ (n g y : ℕ) (t t' : TableId) (m m' : SeatState) (r : Rests n g y t m) (same : t' ≡ t) where
   -- a seat whose own part changed alone, and what it knows of the journal
-  pub rests_by : (h : Part) (journal : Option (List Line)) → m' ≡ (record m.0 { journal = journal; view = acts m.0.view h }, []) → Rests n g t' m'
-  rests_by h journal e = subst (λ (z : TableId × SeatState). Rests n g z.0 z.1) (λ i. (sym same i, sym e i))
-      (record { number_is = r.number_is; generation_is = r.generation_is; drives = r.drives; early = r.early; region = r.region; out = r.out; empty = refl; slot_out = r.slot_out; unlocked = r.unlocked; low = r.low; wide = r.wide })
+  pub rests_by : (h : Part) (journal : Option (List Line)) → m' ≡ (record m.0 { journal = journal; view = acts m.0.view h }, []) → Rests n g y t' m'
+  rests_by h journal e = subst (λ (z : TableId × SeatState). Rests n g y z.0 z.1) (λ i. (sym same i, sym e i))
+      (record { number_is = r.number_is; generation_is = r.generation_is; goal_is = r.goal_is; drives = r.drives; early = r.early; region = r.region; out = r.out; empty = refl; slot_out = r.slot_out; unlocked = r.unlocked; low = r.low; wide = r.wide })
 
-  pub rests_said : (s : Said) → m' ≡ (says s m.0, m.1) → Rests n g t' m'
+  pub rests_said : (s : Said) → m' ≡ (says s m.0, m.1) → Rests n g y t' m'
   rests_said s e = rests_by (told s m.0.view.own) (heard s m.0.journal) (e ∙ ap (λ (l : List (ℕ × Item)). let z : SeatState = (says s m.0, l) in z) r.empty)
 
   pub seen_said : (k : Seen) → known t m.0 ≡ k → (s : Said) → m'.0 ≡ says s m.0 → known t' m'.0 ≡ after_said s k
@@ -34,8 +34,8 @@ module _ (n g : ℕ) (t t' : TableId) (m m' : SeatState) (r : Rests n g t m) (sa
   seen_of k is s b e = (λ i. known (same i) (e i)) ∙ ap (after_of s b) is
 
 -- what a check tells of a page that the worker sweeps, holds or has cached
-pub still_inside : (n g : ℕ) (t t' : TableId) (m m' : SeatState) → Rests n g t m → t' ≡ t → m' ≡ m → IsInside m.0 → (p : ℕ) → 0 < mine p m.0.view.own → (m'.0.view.region + 1 ≡ t'.slots) × (p < m'.0.view.region)
-still_inside n g t t' m m' r same e inside p some_of = subst (λ (z : TableId × SeatState). (z.1.0.view.region + 1 ≡ z.0.slots) × (p < z.1.0.view.region)) (λ i. (sym same i, sym e i)) (r.region, inside.page p some_of)
+pub still_inside : (n g y : ℕ) (t t' : TableId) (m m' : SeatState) → Rests n g y t m → t' ≡ t → m' ≡ m → IsInside m.0 → (p : ℕ) → 0 < mine p m.0.view.own → (m'.0.view.region + 1 ≡ t'.slots) × (p < m'.0.view.region)
+still_inside n g y t t' m m' r same e inside p some_of = subst (λ (z : TableId × SeatState). (z.1.0.view.region + 1 ≡ z.0.slots) × (p < z.1.0.view.region)) (λ i. (sym same i, sym e i)) (r.region, inside.page p some_of)
 
 -- a body that was acquired is lent
 pub lent_acquired : (b : SpanSeen) (p : ℕ) (h : Part) → b.page ≡ p → 0 < lends p (told_of Acquires b h)

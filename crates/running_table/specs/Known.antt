@@ -10,11 +10,12 @@ use Rattle.running_table.specs.Seats.{SeatState}
 abbrev pub known : TableId → SeatView → Seen
 known t w = record { table = t; number = w.number; away = w.away; journal = w.journal; view = w.view }
 
--- What a worker's seat is between two calls: it has no slot out and not the lock. The number and the generation are the view's, and the seat
+-- What a worker's seat is between two calls: it has no slot out and not the lock. The number, the generation and the goal are the view's, and the seat
 -- of number 69 is the driver's.
-pub record Rests (number generation : ℕ) (t : TableId) (m : SeatState) : Type 0 where
+pub record Rests (number generation goal : ℕ) (t : TableId) (m : SeatState) : Type 0 where
   pub number_is : number ≡ m.0.number
   pub generation_is : generation ≡ m.0.view.generation
+  pub goal_is : goal ≡ m.0.view.goal
   pub drives : m.0.drives ≡ (m.0.number == 69)
   pub early : (4 ≤ generation) × (generation ≤ 8589934592)
   pub region : m.0.view.region + 1 ≡ t.slots
@@ -28,6 +29,7 @@ pub record Rests (number generation : ℕ) (t : TableId) (m : SeatState) : Type 
 -- how large the table is
 pub record Fits (pages key : ℕ) (t : TableId) : Type 0 where
   pub key_is : key ≡ pages
+  pub some : 512 ≤ pages
   pub few : pages ≤ 65536
   pub words : t.words ≡ word_count pages
   pub slots : t.slots ≡ pages + 1

@@ -20,6 +20,7 @@ mod rule;
 mod scans;
 mod sets;
 mod shared;
+mod sizes;
 mod spans;
 mod steps;
 #[cfg(test)]

@@ -44,6 +44,8 @@ pub struct Worker {
     pub(crate) number: u32,
     // the generation, which stays while the worker is out
     pub(crate) generation: u64,
+    // the goal for backed pages
+    pub(crate) goal: u32,
     pub(crate) seat: Seat<Item, SeatView>,
 }
 
@@ -55,7 +57,7 @@ impl Model for Worker {
 
     ghost view = { λ w. known w.seat.table_id w.seat.me.0 };
 
-    ghost invariant = { λ w. Rests w.number w.generation w.seat.table_id w.seat.me };
+    ghost invariant = { λ w. Rests w.number w.generation w.goal w.seat.table_id w.seat.me };
 }
 
 // The words at the start.
@@ -142,6 +144,7 @@ impl Shared {
         let driver = Worker {
             number: 69,
             generation: 4,
+            goal,
             seat,
         };
         Ok((Shared { table, chunks }, driver))
@@ -161,6 +164,7 @@ impl Shared {
         Worker {
             number,
             generation: driver.generation,
+            goal: driver.goal,
             seat,
         }
     }

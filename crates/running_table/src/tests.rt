@@ -135,6 +135,7 @@ fn counters_add_up(rt: HostRuntime) -> Result<(), Fail> {
 fn the_driver_learns_the_journal_and_closes(rt: HostRuntime) -> Result<(), Fail> {
     let alloc = rt.alloc();
     let (shared, mut driver) = Shared::new(alloc, 1, 3)?;
+    assert!(rt; shared.region(&driver) == 512 && shared.goal(&driver) == 3);
     let Ok(Some(body)) = shared.try_span(&rt, &mut driver, 5, 0) else {
         panic!(rt; "a run is free")
     };

@@ -1,0 +1,25 @@
+//! How large the region is.
+ghost use Rattle.std.specs.Prelude.{◌≡◌, ◌≤◌};
+
+use crate::shared::{Shared, Worker};
+
+impl Shared {
+    /// The number of pages of the region: 512 to 65536.
+    pub fn region(&self, w: &Worker) -> u32
+        requires table { w.now.table ≡ self.now }
+        ensures region { result ≡ w.now.view.region }
+        ensures some { 512 ≤ result }
+        ensures most { result ≤ 65536 }
+    {
+        let _seat = &w.seat;
+        512 * self.chunks
+    }
+
+    /// The goal for backed pages, in pages.
+    pub fn goal(&self, w: &Worker) -> u32
+        requires { w.now.table ≡ self.now }
+        ensures { result ≡ w.now.view.goal }
+    {
+        w.goal
+    }
+}
