@@ -390,7 +390,7 @@ const SAMPLES: [Case; 3] = [
 ];
 
 // The calls of a case answer as they should. A scene is let go in one place, since each place costs the proof much.
-fn try_case<R: Abort + AllocGlobal>(rt: &R, row: &Case) -> Result<(), NoMemory> {
+fn try_case<R: Abort + AllocGlobal + Wait>(rt: &R, row: &Case) -> Result<(), NoMemory> {
     let mut scene = Scene::start(rt.alloc(), row.rate)?;
     try_rows(rt, &mut scene, row.live, row.calls)
 }
