@@ -166,21 +166,33 @@ class Profile(Folder):
 class Tool(Folder):
     """What `go tool pprof` reads."""
 
-    def pprof(self, *words):
+    def read_by_go(self, path, *words):
         go = go_command()
         if go is None:
             self.skipTest("no Go 1.19 to 1.21 was found")
-        path = os.path.join(self.folder.name, "heap.pb.gz")
-        self.assertEqual(run("pprof", self.put("stacks", STACKS), "-o", path, given=HEAP), (0, "", ""))
         env = {**os.environ, "HOME": self.folder.name, "PPROF_TMPDIR": self.folder.name}
         return subprocess.run([go, "tool", "pprof", *words, path], env=env, capture_output=True, text=True, check=True).stdout
+
+    def pprof(self, *words):
+        path = os.path.join(self.folder.name, "heap.pb.gz")
+        self.assertEqual(run("pprof", self.put("stacks", STACKS), "-o", path, given=HEAP), (0, "", ""))
+        return self.read_by_go(path, *words)
+
+    def samples(self, raw):
+        """The values of each sample, and its slot size."""
+        found = re.findall(r"^ +(\d+) +(\d+) +(\d+) +(\d+): ([\d ]+)\n +bytes:\[(\d+)\]", raw, re.M)
+        return [[*map(int, sample[:4]), int(sample[5])] for sample in found]
+
+    def test_the_text_itself(self):
+        """The text opens as it is, with the stacks' numbers where pprof has addresses."""
+        raw = self.read_by_go(self.put("heap.txt", HEAP), "-raw")
+        self.assertIn("PeriodType: space bytes\nPeriod: 1\n", raw)
+        self.assertEqual(self.samples(raw), [[1, 3000, 1, 3000, 3000], [1, 16, 1, 16, 16], [5, 40, 1, 8, 8], [2, 2088, 0, 0, 1044]])
 
     def test_raw(self):
         raw = self.pprof("-raw")
         self.assertIn("PeriodType: space bytes\nPeriod: 1\n", raw)
-        samples = re.findall(r"^ +(\d+) +(\d+) +(\d+) +(\d+): ([\d ]+)\n +bytes:\[(\d+)\]", raw, re.M)
-        self.assertEqual([list(map(int, sample[:4])) for sample in samples], [[1, 3000, 1, 3000], [1, 16, 1, 16], [5, 40, 1, 8], [2, 2088, 0, 0]])
-        self.assertEqual([int(sample[5]) for sample in samples], [3000, 16, 8, 1044])
+        self.assertEqual(self.samples(raw), [[1, 3000, 1, 3000, 3000], [1, 16, 1, 16, 16], [5, 40, 1, 8, 8], [2, 2088, 0, 0, 1044]])
         self.assertRegex(raw, r"main\.leak /x/main\.go:12 s=0")
         self.assertIn("inuse_space/bytes", raw)
 
