@@ -45,8 +45,9 @@ cycles = (
   ((omega arith), (omega arith), ((omega arith), (omega arith), (omega arith), ((omega arith), (omega arith), (omega arith), tt)), second_marks, refl),
 )
 
-header : HeaderFits (record { chunks = 1; procs = 1; rate = 0; seed = 1; goal = 512 })
+header : HeaderFits (record { version = 1; chunks = 1; procs = 1; rate = 0; seed = 1; goal = 512 })
 header = record {
+  version = ((omega arith), (omega arith));
   chunks = ((omega arith), (omega arith));
   procs = ((omega arith), (omega arith));
   rate = omega arith;

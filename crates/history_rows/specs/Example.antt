@@ -33,7 +33,7 @@ third = record { events = event_of_size 32768 ∷ []; mark = None }
 
 -- the trace
 abbrev pub example : Trace
-example = record { header = record { chunks = 1; procs = 1; rate = 0; seed = 1; goal = 512 }; cycles = first ∷ second ∷ third ∷ [] }
+example = record { header = record { version = 1; chunks = 1; procs = 1; rate = 0; seed = 1; goal = 512 }; cycles = first ∷ second ∷ third ∷ [] }
 
 -- the answers
 abbrev pub answers : List Answer

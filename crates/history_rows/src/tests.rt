@@ -58,6 +58,7 @@ fn trace(alloc: Global) -> Result<Trace, NoMemory>
     })?;
     Ok(Trace {
         header: Header {
+            version: 1,
             chunks: 1,
             procs: 1,
             rate: 0,

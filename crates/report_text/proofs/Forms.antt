@@ -1,8 +1,8 @@
 -- What is left of a line behind each of its numbers, and what a line that goes on otherwise does not say.
-use Rattle.std.proofs.Common.{◌≡◌, ℕ, ◌^◌, ◌<◌, List, [], ◌∷◌, ◌++◌, codes, decimal, sym, ◌∙◌, arith}
+use Rattle.std.proofs.Common.{◌≡◌, ℕ, ◌^◌, ◌<◌, List, [], ◌∷◌, ◌++◌, codes, decimal, sym, ◌∙◌, arith, Option, Some, None, MatchOption}
 use Rattle.std.proofs.lemmas.List.{append-nil}
 use Rattle.page_bitmap.specs.declared.line.Line.{Line}
-use Rattle.page_bitmap.specs.declared.line.Line.TheVariants.{Take, Miss, Give, Scav}
+use Rattle.page_bitmap.specs.declared.line.Line.TheVariants.{Take, Miss, Give, Scav, Pull, Cut, Drop}
 use Rattle.span_state.specs.declared.sweep.SweepNote.{SweepNote}
 use Rattle.cycle_history.specs.declared.Answer.{Answer}
 use Rattle.cycle_history.specs.declared.Answer.TheVariants.{Placed, Zero, Missed}
@@ -12,7 +12,7 @@ use Rattle.cycle_history.specs.Text.{answer_text, journal_text}
 use Rattle.report_text.specs.declared.item.Item.TheVariants.{Object, Journal, Sweep, Class, Bucket}
 use Rattle.report_text.specs.Items.{Says}
 use Rattle.report_text.specs.Unique.{AnswerFits, LineFits}
-use Rattle.report_text.specs.Words.{IsHead, IsLast, IsMissed, IsRun, IsTaken}
+use Rattle.report_text.specs.Words.{IsBlock, IsCutOut, IsHead, IsLast, IsMissed, IsNoCacheChange, IsNoPlainChange, IsRun, IsTaken}
 use Rattle.report_text.proofs.Fields.{same_behind}
 use Rattle.report_text.proofs.Numbers.{Within, one_head}
 
@@ -140,14 +140,59 @@ pub run_pages : (word bytes r0 r1 : List ℕ) (a : ℕ) → bytes ≡ word ++ r0
 run_pages word bytes r0 r1 a front h1 none page pages run =
     none pages (record { spelled = behind_short a page word bytes r0 r1 _ front h1 run.spelled run.page_fits; small = run.pages_fit })
 
+cut_1 : (bytes r0 r1 : List ℕ) (a : ℕ) → bytes ≡ codes "cut " ++ r0 → IsHead (2 ^ 32) r0 a r1 → (proc page pages class : ℕ) → IsCutOut bytes proc page pages class
+    → r1 ≡ decimal page ++ 32 ∷ (decimal pages ++ 32 ∷ (decimal class ++ []))
+cut_1 bytes r0 r1 a front h1 proc page pages class cut = behind_short a proc (codes "cut ") bytes r0 r1 _ front h1 cut.spelled cut.proc_fits
+
+pub cut_page : (bytes r0 r1 : List ℕ) (a : ℕ) → bytes ≡ codes "cut " ++ r0 → IsHead (2 ^ 32) r0 a r1 → NoHead (2 ^ 32) r1 → (proc page pages class : ℕ) → ¬ IsCutOut bytes proc page pages class
+cut_page bytes r0 r1 a front h1 none proc page pages class cut = none page _ (record { spelled = cut_1 bytes r0 r1 a front h1 proc page pages class cut; small = cut.page_fits })
+
+cut_2 : (bytes r0 r1 r2 : List ℕ) (a b : ℕ) → bytes ≡ codes "cut " ++ r0 → IsHead (2 ^ 32) r0 a r1 → IsHead (2 ^ 32) r1 b r2 → (proc page pages class : ℕ) → IsCutOut bytes proc page pages class
+    → r2 ≡ decimal pages ++ 32 ∷ (decimal class ++ [])
+cut_2 bytes r0 r1 r2 a b front h1 h2 proc page pages class cut = short_on b page r1 r2 _ h2 (cut_1 bytes r0 r1 a front h1 proc page pages class cut) cut.page_fits
+
+pub cut_pages : (bytes r0 r1 r2 : List ℕ) (a b : ℕ) → bytes ≡ codes "cut " ++ r0 → IsHead (2 ^ 32) r0 a r1 → IsHead (2 ^ 32) r1 b r2 → NoHead (2 ^ 32) r2 → (proc page pages class : ℕ) → ¬ IsCutOut bytes proc page pages class
+cut_pages bytes r0 r1 r2 a b front h1 h2 none proc page pages class cut =
+    none pages _ (record { spelled = cut_2 bytes r0 r1 r2 a b front h1 h2 proc page pages class cut; small = cut.pages_fit })
+
+pub cut_class : (bytes r0 r1 r2 r3 : List ℕ) (a b c : ℕ) → bytes ≡ codes "cut " ++ r0 → IsHead (2 ^ 32) r0 a r1 → IsHead (2 ^ 32) r1 b r2 → IsHead (2 ^ 32) r2 c r3 → NoLast (2 ^ 8) r3
+    → (proc page pages class : ℕ) → ¬ IsCutOut bytes proc page pages class
+cut_class bytes r0 r1 r2 r3 a b c front h1 h2 h3 none proc page pages class cut =
+    none class (record { spelled = short_on c pages r2 r3 _ h3 (cut_2 bytes r0 r1 r2 a b front h1 h2 proc page pages class cut) cut.pages_fit; small = cut.class_fits })
+
+pub block_proc : (word bytes r0 : List ℕ) → bytes ≡ word ++ r0 → NoHead (2 ^ 32) r0 → (proc page pages : ℕ) → ¬ IsBlock word bytes proc page pages
+block_proc word bytes r0 front none proc page pages block = none proc _ (record { spelled = same_behind word r0 _ (sym front ∙ block.spelled); small = block.proc_fits })
+
+block_1 : (word bytes r0 r1 : List ℕ) (a : ℕ) → bytes ≡ word ++ r0 → IsHead (2 ^ 32) r0 a r1 → (proc page pages : ℕ) → IsBlock word bytes proc page pages → r1 ≡ decimal page ++ 32 ∷ (decimal pages ++ [])
+block_1 word bytes r0 r1 a front h1 proc page pages block = behind_short a proc word bytes r0 r1 _ front h1 block.spelled block.proc_fits
+
+pub block_page : (word bytes r0 r1 : List ℕ) (a : ℕ) → bytes ≡ word ++ r0 → IsHead (2 ^ 32) r0 a r1 → NoHead (2 ^ 32) r1 → (proc page pages : ℕ) → ¬ IsBlock word bytes proc page pages
+block_page word bytes r0 r1 a front h1 none proc page pages block = none page _ (record { spelled = block_1 word bytes r0 r1 a front h1 proc page pages block; small = block.page_fits })
+
+pub block_pages : (word bytes r0 r1 r2 : List ℕ) (a b : ℕ) → bytes ≡ word ++ r0 → IsHead (2 ^ 32) r0 a r1 → IsHead (2 ^ 32) r1 b r2 → NoLast (2 ^ 32) r2 → (proc page pages : ℕ) → ¬ IsBlock word bytes proc page pages
+block_pages word bytes r0 r1 r2 a b front h1 h2 none proc page pages block =
+    none pages (record { spelled = short_on b page r1 r2 _ h2 (block_1 word bytes r0 r1 a front h1 proc page pages block) block.page_fits; small = block.pages_fit })
+
 -- no kind of journal line stands there
-pub no_change : (bytes r0 : List ℕ) (a : ℕ) → IsHead (2 ^ 32) bytes a r0 → ((page pages class : ℕ) → ¬ IsTaken r0 page pages class) → ((page pages : ℕ) → ¬ IsRun (codes "give ") r0 page pages)
-    → ((pages class : ℕ) → ¬ IsMissed r0 pages class) → ((page pages : ℕ) → ¬ IsRun (codes "scav ") r0 page pages) → (change : Line) → LineFits change → bytes ≡ journal_text change → ⊥
-no_change bytes r0 a head no_take no_give no_miss no_scav (Take cycle page pages class) fits e =
-    no_take page pages class (record { spelled = short_on a cycle bytes r0 _ head e fits.0; page_fits = fits.1; pages_fit = fits.2; class_fits = fits.3 })
-no_change bytes r0 a head no_take no_give no_miss no_scav (Miss cycle pages class) fits e =
-    no_miss pages class (record { spelled = short_on a cycle bytes r0 _ head e fits.0; pages_fit = fits.1; class_fits = fits.2 })
-no_change bytes r0 a head no_take no_give no_miss no_scav (Give cycle page pages) fits e =
-    no_give page pages (record { spelled = short_on a cycle bytes r0 _ head e fits.0; page_fits = fits.1; pages_fit = fits.2 })
-no_change bytes r0 a head no_take no_give no_miss no_scav (Scav cycle page pages) fits e =
-    no_scav page pages (record { spelled = short_on a cycle bytes r0 _ head e fits.0; page_fits = fits.1; pages_fit = fits.2 })
+pub no_change : (bytes r0 : List ℕ) (a : ℕ) → IsHead (2 ^ 32) bytes a r0 → IsNoPlainChange r0 → IsNoCacheChange r0 → (change : Line) → LineFits change → bytes ≡ journal_text change → ⊥
+no_change bytes r0 a head plain cache (Take cycle page pages class) fits e =
+    plain.take page pages class (record { spelled = short_on a cycle bytes r0 _ head e fits.0; page_fits = fits.1; pages_fit = fits.2; class_fits = fits.3 })
+no_change bytes r0 a head plain cache (Miss cycle pages class) fits e =
+    plain.miss pages class (record { spelled = short_on a cycle bytes r0 _ head e fits.0; pages_fit = fits.1; class_fits = fits.2 })
+no_change bytes r0 a head plain cache (Give cycle page pages) fits e =
+    plain.give page pages (record { spelled = short_on a cycle bytes r0 _ head e fits.0; page_fits = fits.1; pages_fit = fits.2 })
+no_change bytes r0 a head plain cache (Scav cycle page pages) fits e =
+    plain.scav page pages (record { spelled = short_on a cycle bytes r0 _ head e fits.0; page_fits = fits.1; pages_fit = fits.2 })
+no_change bytes r0 a head plain cache (Pull cycle proc page pages) fits e =
+    cache.pull proc page pages (record { spelled = short_on a cycle bytes r0 _ head e fits.0; proc_fits = fits.1; page_fits = fits.2; pages_fit = fits.3 })
+no_change bytes r0 a head plain cache (Cut cycle proc page pages class) fits e =
+    cache.cut proc page pages class (record { spelled = short_on a cycle bytes r0 _ head e fits.0; proc_fits = fits.1; page_fits = fits.2; pages_fit = fits.3; class_fits = fits.4 })
+no_change bytes r0 a head plain cache (Drop cycle proc page pages) fits e =
+    cache.drop proc page pages (record { spelled = short_on a cycle bytes r0 _ head e fits.0; proc_fits = fits.1; page_fits = fits.2; pages_fit = fits.3 })
+
+-- a line of a page cache, or none, where no plain one stands
+pub cache_or_none : (o : Option Line) (bytes r0 : List ℕ) (a : ℕ) → IsHead (2 ^ 32) bytes a r0 → IsNoPlainChange r0
+    → MatchOption o (IsNoCacheChange r0) (λ change. LineFits change × (decimal a ++ 32 ∷ r0 ≡ journal_text change))
+    → MatchOption o ((change : Line) → LineFits change → bytes ≡ journal_text change → ⊥) (λ change. LineFits change × (bytes ≡ journal_text change))
+cache_or_none None bytes r0 a head plain none = no_change bytes r0 a head plain none
+cache_or_none (Some change) bytes r0 a head plain found = (found.0, head.spelled ∙ found.1)

@@ -2,7 +2,7 @@
 use Rattle.std.proofs.Common.{◌≡◌, ℕ, ◌^◌, ◌<◌, false, List, [], ◌∷◌, ◌++◌, drop, codes, decimal, refl, sym, ap, ◌∙◌, arith, append_assoc}
 use Rattle.std.specs.Fmt.{digits}
 use Rattle.page_bitmap.specs.declared.line.Line.{Line}
-use Rattle.page_bitmap.specs.declared.line.Line.TheVariants.{Take, Miss, Give, Scav}
+use Rattle.page_bitmap.specs.declared.line.Line.TheVariants.{Take, Miss, Give, Scav, Pull, Cut, Drop}
 use Rattle.span_state.specs.declared.sweep.SweepNote.{SweepNote}
 use Rattle.cycle_history.specs.declared.Answer.{Answer}
 use Rattle.cycle_history.specs.declared.Answer.TheVariants.{Placed, Zero, Missed}
@@ -54,6 +54,9 @@ cycle_in (Take cycle page pages class) = cycle
 cycle_in (Miss cycle pages class) = cycle
 cycle_in (Give cycle page pages) = cycle
 cycle_in (Scav cycle page pages) = cycle
+cycle_in (Pull cycle proc page pages) = cycle
+cycle_in (Cut cycle proc page pages class) = cycle
+cycle_in (Drop cycle proc page pages) = cycle
 
 -- what stands behind the cycle and a space, with the line's end
 abbrev behind_cycle : Line → List ℕ → List ℕ
@@ -61,6 +64,35 @@ behind_cycle (Take cycle page pages class) s = codes "take " ++ (decimal page ++
 behind_cycle (Miss cycle pages class) s = codes "miss " ++ (decimal pages ++ 32 ∷ (decimal class ++ 10 ∷ s))
 behind_cycle (Give cycle page pages) s = codes "give " ++ (decimal page ++ 32 ∷ (decimal pages ++ 10 ∷ s))
 behind_cycle (Scav cycle page pages) s = codes "scav " ++ (decimal page ++ 32 ∷ (decimal pages ++ 10 ∷ s))
+behind_cycle (Pull cycle proc page pages) s = codes "pull " ++ (decimal proc ++ 32 ∷ (decimal page ++ 32 ∷ (decimal pages ++ 10 ∷ s)))
+behind_cycle (Cut cycle proc page pages class) s = codes "cut " ++ (decimal proc ++ 32 ∷ (decimal page ++ 32 ∷ (decimal pages ++ 32 ∷ (decimal class ++ 10 ∷ s))))
+behind_cycle (Drop cycle proc page pages) s = codes "drop " ++ (decimal proc ++ 32 ∷ (decimal page ++ 32 ∷ (decimal pages ++ 10 ∷ s)))
+
+-- the first letter of what was done
+word_letter : Line → ℕ
+word_letter (Take cycle page pages class) = 116
+word_letter (Miss cycle pages class) = 109
+word_letter (Give cycle page pages) = 103
+word_letter (Scav cycle page pages) = 115
+word_letter (Pull cycle proc page pages) = 112
+word_letter (Cut cycle proc page pages class) = 99
+word_letter (Drop cycle proc page pages) = 100
+
+begins_word : (x : Line) (s : List ℕ) → (rest : List ℕ) × (behind_cycle x s ≡ word_letter x ∷ rest)
+unfolding word_letter
+begins_word (Take cycle page pages class) s = (drop 1 (behind_cycle (Take cycle page pages class) s), refl)
+begins_word (Miss cycle pages class) s = (drop 1 (behind_cycle (Miss cycle pages class) s), refl)
+begins_word (Give cycle page pages) s = (drop 1 (behind_cycle (Give cycle page pages) s), refl)
+begins_word (Scav cycle page pages) s = (drop 1 (behind_cycle (Scav cycle page pages) s), refl)
+begins_word (Pull cycle proc page pages) s = (drop 1 (behind_cycle (Pull cycle proc page pages) s), refl)
+begins_word (Cut cycle proc page pages class) s = (drop 1 (behind_cycle (Cut cycle proc page pages class) s), refl)
+begins_word (Drop cycle proc page pages) s = (drop 1 (behind_cycle (Drop cycle proc page pages) s), refl)
+
+same_word : (x y : Line) (s t : List ℕ) → behind_cycle x s ≡ behind_cycle y t → word_letter x ≡ word_letter y
+same_word x y s t e = first_same (word_letter x) (word_letter y) _ _ (sym (begins_word x s).1 ∙ e ∙ (begins_word y t).1)
+
+four-form : (word a b c d e s : List ℕ) → (a ++ (32 ∷ word ++ (b ++ (32 ∷ (c ++ (32 ∷ (d ++ (32 ∷ (e ++ []))))))))) ++ 10 ∷ s ≡ a ++ 32 ∷ (word ++ (b ++ 32 ∷ (c ++ 32 ∷ (d ++ 32 ∷ (e ++ 10 ∷ s)))))
+four-form word a b c d e s = simp append_assoc
 
 three-form : (word a b c d s : List ℕ) → (a ++ (32 ∷ word ++ (b ++ (32 ∷ (c ++ (32 ∷ (d ++ []))))))) ++ 10 ∷ s ≡ a ++ 32 ∷ (word ++ (b ++ 32 ∷ (c ++ 32 ∷ (d ++ 10 ∷ s))))
 three-form word a b c d s = simp append_assoc
@@ -73,8 +105,12 @@ line-form (Take cycle page pages class) s = three-form (codes "take ") (decimal 
 line-form (Miss cycle pages class) s = two-form (codes "miss ") (decimal cycle) (decimal pages) (decimal class) s
 line-form (Give cycle page pages) s = two-form (codes "give ") (decimal cycle) (decimal page) (decimal pages) s
 line-form (Scav cycle page pages) s = two-form (codes "scav ") (decimal cycle) (decimal page) (decimal pages) s
+line-form (Pull cycle proc page pages) s = three-form (codes "pull ") (decimal cycle) (decimal proc) (decimal page) (decimal pages) s
+line-form (Cut cycle proc page pages class) s = four-form (codes "cut ") (decimal cycle) (decimal proc) (decimal page) (decimal pages) (decimal class) s
+line-form (Drop cycle proc page pages) s = three-form (codes "drop ") (decimal cycle) (decimal proc) (decimal page) (decimal pages) s
 
 behind-end : (x y : Line) (s t : List ℕ) → LineFits x → LineFits y → cycle_in x ≡ cycle_in y → behind_cycle x s ≡ behind_cycle y t → (x ≡ y) × (s ≡ t)
+unfolding word_letter
 behind-end (Take c p q k) (Take c' p' q' k') s t fx fy same e =
     let one = space-end p p' _ _ (omega (arith, fx.1)) (omega (arith, fy.1)) (same_behind (codes "take ") _ _ e) in
     let two = pair-end q q' k k' s t (omega (arith, fx.2)) (omega (arith, fy.2)) (omega (arith, fx.3)) (omega (arith, fy.3)) one.1 in
@@ -92,24 +128,32 @@ behind-end (Scav c p q) (Scav c' p' q') s t fx fy same e =
     let two = pair-end p p' q q' s t (omega (arith, fx.1)) (omega (arith, fy.1)) (omega (arith, fx.2)) (omega (arith, fy.2)) (same_behind (codes "scav ") _ _ e) in
     let e2 = two.0 in let e3 = two.1 in
     (cc, two.2)
-behind-end (Take c p q k) (Miss c' q' k') s t fx fy same e = absurd (omega (arith, first_same 116 109 _ _ e))
-behind-end (Take c p q k) (Give c' p' q') s t fx fy same e = absurd (omega (arith, first_same 116 103 _ _ e))
-behind-end (Take c p q k) (Scav c' p' q') s t fx fy same e = absurd (omega (arith, first_same 116 115 _ _ e))
-behind-end (Miss c q k) (Take c' p' q' k') s t fx fy same e = absurd (omega (arith, first_same 109 116 _ _ e))
-behind-end (Miss c q k) (Give c' p' q') s t fx fy same e = absurd (omega (arith, first_same 109 103 _ _ e))
-behind-end (Miss c q k) (Scav c' p' q') s t fx fy same e = absurd (omega (arith, first_same 109 115 _ _ e))
-behind-end (Give c p q) (Take c' p' q' k') s t fx fy same e = absurd (omega (arith, first_same 103 116 _ _ e))
-behind-end (Give c p q) (Miss c' q' k') s t fx fy same e = absurd (omega (arith, first_same 103 109 _ _ e))
-behind-end (Give c p q) (Scav c' p' q') s t fx fy same e = absurd (omega (arith, first_same 103 115 _ _ e))
-behind-end (Scav c p q) (Take c' p' q' k') s t fx fy same e = absurd (omega (arith, first_same 115 116 _ _ e))
-behind-end (Scav c p q) (Miss c' q' k') s t fx fy same e = absurd (omega (arith, first_same 115 109 _ _ e))
-behind-end (Scav c p q) (Give c' p' q') s t fx fy same e = absurd (omega (arith, first_same 115 103 _ _ e))
+behind-end (Pull c o p q) (Pull c' o' p' q') s t fx fy same e =
+    let one = space-end o o' _ _ (omega (arith, fx.1)) (omega (arith, fy.1)) (same_behind (codes "pull ") _ _ e) in
+    let two = pair-end p p' q q' s t (omega (arith, fx.2)) (omega (arith, fy.2)) (omega (arith, fx.3)) (omega (arith, fy.3)) one.1 in
+    let e1 = one.0 in let e2 = two.0 in let e3 = two.1 in
+    (cc, two.2)
+behind-end (Cut c o p q k) (Cut c' o' p' q' k') s t fx fy same e =
+    let one = space-end o o' _ _ (omega (arith, fx.1)) (omega (arith, fy.1)) (same_behind (codes "cut ") _ _ e) in
+    let two = space-end p p' _ _ (omega (arith, fx.2)) (omega (arith, fy.2)) one.1 in
+    let three = pair-end q q' k k' s t (omega (arith, fx.3)) (omega (arith, fy.3)) (omega (arith, fx.4)) (omega (arith, fy.4)) two.1 in
+    let e1 = one.0 in let e2 = two.0 in let e3 = three.0 in let e4 = three.1 in
+    (cc, three.2)
+behind-end (Drop c o p q) (Drop c' o' p' q') s t fx fy same e =
+    let one = space-end o o' _ _ (omega (arith, fx.1)) (omega (arith, fy.1)) (same_behind (codes "drop ") _ _ e) in
+    let two = pair-end p p' q q' s t (omega (arith, fx.2)) (omega (arith, fy.2)) (omega (arith, fx.3)) (omega (arith, fy.3)) one.1 in
+    let e1 = one.0 in let e2 = two.0 in let e3 = two.1 in
+    (cc, two.2)
+behind-end x y s t fx fy same e = absurd (let apart = same_word x y s t e in omega arith)
 
 cycle_fits : (line : Line) → LineFits line → cycle_in line < 2 ^ 64
 cycle_fits (Take cycle page pages class) fits = omega (arith, fits.0)
 cycle_fits (Miss cycle pages class) fits = omega (arith, fits.0)
 cycle_fits (Give cycle page pages) fits = omega (arith, fits.0)
 cycle_fits (Scav cycle page pages) fits = omega (arith, fits.0)
+cycle_fits (Pull cycle proc page pages) fits = omega (arith, fits.0)
+cycle_fits (Cut cycle proc page pages class) fits = omega (arith, fits.0)
+cycle_fits (Drop cycle proc page pages) fits = omega (arith, fits.0)
 
 journal-end : (x y : Line) (s t : List ℕ) → LineFits x → LineFits y → journal_text x ++ 10 ∷ s ≡ journal_text y ++ 10 ∷ t → (x ≡ y) × (s ≡ t)
 journal-end x y s t fx fy e =

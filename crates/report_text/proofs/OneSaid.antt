@@ -7,7 +7,7 @@ use Rattle.std.specs.Str.Parse.{AllDigits}
 use Rattle.std.proofs.lemmas.Fmt.{digits_is_IsNumeral, length-decimal-le}
 use Rattle.edge_io.specs.Line.{HasNoFeed, IsLine}
 use Rattle.page_bitmap.specs.declared.line.Line.{Line}
-use Rattle.page_bitmap.specs.declared.line.Line.TheVariants.{Take, Miss, Give, Scav}
+use Rattle.page_bitmap.specs.declared.line.Line.TheVariants.{Take, Miss, Give, Scav, Pull, Cut, Drop}
 use Rattle.cycle_history.specs.declared.Answer.{Answer}
 use Rattle.cycle_history.specs.declared.Answer.TheVariants.{Placed, Zero, Missed}
 use Rattle.cycle_history.specs.Text.{answer_line, answer_text, journal_line, journal_text}
@@ -115,6 +115,12 @@ nothing = (omega arith, tt)
 field : (text rest : List ℕ) (n k : ℕ) → list_all (λ b. not (b == 10)) text ≡ true → n < 2 ^ 64 → IsShort k rest → IsShort (length text + (20 + k)) (text ++ (decimal n ++ rest))
 field text rest n k test small short = join (length text) (20 + k) text (decimal n ++ rest) (omega arith, apart_test text test) (join 20 k (decimal n) rest (number_short n small) short)
 
+-- the same of a number of 32 bits, which has fewer digits
+small_field : (text rest : List ℕ) (n k : ℕ) → list_all (λ b. not (b == 10)) text ≡ true → n < 2 ^ 32 → IsShort k rest → IsShort (length text + (10 + k)) (text ++ (decimal n ++ rest))
+small_field text rest n k test small short = join (length text) (10 + k) text (decimal n ++ rest) (omega arith, apart_test text test) (join 10 k (decimal n) rest digits short) where
+  digits : IsShort 10 (decimal n)
+  digits = (length-decimal-le 10 n (omega arith) (omega arith) (omega arith), (number_short n (omega arith)).1)
+
 pub longer : (j k : ℕ) (xs : List ℕ) → j ≤ k → IsShort j xs → IsShort k xs
 longer j k xs le short = let few = short.0 in (omega arith, short.1)
 
@@ -159,6 +165,16 @@ change_short (Give cycle page pages) fits =
 change_short (Scav cycle page pages) fits =
     longer 67 88 (journal_text (Scav cycle page pages)) (omega arith)
     (field [] _ cycle _ refl (omega (arith, fits.0)) (field (codes " scav ") _ page _ refl (omega (arith, fits.1)) (field (codes " ") [] pages 0 refl (omega (arith, fits.2)) nothing)))
+change_short (Pull cycle proc page pages) fits =
+    longer 48 88 (journal_text (Pull cycle proc page pages)) (omega arith)
+    (small_field [] _ cycle _ refl fits.0 (small_field (codes " pull ") _ proc _ refl fits.1 (small_field (codes " ") _ page _ refl fits.2 (small_field (codes " ") [] pages 0 refl fits.3 nothing))))
+change_short (Cut cycle proc page pages class) fits =
+    longer 58 88 (journal_text (Cut cycle proc page pages class)) (omega arith)
+    (small_field [] _ cycle _ refl fits.0 (small_field (codes " cut ") _ proc _ refl fits.1 (small_field (codes " ") _ page _ refl fits.2 (small_field (codes " ") _ pages _ refl fits.3
+    (small_field (codes " ") [] class 0 refl (omega (arith, fits.4)) nothing)))))
+change_short (Drop cycle proc page pages) fits =
+    longer 48 88 (journal_text (Drop cycle proc page pages)) (omega arith)
+    (small_field [] _ cycle _ refl fits.0 (small_field (codes " drop ") _ proc _ refl fits.1 (small_field (codes " ") _ page _ refl fits.2 (small_field (codes " ") [] pages 0 refl fits.3 nothing))))
 
 pub item_is_line : (x : Item) → ItemFits x → IsLine (line_for x)
 item_is_line (Object n answer) fits =

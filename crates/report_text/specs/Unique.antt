@@ -2,7 +2,7 @@
 use Rattle.std.specs.Prelude.{◌≡◌, ◌^◌, ◌<◌}
 use Rattle.std.specs.List.{AllByRecursion}
 use Rattle.page_bitmap.specs.declared.line.Line.{Line}
-use Rattle.page_bitmap.specs.declared.line.Line.TheVariants.{Take, Miss, Give, Scav}
+use Rattle.page_bitmap.specs.declared.line.Line.TheVariants.{Take, Miss, Give, Scav, Pull, Cut, Drop}
 use Rattle.span_state.specs.declared.sweep.SweepNote.{SweepNote}
 use Rattle.cycle_history.specs.declared.Answer.{Answer}
 use Rattle.cycle_history.specs.declared.Answer.TheVariants.{Placed, Zero, Missed}
@@ -23,6 +23,9 @@ LineFits (Take cycle page pages class) = (cycle < 2 ^ 32) × (page < 2 ^ 32) × 
 LineFits (Miss cycle pages class) = (cycle < 2 ^ 32) × (pages < 2 ^ 32) × (class < 2 ^ 8)
 LineFits (Give cycle page pages) = (cycle < 2 ^ 32) × (page < 2 ^ 32) × (pages < 2 ^ 32)
 LineFits (Scav cycle page pages) = (cycle < 2 ^ 32) × (page < 2 ^ 32) × (pages < 2 ^ 32)
+LineFits (Pull cycle proc page pages) = (cycle < 2 ^ 32) × (proc < 2 ^ 32) × (page < 2 ^ 32) × (pages < 2 ^ 32)
+LineFits (Cut cycle proc page pages class) = (cycle < 2 ^ 32) × (proc < 2 ^ 32) × (page < 2 ^ 32) × (pages < 2 ^ 32) × (class < 2 ^ 8)
+LineFits (Drop cycle proc page pages) = (cycle < 2 ^ 32) × (proc < 2 ^ 32) × (page < 2 ^ 32) × (pages < 2 ^ 32)
 
 -- A sweep's numbers are of 32 bits.
 pub record SweepFits (note : SweepNote) : Type 0 where

@@ -1,6 +1,6 @@
 //! What a line says, whatever stands before it.
 
-ghost use Rattle.std.specs.Prelude.{◌≡◌, ◌≢◌, ◌∷◌, ℕ, MatchOption};
+ghost use Rattle.std.specs.Prelude.{◌≡◌, ◌≢◌, ◌∷◌, ◌++◌, ℕ, MatchOption, decimal};
 ghost use Rattle.page_bitmap.specs.declared.line.Line.{Line as ALine};
 ghost use Rattle.span_state.specs.declared.sweep.SweepNote.{SweepNote as ANote};
 ghost use Rattle.cycle_history.specs.declared.Answer.{Answer as AnAnswer};
@@ -11,7 +11,7 @@ ghost use Rattle.report_text.specs.declared.item.Item.{Item as Said};
 ghost use Rattle.report_text.specs.declared.item.Item.TheVariants.{Bucket, Class, Journal, Object, Sweep};
 ghost use Rattle.report_text.specs.Items.{Says};
 ghost use Rattle.report_text.specs.Unique.{AnswerFits, LineFits};
-ghost use Rattle.report_text.specs.Words.{IsMissed, IsRun, IsTaken};
+ghost use Rattle.report_text.specs.Words.{IsBlock, IsCutOut, IsMissed, IsNoCacheChange, IsNoPlainChange, IsRun, IsTaken};
 
 use crate::item::Item;
 use crate::words::{address, byte_head, byte_last, head, last, short_head, short_last};
@@ -87,7 +87,19 @@ fn change_of(bytes: &[u8]) -> Option<Line>
         (λ change. LineFits change × (bytes.now ≡ journal_text change)) }
 {
     let (cycle, rest) = short_head(bytes)?;
-    if let Some((page, pages, class)) = taken(rest) {
+    if let Some(change) = plain_change(cycle, rest) {
+        return Some(change);
+    }
+    cache_change(cycle, rest)
+}
+
+// A line of a span, a miss or scavenged pages, by what stands behind its cycle and a blank.
+fn plain_change(cycle: u32, bytes: &[u8]) -> Option<Line>
+    ensures { MatchOption result
+        (IsNoPlainChange bytes.now)
+        (λ change. LineFits change × (decimal cycle ++ 32 ∷ bytes.now ≡ journal_text change)) }
+{
+    if let Some((page, pages, class)) = taken(bytes) {
         return Some(Line::Take {
             cycle,
             page,
@@ -95,18 +107,50 @@ fn change_of(bytes: &[u8]) -> Option<Line>
             class,
         });
     }
-    if let Some((page, pages)) = run(rest, b"give ") {
+    if let Some((page, pages)) = run(bytes, b"give ") {
         return Some(Line::Give { cycle, page, pages });
     }
-    if let Some((pages, class)) = missed(rest) {
+    if let Some((pages, class)) = missed(bytes) {
         return Some(Line::Miss {
             cycle,
             pages,
             class,
         });
     }
-    let (page, pages) = run(rest, b"scav ")?;
+    let (page, pages) = run(bytes, b"scav ")?;
     Some(Line::Scav { cycle, page, pages })
+}
+
+// A line of a page cache, by what stands behind its cycle and a blank.
+fn cache_change(cycle: u32, bytes: &[u8]) -> Option<Line>
+    ensures { MatchOption result
+        (IsNoCacheChange bytes.now)
+        (λ change. LineFits change × (decimal cycle ++ 32 ∷ bytes.now ≡ journal_text change)) }
+{
+    if let Some((proc, page, pages, class)) = cut_out(bytes) {
+        return Some(Line::Cut {
+            cycle,
+            proc,
+            page,
+            pages,
+            class,
+        });
+    }
+    if let Some((proc, page, pages)) = block(bytes, b"pull ") {
+        return Some(Line::Pull {
+            cycle,
+            proc,
+            page,
+            pages,
+        });
+    }
+    let (proc, page, pages) = block(bytes, b"drop ")?;
+    Some(Line::Drop {
+        cycle,
+        proc,
+        page,
+        pages,
+    })
 }
 
 // The pages of a Take line, and its span class.
@@ -138,6 +182,29 @@ fn run(bytes: &[u8], word: &[u8]) -> Option<(u32, u32)>
 {
     let (page, rest) = short_head(after(bytes, word)?)?;
     Some((page, short_last(rest)?))
+}
+
+// The processor and the pages of a Cut line, and its span class.
+fn cut_out(bytes: &[u8]) -> Option<(u32, u32, u32, u8)>
+    ensures { MatchOption result
+        ((proc : ℕ) (page : ℕ) (pages : ℕ) (class : ℕ) → ¬ IsCutOut bytes.now proc page pages class)
+        (λ found. IsCutOut bytes.now found.0 found.1 found.2 found.3) }
+{
+    let (proc, rest) = short_head(after(bytes, b"cut ")?)?;
+    let (page, rest) = short_head(rest)?;
+    let (pages, rest) = short_head(rest)?;
+    Some((proc, page, pages, byte_last(rest)?))
+}
+
+// The processor and the pages behind the word.
+fn block(bytes: &[u8], word: &[u8]) -> Option<(u32, u32, u32)>
+    ensures { MatchOption result
+        ((proc : ℕ) (page : ℕ) (pages : ℕ) → ¬ IsBlock word.now bytes.now proc page pages)
+        (λ found. IsBlock word.now bytes.now found.0 found.1 found.2) }
+{
+    let (proc, rest) = short_head(after(bytes, word)?)?;
+    let (page, rest) = short_head(rest)?;
+    Some((proc, page, short_last(rest)?))
 }
 
 // A sweep.

@@ -103,41 +103,76 @@ fn push_journal(text: &mut TextLine, line: Line)
             pages,
             class,
         } => {
-            text.push_decimal(u64::from(cycle));
-            text.push(b" take ");
-            push_pair(text, page, pages);
+            push_run(text, cycle, b" take ", page, pages);
             push_field(text, u64::from(class));
         }
         Line::Miss {
             cycle,
             pages,
             class,
+        } => push_run(text, cycle, b" miss ", pages, u32::from(class)),
+        Line::Give { cycle, page, pages } => push_run(text, cycle, b" give ", page, pages),
+        Line::Scav { cycle, page, pages } => push_run(text, cycle, b" scav ", page, pages),
+        Line::Pull {
+            cycle,
+            proc,
+            page,
+            pages,
+        } => push_block(text, cycle, b" pull ", proc, page, pages),
+        Line::Cut {
+            cycle,
+            proc,
+            page,
+            pages,
+            class,
         } => {
-            text.push_decimal(u64::from(cycle));
-            text.push(b" miss ");
-            push_pair(text, pages, u32::from(class));
+            push_block(text, cycle, b" cut ", proc, page, pages);
+            push_field(text, u64::from(class));
         }
-        Line::Give { cycle, page, pages } => {
-            text.push_decimal(u64::from(cycle));
-            text.push(b" give ");
-            push_pair(text, page, pages);
-        }
-        Line::Scav { cycle, page, pages } => {
-            text.push_decimal(u64::from(cycle));
-            text.push(b" scav ");
-            push_pair(text, page, pages);
-        }
+        Line::Drop {
+            cycle,
+            proc,
+            page,
+            pages,
+        } => push_block(text, cycle, b" drop ", proc, page, pages),
     }
+}
+
+// Appends a cycle, a word and two numbers.
+fn push_run(text: &mut TextLine, cycle: u32, word: &[u8], first: u32, second: u32)
+    requires room { length text.old ≤ 24 }
+    requires word { length word.now ≤ 6 }
+    ensures text { text.new ≡ text.old ++ (decimal cycle ++ (word.now ++ (decimal first ++ (32 ∷ decimal second)))) }
+    ensures short { length text.new ≤ length text.old + 37 }
+{
+    text.push_short(cycle);
+    text.push(word);
+    push_pair(text, first, second);
+}
+
+// Appends a cycle, a word, a processor and the pages of its page cache.
+fn push_block(text: &mut TextLine, cycle: u32, word: &[u8], proc: u32, page: u32, pages: u32)
+    requires room { length text.old ≤ 24 }
+    requires word { length word.now ≤ 6 }
+    ensures text { text.new ≡ text.old ++ (decimal cycle ++ (word.now ++ (decimal proc ++ (32 ∷ (decimal page ++ (32 ∷ decimal pages)))))) }
+    ensures short { length text.new ≤ length text.old + 48 }
+{
+    text.push_short(cycle);
+    text.push(word);
+    push_pair(text, proc, page);
+    text.push(b" ");
+    text.push_short(pages);
 }
 
 // Appends two numbers with a space between them.
 fn push_pair(text: &mut TextLine, first: u32, second: u32)
     requires { length text.old ≤ 64 }
     ensures text { text.new ≡ text.old ++ (decimal first ++ (32 ∷ decimal second)) }
-    ensures short { length text.new ≤ length text.old + 41 }
+    ensures short { length text.new ≤ length text.old + 21 }
 {
-    text.push_decimal(u64::from(first));
-    push_field(text, u64::from(second));
+    text.push_short(first);
+    text.push(b" ");
+    text.push_short(second);
 }
 
 // Appends a space and a number.

@@ -62,6 +62,34 @@ fn scav(cycle: u32, page: u32, pages: u32) -> Line {
     Line::Scav { cycle, page, pages }
 }
 
+fn pull(cycle: u32, proc: u32, page: u32, pages: u32) -> Line {
+    Line::Pull {
+        cycle,
+        proc,
+        page,
+        pages,
+    }
+}
+
+fn cut(cycle: u32, proc: u32, page: u32, pages: u32, class: u8) -> Line {
+    Line::Cut {
+        cycle,
+        proc,
+        page,
+        pages,
+        class,
+    }
+}
+
+fn drop_block(cycle: u32, proc: u32, page: u32, pages: u32) -> Line {
+    Line::Drop {
+        cycle,
+        proc,
+        page,
+        pages,
+    }
+}
+
 fn sweep(cycle: u32, page: u32, kept: u32, freed: u32) -> SweepNote {
     SweepNote {
         cycle,
@@ -179,6 +207,22 @@ fn one_object_is_written(rt: HostRuntime) -> Result<(), Fail> {
         journal: &[take(0, 0, 1, 6)],
         totals: &[total(3, 1, 0)],
         text: "o 0 0xc000000000\nj 0 0 take 0 1 6\nt 3 1 0\nend\n",
+        ..NOTHING
+    };
+    expect_text(&rt, row)
+}
+
+#[test]
+fn a_page_cache_is_written(rt: HostRuntime) -> Result<(), Fail> {
+    let row = Row {
+        answers: &[FIRST],
+        journal: &[
+            pull(0, 0, 0, 64),
+            cut(0, 0, 0, 1, 6),
+            drop_block(0, 0, 0, 63),
+        ],
+        totals: &[total(3, 1, 0)],
+        text: "o 0 0xc000000000\nj 0 0 pull 0 0 64\nj 1 0 cut 0 0 1 6\nj 2 0 drop 0 0 63\nt 3 1 0\nend\n",
         ..NOTHING
     };
     expect_text(&rt, row)
@@ -326,6 +370,12 @@ fn numbers_of_all_lengths_are_written(rt: HostRuntime) -> Result<(), Fail> {
             miss(MAX, MAX, 255),
             give(MAX, MAX, MAX),
             scav(MAX, MAX, MAX),
+            pull(1, 2, 3, 4),
+            cut(5, 6, 7, 8, 9),
+            drop_block(10, 11, 12, 0),
+            pull(MAX, MAX, MAX, MAX),
+            cut(MAX, MAX, MAX, MAX, 255),
+            drop_block(MAX, MAX, MAX, MAX),
         ],
         sweeps: &[
             sweep(0, 0, 0, 0),
@@ -340,7 +390,7 @@ fn numbers_of_all_lengths_are_written(rt: HostRuntime) -> Result<(), Fail> {
             bucket(1, 3, 0, 0, 0),
             bucket(MAX, MAX, LONG_MAX, LONG_MAX, LONG_MAX),
         ],
-        text: "o 0 0x0\no 1 0xffffffffffffffff\no 2 0xabcdef9876543210\no 3 zero\no 4 miss 0\no 5 miss 18446744073709551615\nj 0 0 take 0 0 0\nj 1 4294967295 take 4294967295 4294967295 255\nj 2 3 miss 134217728 1\nj 3 4294967295 miss 4294967295 255\nj 4 4294967295 give 4294967295 4294967295\nj 5 4294967295 scav 4294967295 4294967295\ns 0 0 0 0\ns 1 2 3 4\ns 4294967295 4294967295 4294967295 4294967295\nt 0 0 0\nt 255 18446744073709551615 18446744073709551615\np 0 0 0 0 0\np 1 2 3 4 5\np 1 2 4 0 0\np 1 3 0 0 0\np 4294967295 4294967295 18446744073709551615 18446744073709551615 18446744073709551615\nend\n",
+        text: "o 0 0x0\no 1 0xffffffffffffffff\no 2 0xabcdef9876543210\no 3 zero\no 4 miss 0\no 5 miss 18446744073709551615\nj 0 0 take 0 0 0\nj 1 4294967295 take 4294967295 4294967295 255\nj 2 3 miss 134217728 1\nj 3 4294967295 miss 4294967295 255\nj 4 4294967295 give 4294967295 4294967295\nj 5 4294967295 scav 4294967295 4294967295\nj 6 1 pull 2 3 4\nj 7 5 cut 6 7 8 9\nj 8 10 drop 11 12 0\nj 9 4294967295 pull 4294967295 4294967295 4294967295\nj 10 4294967295 cut 4294967295 4294967295 4294967295 255\nj 11 4294967295 drop 4294967295 4294967295 4294967295\ns 0 0 0 0\ns 1 2 3 4\ns 4294967295 4294967295 4294967295 4294967295\nt 0 0 0\nt 255 18446744073709551615 18446744073709551615\np 0 0 0 0 0\np 1 2 3 4 5\np 1 2 4 0 0\np 1 3 0 0 0\np 4294967295 4294967295 18446744073709551615 18446744073709551615 18446744073709551615\nend\n",
     };
     expect_text(&rt, row)
 }

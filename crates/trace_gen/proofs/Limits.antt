@@ -171,7 +171,7 @@ made_fits seed objects low some few =
     let marks : sum_by (λ (c : Cycle). marked_by c.mark) (made_trace seed objects).cycles ≡ 5000 * m + 0 =
     ends_count (λ (c : Cycle). marked_by c.mark) (made_cycle g) last 5000 (λ k. marks_count ((10000 * k + 10000 - 8000) / 8) 1000) 0 m in
     record {
-      header = record { chunks = (omega arith, omega arith); procs = (omega arith, omega arith); rate = omega arith; seed = low; goal = omega arith };
+      header = record { version = (omega arith, omega arith); chunks = (omega arith, omega arith); procs = (omega arith, omega arith); rate = omega arith; seed = low; goal = omega arith };
       events = cycles_events_fit (made_cycle g) last 0 m (λ k. events_from_fit g (10000 * k) 10000) (events_from_fit g _ _);
       cycles = cycles_follow _ _ 1000 10000 (paced g) last refl m 0 0 (λ _. ⊥) (omega arith) (omega arith) (λ j early. inr (omega arith, first_ones g j early));
       objects = omega (arith, last_events, events);

@@ -53,6 +53,6 @@ words_of seed = started 64 multiplier_64 seed (increment_of 64 64)
 -- The trace of a seed and a number of objects.
 abbrev pub made_trace : ℕ → ℕ → Trace
 made_trace seed objects = record {
-  header = record { chunks = 128; procs = 8; rate = 524288; seed = seed; goal = 65536 };
+  header = record { version = 1; chunks = 128; procs = 8; rate = 524288; seed = seed; goal = 65536 };
   cycles = map (made_cycle (words_of seed)) (range_with_len 0 (objects / 10000)) ++ last_cycle (words_of seed) objects ∷ [];
 }

@@ -14,7 +14,7 @@ const CYCLE: u32 = 10_000;
 /// The stream of the generator, one more than the last processor's.
 const STREAM: u64 = 64;
 
-/// The trace that a seed makes, of so many objects: eight processors on 128 chunks at a rate of 524288 bytes, with a mark
+/// The trace that a seed makes, of so many objects: of version 1, with eight processors on 128 chunks at a rate of 524288 bytes, with a mark
 /// end after each 10,000 objects. The words are those of `Pcg32` with the seed as its state. A trace of 1 to 1,000,000
 /// objects is within the limits of traces ([`crate::a_made_trace_is_within_limits`]). The rules are this project's own.
 pub fn make_trace(alloc: Global, seed: u64, objects: u32) -> Result<Trace, NoMemory>
@@ -30,6 +30,7 @@ pub fn make_trace(alloc: Global, seed: u64, objects: u32) -> Result<Trace, NoMem
     let events = events(alloc, &mut words, first, objects - first)?;
     cycles.push(Cycle { events, mark: None })?;
     let header = Header {
+        version: 1,
         chunks: 128,
         procs: 8,
         rate: 524_288,

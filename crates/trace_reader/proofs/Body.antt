@@ -81,11 +81,11 @@ fault_told left a b c procs d shown number o past fault read start takes is_line
 
 -- lines up to a header with so many processors
 header : ℕ → List Statement
-header procs = Heap (record { chunks = 0; procs = procs; rate = 0; seed = 0; goal = 0 }) ∷ Title ∷ []
+header procs = Heap (record { chunks = 0; procs = procs; rate = 0; seed = 0; goal = 0 }) ∷ Title 1 ∷ []
 
 header_starts : (procs : ℕ) → IsStart (header procs) procs
 unfolding header
-header_starts procs = (record { chunks = 0; procs = procs; rate = 0; seed = 0; goal = 0 }, refl, refl)
+header_starts procs = (1, record { chunks = 0; procs = procs; rate = 0; seed = 0; goal = 0 }, refl, refl)
 
 pub stands_on : {S : Type 0} (left : S → Option (List ℕ)) (a b c : Lines S) (procs : ℕ) (d : Draft) → HasRead left a b procs d → StandsInLine left b c → StandsInLine left a c
 stands_on left a b c procs d read stands = stands_behind left a b c (told_of d) read.lines (lines_of_good (header procs) (told_of d) (read.good (header procs) (header_starts procs))) stands

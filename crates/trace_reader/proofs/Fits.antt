@@ -309,9 +309,9 @@ cycles_fit procs (c ∷ d ∷ cs) past first ends marks live ended counts only f
 abbrev pub trace_of : Header → List Cycle → Trace
 trace_of h cs = record { header = h; cycles = cs }
 
-pub trace_fits : (h : Header) (cs : List Cycle) → HeaderFits h → AreEnded cs → AreGood (heap_of h ∷ Title ∷ []) (flat_map cycle_statements cs) → WithinLimits (trace_of h cs)
+pub trace_fits : (h : Header) (cs : List Cycle) → HeaderFits h → AreEnded cs → AreGood (heap_of h ∷ Title h.version ∷ []) (flat_map cycle_statements cs) → WithinLimits (trace_of h cs)
 trace_fits h cs fits ended good =
-    let all = cycles_fit h.procs cs (heap_of h ∷ Title ∷ []) 0 0 0 (λ _. ⊥) ended (record { body = tt; procs_are = refl; objects_are = refl; ends_are = refl; marks_are = refl }) (λ i is. absurd cc)
+    let all = cycles_fit h.procs cs (heap_of h ∷ Title h.version ∷ []) 0 0 0 (λ _. ⊥) ended (record { body = tt; procs_are = refl; objects_are = refl; ends_are = refl; marks_are = refl }) (λ i is. absurd cc)
     (omega arith) (omega arith) (omega arith) good in
     let objects = all.objects in
     let mark_ends = all.mark_ends in
@@ -319,9 +319,9 @@ trace_fits h cs fits ended good =
     record { header = fits; events = all.events; cycles = all.cycles; objects = omega arith; mark_ends = omega arith; marks = omega arith }
 
 pub takes_trace : {S : Type 0} (left : S → Option (List ℕ)) (a b c d : Lines S) (h : Header) (cs : List Cycle)
-    → TakesLines left a b (Title ∷ []) → TakesLines left b c (heap_of h ∷ []) → TakesLines left c d (flat_map cycle_statements cs ++ End ∷ []) → TakesLines left a d (statements_of (trace_of h cs))
+    → TakesLines left a b (Title h.version ∷ []) → TakesLines left b c (heap_of h ∷ []) → TakesLines left c d (flat_map cycle_statements cs ++ End ∷ []) → TakesLines left a d (statements_of (trace_of h cs))
 takes_trace left a b c d h cs first second rest =
-    TakesLines-trans left a b d (Title ∷ []) (heap_of h ∷ (flat_map cycle_statements cs ++ End ∷ [])) first (TakesLines-trans left b c d (heap_of h ∷ []) (flat_map cycle_statements cs ++ End ∷ []) second rest)
+    TakesLines-trans left a b d (Title h.version ∷ []) (heap_of h ∷ (flat_map cycle_statements cs ++ End ∷ [])) first (TakesLines-trans left b c d (heap_of h ∷ []) (flat_map cycle_statements cs ++ End ∷ []) second rest)
 
 pub reads_trace : {S : Type 0} (left : S → Option (List ℕ)) (a d : Lines S) (h : Header) (cs : List Cycle) → TakesLines left a d (statements_of (trace_of h cs))
     → WithinLimits (trace_of h cs) → Reads left a d (trace_of h cs)

@@ -2,7 +2,7 @@
 use Rattle.std.proofs.Common.{◌≡◌, ◌==◌, ◌∙◌, subst, length, ℕ, ◌^◌, ◌<◌, Bool, true, false, List, [], ◌∷◌, ◌++◌, ap, append_assoc, codes, decimal, drop, take, sym, inl, arith}
 use Rattle.trace_reader.specs.declared.statement.HeapForm.{HeapForm}
 use Rattle.trace_reader.specs.declared.statement.AllocForm.{AllocForm}
-use Rattle.trace_reader.specs.declared.statement.Statement.TheVariants.{Heap, Alloc, Gc, Mark}
+use Rattle.trace_reader.specs.declared.statement.Statement.TheVariants.{Title, Heap, Alloc, Gc, Mark}
 use Rattle.trace_reader.specs.Spelling.{kind, line_for}
 use Rattle.trace_reader.specs.Words.{IsField, NoDigitFirst}
 use Rattle.trace_reader.specs.Says.{Says}
@@ -50,6 +50,11 @@ alloc_stack line r1 r2 r3 p s k f1 f2 f3 none form says = none form.stack [] (re
 pub alloc_end : (line r1 r2 r3 r4 : List ℕ) (p s t : ℕ) (k : Bool) → IsField (codes "a ") line p r1 → IsField (codes " ") r1 s r2 → r2 ≡ kind k ++ r3
     → IsField [] r3 t r4 → (r4 ≡ [] → ⊥) → (form : AllocForm) → ¬ Says line (Alloc form)
 alloc_end line r1 r2 r3 r4 p s t k f1 f2 f3 f4 none form says = none (behind [] r3 t r4 f4 form.stack [] (alloc_3 line r1 r2 r3 p s k f1 f2 f3 form says) says.1.1.1.0 tt)
+
+-- the first line
+
+pub title_end : (line r1 : List ℕ) (v : ℕ) → IsField (codes "goheap ") line v r1 → (r1 ≡ [] → ⊥) → (version : ℕ) → ¬ Says line (Title version)
+title_end line r1 v f1 none version says = none (behind (codes "goheap ") line v r1 f1 version [] says.0 says.1.0 tt)
 
 -- a `gc` line
 

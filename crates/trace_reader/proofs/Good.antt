@@ -15,7 +15,7 @@ use Rattle.trace_reader.specs.declared.trace.Header.{Header}
 use Rattle.trace_reader.specs.declared.trace.Event.{Event}
 use Rattle.trace_reader.specs.Words.{IsDigit}
 use Rattle.trace_reader.specs.Spelling.{alloc_of, heap_of, kind, line_for}
-use Rattle.trace_reader.specs.Limits.{EventFits, HeaderFits}
+use Rattle.trace_reader.specs.Limits.{EventFits, HeaderFits, IsVersion}
 use Rattle.trace_reader.specs.Checks.{bad_mark, counts_within, may_follow, numbers_within, passed, within}
 use Rattle.trace_reader.specs.Refusal.{fault_if, first_of, statement_fault}
 use Rattle.trace_reader.specs.Good.{AreGood}
@@ -114,11 +114,24 @@ within_true least most n low high = both (nat_le least n) (nat_le n most) (at_mo
 
 -- The first two lines
 
-pub title_good : AreGood [] (Title ∷ [])
-title_good = (record { is_line = (omega arith, apart_test (codes "goheap 1") refl); says = said_line Title tt; not_end = refl; no_fault = fault_none [] Title refl refl refl refl }, tt)
+title_is_line : (version : ℕ) → IsVersion version → IsLine (line_for (Title version))
+title_is_line version fits =
+    let l1 = field_length (codes "goheap ") [] version 1 (omega arith) (omega arith) (omega arith) in
+    (omega arith, field_apart (codes "goheap ") [] version refl (omega arith) tt)
 
-pub header_good : (h : Header) → HeaderFits h → AreGood (Title ∷ []) (heap_of h ∷ [])
-header_good h fits =
+pub title_good : (version : ℕ) → IsVersion version → AreGood [] (Title version ∷ [])
+title_good version fits = (
+  record {
+    is_line = title_is_line version fits;
+    says = said_line (Title version) (omega arith, tt);
+    not_end = refl;
+    no_fault = fault_none [] (Title version) (within_true 1 2 version fits.0 fits.1) refl refl refl;
+  },
+  tt,
+)
+
+pub header_good : (version : ℕ) (h : Header) → HeaderFits h → AreGood (Title version ∷ []) (heap_of h ∷ [])
+header_good version h fits =
     let chunks = fits.chunks in
     let procs = fits.procs in
     let rate = fits.rate in
@@ -128,7 +141,7 @@ header_good h fits =
         is_line = heap_is_line h fits;
         says = said_line (heap_of h) (omega arith, (omega arith, (omega arith, (omega arith, (omega arith, tt)))));
         not_end = refl;
-        no_fault = fault_none (Title ∷ []) (heap_of h) refl
+        no_fault = fault_none (Title version ∷ []) (heap_of h) refl
             (pass _ _ _ (within_true 1 128 h.chunks chunks.0 chunks.1) (pass _ _ _ (within_true 1 64 h.procs procs.0 procs.1) (pass _ _ _ (at_most h.rate (2 ^ 30) rate)
             (pass _ _ _ (below_true h.seed (2 ^ 64) seed) (pass _ _ _ (at_most h.goal 65536 goal) refl))))) refl refl;
       },

@@ -481,10 +481,10 @@ took_mark d x lo hi s p form open_ rising behind high few asked = subst (λ (t :
 
 pub starts : (d : Draft) → d.cycles ≡ [] → d.distance ≡ None → d.first ≡ 0 → d.objects ≡ 0 → d.marks_left ≡ 20000000 → (past : List Statement) → IsStart past d.procs → Follows past d
 starts d cycles distance first objects left past start =
-    subst (λ (past : List Statement). Follows past d) (sym start.1) (
+    subst (λ (past : List Statement). Follows past d) (sym start.2) (
       record {
         body = tt;
-        procs = start.2;
+        procs = start.3;
         objects = sym objects;
         ends = no_ends d.cycles d.distance cycles distance;
         marks = omega arith;

@@ -111,19 +111,20 @@ same_span a b same =
       span : ℕ → ℕ → Span
       span l h = record { lo = l; hi = h }
 
-same_header : (g h : Header) → heap_of g ≡ heap_of h → g ≡ h
-same_header g h same =
+same_header : (g h : Header) → g.version ≡ h.version → heap_of g ≡ heap_of h → g ≡ h
+same_header g h version same =
     let forms : form g ≡ form h = cc in
     made (ap (λ (x : HeapForm). x.chunks) forms) (ap (λ (x : HeapForm). x.procs) forms) (ap (λ (x : HeapForm). x.rate) forms) (ap (λ (x : HeapForm). x.seed) forms) (ap (λ (x : HeapForm). x.goal) forms) where
       form : Header → HeapForm
       form k = record { chunks = k.chunks; procs = k.procs; rate = k.rate; seed = k.seed; goal = k.goal }
 
-      header : ℕ → ℕ → ℕ → ℕ → ℕ → Header
-      header c p r s a = record { chunks = c; procs = p; rate = r; seed = s; goal = a }
+      header : ℕ → ℕ → ℕ → ℕ → ℕ → ℕ → Header
+      header v c p r s a = record { version = v; chunks = c; procs = p; rate = r; seed = s; goal = a }
 
       made : g.chunks ≡ h.chunks → g.procs ≡ h.procs → g.rate ≡ h.rate → g.seed ≡ h.seed → g.goal ≡ h.goal → g ≡ h
-      made a b c d e = ap (λ (x : ℕ). header x g.procs g.rate g.seed g.goal) a ∙ ap (λ (x : ℕ). header h.chunks x g.rate g.seed g.goal) b ∙ ap (λ (x : ℕ). header h.chunks h.procs x g.seed g.goal) c
-          ∙ ap (λ (x : ℕ). header h.chunks h.procs h.rate x g.goal) d ∙ ap (λ (x : ℕ). header h.chunks h.procs h.rate h.seed x) e
+      made a b c d e = ap (λ (x : ℕ). header x g.chunks g.procs g.rate g.seed g.goal) version ∙ ap (λ (x : ℕ). header h.version x g.procs g.rate g.seed g.goal) a
+          ∙ ap (λ (x : ℕ). header h.version h.chunks x g.rate g.seed g.goal) b ∙ ap (λ (x : ℕ). header h.version h.chunks h.procs x g.seed g.goal) c
+          ∙ ap (λ (x : ℕ). header h.version h.chunks h.procs h.rate x g.goal) d ∙ ap (λ (x : ℕ). header h.version h.chunks h.procs h.rate h.seed x) e
 
 same_cycle : (c d : Cycle) → c.events ≡ d.events → c.mark ≡ d.mark → c ≡ d
 same_cycle c d events mark = ap (λ (es : List Event). cycle es c.mark) events ∙ ap (λ (m : Option MarkEnd). cycle d.events m) mark where
@@ -229,7 +230,9 @@ same_trace t u header cycles = ap (λ (h : Header). trace h t.cycles) header ∙
 pub one_trace : (t u : Trace) (xs ys : List ℕ) → WithinLimits t → WithinLimits u → text (lines_of t) ++ xs ≡ text (lines_of u) ++ ys → t ≡ u
 one_trace t u xs ys left right e =
     let fronts = same_fronts (front_of t) (front_of u) (pieces_of xs) (pieces_of ys) (told_front t left) (told_front u right) (sym (pieces_trace t xs left) ∙ ap pieces_of e ∙ pieces_trace u ys right) in
-    let bodies = statement_tails Title Title (heap_of t.header ∷ flat_map cycle_statements t.cycles) (heap_of u.header ∷ flat_map cycle_statements u.cycles) fronts in
+    let bodies = statement_tails (Title t.header.version) (Title u.header.version) (heap_of t.header ∷ flat_map cycle_statements t.cycles) (heap_of u.header ∷ flat_map cycle_statements u.cycles) fronts in
+    let titles = statement_heads (Title t.header.version) (Title u.header.version) (heap_of t.header ∷ flat_map cycle_statements t.cycles) (heap_of u.header ∷ flat_map cycle_statements u.cycles) fronts in
+    let version : t.header.version ≡ u.header.version = cc in
     let header = statement_heads (heap_of t.header) (heap_of u.header) (flat_map cycle_statements t.cycles) (flat_map cycle_statements u.cycles) bodies in
     let cycles = statement_tails (heap_of t.header) (heap_of u.header) (flat_map cycle_statements t.cycles) (flat_map cycle_statements u.cycles) bodies in
-    same_trace t u (same_header t.header u.header header) (same_cycles t.cycles u.cycles _ _ _ _ left.cycles right.cycles (ap (λ (ss : List Statement). ss ++ (End ∷ [])) cycles))
+    same_trace t u (same_header t.header u.header version header) (same_cycles t.cycles u.cycles _ _ _ _ left.cycles right.cycles (ap (λ (ss : List Statement). ss ++ (End ∷ [])) cycles))

@@ -15,6 +15,7 @@ use Rattle.trace_reader.specs.declared.fault.TraceFault.TheVariants.{ReadFault, 
 use Rattle.trace_reader.specs.declared.fault.Which.{Which}
 use Rattle.trace_reader.specs.declared.fault.Which.TheVariants.{Bytes}
 use Rattle.trace_reader.specs.declared.statement.Statement.{Statement}
+use Rattle.trace_reader.specs.declared.statement.Statement.TheVariants.{Title}
 use Rattle.trace_reader.specs.declared.trace.Header.{Header}
 use Rattle.trace_reader.specs.Says.{said}
 use Rattle.trace_reader.specs.Spelling.{heap_of, line_for, spelled}
@@ -302,6 +303,11 @@ pub result_told : {S T : Type 0} (left : S → Option (List ℕ)) (a b : Lines S
     → number_of b ≡ next_number (number_of a) → shown ≡ line_of b → number ≡ number_of b → IfErr result (λ fault. said_fault number past (said shown) ≡ Some fault) → TellsFirstFault left a b past result
 result_told left a b shown number past (Ok value) takes is_line counted same same_number says = tt
 result_told left a b shown number past (Err fault) takes is_line counted same same_number says = tells_said left a b shown number past fault takes is_line counted same same_number says
+
+pub title_takes : {S : Type 0} (left : S → Option (List ℕ)) (a b : Lines S) (shown : List ℕ) (result : Result ℕ TraceFault) → Takes left a b (line_of b ++ 10 ∷ []) → number_of b ≡ next_number (number_of a)
+    → shown ≡ line_of b → IfOk result (λ v. said shown ≡ Some (Title v)) → IfOk result (λ v. TakesLines left a b (Title v ∷ []))
+title_takes left a b shown (Ok version) takes counted same says = takes_line left a b (line_of b) (Title version) takes counted (ap said (sym same) ∙ says)
+title_takes left a b shown (Err fault) takes counted same says = tt
 
 pub header_takes : {S : Type 0} (left : S → Option (List ℕ)) (a b : Lines S) (shown : List ℕ) (result : Result Header TraceFault) → Takes left a b (line_of b ++ 10 ∷ []) → number_of b ≡ next_number (number_of a)
     → shown ≡ line_of b → IfOk result (λ h. said shown ≡ Some (heap_of h)) → IfOk result (λ h. TakesLines left a b (heap_of h ∷ []))

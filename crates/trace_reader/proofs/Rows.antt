@@ -72,13 +72,26 @@ unfolding digits said lines_fault
 limits_of_bytes = refl
 
 -- forms of the first two lines
-forms_of_header : map refusal (text (codes "goheap 2" ∷ []) ∷ text (codes "goheap  1" ∷ []) ∷ text (codes "goheap 1 " ∷ []) ∷ text (codes "Goheap 1" ∷ []) ∷ text ([] ∷ []) ∷ text (codes "end" ∷ [])
+forms_of_header : map refusal (text (codes "goheap 3" ∷ []) ∷ text (codes "goheap  1" ∷ []) ∷ text (codes "goheap 1 " ∷ []) ∷ text (codes "Goheap 1" ∷ []) ∷ text ([] ∷ []) ∷ text (codes "end" ∷ [])
     ∷ map with_header (codes "heap 01 procs 1 rate 0 seed 1 goal 512" ∷ codes "heap 1 procs 1 rate 0 seed 1 goal 512 " ∷ codes "heap 1 procs 1 rate 0 seed 1" ∷ codes "heap  1 procs 1 rate 0 seed 1 goal 512"
     ∷ codes "heap 1 procs +1 rate 0 seed 1 goal 512" ∷ codes "heap 1 procs 1 rate -1 seed 1 goal 512" ∷ codes "heap 1 procs 1 rate 0 seed x goal 512" ∷ codes "heap 1 procs 1 rate 0 seed 1 goal" ∷ codes "heap 1 procs 1 rate 0 goal 512 seed 1"
     ∷ codes "heap 1 procs 1 rate 0 seed 100000000000000000000 goal 512" ∷ codes "goheap 1" ∷ codes "a 0 24 s 1" ∷ codes "end" ∷ []))
     ≡ replicate 6 (Some (Malformed 1)) ++ replicate 13 (Some (Malformed 2))
 unfolding digits said lines_fault
 forms_of_header = refl
+
+-- lines behind the title of version 2
+abbrev later : List (List ℕ) → List ℕ
+later lines = text (codes "goheap 2" ∷ lines)
+
+-- the versions: what is asked of the lines behind the first one is the same in both
+versions : map refusal (later (codes "heap 1 procs 1 rate 0 seed 1 goal 512" ∷ codes "a 0 24 s 1" ∷ codes "end" ∷ []) ∷ later (codes "heap 128 procs 64 rate 1 seed 1 goal 65536" ∷ codes "gc 1" ∷ codes "end" ∷ [])
+    ∷ codes "goheap 2" ∷ later [] ∷ later (codes "goheap 2" ∷ []) ∷ later (codes "heap 129 procs 1 rate 0 seed 1 goal 512" ∷ []) ∷ later (codes "heap 1 procs 1 rate 0 seed 1 goal 65537" ∷ []) ∷ later (codes "heap 1 procs 1 rate 0 seed 1 goal 512" ∷ codes "goheap 2" ∷ [])
+    ∷ map (λ title. text (title ∷ codes "heap 1 procs 1 rate 0 seed 1 goal 512" ∷ codes "end" ∷ [])) (codes "goheap 0" ∷ codes "goheap 3" ∷ codes "goheap 02" ∷ codes "goheap 12" ∷ codes "goheap 20" ∷ codes "goheap" ∷ codes "goheap " ∷ codes "goheap 2 "
+    ∷ codes "goheap -2" ∷ codes "goheap 99999999999999999999" ∷ codes "goheap 100000000000000000002" ∷ []))
+    ≡ None ∷ None ∷ Some (Truncated 1) ∷ Some (Truncated 2) ∷ Some (Malformed 2) ∷ Some (Limit 2 Chunks) ∷ Some (Limit 2 Goal) ∷ Some (Malformed 3) ∷ replicate 11 (Some (Malformed 1))
+unfolding digits said lines_fault
+versions = refl
 
 -- forms of the lines behind them
 forms_of_lines : map (λ line. refusal (with_line line)) (codes "a 0 024 s 1" ∷ codes "a 00 24 s 1" ∷ codes "a 0 24 s 01" ∷ codes "a 0 24 x 1" ∷ codes "a 0 24 s" ∷ codes "a 0 24 s 1 " ∷ codes "a 0  24 s 1" ∷ codes " a 0 24 s 1" ∷ codes "a 0 -24 s 1" ∷ codes "a 0 24 ss 1"

@@ -131,9 +131,15 @@ Short s = AllByRecursion (λ n. n < 10 ^ 20) (numbers s)
 worth_at : (line : List ℕ) (ws : List (List ℕ)) (k n : ℕ) → words_of line ≡ ws → slice_index_or ws k [] ≡ decimal n → n < 10 ^ 20 → digits_value 10 (slice_index_or (words_of line) k []) ≡ n
 worth_at line ws k n e there small = ap (λ (v : List (List ℕ)). digits_value 10 (slice_index_or v k [])) e ∙ ap (digits_value 10) there ∙ value_decimal n (omega arith)
 
-said_title : said (line_for Title) ≡ Some Title
+words_title : (v : ℕ) → v < 10 ^ 20 → words_of (line_for (Title v)) ≡ codes "goheap" ∷ decimal v ∷ []
+words_title v small = ap (λ (ws : List (List ℕ)). codes "goheap" ∷ ws) (word_last v small)
+
+said_title : (v : ℕ) → Short (Title v) → said (line_for (Title v)) ≡ Some (Title v)
 unfolding said
-said_title = refl
+said_title v short =
+    let line = line_for (Title v) in
+    find_take (says line) (Title (worth line 1)) (Title v) (heap_reading line ∷ alloc_reading line ∷ Gc (worth line 1) ∷ Mark (worth line 1) (worth line 2) ∷ End ∷ [])
+    (ap Title (worth_at line _ 1 v (words_title v short.0) refl short.0)) (says_test line (Title v) (refl, short))
 
 said_end : said (line_for End) ≡ Some End
 unfolding said
@@ -147,7 +153,7 @@ unfolding said
 said_gc d short =
     let line = line_for (Gc d) in
     let ws = words_gc d short.0 in
-    found_4 (says line) Title (heap_reading line) (alloc_reading line) (Gc (worth line 1)) (Gc d) (Mark (worth line 1) (worth line 2) ∷ End ∷ []) refl refl refl (ap Gc (worth_at line _ 1 d ws refl short.0)) (says_test line (Gc d) (refl, short))
+    found_4 (says line) (Title (worth line 1)) (heap_reading line) (alloc_reading line) (Gc (worth line 1)) (Gc d) (Mark (worth line 1) (worth line 2) ∷ End ∷ []) refl refl refl (ap Gc (worth_at line _ 1 d ws refl short.0)) (says_test line (Gc d) (refl, short))
 
 words_mark : (lo hi : ℕ) → lo < 10 ^ 20 → hi < 10 ^ 20 → words_of (line_for (Mark lo hi)) ≡ codes "m" ∷ decimal lo ∷ decimal hi ∷ []
 words_mark lo hi low high = ap (λ (ws : List (List ℕ)). codes "m" ∷ ws) (word_at lo (decimal hi ++ []) low ∙ ap (λ (ws : List (List ℕ)). decimal lo ∷ ws) (word_last hi high))
@@ -160,7 +166,7 @@ unfolding said
 said_mark lo hi short =
     let line = line_for (Mark lo hi) in
     let ws = words_mark lo hi short.0 short.1.0 in
-    found_5 (says line) Title (heap_reading line) (alloc_reading line) (Gc (worth line 1)) (Mark (worth line 1) (worth line 2)) (Mark lo hi) (End ∷ []) refl refl refl refl
+    found_5 (says line) (Title (worth line 1)) (heap_reading line) (alloc_reading line) (Gc (worth line 1)) (Mark (worth line 1) (worth line 2)) (Mark lo hi) (End ∷ []) refl refl refl refl
     (same_mark _ _ lo hi (worth_at line _ 1 lo ws refl short.0) (worth_at line _ 2 hi ws refl short.1.0)) (says_test line (Mark lo hi) (refl, short))
 
 abbrev letter : Bool → List ℕ
@@ -187,7 +193,7 @@ said_alloc e short =
     let line = line_for (Alloc e) in
     let ws = words_alloc e short in
     let scan : bytes_eq (slice_index_or (words_of line) 3 []) (115 ∷ []) ≡ e.scan = ap (λ (v : List (List ℕ)). bytes_eq (slice_index_or v 3 []) (115 ∷ [])) ws ∙ letter_scan e.scan in
-    found_3 (says line) Title (heap_reading line) (alloc_reading line) (Alloc e) (Gc (worth line 1) ∷ Mark (worth line 1) (worth line 2) ∷ End ∷ []) refl refl
+    found_3 (says line) (Title (worth line 1)) (heap_reading line) (alloc_reading line) (Alloc e) (Gc (worth line 1) ∷ Mark (worth line 1) (worth line 2) ∷ End ∷ []) refl refl
     (same_alloc _ _ _ _ e (worth_at line _ 1 e.proc ws refl short.0) (worth_at line _ 2 e.size ws refl short.1.0) scan (worth_at line _ 4 e.stack ws refl short.1.1.0)) (says_test line (Alloc e) (refl, short))
 
 words_heap : (h : HeapForm) → Short (Heap h) → words_of (line_for (Heap h))
@@ -208,12 +214,12 @@ unfolding said
 said_heap h short =
     let line = line_for (Heap h) in
     let ws = words_heap h short in
-    found_2 (says line) Title (heap_reading line) (Heap h) (alloc_reading line ∷ Gc (worth line 1) ∷ Mark (worth line 1) (worth line 2) ∷ End ∷ []) refl
+    found_2 (says line) (Title (worth line 1)) (heap_reading line) (Heap h) (alloc_reading line ∷ Gc (worth line 1) ∷ Mark (worth line 1) (worth line 2) ∷ End ∷ []) refl
     (same_heap _ _ _ _ _ h (worth_at line _ 1 h.chunks ws refl short.0) (worth_at line _ 3 h.procs ws refl short.1.0) (worth_at line _ 5 h.rate ws refl short.1.1.0)
     (worth_at line _ 7 h.seed ws refl short.1.1.1.0) (worth_at line _ 9 h.goal ws refl short.1.1.1.1.0)) (says_test line (Heap h) (refl, short))
 
 pub said_line : (s : Statement) → Short s → said (line_for s) ≡ Some s
-said_line Title short = said_title
+said_line (Title v) short = said_title v short
 said_line (Heap h) short = said_heap h short
 said_line (Alloc e) short = said_alloc e short
 said_line (Gc d) short = said_gc d short
@@ -225,10 +231,10 @@ said_is line s fact = ap said fact.0 ∙ said_line s fact.1
 
 -- what has no form says nothing
 pub says_nothing : (line : List ℕ) → ((e : AllocForm) → ¬ Says line (Alloc e)) → (line ≡ codes "end" → ⊥) → ((d : ℕ) → ¬ Says line (Gc d)) → ((lo hi : ℕ) → ¬ Says line (Mark lo hi))
-    → ((h : HeapForm) → ¬ Says line (Heap h)) → (line ≡ codes "goheap 1" → ⊥) → said line ≡ None
+    → ((h : HeapForm) → ¬ Says line (Heap h)) → ((v : ℕ) → ¬ Says line (Title v)) → said line ≡ None
 says_nothing line no_alloc no_end no_gc no_mark no_heap no_title = at (said line) refl where
   none : (s : Statement) → ¬ Says line s
-  none Title says = no_title says.0
+  none (Title v) says = no_title v says
   none (Heap h) says = no_heap h says
   none (Alloc e) says = no_alloc e says
   none (Gc d) says = no_gc d says

@@ -21,7 +21,7 @@ use Rattle.object_spans.specs.declared.span.Span.{Span}
 use Rattle.trace_reader.specs.Spelling.{cycle_statements, line_for, mark_of, spelled}
 use Rattle.trace_reader.specs.Says.{said}
 use Rattle.trace_reader.specs.Limits.{HeaderFits, Spells}
-use Rattle.trace_reader.specs.Checks.{bad_mark, counts_within, header_numbers, may_begin, may_follow, numbers_within, passed, within}
+use Rattle.trace_reader.specs.Checks.{bad_mark, counts_within, header_numbers, is_version, may_begin, may_follow, numbers_within, passed, within}
 use Rattle.trace_reader.specs.Refusal.{fault_if, feed, first_of, is_end, line_fault, lines_fault, next_number, nothing_behind, onto_past, pieces_of, refusal, said_fault, statement_fault}
 use Rattle.trace_reader.specs.Good.{AreGood}
 use Rattle.trace_reader.specs.Draft.{AreEnded}
@@ -193,7 +193,7 @@ told_all (suc fuel) n room past bytes short e =
     ] where
       the_end : (s : Statement) → is_end (Some s) ≡ true → s ≡ End
       the_end End e = refl
-      the_end Title e = absurd cc
+      the_end (Title version) e = absurd cc
       the_end (Heap h) e = absurd cc
       the_end (Alloc form) e = absurd cc
       the_end (Gc distance) e = absurd cc
@@ -246,7 +246,7 @@ new_cycle newest distance ss marks (c ∷ cs) ended all = record {
 
 group : (newest older : Statement) (past ss : List Statement) → AreGood (newest ∷ older ∷ past) ss → Grouped newest ss
 group newest older past [] good = record { marks = []; cycles = record { events = []; mark = None } ∷ []; ended = refl; all = refl; none = λ _. refl }
-group newest older past (Title ∷ ss) good = (let e : false ≡ true = (sound (newest ∷ older ∷ past) Title good.0).follows in absurd cc)
+group newest older past (Title version ∷ ss) good = (let e : false ≡ true = (sound (newest ∷ older ∷ past) (Title version) good.0).follows in absurd cc)
 group newest older past (Heap h ∷ ss) good = (let e : false ≡ true = (sound (newest ∷ older ∷ past) (Heap h) good.0).follows in absurd cc)
 group newest older past (End ∷ ss) good = (let e = good.0.not_end in absurd cc)
 group newest older past (Alloc form ∷ ss) good =
@@ -269,19 +269,19 @@ group newest older past (Mark lo hi ∷ ss) good =
       never : (newest : Statement) → may_begin newest lo ≡ true → takes_marks newest ≡ false → ⊥
       never (Gc distance) begin apart = cc
       never (Mark l h) begin apart = cc
-      never Title begin apart = cc
+      never (Title version) begin apart = cc
       never (Heap h) begin apart = cc
       never (Alloc form) begin apart = cc
       never End begin apart = cc
 
 -- The header
 
-header_from : HeapForm → Header
-header_from h = record { chunks = h.chunks; procs = h.procs; rate = h.rate; seed = h.seed; goal = h.goal }
+header_from : ℕ → HeapForm → Header
+header_from version h = record { version = version; chunks = h.chunks; procs = h.procs; rate = h.rate; seed = h.seed; goal = h.goal }
 
-header_fits : (h : HeapForm) → passed (header_numbers h) ≡ None → HeaderFits (header_from h)
+header_fits : (version : ℕ) (h : HeapForm) → is_version version ≡ true → passed (header_numbers h) ≡ None → HeaderFits (header_from version h)
 unfolding header_from
-header_fits h e =
+header_fits version h is e =
     let p1 = passes Chunks (within 1 128 h.chunks) ((Procs, within 1 64 h.procs) ∷ (Rate, nat_le h.rate (2 ^ 30)) ∷ (Seed, nat_lt h.seed (2 ^ 64)) ∷ (Goal, nat_le h.goal 65536) ∷ []) e in
     let p2 = passes Procs (within 1 64 h.procs) ((Rate, nat_le h.rate (2 ^ 30)) ∷ (Seed, nat_lt h.seed (2 ^ 64)) ∷ (Goal, nat_le h.goal 65536) ∷ []) p1.1 in
     let p3 = passes Rate (nat_le h.rate (2 ^ 30)) ((Seed, nat_lt h.seed (2 ^ 64)) ∷ (Goal, nat_le h.goal 65536) ∷ []) p2.1 in
@@ -289,7 +289,9 @@ header_fits h e =
     let p5 = passes Goal (nat_le h.goal 65536) [] p4.1 in
     let chunks = and_parts (nat_le 1 h.chunks) (nat_le h.chunks 128) p1.0 in
     let procs = and_parts (nat_le 1 h.procs) (nat_le h.procs 64) p2.0 in
+    let version = and_parts (nat_le 1 version) (nat_le version 2) is in
     record {
+      version = (le_of _ _ version.0, le_of _ _ version.1);
       chunks = (le_of _ _ chunks.0, le_of _ _ chunks.1);
       procs = (le_of _ _ procs.0, le_of _ _ procs.1);
       rate = le_of _ _ p3.0;
@@ -300,16 +302,16 @@ header_fits h e =
 -- Traces
 
 -- the two first statements, and those of the cycles
-of_parts : (bytes : List ℕ) (h : HeapForm) (ss : List Statement) → AreGood [] (Title ∷ Heap h ∷ ss) → bytes ≡ spelled ((Title ∷ Heap h ∷ ss) ++ End ∷ []) → length bytes ≤ 67108864 → (t : Trace) × Spells bytes t
+of_parts : (bytes : List ℕ) (version : ℕ) (h : HeapForm) (ss : List Statement) → AreGood [] (Title version ∷ Heap h ∷ ss) → bytes ≡ spelled ((Title version ∷ Heap h ∷ ss) ++ End ∷ []) → length bytes ≤ 67108864 → (t : Trace) × Spells bytes t
 unfolding header_from
-of_parts bytes h ss good spells small =
-    let fits = header_fits h (sound (Title ∷ []) (Heap h) good.1.0).low in
-    let cycles = group (Heap h) Title [] ss good.1.1 in
+of_parts bytes version h ss good spells small =
+    let fits = header_fits version h (sound [] (Title version) good.0).follows (sound (Title version ∷ []) (Heap h) good.1.0).low in
+    let cycles = group (Heap h) (Title version) [] ss good.1.1 in
     let all : ss ≡ flat_map cycle_statements cycles.cycles = cycles.all ∙ ap (λ (ms : List Span). map mark_of ms ++ flat_map cycle_statements cycles.cycles) (cycles.none refl) in (
-      trace_of (header_from h) cycles.cycles,
+      trace_of (header_from version h) cycles.cycles,
       record {
-        lines = spells ∙ ap (λ (x : List Statement). spelled ((Title ∷ Heap h ∷ x) ++ End ∷ [])) all;
-        limits = trace_fits (header_from h) cycles.cycles fits cycles.ended (subst (AreGood (Heap h ∷ Title ∷ [])) all good.1.1);
+        lines = spells ∙ ap (λ (x : List Statement). spelled ((Title version ∷ Heap h ∷ x) ++ End ∷ [])) all;
+        limits = trace_fits (header_from version h) cycles.cycles fits cycles.ended (subst (AreGood (Heap h ∷ Title version ∷ [])) all good.1.1);
         room = small;
       },
     )
@@ -317,7 +319,7 @@ of_parts bytes h ss good spells small =
 of_statements : (bytes : List ℕ) (ss : List Statement) → AreGood [] ss → may_follow (onto ss []) End ≡ true → bytes ≡ spelled (ss ++ End ∷ []) → length bytes ≤ 67108864 → (t : Trace) × Spells bytes t
 of_statements bytes [] good last spells small = absurd cc
 of_statements bytes (s ∷ []) good last spells small = absurd cc
-of_statements bytes (Title ∷ Heap h ∷ ss) good last spells small = of_parts bytes h ss good spells small
+of_statements bytes (Title version ∷ Heap h ∷ ss) good last spells small = of_parts bytes version h ss good spells small
 of_statements bytes (s ∷ t ∷ ss) good last spells small = (let first : may_follow [] s ≡ true = (sound [] s good.0).follows in let second : may_follow (s ∷ []) t ≡ true = (sound (s ∷ []) t good.1.0).follows in absurd cc)
 
 pub unrefused_spells : (bytes : List ℕ) → refusal bytes ≡ None → (t : Trace) × Spells bytes t

@@ -19,7 +19,7 @@ use Rattle.trace_reader.proofs.Cycles.{body_onto, cycles_good, follows_end}
 
 -- all lines but the last
 abbrev pub front_of : Trace → List Statement
-front_of t = Title ∷ heap_of t.header ∷ flat_map cycle_statements t.cycles
+front_of t = Title t.header.version ∷ heap_of t.header ∷ flat_map cycle_statements t.cycles
 
 pub front_good : (t : Trace) → WithinLimits t → AreGood [] (front_of t)
 front_good t limits =
@@ -29,10 +29,10 @@ front_good t limits =
     let objects = limits.objects in
     let ends = limits.mark_ends in
     let marks = limits.marks in (
-      title_good.0,
+      (title_good h.version limits.header.version).0,
       (
-        (header_good h limits.header).0,
-        cycles_good h.procs t.cycles low (heap_of h ∷ Title ∷ []) 0 0 0 (λ _. ⊥) (record { body = tt; procs_are = refl; objects_are = refl; ends_are = refl; marks_are = refl }) (λ i none. absurd none)
+        (header_good h.version h limits.header).0,
+        cycles_good h.procs t.cycles low (heap_of h ∷ Title h.version ∷ []) 0 0 0 (λ _. ⊥) (record { body = tt; procs_are = refl; objects_are = refl; ends_are = refl; marks_are = refl }) (λ i none. absurd none)
             limits.cycles limits.events (omega arith) (omega arith) (omega arith),
       ),
     )
@@ -52,7 +52,7 @@ whole_fault behind n room t rest limits fits low =
     let apart = front_text t rest in
     let len : length (text (lines_of t)) ≡ length (spelled front) + 4 = ap length joined ∙ length-append (spelled front) (spelled (End ∷ [])) in
     let count = length-append front (End ∷ []) in
-    let body : IsBody (onto front []) = body_onto (flat_map cycle_statements t.cycles) (heap_of t.header ∷ Title ∷ []) tt in
+    let body : IsBody (onto front []) = body_onto (flat_map cycle_statements t.cycles) (heap_of t.header ∷ Title t.header.version ∷ []) tt in
     let go = lines_go behind n room [] front (last ++ 10 ∷ rest) good (omega arith) low in
     let m = min (n + length front) (2 ^ 64 - 1) in
     let end = lines_end behind m (room - length (spelled front)) (onto front []) last rest End end_is_line (omega arith) (said_line End tt) refl

@@ -9,6 +9,13 @@ use Rattle.trace_reader.specs.declared.statement.HeapForm.{HeapForm}
 use Rattle.trace_reader.specs.declared.statement.AllocForm.{AllocForm}
 use Rattle.trace_reader.specs.Past.{before_mark_end, is_live, mark_ends_of, marks_of, objects_of, procs_of}
 
+abbrev pub within : ℕ → ℕ → ℕ → Bool
+within least most n = nat_le least n && nat_le n most
+
+-- a trace begins with its version
+abbrev pub is_version : ℕ → Bool
+is_version version = within 1 2 version
+
 -- marks stand directly behind a mark end, and rise
 abbrev pub may_begin : Statement → ℕ → Bool
 may_begin (Gc distance) lo = true
@@ -17,17 +24,14 @@ may_begin s lo = false
 
 -- the statement may stand behind these
 abbrev pub may_follow : List Statement → Statement → Bool
-may_follow [] Title = true
+may_follow [] (Title version) = is_version version
 may_follow [] s = false
 may_follow (newest ∷ []) (Heap h) = true
 may_follow (newest ∷ []) s = false
-may_follow (newest ∷ older ∷ past) Title = false
+may_follow (newest ∷ older ∷ past) (Title version) = false
 may_follow (newest ∷ older ∷ past) (Heap h) = false
 may_follow (newest ∷ older ∷ past) (Mark lo hi) = nat_le lo hi && may_begin newest lo
 may_follow (newest ∷ older ∷ past) s = true
-
-abbrev pub within : ℕ → ℕ → ℕ → Bool
-within least most n = nat_le least n && nat_le n most
 
 -- whether the numbers of a header and of an event are within their limits, from left to right
 abbrev pub header_numbers : HeapForm → List (Which × Bool)

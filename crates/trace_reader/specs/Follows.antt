@@ -80,4 +80,4 @@ pub record Took (old new : Draft) (s : Statement) : Type 0 where
 
 -- these are the lines up to the header, which has so many processors
 abbrev pub IsStart : List Statement → ℕ → Type 0
-IsStart past procs = (h : HeapForm) × (past ≡ Heap h ∷ Title ∷ []) × (h.procs ≡ procs)
+IsStart past procs = (version : ℕ) × (h : HeapForm) × (past ≡ Heap h ∷ Title version ∷ []) × (h.procs ≡ procs)

@@ -11,8 +11,13 @@ use Rattle.object_spans.specs.Rising.{AreSpans}
 use Rattle.edge_io.specs.Text.{text}
 use Rattle.trace_reader.specs.Spelling.{lines_of}
 
+-- there are two versions of the format
+abbrev pub IsVersion : ℕ → Type 0
+IsVersion version = (1 ≤ version) × (version ≤ 2)
+
 -- the numbers of a header are within their limits
 pub record HeaderFits (h : Header) : Type 0 where
+  pub version : IsVersion h.version
   pub chunks : (1 ≤ h.chunks) × (h.chunks ≤ 128)
   pub procs : (1 ≤ h.procs) × (h.procs ≤ 64)
   pub rate : h.rate ≤ 2 ^ 30

@@ -9,7 +9,7 @@ use Rattle.trace_reader.specs.Spelling.{line_for}
 
 -- the numbers of a statement
 abbrev pub numbers : Statement → List ℕ
-numbers Title = []
+numbers (Title version) = version ∷ []
 numbers (Heap h) = h.chunks ∷ h.procs ∷ h.rate ∷ h.seed ∷ h.goal ∷ []
 numbers (Alloc e) = e.proc ∷ e.size ∷ e.stack ∷ []
 numbers (Gc distance) = distance ∷ []
@@ -43,7 +43,7 @@ abbrev pub alloc_reading : List ℕ → Statement
 alloc_reading line = Alloc (record { proc = worth line 1; size = worth line 2; scan = bytes_eq (word line 3) (115 ∷ []); stack = worth line 4 })
 
 abbrev pub readings : List ℕ → List Statement
-readings line = Title ∷ heap_reading line ∷ alloc_reading line ∷ Gc (worth line 1) ∷ Mark (worth line 1) (worth line 2) ∷ End ∷ []
+readings line = Title (worth line 1) ∷ heap_reading line ∷ alloc_reading line ∷ Gc (worth line 1) ∷ Mark (worth line 1) (worth line 2) ∷ End ∷ []
 
 -- what a line says, if it has the form of any
 unfoldable pub said : List ℕ → Option Statement

@@ -18,6 +18,10 @@ abbrev pub kind : Bool → List ℕ
 kind true = codes " s "
 kind false = codes " n "
 
+-- the first line
+abbrev pub title_line : ℕ → List ℕ
+title_line version = concat (codes "goheap " ∷ decimal version ∷ [])
+
 -- the second line
 abbrev pub heap_line : HeapForm → List ℕ
 heap_line h = concat (codes "heap " ∷ decimal h.chunks ∷ codes " procs " ∷ decimal h.procs ∷ codes " rate " ∷ decimal h.rate ∷ codes " seed " ∷ decimal h.seed ∷ codes " goal " ∷ decimal h.goal ∷ [])
@@ -36,7 +40,7 @@ mark_line lo hi = concat (codes "m " ∷ decimal lo ∷ codes " " ∷ decimal hi
 
 -- the line that says this
 abbrev pub line_for : Statement → List ℕ
-line_for Title = codes "goheap 1"
+line_for (Title version) = title_line version
 line_for (Heap h) = heap_line h
 line_for (Alloc e) = alloc_line e
 line_for (Gc distance) = gc_line distance
@@ -67,7 +71,7 @@ cycle_statements c = map alloc_of c.events ++ mark_statements c.mark
 
 -- what the lines of a trace say, in order
 abbrev pub statements_of : Trace → List Statement
-statements_of t = Title ∷ heap_of t.header ∷ (flat_map cycle_statements t.cycles ++ End ∷ [])
+statements_of t = Title t.header.version ∷ heap_of t.header ∷ (flat_map cycle_statements t.cycles ++ End ∷ [])
 
 -- the lines that say these, each ended by a line feed
 abbrev pub spelled : List Statement → List ℕ

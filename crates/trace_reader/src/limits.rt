@@ -1,12 +1,12 @@
 //! The first two lines, and the numbers of each line against their limits.
 
-ghost use Rattle.std.specs.Prelude.{◌≡◌, ◌^◌, ◌<◌, ◌≤◌, [], ◌∷◌, List, ℕ, Some, IfErr, IfOk, MatchBool};
+ghost use Rattle.std.specs.Prelude.{◌≡◌, ◌^◌, ◌<◌, ◌≤◌, [], ◌∷◌, List, ℕ, Some, IfErr, IfOk};
 ghost use Rattle.std.specs.Option.{option_map};
-ghost use Rattle.trace_reader.specs.declared.fault.TraceFault.TheVariants.{Limit, Malformed};
+ghost use Rattle.trace_reader.specs.declared.fault.TraceFault.TheVariants.{Limit};
 ghost use Rattle.trace_reader.specs.declared.statement.Statement.{Statement as Said};
 ghost use Rattle.trace_reader.specs.declared.statement.Statement.TheVariants.{Alloc, Gc, Heap, Mark, Title};
 ghost use Rattle.trace_reader.specs.Spelling.{alloc_of, heap_of, mark_of};
-ghost use Rattle.trace_reader.specs.Limits.{EventFits, HeaderFits};
+ghost use Rattle.trace_reader.specs.Limits.{EventFits, HeaderFits, IsVersion};
 ghost use Rattle.trace_reader.specs.Says.{said};
 ghost use Rattle.trace_reader.specs.Checks.{event_numbers, header_numbers, numbers_within, passed};
 ghost use Rattle.trace_reader.specs.Refusal.{said_fault};
@@ -17,30 +17,44 @@ use crate::statement::{AllocForm, HeapForm, Statement, statement_of};
 use crate::trace::{Event, Header};
 use object_spans::Span;
 
-/// Whether the line is the first one of a trace.
-pub(crate) fn is_title(line: &[u8]) -> bool
-    ensures { MatchBool result
-        (said line.now ≡ Some Title)
-        ((number : ℕ) → said_fault number [] (said line.now) ≡ Some (Malformed number)) }
+/// The latest version of the format. The first is 1.
+const LATEST_VERSION: u128 = 2;
+
+/// The version that the first line says, or what is wrong with it.
+pub(crate) fn version_of(line: &[u8], number: u64) -> Result<u8, TraceFault>
+    ensures says { IfOk result (λ version. said line.now ≡ Some (Title version)) }
+    ensures version { IfOk result (λ version. IsVersion version) }
+    ensures no_read { NoReadFault result }
+    ensures fault { IfErr result (λ fault. said_fault number [] (said line.now) ≡ Some fault) }
 {
-    matches!(statement_of(line), Some(Statement::Title))
+    let Some(Statement::Title(version)) = statement_of(line) else {
+        return Err(TraceFault::Malformed(number));
+    };
+    if version < 1 || version > LATEST_VERSION {
+        return Err(TraceFault::Malformed(number));
+    }
+    Ok(version as u8)
 }
 
-/// The header that the second line has, or what is wrong with it.
-pub(crate) fn header_of(line: &[u8], number: u64) -> Result<Header, TraceFault>
+/// The header that the second line has behind a first one of this version, or what is wrong with it.
+pub(crate) fn header_of(line: &[u8], number: u64, version: u8) -> Result<Header, TraceFault>
+    requires { IsVersion version }
     ensures says { IfOk result (λ h. said line.now ≡ Some (heap_of h)) }
+    ensures version { IfOk result (λ h. h.version ≡ version) }
     ensures fits { IfOk result (λ h. HeaderFits h) }
     ensures no_read { NoReadFault result }
-    ensures fault { IfErr result (λ fault. said_fault number (Title ∷ []) (said line.now) ≡ Some fault) }
+    ensures fault { IfErr result (λ fault. said_fault number (Title version ∷ []) (said line.now) ≡ Some fault) }
 {
     let Some(Statement::Heap(form)) = statement_of(line) else {
         return Err(TraceFault::Malformed(number));
     };
-    limited_header(form, number)
+    limited_header(form, number, version)
 }
 
 // The header of these numbers, or the first that is past its limit.
-fn limited_header(form: HeapForm, number: u64) -> Result<Header, TraceFault>
+fn limited_header(form: HeapForm, number: u64, version: u8) -> Result<Header, TraceFault>
+    requires { IsVersion version }
+    ensures version { IfOk result (λ h. h.version ≡ version) }
     ensures header { IfOk result (λ h. heap_of h ≡ Heap form) }
     ensures fits { IfOk result (λ h. HeaderFits h) }
     ensures no_read { NoReadFault result }
@@ -62,6 +76,7 @@ fn limited_header(form: HeapForm, number: u64) -> Result<Header, TraceFault>
         return Err(TraceFault::Limit(number, Which::Goal));
     }
     Ok(Header {
+        version,
         chunks: form.chunks as u32,
         procs: form.procs as u32,
         rate: form.rate as u64,

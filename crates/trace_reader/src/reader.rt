@@ -9,7 +9,7 @@ ghost use Rattle.trace_reader.specs.declared.statement.Statement.{Statement as S
 ghost use Rattle.trace_reader.specs.declared.statement.Statement.TheVariants.{End, Title};
 ghost use Rattle.trace_reader.specs.declared.trace.Trace.{Trace as ATrace};
 ghost use Rattle.trace_reader.specs.Spelling.{cycle_statements, heap_of, statements_of};
-ghost use Rattle.trace_reader.specs.Limits.{HeaderFits};
+ghost use Rattle.trace_reader.specs.Limits.{HeaderFits, IsVersion};
 ghost use Rattle.trace_reader.specs.Refusal.{next_number};
 ghost use Rattle.trace_reader.specs.Good.{AreGood};
 ghost use Rattle.trace_reader.specs.Draft.{AreEnded};
@@ -20,7 +20,7 @@ ghost use Rattle.trace_reader.specs.Read.{IsAhead, Reads};
 
 use crate::draft::Draft;
 use crate::fault::{TraceFault, Which};
-use crate::limits::{header_of, is_title};
+use crate::limits::{header_of, version_of};
 use crate::trace::{Cycle, Header, Trace};
 use edge_io::{Lines, List, Seen, Source};
 use std::alloc::Global;
@@ -41,8 +41,8 @@ pub fn read_trace<S: Source>(alloc: Global, lines: &mut Lines<'_, S>) -> Result<
     ensures stands { StandsInLine S.left lines.old lines.new }
     ensures cause { HasReadCause (S.faults (source_of lines.old)) (S.faults (source_of lines.new)) result }
 {
-    read_title(lines)?;
-    let header = read_header(lines)?;
+    let version = read_title(lines)?;
+    let header = read_header(lines, version)?;
     let cycles = read_cycles(alloc, lines, header.procs as u8)?;
     Ok(Trace { header, cycles })
 }
@@ -71,34 +71,33 @@ pub fn expect_end<S: Source>(lines: &mut Lines<'_, S>) -> Result<(), TraceFault>
     }
 }
 
-// Reads the first line.
-fn read_title<S: Source>(lines: &mut Lines<'_, S>) -> Result<(), TraceFault>
+// Reads the first line, which says the version.
+fn read_title<S: Source>(lines: &mut Lines<'_, S>) -> Result<u8, TraceFault>
     ensures same_source { IsSameSource lines.old lines.new }
-    ensures lines { OnOk result (TakesLines S.left lines.old lines.new (Title ∷ [])) }
+    ensures lines { IfOk result (λ version. TakesLines S.left lines.old lines.new (Title version ∷ [])) }
+    ensures version { IfOk result (λ version. IsVersion version) }
     ensures refused { TellsFirstFault S.left lines.old lines.new [] result }
     ensures stands { StandsInLine S.left lines.old lines.new }
     ensures dry { is_dry lines.old ≡ true → IsErrOf result (Truncated (next_number (number_of lines.old))) × (source_of lines.new ≡ source_of lines.old) }
     ensures cause { HasReadCause (S.faults (source_of lines.old)) (S.faults (source_of lines.new)) result }
 {
     read_line(lines)?;
-    if is_title(lines.line()) {
-        Ok(())
-    } else {
-        Err(TraceFault::Malformed(lines.number()))
-    }
+    version_of(lines.line(), lines.number())
 }
 
-// Reads the second line.
-fn read_header<S: Source>(lines: &mut Lines<'_, S>) -> Result<Header, TraceFault>
+// Reads the second line, behind a first one of this version.
+fn read_header<S: Source>(lines: &mut Lines<'_, S>, version: u8) -> Result<Header, TraceFault>
+    requires { IsVersion version }
+    ensures version { IfOk result (λ h. h.version ≡ version) }
     ensures same_source { IsSameSource lines.old lines.new }
     ensures lines { IfOk result (λ h. TakesLines S.left lines.old lines.new (heap_of h ∷ [])) }
     ensures fits { IfOk result (λ h. HeaderFits h) }
-    ensures refused { TellsFirstFault S.left lines.old lines.new (Title ∷ []) result }
+    ensures refused { TellsFirstFault S.left lines.old lines.new (Title version ∷ []) result }
     ensures stands { StandsInLine S.left lines.old lines.new }
     ensures cause { HasReadCause (S.faults (source_of lines.old)) (S.faults (source_of lines.new)) result }
 {
     read_line(lines)?;
-    header_of(lines.line(), lines.number())
+    header_of(lines.line(), lines.number(), version)
 }
 
 // Reads the lines behind the header, and the last line.

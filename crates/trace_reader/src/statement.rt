@@ -3,15 +3,15 @@
 ghost use Rattle.std.specs.Prelude.{◌≡◌, ◌≢◌, ◌++◌, Bool, List, ℕ, MatchOption};
 ghost use Rattle.trace_reader.specs.Spelling.{kind};
 ghost use Rattle.trace_reader.specs.Says.{Says, said};
-ghost use Rattle.trace_reader.specs.declared.statement.Statement.TheVariants.{Alloc, Gc, Heap, Mark};
+ghost use Rattle.trace_reader.specs.declared.statement.Statement.TheVariants.{Alloc, Gc, Heap, Mark, Title};
 
 use crate::words::{after, field, number};
 
 /// What one line says. Its numbers have up to 20 digits, and their limits are not tried yet.
 #[derive(Clone, Copy)]
 pub(crate) enum Statement {
-    /// The first line, `goheap 1`.
-    Title,
+    /// The first line, `goheap` and the version of the format.
+    Title(u128),
     /// The `heap` line.
     Heap(HeapForm),
     /// An `a` line: an allocation.
@@ -70,10 +70,21 @@ fn other_statement(line: &[u8]) -> Option<Statement>
     if let Some(form) = heap_form(line) {
         return Some(Statement::Heap(form));
     }
-    if line == b"goheap 1".as_slice() {
-        return Some(Statement::Title);
+    if let Some(version) = title_form(line) {
+        return Some(Statement::Title(version));
     }
     None
+}
+
+// The version that the first line says.
+fn title_form(line: &[u8]) -> Option<u128>
+    ensures { MatchOption result ((version : ℕ) → ¬ Says line.now (Title version)) (λ version. Says line.now (Title version)) }
+{
+    let (version, rest) = field(line, b"goheap ")?;
+    if !rest.is_empty() {
+        return None;
+    }
+    Some(version)
 }
 
 // The numbers of an `a` line.

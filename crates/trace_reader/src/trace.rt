@@ -9,9 +9,11 @@ pub struct Trace {
     pub cycles: List<Cycle>,
 }
 
-/// The numbers of the second line.
+/// The numbers of the first two lines.
 #[derive(Clone, Copy, Debug, PartialEq, Eq)]
 pub struct Header {
+    /// The version of the format, 1 or 2. A report of a trace of version 2 may have lines of page caches.
+    pub version: u8,
     /// The chunks of the region, of 512 pages each, from 1 to 128.
     pub chunks: u32,
     /// The processors, from 1 to 64.

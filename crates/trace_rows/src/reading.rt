@@ -183,6 +183,63 @@ fn headers(rt: HostRuntime) -> Result<(), Fail> {
     Ok(())
 }
 
+// First lines, what stands behind them, and what is wrong with the trace, if anything is.
+const VERSIONS: &[(&str, &str, Option<TraceFault>)] = &[
+    (
+        "goheap 2\n",
+        "heap 1 procs 1 rate 0 seed 1 goal 512\nend\n",
+        None,
+    ),
+    ("goheap 2", "", Some(Truncated(1))),
+    ("goheap 2\n", "", Some(Truncated(2))),
+    ("goheap 2\n", "goheap 2\nend\n", Some(Malformed(2))),
+    (
+        "goheap 2\n",
+        "heap 129 procs 1 rate 0 seed 1 goal 512\nend\n",
+        Some(Limit(2, Which::Chunks)),
+    ),
+    (
+        "goheap 2\n",
+        "heap 1 procs 1 rate 0 seed 1 goal 65537\nend\n",
+        Some(Limit(2, Which::Goal)),
+    ),
+    ("goheap 0\n", "heap 1 procs 1\n", Some(Malformed(1))),
+    ("goheap 3\n", "heap 1 procs 1\n", Some(Malformed(1))),
+    ("goheap 02\n", "heap 1 procs 1\n", Some(Malformed(1))),
+    ("goheap 22\n", "heap 1 procs 1\n", Some(Malformed(1))),
+    ("goheap 2 \n", "heap 1 procs 1\n", Some(Malformed(1))),
+    ("goheap\n", "heap 1 procs 1\n", Some(Malformed(1))),
+    ("goheap 99999999999999999999\n", "", Some(Malformed(1))),
+    ("goheap 100000000000000000002\n", "", Some(Malformed(1))),
+];
+
+#[test]
+fn versions(rt: HostRuntime) -> Result<(), Fail> {
+    for &(front, lines, fault) in VERSIONS {
+        expect_fault(&rt, (front, lines), 999, &[], fault)?;
+    }
+    Ok(())
+}
+
+// The version of the trace of these bytes.
+fn version_of(alloc: Global, input: &str) -> Result<Option<u8>, Fail> {
+    let mut source = source_of(alloc, input, &[])?;
+    let mut lines = Lines::new(&mut source, 999);
+    let trace = read_trace(alloc, &mut lines);
+    Ok(trace.ok().map(|trace| trace.header.version))
+}
+
+#[test]
+fn the_first_line_says_the_version(rt: HostRuntime) -> Result<(), Fail> {
+    let first = version_of(rt.alloc(), ENDED)?;
+    let second = version_of(
+        rt.alloc(),
+        "goheap 2\nheap 1 procs 1 rate 0 seed 1 goal 512\nend\n",
+    )?;
+    assert_eq!(rt; (first, second), (Some(1), Some(2)));
+    Ok(())
+}
+
 // How many objects come before, the lines behind them, and what is wrong with the trace, if anything is.
 type MarkRow = (usize, &'static str, Option<TraceFault>);
 
@@ -409,6 +466,7 @@ const PRINTED: &[&str] = &[
     "goheap 1\nheap 1 procs 1 rate 0 seed 1 goal 512\nend\n",
     "goheap 1\nheap 128 procs 1 rate 0 seed 18446744073709551615 goal 65536\na 0 1099511627776 s 999999\na 0 0 n 0\nend\n",
     "goheap 1\nheap 1 procs 1 rate 0 seed 0 goal 512\na 0 8 n 1\na 0 9 s 2\ngc 1\nm 0 0\nm 1 1\ngc 1099511627776\na 0 1 n 3\ngc 7\nm 2 2\nend\n",
+    "goheap 2\nheap 1 procs 1 rate 0 seed 1 goal 512\na 0 24 s 1\ngc 1\nm 0 0\nend\n",
 ];
 
 #[test]

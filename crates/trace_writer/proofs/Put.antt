@@ -12,7 +12,7 @@ use Rattle.edge_io.proofs.Put.{front_nothing, front_of, front_then, puts-then, p
 use Rattle.trace_reader.specs.declared.trace.Trace.{Trace}
 use Rattle.trace_reader.specs.declared.trace.Cycle.{Cycle}
 use Rattle.trace_reader.specs.declared.trace.MarkEnd.{MarkEnd}
-use Rattle.trace_reader.specs.Spelling.{alloc_of, cycle_statements, heap_of, line_for, lines_of, mark_statements, statements_of}
+use Rattle.trace_reader.specs.Spelling.{alloc_of, cycle_statements, heap_of, line_for, lines_of, mark_statements, statements_of, title_line}
 
 -- Texts
 
@@ -67,14 +67,14 @@ one_line line a b w0 w1 bytes s e sends = rw (said_one line s, ← e) sends
 
 -- a trace's text in its parts
 abbrev head_text : Trace → List ℕ
-head_text t = text (codes "goheap 1" ∷ line_for (heap_of t.header) ∷ [])
+head_text t = text (title_line t.header.version ∷ line_for (heap_of t.header) ∷ [])
 
 abbrev cycles_text : Trace → List ℕ
 cycles_text t = said line_for (flat_map cycle_statements t.cycles)
 
 -- a trace that has only its first two lines and its last
 bare : Trace
-bare = record { header = record { chunks = 0; procs = 0; rate = 0; seed = 0; goal = 0 }; cycles = [] }
+bare = record { header = record { version = 0; chunks = 0; procs = 0; rate = 0; seed = 0; goal = 0 }; cycles = [] }
 
 parts : (t : Trace) → text (lines_of t) ≡ head_text t ++ (cycles_text t ++ codes "end\n")
 unfolding bare

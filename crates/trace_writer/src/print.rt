@@ -1,6 +1,6 @@
 //! Printing a trace.
 
-ghost use Rattle.std.specs.Prelude.{[], ◌≡◌, ◌∷◌, codes, map, Some, OnErr, OnOk};
+ghost use Rattle.std.specs.Prelude.{[], ◌≡◌, ◌∷◌, map, Some, OnErr, OnOk};
 ghost use Rattle.std.specs.Io.KnownBytes.{Appends};
 ghost use Rattle.std.specs.List.{flat_map};
 ghost use Rattle.edge_io.specs.Causes.{HasCause};
@@ -9,9 +9,11 @@ ghost use Rattle.edge_io.specs.Output.{IsSameSink, sink_of, waiting_of};
 ghost use Rattle.edge_io.specs.Text.{text};
 ghost use Rattle.trace_reader.specs.Limits.{WithinLimits};
 ghost use Rattle.edge_io.specs.Puts.{OutputPuts, OutputPutsFront};
-ghost use Rattle.trace_reader.specs.Spelling.{alloc_of, cycle_statements, heap_of, line_for, lines_of, mark_of, mark_statements, spelled};
+ghost use Rattle.trace_reader.specs.Spelling.{alloc_of, cycle_statements, heap_of, line_for, lines_of, mark_of, mark_statements, spelled, title_line};
 
-use crate::spelling::{push_alloc_line, push_gc_line, push_heap_line, push_mark_line};
+use crate::spelling::{
+    push_alloc_line, push_gc_line, push_heap_line, push_mark_line, push_title_line,
+};
 use edge_io::{Failed, Output, Sink};
 use object_spans::Span;
 use text_line::TextLine;
@@ -46,12 +48,14 @@ fn print_lines<K: Sink>(out: &mut Output<'_, K>, trace: &Trace) -> Result<(), Fa
 // Puts the first two lines behind what waits.
 fn put_head<K: Sink>(out: &mut Output<'_, K>, header: Header) -> Result<(), Failed>
     ensures same_sink { IsSameSink out.old out.new }
-    ensures ok { OnOk result (OutputPuts K.held out.old out.new (text (codes "goheap 1" ∷ line_for (heap_of header) ∷ []))) }
-    ensures err { OnErr result (OutputPutsFront K.held out.old out.new (text (codes "goheap 1" ∷ line_for (heap_of header) ∷ []))) }
+    ensures ok { OnOk result (OutputPuts K.held out.old out.new (text (title_line header.version ∷ line_for (heap_of header) ∷ []))) }
+    ensures err { OnErr result (OutputPutsFront K.held out.old out.new (text (title_line header.version ∷ line_for (heap_of header) ∷ []))) }
     ensures cause { HasCause (K.faults (sink_of out.old)) (K.faults (sink_of out.new)) result }
 {
-    out.put(b"goheap 1\n")?;
     let mut line = TextLine::new();
+    push_title_line(&mut line, header.version);
+    out.put(line.as_slice())?;
+    line.clear();
     push_heap_line(&mut line, header);
     out.put(line.as_slice())
 }

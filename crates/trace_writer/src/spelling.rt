@@ -1,11 +1,21 @@
 //! The lines of a trace as text, one at a time. Each has its line feed.
 
 ghost use Rattle.std.specs.Prelude.{◌≡◌, [], ◌∷◌, ◌++◌};
-ghost use Rattle.trace_reader.specs.Spelling.{alloc_line, form_of, gc_line, kind, line_for, heap_of, mark_line};
+ghost use Rattle.trace_reader.specs.Spelling.{alloc_line, form_of, gc_line, kind, line_for, heap_of, mark_line, title_line};
 
 use object_spans::Span;
 use text_line::TextLine;
 use trace_reader::{Event, Header};
+
+/// Puts the first line together.
+pub(crate) fn push_title_line(line: &mut TextLine, version: u8)
+    requires { line.old ≡ [] }
+    ensures { line.new ≡ title_line version ++ 10 ∷ [] }
+{
+    line.push(b"goheap ");
+    line.push_short(u32::from(version));
+    line.push(b"\n");
+}
 
 /// Puts the second line together.
 pub(crate) fn push_heap_line(line: &mut TextLine, header: Header)

@@ -64,6 +64,34 @@ const CHANGES: [&str; 10] = [
     "j 0 0 free 0 1",
 ];
 
+// Lines of page caches of no form.
+const CACHE_LINES: [&str; 12] = [
+    "j 0 0 pull 0 0",
+    "j 0 0 pull 0 0 64 1",
+    "j 0 0 pull 0 0 64 ",
+    "j 0 0 pulls 0 0 64",
+    "j 0 0 pull 0 00 64",
+    "j 0 0 pull  0 0 64",
+    "j 0 0 cut 0 0 1",
+    "j 0 0 cut 0 0 1 6 7",
+    "j 0 0 cut 0 0 01 6",
+    "j 0 0 drop 0 0",
+    "j 0 0 drop 0 0 63 6",
+    "j 0 0 dropped 0 0 63",
+];
+
+// Numbers of page caches past their types.
+const PAST_CACHE_TYPES: [&str; 8] = [
+    "j 0 4294967296 pull 0 0 64",
+    "j 0 0 pull 4294967296 0 64",
+    "j 0 0 pull 0 4294967296 64",
+    "j 0 0 pull 0 0 4294967296",
+    "j 0 0 cut 4294967296 0 1 6",
+    "j 0 0 cut 0 0 1 256",
+    "j 0 0 drop 4294967296 0 63",
+    "j 0 0 drop 0 0 4294967296",
+];
+
 // Numbers past their types.
 const PAST_THEIR_TYPES: [&str; 8] = [
     "j 0 4294967296 give 0 1",
@@ -90,7 +118,9 @@ const CLOSINGS: [&str; 9] = [
 ];
 
 // Lines that are out of turn.
-const NUMBERS: [&str; 4] = [
+const NUMBERS: [&str; 6] = [
+    "j 0 0 pull 0 0 64\nj 2 0 drop 0 0 64",
+    "o 0 zero\nj 1 0 pull 0 0 64",
     "o 0 zero\no 0 zero",
     "o 0 zero\no 2 zero",
     "o 0 zero\nj 1 0 give 0 1",
@@ -206,6 +236,8 @@ fn lines_of_no_form(rt: HostRuntime) -> Result<(), Fail> {
     all_are_malformed(&rt, &ADDRESSES, 1)?;
     all_are_malformed(&rt, &MISSES, 1)?;
     all_are_malformed(&rt, &CHANGES, 1)?;
+    all_are_malformed(&rt, &CACHE_LINES, 1)?;
+    all_are_malformed(&rt, &PAST_CACHE_TYPES, 1)?;
     all_are_malformed(&rt, &PAST_THEIR_TYPES, 1)?;
     all_are_malformed(&rt, &CLOSINGS, 1)?;
     all_are_malformed(&rt, &NUMBERS, 2)?;
@@ -228,8 +260,17 @@ const FAILING: &[(&str, u64, ReportFault)] = &[
     ("o 1 zero\nend\n", 1, Malformed(1)),
 ];
 
+// Texts that are well formed, whatever their trace: whether the numbers make sense is not asked.
+const WELL_FORMED: [FaultRow; 4] = [
+    ("j 0 0 pull 0 0 64\nend\n", MOST, None),
+    ("j 0 0 cut 0 0 1 6\nend\n", MOST, None),
+    ("j 0 0 drop 0 0 0\nend\n", MOST, None),
+    ("j 0 0 pull 64 1 0\nj 1 0 cut 0 9 99 255\nend\n", MOST, None),
+];
+
 #[test]
 fn ends_and_limits(rt: HostRuntime) -> Result<(), Fail> {
+    all_have_faults(&rt, &WELL_FORMED)?;
     all_have_faults(&rt, &EARLY_ENDS)?;
     all_have_faults(&rt, &LIMITS)?;
     all_have_faults(&rt, &LONG_LINES)?;

@@ -1,5 +1,5 @@
-use Rattle.report_text.proofs.Forms.{no_change}
+use Rattle.report_text.proofs.Forms.{cache_or_none}
 use Rattle.report_text.proofs.parse.change_of.Goals as goal
 
-pub returns-in_err-page : goal.returns-in_err-page
-returns-in_err-page c = rw c.from_residual-in_err-page.ensures (no_change _ _ _ c.in_ok-cycle.ensures c.in_default.ensures c.in_default-run.ensures c.in_default-missed.ensures c.in_err-page.ensures)
+pub returns : goal.returns
+returns c = cache_or_none c.cache_change.result _ _ _ c.in_ok-cycle.ensures c.in_default.ensures c.cache_change.ensures

@@ -8,5 +8,5 @@ returns-clause-lines g c = header_takes g.S.Source.left c.args.lines.now c.read_
 
 pub returns-clause-refused : goal.returns-clause-refused
 returns-clause-refused g c =
-    result_told g.S.Source.left c.args.lines.now c.read_line.new.lines c.line.result.now c.number.result (Title ∷ []) c.header_of.result c.in_ok-read_line.ensures.line c.in_ok-read_line.ensures.is_line
+    result_told g.S.Source.left c.args.lines.now c.read_line.new.lines c.line.result.now c.number.result (Title c.args.version ∷ []) c.header_of.result c.in_ok-read_line.ensures.line c.in_ok-read_line.ensures.is_line
     c.read_line.ensures.number c.line.ensures c.number.ensures c.header_of.ensures.fault

@@ -17,11 +17,9 @@ returns-in-Some-mark_form c = sym (said_is _ (Mark c.in-Some-mark_form.lo c.in-S
 pub returns-in-Some-heap_form : goal.returns-in-Some-heap_form
 returns-in-Some-heap_form c = sym (said_is _ (Heap c.in-Some-heap_form.form) c.in-Some-heap_form.ensures)
 
-pub returns-then-eq-2 : goal.returns-then-eq-2
-returns-then-eq-2 c =
-    let title : c.args.line.now ≡ codes "goheap 1" = search rules in
-    sym (said_is _ Title (title, tt))
+pub returns-in-Some-title_form : goal.returns-in-Some-title_form
+returns-in-Some-title_form c = sym (said_is _ (Title c.in-Some-title_form.version) c.in-Some-title_form.ensures)
 
 pub returns : goal.returns
 returns c =
-    sym (says_nothing _ c.requires (not_text _ _ _ c.if-eq.ensures (search rules)) c.in_default.ensures c.in_default-mark_form.ensures c.in_default-heap_form.ensures (not_text _ _ _ c.if-eq-2.ensures (search rules)))
+    sym (says_nothing _ c.requires (not_text _ _ _ c.if-eq.ensures (search rules)) c.in_default.ensures c.in_default-mark_form.ensures c.in_default-heap_form.ensures c.in_default-title_form.ensures)
