@@ -1,6 +1,11 @@
 pub mod Lives
+pub mod BlocksOut
 pub mod Walks
 pub mod Keeping
 pub mod Adding
 pub mod Sums
 pub mod Tops
+pub mod Pulling
+pub mod Cutting
+pub mod Words
+pub mod CutLaws

@@ -1,5 +1,5 @@
 -- The levels of sums over the chunks of a region.
-use Rattle.std.proofs.Common.{◌≡◌, ℕ, ◌+◌, ◌-◌, ◌*◌, ◌/◌, ◌^◌, ◌<◌, ◌≤◌, Bool, true, false, List, length, get_or, Option, Some, None, IfSome, sym, ◌∙◌, ap, arith, ◌⊎◌, inl, inr}
+use Rattle.std.proofs.Common.{◌≡◌, ℕ, ◌+◌, ◌-◌, ◌*◌, ◌/◌, ◌%◌, ◌^◌, ◌<◌, ◌≤◌, Bool, true, false, List, length, get_or, Option, Some, None, IfSome, sym, ◌∙◌, ap, arith, ◌⊎◌, inl, inr}
 use Rattle.std.proofs.lemmas.Bool.{cases_lt, cases_Bool, false≢true}
 use Rattle.page_bitmap.specs.declared.chunk.Chunk.{Chunk}
 use Rattle.page_bitmap.specs.Runs.{IsRun, HasNoRun, IsFirstRun, IsFrontRun, IsBackRun, IsLongestRun, SetsRun}
@@ -168,22 +168,33 @@ chunk-some chunks k n d lt inside none =
     })
 
 -- sums of pages that stay as they are stay right
-sums-but : (old new : ℕ → Bool) (pages low high page n : ℕ) (value : Bool) (level : List Sum) → SetsRun old new page n value
+sums-but : (old new : ℕ → Bool) (pages low high page n : ℕ) (level : List Sum) → ((p : ℕ) → (p < page) ⊎ (page + n ≤ p) → new p ≡ old p)
     → ((k p : ℕ) → (k < low) ⊎ (high ≤ k) → p < pages → (pages * k + p < page) ⊎ (page + n ≤ pages * k + p))
     → AreSums old pages level → AreSumsBut new pages level low high
-sums-but old new pages low high page n value level sets away sums k none lt out =
-    sum-alike (λ p. new (pages * k + p)) (λ p. old (pages * k + p)) pages _ _ _ (λ p small. set-outside sets (pages * k + p) (away k p out small)) (sums k none lt)
+sums-but old new pages low high page n level same away sums k none lt out =
+    sum-alike (λ p. new (pages * k + p)) (λ p. old (pages * k + p)) pages _ _ _ (λ p small. same (pages * k + p) (away k p out small)) (sums k none lt)
 
--- a run that is set leaves the sums of the other chunks right
+-- a change inside a run leaves the sums of the other chunks right
+pub right-outside : (old new : ℕ → Bool) (chunks page n : ℕ) (levels : Levels) → 1 ≤ n → ((p : ℕ) → (p < page) ⊎ (page + n ≤ p) → new p ≡ old p) → AreRight old chunks levels
+    → AreRightBut new chunks levels (page / 512) ((page + n - 1) / 512)
+right-outside old new chunks page n levels some same right = record {
+  cut = right.cut;
+  sums_1 = sums-but old new (2 ^ 18) _ _ page n _ same (λ k p out small. elim out [ inl below ↦ inl (omega arith) | inr above ↦ inr (omega arith) ]) right.sums_1;
+  sums_2 = sums-but old new (2 ^ 15) _ _ page n _ same (λ k p out small. elim out [ inl below ↦ inl (omega arith) | inr above ↦ inr (omega arith) ]) right.sums_2;
+  sums_3 = sums-but old new (2 ^ 12) _ _ page n _ same (λ k p out small. elim out [ inl below ↦ inl (omega arith) | inr above ↦ inr (omega arith) ]) right.sums_3;
+  sums_4 = sums-but old new (2 ^ 9) _ _ page n _ same (λ k p out small. elim out [ inl below ↦ inl (omega arith) | inr above ↦ inr (omega arith) ]) right.sums_4;
+}
+
+-- a change inside a block is one inside a chunk
+pub right-block : (old new : ℕ → Bool) (chunks page : ℕ) (levels : Levels) → page % 64 ≡ 0 → ((p : ℕ) → (p < page) ⊎ (page + 64 ≤ p) → new p ≡ old p) → AreRight old chunks levels
+    → AreRightBut new chunks levels (page / 512) (page / 512)
+right-block old new chunks page levels whole same right =
+    let last : (page + 64 - 1) / 512 ≡ page / 512 = omega arith in
+    rw last at (right-outside old new chunks page 64 levels (omega arith) same right)
+
 pub right-but : (old new : ℕ → Bool) (chunks page n : ℕ) (value : Bool) (levels : Levels) → 1 ≤ n → SetsRun old new page n value → AreRight old chunks levels
     → AreRightBut new chunks levels (page / 512) ((page + n - 1) / 512)
-right-but old new chunks page n value levels some sets right = record {
-  cut = right.cut;
-  sums_1 = sums-but old new (2 ^ 18) _ _ page n value _ sets (λ k p out small. elim out [ inl below ↦ inl (omega arith) | inr above ↦ inr (omega arith) ]) right.sums_1;
-  sums_2 = sums-but old new (2 ^ 15) _ _ page n value _ sets (λ k p out small. elim out [ inl below ↦ inl (omega arith) | inr above ↦ inr (omega arith) ]) right.sums_2;
-  sums_3 = sums-but old new (2 ^ 12) _ _ page n value _ sets (λ k p out small. elim out [ inl below ↦ inl (omega arith) | inr above ↦ inr (omega arith) ]) right.sums_3;
-  sums_4 = sums-but old new (2 ^ 9) _ _ page n value _ sets (λ k p out small. elim out [ inl below ↦ inl (omega arith) | inr above ↦ inr (omega arith) ]) right.sums_4;
-}
+right-but old new chunks page n value levels some sets right = right-outside old new chunks page n levels some (λ p out. set-outside sets p out) right
 
 -- no page below the search is free after a take: where the search rises, it was at the run's first page, or the run is of
 -- one page, and then the first free one

@@ -55,3 +55,7 @@ loose-above chunks p within =
       | inl low ↦ within low
       | inr high ↦ out-loose (free_in chunks) (scavenged_in chunks) p (over-past is_free chunks p high)
     ]
+
+-- a page that stays as it is stays so
+pub loose-alike : (free free' scavenged scavenged' : ℕ → Bool) (p : ℕ) → free' p ≡ free p → scavenged' p ≡ scavenged p → free p && not (scavenged p) ≡ false → free' p && not (scavenged' p) ≡ false
+loose-alike free free' scavenged scavenged' p first second old = loose-same (free' p) (free p) (scavenged' p) (scavenged p) first second old

@@ -1,13 +1,16 @@
 -- The pages of chunks as those of a region, and parts of a run one after another.
-use Rattle.std.proofs.Common.{◌≡◌, ℕ, zero, suc, ◌+◌, ◌-◌, ◌*◌, ◌/◌, ◌%◌, ◌<◌, ◌≤◌, Bool, true, false, not, ltb, List, [], ◌∷◌, length, get_or, refl, sym, ◌∙◌, ap, arith, ◌⊎◌, inl, inr}
+use Rattle.std.proofs.Common.{◌≡◌, ℕ, zero, suc, ◌+◌, ◌-◌, ◌*◌, ◌/◌, ◌%◌, ◌<◌, ◌≤◌, Bool, true, false, not, ◌&&◌, ltb, List, [], ◌∷◌, length, get_or, refl, sym, ◌∙◌, ap, arith, ◌⊎◌, inl, inr}
 use Rattle.std.proofs.Math.ListN.{set}
-use Rattle.std.proofs.lemmas.Bool.{lt-ltb, le-ltb, cases_lt}
+use Rattle.std.proofs.lemmas.Bool.{lt-ltb, le-ltb, cases_lt, cases_eq, eq-eqb, ne_eqb}
 use Rattle.page_bitmap.specs.declared.chunk.Chunk.{Chunk}
 use Rattle.page_bitmap.specs.Runs.{IsRun, IsTopRun, SetsRun}
 use Rattle.page_bitmap.specs.Pages.{is_free, is_scavenged, can_scavenge}
 use Rattle.page_bitmap.specs.Counts.{count_run}
+use Rattle.page_bitmap.specs.Words.{in_word}
+use Rattle.page_alloc.specs.Owners.{within}
 use Rattle.page_alloc.specs.Region.{over, loose_in, IsRunIn, IsTopRunIn}
 use Rattle.page_bitmap.specs.CountLaws.{count_below-same, count_run-split}
+use Rattle.page_alloc.proofs.Lives.{within-true, within-false}
 
 -- a page of a chunk
 pub over-at : {X : Type 0} (map : X → ℕ → Bool) (chunks : List X) (k j : ℕ) (d : X)
@@ -240,3 +243,52 @@ over-past map (first ∷ rest) p le =
 -- a page behind a border
 pub behind : (map : ℕ → Bool) (a p : ℕ) (value : Bool) → a ≤ p → map (a + (p - a)) ≡ value → map p ≡ value
 behind map a p value le is = (let here : a + (p - a) ≡ p = omega arith in sym (ap map here) ∙ is)
+
+-- the 64 pages of a word of a chunk are a block of the region
+word-within : (k b p : ℕ) → 512 * k ≤ p → in_word b (p - 512 * k) ≡ within p (512 * k + 64 * b) 64
+word-within k b p from = elim (cases_eq ((p - 512 * k) / 64) b) [
+  | inl here ↦ (
+      let is : in_word b (p - 512 * k) ≡ true = eq-eqb ((p - 512 * k) / 64) b here in
+      is ∙ sym (within-true p (512 * k + 64 * b) 64 (omega arith) (omega arith)))
+  | inr there ↦ (
+      let isnt : in_word b (p - 512 * k) ≡ false = ne_eqb ((p - 512 * k) / 64) b there in
+      isnt ∙ sym (within-false p (512 * k + 64 * b) 64 (elim (cases_lt p (512 * k + 64 * b)) [ inl low ↦ inl low | inr high ↦ inr (omega arith) ])))
+]
+
+-- a change of the 64 pages of a word of a chunk is one of the block of the region, which may ask what another map and a word say
+pub over-block : {X : Type 0} (map other : X → ℕ → Bool) (chunks : List X) (k b p : ℕ) (d y : X) (bits : ℕ → Bool) (op : Bool → Bool → Bool → Bool → Bool)
+    → k < length chunks → b < 8 → ((x o c : Bool) → op x false o c ≡ x)
+    → ((j : ℕ) → map y j ≡ op (map (get_or chunks k d) j) (in_word b j) (other (get_or chunks k d) j) (bits (j % 64)))
+    → over map (set chunks k y) p ≡ op (over map chunks p) (within p (512 * k + 64 * b) 64) (over other chunks p) (bits (p % 64))
+over-block map other chunks k b p d y bits op lt small keeps changed =
+    let same : (within p (512 * k + 64 * b) 64 ≡ false) → over map (set chunks k y) p ≡ over map chunks p → over map (set chunks k y) p ≡ op (over map chunks p) (within p (512 * k + 64 * b) 64) (over other chunks p) (bits (p % 64)) =
+    λ out e. e ∙ sym (ap (λ (w : Bool). op (over map chunks p) w (over other chunks p) (bits (p % 64))) out ∙ keeps (over map chunks p) (over other chunks p) (bits (p % 64))) in
+    elim (cases_lt p (512 * k)) [
+      | inl below ↦ same (within-false p (512 * k + 64 * b) 64 (inl (omega arith))) (over-set_other map chunks k p y (inl below))
+      | inr from ↦ elim (cases_lt p (512 * k + 512)) [
+        | inr above ↦ same (within-false p (512 * k + 64 * b) 64 (inr (omega arith))) (over-set_other map chunks k p y (inr above))
+        | inl to ↦ (
+            let j = p - 512 * k in
+            let at : 512 * k + j ≡ p = omega arith in
+            let column : j % 64 ≡ p % 64 = omega arith in
+            let new : over map (set chunks k y) p ≡ map y j = sym (ap (over map (set chunks k y)) at) ∙ over-set_here map chunks k j y lt (omega arith) in
+            let old : map (get_or chunks k d) j ≡ over map chunks p = sym (over-at map chunks k j d lt (omega arith)) ∙ ap (over map chunks) at in
+            let also : other (get_or chunks k d) j ≡ over other chunks p = sym (over-at other chunks k j d lt (omega arith)) ∙ ap (over other chunks) at in
+            let word = word-within k b p from in
+            new ∙ changed j
+            ∙ ap (λ (x : Bool). op x (in_word b j) (other (get_or chunks k d) j) (bits (j % 64))) old
+            ∙ ap (λ (w : Bool). op (over map chunks p) w (other (get_or chunks k d) j) (bits (j % 64))) word
+            ∙ ap (λ (o : Bool). op (over map chunks p) (within p (512 * k + 64 * b) 64) o (bits (j % 64))) also
+            ∙ ap (λ (c : ℕ). op (over map chunks p) (within p (512 * k + 64 * b) 64) (over other chunks p) (bits c)) column)
+      ]
+    ]
+
+-- what two maps have of the 64 pages of a word of a chunk
+pub block_count : {X : Type 0} (map other : X → ℕ → Bool) (chunks : List X) (k b : ℕ) (d : X) → k < length chunks → b < 8
+    → count_run (64 * b) 64 (λ j. map (get_or chunks k d) j && other (get_or chunks k d) j) ≡ count_run (512 * k + 64 * b) 64 (λ p. over map chunks p && over other chunks p)
+block_count map other chunks k b d lt small =
+    count_below-same 64 (λ i. map (get_or chunks k d) (64 * b + i) && other (get_or chunks k d) (64 * b + i)) (λ i. over map chunks (512 * k + 64 * b + i) && over other chunks (512 * k + 64 * b + i)) (λ i low. (
+    let at : 512 * k + (64 * b + i) ≡ 512 * k + 64 * b + i = omega arith in
+    let f : map (get_or chunks k d) (64 * b + i) ≡ over map chunks (512 * k + 64 * b + i) = sym (over-at map chunks k (64 * b + i) d lt (omega arith)) ∙ ap (over map chunks) at in
+    let g : other (get_or chunks k d) (64 * b + i) ≡ over other chunks (512 * k + 64 * b + i) = sym (over-at other chunks k (64 * b + i) d lt (omega arith)) ∙ ap (over other chunks) at in
+    rw (f, g) refl))

@@ -1,14 +1,14 @@
 -- Runs of free pages: the first that fits, none, the longest, and the one that a scavenging step releases. A past is a journal
 -- with its newest line first, and a region is pages 0 to region - 1.
-use Rattle.std.specs.Prelude.{◌≡◌, ℕ, ◌+◌, ◌-◌, ◌/◌, ◌%◌, ◌<◌, ◌≤◌, true, List, None, ◌⊎◌}
+use Rattle.std.specs.Prelude.{◌≡◌, ℕ, ◌+◌, ◌-◌, ◌/◌, ◌%◌, ◌<◌, ◌≤◌, true, List, ◌⊎◌}
 use Rattle.page_bitmap.specs.declared.line.Line.{Line}
 use Rattle.size_classes.specs.Classes.{pages_of, IsClass}
-use Rattle.page_alloc.specs.Owners.{owner, unscavenged}
+use Rattle.page_alloc.specs.Owners.{unscavenged, IsUnheld}
 
 -- The run lies inside the region, and all its pages are free.
 pub record IsFree (region : ℕ) (past : List Line) (page pages : ℕ) : Type 0 where
   pub inside : page + pages ≤ region
-  pub free : (p : ℕ) → page ≤ p → p < page + pages → owner past p ≡ None
+  pub free : (p : ℕ) → page ≤ p → p < page + pages → IsUnheld past p
 
 -- First fit: the least page, trying each in turn, from which so many pages are free.
 pub record IsFirstFit (region : ℕ) (past : List Line) (page pages : ℕ) : Type 0 where
@@ -30,7 +30,7 @@ IsSpanSize class pages = (2 ≤ class → IsClass (class / 2) × (pages ≡ page
 
 -- A page is loose where it is free and unscavenged.
 abbrev pub IsLoose : List Line → ℕ → Type 0
-IsLoose past p = (owner past p ≡ None) × (unscavenged past p ≡ true)
+IsLoose past p = IsUnheld past p × (unscavenged past p ≡ true)
 
 -- The run that a scavenging step releases: the highest loose page of the region, with the loose pages directly
 -- below it in its chunk of 512 pages, at most 64 in all.

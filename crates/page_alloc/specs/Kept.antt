@@ -1,19 +1,21 @@
 -- What the pages of a region keep: their maps and numbers are those of the journal, which is legal.
-use Rattle.std.specs.Prelude.{◌≡◌, ℕ, ◌+◌, ◌-◌, ◌*◌, ◌<◌, ◌≤◌, Bool, true, false, not, is_some, List, length, slice_index, Some, vec_len, vec_capacity}
+use Rattle.std.specs.Prelude.{◌≡◌, ℕ, ◌+◌, ◌-◌, ◌*◌, ◌<◌, ◌≤◌, Bool, true, false, not, List, length, slice_index, Some, vec_len, vec_capacity}
 use Rattle.page_bitmap.specs.declared.line.Line.{Line}
 use Rattle.page_alloc.specs.declared.allocator.Pages.TheInside.{Inside}
 use Rattle.page_alloc.specs.Lists.{In}
-use Rattle.page_alloc.specs.Owners.{owner, unscavenged, taken, backed}
+use Rattle.page_alloc.specs.Owners.{owner, is_held, unscavenged, taken, backed}
 use Rattle.page_alloc.specs.Lives.{Life, open_lives}
-use Rattle.page_alloc.specs.Journal.{past_of, Legal}
+use Rattle.page_alloc.specs.Blocks.{block_lines, open_blocks}
+use Rattle.page_alloc.specs.Journal.{past_of, GoesOn, LegalFor}
 use Rattle.page_alloc.specs.Region.{free_in, loose_in, scavenged_in, pages_in}
 use Rattle.page_alloc.specs.Levels.{AreRight}
 use Rattle.page_alloc.specs.Heap.{PageHeap}
 
 -- The maps of a region and its numbers are those of a legal past.
 pub record IsKept (region goal : ℕ) (past : List Line) (free scavenged starts : ℕ → Bool) (lengths : List ℕ) (live owned behind : ℕ) : Type 0 where
-  pub legal : Legal region goal past
-  pub free_pages : (p : ℕ) → p < region → free p ≡ not (is_some (owner past p))
+  pub procs : ℕ
+  pub legal : LegalFor procs region goal past
+  pub free_pages : (p : ℕ) → p < region → free p ≡ not (is_held past p)
   pub scavenged_pages : (p : ℕ) → p < region → scavenged p ≡ not (unscavenged past p)
   pub begins : (p : ℕ) → owner past p ≡ Some p → starts p ≡ true
   pub begins_only : (p : ℕ) → p < region → starts p ≡ true → owner past p ≡ Some p
@@ -45,4 +47,6 @@ pub record IsSound (inside : Inside) : Type 0 where
   pub below_search : (p : ℕ) → p < inside.search → free_in inside.chunks.items p ≡ false
   pub top_within : inside.top ≤ length inside.chunks.items
   pub above_top : (p : ℕ) → 512 * inside.top ≤ p → loose_in inside.chunks.items p ≡ false
-  pub room : inside.live + vec_len inside.journal ≤ vec_capacity inside.journal
+  pub blocks : inside.out ≡ length (open_blocks (past_in inside))
+  pub whole : (line : Line) → GoesOn (past_in inside) line
+  pub room : inside.live + block_lines * inside.out + vec_len inside.journal ≤ vec_capacity inside.journal

@@ -2,8 +2,10 @@ pub mod Lists
 pub mod Owners
 pub mod Lives
 pub mod FreeRuns
+pub mod Blocks
 pub mod Journal
 pub mod Region
 pub mod Levels
 pub mod Heap
+pub mod Cuts
 pub mod Kept

@@ -1,10 +1,10 @@
--- Lives: what a Take line begins and a Give line ends. A past is a journal with its newest line first; the number of a line is
+-- Lives: what a Take or Cut line begins and a Give line ends. A past is a journal with its newest line first; the number of a line is
 -- how many lines are older.
 use Rattle.std.specs.Prelude.{ℕ, ◌==◌, if◌then◌else◌, List, [], ◌∷◌, length}
 use Rattle.page_bitmap.specs.declared.line.Line.{Line}
-use Rattle.page_bitmap.specs.declared.line.Line.TheVariants.{Take, Miss, Give, Scav}
+use Rattle.page_bitmap.specs.declared.line.Line.TheVariants.{Take, Miss, Give, Scav, Pull, Cut, Drop}
 
--- A life is a Take line, by its number, with its pages and its span class, up to the Give line that ends it.
+-- A life is a Take or Cut line, by its number, with its pages and its span class, up to the Give line that ends it.
 pub record Life : Type 0 where
   pub number : ℕ
   pub cycle : ℕ
@@ -27,6 +27,9 @@ open_lives (Take cycle page pages class ∷ past) = life_of (length past) cycle 
 open_lives (Miss cycle pages class ∷ past) = open_lives past
 open_lives (Give cycle page pages ∷ past) = others page (open_lives past)
 open_lives (Scav cycle page pages ∷ past) = open_lives past
+open_lives (Pull cycle proc page pages ∷ past) = open_lives past
+open_lives (Cut cycle proc page pages class ∷ past) = life_of (length past) cycle page pages class ∷ open_lives past
+open_lives (Drop cycle proc page pages ∷ past) = open_lives past
 
 -- All lives, ended or not, the newest first.
 abbrev pub all_lives : List Line → List Life
@@ -35,3 +38,6 @@ all_lives (Take cycle page pages class ∷ past) = life_of (length past) cycle p
 all_lives (Miss cycle pages class ∷ past) = all_lives past
 all_lives (Give cycle page pages ∷ past) = all_lives past
 all_lives (Scav cycle page pages ∷ past) = all_lives past
+all_lives (Pull cycle proc page pages ∷ past) = all_lives past
+all_lives (Cut cycle proc page pages class ∷ past) = life_of (length past) cycle page pages class ∷ all_lives past
+all_lives (Drop cycle proc page pages ∷ past) = all_lives past

@@ -22,21 +22,33 @@ ghost use Rattle.std.specs.Prelude.{
   OnErr,
   OnOk,
 };
-ghost use Rattle.page_alloc.specs.Heap.{AddsLine, HasMoreRoom};
+ghost use Rattle.std.specs.List.{AllByRecursion};
+ghost use Rattle.page_cache.specs.Cache.{only};
+ghost use Rattle.page_alloc.specs.Heap.{AddsLine, HasMoreRoom, owed};
 ghost use Rattle.page_alloc.specs.Lists.{In};
 ghost use Rattle.page_alloc.specs.Owners.{backed, owner, taken};
 ghost use Rattle.page_alloc.specs.Lives.{Life, open_lives};
+ghost use Rattle.page_alloc.specs.Blocks.{AreOfCycle, HasNoBlock};
+ghost use Rattle.page_alloc.specs.Cuts.{IsCutFrom, Pulls, Settles, behind_cuts, with_firsts, with_lengths};
 ghost use Rattle.page_alloc.specs.FreeRuns.{HasNoRun, IsFirstFit, IsLongestFree, IsLoose, IsSpanSize};
-ghost use Rattle.page_alloc.specs.Journal.{IsBy, past_of, Legal};
+ghost use Rattle.page_alloc.specs.Journal.{AreAllowed, IsBy, LegalFor, past_of};
+ghost use Rattle.page_alloc.specs.Region.{pages_in};
 
 use crate::levels::Levels;
-use crate::runs::{chunk_behind, free_run, scavenge_run, take_run, top_run};
+use crate::runs::{
+    BLOCK_PAGES, chunk_behind, free_block, free_run, free_word, scavenge_run, take_block, take_run,
+    top_run,
+};
 use crate::starts::{last_start, mark_start};
 use fallible_list::NoMemory;
 use page_bitmap::{Bitmap, Chunk, Line, Run};
+use page_cache::{Block, CutNote, PageCache};
 use size_classes::CHUNK_PAGES;
 use std::alloc::Global;
 use std::marker::Model;
+
+/// The lines that a block may need once it is out: 64 cuts, a drop, and a give for each cut.
+const BLOCK_LINES: usize = 129;
 
 /// No run of the wanted pages was free. The Miss line of the journal that says so has this number.
 #[derive(Clone, Copy, Debug, PartialEq, Eq)]
@@ -58,6 +70,8 @@ pub struct Pages {
     journal: Vec<Line>,
     goal: u32,
     live: usize,
+    // So many blocks are out in page caches.
+    out: usize,
     taken: u32,
     backed: u32,
 }
@@ -97,6 +111,7 @@ impl Pages {
             journal: Vec::new(alloc),
             goal,
             live: 0,
+            out: 0,
             taken: 0,
             backed: 0,
         })
@@ -104,10 +119,11 @@ impl Pages {
 
     /// Makes room for lines: two more than there are live spans.
     pub fn reserve_line(&mut self) -> Result<(), NoMemory>
-        ensures ok { OnOk result (length (open_lives self.new.past) + 2 ≤ self.new.spare) }
+        ensures ok { OnOk result (owed self.new.past + 2 ≤ self.new.spare) }
         ensures same { HasMoreRoom self.old self.new }
     {
-        self.journal.reserve(self.live + 2)?;
+        self.journal
+            .reserve(self.live + BLOCK_LINES * self.out + 2)?;
         Ok(())
     }
 
@@ -130,7 +146,8 @@ impl Pages {
     /// (`mheap.go`, `allocSpan`).
     pub fn take(&mut self, cycle: u32, n: u32, class: u8) -> Result<u32, NoRun>
         requires cycle { IsBy cycle self.old.past }
-        requires spare { length (open_lives self.old.past) + 2 ≤ self.old.spare }
+        requires blocks { AreOfCycle cycle self.old.past }
+        requires spare { owed self.old.past + 2 ≤ self.old.spare }
         requires some { 1 ≤ n }
         requires size { (page : ℕ) → IsFirstFit self.old.region self.old.past page n → IsSpanSize class n }
         ensures taken { IfOk result (λ page. AddsLine self.old self.new (Line.Take cycle page n class)) }
@@ -180,6 +197,7 @@ impl Pages {
     /// no memory (`mheap.go`, `freeSpanLocked`).
     pub fn give(&mut self, cycle: u32, page: u32)
         requires cycle { IsBy cycle self.old.past }
+        requires blocks { AreOfCycle cycle self.old.past }
         requires begins { owner self.old.past page ≡ Some page }
         ensures given { (life : Life) × In life (open_lives self.old.past) × (life.page ≡ page) × AddsLine self.old self.new (Line.Give cycle page life.pages) }
     {
@@ -204,7 +222,8 @@ impl Pages {
     /// above the highest one that a give or a step touched since, as Go's index does (`scavengeIndex`).
     pub fn scavenge(&mut self, cycle: u32) -> Option<Run>
         requires cycle { IsBy cycle self.old.past }
-        requires spare { length (open_lives self.old.past) < self.old.spare }
+        requires blocks { AreOfCycle cycle self.old.past }
+        requires spare { owed self.old.past < self.old.spare }
         ensures released { IfSome result (λ run. AddsLine self.old self.new (Line.Scav cycle run.page run.pages)) }
         ensures done { IfNone result ((backed self.old.region self.old.past ≤ self.old.goal) ⊎ ((p : ℕ) → p < self.old.region → ¬ IsLoose self.old.past p)) }
         ensures same { IfNone result (HasMoreRoom self.old self.new) }
@@ -230,7 +249,97 @@ impl Pages {
         Some(run)
     }
 
-    /// The first page of the span that has a page of the region: None exactly where the page is free.
+    /// Makes room for the lines of a block: a Pull, and 129 for what the block may need once it is out, beside those that are owed.
+    pub fn reserve_pull(&mut self) -> Result<(), NoMemory>
+        ensures ok { OnOk result (owed self.new.past + 130 ≤ self.new.spare) }
+        ensures same { HasMoreRoom self.old self.new }
+    {
+        self.journal
+            .reserve(self.live + BLOCK_LINES * self.out + 130)?;
+        Ok(())
+    }
+
+    /// The free pages of the block of 64 pages that has the least free page go to the page cache of a processor, and a Pull line
+    /// says so. None exactly where no page is free. Takes no memory (`mpagecache.go`, `allocToCache`).
+    pub fn pull(&mut self, cycle: u32, proc: u32) -> Option<Block>
+        requires cycle { IsBy cycle self.old.past }
+        requires blocks { AreOfCycle cycle self.old.past }
+        requires spare { owed self.old.past + 130 ≤ self.old.spare }
+        requires none_out { HasNoBlock self.old.past proc }
+        ensures pulled { IfSome result (λ block. Pulls self.old self.new cycle proc block) }
+        ensures none { IfNone result (HasNoRun self.old.region self.old.past 1) }
+        ensures same { IfNone result (self.new ≡ self.old) }
+    {
+        let first = self
+            .levels
+            .find(self.chunks.as_slice(), self.search, 1, &mut 0)?;
+        let page = first / BLOCK_PAGES * BLOCK_PAGES;
+        let free = free_word(self.chunks.as_slice(), page);
+        let block = Block { page, free };
+        self.backed += take_block(self.chunks.as_mut_slice(), page);
+        let index = (page / CHUNK_PAGES) as usize;
+        self.levels.update(self.chunks.as_slice(), index, index);
+        self.search = page + BLOCK_PAGES;
+        let pages = block.count();
+        self.taken += pages;
+        self.out += 1;
+        append(
+            &mut self.journal,
+            Line::Pull {
+                cycle,
+                proc,
+                page,
+                pages,
+            },
+        );
+        Some(block)
+    }
+
+    /// What a processor cut of its block becomes spans, with a Cut line for each in order, and what is left of the block is free
+    /// again, as a Drop line says. The cache is empty then. Takes no memory (`mpagecache.go`, `flush`; that spans are told when the
+    /// block is settled is ours).
+    pub fn settle(&mut self, cycle: u32, cache: &mut PageCache)
+        requires cycle { IsBy cycle self.old.past }
+        requires blocks { AreOfCycle cycle self.old.past }
+        requires cut { IsCutFrom self.old.past cache.old }
+        ensures settled { Settles self.old self.new cycle cache.old }
+        ensures cleared { cache.new ≡ only cache.old.proc None }
+    {
+        let Some(block) = cache.block() else {
+            unreachable!()
+        };
+        let proc = cache.proc();
+        let cuts = cache.cuts();
+        note_cuts(
+            &mut self.journal,
+            self.starts.as_mut_slice(),
+            self.lengths.as_mut_slice(),
+            cycle,
+            proc,
+            cuts,
+        );
+        self.live += cuts.len();
+        free_block(self.chunks.as_mut_slice(), block.page, block.free);
+        let index = (block.page / CHUNK_PAGES) as usize;
+        self.levels.update(self.chunks.as_slice(), index, index);
+        self.search = self.search.min(block.page);
+        self.top = self.top.max(index + 1);
+        let pages = block.count();
+        self.taken -= pages;
+        self.out -= 1;
+        append(
+            &mut self.journal,
+            Line::Drop {
+                cycle,
+                proc,
+                page: block.page,
+                pages,
+            },
+        );
+        cache.clear();
+    }
+
+    /// The first page of the span that has a page of the region: None exactly where no span has it.
     pub fn owner(&self, page: u32) -> Option<u32>
         requires { page < self.now.region }
         ensures { result ≡ owner self.now.past page }
@@ -283,8 +392,8 @@ impl Pages {
     /// The lines of the journal, as they were made.
     pub fn journal(&self) -> &[Line]
         ensures lines { past_of result.now ≡ self.now.past }
-        ensures legal { Legal self.now.region self.now.goal self.now.past }
-        ensures room { length (open_lives self.now.past) ≤ self.now.spare }
+        ensures legal { (procs : ℕ) → AreAllowed procs self.now.past → LegalFor procs self.now.region self.now.goal self.now.past }
+        ensures room { owed self.now.past ≤ self.now.spare }
     {
         self.journal.as_slice()
     }
@@ -308,6 +417,40 @@ fn raised(search: u32, page: u32, n: u32) -> u32
         page + n
     } else {
         search
+    }
+}
+
+/// Writes a Cut line for each cut, and the cuts' first pages and page counts.
+fn note_cuts(
+    journal: &mut Vec<Line>,
+    starts: &mut [Bitmap],
+    lengths: &mut [u32],
+    cycle: u32,
+    proc: u32,
+    cuts: &[CutNote],
+)
+    requires room { vec_len journal.old + length cuts.now ≤ vec_capacity journal.old }
+    requires starts { AllByRecursion (λ (cut : CutNote). cut.page < 512 * length starts.old) cuts.now }
+    requires lengths { AllByRecursion (λ (cut : CutNote). cut.page < length lengths.old) cuts.now }
+    ensures past { past_of journal.new.items ≡ behind_cuts cycle proc cuts.now (past_of journal.old.items) }
+    ensures len { vec_len journal.new ≡ vec_len journal.old + length cuts.now }
+    ensures capacity { vec_capacity journal.old ≤ vec_capacity journal.new }
+    ensures starts { (p : ℕ) → pages_in starts.new p ≡ with_firsts cuts.now (pages_in starts.old) p }
+    ensures lengths { lengths.new ≡ with_lengths cuts.now lengths.old }
+{
+    for cut in cuts {
+        mark_start(starts, cut.page, true);
+        lengths[cut.page as usize] = cut.pages;
+        append(
+            journal,
+            Line::Cut {
+                cycle,
+                proc,
+                page: cut.page,
+                pages: cut.pages,
+                class: cut.class,
+            },
+        );
     }
 }
 

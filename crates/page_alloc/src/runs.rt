@@ -10,6 +10,9 @@ ghost use Rattle.std.specs.Prelude.{
   ◌<◌,
   ◌≤◌,
   false,
+  ◌&&◌,
+  ◌||◌,
+  ◌%◌,
   not,
   true,
   length,
@@ -18,6 +21,8 @@ ghost use Rattle.std.specs.Prelude.{
 };
 ghost use Rattle.page_bitmap.specs.Counts.{count_run};
 ghost use Rattle.page_bitmap.specs.Runs.{SetsRun};
+ghost use Rattle.page_bitmap.specs.Words.{has_bit};
+ghost use Rattle.page_alloc.specs.Owners.{within};
 ghost use Rattle.page_alloc.specs.Region.{
   IsRunIn,
   IsTopRunIn,
@@ -126,4 +131,38 @@ pub(crate) fn scavenge_run(chunks: &mut [Chunk], run: Run)
         page: run.page % CHUNK_PAGES,
         pages: run.pages,
     });
+}
+
+/// The pages of a block.
+pub(crate) const BLOCK_PAGES: u32 = 64;
+
+/// Which pages of the block that begins at this page are free, as the bits of a word.
+pub(crate) fn free_word(chunks: &[Chunk], page: u32) -> u64
+    requires block { page % 64 ≡ 0 }
+    requires inside { page < 512 * length chunks.now }
+    ensures { (k : ℕ) → k < 64 → has_bit result k ≡ free_in chunks.now (page + k) }
+{
+    chunks[(page / CHUNK_PAGES) as usize].free_word(page % CHUNK_PAGES / BLOCK_PAGES)
+}
+
+/// Takes the free pages of the block that begins at this page, and says how many of them were scavenged.
+pub(crate) fn take_block(chunks: &mut [Chunk], page: u32) -> u32
+    requires block { page % 64 ≡ 0 }
+    requires inside { page < 512 * length chunks.old }
+    ensures free { (p : ℕ) → free_in chunks.new p ≡ (free_in chunks.old p && not (within p page 64)) }
+    ensures scavenged { (p : ℕ) →
+        scavenged_in chunks.new p ≡ (scavenged_in chunks.old p && not (within p page 64 && free_in chunks.old p)) }
+    ensures count { result ≡ count_run page 64 (λ p. free_in chunks.old p && scavenged_in chunks.old p) }
+{
+    chunks[(page / CHUNK_PAGES) as usize].take_block(page % CHUNK_PAGES / BLOCK_PAGES)
+}
+
+/// Frees those pages of the block that begins at this page whose bits are 1.
+pub(crate) fn free_block(chunks: &mut [Chunk], page: u32, pages: u64)
+    requires block { page % 64 ≡ 0 }
+    requires inside { page < 512 * length chunks.old }
+    ensures free { (p : ℕ) → free_in chunks.new p ≡ (free_in chunks.old p || (within p page 64 && has_bit pages (p % 64))) }
+    ensures scavenged { (p : ℕ) → scavenged_in chunks.new p ≡ scavenged_in chunks.old p }
+{
+    chunks[(page / CHUNK_PAGES) as usize].free_block(page % CHUNK_PAGES / BLOCK_PAGES, pages);
 }

@@ -1,9 +1,25 @@
 //! A map of the 512 pages of a chunk, in eight words of 64 bits.
 
-ghost use Rattle.std.specs.Prelude.{◌≡◌, ℕ, ◌+◌, ◌-◌, ◌<◌, ◌≤◌, true, false, not, ◌&&◌, IfSome, IfNone};
+ghost use Rattle.std.specs.Prelude.{
+  ◌≡◌,
+  ◌≢◌,
+  ℕ,
+  ◌+◌,
+  ◌-◌,
+  ◌/◌,
+  ◌%◌,
+  ◌<◌,
+  ◌≤◌,
+  true,
+  false,
+  not,
+  ◌&&◌,
+  IfSome,
+  IfNone,
+};
 ghost use Rattle.page_bitmap.specs.Counts.{count_run};
 ghost use Rattle.page_bitmap.specs.Runs.{IsEmpty, IsRun, SetsRun};
-ghost use Rattle.page_bitmap.specs.Words.{has_page};
+ghost use Rattle.page_bitmap.specs.Words.{has_bit, has_page, IsWordOf};
 
 use crate::word::{highest_one, span, with_span};
 
@@ -100,5 +116,22 @@ impl Bitmap {
             count += (self.words[i as usize] & mask).count_ones();
         }
         count
+    }
+
+    /// The 64 pages from `64 * index` on as the bits of a word (`mpallocbits.go`, `block64`).
+    pub fn word(&self, index: u32) -> u64
+        requires { index < 8 }
+        ensures { IsWordOf (has_page self.now.words) index result }
+    {
+        self.words[index as usize]
+    }
+
+    /// Puts each of the 64 pages from `64 * index` on in or out of the map, as the word's bits say.
+    pub fn set_word(&mut self, index: u32, word: u64)
+        requires { index < 8 }
+        ensures inside { (p : ℕ) → p / 64 ≡ index → has_page self.new.words p ≡ has_bit word (p % 64) }
+        ensures others { (p : ℕ) → p / 64 ≢ index → has_page self.new.words p ≡ has_page self.old.words p }
+    {
+        self.words[index as usize] = word;
     }
 }

@@ -1,6 +1,21 @@
 //! The pages of a chunk.
 
-ghost use Rattle.std.specs.Prelude.{◌≡◌, ◌+◌, ◌≤◌, true, false, IfSome, IfNone};
+ghost use Rattle.std.specs.Prelude.{
+  ◌≡◌,
+  ℕ,
+  ◌+◌,
+  ◌*◌,
+  ◌%◌,
+  ◌<◌,
+  ◌≤◌,
+  ◌&&◌,
+  ◌||◌,
+  not,
+  true,
+  false,
+  IfSome,
+  IfNone,
+};
 ghost use Rattle.page_bitmap.specs.Counts.{count_run};
 ghost use Rattle.page_bitmap.specs.Runs.{
   HasNoRun,
@@ -14,6 +29,7 @@ ghost use Rattle.page_bitmap.specs.Runs.{
   SetsRun,
 };
 ghost use Rattle.page_bitmap.specs.Pages.{can_scavenge, is_free, is_scavenged, is_taken};
+ghost use Rattle.page_bitmap.specs.Words.{has_bit, in_word, IsWordOf};
 
 use crate::bitmap::Bitmap;
 use crate::line::Run;
@@ -104,6 +120,40 @@ impl Chunk {
         ensures free { is_free self.new ≡ is_free self.old }
     {
         self.scavenged_pages.set_run(run.page, run.pages, true);
+    }
+
+    /// Which of the 64 pages from `64 * block` on are free, as the bits of a word (`mpallocbits.go`, `pages64`).
+    pub fn free_word(&self, block: u32) -> u64
+        requires { block < 8 }
+        ensures { IsWordOf (is_free self.now) block result }
+    {
+        self.free_pages.word(block)
+    }
+
+    /// Takes each of the 64 pages from `64 * block` on that is free, and says how many of them were scavenged, which they are no
+    /// longer (`mpagecache.go`, `allocToCache`).
+    pub fn take_block(&mut self, block: u32) -> u32
+        requires { block < 8 }
+        ensures free { (p : ℕ) → is_free self.new p ≡ (is_free self.old p && not (in_word block p)) }
+        ensures scavenged { (p : ℕ) →
+            is_scavenged self.new p ≡ (is_scavenged self.old p && not (in_word block p && is_free self.old p)) }
+        ensures count { result ≡ count_run (64 * block) 64 (λ p. is_free self.old p && is_scavenged self.old p) }
+    {
+        let free = self.free_pages.word(block);
+        let scavenged = self.scavenged_pages.word(block);
+        self.free_pages.set_word(block, 0);
+        self.scavenged_pages.set_word(block, scavenged & !free);
+        (free & scavenged).count_ones()
+    }
+
+    /// Frees those of the 64 pages from `64 * block` on whose bits are 1. What is scavenged stays as it is (`mpagecache.go`, `flush`).
+    pub fn free_block(&mut self, block: u32, pages: u64)
+        requires { block < 8 }
+        ensures free { (p : ℕ) → is_free self.new p ≡ (is_free self.old p || (in_word block p && has_bit pages (p % 64))) }
+        ensures scavenged { is_scavenged self.new ≡ is_scavenged self.old }
+    {
+        self.free_pages
+            .set_word(block, self.free_pages.word(block) | pages);
     }
 
     /// The number of pages of the free run at the front of the chunk, of its longest free run, and of the

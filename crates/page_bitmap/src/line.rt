@@ -38,4 +38,28 @@ pub enum Line {
         page: u32,
         pages: u32,
     },
+    /// The free pages of a block of 64 pages went to the page cache of a processor: `page` is the block's first page, and so
+    /// many of its pages were free.
+    Pull {
+        cycle: u32,
+        proc: u32,
+        page: u32,
+        pages: u32,
+    },
+    /// The pages from `page` on left the page cache of this processor and became a span of this span class.
+    Cut {
+        cycle: u32,
+        proc: u32,
+        page: u32,
+        pages: u32,
+        class: u8,
+    },
+    /// What was left in the page cache of this processor went back: so many pages of the block that begins at `page`,
+    /// maybe none.
+    Drop {
+        cycle: u32,
+        proc: u32,
+        page: u32,
+        pages: u32,
+    },
 }

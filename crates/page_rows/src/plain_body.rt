@@ -1,7 +1,8 @@
 //! Random takes, gives and scavenging steps on three chunks, against a body that goes page by page.
 
-ghost use Rattle.std.specs.Prelude.{◌≡◌, ◌<◌, ◌≤◌};
+ghost use Rattle.std.specs.Prelude.{[], ◌≡◌, ◌<◌, ◌≤◌};
 ghost use Rattle.page_alloc.specs.FreeRuns.{IsSpanSize};
+ghost use Rattle.page_alloc.specs.Blocks.{open_blocks};
 ghost use Rattle.page_alloc.specs.Journal.{IsBy};
 
 use page_alloc::Pages;
@@ -13,14 +14,14 @@ use std::process::Abort;
 use std::test::Fail;
 
 /// The pages of three chunks.
-const PAGES: u32 = 1536;
+pub(crate) const PAGES: u32 = 1536;
 
 /// The goal for backed pages.
-const GOAL: u32 = 700;
+pub(crate) const GOAL: u32 = 700;
 
 /// The pages and the span class of the span that a random word asks for: one of the small classes, or one
 /// time in sixteen a large span of 5 to 68 pages.
-fn size_of(word: u32) -> (u32, u8)
+pub(crate) fn size_of(word: u32) -> (u32, u8)
     ensures some { 1 ≤ result.0 }
     ensures size { IsSpanSize result.1 result.0 }
 {
@@ -33,7 +34,7 @@ fn size_of(word: u32) -> (u32, u8)
 }
 
 /// The first page from which `n` pages are free, with the length of the longest free run.
-fn search(owners: &[Option<u32>], n: u32) -> (Option<u32>, u32) {
+pub(crate) fn search(owners: &[Option<u32>], n: u32) -> (Option<u32>, u32) {
     let mut first = None;
     let mut longest = 0u32;
     let mut run = 0u32;
@@ -54,7 +55,7 @@ fn search(owners: &[Option<u32>], n: u32) -> (Option<u32>, u32) {
 }
 
 /// The run of a scavenging step, and the number of backed pages.
-fn loose(owners: &[Option<u32>], backed: &[bool]) -> (Option<Run>, u32) {
+pub(crate) fn loose(owners: &[Option<u32>], backed: &[bool]) -> (Option<Run>, u32) {
     let mut top: Option<Run> = None;
     let mut count = 0u32;
     let mut page = 0u32;
@@ -91,7 +92,7 @@ fn last_pages(run: Run) -> Run {
 }
 
 /// Writes a value for each page of a run.
-fn fill<T: Copy>(items: &mut [T], run: Run, value: T) {
+pub(crate) fn fill<T: Copy>(items: &mut [T], run: Run, value: T) {
     for item in items
         .iter_mut()
         .skip(run.page as usize)
@@ -113,7 +114,7 @@ fn count(owners: &[Option<u32>], first: u32) -> u32 {
 }
 
 /// A take of a random size, and the same of the plain body.
-fn take_some(
+pub(crate) fn take_some(
     rt: &impl Abort,
     pages: &mut Pages,
     owners: &mut [Option<u32>],
@@ -121,8 +122,10 @@ fn take_some(
     word: u32,
 ) -> Result<(), Fail>
     requires by { IsBy 0 pages.old.past }
+    requires blocks { open_blocks pages.old.past ≡ [] }
     requires region { pages.old.region ≡ 1536 }
     ensures by { IsBy 0 pages.new.past }
+    ensures blocks { open_blocks pages.new.past ≡ [] }
     ensures region { pages.new.region ≡ 1536 }
 {
     pages.reserve_line()?;
@@ -138,16 +141,18 @@ fn take_some(
 }
 
 /// A give of the span that has a page, and the same of the plain body.
-fn give_one(
+pub(crate) fn give_one(
     rt: &impl Abort,
     pages: &mut Pages,
     owners: &mut [Option<u32>],
     page: u32,
 ) -> Result<(), Fail>
     requires by { IsBy 0 pages.old.past }
+    requires blocks { open_blocks pages.old.past ≡ [] }
     requires region { pages.old.region ≡ 1536 }
     requires page { page < 1536 }
     ensures by { IsBy 0 pages.new.past }
+    ensures blocks { open_blocks pages.new.past ≡ [] }
     ensures region { pages.new.region ≡ 1536 }
 {
     pages.reserve_line()?;
@@ -180,8 +185,10 @@ fn step(
     word: u32,
 ) -> Result<(), Fail>
     requires by { IsBy 0 pages.old.past }
+    requires blocks { open_blocks pages.old.past ≡ [] }
     requires region { pages.old.region ≡ 1536 }
     ensures by { IsBy 0 pages.new.past }
+    ensures blocks { open_blocks pages.new.past ≡ [] }
     ensures region { pages.new.region ≡ 1536 }
 {
     match word % 8 {

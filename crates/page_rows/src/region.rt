@@ -1,7 +1,8 @@
 //! What the calls answer over one, two, three and 128 chunks.
 
-ghost use Rattle.std.specs.Prelude.{◌≡◌, ◌*◌, ◌<◌, ◌≤◌, IsTrue};
+ghost use Rattle.std.specs.Prelude.{[], ◌≡◌, ◌*◌, ◌<◌, ◌≤◌, IsTrue};
 ghost use Rattle.page_alloc.specs.FreeRuns.{IsSpanSize};
+ghost use Rattle.page_alloc.specs.Blocks.{open_blocks};
 ghost use Rattle.page_alloc.specs.Journal.{IsBy};
 
 use page_alloc::{NoRun, Pages};
@@ -39,7 +40,9 @@ fn is_span_size(n: u32, class: u8) -> bool
 
 fn take(pages: &mut Pages, n: u32, class: u8) -> Result<Option<u32>, Fail>
     requires by { IsBy 0 pages.old.past }
+    requires blocks { open_blocks pages.old.past ≡ [] }
     ensures by { IsBy 0 pages.new.past }
+    ensures blocks { open_blocks pages.new.past ≡ [] }
     ensures region { pages.new.region ≡ pages.old.region }
 {
     if n == 0 || !is_span_size(n, class) {
@@ -51,8 +54,10 @@ fn take(pages: &mut Pages, n: u32, class: u8) -> Result<Option<u32>, Fail>
 
 fn give(pages: &mut Pages, page: u32) -> Result<(), Fail>
     requires by { IsBy 0 pages.old.past }
+    requires blocks { open_blocks pages.old.past ≡ [] }
     requires inside { page < pages.old.region }
     ensures by { IsBy 0 pages.new.past }
+    ensures blocks { open_blocks pages.new.past ≡ [] }
     ensures region { pages.new.region ≡ pages.old.region }
 {
     if pages.owner(page) != Some(page) {
@@ -64,7 +69,9 @@ fn give(pages: &mut Pages, page: u32) -> Result<(), Fail>
 
 fn scavenge(pages: &mut Pages) -> Result<Option<Run>, Fail>
     requires by { IsBy 0 pages.old.past }
+    requires blocks { open_blocks pages.old.past ≡ [] }
     ensures by { IsBy 0 pages.new.past }
+    ensures blocks { open_blocks pages.new.past ≡ [] }
     ensures region { pages.new.region ≡ pages.old.region }
 {
     pages.reserve_line()?;
@@ -73,9 +80,11 @@ fn scavenge(pages: &mut Pages) -> Result<Option<Run>, Fail>
 
 fn answer(rt: &impl Abort, pages: &mut Pages, chunks: u32, step: Step) -> Result<(), Fail>
     requires by { IsBy 0 pages.old.past }
+    requires blocks { open_blocks pages.old.past ≡ [] }
     requires region { pages.old.region ≡ 512 * chunks }
     requires few { chunks ≤ 128 }
     ensures by { IsBy 0 pages.new.past }
+    ensures blocks { open_blocks pages.new.past ≡ [] }
     ensures region { pages.new.region ≡ 512 * chunks }
 {
     match step {

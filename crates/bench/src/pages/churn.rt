@@ -1,6 +1,7 @@
 //! What is timed.
 
-ghost use Rattle.std.specs.Prelude.{◌≡◌, IfOk};
+ghost use Rattle.std.specs.Prelude.{[], ◌≡◌, IfOk};
+ghost use Rattle.page_alloc.specs.Blocks.{open_blocks};
 ghost use Rattle.page_alloc.specs.Journal.{IsBy};
 
 use crate::pages::steps::{give, size_of, take, take_one};
@@ -26,6 +27,7 @@ fn churned(
     words: &mut Pcg32,
 ) -> Result<(Pages, u64), NoMemory>
     ensures by { IfOk result (λ done. IsBy 0 done.0.past) }
+    ensures blocks { IfOk result (λ done. open_blocks done.0.past ≡ []) }
     ensures region { IfOk result (λ done. done.0.region ≡ 65536) }
 {
     let mut pages = Pages::new(alloc, CHUNKS, PAGES)?;

@@ -1,6 +1,7 @@
 //! Scavenging steps over a whole region.
 
-ghost use Rattle.std.specs.Prelude.{◌≡◌, ◌≤◌};
+ghost use Rattle.std.specs.Prelude.{[], ◌≡◌, ◌≤◌};
+ghost use Rattle.page_alloc.specs.Blocks.{open_blocks};
 ghost use Rattle.page_alloc.specs.Journal.{IsBy};
 
 use crate::pages::steps::give;
@@ -15,8 +16,10 @@ const PAGES: u32 = 512 * CHUNKS;
 /// Takes all pages as one span, and gives them back.
 fn refill(pages: &mut Pages, live: &mut Vec<u32>) -> Result<(), NoMemory>
     requires by { IsBy 0 pages.old.past }
+    requires blocks { open_blocks pages.old.past ≡ [] }
     requires region { 65536 ≤ pages.old.region }
     ensures by { IsBy 0 pages.new.past }
+    ensures blocks { open_blocks pages.new.past ≡ [] }
     ensures region { pages.new.region ≡ pages.old.region }
 {
     pages.reserve_line()?;
@@ -31,7 +34,9 @@ fn refill(pages: &mut Pages, live: &mut Vec<u32>) -> Result<(), NoMemory>
 /// Makes scavenging steps until one releases nothing, and counts the runs.
 fn release(pages: &mut Pages) -> Result<u64, NoMemory>
     requires by { IsBy 0 pages.old.past }
+    requires blocks { open_blocks pages.old.past ≡ [] }
     ensures by { IsBy 0 pages.new.past }
+    ensures blocks { open_blocks pages.new.past ≡ [] }
     ensures region { pages.new.region ≡ pages.old.region }
 {
     for run in 0..u64::from(PAGES) {

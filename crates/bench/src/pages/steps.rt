@@ -1,7 +1,8 @@
 //! Takes and gives of mixed sizes.
 
-ghost use Rattle.std.specs.Prelude.{◌≡◌, ◌≤◌, ◌<◌};
+ghost use Rattle.std.specs.Prelude.{[], ◌≡◌, ◌≤◌, ◌<◌};
 ghost use Rattle.page_alloc.specs.FreeRuns.{IsSpanSize};
+ghost use Rattle.page_alloc.specs.Blocks.{open_blocks};
 ghost use Rattle.page_alloc.specs.Journal.{IsBy};
 
 use fallible_list::NoMemory;
@@ -25,7 +26,9 @@ pub fn size_of(word: u32) -> (u32, u8)
 /// Takes a span of a random size, and notes its first page: None where no run was free.
 pub fn take(pages: &mut Pages, live: &mut Vec<u32>, word: u32) -> Result<Option<u32>, NoMemory>
     requires by { IsBy 0 pages.old.past }
+    requires blocks { open_blocks pages.old.past ≡ [] }
     ensures by { IsBy 0 pages.new.past }
+    ensures blocks { open_blocks pages.new.past ≡ [] }
     ensures region { pages.new.region ≡ pages.old.region }
 {
     let (n, class) = size_of(word);
@@ -35,7 +38,9 @@ pub fn take(pages: &mut Pages, live: &mut Vec<u32>, word: u32) -> Result<Option<
 /// Takes a span of one page, and notes its first page: None where no page was free.
 pub fn take_one(pages: &mut Pages, live: &mut Vec<u32>) -> Result<Option<u32>, NoMemory>
     requires by { IsBy 0 pages.old.past }
+    requires blocks { open_blocks pages.old.past ≡ [] }
     ensures by { IsBy 0 pages.new.past }
+    ensures blocks { open_blocks pages.new.past ≡ [] }
     ensures region { pages.new.region ≡ pages.old.region }
 {
     take_sized(pages, live, span_pages(1), 2)
@@ -48,9 +53,11 @@ fn take_sized(
     class: u8,
 ) -> Result<Option<u32>, NoMemory>
     requires by { IsBy 0 pages.old.past }
+    requires blocks { open_blocks pages.old.past ≡ [] }
     requires some { 1 ≤ n }
     requires size { IsSpanSize class n }
     ensures by { IsBy 0 pages.new.past }
+    ensures blocks { open_blocks pages.new.past ≡ [] }
     ensures region { pages.new.region ≡ pages.old.region }
 {
     pages.reserve_line()?;
@@ -67,8 +74,10 @@ fn take_sized(
 /// Gives back a random one of the spans that were noted: None where none is left.
 pub fn give(pages: &mut Pages, live: &mut Vec<u32>, word: u32) -> Option<u32>
     requires by { IsBy 0 pages.old.past }
+    requires blocks { open_blocks pages.old.past ≡ [] }
     requires region { 65536 ≤ pages.old.region }
     ensures by { IsBy 0 pages.new.past }
+    ensures blocks { open_blocks pages.new.past ≡ [] }
     ensures region { pages.new.region ≡ pages.old.region }
 {
     if live.is_empty() {

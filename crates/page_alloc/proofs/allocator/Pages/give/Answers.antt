@@ -1,7 +1,7 @@
 use Rattle.std.proofs.Common.{◌≡◌, ◌<◌, true, length, refl, ◌∙◌, sym, ap, arith}
 use Rattle.std.proofs.lemmas.List.{get_or_read, with_items_is}
 use Rattle.page_alloc.proofs.Keeping.{given, kept-give}
-use Rattle.page_alloc.proofs.Adding.{adds-line, sound-after, owner-view, by-view}
+use Rattle.page_alloc.proofs.Adding.{adds-line, sound-after, owner-view, by-view, keeps-view}
 use Rattle.page_alloc.proofs.Sums.{right-but}
 use Rattle.page_alloc.proofs.Tops.{give-loose}
 use Rattle.page_alloc.specs.Region.{free_in, scavenged_in}
@@ -115,6 +115,7 @@ invariant_of-self c =
     let life = given sound.kept (owner-view c.self.inside c.args.self.now c.args.page c.args.page c.self.view_is c.requires.begins) in
     let lives = life.1.lives in
     let room = sound.room in
+    let out = sound.blocks in
     let append = c.append.ensures in
     let lt : c.args.page < length c.self.inside.lengths.items = (let i = life.1.run.inside in let s = life.1.some in let n = c.self.invariant.numbers in omega arith) in
     let read : c.index-pages.result.now ≡ life.0.pages = get_or_read c.self.inside.lengths.items _ _ lt c.index-pages.ensures 0 ∙ life.1.pages in
@@ -123,9 +124,9 @@ invariant_of-self c =
     let with_chunks : c.as_slice.result.now ≡ c.free_run.new.chunks = c.as_slice.ensures.value ∙ with_items_is c.self.inside.chunks c.free_run.new.chunks (chunks ∙ sym c.self.inside.chunks.ok.0) in
     sound-after c.self.inside _ c.free_run.new.chunks c.mark_start.new.starts c.self.inside.lengths.items _ sound
     (with_items_is c.self.inside.chunks c.free_run.new.chunks (chunks ∙ sym c.self.inside.chunks.ok.0)) (with_items_is c.self.inside.starts c.mark_start.new.starts (maps ∙ sym c.self.inside.starts.ok.0)) refl chunks maps refl append.past
-    (kept-give _ _ _ c.args.cycle c.args.page c.index-pages.result.now life.0 sound.kept (by-view c.self.inside c.args.self.now c.args.cycle c.self.view_is c.requires.cycle) life.1.here life.1.first (sym read)
+    (kept-give _ _ _ c.args.cycle c.args.page c.index-pages.result.now life.0 sound.kept (by-view c.self.inside c.args.self.now c.args.cycle c.self.view_is c.requires.cycle) (keeps-view c.self.inside c.args.self.now _ c.args.cycle c.self.view_is refl c.requires.blocks sound) life.1.here life.1.first (sym read)
     (rw c.as_mut_slice.ensures.value at c.free_run.ensures.free) (rw c.as_mut_slice.ensures.value at c.free_run.ensures.scavenged) (rw c.as_mut_slice-2.ensures.value at c.mark_start.ensures))
-    (omega arith) (rw with_chunks at c.update.ensures)
+    sound.blocks (λ next. tt) (omega arith) (rw with_chunks at c.update.ensures)
     (λ p lt. (rw c.as_mut_slice.ensures.value at c.free_run.ensures.free).below p (omega arith) ∙ sound.below_search p (omega arith))
     (let within = sound.top_within in let inside = life.1.run.inside in let some = life.1.some in let least = c.chunk_behind.ensures.least in let most = c.max-self-inside.ensures in omega arith)
     (λ p le. give-loose (free_in c.self.inside.chunks.items) (free_in c.free_run.new.chunks) (scavenged_in c.self.inside.chunks.items) (scavenged_in c.free_run.new.chunks) c.args.page c.index-pages.result.now p
@@ -141,5 +142,5 @@ returns c =
     let same = with_items_is c.self.inside.chunks c.free_run.new.chunks (chunks ∙ sym c.self.inside.chunks.ok.0) in
     let sound = invariant_of-self c in
     record {
-      given = rw (← c.self.view_is) (life.0, life.1.here, life.1.first, rw (← read) (adds-line c.self.inside _ _ _ refl sound (ap length same ∙ chunks) refl c.append.ensures.past c.append.ensures.len c.append.ensures.capacity));
+      given = rw (← c.self.view_is) (life.0, life.1.here, life.1.first, rw (← read) (adds-line c.self.inside _ _ _ refl (λ procs. tt) sound (ap length same ∙ chunks) refl c.append.ensures.past c.append.ensures.len c.append.ensures.capacity));
     }

@@ -1,4 +1,4 @@
-use Rattle.std.proofs.Common.{◌≡◌, ℕ, ◌*◌, ◌<◌, true, false, get_or, ◌∙◌, ap, arith, inl, inr}
+use Rattle.std.proofs.Common.{◌≡◌, ℕ, ◌*◌, ◌<◌, true, false, get_or, refl, ◌∙◌, ap, arith, inl, inr}
 use Rattle.std.proofs.lemmas.Bool.{cases_lt}
 use Rattle.std.proofs.lemmas.List.{get_or-replicate}
 use Rattle.page_bitmap.specs.declared.bitmap.Bitmap.{Bitmap}
@@ -44,5 +44,7 @@ invariant_of-result c =
         | inl low ↦ new-loose (free_in c.in_ok-chunks.chunks.items) (scavenged_in c.in_ok-chunks.chunks.items) p (scavenged p (omega arith))
         | inr high ↦ out-loose (free_in c.in_ok-chunks.chunks.items) (scavenged_in c.in_ok-chunks.chunks.items) p (over-past is_free c.in_ok-chunks.chunks.items p (omega arith))
       ];
+      blocks = rw c.new-3.ensures.items refl;
+      whole = λ line. rw c.new-3.ensures.items tt;
       room = omega arith;
     }
