@@ -1,62 +1,86 @@
--- How calls of a ring are counted.
-use Rattle.std.proofs.Common.{◌≡◌, ℕ, ◌+◌, ◌<◌, ◌≤◌, Bool, true, false, ◌&&◌, List, [], ◌∷◌, ◌++◌, refl, sym, ◌∙◌, arith, inl, inr}
-use Rattle.std.proofs.Math.Dec.{leb, eqb}
-use Rattle.std.proofs.lemmas.Bool.{cases_eq, le-leb, lt-leb, eq-eqb, ne_eqb}
+-- How calls of a ring are counted: laws over lists of calls alone.
+use Rattle.std.proofs.Common.{◌≡◌, ℕ, ◌+◌, ◌≤◌, Bool, true, false, ◌&&◌, not, List, [], ◌∷◌, ◌++◌, refl, sym, ◌∙◌, arith, inl, inr, if◌then◌else◌}
+use Rattle.std.proofs.Math.Dec.{leb}
+use Rattle.std.proofs.lemmas.Bool.{cases_lt, le-leb, lt-leb}
 use Rattle.profile_cycle.specs.declared.calls.What.{What}
 use Rattle.profile_cycle.specs.declared.calls.What.TheVariants.{Allocated, Freed, NextCycle, AfterSweep}
 use Rattle.profile_cycle.specs.declared.calls.Call.{Call}
-use Rattle.profile_cycle.specs.History.{allocates, frees, publishes, count, one_if, cycles_in, cycle_after, published_by, AreDated}
-use Rattle.profile_cycle.specs.Kept.{AreBy, AreCounting, all_allocs, all_frees, allocs_in}
+use Rattle.profile_cycle.specs.History.{publishes, count, one_if, cycles_in, cycle_after, published_by, AreDated}
+use Rattle.profile_cycle.specs.Kept.{AreBy, AreCounting}
 
 -- ---- one call
 
--- an allocation of a cycle by k leads by two cycles to the bound k + 1, or is of cycle k
-one-alloc : (t : Bool) (c k : ℕ) → c ≤ k → one_if (t && leb (c + 2) (k + 1)) + one_if (t && eqb c k) ≡ one_if (t)
-one-alloc false c k le = refl
-one-alloc true c k le = elim (cases_eq c k) [
-  | inl same ↦ (let a = lt-leb (c + 2) (k + 1) (omega arith) in let b = eq-eqb c k same in rw (a, b) refl)
-  | inr other ↦ (let a = le-leb (c + 2) (k + 1) (omega arith) in let b = ne_eqb c k other in rw (a, b) refl)
+-- a bound that is raised lets more calls pass
+one-more : (t : Bool) (c m n : ℕ) → m ≤ n → one_if (t && leb c m) ≤ one_if (t && leb c n)
+one-more false c m n le = omega arith
+one-more true c m n le = elim (cases_lt m c) [
+  | inl beyond ↦ (let a = lt-leb c m beyond in rw a (omega arith))
+  | inr within ↦ (let a = le-leb c m within in let b = le-leb c n (omega arith) in rw (a, b) (omega arith))
 ]
 
--- a free of a cycle by k leads by one
-one-free : (t : Bool) (c k : ℕ) → c ≤ k → one_if (t && leb (c + 1) (k + 1)) ≡ one_if (t)
-one-free false c k le = refl
-one-free true c k le = let a = le-leb (c + 1) (k + 1) (omega arith) in rw a refl
+one-all : (t : Bool) (c n : ℕ) → c ≤ n → one_if (t && leb c n) ≡ one_if t
+one-all false c n le = refl
+one-all true c n le = let a = le-leb c n le in rw a refl
 
-one-later : (t : Bool) (c k : ℕ) → c < k → one_if (t && eqb c k) ≡ 0
-one-later false c k lt = refl
-one-later true c k lt = let a = ne_eqb c k (λ e. omega arith) in rw a refl
+one-none : (t : Bool) (c n : ℕ) → c ≤ n → one_if (t && not (leb c n)) ≡ 0
+one-none false c n le = refl
+one-none true c n le = let a = le-leb c n le in rw a refl
+
+one-split : (t p : Bool) → one_if (t && p) + one_if (t && not p) ≡ one_if t
+one-split false p = refl
+one-split true true = refl
+one-split true false = refl
 
 -- ---- all calls
 
-pub allocs-split : (b k : ℕ) (calls : List Call) → AreBy k calls
-    → count (λ d. allocates b d.what && leb (d.cycle + 2) (k + 1)) calls + allocs_in k b calls ≡ all_allocs b calls
-allocs-split b k [] by = refl
-allocs-split b k (c ∷ older) by =
-    let rest = allocs-split b k older by.1 in
-    let one = one-alloc (allocates b c.what) c.cycle k by.0 in
-    omega arith
-
-pub frees-all : (b k : ℕ) (calls : List Call) → AreBy k calls → count (λ d. frees b d.what && leb (d.cycle + 1) (k + 1)) calls ≡ all_frees b calls
-frees-all b k [] by = refl
-frees-all b k (c ∷ older) by =
-    let rest = frees-all b k older by.1 in
-    let one = one-free (frees b c.what) c.cycle k by.0 in
-    omega arith
-
-pub allocs-later : (b k m : ℕ) (calls : List Call) → k < m → AreBy k calls → allocs_in m b calls ≡ 0
-allocs-later b k m [] lt by = refl
-allocs-later b k m (c ∷ older) lt by =
-    let rest = allocs-later b k m older lt by.1 in
-    let le = by.0 in
-    let one = one-later (allocates b c.what) c.cycle m (omega arith) in
+pub count-more : (test : What → Bool) (lead m n : ℕ) (calls : List Call) → m ≤ n → count (λ d. test d.what && leb (d.cycle + lead) m) calls ≤ count (λ d. test d.what && leb (d.cycle + lead) n) calls
+count-more test lead m n [] le = omega arith
+count-more test lead m n (c ∷ older) le =
+    let rest = count-more test lead m n older le in
+    let one = one-more (test c.what) (c.cycle + lead) m n le in
     omega arith
 
 pub count-append : (test : Call → Bool) (xs ys : List Call) → count test (xs ++ ys) ≡ count test xs + count test ys
 count-append test [] ys = omega arith
 count-append test (c ∷ xs) ys = let rest = count-append test xs ys in omega arith
 
--- ---- calls that count alone
+-- what is ripe, and what is not, is all
+pub count-split : (test : What → Bool) (lead m : ℕ) (calls : List Call)
+    → count (λ d. test d.what && leb (d.cycle + lead) m) calls + count (λ d. test d.what && not (leb (d.cycle + lead) m)) calls ≡ count (λ d. test d.what) calls
+count-split test lead m [] = refl
+count-split test lead m (c ∷ older) =
+    let rest = count-split test lead m older in
+    let one = one-split (test c.what) (leb (c.cycle + lead) m) in
+    omega arith
+
+-- calls by a cycle k lead to k + 2 at most
+pub count-all : (test : What → Bool) (lead k : ℕ) (calls : List Call) → lead ≤ 2 → AreBy k calls → count (λ d. test d.what && leb (d.cycle + lead) (k + 1 + 1)) calls ≡ count (λ d. test d.what) calls
+count-all test lead k [] le by = refl
+count-all test lead k (c ∷ older) le by =
+    let rest = count-all test lead k older le by.1 in
+    let here = by.0 in
+    let one = one-all (test c.what) (c.cycle + lead) (k + 1 + 1) (omega arith) in
+    omega arith
+
+pub count-none : (test : What → Bool) (lead k : ℕ) (calls : List Call) → lead ≤ 2 → AreBy k calls → count (λ d. test d.what && not (leb (d.cycle + lead) (k + 1 + 1))) calls ≡ 0
+count-none test lead k [] le by = refl
+count-none test lead k (c ∷ older) le by =
+    let rest = count-none test lead k older le by.1 in
+    let here = by.0 in
+    let one = one-none (test c.what) (c.cycle + lead) (k + 1 + 1) (omega arith) in
+    omega arith
+
+-- ---- what is published
+
+-- all that is published is ripe
+pub published-ripe : (test : What → Bool) (lead k : ℕ) (calls : List Call) → AreBy k calls → published_by test lead calls ≤ count (λ d. test d.what && leb (d.cycle + lead) (k + 1)) calls
+published-ripe test lead k [] by = omega arith
+published-ripe test lead k (c ∷ older) by = by-kind (publishes c.what) (published-ripe test lead k older by.1)
+  where
+    by-kind : (p : Bool) → published_by test lead older ≤ count (λ d. test d.what && leb (d.cycle + lead) (k + 1)) older → (if p then count (λ d. test d.what && leb (d.cycle + lead) (c.cycle + 1)) older else published_by test lead older)
+        ≤ one_if (test c.what && leb (c.cycle + lead) (k + 1)) + count (λ d. test d.what && leb (d.cycle + lead) (k + 1)) older
+    by-kind true less = let here = by.0 in let more = count-more test lead (c.cycle + 1) (k + 1) older (omega arith) in omega arith
+    by-kind false less = omega arith
 
 pub published-append : (test : What → Bool) (lead k : ℕ) (xs ys : List Call) → AreCounting k xs → published_by test lead (xs ++ ys) ≡ published_by test lead ys
 published-append test lead k [] ys are = refl
@@ -65,6 +89,8 @@ published-append test lead k (c ∷ xs) ys are = let off = are.0 in rw off (publ
 pub published-none : (test : What → Bool) (lead k : ℕ) (xs : List Call) → AreCounting k xs → published_by test lead xs ≡ 0
 published-none test lead k [] are = refl
 published-none test lead k (c ∷ xs) are = let off = are.0 in rw off (published-none test lead k xs are.2)
+
+-- ---- cycles of calls
 
 pub by-append : (k : ℕ) (xs ys : List Call) → AreBy k xs → AreBy k ys → AreBy k (xs ++ ys)
 by-append k [] ys a b = b

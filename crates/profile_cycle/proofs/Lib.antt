@@ -1,6 +1,11 @@
-mod Moved
-mod Counted
-mod Publishing
-mod Keeping
 mod Named
 mod Numbered
+mod Listing
+mod Counted
+mod Parts
+mod Totals
+mod Seats
+mod Allowed
+mod Going
+mod Handing
+mod Calling

@@ -1,5 +1,7 @@
 pub mod Sampling
 pub mod History
 pub mod Naming
-pub mod Waiting
 pub mod Kept
+pub mod Words
+pub mod Rule
+pub mod Listing

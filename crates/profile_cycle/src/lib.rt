@@ -9,11 +9,14 @@
 mod buckets;
 mod calls;
 mod counts;
-mod cycles;
 mod laws;
+mod listed;
+mod moving;
 mod ring;
 mod sampler;
-mod waiting;
+mod sight;
+mod steps;
+mod words;
 
 pub use buckets::{Bucket, Buckets};
 pub use calls::{Call, View, What};

@@ -11,57 +11,63 @@ ghost use Rattle.profile_cycle.specs.History.{
   split_off,
 };
 
-use crate::calls::{AnyCalls, HandsOut, TakesIn, View, What, make_call};
+use crate::calls::What;
 use crate::counts::Count;
-use crate::cycles::{Cycles, Published, take_spare};
+use crate::listed::{Noted, take_spare};
+use crate::moving::move_noted;
+use crate::sight::{HandsOut, Sight, SumOfViews, TakesIn};
+use crate::steps::{enter, finish, read};
+use crate::words::{Kind, WORDS_PER_BUCKET, Word};
 use atomic_table::{Seat, Table};
 use edge_io::NoMemory;
 use std::alloc::Global;
 use std::marker::Model;
+use std::mem;
 
 /// The ring of a profile: what its tallies count waits in it until a mark end or a full sweep publishes it, so that each
 /// published profile is as of one mark end (`mProf_NextCycle` and `mProf_Flush` of `mprof.go`).
 ///
-/// Its tallies count apart, and the driver's, which [`Ring::new`] gives, takes them in again. What is published is said
-/// through the calls alone: `specs/History.antt`.
+/// Its counts are words of one table, which all tallies share: a call that counts is one add of 1, waits for nobody and
+/// takes no memory. What is published is said through the calls alone: `specs/History.antt`.
 #[derive(Drop)]
 pub struct Ring {
-    table: Table<(), View, (), AnyCalls, Global>,
+    table: Table<(), Sight, u32, SumOfViews, Global>,
     buckets: u32,
     alloc: Global,
 }
 
 impl Model for Ring {
-    ghost use Rattle.std.specs.Prelude.{◌<◌};
+    ghost use Rattle.std.specs.Prelude.{◌≡◌};
     ghost use Rattle.profile_cycle.specs.History.{RingId};
+    ghost use Rattle.profile_cycle.specs.Words.{word_count};
 
     ghost Value = { RingId };
 
     ghost view = { λ r. record { table = r.table.shared.table_id; buckets = r.buckets } };
 
-    ghost invariant = { λ r. 0 < r.table.shared.table_id.words };
+    ghost invariant = { λ r. (r.table.shared.table_id.words ≡ word_count r.buckets) × (r.table.shared.key ≡ r.buckets) };
 }
 
-/// What one worker counts. Contracts see its ring and its calls.
+/// What one worker counts with. Contracts see its ring and its calls.
 #[derive(Drop)]
 pub struct Tally {
-    seat: Seat<(), View>,
+    seat: Seat<(), Sight>,
     buckets: u32,
-    cycles: Cycles,
-    published: Published,
-    spare: Option<Cycles>,
+    odd: bool,
+    noted: Noted,
+    spare: Option<Noted>,
 }
 
 impl Model for Tally {
     ghost use Rattle.std.specs.Prelude.{◌≡◌, [], IfSome};
     ghost use Rattle.profile_cycle.specs.History.{Standing};
-    ghost use Rattle.profile_cycle.specs.Kept.{AreEmpty, Kept};
+    ghost use Rattle.profile_cycle.specs.Listing.{AreEmpty, Stands};
 
     ghost Value = { Standing };
 
-    ghost view = { λ t. record { ring = record { table = t.seat.table_id; buckets = t.buckets }; view = t.seat.me.0 } };
+    ghost view = { λ t. record { ring = record { table = t.seat.table_id; buckets = t.buckets }; view = t.seat.me.0.view } };
 
-    ghost invariant = { λ t. (t.seat.me.1 ≡ []) × Kept t.buckets t.seat.me.0 t.cycles t.published × IfSome t.spare (AreEmpty t.buckets) };
+    ghost invariant = { λ t. (t.seat.me.1 ≡ []) × Stands t.buckets t.seat.me.0 t.odd t.noted × IfSome t.spare AreEmpty };
 }
 
 impl Ring {
@@ -70,9 +76,9 @@ impl Ring {
         ensures buckets { IfOk result (λ r. r.0.buckets ≡ buckets) }
         ensures tally { IfOk result (λ r. r.1 ≡ record { ring = r.0; view = first_view }) }
     {
-        let cycles = Cycles::new(alloc, buckets)?;
-        let published = Published::new(alloc, buckets)?;
-        let (table, seat) = Table::of_words(alloc, &[0], &())?;
+        let noted = Noted::new(alloc, buckets)?;
+        let words = vec![in alloc; 0u64; buckets as usize * WORDS_PER_BUCKET + 1]?;
+        let (table, seat) = Table::of_words(alloc, words.as_slice(), &buckets)?;
         let ring = Ring {
             table,
             buckets,
@@ -81,8 +87,8 @@ impl Ring {
         let tally = Tally {
             seat,
             buckets,
-            cycles,
-            published,
+            odd: false,
+            noted,
             spare: None,
         };
         Ok((ring, tally))
@@ -96,20 +102,20 @@ impl Ring {
         ensures tally { IfOk result (λ other. other ≡ record t.old { view = split_off t.old.view }) }
         ensures err { OnErr result (t.new ≡ t.old) }
     {
-        let cycles = take_spare(&mut t.spare, self.alloc, self.buckets)?;
+        let noted = take_spare(&mut t.spare, self.alloc, self.buckets)?;
         let shared = &self.table.shared;
         let seat = shared.split_seat::<HandsOut>(&mut t.seat);
         Ok(Tally {
             seat,
             buckets: self.buckets,
-            cycles,
-            published: Published::empty(self.alloc),
+            odd: t.odd,
+            noted,
             spare: None,
         })
     }
 
     /// Joins a tally that was split off since the last `next_cycle` into the driver's.
-    pub fn join(&self, t: &mut Tally, mut other: Tally)
+    pub fn join(&self, t: &mut Tally, other: Tally)
         requires ring { t.old.ring ≡ self.now }
         requires drives { t.old.view.drives ≡ true }
         requires of_ring { other.ring ≡ self.now }
@@ -120,14 +126,16 @@ impl Ring {
         let Tally {
             seat,
             buckets: _,
-            mut cycles,
-            published: _,
+            odd: _,
+            mut noted,
             spare: _,
         } = other;
         let shared = &self.table.shared;
         shared.join_seat::<TakesIn>(&mut t.seat, seat);
-        t.cycles.absorb(&mut cycles);
-        t.spare = Some(cycles);
+        t.noted.due.add_all(&noted.due);
+        t.noted.later.add_all(&noted.later);
+        noted.clear();
+        t.spare = Some(noted);
     }
 
     /// Counts a sampled allocation of a bucket: toward the second cycle from now.
@@ -136,8 +144,14 @@ impl Ring {
         requires bucket { bucket < self.now.buckets }
         ensures { t.new ≡ calls t.old (Allocated bucket) }
     {
-        make_call(&self.table.shared, &mut t.seat, &What::Allocated(bucket));
-        t.cycles.later_allocs.add_one(bucket);
+        let word = Word::Waiting(Kind::Allocs, t.odd, bucket);
+        let found = enter(
+            &self.table.shared,
+            &mut t.seat,
+            word,
+            &What::Allocated(bucket),
+        );
+        t.noted.later.add_new(bucket, found);
     }
 
     /// Counts a free of a sampled object of a bucket, by the sweep that finds it dead: toward the next cycle.
@@ -146,8 +160,9 @@ impl Ring {
         requires bucket { bucket < self.now.buckets }
         ensures { t.new ≡ calls t.old (Freed bucket) }
     {
-        make_call(&self.table.shared, &mut t.seat, &What::Freed(bucket));
-        t.cycles.next_frees.add_one(bucket);
+        let word = Word::Waiting(Kind::Frees, !t.odd, bucket);
+        let found = enter(&self.table.shared, &mut t.seat, word, &What::Freed(bucket));
+        t.noted.due.add_new(bucket, found);
     }
 
     /// Begins the next cycle, after a mark end, and publishes it (`mProf_NextCycle` and `mProf_Flush` of `mprof.go`). All
@@ -159,9 +174,12 @@ impl Ring {
         ensures ring { self.new ≡ self.old }
         ensures tally { t.new ≡ calls t.old NextCycle }
     {
-        make_call(&self.table.shared, &mut t.seat, &What::NextCycle);
-        t.cycles.publish(&mut t.published);
-        t.cycles.turn();
+        let counts = &self.table.shared;
+        move_noted(counts, &mut t.seat, !t.odd, &t.noted.due, self.buckets);
+        finish(counts, &mut t.seat, &What::NextCycle);
+        t.noted.due.clear();
+        mem::swap(&mut t.noted.due, &mut t.noted.later);
+        t.odd = !t.odd;
     }
 
     /// Publishes the next cycle, after a full sweep, and stays in this one (`mProf_PostSweep` of `mprof.go`). All other
@@ -173,8 +191,10 @@ impl Ring {
         ensures ring { self.new ≡ self.old }
         ensures tally { t.new ≡ calls t.old AfterSweep }
     {
-        make_call(&self.table.shared, &mut t.seat, &What::AfterSweep);
-        t.cycles.publish(&mut t.published);
+        let counts = &self.table.shared;
+        move_noted(counts, &mut t.seat, !t.odd, &t.noted.due, self.buckets);
+        finish(counts, &mut t.seat, &What::AfterSweep);
+        t.noted.due.clear();
     }
 
     /// What is published of a bucket, modulo 2^64. All other tallies are joined.
@@ -188,10 +208,9 @@ impl Ring {
         ensures dated { AreDated t.old.view.calls }
         ensures same { t.new ≡ t.old }
     {
-        let place = bucket as usize;
-        Count {
-            allocs: t.published.allocs[place],
-            frees: t.published.frees[place],
-        }
+        let counts = &self.table.shared;
+        let allocs = read(counts, &mut t.seat, Word::Published(Kind::Allocs, bucket));
+        let frees = read(counts, &mut t.seat, Word::Published(Kind::Frees, bucket));
+        Count { allocs, frees }
     }
 }

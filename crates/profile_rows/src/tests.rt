@@ -1,7 +1,11 @@
+ghost use Rattle.std.specs.Prelude.{◌≡◌};
+ghost use Rattle.profile_rows.specs.Rows.{IsOut};
+
 use edge_io::NoMemory;
-use profile_cycle::{Count, Ring, Sampler};
+use profile_cycle::{Count, Ring, Sampler, Tally};
 use std::alloc::Global;
 use std::test::Fail;
+use std::thread::join;
 
 #[test]
 fn sampler_at_rates_0_and_1(rt: HostRuntime) {
@@ -103,5 +107,45 @@ fn tallies_are_joined(rt: HostRuntime) -> Result<(), Fail> {
         frees: 0,
     };
     assert_eq!(rt; counts, (zero, one));
+    Ok(())
+}
+
+// What a worker counts in its thread: allocations of bucket 0, and frees of bucket 1.
+fn count_many(ring: &Ring, mut tally: Tally) -> Tally
+    requires buckets { ring.now.buckets ≡ 2 }
+    requires tally { IsOut ring.now tally }
+    ensures { IsOut ring.now result }
+{
+    for _ in 0..1000 {
+        ring.allocated(&mut tally, 0);
+        ring.freed(&mut tally, 1);
+    }
+    tally
+}
+
+// Two tallies count in threads of their own, on the same two words. Each schedule publishes the same numbers.
+#[test]
+fn tallies_count_side_by_side(rt: HostRuntime) -> Result<(), Fail> {
+    let (mut ring, mut driver) = Ring::new(rt.alloc(), 2)?;
+    let first = ring.split(&mut driver)?;
+    let second = ring.split(&mut driver)?;
+    let (first, second) = join(
+        &rt,
+        || count_many(&ring, first),
+        || count_many(&ring, second),
+    );
+    ring.join(&mut driver, first);
+    ring.join(&mut driver, second);
+    ring.allocated(&mut driver, 0);
+    ring.next_cycle(&mut driver);
+    let zero = ring.published(&mut driver, 0);
+    let one = ring.published(&mut driver, 1);
+    assert_eq!(rt; (zero.allocs, zero.frees), (0, 0));
+    assert_eq!(rt; (one.allocs, one.frees), (0, 2000));
+    ring.after_sweep(&mut driver);
+    let zero = ring.published(&mut driver, 0);
+    let one = ring.published(&mut driver, 1);
+    assert_eq!(rt; (zero.allocs, zero.frees), (2001, 0));
+    assert_eq!(rt; (one.allocs, one.frees), (0, 2000));
     Ok(())
 }

@@ -1,16 +1,6 @@
-use Rattle.std.proofs.Common.{sym, ap, subst}
-use Rattle.profile_cycle.specs.declared.calls.View.{View}
-use Rattle.profile_cycle.specs.Kept.{Kept}
-use Rattle.profile_cycle.proofs.Keeping.{kept-first}
+use Rattle.std.proofs.Common.{◌∙◌}
+use Rattle.profile_cycle.proofs.Handing.{start-rule}
 use Rattle.profile_cycle.proofs.ring.Ring.new.Goals as goal
 
-pub invariant_of-tally : goal.invariant_of-tally
-invariant_of-tally c =
-    let n = c.args.buckets in
-    let cycles = c.in_ok-cycles.cycles in
-    let published = c.in_ok-published.published in
-    let e = c.in_ok-table.ensures.4 in (
-      ap (λ m. m.1) e,
-      subst (λ (u : View). Kept n u cycles published) (sym (ap (λ m. m.0) e)) (kept-first n cycles published c.in_ok-cycles.ensures c.in_ok-published.ensures),
-      tt,
-    )
+pub of_words-requires : goal.of_words-requires
+of_words-requires c = start-rule c.args.buckets c.as_slice.result.now (c.as_slice.ensures.value ∙ c.in_ok-words.ensures.items_if_clones_equal (λ y e. e))
