@@ -1,0 +1,4 @@
+pub mod Seats
+pub mod Leaders
+pub mod OfBase
+pub mod Law

@@ -1,0 +1,4 @@
+pub mod Blocks
+pub mod Riders
+pub mod Base
+pub mod Sound
