@@ -8,7 +8,7 @@ pub when-ok : {T : Type 0} (r : Result T CheckFault) (x : T) (P : Type 0) → r 
 when-ok (Ok y) x P e h = h
 when-ok (Err fault) x P e h = cc
 
-pub if-ok : {T : Type 0} (r : Result T CheckFault) (x : T) (P : T → Type 0) → r ≡ Ok x → IfOk r P → P x
+pub if-ok : {T E : Type 0} (r : Result T E) (x : T) (P : T → Type 0) → r ≡ Ok x → IfOk r P → P x
 if-ok (Ok y) x P e h = (let s : y ≡ x = cc in subst P s h)
 if-ok (Err fault) x P e h = cc
 
@@ -29,3 +29,7 @@ err-map (Err fault) P Q to h = to fault h
 pub err-both : {T : Type 0} (r : Result T CheckFault) (fault : CheckFault) (M : Type 0) (P : CheckFault → Type 0) → IsErrAnd r (λ (e : CheckFault). e ≡ fault) → P fault → OnOk r M × IfErr r P
 err-both (Ok x) fault M P h p = absurd h
 err-both (Err e) fault M P h p = (tt, subst P (sym h) p)
+
+pub err-if : {T : Type 0} (r : Result T CheckFault) (fault : CheckFault) (M : T → Type 0) (P : CheckFault → Type 0) → IsErrAnd r (λ (e : CheckFault). e ≡ fault) → P fault → IfOk r M × IfErr r P
+err-if (Ok x) fault M P h p = absurd h
+err-if (Err e) fault M P h p = (tt, subst P (sym h) p)

@@ -1,8 +1,11 @@
 -- What the parts of a judging say, each judged by itself.
 use Rattle.std.specs.Prelude.{◌≡◌, ℕ, List, length, Some, Result, IfOk, IfErr, OnOk, ◌⊎◌}
+use Rattle.std.specs.Global.{Vec}
 use Rattle.std.specs.List.{slice_get}
+use Rattle.fallible_list.specs.declared.list.NoMemory.{NoMemory}
 use Rattle.trace_reader.specs.declared.trace.Trace.{Trace}
 use Rattle.cycle_history.specs.declared.Report.{Report}
+use Rattle.cycle_history.specs.Objects.{Object}
 use Rattle.cycle_history.specs.Requests.{last_cycle, marked_by}
 use Rattle.cycle_history.specs.Rules.{AreApart, AreFilled}
 use Rattle.cycle_history.specs.Sound.{HasAnswers, HasJournal, HasProfile, past_in}
@@ -16,9 +19,11 @@ use Rattle.report_check.specs.declared.items.Item.{Item}
 use Rattle.report_check.specs.declared.piece.Piece.{Piece}
 use Rattle.report_check.specs.Fault.{IsFaultOf}
 use Rattle.report_check.specs.Items.{objects_of}
+use Rattle.report_check.specs.Lasts.{AreLasts}
 use Rattle.report_check.specs.Pieces.{seen_by}
 use Rattle.report_check.specs.Sweeping.{AllMayGive, AllSwept, AreRightTo}
 use Rattle.check_parallel.specs.declared.pieces.Verdict.{Verdict}
+use Rattle.check_parallel.specs.declared.settled.Lived.{Lived}
 use Rattle.check_parallel.specs.Verdicts.{AnswersRule}
 
 -- A fault of one part, or of a later one where the first is met.
@@ -29,9 +34,9 @@ Then early met late fault = early fault ⊎ (met × late fault)
 abbrev pub IsListed : Trace → Report → Result (List Item) CheckFault → Type 0
 IsListed t report answer = IfOk answer (λ items. HasAnswers t report (objects_of items)) × IfErr answer (IsFaultOf 1 (BreaksAnswers t report))
 
--- Rule 2.
-abbrev pub IsJournalJudged : Trace → Report → Result (Unit {0}) CheckFault → Type 0
-IsJournalJudged t report answer = AnswersRule 2 (HasJournal t report) (BreaksJournal t report) answer
+-- The last cycles are those of the items of whichever report.
+abbrev pub AreLastsOf : Trace → Result (Vec ℕ) NoMemory → Type 0
+AreLastsOf t answer = IfOk answer (λ lasts. (report : Report) (items : List Item) → HasAnswers t report (objects_of items) → AreLasts t items lasts.items)
 
 -- Rule 5, of these items.
 abbrev pub MeetsApart : Trace → List Item → Type 0
@@ -76,9 +81,9 @@ FaultOfSweeps t report items = IsFaultOf 7 (BreaksSweeps (marked_by t) (last_cyc
 abbrev pub IsSweepsJudged : Trace → Report → List Item → Result (Unit {0}) CheckFault → Type 0
 IsSweepsJudged t report items answer = OnOk answer (MeetsSweeps t report items) × IfErr answer (FaultOfSweeps t report items)
 
--- Rule 7 as far as the Gives tell it.
-abbrev pub IsGivesJudged : Trace → Report → List Item → Result (Unit {0}) CheckFault → Type 0
-IsGivesJudged t report items answer = OnOk answer (AllMayGive report) × IfErr answer (FaultOfSweeps t report items)
+-- Rule 7 as far as the Gives tell it, whatever the objects are.
+abbrev pub IsGivesJudged : Trace → Report → Result (Unit {0}) CheckFault → Type 0
+IsGivesJudged t report answer = OnOk answer (AllMayGive report) × IfErr answer (λ fault. (objects : List Object) → IsFaultOf 7 (BreaksSweeps (marked_by t) (last_cycle t) report objects) fault)
 
 -- As far as the sweeps tell it, where the Gives are right.
 abbrev pub MeetsNotes : Trace → Report → List Item → Type 0
@@ -87,9 +92,19 @@ MeetsNotes t report items = AreRightTo t report (objects_of items) (length repor
 abbrev pub IsNotesJudged : Trace → Report → List Item → Result (Unit {0}) CheckFault → Type 0
 IsNotesJudged t report items answer = OnOk answer (MeetsNotes t report items) × IfErr answer (λ fault. AllMayGive report → FaultOfSweeps t report items fault)
 
--- As far as the lives tell it, where the Gives and the sweeps are right.
-abbrev pub IsLivesJudged : Trace → Report → List Item → Result (Unit {0}) CheckFault → Type 0
-IsLivesJudged t report items answer = OnOk answer (AllSwept t report) × IfErr answer (λ fault. AllMayGive report → MeetsNotes t report items → FaultOfSweeps t report items fault)
+-- As far as the lives tell it, where the Gives and the sweeps are right, whatever the objects are.
+abbrev pub IsLivesJudged : Trace → Report → Result (Unit {0}) CheckFault → Type 0
+IsLivesJudged t report answer = OnOk answer (AllSwept t report)
+    × IfErr answer (λ fault. (objects : List Object) → AllMayGive report → AreRightTo t report objects (length report.sweeps) → IsFaultOf 7 (BreaksSweeps (marked_by t) (last_cycle t) report objects) fault)
+
+-- What the journal and the sweeps say of rule 7 by themselves.
+pub record IsLived (t : Trace) (report : Report) (lived : Lived) : Type 0 where
+  pub gives : IsGivesJudged t report lived.gives
+  pub lives : IsLivesJudged t report lived.lives
+
+-- Rule 2, and where it is met, what the journal says of rule 7.
+abbrev pub IsPagesJudged : Trace → Report → Result Lived CheckFault → Type 0
+IsPagesJudged t report answer = IfOk answer (λ lived. HasJournal t report × IsLived t report lived) × IfErr answer (IsFaultOf 2 (BreaksJournal t report))
 
 -- Rule 8.
 abbrev pub MeetsTotals : Trace → Report → List Item → Type 0

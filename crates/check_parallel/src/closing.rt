@@ -1,16 +1,21 @@
 //! The rules 7 to 9, beside each other.
 
+ghost use Rattle.std.specs.Prelude.{ℕ, List};
 ghost use Rattle.std.specs.Thread.{IsSync};
+ghost use Rattle.trace_reader.specs.declared.trace.Trace.{Trace as ATrace};
+ghost use Rattle.cycle_history.specs.declared.Report.{Report as AReport};
+ghost use Rattle.report_check.specs.declared.items.Item.{Item as AnItem};
 ghost use Rattle.report_check.specs.Known.{AreKnown};
-ghost use Rattle.check_parallel.specs.Parts.{IsClosingJudged, IsCountedJudged, IsGivesJudged, IsLivesJudged, IsNotesJudged, IsProfileJudged, IsSweepsJudged, IsTotalsJudged};
+ghost use Rattle.check_parallel.specs.Parts.{IsClosingJudged, IsCountedJudged, IsLived, IsNotesJudged, IsProfileJudged, IsSweepsJudged, IsTotalsJudged};
 
+use crate::settled::Lived;
 use cycle_history::Report;
 use report_check::{CheckFault, Item, Objects, judge_totals};
 use std::alloc::Global;
 use std::thread::{Threads, join};
 use trace_reader::Trace;
 
-/// The rules 7 to 9.
+/// The rules 7 to 9, where the journal and the sweeps have said of rule 7 what they can.
 pub(crate) fn judge_closing<R: Threads + Sync>(
     rt: &R,
     alloc: Global,
@@ -18,79 +23,39 @@ pub(crate) fn judge_closing<R: Threads + Sync>(
     report: &Report,
     items: &[Item],
     lasts: &[u32],
+    lived: Lived,
 ) -> Result<(), CheckFault>
     requires known { AreKnown trace.now report.now items.now lasts.now }
+    requires lived { IsLived trace.now report.now lived }
     ensures { IsClosingJudged trace.now report.now items.now result }
 {
-    let (sweeps, counted) = join(
-        rt,
-        || -> Result<(), CheckFault>
-            requires { IsSync R.row × AreKnown trace.now report.now items.now lasts.now }
-            ensures { IsSweepsJudged trace.entry.now report.entry.now items.entry.now result }
-        { judge_sweeps(rt, alloc, trace, report, items, lasts) },
-        || -> Result<(), CheckFault>
-            requires { IsSync R.row × AreKnown trace.now report.now items.now lasts.now }
-            ensures { IsCountedJudged trace.entry.now report.entry.now items.entry.now result }
-        { judge_counted(rt, alloc, trace, report, items, lasts) },
-    );
-    sweeps?;
-    counted
-}
-
-// Rule 7, by the Gives, the sweeps and the lives.
-fn judge_sweeps<R: Threads + Sync>(
-    rt: &R,
-    alloc: Global,
-    trace: &Trace,
-    report: &Report,
-    items: &[Item],
-    lasts: &[u32],
-) -> Result<(), CheckFault>
-    requires known { AreKnown trace.now report.now items.now lasts.now }
-    ensures { IsSweepsJudged trace.now report.now items.now result }
-{
-    let (notes, (gives, lives)) = join(
+    let (notes, counted) = join(
         rt,
         || -> Result<(), CheckFault>
             requires { AreKnown trace.now report.now items.now lasts.now }
             ensures { IsNotesJudged trace.entry.now report.entry.now items.entry.now result }
         { judge_notes(alloc, trace, report, items, lasts) },
-        || -> (Result<(), CheckFault>, Result<(), CheckFault>)
-            requires { AreKnown trace.now report.now items.now lasts.now }
-            ensures { IsGivesJudged trace.entry.now report.entry.now items.entry.now result.0 × IsLivesJudged trace.entry.now report.entry.now items.entry.now result.1 }
-        {
-            (
-                judge_gives(alloc, trace, report, items, lasts),
-                judge_lives(alloc, trace, report, items, lasts),
-            )
-        },
+        || -> Result<(), CheckFault>
+            requires { IsSync R.row × AreKnown trace.now report.now items.now lasts.now }
+            ensures { IsCountedJudged trace.entry.now report.entry.now items.entry.now result }
+        { judge_counted(rt, alloc, trace, report, items, lasts) },
     );
+    sweeps_of(lived, notes)?;
+    counted
+}
+
+// Rule 7, by what the Gives, the sweeps and the lives say of it: their lines stand in this order.
+fn sweeps_of(lived: Lived, notes: Result<(), CheckFault>) -> Result<(), CheckFault>
+    ensures { (trace : ATrace) (report : AReport) (items : List AnItem) (lasts : List ℕ) → AreKnown trace report items lasts
+        → IsLived trace report lived → IsNotesJudged trace report items notes → IsSweepsJudged trace report items result }
+{
+    let Lived { gives, lives } = lived;
     gives?;
     notes?;
     lives
 }
 
-// Rule 7, as far as the Gives tell it.
-fn judge_gives(
-    alloc: Global,
-    trace: &Trace,
-    report: &Report,
-    items: &[Item],
-    lasts: &[u32],
-) -> Result<(), CheckFault>
-    requires known { AreKnown trace.now report.now items.now lasts.now }
-    ensures { IsGivesJudged trace.now report.now items.now result }
-{
-    let objects = Objects {
-        trace,
-        report,
-        items,
-        lasts,
-    };
-    objects.judge_gives(alloc)
-}
-
-// As far as the sweeps tell it.
+// Rule 7, as far as the sweeps tell it.
 fn judge_notes(
     alloc: Global,
     trace: &Trace,
@@ -108,26 +73,6 @@ fn judge_notes(
         lasts,
     };
     objects.judge_notes(alloc)
-}
-
-// As far as the lives tell it.
-fn judge_lives(
-    alloc: Global,
-    trace: &Trace,
-    report: &Report,
-    items: &[Item],
-    lasts: &[u32],
-) -> Result<(), CheckFault>
-    requires known { AreKnown trace.now report.now items.now lasts.now }
-    ensures { IsLivesJudged trace.now report.now items.now result }
-{
-    let objects = Objects {
-        trace,
-        report,
-        items,
-        lasts,
-    };
-    objects.judge_lives(alloc)
 }
 
 // The rules 8 and 9.

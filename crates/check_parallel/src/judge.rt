@@ -6,13 +6,14 @@ ghost use Rattle.cycle_history.specs.Before.{IsLimited};
 ghost use Rattle.report_check.specs.declared.fault.CheckFault.TheVariants.{NoMemory as OutOfMemory};
 ghost use Rattle.report_check.specs.Fault.{IsFault, MeetsChecked};
 ghost use Rattle.report_check.specs.Known.{AreKnown, AreSettledItems};
-ghost use Rattle.check_parallel.specs.Parts.{IsClosingJudged, IsInsideJudged};
+ghost use Rattle.report_check.specs.Lasts.{AreLasts};
+ghost use Rattle.check_parallel.specs.Parts.{IsClosingJudged, IsInsideJudged, IsLived};
 
 use crate::closing::judge_closing;
 use crate::pieces::judge_inside;
-use crate::settled::settled;
+use crate::settled::{Lived, settle};
 use cycle_history::Report;
-use report_check::{CheckFault, Item, lasts_of};
+use report_check::{CheckFault, Item};
 use std::alloc::Global;
 use std::thread::{Threads, join};
 use trace_reader::Trace;
@@ -52,8 +53,17 @@ fn judge_rules<R: Threads + Sync>(
     ensures met { OnOk result (MeetsChecked trace.now report.now) }
     ensures broken { IfErr result (IsFault trace.now report.now) }
 {
-    let items = settled(rt, alloc, trace, report)?;
-    judge_settled(rt, alloc, trace, report, &items, pieces)
+    let settled = settle(rt, alloc, trace, report)?;
+    judge_settled(
+        rt,
+        alloc,
+        trace,
+        report,
+        &settled.items,
+        &settled.lasts,
+        settled.lived,
+        pieces,
+    )
 }
 
 // The rules 5 to 9, over the objects in their seats.
@@ -63,16 +73,19 @@ fn judge_settled<R: Threads + Sync>(
     trace: &Trace,
     report: &Report,
     items: &[Item],
+    lasts: &[u32],
+    lived: Lived,
     pieces: u32,
 ) -> Result<(), CheckFault>
     requires limited { IsLimited trace.now }
     requires settled { AreSettledItems trace.now report.now items.now }
+    requires lasts { AreLasts trace.now items.now lasts.now }
+    requires lived { IsLived trace.now report.now lived }
     requires pieces { 1 ≤ pieces }
     ensures met { OnOk result (MeetsChecked trace.now report.now) }
     ensures broken { IfErr result (IsFault trace.now report.now) }
 {
-    let lasts = lasts_of(alloc, trace, items)?;
-    let (inside, closing) = judge_beside(rt, alloc, trace, report, items, &lasts, pieces);
+    let (inside, closing) = judge_beside(rt, alloc, trace, report, items, lasts, lived, pieces);
     inside?;
     closing
 }
@@ -85,9 +98,11 @@ fn judge_beside<R: Threads + Sync>(
     report: &Report,
     items: &[Item],
     lasts: &[u32],
+    lived: Lived,
     pieces: u32,
 ) -> (Result<(), CheckFault>, Result<(), CheckFault>)
     requires known { AreKnown trace.now report.now items.now lasts.now }
+    requires lived { IsLived trace.now report.now lived }
     requires pieces { 1 ≤ pieces }
     ensures inside { IsInsideJudged trace.now items.now result.0 }
     ensures closing { IsClosingJudged trace.now report.now items.now result.1 }
@@ -99,8 +114,8 @@ fn judge_beside<R: Threads + Sync>(
             ensures { IsInsideJudged trace.entry.now items.entry.now result }
         { judge_inside(rt, alloc, trace, report, items, lasts, pieces) },
         || -> Result<(), CheckFault>
-            requires { IsSync R.row × AreKnown trace.now report.now items.now lasts.now }
+            requires { IsSync R.row × AreKnown trace.now report.now items.now lasts.now × IsLived trace.now report.now lived }
             ensures { IsClosingJudged trace.entry.now report.entry.now items.entry.now result }
-        { judge_closing(rt, alloc, trace, report, items, lasts) },
+        { judge_closing(rt, alloc, trace, report, items, lasts, lived) },
     )
 }

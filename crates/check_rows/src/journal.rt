@@ -5,7 +5,7 @@ use Answer::Missed;
 use cycle_history::Answer;
 use page_bitmap::Line;
 
-pub(crate) const ROWS: [Row; 31] = [
+pub(crate) const ROWS: [Row; 34] = [
     // Rule 2: a Take that is not at first fit, or of no span's size.
     Row {
         lines: "a 0 24 s 1\n",
@@ -541,6 +541,75 @@ pub(crate) const ROWS: [Row; 31] = [
                 page: 1,
                 pages: 1,
                 class: 6,
+            },
+        ],
+        broken: Some((2, 3)),
+    },
+    // A line of a page cache where the trace is of version 1.
+    Row {
+        lines: "a 0 24 s 1\n",
+        goal: 512,
+        answers: &[AT_START],
+        journal: &[
+            Line::Pull {
+                cycle: 0,
+                proc: 0,
+                page: 0,
+                pages: 64,
+            },
+            Line::Cut {
+                cycle: 0,
+                proc: 0,
+                page: 0,
+                pages: 1,
+                class: 6,
+            },
+            Line::Drop {
+                cycle: 0,
+                proc: 0,
+                page: 0,
+                pages: 63,
+            },
+        ],
+        broken: Some((2, 2)),
+    },
+    Row {
+        lines: "a 0 24 s 1\n",
+        goal: 512,
+        answers: &[AT_START],
+        journal: &[
+            Line::Take {
+                cycle: 0,
+                page: 0,
+                pages: 1,
+                class: 6,
+            },
+            Line::Cut {
+                cycle: 0,
+                proc: 0,
+                page: 1,
+                pages: 1,
+                class: 6,
+            },
+        ],
+        broken: Some((2, 3)),
+    },
+    Row {
+        lines: "a 0 24 s 1\n",
+        goal: 512,
+        answers: &[AT_START],
+        journal: &[
+            Line::Take {
+                cycle: 0,
+                page: 0,
+                pages: 1,
+                class: 6,
+            },
+            Line::Drop {
+                cycle: 0,
+                proc: 0,
+                page: 0,
+                pages: 0,
             },
         ],
         broken: Some((2, 3)),

@@ -149,7 +149,7 @@ number-below : (n : ℕ) (line : Line) (past : List Line) → IsNumber n line pa
 number-below n line past h = (let at = slice_get_within (reverse past) n line (number-get n line past h) in let e = length-reverse past in omega arith)
 
 pub life-inside : (past : List Line) (c : ℕ) (life : Life) → In life (open_lives (at_end c past)) → life.number < length past
-life-inside past c life among = number-below life.number (Take life.cycle life.page life.pages life.class) past (number-on c life.number past (Take life.cycle life.page life.pages life.class) (life-line (at_end c past) life among))
+life-inside past c life among = let made = life-line (at_end c past) life among in number-below life.number made.line past (number-on c life.number past made.line made.number)
 
 -- an item lives in a cycle exactly where the cycle is neither before its own nor behind its last one
 pub lives-when : (t : Trace) (report : Report) (items : List Item) (lasts : List ℕ) (i c : ℕ) (item : Item) → AreKnown t report items lasts → slice_get items i ≡ Some item → live (marked_by t) c (object_of i item) ≡ true

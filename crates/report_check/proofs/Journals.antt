@@ -4,13 +4,15 @@ use Rattle.std.specs.Prelude.{MatchBool, IfSome, IfNone, IfOk, IfErr, is_some, i
 use Rattle.std.proofs.lemmas.Bool.{cases_lt, eqb-true, eq-eqb}
 use Rattle.std.proofs.lemmas.List.{reverse-append, take_more}
 use Rattle.page_bitmap.specs.declared.line.Line.{Line}
-use Rattle.page_bitmap.specs.declared.line.Line.TheVariants.{Take, Miss, Give, Scav}
+use Rattle.page_bitmap.specs.declared.line.Line.TheVariants.{Take, Miss, Give, Scav, Pull, Cut, Drop}
 use Rattle.page_alloc.specs.Lists.{In}
 use Rattle.page_alloc.specs.Heap.{PageHeap, HasMoreRoom, AddsLine}
 use Rattle.page_alloc.specs.Owners.{backed, owner}
 use Rattle.page_alloc.specs.Lives.{Life, open_lives}
 use Rattle.page_alloc.specs.FreeRuns.{IsFirstFit, IsScavengeRun, IsLoose, HasNoRun}
-use Rattle.page_alloc.specs.Journal.{Legal, IsBy, cycle_of, past_of}
+use Rattle.page_alloc.specs.Blocks.{AreOfCycle}
+use Rattle.page_alloc.specs.Journal.{IsBy, Legal, cycle_of, past_of}
+use Rattle.page_alloc.proofs.BlocksOut.{any-cycle}
 use Rattle.page_alloc.proofs.Lives.{covers, lies, same_page}
 use Rattle.trace_reader.specs.declared.trace.Trace.{Trace}
 use Rattle.cycle_history.specs.declared.Report.{Report}
@@ -65,15 +67,38 @@ scav-one region past p q n m a b =
     let e : n ≡ m = elim (cases_lt n m) [ inl lt ↦ absurd (one lt) | inr ge ↦ elim (cases_lt m n) [ inl lt ↦ absurd (two lt) | inr le ↦ omega arith ] ] in
     (omega arith, e)
 
+-- ---- a test of equality
+
+pub judged : (a b : ℕ) (P Q : Type 0) → (a ≡ b → P) → (a ≢ b → Q) → MatchBool (eqb a b) P Q
+judged a b P Q here gone = by (eqb a b) (λ e. eqb-true a b e) (λ e same. (let t = eq-eqb a b same in let none : ⊥ = cc in none))
+  where
+    by : (test : Bool) → (test ≡ true → a ≡ b) → (test ≡ false → a ≢ b) → MatchBool test P Q
+    by true to off = here (to refl)
+    by false to off = gone (off refl)
+
 -- ---- what the calls say
 
-pub has-line : (old mid new : PageHeap) (line : Line) → HasMoreRoom old mid → AddsLine mid new line → HasLine old new line
-has-line old mid new line more adds = record {
+pub has-line : (old mid new : PageHeap) (line : Line) → Legal old.region old.goal old.past → HasMoreRoom old mid → AddsLine mid new line → HasLine old new line
+has-line old mid new line legal more adds = record {
   region = adds.region ∙ more.region;
   goal = adds.goal ∙ more.goal;
   past = adds.past ∙ ap (λ (past : List Line). line ∷ past) more.past;
-  legal = adds.legal;
+  legal = adds.legal 0 (rw (more.region, more.goal, more.past) legal);
 }
+
+-- no block is out, so that each cycle is that of all which are
+pub blocks-of : (old mid : PageHeap) (cycle : ℕ) → Legal old.region old.goal old.past → HasMoreRoom old mid → AreOfCycle cycle mid.past
+blocks-of old mid cycle legal more = rw more.past (any-cycle old.region old.goal cycle old.past legal)
+
+-- no line of a page cache may come
+pub no-pull : (old : PageHeap) (cycle proc page n : ℕ) → ¬ MayCome old (Pull cycle proc page n)
+no-pull old cycle proc page n may = absurd (let none = may.0 in omega arith)
+
+pub no-cut : (old : PageHeap) (cycle proc page n class : ℕ) → ¬ MayCome old (Cut cycle proc page n class)
+no-cut old cycle proc page n class may = absurd (let none = may.0 in omega arith)
+
+pub no-drop : (old : PageHeap) (cycle proc page n : ℕ) → ¬ MayCome old (Drop cycle proc page n)
+no-drop old cycle proc page n may = absurd (let none = may.0 in omega arith)
 
 pub takes-other : (old mid new : PageHeap) (cycle page first n class : ℕ) → HasMoreRoom old mid → AddsLine mid new (Take cycle first n class) → first ≢ page → ¬ MayCome old (Take cycle page n class)
 takes-other old mid new cycle page first n class more adds other may =
@@ -97,6 +122,16 @@ scav-none old cycle page n done may =
       | inl few ↦ (let much = may.0 in absurd (omega arith))
       | inr off ↦ off page (omega arith) (run.loose page (omega arith) (omega arith))
     ]
+
+pub scav-test : (old mid new : PageHeap) (cycle page n p m : ℕ) → Legal old.region old.goal old.past → HasMoreRoom old mid → AddsLine mid new (Scav cycle p m) → p ≡ page
+    → MatchBool (eqb m n) (HasLine old new (Scav cycle page n)) (¬ MayCome old (Scav cycle page n))
+scav-test old mid new cycle page n p m legal more adds first =
+    judged m n (HasLine old new (Scav cycle page n)) (¬ MayCome old (Scav cycle page n))
+    (λ e. subst (λ (k : ℕ). HasLine old new (Scav cycle page k)) e (subst (λ (q : ℕ). HasLine old new (Scav cycle q m)) first (has-line old mid new (Scav cycle p m) legal more adds)))
+    (λ ne. scav-other old mid new cycle page n p m more adds (λ both. ne both.1))
+
+pub scav-done : (old mid : PageHeap) (cycle page n : ℕ) → HasMoreRoom old mid → (backed mid.region mid.past ≤ mid.goal) ⊎ ((p : ℕ) → p < mid.region → ¬ IsLoose mid.past p) → ¬ MayCome old (Scav cycle page n)
+scav-done old mid cycle page n more done = scav-none old cycle page n (rw (more.region, more.goal, more.past) at done)
 
 -- no span begins where no page is its own
 pub give-none : (old : PageHeap) (cycle page n : ℕ) → Legal old.region old.goal old.past → (owner old.past page ≢ Some page) → ¬ MayCome old (Give cycle page n)
@@ -201,18 +236,11 @@ legal-all t report n all le =
 
 -- ---- what a test of equality or a call's answer tells
 
-pub judged : (a b : ℕ) (P Q : Type 0) → (a ≡ b → P) → (a ≢ b → Q) → MatchBool (eqb a b) P Q
-judged a b P Q here gone = by (eqb a b) (λ e. eqb-true a b e) (λ e same. (let t = eq-eqb a b same in let none : ⊥ = cc in none))
-  where
-    by : (test : Bool) → (test ≡ true → a ≡ b) → (test ≡ false → a ≢ b) → MatchBool test P Q
-    by true to off = here (to refl)
-    by false to off = gone (off refl)
-
-pub take-test : (old mid new : PageHeap) (cycle page first n class : ℕ) → HasMoreRoom old mid → AddsLine mid new (Take cycle first n class)
+pub take-test : (old mid new : PageHeap) (cycle page first n class : ℕ) → Legal old.region old.goal old.past → HasMoreRoom old mid → AddsLine mid new (Take cycle first n class)
     → MatchBool (eqb first page) (HasLine old new (Take cycle page n class)) (¬ MayCome old (Take cycle page n class))
-take-test old mid new cycle page first n class more adds =
+take-test old mid new cycle page first n class legal more adds =
     judged first page (HasLine old new (Take cycle page n class)) (¬ MayCome old (Take cycle page n class))
-    (λ e. subst (λ (p : ℕ). HasLine old new (Take cycle p n class)) e (has-line old mid new (Take cycle first n class) more adds))
+    (λ e. subst (λ (p : ℕ). HasLine old new (Take cycle p n class)) e (has-line old mid new (Take cycle first n class) legal more adds))
     (λ ne. takes-other old mid new cycle page first n class more adds ne)
 
 pub some-run : {X : Type 0} (o : Option X) (P : X → Type 0) → is_some o ≡ true → IfSome o P → (x : X) × P x
@@ -223,17 +251,17 @@ pub none-run : {X : Type 0} (o : Option X) (P : Type 0) → is_some o ≡ false 
 none-run (Some x) P e h = (let none : ⊥ = cc in absurd none)
 none-run None P e h = h
 
-pub miss-test : {E : Type 0} (r : Result ℕ E) (old mid new : PageHeap) (cycle n class : ℕ) → HasMoreRoom old mid → IfOk r (λ page. AddsLine mid new (Take cycle page n class))
+pub miss-test : {E : Type 0} (r : Result ℕ E) (old mid new : PageHeap) (cycle n class : ℕ) → Legal old.region old.goal old.past → HasMoreRoom old mid → IfOk r (λ page. AddsLine mid new (Take cycle page n class))
     → IfErr r (λ _. AddsLine mid new (Miss cycle n class)) → MatchBool (is_err r) (HasLine old new (Miss cycle n class)) (¬ MayCome old (Miss cycle n class))
-miss-test (Ok page) old mid new cycle n class more taken missed = λ may. (let none = may.1 in none page (rw (more.region, more.past) at taken.may_follow.1).here)
-miss-test (Err e) old mid new cycle n class more taken missed = has-line old mid new (Miss cycle n class) more missed
+miss-test (Ok page) old mid new cycle n class legal more taken missed = λ may. (let none = may.1 in none page (rw (more.region, more.past) at taken.may_follow.1).here)
+miss-test (Err e) old mid new cycle n class legal more taken missed = has-line old mid new (Miss cycle n class) legal more missed
 
 pub same-room : (h : PageHeap) → HasMoreRoom h h
 same-room h = record { region = refl; goal = refl; past = refl; spare = omega arith }
 
 pub give-test : (b : Bool) (old new : PageHeap) (life : Life) (cycle page n : ℕ) → Legal old.region old.goal old.past → In life (open_lives old.past) → life.page ≡ page
     → AddsLine old new (Give cycle page life.pages) → MatchBool b (life.pages ≡ n) (life.pages ≢ n) → MatchBool b (HasLine old new (Give cycle page n)) (¬ MayCome old (Give cycle page n))
-give-test true old new life cycle page n legal there at adds e = subst (λ (k : ℕ). HasLine old new (Give cycle page k)) e (has-line old old new (Give cycle page life.pages) (same-room old) adds)
+give-test true old new life cycle page n legal there at adds e = subst (λ (k : ℕ). HasLine old new (Give cycle page k)) e (has-line old old new (Give cycle page life.pages) legal (same-room old) adds)
 give-test false old new life cycle page n legal there at adds ne = give-other old cycle page n life legal there at ne
 
 -- ---- the loop over lines

@@ -1,22 +1,26 @@
 -- The last cycle of each item, one mark end more at a time.
-use Rattle.std.proofs.Common.{◌≡◌, ℕ, suc, ◌+◌, ◌<◌, ◌≤◌, Bool, true, false, List, [], ◌∷◌, length, map, Some, refl, sym, ◌∙◌, ap, subst, arith, ◌⊎◌, inl, inr, ◌↔◌}
+use Rattle.std.proofs.Common.{◌≡◌, ℕ, suc, ◌+◌, ◌<◌, ◌≤◌, Bool, true, false, List, [], ◌∷◌, ◌++◌, length, map, reverse, take, get_or, Some, refl, sym, ◌∙◌, ap, ap₂, subst, arith, ◌⊎◌, inl, inr, ◌↔◌}
 use Rattle.std.specs.List.{slice_get}
 use Rattle.std.proofs.lemmas.Bool.{cases_lt, cases_eq, cases_Bool}
-use Rattle.std.proofs.lemmas.List.{length-map, get_or_past}
+use Rattle.std.proofs.lemmas.List.{length-map, get_or_past, append_assoc, map-append, map_push, reverse-append, reverse-reverse, take_more}
+use Rattle.std.proofs.lemmas.Simd.{map-map}
 use Rattle.std.proofs.lemmas.Option.{slice_get_within, slice_get-map, get_or_from_slice_get, slice_get_cases}
 use Rattle.trace_reader.specs.declared.trace.Trace.{Trace}
 use Rattle.trace_reader.specs.declared.trace.Cycle.{Cycle}
+use Rattle.trace_reader.specs.declared.trace.Event.{Event}
 use Rattle.object_spans.specs.declared.span.Span.{Span}
 use Rattle.trace_reader.specs.Limits.{AreCycles}
 use Rattle.cycle_history.specs.declared.Report.{Report}
-use Rattle.cycle_history.specs.Requests.{is_within, marked_by}
+use Rattle.cycle_history.specs.Requests.{Request, is_within, marked_by, requests_from}
+use Rattle.cycle_history.specs.Rules.{AreAnswered}
 use Rattle.cycle_history.specs.Before.{IsLimited, marks_at, objects_before}
 use Rattle.cycle_history.specs.Sound.{HasAnswers}
 use Rattle.cycle_history.proofs.Firsts.{before-rise, before-all}
 use Rattle.cycle_history.proofs.Rising.{marked-early, marked-may, marks-within}
 use Rattle.report_check.specs.declared.items.Item.{Item}
-use Rattle.report_check.specs.Items.{objects_of}
-use Rattle.report_check.specs.Lasts.{AreLasts, AreLastsTo, AreSet, last_at}
+use Rattle.report_check.specs.Items.{objects_from, objects_of}
+use Rattle.report_check.specs.Lasts.{AreLasts, AreLastsTo, AreSet, cycle_asked, last_at}
+use Rattle.report_check.proofs.Requests.{requests_in, requests-take}
 use Rattle.report_check.proofs.Settled.{IsAsked, asked-at, unmarked-late}
 
 -- an item whose number is that of an object of the cycle
@@ -71,9 +75,48 @@ not-on : (b : Bool) → (b ≡ true → ⊥) → b ≡ false
 not-on true none = absurd (none refl)
 not-on false none = refl
 
+-- ---- the cycles of a trace's events are those of its items
+
+map-back : {A B : Type 0} (f : A → B) (xs : List A) → map f (reverse xs) ≡ reverse (map f xs)
+map-back f [] = refl
+map-back {A} {B} f (x ∷ xs) =
+    ap (λ (is : List A). map f is) (reverse-append (x ∷ []) xs) ∙ (map_push f (reverse xs) x ∙ (ap (λ (ys : List B). ys ++ f x ∷ []) (map-back f xs) ∙ sym (reverse-append (f x ∷ []) (map f xs))))
+
+answered-cycles : (rs : List Request) (xs : List Item) → AreAnswered rs (objects_from xs) → map cycle_asked rs ≡ map (λ (item : Item). item.cycle) xs
+answered-cycles [] [] all = refl
+answered-cycles [] (x ∷ xs) all = absurd all
+answered-cycles (r ∷ rs) [] all = absurd all
+answered-cycles (r ∷ rs) (x ∷ xs) all = ap₂ (λ (c : ℕ) (cs : List ℕ). c ∷ cs) (sym all.0.cycle) (answered-cycles rs xs all.1)
+
+asked-cycles : (t : Trace) (report : Report) (items : List Item) → HasAnswers t report (objects_of items) → map cycle_asked (requests_from 0 t.cycles) ≡ map (λ (item : Item). item.cycle) items
+asked-cycles t report items answers =
+    let rs = requests_from 0 t.cycles in
+    let back : map cycle_asked (reverse rs) ≡ map (λ (item : Item). item.cycle) (reverse items) = answered-cycles (reverse rs) (reverse items) answers.asked in
+    let turned : reverse (map cycle_asked rs) ≡ reverse (map (λ (item : Item). item.cycle) items) = sym (map-back cycle_asked rs) ∙ (back ∙ map-back (λ (item : Item). item.cycle) items) in
+    sym (reverse-reverse (map cycle_asked rs)) ∙ (ap (λ (cs : List ℕ). reverse cs) turned ∙ reverse-reverse (map (λ (item : Item). item.cycle) items))
+
+-- the cycle of one event more
+pub cycle-more : (was new initial : List ℕ) (cycle i : ℕ) (events : List Event) → was ≡ initial ++ map (λ (e : Event). cycle) (take i events) → new ≡ was ++ cycle ∷ [] → i < length events
+    → new ≡ initial ++ map (λ (e : Event). cycle) (take (i + 1) events)
+cycle-more was new initial cycle i events before is lt =
+    let d : Event = record { size = 0; stack = 0; proc = 0; scan = false } in
+    let pushed : map (λ (e : Event). cycle) (take (i + 1) events) ≡ map (λ (e : Event). cycle) (take i events) ++ cycle ∷ [] =
+    ap (λ (es : List Event). map (λ (e : Event). cycle) es) (take_more events i d lt) ∙ map_push (λ (e : Event). cycle) (take i events) (get_or events i d) in
+    is ∙ (ap (λ (cs : List ℕ). cs ++ cycle ∷ []) before ∙ (append_assoc initial (map (λ (e : Event). cycle) (take i events)) (cycle ∷ []) ∙ ap (λ (cs : List ℕ). initial ++ cs) (sym pushed)))
+
+-- the cycles of one cycle's events more
+pub cycles-more : (was more : List ℕ) (cs : List Cycle) (k cycle : ℕ) (events : List Event) (d : Cycle) → was ≡ map cycle_asked (requests_from 0 (take k cs)) → more ≡ was ++ map (λ (e : Event). cycle) events
+    → events ≡ (get_or cs k d).events → cycle ≡ k → k < length cs → more ≡ map cycle_asked (requests_from 0 (take (k + 1) cs))
+cycles-more was more cs k cycle events d before is same number lt =
+    let turned : map (λ (e : Event). cycle) events ≡ map cycle_asked (requests_in (0 + k) (get_or cs k d)) = in-cycle cycle (0 + k) events (get_or cs k d).events (number ∙ omega arith) same in
+    is ∙ (ap₂ (λ (xs ys : List ℕ). xs ++ ys) before turned ∙ (sym (map-append cycle_asked (requests_from 0 (take k cs)) (requests_in (0 + k) (get_or cs k d))) ∙ ap (λ (rs : List Request). map cycle_asked rs) (sym (requests-take 0 cs k d lt))))
+  where
+    in-cycle : (a b : ℕ) (xs ys : List Event) → a ≡ b → xs ≡ ys → map (λ (e : Event). a) xs ≡ map cycle_asked (map (λ (e : Event). record { cycle = b; event = e }) ys)
+    in-cycle a b xs ys e1 e2 = ap₂ (λ (n : ℕ) (es : List Event). map (λ (e : Event). n) es) e1 e2 ∙ sym (map-map cycle_asked (λ (e : Event). record { cycle = b; event = e }) ys)
+
 -- ---- at the start
 
-pub lasts-own : (t : Trace) (report : Report) (items : List Item) → IsLimited t → HasAnswers t report (objects_of items) → AreLastsTo t items (map (λ (item : Item). item.cycle) items) 0
+lasts-own : (t : Trace) (report : Report) (items : List Item) → IsLimited t → HasAnswers t report (objects_of items) → AreLastsTo t items (map (λ (item : Item). item.cycle) items) 0
 lasts-own t report items limited answers = record {
   size = length-map items (λ (item : Item). item.cycle);
   own = λ i item at. (let e = here i item at in omega arith);
@@ -85,6 +128,9 @@ lasts-own t report items limited answers = record {
   where
     here : (i : ℕ) (item : Item) → slice_get items i ≡ Some item → last_at (map (λ (x : Item). x.cycle) items) i ≡ item.cycle
     here i item at = get_or_from_slice_get (map (λ (x : Item). x.cycle) items) i item.cycle 0 (slice_get-map (λ (x : Item). x.cycle) items i ∙ (let e : slice_get items i ≡ Some item = at in rw e refl))
+
+pub lasts-asked : (t : Trace) (report : Report) (items : List Item) (lasts : List ℕ) → IsLimited t → lasts ≡ map cycle_asked (requests_from 0 t.cycles) → HasAnswers t report (objects_of items) → AreLastsTo t items lasts 0
+lasts-asked t report items lasts limited are answers = subst (λ (xs : List ℕ). AreLastsTo t items xs 0) (sym (are ∙ asked-cycles t report items answers)) (lasts-own t report items limited answers)
 
 -- ---- one mark end more
 

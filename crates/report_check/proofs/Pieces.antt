@@ -1,18 +1,17 @@
 -- What a piece sees of the items, and that the whole sees all of them.
-use Rattle.std.proofs.Common.{◌≡◌, ℕ, ◌+◌, ◌/◌, ◌%◌, ◌<◌, ◌≤◌, ◌↔◌, Bool, true, false, eqb, List, [], ◌∷◌, ◌++◌, map, reverse, length, Option, Some, None, refl, sym, ◌∙◌, ap, subst, arith}
+use Rattle.std.proofs.Common.{◌≡◌, ℕ, ◌/◌, ◌%◌, ◌<◌, ◌≤◌, ◌↔◌, Bool, true, false, eqb, List, [], ◌∷◌, ◌++◌, map, reverse, length, Option, Some, None, refl, sym, ◌∙◌, ap, subst, arith}
 use Rattle.std.specs.List.{slice_get}
 use Rattle.std.specs.Option.{option_map}
 use Rattle.std.proofs.lemmas.List.{length-map, map_push, reverse-append, reverse-reverse}
 use Rattle.std.proofs.lemmas.Option.{slice_get-map}
 use Rattle.page_bitmap.specs.declared.line.Line.{Line}
 use Rattle.page_alloc.specs.Lists.{In}
-use Rattle.page_alloc.specs.Lives.{Life}
 use Rattle.trace_reader.specs.declared.trace.Trace.{Trace}
 use Rattle.cycle_history.specs.declared.Answer.{Answer}
 use Rattle.cycle_history.specs.declared.Answer.TheVariants.{Placed, Zero, Missed}
 use Rattle.cycle_history.specs.declared.Report.{Report}
 use Rattle.cycle_history.specs.Requests.{Marking, Request, marked_by, requests_of}
-use Rattle.cycle_history.specs.Objects.{Object, IsSeated, is_placed}
+use Rattle.cycle_history.specs.Objects.{Object, is_placed}
 use Rattle.cycle_history.specs.Rules.{AreAnswered, AreSeated, IsObject}
 use Rattle.cycle_history.specs.Sound.{past_in, HasAnswers}
 use Rattle.report_check.specs.declared.items.Item.{Item}

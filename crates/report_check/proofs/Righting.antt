@@ -6,7 +6,7 @@ use Rattle.std.proofs.lemmas.Bool.{cases_lt, cases_eq, cases_Bool, leb-false}
 use Rattle.std.proofs.lemmas.List.{take_all, length-reverse}
 use Rattle.std.proofs.lemmas.Option.{slice_get_within, slice_get-get_or, get_or_from_slice_get}
 use Rattle.page_bitmap.specs.declared.line.Line.{Line}
-use Rattle.page_bitmap.specs.declared.line.Line.TheVariants.{Take, Miss, Give, Scav}
+use Rattle.page_bitmap.specs.declared.line.Line.TheVariants.{Take, Miss, Give, Scav, Pull, Cut, Drop}
 use Rattle.page_alloc.specs.Lists.{In, AllApart}
 use Rattle.page_alloc.specs.Lives.{Life, life_of, open_lives}
 use Rattle.page_alloc.specs.Journal.{at_end, cycle_of, past_of}
@@ -277,6 +277,12 @@ open-back m (line ∷ past) life le among = elim (cases_Bool (leb (cycle_of line
     behind (Miss cycle pages class) past life m le off among = among
     behind (Give cycle page pages) past life m le off among = (from_others page (open_lives past) life among).0
     behind (Scav cycle page pages) past life m le off among = among
+    behind (Pull cycle proc page pages) past life m le off among = among
+    behind (Cut cycle proc page pages class) past life m le off among = elim among [
+      | inl here ↦ (let c : cycle ≡ life.cycle = ap (λ (l : Life). l.cycle) here in let lt = leb-false cycle m off in absurd (omega arith))
+      | inr there ↦ there
+    ]
+    behind (Drop cycle proc page pages) past life m le off among = among
 
 -- the end of an earlier cycle, by the lines before one
 front-end : (t : Trace) (report : Report) (items : List Item) (lasts : List ℕ) (n m : ℕ) (d : Line) → AreKnown t report items lasts → n < length report.journal → m < cycle_of (get_or report.journal n d) → at_end m (past_in report) ≡ at_end m (past_of (take n report.journal))
@@ -326,6 +332,9 @@ gives-front t report items lasts (suc n) known gives right le =
     one (Miss cycle pages class) at rest = rest
     one (Give cycle page pages) at rest = (λ life among begins. given-empty t report items lasts n cycle page pages life known gives right at among begins, rest)
     one (Scav cycle page pages) at rest = rest
+    one (Pull cycle proc page pages) at rest = rest
+    one (Cut cycle proc page pages class) at rest = rest
+    one (Drop cycle proc page pages) at rest = rest
 
 apart-from : (R : SweepNote → SweepNote → Type 0) (xs : List SweepNote) → ((j k : ℕ) (a b : SweepNote) → j < k → slice_get xs j ≡ Some a → slice_get xs k ≡ Some b → R a b) → AllApart R xs
 apart-from R [] all = tt

@@ -6,7 +6,7 @@ use Rattle.std.proofs.lemmas.Bool.{cases_eq, cases_lt, cases_Bool, and_parts, or
 use Rattle.std.proofs.lemmas.List.{reverse-reverse, append-nil, length-reverse, length-map}
 use Rattle.std.proofs.lemmas.Option.{slice_get_within, slice_get-get_or}
 use Rattle.page_bitmap.specs.declared.line.Line.{Line}
-use Rattle.page_bitmap.specs.declared.line.Line.TheVariants.{Take, Miss, Give, Scav}
+use Rattle.page_bitmap.specs.declared.line.Line.TheVariants.{Take, Miss, Give, Scav, Pull, Cut, Drop}
 use Rattle.page_alloc.specs.Lists.{In, IsNumber}
 use Rattle.page_alloc.specs.Lives.{Life, life_of, open_lives}
 use Rattle.page_alloc.specs.Journal.{at_end, cycle_of}
@@ -131,15 +131,39 @@ asked-new t report old new i item answers same at =
 
 -- ---- one life at two times
 
-pub life-line : (past : List Line) (life : Life) → In life (open_lives past) → IsNumber life.number (Take life.cycle life.page life.pages life.class) past
+-- the life that a line with this number makes, if it makes one
+abbrev pub makes : ℕ → Line → Option Life
+makes n (Take cycle page pages class) = Some (life_of n cycle page pages class)
+makes n (Cut cycle proc page pages class) = Some (life_of n cycle page pages class)
+makes n line = None
+
+-- the line that made a life
+pub record IsMadeIn (past : List Line) (life : Life) : Type 0 where
+  pub line : Line
+  pub makes : makes life.number line ≡ Some life
+  pub number : IsNumber life.number line past
+
+made-new : (past : List Line) (line : Line) (life : Life) → makes (length past) line ≡ Some life → length past ≡ life.number → IsMadeIn (line ∷ past) life
+made-new past line life is number = record { line = line; makes = subst (λ (n : ℕ). makes n line ≡ Some life) number is; number = inl (number, refl) }
+
+made-on : (past : List Line) (newest : Line) (life : Life) → IsMadeIn past life → IsMadeIn (newest ∷ past) life
+made-on past newest life made = record { line = made.line; makes = made.makes; number = inr made.number }
+
+pub life-line : (past : List Line) (life : Life) → In life (open_lives past) → IsMadeIn past life
 life-line [] life i = absurd i
 life-line (Take cycle page pages class ∷ past) life i = elim i [
-  | inl here ↦ inl (ap (λ (l : Life). l.number) here, ap (λ (l : Life). Take l.cycle l.page l.pages l.class) here)
-  | inr there ↦ inr (life-line past life there)
+  | inl here ↦ made-new past (Take cycle page pages class) life (ap (λ (l : Life). Some l) here) (ap (λ (l : Life). l.number) here)
+  | inr there ↦ made-on past (Take cycle page pages class) life (life-line past life there)
 ]
-life-line (Miss cycle pages class ∷ past) life i = inr (life-line past life i)
-life-line (Give cycle page pages ∷ past) life i = inr (life-line past life (from_others page (open_lives past) life i).0)
-life-line (Scav cycle page pages ∷ past) life i = inr (life-line past life i)
+life-line (Miss cycle pages class ∷ past) life i = made-on past (Miss cycle pages class) life (life-line past life i)
+life-line (Give cycle page pages ∷ past) life i = made-on past (Give cycle page pages) life (life-line past life (from_others page (open_lives past) life i).0)
+life-line (Scav cycle page pages ∷ past) life i = made-on past (Scav cycle page pages) life (life-line past life i)
+life-line (Pull cycle proc page pages ∷ past) life i = made-on past (Pull cycle proc page pages) life (life-line past life i)
+life-line (Cut cycle proc page pages class ∷ past) life i = elim i [
+  | inl here ↦ made-new past (Cut cycle proc page pages class) life (ap (λ (l : Life). Some l) here) (ap (λ (l : Life). l.number) here)
+  | inr there ↦ made-on past (Cut cycle proc page pages class) life (life-line past life there)
+]
+life-line (Drop cycle proc page pages ∷ past) life i = made-on past (Drop cycle proc page pages) life (life-line past life i)
 
 pub number-on : (c n : ℕ) (past : List Line) (line : Line) → IsNumber n line (at_end c past) → IsNumber n line past
 number-on c n [] line h = h
@@ -150,12 +174,14 @@ number-on c n (newest ∷ past) line h = elim (cases_Bool (leb (cycle_of newest)
 
 pub one-life : (past : List Line) (a b : Life) (c d : ℕ) → In a (open_lives (at_end c past)) → In b (open_lives (at_end d past)) → a.number ≡ b.number → a ≡ b
 one-life past a b c d ia ib e =
-    let na = number-get a.number (Take a.cycle a.page a.pages a.class) past (number-on c a.number past (Take a.cycle a.page a.pages a.class) (life-line (at_end c past) a ia)) in
-    let nb = number-get b.number (Take b.cycle b.page b.pages b.class) past (number-on d b.number past (Take b.cycle b.page b.pages b.class) (life-line (at_end d past) b ib)) in
-    let nb' : slice_get (reverse past) a.number ≡ Some (Take b.cycle b.page b.pages b.class) = subst (λ (n : ℕ). slice_get (reverse past) n ≡ Some (Take b.cycle b.page b.pages b.class)) (sym e) nb in
-    let f : Take a.cycle a.page a.pages a.class ≡ Take b.cycle b.page b.pages b.class = cc in
-    let g : life_of a.number a.cycle a.page a.pages a.class ≡ life_of b.number b.cycle b.page b.pages b.class = cc in
-    g
+    let ma = life-line (at_end c past) a ia in
+    let mb = life-line (at_end d past) b ib in
+    let na = number-get a.number ma.line past (number-on c a.number past ma.line ma.number) in
+    let nb = number-get b.number mb.line past (number-on d b.number past mb.line mb.number) in
+    let nb' : slice_get (reverse past) a.number ≡ Some mb.line = subst (λ (n : ℕ). slice_get (reverse past) n ≡ Some mb.line) (sym e) nb in
+    let line : ma.line ≡ mb.line = cc in
+    let lives : Some a ≡ Some b = sym ma.makes ∙ ap (λ (l : Line). makes a.number l) line ∙ ap (λ (n : ℕ). makes n mb.line) e ∙ mb.makes in
+    cc
 
 -- ---- living
 

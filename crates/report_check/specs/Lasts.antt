@@ -2,8 +2,12 @@
 use Rattle.std.specs.Prelude.{◌≡◌, ℕ, ◌<◌, ◌≤◌, true, List, length, slice_index_or, Some, ◌⊎◌, ◌↔◌}
 use Rattle.std.specs.List.{slice_get}
 use Rattle.trace_reader.specs.declared.trace.Trace.{Trace}
-use Rattle.cycle_history.specs.Requests.{marked_by}
+use Rattle.cycle_history.specs.Requests.{Request, marked_by}
 use Rattle.report_check.specs.declared.items.Item.{Item}
+
+-- The cycle of a request.
+abbrev pub cycle_asked : Request → ℕ
+cycle_asked r = r.cycle
 
 -- The last cycle of the object with this number.
 abbrev pub last_at : List ℕ → ℕ → ℕ

@@ -17,27 +17,28 @@ use size_classes::{Kind, PAGE_SIZE, class_of, slot_size, span_class, span_object
 use std::alloc::Global;
 use trace_reader::Trace;
 
-/// An object with its answer, what it needs of a span, and where it sits.
+/// An object with its answer, what it needs of a span, and where it sits. The fields stand by their widths, so that a long list of
+/// objects takes the least memory.
 #[derive(Clone, Copy, Debug)]
 pub struct Item {
-    /// The processor that asks.
-    pub proc: u32,
-    /// The cycle in which it is asked for.
-    pub cycle: u32,
-    /// The span class.
-    pub class: u8,
-    /// The pages of such a span.
-    pub pages: u32,
-    /// The bytes of its slots.
-    pub slot: u64,
-    /// The number of its slots.
-    pub count: u32,
     /// The answer that the report prints.
     pub answer: Answer,
+    /// The bytes of a slot of the span that it needs.
+    pub slot: u64,
     /// The number of the Take line of the span in which it sits, once its seat is known.
     pub life: u64,
     /// Its index there.
     pub index: u32,
+    /// The processor that asks.
+    pub proc: u32,
+    /// The cycle in which it is asked for.
+    pub cycle: u32,
+    /// The pages of that span.
+    pub pages: u32,
+    /// The number of that span's slots.
+    pub count: u32,
+    /// That span's class.
+    pub class: u8,
 }
 
 impl Item {
@@ -67,15 +68,15 @@ impl Item {
             ),
         };
         Item {
-            proc: u32::from(event.proc),
-            cycle: asked.cycle,
-            class,
-            pages,
-            slot,
-            count,
             answer,
+            slot,
             life: 0,
             index: 0,
+            proc: u32::from(event.proc),
+            cycle: asked.cycle,
+            pages,
+            count,
+            class,
         }
     }
 }

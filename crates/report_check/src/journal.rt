@@ -55,10 +55,13 @@ pub(crate) fn cycle_of(line: Line) -> u32
         Line::Miss { cycle, .. } => cycle,
         Line::Give { cycle, .. } => cycle,
         Line::Scav { cycle, .. } => cycle,
+        Line::Pull { cycle, .. } => cycle,
+        Line::Cut { cycle, .. } => cycle,
+        Line::Drop { cycle, .. } => cycle,
     }
 }
 
-// Whether a line of this or a later cycle than the last may come next; then it is there.
+// Whether a line of this or a later cycle than the last may come next; then it is there. No line of a page cache may.
 fn follows(pages: &mut Pages, region: u32, line: Line) -> Result<bool, NoMemory>
     requires region { pages.old.region ≡ region }
     requires cycle { IsBy (cycle_in line) pages.old.past }
@@ -87,11 +90,13 @@ fn follows(pages: &mut Pages, region: u32, line: Line) -> Result<bool, NoMemory>
             page,
             pages: n,
         } => scavenges(pages, cycle, page, n),
+        Line::Pull { .. } | Line::Cut { .. } | Line::Drop { .. } => Ok(false),
     }
 }
 
 fn takes(pages: &mut Pages, cycle: u32, page: u32, n: u32, class: u8) -> Result<bool, NoMemory>
     requires cycle { IsBy cycle pages.old.past }
+    requires legal { Legal pages.old.region pages.old.goal pages.old.past }
     ensures { IfOk result (λ yes. MatchBool yes (HasLine pages.old pages.new (Take cycle page n class)) (¬ MayCome pages.old (Take cycle page n class))) }
 {
     if !is_span_size(n, class) {
@@ -119,6 +124,7 @@ fn is_span_size(n: u32, class: u8) -> bool
 
 fn misses(pages: &mut Pages, cycle: u32, n: u32, class: u8) -> Result<bool, NoMemory>
     requires cycle { IsBy cycle pages.old.past }
+    requires legal { Legal pages.old.region pages.old.goal pages.old.past }
     ensures { IfOk result (λ yes. MatchBool yes (HasLine pages.old pages.new (Miss cycle n class)) (¬ MayCome pages.old (Miss cycle n class))) }
 {
     if n == 0 {
@@ -167,6 +173,7 @@ fn gave(journal: &[Line], n: u32) -> bool
 
 fn scavenges(pages: &mut Pages, cycle: u32, page: u32, n: u32) -> Result<bool, NoMemory>
     requires cycle { IsBy cycle pages.old.past }
+    requires legal { Legal pages.old.region pages.old.goal pages.old.past }
     ensures { IfOk result (λ yes. MatchBool yes (HasLine pages.old pages.new (Scav cycle page n)) (¬ MayCome pages.old (Scav cycle page n))) }
 {
     pages.reserve_line()?;

@@ -82,7 +82,7 @@ fn judge_settled(
     ensures met { OnOk result (MeetsChecked trace.now report.now) }
     ensures broken { IfErr result (IsFault trace.now report.now) }
 {
-    let lasts = lasts_of(alloc, trace, items)?;
+    let lasts = lasts_of(alloc, trace)?;
     let objects = Objects {
         trace,
         report,

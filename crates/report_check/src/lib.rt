@@ -2,7 +2,7 @@
 //!
 //! `check` tries the rules in their order, each in passes that answer the least line that breaks it: answers (`items`), the
 //! journal (`journal`), misses (`misses`), places (`places`, by the table of open lives in `lives`), overlaps (`apart`),
-//! filling (`filling`), sweeps (`gives` and `sweeps`, by what `ledger` counts at each mark end), totals (`totals`) and the
+//! filling (`filling`), sweeps (`gives`, `sweeps`, by what `ledger` counts at each mark end, and `unswept`), totals (`totals`) and the
 //! profile (`profile`, by the samples of `sampled`, whose buckets are searched among `sorted` numbers).
 //! From rule 5 on each object has its seat (`objects`) and its last cycle (`lasts`), so that no rule searches for a life or
 //! asks the marks again. `totals` tries rule 8 alone too, where rule 1 is met. The parts are offered each by itself, and the rules
@@ -32,8 +32,10 @@ mod sampled;
 mod sorted;
 mod sweeps;
 mod totals;
+mod unswept;
 
 pub use fault::CheckFault;
+pub use gives::judge_gives;
 pub use items::{Item, items_of};
 pub use journal::judge_journal;
 pub use judge::{check, check_first_rules};
@@ -43,3 +45,4 @@ pub use objects::Objects;
 pub use piece::Piece;
 pub use places::judge_places;
 pub use totals::judge_totals;
+pub use unswept::judge_lives;

@@ -1,6 +1,6 @@
 //! Rule 7: the sweeps of the lives that the mark ends find alive.
 
-ghost use Rattle.std.specs.Prelude.{◌≡◌, ◌≤◌, ◌<◌, ◌^◌, false, length, slice_index_or, List as Notes, IfErr, IfOk, IfSome, MatchBool, MatchOption, OnOk, Some as Just, None as Nothing};
+ghost use Rattle.std.specs.Prelude.{◌≡◌, ◌≤◌, ◌<◌, ◌^◌, length, slice_index_or, IfErr, IfOk, IfSome, MatchBool, MatchOption, OnOk, Some as Just, None as Nothing};
 ghost use Rattle.std.specs.List.{slice_get};
 ghost use Rattle.cycle_history.specs.Orders.{IsSweepBefore};
 ghost use Rattle.cycle_history.specs.Requests.{last_cycle, marked_by};
@@ -9,19 +9,17 @@ ghost use Rattle.cycle_history.specs.Sweeps.{AreSwept};
 ghost use Rattle.report_rules.specs.Closing.{BreaksSweeps};
 ghost use Rattle.report_rules.specs.Lines as lines;
 ghost use Rattle.span_state.specs.declared.sweep.SweepNote.{SweepNote as Note};
-ghost use Rattle.report_check.specs.Keys.{AreKeys};
 ghost use Rattle.report_check.specs.Tallies.{freed_in, kept_in, tally_at};
 ghost use Rattle.report_check.specs.Ledgers.{used_at};
 ghost use Rattle.report_check.specs.Sweeping.{IsDisorder};
-ghost use Rattle.report_check.specs.SaidSweeps.{AreAllNoted, AreSaidRight, IsNoteOf, IsSettledLife, LacksNote, SaysRight};
+ghost use Rattle.report_check.specs.SaidSweeps.{AreSaidRight, IsNoteOf, IsSettledLife, SaysRight};
 
 use crate::CheckFault;
-use crate::cycle_lives::Opened;
-use crate::keys::Keys;
+use crate::gives::judge_gives;
 use crate::ledger::{Ledger, Tally};
-use crate::lines::end_of;
 use crate::lives::OpenLife;
 use crate::objects::Objects;
+use crate::unswept::judge_lives;
 use edge_io::NoMemory;
 use span_state::SweepNote;
 use std::alloc::Global;
@@ -30,7 +28,7 @@ impl Objects<'_> {
     ghost use Rattle.report_check.specs.Fault.{IsFaultOf};
     ghost use Rattle.report_check.specs.Items.{objects_of};
     ghost use Rattle.report_check.specs.Known.{AreKnown};
-    ghost use Rattle.report_check.specs.Sweeping.{AllMayGive, AllSwept, AreRightTo, IsFirstWrong, LacksSweep};
+    ghost use Rattle.report_check.specs.Sweeping.{AllMayGive, AreRightTo, IsFirstWrong};
 
     /// Whether the sweeps are those of the lives that the mark ends find alive, and lives are given back where nothing of
     /// them is kept: rule 7. It takes time in the journal, the sweeps, the objects and the marks.
@@ -39,9 +37,9 @@ impl Objects<'_> {
         ensures sweeps { OnOk result (AreSwept (marked_by self.now.trace.now) (last_cycle self.now.trace.now) (past_in self.now.report.now) (objects_of self.now.items.now) self.now.report.now.sweeps) }
         ensures fault { IfErr result (IsFaultOf 7 (BreaksSweeps (marked_by self.now.trace.now) (last_cycle self.now.trace.now) self.now.report.now (objects_of self.now.items.now))) }
     {
-        self.judge_gives(alloc)?;
+        judge_gives(alloc, self.trace, self.report)?;
         self.judge_notes(alloc)?;
-        self.judge_lives(alloc)
+        judge_lives(alloc, self.trace, self.report)
     }
 
     /// Whether the sweeps are right and in order: rule 7, as far as the lines of the sweeps tell it. The fault is the first
@@ -54,22 +52,6 @@ impl Objects<'_> {
     {
         if let Some(place) = self.first_wrong(alloc)? {
             let line = self.sweep_at(place);
-            return Err(CheckFault::Broken { rule: 7, line });
-        }
-        Ok(())
-    }
-
-    /// Whether each life that a mark end finds alive has a sweep: rule 7, as far as the lives tell it. The fault is the first
-    /// that breaks the rule where no Give does and no sweep.
-    pub fn judge_lives(&self, alloc: Global) -> Result<(), CheckFault>
-        requires known { AreKnown self.now.trace.now self.now.report.now self.now.items.now self.now.lasts.now }
-        ensures swept { OnOk result (AllSwept self.now.trace.now self.now.report.now) }
-        ensures fault { IfErr result (λ fault. AllMayGive self.now.report.now
-            → AreRightTo self.now.trace.now self.now.report.now (objects_of self.now.items.now) (length self.now.report.now.sweeps)
-            → IsFaultOf 7 (BreaksSweeps (marked_by self.now.trace.now) (last_cycle self.now.trace.now) self.now.report.now (objects_of self.now.items.now)) fault) }
-    {
-        if !self.all_swept(alloc)? {
-            let line = end_of(self.report);
             return Err(CheckFault::Broken { rule: 7, line });
         }
         Ok(())
@@ -111,22 +93,6 @@ impl Objects<'_> {
         } else {
             Ok(None)
         }
-    }
-
-    // Whether each life that a mark end finds alive has a sweep.
-    fn all_swept(&self, alloc: Global) -> Result<bool, NoMemory>
-        requires known { AreKnown self.now.trace.now self.now.report.now self.now.items.now self.now.lasts.now }
-        ensures { IfOk result (λ all. MatchBool all (AllSwept self.now.trace.now self.now.report.now) (LacksSweep self.now.trace.now self.now.report.now)) }
-    {
-        let keys = Keys::of(alloc, self.report.sweeps.as_slice(), false)?;
-        let mut opened = Opened::new(alloc, self.trace)?;
-        for cycle in 1..self.trace.cycles.len() as u32 {
-            opened.take_up(self.trace, self.report, cycle - 1);
-            if !all_noted(&opened.lives, &keys, cycle) {
-                return Ok(false);
-            }
-        }
-        Ok(true)
     }
 }
 
@@ -253,17 +219,4 @@ fn freed_of(tally: Tally, cycle: u32) -> u64
     ensures { result ≡ freed_in tally cycle }
 {
     if tally.cycle == cycle { tally.freed } else { 0 }
-}
-
-// Whether each life of the table has a sweep of the cycle.
-fn all_noted(lives: &[Option<OpenLife>], keys: &Keys, cycle: u32) -> bool
-    requires { length lives.now ≤ 65536 }
-    ensures { (sweeps : Notes Note) → AreKeys false sweeps keys.now → MatchBool result (AreAllNoted lives.now sweeps cycle) (LacksNote lives.now sweeps cycle) }
-{
-    for page in 0..lives.len() {
-        if lives[page].is_some() && !keys.has(cycle, page as u32) {
-            return false;
-        }
-    }
-    true
 }

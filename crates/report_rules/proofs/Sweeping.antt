@@ -4,7 +4,7 @@ use Rattle.std.specs.List.{slice_get}
 use Rattle.std.proofs.lemmas.Bool.{cases_Bool, cases_lt, le-leb, lt-leb, and_right}
 use Rattle.std.proofs.lemmas.List.{append_assoc, reverse-append}
 use Rattle.page_bitmap.specs.declared.line.Line.{Line}
-use Rattle.page_bitmap.specs.declared.line.Line.TheVariants.{Take, Miss, Give, Scav}
+use Rattle.page_bitmap.specs.declared.line.Line.TheVariants.{Take, Miss, Give, Scav, Pull, Cut, Drop}
 use Rattle.page_alloc.specs.Lists.{In, count, one_if}
 use Rattle.page_alloc.specs.Lives.{Life, open_lives}
 use Rattle.page_alloc.specs.Journal.{IsBy, Legal, at_end, cycle_of, past_of}
@@ -58,6 +58,9 @@ gives-behind marked objects (Take cycle page pages class ∷ newer) past gives =
 gives-behind marked objects (Miss cycle pages class ∷ newer) past gives = gives-behind marked objects newer past gives
 gives-behind marked objects (Give cycle page pages ∷ newer) past gives = gives-behind marked objects newer past gives.1
 gives-behind marked objects (Scav cycle page pages ∷ newer) past gives = gives-behind marked objects newer past gives
+gives-behind marked objects (Pull cycle proc page pages ∷ newer) past gives = gives-behind marked objects newer past gives
+gives-behind marked objects (Cut cycle proc page pages class ∷ newer) past gives = gives-behind marked objects newer past gives
+gives-behind marked objects (Drop cycle proc page pages ∷ newer) past gives = gives-behind marked objects newer past gives
 
 -- ---- the journal as a cycle ends
 
@@ -95,6 +98,21 @@ open-then m (Give cycle page pages ∷ past) life h le = elim (cases_lt m cycle)
 open-then m (Scav cycle page pages ∷ past) life h le = elim (cases_lt m cycle) [
   | inl later ↦ rw (end-past m (Scav cycle page pages) past later) (open-then m past life h le)
   | inr now ↦ rw (end-here m (Scav cycle page pages) past now) h
+]
+open-then m (Pull cycle proc page pages ∷ past) life h le = elim (cases_lt m cycle) [
+  | inl later ↦ rw (end-past m (Pull cycle proc page pages) past later) (open-then m past life h le)
+  | inr now ↦ rw (end-here m (Pull cycle proc page pages) past now) h
+]
+open-then m (Cut cycle proc page pages class ∷ past) life h le = elim (cases_lt m cycle) [
+  | inl later ↦ rw (end-past m (Cut cycle proc page pages class) past later) (elim h [
+    | inl here ↦ (let e : cycle ≡ life.cycle = ap (λ (l : Life). l.cycle) here in absurd (omega arith))
+    | inr there ↦ open-then m past life there le
+  ])
+  | inr now ↦ rw (end-here m (Cut cycle proc page pages class) past now) h
+]
+open-then m (Drop cycle proc page pages ∷ past) life h le = elim (cases_lt m cycle) [
+  | inl later ↦ rw (end-past m (Drop cycle proc page pages) past later) (open-then m past life h le)
+  | inr now ↦ rw (end-here m (Drop cycle proc page pages) past now) h
 ]
 
 -- ---- a Give

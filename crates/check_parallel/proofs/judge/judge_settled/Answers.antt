@@ -31,7 +31,7 @@ closing-fault t report items fault s apart filling is = elim is [
 
 pub returns-in_err-inside-clause-broken : goal.returns-in_err-inside-clause-broken
 returns-in_err-inside-clause-broken g c =
-    err-from c.from_residual-in_err-inside.result c.in_err-inside.field-0.0 (IsFault c.args.trace.now c.args.report.now) c.from_residual-in_err-inside.ensures.1
+    err-from c.from_residual.result c.in_err-inside.field-0.0 (IsFault c.args.trace.now c.args.report.now) c.from_residual.ensures.1
     (inside-fault c.args.trace.now c.args.report.now c.args.items.now c.in_err-inside.field-0.0 c.requires.settled
     (if-err c.judge_beside-inside.result.0 c.in_err-inside.field-0.0 _ c.in_err-inside.was c.judge_beside-inside.ensures.inside.1))
 

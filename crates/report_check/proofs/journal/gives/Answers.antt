@@ -1,7 +1,10 @@
 use Rattle.std.proofs.Common.{◌∙◌, arith}
-use Rattle.report_check.proofs.Journals.{give-none, give-beyond, give-test}
+use Rattle.report_check.proofs.Journals.{blocks-of, give-none, give-beyond, give-test, same-room}
 use Rattle.report_check.proofs.journal.gives.Goals.{then-page-region-via-then-page-region, then-page-region-via-else-page-region+then-not-begins_at}
 use Rattle.report_check.proofs.journal.gives.Goals as goal
+
+pub give-requires-clause-blocks : goal.give-requires-clause-blocks
+give-requires-clause-blocks c = blocks-of c.args.pages.now c.args.pages.now c.args.cycle c.requires.legal (same-room c.args.pages.now)
 
 pub returns-then-page-region : goal.returns-then-page-region
 returns-then-page-region c = elim c.then-page-region.branch [

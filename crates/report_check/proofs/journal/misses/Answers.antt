@@ -1,7 +1,7 @@
 use Rattle.std.proofs.Common.{◌≡◌, ℕ, true, false}
 use Rattle.std.specs.Prelude.{is_some}
 use Rattle.page_alloc.specs.FreeRuns.{IsFirstFit, HasNoRun}
-use Rattle.report_check.proofs.Journals.{some-run, none-run, miss-test}
+use Rattle.report_check.proofs.Journals.{blocks-of, some-run, none-run, miss-test}
 use Rattle.report_check.proofs.journal.misses.Goals as goal
 
 pub returns-then-is_some : goal.returns-then-is_some
@@ -17,5 +17,8 @@ take-requires-clause-size c =
     let more = c.in_ok-reserve_line.ensures.same in
     λ page fit. absurd (none page (rw (more.region, more.past) at fit.here))
 
+pub take-requires-clause-blocks : goal.take-requires-clause-blocks
+take-requires-clause-blocks c = blocks-of c.args.pages.now c.reserve_line.new.self c.args.cycle c.requires.legal c.in_ok-reserve_line.ensures.same
+
 pub returns : goal.returns
-returns c = rw c.is_err.ensures.value (miss-test c.take.result c.args.pages.now c.reserve_line.new.self c.take.new.self c.args.cycle c.args.n c.args.class c.in_ok-reserve_line.ensures.same c.take.ensures.taken c.take.ensures.missed)
+returns c = rw c.is_err.ensures.value (miss-test c.take.result c.args.pages.now c.reserve_line.new.self c.take.new.self c.args.cycle c.args.n c.args.class c.requires.legal c.in_ok-reserve_line.ensures.same c.take.ensures.taken c.take.ensures.missed)

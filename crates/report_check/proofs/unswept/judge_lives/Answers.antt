@@ -2,16 +2,15 @@ use Rattle.std.proofs.Common.{ℕ, refl, sym, subst}
 use Rattle.cycle_history.specs.Requests.{last_cycle, marked_by}
 use Rattle.report_rules.specs.Lines.{IsLeast}
 use Rattle.report_rules.specs.Closing.{BreaksSweeps}
-use Rattle.report_check.specs.Items.{objects_of}
 use Rattle.report_check.proofs.Righting.{end-fault, on-false, on-true}
-use Rattle.report_check.proofs.objects.Objects.judge_lives.Goals as goal
+use Rattle.report_check.proofs.unswept.judge_lives.Goals as goal
 
 pub returns-then-not-branch-clause-fault : goal.returns-then-not-branch-clause-fault
-returns-then-not-branch-clause-fault c gives right =
+returns-then-not-branch-clause-fault c objects gives right =
     let lacks = on-false _ _ _ c.if-not-branch.true c.in_ok-all_swept.ensures in (
       refl,
-      subst (λ (k : ℕ). IsLeast (BreaksSweeps (marked_by c.args.self.now.trace.now) (last_cycle c.args.self.now.trace.now) c.args.self.now.report.now (objects_of c.args.self.now.items.now)) k) (sym c.end_of-line.ensures)
-          (end-fault c.args.self.now.trace.now c.args.self.now.report.now (objects_of c.args.self.now.items.now) gives right lacks),
+      subst (λ (k : ℕ). IsLeast (BreaksSweeps (marked_by c.args.trace.now) (last_cycle c.args.trace.now) c.args.report.now objects) k) (sym c.end_of-line.ensures)
+          (end-fault c.args.trace.now c.args.report.now objects gives right lacks),
     )
 
 pub returns-clause-swept : goal.returns-clause-swept

@@ -3,8 +3,8 @@ use Rattle.std.proofs.lemmas.Bool.{cases_eq, cases_lt}
 use Rattle.std.proofs.lemmas.List.{get_or_past}
 use Rattle.report_check.specs.declared.lives.OpenLife.{OpenLife}
 use Rattle.report_check.proofs.Righting.{on-true}
-use Rattle.report_check.proofs.sweeps.all_noted.Goals.{else-is_some-via-then-is_some+else-not-has, else-is_some-via-else-is_some}
-use Rattle.report_check.proofs.sweeps.all_noted.Goals as goal
+use Rattle.report_check.proofs.unswept.all_noted.Goals.{else-is_some-via-then-is_some+else-not-has, else-is_some-via-else-is_some}
+use Rattle.report_check.proofs.unswept.all_noted.Goals as goal
 
 none-some : (b : Bool) (entry : Option OpenLife) (life : OpenLife) → b ≡ is_some entry → b ≡ false → entry ≡ Some life → ⊥
 none-some b entry life e off is = (let f : is_some entry ≡ true = ap (λ (o : Option OpenLife). is_some o) is in cc)

@@ -5,11 +5,11 @@ use Rattle.page_alloc.specs.Journal.{past_of}
 use Rattle.cycle_history.specs.Requests.{region_of}
 use Rattle.report_rules.specs.Closing.{MayGive}
 use Rattle.report_check.specs.Lives.{AreLives}
-use Rattle.report_check.proofs.objects.Objects.judge_gives.Given as goal
+use Rattle.report_check.proofs.gives.judge_gives.Given as goal
 
 -- the Gives so far may be
 abbrev pub invariant-loop-number : goal.invariant-loop-number
 invariant-loop-number l = record {
-  lives : AreLives (region_of l.self.trace.now) (past_of (take l.number l.self.report.now.journal)) l.lives.items;
-  gives : (n cycle page pages : ℕ) → n < l.number → slice_get l.self.report.now.journal n ≡ Some (Give cycle page pages) → MayGive l.self.report.now n cycle page;
+  lives : AreLives (region_of l.trace) (past_of (take l.number l.report.journal)) l.lives.items;
+  gives : (n cycle page pages : ℕ) → n < l.number → slice_get l.report.journal n ≡ Some (Give cycle page pages) → MayGive l.report n cycle page;
 }

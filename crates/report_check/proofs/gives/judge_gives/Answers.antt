@@ -9,7 +9,6 @@ use Rattle.cycle_history.specs.Requests.{last_cycle, marked_by, region_of}
 use Rattle.cycle_history.specs.declared.Answer.{Answer}
 use Rattle.report_rules.specs.Lines.{IsLeast}
 use Rattle.report_rules.specs.Closing.{BreaksSweeps}
-use Rattle.report_check.specs.Items.{objects_of}
 use Rattle.report_check.specs.declared.lives.OpenLife.{OpenLife}
 use Rattle.report_check.specs.Keys.{AreKeys}
 use Rattle.report_check.specs.Lives.{AreLives}
@@ -17,8 +16,8 @@ use Rattle.report_check.specs.Sweeping.{CanGive}
 use Rattle.report_check.proofs.Ledgers.{written}
 use Rattle.report_check.proofs.Upto.{legal-front, line-more, past-length}
 use Rattle.report_check.proofs.Righting.{gives-fault, gives-more, may-can}
-use Rattle.report_check.proofs.objects.Objects.judge_gives.Goals.{in-Give+else-not-may_give, in_default}
-use Rattle.report_check.proofs.objects.Objects.judge_gives.Goals as goal
+use Rattle.report_check.proofs.gives.judge_gives.Goals.{in-Give+else-not-may_give, in_default}
+use Rattle.report_check.proofs.gives.judge_gives.Goals as goal
 
 -- the next line may stand behind those before it
 legal-next : (region goal : ℕ) (journal : List Line) (n : ℕ) (d : Line) → n < length journal → Legal region goal (past_of journal) → Legal region goal (get_or journal n d ∷ past_of (take n journal))
@@ -48,39 +47,39 @@ give-same lives sweeps cycle page pages c p q e can =
     subst (λ (k : ℕ). CanGive lives sweeps k p) f (subst (λ (k : ℕ). CanGive lives sweeps cycle k) g can)
 
 pub returns-then-not-may_give-clause-fault : goal.returns-then-not-may_give-clause-fault
-returns-then-not-may_give-clause-fault c =
-    let t = c.args.self.now.trace.now in
-    let report = c.args.self.now.report.now in
+returns-then-not-may_give-clause-fault c objects =
+    let t = c.args.trace.now in
+    let report = c.args.report.now in
     let keys = subst (λ (ss : List SweepNote). AreKeys true ss c.in_ok-keys.keys) c.as_slice.ensures c.in_ok-keys.ensures in
     let wrong = c.if-not-may_give.ensures report.sweeps keys in
     let at = line-at c.as_slice-journal.result.now report.journal c.loop-number.number _ c.as_slice-journal.ensures c.loop-number-test.true ∙ ap Some c.in-Give.is in
     let lives = subst (λ (ls : List (Option OpenLife)). AreLives (region_of t) (past_of (take c.loop-number.number report.journal)) ls) (sym c.deref.ensures.value) c.loop-number.invariant.lives in
     let e = ap (λ (xs : List Answer). length xs) c.as_slice-2.ensures in (
       refl,
-      subst (λ (k : ℕ). IsLeast (BreaksSweeps (marked_by t) (last_cycle t) report (objects_of c.args.self.now.items.now)) (k + c.loop-number.number + 1)) (sym e)
-          (gives-fault t report (objects_of c.args.self.now.items.now) c.loop-number.number c.in-Give.cycle c.in-Give.page c.in-Give.pages at
+      subst (λ (k : ℕ). IsLeast (BreaksSweeps (marked_by t) (last_cycle t) report objects) (k + c.loop-number.number + 1)) (sym e)
+          (gives-fault t report objects c.loop-number.number c.in-Give.cycle c.in-Give.page c.in-Give.pages at
           (λ may. wrong (may-can t report c.deref.result.now c.loop-number.number c.in-Give.cycle c.in-Give.page lives may)) c.loop-number.invariant.gives),
     )
 
 pub take_up-requires : goal.take_up-requires
 take_up-requires c =
-    let t = c.args.self.now.trace.now in
-    let report = c.args.self.now.report.now in
+    let t = c.args.trace.now in
+    let report = c.args.report.now in
     let lives = subst (λ (ls : List (Option OpenLife)). AreLives (region_of t) (past_of (take c.loop-number.number report.journal)) ls) (sym c.deref_mut.ensures.value) c.loop-number.invariant.lives in (
       region_of t,
       t.header.goal,
       past_of (take c.loop-number.number report.journal),
       lives,
       elim c.match-line.branch [
-        | in-Give+else-not-may_give w ↦ legal-at (region_of t) t.header.goal c.as_slice-journal.result.now report.journal c.loop-number.number _ c.match-line.line c.as_slice-journal.ensures c.loop-number-test.true (w.line-is ∙ sym w.in-Give.is) c.requires.known.journal.legal
-        | in_default w ↦ legal-at (region_of t) t.header.goal c.as_slice-journal.result.now report.journal c.loop-number.number _ c.match-line.line c.as_slice-journal.ensures c.loop-number-test.true w.line-is c.requires.known.journal.legal
+        | in-Give+else-not-may_give w ↦ legal-at (region_of t) t.header.goal c.as_slice-journal.result.now report.journal c.loop-number.number _ c.match-line.line c.as_slice-journal.ensures c.loop-number-test.true (w.line-is ∙ sym w.in-Give.is) c.requires.journal.legal
+        | in_default w ↦ legal-at (region_of t) t.header.goal c.as_slice-journal.result.now report.journal c.loop-number.number _ c.match-line.line c.as_slice-journal.ensures c.loop-number-test.true w.line-is c.requires.journal.legal
       ],
     )
 
 pub loop-number-preserved : goal.loop-number-preserved
 loop-number-preserved c =
-    let t = c.args.self.now.trace.now in
-    let report = c.args.self.now.report.now in
+    let t = c.args.trace.now in
+    let report = c.args.report.now in
     let n = c.loop-number.number in
     let journal = c.as_slice-journal.result.now in
     let lives = subst (λ (ls : List (Option OpenLife)). AreLives (region_of t) (past_of (take n report.journal)) ls) (sym c.deref_mut.ensures.value) c.loop-number.invariant.lives in
@@ -93,7 +92,7 @@ loop-number-preserved c =
     elim c.match-line.branch [
       | in-Give+else-not-may_give w ↦ (
           let at = line-at journal report.journal n _ c.as_slice-journal.ensures lt in
-          let legal = legal-at (region_of t) t.header.goal journal report.journal n _ c.match-line.line c.as_slice-journal.ensures lt (w.line-is ∙ sym w.in-Give.is) c.requires.known.journal.legal in
+          let legal = legal-at (region_of t) t.header.goal journal report.journal n _ c.match-line.line c.as_slice-journal.ensures lt (w.line-is ∙ sym w.in-Give.is) c.requires.journal.legal in
           let more = subst (λ (l : Line). past_of (take (n + 1) report.journal) ≡ l ∷ past_of (take n report.journal)) (sym (w.line-is ∙ sym w.in-Give.is)) (more-at journal report.journal n _ c.as_slice-journal.ensures lt) in
           let before = subst (λ (ls : List (Option OpenLife)). AreLives (region_of t) (past_of (take n report.journal)) ls) (sym w.deref.ensures.value) c.loop-number.invariant.lives in
           record {
@@ -104,7 +103,7 @@ loop-number-preserved c =
           })
       | in_default w ↦ (
           let at = line-at journal report.journal n _ c.as_slice-journal.ensures lt in
-          let legal = legal-at (region_of t) t.header.goal journal report.journal n _ c.match-line.line c.as_slice-journal.ensures lt w.line-is c.requires.known.journal.legal in
+          let legal = legal-at (region_of t) t.header.goal journal report.journal n _ c.match-line.line c.as_slice-journal.ensures lt w.line-is c.requires.journal.legal in
           let more = subst (λ (l : Line). past_of (take (n + 1) report.journal) ≡ l ∷ past_of (take n report.journal)) (sym w.line-is) (more-at journal report.journal n _ c.as_slice-journal.ensures lt) in
           record {
             lives = subst (λ (ls : List (Option OpenLife)). AreLives (region_of t) (past_of (take (n + 1) report.journal)) ls) (sym same)
@@ -114,4 +113,4 @@ loop-number-preserved c =
     ]
 
 pub returns-clause-gives : goal.returns-clause-gives
-returns-clause-gives c n cycle page pages at = c.loop-number.invariant.gives n cycle page pages (let w = slice_get_within c.args.self.now.report.now.journal n (Give cycle page pages) at in let f = c.loop-number-test.false in let e = ap (λ (js : List Line). length js) c.as_slice-journal.ensures in omega arith) at
+returns-clause-gives c n cycle page pages at = c.loop-number.invariant.gives n cycle page pages (let w = slice_get_within c.args.report.now.journal n (Give cycle page pages) at in let f = c.loop-number-test.false in let e = ap (λ (js : List Line). length js) c.as_slice-journal.ensures in omega arith) at

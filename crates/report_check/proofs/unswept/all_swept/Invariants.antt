@@ -4,12 +4,12 @@ use Rattle.cycle_history.specs.Sweeps.{IsOpenAfter}
 use Rattle.cycle_history.specs.Sound.{past_in}
 use Rattle.report_check.specs.Ledgers.{IsOpenTo}
 use Rattle.report_check.specs.Sweeping.{HasNote}
-use Rattle.report_check.proofs.objects.Objects.all_swept.Given as goal
+use Rattle.report_check.proofs.unswept.all_swept.Given as goal
 
 -- the lives that the mark ends so far found alive have sweeps
 abbrev pub invariant-loop-cycle : goal.invariant-loop-cycle
 invariant-loop-cycle l = record {
   some : 1 ≤ l.cycle;
-  opened : IsOpenTo l.self.trace.now l.self.report.now (l.cycle - 1) l.opened;
-  all : (m : ℕ) (life : Life) → suc m < l.cycle → IsOpenAfter (past_in l.self.report.now) m life → HasNote (λ note. Unit {0}) l.self.report.now.sweeps (suc m) life.page;
+  opened : IsOpenTo l.trace l.report (l.cycle - 1) l.opened;
+  all : (m : ℕ) (life : Life) → suc m < l.cycle → IsOpenAfter (past_in l.report) m life → HasNote (λ note. Unit {0}) l.report.sweeps (suc m) life.page;
 }

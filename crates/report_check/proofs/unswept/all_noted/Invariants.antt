@@ -3,7 +3,7 @@ use Rattle.span_state.specs.declared.sweep.SweepNote.{SweepNote}
 use Rattle.report_check.specs.declared.lives.OpenLife.{OpenLife}
 use Rattle.report_check.specs.Keys.{AreKeys}
 use Rattle.report_check.specs.Sweeping.{HasNote}
-use Rattle.report_check.proofs.sweeps.all_noted.Given as goal
+use Rattle.report_check.proofs.unswept.all_noted.Given as goal
 
 -- the lives so far have sweeps
 abbrev pub invariant-loop-page : goal.invariant-loop-page
