@@ -188,16 +188,16 @@ next_served table w c pairs r = record {
   used = used_rested w.view.own;
 }
 
-pub next_ready : (table table' : TableId) (ring ring' : RingId) (marks m : MarkSet) (old new : Hand) (c : Cache) → table' ≡ table → ring' ≡ ring → IsReady table ring marks old c → new.worker ≡ after_next m.pairs old.worker → new.tally ≡ calls old.tally NextCycle
-    → ((page : ℕ) → All (λ b. b < 2) (dead_of m page)) → IsReady table' ring' m new c
-next_ready table table' ring ring' marks m old new c same same_ring r w n dead =
-    subst (λ (t : TableId). IsReady t ring' m new c) (sym same) (subst (λ (q : RingId). IsReady table q m new c) (sym same_ring) (record {
+pub next_ready : (table : TableId) (ring ring' : RingId) (marks m : MarkSet) (old new : Hand) (c : Cache) → ring' ≡ ring → IsReady table ring marks old c → new.worker ≡ after_next m.pairs old.worker → new.tally ≡ calls old.tally NextCycle
+    → ((page : ℕ) → All (λ b. b < 2) (dead_of m page)) → IsReady table ring' m new c
+next_ready table ring ring' marks m old new c same_ring r w n dead =
+    subst (λ (q : RingId). IsReady table q m new c) (sym same_ring) (record {
       served = subst (λ (x : Seen). IsServed table x c) (sym w) (next_served table old.worker c m.pairs r.served);
       same_marks = sym (ap (λ (x : Seen). x.view.marks) w);
       counts = record { ring = ap (λ (t : Standing). t.ring) n ∙ r.counts.ring; dead = λ page. subst (λ (b : ℕ). All (λ x. x < b) (dead_of m page)) (sym r.two) (dead page) };
       publishes = record { ring = ap (λ (t : Standing). t.ring) n ∙ r.publishes.ring; drives = ap (λ (t : Standing). t.view.drives) n ∙ r.publishes.drives; alone = ap (λ (t : Standing). t.view.out) n ∙ r.publishes.alone };
       two = r.two;
-    }))
+    })
 
 -- the driver's tally published, and was read
 pub published_ready : (table : TableId) (ring ring' : RingId) (marks : MarkSet) (h : Hand) (c : Cache) (t t' : Standing) → ring' ≡ ring → IsReady table ring marks h c → t ≡ calls h.tally AfterSweep → t' ≡ t → IsReady table ring' marks (record h { tally = t' }) c

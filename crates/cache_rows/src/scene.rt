@@ -40,6 +40,7 @@ impl Scene {
     /// A region without spans, and processor 0 of a trace with seed 1 and this rate, or 2^30 where it is more.
     pub fn start(alloc: Global, rate: u64) -> Result<Scene, NoMemory> {
         let header = Header {
+            version: 1,
             chunks: 1,
             procs: 1,
             rate: rate.min(1 << 30),
@@ -154,7 +155,7 @@ impl Scene {
             live,
         )?;
         turn(
-            &mut self.shared,
+            &self.shared,
             &mut self.ring,
             &self.marks,
             &mut self.hand,

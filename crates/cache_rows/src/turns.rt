@@ -220,16 +220,16 @@ pub(crate) fn prepare<R: Wait>(
 
 // Ends the mark phase, with the next marks behind those of the one before.
 pub(crate) fn turn(
-    shared: &mut Shared,
+    shared: &Shared,
     ring: &mut Ring,
     marks: &Marks,
     hand: &mut Hand,
     proc: &Proc,
     next: &Marks,
 )
-    requires ready { IsReady shared.old ring.old marks.now hand.old proc.now }
+    requires ready { IsReady shared.now ring.old marks.now hand.old proc.now }
     requires prepared { IsPrepared hand.old.worker proc.now next.now }
-    ensures { IsReady shared.new ring.new next.now hand.new proc.now }
+    ensures { IsReady shared.now ring.new next.now hand.new proc.now }
 {
     let _marks = marks;
     let _proc = proc;

@@ -17,6 +17,7 @@ use Rattle.span_laws.specs.Asks.{mine}
 use Rattle.span_laws.specs.Calls.{Keeps, notes_of}
 use Rattle.span_laws.proofs.CallLogs.{keeps-refl, keeps-trans, notes-append}
 use Rattle.span_set.specs.declared.hand.Hand.{Hand}
+use Rattle.span_set.proofs.Fits.{fits-both, fits-none}
 use Rattle.central_lists.specs.declared.answers.FromSets.TheVariants.{SweptHere, NeedFresh}
 use Rattle.central_lists.specs.declared.answers.Look.{Look}
 use Rattle.central_lists.specs.declared.answers.One.{One}
@@ -58,6 +59,7 @@ module _ (g class : ℕ) where
     said = y.said ++ x.said;
     log = y.log ∙ ap (λ (z : List Entry). y.said ++ z) x.log ∙ sym (append_assoc y.said x.said a.worker.view.own.log);
     says = says-trans g class t u v j i l x.said y.said x.says y.says sum keeps;
+    sets = fits-both g j i l y.said x.said a.worker b.worker d.worker (λ p z. let s = keeps p in omega arith) (λ p z. let s = keeps p in omega arith) x.sets y.sets;
     property = r y.said x.said x.property y.property;
     keeps = keeps-trans a.worker b.worker d.worker x.keeps y.keeps (λ q s. let z = had_still t m j P a b x q in omega arith);
     held = λ q. let z = x.held q in let w = y.held q in let s = mores q in omega arith;
@@ -65,13 +67,14 @@ module _ (g class : ℕ) where
   }
 
   pub does-change : (t : ℕ) (m j : ℕ → ℕ) (P Q : List Entry → Type 0) (a b : Hand) → Does g class t m j P a b → ((s : List Entry) → P s → Q s) → Does g class t m j Q a b
-  does-change t m j P Q a b x f = record { said = x.said; log = x.log; says = x.says; property = f x.said x.property; keeps = x.keeps; held = x.held; notes = x.notes }
+  does-change t m j P Q a b x f = record { said = x.said; log = x.log; says = x.says; sets = x.sets; property = f x.said x.property; keeps = x.keeps; held = x.held; notes = x.notes }
 
   pub does-nothing : (a : Hand) → Does g class 0 nothing nothing Whatever a a
   does-nothing a = record {
     said = [];
     log = refl;
     says = says-nil g class;
+    sets = fits-none g nothing [] a.worker a.worker [] refl refl;
     property = tt;
     keeps = keeps-refl a.worker;
     held = λ q. omega arith;

@@ -20,13 +20,14 @@ use Rattle.span_laws.specs.OwnSteps.{after_of, after_said}
 use Rattle.span_laws.proofs.Has.{has_last}
 use Rattle.span_laws.proofs.WordMoves.{span_else, span_here}
 use Rattle.span_set.specs.declared.hand.Hand.{Hand}
+use Rattle.span_set.proofs.Fits.{fits-none}
 use Rattle.span_set.specs.declared.answers.Pop.TheVariants.{Taken, Empty as EmptySet, NotYet as NotFilled}
 use Rattle.span_set.specs.Pops.{PopsSwept, with_looks}
 use Rattle.span_set.proofs.Numbers.{class_is, partial_is}
 use Rattle.central_lists.specs.declared.answers.Look.TheVariants.{Empty, NotYet}
 use Rattle.central_lists.specs.Works.{Says, nothing}
 use Rattle.central_lists.specs.Lists.{LooksFirst}
-use Rattle.central_lists.proofs.Saying.{blank, last_look, looks_note, says-trans, taken}
+use Rattle.central_lists.proofs.Saying.{blank, last_look, looks_note, looks_sweep, says-trans, taken}
 use Rattle.central_lists.proofs.Trying.{keeps_by, times_more}
 
 module _ (class : ℕ) (a d : Hand) (notes : d.notes.items ≡ a.notes.items) where
@@ -78,6 +79,7 @@ module _ (class : ℕ) (a d : Hand) (notes : d.notes.items ≡ a.notes.items) wh
         said = said;
         log = log;
         says = says;
+        sets = fits-none g nothing said a.worker d.worker (span_of b ∷ []) (looks_sweep set g pops.3.said pops.3.looks) (ap (λ (x : Seen). x.view.own.spans) whole);
         property = rw (eq-eqb set set refl, eq-eqb b.page b.page refl) (omega arith);
         keeps = keeps_by a.worker d.worker (after looks).view.own whole refl refl refl refl (λ q. refl) (λ q. refl)
             (λ q m. span_else (span_of b) own.spans q (λ x. let z = ap (λ (y : ℕ). mine y own) x in let y = pops.7.nothing in omega arith));
@@ -91,6 +93,7 @@ module _ (class : ℕ) (a d : Hand) (notes : d.notes.items ≡ a.notes.items) wh
     said = Looked set head tail ∷ (l.said ++ Read 1 g ∷ []);
     log = ap (λ (w : Seen). w.view.own.log) l.view ∙ ap (λ (x : List Entry). Looked set head tail ∷ x) (sym (append_assoc l.said (Read 1 g ∷ []) a.worker.view.own.log));
     says = last_look g class set head tail g l.said l.looks;
+    sets = fits-none g nothing (Looked set head tail ∷ (l.said ++ Read 1 g ∷ [])) a.worker d.worker [] (looks_sweep set g l.said l.looks) (ap (λ (w : Seen). w.view.own.spans) l.view);
     property = rw (eq-eqb set set refl, eq-eqb head head refl, eq-eqb tail head (sym same)) (omega arith);
     keeps = keeps_by a.worker d.worker (record a.worker.view.own { log = Looked set head tail ∷ (l.said ++ Read 1 g ∷ a.worker.view.own.log); read = l.cells ++ a.worker.view.own.read }) l.view refl refl refl refl (λ q. refl) (λ q. refl) (λ q m. refl);
     held = λ q. let z = ap (λ (w : Seen). times q w.view.own.held) l.view in omega arith;
@@ -102,6 +105,7 @@ module _ (class : ℕ) (a d : Hand) (notes : d.notes.items ≡ a.notes.items) wh
     said = LookedEmptyCell set head ∷ looks;
     log = ap (λ (w : Seen). w.view.own.log) whole ∙ ap (λ (x : List Entry). LookedEmptyCell set head ∷ Looked set head tail ∷ x) (sym (append_assoc l.said (Read 1 g ∷ []) a.worker.view.own.log));
     says = says-trans g class 0 0 0 nothing nothing nothing looks (LookedEmptyCell set head ∷ []) (last_look g class set head tail g l.said l.looks) (blank g class set head) (omega arith) (λ p. omega arith);
+    sets = fits-none g nothing (LookedEmptyCell set head ∷ looks) a.worker d.worker [] (looks_sweep set g l.said l.looks) (ap (λ (w : Seen). w.view.own.spans) whole);
     property = rw (eq-eqb set set refl, eq-eqb head head refl) (omega arith);
     keeps = keeps_by a.worker d.worker (record a.worker.view.own { log = LookedEmptyCell set head ∷ Looked set head tail ∷ (l.said ++ Read 1 g ∷ a.worker.view.own.log); read = l.cells ++ a.worker.view.own.read }) whole refl refl refl refl (λ q. refl) (λ q. refl) (λ q m. refl);
     held = λ q. let z = ap (λ (w : Seen). times q w.view.own.held) whole in omega arith;

@@ -7,6 +7,7 @@ use Rattle.sweep_laws.specs.Reading.{class_of_set, is_swept_set}
 use Rattle.worker_log.specs.declared.Entry.{Entry}
 use Rattle.worker_log.specs.declared.Entry.TheVariants.{Looked, LookedEmptyCell, Popped, Pushed, Swept, Found, Read, Added}
 use Rattle.worker_log.specs.declared.Sweeping.{Sweeping}
+use Rattle.worker_log.specs.Logs.{sweepings}
 use Rattle.worker_log.specs.SetNumbers.{is_full_set, swept_set, unswept_set}
 use Rattle.worker_log.specs.Entries.{is_partial_push, is_pop, is_pop_of, is_push_of, is_sweep_of}
 use Rattle.worker_log.proofs.Logs.{many-append}
@@ -204,6 +205,12 @@ module _ (g class : ℕ) where
     places_nothing = refl;
     pops_no_full = λ j p t f. refl;
   }
+
+-- looks sweep nothing
+pub looks_sweep : (set value : ℕ) (said : List Entry) → AllByRecursion (IsLookAt set) said → sweepings (said ++ Read 1 value ∷ []) ≡ []
+looks_sweep set value [] l = refl
+looks_sweep set value (Looked s h t ∷ said) l = looks_sweep set value said l.1
+looks_sweep set value (_ ∷ said) l = absurd l.0
 
 -- looks make no note
 pub looks_note : (g set value : ℕ) (said : List Entry) → AllByRecursion (IsLookAt set) said → notes_of g (said ++ Read 1 value ∷ []) ≡ []

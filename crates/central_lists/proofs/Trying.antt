@@ -1,6 +1,7 @@
 -- What one try of an unswept set did, from its steps.
-use Rattle.std.proofs.Common.{◌≡◌, ◌≢◌, ℕ, suc, ◌+◌, ◌<◌, eqb, eq-eqb, List, [], ◌∷◌, ◌++◌, refl, sym, ap, subst, ◌∙◌, append_assoc, arith}
-use Rattle.std.specs.Prelude.{None}
+use Rattle.std.proofs.Common.{◌≡◌, ◌≢◌, ℕ, suc, ◌+◌, ◌<◌, true, false, true≢false, eqb, eq-eqb, List, [], ◌∷◌, ◌++◌, refl, sym, ap, subst, ◌∙◌, append_assoc, arith}
+use Rattle.std.specs.Prelude.{None, Some, Option, MatchOption}
+use Rattle.std.specs.Option.{is_some}
 use Rattle.std.proofs.lemmas.List.{append-nil}
 use mathlib.Core.Logic.{dite}
 use native.Mathlib.Decide.{ℕ_discrete}
@@ -12,7 +13,10 @@ use Rattle.sweep_laws.proofs.Naming.{times_erase, times_erase_else}
 use Rattle.worker_log.specs.declared.Entry.{Entry}
 use Rattle.worker_log.specs.declared.Entry.TheVariants.{Looked, Popped, Pushed, Swept as SweptEntry, Found, Read, Added}
 use Rattle.worker_log.specs.SetNumbers.{swept_set, unswept_set}
-use Rattle.worker_log.specs.Entries.{is_placing_in, is_pop_of, many}
+use Rattle.worker_log.specs.Entries.{is_placing_in, is_pop_of, is_push_of, many}
+use Rattle.worker_log.specs.Logs.{sweepings}
+use Rattle.span_state.specs.Bits.{count_below}
+use Rattle.span_state.specs.Spans.{allocated}
 use Rattle.worker_log.proofs.Logs.{many-append}
 use Rattle.span_state.specs.MarkSet.{MarkSet, has_pair}
 use Rattle.span_state.specs.declared.body.Body.{Body}
@@ -23,7 +27,7 @@ use Rattle.span_laws.specs.declared.said.Said.TheVariants.{Adds, Fills, Finds, L
 use Rattle.span_laws.specs.declared.said.SaidOf.TheVariants.{Acquires, Releases}
 use Rattle.span_laws.specs.declared.answers.Acquired.TheVariants.{Got}
 use Rattle.span_laws.specs.Answers.{AcquiresSpan}
-use Rattle.span_laws.specs.BodyAsks.{HasRoom}
+use Rattle.span_laws.specs.BodyAsks.{HasRoom, IsFullBody}
 use Rattle.span_laws.specs.Asks.{IsUntouched, mine}
 use Rattle.span_laws.specs.Calls.{Keeps, notes_of}
 use Rattle.span_laws.specs.Views.{Seen, acts, span_at, span_of}
@@ -31,6 +35,7 @@ use Rattle.span_laws.specs.OwnSteps.{after_of, after_said}
 use Rattle.span_laws.proofs.Has.{has_last}
 use Rattle.span_laws.proofs.WordMoves.{span_else, span_here}
 use Rattle.span_set.specs.declared.hand.Hand.{Hand}
+use Rattle.span_set.proofs.Fits.{fits-kept, fits-none, fits-pushed}
 use Rattle.span_set.specs.declared.answers.PopBase.TheVariants.{Popped as PoppedBase, Empty as EmptyBase}
 use Rattle.span_set.specs.Pops.{LooksLast, PopsUnswept}
 use Rattle.span_set.specs.Sweeps.{note_of}
@@ -38,7 +43,12 @@ use Rattle.span_set.proofs.Numbers.{swept_is, swept_low, unswept_is}
 use Rattle.central_lists.specs.Looks.{SawEmpty, SweptIt, Whatever}
 use Rattle.central_lists.specs.Works.{Does, Says, just, nothing}
 use Rattle.central_lists.specs.Tries.{Sweeping, SweepsOut}
-use Rattle.central_lists.proofs.Saying.{class_here, found, last_look, looks_note, pushed, says-trans, swept, tried}
+use Rattle.central_lists.proofs.Saying.{class_here, found, last_look, looks_note, looks_sweep, pushed, says-trans, swept, tried}
+
+-- where there is none, what is so then
+pub none_given : (P : Type 0) (Q : ℕ → Type 0) (r : Option ℕ) → is_some r ≡ false → MatchOption r P Q → P
+none_given P Q None e h = h
+none_given P Q (Some x) e h = absurd (true≢false e)
 
 -- a page that came last goes without a trace
 pub times_back : (q p : ℕ) (xs : List ℕ) → times q (erase p (xs ++ p ∷ [])) ≡ times q xs
@@ -84,6 +94,7 @@ module _ (g class full : ℕ) where
     pub cells : List Cell
     pub says : Says g class 1 nothing said
     pub notes : notes_of g said ≡ []
+    pub sweeps : sweepings said ≡ []
     pub popped : 0 < many (is_pop_of (unswept_set g class full) page) said
     pub view : new ≡ popped_by page said cells old
 
@@ -93,6 +104,7 @@ module _ (g class full : ℕ) where
     cells = record { set = set; index = head; page = page } ∷ l.cells;
     says = says-trans g class 0 1 1 nothing nothing nothing looks (Popped set page ∷ []) (last_look g class set head tail old.view.generation l.said l.looks) (tried g class full page small) (omega arith) (λ p. omega arith);
     notes = ap (λ (x : List SweepNote). (x ++ []) ++ []) (looks_note g set old.view.generation l.said l.looks);
+    sweeps = looks_sweep set old.view.generation l.said l.looks;
     popped = rw (eq-eqb set set refl, eq-eqb page page refl) (omega arith);
     view = e ∙ ap (λ (w : Seen). after_said (PopsEntry set page) (after_said (LooksCell set head (suc page)) w)) l.view
         ∙ ap (λ (x : List Entry). with_part (record old.view.own { popped = old.view.own.popped ++ page ∷ []; log = Popped set page ∷ Looked set head tail ∷ x; read = record { set = set; index = head; page = page } ∷ (l.cells ++ old.view.own.read) }) old)
@@ -106,6 +118,7 @@ module _ (g class full : ℕ) where
         said = said;
         log = ap (λ (w : Seen). w.view.own.log) l.view ∙ ap (λ (x : List Entry). Looked set head tail ∷ x) (sym (append_assoc l.said (Read 1 value ∷ []) a.worker.view.own.log));
         says = last_look g class set head tail value l.said l.looks;
+        sets = fits-none g nothing said a.worker d.worker [] (looks_sweep set value l.said l.looks) (ap (λ (w : Seen). w.view.own.spans) l.view);
         property = tt;
         keeps = keeps_by a.worker d.worker h l.view refl refl refl refl (λ q. refl) (λ q. refl) (λ q m. refl);
         held = λ q. let z = ap (λ (w : Seen). times q w.view.own.held) l.view in omega arith;
@@ -120,6 +133,7 @@ module _ (g class full : ℕ) where
     said = x.said;
     log = x.log;
     says = x.says;
+    sets = x.sets;
     property = rw (eq-eqb set set refl, eq-eqb head tail pops.0) (omega arith);
     keeps = x.keeps;
     held = x.held;
@@ -134,6 +148,7 @@ module _ (g class full : ℕ) where
           said = Found page word ∷ pop.said;
           log = ap (λ (x : Seen). x.view.own.log) all;
           says = says-trans g class 1 0 1 nothing nothing nothing pop.said (Found page word ∷ []) pop.says (found g class page word) (omega arith) (λ p. omega arith);
+          sets = fits-none g nothing (Found page word ∷ pop.said) a.worker d.worker [] pop.sweeps (ap (λ (x : Seen). x.view.own.spans) all);
           property = tt;
           keeps = keeps_by a.worker d.worker h all refl refl refl refl (λ q. refl) (λ q. times_back q page a.worker.view.own.popped) (λ q m. refl);
           held = λ q. let z = ap (λ (x : Seen). times q x.view.own.held) all in omega arith;
@@ -193,6 +208,9 @@ module _ (g class full : ℕ) where
       abbrev sweep_said : List Entry
       sweep_said = SweptEntry sweeping_is ∷ Added 2 b.pages ∷ Read 2 s.worker.before ∷ Read 1 c.worker.view.generation ∷ []
 
+      one_sweep : sweepings (sweep_said ++ pop.said) ≡ sweeping_is ∷ []
+      one_sweep = ap (λ (l : List Rattle.worker_log.specs.declared.Sweeping.Sweeping). sweeping_is ∷ l) pop.sweeps
+
       log_after : mid.worker.view.own.log ≡ sweep_said ++ (pop.said ++ a.worker.view.own.log)
       log_after = s.worker.log ∙ ap (λ (x : List Entry). sweep_said ++ x) log_before
 
@@ -243,6 +261,7 @@ module _ (g class full : ℕ) where
           said = sweep_said ++ pop.said;
           log = log_after;
           says = says-trans g class 1 0 1 nothing (just b.page) (just b.page) pop.said sweep_said pop.says (swept g class sweeping_is s.worker.before c.worker.view.generation) (omega arith) (λ p. omega arith);
+          sets = fits-kept g (just b.page) (sweep_said ++ pop.said) a.worker mid.worker (span_of b ∷ span_of b₀ ∷ []) sweeping_is one_sweep (ap (λ (x : Seen). x.view.own.spans) all) (rw (eq-eqb b.page b.page refl) (omega arith));
           property = rw (eq-eqb b.page b.page refl) (omega arith);
           keeps = keeps_by a.worker mid.worker (sweep (after_of Acquires (span_of b₀) start)).view.own all refl refl refl refl sweeping_back popped_back bodies;
           held = λ q. ap (λ (x : Seen). times q x.view.own.held) all ∙ times_more q b.page a.worker.view.own.held;
@@ -251,9 +270,9 @@ module _ (g class full : ℕ) where
       )
 
       -- it is pushed to the full set
-      pub gone : (d : Hand) → a.worker.view.own.claimed ≡ None → d.worker ≡ after_said (Fills (swept_set c.worker.view.generation class 1) b.page) (after_said (Reads 1 c.worker.view.generation) mid.worker) → d.notes.items ≡ mid.notes.items
+      pub gone : (d : Hand) → IsFullBody b → a.worker.view.own.claimed ≡ None → d.worker ≡ after_said (Fills (swept_set c.worker.view.generation class 1) b.page) (after_said (Reads 1 c.worker.view.generation) mid.worker) → d.notes.items ≡ mid.notes.items
           → Does g class 1 nothing nothing Whatever a d
-      gone d free e notes = let set = swept_set g class 1 in let value = c.worker.view.generation in
+      gone d full free e notes = let set = swept_set g class 1 in let value = c.worker.view.generation in
           let push = (λ (x : Seen). after_said (Fills set b.page) (after_said (Reads 1 value) x)) in
           let e' : d.worker ≡ push mid.worker = e ∙ ap (λ (z : ℕ). after_said (Fills (swept_set z class 1) b.page) (after_said (Reads 1 value) mid.worker)) generation_is in
           let whole : d.worker ≡ push (sweep (after_of Acquires (span_of b₀) start)) = e' ∙ ap push all in
@@ -261,11 +280,18 @@ module _ (g class full : ℕ) where
             said = said ++ pop.said;
             log = ap (λ (x : Seen). x.view.own.log) e' ∙ ap (λ (l : List Entry). Pushed set b.page ∷ Read 1 value ∷ l) log_after;
             says = says-trans g class 1 0 1 nothing nothing nothing pop.said said pop.says (pushed g class sweeping_is s.worker.before value value) (omega arith) (λ p. omega arith);
+            sets = fits-pushed g nothing (said ++ pop.said) a.worker d.worker (span_of b₀ ∷ []) sweeping_is (span_of b) true one_sweep (ap (λ (x : Seen). x.view.own.spans) whole) refl kept_count (λ z. full) (λ z. absurd (true≢false z)) to_full;
             property = tt;
             keeps = keeps_by a.worker d.worker (push (sweep (after_of Acquires (span_of b₀) start))).view.own whole refl refl (sym free) refl sweeping_back popped_back bodies;
             held = λ q. let z = ap (λ (x : Seen). times q x.view.own.held) whole in let y = times_back q b.page a.worker.view.own.held in omega arith;
             notes = notes ∙ notes_after ∙ ap (λ (x : List SweepNote). a.notes.items ++ x) (sym more_notes);
           }
         where
+          kept_count : s.numbers.kept ≡ count_below b.count (allocated b)
+          kept_count = sym (ap (λ (m : ℕ). count_below m (allocated b)) s.body.same.count ∙ (λ i. count_below b₀.count (λ k. s.body.marked k i)) ∙ sym s.body.kept)
+
+          to_full : 0 < many (is_push_of (swept_set g b.class 1) b.page) (Pushed (swept_set g class 1) b.page ∷ Read 1 c.worker.view.generation ∷ (sweep_said ++ pop.said))
+          to_full = rw (class_is, eq-eqb (swept_set g class 1) (swept_set g class 1) refl, eq-eqb b.page b.page refl) (omega arith)
+
           more_notes : notes_of g (Pushed (swept_set g class 1) b.page ∷ Read 1 c.worker.view.generation ∷ (sweep_said ++ pop.said)) ≡ notes_of g (sweep_said ++ pop.said)
           more_notes = append-nil (notes_of g (Read 1 c.worker.view.generation ∷ (sweep_said ++ pop.said))) ∙ append-nil (notes_of g (sweep_said ++ pop.said))

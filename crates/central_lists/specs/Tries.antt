@@ -6,7 +6,7 @@ use Rattle.span_state.specs.declared.body.Body.{Body}
 use Rattle.span_state.specs.declared.sweep.Swept.{Swept}
 use Rattle.worker_log.specs.SetNumbers.{swept_set, unswept_set}
 use Rattle.span_laws.specs.declared.said.Said.TheVariants.{Fills, Reads}
-use Rattle.span_laws.specs.BodyAsks.{HasMarks, HasRoom}
+use Rattle.span_laws.specs.BodyAsks.{HasMarks, HasRoom, IsFullBody}
 use Rattle.span_laws.specs.Asks.{IsUntouched}
 use Rattle.span_laws.specs.OwnSteps.{after_said}
 use Rattle.span_set.specs.declared.hand.Hand.{Hand}
@@ -32,7 +32,7 @@ pub record Sweeping (marks : MarkSet) (old new : Body) (before mid : Hand) : Typ
 abbrev pub SweepsOne : MarkSet → ℕ → Body → Hand → Hand → Option Body → Type 0
 SweepsOne marks class body old new (Some b) = HasRoom b × Sweeping marks body b old new
 SweepsOne marks class body old new None = (b : Body) × (mid : Hand) × Sweeping marks body b old mid × (new.notes ≡ mid.notes)
-    × (new.worker ≡ after_said (Fills (swept_set old.worker.view.generation class 1) b.page) (after_said (Reads 1 old.worker.view.generation) mid.worker))
+    × (new.worker ≡ after_said (Fills (swept_set old.worker.view.generation class 1) b.page) (after_said (Reads 1 old.worker.view.generation) mid.worker)) × IsFullBody b
 
 -- a span that was swept here is handed out, with its marked objects
 pub record SweepsOut (g class : ℕ) (b : Body) (old new : Hand) : Type 0 where

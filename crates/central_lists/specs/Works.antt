@@ -8,6 +8,7 @@ use Rattle.worker_log.specs.Entries.{is_partial_push, is_pop_of, is_push_of, is_
 use Rattle.span_laws.specs.Calls.{Keeps, added, is_giving, is_missing, is_placing, notes_of, swept_pages}
 use Rattle.span_laws.specs.Logs.{is_taking}
 use Rattle.span_set.specs.declared.hand.Hand.{Hand}
+use Rattle.span_set.specs.Fits.{FitsSets}
 use Rattle.central_lists.specs.Looks.{tries}
 
 -- no page
@@ -35,12 +36,13 @@ pub record Says (g class tried : ℕ) (kept : ℕ → ℕ) (said : List Entry) :
   pub places_nothing : many is_placing said ≡ 0
   pub pops_no_full : (j p : ℕ) → is_swept_set g j ≡ true → is_full_set j ≡ true → many (is_pop_of j p) said ≡ 0
 
--- what some work did: the log grew by what it says, which has a property besides; the worker holds so many pages more, and else has what it had;
--- and each sweep has just its note
+-- what some work did: the log grew by what it says, which has a property besides; each span of which a sweep kept some went to the set that it fits, but
+-- for those that are kept; the worker holds so many pages more, and else has what it had; and each sweep has just its note
 pub record Does (g class tried : ℕ) (more kept : ℕ → ℕ) (P : List Entry → Type 0) (old new : Hand) : Type 0 where
   pub said : List Entry
   pub log : new.worker.view.own.log ≡ said ++ old.worker.view.own.log
   pub says : Says g class tried kept said
+  pub sets : FitsSets g kept said old.worker new.worker
   pub property : P said
   pub keeps : Keeps old.worker new.worker
   pub held : (q : ℕ) → times q new.worker.view.own.held ≡ times q old.worker.view.own.held + more q

@@ -7,7 +7,9 @@
 
 mod answers;
 mod glances;
+mod laws;
 mod lists;
 
 pub use answers::{FromSets, Look};
+pub use laws::a_refused_look_may_be_made_again;
 pub use lists::cache_span;

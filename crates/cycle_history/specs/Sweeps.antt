@@ -1,7 +1,7 @@
 -- The rules on what a report says of sweeps, and of the objects of each size class.
 use Rattle.std.specs.Prelude.{◌≡◌, ℕ, suc, ◌/◌, ◌<◌, ◌≤◌, Bool, true, ◌&&◌, ◌==◌, not, List, [], ◌∷◌, ◌⊎◌}
 use Rattle.page_bitmap.specs.declared.line.Line.{Line}
-use Rattle.page_bitmap.specs.declared.line.Line.TheVariants.{Take, Miss, Give, Scav}
+use Rattle.page_bitmap.specs.declared.line.Line.TheVariants.{Take, Miss, Give, Scav, Pull, Cut, Drop}
 use Rattle.page_alloc.specs.Lists.{In, count}
 use Rattle.page_alloc.specs.Lives.{Life, open_lives}
 use Rattle.page_alloc.specs.Journal.{at_end}
@@ -33,6 +33,9 @@ GivesWhenEmpty marked objects [] = Unit {0}
 GivesWhenEmpty marked objects (Take cycle page pages class ∷ past) = GivesWhenEmpty marked objects past
 GivesWhenEmpty marked objects (Miss cycle pages class ∷ past) = GivesWhenEmpty marked objects past
 GivesWhenEmpty marked objects (Scav cycle page pages ∷ past) = GivesWhenEmpty marked objects past
+GivesWhenEmpty marked objects (Pull cycle proc page pages ∷ past) = GivesWhenEmpty marked objects past
+GivesWhenEmpty marked objects (Cut cycle proc page pages class ∷ past) = GivesWhenEmpty marked objects past
+GivesWhenEmpty marked objects (Drop cycle proc page pages ∷ past) = GivesWhenEmpty marked objects past
 GivesWhenEmpty marked objects (Give cycle page pages ∷ past) =
     ((life : Life) → In life (open_lives past) → life.page ≡ page → (life.cycle < cycle) × (kept marked objects cycle life.number ≡ 0))
     × GivesWhenEmpty marked objects past

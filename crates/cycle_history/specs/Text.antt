@@ -3,7 +3,7 @@ use Rattle.std.specs.Prelude.{ℕ, ◌+◌, false, List, [], ◌∷◌, ◌++◌
 use Rattle.std.specs.List.{concat}
 use Rattle.std.specs.Fmt.{digits}
 use Rattle.page_bitmap.specs.declared.line.Line.{Line}
-use Rattle.page_bitmap.specs.declared.line.Line.TheVariants.{Take, Miss, Give, Scav}
+use Rattle.page_bitmap.specs.declared.line.Line.TheVariants.{Take, Miss, Give, Scav, Pull, Cut, Drop}
 use Rattle.span_state.specs.declared.sweep.SweepNote.{SweepNote}
 use Rattle.cycle_history.specs.declared.Answer.{Answer}
 use Rattle.cycle_history.specs.declared.Answer.TheVariants.{Placed, Zero, Missed}
@@ -22,12 +22,16 @@ answer_text (Missed line) = codes " miss " ++ decimal line
 abbrev pub answer_line : ℕ → Answer → List ℕ
 answer_line id answer = concat (codes "o " ∷ decimal id ∷ answer_text answer ∷ [])
 
--- What stands behind a journal line's number: its cycle, what was done, and the pages that it was done to.
+-- What stands behind a journal line's number: its cycle, what was done, maybe the processor whose page cache did it, and the pages that
+-- it was done to.
 abbrev pub journal_text : Line → List ℕ
 journal_text (Take cycle page pages class) = concat (decimal cycle ∷ codes " take " ∷ decimal page ∷ codes " " ∷ decimal pages ∷ codes " " ∷ decimal class ∷ [])
 journal_text (Miss cycle pages class) = concat (decimal cycle ∷ codes " miss " ∷ decimal pages ∷ codes " " ∷ decimal class ∷ [])
 journal_text (Give cycle page pages) = concat (decimal cycle ∷ codes " give " ∷ decimal page ∷ codes " " ∷ decimal pages ∷ [])
 journal_text (Scav cycle page pages) = concat (decimal cycle ∷ codes " scav " ∷ decimal page ∷ codes " " ∷ decimal pages ∷ [])
+journal_text (Pull cycle proc page pages) = concat (decimal cycle ∷ codes " pull " ∷ decimal proc ∷ codes " " ∷ decimal page ∷ codes " " ∷ decimal pages ∷ [])
+journal_text (Cut cycle proc page pages class) = concat (decimal cycle ∷ codes " cut " ∷ decimal proc ∷ codes " " ∷ decimal page ∷ codes " " ∷ decimal pages ∷ codes " " ∷ decimal class ∷ [])
+journal_text (Drop cycle proc page pages) = concat (decimal cycle ∷ codes " drop " ∷ decimal proc ∷ codes " " ∷ decimal page ∷ codes " " ∷ decimal pages ∷ [])
 
 -- The line of a journal line with its number.
 abbrev pub journal_line : ℕ → Line → List ℕ

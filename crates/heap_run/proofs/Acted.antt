@@ -11,7 +11,7 @@ use Rattle.worker_log.specs.declared.Entry.TheVariants.{Looked, LookedEmptyCell,
 use Rattle.worker_log.specs.declared.Placing.{Placing}
 use Rattle.worker_log.specs.declared.Sweeping.{Sweeping}
 use Rattle.page_bitmap.specs.declared.line.Line.{Line}
-use Rattle.page_bitmap.specs.declared.line.Line.TheVariants.{Take, Miss, Give, Scav}
+use Rattle.page_bitmap.specs.declared.line.Line.TheVariants.{Take, Miss, Give, Scav, Pull, Cut, Drop}
 use Rattle.worker_log.specs.Logs.{Refusal, Taking, placings, refusals, sweepings, takings}
 use Rattle.run_laws.proofs.Lists.{in-left, in-right}
 use Rattle.span_laws.specs.TakeAnswers.{cycle_at}
@@ -92,6 +92,9 @@ refusals-append (MissedEntry n (Miss c p k) ∷ xs) ys = ap (λ (l : List Refusa
 refusals-append (MissedEntry n (Take c p q k) ∷ xs) ys = refusals-append xs ys
 refusals-append (MissedEntry n (Give c p q) ∷ xs) ys = refusals-append xs ys
 refusals-append (MissedEntry n (Scav c p q) ∷ xs) ys = refusals-append xs ys
+refusals-append (MissedEntry n (Pull c o p q) ∷ xs) ys = refusals-append xs ys
+refusals-append (MissedEntry n (Cut c o p q k) ∷ xs) ys = refusals-append xs ys
+refusals-append (MissedEntry n (Drop c o p q) ∷ xs) ys = refusals-append xs ys
 refusals-append (Looked a b c ∷ xs) ys = refusals-append xs ys
 refusals-append (LookedEmptyCell a b ∷ xs) ys = refusals-append xs ys
 refusals-append (Popped a b ∷ xs) ys = refusals-append xs ys

@@ -2,7 +2,7 @@
 use Rattle.std.proofs.Common.{◌≡◌, ℕ, ◌<◌, true, ◌&&◌, eqb, List, [], ◌∷◌, map, length, refl, sym, ◌∙◌, ap, arith, inl, inr}
 use Rattle.std.proofs.lemmas.Bool.{cases_lt, eq-eqb}
 use Rattle.page_bitmap.specs.declared.line.Line.{Line}
-use Rattle.page_bitmap.specs.declared.line.Line.TheVariants.{Take, Miss, Give, Scav}
+use Rattle.page_bitmap.specs.declared.line.Line.TheVariants.{Take, Miss, Give, Scav, Pull, Cut, Drop}
 use Rattle.page_alloc.specs.Lists.{In, IsNumber}
 use Rattle.page_alloc.specs.Lives.{Life, open_lives}
 use Rattle.page_alloc.proofs.Lives.{from_others}
@@ -34,13 +34,19 @@ use Rattle.heap_run.proofs.Served.{AreObjects}
 pub number-old : {X : Type 0} (n : ℕ) (x line : X) (past : List X) → n < length past → IsNumber n x (line ∷ past) → IsNumber n x past
 number-old n x line past lt h = elim h [ inl here ↦ (let e = here.0 in absurd (omega arith)) | inr there ↦ there ]
 
--- an open life's number is that of its Take line
-pub life-line : (past : List Line) (life : Life) (line : Line) → In life (open_lives past) → IsNumber life.number line past → line ≡ Take life.cycle life.page life.pages life.class
+-- the pages of the span that a line makes, if it makes one
+abbrev pages_in : Line → ℕ
+pages_in (Take cycle page pages class) = pages
+pages_in (Cut cycle proc page pages class) = pages
+pages_in line = 0
+
+-- an open life's number is that of the line that made it
+life-line : (past : List Line) (life : Life) (line : Line) → In life (open_lives past) → IsNumber life.number line past → pages_in line ≡ life.pages
 life-line [] life line h n = absurd h
 life-line (Take cycle page pages class ∷ past) life line h n =
     elim h [
       | inl here ↦ elim n [
-        | inl first ↦ sym first.1 ∙ ap (λ (l : Life). Take l.cycle l.page l.pages l.class) here
+        | inl first ↦ ap pages_in (sym first.1) ∙ ap (λ (l : Life). l.pages) here
         | inr there ↦ (let e : length past ≡ life.number = ap (λ (l : Life). l.number) here in let lt = number-less past life.number line there in absurd (omega arith))
       ]
       | inr old ↦ life-line past life line old (number-old life.number line (Take cycle page pages class) past (number-below past life old) n)
@@ -50,6 +56,16 @@ life-line (Give cycle page pages ∷ past) life line h n =
     let old = (from_others page (open_lives past) life h).0 in
     life-line past life line old (number-old life.number line (Give cycle page pages) past (number-below past life old) n)
 life-line (Scav cycle page pages ∷ past) life line h n = life-line past life line h (number-old life.number line (Scav cycle page pages) past (number-below past life h) n)
+life-line (Pull cycle proc page pages ∷ past) life line h n = life-line past life line h (number-old life.number line (Pull cycle proc page pages) past (number-below past life h) n)
+life-line (Cut cycle proc page pages class ∷ past) life line h n =
+    elim h [
+      | inl here ↦ elim n [
+        | inl first ↦ ap pages_in (sym first.1) ∙ ap (λ (l : Life). l.pages) here
+        | inr there ↦ (let e : length past ≡ life.number = ap (λ (l : Life). l.number) here in let lt = number-less past life.number line there in absurd (omega arith))
+      ]
+      | inr old ↦ life-line past life line old (number-old life.number line (Cut cycle proc page pages class) past (number-below past life old) n)
+    ]
+life-line (Drop cycle proc page pages ∷ past) life line h n = life-line past life line h (number-old life.number line (Drop cycle proc page pages) past (number-below past life h) n)
 
 -- the pages of a large object's life are those that its object needs
 large-pages : (e : CycleSoFar) (w : ℕ) (o : Object) (life : Life) → ((x : Taking) → In x (takings (e.logs w)) → IsNumber x.number x.line (past_after e)) → IsTakenFor (takings (e.logs w)) o.life o.need
@@ -57,9 +73,7 @@ large-pages : (e : CycleSoFar) (w : ℕ) (o : Object) (life : Life) → ((x : Ta
 large-pages e w o life took taken h number =
     let x = taken.0 in
     let there : IsNumber life.number x.line (past_after e) = rw (number ∙ sym taken.4) (took x taken.3) in
-    let line : Take taken.1 taken.2 o.need.pages o.need.class ≡ Take life.cycle life.page life.pages life.class = sym taken.5 ∙ life-line (past_after e) life x.line h there in
-    let pages : life.pages ≡ o.need.pages = cc in
-    pages
+    sym (life-line (past_after e) life x.line h there) ∙ ap pages_in taken.5
 
 -- each placed object has an entry in its processor's log, and its life has the entry's class
 life-class : (e : CycleSoFar) (o : Object) (life : Life) → Places e → ArePaired IsPlacing (placed_by o.proc e.news) (placings (e.logs o.proc)) → In o (placed_by o.proc e.news)

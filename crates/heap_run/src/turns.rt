@@ -1,9 +1,8 @@
 //! The turns of a cycle's workers: each is handed out, works, and is taken in again, and the driver collects its notes.
 
-ghost use Rattle.std.specs.Prelude.{◌≡◌, ◌++◌, ◌∷◌, ◌^◌, ◌<◌, ◌≤◌, [], All, length, reverse, true, false, IfOk, OnOk};
+ghost use Rattle.std.specs.Prelude.{◌≡◌, ◌++◌, ◌^◌, ◌<◌, ◌≤◌, All, length, reverse, true, false, IfOk, OnOk};
 ghost use Rattle.span_laws.specs.Asks.{IsAtWork, IsIdle};
-ghost use Rattle.span_laws.specs.Handed.{handed, handing, taking_in};
-ghost use Rattle.span_laws.specs.Views.{acts};
+ghost use Rattle.span_laws.specs.Handed.{handing, taking_in};
 ghost use Rattle.span_state.specs.declared.sweep.SweepNote.{SweepNote};
 ghost use Rattle.heap_run.specs.Parts.{part_at};
 ghost use Rattle.profile_cycle.specs.History.{joined, lent};
@@ -169,18 +168,15 @@ fn send_out(alloc: Global, shop: &Shop, driver: &mut Hand, number: u32) -> Resul
     ensures tally { OnOk result (driver.new.tally ≡ record driver.old.tally { view = lent driver.old.tally.view }) }
 {
     let tally = shop.ring.split(&mut driver.tally)?;
-    let worker = shop.shared.hand_out(&mut driver.worker, number)?;
+    let worker = shop.shared.hand_out(&mut driver.worker, number);
     Ok(Hand::new(alloc, worker, tally))
 }
 
 // Takes a worker in, with its notes behind those collected before, and its tally.
 fn bring_back(shop: &Shop, driver: &mut Hand, hand: Hand) -> Result<(), NoMemory>
     requires table { driver.old.worker.table ≡ shop.now.shared.now }
-    requires away { driver.old.worker.away ≡ hand.worker.number ∷ [] }
-    requires works { IsAtWork shop.now.shared.now hand.worker }
-    requires stays { hand.worker.view ≡ acts (handed 69 hand.worker.number driver.old.worker.view) hand.worker.view.own }
-    requires idle { IsIdle hand.worker.view.own }
-    requires part { 69 < length hand.worker.view.parts }
+    requires driver { driver.old.worker.number ≡ 69 }
+    requires out { hand.worker.table ≡ shop.now.shared.now }
     requires ring { driver.old.tally.ring ≡ shop.now.ring.now }
     requires drives { driver.old.tally.view.drives ≡ true }
     requires of_ring { hand.tally.ring ≡ shop.now.ring.now }

@@ -17,6 +17,8 @@ use Rattle.span_laws.specs.Views.{Seen, acts, span_at, span_of}
 use Rattle.span_laws.specs.OwnSteps.{after_of, after_said}
 use Rattle.span_laws.proofs.WordMoves.{span_else}
 use Rattle.span_set.specs.declared.hand.Hand.{Hand}
+use Rattle.span_set.proofs.Fits.{fits-none}
+use Rattle.sweep_laws.specs.Counts.{times}
 use Rattle.span_set.specs.Sets.{MayPush, swept_of}
 use Rattle.span_set.proofs.Numbers.{swept_is, swept_low}
 use Rattle.proc_cache.specs.Leaves.{Holds}
@@ -87,6 +89,7 @@ module _ (k bytes before at : ℕ) (b : Body) (old mid new : Hand) (holding : Is
     bodies = λ q h. subst (λ (s : Seen). span_at q s.view.own.spans ≡ span_at q old.worker.view.own.spans) (sym e)
         (span_else put.2.0 old.worker.view.own.spans q (λ z. true≢false (sym h ∙ ap (λ (x : ℕ). has x old.worker.view.own.cached) (z ∙ put.2.1.page) ∙ far)));
     unpopped = λ j p part full. refl;
+    sets = fits-none old.worker.view.generation (λ q. times q []) put_said old.worker new.worker (put.2.0 ∷ []) refl (ap (λ (s : Seen). s.view.own.spans) e);
     swept = refl;
     notes = ap (λ n. n.items) (put.1 ∙ notes) ∙ sym (append-nil old.notes.items);
   }

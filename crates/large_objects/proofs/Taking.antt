@@ -1,5 +1,5 @@
 -- A large allocation, from its payment to its object.
-use Rattle.std.proofs.Common.{◌≡◌, ℕ, ◌+◌, ◌*◌, ◌<◌, false, List, [], ◌∷◌, ◌++◌, refl, ap, sym, subst, ◌∙◌, arith, append_assoc}
+use Rattle.std.proofs.Common.{◌≡◌, ℕ, ◌+◌, ◌*◌, ◌<◌, inr, false, List, [], ◌∷◌, ◌++◌, refl, ap, sym, subst, ◌∙◌, arith, append_assoc}
 use Rattle.std.specs.Prelude.{Ok, Err}
 use Rattle.page_bitmap.specs.declared.line.Line.TheVariants.{Take}
 use Rattle.span_state.specs.declared.body.Body.{Body}
@@ -21,11 +21,13 @@ use Rattle.span_laws.specs.Views.{Seen}
 use Rattle.span_laws.specs.OwnSteps.{after_said}
 use Rattle.span_laws.proofs.Parts.{has_none}
 use Rattle.span_set.specs.declared.hand.Hand.{Hand}
+use Rattle.span_set.specs.Fits.{FitsSets, no_page}
+use Rattle.span_set.proofs.Fits.{fits-both}
 use Rattle.sweeper.specs.NewSpans.{MakesSpan}
 use Rattle.proc_cache.specs.Leaves.{Holds, Sums}
 use Rattle.proc_cache.specs.RefillLogs.{HasPaidFor}
 use Rattle.proc_cache.specs.Findings.{IsHolding}
-use Rattle.proc_cache.proofs.Finding.{missed_from, missed_takes, no_run_from, one_missed, one_refusal, refusal_behind, took_from, took_misses, took_one}
+use Rattle.proc_cache.proofs.Finding.{making_from, missed_from, missed_takes, no_run_from, one_missed, one_refusal, refusal_behind, stops_making, took_from, took_misses, took_one}
 use Rattle.proc_cache.proofs.Holding.{holds-then, holds-trans, idle_after, of_sweeper, sums_of}
 use Rattle.proc_cache.proofs.Logging.{no_placings, no_refusals, placings-append, refusals-append, sums-append}
 use Rattle.large_objects.specs.Larges.{AllocatesLarge, IsForOne, PutsObject}
@@ -82,6 +84,7 @@ module _ (pages distance n k : ℕ) (old m1 : Hand) (first : List Entry) (x : Ho
     w.said ++ first,
     holds-trans [] w.said first old m1 new x (of_sweeper [] _ m1 new idle w),
     sums-append 0 0 0 0 0 0 0 0 w.said first sums (sums_of [] _ m1 new idle w 0 0 w.did.0.untaken w.did.0.unmissed),
+    inr (w.said, first, refl, paid, making_from old m1 x.view w.said (stops_making n k m1 new w)),
   )
 
   -- a span was made
@@ -121,6 +124,10 @@ module _ (pages distance n k : ℕ) (old m1 : Hand) (first : List Entry) (x : Ho
       abbrev place : Placing
       place = record { page = b.page; index = 0; number = b.life; class = b.class }
 
+      first_sets : FitsSets old.worker.view.generation no_page (m.1.said ++ first) old.worker m2.worker
+      first_sets = fits-both old.worker.view.generation no_page no_page no_page m.1.said first old.worker m1.worker m2.worker (λ p l. l) (λ p l. l) x.sets
+          (subst (λ (v : View). FitsSets v.generation no_page m.1.said m1.worker m2.worker) x.view m.1.does.sets)
+
       -- the run that was taken
       one_taking : takings m.1.said ≡ record { number = b.life; line = Take (cycle_at old.worker.view.generation) b.page n k } ∷ []
       one_taking = let t = m.1.did in let h = m.0.is_new in let v = ap (λ (z : View). z.generation) x.view in ap takings t.log
@@ -135,7 +142,7 @@ module _ (pages distance n k : ℕ) (old m1 : Hand) (first : List Entry) (x : Ho
             b,
             (
               z ++ (s ++ first),
-              holds-then (b.page ∷ []) [] z (s ++ first) old m2 new (holds-trans (b.page ∷ []) s first old m1 m2 x made_holds) (put_holds k (8192 * n) before at b m2 m3 new made_holding spent notes made_far put),
+              holds-then (b.page ∷ []) [] z (s ++ first) old m2 new first_sets (holds-trans (b.page ∷ []) s first old m1 m2 x made_holds) (put_holds k (8192 * n) before at b m2 m3 new made_holding spent notes made_far put),
               record { spends = d.spends ∙ omega arith; takes = d.takes; misses = d.misses; places = d.places },
               record {
                 placing = place;

@@ -25,6 +25,7 @@ use Rattle.proc_cache.specs.Hits.{IsPlacedIn}
 use Rattle.proc_cache.specs.Leaves.{Holds, Sums}
 use Rattle.proc_cache.specs.RefillLogs.{HasPaidFor, HasSpent}
 use Rattle.proc_cache.specs.Findings.{WasNoRun}
+use Rattle.proc_cache.specs.Stops.{StopsLarge}
 
 -- one object is placed, at index 0 of a span that was taken for it, and no request is refused
 pub record PlacesLarge (n k at g : ℕ) (said : List Entry) : Type 0 where
@@ -41,7 +42,7 @@ abbrev pub HasPut : ℕ → ℕ → Body → List Entry → Type 0
 HasPut g k b said = said ≡ Pushed (swept_set g k 1) b.page ∷ Read 1 g ∷ Allocated (record { page = b.page; index = 0; number = b.life; class = k }) ∷ []
 
 -- a large object was placed in a span of its own, which was paid for with the credit of its own pages; or no run is free, as the line says; or
--- memory ran out. The cached spans are as they were
+-- memory ran out, before a run was taken or missed. The cached spans are as they were
 abbrev pub AllocatesLarge : (pages distance n k : ℕ) → Hand → Hand → Result ℕ Refused → Type 0
 AllocatesLarge pages distance n k old new (Ok at) = (b : Body) × ((said : List Entry) × Holds [] said old new × Sums (8192 * n) 1 0 1 said
     × PlacesLarge n k at old.worker.view.generation said
@@ -49,7 +50,7 @@ AllocatesLarge pages distance n k old new (Ok at) = (b : Body) × ((said : List 
 AllocatesLarge pages distance n k old new (Err (NoRun line)) = WasNoRun old n line × ((said : List Entry) × Holds [] said old new × Sums 0 0 1 0 said × (placings said ≡ [])
     × (refusals said ≡ record { number = line; pages = n; class = k } ∷ [])
     × Then (HasPaidFor old.worker.view.generation pages distance (8192 * n) n) (MissedAtLast old n k line) said)
-AllocatesLarge pages distance n k old new (Err WantsMemory) = (said : List Entry) × Holds [] said old new × Sums 0 0 0 0 said
+AllocatesLarge pages distance n k old new (Err WantsMemory) = (said : List Entry) × Holds [] said old new × Sums 0 0 0 0 said × StopsLarge old.worker.view pages distance n said
 
 -- the object was placed in a span that the worker holds, which went to the swept full set
 abbrev pub PutsObject : ℕ → Body → Hand → Hand → ℕ → Type 0

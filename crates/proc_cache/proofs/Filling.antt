@@ -12,6 +12,8 @@ use Rattle.worker_log.specs.declared.Entry.{Entry}
 use Rattle.worker_log.specs.declared.Entry.TheVariants.{Added, Pushed, Read}
 use Rattle.worker_log.specs.SetNumbers.{swept_set}
 use Rattle.worker_log.specs.Entries.{is_placing_in, is_pop_of, many}
+use Rattle.worker_log.specs.Logs.{sweepings}
+use Rattle.sweep_laws.specs.Counts.{times}
 use Rattle.worker_log.proofs.Logs.{many-append}
 use Rattle.span_laws.specs.declared.answers.Refused.{Refused}
 use Rattle.span_laws.specs.declared.answers.Refused.TheVariants.{NoRun, NoMemory as WantsMemory}
@@ -25,13 +27,16 @@ use Rattle.span_laws.specs.Views.{Seen, acts, span_at, span_of}
 use Rattle.span_laws.specs.OwnSteps.{after_said, without}
 use Rattle.span_laws.proofs.Parts.{has_end_else}
 use Rattle.span_set.specs.declared.hand.Hand.{Hand}
+use Rattle.span_set.specs.Fits.{FitsSets, no_page}
+use Rattle.span_set.proofs.Fits.{fits-both, fits-none}
 use Rattle.span_set.proofs.Numbers.{full_is, swept_is}
 use Rattle.proc_cache.specs.declared.refills.CacheFrom.{CacheFrom}
-use Rattle.proc_cache.specs.Cache.{Cache, slot_at, with_slot}
+use Rattle.proc_cache.specs.Cache.{Cache, page_in, slot_at, with_slot}
 use Rattle.proc_cache.specs.Leaves.{Holds, Leaves, Sums}
 use Rattle.proc_cache.specs.RefillLogs.{HasLeft, HasPaidFor, HasSpent, bytes_of, taken_for}
 use Rattle.proc_cache.specs.Findings.{FindsSpan, IsFor, IsHolding}
 use Rattle.proc_cache.specs.Refills.{KeepsSpan, LeavesFull, RefillsCache}
+use Rattle.proc_cache.specs.Stops.{StopsFinding}
 use Rattle.proc_cache.specs.Serves.{IsUsedBut, IsUsedCache, Serves}
 use Rattle.proc_cache.proofs.Finding.{comes_from, looked_from, missed_from, no_run_from, refusal_behind}
 use Rattle.proc_cache.proofs.Flushing.{erase_only}
@@ -186,6 +191,18 @@ module _ (pages distance k : ℕ) (c c1 : Cache) (old m1 : Hand) (left : LeavesF
   paid_from : (said : List Entry) → HasPaidFor m1.worker.view.generation pages distance (bytes_of k) 0 said → HasPaidFor old.worker.view.generation pages distance (bytes_of k) 0 said
   paid_from said x = subst (λ (v : View). HasPaidFor v.generation pages distance (bytes_of k) 0 said) left.2.1.view x
 
+  left_sweeps : (g : ℕ) (o : Option Span) (said : List Entry) → HasLeft g k o said → sweepings said ≡ []
+  left_sweeps g None said e = ap sweepings e
+  left_sweeps g (Some s) said e = ap sweepings e
+
+  left_sets : FitsSets old.worker.view.generation no_page left.2.0 old.worker m1.worker
+  left_sets = fits-none old.worker.view.generation no_page left.2.0 old.worker m1.worker [] (left_sweeps old.worker.view.generation (slot_at c k) left.2.0 left.2.2) left.3
+
+  -- what was kept behind it
+  sets_behind : (kept : ℕ → ℕ) (s : List Entry) (new : Hand) → FitsSets m1.worker.view.generation kept s m1.worker new.worker → FitsSets old.worker.view.generation kept (s ++ left.2.0) old.worker new.worker
+  sets_behind kept s new f = fits-both old.worker.view.generation no_page kept kept s left.2.0 old.worker m1.worker new.worker (λ p z. absurd (omega arith)) (λ p z. z) left_sets
+      (subst (λ (v : View). FitsSets v.generation kept s m1.worker new.worker) left.2.1.view f)
+
   -- a refusal behind it
   pub refill_refused : (new : Hand) (e : Refused) → FindsSpan pages distance k m1 new (Err e) → RefillsCache pages distance k c c1 old new (Err e)
   refill_refused new (NoRun line) f = let s = f.1.0 in let t = f.1.4 in let y = t.4.1.1 in let v = left.2.1.view in (
@@ -197,6 +214,7 @@ module _ (pages distance k : ℕ) (c c1 : Cache) (old m1 : Hand) (left : LeavesF
       sums-append 0 0 0 0 0 0 1 0 s left.2.0 (left_sums old.worker.view.generation (slot_at c k) left.2.0 left.2.2) f.1.2,
       refusal_behind _ s left.2.0 f.1.3 (no_refusals left.2.0 (left_sums old.worker.view.generation (slot_at c k) left.2.0 left.2.2).misses),
       (s, left.2.0, refl, left.2.2, (t.0, t.1, t.2, paid_from t.1 t.3, (t.4.0, (t.4.1.0, (y.0, y.1, y.2, looked_from old m1 v k t.4.0 t.4.1.0 y.1 y.3, missed_from old m1 v (pages_of (k / 2)) k line y.0 y.4))))),
+      sets_behind no_page s new f.1.1.sets,
     ),
   )
   refill_refused new WantsMemory f = (
@@ -205,6 +223,8 @@ module _ (pages distance k : ℕ) (c c1 : Cache) (old m1 : Hand) (left : LeavesF
       f.0 ++ left.2.0,
       leaves-trans f.0 left.2.0 old m1 new left.2.1 (holds_nothing f.0 m1 new f.1),
       sums-append 0 0 0 0 0 0 0 0 f.0 left.2.0 (left_sums old.worker.view.generation (slot_at c k) left.2.0 left.2.2) f.2,
+      (f.0, left.2.0, refl, left.2.2, subst (λ (v : View). StopsFinding v pages distance k f.0) left.2.1.view f.3),
+      sets_behind no_page f.0 new f.1.sets,
     ),
   )
 
@@ -216,6 +236,12 @@ module _ (pages distance k : ℕ) (c c1 : Cache) (old m1 : Hand) (left : LeavesF
       let a = sums-append 0 0 0 0 0 (taken_for from) 0 0 s left.2.0 l x in
       let b = sums-append (0 + 0) (0 + taken_for from) (0 + 0) (0 + 0) (bytes_of k) 0 0 0 z (s ++ left.2.0) a (spent_sums (bytes_of k) z h) in
       record { spends = b.spends ∙ omega arith; takes = b.takes ∙ omega arith; misses = b.misses; places = b.places }
+
+  all_sets : (m2 new : Hand) (d : Cache) (b : Body) (s z : List Entry) → FitsSets old.worker.view.generation (λ q. times q (b.page ∷ [])) (s ++ left.2.0) old.worker m2.worker → slot_at d k ≡ Some (span_of b) → HasSpent (bytes_of k) z
+      → new.worker.view.own.spans ≡ m2.worker.view.own.spans → m2.worker.view.generation ≡ old.worker.view.generation → FitsSets old.worker.view.generation (page_in (slot_at d k)) (z ++ (s ++ left.2.0)) old.worker new.worker
+  all_sets m2 new d b s z f at spent spans gen = fits-both old.worker.view.generation (λ q. times q (b.page ∷ [])) no_page (page_in (slot_at d k)) z (s ++ left.2.0) old.worker m2.worker new.worker
+      (λ p l. subst (λ (o : Option Span). 0 < page_in o p) (sym at) (omega arith)) (λ p l. absurd (omega arith)) f
+      (fits-none old.worker.view.generation no_page z m2.worker new.worker [] (ap sweepings spent.1) spans)
 
   -- a span behind it, which is kept
   pub refill_done : (m2 new : Hand) (d : Cache) (b : Body) (from : CacheFrom) → FindsSpan pages distance k m1 m2 (Ok (b, from)) → KeepsSpan k (bytes_of k) b c1 d m2 new → RefillsCache pages distance k c d old new (Ok from)
@@ -229,6 +255,7 @@ module _ (pages distance k : ℕ) (c c1 : Cache) (old m1 : Hand) (left : LeavesF
       subst (λ (l : List Entry). Leaves l old new) (append_assoc z s left.2.0) (leaves-trans (z ++ s) left.2.0 old m1 new left.2.1 (leaves_after (b.page ∷ []) z s m1 m2 new f.1.1 kept.2.1)),
       all_sums from s z f.1.2 kept.2.2,
       (z ++ s, left.2.0, sym (append_assoc z s left.2.0), left.2.2, (z ++ t.0, t.1, ap (λ (l : List Entry). z ++ l) t.2 ∙ sym (append_assoc z t.0 t.1), paid_from t.1 t.3, (z, t.0, refl, comes_from old m1 left.2.1.view k b from t.0 t.4, kept.2.2))),
+      all_sets m2 new d b s z (sets_behind (λ q. times q (b.page ∷ [])) s m2 f.1.1.sets) kept.1 kept.2.2 kept.3 (ap (λ (v : View). v.generation) f.1.1.view ∙ ap (λ (v : View). v.generation) left.2.1.view),
     ),
   )
 

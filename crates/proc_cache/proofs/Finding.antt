@@ -26,19 +26,20 @@ use Rattle.fallible_list.specs.declared.list.NoMemory.{NoMemory}
 use Rattle.central_lists.specs.declared.answers.Look.{Look}
 use Rattle.central_lists.specs.declared.answers.FromSets.TheVariants.{SweptPartial as FromPartial, SweptHere as FromHere, NeedFresh}
 use Rattle.central_lists.specs.Looks.{SawNone, Then}
-use Rattle.central_lists.specs.Works.{just, nothing}
+use Rattle.central_lists.specs.Works.{Says, just, nothing}
 use Rattle.central_lists.specs.Lists.{Caches, HandsOut}
 use Rattle.sweeper.specs.declared.answers.Paid.{Paid}
 use Rattle.sweeper.specs.declared.answers.Paid.TheVariants.{Reached, NothingLeft}
 use Rattle.sweeper.specs.NewSpans.{MakesSpan, MissedAtLast, TookAtLast}
 use Rattle.sweeper.specs.Pays.{Pays}
 use Rattle.sweeper.specs.Reclaims.{HasReclaimed}
-use Rattle.sweeper.specs.Work.{IsPlain, SawAllEmpty, Works}
+use Rattle.sweeper.specs.Work.{IsPlain, OnlySweeps, SawAllEmpty, Works}
 use Rattle.proc_cache.specs.declared.refills.CacheFrom.{CacheFrom}
 use Rattle.proc_cache.specs.declared.refills.CacheFrom.TheVariants.{SweptPartial, SweptHere, Fresh}
 use Rattle.proc_cache.specs.Leaves.{Holds, Sums}
 use Rattle.proc_cache.specs.RefillLogs.{ComesFrom, HasPaidFor, LookedFor, bytes_of, taken_for}
 use Rattle.proc_cache.specs.Findings.{Comes, FindsSpan, IsFor, WasNoRun}
+use Rattle.proc_cache.specs.Stops.{StopsMaking, StopsPaying, StopsTaking}
 use Rattle.proc_cache.proofs.Holding.{holds-trans, holds_none, holds_one, idle_after, of_sweeper, sums_of, sums_of_lists}
 use Rattle.proc_cache.proofs.Logging.{no_refusals, refusals-append, sums-append}
 
@@ -53,6 +54,7 @@ module _ (old mid : Hand) (v : mid.worker.view ≡ acts old.worker.view mid.work
     before = t.before;
     log = t.log ∙ ap (λ (z : View). Took b.life (TakeLine (cycle_at z.generation) b.page b.pages b.class) ∷ t.before) v;
     takes_none = t.takes_none;
+    sweeps = subst (λ (z : View). OnlySweeps z.generation t.before) v t.sweeps;
     reclaimed = subst (λ (z : View). HasReclaimed z.marks z.region n t.before) v t.reclaimed;
   }
 
@@ -61,6 +63,7 @@ module _ (old mid : Hand) (v : mid.worker.view ≡ acts old.worker.view mid.work
     before = t.before;
     log = t.log ∙ ap (λ (z : View). Missed line (MissLine (cycle_at z.generation) n class) ∷ t.before) v;
     takes_none = t.takes_none;
+    sweeps = subst (λ (z : View). OnlySweeps z.generation t.before) v t.sweeps;
     reclaimed = subst (λ (z : View). HasReclaimed z.marks z.region n t.before) v t.reclaimed;
     saw_empty = subst (λ (z : View). SawAllEmpty z.generation t.before) v t.saw_empty;
   }
@@ -69,9 +72,22 @@ module _ (old mid : Hand) (v : mid.worker.view ≡ acts old.worker.view mid.work
   looked_from k look tried said x = subst (λ (z : View). LookedFor z.generation k look tried said) v x
 
   pub comes_from : (k : ℕ) (b : Body) (from : CacheFrom) (said : List Entry) → ComesFrom mid k b from said → ComesFrom old k b from said
-  comes_from k b SweptPartial said x = subst (λ (z : View). 0 < many (is_pop_of (swept_set z.generation k 0) b.page) said) v x
-  comes_from k b SweptHere said x = (x.0, x.1, x.2, subst (λ (z : View). SawNone (swept_set z.generation k 0) x.1) v x.3, x.4)
+  comes_from k b SweptPartial said x = subst (λ (z : View). (0 < many (is_pop_of (swept_set z.generation k 0) b.page) said) × Says z.generation k 0 nothing said) v x
+  comes_from k b SweptHere said x = let t = x.0 in (
+    (t.0, t.1, t.2, subst (λ (z : View). SawNone (swept_set z.generation k 0) t.1) v t.3, t.4),
+    (x.1.0, x.1.1, subst (λ (z : View). Says z.generation k x.1.0 (just b.page) said) v x.1.2),
+  )
   comes_from k b (Fresh look tried) said x = (x.0, x.1, x.2, looked_from k look tried x.1 x.3, took_from (pages_of (k / 2)) b x.0 x.4)
+
+  pub taking_from : (k : ℕ) (said : List Entry) → StopsTaking mid.worker.view k said → StopsTaking old.worker.view k said
+  taking_from k said x = subst (λ (z : View). StopsTaking z k said) v x
+
+  pub making_from : (said : List Entry) → StopsMaking mid.worker.view.generation mid.worker.view.region said → StopsMaking old.worker.view.generation old.worker.view.region said
+  making_from said x = subst (λ (z : View). StopsMaking z.generation z.region said) v x
+
+-- the making of a span that memory stopped
+pub stops_making : (n k : ℕ) (mid new : Hand) (w : MakesSpan n k mid new (Err WantsMemory)) → StopsMaking mid.worker.view.generation mid.worker.view.region w.said
+stops_making n k mid new w = record { sweeps = w.does.sweeps; takes_none = w.did.0; few = w.did.1 }
 
 -- ---- refusals
 
@@ -113,22 +129,22 @@ module _ (k : ℕ) (old mid : Hand) (low : k < 136) where
   }
 
   pub from_partial : IsIdle old.worker.view.own → (b : Body) → Caches old.worker.view.generation k old mid (Ok (FromPartial b)) → Comes k old mid (Ok (b, SweptPartial))
-  from_partial idle b c = (handed b c.0, (c.2.said, holds_one k 0 (just b.page) nothing _ old mid idle c.2 b.page (λ q. refl), sums_of_lists k 0 (just b.page) nothing _ old mid idle c.2, c.2.property))
+  from_partial idle b c = (handed b c.0, (c.2.said, holds_one k 0 (just b.page) nothing _ old mid idle c.2 b.page (λ q l. absurd (omega arith)) (λ q. refl), sums_of_lists k 0 (just b.page) nothing _ old mid idle c.2, (c.2.property, c.2.says)))
 
   pub from_here : IsIdle old.worker.view.own → (b : Body) → Caches old.worker.view.generation k old mid (Ok (FromHere b)) → Comes k old mid (Ok (b, SweptHere))
   from_here idle b c = let d = c.3.2 in let t = c.3.0 in
-      (handed b c.0, (d.said, holds_one k t (just b.page) (just b.page) _ old mid idle d b.page (λ q. refl), sums_of_lists k t (just b.page) (just b.page) _ old mid idle d, d.property))
+      (handed b c.0, (d.said, holds_one k t (just b.page) (just b.page) _ old mid idle d b.page (λ q l. l) (λ q. refl), sums_of_lists k t (just b.page) (just b.page) _ old mid idle d, (d.property, (t, c.3.1, d.says))))
 
   pub no_memory : IsIdle old.worker.view.own → (e : NoMemory) → Caches old.worker.view.generation k old mid (Err e) → Comes k old mid (Err WantsMemory)
-  no_memory idle e c = let d = c.2 in let t = c.0 in (d.said, holds_none k t nothing nothing _ old mid idle d (λ q. refl), sums_of_lists k t nothing nothing _ old mid idle d)
+  no_memory idle e c = let d = c.2 in let t = c.0 in (d.said, holds_none k t nothing nothing _ old mid idle d (λ q. refl) (λ q. refl), sums_of_lists k t nothing nothing _ old mid idle d, inl (t, c.1, d.says))
 
   -- the sets have none
   module _ (idle : IsIdle old.worker.view.own) (look : Look) (tried : ℕ) (c : Caches old.worker.view.generation k old mid (Ok (NeedFresh look tried))) where
     pub looked_holds : Holds [] c.1.said old mid
-    looked_holds = holds_none k tried nothing nothing _ old mid idle c.1 (λ q. refl)
+    looked_holds = holds_none k tried nothing nothing _ old mid idle c.1 (λ q. refl) (λ q. refl)
 
     looked_for : LookedFor old.worker.view.generation k look tried c.1.said
-    looked_for = record { hides_nothing = c.1.says.hides_nothing; looked = c.1.property; tries_are = c.1.says.tried_is; few = c.0 }
+    looked_for = record { says = c.1.says; looked = c.1.property; few = c.0 }
 
     looked_sums : Sums 0 0 0 0 c.1.said
     looked_sums = sums_of_lists k tried nothing nothing _ old mid idle c.1
@@ -154,6 +170,7 @@ module _ (k : ℕ) (old mid : Hand) (low : k < 136) where
       w.said ++ c.1.said,
       holds-trans [] w.said c.1.said old mid new looked_holds (of_sweeper [] _ mid new i w),
       sums-append 0 0 0 0 0 0 0 0 w.said c.1.said looked_sums (sums_of [] _ mid new i w 0 0 w.did.0.untaken w.did.0.unmissed),
+      inr (w.said, c.1.said, refl, (look, (tried, looked_for)), making_from old mid looked_holds.view w.said (stops_making n k mid new w)),
     )
 
     pub then_made : (n : ℕ) → n ≡ pages_of (k / 2) → (new : Hand) (b : Body) → MakesSpan n k mid new (Ok b) → Comes k old new (Ok (b, Fresh look tried))
@@ -178,12 +195,12 @@ module _ (k : ℕ) (old mid : Hand) (low : k < 136) where
 
 module _ (pages distance bytes credit : ℕ) (old mid : Hand) (idle : IsIdle old.worker.view.own) where
   -- what a payment leaves, and what its log has
-  pub paid_nothing : Works [] IsPlain old mid → (said : List Entry) × Holds [] said old mid × Sums 0 0 0 0 said
-  paid_nothing w = (w.said, of_sweeper [] _ old mid idle w, sums_of [] _ old mid idle w 0 0 w.did.takes_none.untaken w.did.takes_none.unmissed)
+  pub paid_nothing : Works [] IsPlain old mid → (said : List Entry) × Holds [] said old mid × Sums 0 0 0 0 said × StopsPaying old.worker.view.generation said
+  paid_nothing w = (w.said, of_sweeper [] _ old mid idle w, sums_of [] _ old mid idle w 0 0 w.did.takes_none.untaken w.did.takes_none.unmissed, record { sweeps = w.does.sweeps; plain = w.did })
 
   pub paid : (p : Paid) → Pays pages distance bytes credit old mid (Ok p) → (said : List Entry) × Holds [] said old mid × Sums 0 0 0 0 said × HasPaidFor old.worker.view.generation pages distance bytes credit said
-  paid (Reached seen target) w = (w.said, of_sweeper [] _ old mid idle w, sums_of [] _ old mid idle w 0 0 w.did.0.takes_none.untaken w.did.0.takes_none.unmissed, (w.did.0, w.does.sweeps.unlooked, inl (seen, (target, w.did.1))))
-  paid NothingLeft w = (w.said, of_sweeper [] _ old mid idle w, sums_of [] _ old mid idle w 0 0 w.did.0.takes_none.untaken w.did.0.takes_none.unmissed, (w.did.0, w.does.sweeps.unlooked, inr w.did.1))
+  paid (Reached seen target) w = (w.said, of_sweeper [] _ old mid idle w, sums_of [] _ old mid idle w 0 0 w.did.0.takes_none.untaken w.did.0.takes_none.unmissed, (w.did.0, w.does.sweeps, inl (seen, (target, w.did.1))))
+  paid NothingLeft w = (w.said, of_sweeper [] _ old mid idle w, sums_of [] _ old mid idle w 0 0 w.did.0.takes_none.untaken w.did.0.takes_none.unmissed, (w.did.0, w.does.sweeps, inr w.did.1))
 
 -- a span that was found behind a payment
 module _ (pages distance k : ℕ) (old mid : Hand) (first : List Entry) (x : Holds [] first old mid) (sums : Sums 0 0 0 0 first) (paid : HasPaidFor old.worker.view.generation pages distance (bytes_of k) 0 first) where
@@ -221,4 +238,9 @@ module _ (pages distance k : ℕ) (old mid : Hand) (first : List Entry) (x : Hol
       (s, first, refl, paid, (c.1.4.0, (c.1.4.1.0, (t.0, t.1, t.2, looked_from old mid x.view k c.1.4.0 c.1.4.1.0 t.1 t.3, missed_from old mid x.view (pages_of (k / 2)) k line t.0 t.4)))),
     ),
   )
-  finds new (Err WantsMemory) c = (c.0 ++ first, holds-trans [] c.0 first old mid new x c.1, sums-append 0 0 0 0 0 0 0 0 c.0 first sums c.2)
+  finds new (Err WantsMemory) c = (
+    c.0 ++ first,
+    holds-trans [] c.0 first old mid new x c.1,
+    sums-append 0 0 0 0 0 0 0 0 c.0 first sums c.2,
+    inr (c.0, first, refl, paid, taking_from old mid x.view k c.0 c.3),
+  )

@@ -9,6 +9,7 @@ use native.Mathlib.Decide.{ℕ_discrete}
 use Rattle.std.specs.List.{AllByRecursion}
 use Rattle.fallible_list.specs.declared.list.NoMemory.{NoMemory}
 use Rattle.page_bitmap.specs.Counts.{one_if}
+use Rattle.span_state.specs.Bits.{IsFull, bit_of, count_below}
 use Rattle.span_state.specs.MarkSet.{MarkSet}
 use Rattle.span_state.specs.declared.body.Body.{Body}
 use Rattle.span_state.specs.declared.sweep.SweepNote.{SweepNote}
@@ -17,6 +18,7 @@ use Rattle.sweep_laws.specs.Lists.{erase, has}
 use Rattle.sweep_laws.proofs.Naming.{has_times, times_erase, times_erase_else, times_has}
 use Rattle.worker_log.specs.declared.Entry.{Entry}
 use Rattle.worker_log.specs.declared.Entry.TheVariants.{Looked, LookedEmptyCell, Popped, Pushed, Took, Missed, Gave, Allocated, Found, Read, Added, Swept as SweptEntry}
+use Rattle.worker_log.specs.SetNumbers.{swept_set}
 use Rattle.worker_log.specs.Entries.{is_pop_of, is_placing_in, is_sweep_of, many}
 use Rattle.worker_log.proofs.Logs.{many-append}
 use Rattle.span_laws.specs.declared.said.Said.TheVariants.{Adds, Fills, Gives, Reads, UncachesStale}
@@ -29,7 +31,12 @@ use Rattle.span_laws.specs.Views.{Seen, acts, span_at, span_of}
 use Rattle.span_laws.specs.OwnSteps.{after_of, after_said}
 use Rattle.span_laws.proofs.WordMoves.{span_else}
 use Rattle.span_set.specs.declared.hand.Hand.{Hand}
+use Rattle.span_set.specs.Fits.{FitsSets, no_page}
+use Rattle.span_set.proofs.Fits.{HasRoomIn, fits-both, fits-emptied, fits-none, fits-pushed}
 use Rattle.sweeper.specs.Settles.{Settles}
+use Rattle.sweeper.specs.Work.{OnlySweeps}
+use Rattle.sweeper.proofs.Counting.{nothing-sweeps, sweeps-append}
+use Rattle.sweeper.proofs.Settling.{given_sweeps, pushed_sweeps}
 use Rattle.proc_cache.specs.Cache.{Cache, slot_at, with_slot}
 use Rattle.proc_cache.specs.Flushes.{Flushes, FlushesCache, FlushesSpan, IsFlushing}
 use Rattle.proc_cache.specs.Serves.{IsUsedCache, Serves, is_flushed}
@@ -49,10 +56,13 @@ module _ (old new : Hand) (idle : IsIdle old.worker.view.own) (s : Span) (g befo
   told_notes : new.notes.items ≡ old.notes.items ++ record { cycle = cycle_at old.worker.view.generation; page = s.page; kept = k; freed = f } ∷ []
   told_notes = notes ∙ ap (λ (x : ℕ). let note : SweepNote = record { cycle = cycle_at x; page = s.page; kept = k; freed = f } in old.notes.items ++ note ∷ []) same
 
-  gives_back : new.worker ≡ after_said (Gives s.page n) mid → FlushesSpan s.page old new
-  gives_back e = let z = e ∙ ap (after_said (Gives s.page n)) view in record {
+  gives_back : k ≡ 0 → new.worker ≡ after_said (Gives s.page n) mid → FlushesSpan s.page old new
+  gives_back none e = let z = e ∙ ap (after_said (Gives s.page n)) view in record {
     said = Gave s.page n ∷ SweptEntry (record { page = s.page; pages = n; kept = k; freed = f }) ∷ Added 2 n ∷ Read 2 before ∷ Read 1 g ∷ Read 1 g ∷ [];
     flushing = (tt, (tt, (refl, (tt, (tt, (tt, tt))))));
+    sweeps = given_sweeps old.worker.view.generation g before (record { page = s.page; pages = n; kept = k; freed = f }) none;
+    sets = fits-emptied old.worker.view.generation no_page (Gave s.page n ∷ SweptEntry (record { page = s.page; pages = n; kept = k; freed = f }) ∷ Added 2 n ∷ Read 2 before ∷ Read 1 g ∷ Read 1 g ∷ []) old.worker new.worker (s ∷ [])
+        (record { page = s.page; pages = n; kept = k; freed = f }) refl (ap (λ (w : Seen). w.view.own.spans) z) none;
     leaves = record {
       log = ap (λ (w : Seen). w.view.own.log) e ∙ ap (λ (l : List Entry). Gave s.page n ∷ l) log;
       away = ap (λ (w : Seen). w.away) z;
@@ -75,10 +85,13 @@ module _ (old new : Hand) (idle : IsIdle old.worker.view.own) (s : Span) (g befo
     bodies = λ q d. subst (λ (w : Seen). span_at q w.view.own.spans ≡ span_at q old.worker.view.own.spans) (sym z) (span_else s old.worker.view.own.spans q d);
   }
 
-  goes_to : (set r : ℕ) → new.worker ≡ after_said (Fills set s.page) (after_said (Reads 1 r) mid) → FlushesSpan s.page old new
-  goes_to set r e = let z = e ∙ ap (λ (w : Seen). after_said (Fills set s.page) (after_said (Reads 1 r) w)) view in record {
+  goes_to : (set r : ℕ) (full : Bool) → 0 < k → k ≡ count_below s.count (bit_of s.bits) → (full ≡ true → IsFull s.count (bit_of s.bits)) → (full ≡ false → HasRoomIn s) → set ≡ swept_set old.worker.view.generation s.class (one_if full) → new.worker ≡ after_said (Fills set s.page) (after_said (Reads 1 r) mid) → FlushesSpan s.page old new
+  goes_to set r full some counted is room at e = let z = e ∙ ap (λ (w : Seen). after_said (Fills set s.page) (after_said (Reads 1 r) w)) view in record {
     said = Pushed set s.page ∷ Read 1 r ∷ SweptEntry (record { page = s.page; pages = n; kept = k; freed = f }) ∷ Added 2 n ∷ Read 2 before ∷ Read 1 g ∷ Read 1 g ∷ [];
     flushing = (tt, (tt, (tt, (refl, (tt, (tt, (tt, tt)))))));
+    sweeps = pushed_sweeps old.worker.view.generation g r set before (record { page = s.page; pages = n; kept = k; freed = f }) some;
+    sets = fits-pushed old.worker.view.generation no_page (Pushed set s.page ∷ Read 1 r ∷ SweptEntry (record { page = s.page; pages = n; kept = k; freed = f }) ∷ Added 2 n ∷ Read 2 before ∷ Read 1 g ∷ Read 1 g ∷ []) old.worker new.worker []
+        (record { page = s.page; pages = n; kept = k; freed = f }) s full refl (ap (λ (w : Seen). w.view.own.spans) z) refl counted is room (rw (eq-eqb set (swept_set old.worker.view.generation s.class (one_if full)) at, eq-eqb s.page s.page refl) (omega arith));
     leaves = record {
       log = ap (λ (w : Seen). w.view.own.log) e ∙ ap (λ (l : List Entry). Pushed set s.page ∷ Read 1 r ∷ l) log;
       away = ap (λ (w : Seen). w.away) z;
@@ -112,10 +125,12 @@ span_flushed marks b old new now told idle e x =
     let same : g ≡ old.worker.view.generation = ap (λ (w : Seen). w.view.generation) e in
     let view : x.mid ≡ swept_in g x.before s.pages s old.worker = x.view ∙ ap (λ (w : Seen). after_of Releases s (after_said (Adds 2 x.before s.pages) (after_said (Reads 1 g) (after_said (Reads 1 g) w)))) e' in
     let log = x.log ∙ ap (λ (w : Seen). SweptEntry (record { page = s.page; pages = s.pages; kept = x.counts.kept; freed = x.counts.freed }) ∷ Added 2 s.pages ∷ Read 2 x.before ∷ Read 1 g ∷ Read 1 g ∷ w.view.own.log) e' in
+    let counted : x.counts.kept ≡ count_below s.count (bit_of s.bits) = sym (ap (λ (m : ℕ). count_below m (bit_of s.bits)) x.swept.same.count ∙ (λ i. count_below b.count (λ k. x.swept.marked k i)) ∙ sym x.swept.kept) in
     subst (λ (p : ℕ). FlushesSpan p old new) at
     (⊎_elim
-    (λ (y : (x.counts.kept ≡ 0) × (new.worker ≡ after_said (Gives s.page s.pages) x.mid)). gives_back old new idle s g x.before s.pages x.counts.kept x.counts.freed x.mid same view log x.notes y.1)
-    (λ y. goes_to old new idle s g x.before s.pages x.counts.kept x.counts.freed x.mid same view log x.notes _ _ y.1.3)
+    (λ (y : (x.counts.kept ≡ 0) × (new.worker ≡ after_said (Gives s.page s.pages) x.mid)). gives_back old new idle s g x.before s.pages x.counts.kept x.counts.freed x.mid same view log x.notes y.0 y.1)
+    (λ y. goes_to old new idle s g x.before s.pages x.counts.kept x.counts.freed x.mid same view log x.notes _ _ y.1.0 y.0 counted y.1.1 y.1.2
+    (ap (λ (w : Seen). swept_set w.view.generation s.class (one_if y.1.0)) view) y.1.3)
     x.goes)
 
 -- a test that no entry of a flush passes counts none of them
@@ -147,6 +162,22 @@ times_gone p q xs h = dite (ℕ_discrete p q)
     (λ e. subst (λ (x : ℕ). times x (erase q xs) + one_if (q == x) ≡ times x xs) (sym e) (let t = times_erase q xs (has_times q xs h) in let o = ap one_if (eq-eqb q q refl) in omega arith))
     (λ d. let t = times_erase_else p q xs d in let o = ap one_if (ne_eqb q p (λ (e : q ≡ p). d (sym e))) in omega arith)
 
+-- one class had nothing to flush
+pub class_empty : (k : ℕ) (c : Cache) (old : Hand) → IsIdle old.worker.view.own → slot_at c k ≡ None → Flushes (λ j. j == k) c c old old
+class_empty k c old idle none = record {
+  number = refl;
+  slots = λ j. dite (ℕ_discrete j k)
+      (λ q. ap (slot_at c) q ∙ none ∙ rw (eq-eqb j k q) refl)
+      (λ f. rw (ne_eqb j k f) refl);
+  said = [];
+  flushing = tt;
+  sweeps = nothing-sweeps old.worker.view.generation;
+  sets = fits-none old.worker.view.generation no_page [] old.worker old.worker [] refl refl;
+  leaves = leaves_nothing old old idle refl refl;
+  swept = λ p. omega arith;
+  fresh = refl;
+}
+
 -- one class was flushed
 pub class_flushed : (k : ℕ) (s : Span) (c d : Cache) (old mid new : Hand) → has s.page old.worker.view.own.cached ≡ true → mid.worker ≡ old.worker → mid.notes.items ≡ old.notes.items → FlushesSpan s.page mid new
     → d ≡ with_slot k None c → slot_at c k ≡ Some s → Flushes (λ j. j == k) c d old new
@@ -157,6 +188,8 @@ class_flushed k s c d old mid new cached w n x e at = record {
       (λ f. slot_else c k j None f ∙ rw (ne_eqb j k f) refl);
   said = x.said;
   flushing = x.flushing;
+  sweeps = subst (λ (u : Seen). OnlySweeps u.view.generation x.said) w x.sweeps;
+  sets = subst (λ (u : Seen). FitsSets u.view.generation no_page x.said u new.worker) w x.sets;
   leaves = leaves_from x.said mid old new w n x.leaves;
   swept = λ p. let t = times_gone p s.page old.worker.view.own.cached cached in let y = x.swept p in
       let z : new.worker.view.own.cached ≡ erase s.page old.worker.view.own.cached = x.cached ∙ ap (λ (u : Seen). erase s.page u.view.own.cached) w in
@@ -193,6 +226,8 @@ flushes-trans f h c d e a b x y z = record {
   slots = λ k. z.slots k ∙ ap (λ (o : Option Span). if h k then None else o) (y.slots k) ∙ or_test (h k) (f k) (slot_at c k);
   said = z.said ++ y.said;
   flushing = all-append IsFlushing z.said y.said z.flushing y.flushing;
+  sweeps = sweeps-append a.worker.view.generation z.said y.said (subst (λ (v : View). OnlySweeps v.generation z.said) y.leaves.view z.sweeps) y.sweeps;
+  sets = fits-both a.worker.view.generation no_page no_page no_page z.said y.said a.worker b.worker x.worker (λ p l. l) (λ p l. l) y.sets (subst (λ (v : View). FitsSets v.generation no_page z.said b.worker x.worker) y.leaves.view z.sets);
   leaves = leaves-trans z.said y.said a b x y.leaves z.leaves;
   swept = λ p. let m = many-append (is_sweep_of p) z.said y.said in let s = y.swept p in let t = z.swept p in omega arith;
   fresh = z.fresh ∙ y.fresh;
@@ -205,6 +240,8 @@ flushes_by f h c d a b e y = record {
   slots = λ k. y.slots k ∙ ap (λ (t : Bool). if t then None else slot_at c k) (e k);
   said = y.said;
   flushing = y.flushing;
+  sweeps = y.sweeps;
+  sets = y.sets;
   leaves = y.leaves;
   swept = y.swept;
   fresh = y.fresh;
@@ -226,6 +263,8 @@ nothing_yet c old idle = record {
   slots = λ k. rw (none_below k) refl;
   said = [];
   flushing = tt;
+  sweeps = nothing-sweeps old.worker.view.generation;
+  sets = fits-none old.worker.view.generation no_page [] old.worker old.worker [] refl refl;
   leaves = leaves_nothing old old idle refl refl;
   swept = λ p. omega arith;
   fresh = refl;
@@ -238,6 +277,8 @@ reads_only c old w g test idle e none = record {
   slots = λ k. rw (none k) refl;
   said = Read 1 g ∷ [];
   flushing = (tt, tt);
+  sweeps = record { unplaced = refl; unspent = refl; swept_pages = refl; given = λ p. refl; pushed = λ p. refl; unpopped = λ j p s. refl; unlooked = λ j s. refl; untouched = λ p. refl };
+  sets = fits-none old.worker.view.generation no_page (Read 1 g ∷ []) old.worker w [] refl (ap (λ (s : Seen). s.view.own.spans) e);
   leaves = record {
     log = ap (λ (s : Seen). s.view.own.log) e;
     away = ap (λ (s : Seen). s.away) e;
@@ -320,6 +361,8 @@ module _ (c : Cache) (old : Hand) where
       slots = all_gone;
       said = x.flushes.said;
       flushing = x.flushes.flushing;
+      sweeps = x.flushes.sweeps;
+      sets = x.flushes.sets;
       leaves = x.flushes.leaves;
       swept = x.flushes.swept;
       fresh = x.flushes.fresh;

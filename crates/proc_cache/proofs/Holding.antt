@@ -1,5 +1,5 @@
 -- What the calls beneath leave of a hand that holds nothing.
-use Rattle.std.proofs.Common.{◌≡◌, ℕ, ◌+◌, List, [], ◌∷◌, ◌++◌, refl, ap, sym, subst, ◌∙◌, arith, append_assoc}
+use Rattle.std.proofs.Common.{◌≡◌, ℕ, ◌+◌, ◌<◌, List, [], ◌∷◌, ◌++◌, refl, ap, sym, subst, ◌∙◌, arith, append_assoc}
 use Rattle.std.specs.Prelude.{◌==◌}
 use Rattle.sweep_laws.specs.Counts.{one_if, times}
 use Rattle.sweep_laws.specs.Lists.{has}
@@ -16,6 +16,8 @@ use Rattle.span_laws.specs.Asks.{IsIdle}
 use Rattle.span_laws.specs.Calls.{notes_of, number_added, pages_swept}
 use Rattle.span_laws.specs.Views.{acts}
 use Rattle.span_set.specs.declared.hand.Hand.{Hand}
+use Rattle.span_set.specs.Fits.{FitsSets, no_page}
+use Rattle.span_set.proofs.Fits.{fits-both, fits-more}
 use Rattle.central_lists.specs.Works as lists
 use Rattle.sweeper.specs.Work as work
 use Rattle.proc_cache.specs.Leaves.{Holds, Leaves, Sums}
@@ -51,6 +53,7 @@ module _ (more : List ℕ) (P : List Entry → Type 0) (old new : Hand) (idle : 
     fresh = s.fresh;
     bodies = λ q h. s.bodies q (let t = has_times q old.worker.view.own.cached h in omega arith);
     unpopped = λ j p part full. o.unpopped j p part;
+    sets = fits-more old.worker.view.generation no_page (λ q. times q more) w.said old.worker new.worker (λ p z. absurd (omega arith)) w.does.sets;
     swept = o.swept_pages;
     notes = w.notes ∙ ap (λ (l : List SweepNote). old.notes.items ++ l) (notes-same old.worker.view.generation w.said);
   }
@@ -69,8 +72,8 @@ module _ (class tried : ℕ) (more kept : ℕ → ℕ) (P : List Entry → Type 
   counted : (q : ℕ) → times q new.worker.view.own.held ≡ more q
   counted q = let h = d.held q in let z = ap (times q) idle.held in omega arith
 
-  holds_list : (pages : List ℕ) → new.worker.view.own.held ≡ pages → Holds pages d.said old new
-  holds_list pages e = let k = d.keeps in record {
+  holds_list : (pages : List ℕ) → ((q : ℕ) → 0 < kept q → 0 < times q pages) → new.worker.view.own.held ≡ pages → Holds pages d.said old new
+  holds_list pages keeps e = let k = d.keeps in record {
     log = d.log;
     away = k.away;
     table = k.table;
@@ -85,22 +88,23 @@ module _ (class tried : ℕ) (more kept : ℕ → ℕ) (P : List Entry → Type 
     fresh = k.fresh;
     bodies = λ q h. k.bodies q (let t = has_times q old.worker.view.own.cached h in omega arith);
     unpopped = d.says.pops_no_full;
+    sets = fits-more old.worker.view.generation kept (λ q. times q pages) d.said old.worker new.worker keeps d.sets;
     swept = d.says.adds_pages;
     notes = d.notes;
   }
 
-  pub holds_none : ((q : ℕ) → more q ≡ 0) → Holds [] d.said old new
-  holds_none e = holds_list [] (none_in _ (λ q. counted q ∙ e q))
+  pub holds_none : ((q : ℕ) → kept q ≡ 0) → ((q : ℕ) → more q ≡ 0) → Holds [] d.said old new
+  holds_none n e = holds_list [] (λ q l. absurd (let z = n q in omega arith)) (none_in _ (λ q. counted q ∙ e q))
 
-  pub holds_one : (p : ℕ) → ((q : ℕ) → more q ≡ one_if (p == q)) → Holds (p ∷ []) d.said old new
-  holds_one p e = holds_list (p ∷ []) (one_in p _ (λ q. counted q ∙ e q))
+  pub holds_one : (p : ℕ) → ((q : ℕ) → 0 < kept q → 0 < one_if (p == q)) → ((q : ℕ) → more q ≡ one_if (p == q)) → Holds (p ∷ []) d.said old new
+  holds_one p k e = holds_list (p ∷ []) (λ q l. let z = k q l in omega arith) (one_in p _ (λ q. counted q ∙ e q))
 
   pub sums_of_lists : Sums 0 0 0 0 d.said
   sums_of_lists = record { spends = d.says.spends_nothing; takes = d.says.takes_nothing; misses = d.says.misses_nothing; places = d.says.places_nothing }
 
--- one call after another
-pub holds-then : (held pages : List ℕ) (later first : List Entry) (a b d : Hand) → Holds held first a b → Holds pages later b d → Holds pages (later ++ first) a d
-holds-then held pages later first a b d x y = record {
+-- one call after another; of what the first swept it keeps nothing
+pub holds-then : (held pages : List ℕ) (later first : List Entry) (a b d : Hand) → FitsSets a.worker.view.generation no_page first a.worker b.worker → Holds held first a b → Holds pages later b d → Holds pages (later ++ first) a d
+holds-then held pages later first a b d f x y = record {
   log = y.log ∙ ap (λ (l : List Entry). later ++ l) x.log ∙ sym (append_assoc later first a.worker.view.own.log);
   away = y.away ∙ x.away;
   table = y.table ∙ x.table;
@@ -116,6 +120,8 @@ holds-then held pages later first a b d x y = record {
   bodies = λ q h. y.bodies q (ap (has q) x.cached ∙ h) ∙ x.bodies q h;
   unpopped = λ j p part full. let m = many-append (is_pop_of j p) later first in let u = x.unpopped j p part full in
       let v = y.unpopped j p (ap (λ (z : View). Rattle.sweep_laws.specs.Reading.is_swept_set z.generation j) x.view ∙ part) full in omega arith;
+  sets = fits-both a.worker.view.generation no_page (λ q. times q pages) (λ q. times q pages) later first a.worker b.worker d.worker (λ p z. absurd (omega arith)) (λ p z. z) f
+      (subst (λ (v : View). FitsSets v.generation (λ q. times q pages) later b.worker d.worker) x.view y.sets);
   swept = let m = total-append (number_added 2) later first in let n = total-append pages_swept later first in let p = x.swept in let q = y.swept in omega arith;
   notes = y.notes ∙ (λ i. x.notes i ++ notes_of (x.view i).generation later)
       ∙ append_assoc a.notes.items (notes_of a.worker.view.generation first) (notes_of a.worker.view.generation later)
@@ -123,7 +129,7 @@ holds-then held pages later first a b d x y = record {
 }
 
 pub holds-trans : (pages : List ℕ) (later first : List Entry) (a b d : Hand) → Holds [] first a b → Holds pages later b d → Holds pages (later ++ first) a d
-holds-trans pages later first a b d x y = holds-then [] pages later first a b d x y
+holds-trans pages later first a b d x y = holds-then [] pages later first a b d x.sets x y
 
 pub holds_nothing : (said : List Entry) (a b : Hand) → Holds [] said a b → Leaves said a b
 holds_nothing said a b x = record {

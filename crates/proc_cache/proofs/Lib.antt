@@ -9,3 +9,4 @@ pub mod Filling
 pub mod Placing
 pub mod Sampling
 pub mod SlotSizes
+pub mod Again

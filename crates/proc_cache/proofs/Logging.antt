@@ -2,7 +2,7 @@
 use Rattle.std.proofs.Common.{◌≡◌, ℕ, ◌+◌, Bool, true, false, List, [], ◌∷◌, ◌++◌, refl, ap, ◌∙◌, arith}
 use Rattle.page_bitmap.specs.Counts.{one_if}
 use Rattle.page_bitmap.specs.declared.line.Line.{Line}
-use Rattle.page_bitmap.specs.declared.line.Line.TheVariants.{Take, Miss, Give, Scav}
+use Rattle.page_bitmap.specs.declared.line.Line.TheVariants.{Take, Miss, Give, Scav, Pull, Cut, Drop}
 use Rattle.sweep_laws.specs.Named.{only}
 use Rattle.worker_log.specs.declared.Entry.{Entry}
 use Rattle.worker_log.specs.declared.Entry.TheVariants.{Looked, LookedEmptyCell, Popped, Pushed, Swept, Took, Missed, Gave, Allocated, Found, Read, Added}
@@ -76,6 +76,9 @@ refused-append number (Miss cycle pages class) xs ys = refl
 refused-append number (Take cycle page pages class) xs ys = refl
 refused-append number (Give cycle page pages) xs ys = refl
 refused-append number (Scav cycle page pages) xs ys = refl
+refused-append number (Pull cycle proc page pages) xs ys = refl
+refused-append number (Cut cycle proc page pages class) xs ys = refl
+refused-append number (Drop cycle proc page pages) xs ys = refl
 
 pub refusals-append : (later first : List Entry) → refusals (later ++ first) ≡ refusals later ++ refusals first
 refusals-append [] first = refl

@@ -26,22 +26,27 @@ use Rattle.span_laws.specs.Calls.{added, is_missing, is_placing, number_added}
 use Rattle.span_laws.specs.Logs.{is_taking}
 use Rattle.span_laws.specs.Views.{Seen, acts, span_of}
 use Rattle.span_set.specs.declared.hand.Hand.{Hand}
+use Rattle.span_set.specs.Fits.{FitsSets, no_page}
+use Rattle.span_set.proofs.Fits.{fits-both, fits-none}
 use Rattle.central_lists.specs.Looks.{Then}
 use Rattle.proc_cache.specs.declared.refills.CacheFrom.{CacheFrom}
-use Rattle.proc_cache.specs.Allocs.{AllocatesIn, IsPlaced, JustPlaces, KeepsOthers, PlacesOne, flushed_slot}
-use Rattle.proc_cache.specs.Cache.{Cache, slot_at, with_slot}
-use Rattle.proc_cache.specs.Flushes.{FlushesCache, IsFlushing}
+use Rattle.sweeper.specs.Work.{OnlySweeps}
+use Rattle.sweeper.proofs.Counting.{nothing-sweeps, sweeps-append}
+use Rattle.proc_cache.specs.Allocs.{AllocatesIn, IsPlaced, JustPlaces, KeepsOthers, PlacesOne, StopsAllocating, flushed_slot}
+use Rattle.proc_cache.specs.Cache.{Cache, page_in, slot_at, with_slot}
+use Rattle.proc_cache.specs.Flushes.{FlushesCache, IsFlush, IsFlushing}
 use Rattle.proc_cache.specs.Hits.{HitsAt, IsMissing}
 use Rattle.proc_cache.specs.Leaves.{Leaves, Sums}
 use Rattle.proc_cache.specs.RefillLogs.{HasFilled, HasLeft, HasMissed, HasPaidFor, bytes_of, taken_for}
 use Rattle.proc_cache.specs.Refills.{RefillsCache}
 use Rattle.proc_cache.specs.Serves.{IsUsedBut, IsUsedCache, Serves, is_flushed}
+use Rattle.proc_cache.specs.Stops.{StopsFilling}
 use Rattle.proc_cache.proofs.Finding.{comes_from, looked_from, missed_from, no_run_from}
 use Rattle.proc_cache.proofs.Flushing.{none_passes}
 use Rattle.proc_cache.proofs.Leaving.{all-append, leaves-trans}
 use Rattle.proc_cache.proofs.Logging.{no_placings, no_refusals, placings-append, refusals-append, sums-append}
 use Rattle.proc_cache.proofs.Serving.{same_some}
-use Rattle.proc_cache.proofs.Slots.{slot_else}
+use Rattle.proc_cache.proofs.Slots.{slot_else, slot_here, slot_low}
 
 -- ---- slots
 
@@ -91,6 +96,15 @@ module _ (k at : ℕ) (c d : Cache) (old : Hand) (w : Seen) (idle : IsIdle old.w
   pub placing_sums : Sums 0 0 0 1 (Allocated placing ∷ [])
   placing_sums = record { spends = refl; takes = refl; misses = refl; places = refl }
 
+  placing_kept : (p : ℕ) → 0 < page_in (slot_at c k) p → 0 < page_in (slot_at d k) p
+  placing_kept p l = subst (λ (o : Option Span). 0 < page_in o p) (sym (ap (λ (z : Cache). slot_at z k) h.cache ∙ slot_here c k (Some h.after) (slot_low c k h.before h.cached)))
+      (subst (λ (q : ℕ). 0 < page_in (Some (record h.after { page = q })) p) (sym h.placed.page) (subst (λ (o : Option Span). 0 < page_in o p) h.cached l))
+
+  -- the spans that were swept before went to their sets still
+  pub placing_sets : (g : ℕ) (kept : ℕ → ℕ) (said : List Entry) (a : Seen) → ((p : ℕ) → 0 < kept p → 0 < page_in (slot_at c k) p) → FitsSets g kept said a old.worker → FitsSets g (page_in (slot_at d k)) (Allocated placing ∷ said) a w
+  placing_sets g kept said a keeps f = fits-both g kept no_page (page_in (slot_at d k)) (Allocated placing ∷ []) said a old.worker w (λ p l. placing_kept p (keeps p l)) (λ p l. absurd (omega arith)) f
+      (fits-none g no_page (Allocated placing ∷ []) old.worker w (h.after ∷ []) refl (ap (λ (s : Seen). s.view.own.spans) h.worker))
+
   -- the span has an object now
   pub placing_used : IsUsedBut k old.worker.view.own c → IsUsedCache w.view.own
   placing_used u p hp fp =
@@ -127,6 +141,10 @@ refused_used pages distance k c d old mid e r v u p hp fp =
     gone (NoRun line) r = ap (λ (z : Cache). slot_at z k) r.0 ∙ slot_gone c k
     gone WantsMemory r = ap (λ (z : Cache). slot_at z k) r.0 ∙ slot_gone c k
 
+-- nothing was flushed
+no_flush : (g : ℕ) → IsFlush g []
+no_flush g = record { flushing = tt; sweeps = nothing-sweeps g }
+
 -- ---- an allocation after a refill
 
 module _ (pages distance k : ℕ) (c d : Cache) (old mid : Hand) (stamp : c.flushed ≡ old.worker.view.generation) where
@@ -142,9 +160,12 @@ module _ (pages distance k : ℕ) (c d : Cache) (old mid : Hand) (stamp : c.flus
     ap (λ (z : Cache). slot_at z k) r.0 ∙ slot_gone c k,
     others_kept None r.0,
     r.1,
-    (s, r.2.1, r.2.2, no_placings s r.2.2.places, r.2.3, (s, [], sym (append-nil s), tt, subst (λ (o : Option Span). HasMissed old pages distance k o line s) (sym (flushed_is old.worker.view.generation c k stamp)) r.2.4)),
+    (s, r.2.1, r.2.2, no_placings s r.2.2.places, r.2.3, (s, [], sym (append-nil s), no_flush old.worker.view.generation, subst (λ (o : Option Span). HasMissed old pages distance k o line s) (sym (flushed_is old.worker.view.generation c k stamp)) r.2.4), r.2.5),
   )
-  missed_refill WantsMemory r = (inr (ap (λ (z : Cache). z.flushed) r.0 ∙ stamp, ap (λ (z : Cache). slot_at z k) r.0 ∙ slot_gone c k, others_kept None r.0), r.1)
+  missed_refill WantsMemory r = let s = r.1.0 in let e = ap (λ (z : Cache). z.flushed) r.0 ∙ stamp in (
+    inr (e, ap (λ (z : Cache). slot_at z k) r.0 ∙ slot_gone c k, others_kept None r.0),
+    (s, r.1.1, r.1.2, inr (e, (s, [], sym (append-nil s), no_flush old.worker.view.generation, subst (λ (o : Option Span). StopsFilling old.worker.view pages distance k o s) (sym (flushed_is old.worker.view.generation c k stamp)) r.1.3)), r.1.4),
+  )
 
   module _ (from : CacheFrom) (r : RefillsCache pages distance k c d old mid (Ok from)) (v : Serves mid.worker.view.generation mid.worker.view.own d) (at : ℕ) (e : Cache) (w : Seen) (h : HitsAt k at d e mid.worker w) where
     pub refilled_hit : AllocatesIn pages distance k c e old (record mid { worker = w }) (Ok at)
@@ -165,11 +186,12 @@ module _ (pages distance k : ℕ) (c d : Cache) (old mid : Hand) (stamp : c.flus
                   Allocated a ∷ s,
                   [],
                   sym (append-nil (Allocated a ∷ s)),
-                  tt,
+                  no_flush old.worker.view.generation,
                   (Allocated a ∷ [], s, refl, subst (λ (o : Option Span). HasFilled old pages distance k o r.0 from s) (sym (flushed_is old.worker.view.generation c k stamp)) r.4.3, (a, refl)),
                 ),
               ),
             ),
+            placing_sets k at d e mid w idle v h old.worker.view.generation (page_in (slot_at d k)) s old.worker (λ p l. l) r.4.4,
           ),
         )
       where
@@ -245,7 +267,10 @@ flush_sums said all = record { spends = adds_nothing said all; takes = none_pass
 module _ (pages distance k : ℕ) (c c1 : Cache) (old mid : Hand) where
   -- memory ran out in the flush
   pub flush_refused : (e : NoMemory) → FlushesCache c c1 old mid (Err e) → AllocatesIn pages distance k c c1 old mid (Err WantsMemory)
-  flush_refused e f = let x = f.2.2 in (inl (f.1, f.0, (f.2.0, f.2.1, x.slots)), (x.said, x.leaves, flush_sums x.said x.flushing))
+  flush_refused e f = let x = f.2.2 in (
+    inl (f.1, f.0, (f.2.0, f.2.1, x.slots)),
+    (x.said, x.leaves, flush_sums x.said x.flushing, inl (f.1, f.0, record { flushing = x.flushing; sweeps = x.sweeps }), x.sets),
+  )
 
   module _ (f : FlushesCache c c1 old mid (Ok tt)) where
     same_generation : mid.worker.view.generation ≡ old.worker.view.generation
@@ -270,13 +295,23 @@ module _ (pages distance k : ℕ) (c c1 : Cache) (old mid : Hand) where
             Allocated a ∷ s,
             leaves-trans (Allocated a ∷ []) s old mid (record mid { worker = w }) x.leaves (placing_leaves k at c1 d mid w idle v h),
             placing_one k at c1 d mid w idle v h s (no_placings s u.places) (no_refusals s u.misses),
-            inl (sums-append 0 0 0 0 0 0 0 1 (Allocated a ∷ []) s u (placing_sums k at c1 d mid w idle v h), (Allocated a ∷ [], s, refl, x.flushing, (a, refl))),
+            inl (sums-append 0 0 0 0 0 0 0 1 (Allocated a ∷ []) s u (placing_sums k at c1 d mid w idle v h), (Allocated a ∷ [], s, refl, record { flushing = x.flushing; sweeps = x.sweeps }, (a, refl))),
+            placing_sets k at c1 d mid w idle v h old.worker.view.generation no_page s old.worker (λ p l. absurd (omega arith)) x.sets,
           ),
         )
 
     -- what comes behind the flush
-    flush_first : (Q : List Entry → Type 0) (said : List Entry) → Then (AllByRecursion IsFlushing) Q said → Then (AllByRecursion IsFlushing) Q (said ++ f.1.said)
-    flush_first Q said t = (t.0, t.1 ++ f.1.said, ap (λ (l : List Entry). l ++ f.1.said) t.2 ∙ append_assoc t.0 t.1 f.1.said, all-append IsFlushing t.1 f.1.said t.3 f.1.flushing, t.4)
+    flush_first : (Q : List Entry → Type 0) (said : List Entry) → Then (IsFlush mid.worker.view.generation) Q said → Then (IsFlush old.worker.view.generation) Q (said ++ f.1.said)
+    flush_first Q said t = (
+      t.0,
+      t.1 ++ f.1.said,
+      ap (λ (l : List Entry). l ++ f.1.said) t.2 ∙ append_assoc t.0 t.1 f.1.said,
+      record {
+        flushing = all-append IsFlushing t.1 f.1.said t.3.flushing f.1.flushing;
+        sweeps = sweeps-append old.worker.view.generation t.1 f.1.said (subst (λ (n : ℕ). OnlySweeps n t.1) same_generation t.3.sweeps) f.1.sweeps;
+      },
+      t.4,
+    )
 
     filled_from : (o p : Option Span) → o ≡ p → (b : Body) (from : CacheFrom) (said : List Entry) → HasFilled mid pages distance k o b from said → HasFilled old pages distance k p b from said
     filled_from o p e b from said t = let u = t.4 in let w = u.4 in let v = f.1.leaves.view in (
@@ -327,11 +362,25 @@ module _ (pages distance k : ℕ) (c c1 : Cache) (old mid : Hand) where
       refused = refusals-append said f.1.said ∙ (λ i. p.refused i ++ no_refusals f.1.said u.misses i);
     }
 
+    filling_from : (said : List Entry) → StopsFilling mid.worker.view pages distance k (flushed_slot mid.worker.view.generation c1 k) said
+        → StopsFilling old.worker.view pages distance k (flushed_slot old.worker.view.generation c k) said
+    filling_from said t = subst (λ (o : Option Span). StopsFilling old.worker.view pages distance k o said) (slots_now k)
+        (subst (λ (v : View). StopsFilling v pages distance k (flushed_slot mid.worker.view.generation c1 k) said) f.1.leaves.view t)
+
+    stops_now : (d : Cache) (said : List Entry) → StopsAllocating mid pages distance k c1 d said → StopsAllocating old pages distance k c d (said ++ f.1.said)
+    stops_now d said (inl z) = absurd (true≢false (sym (eq-eqb c1.flushed mid.worker.view.generation flushed_now) ∙ z.1))
+    stops_now d said (inr z) = let t = z.1 in
+        inr (z.0 ∙ same_generation, flush_first (StopsFilling old.worker.view pages distance k (flushed_slot old.worker.view.generation c k)) said (t.0, t.1, t.2, t.3, filling_from t.0 t.4))
+
+    sets_now : (kept : ℕ → ℕ) (said : List Entry) (new : Hand) → FitsSets mid.worker.view.generation kept said mid.worker new.worker → FitsSets old.worker.view.generation kept (said ++ f.1.said) old.worker new.worker
+    sets_now kept said new x = fits-both old.worker.view.generation no_page kept kept said f.1.said old.worker mid.worker new.worker (λ p l. absurd (omega arith)) (λ p l. l) f.1.sets
+        (subst (λ (n : ℕ). FitsSets n kept said mid.worker new.worker) same_generation x)
+
     pub flushed_then : (d : Cache) (new : Hand) (r : Result ℕ Refused) → AllocatesIn pages distance k c1 d mid new r → AllocatesIn pages distance k c d old new r
     flushed_then d new (Ok at) a = let s = a.2.0 in (
       a.0 ∙ same_generation,
       others_now d a.1,
-      (s ++ f.1.said, leaves-trans s f.1.said old mid new f.1.leaves a.2.1, one_now at s a.2.2, placed_now s a.2.3),
+      (s ++ f.1.said, leaves-trans s f.1.said old mid new f.1.leaves a.2.1, one_now at s a.2.2, placed_now s a.2.3, sets_now (page_in (slot_at d k)) s new a.2.4),
     )
     flushed_then d new (Err (NoRun line)) a = let s = a.4.0 in let u = flush_sums f.1.said f.1.flushing in let t = a.4.5 in (
       a.0 ∙ same_generation,
@@ -346,6 +395,7 @@ module _ (pages distance k : ℕ) (c c1 : Cache) (old mid : Hand) where
         refusals-append s f.1.said ∙ (λ i. a.4.4 i ++ no_refusals f.1.said u.misses i),
         flush_first (HasMissed old pages distance k (flushed_slot old.worker.view.generation c k) line) s
             (t.0, t.1, t.2, t.3, missed_by (flushed_slot mid.worker.view.generation c1 k) (flushed_slot old.worker.view.generation c k) (slots_now k) line t.0 t.4),
+        sets_now no_page s new a.4.6,
       ),
     )
     flushed_then d new (Err WantsMemory) a = (
@@ -353,5 +403,5 @@ module _ (pages distance k : ℕ) (c c1 : Cache) (old mid : Hand) where
           (λ (z : (d.flushed ≡ c1.flushed) × (is_flushed mid.worker.view.generation c1 ≡ false) × ((m : ℕ) × (m < 136) × ((j : ℕ) → slot_at d j ≡ (if nat_lt j m then None else slot_at c1 j)))). absurd (true≢false (sym (eq-eqb c1.flushed mid.worker.view.generation flushed_now) ∙ z.1)))
           (λ (z : (d.flushed ≡ mid.worker.view.generation) × (slot_at d k ≡ None) × KeepsOthers mid.worker.view.generation k c1 d). (z.0 ∙ same_generation, z.1, others_now d z.2))
           a.0),
-      (a.1.0 ++ f.1.said, leaves-trans a.1.0 f.1.said old mid new f.1.leaves a.1.1, sums-append 0 0 0 0 0 0 0 0 a.1.0 f.1.said (flush_sums f.1.said f.1.flushing) a.1.2),
+      (a.1.0 ++ f.1.said, leaves-trans a.1.0 f.1.said old mid new f.1.leaves a.1.1, sums-append 0 0 0 0 0 0 0 0 a.1.0 f.1.said (flush_sums f.1.said f.1.flushing) a.1.2, stops_now d a.1.0 a.1.3, sets_now no_page a.1.0 new a.1.4),
     )

@@ -12,7 +12,8 @@ use Rattle.span_laws.specs.declared.view.Span.{Span}
 use Rattle.span_set.specs.declared.hand.Hand.{Hand}
 use Rattle.span_set.specs.Tallies.{Frees}
 use Rattle.proc_cache.specs.Allocs.{AllocatesIn}
-use Rattle.proc_cache.specs.Cache.{Cache}
+use Rattle.span_set.specs.Fits.{FitsSets}
+use Rattle.proc_cache.specs.Cache.{Cache, page_in, slot_at}
 use Rattle.proc_cache.specs.Leaves.{Leaves}
 use Rattle.proc_cache.specs.Samples.{CountsOne, counted}
 use Rattle.proc_cache.specs.Serves.{Serves}
@@ -35,7 +36,14 @@ pub allocates_to : (pages distance k at : ℕ) (c d e : Cache) (old mid new : Ha
 allocates_to pages distance k at c d e old mid new x f s w n = (
   f ∙ x.0,
   (λ j m. ap (λ (l : List (Option Span)). slice_index_or l j None) s ∙ x.1 j m),
-  (x.2.0, leaves_to x.2.0 old mid new x.2.1 w n, x.2.2, x.2.3),
+  (
+    x.2.0,
+    leaves_to x.2.0 old mid new x.2.1 w n,
+    x.2.2,
+    x.2.3,
+    subst (λ (l : List (Option Span)). FitsSets old.worker.view.generation (page_in (slice_index_or l k None)) x.2.0 old.worker new.worker) (sym s)
+        (subst (λ (u : Seen). FitsSets old.worker.view.generation (page_in (slot_at d k)) x.2.0 old.worker u) (sym w) x.2.4),
+  ),
 )
 
 -- a cache with another countdown

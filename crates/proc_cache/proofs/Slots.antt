@@ -1,6 +1,7 @@
 -- The slots of a cache: one is read, written, or kept.
-use Rattle.std.proofs.Common.{◌≡◌, ◌≢◌, ℕ, zero, suc, ◌<◌, List, [], ◌∷◌, set, get_or, length, refl, ap, sym, subst, ◌∙◌, arith}
+use Rattle.std.proofs.Common.{◌≡◌, ◌≢◌, ℕ, zero, suc, ◌<◌, Bool, true, false, true≢false, not, List, [], ◌∷◌, set, get_or, length, refl, ap, sym, subst, ◌∙◌, arith}
 use Rattle.std.specs.Prelude.{None, Some, Option}
+use Rattle.std.specs.Option.{is_some}
 use Rattle.std.proofs.Math.ListN.{get_or-map}
 use Rattle.std.proofs.Math.Seq.{map-set_same}
 use Rattle.std.proofs.lemmas.List.{map-set, get_or-set_same, get_or-set_other}
@@ -14,6 +15,11 @@ pub other_default : {A : Type 0} (l : List A) (i : ℕ) (d e : A) → i < length
 other_default [] i d e h = absurd (omega arith)
 other_default (x ∷ l) zero d e h = refl
 other_default (x ∷ l) (suc i) d e h = other_default l i d e (omega arith)
+
+-- where there is none, there is none
+pub none_is : {A : Type 0} (o : Option A) (f : Bool) → is_some o ≡ not f → f ≡ true → o ≡ None
+none_is None f e t = refl
+none_is (Some x) f e t = absurd (true≢false (e ∙ ap not t))
 
 module _ (n f : ℕ) (items : List (Option Body)) (t : Countdown) (now : Cache) (view : record { number = n; flushed = f; slots = spans_of items; countdown = t } ≡ now) (k : ℕ) (o : Option Body) where
   -- the slot that is read

@@ -1,8 +1,9 @@
 -- What contracts see of a processor.
-use Rattle.std.specs.Prelude.{ℕ, ◌+◌, ◌*◌, List, map, Option, Some, None, slice_index_or, slice_set}
+use Rattle.std.specs.Prelude.{ℕ, ◌+◌, ◌*◌, ◌==◌, List, map, Option, Some, None, slice_index_or, slice_set}
 use Rattle.size_classes.specs.Classes.{region_start}
 use Rattle.profile_cycle.specs.Sampling.{Countdown}
 use Rattle.span_state.specs.declared.body.Body.{Body}
+use Rattle.sweep_laws.specs.Counts.{one_if}
 use Rattle.span_laws.specs.declared.view.Span.{Span}
 use Rattle.span_laws.specs.Views.{span_of}
 
@@ -25,6 +26,11 @@ spans_of bodies = map span_in bodies
 -- the cached span of a class
 abbrev pub slot_at : Cache → ℕ → Option Span
 slot_at c k = slice_index_or c.slots k None
+
+-- the page of the span in a slot
+abbrev pub page_in : Option Span → ℕ → ℕ
+page_in None q = 0
+page_in (Some s) q = one_if (s.page == q)
 
 -- a cache with another span of a class, or none
 abbrev pub with_slot : ℕ → Option Span → Cache → Cache

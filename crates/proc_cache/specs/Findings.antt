@@ -21,6 +21,7 @@ use Rattle.sweeper.specs.NewSpans.{MissedAtLast}
 use Rattle.proc_cache.specs.declared.refills.CacheFrom.{CacheFrom}
 use Rattle.proc_cache.specs.Leaves.{Holds, Sums}
 use Rattle.proc_cache.specs.RefillLogs.{bytes_of, HasPaidFor, LookedFor, ComesFrom, taken_for}
+use Rattle.proc_cache.specs.Stops.{StopsFinding, StopsTaking}
 
 -- behind some legal journal of that length no run of so many pages is free
 abbrev pub WasNoRun : Hand → ℕ → ℕ → Type 0
@@ -41,7 +42,7 @@ Comes k old new (Ok found) = IsFor k found.0 old new × ((said : List Entry) × 
 Comes k old new (Err (NoRun line)) = WasNoRun old (pages_of (k / 2)) line × ((said : List Entry) × Holds [] said old new × Sums 0 0 1 0 said
     × (refusals said ≡ record { number = line; pages = pages_of (k / 2); class = k } ∷ [])
     × ((look : Look) × ((tried : ℕ) × Then (LookedFor old.worker.view.generation k look tried) (MissedAtLast old (pages_of (k / 2)) k line) said)))
-Comes k old new (Err WantsMemory) = (said : List Entry) × Holds [] said old new × Sums 0 0 0 0 said
+Comes k old new (Err WantsMemory) = (said : List Entry) × Holds [] said old new × Sums 0 0 0 0 said × StopsTaking old.worker.view k said
 
 -- it is paid for before
 abbrev pub FindsSpan : (pages distance : ℕ) → ℕ → Hand → Hand → Result (Body × CacheFrom) Refused → Type 0
@@ -51,7 +52,7 @@ FindsSpan pages distance k old new (Err (NoRun line)) = WasNoRun old (pages_of (
     × (refusals said ≡ record { number = line; pages = pages_of (k / 2); class = k } ∷ [])
     × Then (HasPaidFor old.worker.view.generation pages distance (bytes_of k) 0)
     (λ rest. (look : Look) × ((tried : ℕ) × Then (LookedFor old.worker.view.generation k look tried) (MissedAtLast old (pages_of (k / 2)) k line) rest)) said)
-FindsSpan pages distance k old new (Err WantsMemory) = (said : List Entry) × Holds [] said old new × Sums 0 0 0 0 said
+FindsSpan pages distance k old new (Err WantsMemory) = (said : List Entry) × Holds [] said old new × Sums 0 0 0 0 said × StopsFinding old.worker.view pages distance k said
 
 -- the worker holds just one page
 pub record IsHolding (h : Part) (page : ℕ) : Type 0 where

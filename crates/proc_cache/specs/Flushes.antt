@@ -10,6 +10,8 @@ use Rattle.worker_log.specs.declared.Entry.TheVariants.{Pushed, Swept, Gave, Rea
 use Rattle.worker_log.specs.Entries.{is_sweep_of, many}
 use Rattle.span_laws.specs.Views.{span_at}
 use Rattle.span_set.specs.declared.hand.Hand.{Hand}
+use Rattle.span_set.specs.Fits.{FitsSets, no_page}
+use Rattle.sweeper.specs.Work.{OnlySweeps}
 use Rattle.proc_cache.specs.Cache.{Cache, slot_at}
 use Rattle.proc_cache.specs.Leaves.{Leaves}
 use Rattle.proc_cache.specs.Serves.{is_flushed}
@@ -23,12 +25,19 @@ IsFlushing (Pushed set page) = Unit {0}
 IsFlushing (Gave page pages) = Unit {0}
 IsFlushing _ = ⊥
 
+-- what a flush adds to the log: such entries alone, and each span that was swept was put away
+pub record IsFlush (g : ℕ) (said : List Entry) : Type 0 where
+  pub flushing : AllByRecursion IsFlushing said
+  pub sweeps : OnlySweeps g said
+
 -- the slots of the classes that pass a test were emptied: each page that left the worker's cache was swept once, and no other page was
 pub record Flushes (test : ℕ → Bool) (c d : Cache) (old new : Hand) : Type 0 where
   pub number : d.number ≡ c.number
   pub slots : (k : ℕ) → slot_at d k ≡ (if test k then None else slot_at c k)
   pub said : List Entry
   pub flushing : AllByRecursion IsFlushing said
+  pub sweeps : OnlySweeps old.worker.view.generation said
+  pub sets : FitsSets old.worker.view.generation no_page said old.worker new.worker
   pub leaves : Leaves said old new
   pub swept : (p : ℕ) → times p new.worker.view.own.cached + many (is_sweep_of p) said ≡ times p old.worker.view.own.cached
   pub fresh : new.worker.view.own.fresh ≡ old.worker.view.own.fresh
@@ -47,6 +56,8 @@ FlushesCache c d old new (Err none) = (is_flushed old.worker.view.generation c �
 pub record FlushesSpan (page : ℕ) (old new : Hand) : Type 0 where
   pub said : List Entry
   pub flushing : AllByRecursion IsFlushing said
+  pub sweeps : OnlySweeps old.worker.view.generation said
+  pub sets : FitsSets old.worker.view.generation no_page said old.worker new.worker
   pub leaves : Leaves said old new
   pub cached : new.worker.view.own.cached ≡ erase page old.worker.view.own.cached
   pub fresh : new.worker.view.own.fresh ≡ old.worker.view.own.fresh

@@ -1,5 +1,6 @@
 -- What a call leaves of a hand, and what it adds to the log. A log has its newest entry first.
 use Rattle.std.specs.Prelude.{◌≡◌, ℕ, true, List, [], ◌++◌, None}
+use Rattle.sweep_laws.specs.Counts.{times}
 use Rattle.sweep_laws.specs.Lists.{has}
 use Rattle.sweep_laws.specs.Reading.{is_swept_set}
 use Rattle.worker_log.specs.declared.Entry.{Entry}
@@ -10,6 +11,7 @@ use Rattle.span_laws.specs.Calls.{added, is_missing, is_placing, notes_of, swept
 use Rattle.span_laws.specs.Logs.{is_taking}
 use Rattle.span_laws.specs.Views.{acts, span_at}
 use Rattle.span_set.specs.declared.hand.Hand.{Hand}
+use Rattle.span_set.specs.Fits.{FitsSets}
 
 -- these entries came into the log; nothing but the worker's own part changed, and it sweeps and holds nothing, has popped nothing and claims nothing;
 -- the numbers that were added to word 2 are the pages of the swept spans, and each sweep has just its note
@@ -24,7 +26,8 @@ pub record Leaves (said : List Entry) (old new : Hand) : Type 0 where
   pub pages : added 2 said ≡ swept_pages said
   pub notes : new.notes.items ≡ old.notes.items ++ notes_of old.worker.view.generation said
 
--- the same, but the worker holds these pages; its cached spans are what they were, and nothing was popped from a swept full set
+-- the same, but the worker holds these pages; its cached spans are what they were, nothing was popped from a swept full set, and each other span of
+-- which a sweep kept some went to the set that it fits
 pub record Holds (pages : List ℕ) (said : List Entry) (old new : Hand) : Type 0 where
   pub log : new.worker.view.own.log ≡ said ++ old.worker.view.own.log
   pub away : new.worker.away ≡ old.worker.away
@@ -40,6 +43,7 @@ pub record Holds (pages : List ℕ) (said : List Entry) (old new : Hand) : Type 
   pub fresh : new.worker.view.own.fresh ≡ old.worker.view.own.fresh
   pub bodies : (q : ℕ) → has q old.worker.view.own.cached ≡ true → span_at q new.worker.view.own.spans ≡ span_at q old.worker.view.own.spans
   pub unpopped : (j p : ℕ) → is_swept_set old.worker.view.generation j ≡ true → is_full_set j ≡ true → many (is_pop_of j p) said ≡ 0
+  pub sets : FitsSets old.worker.view.generation (λ q. times q pages) said old.worker new.worker
   pub swept : added 2 said ≡ swept_pages said
   pub notes : new.notes.items ≡ old.notes.items ++ notes_of old.worker.view.generation said
 

@@ -5,6 +5,7 @@ pub mod Hits
 pub mod Leaves
 pub mod Flushes
 pub mod RefillLogs
+pub mod Stops
 pub mod Findings
 pub mod Refills
 pub mod Allocs

@@ -6,14 +6,14 @@ use Rattle.span_state.specs.declared.body.Body.{Body}
 use Rattle.worker_log.specs.declared.Entry.{Entry}
 use Rattle.worker_log.specs.declared.Entry.TheVariants.{Pushed, Read, Added}
 use Rattle.worker_log.specs.SetNumbers.{swept_set}
-use Rattle.worker_log.specs.Entries.{is_partial_push, many}
 use Rattle.span_laws.specs.declared.view.Span.{Span}
 use Rattle.span_set.specs.declared.hand.Hand.{Hand}
 use Rattle.central_lists.specs.declared.answers.Look.{Look}
-use Rattle.central_lists.specs.Looks.{PoppedIt, Saw, SawNone, SweptIt, Then, TriedEnough, tries}
+use Rattle.central_lists.specs.Looks.{PoppedIt, Saw, SawNone, SweptIt, Then, TriedEnough}
+use Rattle.central_lists.specs.Works.{Says, just, nothing}
 use Rattle.sweeper.specs.NewSpans.{MissedAtLast, TookAtLast}
 use Rattle.sweeper.specs.Pays.{HasPaid}
-use Rattle.sweeper.specs.Work.{IsPlain, LooksAtNone, SawAllEmpty}
+use Rattle.sweeper.specs.Work.{IsPlain, OnlySweeps, SawAllEmpty}
 use Rattle.proc_cache.specs.declared.refills.CacheFrom.{CacheFrom}
 use Rattle.proc_cache.specs.declared.refills.CacheFrom.TheVariants.{SweptPartial, SweptHere, Fresh}
 
@@ -22,9 +22,9 @@ abbrev pub bytes_of : ℕ → ℕ
 bytes_of k = 8192 * pages_of (k / 2)
 
 -- so many bytes were paid for, with so many pages of credit: a number of swept pages was read that reaches the target, or each unswept set was
--- seen empty; and no run was taken or missed, and no swept set looked at, before
+-- seen empty; and the spans that were swept for it were put away, no run was taken or missed, and no swept set looked at
 abbrev pub HasPaidFor : (generation pages distance bytes credit : ℕ) → List Entry → Type 0
-HasPaidFor generation pages distance bytes credit said = IsPlain said × LooksAtNone generation said
+HasPaidFor generation pages distance bytes credit said = IsPlain said × OnlySweeps generation said
     × (((seen : ℕ) × ((target : ℕ) × HasPaid generation pages distance bytes credit seen target said)) ⊎ SawAllEmpty generation said)
 
 -- the full span of class k, if there is one, left the cache for the swept full set
@@ -32,19 +32,20 @@ abbrev pub HasLeft : ℕ → ℕ → Option Span → List Entry → Type 0
 HasLeft g k None said = said ≡ []
 HasLeft g k (Some s) said = said ≡ Pushed (swept_set g k 1) s.page ∷ Read 1 g ∷ []
 
--- the sets were looked into for a span of class k, and nothing was pushed to a partial set meanwhile: the swept partial set was seen as it is told,
--- and then so many entries of the unswept sets were popped, a hundred of them, or else each unswept set of the class was seen empty
+-- the sets were looked into for a span of class k: the swept partial set was seen as it is told, and then so many entries of the unswept sets were
+-- popped, a hundred of them, or else each unswept set of the class was seen empty. Each span that was swept meanwhile was pushed to the swept full
+-- set of the class, and nothing to a partial set
 pub record LookedFor (g k : ℕ) (look : Look) (tried : ℕ) (said : List Entry) : Type 0 where
-  pub hides_nothing : many is_partial_push said ≡ 0
+  pub says : Says g k tried nothing said
   pub looked : Then (Saw (swept_set g k 0) look) (TriedEnough g k tried) said
-  pub tries_are : tries g k said ≡ tried
   pub few : tried ≤ 100
 
--- where the span of the page comes from: it was popped from the swept partial set; or it was swept, after that set was seen without a span; or the
--- sets were looked into, and then a run was taken for it
+-- where the span of the page comes from: it was popped from the swept partial set; or it was swept, after that set was seen without a span, and is
+-- the one swept span that was not pushed to the swept full set; or the sets were looked into, and then a run was taken for it
 abbrev pub ComesFrom : Hand → ℕ → Body → CacheFrom → List Entry → Type 0
-ComesFrom old k b SweptPartial said = PoppedIt old.worker.view.generation k b.page said
+ComesFrom old k b SweptPartial said = PoppedIt old.worker.view.generation k b.page said × Says old.worker.view.generation k 0 nothing said
 ComesFrom old k b SweptHere said = Then (SawNone (swept_set old.worker.view.generation k 0)) (SweptIt b.page) said
+    × ((tried : ℕ) × (tried ≤ 100) × Says old.worker.view.generation k tried (just b.page) said)
 ComesFrom old k b (Fresh look tried) said = Then (LookedFor old.worker.view.generation k look tried) (TookAtLast old (pages_of (k / 2)) b) said
 
 -- how many runs are taken for it

@@ -9,6 +9,7 @@
 mod allocs;
 mod flushes;
 mod hits;
+mod laws;
 mod proc;
 mod refills;
 mod samples;
@@ -17,6 +18,7 @@ pub use allocs::{Placed, alloc};
 pub use central_lists::Look;
 pub use flushes::flush;
 pub use hits::{Hit, alloc_hit};
+pub use laws::a_refused_allocation_may_be_made_again;
 pub use proc::Proc;
 pub use refills::{CacheFrom, refill};
 pub use samples::count_placed;

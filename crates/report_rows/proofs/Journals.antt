@@ -3,13 +3,14 @@ use Rattle.std.proofs.Common.{◌≡◌, ℕ, ◌+◌, ◌-◌, ◌/◌, ◌%◌
 use Rattle.std.proofs.lemmas.Bool.{false≢true, le-leb, leb-true}
 use Rattle.std.proofs.lemmas.Bool.Decides.{Decides-like, Decides-not, Decides-ltb, Decides-eqb}
 use Rattle.page_bitmap.specs.declared.line.Line.{Line}
-use Rattle.page_bitmap.specs.declared.line.Line.TheVariants.{Take, Miss, Give, Scav}
+use Rattle.page_bitmap.specs.declared.line.Line.TheVariants.{Take, Miss, Give, Scav, Pull, Cut, Drop}
 use Rattle.size_classes.specs.Classes.{pages_of}
 use Rattle.page_alloc.specs.Lists.{In}
-use Rattle.page_alloc.specs.Owners.{owner, unscavenged, backed}
+use Rattle.page_alloc.specs.Owners.{owner, cached, unscavenged, backed, IsUnheld}
 use Rattle.page_alloc.specs.Lives.{Life, open_lives}
 use Rattle.page_alloc.specs.FreeRuns.{IsFree, IsFirstFit, HasNoRun, IsSpanSize, IsLoose, IsScavengeRun}
 use Rattle.page_alloc.specs.Journal.{cycle_of, MayFollow, IsBy, Legal}
+use Rattle.page_alloc.proofs.BlocksOut.{keeps-none}
 use Rattle.report_rows.proofs.Tests.{Decides-then, Decides-else, Decides-implies, all_below, any_in, all_from, Decides-any, Decides-below, Decides-from}
 
 pub Decides-leb : (a b : ℕ) → Decides (leb a b) (a ≤ b)
@@ -23,21 +24,31 @@ Decides-nothing : (o : Option ℕ) → Decides (is_nothing o) (o ≡ None)
 Decides-nothing None = (λ h. refl, λ e. refl)
 Decides-nothing (Some n) = (λ h. absurd (false≢true h), λ e. cc)
 
+abbrev pub is_unheld : List Line → ℕ → Bool
+is_unheld past p = elim (is_nothing (owner past p)) [ true ↦ is_nothing (cached past p) | false ↦ false ]
+
+Decides-unheld : (past : List Line) (p : ℕ) → Decides (is_unheld past p) (IsUnheld past p)
+Decides-unheld past p =
+    Decides-like (is_unheld past p)
+    (λ (both : (owner past p ≡ None) × (cached past p ≡ None)). record { owner = both.0; cached = both.1 })
+    (λ h. (h.owner, h.cached))
+    (Decides-then (is_nothing (owner past p)) (is_nothing (cached past p)) (Decides-nothing (owner past p)) (Decides-nothing (cached past p)))
+
 Decides-Bool : (b : Bool) → Decides b (b ≡ true)
 Decides-Bool b = (λ h. h, λ h. h)
 
 -- ---- free runs
 
 abbrev pub is_free : ℕ → List Line → ℕ → ℕ → Bool
-is_free region past page pages = elim (leb (page + pages) region) [ true ↦ all_from (λ p. is_nothing (owner past p)) page pages | false ↦ false ]
+is_free region past page pages = elim (leb (page + pages) region) [ true ↦ all_from (is_unheld past) page pages | false ↦ false ]
 
 pub Decides-free : (region : ℕ) (past : List Line) (page pages : ℕ) → Decides (is_free region past page pages) (IsFree region past page pages)
 Decides-free region past page pages =
     Decides-like (is_free region past page pages)
-    (λ (both : (page + pages ≤ region) × ((p : ℕ) → page ≤ p → p < page + pages → owner past p ≡ None)). record { inside = both.0; free = both.1 })
+    (λ (both : (page + pages ≤ region) × ((p : ℕ) → page ≤ p → p < page + pages → IsUnheld past p)). record { inside = both.0; free = both.1 })
     (λ h. (h.inside, h.free))
-    (Decides-then (leb (page + pages) region) (all_from (λ p. is_nothing (owner past p)) page pages) (Decides-leb (page + pages) region)
-    (Decides-from (λ p. is_nothing (owner past p)) (λ p. owner past p ≡ None) (λ p. Decides-nothing (owner past p)) page pages))
+    (Decides-then (leb (page + pages) region) (all_from (is_unheld past) page pages) (Decides-leb (page + pages) region)
+    (Decides-from (is_unheld past) (IsUnheld past) (Decides-unheld past) page pages))
 
 abbrev pub is_first_fit : ℕ → List Line → ℕ → ℕ → Bool
 is_first_fit region past page pages = elim (is_free region past page pages) [ true ↦ all_below (λ q. not (is_free region past q pages)) page | false ↦ false ]
@@ -86,10 +97,10 @@ Decides-span_size class pages =
 -- ---- scavenging
 
 abbrev pub is_loose : List Line → ℕ → Bool
-is_loose past p = elim (is_nothing (owner past p)) [ true ↦ unscavenged past p | false ↦ false ]
+is_loose past p = elim (is_unheld past p) [ true ↦ unscavenged past p | false ↦ false ]
 
 pub Decides-loose : (past : List Line) (p : ℕ) → Decides (is_loose past p) (IsLoose past p)
-Decides-loose past p = Decides-then (is_nothing (owner past p)) (unscavenged past p) (Decides-nothing (owner past p)) (Decides-Bool (unscavenged past p))
+Decides-loose past p = Decides-then (is_unheld past p) (unscavenged past p) (Decides-unheld past p) (Decides-Bool (unscavenged past p))
 
 abbrev pub is_cut_off : List Line → ℕ → Bool
 is_cut_off past page = elim (eqb (page % 512) 0) [ true ↦ true | false ↦ not (is_loose past (page - 1)) ]
@@ -146,6 +157,7 @@ may_follow region goal past (Take cycle page pages class) = elim (is_span_size c
 may_follow region goal past (Miss cycle pages class) = elim (leb 1 pages) [ true ↦ has_no_run region past pages | false ↦ false ]
 may_follow region goal past (Give cycle page pages) = any_in (is_span page pages) (open_lives past)
 may_follow region goal past (Scav cycle page pages) = elim (ltb goal (backed region past)) [ true ↦ is_scavenge_run region past page pages | false ↦ false ]
+may_follow region goal past line = false
 
 pub Decides-follow : (region goal : ℕ) (past : List Line) (line : Line) → Decides (may_follow region goal past line) (MayFollow region goal past line)
 Decides-follow region goal past (Take cycle page pages class) = Decides-then (is_span_size class pages) (is_first_fit region past page pages) (Decides-span_size class pages) (Decides-first_fit region past page pages)
@@ -158,6 +170,9 @@ Decides-follow region goal past (Give cycle page pages) =
     (λ life i. Decides-then (eqb life.page page) (eqb life.pages pages) (Decides-eqb life.page page) (Decides-eqb life.pages pages)))
 Decides-follow region goal past (Scav cycle page pages) =
     Decides-then (ltb goal (backed region past)) (is_scavenge_run region past page pages) (Decides-ltb goal (backed region past)) (Decides-scavenge_run region past page pages)
+Decides-follow region goal past (Pull cycle proc page pages) = (λ h. absurd (false≢true h), λ may. absurd (let none = may.0 in omega arith))
+Decides-follow region goal past (Cut cycle proc page pages class) = (λ h. absurd (false≢true h), λ may. absurd (let none = may.0 in omega arith))
+Decides-follow region goal past (Drop cycle proc page pages) = (λ h. absurd (false≢true h), λ may. absurd (let none = may.0 in omega arith))
 
 abbrev pub is_by : ℕ → List Line → Bool
 is_by c [] = true
@@ -175,7 +190,7 @@ pub Decides-legal : (region goal : ℕ) (past : List Line) → Decides (is_legal
 Decides-legal region goal [] = (λ h. tt, λ h. refl)
 Decides-legal region goal (line ∷ past) =
     Decides-like (is_legal region goal (line ∷ past))
-    (λ (h : MayFollow region goal past line × (IsBy (cycle_of line) past × Legal region goal past)). (h.0, h.1.0, h.1.1))
+    (λ (h : MayFollow region goal past line × (IsBy (cycle_of line) past × Legal region goal past)). (h.0, h.1.0, h.1.1, keeps-none region goal past line h.1.1))
     (λ h. (h.0, (h.1, h.2)))
     (Decides-then (may_follow region goal past line) (elim (is_by (cycle_of line) past) [ true ↦ is_legal region goal past | false ↦ false ]) (Decides-follow region goal past line)
     (Decides-then (is_by (cycle_of line) past) (is_legal region goal past) (Decides-by (cycle_of line) past) (Decides-legal region goal past)))

@@ -3,7 +3,7 @@ use Rattle.std.proofs.Common.{◌≡◌, ℕ, Bool, true, false, eqb, List, [], 
 use Rattle.std.proofs.lemmas.Bool.{false≢true}
 use Rattle.std.proofs.lemmas.Bool.Decides.{Decides-like, Decides-eqb}
 use Rattle.page_bitmap.specs.declared.line.Line.{Line}
-use Rattle.page_bitmap.specs.declared.line.Line.TheVariants.{Take, Miss, Give, Scav}
+use Rattle.page_bitmap.specs.declared.line.Line.TheVariants.{Take, Miss, Give, Scav, Pull, Cut, Drop}
 use Rattle.page_alloc.specs.Lists.{In, IsNumber}
 use Rattle.cycle_history.specs.declared.Answer.{Answer}
 use Rattle.cycle_history.specs.declared.Answer.TheVariants.{Placed, Zero, Missed}
@@ -16,6 +16,9 @@ is_miss c p k (Take cycle page pages class) = false
 is_miss c p k (Miss cycle pages class) = elim (eqb cycle c) [ true ↦ elim (eqb pages p) [ true ↦ eqb class k | false ↦ false ] | false ↦ false ]
 is_miss c p k (Give cycle page pages) = false
 is_miss c p k (Scav cycle page pages) = false
+is_miss c p k (Pull cycle proc page pages) = false
+is_miss c p k (Cut cycle proc page pages class) = false
+is_miss c p k (Drop cycle proc page pages) = false
 
 Decides-miss : (c p k : ℕ) (line : Line) → Decides (is_miss c p k line) (line ≡ Miss c p k)
 Decides-miss c p k (Take cycle page pages class) = (λ h. absurd (false≢true h), λ e. cc)
@@ -24,6 +27,9 @@ Decides-miss c p k (Miss cycle pages class) =
     (Decides-then (eqb cycle c) (elim (eqb pages p) [ true ↦ eqb class k | false ↦ false ]) (Decides-eqb cycle c) (Decides-then (eqb pages p) (eqb class k) (Decides-eqb pages p) (Decides-eqb class k)))
 Decides-miss c p k (Give cycle page pages) = (λ h. absurd (false≢true h), λ e. cc)
 Decides-miss c p k (Scav cycle page pages) = (λ h. absurd (false≢true h), λ e. cc)
+Decides-miss c p k (Pull cycle proc page pages) = (λ h. absurd (false≢true h), λ e. cc)
+Decides-miss c p k (Cut cycle proc page pages class) = (λ h. absurd (false≢true h), λ e. cc)
+Decides-miss c p k (Drop cycle proc page pages) = (λ h. absurd (false≢true h), λ e. cc)
 
 abbrev pub is_here : ℕ → (Line → Bool) → Line → List Line → Bool
 is_here n test newest past = elim (eqb (length past) n) [ true ↦ test newest | false ↦ false ]

@@ -3,7 +3,7 @@ use Rattle.std.proofs.Common.{◌≡◌, ℕ, suc, ◌+◌, ◌-◌, ◌/◌, Bo
 use Rattle.std.specs.List.{AllZip}
 use Rattle.std.proofs.lemmas.Bool.{cases_Bool, and_left, and_right, and_parts}
 use Rattle.page_bitmap.specs.declared.line.Line.{Line}
-use Rattle.page_bitmap.specs.declared.line.Line.TheVariants.{Take, Miss, Give, Scav}
+use Rattle.page_bitmap.specs.declared.line.Line.TheVariants.{Take, Miss, Give, Scav, Pull, Cut, Drop}
 use Rattle.page_alloc.specs.Lists.{one_if, count}
 use Rattle.page_alloc.specs.Lives.{Life}
 use Rattle.span_state.specs.declared.sweep.SweepNote.{SweepNote}
@@ -75,6 +75,9 @@ gives-alike marked os cs (Give cycle page pages ∷ past) all gives = (
   (λ life i here. (let old = gives.0 life i here in (old.0, sym (kept-alike marked os cs cycle life.number all) ∙ old.1))),
   gives-alike marked os cs past all gives.1,
 )
+gives-alike marked os cs (Pull cycle proc page pages ∷ past) all gives = gives-alike marked os cs past all gives
+gives-alike marked os cs (Cut cycle proc page pages class ∷ past) all gives = gives-alike marked os cs past all gives
+gives-alike marked os cs (Drop cycle proc page pages ∷ past) all gives = gives-alike marked os cs past all gives
 
 pub swept-alike : (marked : Marking) (last : ℕ) (past : List Line) (os cs : List Object) (sweeps : List SweepNote) → AllZip IsSame os cs → AreSwept marked last past os sweeps → AreSwept marked last past cs sweeps
 swept-alike marked last past os cs sweeps all swept = record {

@@ -2,7 +2,7 @@
 use Rattle.std.proofs.Common.{◌≡◌, ℕ, suc, ◌<◌, Bool, true, false, not, eqb, ltb, List, [], ◌∷◌, refl, ◌⊎◌, Decides}
 use Rattle.std.proofs.lemmas.Bool.Decides.{Decides-like, Decides-eqb, Decides-ltb, Decides-not}
 use Rattle.page_bitmap.specs.declared.line.Line.{Line}
-use Rattle.page_bitmap.specs.declared.line.Line.TheVariants.{Take, Miss, Give, Scav}
+use Rattle.page_bitmap.specs.declared.line.Line.TheVariants.{Take, Miss, Give, Scav, Pull, Cut, Drop}
 use Rattle.page_alloc.specs.Lists.{In}
 use Rattle.page_alloc.specs.Lives.{Life, open_lives}
 use Rattle.page_alloc.specs.Journal.{at_end}
@@ -93,6 +93,9 @@ gives_when_empty marked objects (Take cycle page pages class ∷ past) = gives_w
 gives_when_empty marked objects (Miss cycle pages class ∷ past) = gives_when_empty marked objects past
 gives_when_empty marked objects (Scav cycle page pages ∷ past) = gives_when_empty marked objects past
 gives_when_empty marked objects (Give cycle page pages ∷ past) = elim (all_in (may_give marked objects cycle page) (open_lives past)) [ true ↦ gives_when_empty marked objects past | false ↦ false ]
+gives_when_empty marked objects (Pull cycle proc page pages ∷ past) = gives_when_empty marked objects past
+gives_when_empty marked objects (Cut cycle proc page pages class ∷ past) = gives_when_empty marked objects past
+gives_when_empty marked objects (Drop cycle proc page pages ∷ past) = gives_when_empty marked objects past
 
 Decides-gives : (marked : Marking) (objects : List Object) (past : List Line) → Decides (gives_when_empty marked objects past) (GivesWhenEmpty marked objects past)
 Decides-gives marked objects [] = (λ h. tt, λ h. refl)
@@ -103,6 +106,9 @@ Decides-gives marked objects (Give cycle page pages ∷ past) =
     Decides-then (all_in (may_give marked objects cycle page) (open_lives past)) (gives_when_empty marked objects past)
     (Decides-all (may_give marked objects cycle page) (MayGiveIt marked objects cycle page) (open_lives past) (λ life i. Decides-give marked objects cycle page life))
     (Decides-gives marked objects past)
+Decides-gives marked objects (Pull cycle proc page pages ∷ past) = Decides-gives marked objects past
+Decides-gives marked objects (Cut cycle proc page pages class ∷ past) = Decides-gives marked objects past
+Decides-gives marked objects (Drop cycle proc page pages ∷ past) = Decides-gives marked objects past
 
 -- ---- empty lives
 

@@ -12,7 +12,7 @@ use Rattle.cycle_history.proofs.Plain.{request_in}
 use Rattle.cycle_history.proofs.Cycles.{requests-one}
 use Rattle.sound_run.proofs.Lasting.{lasts-next}
 use Rattle.page_bitmap.specs.declared.line.Line.{Line}
-use Rattle.page_bitmap.specs.declared.line.Line.TheVariants.{Take, Miss, Give, Scav}
+use Rattle.page_bitmap.specs.declared.line.Line.TheVariants.{Take, Miss, Give, Scav, Pull, Cut, Drop}
 use Rattle.size_classes.specs.Classes.{pages_of}
 use Rattle.page_alloc.specs.Lives.{Life, open_lives}
 use Rattle.page_alloc.specs.FreeRuns.{IsSpanSize}
@@ -124,6 +124,12 @@ open-size region goal (Take cycle page pages class ∷ past) life legal h = elim
 open-size region goal (Miss cycle pages class ∷ past) life legal h = open-size region goal past life legal.2 h
 open-size region goal (Give cycle page pages ∷ past) life legal h = open-size region goal past life legal.2 (from_others page (open_lives past) life h).0
 open-size region goal (Scav cycle page pages ∷ past) life legal h = open-size region goal past life legal.2 h
+open-size region goal (Pull cycle proc page pages ∷ past) life legal h = open-size region goal past life legal.2 h
+open-size region goal (Cut cycle proc page pages class ∷ past) life legal h = elim h [
+  | inl new ↦ rw (ap (λ (l : Life). l.class) (sym new), ap (λ (l : Life). l.pages) (sym new)) legal.0.2
+  | inr there ↦ open-size region goal past life legal.2 there
+]
+open-size region goal (Drop cycle proc page pages ∷ past) life legal h = open-size region goal past life legal.2 h
 
 -- so a small object's life has its pages
 pub small-pages : (region goal : ℕ) (past : List Line) (life : Life) (o : Object) → Legal region goal past → In life (open_lives past) → life.class ≡ o.need.class → 2 ≤ o.need.class

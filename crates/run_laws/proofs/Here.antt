@@ -2,7 +2,7 @@
 use Rattle.std.proofs.Common.{◌≡◌, ℕ, zero, suc, ◌-◌, ◌<◌, Bool, true, ◌&&◌, not, eqb, List, [], ◌∷◌, ◌++◌, refl, sym, ◌∙◌, ap, arith, inl, inr}
 use Rattle.std.proofs.lemmas.Bool.{eqb-true, eq-eqb, and_parts, and_from}
 use Rattle.page_bitmap.specs.declared.line.Line.{Line}
-use Rattle.page_bitmap.specs.declared.line.Line.TheVariants.{Take, Miss, Give, Scav}
+use Rattle.page_bitmap.specs.declared.line.Line.TheVariants.{Take, Miss, Give, Scav, Pull, Cut, Drop}
 use Rattle.page_alloc.specs.Lists.{In}
 use Rattle.page_alloc.specs.Lives.{Life, open_lives}
 use Rattle.page_alloc.specs.Journal.{cycle_of, IsBy, Legal}
@@ -97,6 +97,9 @@ gives-lines marked region goal objects notes e (Give cycle page pages ∷ lines)
       (omega arith, rw is none))),
   gives-lines marked region goal objects notes e lines began facts (λ l h. now l (inr h)) old.1,
 )
+gives-lines marked region goal objects notes e (Pull cycle proc page pages ∷ lines) began facts now old = gives-lines marked region goal objects notes e lines began facts (λ l h. now l (inr h)) old
+gives-lines marked region goal objects notes e (Cut cycle proc page pages class ∷ lines) began facts now old = gives-lines marked region goal objects notes e lines began facts (λ l h. now l (inr h)) old
+gives-lines marked region goal objects notes e (Drop cycle proc page pages ∷ lines) began facts now old = gives-lines marked region goal objects notes e lines began facts (λ l h. now l (inr h)) old
 
 -- each Give of the cycle is of an empty life
 pub cycle-gives : (marked : Marking) (region goal : ℕ) (objects : List Object) (notes : List SweepNote) (e : CycleSoFar) → Began marked region goal e.cycle e.before objects notes e.carried

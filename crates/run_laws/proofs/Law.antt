@@ -2,7 +2,7 @@
 use Rattle.std.proofs.Common.{◌≡◌, ◌≢◌, ℕ, suc, ◌+◌, ◌*◌, ◌<◌, ◌≤◌, Bool, true, ◌&&◌, not, eqb, List, [], ◌∷◌, ◌++◌, length, refl, sym, ◌∙◌, ap, arith, ◌⊎◌, inl, inr}
 use Rattle.std.proofs.lemmas.Bool.{cases_lt, cases_Bool, and_from, eq-eqb}
 use Rattle.page_bitmap.specs.declared.line.Line.{Line}
-use Rattle.page_bitmap.specs.declared.line.Line.TheVariants.{Take, Miss, Give, Scav}
+use Rattle.page_bitmap.specs.declared.line.Line.TheVariants.{Take, Miss, Give, Scav, Pull, Cut, Drop}
 use Rattle.page_alloc.specs.Lists.{In, IsNumber}
 use Rattle.page_alloc.specs.Lives.{Life, open_lives, all_lives}
 use Rattle.page_alloc.specs.Journal.{cycle_of, at_end}
@@ -321,6 +321,20 @@ new-life c logs before (Give cycle page pages ∷ lines) now gives life h = elim
     still.2,
   )
 ]
+new-life c logs before (Pull cycle proc page pages ∷ lines) now gives life h = new-life c logs before lines (λ l i. now l (inr i)) gives life h
+new-life c logs before (Cut cycle proc page pages class ∷ lines) now gives life h = elim h [
+  | inl new ↦ (
+      let n : length (lines ++ before) ≡ life.number = ap (λ (l : Life). l.number) new in
+      let k : cycle ≡ life.cycle = ap (λ (l : Life). l.cycle) new in
+      let is : cycle ≡ c = now (Cut cycle proc page pages class) (inl refl) in
+      let more = longer lines before in
+      inr (omega arith, inl new, sym k ∙ is))
+  | inr there ↦ elim (new-life c logs before lines (λ l i. now l (inr i)) gives life there) [
+    | inl old ↦ inl old
+    | inr still ↦ inr (still.0, inr still.1, still.2)
+  ]
+]
+new-life c logs before (Drop cycle proc page pages ∷ lines) now gives life h = new-life c logs before lines (λ l i. now l (inr i)) gives life h
 
 cycle-wanted : (marked : Marking) (region goal : ℕ) (objects : List Object) (notes : List SweepNote) (e : CycleSoFar) → Began marked region goal e.cycle e.before objects notes e.carried
     → Facts marked region goal objects e → AllWanted (past_after e) (e.news ++ objects)

@@ -2,7 +2,7 @@
 use Rattle.std.proofs.Common.{◌≡◌, ◌≢◌, ℕ, suc, ◌<◌, ◌≤◌, Bool, true, false, eqb, ◌||◌, List, [], ◌∷◌, ◌++◌, length, refl, ◌∙◌, ap, arith, inl, inr}
 use Rattle.std.proofs.lemmas.Bool.{cases_Bool, eqb-true, eq-eqb}
 use Rattle.page_bitmap.specs.declared.line.Line.{Line}
-use Rattle.page_bitmap.specs.declared.line.Line.TheVariants.{Take, Miss, Give, Scav}
+use Rattle.page_bitmap.specs.declared.line.Line.TheVariants.{Take, Miss, Give, Scav, Pull, Cut, Drop}
 use Rattle.page_alloc.specs.Lists.{In}
 use Rattle.page_alloc.specs.Lives.{Life, open_lives}
 use Rattle.page_alloc.specs.Journal.{cycle_of, at_end, IsBy, Legal}
@@ -47,6 +47,12 @@ life-older c (Take cycle page pages class ∷ past) life older h = elim h [
 life-older c (Miss cycle pages class ∷ past) life older h = life-older c past life (λ l i. older l (inr i)) h
 life-older c (Give cycle page pages ∷ past) life older h = life-older c past life (λ l i. older l (inr i)) (from_others page (open_lives past) life h).0
 life-older c (Scav cycle page pages ∷ past) life older h = life-older c past life (λ l i. older l (inr i)) h
+life-older c (Pull cycle proc page pages ∷ past) life older h = life-older c past life (λ l i. older l (inr i)) h
+life-older c (Cut cycle proc page pages class ∷ past) life older h = elim h [
+  | inl new ↦ (let e : cycle ≡ life.cycle = ap (λ (l : Life). l.cycle) new in let lt : cycle < c = older (Cut cycle proc page pages class) (inl refl) in omega arith)
+  | inr there ↦ life-older c past life (λ l i. older l (inr i)) there
+]
+life-older c (Drop cycle proc page pages ∷ past) life older h = life-older c past life (λ l i. older l (inr i)) h
 
 -- ---- open lives
 
@@ -64,6 +70,12 @@ was_open (Take cycle page pages class ∷ lines) past life lt h = elim h [
 was_open (Miss cycle pages class ∷ lines) past life lt h = was_open lines past life lt h
 was_open (Give cycle page pages ∷ lines) past life lt h = was_open lines past life lt (from_others page (open_lives (lines ++ past)) life h).0
 was_open (Scav cycle page pages ∷ lines) past life lt h = was_open lines past life lt h
+was_open (Pull cycle proc page pages ∷ lines) past life lt h = was_open lines past life lt h
+was_open (Cut cycle proc page pages class ∷ lines) past life lt h = elim h [
+  | inl new ↦ (let e : length (lines ++ past) ≡ life.number = ap (λ (l : Life). l.number) new in let more = longer lines past in absurd (omega arith))
+  | inr there ↦ was_open lines past life lt there
+]
+was_open (Drop cycle proc page pages ∷ lines) past life lt h = was_open lines past life lt h
 
 -- a life of which the mark end keeps something stays open
 pub not_given : (marked : Marking) (c : ℕ) (objects : List Object) (lines past : List Line) (life : Life) → ((line : Line) → In line lines → cycle_of line ≡ c)
@@ -78,6 +90,9 @@ not_given marked c objects (Give cycle page pages ∷ lines) past life all gives
     to_others page (open_lives (lines ++ past)) life there (λ same. (
     let none : kept marked objects c life.number ≡ 0 = rw now at ((gives.0 life there same).1) in
     omega arith))
+not_given marked c objects (Pull cycle proc page pages ∷ lines) past life all gives h some = not_given marked c objects lines past life (λ l i. all l (inr i)) gives h some
+not_given marked c objects (Cut cycle proc page pages class ∷ lines) past life all gives h some = inr (not_given marked c objects lines past life (λ l i. all l (inr i)) gives h some)
+not_given marked c objects (Drop cycle proc page pages ∷ lines) past life all gives h some = not_given marked c objects lines past life (λ l i. all l (inr i)) gives h some
 
 -- ---- whether a life with a number is among lives
 

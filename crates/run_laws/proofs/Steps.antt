@@ -2,11 +2,12 @@
 use Rattle.std.proofs.Common.{◌≡◌, ◌≢◌, ℕ, ◌≤◌, Bool, true, false, eqb, List, [], ◌∷◌, ◌++◌, length, refl, sym, ◌∙◌, ap, subst, arith, ◌⊎◌, inl, inr}
 use Rattle.std.proofs.lemmas.Bool.{cases_eq, cases_Bool, eq-eqb, eqb-true, or_left, or_right, or_cases, false_from_ne_true}
 use Rattle.page_bitmap.specs.declared.line.Line.{Line}
-use Rattle.page_bitmap.specs.declared.line.Line.TheVariants.{Take, Miss, Give, Scav}
+use Rattle.page_bitmap.specs.declared.line.Line.TheVariants.{Take, Miss, Give, Scav, Pull, Cut, Drop}
 use Rattle.page_alloc.specs.Lists.{In, AllApart}
 use Rattle.page_alloc.specs.Lives.{Life, open_lives}
 use Rattle.page_alloc.specs.Journal.{cycle_of, IsBy, Legal, MayFollow}
 use Rattle.page_alloc.proofs.Lives.{same_page, from_others, to_others}
+use Rattle.page_alloc.proofs.BlocksOut.{keeps-none}
 use Rattle.span_state.specs.Bits.{count_below, with_bit}
 use Rattle.span_state.specs.Counts.{count_below-none}
 use Rattle.sound_run.specs.Run.{count_for}
@@ -175,6 +176,9 @@ allocate-keeps region goal e waits w life a now may =
       (λ l h begins. (let g = gives.0 l h begins in (g.0, (g.1.0, g.1.1, more g.1.0 g.1.1 g.1.2, g.1.3, g.1.4)))),
       gives-same old new before more lines gives.1,
     )
+    gives-same old new before more (Pull cycle proc page pages ∷ lines) gives = gives-same old new before more lines gives
+    gives-same old new before more (Cut cycle proc page pages class ∷ lines) gives = gives-same old new before more lines gives
+    gives-same old new before more (Drop cycle proc page pages ∷ lines) gives = gives-same old new before more lines gives
 
 -- ---- a line
 
@@ -190,7 +194,7 @@ pub record MayAdd (region goal : ℕ) (e : CycleSoFar) (waits : ℕ → Bool) (l
 pub line-adds : (region goal : ℕ) (e : CycleSoFar) (waits : ℕ → Bool) (line : Line) → IsUnderway region goal e waits → MayAdd region goal e waits line → IsUnderway region goal (after_line e line) waits
 line-adds region goal e waits line now may =
     let by : IsBy e.cycle (past_after e) = by-lines e.cycle e.lines e.before now.writes.now may.by in
-    let legal : Legal region goal (line ∷ past_after e) = (may.follows, rw may.cycle by, now.writes.legal) in
+    let legal : Legal region goal (line ∷ past_after e) = (may.follows, rw may.cycle by, now.writes.legal, keeps-none region goal (past_after e) line now.writes.legal) in
     let still : (page k : ℕ) → e.marks page k ≡ true → (life : Life) × In life (open_lives e.before) × In life (open_lives (line ∷ past_after e)) × (life.page ≡ page) = λ page k on. (
     let at = now.holds.marked_open page k on in
     let on' : e.marks at.0.page k ≡ true = rw at.3 on in (

@@ -2,7 +2,7 @@
 use Rattle.std.proofs.Common.{◌≡◌, ◌≢◌, ℕ, ◌<◌, Bool, true, not, eqb, List, [], ◌∷◌, length, refl, sym, ◌∙◌, ap, subst, arith, ◌⊎◌, inl, inr}
 use Rattle.std.proofs.lemmas.Bool.{cases_eq, eqb-true, eq-eqb, or_cases, and_parts}
 use Rattle.page_bitmap.specs.declared.line.Line.{Line}
-use Rattle.page_bitmap.specs.declared.line.Line.TheVariants.{Take, Miss, Give, Scav}
+use Rattle.page_bitmap.specs.declared.line.Line.TheVariants.{Take, Miss, Give, Scav, Pull, Cut, Drop}
 use Rattle.page_alloc.specs.Lists.{In, IsNumber, AllApart}
 use Rattle.page_alloc.specs.Lives.{Life, open_lives}
 use Rattle.page_alloc.specs.Journal.{IsBy, MayFollow}
@@ -200,6 +200,9 @@ underway-logs region goal e waits logs now placed swept refused =
       (λ l h begins. (let g = gives.0 l h begins in (g.0, (g.1.0, g.1.1, more g.1.0 g.1.1 g.1.2, g.1.3, g.1.4)))),
       gives-same old new before more lines gives.1,
     )
+    gives-same old new before more (Pull cycle proc page pages ∷ lines) gives = gives-same old new before more lines gives
+    gives-same old new before more (Cut cycle proc page pages class ∷ lines) gives = gives-same old new before more lines gives
+    gives-same old new before more (Drop cycle proc page pages ∷ lines) gives = gives-same old new before more lines gives
 
 -- one log has an entry more that the filters don't see
 pub filter-more : {A : Type 0} (filter : List Entry → List A) (logs : ℕ → List Entry) (w : ℕ) (x : Entry) → filter (x ∷ logs w) ≡ filter (logs w) → (v : ℕ) → filter (put logs w (x ∷ logs w) v) ≡ filter (logs v)

@@ -1,7 +1,7 @@
 -- The facts of a cycle that has ended from which its run stays sound, each by the part of the program that can show it.
 use Rattle.std.specs.Prelude.{◌≡◌, ℕ, ◌<◌, true, List, [], ◌∷◌, ◌++◌, length}
 use Rattle.page_bitmap.specs.declared.line.Line.{Line}
-use Rattle.page_bitmap.specs.declared.line.Line.TheVariants.{Take, Miss, Give, Scav}
+use Rattle.page_bitmap.specs.declared.line.Line.TheVariants.{Take, Miss, Give, Scav, Pull, Cut, Drop}
 use Rattle.page_alloc.specs.Lists.{In}
 use Rattle.page_alloc.specs.Lives.{Life, open_lives}
 use Rattle.page_alloc.specs.Journal.{cycle_of, Legal}
@@ -30,6 +30,9 @@ AreGivesOld logs before (Scav cycle page pages ∷ lines) = AreGivesOld logs bef
 AreGivesOld logs before (Give cycle page pages ∷ lines) =
     ((life : Life) → In life (open_lives (lines ++ before)) → life.page ≡ page → (life.number < length before) × IsSweptEmpty logs page)
     × AreGivesOld logs before lines
+AreGivesOld logs before (Pull cycle proc page pages ∷ lines) = AreGivesOld logs before lines
+AreGivesOld logs before (Cut cycle proc page pages class ∷ lines) = AreGivesOld logs before lines
+AreGivesOld logs before (Drop cycle proc page pages ∷ lines) = AreGivesOld logs before lines
 
 -- The journal is legal, all lines since the cycle began are of the cycle, and each Give is of an old life that was
 -- swept and kept nothing.

@@ -39,6 +39,7 @@ pub fn read_rest(
     requires order { IsOrder profile.old.known profile.old.order }
     requires few { AreFew (length profile.old.known) tally.old.view.calls }
     requires works { IsAtWork shared.now driver.old }
+    requires driver { driver.old.number ≡ 69 }
     requires told { KnowsJournal driver.old }
     requires answers { length answers.now ≡ length (events_of trace.now) }
     requires zeros { AreZeros trace.now answers.now }

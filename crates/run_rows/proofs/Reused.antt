@@ -81,7 +81,7 @@ waits0 p = begins_at p []
 under0 : IsUnderway 512 512 end0 waits0
 under0 =
     let fresh = fresh-underway 512 512 start0 record { legal = tt; no_lines = refl; no_entries = λ w. refl; as_before = λ p k. refl; marks_of_lives = λ p k on. cc } in
-    let fit : IsFirstFit 512 [] 0 1 = record { here = record { inside = omega arith; free = λ p low high. refl }; least = λ q lt. absurd (omega arith) } in
+    let fit : IsFirstFit 512 [] 0 1 = record { here = record { inside = omega arith; free = λ p low high. record { owner = refl; cached = refl } }; least = λ q lt. absurd (omega arith) } in
     let took = take-adds 512 512 start0 waits0 0 1 6 fresh tt record { follows = (size, fit); fresh = λ k. refl } in
     allocate-keeps 512 512 taken0 waits0 0 (life_of 0 0 0 1 6) (at 0) took record {
       here = inl refl;
@@ -189,7 +189,7 @@ no_placings1 v b h = let h' : In b [] = subst (λ (l : List Placing). In b l) (p
 under1 : IsUnderway 512 512 end1 waits1'
 under1 =
     let gave = give-adds 512 512 swept1 waits1' (life_of 0 0 0 1 6) under_swept1 (omega arith) record { here = inl refl; old = omega arith; swept = refl; empty = λ k. refl } in
-    let fit : IsFirstFit 512 (Give 1 0 1 ∷ Take 0 0 1 6 ∷ []) 0 1 = record { here = record { inside = omega arith; free = λ p low high. rw (within-true p 0 1 low high) refl }; least = λ q lt. absurd (omega arith) } in
+    let fit : IsFirstFit 512 (Give 1 0 1 ∷ Take 0 0 1 6 ∷ []) 0 1 = record { here = record { inside = omega arith; free = λ p low high. record { owner = rw (within-true p 0 1 low high) refl; cached = refl } }; least = λ q lt. absurd (omega arith) } in
     let took = take-adds 512 512 given1 waits1' 0 1 6 gave (omega arith) record { follows = (size, fit); fresh = λ k. refl } in
     allocate-keeps 512 512 taken1 waits1' 0 (life_of 2 1 0 1 6) (at 2) took record {
       here = inl refl;

@@ -9,6 +9,7 @@ use Rattle.page_alloc.specs.Owners.{owner}
 use Rattle.page_alloc.specs.Lives.{Life, life_of, open_lives}
 use Rattle.page_alloc.specs.FreeRuns.{IsSpanSize, IsFirstFit}
 use Rattle.page_alloc.specs.Journal.{Legal, cycle_of}
+use Rattle.page_alloc.proofs.BlocksOut.{keeps-none}
 use Rattle.page_alloc.proofs.Lives.{within-false}
 use Rattle.span_state.specs.Bits.{count_below}
 use Rattle.span_state.specs.declared.sweep.SweepNote.{SweepNote}
@@ -49,18 +50,18 @@ large_size : IsSpanSize 1 5
 large_size = ((λ two. absurd (omega arith)), λ less. omega arith)
 
 fit0 : IsFirstFit 512 [] 0 1
-fit0 = record { here = record { inside = omega arith; free = λ p low high. refl }; least = λ q lt. absurd (omega arith) }
+fit0 = record { here = record { inside = omega arith; free = λ p low high. record { owner = refl; cached = refl } }; least = λ q lt. absurd (omega arith) }
 
 fit1 : IsFirstFit 512 (Take 0 0 1 88 ∷ []) 1 1
 fit1 = record {
-  here = record { inside = omega arith; free = λ p low high. rw (within-false p 0 1 (inr (omega arith))) refl };
-  least = λ q lt free. (let e : q ≡ 0 = omega arith in let h = free.free q (omega arith) (omega arith) in let h' : owner (Take 0 0 1 88 ∷ []) 0 ≡ None = rw e at h in cc);
+  here = record { inside = omega arith; free = λ p low high. record { owner = rw (within-false p 0 1 (inr (omega arith))) refl; cached = refl } };
+  least = λ q lt free. (let e : q ≡ 0 = omega arith in let h = (free.free q (omega arith) (omega arith)).owner in let h' : owner (Take 0 0 1 88 ∷ []) 0 ≡ None = rw e at h in cc);
 }
 
 fit2 : IsFirstFit 512 (Take 0 1 1 88 ∷ Take 0 0 1 88 ∷ []) 2 5
 fit2 = record {
-  here = record { inside = omega arith; free = λ p low high. rw (within-false p 1 1 (inr (omega arith)), within-false p 0 1 (inr (omega arith))) refl };
-  least = λ q lt free. least q lt (free.free q (omega arith) (omega arith));
+  here = record { inside = omega arith; free = λ p low high. record { owner = rw (within-false p 1 1 (inr (omega arith)), within-false p 0 1 (inr (omega arith))) refl; cached = refl } };
+  least = λ q lt free. least q lt (free.free q (omega arith) (omega arith)).owner;
 }
   where
     least : (q : ℕ) → q < 2 → owner (Take 0 1 1 88 ∷ Take 0 0 1 88 ∷ []) q ≡ None → ⊥
@@ -88,7 +89,13 @@ pub lives0 : (P : Life → Type 0) → P (life_of 0 0 0 1 88) → P (life_of 1 0
 lives0 P p q r life h = each P (open_lives (past_after cycle0)) (r, (q, (p, tt))) life h
 
 legal0 : Legal 512 512 lines0
-legal0 = ((large_size, fit2), omega arith, ((small_size, fit1), omega arith, ((small_size, fit0), tt, tt)))
+legal0 = ((large_size, fit2), omega arith, legal0_2, keeps-none 512 512 (Take 0 1 1 88 ∷ Take 0 0 1 88 ∷ []) (Take 0 2 5 1) legal0_2)
+  where
+    legal0_1 : Legal 512 512 (Take 0 0 1 88 ∷ [])
+    legal0_1 = ((small_size, fit0), tt, tt, keeps-none 512 512 [] (Take 0 0 1 88) tt)
+
+    legal0_2 : Legal 512 512 (Take 0 1 1 88 ∷ Take 0 0 1 88 ∷ [])
+    legal0_2 = ((small_size, fit1), omega arith, legal0_1, keeps-none 512 512 (Take 0 0 1 88 ∷ []) (Take 0 1 1 88) legal0_1)
 
 writes0 : Writes 512 512 cycle0
 writes0 = record {
@@ -358,7 +365,7 @@ objects1 = record {
 pub facts1 : Facts marked 512 512 first cycle1
 facts1 = record {
   writes = record {
-    legal = ((life_of 2 0 2 5 1, inl refl, refl, refl), omega arith, legal0);
+    legal = ((life_of 2 0 2 5 1, inl refl, refl, refl), omega arith, legal0, keeps-none 512 512 _ _ legal0);
     now = each (λ (l : Line). cycle_of l ≡ 1) lines1 (refl, tt);
     gives = ((λ life h begins. lives0 (λ l. l.page ≡ 2 → (l.number < 3) × IsSweptEmpty logs1 2) (λ e. absurd (omega arith)) (λ e. absurd (omega arith)) (λ e. (omega arith, (2, _, inl refl, refl, refl))) life h begins), tt);
   };

@@ -1,13 +1,14 @@
 -- How many pages are backed behind the lines of scavenging steps.
-use Rattle.std.proofs.Common.{◌≡◌, ◌⊎◌, ℕ, ◌+◌, ◌<◌, ◌≤◌, Bool, true, false, ◌||◌, List, [], ◌∷◌, ◌++◌, length, is_some, Ok, refl, sym, subst, arith, inl, inr}
+use Rattle.std.proofs.Common.{◌≡◌, ◌⊎◌, ℕ, ◌+◌, ◌<◌, ◌≤◌, Bool, true, false, ◌||◌, List, [], ◌∷◌, ◌++◌, length, Ok, refl, sym, subst, arith, inl, inr}
 use Rattle.page_bitmap.specs.Counts.{count_run}
 use Rattle.page_bitmap.specs.CountLaws.{count_below-all, count_below-le, count_below-none, count_below-run}
 use Rattle.page_bitmap.specs.declared.line.Line.{Line}
 use Rattle.page_bitmap.specs.declared.line.Line.TheVariants.{Scav}
 use Rattle.page_bitmap.specs.declared.line.Run.{Run}
-use Rattle.page_alloc.specs.Owners.{backed, owner, unscavenged, within}
+use Rattle.page_alloc.specs.Owners.{backed, is_held, unscavenged, within}
 use Rattle.page_alloc.specs.FreeRuns.{IsScavengeRun}
 use Rattle.page_alloc.specs.Journal.{Legal}
+use Rattle.page_alloc.proofs.Keeping.{not-held}
 use Rattle.page_alloc.proofs.Lives.{within-false, within-true}
 use Rattle.cycle_history.specs.Sound.{IsScavenged}
 use Rattle.span_laws.specs.Views.{Seen}
@@ -19,19 +20,19 @@ use Rattle.scavenger.specs.Scavenges.{EndsScavenged, Scavenges, StopsFor, behind
 -- a step takes the pages of its run from the backed ones
 backed-less : (region cycle page n : ℕ) (past : List Line) → IsScavengeRun region past page n → backed region (Scav cycle page n ∷ past) + n ≡ backed region past
 backed-less region cycle page n past run =
-    let old : ℕ → Bool = λ p. is_some (owner past p) || unscavenged past p in
-    let new : ℕ → Bool = λ p. is_some (owner past p) || unscavenged (Scav cycle page n ∷ past) p in
+    let old : ℕ → Bool = λ p. is_held past p || unscavenged past p in
+    let new : ℕ → Bool = λ p. is_held past p || unscavenged (Scav cycle page n ∷ past) p in
     let same : (p : ℕ) → (p < page) ⊎ (page + n ≤ p) → unscavenged (Scav cycle page n ∷ past) p ≡ unscavenged past p =
     λ p out. (let isnt : within p page n ≡ false = within-false p page n out in rw isnt refl) in
     let counted = count_below-run region page n old new run.inside
     (λ k lt. (let e = same k (inl lt) in rw e refl)) (λ k le. (let e = same k (inr le) in rw e refl)) in
     let all_before : count_run page n old ≡ n = count_below-all n (λ k. old (page + k)) (λ k lt. (
     let loose = run.loose (page + k) (omega arith) (omega arith) in
-    let e = loose.0 in
+    let e = not-held past (page + k) loose.0 in
     let u = loose.1 in
     rw (e, u) refl)) in
     let none_after : count_run page n new ≡ 0 = count_below-none n (λ k. new (page + k)) (λ k lt. (
-    let e = (run.loose (page + k) (omega arith) (omega arith)).0 in
+    let e = not-held past (page + k) (run.loose (page + k) (omega arith) (omega arith)).0 in
     let is : within (page + k) page n ≡ true = within-true (page + k) page n (omega arith) (omega arith) in
     rw (e, is) refl)) in
     omega arith
@@ -51,7 +52,7 @@ all-released : (region goal cycle : ℕ) (past : List Line) (runs : List Run) �
     → backed region (scav_lines cycle runs ++ past) ≤ goal
 all-released region goal cycle past runs legal all =
     let few = runs-backed region goal cycle past runs legal in
-    let most : backed region past ≤ region = count_below-le region (λ p. is_some (owner past p) || unscavenged past p) in
+    let most : backed region past ≤ region = count_below-le region (λ p. is_held past p || unscavenged past p) in
     omega arith
 
 reasoned : (region goal cycle : ℕ) (past : List Line) (runs : List Run) (reason : Reason) → Legal region goal (scav_lines cycle runs ++ past)

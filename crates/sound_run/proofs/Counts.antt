@@ -2,7 +2,7 @@
 use Rattle.std.proofs.Common.{◌≡◌, ℕ, suc, ◌-◌, ◌<◌, ◌≤◌, true, false, ◌&&◌, ◌||◌, not, eqb, List, [], ◌∷◌, refl, sym, ◌∙◌, arith, inl, inr, zero-add}
 use Rattle.std.proofs.lemmas.Bool.{ne_eqb, and_from, and_left, and_right, or_from, eq-eqb, false_from_ne_true}
 use Rattle.page_bitmap.specs.declared.line.Line.{Line}
-use Rattle.page_bitmap.specs.declared.line.Line.TheVariants.{Take, Miss, Give, Scav}
+use Rattle.page_bitmap.specs.declared.line.Line.TheVariants.{Take, Miss, Give, Scav, Pull, Cut, Drop}
 use Rattle.page_alloc.specs.Lists.{In, one_if}
 use Rattle.page_alloc.specs.Lives.{Life}
 use Rattle.page_alloc.specs.Journal.{IsBy, Legal}
@@ -58,6 +58,9 @@ gives-same marked region goal o objects (Give cycle page pages ∷ past) lasts b
   (λ life h is. (let one = gives.0 life h is in (one.0, kept-same marked o objects cycle life.number (unmarked marked o cycle lasts by) ∙ one.1))),
   gives-same marked region goal o objects past lasts (by-later cycle o.cycle past by legal.1) legal.2 gives.1,
 )
+gives-same marked region goal o objects (Pull cycle proc page pages ∷ past) lasts by legal gives = gives-same marked region goal o objects past lasts (by-later cycle o.cycle past by legal.1) legal.2 gives
+gives-same marked region goal o objects (Cut cycle proc page pages class ∷ past) lasts by legal gives = gives-same marked region goal o objects past lasts (by-later cycle o.cycle past by legal.1) legal.2 gives
+gives-same marked region goal o objects (Drop cycle proc page pages ∷ past) lasts by legal gives = gives-same marked region goal o objects past lasts (by-later cycle o.cycle past by legal.1) legal.2 gives
 
 -- an object that is marked counts as kept
 pub kept-counts : (marked : Marking) (o : Object) (objects : List Object) (m n : ℕ) → In o objects → is_placed o.answer ≡ true → o.life ≡ n → marked m o.id ≡ true → 1 ≤ kept marked objects m n

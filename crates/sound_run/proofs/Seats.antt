@@ -3,7 +3,7 @@ use Rattle.std.proofs.Common.{◌≡◌, ◌≢◌, ℕ, suc, ◌+◌, ◌*◌, 
 use Rattle.std.proofs.lemmas.Bool.{cases_lt, cases_order}
 use Rattle.std.proofs.Math.Nat.{mul-le-mul_left}
 use Rattle.page_bitmap.specs.declared.line.Line.{Line}
-use Rattle.page_bitmap.specs.declared.line.Line.TheVariants.{Take, Miss, Give, Scav}
+use Rattle.page_bitmap.specs.declared.line.Line.TheVariants.{Take, Miss, Give, Scav, Pull, Cut, Drop}
 use Rattle.page_alloc.specs.Lists.{In}
 use Rattle.page_alloc.specs.Lives.{Life, open_lives}
 use Rattle.page_alloc.specs.Journal.{at_end, Legal}
@@ -67,6 +67,13 @@ number-below (Take cycle page pages class ∷ past) life h =
 number-below (Miss cycle pages class ∷ past) life h = let lt = number-below past life h in omega arith
 number-below (Give cycle page pages ∷ past) life h = let lt = number-below past life (from_others page (open_lives past) life h).0 in omega arith
 number-below (Scav cycle page pages ∷ past) life h = let lt = number-below past life h in omega arith
+number-below (Pull cycle proc page pages ∷ past) life h = let lt = number-below past life h in omega arith
+number-below (Cut cycle proc page pages class ∷ past) life h =
+    elim h [
+      | inl here ↦ (let e : length past ≡ life.number = ap (λ (l : Life). l.number) here in omega arith)
+      | inr there ↦ (let lt = number-below past life there in omega arith)
+    ]
+number-below (Drop cycle proc page pages ∷ past) life h = let lt = number-below past life h in omega arith
 
 pub same_number : (past : List Line) (a b : Life) → In a (open_lives past) → In b (open_lives past) → a.number ≡ b.number → a ≡ b
 same_number [] a b ha hb e = absurd ha
@@ -84,6 +91,19 @@ same_number (Take cycle page pages class ∷ past) a b ha hb e =
 same_number (Miss cycle pages class ∷ past) a b ha hb e = same_number past a b ha hb e
 same_number (Give cycle page pages ∷ past) a b ha hb e = same_number past a b (from_others page (open_lives past) a ha).0 (from_others page (open_lives past) b hb).0 e
 same_number (Scav cycle page pages ∷ past) a b ha hb e = same_number past a b ha hb e
+same_number (Pull cycle proc page pages ∷ past) a b ha hb e = same_number past a b ha hb e
+same_number (Cut cycle proc page pages class ∷ past) a b ha hb e =
+    elim ha [
+      | inl a-new ↦ elim hb [
+        | inl b-new ↦ sym a-new ∙ b-new
+        | inr b-old ↦ (let n : length past ≡ a.number = ap (λ (l : Life). l.number) a-new in let lt = number-below past b b-old in absurd (omega arith))
+      ]
+      | inr a-old ↦ elim hb [
+        | inl b-new ↦ (let n : length past ≡ b.number = ap (λ (l : Life). l.number) b-new in let lt = number-below past a a-old in absurd (omega arith))
+        | inr b-old ↦ same_number past a b a-old b-old e
+      ]
+    ]
+same_number (Drop cycle proc page pages ∷ past) a b ha hb e = same_number past a b ha hb e
 
 -- Rule 4.
 pub seated : (marked : Marking) (region goal : ℕ) (past : List Line) (o : Object) (life : Life) → Legal region goal past → Fits o.need → is_placed o.answer ≡ true

@@ -129,7 +129,7 @@ module _ (c : CoreState) (heap : PageHeap) (homes : List (Option Body)) (n : ℕ
       run_low = let i = line.may_follow.1.here.inside in let s = span_pages class pages line.may_follow.0 in let r = ready_rule.heap_region in omega arith
 
       run_free : get_or c₁.owners b.page None ≡ None
-      run_free = let s = span_pages class pages line.may_follow.0 in ready_rule.heap_owner b.page run_low ∙ line.may_follow.1.here.free b.page (omega arith) (omega arith)
+      run_free = let s = span_pages class pages line.may_follow.0 in ready_rule.heap_owner b.page run_low ∙ (line.may_follow.1.here.free b.page (omega arith) (omega arith)).owner
 
       pub run_untouched : IsUntouched v.generation v.own b.page
       run_untouched = untouched c₁ heap₁ homes n v ready_rule b.page run_low (free_unsettled c₁ heap₁ homes n v ready_rule b.page run_low run_free)
@@ -145,7 +145,7 @@ module _ (c : CoreState) (heap : PageHeap) (homes : List (Option Body)) (n : ℕ
 
       pub run_rule : cycle ≤ (c.generation - 4) / 2 → length heap₁.past ≡ b.life → (c' : CoreState) → c' ≡ record (after_take c₁ n page pages b.count class) { lock = None } → Owned c' → IsTidy c' → HasSpace c'
           → Rule c' heap' homes n (acts v (told_of (Takes cycle) (span_of b) v.own))
-      run_rule by number c' e o t r = take_keeps c₁ heap₁ homes n v ready_rule (span_of b) run_low run_free is_new.empty cycle heap' line.region line.goal line.legal
+      run_rule by number c' e o t r = take_keeps c₁ heap₁ homes n v ready_rule (span_of b) run_low run_free is_new.empty cycle heap' line.region line.goal (line.legal 0 ready_rule.legal)
           (subst (IsBy ((c₁.generation - 4) / 2)) (sym line.past) (subst (λ (g : ℕ). cycle ≤ (g - 4) / 2) (sym (ap (λ (s : CoreState). s.generation) same)) by))
           run_line number
           c' (e ∙ same_take c₁ n b.count page b.page pages b.pages class b.class (sym at) (sym is_new.pages) (sym is_new.class)) o t r

@@ -10,7 +10,7 @@ use Rattle.page_alloc.specs.Journal.{Legal}
 use Rattle.page_alloc.specs.Lists.{In}
 use Rattle.page_alloc.proofs.Lives.{from_others}
 use Rattle.page_bitmap.specs.declared.line.Line.{Line}
-use Rattle.page_bitmap.specs.declared.line.Line.TheVariants.{Take, Miss, Give, Scav}
+use Rattle.page_bitmap.specs.declared.line.Line.TheVariants.{Take, Miss, Give, Scav, Pull, Cut, Drop}
 use Rattle.span_state.specs.declared.body.Body.{Body}
 use Rattle.sweep_laws.specs.State.{CoreState}
 use Rattle.span_laws.specs.Bodies.{Fits}
@@ -28,6 +28,12 @@ open_size region goal (Take cycle page pages class ∷ past) life legal h = elim
 open_size region goal (Miss cycle pages class ∷ past) life legal h = open_size region goal past life legal.2 h
 open_size region goal (Give cycle page pages ∷ past) life legal h = open_size region goal past life legal.2 (from_others page (open_lives past) life h).0
 open_size region goal (Scav cycle page pages ∷ past) life legal h = open_size region goal past life legal.2 h
+open_size region goal (Pull cycle proc page pages ∷ past) life legal h = open_size region goal past life legal.2 h
+open_size region goal (Cut cycle proc page pages class ∷ past) life legal h = elim h [
+  | inl new ↦ rw (ap (λ (l : Life). l.class) (sym new), ap (λ (l : Life). l.pages) (sym new)) legal.0.2
+  | inr there ↦ open_size region goal past life legal.2 there
+]
+open_size region goal (Drop cycle proc page pages ∷ past) life legal h = open_size region goal past life legal.2 h
 
 low_class : (class pages : ℕ) → IsSpanSize class pages → class < 136
 low_class class pages s = dite (dec_le 2 class) (λ l. let c = (s.0 l).0.1 in omega arith) (λ l. omega arith)

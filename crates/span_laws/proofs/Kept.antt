@@ -134,7 +134,7 @@ module _ (c : CoreState) (heap : PageHeap) (homes : List (Option Body)) (n : ℕ
 
   pub kept_miss : (line now pages class : ℕ) → now ≡ (c.generation - 4) / 2 → (heap' : PageHeap) → AddsLine heap heap' (MissLine now pages class) → length heap.past ≡ line → Kept c heap' homes n (acts v (told (Misses line now pages class) v.own))
   kept_miss line now pages class is heap' a number = record {
-    rule = miss_keeps c heap homes n v k.rule line now pages class heap' a.region a.goal a.legal (subst (IsBy ((c.generation - 4) / 2)) (sym a.past) (omega arith)) a.past;
+    rule = miss_keeps c heap homes n v k.rule line now pages class heap' a.region a.goal (a.legal 0 k.rule.legal) (subst (IsBy ((c.generation - 4) / 2)) (sym a.past) (omega arith)) a.past;
     cycle = miss_cycle c heap homes n v k.rule k.cycle line now pages class (is ∙ cycle_now) heap' (line_may (MissLine now pages class) a.may_follow) a.past number;
   }
 
@@ -143,7 +143,7 @@ module _ (c : CoreState) (heap : PageHeap) (homes : List (Option Body)) (n : ℕ
       (now : ℕ) (is : now ≡ (c.generation - 4) / 2) (heap' : PageHeap) (line : AddsLine heap heap' (GiveLine now p pages)) → (c' : CoreState) → c' ≡ record (after_give c n p) { lock = None } → Owned c' → IsTidy c' → HasSpace c'
       → Kept c' heap' homes n (acts v (told (Gives p pages) v.own))
   kept_give p pages low held free empty size last now is heap' line c' e o t r = record {
-    rule = give_keeps c heap homes n v k.rule p pages low held free empty size now heap' line.region line.goal line.legal (subst (IsBy ((c.generation - 4) / 2)) (sym line.past) (omega arith)) line.past c' e o t r;
+    rule = give_keeps c heap homes n v k.rule p pages low held free empty size now heap' line.region line.goal (line.legal 0 k.rule.legal) (subst (IsBy ((c.generation - 4) / 2)) (sym line.past) (omega arith)) line.past c' e o t r;
     cycle = subst (λ (s : CoreState). KeepsCycle s heap' n (acts v (told (Gives p pages) v.own))) (sym e)
         (give_cycle c heap homes n v k.rule k.cycle p pages (lock_allowed c n (low_number c heap homes n v k.rule) k.rule.unlocked)
         (give_allowed c n p (low_number c heap homes n v k.rule) low (ap (λ (s : HandState). has p s.held) (own_hand c heap homes n v k.rule) ∙ held) (ap (λ (s : HandState). s.claimed) (own_hand c heap homes n v k.rule) ∙ free) empty)
@@ -153,7 +153,7 @@ module _ (c : CoreState) (heap : PageHeap) (homes : List (Option Body)) (n : ℕ
   -- a scavenging step
   pub kept_scav : (cycle : ℕ) → cycle ≡ (c.generation - 4) / 2 → (heap' : PageHeap) (o : Option Run) → IfSome o (λ run. AddsLine heap heap' (Scav cycle run.page run.pages)) → IfNone o (HasMoreRoom heap heap') → Kept c heap' homes n v
   kept_scav cycle is heap' (Some run) a s = record {
-    rule = heap_keeps c heap homes n v k.rule heap' a.region a.goal a.legal (subst (IsBy ((c.generation - 4) / 2)) (sym a.past) (omega arith)) (λ q. ap (λ (z : List Line). owner z q) a.past) (ap open_lives a.past);
+    rule = heap_keeps c heap homes n v k.rule heap' a.region a.goal (a.legal 0 k.rule.legal) (subst (IsBy ((c.generation - 4) / 2)) (sym a.past) (omega arith)) (λ q. ap (λ (z : List Line). owner z q) a.past) (ap open_lives a.past);
     cycle = scav_cycle c heap homes n v k.rule k.cycle cycle run.page run.pages (is ∙ cycle_now) heap' (line_may (Scav cycle run.page run.pages) a.may_follow) a.past;
   }
   kept_scav cycle is heap' None a s = kept_room heap' s
@@ -201,7 +201,7 @@ module _ (c : CoreState) (heap : PageHeap) (homes : List (Option Body)) (n : ℕ
       let k₁ = kept_ready c heap homes n v k heap₁ more c₁ x same in
       let own : AddsLine heap₁ heap' (TakeLine now b.page b.pages b.class) = subst (λ (z : ℕ × ℕ × ℕ). AddsLine heap₁ heap' (TakeLine now z.0 z.1 z.2)) (λ i. (sym at i, sym is_new.pages i, sym is_new.class i)) line in
       let number₁ = low_number c₁ heap₁ homes n v k₁.rule in let region₁ = k₁.rule.heap_region in let inside = own.may_follow.1.here.inside in
-      let free : (q : ℕ) → b.page ≤ q → q < b.page + b.pages → get_or c₁.owners q None ≡ None = (λ q l h. k₁.rule.heap_owner q (omega arith) ∙ own.may_follow.1.here.free q l h) in
+      let free : (q : ℕ) → b.page ≤ q → q < b.page + b.pages → get_or c₁.owners q None ≡ None = (λ q l h. k₁.rule.heap_owner q (omega arith) ∙ (own.may_follow.1.here.free q l h).owner) in
       record {
         rule = run_rule c heap homes n v k.rule heap₁ more c₁ x same now page pages class heap' line b is_new at (omega arith) number c' e o t r;
         cycle = subst (λ (s : CoreState). KeepsCycle s heap' n (acts v (told_of (Takes now) (span_of b) v.own))) (sym e)

@@ -44,10 +44,10 @@ fn uncached(shared: &Shared, w: &mut Worker, body: &Body) -> Result<(u64, Uncach
 pub(crate) fn stale<R: Wait>(
     rt: &R,
     alloc: Global,
-    shared: &mut Shared,
+    shared: &Shared,
     w: &mut Worker,
 ) -> Result<(u64, Uncached), NoMemory>
-    requires free { IsFreeDriver shared.old w.old }
+    requires free { IsFreeDriver shared.now w.old }
     requires generation { w.old.view.generation ≡ 4 }
     requires none { w.old.view.own.cached ≡ [] }
 {
@@ -76,18 +76,66 @@ fn word_of_other(shared: &Shared, w: &mut Worker, page: u32) -> Result<Option<u6
     requires driver { w.old.number ≡ 69 }
     requires parts { 1 < length w.old.view.parts }
 {
-    let mut other = shared.hand_out(w, 1)?;
+    let mut other = shared.hand_out(w, 1);
     word_at(shared, &mut other, page)
+}
+
+// The word that an acquire of a page of the region finds; none where the span waits.
+fn word_found(shared: &Shared, w: &mut Worker, page: u32) -> Option<u64>
+    requires table { w.old.table ≡ shared.now }
+    requires low { page < w.old.view.region }
+    ensures table { w.new.table ≡ shared.now }
+{
+    match shared.acquire(w, page) {
+        Acquired::Got(_) => None,
+        Acquired::Other(word) => Some(word),
+    }
+}
+
+// The same for workers 1 and 2, which are out at the same time and come back with what they have.
+fn words_of_two(shared: &Shared, w: &mut Worker, page: u32) -> (Option<u64>, Option<u64>)
+    requires works { IsAtWork shared.now w.old }
+    requires driver { w.old.number ≡ 69 }
+    requires parts { 2 < length w.old.view.parts }
+    requires low { page < w.old.view.region }
+{
+    let mut one = shared.hand_out(w, 1);
+    let mut two = shared.hand_out(w, 2);
+    let words = (
+        word_found(shared, &mut one, page),
+        word_found(shared, &mut two, page),
+    );
+    shared.take_in(w, one);
+    shared.take_in(w, two);
+    words
+}
+
+// Two workers acquire the page of one span that waits behind a mark end: the words that they find.
+pub(crate) fn met<R: Wait>(
+    rt: &R,
+    alloc: Global,
+    shared: &Shared,
+    w: &mut Worker,
+) -> Result<(Option<u64>, Option<u64>), NoMemory>
+    requires free { IsFreeDriver shared.now w.old }
+    requires generation { w.old.view.generation ≡ 4 }
+{
+    let page = place(rt, shared, w, 5)?;
+    turn_one(alloc, shared, w, page)?;
+    if page >= shared.region(w) {
+        return Err(NoMemory);
+    }
+    Ok(words_of_two(shared, w, page))
 }
 
 // The driver sweeps a span behind a mark end, and worker 1 acquires its page: the page, and the word that is found.
 pub(crate) fn swept<R: Wait>(
     rt: &R,
     alloc: Global,
-    shared: &mut Shared,
+    shared: &Shared,
     w: &mut Worker,
 ) -> Result<(u32, Option<u64>), NoMemory>
-    requires free { IsFreeDriver shared.old w.old }
+    requires free { IsFreeDriver shared.now w.old }
     requires generation { w.old.view.generation ≡ 4 }
 {
     let page = place(rt, shared, w, 5)?;
@@ -139,10 +187,10 @@ pub(crate) struct Returned {
 pub(crate) fn given<R: Wait>(
     rt: &R,
     alloc: Global,
-    shared: &mut Shared,
+    shared: &Shared,
     w: &mut Worker,
 ) -> Result<Returned, NoMemory>
-    requires free { IsFreeDriver shared.old w.old }
+    requires free { IsFreeDriver shared.now w.old }
     requires generation { w.old.view.generation ≡ 4 }
 {
     let page = place(rt, shared, w, 5)?;
@@ -171,10 +219,10 @@ pub(crate) fn given<R: Wait>(
 pub(crate) fn popped_and_reset<R: Wait>(
     rt: &R,
     alloc: Global,
-    shared: &mut Shared,
+    shared: &Shared,
     w: &mut Worker,
 ) -> Result<(PopBase, PopBase), NoMemory>
-    requires free { IsFreeDriver shared.old w.old }
+    requires free { IsFreeDriver shared.now w.old }
     requires generation { w.old.view.generation ≡ 4 }
 {
     place(rt, shared, w, 5)?;
@@ -192,10 +240,10 @@ pub(crate) fn popped_and_reset<R: Wait>(
 pub(crate) fn unmarked<R: Wait>(
     rt: &R,
     alloc: Global,
-    shared: &mut Shared,
+    shared: &Shared,
     w: &mut Worker,
 ) -> Result<Option<u32>, NoMemory>
-    requires free { IsFreeDriver shared.old w.old }
+    requires free { IsFreeDriver shared.now w.old }
     requires generation { w.old.view.generation ≡ 4 }
 {
     let first = place(rt, shared, w, 5)?;
@@ -220,10 +268,10 @@ pub(crate) fn unmarked<R: Wait>(
 pub(crate) fn unswept<R: Wait>(
     rt: &R,
     alloc: Global,
-    shared: &mut Shared,
+    shared: &Shared,
     w: &mut Worker,
 ) -> Result<(Option<u32>, Option<u32>), NoMemory>
-    requires free { IsFreeDriver shared.old w.old }
+    requires free { IsFreeDriver shared.now w.old }
     requires generation { w.old.view.generation ≡ 4 }
 {
     place(rt, shared, w, 5)?;

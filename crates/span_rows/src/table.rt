@@ -56,13 +56,13 @@ fn place_all<R: Wait>(
 fn end_mark<R: Wait>(
     rt: &R,
     alloc: Global,
-    shared: &mut Shared,
+    shared: &Shared,
     w: &mut Worker,
     spans: &[u32],
 ) -> Result<(), NoMemory>
-    requires free { IsFreeDriver shared.old w.old }
+    requires free { IsFreeDriver shared.now w.old }
     requires generation { w.old.view.generation ≡ 4 }
-    ensures ready { OnOk result (IsReady shared.new w.new) }
+    ensures ready { OnOk result (IsReady shared.now w.new) }
 {
     place_all(rt, shared, w, spans)?;
     turn(shared, w, &Marks::empty(alloc))?;
@@ -82,8 +82,8 @@ impl Table {
         alloc: Global,
         spans: &[u32],
     ) -> Result<Table, NoMemory> {
-        let (mut shared, mut driver) = start(alloc, 1, 512)?;
-        end_mark(rt, alloc, &mut shared, &mut driver, spans)?;
+        let (shared, mut driver) = start(alloc, 1, 512)?;
+        end_mark(rt, alloc, &shared, &mut driver, spans)?;
         Ok(Table { shared, driver })
     }
 

@@ -1,4 +1,4 @@
-use crate::next_cycle::{Returned, given, popped_and_reset, stale, swept, unmarked, unswept};
+use crate::next_cycle::{Returned, given, met, popped_and_reset, stale, swept, unmarked, unswept};
 use crate::table::{Popped, Table};
 use crate::turns::start;
 use fallible_list::NoMemory;
@@ -430,8 +430,8 @@ fn calls_answer_by_the_rules_behind_a_mark_end(rt: HostRuntime) -> Result<(), Fa
 }
 
 fn stale_at_start<R: Wait>(rt: &R, alloc: Global) -> Result<(u64, Uncached), NoMemory> {
-    let (mut shared, mut driver) = start(alloc, 1, 512)?;
-    stale(rt, alloc, &mut shared, &mut driver)
+    let (shared, mut driver) = start(alloc, 1, 512)?;
+    stale(rt, alloc, &shared, &mut driver)
 }
 
 // Cached at generation 4, its word is 7; the mark end leaves that, which is the word of a span cached before it.
@@ -442,8 +442,8 @@ fn a_span_that_was_cached_before_a_mark_end_is_stale(rt: HostRuntime) -> Result<
 }
 
 fn swept_at_start<R: Wait>(rt: &R, alloc: Global) -> Result<(u32, Option<u64>), NoMemory> {
-    let (mut shared, mut driver) = start(alloc, 1, 512)?;
-    swept(rt, alloc, &mut shared, &mut driver)
+    let (shared, mut driver) = start(alloc, 1, 512)?;
+    swept(rt, alloc, &shared, &mut driver)
 }
 
 // Swept at generation 6, its word is 6.
@@ -453,9 +453,21 @@ fn a_swept_span_is_not_acquired_again(rt: HostRuntime) -> Result<(), Fail> {
     Ok(())
 }
 
+fn met_at_start<R: Wait>(rt: &R, alloc: Global) -> Result<(Option<u64>, Option<u64>), NoMemory> {
+    let (shared, mut driver) = start(alloc, 1, 512)?;
+    met(rt, alloc, &shared, &mut driver)
+}
+
+// The first of two workers that are out together gets the span, and the other finds the word of a span that is swept: 6 - 1.
+#[test]
+fn one_of_two_workers_acquires_a_span_that_waits(rt: HostRuntime) -> Result<(), Fail> {
+    assert_eq!(rt; met_at_start(&rt, rt.alloc())?, (None, Some(5)));
+    Ok(())
+}
+
 fn given_at_start<R: Wait>(rt: &R, alloc: Global) -> Result<Returned, NoMemory> {
-    let (mut shared, mut driver) = start(alloc, 1, 512)?;
-    given(rt, alloc, &mut shared, &mut driver)
+    let (shared, mut driver) = start(alloc, 1, 512)?;
+    given(rt, alloc, &shared, &mut driver)
 }
 
 // The five pages are free again: their word is 0, and the next run of five is theirs.
@@ -473,8 +485,8 @@ fn a_span_that_was_given_back_leaves_its_pages_free(rt: HostRuntime) -> Result<(
 }
 
 fn reset_at_start<R: Wait>(rt: &R, alloc: Global) -> Result<(PopBase, PopBase), NoMemory> {
-    let (mut shared, mut driver) = start(alloc, 1, 512)?;
-    popped_and_reset(rt, alloc, &mut shared, &mut driver)
+    let (shared, mut driver) = start(alloc, 1, 512)?;
+    popped_and_reset(rt, alloc, &shared, &mut driver)
 }
 
 // The entry is of page 0. The head stands behind it, and the reset sets are empty until the generation rises.
@@ -486,8 +498,8 @@ fn unswept_sets_are_reset_once_they_are_empty(rt: HostRuntime) -> Result<(), Fai
 }
 
 fn unmarked_at_start<R: Wait>(rt: &R, alloc: Global) -> Result<Option<u32>, NoMemory> {
-    let (mut shared, mut driver) = start(alloc, 1, 512)?;
-    unmarked(rt, alloc, &mut shared, &mut driver)
+    let (shared, mut driver) = start(alloc, 1, 512)?;
+    unmarked(rt, alloc, &shared, &mut driver)
 }
 
 // The first span, at page 0, has a mark and is left. The second one, at page 5, waits and has none.
@@ -501,8 +513,8 @@ fn unswept_at_start<R: Wait>(
     rt: &R,
     alloc: Global,
 ) -> Result<(Option<u32>, Option<u32>), NoMemory> {
-    let (mut shared, mut driver) = start(alloc, 1, 512)?;
-    unswept(rt, alloc, &mut shared, &mut driver)
+    let (shared, mut driver) = start(alloc, 1, 512)?;
+    unswept(rt, alloc, &shared, &mut driver)
 }
 
 // The full set of class 0 comes first, and has the one entry.

@@ -68,12 +68,11 @@ pub(crate) fn sees_all_empty(shared: &Shared, w: &mut Worker) -> bool
 }
 
 /// Ends the first mark phase with these marks, where nothing is left to sweep.
-pub fn turn(shared: &mut Shared, w: &mut Worker, marks: &Marks) -> Result<(), NoMemory>
-    requires free { IsFreeDriver shared.old w.old }
+pub fn turn(shared: &Shared, w: &mut Worker, marks: &Marks) -> Result<(), NoMemory>
+    requires free { IsFreeDriver shared.now w.old }
     requires generation { w.old.view.generation ≡ 4 }
     requires placed { ArePlaced marks.now.pairs w.old }
-    ensures table { shared.new ≡ shared.old }
-    ensures turned { OnOk result (HasTurned shared.new marks.now.pairs w.new) }
+    ensures turned { OnOk result (HasTurned shared.now marks.now.pairs w.new) }
     ensures region { OnOk result (w.new.view.region ≡ w.old.view.region) }
     ensures kept { OnOk result (KeepsCached w.old w.new) }
 {
@@ -96,17 +95,11 @@ fn one_mark(alloc: Global, page: u32) -> Result<Marks, NoMemory>
 }
 
 /// Ends the first mark phase, where the first object of the page alone is marked.
-pub fn turn_one(
-    alloc: Global,
-    shared: &mut Shared,
-    w: &mut Worker,
-    page: u32,
-) -> Result<(), NoMemory>
-    requires free { IsFreeDriver shared.old w.old }
+pub fn turn_one(alloc: Global, shared: &Shared, w: &mut Worker, page: u32) -> Result<(), NoMemory>
+    requires free { IsFreeDriver shared.now w.old }
     requires generation { w.old.view.generation ≡ 4 }
     requires placed { HasPlaced page w.old }
-    ensures table { shared.new ≡ shared.old }
-    ensures turned { OnOk result (HasTurned shared.new ((page, 0) ∷ []) w.new) }
+    ensures turned { OnOk result (HasTurned shared.now ((page, 0) ∷ []) w.new) }
     ensures region { OnOk result (w.new.view.region ≡ w.old.view.region) }
 {
     if !sees_all_empty(shared, w) {

@@ -1,3 +1,5 @@
+pub mod Asks
+pub mod Fits
 pub mod Looking
 pub mod Numbers
 pub mod Pushing

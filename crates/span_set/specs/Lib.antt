@@ -1,3 +1,5 @@
+pub mod Asks
+pub mod Fits
 pub mod Pops
 pub mod Resets
 pub mod Sets

@@ -1,69 +1,58 @@
--- What holds of a worker that has the state stays so as its seat says something.
-use Rattle.std.proofs.Common.{◌≡◌, ℕ, Bool, true, false, List, sym, ◌∙◌}
-use Rattle.std.specs.Prelude.{None, Some, Option}
-use Rattle.page_alloc.specs.Heap.{HasMoreRoom, PageHeap}
-use Rattle.page_bitmap.specs.declared.line.Line.{Line}
+-- What a seat is while a body leaves its slot: the step takes the slot, the body leaves it, and the empty slot comes home.
+use Rattle.std.proofs.Common.{◌≡◌, ℕ, ◌+◌, ◌<◌, true, List, [], ◌∷◌, sym, ap, ◌∙◌}
+use Rattle.std.proofs.Common.{arith}
+use Rattle.std.specs.Prelude.{None}
+use Rattle.sweep_laws.specs.Lists.{has}
+use Rattle.sweep_laws.proofs.Naming.{has_times}
+use Rattle.span_laws.specs.Bodies.{lends}
+use Rattle.span_laws.specs.declared.view.Part.{Part}
+use Rattle.table_words.specs.Names.{head_of, head_tail, tail_of}
+use Rattle.atomic_table.specs.Table.{rest}
+use Rattle.page_alloc.specs.Heap.{PageHeap}
 use Rattle.span_state.specs.declared.body.Body.{Body}
-use Rattle.sweep_laws.specs.State.{CoreState}
-use Rattle.sweep_laws.proofs.NeedsMet.{some_none}
-use Rattle.span_laws.specs.Cycle.{IsOwnJournal, Kept}
-use Rattle.span_laws.specs.OwnSteps.{heard, heard_of, told, told_of}
-use Rattle.span_laws.specs.ScavengeAnswers.{told_if}
-use Rattle.span_laws.specs.Views.{acts}
-use Rattle.span_laws.specs.declared.said.Said.{Said}
-use Rattle.span_laws.specs.declared.said.Said.TheVariants.{Finds, Caches, Uncaches, UncachesStale, Misses, Gives, Looks, LooksCell, Claims, Fills, PopsEntry, Reads, Adds, Resets}
+use Rattle.span_laws.specs.Views.{span_of}
 use Rattle.span_laws.specs.declared.said.SaidOf.{SaidOf}
-use Rattle.span_laws.specs.declared.said.SaidOf.TheVariants.{Acquires, Releases, Takes, Pops, Places}
-use Rattle.span_laws.specs.declared.view.Span.{Span}
-use Rattle.span_table.specs.Holds.{Lends, Sat}
-use Rattle.span_table.specs.Sights.{says, says_of}
+use Rattle.span_table.specs.Seats.{SeatState, with_slot, without_slot, locks, says_of}
+use Rattle.span_table.specs.declared.view.Item.{Item}
+use Rattle.span_table.specs.declared.view.Item.TheVariants.{Heap, Nothing, Span}
+use Rattle.span_table.proofs.Resting.{same_item}
 
--- no journal is known
-pub own_none : (heap : PageHeap) → IsOwnJournal heap None
-own_none heap past none = absurd (some_none past (sym none))
+one_body : (a b : Body) → Span a ≡ Span b → a ≡ b
+one_body a b e = cc
 
--- the journal is told
-pub own_told : (heap : PageHeap) → IsOwnJournal heap (Some heap.past)
-own_told heap past is = same heap.past past is
-  where
-    same : (x y : List Line) → Some x ≡ Some y → x ≡ y
-    same x y e = cc
+module _ (s : SaidOf) (p : ℕ) (b : Body) (m m1 m2 : SeatState) (y : Item) (first : m1 ≡ (with_slot p (says_of s (span_of b) m.0), (p + 1, Span b) ∷ m.1)) (was : m1.1 ≡ (p + 1, y) ∷ rest m1.1) (now : m2 ≡ (m1.0, (p + 1, Nothing) ∷ rest m1.1)) (empty : m.1 ≡ []) where
+  pub item_is : Span b ≡ y
+  item_is = same_item m1.1 (p + 1) (Span b) y m.1 (rest m1.1) (ap (λ (z : SeatState). z.1) first) was
 
--- it is told if so
-pub own_if : (heap : PageHeap) (b : Bool) → IsOwnJournal heap (told_if b heap.past)
-own_if heap true = own_told heap
-own_if heap false = own_none heap
+  pub hand_is : m2 ≡ (with_slot p (says_of s (span_of b) m.0), (p + 1, Nothing) ∷ [])
+  hand_is = now ∙ (λ i. (let z : SeatState = first i in z.0, let z : SeatState = first i in (p + 1, Nothing) ∷ rest z.1)) ∙ ap (λ (l : List (ℕ × Item)). let z : SeatState = (with_slot p (says_of s (span_of b) m.0), (p + 1, Nothing) ∷ l) in z) empty
 
-pub own_room : (heap heap' : PageHeap) (known : Option (List Line)) → HasMoreRoom heap heap' → IsOwnJournal heap known → IsOwnJournal heap' known
-own_room heap heap' known more own past is = more.past ∙ own past is
+  pub body_is : (body : Body) → y ≡ Span body → b ≡ body
+  body_is body e = one_body b body (item_is ∙ e)
 
--- a step that writes no line, or after which no journal is known
-pub own_heard : (heap : PageHeap) (s : Said) (known : Option (List Line)) → IsOwnJournal heap known → IsOwnJournal heap (heard s known)
-own_heard heap (Finds p w) known own = own
-own_heard heap (Caches p) known own = own
-own_heard heap (Uncaches p) known own = own
-own_heard heap (UncachesStale p) known own = own
-own_heard heap (Misses l c p k) known own = own_none heap
-own_heard heap (Gives p n) known own = own_none heap
-own_heard heap (Looks j s t) known own = own
-own_heard heap (LooksCell j i w) known own = own
-own_heard heap (Claims j i p) known own = own
-own_heard heap (Fills j p) known own = own
-own_heard heap (PopsEntry j p) known own = own
-own_heard heap (Reads w x) known own = own
-own_heard heap (Adds w x y) known own = own
-own_heard heap (Resets j) known own = own
+  -- after the empty slot came home
+  pub home_is : (m3 : SeatState) → m3 ≡ (without_slot m2.0, rest m2.1) → m.0.slot_out ≡ 0 → (body : Body) → y ≡ Span body → m3 ≡ (says_of s (span_of body) m.0, [])
+  home_is m3 e none body is = e ∙ ap (λ (z : SeatState). let x : SeatState = (without_slot z.0, rest z.1) in x) hand_is
+      ∙ (λ i. (record (says_of s (span_of (body_is body is i)) m.0) { slot_out = sym none i }, []))
 
-pub own_heard_of : (heap : PageHeap) (s : SaidOf) (known : Option (List Line)) → IsOwnJournal heap known → IsOwnJournal heap (heard_of s known)
-own_heard_of heap Acquires known own = own
-own_heard_of heap Releases known own = own
-own_heard_of heap (Takes c) known own = own_none heap
-own_heard_of heap (Pops j) known own = own
-own_heard_of heap (Places i) known own = own
+-- the same of the heap, where the lock was won
+one_pages : (a b : PageHeap) → Heap a ≡ Heap b → a ≡ b
+one_pages a b e = cc
 
-module _ (c : CoreState) (heap : PageHeap) (homes : List (Option Body)) (n : ℕ) (m : Sat) (l : Lends c heap homes n m) where
-  pub lends_said : (s : Said) (c' : CoreState) (homes' : List (Option Body)) → Kept c' heap homes' n (acts m.0.view (told s m.0.view.own)) → Lends c' heap homes' n (says s m.0, m.1)
-  lends_said s c' homes' k = record { kept = k; own = own_heard heap s m.0.journal l.own; empty = l.empty }
+module _ (h : PageHeap) (m m1 : SeatState) where
+  pub locked_item : (y : Item) → m1 ≡ (locks h m.0, (0, Heap h) ∷ m.1) → m1.1 ≡ (0, y) ∷ rest m1.1 → Heap h ≡ y
+  locked_item y first was = same_item m1.1 0 (Heap h) y m.1 (rest m1.1) (ap (λ (z : SeatState). z.1) first) was
 
-  pub lends_of : (s : SaidOf) (b : Span) (c' : CoreState) (homes' : List (Option Body)) → Kept c' heap homes' n (acts m.0.view (told_of s b m.0.view.own)) → Lends c' heap homes' n (says_of s b m.0, m.1)
-  lends_of s b c' homes' k = record { kept = k; own = own_heard_of heap s m.0.journal l.own; empty = l.empty }
+  pub locked_heap : (y : Item) → m1 ≡ (locks h m.0, (0, Heap h) ∷ m.1) → m1.1 ≡ (0, y) ∷ rest m1.1 → (found : PageHeap) → y ≡ Heap found → h ≡ found
+  locked_heap y first was found is = one_pages h found (locked_item y first was ∙ is)
+
+  pub locked_now : (m2 : SeatState) → m1 ≡ (locks h m.0, (0, Heap h) ∷ m.1) → m2 ≡ (m1.0, (0, Nothing) ∷ rest m1.1) → m.1 ≡ [] → m2 ≡ (locks h m.0, (0, Nothing) ∷ [])
+  locked_now m2 first now empty = now ∙ ap (λ (z : SeatState). let x : SeatState = (z.0, (0, Nothing) ∷ rest z.1) in x) first ∙ ap (λ (l : List (ℕ × Item)). let x : SeatState = (locks h m.0, (0, Nothing) ∷ l) in x) empty
+
+-- a page that is held, and not claimed for, is lent
+pub held_lent : (p : ℕ) (h : Part) → has p h.held ≡ true → h.claimed ≡ None → 0 < lends p h
+held_lent p h held free = let t = has_times p h.held held in rw free (omega arith)
+
+-- a popped span's page is lent, where nothing is claimed for it
+pub joined : (word head tail : ℕ) → head_of word ≡ head → tail_of word ≡ tail → word ≡ head_tail head tail
+joined word head tail e f = omega arith

@@ -1,3 +1,12 @@
-pub mod Sights
-pub mod Holds
-pub mod Workers
+pub mod Emptied
+pub mod Running
+pub mod Turning
+pub mod Seats
+pub mod Known
+pub mod Asks
+pub mod Plays
+pub mod Shown
+pub mod Sweeping
+pub mod Same
+pub mod Rows
+pub mod Scanned

@@ -1,33 +1,39 @@
-//! The running state of spans, lent to one worker at a time, and what contracts know of workers.
+//! The running state of spans in one atomic table, on which all workers step at the same time.
 //!
-//! The definitions are those of `span_laws`. Its `specs/Views.antt` has what contracts see: a worker's number, its own part and its
-//! log; `specs/OwnSteps.antt` how each step changes them; `specs/Asks.antt` what calls ask and `specs/Answers.antt` what they
-//! answer, with the files beside them. The core, the pages and the bodies at home are hidden; `specs/Rule.antt` ties them to the
-//! views.
+//! The words of the table are those of `table_words`; slot 0 has the pages with their journal, and slot p + 1 the body of the span
+//! that begins at page p. Each worker has a seat of the table. `specs/Running.antt` has the rule of the table while it runs: the words, the
+//! slots and the views of all seats show one state, of which the rule of `span_laws` holds; `specs/Turning.antt` has it at a mark end.
+//! `specs/Plays.antt` says what each step tells, and `specs/Known.antt` what contracts see of a worker. What a worker's steps make of its
+//! own part, what calls ask and what they answer, is in `span_laws`.
 #![tactic(auto)]
 
-mod homes;
-mod lent;
-mod lent_next;
-mod lent_pages;
-mod lent_scans;
-mod lent_sets;
-mod lent_size;
-mod lent_turns;
-mod lent_words;
-mod make;
-mod seat;
+mod caches;
+mod cells;
+mod counters;
+mod journals;
+mod laws;
+mod locks;
+mod mark_end;
+mod places;
+mod plays;
+#[cfg(test)]
+mod rows;
+mod rule;
+mod scans;
+mod sets;
 mod shared;
-mod waiting;
-mod worker;
-mod worker_pages;
-mod worker_scans;
-mod worker_sets;
-mod worker_size;
-mod worker_words;
+mod sizes;
+mod spans;
+mod steps;
+#[cfg(test)]
+mod tests;
+mod view;
+mod words;
 
-pub use shared::Shared;
+pub use laws::{a_span_is_swept_by_one, the_lock_stands_apart, the_table_shows_one_state};
+pub use rule::OneState;
+pub use shared::{Shared, Worker};
 pub use span_laws::{
     Acquired, Cell, Entry, Part, Refused, Said, SaidOf, Span, Step, Uncached, View,
 };
-pub use worker::Worker;
+pub use view::{Item, SeatView, Size};

@@ -1,41 +1,185 @@
-use crate::seat::Sight;
-use atomic_table::{Table, TableRule};
+//! The table, and the workers' seats.
+ghost use Rattle.std.specs.Prelude.{◌≡◌, ◌≢◌, ℕ, ◌+◌, ◌*◌, ◌<◌, ◌≤◌, true, false, None, [], IfOk, IfSome, length, slice_index};
+ghost use mathlib.Core.Option.{some};
+ghost use lib.ListN.{get_elem?};
+ghost use Rattle.sweep_laws.specs.Lists.{has};
+ghost use Rattle.span_laws.specs.Views.{first_view};
+ghost use Rattle.table_words.specs.Names.{word_count};
+ghost use Rattle.span_laws.specs.Views.{Seen, drives};
+ghost use Rattle.span_table.specs.Known.{known};
+ghost use Rattle.span_table.specs.Seats.{without_number, sent_out, with_number};
+
+use crate::plays::{HandOut, Numbered, TakeIn};
+use crate::rule::OneState;
+use crate::view::{Item, SeatView, Size};
+use crate::words::count_words;
+use atomic_table::{Seat, Table};
+use fallible_list::NoMemory;
+use page_alloc::Pages;
 use std::alloc::Global;
-use std::marker::Model;
+use std::marker::{Brand, Model};
 
-/// How many pages and workers there are, and the goal for backed pages.
-#[derive(Drop)]
-pub struct Size {
-    pub pages: u32,
-    pub goal: u32,
-    pub workers: u32,
-}
-
-// A rule that every state meets.
-pub struct Anything;
-
-impl TableRule<(), Sight, Size> for Anything {
-    ghost use Rattle.std.specs.Prelude.{None};
-    ghost use Rattle.span_laws.specs.Views.{first_view};
-
-    ghost holds = { λ _ _. Unit {0} };
-
-    ghost first = { λ k. record { journal = None; view = first_view k.pages k.goal k.workers } };
-}
-
-/// What all workers share: until the state is in the table, a table of one word, by which views change.
+/// What all workers share.
 #[derive(Drop)]
 pub struct Shared {
-    pub(crate) table: Table<(), Sight, Size, Anything, Global>,
+    pub(crate) table: Table<Item, SeatView, Size, OneState, Global>,
+    pub(crate) chunks: u32,
 }
 
 impl Model for Shared {
-    ghost use Rattle.std.specs.Prelude.{◌<◌};
     ghost use Rattle.atomic_table.specs.Seated.{TableId};
+    ghost use Rattle.std.specs.Prelude.{◌*◌};
+    ghost use Rattle.span_table.specs.Known.{Fits};
 
     ghost Value = { TableId };
 
     ghost view = { λ s. s.table.shared.table_id };
 
-    ghost invariant = { λ s. 0 < s.table.shared.table_id.words };
+    ghost invariant = { λ s. Fits (512 * s.chunks) s.table.shared.key.pages s.table.shared.table_id };
+}
+
+/// A worker: the driver, or one that it handed out.
+#[derive(Drop)]
+pub struct Worker {
+    pub(crate) number: u32,
+    // the generation, which stays while the worker is out
+    pub(crate) generation: u64,
+    // the goal for backed pages
+    pub(crate) goal: u32,
+    pub(crate) seat: Seat<Item, SeatView>,
+}
+
+impl Model for Worker {
+    ghost use Rattle.span_laws.specs.Views.{Seen};
+    ghost use Rattle.span_table.specs.Known.{Rests, known};
+
+    ghost Value = { Seen };
+
+    ghost view = { λ w. known w.seat.table_id w.seat.me.0 };
+
+    ghost invariant = { λ w. Rests w.number w.generation w.goal w.seat.table_id w.seat.me };
+}
+
+// The words at the start.
+fn first_words(alloc: Global, chunks: u32) -> Result<Vec<u64>, NoMemory>
+    requires { chunks ≤ 128 }
+    ensures { IfOk result (λ v. (length v.items ≡ word_count (512 * chunks)) × (slice_index v.items 1 ≡ 4) × ((i : ℕ) → i ≢ 1 → slice_index v.items i ≡ 0)) }
+{
+    let mut words = vec![in alloc; 0u64; count_words(chunks)]?;
+    words[1] = 4;
+    Ok(words)
+}
+
+// The heap, and an empty slot for each page.
+fn first_items(alloc: Global, heap: Pages, pages: u32) -> Result<Vec<Item>, NoMemory>
+    requires { pages ≤ 65536 }
+    ensures { IfOk result (λ v. (length v.items ≡ pages + 1) × (get_elem? v.items 0 ≡ some (Item.Heap heap))) }
+{
+    let mut items = Vec::new(alloc);
+    items.push(Item::Heap(heap))?;
+    for _ in 0..pages {
+        items.push(Item::Nothing)?;
+    }
+    Ok(items)
+}
+
+fn hand_out_as<J: Numbered>(
+    shared: &Shared,
+    seat: &mut Seat<Item, SeatView>,
+    _number: u32,
+) -> Seat<Item, SeatView>
+    requires table { seat.old.table_id ≡ shared.now }
+    requires out { seat.old.me.0.out ≡ true }
+    requires drives { seat.old.me.0.drives ≡ true }
+    requires number { J.number < length seat.old.me.0.view.parts }
+    requires home { has J.number seat.old.me.0.away ≡ false }
+    requires other { J.number ≢ seat.old.me.0.number }
+    ensures tables { (seat.new.table_id ≡ seat.old.table_id) × (result.table_id ≡ seat.old.table_id) }
+    ensures driver { seat.new.me ≡ (without_number J.number seat.old.me.0, seat.old.me.1) }
+    ensures worker { result.me ≡ (sent_out J.number seat.old.me.0, []) }
+{
+    let table = &shared.table;
+    table.shared.split_seat::<HandOut<J>>(seat)
+}
+
+// The seat of a number goes out.
+fn hand_out_seat(
+    shared: &Shared,
+    seat: &mut Seat<Item, SeatView>,
+    number: u32,
+) -> Seat<Item, SeatView>
+    requires table { seat.old.table_id ≡ shared.now }
+    requires out { seat.old.me.0.out ≡ true }
+    requires drives { seat.old.me.0.drives ≡ true }
+    requires number { number < length seat.old.me.0.view.parts }
+    requires home { has number seat.old.me.0.away ≡ false }
+    requires other { number ≢ seat.old.me.0.number }
+    ensures tables { (seat.new.table_id ≡ seat.old.table_id) × (result.table_id ≡ seat.old.table_id) }
+    ensures driver { seat.new.me ≡ (without_number number seat.old.me.0, seat.old.me.1) }
+    ensures worker { result.me ≡ (sent_out number seat.old.me.0, []) }
+{
+    hand_out_as::<Brand>(shared, seat, number)
+}
+
+impl Shared {
+    ghost use Rattle.span_laws.specs.Handed.{handed_out, handing, taking_in};
+
+    /// A region of so many chunks of 512 pages, from 1 to 128, with this goal for backed pages, and the driver's worker,
+    /// whose number is 69.
+    pub fn new(alloc: Global, chunks: u32, goal: u32) -> Result<(Shared, Worker), NoMemory>
+        requires some { 1 ≤ chunks }
+        requires few { chunks ≤ 128 }
+        ensures { IfOk result (λ made. made.1 ≡ record { table = made.0; number = 69; away = []; journal = None; view = first_view (512 * chunks) goal 70 }) }
+    {
+        let pages = 512 * chunks;
+        let heap = Pages::new(alloc, chunks, goal)?;
+        let words = first_words(alloc, chunks)?;
+        let items = first_items(alloc, heap, pages)?;
+        let size = Size {
+            pages,
+            goal,
+            workers: 70,
+        };
+        let Ok((table, seat)) = Table::new(alloc, &words, items, &size) else {
+            return Err(NoMemory);
+        };
+        let driver = Worker {
+            number: 69,
+            generation: 4,
+            goal,
+            seat,
+        };
+        Ok((Shared { table, chunks }, driver))
+    }
+
+    /// Hands out the worker of a number that is not out, with the part of that number. Others may be out.
+    pub fn hand_out(&self, driver: &mut Worker, number: u32) -> Worker
+        requires table { driver.old.table ≡ self.now }
+        requires drives { drives driver.old ≡ true }
+        requires home { has number driver.old.away ≡ false }
+        requires number { number < 69 }
+        requires part { number < length driver.old.view.parts }
+        ensures driver { driver.new ≡ handing number driver.old }
+        ensures worker { result ≡ handed_out number driver.old }
+    {
+        let seat = hand_out_seat(self, &mut driver.seat, number);
+        Worker {
+            number,
+            generation: driver.generation,
+            goal: driver.goal,
+            seat,
+        }
+    }
+
+    /// Takes a worker in, with its part.
+    pub fn take_in(&self, driver: &mut Worker, worker: Worker)
+        requires table { driver.old.table ≡ self.now }
+        requires drives { drives driver.old ≡ true }
+        requires out { worker.table ≡ self.now }
+        ensures { driver.new ≡ taking_in worker driver.old }
+    {
+        let Worker { seat, .. } = worker;
+        let table = &self.table;
+        table.shared.join_seat::<TakeIn>(&mut driver.seat, seat);
+    }
 }

@@ -22,6 +22,8 @@ use Rattle.span_laws.specs.declared.said.Said.TheVariants.{Adds}
 use Rattle.span_laws.specs.Views.{Seen}
 use Rattle.span_laws.specs.OwnSteps.{after_said}
 use Rattle.span_set.specs.declared.hand.Hand.{Hand}
+use Rattle.span_set.specs.Fits.{no_page}
+use Rattle.span_set.proofs.Fits.{fits-none}
 use Rattle.sweep_laws.specs.Counts.{total}
 use Rattle.span_laws.specs.Logs.{is_finding_at}
 use Rattle.span_laws.specs.Scans.{AcquiresUnmarked, PassesPages, logs}
@@ -186,6 +188,7 @@ module _ (old : Hand) (region asked : ℕ) (size : region ≡ old.worker.view.re
           (record {
             log = ap (λ (x : Seen). x.view.own.log) e;
             sweeps = record { unplaced = refl; unspent = refl; swept_pages = refl; given = λ p. refl; pushed = λ p. refl; unpopped = λ j p s. refl; unlooked = λ j s. refl; untouched = λ p. refl };
+            sets = fits-none now.worker.view.generation no_page (Added 4 1 ∷ Read 4 i ∷ []) now.worker new [] refl (ap (λ (x : Seen). x.view.own.spans) e);
             held = ap (λ (x : Seen). x.view.own.held) e ∙ sym (append-nil now.worker.view.own.held);
             stays = subst (Stays now.worker) (sym e) (record { away = refl; table = refl; number = refl; region = refl; goal = refl; generation = refl; marks = refl; before = refl; carried = refl; parts = refl; sweeping = refl; cached = refl; claimed = refl; fresh = refl; reset = refl; bodies = λ q h. refl });
           })

@@ -9,3 +9,4 @@ pub mod Paying
 pub mod Covering
 pub mod Making
 pub mod Bridging
+pub mod Again

@@ -17,18 +17,20 @@ use Rattle.span_laws.specs.TakeAnswers.{NoRunFree, TakesNew, TakesSpan, cycle_at
 use Rattle.span_laws.specs.Asks.{mine}
 use Rattle.span_laws.specs.declared.answers.Refused.{Refused}
 use Rattle.span_laws.specs.declared.answers.Refused.TheVariants.{NoRun, NoMemory as WantsMemory}
-use Rattle.span_laws.specs.Views.{Seen, span_at}
+use Rattle.span_laws.specs.Views.{Seen, span_at, span_of}
 use Rattle.span_set.specs.declared.hand.Hand.{Hand}
+use Rattle.span_set.specs.Fits.{no_page}
+use Rattle.span_set.proofs.Fits.{fits-none}
 use Rattle.sweep_laws.specs.Counts.{times, total}
 use Rattle.sweeper.specs.Entries.{is_added, pages_given}
 use Rattle.sweeper.specs.NewSpans.{HasNew, MakesSpan, MissedAtLast, MissedThen, SweepsAndTakes, TookAtLast, TookThen}
 use Rattle.sweeper.specs.Reclaims.{HasReclaimed, Reclaims, SparesMarked, chunks_of}
 use Rattle.sweeper.specs.Sweeps.{Finishes}
-use Rattle.sweeper.specs.Work.{Does, IsPlain, SawAllEmpty, Stays, TakesNone, Works}
-use Rattle.sweeper.proofs.Counting.{some-new, takes-append}
+use Rattle.sweeper.specs.Work.{Does, IsPlain, OnlySweeps, SawAllEmpty, Stays, TakesNone, Works}
+use Rattle.sweeper.proofs.Counting.{some-new, sweeps-append, takes-append}
 use Rattle.sweeper.proofs.Covering.{reclaimed-more}
 use Rattle.sweeper.proofs.Settling.{apart_else}
-use Rattle.sweeper.proofs.Working.{works-as, works-both, works-step}
+use Rattle.sweeper.proofs.Working.{works-as, works-both, works-step, works-tidy}
 
 -- what the worker had nothing of, it had nothing of before
 nothing_before : (old mid : Seen) (said : List Entry) (page : ℕ) → Does [] said old mid → mine page mid.view.own ≡ 0 → mine page old.view.own ≡ 0
@@ -44,6 +46,7 @@ module _ (n class : ℕ) (mid : Hand) (new : Seen) (b : Body) (t : TakesNew n cl
       (record {
         log = ap (λ (x : Seen). x.view.own.log) t.view;
         sweeps = record { unplaced = refl; unspent = refl; swept_pages = refl; given = λ p. refl; pushed = λ p. refl; unpopped = λ j p s. refl; unlooked = λ j s. refl; untouched = λ p. refl };
+        sets = fits-none mid.worker.view.generation no_page (took ∷ []) mid.worker new (span_of b ∷ []) refl (ap (λ (x : Seen). x.view.own.spans) t.view);
         held = ap (λ (x : Seen). x.view.own.held) t.view;
         stays = subst (Stays mid.worker) (sym t.view) (record {
           away = refl;
@@ -84,6 +87,7 @@ module _ (n class line : ℕ) (mid : Hand) (new : Seen) (m : TakesSpan n class m
       (record {
         log = ap (λ (x : Seen). x.view.own.log) m.0;
         sweeps = record { unplaced = refl; unspent = refl; swept_pages = refl; given = λ p. refl; pushed = λ p. refl; unpopped = λ j p s. refl; unlooked = λ j s. refl; untouched = λ p. refl };
+        sets = fits-none mid.worker.view.generation no_page (Missed line (MissLine (cycle_at mid.worker.view.generation) n class) ∷ []) mid.worker new [] refl (ap (λ (x : Seen). x.view.own.spans) m.0);
         held = ap (λ (x : Seen). x.view.own.held) m.0 ∙ sym (append-nil mid.worker.view.own.held);
         stays = subst (Stays mid.worker) (sym m.0) (record { away = refl; table = refl; number = refl; region = refl; goal = refl; generation = refl; marks = refl; before = refl; carried = refl; parts = refl; sweeping = refl; cached = refl; claimed = refl; fresh = refl; reset = refl; bodies = λ q h. refl });
       })
@@ -94,26 +98,33 @@ module _ (n class line : ℕ) (mid : Hand) (new : Seen) (m : TakesSpan n class m
 
 -- a full sweep, and then a take
 module _ (n class : ℕ) (old mid : Hand) (f : Finishes old mid (Ok tt)) where
+  abbrev SweptAll : List Entry → Type 0
+  SweptAll said = IsPlain said × SawAllEmpty old.worker.view.generation said
+
   pub then_took : (new : Seen) (b : Body) → TakesSpan n class mid.worker new (Ok b) → SweepsAndTakes n class old (record mid { worker = new }) (Ok b)
   then_took new b t = (
     has_new n class mid new b t f.popped old f.said f.does,
-    works-both (λ said. IsPlain said × SawAllEmpty old.worker.view.generation said) (λ said. said ≡ Took b.life (TakeLine (cycle_at mid.worker.view.generation) b.page b.pages b.class) ∷ []) (TookThen old.worker.view.generation b) (b.page ∷ []) old mid (record mid { worker = new }) f (take_works n class mid new b t f.popped)
+    works-both (λ said. SweptAll said × OnlySweeps old.worker.view.generation said) (λ said. said ≡ Took b.life (TakeLine (cycle_at mid.worker.view.generation) b.page b.pages b.class) ∷ []) (TookThen old.worker.view.generation b) (b.page ∷ []) old mid (record mid { worker = new })
+        (works-tidy SweptAll [] old mid f) (take_works n class mid new b t f.popped)
         (λ x y p q. record {
           before = x;
           log = ap (λ (l : List Entry). l ++ x) q ∙ ap (λ (g : ℕ). Took b.life (TakeLine (cycle_at g) b.page b.pages b.class) ∷ x) f.does.stays.generation;
-          plain = p.0;
+          plain = p.0.0;
+          sweeps = p.1;
         }),
   )
 
   pub then_missed : (new : Seen) (line : ℕ) → TakesSpan n class mid.worker new (Err (NoRun line)) → SweepsAndTakes n class old (record mid { worker = new }) (Err (NoRun line))
   then_missed new line m = (
     no_run n class line mid new m f.popped old f.does.stays.region f.does.stays.goal,
-    works-both (λ said. IsPlain said × SawAllEmpty old.worker.view.generation said) (λ said. said ≡ Missed line (MissLine (cycle_at mid.worker.view.generation) n class) ∷ []) (MissedThen old.worker.view.generation n class line) [] old mid (record mid { worker = new }) f (miss_works n class line mid new m f.popped)
+    works-both (λ said. SweptAll said × OnlySweeps old.worker.view.generation said) (λ said. said ≡ Missed line (MissLine (cycle_at mid.worker.view.generation) n class) ∷ []) (MissedThen old.worker.view.generation n class line) [] old mid (record mid { worker = new })
+        (works-tidy SweptAll [] old mid f) (miss_works n class line mid new m f.popped)
         (λ x y p q. record {
           before = x;
           log = ap (λ (l : List Entry). l ++ x) q ∙ ap (λ (g : ℕ). Missed line (MissLine (cycle_at g) n class) ∷ x) f.does.stays.generation;
-          plain = p.0;
-          saw_empty = p.1;
+          plain = p.0.0;
+          saw_empty = p.0.1;
+          sweeps = p.1;
         }),
   )
 
@@ -133,12 +144,14 @@ module _ (n class r : ℕ) (old mid : Hand) (w : Reclaims n old mid (Ok r)) wher
   pub made : (new : Seen) (b : Body) → TakesNew n class mid.worker new b → MakesSpan n class old (record mid { worker = new }) (Ok b)
   made new b t = (
     has_new n class mid new b t w.popped old w.said w.does,
-    works-both RP (λ said. said ≡ Took b.life (TakeLine (cycle_at mid.worker.view.generation) b.page b.pages b.class) ∷ []) (TookAtLast old n b) (b.page ∷ []) old mid (record mid { worker = new }) w (take_works n class mid new b t w.popped)
+    works-both (λ said. RP said × OnlySweeps old.worker.view.generation said) (λ said. said ≡ Took b.life (TakeLine (cycle_at mid.worker.view.generation) b.page b.pages b.class) ∷ []) (TookAtLast old n b) (b.page ∷ []) old mid (record mid { worker = new })
+        (works-tidy RP [] old mid w) (take_works n class mid new b t w.popped)
         (λ x y p q. record {
           before = x;
           log = ap (λ (l : List Entry). l ++ x) q ∙ ap (λ (g : ℕ). Took b.life (TakeLine (cycle_at g) b.page b.pages b.class) ∷ x) w.does.stays.generation;
-          takes_none = p.1;
-          reclaimed = p.2;
+          takes_none = p.0.1;
+          sweeps = p.1;
+          reclaimed = p.0.2;
         }),
   )
 
@@ -149,6 +162,9 @@ module _ (n class r : ℕ) (old mid : Hand) (w : Reclaims n old mid (Ok r)) wher
   still : (xs ys : List Entry) → IsPlain ys → HasReclaimed old.worker.view.marks old.worker.view.region n xs → HasReclaimed old.worker.view.marks old.worker.view.region n (ys ++ xs)
   still xs ys plain h = reclaimed-more old.worker.view.marks old.worker.view.region n ys xs plain h
 
+  tidy_both : (xs ys : List Entry) → OnlySweeps mid.worker.view.generation ys → OnlySweeps old.worker.view.generation xs → OnlySweeps old.worker.view.generation (ys ++ xs)
+  tidy_both xs ys y x = sweeps-append old.worker.view.generation ys xs (subst (λ (g : ℕ). OnlySweeps g ys) w.does.stays.generation y) x
+
   -- and a full sweep
   pub made_then : (new : Hand) (a : Result Body Refused) → SweepsAndTakes n class mid new a → MakesSpan n class old new a
   made_then new (Ok b) s = (
@@ -158,22 +174,24 @@ module _ (n class r : ℕ) (old mid : Hand) (w : Reclaims n old mid (Ok r)) wher
       nothing = nothing_before old.worker mid.worker w.said b.page w.does s.0.nothing;
       untouched = record { pops = λ j l z. s.0.untouched.pops j l (ap (λ (g : ℕ). is_swept_set g j) w.does.stays.generation ∙ z); placings = s.0.untouched.placings };
     },
-    works-both RP (TookThen mid.worker.view.generation b) (TookAtLast old n b) (b.page ∷ []) old mid new w s.1
+    works-both (λ said. RP said × OnlySweeps old.worker.view.generation said) (TookThen mid.worker.view.generation b) (TookAtLast old n b) (b.page ∷ []) old mid new (works-tidy RP [] old mid w) s.1
         (λ x y p q. record {
           before = q.before ++ x;
           log = ap (λ (l : List Entry). l ++ x) q.log ∙ ap (λ (g : ℕ). Took b.life (TakeLine (cycle_at g) b.page b.pages b.class) ∷ (q.before ++ x)) w.does.stays.generation;
-          takes_none = takes-append q.before x q.plain.takes_none p.1;
-          reclaimed = still x q.before q.plain p.2;
+          takes_none = takes-append q.before x q.plain.takes_none p.0.1;
+          sweeps = tidy_both x q.before q.sweeps p.1;
+          reclaimed = still x q.before q.plain p.0.2;
         }),
   )
   made_then new (Err (NoRun line)) s = (
     (s.0.0, s.0.1, (subst (λ (z : ℕ × ℕ). Legal z.0 z.1 s.0.0) (λ i. (w.does.stays.region i, w.does.stays.goal i)) s.0.2.0, subst (λ (g : ℕ). HasNoRun g s.0.0 n) w.does.stays.region s.0.2.1)),
-    works-both RP (MissedThen mid.worker.view.generation n class line) (MissedAtLast old n class line) [] old mid new w s.1
+    works-both (λ said. RP said × OnlySweeps old.worker.view.generation said) (MissedThen mid.worker.view.generation n class line) (MissedAtLast old n class line) [] old mid new (works-tidy RP [] old mid w) s.1
         (λ x y p q. record {
           before = q.before ++ x;
           log = ap (λ (l : List Entry). l ++ x) q.log ∙ ap (λ (g : ℕ). Missed line (MissLine (cycle_at g) n class) ∷ (q.before ++ x)) w.does.stays.generation;
-          takes_none = takes-append q.before x q.plain.takes_none p.1;
-          reclaimed = still x q.before q.plain p.2;
+          takes_none = takes-append q.before x q.plain.takes_none p.0.1;
+          sweeps = tidy_both x q.before q.sweeps p.1;
+          reclaimed = still x q.before q.plain p.0.2;
           saw_empty = λ k l u. some-new (is_seen_empty k) q.before x (q.saw_empty k l (ap (λ (g : ℕ). is_swept_set g k) w.does.stays.generation ∙ u));
         }),
   )

@@ -12,6 +12,8 @@ use Rattle.span_laws.specs.TakeAnswers.{cycle_at}
 use Rattle.span_laws.specs.Scans.{IsEmptyLook, IsPassing, PassesPages, logs}
 use Rattle.span_laws.specs.Views.{Seen}
 use Rattle.span_set.specs.declared.hand.Hand.{Hand}
+use Rattle.span_set.specs.Fits.{no_page}
+use Rattle.span_set.proofs.Fits.{fits-none}
 use Rattle.sweeper.specs.Entries.{pages_given}
 use Rattle.sweeper.specs.ReclaimSteps.{CoversPages}
 use Rattle.sweeper.specs.Tries.{SweepsNone}
@@ -97,6 +99,7 @@ logs_works old said new e sweeps none popped = works-step (λ s. s ≡ said) [] 
     (record {
       log = ap (λ (x : Seen). x.view.own.log) e;
       sweeps = sweeps;
+      sets = fits-none old.worker.view.generation no_page said old.worker new [] none (ap (λ (x : Seen). x.view.own.spans) e);
       held = ap (λ (x : Seen). x.view.own.held) e ∙ sym (append-nil old.worker.view.own.held);
       stays = subst (Stays old.worker) (sym e) (record { away = refl; table = refl; number = refl; region = refl; goal = refl; generation = refl; marks = refl; before = refl; carried = refl; parts = refl; sweeping = refl; cached = refl; claimed = refl; fresh = refl; reset = refl; bodies = λ q h. refl });
     })

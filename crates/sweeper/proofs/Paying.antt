@@ -15,6 +15,8 @@ use Rattle.span_laws.specs.Views.{Seen}
 use Rattle.span_laws.specs.OwnSteps.{after_said}
 use Rattle.span_set.specs.Tallies.{Frees}
 use Rattle.span_set.specs.declared.hand.Hand.{Hand}
+use Rattle.span_set.specs.Fits.{no_page}
+use Rattle.span_set.proofs.Fits.{fits-none}
 use Rattle.span_set.proofs.Tallies.{frees-both, frees-none}
 use Rattle.sweeper.specs.Entries.{is_read}
 use Rattle.sweeper.specs.Pays.{HasPaid, Pays, target_of}
@@ -36,6 +38,7 @@ read_works word value a new other e none = works-step (λ said. IsPlain said × 
     (record {
       log = ap (λ (x : Seen). x.view.own.log) e;
       sweeps = record { unplaced = refl; unspent = refl; swept_pages = refl; given = λ p. refl; pushed = λ p. refl; unpopped = λ j p s. refl; unlooked = λ j s. refl; untouched = λ p. refl };
+      sets = fits-none a.worker.view.generation no_page (Read word value ∷ []) a.worker new [] refl (ap (λ (x : Seen). x.view.own.spans) e);
       held = ap (λ (x : Seen). x.view.own.held) e ∙ sym (append-nil a.worker.view.own.held);
       stays = subst (Stays a.worker) (sym e) (record { away = refl; table = refl; number = refl; region = refl; goal = refl; generation = refl; marks = refl; before = refl; carried = refl; parts = refl; sweeping = refl; cached = refl; claimed = refl; fresh = refl; reset = refl; bodies = λ q h. refl });
     })

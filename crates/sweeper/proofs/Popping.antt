@@ -24,6 +24,8 @@ use Rattle.span_laws.specs.OwnSteps.{after_said}
 use Rattle.span_set.specs.Pops.{IsLookAt, LooksLast, PopsUnswept}
 use Rattle.span_set.specs.declared.answers.PopBase.TheVariants.{Popped as PoppedBase, Empty as EmptyBase}
 use Rattle.span_set.specs.declared.hand.Hand.{Hand}
+use Rattle.span_set.specs.Fits.{no_page}
+use Rattle.span_set.proofs.Fits.{fits-none}
 use Rattle.sweeper.specs.Settles.{Settles}
 use Rattle.sweeper.specs.Tries.{SweepsNone, TriesEntry}
 use Rattle.sweeper.specs.Sweeps.{SweepsSpan}
@@ -91,16 +93,17 @@ module _ (set : ℕ) where
     looks_log : now.view.own.log ≡ looks_said ++ w.view.own.log
     looks_log = ap (λ (x : Seen). x.view.own.log) l.view ∙ ap (λ (y : List Entry). Looked set head tail ∷ y) (sym (append_assoc l.said (Read 1 w.view.generation ∷ []) w.view.own.log))
 
+    pub looks_are : SweepsNone looks_said
+    looks_are = none-append (Looked set head tail ∷ []) (l.said ++ Read 1 w.view.generation ∷ []) (one_none head tail) (looks_none w.view.generation l.said l.looks)
+
     pub looks_does : is_swept_set w.view.generation set ≡ false → Does [] looks_said w now
     looks_does off = record {
       log = looks_log;
       sweeps = sweeps-append w.view.generation (Looked set head tail ∷ []) (l.said ++ Read 1 w.view.generation ∷ []) (one_quiet head tail w.view.generation off) (looks_sweeps w.view.generation w.view.generation off l.said l.looks);
+      sets = fits-none w.view.generation no_page looks_said w now [] looks_are.none (ap (λ (x : Seen). x.view.own.spans) l.view);
       held = ap (λ (x : Seen). x.view.own.held) l.view ∙ sym (append-nil w.view.own.held);
       stays = subst (Stays w) (sym l.view) (record { away = refl; table = refl; number = refl; region = refl; goal = refl; generation = refl; marks = refl; before = refl; carried = refl; parts = refl; sweeping = refl; cached = refl; claimed = refl; fresh = refl; reset = refl; bodies = λ q h. refl });
     }
-
-    pub looks_are : SweepsNone looks_said
-    looks_are = none-append (Looked set head tail ∷ []) (l.said ++ Read 1 w.view.generation ∷ []) (one_none head tail) (looks_none w.view.generation l.said l.looks)
 
     pub looks_popped : now.view.own.popped ≡ w.view.own.popped
     looks_popped = ap (λ (x : Seen). x.view.own.popped) l.view
@@ -123,6 +126,7 @@ module _ (set : ℕ) where
           unlooked = λ j s. refl;
           untouched = λ p. refl;
         };
+        sets = fits-none now.view.generation no_page (Popped set page ∷ []) now new [] refl (ap (λ (x : Seen). x.view.own.spans) e);
         held = ap (λ (x : Seen). x.view.own.held) e ∙ sym (append-nil now.view.own.held);
         stays = subst (Stays now) (sym e) (record { away = refl; table = refl; number = refl; region = refl; goal = refl; generation = refl; marks = refl; before = refl; carried = refl; parts = refl; sweeping = refl; cached = refl; claimed = refl; fresh = refl; reset = refl; bodies = λ q h. refl });
       }
@@ -191,6 +195,7 @@ module _ (set : ℕ) (h : Hand) (unswept : is_swept_set h.worker.view.generation
         let step : Does [] (Found page word ∷ []) mid new = record {
           log = ap (λ (x : Seen). x.view.own.log) a.1;
           sweeps = record { unplaced = refl; unspent = refl; swept_pages = refl; given = λ p. refl; pushed = λ p. refl; unpopped = λ j p s. refl; unlooked = λ j s. refl; untouched = λ p. refl };
+          sets = fits-none mid.view.generation no_page (Found page word ∷ []) mid new [] refl (ap (λ (x : Seen). x.view.own.spans) a.1);
           held = ap (λ (x : Seen). x.view.own.held) a.1 ∙ sym (append-nil mid.view.own.held);
           stays = subst (Stays mid) (sym a.1) (record { away = refl; table = refl; number = refl; region = refl; goal = refl; generation = refl; marks = refl; before = refl; carried = refl; parts = refl; sweeping = refl; cached = refl; claimed = refl; fresh = refl; reset = refl; bodies = λ q h. refl });
         } in

@@ -28,6 +28,8 @@ use Rattle.span_laws.specs.Views.{Seen, span_at, span_of}
 use Rattle.span_laws.specs.OwnSteps.{after_of, after_said}
 use Rattle.span_laws.proofs.Uses.{apart_of}
 use Rattle.span_set.specs.declared.hand.Hand.{Hand}
+use Rattle.span_set.specs.Fits.{no_page}
+use Rattle.span_set.proofs.Fits.{fits-emptied, fits-pushed}
 use Rattle.sweep_laws.specs.Counts.{total}
 use Rattle.sweeper.specs.Entries.{pages_given}
 use Rattle.sweeper.specs.Settles.{GoesHome, Settles}
@@ -76,7 +78,7 @@ given_said g before s = Gave s.page s.pages ∷ sweep_said g before s
 abbrev pub pushed_said : ℕ → ℕ → ℕ → Sweeping → List Entry
 pushed_said g set before s = Pushed set s.page ∷ Read 1 g ∷ sweep_said g before s
 
-given_sweeps : (h g before : ℕ) (s : Sweeping) → s.kept ≡ 0 → OnlySweeps h (given_said g before s)
+pub given_sweeps : (h g before : ℕ) (s : Sweeping) → s.kept ≡ 0 → OnlySweeps h (given_said g before s)
 given_sweeps h g before s e = record {
   unplaced = refl;
   unspent = refl;
@@ -88,8 +90,9 @@ given_sweeps h g before s e = record {
   untouched = λ q. refl;
 }
 
-pushed_sweeps : (h g set before : ℕ) (s : Sweeping) → 0 < s.kept → OnlySweeps h (pushed_said g set before s)
-pushed_sweeps h g set before s l = record {
+-- the same, where the generation is read anew before the push
+pub pushed_sweeps : (h g again set before : ℕ) (s : Sweeping) → 0 < s.kept → OnlySweeps h (Pushed set s.page ∷ Read 1 again ∷ sweep_said g before s)
+pushed_sweeps h g again set before s l = record {
   unplaced = refl;
   unspent = refl;
   swept_pages = omega arith;
@@ -192,6 +195,7 @@ module _ (marks : MarkSet) (page : ℕ) (w : Seen) (got : Body) (h1 h2 : Hand) (
         does = record {
           log = ap (λ (x : Seen). x.view.own.log) view ∙ ap (λ (l : List Entry). Gave b.page b.pages ∷ l) mid_log;
           sweeps = given_sweeps w.view.generation w.view.generation t.before s e;
+          sets = fits-emptied w.view.generation no_page (given_said w.view.generation t.before s) w h2.worker (span_of b ∷ span_of got ∷ []) s refl (ap (λ (x : Seen). x.view.own.spans) now) e;
           held = ap (λ (x : Seen). x.view.own.held) now ∙ held_back w got b t.before same nothing;
           stays = subst (Stays w) (sym now) (given_stays w got b t.before same nothing);
         };
@@ -224,7 +228,8 @@ module _ (marks : MarkSet) (page : ℕ) (w : Seen) (got : Body) (h1 h2 : Hand) (
         note_is = note_swept;
         does = record {
           log = ap (λ (x : Seen). x.view.own.log) view' ∙ ap (λ (l : List Entry). Pushed set b.page ∷ Read 1 g ∷ l) mid_log;
-          sweeps = pushed_sweeps g g set t.before s l;
+          sweeps = pushed_sweeps g g g set t.before s l;
+          sets = fits-pushed g no_page (pushed_said g set t.before s) w h2.worker (span_of got ∷ []) s (span_of b) full refl (ap (λ (x : Seen). x.view.own.spans) now) refl counted is_full has_room (rw (eq-eqb set set refl, eq-eqb b.page b.page refl) (omega arith));
           held = ap (λ (x : Seen). x.view.own.held) now ∙ held_back w got b t.before same nothing;
           stays = subst (Stays w) (sym now) (pushed_stays w got b t.before same nothing set free);
         };

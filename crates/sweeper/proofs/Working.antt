@@ -1,5 +1,5 @@
 -- What one part of a call did and then another, is what both did.
-use Rattle.std.proofs.Common.{◌≡◌, ℕ, ◌+◌, List, [], ◌∷◌, ◌++◌, refl, ap, sym, ◌∙◌, subst, append_assoc, arith}
+use Rattle.std.proofs.Common.{◌≡◌, ℕ, ◌+◌, ◌<◌, List, [], ◌∷◌, ◌++◌, refl, ap, sym, ◌∙◌, subst, append_assoc, arith}
 use Rattle.std.proofs.lemmas.List.{append-nil}
 use Rattle.span_state.specs.declared.sweep.SweepNote.{SweepNote}
 use Rattle.sweep_laws.specs.Counts.{times}
@@ -7,6 +7,8 @@ use Rattle.worker_log.specs.declared.Entry.{Entry}
 use Rattle.span_laws.specs.TakeAnswers.{cycle_at}
 use Rattle.span_laws.specs.Views.{Seen}
 use Rattle.span_set.specs.declared.hand.Hand.{Hand}
+use Rattle.span_set.specs.Fits.{FitsSets, no_page}
+use Rattle.span_set.proofs.Fits.{fits-both, fits-none}
 use Rattle.sweeper.specs.Work.{Does, OnlySweeps, Stays, Works, notes_of}
 use Rattle.sweeper.proofs.Counting.{notes-append, nothing-sweeps, sweeps-append}
 
@@ -42,12 +44,13 @@ module _ (a b d : Seen) (more also : List ℕ) (said then : List Entry) (x : Doe
   does-both = record {
     log = y.log ∙ ap (λ (l : List Entry). then ++ l) x.log ∙ sym (append_assoc then said a.view.own.log);
     sweeps = sweeps-append a.view.generation then said (subst (λ (g : ℕ). OnlySweeps g then) x.stays.generation y.sweeps) x.sweeps;
+    sets = fits-both a.view.generation no_page no_page no_page then said a b d (λ p z. z) (λ p z. z) x.sets (subst (λ (g : ℕ). FitsSets g no_page then b d) x.stays.generation y.sets);
     held = y.held ∙ ap (λ (l : List ℕ). l ++ also) x.held ∙ append_assoc a.view.own.held more also;
     stays = stays-both;
   }
 
 pub does-nothing : (a : Seen) → Does [] [] a a
-does-nothing a = record { log = refl; sweeps = nothing-sweeps a.view.generation; held = sym (append-nil a.view.own.held); stays = stays-same a }
+does-nothing a = record { log = refl; sweeps = nothing-sweeps a.view.generation; sets = fits-none a.view.generation no_page [] a a [] refl refl; held = sym (append-nil a.view.own.held); stays = stays-same a }
 
 module _ (P Q : List Entry → Type 0) where
   pub works-as : (more : List ℕ) (a b : Hand) → Works more P a b → ((s : List Entry) → P s → Q s) → Works more Q a b
@@ -63,6 +66,10 @@ module _ (P Q : List Entry → Type 0) where
         ∙ ap (λ (l : List SweepNote). a.notes.items ++ l) (sym (notes-append (cycle_at a.worker.view.generation) y.said x.said));
     popped = y.popped;
   }
+
+-- what a call added to the log sweeps alone, too
+pub works-tidy : (P : List Entry → Type 0) (more : List ℕ) (a b : Hand) → Works more P a b → Works more (λ said. P said × OnlySweeps a.worker.view.generation said) a b
+works-tidy P more a b w = record { said = w.said; did = (w.did, w.does.sweeps); does = w.does; notes = w.notes; popped = w.popped }
 
 -- a call that has not done anything yet
 pub works-nothing : (P : List Entry → Type 0) (a b : Hand) → b.worker ≡ a.worker → b.notes.items ≡ a.notes.items → a.worker.view.own.popped ≡ [] → P [] → Works [] P a b

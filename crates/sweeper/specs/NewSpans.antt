@@ -13,20 +13,23 @@ use Rattle.span_laws.specs.Asks.{HasBody, IsUntouched, mine}
 use Rattle.span_set.specs.declared.hand.Hand.{Hand}
 use Rattle.sweeper.specs.Entries.{is_added}
 use Rattle.sweeper.specs.Reclaims.{HasReclaimed, chunks_of}
-use Rattle.sweeper.specs.Work.{IsPlain, SawAllEmpty, TakesNone, Works}
+use Rattle.sweeper.specs.Work.{IsPlain, OnlySweeps, SawAllEmpty, TakesNone, Works}
 
--- the log ends with the line that took the span, behind what a reclaim of its pages needs
+-- the log ends with the line that took the span, behind sweeps alone, and behind what a reclaim of its pages needs
 pub record TookAtLast (old : Hand) (n : ℕ) (b : Body) (said : List Entry) : Type 0 where
   pub before : List Entry
   pub log : said ≡ Took b.life (TakeLine (cycle_at old.worker.view.generation) b.page b.pages b.class) ∷ before
   pub takes_none : TakesNone before
+  pub sweeps : OnlySweeps old.worker.view.generation before
   pub reclaimed : HasReclaimed old.worker.view.marks old.worker.view.region n before
 
--- the log ends with the line that says that no run was free, behind what a reclaim of the pages needs, and after each unswept set was seen empty
+-- the log ends with the line that says that no run was free, behind sweeps alone, and behind what a reclaim of the pages needs, and after each
+-- unswept set was seen empty
 pub record MissedAtLast (old : Hand) (n class line : ℕ) (said : List Entry) : Type 0 where
   pub before : List Entry
   pub log : said ≡ Missed line (MissLine (cycle_at old.worker.view.generation) n class) ∷ before
   pub takes_none : TakesNone before
+  pub sweeps : OnlySweeps old.worker.view.generation before
   pub reclaimed : HasReclaimed old.worker.view.marks old.worker.view.region n before
   pub saw_empty : SawAllEmpty old.worker.view.generation before
 
@@ -48,11 +51,13 @@ pub record TookThen (g : ℕ) (b : Body) (said : List Entry) : Type 0 where
   pub before : List Entry
   pub log : said ≡ Took b.life (TakeLine (cycle_at g) b.page b.pages b.class) ∷ before
   pub plain : IsPlain before
+  pub sweeps : OnlySweeps g before
 
 pub record MissedThen (g n class line : ℕ) (said : List Entry) : Type 0 where
   pub before : List Entry
   pub log : said ≡ Missed line (MissLine (cycle_at g) n class) ∷ before
   pub plain : IsPlain before
+  pub sweeps : OnlySweeps g before
   pub saw_empty : SawAllEmpty g before
 
 abbrev pub SweepsAndTakes : ℕ → ℕ → Hand → Hand → Result Body Refused → Type 0

@@ -11,6 +11,7 @@ use Rattle.span_laws.specs.Asks.{mine}
 use Rattle.span_laws.specs.Logs.{is_taking}
 use Rattle.span_laws.specs.Views.{Seen, span_at}
 use Rattle.span_set.specs.declared.hand.Hand.{Hand}
+use Rattle.span_set.specs.Fits.{FitsSets, no_page}
 use Rattle.span_laws.specs.Calls.{is_missing, is_placing, number_added, pages_swept}
 use Rattle.sweep_laws.specs.Counts.{total}
 use Rattle.sweeper.specs.Entries.{is_added, is_emptying_of, is_giving_of, is_keeping_of, is_look_of, is_push_at, is_read}
@@ -58,10 +59,11 @@ pub record Stays (old new : Seen) : Type 0 where
   pub reset : new.view.own.reset ≡ old.view.own.reset
   pub bodies : (q : ℕ) → 0 < mine q old.view.own → span_at q new.view.own.spans ≡ span_at q old.view.own.spans
 
--- A worker's steps added these entries to the log, and it holds these pages more.
+-- A worker's steps added these entries to the log, and it holds these pages more; each span of which a sweep kept some went to the set that it fits.
 pub record Does (more : List ℕ) (said : List Entry) (old new : Seen) : Type 0 where
   pub log : new.view.own.log ≡ said ++ old.view.own.log
   pub sweeps : OnlySweeps old.view.generation said
+  pub sets : FitsSets old.view.generation no_page said old new
   pub held : new.view.own.held ≡ old.view.own.held ++ more
   pub stays : Stays old new
 

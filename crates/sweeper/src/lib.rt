@@ -5,6 +5,7 @@
 #![tactic(auto)]
 
 mod answers;
+mod laws;
 mod payments;
 mod reclaimer;
 mod settle;
@@ -12,6 +13,7 @@ mod spans;
 mod sweep;
 
 pub use answers::{One, Paid};
+pub use laws::a_refused_sweep_may_be_made_again;
 pub use payments::{finish, pay};
 pub use reclaimer::reclaim;
 pub use settle::settle as settle_span;

@@ -77,16 +77,16 @@ fn add_spans<R: Wait>(
 // Takes all these spans in the first cycle, and ends it with a mark end. All that may run out of memory stands here, where nothing is owned.
 fn pass_mark_end<R: Wait>(
     rt: &R,
-    shared: &mut Shared,
+    shared: &Shared,
     w: &mut Worker,
     marks: &mut Marks,
     spans: &[(u32, bool)],
 ) -> Result<(), NoMemory>
-    requires free { IsFreeDriver shared.old w.old }
+    requires free { IsFreeDriver shared.now w.old }
     requires generation { w.old.view.generation ≡ 4 }
     requires unmarked { marks.old.pairs ≡ [] }
     requires undead { (page : ℕ) → dead_of marks.old page ≡ [] }
-    ensures turned { OnOk result (HasTurned shared.new marks.new.pairs w.new) }
+    ensures turned { OnOk result (HasTurned shared.now marks.new.pairs w.new) }
     ensures undead { OnOk result ((page : ℕ) → dead_of marks.new page ≡ []) }
 {
     count(shared, w);
@@ -121,9 +121,9 @@ impl Scene {
             return Err(NoMemory);
         }
         let (ring, tally) = Ring::new(alloc, 2)?;
-        let (mut shared, mut w) = start(alloc, chunks, GOAL)?;
+        let (shared, mut w) = start(alloc, chunks, GOAL)?;
         let mut marks = Marks::empty(alloc);
-        pass_mark_end(rt, &mut shared, &mut w, &mut marks, spans)?;
+        pass_mark_end(rt, &shared, &mut w, &mut marks, spans)?;
         let hand = Hand::new(alloc, w, tally);
         Ok(Scene {
             shared,

@@ -1,7 +1,7 @@
 -- What the laws of a run see in the log of a worker: what it placed, swept, took and was refused. A log has its newest entry first.
 use Rattle.std.specs.Prelude.{ℕ, List, [], ◌∷◌}
 use Rattle.page_bitmap.specs.declared.line.Line.{Line}
-use Rattle.page_bitmap.specs.declared.line.Line.TheVariants.{Take, Miss, Give, Scav}
+use Rattle.page_bitmap.specs.declared.line.Line.TheVariants.{Take, Miss, Give, Scav, Pull, Cut, Drop}
 use Rattle.worker_log.specs.declared.Placing.{Placing}
 use Rattle.worker_log.specs.declared.Sweeping.{Sweeping}
 use Rattle.worker_log.specs.declared.Entry.{Entry}
@@ -19,6 +19,9 @@ refused number (Miss cycle pages class) rest = record { number = number; pages =
 refused number (Take cycle page pages class) rest = rest
 refused number (Give cycle page pages) rest = rest
 refused number (Scav cycle page pages) rest = rest
+refused number (Pull cycle proc page pages) rest = rest
+refused number (Cut cycle proc page pages class) rest = rest
+refused number (Drop cycle proc page pages) rest = rest
 
 -- The objects that the log's worker placed.
 abbrev pub placings : List Entry → List Placing

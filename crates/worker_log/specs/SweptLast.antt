@@ -1,7 +1,7 @@
 -- Whether the newest entry of a log that tells of the span of a page is a sweep. A log has its newest entry first.
 use Rattle.std.specs.Prelude.{ℕ, ◌==◌, ◌&&◌, ◌||◌, Bool, false, not, List, [], ◌∷◌}
 use Rattle.page_bitmap.specs.declared.line.Line.{Line}
-use Rattle.page_bitmap.specs.declared.line.Line.TheVariants.{Take, Miss, Give, Scav}
+use Rattle.page_bitmap.specs.declared.line.Line.TheVariants.{Take, Miss, Give, Scav, Pull, Cut, Drop}
 use Rattle.worker_log.specs.declared.Entry.{Entry}
 use Rattle.worker_log.specs.declared.Entry.TheVariants.{Looked, LookedEmptyCell, Popped, Pushed, Swept, Took, Missed, Gave, Allocated, Found, Read, Added}
 
@@ -11,6 +11,9 @@ is_take_at p (Take cycle page pages class) = page == p
 is_take_at p (Miss cycle pages class) = false
 is_take_at p (Give cycle page pages) = false
 is_take_at p (Scav cycle page pages) = false
+is_take_at p (Pull cycle proc page pages) = false
+is_take_at p (Cut cycle proc page pages class) = page == p
+is_take_at p (Drop cycle proc page pages) = false
 
 -- Of the entries that sweep, take or give back the span of the page the newest is a sweep.
 abbrev pub is_swept_last : ℕ → List Entry → Bool

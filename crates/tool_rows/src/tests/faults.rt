@@ -16,7 +16,8 @@ goheap  1/|1: malformed
 goheap\t1/|1: malformed
 Goheap 1/|1: malformed
 goheap 01/|1: malformed
-goheap 2/|1: malformed
+goheap 3/|1: malformed
+goheap 2/|2: ends early
 end/|1: malformed
 [121]|1: malformed
 [120]|1: ends early

@@ -52,7 +52,7 @@ returns-in-None-clause-tries c = let a = c.args.hand.now in let k = c.args.class
     let small : f < 2 = (let l = few c.args.full in omega arith) in
     let h : Hand = record c.reserve_note.new.self { worker = c.acquire.new.w } in let n = c.in-None.ensures.sweeps in
     gone g k f small c.in-Popped.page a c.pop_unswept.new.w (popping g k f small c.in-Popped.page a.worker c.pop_unswept.new.w e) refl h n.1 c.in-Got.body n.0 c.in-Got.ensures c.args.shop.now.marks.now
-    n.2 c.reserve_note.ensures.notes c.sweep_one.new.hand c.requires.unclaimed n.4 (ap (λ r. r.items) n.3)
+    n.2 c.reserve_note.ensures.notes c.sweep_one.new.hand n.5 c.requires.unclaimed n.4 (ap (λ r. r.items) n.3)
 
 pub returns-in_err-reserve_note-clause-tries : goal.returns-in_err-reserve_note-clause-tries
 returns-in_err-reserve_note-clause-tries c = let a = c.args.hand.now in let g = a.worker.view.generation in

@@ -1,4 +1,4 @@
-use Rattle.std.proofs.Common.{◌≡◌, ℕ, ◌*◌, ap, subst, ◌∙◌, refl, arith}
+use Rattle.std.proofs.Common.{◌≡◌, ℕ, ◌*◌, inl, ap, subst, ◌∙◌, refl, arith}
 use Rattle.std.specs.Prelude.{Ok}
 use Rattle.std.proofs.lemmas.Result.{err_from_is_err_and}
 use Rattle.span_laws.specs.declared.said.Said.TheVariants.{Adds}
@@ -11,7 +11,8 @@ use Rattle.span_set.proofs.Tallies.{frees-both, frees-none, may-still}
 use Rattle.large_objects.proofs.larges.alloc_large.Goals as goal
 
 pub returns-in_default-clause-did : goal.returns-in_default-clause-did
-returns-in_default-clause-did g c = paid_nothing c.args.shop.now.pages c.args.shop.now.distance (c.from-bytes.result * 8192) c.args.pages c.args.hand.now c.pay.new.hand c.requires.idle c.in_default.ensures.did
+returns-in_default-clause-did g c = let p = paid_nothing c.args.shop.now.pages c.args.shop.now.distance (c.from-bytes.result * 8192) c.args.pages c.args.hand.now c.pay.new.hand c.requires.idle c.in_default.ensures.did in
+    (p.0, p.1, p.2, inl p.3)
 
 pub returns-in_err-body-clause-did : goal.returns-in_err-body-clause-did
 returns-in_err-body-clause-did g c =

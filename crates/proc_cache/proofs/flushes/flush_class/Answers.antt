@@ -1,12 +1,12 @@
-use Rattle.std.proofs.Common.{◌≡◌, true, false, ap, sym, subst, ◌∙◌, get_or, set, arith}
+use Rattle.std.proofs.Common.{◌≡◌, refl, true, false, ap, sym, subst, ◌∙◌, get_or, set, arith}
 use Rattle.std.specs.Prelude.{None, Some, Option}
 use Rattle.sweep_laws.specs.Lists.{has}
 use Rattle.span_state.specs.declared.body.Body.{Body}
 use Rattle.span_laws.specs.Asks.{HasBody}
 use Rattle.span_laws.specs.Views.{Seen, span_of}
 use Rattle.proc_cache.specs.Cache.{Cache, spans_of}
-use Rattle.proc_cache.proofs.Slots.{other_default, slot_is, slot_written}
-use Rattle.proc_cache.proofs.Flushing.{class_flushed, class_serves}
+use Rattle.proc_cache.proofs.Slots.{none_is, other_default, slot_is, slot_written}
+use Rattle.proc_cache.proofs.Flushing.{class_empty, class_flushed, class_serves}
 use Rattle.span_set.proofs.Tallies.{frees-both, frees-none, may-still}
 use Rattle.proc_cache.proofs.flushes.flush_class.Goals as goal
 
@@ -67,3 +67,9 @@ returns-clause-countdown g c = ap (λ (z : Cache). z.countdown) c.proc.view_is
 
 pub returns-clause-tally : goal.returns-clause-tally
 returns-clause-tally g c = frees-both c.args.shop.now.marks.now c.args.hand.now c.reserve_note.new.self c.flush_span.new.hand (frees-none c.args.shop.now.marks.now c.args.hand.now c.reserve_note.new.self c.reserve_note.ensures.notes c.reserve_note.ensures.tally) c.flush_span.ensures.tally
+
+pub returns-then-is_none-clause-flushes : goal.returns-then-is_none-clause-flushes
+returns-then-is_none-clause-flushes g c =
+    let i = c.proc.inside in let k = c.args.class in
+    let e : get_or i.slots.items k None ≡ None = other_default i.slots.items k None c.index.result.now (let z = c.proc.invariant in let y = c.requires.class in omega arith) ∙ sym c.index.ensures ∙ none_is c.index.result.now c.is_none.result c.is_none.ensures c.if-is_none.true in
+    (refl, class_empty k c.args.proc.now c.args.hand.now c.requires.idle (slot_is i.number i.flushed i.slots.items i.sampler c.args.proc.now c.proc.view_is k None e))

@@ -1,4 +1,4 @@
-use Rattle.std.proofs.Common.{◌≡◌, ℕ, ◌*◌, subst, arith}
+use Rattle.std.proofs.Common.{◌≡◌, ℕ, ◌*◌, inl, subst, arith}
 use Rattle.std.specs.Prelude.{Ok}
 use Rattle.sweeper.specs.Pays.{Pays}
 use Rattle.proc_cache.specs.RefillLogs.{bytes_of}
@@ -7,7 +7,8 @@ use Rattle.span_set.proofs.Tallies.{frees-both, may-still}
 use Rattle.proc_cache.proofs.refills.find_span.Goals as goal
 
 pub returns-in_default-clause-finds : goal.returns-in_default-clause-finds
-returns-in_default-clause-finds g c = paid_nothing c.args.shop.now.pages c.args.shop.now.distance (c.from.result * 8192) 0 c.args.hand.now c.pay.new.hand c.requires.idle c.in_default.ensures.did
+returns-in_default-clause-finds g c = let p = paid_nothing c.args.shop.now.pages c.args.shop.now.distance (c.from.result * 8192) 0 c.args.hand.now c.pay.new.hand c.requires.idle c.in_default.ensures.did in
+    (p.0, p.1, p.2, inl p.3)
 
 pub returns-clause-finds : goal.returns-clause-finds
 returns-clause-finds g c =

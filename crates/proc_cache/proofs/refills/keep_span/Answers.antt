@@ -2,7 +2,7 @@ use Rattle.std.proofs.Common.{◌≡◌, ℕ, ◌*◌, [], ◌∷◌, length, re
 use Rattle.std.specs.Prelude.{Some}
 use Rattle.std.proofs.lemmas.List.{length-map}
 use Rattle.span_laws.specs.declared.said.Said.TheVariants.{Adds, Caches}
-use Rattle.span_laws.specs.Views.{span_of}
+use Rattle.span_laws.specs.Views.{Seen, span_of}
 use Rattle.span_laws.specs.OwnSteps.{after_said}
 use Rattle.worker_log.specs.declared.Entry.TheVariants.{Added, Read}
 use Rattle.span_set.specs.declared.hand.Hand.{Hand}
@@ -21,7 +21,7 @@ returns-clause-keeps c =
     ∙ ap (after_said (Caches b.page)) (c.add_spent.ensures ∙ ap (λ (n : ℕ). after_said (Adds 3 c.add_spent.result n) old.worker) e) in
     let few : length c.args.proc.now.slots ≡ 136 = sym (ap (λ (z : Cache). length z.slots) c.proc.view_is) ∙ length-map i.slots.items span_in ∙ c.proc.invariant in
     let written = slot_written i.number i.flushed i.slots.items i.sampler c.args.proc.now c.proc.view_is k (Some b) in
-    (written, ap (λ (z : Cache). slot_at z k) written ∙ slot_here c.args.proc.now k (Some (span_of b)) (let z = c.requires.class in omega arith), (Added 3 (bytes_of k) ∷ Read 3 c.add_spent.result ∷ [], span_leaves k (bytes_of k) c.add_spent.result b old new c.requires.holds view refl, (c.add_spent.result, refl)))
+    (written, ap (λ (z : Cache). slot_at z k) written ∙ slot_here c.args.proc.now k (Some (span_of b)) (let z = c.requires.class in omega arith), (Added 3 (bytes_of k) ∷ Read 3 c.add_spent.result ∷ [], span_leaves k (bytes_of k) c.add_spent.result b old new c.requires.holds view refl, (c.add_spent.result, refl)), ap (λ (w : Seen). w.view.own.spans) view)
 
 pub returns-clause-serves : goal.returns-clause-serves
 returns-clause-serves c =

@@ -1,7 +1,7 @@
 use Rattle.std.proofs.Common.{◌≡◌, refl, ap, sym, subst, ◌∙◌, get_or, set, [], ◌∷◌, arith}
 use Rattle.std.specs.Prelude.{None, Some, Option}
 use Rattle.span_state.specs.declared.body.Body.{Body}
-use Rattle.span_laws.specs.Views.{span_of}
+use Rattle.span_laws.specs.Views.{Seen, span_of}
 use Rattle.worker_log.specs.SetNumbers.{swept_set}
 use Rattle.worker_log.specs.declared.Entry.TheVariants.{Pushed, Read}
 use Rattle.span_laws.specs.declared.view.Span.{Span}
@@ -25,6 +25,7 @@ returns-clause-leaves c =
       ap (λ (o : Option Body). let z : Cache = record { number = i.number; flushed = i.flushed; slots = spans_of (set i.slots.items k o); countdown = i.sampler } in z) c.take.ensures.after ∙ slot_written i.number i.flushed i.slots.items i.sampler c.args.proc.now c.proc.view_is k None,
       c.push_full.ensures.notes,
       (Pushed (swept_set g k 1) b.page ∷ Read 1 g ∷ [], full_leaves k b.page (swept_set g k 1) g old new c.requires.idle c.push_full.ensures.view c.push_full.ensures.notes, subst (λ (o : Option Span). HasLeft g k o (Pushed (swept_set g k 1) b.page ∷ Read 1 g ∷ [])) (sym at) refl),
+      ap (λ (w : Seen). w.view.own.spans) c.push_full.ensures.view,
     )
 
 pub returns-clause-serves : goal.returns-clause-serves

@@ -1,6 +1,9 @@
-use Rattle.std.proofs.Common.{◌≡◌, ℕ, ◌-◌, ap}
+use Rattle.std.proofs.Common.{◌≡◌, ℕ, ◌-◌, ap, eq-eqb}
 use Rattle.cycle_history.specs.Requests.{last_cycle}
 use Rattle.run_profile.proofs.rest.read_rest.Goals as goal
+
+pub journal_copy-requires-clause-drives : goal.journal_copy-requires-clause-drives
+journal_copy-requires-clause-drives c = eq-eqb c.args.driver.now.number 69 c.requires.driver
 
 pub returns-clause-lines : goal.returns-clause-lines
 returns-clause-lines c =

@@ -18,7 +18,7 @@ turn-requires-clause-placed g c = λ q k e. of_one c.place-2.new.w c.in_ok-first
     (ap (λ (l : List (ℕ × ℕ)). has_pair l q k || (eqb q c.in_ok-first.first && eqb k 0)) (sym c.empty-marks.ensures.pairs) ∙ sym (c.in_ok-add.ensures.marked q k) ∙ e)
 
 pub acquire_unmarked-requires-clause-unpopped : goal.acquire_unmarked-requires-clause-unpopped
-acquire_unmarked-requires-clause-unpopped g c = (own_of c.turn.new.shared c.turn.new.w c.in_ok-turn.ensures.turned.idle).popped
+acquire_unmarked-requires-clause-unpopped g c = (own_of c.args.shared.now c.turn.new.w c.in_ok-turn.ensures.turned.idle).popped
 
 pub acquire_unmarked-requires-2-clause-unpopped : goal.acquire_unmarked-requires-2-clause-unpopped
-acquire_unmarked-requires-2-clause-unpopped g c = ap (λ (x : Seen). x.view.own.popped) c.in-None.ensures.2 ∙ (own_of c.turn.new.shared c.turn.new.w c.in_ok-turn.ensures.turned.idle).popped
+acquire_unmarked-requires-2-clause-unpopped g c = ap (λ (x : Seen). x.view.own.popped) c.in-None.ensures.2 ∙ (own_of c.args.shared.now c.turn.new.w c.in_ok-turn.ensures.turned.idle).popped

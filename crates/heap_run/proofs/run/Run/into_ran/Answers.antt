@@ -27,6 +27,9 @@ read_rest-requires-clause-few c =
     let least = some-cycle 0 (λ _. ⊥) t.cycles c.requires.limits.cycles in
     few-objects t (last_cycle t) (last_cycle t) ran.objects c.args.self c.args.self.driver.tally.view.calls (few-answers t (last_cycle t) c.args.self c.requires.limits (omega arith) ran ran.objects ran.asked) ran.counted.shows
 
+pub read_rest-requires-clause-driver : goal.read_rest-requires-clause-driver
+read_rest-requires-clause-driver c = c.requires.ran.set.driving.number
+
 pub read_rest-requires-clause-answers : goal.read_rest-requires-clause-answers
 read_rest-requires-clause-answers c =
     let ran = c.requires.ran in

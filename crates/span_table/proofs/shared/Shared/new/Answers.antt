@@ -1,15 +1,11 @@
-use Rattle.std.proofs.Common.{◌*◌, ap, lit<, subst, sym, arith}
-use Rattle.span_laws.specs.Cycle.{IsOwnJournal}
-use Rattle.span_laws.proofs.Kept.{start_kept}
-use Rattle.span_table.specs.Holds.{Sat}
-use Rattle.span_table.proofs.Lending.{own_none}
+use Rattle.std.proofs.Common.{arith, inl, ◌*◌, ℕ, List, sym, subst}
+use Rattle.atomic_table.specs.Table.{opening}
+use Rattle.span_table.specs.Running.{first_seat_view}
+use Rattle.span_table.specs.Turning.{Ruled}
+use Rattle.span_table.proofs.Starts.{starts}
 use Rattle.span_table.proofs.shared.Shared.new.Goals as goal
 
-pub of-lent-requires : goal.of-lent-requires
-of-lent-requires c = let e = c.in_ok-core.ensures in
-    let me = c.in_ok-table.ensures.4 in record {
-      kept = start_kept c.in_ok-core.core c.make_room.new.self c.in_ok-pages.pages c.in_ok-homes.homes.items c.in_ok-table.seat.me.0.view (512 * c.args.chunks) c.args.goal 70 69 e.state e.owned e.tidy e.tails c.in_ok-make_room.ensures.ok (lit< tt)
-          c.in_ok-pages.ensures.region c.in_ok-pages.ensures.goal c.in_ok-pages.ensures.empty c.in_ok-homes.ensures (let f = c.requires.few in omega arith) (ap (λ (m : Sat). m.0.view) me);
-      own = subst (λ (m : Sat). IsOwnJournal c.in_ok-pages.pages m.0.journal) (sym me) (own_none c.in_ok-pages.pages);
-      empty = ap (λ (m : Sat). m.1) me;
-    }
+pub new-requires-2 : goal.new-requires-2
+new-requires-2 c = let w = c.in_ok-words.ensures in let x = c.in_ok-items.ensures in let p = c.in_ok-heap.ensures in
+    subst (λ (ws : List ℕ). Ruled (512 * c.args.chunks) (opening ws c.in_ok-items.items.items (first_seat_view (512 * c.args.chunks) c.args.goal 70))) (sym c.deref.ensures.value)
+    (inl (starts (512 * c.args.chunks) c.args.goal 70 c.in_ok-words.words.items c.in_ok-items.items.items c.in_ok-heap.heap (let f = c.requires.few in omega arith) (omega arith) w.0 w.1 w.2 x.0 x.1 p.region p.goal p.empty))

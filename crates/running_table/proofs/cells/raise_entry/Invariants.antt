@@ -1,4 +1,0 @@
-use Rattle.running_table.proofs.cells.raise_entry.Given as goal
-
-abbrev pub ghosts-raise_entry_as : goal.ghosts-raise_entry_as
-ghosts-raise_entry_as a = record { number = a._page }

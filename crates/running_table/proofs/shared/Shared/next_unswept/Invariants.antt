@@ -1,5 +1,0 @@
-use Rattle.running_table.specs.Scanned.{SeesTo}
-use Rattle.running_table.proofs.shared.Shared.next_unswept.Given as goal
-
-abbrev pub invariant-loop-index : goal.invariant-loop-index
-invariant-loop-index l = SeesTo l.fn.from l.index l.fn.w l.w

@@ -1,4 +1,0 @@
-use Rattle.running_table.proofs.words.word_of_page.Goals as goal
-
-pub returns : goal.returns
-returns c = c.page_word.ensures 0

@@ -1,0 +1,18 @@
+use Rattle.std.proofs.Common.{arith, ◌∙◌, ℕ, sym, ap, subst}
+use mathlib.Core.Option.{none}
+use Rattle.atomic_table.specs.Table.{Allows, step}
+use Rattle.span_laws.specs.Views.{span_of}
+use Rattle.span_laws.specs.declared.view.Span.{Span as SpanSeen}
+use Rattle.span_table.specs.Plays.{Released}
+use Rattle.span_table.specs.Turning.{Ruled}
+use Rattle.span_table.proofs.Storing.{release_allowed, was_lent}
+use Rattle.span_table.proofs.caches.release_as.Goals as goal
+
+pub store-requires : goal.store-requires
+store-requires g c = let t = c.shared.invariant in let words = t.words in let slots = t.slots in let key = t.key_is in let few = t.few in let p = c.word_of_page-place.ensures in let s = c.shared.inside.table.shared in let m = c.args.seat.now in let r = c.requires in
+    let same = r.table ∙ sym c.shared.view_is in let many = ap (λ z. z.slots) same in let region = r.region.0 in let low = r.region.1 in (
+      same,
+      omega arith,
+      subst (λ (z : ℕ × SpanSeen). Allows (Ruled s.key.pages) s.table_id.slots m.id m.me z.0 (λ _. c.args.generation) (λ _. Released z.1 (step s.table_id.slots z.0 (c.args.generation) 0 none) m.me (c.args.generation))) (λ i. (sym p i, sym r.picked i))
+          (release_allowed s.key.pages s.table_id.slots m.id m.me (span_of c.args.body.now) c.args.generation r.out r.generation r.sweeping (was_lent m.me.0.view.own c.args.body.now r.lent) r.marks),
+    )

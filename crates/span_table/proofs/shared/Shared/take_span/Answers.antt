@@ -1,0 +1,39 @@
+use Rattle.std.proofs.Common.{◌≡◌, ℕ, List, sym, ap, ◌∙◌, subst}
+use Rattle.page_alloc.specs.FreeRuns.{HasNoRun}
+use Rattle.page_alloc.specs.Journal.{Legal}
+use Rattle.page_alloc.proofs.BlocksOut.{more-cycle}
+use Rattle.page_alloc.proofs.Lives.{span_pages}
+use Rattle.page_bitmap.specs.declared.line.Line.{Line}
+use Rattle.span_laws.specs.TakeAnswers.{cycle_at}
+use Rattle.span_laws.specs.declared.said.Said.TheVariants.{Misses}
+use Rattle.span_laws.specs.OwnSteps.{after_said}
+use Rattle.span_laws.specs.Views.{Seen}
+use Rattle.span_table.specs.Known.{known}
+use Rattle.span_table.specs.Seats.{SeatState, locks, says, unlocks}
+use Rattle.span_table.proofs.shared.Shared.take_span.Goals as goal
+
+pub take-requires-clause-some : goal.take-requires-clause-some
+take-requires-clause-some g c = span_pages c.args.class c.args.n c.requires.size
+
+pub take-requires-clause-blocks : goal.take-requires-clause-blocks
+take-requires-clause-blocks g c = more-cycle c.lock-heap.result c.reserve_line.new.self _ c.reserve_line.ensures.same c.lock-heap.ensures.heap.legal
+
+pub returns-in-Err : goal.returns-in-Err
+returns-in-Err g c =
+    let h = c.lock-heap.result in let seen = c.lock-heap.ensures.heap in let more = c.reserve_line.ensures.same in let s = c.w.inside.seat.me.0 in
+    let locked : c.lock-heap.new.seat.me.0 ≡ locks h s = ap (λ (z : SeatState). z.0) c.lock-heap.ensures.view in
+    let viewed : c.unlock_missed.new.seat.me.0 ≡ unlocks (says (Misses c.in-Err.none.line (cycle_at s.view.generation) c.args.n c.args.class) (locks h s)) =
+    ap (λ (z : SeatState). z.0) c.unlock_missed.ensures.view ∙ (λ i. unlocks (says (Misses c.in-Err.none.line (cycle_at (locked i).view.generation) c.args.n c.args.class) (locked i))) in
+    let now : known c.unlock_missed.new.seat.table_id c.unlock_missed.new.seat.me.0 ≡ after_said (Misses c.in-Err.none.line (cycle_at c.args.w.now.view.generation) c.args.n c.args.class) c.args.w.now =
+    (λ i. known ((c.unlock_missed.ensures.table ∙ c.lock-heap.ensures.table) i) (viewed i)) ∙ ap (λ (k : Seen). after_said (Misses c.in-Err.none.line (cycle_at k.view.generation) c.args.n c.args.class) k) c.w.view_is in
+    let region = more.region ∙ seen.region ∙ ap (λ (k : Seen). k.view.region) c.w.view_is in let goal = more.goal ∙ seen.goal ∙ ap (λ (k : Seen). k.view.goal) c.w.view_is in (
+      now,
+      (
+        c.reserve_line.new.self.past,
+        sym c.in-Err.ensures.line,
+        (
+          subst (λ (z : ℕ × ℕ × List Line). Legal z.0 z.1 z.2) (λ j. ((sym more.region ∙ region) j, (sym more.goal ∙ goal) j, sym more.past j)) seen.legal,
+          subst (λ (r : ℕ). HasNoRun r c.reserve_line.new.self.past c.args.n) region c.in-Err.ensures.missed.may_follow.1,
+        ),
+      ),
+    )

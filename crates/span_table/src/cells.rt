@@ -1,0 +1,174 @@
+//! Cells of sets, and the entries of unswept sets: no slot moves.
+ghost use Rattle.std.specs.Prelude.{◌≡◌, ℕ, ◌+◌, ◌*◌, ◌<◌, ◌≤◌, ◌==◌, true, false, Some};
+ghost use Rattle.sweep_laws.specs.Reading.{is_swept_set};
+ghost use Rattle.span_laws.specs.Answers.{RaisesUnswept};
+ghost use Rattle.span_laws.specs.Logs.{is_look};
+ghost use Rattle.span_laws.specs.Views.{has_cell};
+ghost use Rattle.worker_log.specs.Entries.{many};
+ghost use Rattle.table_words.specs.Names.{head_tail};
+ghost use Rattle.span_laws.specs.OwnSteps.{after_said};
+ghost use Rattle.span_table.specs.Plays.{CellAt, RaisesEntryBy};
+ghost use Rattle.span_table.specs.Seats.{says};
+
+use crate::caches::check;
+use crate::plays::{Fill, LookBeyond, LookCell, Numbered, OfCell, RaiseEntry};
+use crate::shared::{Shared, Worker};
+use crate::view::{Item, SeatView};
+use crate::words::{halves, word_of_cell, word_of_set};
+use atomic_table::Seat;
+use span_laws::Said;
+use std::marker::Brand;
+use table_words::head_tail as join_halves;
+
+fn look_beyond_as<J: OfCell>(
+    shared: &Shared,
+    seat: &mut Seat<Item, SeatView>,
+    _set: u32,
+    _index: u32,
+)
+    requires table { seat.old.table_id ≡ shared.now }
+    requires out { seat.old.me.0.out ≡ true }
+    requires cell { (J.set < 544) × (seat.old.table_id.slots ≤ J.index + 1) }
+    ensures table { seat.new.table_id ≡ seat.old.table_id }
+    ensures view { CellAt J.set J.index 0 seat.old.me seat.new.me }
+{
+    let table = &shared.table;
+    table.shared.load::<LookBeyond<J>>(seat, 1);
+}
+
+// A cell beyond the region, which nobody claims, is told as one that holds 0.
+fn look_beyond(shared: &Shared, seat: &mut Seat<Item, SeatView>, set: u32, index: u32)
+    requires table { seat.old.table_id ≡ shared.now }
+    requires out { seat.old.me.0.out ≡ true }
+    requires cell { (set < 544) × (seat.old.table_id.slots ≤ index + 1) }
+    ensures table { seat.new.table_id ≡ seat.old.table_id }
+    ensures view { CellAt set index 0 seat.old.me seat.new.me }
+{
+    look_beyond_as::<Brand>(shared, seat, set, index);
+}
+
+// The load of a cell.
+fn look_inside(shared: &Shared, seat: &mut Seat<Item, SeatView>, set: u32, index: u32) -> u64
+    requires table { seat.old.table_id ≡ shared.now }
+    requires out { seat.old.me.0.out ≡ true }
+    requires cell { (set < 544) × (index + 1 < seat.old.table_id.slots) }
+    ensures table { seat.new.table_id ≡ seat.old.table_id }
+    ensures view { CellAt set index result seat.old.me seat.new.me }
+{
+    let table = &shared.table;
+    let place = word_of_cell(shared.chunks, set, index);
+    table.shared.load::<LookCell>(seat, place)
+}
+
+// The store in the cell of the worker's own claim.
+fn fill(shared: &Shared, seat: &mut Seat<Item, SeatView>, set: u32, index: u32, page: u32)
+    requires table { seat.old.table_id ≡ shared.now }
+    requires out { seat.old.me.0.out ≡ true }
+    requires cell { (set < 544) × (index + 1 < seat.old.table_id.slots) }
+    requires claimed { seat.old.me.0.view.own.claimed ≡ Some (record { set = set; index = index; page = page }) }
+    ensures table { seat.new.table_id ≡ seat.old.table_id }
+    ensures view { seat.new.me ≡ (says (Said.Fills set page) seat.old.me.0, seat.old.me.1) }
+{
+    let table = &shared.table;
+    let place = word_of_cell(shared.chunks, set, index);
+    table.shared.store::<Fill>(seat, place, u64::from(page) + 1);
+}
+
+fn raise_entry_as<J: Numbered>(
+    shared: &Shared,
+    seat: &mut Seat<Item, SeatView>,
+    set: u32,
+    head: u32,
+    tail: u32,
+    _page: u32,
+) -> u64
+    requires table { seat.old.table_id ≡ shared.now }
+    requires out { seat.old.me.0.out ≡ true }
+    requires set { set < 544 }
+    requires part { is_swept_set seat.old.me.0.view.generation set ≡ false }
+    requires order { head < tail }
+    requires read { has_cell set head J.number seat.old.me.0.view.own.read ≡ true }
+    ensures table { seat.new.table_id ≡ seat.old.table_id }
+    ensures view { RaisesEntryBy (result == head_tail head tail) set J.number result seat.old.me seat.new.me }
+{
+    let table = &shared.table;
+    let place = word_of_set(shared.chunks, set);
+    let old = join_halves(head, tail);
+    table
+        .shared
+        .compare_exchange::<RaiseEntry<J>>(seat, place, old, old + (1 << 32))
+}
+
+// Raises the head of an unswept set by one where head and tail are these still.
+fn raise_entry(
+    shared: &Shared,
+    seat: &mut Seat<Item, SeatView>,
+    set: u32,
+    head: u32,
+    tail: u32,
+    page: u32,
+) -> u64
+    requires table { seat.old.table_id ≡ shared.now }
+    requires out { seat.old.me.0.out ≡ true }
+    requires set { set < 544 }
+    requires part { is_swept_set seat.old.me.0.view.generation set ≡ false }
+    requires order { head < tail }
+    requires read { has_cell set head page seat.old.me.0.view.own.read ≡ true }
+    ensures table { seat.new.table_id ≡ seat.old.table_id }
+    ensures view { RaisesEntryBy (result == head_tail head tail) set page result seat.old.me seat.new.me }
+{
+    raise_entry_as::<Brand>(shared, seat, set, head, tail, page)
+}
+
+impl Shared {
+    /// A cell of a set: a first page plus 1, or 0 where it is not filled. Below a tail that the worker saw, the cells of an unswept
+    /// set are filled. Takes no memory, and waits for nobody.
+    pub fn look_cell(&self, w: &mut Worker, set: u32, index: u32) -> u64
+        requires table { w.old.table ≡ self.now }
+        requires set { set < 544 }
+        ensures view { w.new ≡ after_said (Said.LooksCell set index result) w.old }
+        ensures filled { is_swept_set w.old.view.generation set ≡ false → (h t : ℕ) → 0 < many (is_look set h t) w.old.view.own.log → index < t → 0 < result }
+        ensures low { result ≤ 65536 }
+    {
+        if index >= 512 * self.chunks {
+            look_beyond(self, &mut w.seat, set, index);
+            return 0;
+        }
+        look_inside(self, &mut w.seat, set, index)
+    }
+
+    /// Fills the cell of the worker's own claim, and lets go of the span. Takes no memory, and waits for nobody.
+    pub fn fill_cell(&self, w: &mut Worker, set: u32, index: u32, page: u32)
+        requires table { w.old.table ≡ self.now }
+        requires claimed { w.old.view.own.claimed ≡ Some (record { set = set; index = index; page = page }) }
+        ensures { w.new ≡ after_said (Said.Fills set page) w.old }
+    {
+        check(self, &mut w.seat);
+        fill(self, &mut w.seat, set, index, page);
+    }
+
+    /// Pops the entry at the head of an unswept set, where head and tail are these still. It asks for the page that the worker read
+    /// in the cell at that head. Else the head and the tail that were found. Takes no memory, and waits for nobody.
+    pub fn raise_unswept(
+        &self,
+        w: &mut Worker,
+        set: u32,
+        head: u32,
+        tail: u32,
+        page: u32,
+    ) -> Result<(), (u32, u32)>
+        requires table { w.old.table ≡ self.now }
+        requires set { set < 544 }
+        requires part { is_swept_set w.old.view.generation set ≡ false }
+        requires order { head < tail }
+        requires read { has_cell set head page w.old.view.own.read ≡ true }
+        ensures { RaisesUnswept set head tail page w.old w.new result }
+    {
+        let word = raise_entry(self, &mut w.seat, set, head, tail, page);
+        let (found_head, found_tail) = halves(word);
+        if found_head != head || found_tail != tail {
+            return Err((found_head, found_tail));
+        }
+        Ok(())
+    }
+}
