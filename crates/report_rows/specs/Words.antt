@@ -38,7 +38,7 @@ marking events ids rest = record { events = events; mark = Some (record { distan
 
 -- A trace of so many chunks and processors, with this goal.
 abbrev pub region : ℕ → ℕ → ℕ → List Cycle → Trace
-region chunks procs goal cycles = record { header = record { chunks = chunks; procs = procs; rate = 0; seed = 1; goal = goal }; cycles = cycles }
+region chunks procs goal cycles = record { header = record { version = 1; chunks = chunks; procs = procs; rate = 0; seed = 1; goal = goal }; cycles = cycles }
 
 -- A trace of one chunk, with so many processors and this goal.
 abbrev pub heap : ℕ → ℕ → List Cycle → Trace

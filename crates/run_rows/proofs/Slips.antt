@@ -232,7 +232,7 @@ pub no-scavenged : ¬ IsScavenged 8 0 (past_after cycle1)
 unfolding Lists.count_below
 no-scavenged s = elim s [
   | inl few ↦ (let few' : 7 ≤ 0 = few in absurd (omega arith))
-  | inr none ↦ none 3 (omega arith) (refl, refl)
+  | inr none ↦ none 3 (omega arith) (record { owner = refl; cached = refl }, refl)
 ]
 
 -- ---- beginnings
