@@ -1,7 +1,8 @@
 //! Where scavenging stops, over one chunk.
 
-ghost use Rattle.std.specs.Prelude.{IfOk};
+ghost use Rattle.std.specs.Prelude.{[], ◌≡◌, IfOk};
 ghost use Rattle.span_laws.specs.Asks.{IsAtWork};
+ghost use Rattle.page_alloc.specs.Blocks.{open_blocks};
 ghost use Rattle.page_alloc.specs.Journal.{IsBy};
 
 use super::*;
@@ -59,7 +60,8 @@ fn taken_pages_stay_backed(rt: HostRuntime) -> Result<(), Fail> {
 
 /// Pages 0 to 127 of one chunk, taken and given back.
 fn freed(alloc: Global, goal: u32) -> Result<Pages, Fail>
-    ensures { IfOk result (λ pages. IsBy 0 pages.past) }
+    ensures by { IfOk result (λ pages. IsBy 0 pages.past) }
+    ensures blocks { IfOk result (λ pages. open_blocks pages.past ≡ []) }
 {
     let mut pages = Pages::new(alloc, 1, goal)?;
     pages.reserve_line()?;
