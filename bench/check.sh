@@ -60,12 +60,6 @@ run_pieces_1() { ./goheap check --pieces=1 <"$folder/$1.pair" >/dev/null; }
 run_pieces_4() { ./goheap check --pieces=4 <"$folder/$1.pair" >/dev/null; }
 run_whole() { run_check "$1"; }
 
-# peak WORD..: the most kilobytes that `goheap` with these words has at once on the large pair.
-peak() {
-  /usr/bin/time -f %M -o "$folder/peak" ./goheap "$@" <"$folder/large.pair" >/dev/null
-  tail -n 1 "$folder/peak"
-}
-
 for ((round = 0; round < rounds; round++)); do
   for command in read whole pieces_1 pieces_4; do
     time_of $command large
@@ -75,10 +69,10 @@ read=$(median read large)
 whole=$(median whole large)
 awk -v read="$read" -v whole="$whole" \
   'BEGIN { printf "check: %.3f s, of which reading %.3f s (%.2f), judging %.3f s\n", whole / 1e6, read / 1e6, read / whole, (whole - read) / 1e6 }'
-memory=$(peak check)
+memory=$(peak large.pair check)
 for pieces in 1 4; do
   time=$(median pieces_$pieces large)
-  awk -v pieces=$pieces -v time="$time" -v read="$read" -v whole="$whole" -v peak="$(peak check --pieces=$pieces)" -v memory="$memory" 'BEGIN {
+  awk -v pieces=$pieces -v time="$time" -v read="$read" -v whole="$whole" -v peak="$(peak large.pair check --pieces=$pieces)" -v memory="$memory" 'BEGIN {
     printf "check --pieces=%d: judging %.3f s, ratio %.2f; memory %d KB, ratio %.2f\n",
       pieces, (time - read) / 1e6, (time - read) / (whole - read), peak, peak / memory
   }'

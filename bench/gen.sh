@@ -1,7 +1,7 @@
 #!/usr/bin/env bash
 # What `goheap gen` costs, beside `cat` and an awk line that print the same bytes, in one run on one machine. Each time is
 # the least wall-clock time of nine, of 1,000,000 objects unless OBJECTS says otherwise; the memory is the most that the
-# program had, beyond that of one object.
+# program had, beyond that of one object. And what `goheap demo` of 100,000 objects costs.
 set -euo pipefail
 
 cd "$(dirname "$(readlink -f "$0")")/.."
@@ -12,6 +12,7 @@ trap 'rm -f "$text" "$text.peak"' EXIT
 ./goheap gen 1 "$objects" >"$text"
 
 gen() { ./goheap gen 1 "$objects"; }
+demo() { ./goheap demo 1 100000; }
 by_cat() { cat "$text"; }
 by_awk() { awk '{ print }' "$text"; }
 
@@ -39,3 +40,4 @@ awk -v objects="$objects" -v bytes="$(wc -c <"$text")" -v gen="$(time_of gen)" -
   printf "ratio to an awk line that prints each line: %.2f\n", gen / awk
   printf "memory: %.1f bytes an object\n", (all - one) / objects
 }'
+awk -v demo="$(time_of demo)" 'BEGIN { printf "demo of 100000 objects: %.3f s\n", demo / 1000000 }'

@@ -1,6 +1,6 @@
 #!/usr/bin/env bash
 # What mark ends cost `goheap run`, measured in one run on one machine. Each time is the median of five, less the median
-# of five for a trace without objects.
+# of five for a trace without objects; the instructions are those that callgrind counts, less those of that trace.
 set -eu
 
 . "$(dirname "$(readlink -f "$0")")/timing.sh"
@@ -43,4 +43,7 @@ awk -v without="$(net without)" -v hundred="$(net hundred)" -v many="$(net many)
   printf "1,000,000 objects without mark ends: %.0f ns an object\n", without / 1000
   printf "with 100 mark ends: %.0f ns an object, %.2f times as much\n", hundred / 1000, hundred / without
   printf "with 10,000 mark ends over a small heap: %.2f s\n", many / 1000000
+}'
+awk -v many="$(instructions many)" -v empty="$(instructions empty)" 'BEGIN {
+  printf "a cycle of 100 objects on 128 chunks with its mark end: %.2f million instructions\n", (many - empty) / 10000 / 1000000
 }'

@@ -1,20 +1,24 @@
 #!/usr/bin/env bash
-# real.sh TRACE: what `goheap run` costs on any trace that it accepts, measured in one run on one machine: its instructions
-# a line, as callgrind counts them, its time beside `wc -l` and an awk sum of one field, and what mark ends cost, as the
-# instructions of 1,000,000 objects with 100 mark ends beside those of the same objects without. Each time is the median
-# of 25, less the median of 25 for a trace without objects. AWK names the awk to be measured beside (default: awk);
-# mawk takes two thirds of gawk's time, and half of the original awk's.
+# real.sh [TRACE]: what `goheap run` costs on any trace that it accepts (default: that of gofmt under examples/real), measured in one run
+# on one machine: its instructions a line, as callgrind counts them, with those of reading alone, its time beside `wc -l` and an awk sum of
+# one field, and what mark ends cost, as the instructions of 1,000,000 objects with 100 mark ends beside those of the same objects without.
+# Each time is the median of 25, less the median of 25 for a trace without objects. AWK names the awk to be measured beside (default: awk).
 set -eu
 
-[ $# = 1 ] || { echo "usage: bench/real.sh TRACE" >&2; exit 2; }
-trace=$(readlink -f "$1")
+[ $# -le 1 ] || { echo "usage: bench/real.sh [TRACE]" >&2; exit 2; }
+trace=${1:+$(readlink -f "$1")}
 . "$(dirname "$(readlink -f "$0")")/timing.sh"
 awk=${AWK:-awk}
 rounds=25
-program=crates/goheap/out/goheap
 
-cp "$trace" "$folder/real"
-(head -2 "$trace"; echo end) >"$folder/empty"
+if [ -n "$trace" ]; then
+  cp "$trace" "$folder/real"
+else
+  python3 -c 'import lzma, shutil, sys; shutil.copyfileobj(lzma.open(sys.argv[1]), sys.stdout.buffer)' examples/real/gofmt.trace.xz >"$folder/real"
+fi
+(head -2 "$folder/real"; echo end) >"$folder/empty"
+# All is read of a trace whose last line is malformed, and nothing is run.
+sed '$ s/.*/x/' "$folder/real" >"$folder/unread"
 
 # objects EVERY: 1,000,000 objects of 1 to 512 bytes on 128 chunks, with a mark end after each EVERY of them (none for 0)
 # that marks the first 1000 objects and the 4000 last ones.
@@ -42,12 +46,6 @@ run_awk() { "$awk" '{ s += $3 } END { print s }' <"$folder/$1" >/dev/null; }
 
 net() { echo $(($(median "$1" real) - $(median "$1" empty))); }
 
-# The instructions of a run.
-instructions() {
-  valgrind --tool=callgrind --callgrind-out-file="$folder/callgrind" "$program" run <"$folder/$1" 2>&1 >/dev/null |
-    sed -n 's/.*Collected : //p'
-}
-
 run_goheap real # refused, if it is, before anything is timed
 for ((round = 0; round < rounds; round++)); do
   for tool in wc awk goheap; do
@@ -56,9 +54,9 @@ for ((round = 0; round < rounds; round++)); do
   done
 done
 
-lines=$(wc -l <"$trace")
-awk -v lines="$lines" -v real="$(instructions real)" -v goheap="$(net goheap)" -v wc="$(net wc)" -v awk="$(net awk)" 'BEGIN {
-  printf "goheap run on %d lines: %.3f s, %.0f instructions a line\n", lines, goheap / 1000000, real / lines
+lines=$(wc -l <"$folder/real")
+awk -v lines="$lines" -v real="$(instructions real)" -v unread="$(instructions unread)" -v goheap="$(net goheap)" -v wc="$(net wc)" -v awk="$(net awk)" 'BEGIN {
+  printf "goheap run on %d lines: %.3f s, %.0f instructions a line, %.0f of them for reading\n", lines, goheap / 1000000, real / lines, unread / lines
   printf "ratio to wc -l: %.2f\n", goheap / wc
   printf "ratio to an awk sum of the sizes: %.2f\n", goheap / awk
 }'

@@ -1,6 +1,7 @@
 #!/usr/bin/env bash
-# Measures `goheap run` beside `wc -l` and an awk sum, in one run on one machine, and how its time grows with the trace.
-# Each time is the median of nine, less the median of nine for a trace without objects.
+# Measures `goheap run` beside `wc -l` and an awk sum, in one run on one machine, and how its time and its instructions grow with the trace.
+# Each time is the median of nine, less the median of nine for a trace without objects, whose own time and memory are told as well; the
+# instructions are those that callgrind counts for 100,000 objects, less those of a trace without objects.
 set -eu
 
 . "$(dirname "$(readlink -f "$0")")/timing.sh"
@@ -56,12 +57,6 @@ for ((round = 0; round < rounds; round++)); do
   done
 done
 
-# The most memory that the program had, in bytes.
-peak() {
-  /usr/bin/time -f %M -o "$folder/peak" ./goheap run <"$folder/$1" >/dev/null
-  echo $(($(cat "$folder/peak") * 1024))
-}
-
 awk -v goheap="$(net goheap small_sizes 1000000)" -v wc="$(net wc small_sizes 1000000)" -v awk="$(net awk small_sizes 1000000)" 'BEGIN {
   printf "goheap run on 1,000,000 objects: %.3f s\n", goheap / 1000000
   printf "ratio to wc -l: %.2f\n", goheap / wc
@@ -73,6 +68,12 @@ for kind in $kinds; do
       'BEGIN { printf "%s, %d objects: %.0f ns an object\n", kind, objects, 1000 * time / objects }'
   done
 done
-empty=$(peak small_sizes.0)
-full=$(peak small_sizes.1000000)
-awk -v bytes=$((full - empty)) 'BEGIN { printf "memory: %.1f bytes an object beyond an empty trace\n", bytes / 1000000 }'
+for kind in $kinds; do
+  awk -v kind=$kind -v all="$(instructions $kind.100000)" -v none="$(instructions $kind.0)" \
+    'BEGIN { printf "%s, 100000 objects: %.0f instructions an object\n", kind, (all - none) / 100000 }'
+done
+empty=$(peak small_sizes.0 run)
+awk -v large="$(median goheap small_sizes.0)" -v one="$(median goheap misses.0)" -v peak=$empty -v least="$(peak misses.0 run)" 'BEGIN {
+  printf "an empty trace of 128 chunks: %.2f s, %.0f MB; of one chunk: %.3f s, %.0f MB\n", large / 1000000, 1024 * peak / 1000000, one / 1000000, 1024 * least / 1000000
+}'
+awk -v kilobytes=$(($(peak small_sizes.1000000 run) - empty)) 'BEGIN { printf "memory: %.1f bytes an object beyond an empty trace\n", 1024 * kilobytes / 1000000 }'

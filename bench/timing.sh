@@ -15,3 +15,17 @@ time_of() {
 
 # median COMMAND NAME: the median of the microseconds noted.
 median() { sort -n "$folder/$1.$2.times" | sed -n "$((($(wc -l <"$folder/$1.$2.times") + 1) / 2))p"; }
+
+# instructions NAME [WORD]: those of a call of the program on NAME, with this word (default: run), as callgrind counts them.
+instructions() {
+  valgrind --tool=callgrind --callgrind-out-file="$folder/callgrind" crates/goheap/out/goheap "${2:-run}" <"$folder/$1" 2>&1 >/dev/null |
+    sed -n 's/.*Collected : //p'
+}
+
+# peak NAME WORD..: the most kilobytes that a call of goheap with these words has at once on NAME.
+peak() {
+  local input=$folder/$1
+  shift
+  /usr/bin/time -f %M -o "$folder/peak" ./goheap "$@" <"$input" >/dev/null
+  tail -n 1 "$folder/peak"
+}

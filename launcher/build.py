@@ -1,9 +1,9 @@
 #!/usr/bin/env python3
 """Proves and builds the program, and says how far it is. Called by `goheap` alone.
 
-Usage: build.py CRATE...           proves these crates, the program first, as many side by side as there are processors, and builds it
-       build.py --minutes CRATE... says how many minutes that takes here if nothing is kept
-       build.py --chain CRATE...   prints the longest chain of these crates, each with the minutes of its proof
+Usage: build.py CRATE...                        proves these crates, the program first, as many side by side as there are processors, and builds it
+       build.py --minutes PROGRAM [PROCESSORS]  says how many minutes that takes here, or on so many processors, if nothing is kept
+       build.py --chain PROGRAM                 prints the longest chain of crates up to it, each with the minutes of its proof
 
 It works on a copy of the crates that the program stands on, under the user's folder of caches, so that no other crate is proved, and that
 work in the checkout goes on meanwhile. What was proved there stays, and a later build proves what has changed and what stands on it.
@@ -45,11 +45,20 @@ def minutes_of_proofs():
         return {it[1]: float(it[2]) for it in map(re.compile(r"\| `(\w+)` \| ([0-9.]+) \|").match, file) if it}
 
 
+def crates_below(program):
+    """The program and the crates that it stands on, by the lines of crates.txt; the toolchain's own are none of them."""
+    lines, found = lines_of_crates(), [program]
+    for name in found:
+        found += [it for it in lines[name][0] if it in lines and it not in found]
+    return found
+
+
 class Work:
     """What is still to be proved, in processor minutes."""
 
-    def __init__(self, names):
+    def __init__(self, names, side_by_side):
         lines, costs = lines_of_crates(), minutes_of_proofs()
+        self.lanes = side_by_side
         self.costs = {name: costs.get(name, 0.5) for name in names}
         self.below = {name: [it for it in lines[name][0] if it in self.costs] for name in names}
         self.whole, self.done, self.started = sum(self.costs.values()), set(), time.monotonic()
@@ -65,9 +74,9 @@ class Work:
         """The minutes until all is proved: what is left over the processors, and no less than its longest chain, at the pace so far."""
         known, passed = {}, (time.monotonic() - self.started) / 60
         done = sum(self.costs[it] for it in self.done)
-        left = max((self.whole - done) / lanes(), max(self.chain(it, known) for it in self.costs))
+        left = max((self.whole - done) / self.lanes, max(self.chain(it, known) for it in self.costs))
         # (as docs/gate.md has it until some crates are through)
-        return left * (passed * lanes() + 8) / (done + 8)
+        return left * (passed * self.lanes + 8) / (done + 8)
 
     def line(self):
         return f"goheap: proved {len(self.done)} of {len(self.costs)} crates, about {round(self.minutes()) or 1} minutes left"
@@ -100,7 +109,7 @@ def copy_crates(names, tree):
 
 def prove(names, tree):
     """Proves the crates of the copy, lowest first and side by side, and returns whether all passed."""
-    work, ended, said = Work(names), threading.Event(), []
+    work, ended, said = Work(names, lanes()), threading.Event(), []
     telling = threading.Thread(target=show, args=(work, ended))
     telling.start()
     words = ["rt", "all", "check", "--jobs", str(lanes())]
@@ -147,12 +156,11 @@ def build(names):
 
 
 def main(words):
-    work = Work(words[1:]) if words[0] in ("--minutes", "--chain") else None
     if words[0] == "--minutes":
-        print(round(work.minutes()))
+        print(round(Work(crates_below(words[1]), int(words[2]) if words[2:] else lanes()).minutes()))
         return 0
     if words[0] == "--chain":
-        known, name = {}, words[1]
+        work, known, name = Work(crates_below(words[1]), 1), {}, words[1]
         while name:
             print(f"{name} {work.costs[name]}")
             name = max(work.below[name], key=lambda it: work.chain(it, known), default=None)
