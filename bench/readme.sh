@@ -24,6 +24,7 @@ row() {
       else if (match($0, /  +/)) { what = substr($0, 1, RSTART - 1); value = substr($0, RSTART + RLENGTH) }
       else { what = $0; value = "" }
       gsub(/  +/, " / ", value)
+      if (what == "") what = "(columns)"
       print "| " what " | " value " | `" script "` |"
       fflush()
     }'

@@ -74,6 +74,7 @@ for kind in $kinds; do
 done
 empty=$(peak small_sizes.0 run)
 awk -v large="$(median goheap small_sizes.0)" -v one="$(median goheap misses.0)" -v peak=$empty -v least="$(peak misses.0 run)" 'BEGIN {
-  printf "an empty trace of 128 chunks: %.2f s, %.0f MB; of one chunk: %.3f s, %.0f MB\n", large / 1000000, 1024 * peak / 1000000, one / 1000000, 1024 * least / 1000000
+  printf "an empty trace of 128 chunks: %.2f s, %.0f MB\n", large / 1000000, 1024 * peak / 1000000
+  printf "an empty trace of one chunk: %.3f s, %.0f MB\n", one / 1000000, 1024 * least / 1000000
 }'
 awk -v kilobytes=$(($(peak small_sizes.1000000 run) - empty)) 'BEGIN { printf "memory: %.1f bytes an object beyond an empty trace\n", 1024 * kilobytes / 1000000 }'
