@@ -8,17 +8,17 @@ use Rattle.trace_reader.specs.declared.fault.TraceFault.TheVariants.{ReadFault, 
 use Rattle.report_text.specs.declared.fault.ReportFault.{ReportFault}
 use Rattle.report_text.specs.declared.fault.ReportFault.TheVariants.{ReadFault as Unread, Malformed as OddLine, Truncated as EndsEarly, Limit as TooLong, NoMemory as OutOfMemory}
 use Rattle.report_check.specs.Fault.{BreaksRules, MeetsChecked}
-use Rattle.check_input.specs.declared.stop.Stop.{Stop}
-use Rattle.check_input.specs.declared.stop.Stop.TheVariants.{Trace as OfTrace, Report as OfReport, Verdict as OfVerdict}
-use Rattle.check_input.specs.declared.stop.Verdict.TheVariants.{Broken, NoMemory as NoRoom}
-use Rattle.check_input.specs.Judged.{IsSound, Stops}
-use Rattle.check_input.specs.Pair.{BreaksOff, IsReadFault, Refuses}
+use Rattle.commands.specs.declared.stop.Stop.{Stop}
+use Rattle.commands.specs.declared.stop.Stop.TheVariants.{Trace as OfTrace, Report as OfReport, Verdict as OfVerdict}
+use Rattle.commands.specs.declared.stop.Verdict.TheVariants.{Broken, NoMemory as NoRoom}
+use Rattle.commands.specs.Judged.{IsSound, Stops}
+use Rattle.commands.specs.Pair.{BreaksOff, IsReadFault, Refuses}
 use Rattle.trace_reader.specs.Told.{IsOfTrace}
 use Rattle.report_text.specs.Read.{IsOfReport}
 use Rattle.alloc_tool.specs.Checked.{BreaksAt, Checked, check_text}
-use Rattle.stop_lines.specs.Stopped.{stop_status, stop_text}
-use Rattle.stop_lines.specs.Texts.{report_fault_text, rule_text, status_text}
-use Rattle.stop_lines.specs.Told.{Tells}
+use Rattle.commands.specs.Stopped.{stop_status, stop_text}
+use Rattle.commands.specs.Texts.{report_fault_text, rule_text, status_text}
+use Rattle.commands.specs.Told.{Tells}
 
 clash : (s k n : ℕ) → (k ≡ n → ⊥) → s ≡ k → s ≡ n → ⊥
 clash s k n apart e f = apart (sym e ∙ f)

@@ -5,10 +5,10 @@ use Rattle.edge_io.specs.Causes.{Rose}
 use Rattle.edge_io.specs.Front.{AppendsFront}
 use Rattle.trace_reader.specs.declared.trace.Trace.{Trace}
 use Rattle.cycle_history.specs.declared.Report.{Report}
-use Rattle.demo_lines.specs.Summary.{summary_text}
+use Rattle.commands.specs.Summary.{summary_text}
 use Rattle.alloc_tool.specs.Demo.{Demos}
-use Rattle.stop_lines.specs.Texts.{status_text, write_fault}
-use Rattle.stop_lines.specs.Told.{Tells}
+use Rattle.commands.specs.Texts.{status_text, write_fault}
+use Rattle.commands.specs.Told.{Tells}
 use Rattle.alloc_tool.specs.Top.{IsAnswer}
 
 clash : (s k l : ℕ) → (k ≡ l → ⊥) → s ≡ k → s ≡ l → ⊥

@@ -3,7 +3,7 @@ use Rattle.std.proofs.Common.{◌≡◌, ◌≢◌, refl}
 use Rattle.trace_reader.specs.declared.fault.TraceFault.{TraceFault}
 use Rattle.trace_reader.specs.declared.fault.TraceFault.TheVariants.{ReadFault, Malformed, Truncated, Limit, BadMark, NoMemory}
 use Rattle.trace_reader.specs.Told.{IsOfTrace}
-use Rattle.stop_lines.specs.Texts.{fault_status, fault_text, status_text}
+use Rattle.commands.specs.Texts.{fault_status, fault_text, status_text}
 
 -- status 5 is that of a read fault alone
 pub is_read_fault : (fault : TraceFault) → fault_status fault ≡ 5 → fault ≡ ReadFault

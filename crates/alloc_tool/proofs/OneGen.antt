@@ -1,8 +1,8 @@
 -- A word with a seed and a number of objects.
 use Rattle.std.proofs.Common.{◌≡◌, ℕ, List, [], ◌∷◌, length, get_or, Option, Some, None, MatchOption, refl, arith, String, string_bytes}
 use Rattle.std.specs.declared.alloc.Global.{Global}
-use Rattle.made_lines.specs.Asks.{Asks}
-use Rattle.made_lines.specs.declared.wanted.Wanted.{Wanted}
+use Rattle.commands.specs.Asks.{Asks}
+use Rattle.commands.specs.declared.wanted.Wanted.{Wanted}
 use Rattle.alloc_tool.specs.Words.{IsSeeded}
 
 pub gen_asked : (word : List ℕ) (words : List (String Global)) (a b c : String Global) → length words ≡ 3 → string_bytes a ≡ word → a ≡ get_or words 0 a → b ≡ get_or words 1 b → c ≡ get_or words 2 c

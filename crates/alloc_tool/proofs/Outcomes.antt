@@ -12,8 +12,8 @@ use Rattle.cycle_history.specs.Objects.{Object}
 use Rattle.cycle_history.specs.Orders.{AreRisingProfile}
 use Rattle.cycle_history.specs.Sound.{HasProfileIn, IsSoundAndUsed}
 use Rattle.cycle_history.specs.Text.{report_text}
-use Rattle.stop_lines.specs.Texts.{fault_status, fault_text, status_text, write_fault}
-use Rattle.stop_lines.specs.Told.{Tells}
+use Rattle.commands.specs.Texts.{fault_status, fault_text, status_text, write_fault}
+use Rattle.commands.specs.Told.{Tells}
 use Rattle.whole_trace.specs.BrokenOff.{BreaksOff}
 use Rattle.whole_trace.specs.Refused.{IsRefused}
 use Rattle.alloc_tool.specs.Top.{IsAnswer}

@@ -3,13 +3,13 @@ use Rattle.std.proofs.Common.{◌≡◌, ◌≢◌, ℕ, List, [], ◌∷◌, Op
 use Rattle.std.specs.declared.alloc.Global.{Global}
 use Rattle.edge_io.specs.Causes.{Rose}
 use Rattle.edge_io.specs.Front.{AppendsFront}
-use Rattle.class_lines.specs.Text.{classes_text}
-use Rattle.made_lines.specs.Asks.{made_text}
-use Rattle.heap_lines.specs.Heaped.{Heaped}
+use Rattle.commands.specs.Classes.{classes_text}
+use Rattle.commands.specs.Asks.{made_text}
+use Rattle.commands.specs.Heaped.{Heaped}
 use Rattle.alloc_tool.specs.Checked.{Checked}
 use Rattle.alloc_tool.specs.Plain.{Plain, Writes}
-use Rattle.stop_lines.specs.Texts.{status_text, usage, write_fault}
-use Rattle.stop_lines.specs.Told.{Tells}
+use Rattle.commands.specs.Texts.{status_text, usage, write_fault}
+use Rattle.commands.specs.Told.{Tells}
 use Rattle.alloc_tool.specs.Words.{IsCheck, IsClasses, IsGen, IsHeap}
 use Rattle.alloc_tool.proofs.Asked.{one_seeded}
 

@@ -16,8 +16,8 @@ use Rattle.report_text.specs.Read.{IsText}
 use Rattle.report_text.proofs.Refused.{not_refused_law}
 use Rattle.report_text.proofs.Unique.{one_report}
 use Rattle.report_check.specs.Fault.{BreaksRules, MeetsChecked}
-use Rattle.check_input.specs.Pair.{ArePair, IsReportFault, IsTraceFault}
-use Rattle.heap_lines.specs.Heaped.{Heaped}
+use Rattle.commands.specs.Pair.{ArePair, IsReportFault, IsTraceFault}
+use Rattle.commands.specs.Heaped.{Heaped}
 use Rattle.alloc_tool.specs.Checked.{BreaksAt, Checked}
 use Rattle.alloc_tool.specs.Top.{IsUndisturbed}
 use Rattle.alloc_tool.proofs.Unbroken.{sound_unbroken}

@@ -10,11 +10,11 @@ use Rattle.cycle_history.specs.declared.Report.{Report}
 use Rattle.report_text.specs.declared.fault.ReportFault.{ReportFault}
 use Rattle.report_text.specs.Read.{IsOfReport}
 use Rattle.report_check.specs.Fault.{BreaksRules, MeetsChecked}
-use Rattle.check_input.specs.declared.stop.Stop.TheVariants.{Trace as OfTrace, Report as OfReport}
-use Rattle.check_input.specs.Judged.{IsSound}
-use Rattle.check_input.specs.Pair.{ArePair, BreaksOff, ReadsPair, Refuses}
-use Rattle.stop_lines.specs.Texts.{fault_text, report_fault_text, rule_text, status_text}
-use Rattle.stop_lines.specs.Told.{Tells}
+use Rattle.commands.specs.declared.stop.Stop.TheVariants.{Trace as OfTrace, Report as OfReport}
+use Rattle.commands.specs.Judged.{IsSound}
+use Rattle.commands.specs.Pair.{ArePair, BreaksOff, ReadsPair, Refuses}
+use Rattle.commands.specs.Texts.{fault_text, report_fault_text, rule_text, status_text}
+use Rattle.commands.specs.Told.{Tells}
 
 -- the line and its line feed that `check` writes where the report is sound
 abbrev pub check_text : List ℕ

@@ -5,9 +5,9 @@ use Rattle.edge_io.specs.Causes.{Rose}
 use Rattle.edge_io.specs.Front.{AppendsFront}
 use Rattle.trace_reader.specs.declared.trace.Trace.{Trace}
 use Rattle.cycle_history.specs.declared.Report.{Report}
-use Rattle.demo_lines.specs.Summary.{summary_text}
-use Rattle.stop_lines.specs.Texts.{status_text}
-use Rattle.stop_lines.specs.Told.{Tells}
+use Rattle.commands.specs.Summary.{summary_text}
+use Rattle.commands.specs.Texts.{status_text}
+use Rattle.commands.specs.Told.{Tells}
 use Rattle.alloc_tool.specs.Top.{IsAnswer}
 
 -- What each status says of the output and of what is told on the errors. `held` and `shown` give the bytes of the two streams

@@ -3,8 +3,8 @@ use Rattle.std.specs.Prelude.{◌≡◌, ◌≢◌, ℕ, Bool, List, Option}
 use Rattle.edge_io.specs.Causes.{Rose}
 use Rattle.trace_reader.specs.declared.fault.TraceFault.{TraceFault}
 use Rattle.trace_reader.specs.Told.{IsOfTrace}
-use Rattle.stop_lines.specs.Texts.{fault_text, status_text}
-use Rattle.stop_lines.specs.Told.{Tells}
+use Rattle.commands.specs.Texts.{fault_text, status_text}
+use Rattle.commands.specs.Told.{Tells}
 use Rattle.whole_trace.specs.BrokenOff.{BreaksOff}
 use Rattle.whole_trace.specs.Refused.{IsRefused}
 use Rattle.alloc_tool.specs.Top.{AnswersAll, AnswersFront}

@@ -4,12 +4,12 @@ use Rattle.std.specs.declared.alloc.Global.{Global}
 use Rattle.std.specs.Io.KnownBytes.{Appends}
 use Rattle.edge_io.specs.Causes.{Rose}
 use Rattle.edge_io.specs.Front.{AppendsFront}
-use Rattle.class_lines.specs.Text.{classes_text}
-use Rattle.made_lines.specs.Asks.{made_text}
-use Rattle.heap_lines.specs.Heaped.{Heaped}
+use Rattle.commands.specs.Classes.{classes_text}
+use Rattle.commands.specs.Asks.{made_text}
+use Rattle.commands.specs.Heaped.{Heaped}
 use Rattle.alloc_tool.specs.Checked.{Checked}
-use Rattle.stop_lines.specs.Texts.{status_text, usage}
-use Rattle.stop_lines.specs.Told.{Tells}
+use Rattle.commands.specs.Texts.{status_text, usage}
+use Rattle.commands.specs.Told.{Tells}
 use Rattle.alloc_tool.specs.Words.{IsCheck, IsClasses, IsGen, IsHeap}
 
 -- In all of these `left`, `held` and `shown` give the bytes of the three streams where they tell them, and `reads`, `writes` and

@@ -1,7 +1,7 @@
 -- Which words the program takes.
 use Rattle.std.specs.Prelude.{◌≡◌, ℕ, ◌^◌, ◌<◌, ◌≤◌, Bool, List, [], ◌∷◌, map, codes, decimal, String, string_bytes}
 use Rattle.std.specs.declared.alloc.Global.{Global}
-use Rattle.run_words.specs.Options.{AreOfRun, IsRun as AreRun}
+use Rattle.commands.specs.Options.{AreOfRun, IsRun as AreRun}
 
 -- the words are this one word
 abbrev pub IsWord : List ℕ → List (String Global) → Type 0

@@ -3,14 +3,13 @@
 ghost use Rattle.trace_gen.specs.Made.{made_trace};
 ghost use Rattle.alloc_tool.specs.Demo.{Demos};
 
-use check_input::{Stop, Verdict};
-use demo_lines::{SummaryFault, write_summary};
+use commands::{
+    Stop, SummaryFault, Verdict, Wanted, refuse_pair, refuse_trace, stop_writing, write_summary,
+};
 use edge_io::{Gate, Sink};
 use heap_run::{Options, run_trace};
-use made_lines::Wanted;
 use std::alloc::Global;
 use std::sync::Wait;
-use stop_lines::{refuse_pair, refuse_trace, stop_writing};
 use trace_gen::{a_made_trace_is_within_limits, make_trace};
 use trace_reader::TraceFault;
 

@@ -1,14 +1,13 @@
 //! The word `gen`: a made trace in place of one that is read; and the words that ask for one.
 
 ghost use Rattle.std.specs.Prelude.{ℕ, MatchOption};
-ghost use Rattle.made_lines.specs.Asks.{made_text};
+ghost use Rattle.commands.specs.Asks.{made_text};
 ghost use Rattle.alloc_tool.specs.Plain.{Writes};
 ghost use Rattle.alloc_tool.specs.Words.{IsSeeded};
 
+use commands::{MadeFault, Wanted, read_words, refuse_trace, stop_writing, write_made};
 use edge_io::Sink;
-use made_lines::{MadeFault, Wanted, read_words, write_made};
 use std::alloc::Global;
-use stop_lines::{refuse_trace, stop_writing};
 use trace_reader::TraceFault;
 
 /// The made trace that the words ask for, if they are this word, `SEED` and `OBJECTS`.

@@ -4,21 +4,20 @@ ghost use Rattle.std.specs.Prelude.{◌≡◌, ◌≤◌, ◌⊎◌, IfErr, OnOk
 ghost use Rattle.std.specs.Io.KnownBytes.{Appends};
 ghost use Rattle.edge_io.specs.Causes.{Rose};
 ghost use Rattle.edge_io.specs.Front.{AppendsFront};
-ghost use Rattle.check_input.specs.Judged.{IsSound, Stops};
-ghost use Rattle.check_input.specs.Pair.{BreaksOff, HasReadCause, IsReadFault};
+ghost use Rattle.commands.specs.Judged.{IsSound, Stops};
+ghost use Rattle.commands.specs.Pair.{BreaksOff, HasReadCause, IsReadFault};
 ghost use Rattle.report_check.specs.Fault.{BreaksRules, MeetsChecked};
 ghost use Rattle.alloc_tool.specs.Checked.{Checked, check_text};
-ghost use Rattle.stop_lines.specs.Texts.{status_text};
-ghost use Rattle.stop_lines.specs.Told.{Tells};
+ghost use Rattle.commands.specs.Texts.{status_text};
+ghost use Rattle.commands.specs.Told.{Tells};
 
-use check_input::{Judge, Stop, Verdict, check_input, read_pair};
 use check_parallel::check_parallel;
+use commands::{Judge, Stop, Verdict, check_input, read_pair, refuse_pair, stop_writing};
 use cycle_history::Report;
 use edge_io::{Sink, Source, write_all};
 use report_check::CheckFault;
 use std::alloc::Global;
 use std::thread::Threads;
-use stop_lines::{refuse_pair, stop_writing};
 use trace_reader::Trace;
 
 /// The rules of a sound report.

@@ -11,5 +11,5 @@ mod generate;
 mod judging;
 mod top;
 
-pub use stop_lines::{refuse_trace, refuse_words};
+pub use commands::{refuse_trace, refuse_words};
 pub use top::{goheap, goheap_plain};

@@ -3,9 +3,9 @@
 ghost use Rattle.std.specs.Prelude.{◌≡◌, ◌≢◌, ◌≤◌, ◌↔◌, Bool, List, ℕ, IsTrue, Some};
 ghost use Rattle.trace_reader.specs.declared.trace.Trace.{Trace as ATrace};
 ghost use Rattle.trace_reader.specs.Limits.{Spells};
-ghost use Rattle.class_lines.specs.Text.{classes_text};
+ghost use Rattle.commands.specs.Classes.{classes_text};
 ghost use Rattle.trace_gen.specs.Made.{made_trace};
-ghost use Rattle.check_input.specs.Pieces.{AsksPieces};
+ghost use Rattle.commands.specs.Pieces.{AsksPieces};
 ghost use Rattle.alloc_tool.specs.Checked.{AcceptsSound, Checked};
 ghost use Rattle.alloc_tool.specs.Demo.{Demos};
 ghost use Rattle.alloc_tool.specs.Outcome.{Outcome};
@@ -16,17 +16,16 @@ ghost use Rattle.alloc_tool.specs.Words.{IsCheck, IsDemo, IsHeap, IsRun, IsRunWi
 use crate::demo::show_run;
 use crate::generate::{generate, wanted_by};
 use crate::judging::{judge_in_pieces, judge_report};
-use check_input::pieces_of;
-use class_lines::write_classes;
+use commands::{
+    are_of_run, pieces_of, read_options, refuse_trace, refuse_words, show_heap, stop_writing,
+    write_classes,
+};
 use edge_io::{Gate, NoMemory, Sink, Source};
-use heap_lines::show_heap;
 use heap_run::{Options, run_trace};
 use report_text::write_report;
-use run_words::{are_of_run, read_options};
 use std::alloc::Global;
 use std::sync::Wait;
 use std::thread::Threads;
-use stop_lines::{refuse_trace, refuse_words, stop_writing};
 use trace_reader::TraceFault;
 use whole_trace::read_whole;
 

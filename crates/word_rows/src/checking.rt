@@ -1,6 +1,6 @@
 //! Inputs in memory. The faults are found by hand from the rules of both formats.
 
-use check_input::{Stop, read_pair};
+use commands::{Stop, read_pair};
 use edge_io::{List, MemorySource};
 use report_text::ReportFault;
 use std::alloc::Global;

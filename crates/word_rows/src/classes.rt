@@ -1,6 +1,6 @@
 //! The lines over a sink in memory. They are those of the table of Go's `sizeclasses.go`.
 
-use class_lines::write_classes;
+use commands::write_classes;
 use edge_io::{List, MemorySink};
 use std::test::Fail;
 

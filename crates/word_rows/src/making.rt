@@ -1,7 +1,7 @@
 //! Words that ask for a made trace or not, and the text of one.
 
 use edge_io::{List, MemorySink};
-use made_lines::{read_words, write_made};
+use commands::{read_words, write_made};
 use std::test::Fail;
 
 #[test]

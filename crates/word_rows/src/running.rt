@@ -1,6 +1,6 @@
 //! Words that are those of `run` and words that are not.
 
-use run_words::{RunOptions, are_of_run, read_options};
+use commands::{RunOptions, are_of_run, read_options};
 use std::alloc::Global;
 use std::test::Fail;
 

@@ -1,5 +1,5 @@
 use Rattle.std.proofs.Common.{Err, ap}
-use Rattle.made_lines.specs.Asks.{made_text}
+use Rattle.commands.specs.Asks.{made_text}
 use Rattle.alloc_tool.proofs.Plain.{failed_writes, spent_writes}
 use Rattle.alloc_tool.proofs.generate.generate.Goals as goal
 

@@ -1,6 +1,6 @@
 use Rattle.std.proofs.lemmas.Result.{err_from_is_err_and}
 use Rattle.report_check.specs.Fault.{BreaksRules}
-use Rattle.check_input.proofs.Pairs.{stops_before}
+use Rattle.commands.proofs.Pairs.{stops_before}
 use Rattle.alloc_tool.proofs.judging.check_in_pieces.Goals as goal
 
 pub returns-in_err-trace-clause-stopped : goal.returns-in_err-trace-clause-stopped

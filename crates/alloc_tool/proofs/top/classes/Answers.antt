@@ -1,5 +1,5 @@
 use Rattle.alloc_tool.proofs.Plain.{failed_writes}
-use Rattle.class_lines.specs.Text.{classes_text}
+use Rattle.commands.specs.Classes.{classes_text}
 use Rattle.alloc_tool.proofs.top.classes.Goals as goal
 
 pub returns-in-Err-clause-writes : goal.returns-in-Err-clause-writes

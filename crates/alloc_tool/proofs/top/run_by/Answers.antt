@@ -1,6 +1,6 @@
 use Rattle.std.proofs.Common.{◌≡◌, ap, refl, sym, ◌∙◌, Err}
 use Rattle.trace_reader.specs.declared.fault.TraceFault.TheVariants.{NoMemory}
-use Rattle.stop_lines.specs.Texts.{fault_status}
+use Rattle.commands.specs.Texts.{fault_status}
 use Rattle.alloc_tool.proofs.Faults.{is_of_trace}
 use Rattle.alloc_tool.proofs.Outcomes.{profile_rises, refused_outcome, written_outcome}
 use Rattle.alloc_tool.proofs.top.run_by.Goals as goal

@@ -1,0 +1,14 @@
+pub mod Options
+pub mod RunWords
+pub mod HasRead
+pub mod Pieces
+pub mod Asks
+pub mod Classes
+pub mod Summary
+pub mod TellsBroken
+pub mod Pair
+pub mod Judged
+pub mod Texts
+pub mod Told
+pub mod Stopped
+pub mod Heaped

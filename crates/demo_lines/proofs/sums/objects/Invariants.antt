@@ -1,7 +1,0 @@
-use Rattle.std.proofs.Common.{◌≡◌, ◌*◌, ◌^◌, ◌≤◌, take}
-use Rattle.std.specs.List.{sum_by}
-use Rattle.demo_lines.specs.Summary.{objects_of}
-use Rattle.demo_lines.proofs.sums.objects.Given as goal
-
-abbrev pub invariant-loop-cycle : goal.invariant-loop-cycle
-invariant-loop-cycle l = record { so_far : l.sum ≡ sum_by objects_of (take l.cycle-index l.cycles); fits : l.sum ≤ l.cycle-index * 2 ^ 64 }

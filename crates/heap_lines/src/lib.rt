@@ -1,6 +1,0 @@
-//! What the word `heap` writes of a trace and its report.
-#![tactic(auto)]
-
-mod show;
-
-pub use show::show_heap;
