@@ -1,7 +1,7 @@
 //! Words that ask for a made trace or not, and the text of one.
 
-use edge_io::{List, MemorySink};
 use commands::{read_words, write_made};
+use edge_io::{List, MemorySink};
 use std::test::Fail;
 
 #[test]

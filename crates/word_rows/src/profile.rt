@@ -1,7 +1,7 @@
 //! Heap texts in memory. The expected ones are counted by hand from the rules of `docs/profile.md`.
 
-use edge_io::{Lines, List, MemorySink, MemorySource};
 use commands::show_heap;
+use edge_io::{Lines, List, MemorySink, MemorySource};
 use heap_text::{HeapLine, read_heap};
 use report_text::ReportFault;
 use std::alloc::Global;
