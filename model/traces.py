@@ -1,0 +1,77 @@
+"""Made-up traces of many shapes, the same at each run of a generator of random numbers with the same seed."""
+
+SIZES = [8, 16, 24, 48, 512, 1024, 2048, 3072, 4096, 9000, 30000, 32768]
+LARGE = [32769, 40000, 100000, 1000000, 5000000]
+DISTANCES = [1, 1048577, 1100000, 2000000, 10000000, 1 << 40]
+RATES = [0, 1, 100, 4096, 524288]
+
+
+def size_of(rng, common):
+    kind = rng.random()
+    if kind < 0.03:
+        return 0
+    if kind < 0.1:
+        return rng.choice(LARGE)
+    return rng.choice(common) if kind < 0.85 else rng.randrange(1, 32769)
+
+
+def mark_lines(marked):
+    """The `m` lines of these ids, a line for each run of neighbours."""
+    lines, ids = [], sorted(marked)
+    for at, one in enumerate(ids):
+        if at and ids[at - 1] == one - 1:
+            lines[-1][1] = one
+        else:
+            lines.append([one, one])
+    return [f"m {low} {high}" for low, high in lines]
+
+
+def made_trace(rng, chunk_counts=(1, 1, 1, 2, 3), proc_counts=(1, 1, 2, 3, 4, 64), alone=False):
+    """A trace with a number of chunks and of processors out of these. Where each is to work alone, the events of a cycle are of one
+    processor, and the goal is the whole region."""
+    chunks = rng.choice(chunk_counts)
+    procs = rng.choice(proc_counts)
+    goal = rng.choice([512 * chunks, 512 * chunks, 0, rng.randrange(512 * chunks + 1)])
+    if alone:
+        goal = 512 * chunks
+    rate, seed = rng.choice(RATES), rng.choice([0, 1, rng.randrange(2**64)])
+    lines = ["goheap 1", f"heap {chunks} procs {procs} rate {rate} seed {seed} goal {goal}"]
+    common = [rng.choice(SIZES) for _ in range(rng.randrange(1, 4))]
+    count, alive = 0, set()
+    for _ in range(rng.randrange(1, 8)):
+        fresh = rng.choice([0, 1, 5, 40, 300])
+        lines += events(rng, procs, common, fresh, alone)
+        share = rng.choice([0.0, 0.2, 0.5, 0.9, 1.0])
+        alive = {one for one in alive | set(range(count, count + fresh)) if rng.random() < share}
+        count += fresh
+        lines.append(f"gc {rng.choice(DISTANCES)}")
+        lines += mark_lines(alive)
+    lines += events(rng, procs, common, rng.choice([0, 3, 100]), alone)
+    return "\n".join(lines + ["end", ""])
+
+
+def events(rng, procs, common, count, alone):
+    """The `a` lines of a cycle: of one processor, or of any."""
+    one = rng.randrange(procs)
+    return [
+        f"a {one if alone else rng.randrange(procs)} {size_of(rng, common)} {rng.choice('sn')} {rng.randrange(10)}"
+        for _ in range(count)
+    ]
+
+
+def is_of_one_worker(trace, background):
+    """Whether in each cycle of a run at most one worker has anything to do, so that its report does not depend on the schedule: no
+    cycle has events of two processors, no background sweeper finds a span, and the scavenger's goal is never passed."""
+    lines = trace.split("\n")
+    chunks, goal = int(lines[1].split()[1]), int(lines[1].split()[-1])
+    if goal < 512 * chunks or (background and any(line.startswith("gc ") for line in lines)):
+        return False
+    procs = set()
+    for line in lines:
+        if line.startswith("a "):
+            procs.add(line.split()[1])
+        elif line.startswith("gc "):
+            procs.clear()
+        if len(procs) > 1:
+            return False
+    return True
