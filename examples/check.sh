@@ -1,32 +1,40 @@
 #!/usr/bin/env bash
-# Runs goheap on each trace of this folder, and compares what it prints with the report beside the trace, which it then has
-# judged; with `--each` it compares with the report that ends in `.each`, where there is one. A report with exchanged addresses must be
-# refused, and so must three that are no sound report of the smallest trace. Words that read nothing print the file of their name that ends in `.lines`, the same at each run and within a minute. Of the
-# recorded trace of a real program it compares the totals.
+# Runs goheap on each trace of this folder and has what it prints judged, and the report beside the trace as well. Without background
+# sweepers it compares the two, where one worker has each cycle to itself, so that every schedule gives the same report; with `--each`
+# it compares with the report that ends in `.each`, where there is one. A report with exchanged addresses must be refused, and so must
+# three that are no sound report of the smallest trace. Words that read nothing print the file of their name that ends in `.lines`, the
+# same at each run and within a minute. Of the recorded trace of a real program it compares the totals.
 set -u
 cd "$(dirname "$0")" || exit 1
 ../goheap --build || exit 1
 failed=0
+# Two processors have events in one cycle here: which of them comes first is the schedule's.
+several=' side-by-side two-processors '
+# judged NAME TRACE REPORT: the report must be a sound one of the trace.
+judged() {
+  if [ "$(cat "$2" "$3" | ../goheap check)" != "check ok" ]; then
+    echo "$1: refused" >&2
+    failed=1
+  fi
+}
 for trace in *.trace; do
-  if ! diff <(../goheap run <"$trace") "${trace%.trace}.report" >/dev/null; then
+  name=${trace%.trace}
+  if [[ $several != *" $name "* ]] && ! diff <(../goheap run --background=0 <"$trace") "$name.report" >/dev/null; then
     echo "$trace: another report" >&2
     failed=1
   fi
-  if [ "$(cat "$trace" "${trace%.trace}.report" | ../goheap check)" != "check ok" ]; then
-    echo "$trace: its report is refused" >&2
-    failed=1
-  fi
+  judged "$name.report" "$trace" "$name.report"
+  for background in 0 1 4; do
+    judged "$trace, $background background sweepers" "$trace" <(../goheap run --background=$background <"$trace")
+  done
 done
 for each in *.each; do
   trace=${each%.each}.trace
-  if ! diff <(../goheap run --each <"$trace") "$each" >/dev/null; then
+  if ! diff <(../goheap run --background=0 --each <"$trace") "$each" >/dev/null; then
     echo "$trace: another report with --each" >&2
     failed=1
   fi
-  if [ "$(cat "$trace" "$each" | ../goheap check)" != "check ok" ]; then
-    echo "$each: refused" >&2
-    failed=1
-  fi
+  judged "$each" "$trace" "$each"
 done
 if [ "$(cat pointers-apart.trace pointers-apart.exchanged | ../goheap check 2>&1)" != "goheap: report line 1: rule 4" ]; then
   echo "pointers-apart.exchanged: not refused by rule 4" >&2
