@@ -1,5 +1,5 @@
 -- What a sound report of a read trace gives the heap profile.
-use Rattle.std.proofs.Common.{◌≡◌, ℕ, List, length, map, reverse, sym, ap, ◌∙◌, arith}
+use Rattle.std.proofs.Common.{◌≡◌, List, length, sym, ap, ◌∙◌, arith}
 use Rattle.std.proofs.lemmas.List.{length-map, length-reverse}
 use Rattle.trace_reader.specs.declared.trace.Event.{Event}
 use Rattle.trace_reader.specs.declared.trace.Trace.{Trace}

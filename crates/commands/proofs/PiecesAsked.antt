@@ -1,5 +1,5 @@
 -- Words that ask for pieces.
-use Rattle.std.proofs.Common.{◌≡◌, ◌≢◌, ℕ, ◌^◌, ◌<◌, ◌≤◌, List, [], ◌∷◌, ◌++◌, length, get_or, false, ◌==◌, codes, decimal, Option, Some, None, MatchOption, String, string_bytes, sym, ◌∙◌, ap, ap₂, arith}
+use Rattle.std.proofs.Common.{◌≡◌, ◌≢◌, ℕ, ◌^◌, ◌<◌, ◌≤◌, List, [], ◌∷◌, ◌++◌, length, get_or, codes, decimal, Option, Some, None, MatchOption, String, string_bytes, sym, ◌∙◌, ap, ap₂, arith}
 use Rattle.std.specs.declared.alloc.Global.{Global}
 use Rattle.commands.specs.Pieces.{AsksPieces}
 use Rattle.commands.proofs.WholeNumber.{other_number}
