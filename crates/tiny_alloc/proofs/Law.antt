@@ -28,7 +28,7 @@ use Rattle.tiny_alloc.proofs.OfBase.{answer-at, request-at, based_request, marks
 
 -- ---- an object of the trace by its request and its answer
 
-object-is : (t : Trace) (answers : List Answer) (i : ℕ) (r : Request) (a : Answer) → slice_get (requests_from 0 t.cycles) i ≡ Some r → slice_get answers i ≡ Some a
+pub object-is : (t : Trace) (answers : List Answer) (i : ℕ) (r : Request) (a : Answer) → slice_get (requests_from 0 t.cycles) i ≡ Some r → slice_get answers i ≡ Some a
     → object_at t answers i ≡ tried (Some r) (Some a)
 object-is t answers i r a asked answered =
     ap (λ (x : Option Request). tried x (slice_get answers i)) asked ∙ ap (λ (x : Option Answer). tried (Some r) x) answered
@@ -39,7 +39,7 @@ pub record IsAsked (t : Trace) (answers : List Answer) (i : ℕ) : Type 0 where
   pub asked : slice_get (requests_from 0 t.cycles) i ≡ Some request
   pub cycle : (object_at t answers i).cycle ≡ request.cycle
 
-asked-is : (t : Trace) (answers : List Answer) (i : ℕ) → (object_at t answers i).tiny ≡ true → IsAsked t answers i
+pub asked-is : (t : Trace) (answers : List Answer) (i : ℕ) → (object_at t answers i).tiny ≡ true → IsAsked t answers i
 asked-is t answers i tiny = split (slice_get (requests_from 0 t.cycles) i) (slice_get answers i) refl refl tiny
   where
     split : (r : Option Request) (a : Option Answer) → slice_get (requests_from 0 t.cycles) i ≡ r → slice_get answers i ≡ a → (tried r a).tiny ≡ true → IsAsked t answers i

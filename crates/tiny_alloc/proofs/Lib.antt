@@ -2,3 +2,9 @@ pub mod Seats
 pub mod Leaders
 pub mod OfBase
 pub mod Law
+pub mod Spans
+pub mod Leads
+pub mod Requested
+pub mod Parted
+pub mod Listed
+pub mod Limited

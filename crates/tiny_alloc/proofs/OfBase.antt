@@ -56,7 +56,7 @@ end-at : (part : ℕ → Part) (a b : Option MarkEnd) → IsBasedEnd part a b �
 end-at part None None h i = ((λ x. absurd cc), (λ kept. elim kept [ inl x ↦ absurd cc | inr x ↦ (let y = x.3 in absurd cc) ]))
 end-at part None (Some b) h i = absurd h
 end-at part (Some a) None h i = absurd h
-end-at part (Some a) (Some b) h i = h.1 i
+end-at part (Some a) (Some b) h i = h.1.each i
 
 pub marks-at : (part : ℕ → Part) (n : ℕ) (cs ds : List Cycle) → AreBased part n cs ds → (c i : ℕ) → (is_within (spans_after c ds) i ≡ true) ↔ IsKept part (spans_after c cs) i
 marks-at part n [] [] are zero i = ((λ x. absurd cc), (λ kept. elim kept [ inl x ↦ absurd cc | inr x ↦ (let y = x.3 in absurd cc) ]))

@@ -1,5 +1,5 @@
 -- The base of a trace with its answers: each block of tiny objects is one object, the lead's, and its riders are nothing.
-use Rattle.std.specs.Prelude.{◌≡◌, ℕ, zero, suc, ◌+◌, true, List, [], ◌∷◌, ◌++◌, length, Option, Some, None, ◌⊎◌, ◌↔◌}
+use Rattle.std.specs.Prelude.{◌≡◌, ℕ, zero, suc, ◌+◌, ◌≤◌, true, List, [], ◌∷◌, ◌++◌, length, Option, Some, None, ◌⊎◌, ◌↔◌}
 use Rattle.object_spans.specs.declared.span.Span.{Span}
 use Rattle.trace_reader.specs.declared.trace.Trace.{Trace}
 use Rattle.trace_reader.specs.declared.trace.Cycle.{Cycle}
@@ -41,12 +41,22 @@ based_answers part n (a ∷ answers) = based_answer (part n) a ∷ based_answers
 abbrev pub IsKept : (ℕ → Part) → List Span → ℕ → Type 0
 IsKept part marks i = (is_within marks i ≡ true) ⊎ ((rider : ℕ) × (offset : ℕ) × (part rider ≡ Ride i offset) × (is_within marks rider ≡ true))
 
+-- Spans in the one spelling of what they have: each begins two or more above the end of the one before.
+abbrev pub AreSpaced : ℕ → List Span → Type 0
+AreSpaced from [] = Unit {0}
+AreSpaced from (s ∷ ss) = (from ≤ s.lo) × (s.lo ≤ s.hi) × (s.hi ≤ 999999) × AreSpaced (s.hi + 2) ss
+
+-- The marks of the base are the objects that these marks keep, in their one spelling.
+pub record AreBasedMarks (part : ℕ → Part) (marks based : List Span) : Type 0 where
+  pub spaced : AreSpaced 0 based
+  pub each : (i : ℕ) → (is_within based i ≡ true) ↔ IsKept part marks i
+
 -- A mark end of the base marks the objects that the trace's keeps.
 abbrev pub IsBasedEnd : (ℕ → Part) → Option MarkEnd → Option MarkEnd → Type 0
 IsBasedEnd part None None = Unit {0}
 IsBasedEnd part None (Some based) = ⊥
 IsBasedEnd part (Some end) None = ⊥
-IsBasedEnd part (Some end) (Some based) = (based.distance ≡ end.distance) × ((i : ℕ) → (is_within based.marks i ≡ true) ↔ IsKept part end.marks i)
+IsBasedEnd part (Some end) (Some based) = (based.distance ≡ end.distance) × AreBasedMarks part end.marks based.marks
 
 -- The cycles of the base are those of the trace, one for one, from object number n on.
 abbrev pub AreBased : (ℕ → Part) → ℕ → List Cycle → List Cycle → Type 0
@@ -70,9 +80,13 @@ riders_below part (suc n) = riders_below part n ++ rider_of n (part n)
 abbrev pub as_version_2 : Trace → Trace
 as_version_2 t = record t { header = record t.header { version = 2 } }
 
--- A trace of version 2 with answers and riders is the base of a trace and its answers.
-pub record IsBase (t : Trace) (answers : List Answer) (based : Based) : Type 0 where
+-- A trace of version 2 with answers and riders is the base of a trace and its answers, by the parts of the objects.
+pub record IsBaseBy (part : ℕ → Part) (t : Trace) (answers : List Answer) (based : Based) : Type 0 where
   pub header : based.trace.header ≡ (as_version_2 t).header
-  pub cycles : AreBased (part_at t answers) 0 t.cycles based.trace.cycles
-  pub printed : based.answers ≡ based_answers (part_at t answers) 0 answers
-  pub riders : based.riders ≡ riders_below (part_at t answers) (length answers)
+  pub cycles : AreBased part 0 t.cycles based.trace.cycles
+  pub printed : based.answers ≡ based_answers part 0 answers
+  pub riders : based.riders ≡ riders_below part (length answers)
+
+-- The base of a trace and its answers.
+abbrev pub IsBase : Trace → List Answer → Based → Type 0
+IsBase t answers based = IsBaseBy (part_at t answers) t answers based

@@ -9,12 +9,14 @@
 mod base;
 mod block;
 mod laws;
+mod marks;
 mod part;
+mod parts;
 #[cfg(test)]
 mod tests;
 mod tiny;
 
-pub use base::Based;
+pub use base::{Based, base_of};
 pub use block::BLOCK;
 pub use laws::{a_tiny_object_lies_in_its_block, tiny_objects_are_apart};
 pub use part::Rider;

@@ -1,0 +1,6 @@
+use Rattle.std.proofs.Common.{◌≡◌, length}
+use Rattle.tiny_alloc.proofs.parts.blocks_of.Given as goal
+
+-- as many as processors so far
+abbrev pub invariant-loop-_proc : goal.invariant-loop-_proc
+invariant-loop-_proc l = length l.blocks.items ≡ l._proc

@@ -1,0 +1,87 @@
+-- Where the trace itself has its answers, so has its base.
+use Rattle.std.proofs.Common.{◌≡◌, ℕ, ◌+◌, ◌<◌, ◌≤◌, Bool, true, false, ◌&&◌, ltb, not, cond, List, length, Option, Some, None, refl, sym, ◌∙◌, ap, subst, arith, inl, inr, ◌↔◌}
+use Rattle.std.specs.List.{slice_get}
+use Rattle.std.proofs.lemmas.Bool.{and_parts, ltb-true}
+use Rattle.std.proofs.lemmas.Option.{slice_get_within}
+use Rattle.trace_reader.specs.declared.trace.Trace.{Trace}
+use Rattle.trace_reader.specs.declared.trace.Event.{Event}
+use Rattle.trace_reader.specs.Limits.{events_of}
+use Rattle.cycle_history.specs.declared.Answer.{Answer}
+use Rattle.cycle_history.specs.declared.Answer.TheVariants.{Zero}
+use Rattle.cycle_history.specs.declared.Report.{Report}
+use Rattle.cycle_history.specs.Requests.{Request, requests_from}
+use Rattle.cycle_history.proofs.Counted.{get-some}
+use Rattle.report_rules.specs.Answers.{BreaksAnswers, IsRightAnswer}
+use Rattle.tiny_alloc.specs.declared.base.Based.{Based}
+use Rattle.tiny_alloc.specs.declared.block.Seat.{Seat}
+use Rattle.tiny_alloc.specs.declared.part.Part.{Part}
+use Rattle.tiny_alloc.specs.declared.part.Part.TheVariants.{Other, Lead, Ride}
+use Rattle.tiny_alloc.specs.Blocks.{seat_in}
+use Rattle.tiny_alloc.specs.Riders.{Tried, is_tiny, object_at, block_before, part_at, part_in}
+use Rattle.tiny_alloc.specs.Base.{based_answer, based_event, IsBase}
+use Rattle.tiny_alloc.specs.Sound.{based_report}
+use Rattle.tiny_alloc.proofs.Law.{object-is}
+use Rattle.tiny_alloc.proofs.OfBase.{answer-at, based_request, request-at}
+use Rattle.tiny_alloc.proofs.Listed.{answers-length}
+use Rattle.tiny_alloc.proofs.Limited.{events-many}
+use Rattle.tiny_check.specs.Answered.{IsAnswered}
+use Rattle.tiny_check.proofs.Made.{request-event, requests-length, zero-iff}
+
+-- ---- a lead is tiny, and so asks for some bytes
+
+lead-tiny : (o : Tried) (seat : Option Seat) → cond o.tiny (part_in seat) Other ≡ Lead → o.tiny ≡ true
+lead-tiny o seat h = split o.tiny refl h
+  where
+    split : (b : Bool) → o.tiny ≡ b → cond b (part_in seat) Other ≡ Lead → o.tiny ≡ true
+    split true e h = e
+    split false e h = absurd cc
+
+lead-some : (t : Trace) (answers : List Answer) (i : ℕ) (r : Request) (a : Answer) → slice_get (requests_from 0 t.cycles) i ≡ Some r → slice_get answers i ≡ Some a → part_at t answers i ≡ Lead → 0 < r.event.size
+lead-some t answers i r a asked answered is =
+    let o = object_at t answers i in
+    let tiny = lead-tiny o (seat_in (block_before (object_at t answers) o.proc o.cycle i) o.size) is in
+    let event : is_tiny r.event ≡ true = sym (ap (λ (x : Tried). x.tiny) (object-is t answers i r a asked answered)) ∙ tiny in
+    ltb-true 0 r.event.size (and_parts (ltb 0 r.event.size) (ltb r.event.size 16 && not r.event.scan) event).0
+
+-- ---- one answer
+
+zero-based : (part : Part) (e : Event) (a : Answer) → (a ≡ Zero) ↔ (e.size ≡ 0) → (part ≡ Lead → 0 < e.size) → (based_answer part a ≡ Zero) ↔ ((based_event part e).size ≡ 0)
+zero-based Other e a iff some = iff
+zero-based Lead e a iff some = ((λ z. (let none = iff.0 z in let lt = some refl in absurd (omega arith))), (λ none. absurd (omega arith)))
+zero-based (Ride lead offset) e a iff some = ((λ z. refl), (λ none. refl))
+
+some-answer : (a b : Answer) → Some a ≡ Some b → a ≡ b
+some-answer a b h = cc
+
+pub base-right : (t : Trace) (report : Report) (based : Based) → IsAnswered t report → IsBase t report.answers based
+    → (i : ℕ) (a : Answer) → slice_get based.answers i ≡ Some a → IsRightAnswer based.trace i a
+base-right t report based is base i a at =
+    let part = part_at t report.answers in
+    let size : length based.answers ≡ length report.answers = ap (λ (xs : List Answer). length xs) base.printed ∙ answers-length part 0 report.answers in
+    let within = slice_get_within based.answers i a at in
+    let own = get-some report.answers i (omega arith) in
+    let many = requests-length t in
+    let one = is.one in
+    let r = get-some (requests_from 0 t.cycles) i (omega arith) in
+    let answer : slice_get based.answers i ≡ Some (based_answer (part i) own.0) = ap (λ (xs : List Answer). slice_get xs i) base.printed ∙ answer-at part 0 report.answers i i own.0 (omega arith) own.1 in
+    let same : based_answer (part i) own.0 ≡ a = some-answer (based_answer (part i) own.0) a (sym answer ∙ at) in
+    let request = request-at part 0 0 t.cycles based.trace.cycles base.cycles i i r.0 (omega arith) r.1 in
+    let iff = zero-iff t i r.0 own.0 r.1 (is.right i own.0 own.1) in
+    record {
+      event = based_event (part i) r.0.event;
+      asked = request-event based.trace i (based_request (part i) r.0) request;
+      zero = subst (λ (x : Answer). (x ≡ Zero) ↔ ((based_event (part i) r.0.event).size ≡ 0)) same (zero-based (part i) r.0.event own.0 iff (lead-some t report.answers i r.0 own.0 r.1 own.1));
+    }
+
+-- so no line of the base's report breaks rule 1
+pub base-answered : (t : Trace) (report : Report) (based : Based) (line : ℕ) → IsAnswered t report → IsBase t report.answers based → ¬ BreaksAnswers based.trace (based_report report based) line
+base-answered t report based line is base breaks = elim breaks [
+  | inl w ↦ w.1.wrong (base-right t report based is base w.0 w.1.answer w.1.printed)
+  | inr e ↦ (
+      let part = part_at t report.answers in
+      let size : length based.answers ≡ length report.answers = ap (λ (xs : List Answer). length xs) base.printed ∙ answers-length part 0 report.answers in
+      let many = events-many part 0 t.cycles based.trace.cycles base.cycles in
+      let one = is.one in
+      let lt = e.0 in
+      absurd (omega arith))
+]

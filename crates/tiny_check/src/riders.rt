@@ -1,0 +1,49 @@
+//! Rule 10: the objects that ride in the blocks of others.
+
+ghost use Rattle.std.specs.Prelude.{◌≡◌, length, IfErr, MatchBool, OnOk};
+ghost use Rattle.report_check.specs.Fault.{IsFaultOf};
+ghost use Rattle.trace_reader.specs.declared.trace.Trace.{Trace as ATrace};
+ghost use Rattle.tiny_alloc.specs.Base.{riders_below};
+ghost use Rattle.tiny_alloc.specs.Riders.{part_at};
+ghost use Rattle.tiny_alloc.specs.Sound.{AreRiding};
+ghost use Rattle.tiny_check.specs.Fault.{BreaksRiding, IsRidingAt, placed_at};
+
+use cycle_history::Answer;
+use report_check::CheckFault;
+use tiny_alloc::Rider;
+
+/// Whether each of these riders, which are those of a trace with the answers, stands in its lead's block where it rides.
+pub(crate) fn judge_riders(answers: &[Answer], riders: &[Rider]) -> Result<(), CheckFault>
+    ensures riding { (t : ATrace) → riders.now ≡ riders_below (part_at t answers.now) (length answers.now) → OnOk result (AreRiding t answers.now) }
+    ensures fault { (t : ATrace) → riders.now ≡ riders_below (part_at t answers.now) (length answers.now) → IfErr result (IsFaultOf 10 (BreaksRiding t answers.now)) }
+{
+    for rider in riders {
+        if !is_riding(answers, *rider) {
+            return Err(CheckFault::Broken {
+                rule: 10,
+                line: u64::from(rider.object) + 1,
+            });
+        }
+    }
+    Ok(())
+}
+
+// Whether the rider's lead is placed, and the rider's address is the lead's plus its offset.
+fn is_riding(answers: &[Answer], rider: Rider) -> bool
+    ensures { MatchBool result (IsRidingAt answers.now rider.object rider.lead rider.offset) (¬ IsRidingAt answers.now rider.object rider.lead rider.offset) }
+{
+    match (address_at(answers, rider.lead), address_at(answers, rider.object)) {
+        (Some(start), Some(own)) => own >= start && own - start == u64::from(rider.offset),
+        _ => false,
+    }
+}
+
+// The address of an object, if it is placed.
+fn address_at(answers: &[Answer], object: u32) -> Option<u64>
+    ensures { result ≡ placed_at answers.now object }
+{
+    match answers.get(object as usize) {
+        Some(Answer::Placed(address)) => Some(*address),
+        _ => None,
+    }
+}
