@@ -1,6 +1,7 @@
 -- A base is within the limits of traces.
-use Rattle.std.proofs.Common.{◌≡◌, ℕ, zero, suc, ◌+◌, ◌^◌, ◌<◌, ◌≤◌, true, List, [], ◌∷◌, ◌++◌, length, take, Option, Some, None, MatchOption, refl, sym, ◌∙◌, ap, subst, arith, ◌⊎◌, inl, inr, length-append}
+use Rattle.std.proofs.Common.{◌≡◌, ℕ, zero, suc, ◌+◌, ◌^◌, ◌<◌, ◌≤◌, true, ◌&&◌, leb, List, [], ◌∷◌, ◌++◌, length, take, Option, Some, None, MatchOption, refl, sym, ◌∙◌, ap, subst, arith, ◌⊎◌, inl, inr, length-append}
 use Rattle.std.specs.List.{AllByRecursion, flat_map}
+use Rattle.std.proofs.lemmas.Bool.{or_cases, or_left, or_right}
 use Rattle.object_spans.specs.declared.span.Span.{Span}
 use Rattle.object_spans.specs.Rising.{AreSpans}
 use Rattle.trace_reader.specs.declared.trace.Trace.{Trace}
@@ -12,7 +13,6 @@ use Rattle.trace_reader.specs.Limits.{AreCycles, EventFits, HeaderFits, IsMarked
 use Rattle.cycle_history.specs.declared.Answer.{Answer}
 use Rattle.cycle_history.specs.Requests.{is_within, spans_of}
 use Rattle.cycle_history.specs.Before.{IsLimited, objects_before}
-use Rattle.cycle_history.proofs.Rising.{marked-within, within-marked}
 use Rattle.tiny_alloc.specs.declared.base.Based.{Based}
 use Rattle.tiny_alloc.specs.declared.part.Part.{Part}
 use Rattle.tiny_alloc.specs.declared.part.Part.TheVariants.{Other, Lead, Ride}
@@ -21,6 +21,7 @@ use Rattle.tiny_alloc.specs.Base.{as_version_2, based_event, based_events, AreBa
 use Rattle.tiny_alloc.proofs.Leaders.{rider, rider-leader}
 use Rattle.tiny_alloc.proofs.Law.{asked-is}
 use Rattle.tiny_alloc.proofs.Listed.{events-length}
+use Rattle.tiny_alloc.proofs.Spans.{covers-is, is-covers}
 use Rattle.tiny_alloc.proofs.Requested.{before, before-first, same-side}
 
 -- ---- spans
@@ -28,6 +29,20 @@ use Rattle.tiny_alloc.proofs.Requested.{before, before-first, same-side}
 spaced-rise : (from low : ℕ) (ss : List Span) → low ≤ from → AreSpaced from ss → AreSpans low ss
 spaced-rise from low [] le h = tt
 spaced-rise from low (s ∷ ss) le h = ((let a = h.0 in omega arith), h.1, h.2, spaced-rise (s.hi + 2) (s.hi + 1) ss (omega arith) h.3)
+
+marked-within : (ss : List Span) (i : ℕ) → is_within ss i ≡ true → IsMarked ss i
+marked-within [] i on = cc
+marked-within (s ∷ ss) i on = elim (or_cases (leb s.lo i && leb i s.hi) (is_within ss i) on) [
+  | inl here ↦ (let c = covers-is s i here in inl (c.low, c.high))
+  | inr there ↦ inr (marked-within ss i there)
+]
+
+within-marked : (ss : List Span) (i : ℕ) → IsMarked ss i → is_within ss i ≡ true
+within-marked [] i on = absurd on
+within-marked (s ∷ ss) i on = elim on [
+  | inl here ↦ or_left (leb s.lo i && leb i s.hi) (is_within ss i) (is-covers s i (record { low = here.0; high = here.1 }))
+  | inr there ↦ or_right (leb s.lo i && leb i s.hi) (is_within ss i) (within-marked ss i there)
+]
 
 -- ---- events
 

@@ -1,7 +1,7 @@
 -- The lists of a base, one item more at a time.
 use Rattle.std.proofs.Common.{◌≡◌, ℕ, zero, suc, ◌+◌, ◌<◌, ◌≤◌, true, List, [], ◌∷◌, ◌++◌, length, take, get_or, Option, Some, None, MatchOption, refl, sym, ◌∙◌, ap, subst, arith, ◌⊎◌, inl, inr, length-append}
 use Rattle.std.specs.List.{AllByRecursion, flat_map}
-use Rattle.std.proofs.lemmas.List.{append-nil, take_more}
+use Rattle.std.proofs.lemmas.List.{append-nil, get_or_default, length-take-le, take_more}
 use Rattle.object_spans.specs.declared.span.Span.{Span}
 use Rattle.trace_reader.specs.declared.trace.Trace.{Trace}
 use Rattle.trace_reader.specs.declared.trace.Cycle.{Cycle}
@@ -17,6 +17,7 @@ use Rattle.tiny_alloc.specs.declared.part.Part.TheVariants.{Other, Lead, Ride}
 use Rattle.tiny_alloc.specs.declared.part.Rider.{Rider}
 use Rattle.tiny_alloc.specs.Base.{based_event, based_events, based_answer, based_answers, AreBased, IsBaseBy, IsBasedEnd, IsKept, rider_of, riders_below}
 use Rattle.tiny_alloc.specs.Marks.{AreFair}
+use Rattle.tiny_alloc.specs.Parts.{part_by}
 use Rattle.tiny_alloc.proofs.Requested.{before}
 use Rattle.tiny_alloc.proofs.Spans.{spans-fair}
 
@@ -46,15 +47,46 @@ pub answers-length : (part : ℕ → Part) (n : ℕ) (answers : List Answer) →
 answers-length part n [] = refl
 answers-length part n (x ∷ answers) = ap suc (answers-length part (n + 1) answers)
 
+-- as many as items so far
+pub events-number : (part : ℕ → Part) (n k : ℕ) (es based : List Event) → based ≡ based_events part n (take k es) → k ≤ length es → length based ≡ k
+events-number part n k es based is le = ap (λ (xs : List Event). length xs) is ∙ events-length part n (take k es) ∙ length-take-le k es le
+
+pub answers-number : (part : ℕ → Part) (n k : ℕ) (answers based : List Answer) → based ≡ based_answers part n (take k answers) → k ≤ length answers → length based ≡ k
+answers-number part n k answers based is le = ap (λ (xs : List Answer). length xs) is ∙ answers-length part n (take k answers) ∙ length-take-le k answers le
+
+-- one more
+pub events-next : (parts : List Part) (n k number : ℕ) (es based new : List Event) (d x : Event) (p : Part) → k < length es → number < length parts → based ≡ based_events (part_by parts) n (take k es) → number ≡ n + k
+    → x ≡ based_event (get_or parts number p) (get_or es k d) → new ≡ based ++ x ∷ [] → new ≡ based_events (part_by parts) n (take (k + 1) es)
+events-next parts n k number es based new d x p lt inside old at item more =
+    let part = part_by parts in
+    let long = length-take-le k es (omega arith) in
+    let at' : number ≡ n + length (take k es) = omega arith in
+    let own : x ≡ based_event (part (n + length (take k es))) (get_or es k d) =
+    item ∙ ap (λ (y : Part). based_event y (get_or es k d)) (get_or_default parts number p Other inside) ∙ ap (λ (m : ℕ). based_event (part m) (get_or es k d)) at' in
+    more ∙ ap (λ (xs : List Event). xs ++ x ∷ []) old ∙ ap (λ (y : Event). based_events part n (take k es) ++ y ∷ []) own
+    ∙ sym (events-more part n (take k es) (get_or es k d)) ∙ ap (λ (ys : List Event). based_events part n ys) (sym (take_more es k d lt))
+
+pub answers-next : (parts : List Part) (n k number : ℕ) (answers based new : List Answer) (d x : Answer) (p : Part) → k < length answers → number < length parts → based ≡ based_answers (part_by parts) n (take k answers) → number ≡ n + k
+    → x ≡ based_answer (get_or parts number p) (get_or answers k d) → new ≡ based ++ x ∷ [] → new ≡ based_answers (part_by parts) n (take (k + 1) answers)
+answers-next parts n k number answers based new d x p lt inside old at item more =
+    let part = part_by parts in
+    let long = length-take-le k answers (omega arith) in
+    let at' : number ≡ n + length (take k answers) = omega arith in
+    let own : x ≡ based_answer (part (n + length (take k answers))) (get_or answers k d) =
+    item ∙ ap (λ (y : Part). based_answer y (get_or answers k d)) (get_or_default parts number p Other inside) ∙ ap (λ (m : ℕ). based_answer (part m) (get_or answers k d)) at' in
+    more ∙ ap (λ (xs : List Answer). xs ++ x ∷ []) old ∙ ap (λ (y : Answer). based_answers part n (take k answers) ++ y ∷ []) own
+    ∙ sym (answers-more part n (take k answers) (get_or answers k d)) ∙ ap (λ (ys : List Answer). based_answers part n ys) (sym (take_more answers k d lt))
+
 -- ---- riders
 
 pub riders-more : (part : ℕ → Part) (n lead offset : ℕ) (riders new : List Rider) → riders ≡ riders_below part n → part n ≡ Ride lead offset
     → new ≡ riders ++ record { object = n; lead = lead; offset = offset } ∷ [] → new ≡ riders_below part (n + 1)
 riders-more part n lead offset riders new old is more =
-    more ∙ ap (λ (xs : List Rider). xs ++ record { object = n; lead = lead; offset = offset } ∷ []) old ∙ ap (λ (x : Part). riders_below part n ++ rider_of n x) (sym is)
+    let e : suc n ≡ n + 1 = omega arith in
+    subst (λ (k : ℕ). new ≡ riders_below part k) e (more ∙ ap (λ (xs : List Rider). xs ++ record { object = n; lead = lead; offset = offset } ∷ []) old ∙ ap (λ (x : Part). riders_below part n ++ rider_of n x) (sym is))
 
 pub riders-same : (part : ℕ → Part) (n : ℕ) (riders : List Rider) → riders ≡ riders_below part n → ((lead offset : ℕ) → part n ≡ Ride lead offset → ⊥) → riders ≡ riders_below part (n + 1)
-riders-same part n riders old none = old ∙ sym (split (part n) refl)
+riders-same part n riders old none = let e : suc n ≡ n + 1 = omega arith in subst (λ (k : ℕ). riders ≡ riders_below part k) e (old ∙ sym (split (part n) refl))
   where
     split : (x : Part) → part n ≡ x → riders_below part n ++ rider_of n (part n) ≡ riders_below part n
     split Other e = ap (λ (y : Part). riders_below part n ++ rider_of n y) e ∙ append-nil (riders_below part n)
@@ -78,7 +110,7 @@ pub cycles-next : (part : ℕ → Part) (cycles ds : List Cycle) (k n : ℕ) (c 
     → d.events ≡ based_events part n c.events → IsBasedEnd part c.mark d.mark → AreBased part 0 (take (k + 1) cycles) (ds ++ d ∷ [])
 cycles-next part cycles ds k n c d lt is first old events mark =
     subst (λ (cs : List Cycle). AreBased part 0 cs (ds ++ d ∷ [])) (sym (take_more cycles k c lt ∙ ap (λ (x : Cycle). take k cycles ++ x ∷ []) (sym is)))
-    (cycles-more part 0 (take k cycles) ds c d old (subst (λ (m : ℕ). d.events ≡ based_events part m c.events) first events) mark)
+    (cycles-more part 0 (take k cycles) ds c d old (subst (λ (m : ℕ). d.events ≡ based_events part m c.events) (first ∙ omega arith) events) mark)
 
 -- ---- the marks of a trace within the limits
 
@@ -88,17 +120,14 @@ HasFair c = AreFair (spans_of c.mark)
 cycles-fair : (first : ℕ) (live : ℕ → Type 0) (cs : List Cycle) → AreCycles first live cs → AllByRecursion HasFair cs
 cycles-fair first live [] h = absurd h
 cycles-fair first live (c ∷ []) h = (subst (λ (m : Option MarkEnd). AreFair (spans_of m)) (sym h) tt, tt)
-cycles-fair first live (c ∷ d ∷ cs) h = split c.mark refl h
+cycles-fair first live (c ∷ d ∷ cs) h = split c.mark refl h (λ (m : MarkEnd) more. cycles-fair (first + length c.events) (IsMarked m.marks) (d ∷ cs) more)
   where
     split : (m : Option MarkEnd) → c.mark ≡ m
         → MatchOption m ⊥ (λ (x : MarkEnd). (1 ≤ x.distance) × (x.distance ≤ 1099511627776) × AreSpans 0 x.marks
             × ((i : ℕ) → IsMarked x.marks i → live i ⊎ ((first ≤ i) × (i < first + length c.events))) × AreCycles (first + length c.events) (IsMarked x.marks) (d ∷ cs))
-        → AllByRecursion HasFair (c ∷ d ∷ cs)
-    split None e h = absurd h
-    split (Some m) e h = (
-      subst (λ (x : Option MarkEnd). AreFair (spans_of x)) (sym e) (spans-fair 0 m.marks h.2),
-      cycles-fair (first + length c.events) (IsMarked m.marks) (d ∷ cs) h.4,
-    )
+        → ((x : MarkEnd) → AreCycles (first + length c.events) (IsMarked x.marks) (d ∷ cs) → AllByRecursion HasFair (d ∷ cs)) → AllByRecursion HasFair (c ∷ d ∷ cs)
+    split None e h rest = absurd h
+    split (Some m) e h rest = (subst (λ (x : Option MarkEnd). AreFair (spans_of x)) (sym e) (spans-fair 0 m.marks h.2), rest m h.4)
 
 pub cycle-fair : (cycles : List Cycle) (k : ℕ) (d : Cycle) → AreCycles 0 (λ _. ⊥) cycles → k < length cycles → AreFair (spans_of (get_or cycles k d).mark)
 cycle-fair cycles k d all lt = at cycles k (cycles-fair 0 (λ _. ⊥) cycles all) lt

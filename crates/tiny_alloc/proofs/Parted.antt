@@ -9,9 +9,11 @@ use Rattle.trace_reader.specs.declared.trace.Trace.{Trace}
 use Rattle.trace_reader.specs.declared.trace.Cycle.{Cycle}
 use Rattle.trace_reader.specs.declared.trace.Event.{Event}
 use Rattle.cycle_history.specs.declared.Answer.{Answer}
+use Rattle.cycle_history.specs.declared.Answer.TheVariants.{Zero}
 use Rattle.cycle_history.specs.Requests.{Request, requests_from}
 use Rattle.cycle_history.specs.Objects.{is_placed}
 use Rattle.cycle_history.specs.Before.{objects_before}
+use Rattle.tiny_alloc.specs.declared.block.Seat.{Seat}
 use Rattle.tiny_alloc.specs.declared.part.Part.{Part}
 use Rattle.tiny_alloc.specs.declared.part.Part.TheVariants.{Other, Lead, Ride}
 use Rattle.tiny_alloc.specs.Blocks.{Block, seat_in}
@@ -55,6 +57,11 @@ block-first t answers p c = no-block (object_at t answers) p c (objects_before t
 
 -- ---- one object more
 
+-- the cycle doesn't matter behind an object
+behind-any : (seat : Option Seat) (block : Option Block) (c n : ℕ) (e : Event) (placed : Bool) → behind_object seat block n (tried_of c e placed) ≡ behind_object seat block n (tried_of 0 e placed)
+behind-any None block c n e placed = refl
+behind-any (Some seat) block c n e placed = refl
+
 -- the block of its processor
 block-own : (object : ℕ → Tried) (c n : ℕ) (e : Event) (placed : Bool) (block : Option Block) → object n ≡ tried_of c e placed → block_before object e.proc c n ≡ block
     → block_before object e.proc c (suc n) ≡ next_block block n (tried_of 0 e placed)
@@ -62,7 +69,7 @@ block-own object c n e placed block is before = elim (cases_Bool (is_tiny e)) [
   | inl tiny ↦ (
       let of : is_of e.proc c (tried_of c e placed) ≡ true = rw (tiny, eq-eqb e.proc e.proc refl, eq-eqb c c refl) refl in
       rw (is, before) (cond-true (is_of e.proc c (tried_of c e placed)) (behind_object (seat_in block e.size) block n (tried_of c e placed)) block of
-      ∙ sym (cond-true (is_tiny e) (behind_object (seat_in block e.size) block n (tried_of 0 e placed)) block tiny)))
+      ∙ behind-any (seat_in block e.size) block c n e placed ∙ sym (cond-true (is_tiny e) (behind_object (seat_in block e.size) block n (tried_of 0 e placed)) block tiny)))
   | inr other ↦ (
       let of : is_of e.proc c (tried_of c e placed) ≡ false = rw other refl in
       rw (is, before) (cond-false (is_of e.proc c (tried_of c e placed)) (behind_object (seat_in block e.size) block n (tried_of c e placed)) block of
@@ -104,29 +111,57 @@ part-before [] part i lt = absurd (omega arith)
 part-before (x ∷ parts) part zero lt = refl
 part-before (x ∷ parts) part (suc i) lt = part-before parts part i (omega arith)
 
-pub parted-more : (t : Trace) (answers : List Answer) (c k : ℕ) (d : Cycle) (e : Event) (a : Answer) (blocks more : List (Option Block)) (parts new : List Part) (part : Part) (own next : Option Block)
-    → c < length t.cycles → k < length (get_or t.cycles c d).events → length parts ≡ objects_before t c + k → e ≡ get_or (get_or t.cycles c d).events k e → slice_get answers (length parts) ≡ Some a
-    → e.proc < length blocks → own ≡ get_or blocks e.proc None → part ≡ next_part own (tried_of 0 e (is_placed a)) → next ≡ next_block own (length parts) (tried_of 0 e (is_placed a))
+-- what is known of the next object: its number, its event among those of cycle c, whether it is placed, and its processor's block
+pub record IsNext (t : Trace) (answers : List Answer) (c k n : ℕ) (events : List Event) (e : Event) (placed : Bool) (blocks : List (Option Block)) (parts : List Part) : Type 0 where
+  pub cycle : c < length t.cycles
+  pub those : (d : Cycle) → events ≡ (get_or t.cycles c d).events
+  pub inside : k < length events
+  pub event : e ≡ get_or events k e
+  pub size : length parts ≡ objects_before t c + k
+  pub number : n ≡ length parts
+  pub answered : n < length answers
+  pub placed_is : (d : Answer) → placed ≡ is_placed (get_or answers n d)
+  pub proc : e.proc < length blocks
+
+next-object : (t : Trace) (answers : List Answer) (c k n : ℕ) (events : List Event) (e : Event) (placed : Bool) (blocks : List (Option Block)) (parts : List Part)
+    → IsNext t answers c k n events e placed blocks parts → object_at t answers n ≡ tried_of c e placed
+next-object t answers c k n events e placed blocks parts is =
+    let none : Cycle = record { events = []; mark = None } in
+    let a = get_or answers n Zero in
+    let those = is.those none in
+    let inside = is.inside in
+    let size = is.size in
+    let number = is.number in
+    let room : k < length (get_or t.cycles c none).events = (let same = ap (λ (es : List Event). length es) those in omega arith) in
+    object-of-cycle t answers c k n none e a is.cycle room (omega arith) (is.event ∙ ap (λ (es : List Event). get_or es k e) those) (slice_get-get_or answers n Zero is.answered)
+    ∙ ap (λ (b : Bool). tried_of c e b) (sym (is.placed_is Zero))
+
+pub parted-more : (t : Trace) (answers : List Answer) (c k n : ℕ) (events : List Event) (e : Event) (placed : Bool) (blocks more : List (Option Block)) (parts new : List Part) (part : Part) (next : Option Block)
+    → IsNext t answers c k n events e placed blocks parts → part ≡ next_part (get_or blocks e.proc None) (tried_of 0 e placed) → next ≡ next_block (get_or blocks e.proc None) n (tried_of 0 e placed)
     → more ≡ set blocks e.proc next → new ≡ parts ++ part ∷ [] → Parted t answers c blocks parts → Parted t answers c more new
-parted-more t answers c k d e a blocks more parts new part own next lt inside size is answered proc own-is part-is next-is set-is new-is old =
-    let n = length parts in
-    let object : object_at t answers n ≡ tried_of c e (is_placed a) = object-of-cycle t answers c k n d e a lt inside size is answered in
-    let before : block_before (object_at t answers) e.proc c n ≡ own = sym (old.current e.proc proc) ∙ sym own-is in
+parted-more t answers c k n events e placed blocks more parts new part next is part-is next-is set-is new-is old =
+    let object : object_at t answers n ≡ tried_of c e placed = next-object t answers c k n events e placed blocks parts is in
+    let at = is.number in
+    let own = get_or blocks e.proc None in
+    let before : block_before (object_at t answers) e.proc c n ≡ own = ap (λ (m : ℕ). block_before (object_at t answers) e.proc c m) at ∙ sym (old.current e.proc is.proc) in
     let long : length new ≡ suc n = ap (λ (xs : List Part). length xs) new-is ∙ length-append parts (part ∷ []) ∙ omega arith in
     record {
-      parts_are = λ i less. ap (λ (xs : List Part). get_or xs i Other) new-is ∙ elim (cases_lt i n) [
+      parts_are = λ i less. ap (λ (xs : List Part). get_or xs i Other) new-is ∙ elim (cases_lt i (length parts)) [
         | inl below ↦ part-before parts part i below ∙ old.parts_are i below
         | inr top ↦ (
-            let e' : i ≡ n = omega arith in
+            let e' : i ≡ length parts = omega arith in
+            let e'' : n ≡ i = omega arith in
             ap (λ (j : ℕ). get_or (parts ++ part ∷ []) j Other) e' ∙ part-last parts part ∙ part-is
-            ∙ sym (part-next (object_at t answers) c n e (is_placed a) own object before) ∙ ap (λ (j : ℕ). part_at t answers j) (sym e'))
+            ∙ sym (part-next (object_at t answers) c n e placed own object before) ∙ ap (λ (j : ℕ). part_at t answers j) e'')
       ];
-      current = λ p less. rw (long, set-is) (elim (cases_eq p e.proc) [
-        | inl same ↦ rw same (get_or-set_same blocks e.proc next None proc ∙ next-is ∙ sym (block-own (object_at t answers) c n e (is_placed a) own object before))
+      current = λ p less. ap (λ (xs : List (Option Block)). get_or xs p None) set-is ∙ elim (cases_eq p e.proc) [
+        | inl same ↦ subst (λ (q : ℕ). get_or (set blocks e.proc next) q None ≡ block_before (object_at t answers) q c (suc n)) (sym same)
+            (get_or-set_same blocks e.proc next None is.proc ∙ next-is ∙ sym (block-own (object_at t answers) c n e placed own object before))
         | inr other ↦ (
             let differ : (object_at t answers n).proc ≢ p = λ h. other (sym h ∙ ap (λ (o : Tried). o.proc) object) in
-            get_or-set_other blocks p e.proc next None other ∙ old.current p (let keeps = size-set in omega arith) ∙ sym (block-other (object_at t answers) p c n differ))
-      ]);
+            get_or-set_other blocks p e.proc next None other ∙ old.current p (let keeps = size-set in omega arith) ∙ ap (λ (m : ℕ). block_before (object_at t answers) p c m) (sym at)
+            ∙ sym (block-other (object_at t answers) p c n differ))
+      ] ∙ ap (λ (m : ℕ). block_before (object_at t answers) p c m) (sym long);
     }
   where
     size-set : length more ≡ length blocks

@@ -2,13 +2,17 @@
 use Rattle.std.proofs.Common.{◌≡◌, ℕ, zero, suc, ◌+◌, ◌-◌, ◌<◌, ◌≤◌, false, List, [], ◌∷◌, ◌++◌, length, map, take, get_or, Some, refl, sym, ◌∙◌, ap, subst, arith, inl, inr, length-append}
 use Rattle.std.specs.List.{flat_map, slice_get}
 use Rattle.std.proofs.lemmas.Bool.{cases_lt}
+use Rattle.std.proofs.lemmas.List.{get_or_default}
 use Rattle.trace_reader.specs.declared.trace.Trace.{Trace}
 use Rattle.trace_reader.specs.declared.trace.Cycle.{Cycle}
 use Rattle.trace_reader.specs.declared.trace.Event.{Event}
 use Rattle.cycle_history.specs.Requests.{Request, requests_from}
-use Rattle.cycle_history.specs.Before.{objects_before}
 use Rattle.cycle_history.proofs.Plain.{request_in}
-use Rattle.cycle_history.proofs.Firsts.{before-rise}
+use Rattle.trace_reader.specs.Limits.{EventFits, events_of}
+use Rattle.cycle_history.specs.Before.{IsLimited, objects_before}
+use Rattle.cycle_history.proofs.Firsts.{before-le, before-rise}
+use Rattle.cycle_history.proofs.Found.{all-at, cycle-event, cycle-more}
+use Rattle.tiny_alloc.specs.Base.{as_version_2}
 
 -- ---- lists behind lists
 
@@ -107,3 +111,25 @@ same-side t c a b p q at-a at-b same le =
           let low = wb.0 in
           omega arith)
     ]
+
+-- ---- the events of a cycle
+
+-- those that code reads at a cycle's place
+pub events-are : (t : Trace) (cycles : List Cycle) (c : ℕ) (x : Cycle) (events : List Event) → cycles ≡ t.cycles → c < length cycles → x ≡ get_or cycles c x → events ≡ x.events
+    → (d : Cycle) → events ≡ (get_or t.cycles c d).events
+events-are t cycles c x events same lt is are d =
+    are ∙ ap (λ (y : Cycle). y.events) (is ∙ get_or_default cycles c x d lt) ∙ ap (λ (cs : List Cycle). (get_or cs c d).events) same
+
+-- each is within the limits
+pub event-fits : (t : Trace) (c k : ℕ) (events : List Event) (d : Event) → IsLimited (as_version_2 t) → c < length t.cycles → ((x : Cycle) → events ≡ (get_or t.cycles c x).events) → k < length events
+    → EventFits t.header.procs (get_or events k d)
+event-fits t c k events d limited lt are inside =
+    all-at (EventFits t.header.procs) (events_of t) (objects_before t c + k) (get_or events k d) limited.events (cycle-event t c k events d lt are inside)
+
+-- and they end within all events, which are few
+pub events-few : (t : Trace) (c : ℕ) (events : List Event) → IsLimited (as_version_2 t) → c < length t.cycles → ((x : Cycle) → events ≡ (get_or t.cycles c x).events)
+    → (objects_before t (c + 1) ≡ objects_before t c + length events) × (objects_before t c + length events ≤ length (events_of t)) × (length (events_of t) ≤ 1000000)
+events-few t c events limited lt are =
+    let more = cycle-more t c events lt are in
+    let le = before-le t (c + 1) in
+    (more, omega arith, limited.objects)

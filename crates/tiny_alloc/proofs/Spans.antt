@@ -99,7 +99,7 @@ widened from [] s t h e fair = (let low = h.0 in omega arith, fair.some, fair.fe
 widened from (x ∷ ss) s t h e fair = (h.0, h.1, h.2, widened (x.hi + 2) ss s t h.3 e fair)
 
 spaced-more : (from : ℕ) (ss : List Span) (s t : Span) → AreSpaced from (ss ++ s ∷ []) → s.hi + 2 ≤ t.lo → IsFair t → AreSpaced from ((ss ++ s ∷ []) ++ t ∷ [])
-spaced-more from [] s t h le fair = (h.0, h.1, h.2, le, fair.some, fair.few, tt)
+spaced-more from [] s t h le fair = (h.0, h.1, h.2, (le, fair.some, fair.few, tt))
 spaced-more from (x ∷ ss) s t h le fair = (h.0, h.1, h.2, spaced-more (x.hi + 2) ss s t h.3 le fair)
 
 -- the first spans, joined: those that are done, and the last one, which may still grow

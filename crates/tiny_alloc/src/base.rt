@@ -158,7 +158,8 @@ fn based_answers(
     answers: &[Answer],
     parts: &[Part],
 ) -> Result<List<Answer>, NoMemory>
-    requires { length answers.now ≡ length parts.now }
+    requires one { length answers.now ≡ length parts.now }
+    requires few { length parts.now ≤ 1000000 }
     ensures { IfOk result (λ based. based ≡ answers_by (part_by parts.now) 0 answers.now) }
 {
     let mut based = List::new(alloc);

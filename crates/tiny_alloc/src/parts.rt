@@ -64,8 +64,10 @@ fn add_parts(
     ensures done { OnOk result (length parts.new.items ≡ objects_before trace.now (cycle + 1)) }
     ensures parts { OnOk result (AreParts trace.now answers.now parts.new.items) }
 {
+    let cycles = trace.cycles.as_slice();
+    let events = cycles[cycle].events.as_slice();
     clear_all(blocks);
-    for event in trace.cycles.as_slice()[cycle].events.as_slice() {
+    for event in events {
         let number = parts.len();
         let placed = is_placed(answers[number]);
         let tiny = &mut blocks[usize::from(event.proc)];

@@ -38,7 +38,6 @@ begin-there x y a b from some h same =
 
 end-there : (x y : Span) (a b : List Span) (from : ℕ) → x.lo ≡ y.lo → y.lo ≤ y.hi → AreSpaced from (x ∷ a) → Same (y ∷ b) (x ∷ a) → y.hi ≤ x.hi
 end-there x y a b from begin some h same = elim (cases_lt x.hi y.hi) [
-  | inr le ↦ le
   | inl lt ↦ (
       let i = x.hi + 1 in
       let order = h.1 in
@@ -47,6 +46,7 @@ end-there x y a b from begin some h same = elim (cases_lt x.hi y.hi) [
         | inl here ↦ (let high = (covers-is x i here).high in absurd (omega arith))
         | inr there ↦ (let rest = spaced-above (x.hi + 2) a i h.3 there in absurd (omega arith))
       ])
+  | inr le ↦ le
 ]
 
 rest-there : (x y : Span) (a b : List Span) (from : ℕ) → x.hi ≡ y.hi → AreSpaced from (x ∷ a) → Same (x ∷ a) (y ∷ b) → Same a b

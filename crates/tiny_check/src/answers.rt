@@ -19,10 +19,11 @@ pub(crate) fn judge_answers(trace: &Trace, report: &Report) -> Result<(), CheckF
     ensures answers { OnOk result (IsAnswered trace.now report.now) }
     ensures fault { IfErr result (IsFaultOf 1 (BreaksAnswers trace.now report.now)) }
 {
+    let cycles = trace.cycles.as_slice();
     let mut first = 0;
-    for cycle in 0..trace.cycles.len() {
+    for cycle in 0..cycles.len() {
         judge_cycle(trace, cycle, first, report)?;
-        first += trace.cycles.as_slice()[cycle].events.len();
+        first += cycles[cycle].events.len();
     }
     if first < report.answers.len() {
         let line = first as u64 + 1;
@@ -46,8 +47,10 @@ fn judge_cycle(
     ensures fault { IfErr result (IsFaultOf 1 (BreaksAnswers trace.now report.now)) }
 {
     let answers = report.answers.as_slice();
+    let cycles = trace.cycles.as_slice();
+    let events = cycles[cycle].events.as_slice();
     let mut number = first;
-    for event in trace.cycles.as_slice()[cycle].events.as_slice() {
+    for event in events {
         if number == answers.len() {
             let line = end_of(report);
             return Err(CheckFault::Broken { rule: 1, line });

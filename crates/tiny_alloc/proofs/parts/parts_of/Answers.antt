@@ -1,0 +1,14 @@
+use Rattle.std.proofs.Common.{arith}
+use Rattle.cycle_history.proofs.Firsts.{before-all}
+use Rattle.tiny_alloc.proofs.Parted.{parts-all}
+use Rattle.tiny_alloc.proofs.parts.parts_of.Goals as goal
+
+pub returns-clause-parts : goal.returns-clause-parts
+returns-clause-parts c =
+    let t = c.args.trace.now in
+    let end = c.len-cycle-end.ensures in
+    let over = c.loop-cycle-test.false in
+    let all = before-all t c.loop-cycle.cycle (omega arith) in
+    let done = c.loop-cycle.invariant.done in
+    let answers = c.requires.answers in
+    parts-all t c.args.answers.now c.loop-cycle.parts.items c.loop-cycle.invariant.parts (omega arith)
