@@ -115,10 +115,10 @@ same-side t c a b p q at-a at-b same le =
 -- ---- the events of a cycle
 
 -- those that code reads at a cycle's place
-pub events-are : (t : Trace) (cycles : List Cycle) (c : ℕ) (x : Cycle) (events : List Event) → cycles ≡ t.cycles → c < length cycles → x ≡ get_or cycles c x → events ≡ x.events
+pub events-are : (t : Trace) (cycles : List Cycle) (c : ℕ) (x : Cycle) (events : List Event) → cycles ≡ t.cycles → c < length t.cycles → x ≡ get_or cycles c x → events ≡ x.events
     → (d : Cycle) → events ≡ (get_or t.cycles c d).events
 events-are t cycles c x events same lt is are d =
-    are ∙ ap (λ (y : Cycle). y.events) (is ∙ get_or_default cycles c x d lt) ∙ ap (λ (cs : List Cycle). (get_or cs c d).events) same
+    are ∙ ap (λ (y : Cycle). y.events) (is ∙ ap (λ (cs : List Cycle). get_or cs c x) same ∙ get_or_default t.cycles c x d lt)
 
 -- each is within the limits
 pub event-fits : (t : Trace) (c k : ℕ) (events : List Event) (d : Event) → IsLimited (as_version_2 t) → c < length t.cycles → ((x : Cycle) → events ≡ (get_or t.cycles c x).events) → k < length events

@@ -1,4 +1,4 @@
-use Rattle.std.proofs.Common.{◌≡◌, length, ◌∙◌, arith}
+use Rattle.std.proofs.Common.{◌≡◌, ◌+◌, length, ◌∙◌, arith}
 use Rattle.tiny_alloc.specs.Parts.{part_by}
 use Rattle.tiny_alloc.proofs.Listed.{events-next, events-number}
 use Rattle.tiny_alloc.proofs.base.based_events.Goals as goal
@@ -14,6 +14,15 @@ overflow_add-number c =
 
 pub bounds-parts-number : goal.bounds-parts-number
 bounds-parts-number c =
+    let lt = c.loop-event-test.true in
+    let n = events-number (part_by c.args.parts.now) c.args.first c.loop-event.event-index c.args.events.now c.loop-event.based c.loop-event.invariant (omega arith) in
+    let number = c.len.ensures in
+    let inside = c.requires.inside in
+    let few = c.requires.few in
+    omega arith
+
+pub offset_bounds-parts-number : goal.offset_bounds-parts-number
+offset_bounds-parts-number c =
     let lt = c.loop-event-test.true in
     let n = events-number (part_by c.args.parts.now) c.args.first c.loop-event.event-index c.args.events.now c.loop-event.based c.loop-event.invariant (omega arith) in
     let number = c.len.ensures in
