@@ -159,7 +159,7 @@ parted-more t answers c k n events e placed blocks more parts new part next is p
             (get_or-set_same blocks e.proc next None is.proc ∙ next-is ∙ sym (block-own (object_at t answers) c n e placed own object before))
         | inr other ↦ (
             let differ : (object_at t answers n).proc ≢ p = λ h. other (sym h ∙ ap (λ (o : Tried). o.proc) object) in
-            get_or-set_other blocks p e.proc next None (λ h. other (sym h)) ∙ old.current p (let keeps = size-set in omega arith) ∙ ap (λ (m : ℕ). block_before (object_at t answers) p c m) (sym at)
+            get_or-set_other blocks e.proc p next None other ∙ old.current p (let keeps = size-set in omega arith) ∙ ap (λ (m : ℕ). block_before (object_at t answers) p c m) (sym at)
             ∙ sym (block-other (object_at t answers) p c n differ))
       ] ∙ ap (λ (m : ℕ). block_before (object_at t answers) p c m) (sym long);
     }

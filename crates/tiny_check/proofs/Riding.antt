@@ -1,7 +1,7 @@
 -- Rule 10, one rider after the other.
-use Rattle.std.proofs.Common.{◌≡◌, ℕ, zero, suc, ◌+◌, ◌-◌, ◌<◌, ◌≤◌, List, [], ◌∷◌, ◌++◌, length, get_or, Option, Some, None, refl, sym, ◌∙◌, ap, subst, arith, ◌⊎◌, inl, inr, length-append}
+use Rattle.std.proofs.Common.{◌≡◌, ℕ, zero, suc, ◌+◌, ◌-◌, ◌<◌, ◌≤◌, Bool, true, false, eqb, MatchBool, List, [], ◌∷◌, ◌++◌, length, get_or, Option, Some, None, refl, sym, ◌∙◌, ap, subst, arith, ◌⊎◌, inl, inr, length-append}
 use Rattle.std.specs.List.{slice_get}
-use Rattle.std.proofs.lemmas.Bool.{cases_lt}
+use Rattle.std.proofs.lemmas.Bool.{cases_lt, eqb-true, eqb-false}
 use Rattle.std.proofs.lemmas.Option.{slice_get_past}
 use Rattle.trace_reader.specs.declared.trace.Trace.{Trace}
 use Rattle.cycle_history.specs.declared.Answer.{Answer}
@@ -126,6 +126,33 @@ riding-from answers i lead offset x y begins stands e = record {
 pub riding-places : (answers : List Answer) (i lead offset : ℕ) → IsRidingAt answers i lead offset
     → (x : ℕ) × (placed_at answers lead ≡ Some x) × (placed_at answers i ≡ Some (x + offset))
 riding-places answers i lead offset is = (is.address, ap address_of is.begins, ap address_of is.stands)
+
+-- an object whose lead has no address doesn't ride, nor does one that has none, or a lower one
+pub unled : (answers : List Answer) (i lead offset : ℕ) → placed_at answers lead ≡ None → ¬ IsRidingAt answers i lead offset
+unled answers i lead offset none is = let at = (riding-places answers i lead offset is).1 in absurd cc
+
+pub unplaced : (answers : List Answer) (i lead offset : ℕ) → placed_at answers i ≡ None → ¬ IsRidingAt answers i lead offset
+unplaced answers i lead offset none is = let at = (riding-places answers i lead offset is).2 in absurd cc
+
+at-offset : (answers : List Answer) (i lead offset x y : ℕ) → placed_at answers lead ≡ Some x → placed_at answers i ≡ Some y → IsRidingAt answers i lead offset → y ≡ x + offset
+at-offset answers i lead offset x y begins stands is =
+    let places = riding-places answers i lead offset is in
+    let a = places.1 in
+    let b = places.2 in
+    let start : places.0 ≡ x = cc in
+    let own : places.0 + offset ≡ y = cc in
+    omega arith
+
+pub too-low : (answers : List Answer) (i lead offset x y : ℕ) → placed_at answers lead ≡ Some x → placed_at answers i ≡ Some y → y < x → ¬ IsRidingAt answers i lead offset
+too-low answers i lead offset x y begins stands lt is = let e = at-offset answers i lead offset x y begins stands is in absurd (omega arith)
+
+pub decides-riding : (answers : List Answer) (i lead offset x y : ℕ) → placed_at answers lead ≡ Some x → placed_at answers i ≡ Some y → x ≤ y
+    → MatchBool (eqb (y - x) offset) (IsRidingAt answers i lead offset) (¬ IsRidingAt answers i lead offset)
+decides-riding answers i lead offset x y begins stands le = split (eqb (y - x) offset) refl
+  where
+    split : (b : Bool) → eqb (y - x) offset ≡ b → MatchBool b (IsRidingAt answers i lead offset) (¬ IsRidingAt answers i lead offset)
+    split true e = (let same = eqb-true (y - x) offset e in riding-from answers i lead offset x y begins stands (omega arith))
+    split false e = λ is. (let same = at-offset answers i lead offset x y begins stands is in eqb-false (y - x) offset e (omega arith))
 
 -- ---- all riders
 

@@ -32,10 +32,16 @@ pub(crate) fn judge_riders(answers: &[Answer], riders: &[Rider]) -> Result<(), C
 fn is_riding(answers: &[Answer], rider: Rider) -> bool
     ensures { MatchBool result (IsRidingAt answers.now rider.object rider.lead rider.offset) (¬ IsRidingAt answers.now rider.object rider.lead rider.offset) }
 {
-    match (address_at(answers, rider.lead), address_at(answers, rider.object)) {
-        (Some(start), Some(own)) => own >= start && own - start == u64::from(rider.offset),
-        _ => false,
+    let Some(start) = address_at(answers, rider.lead) else {
+        return false;
+    };
+    let Some(own) = address_at(answers, rider.object) else {
+        return false;
+    };
+    if own < start {
+        return false;
     }
+    own - start == u64::from(rider.offset)
 }
 
 // The address of an object, if it is placed.

@@ -1,4 +1,4 @@
-use Rattle.std.proofs.Common.{◌≡◌, ◌+◌, ◌<◌, ◌≤◌, ◌∷◌, [], ◌++◌, Vec, List, length, get_or, sym, ◌∙◌, ap, subst, arith, inl}
+use Rattle.std.proofs.Common.{◌≡◌, ◌+◌, ◌<◌, ◌≤◌, ◌∷◌, [], ◌++◌, Vec, Global, List, length, get_or, sym, ◌∙◌, ap, subst, arith, inl}
 use Rattle.std.proofs.lemmas.List.{get_or_default}
 use Rattle.object_spans.specs.declared.span.Span.{Span}
 use Rattle.tiny_alloc.specs.declared.part.Part.{Part}
@@ -19,12 +19,11 @@ loop-object-preserved c =
     let end = c.min-object-end.ensures in
     let from = old.from in
     let inside : n < length parts = omega arith in
-    let own = get_or_default parts n Other _ inside in
     elim c.match-parts-object.branch [
       | in-Ride+in_ok-push w ↦ (
           let span : Span = record { lo = w.in-Ride.lead; hi = w.in-Ride.lead } in
-          let is = own ∙ w.in-Ride.is in
-          let more : c.match-parts-object.kept.items ≡ c.loop-object.kept.items ++ span ∷ [] = ap (λ (v : Vec Span _). v.items) w.kept-is ∙ w.in_ok-push.ensures.items in
+          let is = get_or_default parts n Other _ inside ∙ w.in-Ride.is in
+          let more : c.match-parts-object.kept.items ≡ c.loop-object.kept.items ++ span ∷ [] = ap (λ (v : Vec Span Global). v.items) w.kept-is ∙ w.in_ok-push.ensures.items in
           let few = c.requires.leads n w.in-Ride.lead _ is in
           record {
             from = omega arith;
@@ -33,13 +32,13 @@ loop-object-preserved c =
             leads = gains-rider (part_by parts) c.args.low n w.in-Ride.lead _ c.args.kept.now.items c.loop-object.kept.items c.match-parts-object.kept.items from old.leads is more;
           })
       | in_default w ↦ (
-          let same : c.match-parts-object.kept.items ≡ c.loop-object.kept.items = ap (λ (v : Vec Span _). v.items) w.kept-is in
+          let same : c.match-parts-object.kept.items ≡ c.loop-object.kept.items = ap (λ (v : Vec Span Global). v.items) w.kept-is in
           record {
             from = omega arith;
             order = inl (omega arith);
             fair = subst AreFair (sym same) old.fair;
             leads = subst (λ (xs : List Span). Gains (IsLeadWithin (part_by parts) c.args.low (n + 1)) c.args.kept.now.items xs) (sym same)
-                (gains-other (part_by parts) c.args.low n c.args.kept.now.items c.loop-object.kept.items old.leads (λ lead offset is. w.in_default.not-Ride lead offset (sym own ∙ is)));
+                (gains-other (part_by parts) c.args.low n c.args.kept.now.items c.loop-object.kept.items old.leads (λ lead offset is. w.in_default.not-Ride lead offset (sym (get_or_default parts n Other _ inside) ∙ is)));
           })
     ]
 

@@ -18,10 +18,15 @@ loop-next-preserved c =
     let joined = c.loop-next.joined in
     let last = c.loop-next.last in
     elim c.if-span-last.branch [
-      | then-span-last w ↦ subst (λ (js : List Span). Joins spans (n + 1) js c.if-span-last.last) (sym w.joined-is)
+      | then-span-last w ↦ (
+          let same : c.if-span-last.joined ≡ joined = cc (w.joined-is) in
+          subst (λ (js : List Span). Joins spans (n + 1) js c.if-span-last.last) (sym same)
           (joins-touching spans joined last s c.if-span-last.last n c.loop-next.invariant c.requires.fair c.requires.order lt is w.if-span-last.true
-          (ap (λ (x : Span). x.lo) w.last-is) (ap (λ (x : Span). x.hi) w.last-is ∙ w.max.ensures))
-      | else-span-last+in_ok-push w ↦ subst (λ (js : List Span). Joins spans (n + 1) js c.if-span-last.last) (sym (w.joined-is ∙ w.in_ok-push.ensures.ok))
+          (ap (λ (x : Span). x.lo) w.last-is) (ap (λ (x : Span). x.hi) w.last-is ∙ w.max.ensures)))
+      | else-span-last+in_ok-push w ↦ (
+          let push = w.in_ok-push.ensures.ok in
+          let same : c.if-span-last.joined ≡ joined ++ last ∷ [] = cc (w.joined-is, push) in
+          subst (λ (js : List Span). Joins spans (n + 1) js c.if-span-last.last) (sym same)
           (subst (λ (x : Span). Joins spans (n + 1) (joined ++ last ∷ []) x) (sym w.last-is)
-          (joins-apart spans joined last s n c.loop-next.invariant c.requires.fair lt is w.if-span-last.false))
+          (joins-apart spans joined last s n c.loop-next.invariant c.requires.fair lt is w.if-span-last.false)))
     ]

@@ -1,6 +1,7 @@
 use Rattle.std.proofs.Common.{◌≡◌, ◌<◌, ◌≤◌, ◌+◌, ℕ, false, List, [], ◌∷◌, length, length-set, get_or, set, Option, None, refl, sym, ◌∙◌, ap, subst, arith}
 use Rattle.std.specs.Prelude.{IfSome}
 use Rattle.std.proofs.lemmas.List.{get_or_default, length-append}
+use Rattle.trace_reader.specs.declared.trace.Cycle.{Cycle}
 use Rattle.trace_reader.specs.declared.trace.Event.{Event}
 use Rattle.cycle_history.specs.Objects.{is_placed}
 use Rattle.tiny_alloc.specs.Blocks.{Block}
@@ -23,7 +24,8 @@ pub bounds-answers-number : goal.bounds-answers-number
 bounds-answers-number c =
     let t = c.args.trace.now in
     let events = c.as_slice-events.result.now in
-    let are = events-are t c.as_slice-cycles.result.now c.args.cycle c.index-cycles-cycle.result events c.as_slice-cycles.ensures c.requires.cycle c.index-cycles-cycle.is c.as_slice-events.ensures in
+    let are = events-are t c.as_slice-cycles.result.now c.args.cycle c.index-cycles-cycle.result events c.as_slice-cycles.ensures c.requires.cycle c.index-cycles-cycle.is
+    (c.as_slice-events.ensures ∙ ap (λ (x : Cycle). x.events) (sym c.index-cycles-cycle.is)) in
     let few = events-few t c.args.cycle events c.requires.limited c.requires.cycle are in
     let lt = c.loop-event-test.true in
     let done = c.loop-event.invariant.done in
@@ -38,7 +40,8 @@ pub offset_bounds-answers-number : goal.offset_bounds-answers-number
 offset_bounds-answers-number c =
     let t = c.args.trace.now in
     let events = c.as_slice-events.result.now in
-    let are = events-are t c.as_slice-cycles.result.now c.args.cycle c.index-cycles-cycle.result events c.as_slice-cycles.ensures c.requires.cycle c.index-cycles-cycle.is c.as_slice-events.ensures in
+    let are = events-are t c.as_slice-cycles.result.now c.args.cycle c.index-cycles-cycle.result events c.as_slice-cycles.ensures c.requires.cycle c.index-cycles-cycle.is
+    (c.as_slice-events.ensures ∙ ap (λ (x : Cycle). x.events) (sym c.index-cycles-cycle.is)) in
     let few = events-few t c.args.cycle events c.requires.limited c.requires.cycle are in
     let lt = c.loop-event-test.true in
     let done = c.loop-event.invariant.done in
@@ -53,7 +56,8 @@ pub overflow_cast-number : goal.overflow_cast-number
 overflow_cast-number c =
     let t = c.args.trace.now in
     let events = c.as_slice-events.result.now in
-    let are = events-are t c.as_slice-cycles.result.now c.args.cycle c.index-cycles-cycle.result events c.as_slice-cycles.ensures c.requires.cycle c.index-cycles-cycle.is c.as_slice-events.ensures in
+    let are = events-are t c.as_slice-cycles.result.now c.args.cycle c.index-cycles-cycle.result events c.as_slice-cycles.ensures c.requires.cycle c.index-cycles-cycle.is
+    (c.as_slice-events.ensures ∙ ap (λ (x : Cycle). x.events) (sym c.index-cycles-cycle.is)) in
     let few = events-few t c.args.cycle events c.requires.limited c.requires.cycle are in
     let lt = c.loop-event-test.true in
     let done = c.loop-event.invariant.done in
@@ -68,7 +72,8 @@ pub bounds-blocks-from : goal.bounds-blocks-from
 bounds-blocks-from c =
     let t = c.args.trace.now in
     let events = c.as_slice-events.result.now in
-    let are = events-are t c.as_slice-cycles.result.now c.args.cycle c.index-cycles-cycle.result events c.as_slice-cycles.ensures c.requires.cycle c.index-cycles-cycle.is c.as_slice-events.ensures in
+    let are = events-are t c.as_slice-cycles.result.now c.args.cycle c.index-cycles-cycle.result events c.as_slice-cycles.ensures c.requires.cycle c.index-cycles-cycle.is
+    (c.as_slice-events.ensures ∙ ap (λ (x : Cycle). x.events) (sym c.index-cycles-cycle.is)) in
     let proc = (event-fits t c.args.cycle c.loop-event.event-index events no_event c.requires.limited c.requires.cycle are c.loop-event-test.true).proc in
     let from = c.from.ensures in
     let blocks = c.loop-event.invariant.blocks in
@@ -78,7 +83,8 @@ pub next_part-requires : goal.next_part-requires
 next_part-requires c =
     let t = c.args.trace.now in
     let events = c.as_slice-events.result.now in
-    let are = events-are t c.as_slice-cycles.result.now c.args.cycle c.index-cycles-cycle.result events c.as_slice-cycles.ensures c.requires.cycle c.index-cycles-cycle.is c.as_slice-events.ensures in
+    let are = events-are t c.as_slice-cycles.result.now c.args.cycle c.index-cycles-cycle.result events c.as_slice-cycles.ensures c.requires.cycle c.index-cycles-cycle.is
+    (c.as_slice-events.ensures ∙ ap (λ (x : Cycle). x.events) (sym c.index-cycles-cycle.is)) in
     let few = events-few t c.args.cycle events c.requires.limited c.requires.cycle are in
     let lt = c.loop-event-test.true in
     let done = c.loop-event.invariant.done in
@@ -98,7 +104,8 @@ pub loop-event-preserved : goal.loop-event-preserved
 loop-event-preserved c =
     let t = c.args.trace.now in
     let events = c.as_slice-events.result.now in
-    let are = events-are t c.as_slice-cycles.result.now c.args.cycle c.index-cycles-cycle.result events c.as_slice-cycles.ensures c.requires.cycle c.index-cycles-cycle.is c.as_slice-events.ensures in
+    let are = events-are t c.as_slice-cycles.result.now c.args.cycle c.index-cycles-cycle.result events c.as_slice-cycles.ensures c.requires.cycle c.index-cycles-cycle.is
+    (c.as_slice-events.ensures ∙ ap (λ (x : Cycle). x.events) (sym c.index-cycles-cycle.is)) in
     let few = events-few t c.args.cycle events c.requires.limited c.requires.cycle are in
     let lt = c.loop-event-test.true in
     let done = c.loop-event.invariant.done in

@@ -1,8 +1,5 @@
-use Rattle.std.proofs.Common.{◌≡◌, ◌+◌, ℕ, ap, subst, sym, ◌∙◌, arith, refl, length}
-use Rattle.cycle_history.proofs.Firsts.{before-all}
-use Rattle.tiny_alloc.proofs.Requested.{events-are, events-few}
-use Rattle.tiny_check.specs.Answered.{AreAnsweredTo}
-use Rattle.tiny_check.proofs.Answering.{answered-none, answered-all, answer-behind}
+use Rattle.std.proofs.Common.{refl}
+use Rattle.tiny_check.proofs.Answering.{answered-none}
 use Rattle.tiny_check.proofs.answers.judge_answers.Goals as goal
 
 pub loop-cycle-init : goal.loop-cycle-init
@@ -13,9 +10,6 @@ overflow_add-first c = ?
 
 pub loop-cycle-preserved : goal.loop-cycle-preserved
 loop-cycle-preserved c = ?
-
-pub returns-then-first-len-clause-fault : goal.returns-then-first-len-clause-fault
-returns-then-first-len-clause-fault c = ?
 
 pub returns-clause-answers : goal.returns-clause-answers
 returns-clause-answers c = ?

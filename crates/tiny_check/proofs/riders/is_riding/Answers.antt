@@ -1,0 +1,4 @@
+use Rattle.tiny_check.proofs.riders.is_riding.Goals as goal
+
+pub returns : goal.returns
+returns c = ?
