@@ -8,3 +8,4 @@ pub mod Requested
 pub mod Parted
 pub mod Listed
 pub mod Limited
+pub mod Leading

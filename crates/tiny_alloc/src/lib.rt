@@ -19,5 +19,5 @@ mod tiny;
 pub use base::{Based, base_of};
 pub use block::BLOCK;
 pub use laws::{a_tiny_object_lies_in_its_block, tiny_objects_are_apart};
-pub use part::Rider;
+pub use part::{Part, Rider};
 pub use tiny::Tiny;

@@ -13,7 +13,7 @@ pub struct Rider {
 
 /// The part of an object.
 #[derive(Clone, Copy, Debug, PartialEq, Eq)]
-pub(crate) enum Part {
+pub enum Part {
     /// It isn't tiny.
     Other,
     /// It needs a block of its own.

@@ -2,6 +2,7 @@
 use Rattle.std.proofs.Common.{◌≡◌, ℕ, zero, suc, ◌+◌, ◌-◌, ◌<◌, ◌≤◌, Bool, true, false, eqb, MatchBool, List, [], ◌∷◌, ◌++◌, length, get_or, Option, Some, None, refl, sym, ◌∙◌, ap, subst, arith, ◌⊎◌, inl, inr, length-append}
 use Rattle.std.specs.List.{slice_get}
 use Rattle.std.proofs.lemmas.Bool.{cases_lt, eqb-true, eqb-false}
+use Rattle.std.proofs.lemmas.List.{get_or_default}
 use Rattle.std.proofs.lemmas.Option.{slice_get_past}
 use Rattle.trace_reader.specs.declared.trace.Trace.{Trace}
 use Rattle.cycle_history.specs.declared.Answer.{Answer}
@@ -187,19 +188,34 @@ riding-all t answers riders n are all those i lead offset is =
     let riding = listed-riding answers riders n i lead offset are (record { place = there.place; inside = omega arith; is = there.is }) in
     (riding.address, riding.begins, riding.stands)
 
-pub riding-first : (t : Trace) (answers : List Answer) (riders : List Rider) (n line : ℕ) (r : Rider) → AreRidingTo answers riders n → n < length riders → r ≡ get_or riders n r
-    → ¬ IsRidingAt answers r.object r.lead r.offset → line ≡ r.object + 1 → AreThose t answers riders → IsLeast (BreaksRiding t answers) line
-riding-first t answers riders n line r are lt is wrong at those =
+pub riding-first : (t : Trace) (answers : List Answer) (riders : List Rider) (n line : ℕ) (d : Rider) → AreRidingTo answers riders n → n < length riders
+    → ¬ IsRidingAt answers (get_or riders n d).object (get_or riders n d).lead (get_or riders n d).offset → line ≡ (get_or riders n d).object + 1 → AreThose t answers riders → IsLeast (BreaksRiding t answers) line
+riding-first t answers riders n line d are lt wrong at those =
     let part = part_at t answers in
-    let known : IsPlacedRider part riders n (get_or riders n r) = subst (λ (xs : List Rider). IsPlacedRider part xs n (get_or xs n r)) (sym those)
-    (placed-rider part (length answers) n r (let size = ap (λ (xs : List Rider). length xs) those in omega arith)) in
-    let here : IsPlacedRider part riders n r = subst (λ (x : Rider). IsPlacedRider part riders n x) (sym is) known in
+    let r = get_or riders n d in
+    let here : IsPlacedRider part riders n r = subst (λ (xs : List Rider). IsPlacedRider part xs n (get_or xs n d)) (sym those)
+    (placed-rider part (length answers) n d (let size = ap (λ (xs : List Rider). length xs) those in omega arith)) in
     record {
       here = record { object = r.object; lead = r.lead; offset = r.offset; rides = here.rides; wrong = wrong; stands = at };
       least = λ m less breaks. (
           let stands = breaks.stands in
           breaks.wrong (listed-riding answers riders n breaks.object breaks.lead breaks.offset are (here.before breaks.object breaks.lead breaks.offset (omega arith) breaks.rides)));
     }
+
+pub riding-none : (answers : List Answer) (riders : List Rider) → AreRidingTo answers riders 0
+riding-none answers riders = record { each = λ k d lt. absurd (omega arith) }
+
+pub riding-more : (answers : List Answer) (riders : List Rider) (n : ℕ) (d : Rider) → n < length riders → AreRidingTo answers riders n
+    → IsRidingAt answers (get_or riders n d).object (get_or riders n d).lead (get_or riders n d).offset → AreRidingTo answers riders (n + 1)
+riding-more answers riders n d lt old is = record {
+  each = λ k e less. elim (cases_lt k n) [
+    | inl below ↦ old.each k e below
+    | inr top ↦ (
+        let at : n ≡ k = omega arith in
+        let same : get_or riders n d ≡ get_or riders k e = get_or_default riders n d e lt ∙ ap (λ (j : ℕ). get_or riders j e) at in
+        subst (λ (r : Rider). IsRidingAt answers r.object r.lead r.offset) same is)
+  ];
+}
 
 -- a report whose riders stand where they ride has no line that breaks the rule
 pub riding-unbroken : (t : Trace) (answers : List Answer) (line : ℕ) → AreRiding t answers → ¬ BreaksRiding t answers line

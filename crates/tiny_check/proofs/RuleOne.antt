@@ -1,7 +1,6 @@
 -- Where the trace itself has its answers, so has its base.
 use Rattle.std.proofs.Common.{◌≡◌, ℕ, ◌+◌, ◌<◌, ◌≤◌, Bool, true, false, ◌&&◌, ltb, not, cond, List, length, Option, Some, None, refl, sym, ◌∙◌, ap, subst, arith, inl, inr, ◌↔◌}
 use Rattle.std.specs.List.{slice_get}
-use Rattle.std.proofs.lemmas.Bool.{and_parts, ltb-true}
 use Rattle.std.proofs.lemmas.Option.{slice_get_within}
 use Rattle.trace_reader.specs.declared.trace.Trace.{Trace}
 use Rattle.trace_reader.specs.declared.trace.Event.{Event}
@@ -13,35 +12,17 @@ use Rattle.cycle_history.specs.Requests.{Request, requests_from}
 use Rattle.cycle_history.proofs.Counted.{get-some}
 use Rattle.report_rules.specs.Answers.{BreaksAnswers, IsRightAnswer}
 use Rattle.tiny_alloc.specs.declared.base.Based.{Based}
-use Rattle.tiny_alloc.specs.declared.block.Seat.{Seat}
 use Rattle.tiny_alloc.specs.declared.part.Part.{Part}
 use Rattle.tiny_alloc.specs.declared.part.Part.TheVariants.{Other, Lead, Ride}
-use Rattle.tiny_alloc.specs.Blocks.{seat_in}
-use Rattle.tiny_alloc.specs.Riders.{Tried, is_tiny, object_at, block_before, part_at, part_in}
+use Rattle.tiny_alloc.specs.Riders.{part_at}
 use Rattle.tiny_alloc.specs.Base.{based_answer, based_event, IsBase}
 use Rattle.tiny_alloc.specs.Sound.{based_report}
-use Rattle.tiny_alloc.proofs.Law.{object-is}
+use Rattle.tiny_alloc.proofs.Leading.{lead-some}
 use Rattle.tiny_alloc.proofs.OfBase.{answer-at, based_request, request-at}
 use Rattle.tiny_alloc.proofs.Listed.{answers-length}
 use Rattle.tiny_alloc.proofs.Limited.{events-many}
 use Rattle.tiny_check.specs.Answered.{IsAnswered}
 use Rattle.tiny_check.proofs.Made.{request-event, requests-length, zero-iff}
-
--- ---- a lead is tiny, and so asks for some bytes
-
-lead-tiny : (o : Tried) (seat : Option Seat) → cond o.tiny (part_in seat) Other ≡ Lead → o.tiny ≡ true
-lead-tiny o seat h = split o.tiny refl h
-  where
-    split : (b : Bool) → o.tiny ≡ b → cond b (part_in seat) Other ≡ Lead → o.tiny ≡ true
-    split true e h = e
-    split false e h = absurd cc
-
-lead-some : (t : Trace) (answers : List Answer) (i : ℕ) (r : Request) (a : Answer) → slice_get (requests_from 0 t.cycles) i ≡ Some r → slice_get answers i ≡ Some a → part_at t answers i ≡ Lead → 0 < r.event.size
-lead-some t answers i r a asked answered is =
-    let o = object_at t answers i in
-    let tiny = lead-tiny o (seat_in (block_before (object_at t answers) o.proc o.cycle i) o.size) is in
-    let event : is_tiny r.event ≡ true = sym (ap (λ (x : Tried). x.tiny) (object-is t answers i r a asked answered)) ∙ tiny in
-    ltb-true 0 r.event.size (and_parts (ltb 0 r.event.size) (ltb r.event.size 16 && not r.event.scan) event).0
 
 -- ---- one answer
 

@@ -78,10 +78,10 @@ fn is_right(answer: Answer, size: u64) -> bool
 fn end_of(report: &Report) -> u64
     ensures { result ≡ lines.end_of report.now }
 {
-    report.answers.len() as u64
-        + report.journal.len() as u64
-        + report.sweeps.len() as u64
-        + report.totals.len() as u64
-        + report.profile.len() as u64
+    report.answers.as_slice().len() as u64
+        + report.journal.as_slice().len() as u64
+        + report.sweeps.as_slice().len() as u64
+        + report.totals.as_slice().len() as u64
+        + report.profile.as_slice().len() as u64
         + 1
 }
