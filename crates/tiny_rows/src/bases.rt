@@ -6,26 +6,18 @@ use cycle_history::Answer;
 use edge_io::List;
 use std::process::Abort;
 use std::test::Fail;
-use tiny_alloc::{Rider, base_of};
+use tiny_alloc::base_of;
 use trace_reader::{Cycle, Span};
 
 /// The lines of a trace and the answers of its objects; of its base the sizes of the objects, the spans that the mark ends mark, all
-/// in one list, the answers, and the riders.
+/// in one list, the answers, and the riders: the number of each, its lead's, and its offset.
 struct Row {
     lines: &'static str,
     answers: &'static [Answer],
     sizes: &'static [u64],
     marks: &'static [Span],
     based: &'static [Answer],
-    riders: &'static [Rider],
-}
-
-const fn ride(object: u32, lead: u32, offset: u32) -> Rider {
-    Rider {
-        object,
-        lead,
-        offset,
-    }
+    riders: &'static [(u32, u32, u32)],
 }
 
 // Adds the sizes of the objects of a cycle, and the spans that are marked as it ends.
@@ -58,7 +50,11 @@ fn compare<R: Abort + AllocGlobal>(rt: &R, number: usize, row: &Row) -> Result<(
     assert_eq!(rt; sizes.as_slice(), row.sizes, "row {number}");
     assert_eq!(rt; marks.as_slice(), row.marks, "row {number}");
     assert_eq!(rt; base.answers.as_slice(), row.based, "row {number}");
-    assert_eq!(rt; base.riders.as_slice(), row.riders, "row {number}");
+    let mut riders = Vec::new(alloc);
+    for rider in base.riders.as_slice() {
+        riders.push((rider.object, rider.lead, rider.offset))?;
+    }
+    assert_eq!(rt; riders.as_slice(), row.riders, "row {number}");
     Ok(())
 }
 
@@ -94,7 +90,7 @@ const ROWS: [Row; 9] = [
         sizes: &[16, 0, 0, 0, 16],
         marks: &[],
         based: &[FIRST, Zero, Zero, Zero, SECOND],
-        riders: &[ride(1, 0, 8), ride(2, 0, 12), ride(3, 0, 14)],
+        riders: &[(1, 0, 8), (2, 0, 12), (3, 0, 14)],
     },
     // a rider's mark is the lead's too
     Row {
@@ -103,7 +99,7 @@ const ROWS: [Row; 9] = [
         sizes: &[16, 0],
         marks: &[Span { lo: 0, hi: 1 }],
         based: &[FIRST, Zero],
-        riders: &[ride(1, 0, 8)],
+        riders: &[(1, 0, 8)],
     },
     // there are gaps between the spans of marks
     Row {
@@ -112,7 +108,7 @@ const ROWS: [Row; 9] = [
         sizes: &[16, 16, 0, 16, 16],
         marks: &[Span { lo: 0, hi: 0 }, Span { lo: 2, hi: 3 }],
         based: &[FIRST, SECOND, Zero, THIRD, THIRD],
-        riders: &[ride(2, 0, 8)],
+        riders: &[(2, 0, 8)],
     },
     // a rider that no mark end marks leaves its lead to its own mark
     Row {
@@ -121,7 +117,7 @@ const ROWS: [Row; 9] = [
         sizes: &[16, 0, 16],
         marks: &[Span { lo: 0, hi: 0 }],
         based: &[FIRST, Zero, SECOND],
-        riders: &[ride(1, 0, 8)],
+        riders: &[(1, 0, 8)],
     },
     // a rider that lives on keeps its block at each mark end
     Row {
@@ -134,7 +130,7 @@ const ROWS: [Row; 9] = [
             Span { lo: 2, hi: 2 },
         ],
         based: &[FIRST, Zero, Zero, SECOND],
-        riders: &[ride(1, 0, 8), ride(2, 0, 12)],
+        riders: &[(1, 0, 8), (2, 0, 12)],
     },
     // nothing rides behind a lead without room, nor in a block with less room than the current one
     Row {
@@ -143,7 +139,7 @@ const ROWS: [Row; 9] = [
         sizes: &[16, 16, 16, 0, 16, 16],
         marks: &[],
         based: &[Missed(0), FIRST, SECOND, Zero, Missed(1), Missed(2)],
-        riders: &[ride(3, 1, 8)],
+        riders: &[(3, 1, 8)],
     },
     // each processor has a block of its own
     Row {
@@ -152,7 +148,7 @@ const ROWS: [Row; 9] = [
         sizes: &[16, 16, 0, 0],
         marks: &[],
         based: &[FIRST, SECOND, Zero, Zero],
-        riders: &[ride(2, 0, 8), ride(3, 1, 4)],
+        riders: &[(2, 0, 8), (3, 1, 4)],
     },
     // objects of no size, of 16 bytes, and with pointers stay as they are
     Row {
@@ -161,6 +157,6 @@ const ROWS: [Row; 9] = [
         sizes: &[0, 16, 8, 16, 0],
         marks: &[],
         based: &[Zero, FIRST, ANY, SECOND, Zero],
-        riders: &[ride(4, 3, 8)],
+        riders: &[(4, 3, 8)],
     },
 ];
