@@ -1,7 +1,9 @@
 -- The answers of the judge of traces with tiny objects.
-use Rattle.std.proofs.Common.{◌≡◌, ◌≢◌, ℕ, ◌+◌, ◌-◌, ◌<◌, ◌≤◌, List, Result, Ok, Err, refl, sym, ◌∙◌, ap, subst, arith, inl, inr}
+use Rattle.std.specs.Prelude.{OnOk}
+use Rattle.std.proofs.Common.{◌≡◌, ◌≢◌, ℕ, ◌+◌, ◌-◌, ◌<◌, ◌≤◌, List, length, Result, Ok, Err, refl, sym, ◌∙◌, ap, subst, arith, inl, inr}
 use Rattle.std.proofs.lemmas.Bool.{cases_lt}
 use Rattle.trace_reader.specs.declared.trace.Trace.{Trace}
+use Rattle.cycle_history.specs.declared.Answer.{Answer}
 use Rattle.cycle_history.specs.declared.Report.{Report}
 use Rattle.cycle_history.specs.Objects.{Object}
 use Rattle.cycle_history.specs.Before.{IsLimited}
@@ -17,9 +19,11 @@ use Rattle.report_check.specs.Fault as nine
 use Rattle.report_check.proofs.Faults.{fault-1}
 use Rattle.report_check.proofs.Sounding.{never-refused}
 use Rattle.tiny_alloc.specs.declared.base.Based.{Based}
-use Rattle.tiny_alloc.specs.Base.{as_version_2, IsBase}
+use Rattle.tiny_alloc.specs.declared.part.Rider.{Rider}
+use Rattle.tiny_alloc.specs.Riders.{part_at}
+use Rattle.tiny_alloc.specs.Base.{as_version_2, IsBase, riders_below}
 use Rattle.tiny_alloc.specs.Sound.{AreRiding, based_report, IsSoundTiny}
-use Rattle.tiny_check.specs.Answered.{IsAnswered}
+use Rattle.tiny_check.specs.Answered.{having_answers, IsAnswered}
 use Rattle.tiny_check.specs.Fault.{BreaksRiding, IsBrokenTiny, IsFault, IsFaultTiny, IsKnownVersion, MeetsTiny, MeetsVersion}
 use Rattle.tiny_check.proofs.Made.{meets-answers}
 use Rattle.tiny_check.proofs.OneBase.{base-one}
@@ -89,9 +93,52 @@ unbroken t report rule line met broken =
       ]
     ]
 
-tiny-unrefused : (t : Trace) (report : Report) (fault : CheckFault) → IsFaultTiny t report fault → MeetsTiny t report → fault ≡ NoMemory
+pub tiny-unrefused : (t : Trace) (report : Report) (fault : CheckFault) → IsFaultTiny t report fault → MeetsTiny t report → fault ≡ NoMemory
 tiny-unrefused t report (Broken rule line) is met = absurd (unbroken t report rule line met is)
 tiny-unrefused t report NoMemory is met = refl
+
+-- ---- what code has of the base: its trace, its answers, and the report that is judged
+
+pub record IsJudged (t : Trace) (report : Report) (based : Based) (base : Trace) (answers : List Answer) (judged : Report) : Type 0 where
+  pub answered : IsAnswered t report
+  pub is : IsBase t report.answers based
+  pub having : judged ≡ having_answers report answers
+  pub its_trace : base ≡ based.trace
+  pub its_answers : answers ≡ based.answers
+
+its-report : (t : Trace) (report : Report) (based : Based) (base : Trace) (answers : List Answer) (judged : Report) → IsJudged t report based base answers judged → judged ≡ based_report report based
+its-report t report based base answers judged is = is.having ∙ ap (λ (xs : List Answer). having_answers report xs) is.its_answers
+
+its-sound : (t : Trace) (report : Report) (based : Based) (base : Trace) (answers : List Answer) (judged : Report) → IsJudged t report based base answers judged → MeetsChecked base judged
+    → MeetsChecked based.trace (based_report report based)
+its-sound t report based base answers judged is met =
+    subst (λ (x : Trace). MeetsChecked x (based_report report based)) is.its_trace (subst (λ (r : Report). MeetsChecked base r) (its-report t report based base answers judged is) met)
+
+pub judged-sound : (t : Trace) (report : Report) (based : Based) (base : Trace) (answers : List Answer) (judged : Report) → IsJudged t report based base answers judged → MeetsChecked base judged
+    → AreRiding t report.answers → MeetsTiny t report
+judged-sound t report based base answers judged is met riding =
+    tiny-sound t report based is.answered is.is (its-sound t report based base answers judged is met) riding
+
+pub judged-broken : (t : Trace) (report : Report) (based : Based) (base : Trace) (answers : List Answer) (judged : Report) (fault : CheckFault) → IsJudged t report based base answers judged
+    → nine.IsFault base judged fault → IsFaultTiny t report fault
+judged-broken t report based base answers judged fault is broken =
+    tiny-base t report based fault is.answered is.is
+    (subst (λ (x : Trace). nine.IsFault x (based_report report based) fault) is.its_trace (subst (λ (r : Report). nine.IsFault base r fault) (its-report t report based base answers judged is) broken))
+
+pub judged-riding : (t : Trace) (report : Report) (based : Based) (base : Trace) (answers : List Answer) (judged : Report) (fault : CheckFault) → IsJudged t report based base answers judged → MeetsChecked base judged
+    → IsFaultOf 10 (BreaksRiding t report.answers) fault → IsFaultTiny t report fault
+judged-riding t report based base answers judged fault is met broken =
+    tiny-10 t report based fault is.answered is.is (its-sound t report based base answers judged is met) broken
+
+-- the riders that code has
+pub those-riders : (t : Trace) (answers printed : List Answer) (based : Based) (shown riders : List Rider) → IsBase t answers based → printed ≡ answers → shown ≡ riders → riders ≡ based.riders
+    → shown ≡ riders_below (part_at t printed) (length printed)
+those-riders t answers printed based shown riders is same shown-is riders-is =
+    shown-is ∙ riders-is ∙ is.riders ∙ ap (λ (xs : List Answer). riders_below (part_at t xs) (length xs)) (sym same)
+
+pub on-map : {T : Type 0} {P Q : Type 0} (r : Result T CheckFault) → (P → Q) → OnOk r P → OnOk r Q
+on-map (Ok x) to h = to h
+on-map (Err e) to h = tt
 
 -- ---- traces of all versions
 

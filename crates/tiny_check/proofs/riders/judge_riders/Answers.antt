@@ -1,4 +1,4 @@
-use Rattle.std.proofs.Common.{refl}
+use Rattle.std.proofs.Common.{ℕ, ◌+◌, refl, ap}
 use Rattle.tiny_check.proofs.Riding.{riding-all, riding-first, riding-more, riding-none}
 use Rattle.tiny_check.proofs.riders.judge_riders.Goals as goal
 
@@ -15,5 +15,5 @@ returns-clause-riding c = λ t those. riding-all t c.args.answers.now c.args.rid
 pub returns-then-not-is_riding-clause-fault : goal.returns-then-not-is_riding-clause-fault
 returns-then-not-is_riding-clause-fault c = λ t those. (
     refl,
-    riding-first t c.args.answers.now c.args.riders.now c.loop-rider.rider-index _ _ c.loop-rider.invariant c.loop-rider-test.true c.if-not-is_riding.ensures refl those,
+    riding-first t c.args.answers.now c.args.riders.now c.loop-rider.rider-index _ _ c.loop-rider.invariant c.loop-rider-test.true c.if-not-is_riding.ensures (ap (λ (k : ℕ). k + 1) c.from.ensures) those,
 )
