@@ -97,44 +97,32 @@ pub tiny-unrefused : (t : Trace) (report : Report) (fault : CheckFault) → IsFa
 tiny-unrefused t report (Broken rule line) is met = absurd (unbroken t report rule line met is)
 tiny-unrefused t report NoMemory is met = refl
 
--- ---- what code has of the base: its trace, its answers, and the report that is judged
+-- ---- the report that is judged by the base
 
-pub record IsJudged (t : Trace) (report : Report) (based : Based) (base : Trace) (answers : List Answer) (judged : Report) : Type 0 where
+-- the trace itself has its answers, and the report that is judged is that of the base
+pub record IsJudged (t : Trace) (report : Report) (based : Based) (judged : Report) : Type 0 where
   pub answered : IsAnswered t report
   pub is : IsBase t report.answers based
-  pub having : judged ≡ having_answers report answers
-  pub its_trace : base ≡ based.trace
-  pub its_answers : answers ≡ based.answers
+  pub having : judged ≡ having_answers report based.answers
 
-its-report : (t : Trace) (report : Report) (based : Based) (base : Trace) (answers : List Answer) (judged : Report) → IsJudged t report based base answers judged → judged ≡ based_report report based
-its-report t report based base answers judged is = is.having ∙ ap (λ (xs : List Answer). having_answers report xs) is.its_answers
+its-sound : (t : Trace) (report : Report) (based : Based) (judged : Report) → IsJudged t report based judged → MeetsChecked based.trace judged → MeetsChecked based.trace (based_report report based)
+its-sound t report based judged is met = subst (λ (r : Report). MeetsChecked based.trace r) is.having met
 
-its-sound : (t : Trace) (report : Report) (based : Based) (base : Trace) (answers : List Answer) (judged : Report) → IsJudged t report based base answers judged → MeetsChecked base judged
-    → MeetsChecked based.trace (based_report report based)
-its-sound t report based base answers judged is met =
-    subst (λ (x : Trace). MeetsChecked x (based_report report based)) is.its_trace (subst (λ (r : Report). MeetsChecked base r) (its-report t report based base answers judged is) met)
+pub judged-sound : (t : Trace) (report : Report) (based : Based) (judged : Report) → IsJudged t report based judged → MeetsChecked based.trace judged → AreRiding t report.answers → MeetsTiny t report
+judged-sound t report based judged is met riding = tiny-sound t report based is.answered is.is (its-sound t report based judged is met) riding
 
-pub judged-sound : (t : Trace) (report : Report) (based : Based) (base : Trace) (answers : List Answer) (judged : Report) → IsJudged t report based base answers judged → MeetsChecked base judged
-    → AreRiding t report.answers → MeetsTiny t report
-judged-sound t report based base answers judged is met riding =
-    tiny-sound t report based is.answered is.is (its-sound t report based base answers judged is met) riding
+pub judged-broken : (t : Trace) (report : Report) (based : Based) (judged : Report) (fault : CheckFault) → IsJudged t report based judged → nine.IsFault based.trace judged fault → IsFaultTiny t report fault
+judged-broken t report based judged fault is broken = tiny-base t report based fault is.answered is.is (subst (λ (r : Report). nine.IsFault based.trace r fault) is.having broken)
 
-pub judged-broken : (t : Trace) (report : Report) (based : Based) (base : Trace) (answers : List Answer) (judged : Report) (fault : CheckFault) → IsJudged t report based base answers judged
-    → nine.IsFault base judged fault → IsFaultTiny t report fault
-judged-broken t report based base answers judged fault is broken =
-    tiny-base t report based fault is.answered is.is
-    (subst (λ (x : Trace). nine.IsFault x (based_report report based) fault) is.its_trace (subst (λ (r : Report). nine.IsFault base r fault) (its-report t report based base answers judged is) broken))
-
-pub judged-riding : (t : Trace) (report : Report) (based : Based) (base : Trace) (answers : List Answer) (judged : Report) (fault : CheckFault) → IsJudged t report based base answers judged → MeetsChecked base judged
+pub judged-riding : (t : Trace) (report : Report) (based : Based) (judged : Report) (fault : CheckFault) → IsJudged t report based judged → MeetsChecked based.trace judged
     → IsFaultOf 10 (BreaksRiding t report.answers) fault → IsFaultTiny t report fault
-judged-riding t report based base answers judged fault is met broken =
-    tiny-10 t report based fault is.answered is.is (its-sound t report based base answers judged is met) broken
+judged-riding t report based judged fault is met broken = tiny-10 t report based fault is.answered is.is (its-sound t report based judged is met) broken
 
 -- the riders that code has
-pub those-riders : (t : Trace) (answers printed : List Answer) (based : Based) (shown riders : List Rider) → IsBase t answers based → printed ≡ answers → shown ≡ riders → riders ≡ based.riders
+pub those-riders : (t : Trace) (answers printed : List Answer) (based : Based) (shown : List Rider) → IsBase t answers based → printed ≡ answers → shown ≡ based.riders
     → shown ≡ riders_below (part_at t printed) (length printed)
-those-riders t answers printed based shown riders is same shown-is riders-is =
-    shown-is ∙ riders-is ∙ is.riders ∙ ap (λ (xs : List Answer). riders_below (part_at t xs) (length xs)) (sym same)
+those-riders t answers printed based shown is same shown-is =
+    shown-is ∙ is.riders ∙ ap (λ (xs : List Answer). riders_below (part_at t xs) (length xs)) (sym same)
 
 pub on-map : {T : Type 0} {P Q : Type 0} (r : Result T CheckFault) → (P → Q) → OnOk r P → OnOk r Q
 on-map (Ok x) to h = to h

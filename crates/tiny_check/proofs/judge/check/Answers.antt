@@ -7,7 +7,7 @@ use Rattle.tiny_check.proofs.Judged.{plain-limited, tiny-unrefused}
 use Rattle.tiny_check.proofs.judge.check.Goals as goal
 
 pub check-requires : goal.check-requires
-check-requires c = plain-limited c.args.trace.now c.requires.limited c.requires.version c.if-trace-lt-TINY_VERSION.true
+check-requires c = record { limited = plain-limited c.args.trace.now c.requires.limited c.requires.version c.if-trace-lt-TINY_VERSION.true }
 
 pub returns-else-trace-lt-TINY_VERSION-clause-sound : goal.returns-else-trace-lt-TINY_VERSION-clause-sound
 returns-else-trace-lt-TINY_VERSION-clause-sound c met =
