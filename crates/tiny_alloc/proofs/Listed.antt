@@ -124,7 +124,7 @@ cycles-fair first live (c ∷ d ∷ cs) h = split c.mark refl h (λ (m : MarkEnd
   where
     split : (m : Option MarkEnd) → c.mark ≡ m
         → MatchOption m ⊥ (λ (x : MarkEnd). (1 ≤ x.distance) × (x.distance ≤ 1099511627776) × AreSpans 0 x.marks
-            × ((i : ℕ) → IsMarked x.marks i → live i ⊎ ((first ≤ i) × (i < first + length c.events))) × AreCycles (first + length c.events) (IsMarked x.marks) (d ∷ cs))
+        × ((i : ℕ) → IsMarked x.marks i → live i ⊎ ((first ≤ i) × (i < first + length c.events))) × AreCycles (first + length c.events) (IsMarked x.marks) (d ∷ cs))
         → ((x : MarkEnd) → AreCycles (first + length c.events) (IsMarked x.marks) (d ∷ cs) → AllByRecursion HasFair (d ∷ cs)) → AllByRecursion HasFair (c ∷ d ∷ cs)
     split None e h rest = absurd h
     split (Some m) e h rest = (subst (λ (x : Option MarkEnd). AreFair (spans_of x)) (sym e) (spans-fair 0 m.marks h.2), rest m h.4)
@@ -162,10 +162,13 @@ end-by : (f g : ℕ → Part) (a b : Option MarkEnd) → Agree f g → IsBasedEn
 end-by f g None None same h = tt
 end-by f g None (Some b) same h = absurd h
 end-by f g (Some a) None same h = absurd h
-end-by f g (Some a) (Some b) same h = (h.0, record {
-  spaced = h.1.spaced;
-  each = λ i. ((λ on. kept-by f g a.marks i same ((h.1.each i).0 on)), (λ kept. (h.1.each i).1 (kept-by g f a.marks i (λ j. sym (same j)) kept)));
-})
+end-by f g (Some a) (Some b) same h = (
+  h.0,
+  record {
+    spaced = h.1.spaced;
+    each = λ i. ((λ on. kept-by f g a.marks i same ((h.1.each i).0 on)), (λ kept. (h.1.each i).1 (kept-by g f a.marks i (λ j. sym (same j)) kept)));
+  },
+)
 
 cycles-by : (f g : ℕ → Part) (n : ℕ) (cs ds : List Cycle) → Agree f g → AreBased f n cs ds → AreBased g n cs ds
 cycles-by f g n [] [] same h = tt

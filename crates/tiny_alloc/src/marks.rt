@@ -32,12 +32,7 @@ pub(crate) fn based_marks(
 }
 
 // Adds the leads of the riders from object `low` up to `high`.
-fn add_leads(
-    kept: &mut Vec<Span>,
-    low: usize,
-    high: usize,
-    parts: &[Part],
-) -> Result<(), NoMemory>
+fn add_leads(kept: &mut Vec<Span>, low: usize, high: usize, parts: &[Part]) -> Result<(), NoMemory>
     requires leads { HaveLeads (part_by parts.now) }
     requires fair { AreFair kept.old.items }
     ensures fair { OnOk result (AreFair kept.new.items) }

@@ -54,10 +54,10 @@ pub answer-wrong : (t : Trace) (report : Report) (c k n : ℕ) (events : List Ev
 answer-wrong t report c k n events d answers da at same lt off old =
     let printed : slice_get report.answers n ≡ Some (get_or answers n da) = sym (ap (λ (xs : List Answer). slice_get xs n) same) ∙ slice_get-get_or answers n da lt in
     wrong-first t report n (get_or answers n da) (right-to t report n old) printed (λ right. (
-      let here = event-at t c k n events d at in
-      let there = right.asked in
-      let event : right.event ≡ get_or events k d = cc in
-      off (subst (λ (x : Event). RightSize (get_or answers n da) x) event right.zero)))
+    let here = event-at t c k n events d at in
+    let there = right.asked in
+    let event : right.event ≡ get_or events k d = cc in
+    off (subst (λ (x : Event). RightSize (get_or answers n da) x) event right.zero)))
 
 pub answer-missing : (t : Trace) (report : Report) (c k n line : ℕ) (events : List Event) (answers : List Answer) → IsAt t c k n events → answers ≡ report.answers → n ≡ length answers
     → line ≡ end_of report → AreAnsweredTo t report n → IsLeast (BreaksAnswers t report) line

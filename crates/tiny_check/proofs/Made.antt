@@ -77,8 +77,10 @@ meets-answers t report is =
     let size : length report.answers ≡ length (requests_from 0 t.cycles) = is.one ∙ sym (requests-length t) in
     let all = made (requests_from 0 t.cycles) report.answers size (λ i r a at answered. zero-iff t i r a at (is.right i a answered)) (length (requests_from 0 t.cycles)) (omega arith) in
     let requests = take_all (length (requests_from 0 t.cycles)) (requests_from 0 t.cycles) (omega arith) in
-    let printed = take_all (length (requests_from 0 t.cycles)) report.answers (omega arith) in
-    (all.0, meets-1 t report all.0 (record {
-      asked = subst (λ (xs : List Request). AreAnswered (reverse xs) all.0) requests all.1;
-      printed = all.2 ∙ ap (λ (xs : List Answer). reverse xs) printed;
-    }))
+    let printed = take_all (length (requests_from 0 t.cycles)) report.answers (omega arith) in (
+      all.0,
+      meets-1 t report all.0 (record {
+        asked = subst (λ (xs : List Request). AreAnswered (reverse xs) all.0) requests all.1;
+        printed = all.2 ∙ ap (λ (xs : List Answer). reverse xs) printed;
+      }),
+    )

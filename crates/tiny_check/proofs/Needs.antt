@@ -14,14 +14,18 @@ least-below size (suc n) le = elim (least-below size n (omega arith)) [
       | inl below ↦ none c some (omega arith)
       | inr top ↦ (let e : suc n ≡ c = omega arith in subst (λ (k : ℕ). slot_of k < size) e small)
     ])
-    | inr room ↦ inl (suc n, omega arith, record {
-      is_class = (omega arith, omega arith);
-      room = room;
-      least = λ other is fits. elim (cases_lt other (suc n)) [
-        | inl below ↦ (let some = is.0 in let small = none other some (omega arith) in absurd (omega arith))
-        | inr top ↦ top
-      ];
-    })
+    | inr room ↦ inl (
+      suc n,
+      omega arith,
+      record {
+        is_class = (omega arith, omega arith);
+        room = room;
+        least = λ other is fits. elim (cases_lt other (suc n)) [
+          | inl below ↦ (let some = is.0 in let small = none other some (omega arith) in absurd (omega arith))
+          | inr top ↦ top
+        ];
+      },
+    )
   ]
 ]
 
@@ -38,9 +42,9 @@ a-class size le = elim (least-below size 67 (omega arith)) [
 pub a-need : (size : ℕ) (scan : Bool) → (need : Need) × IsNeed size scan need
 a-need size scan = elim (cases_lt 32768 size) [
   | inl large ↦ (
-      record { class = span_class_of 0 scan; pages = (size + 8191) / 8192; slot = 8192 * ((size + 8191) / 8192); count = 1 },
-      record { small = λ le. absurd (omega arith); large = λ lt. record { class = refl; pages = refl; slot = refl; count = refl } },
-    )
+    record { class = span_class_of 0 scan; pages = (size + 8191) / 8192; slot = 8192 * ((size + 8191) / 8192); count = 1 },
+    record { small = λ le. absurd (omega arith); large = λ lt. record { class = refl; pages = refl; slot = refl; count = refl } },
+  )
   | inr small ↦ (
       let class = a-class size small in (
         record { class = span_class_of class.0 scan; pages = pages_of class.0; slot = slot_of class.0; count = objects_of class.0 },

@@ -33,12 +33,7 @@ pub(crate) fn judge_answers(trace: &Trace, report: &Report) -> Result<(), CheckF
 }
 
 // The same for the objects of a cycle, whose first has this number, where the answers before it are right.
-fn judge_cycle(
-    trace: &Trace,
-    cycle: usize,
-    first: usize,
-    report: &Report,
-) -> Result<(), CheckFault>
+fn judge_cycle(trace: &Trace, cycle: usize, first: usize, report: &Report) -> Result<(), CheckFault>
     requires limited { IsLimited (as_version_2 trace.now) }
     requires cycle { cycle < length trace.now.cycles }
     requires first { first ≡ objects_before trace.now cycle }

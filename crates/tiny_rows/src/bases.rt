@@ -68,7 +68,9 @@ fn traces_have_their_bases(rt: HostRuntime) -> Result<(), Fail> {
 
 /// The addresses of the first three blocks.
 const FIRST: Answer = Placed(0xc0_0000_0000);
+
 const SECOND: Answer = Placed(0xc0_0000_0010);
+
 const THIRD: Answer = Placed(0xc0_0000_0020);
 
 /// An address of no block.

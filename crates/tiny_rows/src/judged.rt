@@ -25,7 +25,11 @@ fn judge<R: Abort + AllocGlobal>(
         Err(CheckFault::Broken { rule, line }) => Some((rule, line)),
         Err(CheckFault::NoMemory) => return Err("no memory".into()),
     };
-    assert_eq!(rt; found, broken, "{procs} processors, rate {rate}: row {number}");
+    assert_eq!(rt;
+        found,
+        broken,
+        "{procs} processors, rate {rate}: row {number}"
+    );
     Ok(())
 }
 

@@ -14,6 +14,6 @@ returns-clause-riding c = λ t those. riding-all t c.args.answers.now c.args.rid
 
 pub returns-then-not-is_riding-clause-fault : goal.returns-then-not-is_riding-clause-fault
 returns-then-not-is_riding-clause-fault c = λ t those. (
-    refl,
-    riding-first t c.args.answers.now c.args.riders.now c.loop-rider.rider-index _ _ c.loop-rider.invariant c.loop-rider-test.true c.if-not-is_riding.ensures (ap (λ (k : ℕ). k + 1) c.from.ensures) those,
+  refl,
+  riding-first t c.args.answers.now c.args.riders.now c.loop-rider.rider-index _ _ c.loop-rider.invariant c.loop-rider-test.true c.if-not-is_riding.ensures (ap (λ (k : ℕ). k + 1) c.from.ensures) those,
 )
