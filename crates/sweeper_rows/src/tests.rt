@@ -2,7 +2,6 @@ use crate::{Met, Scene};
 use fallible_list::NoMemory;
 use profile_cycle::Count;
 use span_table::Step;
-use std::alloc::Global;
 use std::process::Abort;
 use std::sync::Wait;
 use std::test::Fail;
@@ -149,15 +148,78 @@ fn make<R: Wait>(rt: &R, scene: &mut Scene, call: Call) -> Result<Answer, NoMemo
     }
 }
 
-// The calls answer as they should.
-fn try_rows<R: Abort + Wait>(
+// Whether the call claims chunks. Those that it claimed before memory ran out it claims no more, so that spans there wait for others.
+fn claims(call: Call) -> bool {
+    matches!(call, Call::Reclaim(_) | Call::Make(_))
+}
+
+// Whether it may find otherwise where it did so: pages given back by it, or those of another chunk for its span.
+fn finds_otherwise(call: Call, chunks: u32) -> bool {
+    match call {
+        Call::Reclaim(_) => true,
+        Call::Make(_) => chunks > 1,
+        _ => false,
+    }
+}
+
+// Makes a call that found no memory once more, and says so.
+fn make_again<R: Print + Wait>(rt: &R, scene: &mut Scene, call: Call) -> Result<Answer, NoMemory> {
+    let Ok(()) = println!(rt; "again") else {
+        return Err(NoMemory);
+    };
+    make(rt, scene, call)
+}
+
+// Behind a sweep of all that is left each span that waited was swept once, and what has an object or was made has its pages.
+fn try_end<R: Abort + Wait>(
     rt: &R,
     scene: &mut Scene,
+    spans: &[(u32, bool)],
+    made: u32,
+) -> Result<(), NoMemory> {
+    scene.finish(rt)?;
+    assert_eq!(rt; scene.notes(), spans.len());
+    let mut taken = made;
+    for span in spans {
+        if span.1 {
+            taken = taken.saturating_add(span.0);
+        }
+    }
+    assert_eq!(rt; scene.taken(rt), taken);
+    Ok(())
+}
+
+// The pages of the span that a call made.
+fn pages_made(call: Call, found: Answer) -> u32 {
+    match (call, found) {
+        (Call::Make(pages), Answer::Page(_)) => pages,
+        _ => 0,
+    }
+}
+
+// The calls answer as they should. One that finds no memory is made again, and answers then as it would have. But where it claimed chunks
+// of spans that wait, reclaims find less, and the rest of the row is left.
+fn try_rows<R: Abort + Print + Wait>(
+    rt: &R,
+    scene: &mut Scene,
+    chunks: u32,
+    spans: &[(u32, bool)],
     rows: &[(Call, Answer)],
 ) -> Result<(), NoMemory> {
+    let mut pages: u32 = 0;
     for (made, wanted) in rows {
-        let found = make(rt, scene, *made)?;
-        assert_eq!(rt; found, *wanted);
+        let (found, again) = match make(rt, scene, *made) {
+            Ok(found) => (found, false),
+            Err(NoMemory) => (make_again(rt, scene, *made)?, true),
+        };
+        pages = pages.saturating_add(pages_made(*made, found));
+        let left = again && claims(*made) && !spans.is_empty();
+        if !left || !finds_otherwise(*made, chunks) {
+            assert_eq!(rt; found, *wanted);
+        }
+        if left {
+            return try_end(rt, scene, spans, pages);
+        }
     }
     Ok(())
 }
@@ -202,7 +264,7 @@ struct Case {
     calls: &'static [(Call, Answer)],
 }
 
-const CASES: [Case; 16] = [
+const CASES: [Case; 21] = [
     // a mark end raises the generation by 2, and the counters begin anew: before it 100 pages were swept, 2^20 bytes spent, and a chunk claimed
     Case {
         chunks: 1,
@@ -417,20 +479,153 @@ const CASES: [Case; 16] = [
             (Call::Make(5), Answer::NoRun(5)),
         ],
     },
+    // of nine spans that wait a payment sweeps five, and a finish the others
+    Case {
+        chunks: 1,
+        spans: &[
+            (5, true),
+            (5, false),
+            (6, true),
+            (5, true),
+            (7, false),
+            (5, true),
+            (5, false),
+            (6, true),
+            (5, true),
+        ],
+        calls: &[
+            // the target is 26 * 8192 / 8192, and the first five spans have 5 + 5 + 6 + 5 + 7 pages
+            (Call::Pay(26, 8192, 8192, 0), Answer::Reached(28, 26)),
+            (Call::Notes, Answer::Many(5)),
+            (Call::Finish, Answer::Done),
+            (Call::Notes, Answer::Many(9)),
+            // 49 pages, of which 17 went back
+            (Call::Taken, Answer::Many(32)),
+        ],
+    },
+    // nine sweeps one by one
+    Case {
+        chunks: 1,
+        spans: &[
+            (5, true),
+            (5, false),
+            (5, true),
+            (5, false),
+            (5, true),
+            (5, false),
+            (5, true),
+            (5, false),
+            (5, true),
+        ],
+        calls: &[
+            (Call::Sweep, Answer::Swept(0, 1, 0)),
+            (Call::Sweep, Answer::Swept(5, 0, 1)),
+            (Call::Sweep, Answer::Swept(10, 1, 0)),
+            (Call::Sweep, Answer::Swept(15, 0, 1)),
+            (Call::Sweep, Answer::Swept(20, 1, 0)),
+            (Call::Sweep, Answer::Swept(25, 0, 1)),
+            (Call::Sweep, Answer::Swept(30, 1, 0)),
+            (Call::Sweep, Answer::Swept(35, 0, 1)),
+            (Call::Sweep, Answer::Swept(40, 1, 0)),
+            (Call::Sweep, Answer::NothingLeft),
+            (Call::Taken, Answer::Many(25)),
+        ],
+    },
+    // a reclaim sweeps nine of ten
+    Case {
+        chunks: 1,
+        spans: &[
+            (5, false),
+            (5, false),
+            (5, false),
+            (5, false),
+            (5, true),
+            (5, false),
+            (5, false),
+            (5, false),
+            (5, false),
+            (5, false),
+        ],
+        calls: &[
+            (Call::Reclaim(512), Answer::Many(45)),
+            (Call::Notes, Answer::Many(9)),
+            (Call::Sweep, Answer::Swept(20, 1, 0)),
+            (Call::Taken, Answer::Many(5)),
+        ],
+    },
+    // a new span needs the pages of the nine spans before it, which are reclaimed for it
+    Case {
+        chunks: 1,
+        spans: &[
+            (5, false),
+            (5, false),
+            (5, false),
+            (5, false),
+            (5, false),
+            (5, false),
+            (5, false),
+            (5, false),
+            (5, false),
+            (467, true),
+        ],
+        calls: &[
+            (Call::Make(45), Answer::Page(0)),
+            (Call::Notes, Answer::Many(9)),
+            (Call::Taken, Answer::Many(512)),
+            (Call::Sweep, Answer::Swept(45, 1, 0)),
+        ],
+    },
+    // where all spans live on, a new one finds no page behind a full sweep: the lines of six spans stand before the miss
+    Case {
+        chunks: 1,
+        spans: &[
+            (5, true),
+            (5, true),
+            (5, true),
+            (5, true),
+            (5, true),
+            (487, true),
+        ],
+        calls: &[
+            (Call::Make(5), Answer::NoRun(6)),
+            (Call::Notes, Answer::Many(6)),
+            (Call::Sweep, Answer::NothingLeft),
+            (Call::Taken, Answer::Many(512)),
+        ],
+    },
 ];
 
-// The calls of a case answer as they should. A scene is let go in one place, since each place costs the proof much.
-fn try_first<R: Abort + Wait + AllocGlobal>(
+// A scene of a case, where memory ran out a second one. A scene is let go in few places, since each place costs the proof much.
+fn first<R: AllocGlobal>(rt: &R) -> Result<Scene, NoMemory> {
+    match Scene::first(rt.alloc()) {
+        Ok(scene) => Ok(scene),
+        Err(NoMemory) => Scene::first(rt.alloc()),
+    }
+}
+
+fn after_mark_end<R: AllocGlobal + Wait>(
+    rt: &R,
+    chunks: u32,
+    spans: &[(u32, bool)],
+) -> Result<Scene, NoMemory> {
+    match Scene::after_mark_end(rt, rt.alloc(), chunks, spans) {
+        Ok(scene) => Ok(scene),
+        Err(NoMemory) => Scene::after_mark_end(rt, rt.alloc(), chunks, spans),
+    }
+}
+
+// The calls of a case answer as they should.
+fn try_first<R: Abort + Wait + Print + AllocGlobal>(
     rt: &R,
     rows: &[(Call, Answer)],
 ) -> Result<(), NoMemory> {
-    let mut scene = Scene::first(rt.alloc())?;
-    try_rows(rt, &mut scene, rows)
+    let mut scene = first(rt)?;
+    try_rows(rt, &mut scene, 1, &[], rows)
 }
 
-fn try_case<R: Abort + Wait + AllocGlobal>(rt: &R, row: &Case) -> Result<(), NoMemory> {
-    let mut scene = Scene::after_mark_end(rt, rt.alloc(), row.chunks, row.spans)?;
-    try_rows(rt, &mut scene, row.calls)
+fn try_case<R: Abort + Wait + Print + AllocGlobal>(rt: &R, row: &Case) -> Result<(), NoMemory> {
+    let mut scene = after_mark_end(rt, row.chunks, row.spans)?;
+    try_rows(rt, &mut scene, row.chunks, row.spans, row.calls)
 }
 
 #[test]
@@ -489,28 +684,27 @@ const PAYMENTS: [Payment; 23] = [
     (u32::MAX, 8192, MOST, MOST, u32::MAX, None),
 ];
 
-fn pay_row<R: Wait>(
-    rt: &R,
-    scene: &mut Scene,
-    row: &Payment,
-) -> Result<Option<(u64, u64)>, NoMemory> {
-    scene.spend(row.2);
-    match scene.pay(rt, row.0, row.1, row.3, row.4)? {
-        Paid::Reached { seen, target } => Ok(Some((seen, target))),
-        Paid::NothingLeft => Ok(None),
-    }
-}
-
 // A payment in a new scene whose third span lives on.
-fn paid<R: Wait>(rt: &R, alloc: Global, row: &Payment) -> Result<Option<(u64, u64)>, NoMemory> {
-    let mut scene = Scene::after_mark_end(rt, alloc, 1, &PAID)?;
-    pay_row(rt, &mut scene, row)
+fn try_payment<R: Abort + AllocGlobal + Print + Wait>(
+    rt: &R,
+    row: &Payment,
+) -> Result<(), NoMemory> {
+    let wanted = match row.5 {
+        Some((seen, target)) => Answer::Reached(seen, target),
+        None => Answer::NothingLeft,
+    };
+    let calls = [
+        (Call::Spend(row.2), Answer::Done),
+        (Call::Pay(row.0, row.1, row.3, row.4), wanted),
+    ];
+    let mut scene = after_mark_end(rt, 1, &PAID)?;
+    try_rows(rt, &mut scene, 1, &PAID, &calls)
 }
 
 #[test]
 fn payments_reach_their_targets(rt: HostRuntime) -> Result<(), Fail> {
     for row in &PAYMENTS {
-        assert_eq!(rt; paid(&rt, rt.alloc(), row)?, row.5);
+        try_payment(&rt, row)?;
     }
     Ok(())
 }
@@ -541,21 +735,24 @@ const RECLAIMED: [(u32, bool); 5] = [
     (20, false),
 ];
 
-fn reclaim_row<R: Wait>(rt: &R, scene: &mut Scene, asked: [u32; 3]) -> Result<[u32; 3], NoMemory> {
-    let first = scene.reclaim(rt, asked[0])?;
-    let second = scene.reclaim(rt, asked[1])?;
-    Ok([first, second, scene.reclaim(rt, asked[2])?])
-}
-
-fn reclaimed<R: Wait>(rt: &R, alloc: Global, asked: [u32; 3]) -> Result<[u32; 3], NoMemory> {
-    let mut scene = Scene::after_mark_end(rt, alloc, 2, &RECLAIMED)?;
-    reclaim_row(rt, &mut scene, asked)
+fn try_reclaims<R: Abort + AllocGlobal + Print + Wait>(
+    rt: &R,
+    asked: [u32; 3],
+    given: [u32; 3],
+) -> Result<(), NoMemory> {
+    let calls = [
+        (Call::Reclaim(asked[0]), Answer::Many(u64::from(given[0]))),
+        (Call::Reclaim(asked[1]), Answer::Many(u64::from(given[1]))),
+        (Call::Reclaim(asked[2]), Answer::Many(u64::from(given[2]))),
+    ];
+    let mut scene = after_mark_end(rt, 2, &RECLAIMED)?;
+    try_rows(rt, &mut scene, 2, &RECLAIMED, &calls)
 }
 
 #[test]
 fn reclaims_give_back_by_chunks(rt: HostRuntime) -> Result<(), Fail> {
     for (asked, given) in &RECLAIMS {
-        assert_eq!(rt; reclaimed(&rt, rt.alloc(), *asked)?, *given);
+        try_reclaims(&rt, *asked, *given)?;
     }
     Ok(())
 }
