@@ -2,41 +2,14 @@
 # Refuses each allocation of `goheap` in turn, from the first until a run asks for no more, on the traces under examples/, for the words
 # that read nothing, for a profile with each mark end, for judged pairs, and for four small cases. Each run must end by itself: with status 7, nothing
 # written and the one line for it, or with what it answers when nothing is refused (a list that cannot double may still grow). It
-# prints the number of runs, and ends with status 1 where one ended otherwise. It takes a C compiler, for the few lines that stand
-# between the program and the allocator of the C library.
+# prints the number of runs, and ends with status 1 where one ended otherwise. It takes a C compiler, for `bench/refuse.c`, which
+# stands between the program and the allocator of the C library.
 set -euo pipefail
 cd "$(dirname "$(readlink -f "$0")")/.."
 folder=$(mktemp -d)
 trap 'rm -rf "$folder"' EXIT
 
-# Passes calls on, but for the one whose number REFUSED has, counted from 1; then it writes a byte to descriptor 9.
-cat >"$folder/refuse.c" <<'C'
-#define _GNU_SOURCE
-#include <dlfcn.h>
-#include <stdlib.h>
-#include <unistd.h>
-
-static long calls;
-
-static int refuses(void) {
-  const char *number = getenv("REFUSED");
-  if (++calls != (number ? atol(number) : 0)) return 0;
-  return write(9, "x", 1) == 1;
-}
-
-void *malloc(size_t size) {
-  static void *(*real)(size_t);
-  if (!real) real = dlsym(RTLD_NEXT, "malloc");
-  return refuses() ? NULL : real(size);
-}
-
-void *realloc(void *block, size_t size) {
-  static void *(*real)(void *, size_t);
-  if (!real) real = dlsym(RTLD_NEXT, "realloc");
-  return refuses() ? NULL : real(block, size);
-}
-C
-cc -shared -fPIC -O1 -o "$folder/refuse.so" "$folder/refuse.c" -ldl
+cc -shared -fPIC -O1 -o "$folder/refuse.so" bench/refuse.c -ldl
 
 ./goheap --build
 program=crates/goheap/out/goheap

@@ -30,6 +30,10 @@ use Rattle.span_laws.proofs.Start.{at_here}
 use Rattle.span_set.specs.Tallies.{Frees, MayCount, frees_all, freeing}
 use Rattle.span_set.proofs.Tallies.{freeing-ring, may-still}
 use Rattle.span_set.specs.declared.hand.Hand.{Hand}
+use Rattle.central_lists.specs.Lists.{Caches}
+use Rattle.central_lists.specs.Looks.{Whatever}
+use Rattle.central_lists.specs.Works.{nothing}
+use Rattle.central_lists.specs.declared.answers.FromSets.{FromSets}
 use Rattle.sweeper.specs.Reclaims.{Reclaims}
 use Rattle.sweeper.specs.Sweeps.{Finishes, SweepsOne}
 use Rattle.sweeper.specs.declared.answers.One.{One}
@@ -42,7 +46,7 @@ use Rattle.proc_cache.specs.Leaves.{Holds, Leaves}
 use Rattle.proc_cache.specs.Samples.{CountsOne, counted}
 use Rattle.proc_cache.specs.Serves.{IsUsedCache, Serves}
 use Rattle.proc_cache.proofs.Filling.{holds_serves, holds_used}
-use Rattle.proc_cache.proofs.Holding.{holds_nothing, of_sweeper}
+use Rattle.proc_cache.proofs.Holding.{holds_none, holds_nothing, of_sweeper}
 use Rattle.proc_cache.proofs.Sampling.{serves_to}
 use Rattle.proc_cache.proofs.Serving.{serves_start, used_start}
 use Rattle.large_objects.specs.Larges.{AllocatesLarge}
@@ -154,6 +158,11 @@ module _ (table : TableId) (ring : RingId) (marks : MarkSet) where
   sweep_ready old new c (Ok NothingLeft) r w f = holds_ready old new c w.said r (of_sweeper _ _ old new r.served.idle w) f
   sweep_ready old new c (Err e) r same f = subst (λ (h : Hand). IsReady table ring marks h c) (sym same) r
 
+  -- or found no memory in a look for one
+  pub look_ready : (class : ℕ) (old new : Hand) (c : Cache) (r : Result FromSets NoMemory) → IsReady table ring marks old c → Caches old.worker.view.generation class old new r → Frees marks old new → OnErr r (IsReady table ring marks new c)
+  look_ready class old new c (Ok found) r l f = tt
+  look_ready class old new c (Err e) r l f = holds_ready old new c l.2.said r (holds_none class l.0 nothing nothing Whatever old new r.served.idle l.2 (λ q. refl) (λ q. refl)) f
+
   pub finish_swept : (old new : Hand) (c : Cache) (r : Result (Unit {0}) NoMemory) → c.flushed ≡ old.worker.view.generation → Finishes old new r → OnOk r (HasSwept new.worker c)
   finish_swept old new c (Ok done) stamp w = record {
     flushed = stamp ∙ sym w.does.stays.generation;
@@ -204,6 +213,10 @@ pub sweep_grows : (old new : Hand) (r : Result One NoMemory) → SweepsOne old n
 sweep_grows old new (Ok (Swept note)) w = (w.2.said, w.2.does.log)
 sweep_grows old new (Ok NothingLeft) w = (w.said, w.does.log)
 sweep_grows old new (Err e) same = grows-same old.worker new.worker (ap (λ (h : Hand). h.worker) same)
+
+pub look_grows : (class : ℕ) (old new : Hand) (r : Result FromSets NoMemory) → Caches old.worker.view.generation class old new r → OnErr r (Grows old.worker new.worker)
+look_grows class old new (Ok found) l = tt
+look_grows class old new (Err e) l = (l.2.said, l.2.log)
 
 -- a new processor on the driver of a new table; over variables, so that no list of parts is written out
 first_by : (table : TableId) (ring : RingId) (marks : MarkSet) (pages goal workers n : ℕ) (w : Seen) (h : Hand) (c : Cache) (t : Countdown) → ring.buckets ≡ 2 → marks.pairs ≡ [] → ((p : ℕ) → dead_of marks p ≡ []) → workers ≡ 70

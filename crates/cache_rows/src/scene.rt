@@ -1,7 +1,7 @@
 use crate::objects::Object;
-use crate::turns::{large, prepare, reclaim_pages, small, sweep_next, turn};
-use central_lists::{FromSets, cache_span};
-use fallible_list::{List, NoMemory};
+use crate::turns::{large, look, prepare, reclaim_pages, small, sweep_next, turn};
+use central_lists::FromSets;
+use fallible_list::NoMemory;
 use proc_cache::{Placed, Proc, Refused};
 use profile_cycle::{Count, Ring};
 use span_set::{Hand, Shop};
@@ -10,6 +10,7 @@ use span_table::Shared;
 use std::alloc::Global;
 use std::marker::Model;
 use std::sync::Wait;
+use sweep_lists::Entries;
 use sweeper::One;
 use trace_reader::{Event, Header};
 
@@ -22,7 +23,7 @@ pub struct Scene {
     ring: Ring,
     hand: Hand,
     proc: Proc,
-    objects: List<Object>,
+    objects: Entries<Object>,
     pages: u32,
 }
 
@@ -33,7 +34,7 @@ impl Model for Scene {
 
     ghost view = { λ _. tt };
 
-    ghost invariant = { λ s. IsReady s.shared s.ring s.marks s.hand s.proc × AreObjects s.hand.worker.view.own.log s.objects };
+    ghost invariant = { λ s. IsReady s.shared s.ring s.marks s.hand s.proc × AreObjects s.hand.worker.view.own.log s.objects.items };
 }
 
 impl Scene {
@@ -52,7 +53,7 @@ impl Scene {
         let (shared, driver) = Shared::new(alloc, 1, 512)?;
         let marks = Marks::empty(alloc);
         let hand = Hand::new(alloc, driver, tally);
-        let objects = List::new(alloc);
+        let objects = Entries::new(alloc);
         Ok(Scene {
             alloc,
             shared,
@@ -163,7 +164,7 @@ impl Scene {
             &marks,
         );
         self.marks = marks;
-        self.objects = List::new(self.alloc);
+        self.objects.clear();
         Ok(())
     }
 
@@ -191,14 +192,17 @@ impl Scene {
         sweep_next(rt, &shop, &mut self.hand, &self.proc)
     }
 
-    /// A span of a span class, from 0 to 135, for a cache. The scene is left.
-    pub fn cache_span(self, class: u8) -> Result<FromSets, NoMemory> {
+    /// A span of a span class, from 0 to 135, for a cache. The scene is left; where memory ran out it is given back.
+    pub fn cache_span(self, class: u8) -> Result<FromSets, Scene> {
         let Scene {
+            alloc,
             shared,
             marks,
             ring,
             mut hand,
-            ..
+            proc,
+            objects,
+            pages,
         } = self;
         let shop = Shop {
             shared: &shared,
@@ -207,7 +211,19 @@ impl Scene {
             distance: 8192,
             pages: 0,
         };
-        cache_span(&shop, &mut hand, class.min(135))
+        match look(&shop, &mut hand, &proc, class.min(135)) {
+            Ok(found) => Ok(found),
+            Err(NoMemory) => Err(Scene {
+                alloc,
+                shared,
+                marks,
+                ring,
+                hand,
+                proc,
+                objects,
+                pages,
+            }),
+        }
     }
 
     /// The sweeps so far, the oldest first.

@@ -97,15 +97,31 @@ fn make<R: Wait>(
     }
 }
 
-// The calls answer as they should.
-fn try_rows<R: Abort + Wait>(
+// Makes a call that found no memory once more, and says so.
+fn make_again<R: Print + Wait>(
+    rt: &R,
+    scene: &mut Scene,
+    live: &[(u32, u32)],
+    call: Call,
+) -> Result<Answer, NoMemory> {
+    let Ok(()) = println!(rt; "again") else {
+        return Err(NoMemory);
+    };
+    make(rt, scene, live, call)
+}
+
+// The calls answer as they should. One that finds no memory is made again, and answers then as it would have.
+fn try_rows<R: Abort + Print + Wait>(
     rt: &R,
     scene: &mut Scene,
     live: &[(u32, u32)],
     rows: &[(Call, Answer)],
 ) -> Result<(), NoMemory> {
     for (made, wanted) in rows {
-        let found = make(rt, scene, live, *made)?;
+        let found = match make(rt, scene, live, *made) {
+            Ok(found) => found,
+            Err(NoMemory) => make_again(rt, scene, live, *made)?,
+        };
         assert_eq!(rt; found, *wanted);
     }
     Ok(())
@@ -389,9 +405,162 @@ const SAMPLES: [Case; 3] = [
     },
 ];
 
+// Calls that sweep more spans than a hand has room for at first, so that memory may run out in the middle of each step of an allocation.
+const MANY: [Case; 6] = [
+    // a flush goes through six classes in rising order; two spans have an object still, and are found again with room
+    Case {
+        rate: 0,
+        live: &[(1, 0), (4, 0)],
+        calls: &[
+            (Call::Small(8, true, 0), Answer::At(0, 0)),
+            (Call::Small(16, true, 0), Answer::At(1, 0)),
+            (Call::Small(24, true, 0), Answer::At(2, 0)),
+            (Call::Small(32, true, 0), Answer::At(3, 0)),
+            (Call::Small(48, true, 0), Answer::At(4, 0)),
+            (Call::Small(64, true, 0), Answer::At(5, 0)),
+            (Call::MarkEnd, Answer::Done),
+            (Call::Small(80, true, 0), Answer::At(0, 0)),
+            (Call::Sweeps, Answer::Many(6)),
+            (Call::Sweep(3), Answer::Swept(1, 3, 0, 1)),
+            (Call::Sweep(4), Answer::Swept(1, 4, 1, 0)),
+            (Call::Sweep(5), Answer::Swept(1, 5, 0, 1)),
+            (Call::Small(16, true, 0), Answer::At(1, 16)),
+            (Call::Small(48, true, 0), Answer::At(4, 48)),
+            (Call::Sweeps, Answer::Many(6)),
+        ],
+    },
+    // a payment sweeps five spans of another class behind the flush of one: six pages are due for 8192 bytes
+    Case {
+        rate: 0,
+        live: &[(0, 0), (1, 0), (2, 0), (3, 0), (4, 0), (5, 0)],
+        calls: &[
+            (Call::Small(8192, true, 0), Answer::At(0, 0)),
+            (Call::Small(8192, true, 0), Answer::At(1, 0)),
+            (Call::Small(8192, true, 0), Answer::At(2, 0)),
+            (Call::Small(8192, true, 0), Answer::At(3, 0)),
+            (Call::Small(8192, true, 0), Answer::At(4, 0)),
+            (Call::Small(8192, true, 0), Answer::At(5, 0)),
+            (Call::MarkEnd, Answer::Done),
+            (Call::Pace(6), Answer::Done),
+            (Call::Small(16, true, 0), Answer::At(6, 0)),
+            (Call::Sweeps, Answer::Many(6)),
+            (Call::Sweep(0), Answer::Swept(1, 5, 1, 0)),
+            (Call::Sweep(5), Answer::Swept(1, 4, 1, 0)),
+        ],
+    },
+    // the same before a large object: 2 * 6 pages are due for its six, less the six that are asked for
+    Case {
+        rate: 0,
+        live: &[(0, 0), (1, 0), (2, 0), (3, 0), (4, 0), (5, 0)],
+        calls: &[
+            (Call::Small(8192, true, 0), Answer::At(0, 0)),
+            (Call::Small(8192, true, 0), Answer::At(1, 0)),
+            (Call::Small(8192, true, 0), Answer::At(2, 0)),
+            (Call::Small(8192, true, 0), Answer::At(3, 0)),
+            (Call::Small(8192, true, 0), Answer::At(4, 0)),
+            (Call::Small(8192, true, 0), Answer::At(5, 0)),
+            (Call::MarkEnd, Answer::Done),
+            (Call::Pace(2), Answer::Done),
+            (Call::Large(6, 0), Answer::At(6, 0)),
+            (Call::Sweeps, Answer::Many(6)),
+            (Call::Sweep(0), Answer::Swept(1, 5, 1, 0)),
+            (Call::Sweep(5), Answer::Swept(1, 4, 1, 0)),
+        ],
+    },
+    // the looks for a span sweep six full ones behind the flush of a seventh, and then a new one is made
+    Case {
+        rate: 0,
+        live: &[
+            (0, 0),
+            (0, 1),
+            (1, 0),
+            (1, 1),
+            (2, 0),
+            (2, 1),
+            (3, 0),
+            (3, 1),
+            (4, 0),
+            (4, 1),
+            (5, 0),
+            (5, 1),
+            (6, 0),
+            (6, 1),
+        ],
+        calls: &[
+            (Call::Small(4096, true, 0), Answer::At(0, 0)),
+            (Call::Small(4096, true, 0), Answer::At(0, 4096)),
+            (Call::Small(4096, true, 0), Answer::At(1, 0)),
+            (Call::Small(4096, true, 0), Answer::At(1, 4096)),
+            (Call::Small(4096, true, 0), Answer::At(2, 0)),
+            (Call::Small(4096, true, 0), Answer::At(2, 4096)),
+            (Call::Small(4096, true, 0), Answer::At(3, 0)),
+            (Call::Small(4096, true, 0), Answer::At(3, 4096)),
+            (Call::Small(4096, true, 0), Answer::At(4, 0)),
+            (Call::Small(4096, true, 0), Answer::At(4, 4096)),
+            (Call::Small(4096, true, 0), Answer::At(5, 0)),
+            (Call::Small(4096, true, 0), Answer::At(5, 4096)),
+            (Call::Small(4096, true, 0), Answer::At(6, 0)),
+            (Call::Small(4096, true, 0), Answer::At(6, 4096)),
+            (Call::MarkEnd, Answer::Done),
+            (Call::Small(4096, true, 0), Answer::At(7, 0)),
+            (Call::Sweeps, Answer::Many(7)),
+            (Call::Sweep(0), Answer::Swept(1, 6, 2, 0)),
+            (Call::Sweep(6), Answer::Swept(1, 5, 2, 0)),
+            (Call::Small(4096, true, 0), Answer::At(7, 4096)),
+            (Call::Small(4096, true, 0), Answer::At(8, 0)),
+            (Call::Sweeps, Answer::Many(7)),
+        ],
+    },
+    // a large object needs the whole region: five spans go back behind the flush of one
+    Case {
+        rate: 0,
+        live: &[],
+        calls: &[
+            (Call::Small(8192, true, 0), Answer::At(0, 0)),
+            (Call::Small(8192, true, 0), Answer::At(1, 0)),
+            (Call::Small(8192, true, 0), Answer::At(2, 0)),
+            (Call::Small(8192, true, 0), Answer::At(3, 0)),
+            (Call::Small(8192, true, 0), Answer::At(4, 0)),
+            (Call::Small(8192, true, 0), Answer::At(5, 0)),
+            (Call::MarkEnd, Answer::Done),
+            (Call::Large(512, 0), Answer::At(0, 0)),
+            (Call::Sweeps, Answer::Many(6)),
+            (Call::Sweep(0), Answer::Swept(1, 5, 0, 1)),
+        ],
+    },
+    // where all live on, all are swept before a large object is refused: the lines of six spans stand before the miss, and the miss before the
+    // span of the next one, which finds 506 pages
+    Case {
+        rate: 0,
+        live: &[(0, 0), (1, 0), (2, 0), (3, 0), (4, 0), (5, 0)],
+        calls: &[
+            (Call::Small(8192, true, 0), Answer::At(0, 0)),
+            (Call::Small(8192, true, 0), Answer::At(1, 0)),
+            (Call::Small(8192, true, 0), Answer::At(2, 0)),
+            (Call::Small(8192, true, 0), Answer::At(3, 0)),
+            (Call::Small(8192, true, 0), Answer::At(4, 0)),
+            (Call::Small(8192, true, 0), Answer::At(5, 0)),
+            (Call::MarkEnd, Answer::Done),
+            (Call::Large(507, 0), Answer::NoRun(6)),
+            (Call::Sweeps, Answer::Many(6)),
+            (Call::Sweep(0), Answer::Swept(1, 5, 1, 0)),
+            (Call::Large(506, 0), Answer::At(6, 0)),
+            (Call::Small(8, true, 0), Answer::NoRun(8)),
+        ],
+    },
+];
+
+// A scene at a rate, where memory ran out a second one.
+fn start<R: AllocGlobal>(rt: &R, rate: u64) -> Result<Scene, NoMemory> {
+    match Scene::start(rt.alloc(), rate) {
+        Ok(scene) => Ok(scene),
+        Err(NoMemory) => Scene::start(rt.alloc(), rate),
+    }
+}
+
 // The calls of a case answer as they should. A scene is let go in one place, since each place costs the proof much.
-fn try_case<R: Abort + AllocGlobal + Wait>(rt: &R, row: &Case) -> Result<(), NoMemory> {
-    let mut scene = Scene::start(rt.alloc(), row.rate)?;
+fn try_case<R: Abort + AllocGlobal + Print + Wait>(rt: &R, row: &Case) -> Result<(), NoMemory> {
+    let mut scene = start(rt, row.rate)?;
     try_rows(rt, &mut scene, row.live, row.calls)
 }
 
@@ -404,6 +573,9 @@ fn calls_answer_by_the_rules(rt: HostRuntime) -> Result<(), Fail> {
         try_case(&rt, row)?;
     }
     for row in &SAMPLES {
+        try_case(&rt, row)?;
+    }
+    for row in &MANY {
         try_case(&rt, row)?;
     }
     Ok(())

@@ -1,10 +1,11 @@
 //! What a processor does on the driver of a table, beside whom no worker has anything: it places objects, and goes over a mark end.
 
-ghost use Rattle.std.specs.Prelude.{◌≡◌, ◌<◌, ◌≤◌, IfOk, OnOk};
+ghost use Rattle.std.specs.Prelude.{◌≡◌, ◌<◌, ◌≤◌, IfOk, OnErr, OnOk};
 ghost use Rattle.cache_rows.specs.Ready.{AreObjects, Grows, HasSettled, HasSwept, IsPlaced, IsPrepared, IsReady};
 
 use crate::objects::{Object, mark_all, slot_on_page};
-use fallible_list::{List, NoMemory};
+use central_lists::{FromSets, cache_span};
+use fallible_list::NoMemory;
 use large_objects::alloc_large;
 use proc_cache::{Placed, Proc, Refused, alloc, count_placed, flush};
 use profile_cycle::Ring;
@@ -14,6 +15,7 @@ use span_state::Marks;
 use span_table::Shared;
 use std::alloc::Global;
 use std::sync::Wait;
+use sweep_lists::Entries;
 use sweeper::{One, finish, reclaim, sweep_one};
 use trace_reader::Event;
 
@@ -26,30 +28,30 @@ pub(crate) fn small<R: Wait>(
     shop: &Shop,
     hand: &mut Hand,
     proc: &mut Proc,
-    objects: &mut List<Object>,
+    objects: &mut Entries<Object>,
     event: Event,
     bucket: u32,
 ) -> Result<Placed, Refused>
     requires ready { IsReady shop.now.shared.now shop.now.ring.now shop.now.marks.now hand.old proc.old }
-    requires objects { AreObjects hand.old.worker.view.own.log objects.old }
+    requires objects { AreObjects hand.old.worker.view.own.log objects.old.items }
     requires distance { 8192 ≤ shop.now.distance }
     requires some { 1 ≤ event.size }
     requires small { event.size ≤ 32768 }
     requires bucket { bucket < 2 }
     ensures ready { IsReady shop.now.shared.now shop.now.ring.now shop.now.marks.now hand.new proc.new }
-    ensures objects { AreObjects hand.new.worker.view.own.log objects.new }
+    ensures objects { AreObjects hand.new.worker.view.own.log objects.new.items }
 {
+    let Ok(()) = objects.reserve_one() else {
+        return Err(Refused::NoMemory);
+    };
     let placed = place(rt, shop, hand, proc, event, bucket)?;
     let Some(slot) = slot_on_page(event.size) else {
         return Ok(placed);
     };
-    let object = Object {
+    objects.push(Object {
         addr: placed.addr,
         slot,
-    };
-    let Ok(()) = objects.push(object) else {
-        return Err(Refused::NoMemory);
-    };
+    });
     Ok(placed)
 }
 
@@ -163,6 +165,23 @@ pub(crate) fn reclaim_pages<R: Wait>(
     reclaim(rt, shop, hand, pages)
 }
 
+// A span of a span class for a cache; and where there is no memory for the looks, a hand that may be called again.
+pub(crate) fn look(
+    shop: &Shop,
+    hand: &mut Hand,
+    proc: &Proc,
+    class: u8,
+) -> Result<FromSets, NoMemory>
+    requires ready { IsReady shop.now.shared.now shop.now.ring.now shop.now.marks.now hand.old proc.now }
+    requires distance { 8192 ≤ shop.now.distance }
+    requires class { class < 136 }
+    ensures ready { OnErr result (IsReady shop.now.shared.now shop.now.ring.now shop.now.marks.now hand.new proc.now) }
+    ensures grows { OnErr result (Grows hand.old.worker hand.new.worker) }
+{
+    let _proc = proc;
+    cache_span(shop, hand, class)
+}
+
 // The next sweep of a span in the unswept sets.
 pub(crate) fn sweep_next<R: Wait>(
     rt: &R,
@@ -203,11 +222,11 @@ pub(crate) fn prepare<R: Wait>(
     shop: &Shop,
     hand: &mut Hand,
     proc: &mut Proc,
-    objects: &List<Object>,
+    objects: &Entries<Object>,
     live: &[(u32, u32)],
 ) -> Result<Marks, NoMemory>
     requires ready { IsReady shop.now.shared.now shop.now.ring.now shop.now.marks.now hand.old proc.old }
-    requires objects { AreObjects hand.old.worker.view.own.log objects.now }
+    requires objects { AreObjects hand.old.worker.view.own.log objects.now.items }
     requires distance { 8192 ≤ shop.now.distance }
     ensures ready { IsReady shop.now.shared.now shop.now.ring.now shop.now.marks.now hand.new proc.new }
     ensures grows { Grows hand.old.worker hand.new.worker }

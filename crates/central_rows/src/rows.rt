@@ -140,33 +140,92 @@ fn try_calls<R: Abort + AllocGlobal + Wait>(
     Ok(())
 }
 
-// The state in which the call is made. A scene is let go in one place, since each place costs the proof much.
-fn ready<R: Abort + AllocGlobal + Wait>(rt: &R, row: &Case) -> Result<Scene, NoMemory> {
+// The state in which the call is made, a second one where memory ran out. A scene is let go in few places, since each place costs the proof much.
+fn prepared<R: Abort + AllocGlobal + Wait>(rt: &R, row: &Case) -> Result<Scene, NoMemory> {
     let mut scene = Scene::start(rt.alloc(), 0)?;
     try_calls(rt, &mut scene, row)?;
     Ok(scene)
 }
 
-// The answer to a processor that asks for a span of the class.
-fn asked(scene: Scene) -> Result<Answer, NoMemory> {
-    match scene.cache_span(CLASS)? {
-        FromSets::SweptPartial(body) => Ok(Answer::Partial(body.page)),
-        FromSets::SweptHere(body) => Ok(Answer::Here(body.page)),
+fn ready<R: Abort + AllocGlobal + Wait>(rt: &R, row: &Case) -> Result<Scene, NoMemory> {
+    match prepared(rt, row) {
+        Ok(scene) => Ok(scene),
+        Err(NoMemory) => prepared(rt, row),
+    }
+}
+
+fn answer_of(found: FromSets) -> Answer {
+    match found {
+        FromSets::SweptPartial(body) => Answer::Partial(body.page),
+        FromSets::SweptHere(body) => Answer::Here(body.page),
         FromSets::NeedFresh { swept, tried } => match swept {
-            Look::Empty { at } => Ok(Answer::Fresh(at, tried)),
-            Look::NotYet { at } => Ok(Answer::NotYet(at, tried)),
+            Look::Empty { at } => Answer::Fresh(at, tried),
+            Look::NotYet { at } => Answer::NotYet(at, tried),
         },
     }
 }
 
-fn try_case<R: Abort + AllocGlobal + Wait>(rt: &R, row: &Case) -> Result<(), NoMemory> {
-    let found = asked(ready(rt, row)?)?;
-    assert_eq!(rt; found, row.wanted);
+// The answer to a processor that asks for a span of the class. Where memory ran out it asks once more, and says so; then the number of sweeps of
+// the first call comes, too.
+fn asked<R: Print>(rt: &R, scene: Scene) -> Result<(Answer, Option<usize>), NoMemory> {
+    let before = scene.sweeps().len();
+    let left = match scene.cache_span(CLASS) {
+        Ok(found) => return Ok((answer_of(found), None)),
+        Err(left) => left,
+    };
+    let swept = left.sweeps().len().saturating_sub(before);
+    let Ok(()) = println!(rt; "again") else {
+        return Err(NoMemory);
+    };
+    match left.cache_span(CLASS) {
+        Ok(found) => Ok((answer_of(found), Some(swept))),
+        Err(_) => Err(NoMemory),
+    }
+}
+
+// Whether entries of the class's sets are dropped: the page reclaimer swept their spans.
+fn drops(row: &Case) -> bool {
+    for (made, _) in row.calls {
+        if matches!(made, Call::Reclaim) {
+            return true;
+        }
+    }
+    false
+}
+
+// Whether a second call answers as wanted of both: the same span; or none, and then it tried what the first had left. Each sweep of that one was
+// a try, and each entry that it dropped.
+fn is_rest(found: Answer, wanted: Answer, swept: usize, drops: bool) -> bool {
+    match (found, wanted) {
+        (Answer::Fresh(at, rest), Answer::Fresh(from, tries)) => {
+            let both = swept.saturating_add(rest as usize);
+            at == from && (both == tries as usize || drops && both < tries as usize)
+        }
+        _ => found == wanted,
+    }
+}
+
+// A call answers as it should; and, where memory runs out in it, a second one behind it.
+fn try_case<R: Abort + AllocGlobal + Print + Wait>(
+    rt: &R,
+    row: &Case,
+    second: Answer,
+) -> Result<(), NoMemory> {
+    let (found, first) = asked(rt, ready(rt, row)?)?;
+    match first {
+        None => assert_eq!(rt; found, row.wanted),
+        Some(swept) => {
+            assert!(rt;
+                is_rest(found, second, swept, drops(row)),
+                "{found:?} behind {swept}"
+            )
+        }
+    }
     Ok(())
 }
 
 // The first span with room is kept, also the hundredth.
-const WAITING: [Case; 10] = [
+const WAITING: [Case; 8] = [
     Case {
         runs: &[(3, 2)],
         later: &[],
@@ -205,12 +264,6 @@ const WAITING: [Case; 10] = [
         wanted: Answer::Fresh(0, 100),
     },
     Case {
-        runs: &[(101, 2)],
-        later: &[],
-        calls: &[],
-        wanted: Answer::Fresh(0, 100),
-    },
-    Case {
         runs: &[(98, 2), (1, 1)],
         later: &[],
         calls: &[],
@@ -222,16 +275,10 @@ const WAITING: [Case; 10] = [
         calls: &[],
         wanted: Answer::Here(99),
     },
-    Case {
-        runs: &[(100, 2), (1, 1)],
-        later: &[],
-        calls: &[],
-        wanted: Answer::Fresh(0, 100),
-    },
 ];
 
 // Where the page reclaimer went over the chunk before, the entries of the spans that it swept are dropped, and are tries too.
-const DROPPED: [Case; 8] = [
+const DROPPED: [Case; 6] = [
     Case {
         runs: &[(1, 0), (1, 2), (1, 0), (1, 1)],
         later: &[],
@@ -261,18 +308,6 @@ const DROPPED: [Case; 8] = [
         later: &[],
         calls: &[(Call::Reclaim, Answer::Pages(49))],
         wanted: Answer::Here(99),
-    },
-    Case {
-        runs: &[(50, 0), (50, 2), (1, 1)],
-        later: &[],
-        calls: &[(Call::Reclaim, Answer::Pages(50))],
-        wanted: Answer::Fresh(0, 100),
-    },
-    Case {
-        runs: &[(100, 0), (1, 1)],
-        later: &[],
-        calls: &[(Call::Reclaim, Answer::Pages(100))],
-        wanted: Answer::Fresh(0, 100),
     },
     Case {
         runs: &[(99, 0), (1, 1)],
@@ -320,7 +355,7 @@ const SWEPT: [Case; 5] = [
 // Behind a second mark end the spans with room wait in the partial set, and the full ones in the full set. The partial set is tried before
 // the full one, and both together a hundred times. A span of the partial set has room still, so it is the first to be kept, but for those
 // that the reclaimer gave back.
-const BOTH: [Case; 6] = [
+const BOTH: [Case; 5] = [
     Case {
         runs: &[(1, 2), (1, 1), (1, 2), (1, 1)],
         later: &[(1, 2), (1, 1), (1, 2), (1, 1)],
@@ -362,30 +397,76 @@ const BOTH: [Case; 6] = [
         ],
         wanted: Answer::Here(99),
     },
-    Case {
-        runs: &[(60, 1), (41, 2)],
-        later: &[(60, 0), (40, 2), (1, 1)],
-        calls: &[
-            (Call::MarkEnd, Answer::Done),
-            (Call::Reclaim, Answer::Pages(60)),
-        ],
-        wanted: Answer::Fresh(0, 100),
-    },
+];
+
+// Where a hundred entries were tried, one behind them is not. A second call, behind one in which memory ran out, comes to it; its answer follows.
+const STOPPED: [(Case, Answer); 5] = [
+    (
+        Case {
+            runs: &[(101, 2)],
+            later: &[],
+            calls: &[],
+            wanted: Answer::Fresh(0, 100),
+        },
+        Answer::Fresh(0, 101),
+    ),
+    (
+        Case {
+            runs: &[(100, 2), (1, 1)],
+            later: &[],
+            calls: &[],
+            wanted: Answer::Fresh(0, 100),
+        },
+        Answer::Here(100),
+    ),
+    (
+        Case {
+            runs: &[(50, 0), (50, 2), (1, 1)],
+            later: &[],
+            calls: &[(Call::Reclaim, Answer::Pages(50))],
+            wanted: Answer::Fresh(0, 100),
+        },
+        Answer::Here(100),
+    ),
+    (
+        Case {
+            runs: &[(100, 0), (1, 1)],
+            later: &[],
+            calls: &[(Call::Reclaim, Answer::Pages(100))],
+            wanted: Answer::Fresh(0, 100),
+        },
+        Answer::Here(100),
+    ),
+    (
+        Case {
+            runs: &[(60, 1), (41, 2)],
+            later: &[(60, 0), (40, 2), (1, 1)],
+            calls: &[
+                (Call::MarkEnd, Answer::Done),
+                (Call::Reclaim, Answer::Pages(60)),
+            ],
+            wanted: Answer::Fresh(0, 100),
+        },
+        Answer::Here(100),
+    ),
 ];
 
 #[test]
 fn cached_spans_come_by_the_rules(rt: HostRuntime) -> Result<(), Fail> {
     for row in &WAITING {
-        try_case(&rt, row)?;
+        try_case(&rt, row, row.wanted)?;
     }
     for row in &DROPPED {
-        try_case(&rt, row)?;
+        try_case(&rt, row, row.wanted)?;
     }
     for row in &SWEPT {
-        try_case(&rt, row)?;
+        try_case(&rt, row, row.wanted)?;
     }
     for row in &BOTH {
-        try_case(&rt, row)?;
+        try_case(&rt, row, row.wanted)?;
+    }
+    for (row, second) in &STOPPED {
+        try_case(&rt, row, *second)?;
     }
     Ok(())
 }

@@ -1,13 +1,15 @@
-use Rattle.std.proofs.Common.{subst, sym}
+use Rattle.std.proofs.Common.{ap, subst, sym}
 use Rattle.cache_rows.proofs.Living.{objects-grow, objects-none}
+use Rattle.sweep_lists.specs.Room.{Roomy}
+use Rattle.cache_rows.specs.declared.objects.Object.{Object}
 use Rattle.cache_rows.specs.Ready.{AreObjects}
 use Rattle.cache_rows.proofs.scene.Scene.mark_end.Goals as goal
 
 pub invariant_of-self : goal.invariant_of-self
-invariant_of-self g c = (c.prepare.ensures.ready, objects-grow c.self.inside.hand.worker c.prepare.new.hand.worker c.self.inside.objects c.prepare.ensures.grows c.self.invariant.1)
+invariant_of-self g c = (c.prepare.ensures.ready, objects-grow c.self.inside.hand.worker c.prepare.new.hand.worker c.self.inside.objects.items c.prepare.ensures.grows c.self.invariant.1)
 
 pub invariant_of-self-2 : goal.invariant_of-self-2
 invariant_of-self-2 g c = (
   c.turn.ensures,
-  subst (AreObjects c.turn.new.hand.worker.view.own.log) (sym c.new.ensures) (objects-none c.turn.new.hand.worker.view.own.log),
+  subst (AreObjects c.turn.new.hand.worker.view.own.log) (sym (ap (λ (r : Roomy Object). r.items) c.clear.ensures)) (objects-none c.turn.new.hand.worker.view.own.log),
 )
