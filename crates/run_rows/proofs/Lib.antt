@@ -2,3 +2,4 @@ pub mod TwoWorkers
 mod Reused
 pub mod Slips
 pub mod Broken
+pub mod Missing

@@ -1,2 +1,3 @@
 pub mod TwoWorkers
 pub mod Slips
+pub mod Refusals

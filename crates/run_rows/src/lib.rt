@@ -2,8 +2,10 @@
 //!
 //! `specs/TwoWorkers.antt` has a run of two processors, and `specs/Slips.antt` the slips: for each fact of a cycle the same
 //! cycle without it, named after what is wrong. `proofs/Reused.antt` has a run in which a page is given back and taken again
-//! in one cycle, wholly by the steps.
+//! in one cycle, wholly by the steps. `specs/Refusals.antt` says what a refusal in a log tells of the journal.
 #![tactic(auto)]
+
+mod refusals;
 
 ghost use Rattle.std.specs.Prelude.{ℕ, ◌&&◌, ◌==◌, [], ◌∷◌, ◌++◌};
 ghost use Rattle.worker_log.specs.Logs.{placings};
@@ -17,6 +19,8 @@ ghost use Rattle.run_laws.specs.Facts.{Facts, Marks, Writes};
 ghost use Rattle.run_laws.specs.Reached.{Began, Reached};
 ghost use Rattle.run_rows.specs.TwoWorkers.{bits0, bits1, cycle1, first, lines0, lines1, marked, note, notes1, object, second, small};
 ghost use Rattle.run_rows.specs.Slips.{NoneHas, Begins, AllBreak, marked_again, wrong_lines, wrong_sweeps, wrong_notes, wrong_marks, wrong_places, wrong_bits, wrong_filling, wrong_objects, wrong_refusals};
+
+pub use refusals::a_refusal_is_a_miss_of_the_journal;
 
 /// The run of two processors begins cycle 1, which has its facts, and reaches its end.
 pub fn two_workers_reach_the_end()
