@@ -22,6 +22,7 @@ use Rattle.span_laws.specs.Logs.{is_placing_at}
 use Rattle.span_laws.specs.Views.{Seen}
 use Rattle.proc_cache.specs.Cache.{Cache, address_of}
 use Rattle.cache_rows.specs.declared.objects.Object.{Object}
+use Rattle.sweep_lists.specs.Room.{Roomy}
 use Rattle.cache_rows.specs.Ready.{AreLive, AreObjects, Grows, HasSettled, IsAt, IsObject, IsPlaced, IsServed}
 
 -- ---- logs
@@ -147,6 +148,12 @@ object-more w objects more o size class slot are p least is one low same e = sub
 
     each : AreObjects w.view.own.log (objects ++ o ∷ [])
     each x i = elim (in_pushed x o objects i) [ inl j ↦ are x j | inr q ↦ subst (IsObject w.view.own.log) q new ]
+
+-- the same of a list with room
+pub object-pushed : (w : Seen) (objects : List Object) (mid more : Roomy Object) (o : Object) (size class slot : ℕ) → AreObjects w.view.own.log objects → IsPlaced size o.addr w → IsLeastClass size class → slot ≡ slot_of class → pages_of class ≡ 1 → 1 ≤ slot → o.slot ≡ slot
+    → mid.items ≡ objects → more ≡ record mid { items = mid.items ++ o ∷ [] } → AreObjects w.view.own.log more.items
+object-pushed w objects mid more o size class slot are p least is one low same e m =
+    object-more w objects more.items o size class slot are p least is one low same (ap (λ (r : Roomy Object). r.items) m ∙ ap (λ (l : List Object). l ++ o ∷ []) e)
 
 -- ---- marks
 

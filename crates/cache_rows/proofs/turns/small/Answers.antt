@@ -1,8 +1,6 @@
-use Rattle.std.proofs.Common.{◌∙◌, List, ◌++◌, ap, refl, subst, sym}
-use Rattle.sweep_lists.specs.Room.{Roomy}
-use Rattle.cache_rows.specs.declared.objects.Object.{Object}
+use Rattle.std.proofs.Common.{refl, subst, sym}
 use Rattle.cache_rows.specs.Ready.{AreObjects}
-use Rattle.cache_rows.proofs.Living.{object-more, objects-grow}
+use Rattle.cache_rows.proofs.Living.{object-pushed, objects-grow}
 use Rattle.cache_rows.proofs.turns.small.Goals as goal
 
 pub returns-in_err-placed-clause-objects : goal.returns-in_err-placed-clause-objects
@@ -16,5 +14,5 @@ returns-in_default-slot_on_page-clause-objects g c = subst (AreObjects c.place.n
 
 pub returns-clause-objects : goal.returns-clause-objects
 returns-clause-objects g c = let e = c.in-Some.ensures in
-    object-more c.place.new.hand.worker c.args.objects.now.items c.push.new.self.items _ c.args.event.size e.0 c.in-Some.slot (objects-grow c.args.hand.now.worker c.place.new.hand.worker c.args.objects.now.items c.place.ensures.grows c.requires.objects)
-    c.in_ok-placed.ensures.placed e.1 e.2 e.3 e.4 refl (ap (λ (r : Roomy Object). r.items) c.push.ensures ∙ ap (λ (l : List Object). l ++ _) c.reserve_one.ensures.items)
+    object-pushed c.place.new.hand.worker c.args.objects.now.items c.reserve_one.new.self c.push.new.self _ c.args.event.size e.0 c.in-Some.slot (objects-grow c.args.hand.now.worker c.place.new.hand.worker c.args.objects.now.items c.place.ensures.grows c.requires.objects)
+    c.in_ok-placed.ensures.placed e.1 e.2 e.3 e.4 refl c.reserve_one.ensures.items c.push.ensures
