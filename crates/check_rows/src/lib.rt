@@ -2,13 +2,15 @@
 //!
 //! `tests` tries the rules 1 to 4 alone, over the tables of `answers`, `journal`, `misses` and `places`; `totals` tries rule 8
 //! alone; and `later` all nine rules, over its own table, where nothing is sampled, and that of `profile`, where all is.
-//! `beside` tries each of these reports by the judge in pieces too.
+//! `beside` tries each of these reports by the judge in pieces too. `cached` tries rule 2 with page caches, over its own table.
 #![tactic(auto)]
 
 #[cfg(test)]
 mod answers;
 #[cfg(test)]
 mod beside;
+#[cfg(test)]
+mod cached;
 #[cfg(test)]
 mod journal;
 #[cfg(test)]

@@ -103,7 +103,7 @@ pub(crate) fn fill<T: Copy>(items: &mut [T], run: Run, value: T) {
 }
 
 /// How many pages have this owner.
-fn count(owners: &[Option<u32>], first: u32) -> u32 {
+pub(crate) fn count(owners: &[Option<u32>], first: u32) -> u32 {
     let mut pages = 0u32;
     for owner in owners {
         if *owner == Some(first) {

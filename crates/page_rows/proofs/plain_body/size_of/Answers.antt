@@ -1,4 +1,4 @@
-use Rattle.std.proofs.Common.{◌+◌, ◌<◌, ◌≤◌, ◌%◌, ◌/◌, arith}
+use Rattle.std.proofs.Common.{◌+◌, ◌%◌, ◌/◌, arith}
 use Rattle.page_rows.proofs.Sizes.{class_size, large_size}
 use Rattle.page_rows.proofs.plain_body.size_of.Goals as goal
 

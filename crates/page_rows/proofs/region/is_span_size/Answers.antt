@@ -1,4 +1,4 @@
-use Rattle.std.proofs.Common.{◌<◌, ◌≤◌, ◌*◌, ◌/◌, arith}
+use Rattle.std.proofs.Common.{arith}
 use Rattle.page_rows.proofs.Sizes.{small_size}
 use Rattle.page_rows.proofs.region.is_span_size.Goals as goal
 

@@ -1,0 +1,58 @@
+//! Rule 2 for journals with page caches, line by line.
+
+ghost use Rattle.std.specs.Prelude.{◌≡◌, IfErr, OnOk};
+ghost use Rattle.cycle_history.specs.Before.{IsLimited};
+ghost use Rattle.report_check.specs.Fault.{IsFaultOf};
+ghost use Rattle.cached_journal.specs.Rule.{BreaksCachedJournal, HasCachedJournal, caching_procs};
+
+use crate::ending::end_of;
+use cycle_history::Report;
+use page_replay::{Replay, cycle_of};
+use report_check::CheckFault;
+use std::alloc::Global;
+use trace_reader::Trace;
+
+/// The first version of the format whose traces have page caches.
+const CACHING_VERSION: u8 = 2;
+
+/// Whether the report's journal is one that pages of the trace's region and goal can have, with a page cache for each processor where the
+/// trace is of version 2: rule 2. A line that may not stand breaks it, and `end` does where a block is never dropped.
+pub fn judge_cached_journal(alloc: Global, trace: &Trace, report: &Report) -> Result<(), CheckFault>
+    requires limited { IsLimited trace.now }
+    ensures journal { OnOk result (HasCachedJournal trace.now report.now) }
+    ensures fault { IfErr result (IsFaultOf 2 (BreaksCachedJournal trace.now report.now)) }
+{
+    let last = trace.cycles.len() as u32 - 1;
+    let answers = report.answers.as_slice().len() as u64;
+    let header = trace.header;
+    let mut replay = Replay::new(alloc, header.chunks, procs_of(trace), header.goal)?;
+    let mut number = 0;
+    for line in report.journal.as_slice() {
+        number += 1;
+        let cycle = cycle_of(*line);
+        if last < cycle || !replay.accept(*line)? {
+            return Err(CheckFault::Broken {
+                rule: 2,
+                line: answers + number,
+            });
+        }
+    }
+    if !replay.is_settled() {
+        return Err(CheckFault::Broken {
+            rule: 2,
+            line: end_of(report),
+        });
+    }
+    Ok(())
+}
+
+// How many processors have page caches.
+fn procs_of(trace: &Trace) -> u32
+    ensures { result ≡ caching_procs trace.now }
+{
+    if trace.header.version >= CACHING_VERSION {
+        trace.header.procs
+    } else {
+        0
+    }
+}
