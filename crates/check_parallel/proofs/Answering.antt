@@ -1,6 +1,6 @@
 -- Answers that are handed on.
 use Rattle.std.specs.Prelude.{IfErr, IfOk, IsErrAnd, OnOk}
-use Rattle.std.proofs.Common.{◌≡◌, Result, Ok, Err, sym, subst}
+use Rattle.std.proofs.Common.{◌≡◌, Bool, true, Result, Ok, Err, sym, subst}
 use Rattle.report_check.specs.declared.fault.CheckFault.{CheckFault}
 
 -- of an answer without a fault
@@ -33,3 +33,8 @@ err-both (Err e) fault M P h p = (tt, subst P (sym h) p)
 pub err-if : {T : Type 0} (r : Result T CheckFault) (fault : CheckFault) (M : T → Type 0) (P : CheckFault → Type 0) → IsErrAnd r (λ (e : CheckFault). e ≡ fault) → P fault → IfOk r M × IfErr r P
 err-if (Ok x) fault M P h p = absurd h
 err-if (Err e) fault M P h p = (tt, subst P (sym h) p)
+
+-- what all of two parts have
+pub ok-done : {E : Type 0} (r : Result Bool E) (P Q : Type 0) → (P → Q) → IfOk r (λ (all : Bool). all ≡ true → P) → IfOk r (λ (all : Bool). all ≡ true → Q)
+ok-done (Ok x) P Q to h = λ e. to (h e)
+ok-done (Err fault) P Q to h = tt

@@ -2,3 +2,5 @@ pub mod Joining
 pub mod Covering
 pub mod Answering
 pub mod Ranging
+pub mod OwnSeats
+pub mod Housed

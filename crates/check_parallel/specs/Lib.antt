@@ -1,2 +1,4 @@
 pub mod Verdicts
+pub mod Seating
+pub mod Homes
 pub mod Parts

@@ -7,10 +7,10 @@ use Rattle.trace_reader.specs.declared.trace.Trace.{Trace}
 use Rattle.cycle_history.specs.declared.Report.{Report}
 use Rattle.cycle_history.specs.Objects.{Object}
 use Rattle.cycle_history.specs.Requests.{last_cycle, marked_by}
-use Rattle.cycle_history.specs.Rules.{AreApart, AreFilled}
+use Rattle.cycle_history.specs.Rules.{AreApart, AreFilled, AreMissed}
 use Rattle.cycle_history.specs.Sound.{HasAnswers, HasJournal, HasProfile, past_in}
 use Rattle.cycle_history.specs.Sweeps.{AreSwept, AreTotals}
-use Rattle.report_rules.specs.Answers.{BreaksAnswers, BreaksJournal}
+use Rattle.report_rules.specs.Answers.{BreaksJournal, BreaksMisses}
 use Rattle.report_rules.specs.Placing.{BreaksApart, BreaksFilling}
 use Rattle.report_rules.specs.Closing.{BreaksSweeps, BreaksTotals}
 use Rattle.report_rules.specs.Published.{BreaksProfile}
@@ -30,13 +30,19 @@ use Rattle.check_parallel.specs.Verdicts.{AnswersRule}
 abbrev pub Then : (CheckFault → Type 0) → Type 0 → (CheckFault → Type 0) → CheckFault → Type 0
 Then early met late fault = early fault ⊎ (met × late fault)
 
--- Rule 1: the items are the report's, or the fault is the rule's.
-abbrev pub IsListed : Trace → Report → Result (List Item) CheckFault → Type 0
-IsListed t report answer = IfOk answer (λ items. HasAnswers t report (objects_of items)) × IfErr answer (IsFaultOf 1 (BreaksAnswers t report))
-
 -- The last cycles are those of the items of whichever report.
 abbrev pub AreLastsOf : Trace → Result (Vec ℕ) NoMemory → Type 0
 AreLastsOf t answer = IfOk answer (λ lasts. (report : Report) (items : List Item) → HasAnswers t report (objects_of items) → AreLasts t items lasts.items)
+
+-- Rule 3.
+abbrev pub MeetsMisses : Report → List Item → Type 0
+MeetsMisses report items = AreMissed (past_in report) (objects_of items)
+
+abbrev pub FaultOfMisses : Report → List Item → CheckFault → Type 0
+FaultOfMisses report items = IsFaultOf 3 (BreaksMisses (past_in report) (objects_of items))
+
+abbrev pub IsMissesJudged : Report → List Item → Result (Unit {0}) CheckFault → Type 0
+IsMissesJudged report items answer = OnOk answer (MeetsMisses report items) × IfErr answer (FaultOfMisses report items)
 
 -- Rule 5, of these items.
 abbrev pub MeetsApart : Trace → List Item → Type 0
@@ -59,8 +65,18 @@ abbrev pub IsFillingJudged : Trace → List Item → Result (Unit {0}) CheckFaul
 IsFillingJudged t items answer = AnswersRule 6 (MeetsFilling t items) (BreaksFilling (marked_by t) (objects_of items)) answer
 
 -- The rules 5 and 6.
+abbrev pub MeetsInside : Trace → List Item → Type 0
+MeetsInside t items = MeetsApart t items × MeetsFilling t items
+
+abbrev pub FaultOfInside : Trace → List Item → CheckFault → Type 0
+FaultOfInside t items = Then (FaultOfApart t items) (MeetsApart t items) (FaultOfFilling t items)
+
 abbrev pub IsInsideJudged : Trace → List Item → Result (Unit {0}) CheckFault → Type 0
-IsInsideJudged t items answer = OnOk answer (MeetsApart t items × MeetsFilling t items) × IfErr answer (Then (FaultOfApart t items) (MeetsApart t items) (FaultOfFilling t items))
+IsInsideJudged t items answer = OnOk answer (MeetsInside t items) × IfErr answer (FaultOfInside t items)
+
+-- The rules 3, 5 and 6.
+abbrev pub IsEarlyJudged : Trace → Report → List Item → Result (Unit {0}) CheckFault → Type 0
+IsEarlyJudged t report items answer = OnOk answer (MeetsMisses report items × MeetsInside t items) × IfErr answer (Then (FaultOfMisses report items) (MeetsMisses report items) (FaultOfInside t items))
 
 -- A piece's answers to the rules 5 and 6.
 pub record IsVerdict (t : Trace) (items : List Item) (piece : Piece) (verdict : Verdict) : Type 0 where

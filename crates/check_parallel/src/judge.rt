@@ -5,15 +5,16 @@ ghost use Rattle.std.specs.Thread.{IsSync};
 ghost use Rattle.cycle_history.specs.Before.{IsLimited};
 ghost use Rattle.report_check.specs.declared.fault.CheckFault.TheVariants.{NoMemory as OutOfMemory};
 ghost use Rattle.report_check.specs.Fault.{IsFault, MeetsChecked};
-ghost use Rattle.report_check.specs.Known.{AreKnown, AreSettledItems};
+ghost use Rattle.report_check.specs.Known.{AreKnown};
 ghost use Rattle.report_check.specs.Lasts.{AreLasts};
-ghost use Rattle.check_parallel.specs.Parts.{IsClosingJudged, IsInsideJudged, IsLived};
+ghost use Rattle.check_parallel.specs.Parts.{IsClosingJudged, IsEarlyJudged, IsInsideJudged, IsLived, IsMissesJudged};
+ghost use Rattle.check_parallel.specs.Seating.{AreSeatedItems};
 
 use crate::closing::judge_closing;
 use crate::pieces::judge_inside;
 use crate::settled::{Lived, settle};
 use cycle_history::Report;
-use report_check::{CheckFault, Item};
+use report_check::{CheckFault, Item, judge_misses};
 use std::alloc::Global;
 use std::thread::{Threads, join};
 use trace_reader::Trace;
@@ -49,11 +50,12 @@ fn judge_rules<R: Threads + Sync>(
     pieces: u32,
 ) -> Result<(), CheckFault>
     requires limited { IsLimited trace.now }
-    requires pieces { 1 ≤ pieces }
+    requires some { 1 ≤ pieces }
+    requires few { pieces ≤ 64 }
     ensures met { OnOk result (MeetsChecked trace.now report.now) }
     ensures broken { IfErr result (IsFault trace.now report.now) }
 {
-    let settled = settle(rt, alloc, trace, report)?;
+    let settled = settle(rt, alloc, trace, report, pieces)?;
     judge_settled(
         rt,
         alloc,
@@ -66,7 +68,7 @@ fn judge_rules<R: Threads + Sync>(
     )
 }
 
-// The rules 5 to 9, over the objects in their seats.
+// The rules 3 and 5 to 9, over the objects in their seats.
 fn judge_settled<R: Threads + Sync>(
     rt: &R,
     alloc: Global,
@@ -78,19 +80,20 @@ fn judge_settled<R: Threads + Sync>(
     pieces: u32,
 ) -> Result<(), CheckFault>
     requires limited { IsLimited trace.now }
-    requires settled { AreSettledItems trace.now report.now items.now }
+    requires settled { AreSeatedItems trace.now report.now items.now }
     requires lasts { AreLasts trace.now items.now lasts.now }
     requires lived { IsLived trace.now report.now lived }
-    requires pieces { 1 ≤ pieces }
+    requires some { 1 ≤ pieces }
+    requires few { pieces ≤ 64 }
     ensures met { OnOk result (MeetsChecked trace.now report.now) }
     ensures broken { IfErr result (IsFault trace.now report.now) }
 {
-    let (inside, closing) = judge_beside(rt, alloc, trace, report, items, lasts, lived, pieces);
-    inside?;
+    let (early, closing) = judge_beside(rt, alloc, trace, report, items, lasts, lived, pieces);
+    early?;
     closing
 }
 
-// The rules 5 and 6, and beside them the rules 7 to 9.
+// The rules 3, 5 and 6, and beside them the rules 7 to 9.
 fn judge_beside<R: Threads + Sync>(
     rt: &R,
     alloc: Global,
@@ -103,19 +106,49 @@ fn judge_beside<R: Threads + Sync>(
 ) -> (Result<(), CheckFault>, Result<(), CheckFault>)
     requires known { AreKnown trace.now report.now items.now lasts.now }
     requires lived { IsLived trace.now report.now lived }
-    requires pieces { 1 ≤ pieces }
-    ensures inside { IsInsideJudged trace.now items.now result.0 }
+    requires some { 1 ≤ pieces }
+    requires few { pieces ≤ 64 }
+    ensures early { IsEarlyJudged trace.now report.now items.now result.0 }
     ensures closing { IsClosingJudged trace.now report.now items.now result.1 }
 {
     join(
         rt,
         || -> Result<(), CheckFault>
-            requires { IsSync R.row × AreKnown trace.now report.now items.now lasts.now × (1 ≤ pieces) }
-            ensures { IsInsideJudged trace.entry.now items.entry.now result }
-        { judge_inside(rt, alloc, trace, report, items, lasts, pieces) },
+            requires { IsSync R.row × AreKnown trace.now report.now items.now lasts.now × (1 ≤ pieces) × (pieces ≤ 64) }
+            ensures { IsEarlyJudged trace.entry.now report.entry.now items.entry.now result }
+        { judge_early(rt, alloc, trace, report, items, lasts, pieces) },
         || -> Result<(), CheckFault>
             requires { IsSync R.row × AreKnown trace.now report.now items.now lasts.now × IsLived trace.now report.now lived }
             ensures { IsClosingJudged trace.entry.now report.entry.now items.entry.now result }
         { judge_closing(rt, alloc, trace, report, items, lasts, lived) },
     )
+}
+
+// Rule 3, and beside it the rules 5 and 6.
+fn judge_early<R: Threads + Sync>(
+    rt: &R,
+    alloc: Global,
+    trace: &Trace,
+    report: &Report,
+    items: &[Item],
+    lasts: &[u32],
+    pieces: u32,
+) -> Result<(), CheckFault>
+    requires known { AreKnown trace.now report.now items.now lasts.now }
+    requires some { 1 ≤ pieces }
+    requires few { pieces ≤ 64 }
+    ensures { IsEarlyJudged trace.now report.now items.now result }
+{
+    let (misses, inside) = join(
+        rt,
+        || -> Result<(), CheckFault>
+            ensures { IsMissesJudged report.entry.now items.entry.now result }
+        { judge_misses(alloc, report, items) },
+        || -> Result<(), CheckFault>
+            requires { IsSync R.row × AreKnown trace.now report.now items.now lasts.now × (1 ≤ pieces) × (pieces ≤ 64) }
+            ensures { IsInsideJudged trace.entry.now items.entry.now result }
+        { judge_inside(rt, alloc, trace, report, items, lasts, pieces) },
+    );
+    misses?;
+    inside
 }

@@ -1,14 +1,20 @@
 //! The rules 5 and 6 in pieces.
 
-ghost use Rattle.std.specs.Prelude.{◌≡◌, ◌≤◌, length, IfOk};
+ghost use Rattle.std.specs.Prelude.{◌≡◌, ◌≤◌, ◌<◌, true, length, IfOk};
+ghost use Rattle.life_tops.specs.Tops.{lives_of, top_at};
+ghost use Rattle.report_check.specs.Filling.{IsTakenUp, place_of};
+ghost use Rattle.report_check.specs.Fitting.{IsFitting};
 ghost use Rattle.report_check.specs.Known.{AreKnown};
-ghost use Rattle.check_parallel.specs.Parts.{AreVerdicts, IsInsideJudged, IsVerdict};
+ghost use Rattle.report_check.specs.Pieces.{seen_by};
+ghost use Rattle.check_parallel.specs.Homes.{AreHomes};
+ghost use Rattle.check_parallel.specs.Parts.{AreVerdicts, IsInsideJudged, IsVerdict, MeetsInside};
 
+use crate::homes::homes_of;
 use crate::least::{least_apart, least_filling};
 use cycle_history::Report;
 use edge_io::NoMemory;
 use rayon::prelude::*;
-use report_check::{CheckFault, Item, Objects, Piece};
+use report_check::{CheckFault, Filling, Item, Objects, Piece, SPAN_CLASSES};
 use std::alloc::Global;
 use std::thread::Threads;
 use trace_reader::Trace;
@@ -31,10 +37,12 @@ pub(crate) fn judge_inside<R: Threads + Sync>(
     pieces: u32,
 ) -> Result<(), CheckFault>
     requires known { AreKnown trace.now report.now items.now lasts.now }
-    requires pieces { 1 ≤ pieces }
+    requires some { 1 ≤ pieces }
+    requires few { pieces ≤ 64 }
     ensures { IsInsideJudged trace.now items.now result }
 {
-    let verdicts = verdicts_of(rt, alloc, trace, report, items, lasts, pieces)?;
+    let homes = homes_of(rt, alloc, items, pieces)?;
+    let verdicts = verdicts_of(rt, alloc, trace, report, items, lasts, &homes, pieces)?;
     least_apart(&verdicts)?;
     least_filling(&verdicts)
 }
@@ -47,10 +55,11 @@ fn verdicts_of<R: Threads + Sync>(
     report: &Report,
     items: &[Item],
     lasts: &[u32],
+    homes: &[u8],
     pieces: u32,
 ) -> Result<Vec<Verdict>, NoMemory>
     requires known { AreKnown trace.now report.now items.now lasts.now }
-    requires pieces { 1 ≤ pieces }
+    requires homes { AreHomes pieces items.now homes.now }
     ensures all { IfOk result (λ verdicts. length verdicts.items ≡ pieces) }
     ensures each { IfOk result (λ verdicts. AreVerdicts trace.now items.now verdicts.items) }
 {
@@ -59,7 +68,7 @@ fn verdicts_of<R: Threads + Sync>(
         .with_min_len(1)
         .map(
             |number: u32| -> Verdict
-                requires { AreKnown trace.now report.now items.now lasts.now × (1 ≤ pieces) }
+                requires { AreKnown trace.now report.now items.now lasts.now × AreHomes pieces items.now homes.now }
                 ensures { IsVerdict trace.entry.now items.entry.now (record { number = number; count = pieces }) result }
             {
                 verdict_of(
@@ -68,6 +77,7 @@ fn verdicts_of<R: Threads + Sync>(
                     report,
                     items,
                     lasts,
+                    homes,
                     Piece {
                         number,
                         count: pieces,
@@ -79,19 +89,26 @@ fn verdicts_of<R: Threads + Sync>(
     Ok(verdicts)
 }
 
-// What one piece says.
+// What one piece says: it is asked once whether all is well, and where something is not, what that is.
 fn verdict_of(
     alloc: Global,
     trace: &Trace,
     report: &Report,
     items: &[Item],
     lasts: &[u32],
+    homes: &[u8],
     piece: Piece,
 ) -> Verdict
     requires known { AreKnown trace.now report.now items.now lasts.now }
-    requires piece { 1 ≤ piece.count }
+    requires homes { AreHomes piece.count items.now homes.now }
     ensures { IsVerdict trace.now items.now piece result }
 {
+    if let Ok(true) = all_fit(alloc, trace, report, items, lasts, homes, piece) {
+        return Verdict {
+            apart: Ok(()),
+            filling: Ok(()),
+        };
+    }
     let objects = Objects {
         trace,
         report,
@@ -102,4 +119,54 @@ fn verdict_of(
         apart: objects.judge_apart(alloc, piece),
         filling: objects.judge_filling(alloc, piece),
     }
+}
+
+// Whether the piece's objects meet the rules 5 and 6, in one pass for both.
+fn all_fit(
+    alloc: Global,
+    trace: &Trace,
+    report: &Report,
+    items: &[Item],
+    lasts: &[u32],
+    homes: &[u8],
+    piece: Piece,
+) -> Result<bool, NoMemory>
+    requires known { AreKnown trace.now report.now items.now lasts.now }
+    requires homes { AreHomes piece.count items.now homes.now }
+    ensures { IfOk result (λ fit. fit ≡ true → MeetsInside trace.now (seen_by piece items.now)) }
+{
+    let places = trace.header.procs as usize * SPAN_CLASSES;
+    let mut filling = Filling::new(alloc, report.journal.len(), places)?;
+    for number in 0..items.len() {
+        if u32::from(homes[number]) == piece.number {
+            let item = items[number];
+            if piece.sees(&item) {
+                if !takes(&mut filling, &item, lasts[number])? {
+                    return Ok(false);
+                }
+            }
+        }
+    }
+    Ok(true)
+}
+
+// Takes up an object with its last cycle, where it is clear of those before it and fills its life as it should.
+fn takes(filling: &mut Filling, item: &Item, last: u32) -> Result<bool, NoMemory>
+    requires life { item.now.life < length filling.old.fills.items }
+    requires row { item.now.life < lives_of filling.old.tops }
+    requires place { place_of item.now.proc item.now.class < length filling.old.newest.items }
+    requires last { last < 20000 }
+    requires index { item.now.index < 20000 }
+    ensures clear { IfOk result (λ fit. fit ≡ true → top_at filling.old.tops item.now.life item.now.index ≤ item.now.cycle) }
+    ensures fitting { IfOk result (λ fit. fit ≡ true → 2 ≤ item.now.class → IsFitting filling.old item.now) }
+    ensures taken { IfOk result (λ fit. fit ≡ true → IsTakenUp filling.old filling.new item.now last) }
+{
+    if filling.tops.at(item.life, item.index) > item.cycle {
+        return Ok(false);
+    }
+    if !filling.fits(item) {
+        return Ok(false);
+    }
+    filling.take_up(item, last)?;
+    Ok(true)
 }

@@ -5,7 +5,7 @@ pub mod Pieces
 pub mod Journals
 pub mod Missed
 pub mod Faults
-pub mod Opened
+pub mod Openings
 pub mod Seeking
 pub mod Lost
 pub mod Upto

@@ -9,7 +9,7 @@ use Rattle.cycle_history.specs.Objects.{Object, Sits}
 use Rattle.report_check.specs.declared.lives.OpenLife.{OpenLife}
 use Rattle.report_check.specs.declared.lives.Seat.{Seat}
 use Rattle.report_check.specs.Lives.{entry_of, IsOne, IsSeatAt, NoSeatAt}
-use Rattle.report_check.proofs.Opened.{same-life, sits-inside}
+use Rattle.report_check.proofs.Openings.{same-life, sits-inside}
 
 -- of the pages from low up to high, only this one has a life in which the object sits
 pub record IsOnly (lives : List (Option OpenLife)) (o : Object) (low high page : ℕ) (seat : Seat) : Type 0 where

@@ -57,16 +57,16 @@ map-cycle first [] i r at = cc
 map-cycle first (e ∷ es) zero r at = (let f : request_in first e ≡ r = cc in (ap (λ (x : Request). x.cycle) (sym f), omega arith))
 map-cycle first (e ∷ es) (suc i) r at = let rest = map-cycle first es i r at in let lt = rest.1 in (rest.0, omega arith)
 
-abbrev events_in : List Cycle → List Event
+abbrev pub events_in : List Cycle → List Event
 events_in cs = flat_map (λ (c : Cycle). c.events) cs
 
-record IsOfCycle (first : ℕ) (cs : List Cycle) (i cycle : ℕ) : Type 0 where
+pub record IsOfCycle (first : ℕ) (cs : List Cycle) (i cycle : ℕ) : Type 0 where
   pub k : ℕ
   pub is : cycle ≡ first + k
   pub low : length (events_in (take k cs)) ≤ i
   pub high : i < length (events_in (take (k + 1) cs))
 
-at-cycle : (first : ℕ) (cs : List Cycle) (i : ℕ) (r : Request) → slice_get (requests_from first cs) i ≡ Some r → IsOfCycle first cs i r.cycle
+pub at-cycle : (first : ℕ) (cs : List Cycle) (i : ℕ) (r : Request) → slice_get (requests_from first cs) i ≡ Some r → IsOfCycle first cs i r.cycle
 at-cycle first [] i r at = cc
 at-cycle first (c ∷ cs) i r at = elim (get-append (map (request_in first) c.events) (requests_from (first + 1) cs) i r at) [
   | inl front ↦ (
@@ -96,7 +96,7 @@ pub record IsAsked (t : Trace) (i : ℕ) (item : Item) : Type 0 where
   pub high : i < objects_before t (item.cycle + 1)
   pub slot : is_placed item.answer ≡ true → 1 ≤ item.slot
 
-need-slot : (size : ℕ) (scan : Bool) (need : Need) → 1 ≤ size → IsNeed size scan need → 1 ≤ need.slot
+pub need-slot : (size : ℕ) (scan : Bool) (need : Need) → 1 ≤ size → IsNeed size scan need → 1 ≤ need.slot
 need-slot size scan need some is = elim (cases_lt 32768 size) [
   | inl large ↦ (let l = is.large large in let a = l.pages in let b = l.slot in omega arith)
   | inr small ↦ (let s = is.small small in let room = s.1.room in let e = s.2.slot in omega arith)

@@ -10,13 +10,15 @@ use trace_reader::{Event, Trace};
 
 /// An event with its cycle.
 #[derive(Clone, Copy, Debug)]
-pub(crate) struct Asked {
+pub struct Asked {
+    /// The cycle in which it is asked for.
     pub cycle: u32,
+    /// What is asked for.
     pub event: Event,
 }
 
 /// The events of a trace in order, each with its cycle.
-pub(crate) fn asked_of(alloc: Global, trace: &Trace) -> Result<List<Asked>, NoMemory>
+pub fn asked_of(alloc: Global, trace: &Trace) -> Result<List<Asked>, NoMemory>
     requires { length trace.now.cycles ≤ 10001 }
     ensures { IfOk result (AreAsked trace.now) }
 {

@@ -17,8 +17,10 @@ use trace_reader::Trace;
 
 /// The lives that are open, by their first pages, once so many lines of the journal are taken up.
 #[derive(Drop)]
-pub(crate) struct Opened {
+pub struct Opened {
+    /// The lives, by their first pages.
     pub lives: Vec<Option<OpenLife>>,
+    /// How many lines are taken up.
     pub read: usize,
 }
 
@@ -26,7 +28,7 @@ impl Opened {
     ghost use Rattle.report_check.specs.Ledgers.{IsOpenTo};
 
     /// No line is taken up.
-    pub(crate) fn new(alloc: Global, trace: &Trace) -> Result<Opened, NoMemory>
+    pub fn new(alloc: Global, trace: &Trace) -> Result<Opened, NoMemory>
         requires { trace.now.header.chunks ≤ 128 }
         ensures { IfOk result (λ opened. (report : AReport) (c : ℕ) → IsOpenTo trace.now report c opened) }
     {
@@ -35,7 +37,7 @@ impl Opened {
     }
 
     /// Takes up the lines up to the end of a cycle.
-    pub(crate) fn take_up(&mut self, trace: &Trace, report: &Report, cycle: u32)
+    pub fn take_up(&mut self, trace: &Trace, report: &Report, cycle: u32)
         requires journal { HasJournal trace.now report.now }
         requires open { IsOpenTo trace.now report.now cycle self.old }
         ensures open { IsOpenTo trace.now report.now cycle self.new }

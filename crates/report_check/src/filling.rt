@@ -17,7 +17,7 @@ use life_tops::Tops;
 use std::alloc::Global;
 
 /// The span classes: two for each of 68 size classes (`mheap.go`).
-const SPAN_CLASSES: usize = 136;
+pub const SPAN_CLASSES: usize = 136;
 
 // Of a life, the newest cycle in which it got small objects, and their processor. In that cycle each index below `next`
 // is held.
@@ -35,10 +35,11 @@ struct Newest {
     life: u64,
 }
 
-// How far the lives are filled.
+/// How far the lives are filled.
 #[derive(Drop)]
-struct Filling {
-    tops: Tops,
+pub struct Filling {
+    /// Until which cycle each index is held.
+    pub tops: Tops,
     // by the number of the life
     fills: Vec<Option<Fill>>,
     // by processor, and then by span class
@@ -75,8 +76,8 @@ impl Objects<'_> {
 }
 
 impl Filling {
-    // Nothing is known of so many lives, and so many processors' span classes.
-    fn new(alloc: Global, lives: usize, places: usize) -> Result<Filling, NoMemory>
+    /// Nothing is known of so many lives, and so many processors' span classes.
+    pub fn new(alloc: Global, lives: usize, places: usize) -> Result<Filling, NoMemory>
         ensures room { IfOk result (λ filling. HasRoom filling lives places) }
         ensures empty { IfOk result (λ filling. IsEmptyFilling filling) }
     {
@@ -87,8 +88,8 @@ impl Filling {
         })
     }
 
-    // Whether an object fills its life as it should, if it is small.
-    fn fits(&self, item: &Item) -> bool
+    /// Whether an object fills its life as it should, if it is small.
+    pub fn fits(&self, item: &Item) -> bool
         requires life { item.now.life < length self.now.fills.items }
         requires place { place_in item.now.proc item.now.class < length self.now.newest.items }
         ensures { MatchBool result (2 ≤ item.now.class → IsFitting self.now item.now) ((2 ≤ item.now.class) × IsUnfitting self.now item.now) }
@@ -110,8 +111,8 @@ impl Filling {
         }
     }
 
-    // Takes up an object with its last cycle.
-    fn take_up(&mut self, item: &Item, last: u32) -> Result<(), NoMemory>
+    /// Takes up an object with its last cycle.
+    pub fn take_up(&mut self, item: &Item, last: u32) -> Result<(), NoMemory>
         requires life { item.now.life < length self.old.fills.items }
         requires row { item.now.life < lives_of self.old.tops }
         requires place { place_in item.now.proc item.now.class < length self.old.newest.items }

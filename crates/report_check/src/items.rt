@@ -45,7 +45,7 @@ impl Item {
     ghost use Rattle.report_check.specs.Items.{IsItem, request_of};
 
     /// The object of a request with its answer, which is zero exactly where the size is 0.
-    pub(crate) fn new(asked: Asked, answer: Answer) -> Item
+    pub fn new(asked: Asked, answer: Answer) -> Item
         requires size { asked.event.size ≤ 2 ^ 40 }
         requires zero { (answer ≡ Zero) ↔ (asked.event.size ≡ 0) }
         ensures item { IsItem (request_of asked) result }
@@ -110,8 +110,8 @@ pub fn items_of(alloc: Global, trace: &Trace, report: &Report) -> Result<List<It
     Ok(items)
 }
 
-// Whether an answer is zero exactly where the size is 0.
-fn is_right(answer: Answer, size: u64) -> bool
+/// Whether an answer is zero exactly where the size is 0.
+pub fn is_right(answer: Answer, size: u64) -> bool
     ensures { MatchBool result ((answer ≡ Zero) ↔ (size ≡ 0)) (¬ ((answer ≡ Zero) ↔ (size ≡ 0))) }
 {
     match answer {

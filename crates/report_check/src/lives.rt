@@ -18,18 +18,25 @@ use std::alloc::Global;
 
 /// A life that no Give line has ended: the number of its Take line, with its cycle, its pages and its span class.
 #[derive(Clone, Copy, Debug)]
-pub(crate) struct OpenLife {
+pub struct OpenLife {
+    /// The number of its Take line.
     pub number: u64,
+    /// The cycle of that line.
     pub cycle: u32,
+    /// Its first page.
     pub page: u32,
+    /// How many pages it has.
     pub pages: u32,
+    /// Its span class.
     pub class: u8,
 }
 
 /// Where an object sits: the number of a life, and an index in it.
 #[derive(Clone, Copy, Debug)]
-pub(crate) struct Seat {
+pub struct Seat {
+    /// The number of the life.
     pub life: u64,
+    /// The index, from 0.
     pub index: u32,
 }
 
@@ -75,7 +82,7 @@ fn put(lives: &mut [Option<OpenLife>], page: u32, life: Option<OpenLife>)
 }
 
 /// The seat of an object at this address in the lives of the table, where it sits in one and in no other.
-pub(crate) fn seat_of(lives: &[Option<OpenLife>], item: &Item, address: u64) -> Option<Seat>
+pub fn seat_of(lives: &[Option<OpenLife>], item: &Item, address: u64) -> Option<Seat>
     requires pages { AreAtPages lives.now }
     requires slot { 1 ≤ item.now.slot }
     requires address { item.now.answer ≡ Placed address }

@@ -17,7 +17,7 @@ pub struct Piece {
 
 impl Piece {
     /// Whether the item is a placed one of the piece.
-    pub(crate) fn sees(self, item: &Item) -> bool
+    pub fn sees(self, item: &Item) -> bool
         requires { 1 ≤ self.count }
         ensures { MatchBool result (IsSeen self item.now) (¬ IsSeen self item.now) }
     {

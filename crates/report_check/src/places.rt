@@ -60,7 +60,7 @@ pub fn judge_places(
 }
 
 /// The spans that a mark end marks.
-pub(crate) fn spans_at(trace: &Trace, mark: u32) -> &[Span]
+pub fn spans_at(trace: &Trace, mark: u32) -> &[Span]
     requires { mark ≤ last_cycle trace.now }
     ensures { result.now ≡ marks_at trace.now mark }
 {
@@ -99,8 +99,8 @@ pub(crate) fn take_up_to(
     next
 }
 
-// The first item below the bound that the spans have and whose life isn't in the table, or the bound.
-fn first_lost(lives: &[Option<OpenLife>], items: &[Item], spans: &[Span], bound: usize) -> usize
+/// The first item below the bound that the spans have and whose life isn't in the table, or the bound.
+pub fn first_lost(lives: &[Option<OpenLife>], items: &[Item], spans: &[Span], bound: usize) -> usize
     requires bound { bound ≤ length items.now }
     requires seats { AllHaveLives (λ i. is_within spans.now i ≡ true) items.now bound }
     ensures { IsFirstLost lives.now (λ i. is_within spans.now i ≡ true) items.now bound result }

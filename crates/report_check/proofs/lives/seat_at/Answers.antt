@@ -1,6 +1,6 @@
 use Rattle.std.proofs.Common.{arith, refl, inl, inr}
 use Rattle.report_check.specs.Items.{object_of}
-use Rattle.report_check.proofs.Opened.{no-seat, a-seat}
+use Rattle.report_check.proofs.Openings.{no-seat, a-seat}
 use Rattle.report_check.proofs.lives.seat_at.Goals.{then-not-fits-via-then-not-fits, then-not-fits-via-else-not-fits+then-inside-item-ne0, then-not-fits-via-else-not-fits+else-inside-item-ne0+then-index-from}
 use Rattle.report_check.proofs.lives.seat_at.Goals as goal
 

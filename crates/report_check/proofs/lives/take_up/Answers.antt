@@ -3,7 +3,7 @@ use Rattle.page_bitmap.specs.declared.line.Line.{Line}
 use Rattle.page_alloc.specs.Lives.{life_of}
 use Rattle.page_alloc.specs.Journal.{Legal}
 use Rattle.report_check.specs.Lives.{entry_of}
-use Rattle.report_check.proofs.Opened.{inside-take, inside-give, lives-take, lives-give}
+use Rattle.report_check.proofs.Openings.{inside-take, inside-give, lives-take, lives-give}
 use Rattle.report_check.proofs.lives.take_up.Goals as goal
 
 pub put-requires : goal.put-requires
