@@ -10,6 +10,7 @@ use edge_io::{Gate, Sink};
 use heap_run::{Options, run_trace};
 use std::alloc::Global;
 use std::sync::Wait;
+use std::thread::Threads;
 use trace_gen::{a_made_trace_is_within_limits, make_trace};
 use trace_reader::TraceFault;
 
@@ -20,7 +21,7 @@ const OPTIONS: Options = Options {
 };
 
 /// Makes the trace, runs it, judges the report, and writes the lines that sum it up. The report is never refused.
-pub(crate) fn show_run<R: Wait, K: Sink, E: Sink, G: Gate>(
+pub(crate) fn show_run<R: Threads + Wait + Sync, K: Sink, E: Sink, G: Gate>(
     rt: &R,
     alloc: Global,
     wanted: Wanted,

@@ -125,7 +125,7 @@ fn classes<K: Sink, E: Sink>(output: &mut K, errors: &mut E) -> u8
 }
 
 // Reads the options, and runs a trace by them.
-fn run<R: Wait, S: Source, K: Sink, E: Sink, G: Gate>(
+fn run<R: Threads + Wait + Sync, S: Source, K: Sink, E: Sink, G: Gate>(
     rt: &R,
     alloc: Global,
     words: &[String],
@@ -153,7 +153,7 @@ fn run<R: Wait, S: Source, K: Sink, E: Sink, G: Gate>(
 }
 
 // Reads a trace, and writes its report.
-fn run_by<R: Wait, S: Source, K: Sink, E: Sink, G: Gate>(
+fn run_by<R: Threads + Wait + Sync, S: Source, K: Sink, E: Sink, G: Gate>(
     rt: &R,
     alloc: Global,
     options: Options,

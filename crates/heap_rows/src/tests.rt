@@ -1,16 +1,19 @@
-//! Each trace is run without background sweepers and with four, in both forms of the profile, and has one report of each form.
+//! Each trace is run without background sweepers and with four, in both forms of the profile. Where a single processor runs without a
+//! background sweeper its report is this one; where several workers run beside each other, any sound one.
 
 ghost use Rattle.std.specs.Prelude.{IfOk, ◌≤◌};
 ghost use Rattle.trace_reader.specs.Limits.{WithinLimits};
 
 use cycle_history::Report;
-use edge_io::{Lines, List, MemorySource, OpenGate};
+use edge_io::{Gate, HoldGate, Lines, List, MemorySource, OpenGate};
 use heap_run::{Options, run_trace};
+use report_check::check;
 use report_text::read_report;
 use std::alloc::Global;
 use std::process::Abort;
 use std::sync::Wait;
 use std::test::Fail;
+use std::thread::Threads;
 use trace_reader::{Trace, read_trace};
 
 // A trace with its report: the trace's second line and the lines behind it, the report's lines before its profile, and the profile in its
@@ -150,23 +153,52 @@ fn report_of(alloc: Global, lines: &str, profile: &str) -> Result<Report, Fail> 
     }
 }
 
-fn run<R: Abort + AllocGlobal + Wait>(
+// Runs a trace.
+fn ran<R: Abort + AllocGlobal + Threads + Wait + Sync, G: Gate>(
     rt: &R,
+    trace: &Trace,
     background: u32,
+    each: bool,
+    gate: &G,
+) -> Result<Report, Fail>
+    requires limits { WithinLimits trace.now }
+    requires background { background ≤ 4 }
+{
+    let options = Options { background, each };
+    match run_trace(rt, rt.alloc(), trace, options, gate) {
+        Ok(ran) => Ok(ran.report),
+        Err(_) => Err("out of memory".into()),
+    }
+}
+
+// A trace's report is sound, whoever came first.
+fn judge<R: Abort + AllocGlobal + Threads + Wait + Sync, G: Gate>(
+    rt: &R,
+    trace: &Trace,
+    background: u32,
+    each: bool,
+    gate: &G,
+) -> Result<(), Fail>
+    requires limits { WithinLimits trace.now }
+    requires background { background ≤ 4 }
+{
+    let report = ran(rt, trace, background, each, gate)?;
+    assert!(rt; check(rt.alloc(), trace, &report).is_ok());
+    Ok(())
+}
+
+// A single processor's report without background sweepers is the one that the row has.
+fn compare<R: Abort + AllocGlobal + Threads + Wait + Sync>(
+    rt: &R,
+    trace: &Trace,
     each: bool,
     row: &Row,
 ) -> Result<(), Fail>
-    requires { background ≤ 4 }
+    requires limits { WithinLimits trace.now }
 {
-    let alloc = rt.alloc();
-    let trace = trace_of(alloc, row.head, row.lines)?;
     let profile = if each { row.each } else { row.last };
-    let wanted = report_of(alloc, row.report, profile)?;
-    let options = Options { background, each };
-    let Ok(ran) = run_trace(rt, alloc, &trace, options, &OpenGate) else {
-        return Err("out of memory".into());
-    };
-    let found = &ran.report;
+    let wanted = report_of(rt.alloc(), row.report, profile)?;
+    let found = ran(rt, trace, 0, each, &OpenGate)?;
     assert_eq!(rt; found.answers.as_slice(), wanted.answers.as_slice());
     assert_eq!(rt; found.journal.as_slice(), wanted.journal.as_slice());
     assert_eq!(rt; found.sweeps.as_slice(), wanted.sweeps.as_slice());
@@ -178,10 +210,30 @@ fn run<R: Abort + AllocGlobal + Wait>(
 #[test]
 fn traces_are_run(rt: HostRuntime) -> Result<(), Fail> {
     for row in &ROWS {
+        let trace = trace_of(rt.alloc(), row.head, row.lines)?;
         for each in [false, true] {
-            run(&rt, 0, each, row)?;
-            run(&rt, 4, each, row)?;
+            if trace.header.procs == 1 {
+                compare(&rt, &trace, each, row)?;
+            }
+            judge(&rt, &trace, 0, each, &OpenGate)?;
+            judge(&rt, &trace, 4, each, &OpenGate)?;
         }
+    }
+    Ok(())
+}
+
+// Two processors, a processor and a background sweeper, and a processor and the scavenger.
+const PAIRS: [(u32, u32); 3] = [(0, 1), (0, 64), (0, 68)];
+
+// Each of two workers waits for the other, so they meet only where they run beside each other.
+#[test]
+fn workers_run_beside_each_other(rt: HostRuntime) -> Result<(), Fail> {
+    let head = "heap 1 procs 2 rate 0 seed 1 goal 512";
+    let trace = trace_of(rt.alloc(), head, "a 0 24 s 1\na 1 24 s 1\n")?;
+    for (first, second) in PAIRS {
+        let gate = HoldGate::new(first, second);
+        judge(&rt, &trace, 1, false, &gate)?;
+        assert!(rt; !gate.gave_up());
     }
     Ok(())
 }

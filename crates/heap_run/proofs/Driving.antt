@@ -15,7 +15,7 @@ use Rattle.span_set.specs.declared.hand.Hand.{Hand}
 use Rattle.proc_cache.specs.Cache.{Cache}
 use Rattle.heap_run.specs.Parts.{IsSameRun, part_at}
 use Rattle.heap_run.specs.Swept.{note_at}
-use Rattle.heap_run.specs.Turns.{HaveAnswered, IsCaching, IsCollecting, IsDriving, KeepsAnswers, SaysAnswers, SaysNone, TookTurn, no_cache}
+use Rattle.heap_run.specs.Turns.{HaveAnswered, HaveAnsweredTo, IsCaching, IsCollecting, IsDriving, KeepsAnswers, SaysAnswers, SaysNone, TookTurn, no_cache}
 use Rattle.heap_run.proofs.Parts.{same-trans}
 use Rattle.heap_run.proofs.Swept.{collected-more}
 use Rattle.heap_run.proofs.Acted.{answers-then, none-answers, notes-told, sweepings-append}
@@ -89,12 +89,6 @@ pub keeps-trans : (a b c : Seen) → KeepsAnswers a b → KeepsAnswers b c → K
 keeps-trans a b c ab bc w events answers was = bc w events answers (ab w events answers was)
 
 -- ---- the processors' answers, one processor after another
-
--- The first k processors have answered their events, and nobody else has answered any.
-pub record HaveAnsweredTo (queues : List (List Event)) (k : ℕ) (given : List (List Answer)) (d : Seen) : Type 0 where
-  pub size : length given ≡ k
-  pub answered : (w : ℕ) → w < k → SaysAnswers (reverse (get_or queues w [])) (reverse (get_or given w [])) (part_at d w).log
-  pub others : (w : ℕ) → k ≤ w → SaysNone (part_at d w).log
 
 pub answered-none : (queues : List (List Event)) (d : Seen) → ((w : ℕ) → SaysNone (part_at d w).log) → HaveAnsweredTo queues 0 [] d
 answered-none queues d none = record { size = refl; answered = λ w low. absurd (omega arith); others = λ w high. none w }

@@ -8,6 +8,11 @@ pub mod Parts
 pub mod Acted
 pub mod Gains
 pub mod Driving
+pub mod Stacks
+pub mod Sending
+pub mod Taking
+pub mod Taken
+pub mod Beside
 pub mod Reaching
 pub mod Settling
 pub mod Running

@@ -64,7 +64,7 @@ others-back d x i other lt apart =
     ]
 
 -- a number in front is erased
-erase-front : (n : ℕ) (ns : List ℕ) → erase n (n ∷ ns) ≡ ns
+pub erase-front : (n : ℕ) (ns : List ℕ) → erase n (n ∷ ns) ≡ ns
 erase-front n ns = rw (eq-eqb n n refl) refl
 
 -- once a worker is back nothing but parts has changed

@@ -9,15 +9,8 @@ use Rattle.sample_laws.specs.Counted.{all_counts, one_count, sampled_counts}
 use Rattle.sample_laws.specs.Countdowns.{flag, flags, spent}
 use Rattle.sample_laws.proofs.Parted.{counts-append, sum-same}
 use Rattle.proc_cache.specs.Cache.{Cache}
-use Rattle.heap_run.specs.Counts.{HaveSampled, countdown_at}
+use Rattle.heap_run.specs.Counts.{HaveSampled, HaveSampledTo, countdown_at}
 use Rattle.heap_run.specs.Turns.{no_cache}
-
--- The first k processors have sampled their objects, and no other has spent its countdown.
-pub record HaveSampledTo (queues : List (List Event)) (k : ℕ) (answers : List (List Answer)) (sampled : List (List Bool)) (old new : List Cache) : Type 0 where
-  pub size : length sampled ≡ k
-  pub flags_are : (w : ℕ) → w < k → reverse (get_or sampled w []) ≡ flags (countdown_at old w) (reverse (get_or queues w [])) (reverse (get_or answers w []))
-  pub spent_are : (w : ℕ) → w < k → countdown_at new w ≡ spent (countdown_at old w) (reverse (get_or queues w [])) (reverse (get_or answers w []))
-  pub others : (w : ℕ) → k ≤ w → countdown_at new w ≡ countdown_at old w
 
 pub sampled-none : (queues : List (List Event)) (procs : List Cache) → HaveSampledTo queues 0 [] [] procs procs
 sampled-none queues procs = record { size = refl; flags_are = λ w low. absurd (omega arith); spent_are = λ w low. absurd (omega arith); others = λ w high. refl }

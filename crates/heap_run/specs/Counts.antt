@@ -1,5 +1,5 @@
 -- What hands count toward the profile.
-use Rattle.std.specs.Prelude.{◌≡◌, ℕ, ◌<◌, Bool, All, List, [], ◌++◌, length, reverse, slice_index_or}
+use Rattle.std.specs.Prelude.{◌≡◌, ℕ, ◌<◌, ◌≤◌, Bool, All, List, [], ◌++◌, length, reverse, slice_index_or}
 use Rattle.span_state.specs.MarkSet.{MarkSet}
 use Rattle.span_state.specs.declared.sweep.SweepNote.{SweepNote}
 use Rattle.trace_reader.specs.declared.trace.Event.{Event}
@@ -66,3 +66,10 @@ KeepCountdowns old new = (w : ℕ) → w < length old → countdown_at new w ≡
 pub record HaveSampled (queues : List (List Event)) (answers : List (List Answer)) (sampled : List (List Bool)) (old new : List Cache) : Type 0 where
   pub flags_are : (w : ℕ) → w < length old → reverse (slice_index_or sampled w []) ≡ flags (countdown_at old w) (reverse (slice_index_or queues w [])) (reverse (slice_index_or answers w []))
   pub spent_are : (w : ℕ) → w < length old → countdown_at new w ≡ spent (countdown_at old w) (reverse (slice_index_or queues w [])) (reverse (slice_index_or answers w []))
+
+-- The first k processors have sampled their objects, and no other has spent its countdown.
+pub record HaveSampledTo (queues : List (List Event)) (k : ℕ) (answers : List (List Answer)) (sampled : List (List Bool)) (old new : List Cache) : Type 0 where
+  pub size : length sampled ≡ k
+  pub flags_are : (w : ℕ) → w < k → reverse (slice_index_or sampled w []) ≡ flags (countdown_at old w) (reverse (slice_index_or queues w [])) (reverse (slice_index_or answers w []))
+  pub spent_are : (w : ℕ) → w < k → countdown_at new w ≡ spent (countdown_at old w) (reverse (slice_index_or queues w [])) (reverse (slice_index_or answers w []))
+  pub others : (w : ℕ) → k ≤ w → countdown_at new w ≡ countdown_at old w

@@ -3,7 +3,9 @@ pub mod Gains
 pub mod Served
 pub mod Swept
 pub mod Turns
+pub mod Lanes
 pub mod Counts
+pub mod Out
 pub mod Settled
 pub mod Last
 pub mod Profiled

@@ -82,3 +82,9 @@ KeepsAnswers old new = (w : ℕ) (events : List Event) (answers : List Answer) �
 -- The logs tell of the answers that each processor gave to its events, and of no others; all are in the order of time.
 abbrev pub HaveAnswered : List (List Event) → List (List Answer) → Seen → Type 0
 HaveAnswered queues given d = (w : ℕ) → SaysAnswers (reverse (slice_index_or queues w [])) (reverse (slice_index_or given w [])) (part_at d w).log
+
+-- The first k processors have answered their events, and nobody else has answered any.
+pub record HaveAnsweredTo (queues : List (List Event)) (k : ℕ) (given : List (List Answer)) (d : Seen) : Type 0 where
+  pub size : length given ≡ k
+  pub answered : (w : ℕ) → w < k → SaysAnswers (reverse (slice_index_or queues w [])) (reverse (slice_index_or given w [])) (part_at d w).log
+  pub others : (w : ℕ) → k ≤ w → SaysNone (part_at d w).log

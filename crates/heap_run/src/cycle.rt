@@ -1,17 +1,19 @@
 //! One cycle of a run: the turns of all workers, and its end.
 
-ghost use Rattle.std.specs.Prelude.{◌≡◌, ℕ, ◌^◌, ◌<◌, ◌≤◌, [], All, List as Items, length, slice_index_or, vec_len, true, OnOk};
-ghost use Rattle.span_laws.specs.Asks.{IsAtWork, IsIdle};
-ghost use Rattle.proc_cache.specs.Cache.{Cache};
+ghost use Rattle.std.specs.Prelude.{◌≡◌, ℕ, ◌^◌, ◌<◌, ◌≤◌, ◌+◌, [], All, length, slice_index_or, vec_len, false, true, IfOk, OnOk};
+ghost use Rattle.span_laws.specs.Asks.{IsAtWork};
 ghost use Rattle.heap_run.specs.Parts.{part_at};
 ghost use Rattle.heap_run.specs.Settled.{HasFlushed, HasSettled, HasWorked};
 ghost use Rattle.span_set.specs.Tallies.{MayCount};
 ghost use Rattle.sample_laws.specs.Counted.{all_counts};
 ghost use Rattle.heap_run.specs.Counts.{AreNumbered, Counts, HaveSampled, KeepCountdowns, no_counts};
 ghost use Rattle.heap_run.specs.Gains.{HaveKept, gains};
+ghost use Rattle.heap_run.specs.Out.{AreAsked, AreOf, AreStillOut, HasOut, HasTaken, IsBack, IsTakenIn, MayJoin, MayStart, helpers};
 ghost use Rattle.heap_run.specs.Turns.{HaveAnswered, IsCollecting, IsDriving, KeepsAnswers, SaysNone, no_cache};
 
-use crate::turns::{flush_processor, run_processor, run_scavenger, run_sweeper};
+use crate::lanes::{Lane, Task, run_all};
+use crate::out::{Out, Start, send_all};
+use crate::turns::{bring_back, flush_processor};
 use cycle_history::Answer;
 use edge_io::{Gate, List, NoMemory};
 use proc_cache::Proc;
@@ -19,7 +21,9 @@ use run_lists::Queues;
 use scavenger::scavenge_to;
 use span_set::{Hand, Shop};
 use std::alloc::Global;
+use std::snapshot::Snapshot;
 use std::sync::Wait;
+use std::thread::Threads;
 use sweeper::finish;
 
 /// The lists in which each processor puts what its events come to: the answers, and which of the objects are sampled.
@@ -29,18 +33,17 @@ pub(crate) struct Given {
     pub sampled: Vec<List<bool>>,
 }
 
-// The number of the first background sweeper.
-const SWEEPERS: u32 = 64;
-
-/// Each processor answers its events of the cycle, in rising order of the processors, and puts what they come to behind what is in
-/// its lists. Without memory the lists may be lost.
-pub(crate) fn run_processors<R: Wait, G: Gate>(
+/// The processors with an event, the background sweepers and the scavenger run beside each other, and the driver takes them all in.
+/// What the processors' events come to is put behind what is in their lists. Without memory the processors and their lists may be
+/// lost.
+pub(crate) fn run_beside<R: Threads + Wait + Sync, G: Gate>(
     rt: &R,
     alloc: Global,
     shop: &Shop,
     driver: &mut Hand,
     procs: &mut Vec<Proc>,
     queues: &Queues,
+    background: u32,
     gate: &G,
     given: &mut Given,
 ) -> Result<(), NoMemory>
@@ -53,6 +56,7 @@ pub(crate) fn run_processors<R: Wait, G: Gate>(
     requires lists { (vec_len given.old.answers ≡ vec_len procs.old) × (vec_len given.old.sampled ≡ vec_len procs.old) }
     requires numbered { AreNumbered shop.now.ring.now.buckets queues.now.events queues.now.buckets }
     requires few { vec_len procs.old ≤ 64 }
+    requires background { background ≤ 4 }
     requires sizes { (w : ℕ) → All (λ e. e.size ≤ 2 ^ 40) (slice_index_or queues.now.events w []) }
     requires driving { IsDriving driver.old.worker procs.old.items driver.old }
     requires collecting { IsCollecting driver.old }
@@ -68,17 +72,131 @@ pub(crate) fn run_processors<R: Wait, G: Gate>(
     ensures counts { OnOk result (Counts shop.now.marks.now (all_counts (vec_len procs.old) (gains given.old.sampled.items given.new.sampled.items) queues.now.buckets) driver.old driver.new) }
     ensures kept { OnOk result (HaveKept given.old.answers.items given.new.answers.items × HaveKept given.old.sampled.items given.new.sampled.items) }
 {
-    for p in 0..procs.len() {
-        let events = queues.events.of(p);
-        let buckets = queues.buckets.of(p);
-        let proc = &mut procs[p];
-        let answers = &mut given.answers[p];
-        let sampled = &mut given.sampled[p];
-        run_processor(
-            rt, alloc, shop, driver, proc, events, buckets, gate, answers, sampled,
+    let start = Start {
+        driver: Snapshot::of(&*driver),
+        procs: Snapshot::of(&*procs),
+        given: Snapshot::of(&*given),
+    };
+    let mut out = send_all(
+        alloc, shop, driver, procs, queues, background, given, &start,
+    )?;
+    run_all(rt, alloc, shop, queues, gate, out.lanes.as_mut_slice());
+    take_processors(shop, driver, procs, queues, background, given, &mut out, &start)?;
+    take_helpers(shop, driver, procs, queues, background, given, out.lanes, &start)?;
+    Ok(())
+}
+
+// The processors are taken in, in rising order.
+fn take_processors(
+    shop: &Shop,
+    driver: &mut Hand,
+    procs: &mut Vec<Proc>,
+    queues: &Queues,
+    background: u32,
+    given: &mut Given,
+    out: &mut Out,
+    start: &Start,
+) -> Result<(), NoMemory>
+    requires starts { MayStart shop.now.shared.now shop.now.ring.now shop.now.marks.now start.now }
+    requires asked { AreAsked shop.now.ring.now.buckets queues.now.events queues.now.buckets start.now }
+    requires out { AreStillOut start.now shop.now.marks.now queues.now.events queues.now.buckets background 0 out.old.lanes.items out.old.resting.items procs.old.items given.old driver.old }
+    ensures out { OnOk result (AreStillOut start.now shop.now.marks.now queues.now.events queues.now.buckets background (length start.now.procs.value.items) out.new.lanes.items out.new.resting.items procs.new.items given.new driver.new) }
+{
+    for number in 0..given.answers.len() {
+        take_processor(
+            shop, driver, procs, queues, background, given, out, number, start,
         )?;
     }
     Ok(())
+}
+
+// The next processor is taken in, with what it has done, or has stayed for want of an event.
+fn take_processor(
+    shop: &Shop,
+    driver: &mut Hand,
+    procs: &mut Vec<Proc>,
+    queues: &Queues,
+    background: u32,
+    given: &mut Given,
+    out: &mut Out,
+    number: usize,
+    start: &Start,
+) -> Result<(), NoMemory>
+    requires starts { MayStart shop.now.shared.now shop.now.ring.now shop.now.marks.now start.now }
+    requires asked { AreAsked shop.now.ring.now.buckets queues.now.events queues.now.buckets start.now }
+    requires number { number < length start.now.procs.value.items }
+    requires out { AreStillOut start.now shop.now.marks.now queues.now.events queues.now.buckets background number out.old.lanes.items out.old.resting.items procs.old.items given.old driver.old }
+    ensures out { OnOk result (AreStillOut start.now shop.now.marks.now queues.now.events queues.now.buckets background (number + 1) out.new.lanes.items out.new.resting.items procs.new.items given.new driver.new) }
+{
+    if queues.events.of(number).is_empty() {
+        let Some(proc) = out.resting.pop() else {
+            unreachable!()
+        };
+        procs.push(proc)?;
+        return Ok(());
+    }
+    let Some(lane) = out.lanes.pop() else {
+        unreachable!()
+    };
+    let task = take_in(shop, driver, lane)?;
+    let Task::Allocate(turn) = task else {
+        unreachable!()
+    };
+    procs.push(turn.proc)?;
+    given.answers[number] = turn.answers;
+    given.sampled[number] = turn.sampled;
+    Ok(())
+}
+
+// The background sweepers and the scavenger are taken in, in rising order.
+fn take_helpers(
+    shop: &Shop,
+    driver: &mut Hand,
+    procs: &Vec<Proc>,
+    queues: &Queues,
+    background: u32,
+    given: &Given,
+    mut lanes: Vec<Lane>,
+    start: &Start,
+) -> Result<(), NoMemory>
+    requires starts { MayStart shop.now.shared.now shop.now.ring.now shop.now.marks.now start.now }
+    requires few { background ≤ 4 }
+    requires out { HasOut start.now.driver.value (helpers background) driver.old }
+    requires lanes { AreOf (IsBack start.now shop.now.marks.now queues.now.events queues.now.buckets) (helpers background) lanes.items }
+    requires taken { HasTaken start.now shop.now.marks.now queues.now.events queues.now.buckets (length start.now.procs.value.items) procs.now.items given.now driver.old }
+    ensures out { OnOk result (HasOut start.now.driver.value [] driver.new) }
+    ensures taken { OnOk result (HasTaken start.now shop.now.marks.now queues.now.events queues.now.buckets (length start.now.procs.value.items) procs.now.items given.now driver.new) }
+{
+    for _back in 0..lanes.len() {
+        let Some(lane) = lanes.pop() else {
+            unreachable!()
+        };
+        take_in(shop, driver, lane)?;
+    }
+    Ok(())
+}
+
+// Takes in a worker that has run, with its notes and its tally, and says what it did. Where it found no memory, that is the answer.
+fn take_in(shop: &Shop, driver: &mut Hand, lane: Lane) -> Result<Task, NoMemory>
+    requires table { driver.old.worker.table ≡ shop.now.shared.now }
+    requires driver { driver.old.worker.number ≡ 69 }
+    requires ring { driver.old.tally.ring ≡ shop.now.ring.now }
+    requires drives { driver.old.tally.view.drives ≡ true }
+    requires back { lane.refused ≡ false → MayJoin shop.now.shared.now shop.now.ring.now driver.old lane.hand }
+    ensures ran { OnOk result (lane.refused ≡ false) }
+    ensures task { IfOk result (λ task. task ≡ lane.task) }
+    ensures taken { OnOk result (IsTakenIn lane.hand driver.old driver.new) }
+{
+    let Lane {
+        hand,
+        task,
+        refused,
+    } = lane;
+    if refused {
+        return Err(NoMemory);
+    }
+    bring_back(shop, driver, hand)?;
+    Ok(task)
 }
 
 /// Each processor flushes its cache, where it has not done so in this cycle.
@@ -109,36 +227,6 @@ pub(crate) fn flush_processors<R: Wait>(
 {
     for p in 0..procs.len() {
         flush_processor(rt, alloc, shop, driver, &mut procs[p])?;
-    }
-    Ok(())
-}
-
-/// The background sweepers sweep.
-pub(crate) fn run_sweepers<R: Wait, G: Gate>(
-    rt: &R,
-    alloc: Global,
-    shop: &Shop,
-    driver: &mut Hand,
-    background: u32,
-    gate: &G,
-) -> Result<(), NoMemory>
-    requires works { IsAtWork shop.now.shared.now driver.old.worker }
-    requires distance { 8192 ≤ shop.now.distance }
-    requires marks { shop.now.marks.now.pairs ≡ driver.old.worker.view.marks }
-    requires parts { length driver.old.worker.view.parts ≡ 70 }
-    requires few { background ≤ 4 }
-    requires driver { driver.old.worker.number ≡ 69 }
-    requires idle { (i : ℕ) → IsIdle (part_at driver.old.worker i) }
-    requires collecting { IsCollecting driver.old }
-    requires counts { MayCount shop.now.ring.now shop.now.marks.now driver.old.tally }
-    requires drives { driver.old.tally.view.drives ≡ true }
-    ensures driving { OnOk result ((procs : Items Cache) → length procs ≤ 64 → IsDriving driver.old.worker procs driver.old → IsDriving driver.old.worker procs driver.new) }
-    ensures collecting { OnOk result (IsCollecting driver.new) }
-    ensures counts { OnOk result (Counts shop.now.marks.now no_counts driver.old driver.new) }
-    ensures keeps { OnOk result (KeepsAnswers driver.old.worker driver.new.worker) }
-{
-    for number in SWEEPERS..SWEEPERS + background {
-        run_sweeper(rt, alloc, shop, driver, number, gate)?;
     }
     Ok(())
 }
@@ -178,7 +266,7 @@ pub(crate) fn end_cycle<R: Wait>(
 
 /// All of a cycle: the processors answer their events, the background sweepers sweep, the scavenger scavenges, and the cycle ends.
 /// The queues are let go before what came of them is merged, so that both are never in memory. Without memory the lists may be lost.
-pub(crate) fn run_workers<R: Wait, G: Gate>(
+pub(crate) fn run_workers<R: Threads + Wait + Sync, G: Gate>(
     rt: &R,
     alloc: Global,
     shop: &Shop,
@@ -212,9 +300,9 @@ pub(crate) fn run_workers<R: Wait, G: Gate>(
     ensures counts { OnOk result (Counts shop.now.marks.now (all_counts (vec_len procs.old) (gains given.old.sampled.items given.new.sampled.items) queues.entry.buckets) driver.old driver.new) }
     ensures kept { OnOk result (HaveKept given.old.answers.items given.new.answers.items × HaveKept given.old.sampled.items given.new.sampled.items) }
 {
-    run_processors(rt, alloc, shop, driver, procs, &queues, gate, given)?;
-    run_sweepers(rt, alloc, shop, driver, background, gate)?;
-    run_scavenger(rt, alloc, shop, driver, gate)?;
+    run_beside(
+        rt, alloc, shop, driver, procs, &queues, background, gate, given,
+    )?;
     end_cycle(rt, alloc, shop, driver, procs)?;
     Ok(())
 }

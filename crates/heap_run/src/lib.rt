@@ -10,6 +10,8 @@
 
 mod cycle;
 mod events;
+mod lanes;
+mod out;
 mod run;
 mod turns;
 

@@ -21,6 +21,7 @@ use span_state::{Marks, SweepNote};
 use span_table::{Shared, Worker};
 use std::alloc::Global;
 use std::sync::Wait;
+use std::thread::Threads;
 use trace_reader::{Header, Trace};
 
 // The bytes of a mark end's distance that are left for the marking itself (`mgcpacer.go`, the heap's least trigger distance); what
@@ -53,7 +54,7 @@ pub struct Ran {
 /// Runs a trace within its limits: each processor's events by its own worker, in the order of the trace. Before
 /// each event a processor passes the gate with its number and the event's place among its own of the cycle, and before their
 /// first steps in a cycle the background sweepers (64 to 67) and the scavenger (68) pass it with turn 0.
-pub fn run_trace<R: Wait, G: Gate>(
+pub fn run_trace<R: Threads + Wait + Sync, G: Gate>(
     rt: &R,
     alloc: Global,
     trace: &Trace,
@@ -124,7 +125,7 @@ impl Run {
     }
 
     // Runs all cycles, with a mark end behind each but the last.
-    fn run_cycles<R: Wait, G: Gate>(
+    fn run_cycles<R: Threads + Wait + Sync, G: Gate>(
         &mut self,
         rt: &R,
         alloc: Global,
@@ -148,7 +149,7 @@ impl Run {
     }
 
     // Runs a cycle to its end.
-    fn run_cycle<R: Wait, G: Gate>(
+    fn run_cycle<R: Threads + Wait + Sync, G: Gate>(
         &mut self,
         rt: &R,
         alloc: Global,

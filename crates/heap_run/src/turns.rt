@@ -1,76 +1,23 @@
-//! The turns of a cycle's workers: each is handed out, works, and is taken in again, and the driver collects its notes.
+//! A worker is handed out and taken in again, and the driver collects its notes; the flush of a processor that has no event.
 
-ghost use Rattle.std.specs.Prelude.{◌≡◌, ◌++◌, ◌^◌, ◌<◌, ◌≤◌, All, length, reverse, true, false, IfOk, OnOk};
+ghost use Rattle.std.specs.Prelude.{◌≡◌, ◌++◌, ◌<◌, ◌≤◌, length, true, false, IfOk, OnOk};
+ghost use Rattle.sweep_laws.specs.Lists.{has};
 ghost use Rattle.span_laws.specs.Asks.{IsAtWork, IsIdle};
 ghost use Rattle.span_laws.specs.Handed.{handing, taking_in};
 ghost use Rattle.span_state.specs.declared.sweep.SweepNote.{SweepNote};
 ghost use Rattle.heap_run.specs.Parts.{part_at};
 ghost use Rattle.profile_cycle.specs.History.{joined, lent};
 ghost use Rattle.span_set.specs.Tallies.{MayCount};
-ghost use Rattle.sample_laws.specs.Counted.{sampled_counts};
-ghost use Rattle.sample_laws.specs.Countdowns.{flags, spent};
 ghost use Rattle.heap_run.specs.Counts.{Counts, IsOut, no_counts};
-ghost use Rattle.heap_run.specs.Gains.{HasKept, behind};
-ghost use Rattle.heap_run.specs.Turns.{IsCaching, SaysAnswers, SaysNone, TookTurn};
+ghost use Rattle.heap_run.specs.Turns.{IsCaching, SaysNone, TookTurn};
 
-use crate::events::answer_all;
-use cycle_history::Answer;
-use edge_io::{Gate, List, NoMemory};
+use edge_io::NoMemory;
 use proc_cache::{Proc, flush};
-use scavenger::scavenge_to;
 use span_set::{Hand, Shop};
 use span_state::SweepNote;
 use std::alloc::Global;
 use std::sync::Wait;
 use sweep_lists::Entries;
-use sweeper::finish;
-use trace_reader::Event;
-
-// The number of the scavenger's worker.
-const SCAVENGER: u32 = 68;
-
-/// A processor answers its events of the cycle, and puts the answers, and which of the objects are sampled, behind those before.
-/// Without memory both lists may be lost.
-pub(crate) fn run_processor<R: Wait, G: Gate>(
-    rt: &R,
-    alloc: Global,
-    shop: &Shop,
-    driver: &mut Hand,
-    proc: &mut Proc,
-    events: &[Event],
-    buckets: &[u32],
-    gate: &G,
-    answers: &mut List<Answer>,
-    sampled: &mut List<bool>,
-) -> Result<(), NoMemory>
-    requires works { IsAtWork shop.now.shared.now driver.old.worker }
-    requires distance { 8192 ≤ shop.now.distance }
-    requires marks { shop.now.marks.now.pairs ≡ driver.old.worker.view.marks }
-    requires driver { driver.old.worker.number ≡ 69 }
-    requires parts { length driver.old.worker.view.parts ≡ 70 }
-    requires number { proc.old.number < 69 }
-    requires idle { IsIdle (part_at driver.old.worker proc.old.number) }
-    requires caching { IsCaching driver.old.worker.view.generation (part_at driver.old.worker proc.old.number) proc.old }
-    requires sizes { All (λ e. e.size ≤ 2 ^ 40) events.now }
-    requires counts { MayCount shop.now.ring.now shop.now.marks.now driver.old.tally }
-    requires drives { driver.old.tally.view.drives ≡ true }
-    requires buckets { length buckets.now ≡ length events.now }
-    requires known { All (λ b. b < shop.now.ring.now.buckets) buckets.now }
-    ensures turn { OnOk result (TookTurn proc.old.number (SaysAnswers (reverse events.now) (reverse (behind answers.old answers.new))) driver.old driver.new) }
-    ensures caching { OnOk result (IsCaching driver.old.worker.view.generation (part_at driver.new.worker proc.old.number) proc.new) }
-    ensures number { OnOk result (proc.new.number ≡ proc.old.number) }
-    ensures sampled { OnOk result (reverse (behind sampled.old sampled.new) ≡ flags proc.old.countdown (reverse events.now) (reverse (behind answers.old answers.new))) }
-    ensures spent { OnOk result (proc.new.countdown ≡ spent proc.old.countdown (reverse events.now) (reverse (behind answers.old answers.new))) }
-    ensures counts { OnOk result (Counts shop.now.marks.now (sampled_counts (behind sampled.old sampled.new) buckets.now) driver.old driver.new) }
-    ensures kept { OnOk result (HasKept answers.old answers.new × HasKept sampled.old sampled.new) }
-{
-    let mut hand = send_out(alloc, shop, driver, proc.number())?;
-    answer_all(
-        rt, alloc, shop, proc, &mut hand, events, buckets, gate, answers, sampled,
-    )?;
-    bring_back(shop, driver, hand)?;
-    Ok(())
-}
 
 /// A processor flushes its cache, where it has not done so in this cycle.
 pub(crate) fn flush_processor<R: Wait>(
@@ -102,63 +49,12 @@ pub(crate) fn flush_processor<R: Wait>(
     bring_back(shop, driver, hand)
 }
 
-/// A background sweeper sweeps until nothing is left, behind the gate.
-pub(crate) fn run_sweeper<R: Wait, G: Gate>(
-    rt: &R,
-    alloc: Global,
-    shop: &Shop,
-    driver: &mut Hand,
-    number: u32,
-    gate: &G,
-) -> Result<(), NoMemory>
-    requires works { IsAtWork shop.now.shared.now driver.old.worker }
-    requires distance { 8192 ≤ shop.now.distance }
-    requires marks { shop.now.marks.now.pairs ≡ driver.old.worker.view.marks }
-    requires driver { driver.old.worker.number ≡ 69 }
-    requires parts { length driver.old.worker.view.parts ≡ 70 }
-    requires number { number < 69 }
-    requires idle { IsIdle (part_at driver.old.worker number) }
-    requires counts { MayCount shop.now.ring.now shop.now.marks.now driver.old.tally }
-    requires drives { driver.old.tally.view.drives ≡ true }
-    ensures turn { OnOk result (TookTurn number SaysNone driver.old driver.new) }
-    ensures cached { OnOk result ((part_at driver.new.worker number).cached ≡ (part_at driver.old.worker number).cached) }
-    ensures counts { OnOk result (Counts shop.now.marks.now no_counts driver.old driver.new) }
-{
-    let mut hand = send_out(alloc, shop, driver, number)?;
-    gate.before(number, 0);
-    finish(rt, shop, &mut hand)?;
-    bring_back(shop, driver, hand)
-}
-
-/// The scavenger scavenges to the goal, behind the gate.
-pub(crate) fn run_scavenger<R: Wait, G: Gate>(
-    rt: &R,
-    alloc: Global,
-    shop: &Shop,
-    driver: &mut Hand,
-    gate: &G,
-) -> Result<(), NoMemory>
-    requires works { IsAtWork shop.now.shared.now driver.old.worker }
-    requires driver { driver.old.worker.number ≡ 69 }
-    requires parts { length driver.old.worker.view.parts ≡ 70 }
-    requires idle { IsIdle (part_at driver.old.worker 68) }
-    requires counts { MayCount shop.now.ring.now shop.now.marks.now driver.old.tally }
-    requires drives { driver.old.tally.view.drives ≡ true }
-    ensures turn { OnOk result (TookTurn 68 SaysNone driver.old driver.new) }
-    ensures cached { OnOk result ((part_at driver.new.worker 68).cached ≡ (part_at driver.old.worker 68).cached) }
-    ensures counts { OnOk result (Counts shop.now.marks.now no_counts driver.old driver.new) }
-{
-    let mut hand = send_out(alloc, shop, driver, SCAVENGER)?;
-    gate.before(SCAVENGER, 0);
-    scavenge_to(rt, shop.shared, &mut hand.worker)?;
-    bring_back(shop, driver, hand)
-}
-
-// Hands the worker of a number out, with a tally of its own.
-fn send_out(alloc: Global, shop: &Shop, driver: &mut Hand, number: u32) -> Result<Hand, NoMemory>
-    requires works { IsAtWork shop.now.shared.now driver.old.worker }
+/// Hands the worker of a number out, with a tally of its own. Others may be out.
+pub(crate) fn send_out(alloc: Global, shop: &Shop, driver: &mut Hand, number: u32) -> Result<Hand, NoMemory>
+    requires table { driver.old.worker.table ≡ shop.now.shared.now }
     requires number { number < 69 }
     requires driver { driver.old.worker.number ≡ 69 }
+    requires home { has number driver.old.worker.away ≡ false }
     requires part { number < length driver.old.worker.view.parts }
     requires ring { driver.old.tally.ring ≡ shop.now.ring.now }
     requires drives { driver.old.tally.view.drives ≡ true }
@@ -172,8 +68,8 @@ fn send_out(alloc: Global, shop: &Shop, driver: &mut Hand, number: u32) -> Resul
     Ok(Hand::new(alloc, worker, tally))
 }
 
-// Takes a worker in, with its notes behind those collected before, and its tally.
-fn bring_back(shop: &Shop, driver: &mut Hand, hand: Hand) -> Result<(), NoMemory>
+/// Takes a worker in, with its notes behind those collected before, and its tally.
+pub(crate) fn bring_back(shop: &Shop, driver: &mut Hand, hand: Hand) -> Result<(), NoMemory>
     requires table { driver.old.worker.table ≡ shop.now.shared.now }
     requires driver { driver.old.worker.number ≡ 69 }
     requires out { hand.worker.table ≡ shop.now.shared.now }

@@ -3,7 +3,7 @@
 ghost use Rattle.std.specs.Prelude.{◌≡◌, ◌≤◌};
 
 use alloc_tool::{goheap, goheap_plain};
-use edge_io::{Lines, List, MemorySink, MemorySource, OpenGate};
+use edge_io::{Gate, HoldGate, Lines, List, MemorySink, MemorySource, OpenGate};
 use std::alloc::Global;
 use std::process::Abort;
 use std::sync::Wait;
@@ -236,16 +236,15 @@ const ANSWERED: &[(&str, &str)] = &[
     ),
 ];
 
-// The second line and the lines behind it, and the report of them without its last line: of two processors each has a span of its own, and takes
-// no slot of the other's; 64 processors without an event print nothing; a freed run is scavenged 64 pages at a
-// time.
+// The second line and the lines behind it, of two processors, each of which has a span of its own and takes no slot of the other's.
+const SEVERAL: &[(&str, &str)] = &[(
+    "heap 1 procs 2 rate 0 seed 1 goal 512",
+    "a 0 8 s 1\na 1 8 s 1\ngc 1\nm 0 0\na 1 8 s 1\n",
+)];
+
+// The second line and the lines behind it, and the report of them without its last line: 64 processors without an event print nothing; a
+// freed run is scavenged 64 pages at a time.
 const WITH_HEADS: &[(&str, &str, &str)] = &[
-    (
-        "heap 1 procs 2 rate 0 seed 1 goal 512",
-        "a 0 8 s 1\na 1 8 s 1\ngc 1\nm 0 0\na 1 8 s 1\n",
-        "o 0 0xc000000000\no 1 0xc000002000\no 2 0xc000002000\nj 0 0 take 0 1 2\nj 1 0 take 1 1 2\nj 2 1 give 1 1\nj 3 1 take 1 1 2\n\
-         s 1 0 1 0\ns 1 1 0 1\nt 1 3 1\n",
-    ),
     ("heap 1 procs 64 rate 0 seed 1 goal 512", "", ""),
     (
         "heap 1 procs 1 rate 0 seed 1 goal 0",
@@ -294,16 +293,68 @@ fn expect_report<R: Threads + Wait + Sync + AllocGlobal + Abort>(
     )
 }
 
-// With and without background sweepers.
+// Wants a sound report of the trace of these lines behind this second line, whoever comes first.
+fn expect_sound_run<R: Threads + Wait + Sync + AllocGlobal + Abort, G: Gate>(
+    rt: &R,
+    words: &[&str],
+    head: &str,
+    lines: &str,
+    gate: &G,
+) -> Result<(), Fail> {
+    let alloc = rt.alloc();
+    let input = format!(in alloc; "goheap 1\n{head}\n{lines}end\n")?;
+    let words = words_of(alloc, words)?;
+    let mut source = source_of(alloc, input.as_bytes(), failing(&[], &[]))?;
+    let mut output = sink_of(alloc, u64::MAX, &[])?;
+    let mut errors = sink_of(alloc, u64::MAX, &[])?;
+    let status = goheap(rt, alloc, &words, &mut source, &mut output, &mut errors, gate);
+    assert_eq!(rt; status, 0, "at {lines} {words:?}");
+    let mut pair = input.as_bytes().to_vec(alloc)?;
+    pair.extend_from_slice(output.held())?;
+    let wanted = answered("check ok\n");
+    expect(
+        rt,
+        lines,
+        &["check"],
+        pair.as_slice(),
+        failing(&[], &[]),
+        wanted,
+    )
+}
+
+// The first with a background sweeper, the second without.
+const WORDS: [&[&str]; 2] = [&["run"], &["run", "--background=0"]];
+
+// A single processor has nobody to race with where no sweeper runs beside it. Reports of several are sound.
 #[test]
 fn traces_are_answered(rt: HostRuntime) -> Result<(), Fail> {
     for &(lines, text) in ANSWERED {
-        expect_report(&rt, &["run"], SMALL, lines, text, "")?;
-        expect_report(&rt, &["run", "--background=0"], SMALL, lines, text, "")?;
+        expect_report(&rt, WORDS[1], SMALL, lines, text, "")?;
+        expect_sound_run(&rt, WORDS[0], SMALL, lines, &OpenGate)?;
     }
     for &(head, lines, text) in WITH_HEADS {
-        expect_report(&rt, &["run"], head, lines, text, "")?;
-        expect_report(&rt, &["run", "--background=0"], head, lines, text, "")?;
+        expect_report(&rt, WORDS[1], head, lines, text, "")?;
+        expect_sound_run(&rt, WORDS[0], head, lines, &OpenGate)?;
+    }
+    for &(head, lines) in SEVERAL {
+        expect_sound_run(&rt, WORDS[0], head, lines, &OpenGate)?;
+        expect_sound_run(&rt, WORDS[1], head, lines, &OpenGate)?;
+    }
+    Ok(())
+}
+
+// Two processors, a processor and a background sweeper, and a processor and the scavenger.
+const PAIRS: [(u32, u32); 3] = [(0, 1), (0, 64), (0, 68)];
+
+// Each of two workers waits for the other, so they meet only where they run beside each other.
+#[test]
+fn workers_run_beside_each_other(rt: HostRuntime) -> Result<(), Fail> {
+    let words = ["run", "--background=1"].as_slice();
+    let head = "heap 1 procs 2 rate 0 seed 1 goal 512";
+    for (first, second) in PAIRS {
+        let gate = HoldGate::new(first, second);
+        expect_sound_run(&rt, words, head, "a 0 24 s 1\na 1 24 s 1\n", &gate)?;
+        assert!(rt; !gate.gave_up());
     }
     Ok(())
 }
@@ -424,7 +475,7 @@ fn region_is_emptied(rt: HostRuntime) -> Result<(), Fail> {
     expect(
         &rt,
         "a whole region",
-        &["run"],
+        &["run", "--background=0"],
         input.as_bytes(),
         failing(&[], &[]),
         wanted,
