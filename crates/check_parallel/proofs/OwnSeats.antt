@@ -136,10 +136,10 @@ seat-next t report asked answers old items n d da item table lives part size lt 
       is = is;
       answer = answer;
       seat = λ placed. (
-          lives,
-          subst (λ (c : ℕ). AreLives (region_of t) (at_end c (past_in report)) lives) (sym is.cycle) are,
-          subst (λ (ls : List (Option OpenLife)). HasOne ls item) same (one placed),
-        );
+        lives,
+        subst (λ (c : ℕ). AreLives (region_of t) (at_end c (past_in report)) lives) (sym is.cycle) are,
+        subst (λ (ls : List (Option OpenLife)). HasOne ls item) same (one placed),
+      );
     } in
     seated-step t report asked answers items (set items n item) n (get_or asked n d) (get_or answers n da) item lt (slice_get-get_or asked n d (omega arith)) (slice_get-get_or answers n da (omega arith)) refl here all
 

@@ -13,7 +13,7 @@ ghost use Rattle.check_parallel.specs.Seating.{ArePartSeated, AreSeatedItems, Is
 use crate::marking::keep_lives;
 use cycle_history::{Answer, Report};
 use edge_io::NoMemory;
-use report_check::{Asked, Item, Opened, OpenLife, is_right, seat_of};
+use report_check::{Asked, Item, OpenLife, Opened, is_right, seat_of};
 use std::alloc::Global;
 use std::thread::{Threads, join_mut};
 use trace_reader::Trace;
@@ -78,7 +78,18 @@ fn seat_parts<R: Threads + Sync>(
         requires { IsSync R.row × (low ≤ pieces) × IsPart trace.now report.now asked_then.now answers_then.now (length back.now) }
         ensures { (length back.exit.now ≡ length back.entry.now)
             × IfOk result (λ all. all ≡ true → ArePartSeated trace.entry.now report.entry.now asked_then.entry.now answers_then.entry.now back.exit.now) }
-    { seat_parts(rt, alloc, trace, report, asked_then, answers_then, back, pieces - low) };
+    {
+        seat_parts(
+            rt,
+            alloc,
+            trace,
+            report,
+            asked_then,
+            answers_then,
+            back,
+            pieces - low,
+        )
+    };
     let (a, b) = join_mut(rt, &mut one, &mut two);
     if !a? {
         return Ok(false);

@@ -105,7 +105,15 @@ fn seat<R: Threads + Sync>(
 {
     let mut items = blank?;
     let asked = asked?;
-    if !seated_items(rt, alloc, trace, report, asked.as_slice(), &mut items, pieces)? {
+    if !seated_items(
+        rt,
+        alloc,
+        trace,
+        report,
+        asked.as_slice(),
+        &mut items,
+        pieces,
+    )? {
         drop(items);
         return seat_whole(alloc, trace, report);
     }

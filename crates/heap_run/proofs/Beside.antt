@@ -78,15 +78,15 @@ sent-taken table ring m s queues numbers is procs given d starts sent lists none
       long = ap (λ (l : List Cache). length l) none;
       driving = subst (λ (l : List Cache). IsDriving start.worker l (at_home start d)) all
           (driving-as start.worker old start (at_home start d) starts.driving (ap (λ (w : Seen). w.number) worker ∙ starts.driving.number) (record {
-          away = refl;
-          table = ap (λ (w : Seen). w.table) worker;
-          parts = ap (λ (w : Seen). length w.view.parts) worker;
-          region = ap (λ (w : Seen). w.view.region) worker;
-          goal = ap (λ (w : Seen). w.view.goal) worker;
-          generation = ap (λ (w : Seen). w.view.generation) worker;
-          marks = ap (λ (w : Seen). w.view.marks) worker;
-          before = ap (λ (w : Seen). w.view.before) worker;
-          carried = ap (λ (w : Seen). w.view.carried) worker;
+            away = refl;
+            table = ap (λ (w : Seen). w.table) worker;
+            parts = ap (λ (w : Seen). length w.view.parts) worker;
+            region = ap (λ (w : Seen). w.view.region) worker;
+            goal = ap (λ (w : Seen). w.view.goal) worker;
+            generation = ap (λ (w : Seen). w.view.generation) worker;
+            marks = ap (λ (w : Seen). w.view.marks) worker;
+            before = ap (λ (w : Seen). w.view.before) worker;
+            carried = ap (λ (w : Seen). w.view.carried) worker;
           }) parts);
       collecting = collecting-as start (at_home start d) starts.collecting (ap (λ (w : Seen). w.view.generation) worker) sent.notes parts;
       lists = lists.lists;

@@ -286,7 +286,7 @@ taken-help table ring m s queues numbers p i is procs given l d e starts were ou
     let ran : Helps m b.hand l.hand = did-help s m queues numbers i b.hand l.hand b.task l.task back.sent.task (omega arith) (back.ran held) in
     let same = alike table ring m s queues numbers p i procs given d starts were back.sent.low outs.parts.0 in (
       taken-other s m queues numbers p i procs given d e were all high (home-turn SaysNone start d e b.hand l.hand i same back.sent.out ran.acted taken)
-      (home-cached SaysNone start d e b.hand l.hand i same back.sent.out ran.acted taken ran.cached) (home-counts SaysNone m no_counts start d e b.hand l.hand i same back.sent.out ran.acted taken ran.counts),
+          (home-cached SaysNone start d e b.hand l.hand i same back.sent.out ran.acted taken ran.cached) (home-counts SaysNone m no_counts start d e b.hand l.hand i same back.sent.out ran.acted taken ran.counts),
       out-less SaysNone start d e b.hand l.hand i is outs same back.sent.out ran.acted taken,
     )
 

@@ -81,8 +81,12 @@ pub(crate) fn run_beside<R: Threads + Wait + Sync, G: Gate>(
         alloc, shop, driver, procs, queues, background, given, &start,
     )?;
     run_all(rt, alloc, shop, queues, gate, out.lanes.as_mut_slice());
-    take_processors(shop, driver, procs, queues, background, given, &mut out, &start)?;
-    take_helpers(shop, driver, procs, queues, background, given, out.lanes, &start)?;
+    take_processors(
+        shop, driver, procs, queues, background, given, &mut out, &start,
+    )?;
+    take_helpers(
+        shop, driver, procs, queues, background, given, out.lanes, &start,
+    )?;
     Ok(())
 }
 

@@ -126,7 +126,14 @@ fn send_processor(
     }
     let turn = lend_lists(alloc, proc, number, given);
     let lanes = &mut out.lanes;
-    send(alloc, shop, driver, number as u32, Task::Allocate(turn), lanes)?;
+    send(
+        alloc,
+        shop,
+        driver,
+        number as u32,
+        Task::Allocate(turn),
+        lanes,
+    )?;
     Ok(())
 }
 

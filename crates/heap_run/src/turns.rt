@@ -50,7 +50,12 @@ pub(crate) fn flush_processor<R: Wait>(
 }
 
 /// Hands the worker of a number out, with a tally of its own. Others may be out.
-pub(crate) fn send_out(alloc: Global, shop: &Shop, driver: &mut Hand, number: u32) -> Result<Hand, NoMemory>
+pub(crate) fn send_out(
+    alloc: Global,
+    shop: &Shop,
+    driver: &mut Hand,
+    number: u32,
+) -> Result<Hand, NoMemory>
     requires table { driver.old.worker.table ≡ shop.now.shared.now }
     requires number { number < 69 }
     requires driver { driver.old.worker.number ≡ 69 }

@@ -307,7 +307,15 @@ fn expect_sound_run<R: Threads + Wait + Sync + AllocGlobal + Abort, G: Gate>(
     let mut source = source_of(alloc, input.as_bytes(), failing(&[], &[]))?;
     let mut output = sink_of(alloc, u64::MAX, &[])?;
     let mut errors = sink_of(alloc, u64::MAX, &[])?;
-    let status = goheap(rt, alloc, &words, &mut source, &mut output, &mut errors, gate);
+    let status = goheap(
+        rt,
+        alloc,
+        &words,
+        &mut source,
+        &mut output,
+        &mut errors,
+        gate,
+    );
     assert_eq!(rt; status, 0, "at {lines} {words:?}");
     let mut pair = input.as_bytes().to_vec(alloc)?;
     pair.extend_from_slice(output.held())?;

@@ -14,8 +14,10 @@ unreachable-requires c =
 pub returns-then-is_empty : goal.returns-then-is_empty
 returns-then-is_empty c =
     let none = ap (λ (l : List _). length l == 0) (sym c.of.ensures) ∙ sym c.is_empty.ensures ∙ c.if-is_empty.true in
-    record { out = back-rest c.args.shop.now.shared.now c.args.shop.now.ring.now c.args.shop.now.marks.now c.args.start.now c.args.queues.now.events c.args.queues.now.buckets c.args.background c.args.number c.args.out.now.lanes.items c.args.out.now.resting.items c.pop.new.self.items c.args.procs.now.items c.push.new.self.items c.args.given.now c.in-Some.proc c.args.driver.now
-        c.requires.starts c.requires.out c.requires.number none c.in-Some.ensures.items c.in_ok-push.ensures.items }
+    record {
+      out = back-rest c.args.shop.now.shared.now c.args.shop.now.ring.now c.args.shop.now.marks.now c.args.start.now c.args.queues.now.events c.args.queues.now.buckets c.args.background c.args.number c.args.out.now.lanes.items c.args.out.now.resting.items c.pop.new.self.items c.args.procs.now.items c.push.new.self.items c.args.given.now c.in-Some.proc c.args.driver.now
+          c.requires.starts c.requires.out c.requires.number none c.in-Some.ensures.items c.in_ok-push.ensures.items;
+    }
 
 pub unreachable-requires-in_default-pop : goal.unreachable-requires-in_default-pop
 unreachable-requires-in_default-pop c =
@@ -43,5 +45,7 @@ pub returns : goal.returns
 returns c =
     let busy = ap (λ (l : List _). length l == 0) (sym c.of.ensures) ∙ sym c.is_empty.ensures ∙ c.if-is_empty.false in
     let s = c.args.start.now in
-    record { out = back-next c.args.shop.now.shared.now c.args.shop.now.ring.now c.args.shop.now.marks.now s c.args.queues.now.events c.args.queues.now.buckets c.args.background c.args.number c.args.out.now.lanes.items c.pop-2.new.self.items c.args.out.now.resting.items c.args.procs.now.items c.push-2.new.self.items c.args.given.now _
-        c.in-Some-pop.lane c.in-Allocate.turn c.args.driver.now c.take_in.new.driver c.requires.starts c.requires.out c.requires.number busy c.in-Some-pop.ensures.items c.in_ok-task.ensures.ran (sym c.in_ok-task.ensures.task ∙ c.in-Allocate.is) c.in_ok-task.ensures.taken c.in_ok-push-2.ensures.items refl refl }
+    record {
+      out = back-next c.args.shop.now.shared.now c.args.shop.now.ring.now c.args.shop.now.marks.now s c.args.queues.now.events c.args.queues.now.buckets c.args.background c.args.number c.args.out.now.lanes.items c.pop-2.new.self.items c.args.out.now.resting.items c.args.procs.now.items c.push-2.new.self.items c.args.given.now _
+          c.in-Some-pop.lane c.in-Allocate.turn c.args.driver.now c.take_in.new.driver c.requires.starts c.requires.out c.requires.number busy c.in-Some-pop.ensures.items c.in_ok-task.ensures.ran (sym c.in_ok-task.ensures.task ∙ c.in-Allocate.is) c.in_ok-task.ensures.taken c.in_ok-push-2.ensures.items refl refl;
+    }
