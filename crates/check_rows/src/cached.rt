@@ -13,8 +13,8 @@ use std::process::Abort;
 use std::test::Fail;
 use trace_reader::{Trace, read_trace};
 
-/// The lines of a trace of one chunk; its version, its processors and its goal; the lines of a report's journal, behind one
-/// answer; and the first line that breaks rule 2.
+/// The lines of a trace of one chunk; its version, its processors and its goal; the lines of a report's journal,
+/// behind one answer; and the first line that breaks rule 2.
 type CachedRow = (&'static str, (u32, u32, u32), &'static str, Option<u64>);
 
 /// An object of 24 bytes.

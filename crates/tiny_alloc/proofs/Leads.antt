@@ -1,16 +1,15 @@
 -- The leads of marked riders, found one rider after the other.
 use Rattle.std.specs.Prelude.{IfOk}
-use Rattle.std.proofs.Common.{◌≡◌, ℕ, zero, suc, ◌+◌, ◌<◌, ◌≤◌, true, List, [], ◌∷◌, ◌++◌, length, take, get_or, min, Result, Ok, Err, refl, sym, ◌∙◌, ap, subst, arith, ◌⊎◌, inl, inr, ◌↔◌}
+use Rattle.std.proofs.Common.{◌≡◌, ℕ, ◌+◌, ◌<◌, ◌≤◌, List, [], ◌∷◌, ◌++◌, length, take, get_or, min, Result, Ok, Err, sym, ◌∙◌, ap, subst, arith, ◌⊎◌, inl, inr}
 use Rattle.std.proofs.lemmas.Bool.{cases_lt}
 use Rattle.std.proofs.lemmas.List.{get_or_past, take_more, take_all}
 use Rattle.object_spans.specs.declared.span.Span.{Span}
-use Rattle.cycle_history.specs.Requests.{is_within}
 use Rattle.tiny_alloc.specs.declared.part.Part.{Part}
-use Rattle.tiny_alloc.specs.declared.part.Part.TheVariants.{Other, Lead, Ride}
-use Rattle.tiny_alloc.specs.Base.{AreBasedMarks, AreSpaced, IsKept}
+use Rattle.tiny_alloc.specs.declared.part.Part.TheVariants.{Other, Ride}
+use Rattle.tiny_alloc.specs.Base.{AreBasedMarks, AreSpaced}
 use Rattle.tiny_alloc.specs.Marks.{Gains, HaveSame, IsLeadOf, IsLeadWithin}
 use Rattle.tiny_alloc.specs.Parts.{part_by}
-use Rattle.tiny_alloc.proofs.Spans.{Covers, from-more, old-more, new-more}
+use Rattle.tiny_alloc.proofs.Spans.{from-more, old-more, new-more}
 
 -- ---- the riders from one object up to another
 

@@ -1,5 +1,5 @@
 -- A base is within the limits of traces.
-use Rattle.std.proofs.Common.{◌≡◌, ℕ, zero, suc, ◌+◌, ◌^◌, ◌<◌, ◌≤◌, true, ◌&&◌, leb, List, [], ◌∷◌, ◌++◌, length, take, Option, Some, None, MatchOption, refl, sym, ◌∙◌, ap, subst, arith, ◌⊎◌, inl, inr, length-append}
+use Rattle.std.proofs.Common.{◌≡◌, ℕ, suc, ◌+◌, ◌^◌, ◌<◌, ◌≤◌, true, ◌&&◌, leb, List, [], ◌∷◌, ◌++◌, length, Option, Some, None, MatchOption, refl, sym, ◌∙◌, ap, subst, arith, ◌⊎◌, inl, inr, length-append}
 use Rattle.std.specs.List.{AllByRecursion, flat_map}
 use Rattle.std.proofs.lemmas.Bool.{or_cases, or_left, or_right}
 use Rattle.object_spans.specs.declared.span.Span.{Span}
@@ -11,13 +11,13 @@ use Rattle.trace_reader.specs.declared.trace.Event.{Event}
 use Rattle.trace_reader.specs.declared.trace.MarkEnd.{MarkEnd}
 use Rattle.trace_reader.specs.Limits.{AreCycles, EventFits, HeaderFits, IsMarked, events_of}
 use Rattle.cycle_history.specs.declared.Answer.{Answer}
-use Rattle.cycle_history.specs.Requests.{is_within, spans_of}
-use Rattle.cycle_history.specs.Before.{IsLimited, objects_before}
+use Rattle.cycle_history.specs.Requests.{is_within}
+use Rattle.cycle_history.specs.Before.{IsLimited}
 use Rattle.tiny_alloc.specs.declared.base.Based.{Based}
 use Rattle.tiny_alloc.specs.declared.part.Part.{Part}
 use Rattle.tiny_alloc.specs.declared.part.Part.TheVariants.{Other, Lead, Ride}
-use Rattle.tiny_alloc.specs.Riders.{Tried, object_at, part_at}
-use Rattle.tiny_alloc.specs.Base.{as_version_2, based_event, based_events, AreBased, AreBasedMarks, AreSpaced, IsBase, IsBasedEnd, IsKept}
+use Rattle.tiny_alloc.specs.Riders.{object_at, part_at}
+use Rattle.tiny_alloc.specs.Base.{as_version_2, based_event, based_events, AreBased, AreBasedMarks, AreSpaced, IsBase, IsBasedEnd}
 use Rattle.tiny_alloc.proofs.Leaders.{rider, rider-leader}
 use Rattle.tiny_alloc.proofs.Law.{asked-is}
 use Rattle.tiny_alloc.proofs.Listed.{events-length}

@@ -1,8 +1,8 @@
 -- The parts of objects, found one after the other.
 use Rattle.std.specs.Prelude.{IfSome}
-use Rattle.std.proofs.Common.{◌≡◌, ◌≢◌, ℕ, zero, suc, ◌+◌, ◌^◌, ◌<◌, ◌≤◌, Bool, true, false, ◌&&◌, cond, eqb, List, [], ◌∷◌, ◌++◌, length, get_or, set, length-set, Option, Some, None, refl, sym, ◌∙◌, ap, subst, arith, inl, inr}
+use Rattle.std.proofs.Common.{◌≡◌, ◌≢◌, ℕ, zero, suc, ◌+◌, ◌^◌, ◌<◌, ◌≤◌, Bool, true, false, cond, List, [], ◌∷◌, ◌++◌, length, get_or, set, length-set, Option, Some, None, refl, sym, ◌∙◌, ap, subst, arith, inl, inr}
 use Rattle.std.specs.List.{slice_get}
-use Rattle.std.proofs.lemmas.Bool.{cases_Bool, cases_eq, cases_lt, cond-true, cond-false, and_parts, eqb-true, eq-eqb, ne_eqb}
+use Rattle.std.proofs.lemmas.Bool.{cases_Bool, cases_eq, cases_lt, cond-true, cond-false, eq-eqb}
 use Rattle.std.proofs.lemmas.List.{get_or_past, get_or-set_same, get_or-set_other, length-append}
 use Rattle.std.proofs.lemmas.Option.{slice_get_past, slice_get-get_or}
 use Rattle.trace_reader.specs.declared.trace.Trace.{Trace}
@@ -15,13 +15,13 @@ use Rattle.cycle_history.specs.Objects.{is_placed}
 use Rattle.cycle_history.specs.Before.{objects_before}
 use Rattle.tiny_alloc.specs.declared.block.Seat.{Seat}
 use Rattle.tiny_alloc.specs.declared.part.Part.{Part}
-use Rattle.tiny_alloc.specs.declared.part.Part.TheVariants.{Other, Lead, Ride}
+use Rattle.tiny_alloc.specs.declared.part.Part.TheVariants.{Other}
 use Rattle.tiny_alloc.specs.Blocks.{Block, seat_in}
 use Rattle.tiny_alloc.specs.Riders.{Tried, tried, object_at, is_of, is_tiny, behind_object, block_before, part_in, part_of, part_at}
 use Rattle.tiny_alloc.specs.Marks.{HaveLeads}
 use Rattle.tiny_alloc.specs.Parts.{AreParts, AreAllParts, next_block, next_part, part_by, tried_of}
-use Rattle.tiny_alloc.proofs.Leaders.{IsOf, of-is, leader, rider, rider-leader}
-use Rattle.tiny_alloc.proofs.Requested.{earlier-cycle, request-of-cycle, within-cycle}
+use Rattle.tiny_alloc.proofs.Leaders.{of-is, leader, rider-leader}
+use Rattle.tiny_alloc.proofs.Requested.{earlier-cycle, request-of-cycle}
 use Rattle.tiny_alloc.proofs.Law.{object-is, asked-is}
 
 -- ---- a cycle's objects

@@ -1,5 +1,5 @@
 -- The parts of objects as code finds them: one after the other, each by the current block of its processor.
-use Rattle.std.specs.Prelude.{◌≡◌, ℕ, ◌<◌, Bool, cond, List, length, Option, Some, slice_index_or}
+use Rattle.std.specs.Prelude.{◌≡◌, ℕ, ◌<◌, Bool, cond, List, length, Option, slice_index_or}
 use Rattle.trace_reader.specs.declared.trace.Trace.{Trace}
 use Rattle.trace_reader.specs.declared.trace.Event.{Event}
 use Rattle.cycle_history.specs.declared.Answer.{Answer}

@@ -1,4 +1,4 @@
-use Rattle.std.proofs.Common.{◌≡◌, ◌∙◌, ℕ, ap, arith, List, get_or, length, sym, subst}
+use Rattle.std.proofs.Common.{◌∙◌, ℕ, ap, arith, List, get_or, sym, subst}
 use Rattle.cycle_history.specs.declared.Answer.{Answer}
 use Rattle.cycle_history.specs.Before.{IsLimited}
 use Rattle.tiny_alloc.specs.declared.base.Based.{Based}

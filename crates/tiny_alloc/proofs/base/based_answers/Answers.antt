@@ -1,4 +1,4 @@
-use Rattle.std.proofs.Common.{◌≡◌, length, ◌∙◌, arith}
+use Rattle.std.proofs.Common.{arith}
 use Rattle.tiny_alloc.specs.Parts.{part_by}
 use Rattle.tiny_alloc.proofs.Listed.{answers-next, answers-number}
 use Rattle.tiny_alloc.proofs.base.based_answers.Goals as goal

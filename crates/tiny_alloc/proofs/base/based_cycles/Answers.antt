@@ -1,4 +1,4 @@
-use Rattle.std.proofs.Common.{◌≡◌, ◌+◌, ◌≤◌, ◌<◌, List, length, take, get_or, refl, sym, ◌∙◌, ap, subst, arith}
+use Rattle.std.proofs.Common.{◌≡◌, ◌+◌, ◌<◌, List, length, take, get_or, refl, sym, ◌∙◌, ap, subst, arith}
 use Rattle.trace_reader.specs.declared.trace.Cycle.{Cycle}
 use Rattle.cycle_history.specs.Requests.{spans_of}
 use Rattle.tiny_alloc.specs.Base.{AreBased}
