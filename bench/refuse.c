@@ -9,7 +9,7 @@ static long calls;
 
 static int refuses(void) {
   const char *number = getenv("REFUSED");
-  if (++calls != (number ? atol(number) : 0)) return 0;
+  if (__atomic_add_fetch(&calls, 1, __ATOMIC_SEQ_CST) != (number ? atol(number) : 0)) return 0;
   return write(9, "x", 1) == 1;
 }
 

@@ -1,12 +1,11 @@
 -- The driver as the first worker has gone out, and as the last one is back.
-use Rattle.std.proofs.Common.{◌≡◌, ◌≢◌, ℕ, suc, ◌+◌, ◌-◌, ◌<◌, ◌≤◌, Bool, true, false, List, [], ◌∷◌, ◌++◌, drop, map, reverse, take, length, get_or, refl, sym, ◌∙◌, ap, arith, inl, inr, subst, None}
+use Rattle.std.proofs.Common.{◌≡◌, ℕ, ◌+◌, ◌-◌, ◌<◌, ◌≤◌, List, [], ◌++◌, drop, map, reverse, take, length, get_or, refl, sym, ◌∙◌, ap, arith, inl, inr, subst}
 use Rattle.std.proofs.lemmas.Bool.{cases_lt}
 use Rattle.std.proofs.lemmas.List.{get_or_past}
 use Rattle.atomic_table.specs.Seated.{TableId}
 use Rattle.span_state.specs.MarkSet.{MarkSet}
 use Rattle.trace_reader.specs.declared.trace.Event.{Event}
 use Rattle.cycle_history.specs.declared.Answer.{Answer}
-use Rattle.worker_log.specs.declared.Entry.{Entry}
 use Rattle.worker_log.specs.Logs.{sweepings}
 use Rattle.profile_cycle.specs.History.{RingId, Standing}
 use Rattle.sample_laws.specs.Counted.{all_counts}

@@ -1,5 +1,5 @@
 -- The driver as workers go out.
-use Rattle.std.proofs.Common.{◌≡◌, ◌≢◌, ℕ, suc, ◌+◌, ◌-◌, ◌<◌, ◌≤◌, Bool, true, false, All, List, [], ◌∷◌, ◌++◌, set, length, get_or, refl, sym, ◌∙◌, ap, arith, inl, inr, subst, None}
+use Rattle.std.proofs.Common.{◌≡◌, ◌≢◌, ℕ, suc, ◌+◌, ◌-◌, ◌<◌, ◌≤◌, Bool, true, false, All, List, [], ◌∷◌, ◌++◌, set, length, get_or, refl, sym, ◌∙◌, ap, arith, subst, None}
 use Rattle.std.proofs.lemmas.List.{append-nil, get_or-set_other, length-append, length-set, take_all}
 use Rattle.atomic_table.specs.Seated.{TableId}
 use Rattle.page_bitmap.specs.declared.line.Line.{Line}
@@ -12,12 +12,11 @@ use Rattle.sweep_laws.specs.Lists.{has}
 use Rattle.span_laws.specs.Asks.{IsAtWork}
 use Rattle.span_laws.specs.Handed.{handed_out, handing}
 use Rattle.span_laws.specs.Views.{Seen}
-use Rattle.span_laws.specs.declared.view.Part.{Part}
 use Rattle.span_set.specs.Tallies.{MayCount}
 use Rattle.span_set.specs.declared.hand.Hand.{Hand}
 use Rattle.proc_cache.specs.Cache.{Cache}
 use Rattle.heap_run.specs.Counts.{AreNumbered, IsOut}
-use Rattle.heap_run.specs.Lanes.{IsReady, MayAnswer, MayDo}
+use Rattle.heap_run.specs.Lanes.{IsReady, MayDo}
 use Rattle.heap_run.specs.Out.{AreAsked, AreOf, AreSent, HasLent, HasSent, IsSent, IsTaskOf, MayStart, RisesFrom, busy, helpers, resting, rising}
 use Rattle.heap_run.specs.Parts.{part_at}
 use Rattle.heap_run.specs.Turns.{IsCaching, IsCollecting, IsDriving, SaysNone, no_cache}

@@ -1,6 +1,6 @@
 -- The processors are back, one after another, and then the others.
 use Rattle.std.proofs.Common.{◌≡◌, ◌≢◌, ℕ, suc, ◌+◌, ◌-◌, ◌<◌, ◌≤◌, Bool, true, false, List, [], ◌∷◌, ◌++◌, drop, reverse, set, take, length, get_or, refl, sym, ◌∙◌, ap, arith, inl, inr, subst, add-zero}
-use Rattle.std.proofs.lemmas.Bool.{cases_eq, cases_lt}
+use Rattle.std.proofs.lemmas.Bool.{cases_eq}
 use Rattle.std.proofs.lemmas.List.{append-nil, append_assoc, drop_all, drop_more, get_or_at, get_or-set_other, get_or-set_same, length-append, length-drop, length-set, length_push, set_at, set-get_or}
 use Rattle.std.specs.Prelude.{◌==◌}
 use Rattle.atomic_table.specs.Seated.{TableId}
@@ -11,16 +11,15 @@ use Rattle.worker_log.specs.declared.Entry.{Entry}
 use Rattle.profile_cycle.specs.History.{RingId, Standing, split_off}
 use Rattle.sample_laws.specs.Counted.{all_counts, sampled_counts}
 use Rattle.sample_laws.specs.Countdowns.{flags, spent}
-use Rattle.span_laws.specs.Views.{Seen}
 use Rattle.span_laws.specs.declared.view.Part.{Part}
 use Rattle.span_set.specs.declared.hand.Hand.{Hand}
 use Rattle.proc_cache.specs.Cache.{Cache}
-use Rattle.heap_run.specs.Counts.{Counts, HaveSampled, HaveSampledTo, IsOut, no_counts}
-use Rattle.heap_run.specs.Gains.{HasKept, HaveKept, behind, gains}
+use Rattle.heap_run.specs.Counts.{Counts, HaveSampledTo, no_counts}
+use Rattle.heap_run.specs.Gains.{HasKept, behind, gains}
 use Rattle.heap_run.specs.Lanes.{AnswersTurn, DoesTask, Helps}
 use Rattle.heap_run.specs.Out.{AreOf, AreStillOut, HasOut, HasTaken, IsBack, IsTakenIn, IsTaskOf, MayJoin, MayStart, at_home, busy, helpers, resting}
-use Rattle.heap_run.specs.Parts.{IsSameRun, part_at}
-use Rattle.heap_run.specs.Turns.{HaveAnswered, HaveAnsweredTo, IsCaching, IsCollecting, IsDriving, SaysAnswers, SaysNone, TookTurn, no_cache}
+use Rattle.heap_run.specs.Parts.{part_at}
+use Rattle.heap_run.specs.Turns.{HaveAnsweredTo, IsCaching, IsDriving, SaysAnswers, SaysNone, TookTurn, no_cache}
 use Rattle.heap_run.specs.declared.cycle.Given.{Given}
 use Rattle.heap_run.specs.declared.lanes.Lane.{Lane}
 use Rattle.heap_run.specs.declared.lanes.Task.{Task}
@@ -28,10 +27,10 @@ use Rattle.heap_run.specs.declared.lanes.Task.TheVariants.{Allocate, Sweep, Scav
 use Rattle.heap_run.specs.declared.lanes.Turn.{Turn}
 use Rattle.heap_run.specs.declared.out.Start.{Start}
 use Rattle.heap_run.proofs.Acted.{none-then}
-use Rattle.heap_run.proofs.Counting.{counts-as, counts-none, counts-same, counts-then}
-use Rattle.heap_run.proofs.Driving.{answered-all, answered-none, answered-turn, collecting-turn, driving-other, driving-turn, same-refl}
-use Rattle.heap_run.proofs.Gains.{behind-none, gains-all, gains-turn, kept-none}
-use Rattle.heap_run.proofs.Sampling.{counts-more, sampled-all, sampled-none, sampled-turn}
+use Rattle.heap_run.proofs.Counting.{counts-none, counts-same, counts-then}
+use Rattle.heap_run.proofs.Driving.{answered-turn, collecting-turn, driving-other, driving-turn, same-refl}
+use Rattle.heap_run.proofs.Gains.{behind-none, gains-turn, kept-none}
+use Rattle.heap_run.proofs.Sampling.{counts-more, sampled-turn}
 use Rattle.heap_run.proofs.Stacks.{busy-none, busy-some, no-length, of-pop, of-some}
 use Rattle.heap_run.proofs.Taking.{IsAlike, home-cached, home-caching, home-counts, home-turn, may-join, out-less}
 

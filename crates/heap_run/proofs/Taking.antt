@@ -1,10 +1,7 @@
 -- Workers that went out together are taken in one after another: each is as one that goes out and comes back alone.
-use Rattle.std.proofs.Common.{◌≡◌, ◌≢◌, ℕ, suc, ◌+◌, ◌-◌, ◌<◌, ◌≤◌, true, false, List, [], ◌∷◌, ◌++◌, drop, reverse, set, take, length, get_or, refl, sym, ◌∙◌, ap, arith, inl, inr, subst, None}
-use Rattle.std.proofs.lemmas.Bool.{cases_eq}
-use Rattle.std.specs.List.{AllByRecursion}
+use Rattle.std.proofs.Common.{◌≡◌, ℕ, ◌+◌, ◌-◌, ◌<◌, List, ◌∷◌, ◌++◌, set, length, refl, sym, ◌∙◌, ap, arith, subst, None}
 use Rattle.atomic_table.specs.Seated.{TableId}
 use Rattle.span_state.specs.MarkSet.{MarkSet}
-use Rattle.span_state.specs.declared.sweep.SweepNote.{SweepNote}
 use Rattle.worker_log.specs.declared.Entry.{Entry}
 use Rattle.profile_cycle.specs.History.{RingId, Standing, joined, lent, split_off}
 use Rattle.sweep_laws.specs.Lists.{erase}
@@ -15,7 +12,7 @@ use Rattle.span_laws.specs.declared.view.Part.{Part}
 use Rattle.span_set.specs.declared.hand.Hand.{Hand}
 use Rattle.proc_cache.specs.Cache.{Cache}
 use Rattle.heap_run.specs.Counts.{Counts, IsOut}
-use Rattle.heap_run.specs.Out.{HasOut, IsTakenIn, MayJoin, RisesFrom, at_home}
+use Rattle.heap_run.specs.Out.{HasOut, IsTakenIn, MayJoin, at_home}
 use Rattle.heap_run.specs.Parts.{part_at}
 use Rattle.heap_run.specs.Turns.{HasActed, IsCaching, TookTurn}
 use Rattle.heap_run.proofs.Acted.{HandsOut, back-cached, back-caching, turn-back}

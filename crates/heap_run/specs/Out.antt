@@ -4,7 +4,6 @@ use Rattle.std.specs.List.{AllByRecursion}
 use Rattle.atomic_table.specs.Seated.{TableId}
 use Rattle.span_state.specs.MarkSet.{MarkSet}
 use Rattle.trace_reader.specs.declared.trace.Event.{Event}
-use Rattle.cycle_history.specs.declared.Answer.{Answer}
 use Rattle.profile_cycle.specs.History.{RingId, joined}
 use Rattle.sample_laws.specs.Counted.{all_counts}
 use Rattle.span_laws.specs.Asks.{IsAtWork}

@@ -1,4 +1,4 @@
-use Rattle.std.proofs.Common.{◌≡◌, ℕ, ◌+◌, ◌-◌, ◌<◌, All, [], ◌∷◌, ◌++◌, List, length, get_or, take, refl, sym, ◌∙◌, ap, subst, arith, vec_len}
+use Rattle.std.proofs.Common.{◌≡◌, ℕ, ◌<◌, All, List, length, sym, ap, subst, arith, vec_len}
 use Rattle.std.proofs.lemmas.List.{with_items_is}
 use Rattle.span_set.specs.declared.hand.Hand.{Hand}
 use Rattle.proc_cache.specs.Cache.{Cache}

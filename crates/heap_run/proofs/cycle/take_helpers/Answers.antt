@@ -1,4 +1,4 @@
-use Rattle.std.proofs.Common.{◌≡◌, ℕ, ◌+◌, ◌<◌, ◌≤◌, true, false, List, [], ◌∷◌, length, refl, sym, ◌∙◌, ap, subst, arith}
+use Rattle.std.proofs.Common.{◌≡◌, ℕ, ◌+◌, true, false, List, ◌∷◌, length, refl, ap, subst, arith}
 use Rattle.std.proofs.lemmas.List.{length_push}
 use Rattle.heap_run.specs.Out.{HasOut, RisesFrom, helpers}
 use Rattle.heap_run.proofs.Stacks.{of-none, of-split, rises-helpers, rises-low}

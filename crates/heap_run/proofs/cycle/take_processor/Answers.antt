@@ -1,6 +1,5 @@
-use Rattle.std.proofs.Common.{◌≡◌, ℕ, ◌+◌, ◌-◌, ◌<◌, true, false, [], ◌∷◌, ◌++◌, List, length, get_or, take, refl, sym, ◌∙◌, ap, subst, arith}
-use Rattle.std.specs.Prelude.{◌==◌, vec_len}
-use Rattle.heap_run.specs.Turns.{no_cache}
+use Rattle.std.proofs.Common.{◌≡◌, true, false, List, length, refl, sym, ◌∙◌, ap, arith}
+use Rattle.std.specs.Prelude.{◌==◌}
 use Rattle.heap_run.proofs.Taken.{back-joins, back-next, back-rest, back-task, next-back, some-back, some-rest}
 use Rattle.heap_run.proofs.cycle.take_processor.Goals as goal
 

@@ -1,4 +1,4 @@
-use Rattle.std.proofs.Common.{◌≡◌, ℕ, ◌<◌, length, sym, ◌∙◌, subst, arith}
+use Rattle.std.proofs.Common.{◌≡◌, ℕ, length, subst, arith}
 use Rattle.heap_run.specs.Out.{AreStillOut}
 use Rattle.heap_run.proofs.cycle.take_processors.Goals as goal
 
