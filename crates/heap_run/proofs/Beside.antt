@@ -24,7 +24,7 @@ use Rattle.heap_run.specs.Swept.{Made, note_at}
 use Rattle.heap_run.specs.Turns.{HaveAnswered, IsCaching, IsCollecting, IsDriving, SaysNone, no_cache}
 use Rattle.heap_run.specs.declared.cycle.Given.{Given}
 use Rattle.heap_run.specs.declared.lanes.Lane.{Lane}
-use Rattle.heap_run.specs.declared.out.Start.{Start}
+use Rattle.heap_run.specs.declared.going_out.Start.{Start}
 use Rattle.heap_run.proofs.Counting.{counts-as, counts-none, counts-same}
 use Rattle.heap_run.proofs.Driving.{answered-all, answered-none}
 use Rattle.heap_run.proofs.Gains.{gains-all, kept-none}

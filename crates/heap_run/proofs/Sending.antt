@@ -25,7 +25,7 @@ use Rattle.heap_run.specs.declared.lanes.Lane.{Lane}
 use Rattle.heap_run.specs.declared.lanes.Task.{Task}
 use Rattle.heap_run.specs.declared.lanes.Task.TheVariants.{Allocate, Sweep, Scavenge}
 use Rattle.heap_run.specs.declared.lanes.Turn.{Turn}
-use Rattle.heap_run.specs.declared.out.Start.{Start}
+use Rattle.heap_run.specs.declared.going_out.Start.{Start}
 use Rattle.heap_run.proofs.Acted.{HandsOut, out-caching, out-idle, out-marks}
 use Rattle.heap_run.proofs.Counting.{out-may}
 use Rattle.heap_run.proofs.Stacks.{busy-none, busy-some, last-taken, of-all, of-length, of-push, rises-not}

@@ -25,7 +25,7 @@ use Rattle.heap_run.specs.declared.lanes.Lane.{Lane}
 use Rattle.heap_run.specs.declared.lanes.Task.{Task}
 use Rattle.heap_run.specs.declared.lanes.Task.TheVariants.{Allocate, Sweep, Scavenge}
 use Rattle.heap_run.specs.declared.lanes.Turn.{Turn}
-use Rattle.heap_run.specs.declared.out.Start.{Start}
+use Rattle.heap_run.specs.declared.going_out.Start.{Start}
 use Rattle.heap_run.proofs.Acted.{none-then}
 use Rattle.heap_run.proofs.Counting.{counts-none, counts-same, counts-then}
 use Rattle.heap_run.proofs.Driving.{answered-turn, collecting-turn, driving-other, driving-turn, same-refl}

@@ -20,7 +20,7 @@ use Rattle.heap_run.specs.declared.cycle.Given.{Given}
 use Rattle.heap_run.specs.declared.lanes.Lane.{Lane}
 use Rattle.heap_run.specs.declared.lanes.Task.{Task}
 use Rattle.heap_run.specs.declared.lanes.Task.TheVariants.{Allocate, Sweep, Scavenge}
-use Rattle.heap_run.specs.declared.out.Start.{Start}
+use Rattle.heap_run.specs.declared.going_out.Start.{Start}
 
 -- ---- the numbers of those that are out
 

@@ -11,8 +11,8 @@ ghost use Rattle.heap_run.specs.Gains.{HaveKept, gains};
 ghost use Rattle.heap_run.specs.Out.{AreAsked, AreOf, AreStillOut, HasOut, HasTaken, IsBack, IsTakenIn, MayJoin, MayStart, helpers};
 ghost use Rattle.heap_run.specs.Turns.{HaveAnswered, IsCollecting, IsDriving, KeepsAnswers, SaysNone, no_cache};
 
+use crate::going_out::{Out, Start, send_all};
 use crate::lanes::{Lane, Task, run_all};
-use crate::out::{Out, Start, send_all};
 use crate::turns::{bring_back, flush_processor};
 use cycle_history::Answer;
 use edge_io::{Gate, List, NoMemory};

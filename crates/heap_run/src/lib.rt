@@ -10,8 +10,8 @@
 
 mod cycle;
 mod events;
+mod going_out;
 mod lanes;
-mod out;
 mod run;
 mod turns;
 

@@ -4,7 +4,7 @@ use Rattle.span_set.specs.declared.hand.Hand.{Hand}
 use Rattle.proc_cache.specs.Cache.{Cache}
 use Rattle.heap_run.specs.declared.cycle.Given.{Given}
 use Rattle.heap_run.specs.declared.lanes.Lane.{Lane}
-use Rattle.heap_run.specs.declared.out.Start.{Start}
+use Rattle.heap_run.specs.declared.going_out.Start.{Start}
 use Rattle.heap_run.specs.Lanes.{IsReady}
 use Rattle.heap_run.specs.Out.{AreSent, AreStillOut}
 use Rattle.heap_run.specs.Counts.{Counts, HaveSampled}
