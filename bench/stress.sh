@@ -45,7 +45,7 @@ echo "within 3 to $((megabytes - 3)) MB of address space: $refused runs ended wi
 
 if [ "$(id -u)" -eq 0 ]; then
   status=0
-  setpriv --reuid 65534 --clear-groups bash -c "ulimit -u 1 && exec timeout 60 '$folder/goheap' run --background=4" \
+  timeout 60 setpriv --reuid 65534 --clear-groups bash -c "ulimit -u 1 && exec '$folder/goheap' run --background=4" \
     <"$folder/trace" >"$folder/report" 2>"$folder/said" || status=$?
   ended "where no thread can be made" "$status"
   echo "where no thread can be made: status $status"
