@@ -1,20 +1,21 @@
-//! A table of traces and reports as text, for rule 2 with page caches.
+//! A table of traces and reports as text, for rule 2 in a trace whose processors have page caches.
 
 ghost use Rattle.std.specs.Prelude.{IfOk};
 ghost use Rattle.cycle_history.specs.Before.{IsLimited};
 
-use cached_journal::judge_cached_journal;
+use crate::beside::agree;
 use cycle_history::Report;
 use edge_io::{Lines, List, MemorySource};
-use report_check::CheckFault;
+use report_check::{CheckFault, check};
 use report_text::read_report;
 use std::alloc::Global;
 use std::process::Abort;
 use std::test::Fail;
+use std::thread::Threads;
 use trace_reader::{Trace, read_trace};
 
 /// The lines of a trace of one chunk; its version, its processors and its goal; the lines of a report's journal,
-/// behind one answer; and the first line that breaks rule 2.
+/// behind one answer; and the first line that breaks rule 2. Rule 1 is met.
 type CachedRow = (&'static str, (u32, u32, u32), &'static str, Option<u64>);
 
 /// An object of 24 bytes.
@@ -47,19 +48,29 @@ fn report_of(alloc: Global, journal: &str) -> Result<Report, Fail> {
     }
 }
 
-fn judge<R: Abort + AllocGlobal>(rt: &R, number: usize, row: &CachedRow) -> Result<(), Fail> {
+// The line that breaks rule 2, where it is the first rule that the report breaks.
+fn line_of_rule_2(found: &Result<(), CheckFault>) -> Result<Option<u64>, Fail> {
+    match found {
+        Ok(()) => Ok(None),
+        Err(CheckFault::Broken { rule: 1, .. }) => Err("rule 1".into()),
+        Err(CheckFault::Broken { rule: 2, line }) => Ok(Some(*line)),
+        Err(CheckFault::Broken { .. }) => Ok(None),
+        Err(CheckFault::NoMemory) => Err("no memory".into()),
+    }
+}
+
+fn judge<R: Abort + AllocGlobal + Threads + Sync>(
+    rt: &R,
+    number: usize,
+    row: &CachedRow,
+) -> Result<(), Fail> {
     let (lines, header, journal, broken) = *row;
     let alloc = rt.alloc();
     let trace = trace_of(alloc, header, lines)?;
     let report = report_of(alloc, journal)?;
-    let found = match judge_cached_journal(alloc, &trace, &report) {
-        Ok(()) => None,
-        Err(CheckFault::Broken { rule, line }) => Some((rule, line)),
-        Err(CheckFault::NoMemory) => return Err("no memory".into()),
-    };
-    let due = broken.map(|line| (2, line));
-    assert_eq!(rt; found, due, "row {number}: {journal}");
-    Ok(())
+    let found = line_of_rule_2(&check(alloc, &trace, &report))?;
+    assert_eq!(rt; found, broken, "row {number}: {journal}");
+    agree(rt, &trace, &report)
 }
 
 #[test]

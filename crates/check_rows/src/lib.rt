@@ -2,7 +2,8 @@
 //!
 //! `tests` tries the rules 1 to 4 alone, over the tables of `answers`, `journal`, `misses` and `places`; `totals` tries rule 8
 //! alone; and `later` all nine rules, over its own table, where nothing is sampled, and that of `profile`, where all is.
-//! `beside` tries each of these reports by the judge in pieces too. `cached` tries rule 2 with page caches, over its own table.
+//! `beside` tries each of these reports by the judge in pieces too. `cached` tries rule 2 where
+//! processors have page caches, over its own table.
 #![tactic(auto)]
 
 #[cfg(test)]

@@ -13,3 +13,5 @@ pub mod Walked
 pub mod OfObjects
 pub mod Counted
 pub mod Sampling
+pub mod Making
+pub mod PlainJournals

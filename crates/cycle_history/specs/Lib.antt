@@ -7,6 +7,7 @@ pub mod Sweeps
 pub mod Sampled
 pub mod Profile
 pub mod Sound
+pub mod Making
 pub mod Broken
 pub mod Text
 pub mod Places

@@ -10,7 +10,7 @@ use Rattle.cycle_history.specs.declared.Answer.TheVariants.{Placed, Zero, Missed
 use Rattle.cycle_history.specs.Needs.{Need}
 use Rattle.cycle_history.specs.Requests.{Marking}
 
--- An object is a request with its answer; the seat of a placed one is a life, by the number of its Take line, and
+-- An object is a request with its answer; the seat of a placed one is a life, by the number of its making line, and
 -- an index in it.
 pub record Object : Type 0 where
   pub id : ℕ

@@ -1,5 +1,5 @@
 -- What a trace asks for, cycle by cycle, and what its mark ends mark.
-use Rattle.std.specs.Prelude.{ℕ, zero, suc, ◌+◌, ◌-◌, ◌*◌, Bool, false, ◌&&◌, ◌||◌, nat_le, List, [], ◌∷◌, ◌++◌, map, reverse, length, Option, Some, None}
+use Rattle.std.specs.Prelude.{ℕ, zero, suc, ◌+◌, ◌-◌, ◌*◌, Bool, false, ◌&&◌, ◌||◌, nat_le, if◌then◌else◌, List, [], ◌∷◌, ◌++◌, map, reverse, length, Option, Some, None}
 use Rattle.trace_reader.specs.declared.trace.Trace.{Trace}
 use Rattle.trace_reader.specs.declared.trace.Cycle.{Cycle}
 use Rattle.trace_reader.specs.declared.trace.Event.{Event}
@@ -52,3 +52,7 @@ last_cycle t = length t.cycles - 1
 -- The pages of a trace's region.
 abbrev pub region_of : Trace → ℕ
 region_of t = 512 * t.header.chunks
+
+-- How many of a trace's processors have page caches: all of them from version 2 on, and before that none.
+abbrev pub caching_procs : Trace → ℕ
+caching_procs t = if nat_le 2 t.header.version then t.header.procs else 0

@@ -1,14 +1,15 @@
 -- Sound reports, and reports that use what they take.
-use Rattle.std.specs.Prelude.{◌≡◌, ℕ, ◌<◌, ◌≤◌, Bool, true, List, map, reverse, ◌⊎◌}
+use Rattle.std.specs.Prelude.{◌≡◌, ℕ, ◌<◌, ◌≤◌, Bool, true, List, [], map, reverse, ◌⊎◌}
 use Rattle.page_bitmap.specs.declared.line.Line.{Line}
 use Rattle.page_alloc.specs.Lists.{In}
 use Rattle.page_alloc.specs.Owners.{backed}
 use Rattle.page_alloc.specs.Lives.{Life, all_lives}
 use Rattle.page_alloc.specs.FreeRuns.{IsLoose}
-use Rattle.page_alloc.specs.Journal.{past_of, at_end, IsBy, Legal}
+use Rattle.page_alloc.specs.Blocks.{open_blocks}
+use Rattle.page_alloc.specs.Journal.{past_of, at_end, IsBy, LegalFor}
 use Rattle.trace_reader.specs.declared.trace.Trace.{Trace}
 use Rattle.cycle_history.specs.declared.Report.{Report}
-use Rattle.cycle_history.specs.Requests.{requests_of, marked_by, last_cycle, region_of}
+use Rattle.cycle_history.specs.Requests.{requests_of, marked_by, last_cycle, region_of, caching_procs}
 use Rattle.cycle_history.specs.Objects.{Object, is_placed}
 use Rattle.cycle_history.specs.Rules.{AreAnswered, AreMissed, AreSeated, AreApart, AreFilled}
 use Rattle.cycle_history.specs.Sweeps.{AreSwept, AreTotals}
@@ -23,10 +24,12 @@ pub record HasAnswers (t : Trace) (report : Report) (objects : List Object) : Ty
   pub asked : AreAnswered (requests_of t) objects
   pub printed : map (λ (o : Object). o.answer) objects ≡ reverse report.answers
 
--- Rule 2. The journal is one that pages of the trace's region and goal can have, by the trace's last cycle.
+-- Rule 2. The journal is one that pages of the trace's region and goal can have, with the page caches of its processors, by the trace's
+-- last cycle, and each block that is pulled is dropped.
 pub record HasJournal (t : Trace) (report : Report) : Type 0 where
-  pub legal : Legal (region_of t) t.header.goal (past_in report)
+  pub legal : LegalFor (caching_procs t) (region_of t) t.header.goal (past_in report)
   pub cycles : IsBy (last_cycle t) (past_in report)
+  pub settled : open_blocks (past_in report) ≡ []
 
 -- The profile is one of a form: `true` for the profile of each mark end, and `false` for that of the last one. It tells of
 -- the objects that the processors' countdowns sample, at the trace's rate and seed.

@@ -2,7 +2,8 @@
 //!
 //! `specs/Sound.antt` has the rules that a report meets, over the words of `specs/Requests.antt`, `Needs.antt`,
 //! `Objects.antt`, `Rules.antt`, `Orders.antt`, `Sweeps.antt`, `Sampled.antt` and `Profile.antt`, and `specs/Broken.antt` the
-//! first rule that one breaks. `specs/Text.antt` is the text of a report. How a run stays sound so far is `sound_run`'s.
+//! first rule that one breaks. `specs/Making.antt` has journals without page caches, and the line that makes a life.
+//! `specs/Text.antt` is the text of a report. How a run stays sound so far is `sound_run`'s.
 //!
 //! `marks_of` finds the places that a mark end marks, and `totals_of` counts the objects of each size class, from a trace
 //! and its answers: `specs/Places.antt`, `Found.antt`, `Marked.antt` and `Counted.antt`.
@@ -16,7 +17,8 @@ mod totals;
 
 use edge_io::List;
 pub use laws::{
-    an_address_has_one_place, an_object_sits_at_its_place, rate_0_has_an_empty_profile,
+    a_life_has_one_making_line, a_plain_journal_meets_rule_2, an_address_has_one_place,
+    an_object_sits_at_its_place, rate_0_has_an_empty_profile, version_1_has_no_page_caches,
 };
 pub use marks::marks_of;
 use page_bitmap::Line;

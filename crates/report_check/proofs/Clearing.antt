@@ -16,7 +16,7 @@ use Rattle.trace_reader.specs.Limits.{EventFits, events_of}
 use Rattle.cycle_history.specs.declared.Answer.TheVariants.{Zero}
 use Rattle.cycle_history.specs.declared.Report.{Report}
 use Rattle.cycle_history.specs.Needs.{Need, IsNeed}
-use Rattle.cycle_history.specs.Requests.{marked_by, region_of, requests_of}
+use Rattle.cycle_history.specs.Requests.{caching_procs, marked_by, region_of, requests_of}
 use Rattle.cycle_history.specs.Objects.{Object, is_placed, live, start_of, IsSeated, IsApart}
 use Rattle.cycle_history.specs.Rules.{AreApart}
 use Rattle.cycle_history.specs.Sound.{past_in}
@@ -174,10 +174,10 @@ pub seats-apart : (t : Trace) (report : Report) (items : List Item) (lasts : Lis
 seats-apart t report items lasts i j c a b known ia jb la lb differ =
     let pa = placed-item t report items lasts i a known ia (live-placed (marked_by t) c (object_of i a) la) in
     let pb = placed-item t report items lasts j b known jb (live-placed (marked_by t) c (object_of j b) lb) in
-    let legal = legal-at_end (region_of t) t.header.goal c (past_in report) known.journal.legal in
+    let legal = legal-at_end (caching_procs t) (region_of t) t.header.goal c (past_in report) known.journal.legal in
     let na = pa.seated.number in
     let nb = pb.seated.number in
-    apart (region_of t) t.header.goal (at_end c (past_in report)) (object_of i a) (object_of j b) pa.life pb.life legal (pa.seated.stays c la) (pb.seated.stays c lb) pa.fits pb.fits pa.seated.sits pb.seated.sits
+    apart (caching_procs t) (region_of t) t.header.goal (at_end c (past_in report)) (object_of i a) (object_of j b) pa.life pb.life legal (pa.seated.stays c la) (pb.seated.stays c lb) pa.fits pb.fits pa.seated.sits pb.seated.sits
     (λ same index. differ (sym na ∙ (ap (λ (l : Life). l.number) same ∙ nb), index))
 
 -- and overlap where they have one

@@ -5,11 +5,11 @@ use Rattle.std.proofs.Math.ListN.{get_or-eq_default}
 use Rattle.std.proofs.lemmas.Bool.{cases_eq, cases_lt}
 use Rattle.std.proofs.lemmas.List.{get_or-set_same, get_or-set_other, get_or-replicate, length-set, length-replicate}
 use Rattle.page_bitmap.specs.declared.line.Line.{Line}
-use Rattle.page_bitmap.specs.declared.line.Line.TheVariants.{Take, Give}
-use Rattle.page_alloc.specs.Lists.{In}
+use Rattle.page_bitmap.specs.declared.line.Line.TheVariants.{Take, Give, Cut}
+use Rattle.page_alloc.specs.Lists.{In, AllApart}
 use Rattle.page_alloc.specs.Lives.{Life, life_of, open_lives, others}
-use Rattle.page_alloc.specs.Journal.{Legal}
-use Rattle.page_alloc.proofs.Lives.{lies, pages-apart, from_others, to_others}
+use Rattle.page_alloc.specs.Journal.{LegalFor}
+use Rattle.page_alloc.proofs.Lives.{lies-for, pages-apart-for, from_others, to_others}
 use Rattle.cycle_history.specs.declared.Answer.TheVariants.{Placed}
 use Rattle.cycle_history.specs.Objects.{Object, Sits, start_of}
 use Rattle.report_check.specs.declared.lives.OpenLife.{OpenLife}
@@ -31,25 +31,32 @@ empty = None
 
 -- ---- one line more
 
-pub inside-take : (region goal : ℕ) (past : List Line) (cycle page pages class : ℕ) → Legal region goal (Take cycle page pages class ∷ past) → page < region
-inside-take region goal past cycle page pages class legal =
-    let l = lies region goal (Take cycle page pages class ∷ past) (life_of (length past) cycle page pages class) legal (inl refl) in
+pub inside-take : (procs region goal : ℕ) (past : List Line) (cycle page pages class : ℕ) → LegalFor procs region goal (Take cycle page pages class ∷ past) → page < region
+inside-take procs region goal past cycle page pages class legal =
+    let l = lies-for procs region goal (Take cycle page pages class ∷ past) (life_of (length past) cycle page pages class) legal (inl refl) in
     let some = l.0 in
     let inside = l.1 in
     omega arith
 
-pub inside-give : (region goal : ℕ) (past : List Line) (cycle page pages : ℕ) → Legal region goal (Give cycle page pages ∷ past) → page < region
-inside-give region goal past cycle page pages legal =
+pub inside-cut : (procs region goal : ℕ) (past : List Line) (cycle proc page pages class : ℕ) → LegalFor procs region goal (Cut cycle proc page pages class ∷ past) → page < region
+inside-cut procs region goal past cycle proc page pages class legal =
+    let l = lies-for procs region goal (Cut cycle proc page pages class ∷ past) (life_of (length past) cycle page pages class) legal (inl refl) in
+    let some = l.0 in
+    let inside = l.1 in
+    omega arith
+
+pub inside-give : (procs region goal : ℕ) (past : List Line) (cycle page pages : ℕ) → LegalFor procs region goal (Give cycle page pages ∷ past) → page < region
+inside-give procs region goal past cycle page pages legal =
     let given = legal.0.0 in
-    let l = lies region goal past given legal.2 legal.0.1 in
+    let l = lies-for procs region goal past given legal.2 legal.0.1 in
     let begins : given.page ≡ page = legal.0.2 in
     let some = l.0 in
     let inside = l.1 in
     omega arith
 
-pub lives-take : (region goal : ℕ) (past : List Line) (lives : List (Option OpenLife)) (cycle page pages class : ℕ) → AreLives region past lives → Legal region goal (Take cycle page pages class ∷ past)
-    → AreLives region (Take cycle page pages class ∷ past) (set lives page (Some (entry_of (life_of (length past) cycle page pages class))))
-lives-take region goal past lives cycle page pages class are legal = record {
+lives-made : (procs region goal : ℕ) (past : List Line) (lives : List (Option OpenLife)) (line : Line) (cycle page pages class : ℕ) → AreLives region past lives
+    → open_lives (line ∷ past) ≡ life_of (length past) cycle page pages class ∷ open_lives past → page < region → LegalFor procs region goal (line ∷ past) → AreLives region (line ∷ past) (set lives page (Some (entry_of (life_of (length past) cycle page pages class))))
+lives-made procs region goal past lives line cycle page pages class are makes lt legal = record {
   size = length-set lives page (Some new) ∙ are.size;
   pages = λ p life at. elim (cases_eq p page) [
     | inl same ↦ (
@@ -69,21 +76,27 @@ lives-take region goal past lives cycle page pages class are legal = record {
     new = entry_of born
 
     inside : page < length lives
-    inside = let e = are.size in let lt = inside-take region goal past cycle page pages class legal in omega arith
+    inside = let e = are.size in omega arith
 
     here : get_or (set lives page (Some new)) page None ≡ Some new
     here = get_or-set_same lives page (Some new) None inside
 
-    to : (life : Life) → In life (open_lives (Take cycle page pages class ∷ past)) → Holds (set lives page (Some new)) life
-    to life i = elim i [
+    apart : AllApart (λ (a b : Life). a.page ≢ b.page) (born ∷ open_lives past)
+    apart = subst (AllApart (λ (a b : Life). a.page ≢ b.page)) makes (pages-apart-for procs region goal (line ∷ past) legal)
+
+    held : (life : Life) → In life (born ∷ open_lives past) → Holds (set lives page (Some new)) life
+    held life i = elim i [
       | inl is ↦ subst (λ (l : Life). Holds (set lives page (Some new)) l) is here
       | inr there ↦ (
-          let apart = (pages-apart region goal (Take cycle page pages class ∷ past) legal).0 life there in
-          get_or-set_other lives page life.page (Some new) None (λ e. apart (sym e)) ∙ (are.all life).0 there)
+          let other = apart.0 life there in
+          get_or-set_other lives page life.page (Some new) None (λ e. other (sym e)) ∙ (are.all life).0 there)
     ]
 
-    from : (life : Life) → Holds (set lives page (Some new)) life → In life (open_lives (Take cycle page pages class ∷ past))
-    from life holds = elim (cases_eq life.page page) [
+    to : (life : Life) → In life (open_lives (line ∷ past)) → Holds (set lives page (Some new)) life
+    to life i = held life (subst (λ (ls : List Life). In life ls) makes i)
+
+    open-one : (life : Life) → Holds (set lives page (Some new)) life → In life (born ∷ open_lives past)
+    open-one life holds = elim (cases_eq life.page page) [
       | inl same ↦ (
           let now : get_or (set lives page (Some new)) page None ≡ Some (entry_of life) = subst (λ (n : ℕ). get_or (set lives page (Some new)) n None ≡ Some (entry_of life)) same holds in
           let e : Some new ≡ Some (entry_of life) = sym here ∙ now in
@@ -92,9 +105,22 @@ lives-take region goal past lives cycle page pages class are legal = record {
       | inr other ↦ inr ((are.all life).1 (sym (get_or-set_other lives page life.page (Some new) None other) ∙ holds))
     ]
 
-pub lives-give : (region goal : ℕ) (past : List Line) (lives : List (Option OpenLife)) (cycle page pages : ℕ) → AreLives region past lives → Legal region goal (Give cycle page pages ∷ past)
+    from : (life : Life) → Holds (set lives page (Some new)) life → In life (open_lives (line ∷ past))
+    from life holds = subst (λ (ls : List Life). In life ls) (sym makes) (open-one life holds)
+
+pub lives-take : (procs region goal : ℕ) (past : List Line) (lives : List (Option OpenLife)) (cycle page pages class : ℕ) → AreLives region past lives → LegalFor procs region goal (Take cycle page pages class ∷ past)
+    → AreLives region (Take cycle page pages class ∷ past) (set lives page (Some (entry_of (life_of (length past) cycle page pages class))))
+lives-take procs region goal past lives cycle page pages class are legal =
+    lives-made procs region goal past lives (Take cycle page pages class) cycle page pages class are refl (inside-take procs region goal past cycle page pages class legal) legal
+
+pub lives-cut : (procs region goal : ℕ) (past : List Line) (lives : List (Option OpenLife)) (cycle proc page pages class : ℕ) → AreLives region past lives → LegalFor procs region goal (Cut cycle proc page pages class ∷ past)
+    → AreLives region (Cut cycle proc page pages class ∷ past) (set lives page (Some (entry_of (life_of (length past) cycle page pages class))))
+lives-cut procs region goal past lives cycle proc page pages class are legal =
+    lives-made procs region goal past lives (Cut cycle proc page pages class) cycle page pages class are refl (inside-cut procs region goal past cycle proc page pages class legal) legal
+
+pub lives-give : (procs region goal : ℕ) (past : List Line) (lives : List (Option OpenLife)) (cycle page pages : ℕ) → AreLives region past lives → LegalFor procs region goal (Give cycle page pages ∷ past)
     → AreLives region (Give cycle page pages ∷ past) (set lives page None)
-lives-give region goal past lives cycle page pages are legal = record {
+lives-give procs region goal past lives cycle page pages are legal = record {
   size = length-set lives page None ∙ are.size;
   pages = λ p life at. elim (cases_eq p page) [
     | inl same ↦ (
@@ -106,7 +132,7 @@ lives-give region goal past lives cycle page pages are legal = record {
 }
   where
     inside : page < length lives
-    inside = let e = are.size in let lt = inside-give region goal past cycle page pages legal in omega arith
+    inside = let e = are.size in let lt = inside-give procs region goal past cycle page pages legal in omega arith
 
     here : get_or (set lives page None) page None ≡ None
     here = get_or-set_same lives page None None inside

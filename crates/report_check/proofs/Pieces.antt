@@ -160,7 +160,7 @@ pub known-seen : (p : Piece) (t : Trace) (report : Report) (items : List Item) (
 known-seen p t report items lasts known = record {
   limited = known.limited;
   answers = answers-seen p t report items known.answers;
-  journal = record { legal = known.journal.legal; cycles = known.journal.cycles };
+  journal = record { legal = known.journal.legal; cycles = known.journal.cycles; settled = known.journal.settled };
   places = seated-seen p (marked_by t) (past_in report) items known.places;
   until = lasts-seen p t items lasts known.until;
 }

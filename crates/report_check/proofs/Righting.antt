@@ -10,11 +10,11 @@ use Rattle.page_bitmap.specs.declared.line.Line.TheVariants.{Take, Miss, Give, S
 use Rattle.page_alloc.specs.Lists.{In, AllApart}
 use Rattle.page_alloc.specs.Lives.{Life, life_of, open_lives}
 use Rattle.page_alloc.specs.Journal.{at_end, cycle_of, past_of}
-use Rattle.page_alloc.proofs.Lives.{from_others, same_page}
+use Rattle.page_alloc.proofs.Lives.{from_others, same_page-for}
 use Rattle.span_state.specs.declared.sweep.SweepNote.{SweepNote}
 use Rattle.trace_reader.specs.declared.trace.Trace.{Trace}
 use Rattle.cycle_history.specs.declared.Report.{Report}
-use Rattle.cycle_history.specs.Requests.{last_cycle, marked_by, region_of}
+use Rattle.cycle_history.specs.Requests.{caching_procs, last_cycle, marked_by, region_of}
 use Rattle.cycle_history.specs.Objects.{Object, freed, kept}
 use Rattle.cycle_history.specs.Orders.{IsSweepBefore}
 use Rattle.cycle_history.specs.Sweeps.{AreSwept, GivesWhenEmpty, IsNote, IsOpenAfter, IsUsedAgain}
@@ -289,7 +289,7 @@ front-end : (t : Trace) (report : Report) (items : List Item) (lasts : List ℕ)
 front-end t report items lasts n m d known lt behind =
     let k = length report.journal - n - 1 in
     let size : (n + k) + 1 ≡ length report.journal = omega arith in
-    let l = later (region_of t) t.header.goal report.journal n k m d (omega arith) known.journal.legal behind in
+    let l = later (caching_procs t) (region_of t) t.header.goal report.journal n k m d (omega arith) known.journal.legal behind in
     let whole : take ((n + k) + 1) report.journal ≡ report.journal = take_all ((n + k) + 1) report.journal (omega arith) in
     ap (λ (js : List Line). at_end m (past_of js)) (sym whole) ∙ l.1
 
@@ -299,8 +299,8 @@ given-empty : (t : Trace) (report : Report) (items : List Item) (lasts : List �
 given-empty t report items lasts n cycle page pages life known gives right at among begins =
     let may = gives n cycle page pages at in
     let inside = slice_get_within report.journal n (Give cycle page pages) at in
-    let legal = legal-front (region_of t) t.header.goal report.journal n (omega arith) known.journal.legal in
-    let same : may.life ≡ life = same_page (region_of t) t.header.goal (past_of (take n report.journal)) may.life life legal may.alive among (may.its ∙ sym begins) in
+    let legal = legal-front (caching_procs t) (region_of t) t.header.goal report.journal n (omega arith) known.journal.legal in
+    let same : may.life ≡ life = same_page-for (caching_procs t) (region_of t) t.header.goal (past_of (take n report.journal)) may.life life legal may.alive among (may.its ∙ sym begins) in
     let older : life.cycle < cycle = (let o = may.older in let c = ap (λ (l : Life). l.cycle) same in omega arith) in
     let g = in-get report.sweeps may.note may.printed in
     let r = right.right g.0 may.note (slice_get_within report.sweeps g.0 may.note g.1) g.1 in
@@ -309,7 +309,7 @@ given-empty t report items lasts n cycle page pages life known gives right at am
     let line : cycle_of (get_or report.journal n (Give cycle page pages)) ≡ cycle = ap cycle_of e in
     let front = front-end t report items lasts n r.before (Give cycle page pages) known inside (omega arith) in
     let there : In life (open_lives (at_end r.before (past_in report))) = subst (λ (p : List Line). In life (open_lives p)) (sym front) (open-back r.before (past_of (take n report.journal)) life (omega arith) among) in
-    let one : r.life ≡ life = same_page (region_of t) t.header.goal (at_end r.before (past_in report)) r.life life (legal-at_end (region_of t) t.header.goal r.before (past_in report) known.journal.legal) r.alive there
+    let one : r.life ≡ life = same_page-for (caching_procs t) (region_of t) t.header.goal (at_end r.before (past_in report)) r.life life (legal-at_end (caching_procs t) (region_of t) t.header.goal r.before (past_in report) known.journal.legal) r.alive there
     (sym r.counts.page ∙ (may.here ∙ sym begins)) in (
       older,
       ap (λ (k : ℕ). kept (marked_by t) (objects_of items) k life.number) (sym c) ∙ (ap (λ (l : Life). kept (marked_by t) (objects_of items) (suc r.before) l.number) (sym one) ∙ (sym r.counts.kept ∙ may.empty)),
@@ -368,7 +368,7 @@ swept-all t report items lasts known gives right all = record {
         let c : suc r.before ≡ suc m = sym r.counts.cycle ∙ has.2 in
         let e : r.before ≡ m = omega arith in
         let there : In r.life (open_lives (at_end m (past_in report))) = subst (λ (k : ℕ). In r.life (open_lives (at_end k (past_in report)))) e r.alive in
-        let one : r.life ≡ life = same_page (region_of t) t.header.goal (at_end m (past_in report)) r.life life (legal-at_end (region_of t) t.header.goal m (past_in report) known.journal.legal) there alive (sym r.counts.page ∙ has.3) in
+        let one : r.life ≡ life = same_page-for (caching_procs t) (region_of t) t.header.goal (at_end m (past_in report)) r.life life (legal-at_end (caching_procs t) (region_of t) t.header.goal m (past_in report) known.journal.legal) there alive (sym r.counts.page ∙ has.3) in
         let counts : IsNote (marked_by t) (objects_of items) (suc m) life note = subst (λ (k : ℕ). IsNote (marked_by t) (objects_of items) (suc k) life note) e (subst (λ (l : Life). IsNote (marked_by t) (objects_of items) (suc r.before) l note) one r.counts) in
         let empty : kept (marked_by t) (objects_of items) (suc m) life.number ≡ 0 → (¬ IsOpenAfter (past_in report) (suc m) life) ⊎ IsUsedAgain (objects_of items) (suc m) life =
         subst (λ (k : ℕ). kept (marked_by t) (objects_of items) (suc k) life.number ≡ 0 → (¬ IsOpenAfter (past_in report) (suc k) life) ⊎ IsUsedAgain (objects_of items) (suc k) life) e

@@ -10,7 +10,7 @@ use Rattle.report_check.specs.declared.fault.CheckFault.{CheckFault}
 use Rattle.report_check.specs.declared.fault.CheckFault.TheVariants.{Broken, NoMemory}
 use Rattle.report_check.specs.Fault.{IsFault, MeetsChecked}
 
-sound-meets : (n : ℕ) (t : Trace) (report : Report) (objects : List Object) → IsSound t report objects → MeetsUpTo n t report objects
+pub sound-meets : (n : ℕ) (t : Trace) (report : Report) (objects : List Object) → IsSound t report objects → MeetsUpTo n t report objects
 sound-meets n t report objects is = record {
   answers = λ le. is.answers;
   journal = λ le. is.journal;

@@ -2,7 +2,6 @@ pub mod Fault
 pub mod Items
 pub mod Pieces
 pub mod Asked
-pub mod Journal
 pub mod Lives
 pub mod Seats
 pub mod Totals

@@ -43,6 +43,7 @@ pub use items::{Item, is_right, items_of};
 pub use journal::judge_journal;
 pub use judge::{check, check_first_rules};
 pub use lasts::lasts_of;
+pub use lines::end_of;
 pub use lives::{OpenLife, Seat, seat_of};
 pub use misses::judge_misses;
 pub use objects::Objects;

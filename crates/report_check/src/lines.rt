@@ -6,7 +6,7 @@ ghost use Rattle.report_rules.specs.Lines as lines;
 use cycle_history::Report;
 
 /// The number of the line `end`.
-pub(crate) fn end_of(report: &Report) -> u64
+pub fn end_of(report: &Report) -> u64
     ensures { result ≡ lines.end_of report.now }
 {
     report.answers.as_slice().len() as u64

@@ -4,7 +4,7 @@ ghost use Rattle.std.specs.Prelude.{◌≡◌, ℕ, ◌*◌, ◌+◌, ◌-◌, �
 ghost use Rattle.size_classes.specs.Classes.{region_start};
 ghost use Rattle.page_bitmap.specs.declared.line.Line.{Line as Entry};
 ghost use Rattle.page_alloc.specs.Lives.{Life};
-ghost use Rattle.page_alloc.specs.Journal.{Legal};
+ghost use Rattle.page_alloc.specs.Journal.{LegalFor};
 ghost use Rattle.cycle_history.specs.declared.Answer.TheVariants.{Placed};
 ghost use Rattle.report_check.specs.Items.{object_of};
 ghost use Rattle.report_check.specs.declared.lives.Seat.{Seat as Place};
@@ -16,10 +16,10 @@ use page_bitmap::Line;
 use size_classes::{PAGE_SIZE, REGION_START};
 use std::alloc::Global;
 
-/// A life that no Give line has ended: the number of its Take line, with its cycle, its pages and its span class.
+/// A life that no Give line has ended: the number of its Take or Cut line, with its cycle, its pages and its span class.
 #[derive(Clone, Copy, Debug)]
 pub struct OpenLife {
-    /// The number of its Take line.
+    /// The number of its Take or Cut line.
     pub number: u64,
     /// The cycle of that line.
     pub cycle: u32,
@@ -47,10 +47,11 @@ pub(crate) fn no_lives(alloc: Global, pages: usize) -> Result<Vec<Option<OpenLif
     Ok(vec![in alloc; None; pages]?)
 }
 
-/// Takes up the line with this number: a life begins with a Take, and ends with a Give.
+/// Takes up the line with this number: a life begins with a Take or a Cut, and ends with a Give.
 pub(crate) fn take_up(lives: &mut [Option<OpenLife>], number: u64, line: Line)
-    requires { (region : ℕ) × (goal : ℕ) × (past : Lines Entry) × AreLives region past lives.old × Legal region goal (line ∷ past) }
-    ensures { (region : ℕ) (goal : ℕ) (past : Lines Entry) → AreLives region past lives.old → Legal region goal (line ∷ past) → number ≡ length past → AreLives region (line ∷ past) lives.new }
+    requires { (procs : ℕ) × (region : ℕ) × (goal : ℕ) × (past : Lines Entry) × AreLives region past lives.old × LegalFor procs region goal (line ∷ past) }
+    ensures { (procs : ℕ) (region : ℕ) (goal : ℕ) (past : Lines Entry)
+        → AreLives region past lives.old → LegalFor procs region goal (line ∷ past) → number ≡ length past → AreLives region (line ∷ past) lives.new }
 {
     match line {
         Line::Take {
@@ -69,8 +70,25 @@ pub(crate) fn take_up(lives: &mut [Option<OpenLife>], number: u64, line: Line)
                 class,
             }),
         ),
+        Line::Cut {
+            cycle,
+            proc: _,
+            page,
+            pages,
+            class,
+        } => put(
+            lives,
+            page,
+            Some(OpenLife {
+                number,
+                cycle,
+                page,
+                pages,
+                class,
+            }),
+        ),
         Line::Give { page, .. } => put(lives, page, None),
-        _ => (),
+        Line::Miss { .. } | Line::Scav { .. } | Line::Pull { .. } | Line::Drop { .. } => (),
     }
 }
 

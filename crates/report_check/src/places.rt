@@ -17,9 +17,9 @@ ghost use Rattle.report_check.specs.Seats.{AllHaveLives, AreSameBut, AreSeatedIn
 
 use crate::CheckFault;
 use crate::items::Item;
-use crate::journal::cycle_of;
 use crate::lives::{OpenLife, Seat, has_life, no_lives, seat_of, take_up};
 use cycle_history::{Answer, Report};
+use page_replay::cycle_of;
 use size_classes::CHUNK_PAGES;
 use std::alloc::Global;
 use trace_reader::{Span, Trace};

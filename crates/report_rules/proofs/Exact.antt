@@ -6,19 +6,19 @@ use Rattle.std.proofs.lemmas.List.{reverse-reverse, reverse-append, take-append-
 use Rattle.page_bitmap.specs.declared.line.Line.{Line}
 use Rattle.page_bitmap.specs.declared.line.Line.TheVariants.{Miss}
 use Rattle.page_alloc.specs.Lists.{IsNumber}
-use Rattle.page_alloc.specs.Journal.{IsBy, Legal, past_of}
+use Rattle.page_alloc.specs.Journal.{IsBy, LegalFor, past_of}
 use Rattle.trace_reader.specs.declared.trace.Trace.{Trace}
 use Rattle.cycle_history.specs.declared.Answer.{Answer}
 use Rattle.cycle_history.specs.declared.Answer.TheVariants.{Zero, Missed}
 use Rattle.cycle_history.specs.declared.Report.{Report}
 use Rattle.cycle_history.specs.Needs.{Need}
-use Rattle.cycle_history.specs.Requests.{requests_of, region_of, marked_by, last_cycle}
+use Rattle.cycle_history.specs.Requests.{requests_of, region_of, marked_by, last_cycle, caching_procs}
 use Rattle.cycle_history.specs.Objects.{Object}
 use Rattle.cycle_history.specs.Rules.{AreMissed}
 use Rattle.cycle_history.specs.Sound.{past_in, HasAnswers, HasJournal}
 use Rattle.cycle_history.specs.Broken.{MeetsUpTo, MeetsRules, IsFirstBroken}
 use Rattle.cycle_history.proofs.OfObjects.{request-of, object-of, get-number}
-use Rattle.report_rules.specs.Answers.{IsRightAnswer, BreaksAnswers, IsJournalTo, BreaksMisses}
+use Rattle.report_rules.specs.Answers.{IsRightAnswer, BreaksAnswers, BreaksJournal, IsJournalTo, BreaksMisses}
 use Rattle.report_rules.specs.Broken.{Breaks, IsBroken}
 use Rattle.report_rules.proofs.Counts.{totals-unmet}
 use Rattle.report_rules.proofs.Profiles.{profile-unmet}
@@ -53,12 +53,19 @@ journal-to : (t : Trace) (report : Report) (n : ℕ) → HasJournal t report →
 journal-to t report n has =
     let parts : past_in report ≡ reverse (drop n report.journal) ++ past_of (take n report.journal) =
     ap (λ (xs : List Line). reverse xs) (sym (take-append-drop n report.journal)) ∙ reverse-append (take n report.journal) (drop n report.journal) in
-    let legal : Legal (region_of t) t.header.goal (reverse (drop n report.journal) ++ past_of (take n report.journal)) = subst (λ (p : List Line). Legal (region_of t) t.header.goal p) parts has.legal in
+    let legal : LegalFor (caching_procs t) (region_of t) t.header.goal (reverse (drop n report.journal) ++ past_of (take n report.journal)) =
+    subst (λ (p : List Line). LegalFor (caching_procs t) (region_of t) t.header.goal p) parts has.legal in
     let by : IsBy (last_cycle t) (reverse (drop n report.journal) ++ past_of (take n report.journal)) = subst (λ (p : List Line). IsBy (last_cycle t) p) parts has.cycles in
     record {
-      legal = legal-behind (region_of t) t.header.goal (reverse (drop n report.journal)) (past_of (take n report.journal)) legal;
-      cycles = by-behind (region_of t) t.header.goal (last_cycle t) (reverse (drop n report.journal)) (past_of (take n report.journal)) legal by;
+      legal = legal-behind (caching_procs t) (region_of t) t.header.goal (reverse (drop n report.journal)) (past_of (take n report.journal)) legal;
+      cycles = by-behind (caching_procs t) (region_of t) t.header.goal (last_cycle t) (reverse (drop n report.journal)) (past_of (take n report.journal)) legal by;
     }
+
+journal-met : (t : Trace) (report : Report) (line : ℕ) → BreaksJournal t report line → ¬ HasJournal t report
+journal-met t report line breaks has = elim breaks [
+  | inl here ↦ here.wrong (journal-to t report (here.number + 1) has)
+  | inr at_end ↦ at_end.out has.settled
+]
 
 -- ---- rule 3
 
@@ -111,7 +118,7 @@ unmet t report objects n line before breaks met =
     elim (cases_lt n 2) [
       | inl one ↦ answers-met t report others line (breaks.answers (omega arith)) (m.answers (omega arith))
       | inr more ↦ elim (cases_lt n 3) [
-        | inl two ↦ (let b = breaks.journal (omega arith) in b.wrong (journal-to t report (b.number + 1) (m.journal (omega arith))))
+        | inl two ↦ journal-met t report line (breaks.journal (omega arith)) (m.journal (omega arith))
         | inr rest ↦ elim (cases_lt n 4) [
           | inl three ↦ misses-met t report objects others line (before.answers (omega arith)) (m.answers (omega arith)) (breaks.misses (omega arith)) (m.misses (omega arith))
           | inr later ↦ elim (cases_lt n 5) [

@@ -4,3 +4,4 @@ pub mod Profiles
 pub mod Seats
 pub mod Sweeping
 pub mod Exact
+pub mod PlainLines

@@ -7,12 +7,12 @@ use Rattle.page_bitmap.specs.declared.line.Line.{Line}
 use Rattle.page_bitmap.specs.declared.line.Line.TheVariants.{Take, Miss, Give, Scav, Pull, Cut, Drop}
 use Rattle.page_alloc.specs.Lists.{In, count, one_if}
 use Rattle.page_alloc.specs.Lives.{Life, open_lives}
-use Rattle.page_alloc.specs.Journal.{IsBy, Legal, at_end, cycle_of, past_of}
+use Rattle.page_alloc.specs.Journal.{IsBy, LegalFor, at_end, cycle_of, past_of}
 use Rattle.page_alloc.proofs.Lives.{from_others}
 use Rattle.span_state.specs.declared.sweep.SweepNote.{SweepNote}
 use Rattle.trace_reader.specs.declared.trace.Trace.{Trace}
 use Rattle.cycle_history.specs.declared.Report.{Report}
-use Rattle.cycle_history.specs.Requests.{Marking, Request, last_cycle, marked_by, region_of, requests_of}
+use Rattle.cycle_history.specs.Requests.{Marking, Request, caching_procs, last_cycle, marked_by, region_of, requests_of}
 use Rattle.cycle_history.specs.Objects.{Object, freed, is_placed, kept, live}
 use Rattle.cycle_history.specs.Orders.{IsSweepBefore}
 use Rattle.cycle_history.specs.Rules.{AreAnswered, AreSeated, IsObject}
@@ -40,17 +40,17 @@ past-at journal n line at =
           ∙ append_assoc (reverse parts.0) (line ∷ []) (reverse (take n journal)),
     )
 
-pub legal-behind : (region goal : ℕ) (newer past : List Line) → Legal region goal (newer ++ past) → Legal region goal past
-legal-behind region goal [] past legal = legal
-legal-behind region goal (line ∷ newer) past legal = legal-behind region goal newer past legal.2
+pub legal-behind : (procs region goal : ℕ) (newer past : List Line) → LegalFor procs region goal (newer ++ past) → LegalFor procs region goal past
+legal-behind procs region goal [] past legal = legal
+legal-behind procs region goal (line ∷ newer) past legal = legal-behind procs region goal newer past legal.2
 
 pub by-later : (c d : ℕ) (past : List Line) → c ≤ d → IsBy c past → IsBy d past
 by-later c d [] le by = tt
 by-later c d (line ∷ past) le by = omega arith
 
-pub by-behind : (region goal last : ℕ) (newer past : List Line) → Legal region goal (newer ++ past) → IsBy last (newer ++ past) → IsBy last past
-by-behind region goal last [] past legal by = by
-by-behind region goal last (line ∷ newer) past legal by = by-behind region goal last newer past legal.2 (by-later (cycle_of line) last (newer ++ past) by legal.1)
+pub by-behind : (procs region goal last : ℕ) (newer past : List Line) → LegalFor procs region goal (newer ++ past) → IsBy last (newer ++ past) → IsBy last past
+by-behind procs region goal last [] past legal by = by
+by-behind procs region goal last (line ∷ newer) past legal by = by-behind procs region goal last newer past legal.2 (by-later (cycle_of line) last (newer ++ past) by legal.1)
 
 gives-behind : (marked : Marking) (objects : List Object) (newer past : List Line) → GivesWhenEmpty marked objects (newer ++ past) → GivesWhenEmpty marked objects past
 gives-behind marked objects [] past gives = gives
@@ -71,11 +71,11 @@ end-past : (m : ℕ) (line : Line) (past : List Line) → m < cycle_of line → 
 end-past m line past lt = let off = lt-leb (cycle_of line) m lt in rw off refl
 
 -- later lines don't matter
-end-behind : (region goal m : ℕ) (newer : List Line) (line : Line) (past : List Line) → Legal region goal (newer ++ line ∷ past) → m < cycle_of line → at_end m (newer ++ line ∷ past) ≡ at_end m past
-end-behind region goal m [] line past legal lt = end-past m line past lt
-end-behind region goal m (x ∷ newer) line past legal lt =
-    let le : cycle_of line ≤ cycle_of x = by-behind region goal (cycle_of x) newer (line ∷ past) legal.2 legal.1 in
-    end-past m x (newer ++ line ∷ past) (omega arith) ∙ end-behind region goal m newer line past legal.2 lt
+end-behind : (procs region goal m : ℕ) (newer : List Line) (line : Line) (past : List Line) → LegalFor procs region goal (newer ++ line ∷ past) → m < cycle_of line → at_end m (newer ++ line ∷ past) ≡ at_end m past
+end-behind procs region goal m [] line past legal lt = end-past m line past lt
+end-behind procs region goal m (x ∷ newer) line past legal lt =
+    let le : cycle_of line ≤ cycle_of x = by-behind procs region goal (cycle_of x) newer (line ∷ past) legal.2 legal.1 in
+    end-past m x (newer ++ line ∷ past) (omega arith) ∙ end-behind procs region goal m newer line past legal.2 lt
 
 -- an open life of a cycle up to m was open as cycle m ended
 open-then : (m : ℕ) (past : List Line) (life : Life) → In life (open_lives past) → life.cycle ≤ m → In life (open_lives (at_end m past))
@@ -123,11 +123,11 @@ give-met t report others line n has met w =
     let give : Line = Give w.cycle w.page w.pages in
     let parts = past-at report.journal n (Give w.cycle w.page w.pages) w.printed in
     let behind : List Line = past_of (take n report.journal) in
-    let legal : Legal (region_of t) t.header.goal (parts.0 ++ Give w.cycle w.page w.pages ∷ past_of (take n report.journal)) = rw parts.1 at has.legal in
+    let legal : LegalFor (caching_procs t) (region_of t) t.header.goal (parts.0 ++ Give w.cycle w.page w.pages ∷ past_of (take n report.journal)) = rw parts.1 at has.legal in
     let by : IsBy (last_cycle t) (parts.0 ++ Give w.cycle w.page w.pages ∷ past_of (take n report.journal)) = rw parts.1 at has.cycles in
     let gives : GivesWhenEmpty (marked_by t) others (parts.0 ++ Give w.cycle w.page w.pages ∷ past_of (take n report.journal)) = rw parts.1 at met.gives in
-    let here = legal-behind (region_of t) t.header.goal parts.0 (Give w.cycle w.page w.pages ∷ past_of (take n report.journal)) legal in
-    let le : w.cycle ≤ last_cycle t = by-behind (region_of t) t.header.goal (last_cycle t) parts.0 (Give w.cycle w.page w.pages ∷ past_of (take n report.journal)) legal by in
+    let here = legal-behind (caching_procs t) (region_of t) t.header.goal parts.0 (Give w.cycle w.page w.pages ∷ past_of (take n report.journal)) legal in
+    let le : w.cycle ≤ last_cycle t = by-behind (caching_procs t) (region_of t) t.header.goal (last_cycle t) parts.0 (Give w.cycle w.page w.pages ∷ past_of (take n report.journal)) legal by in
     let life = here.0.0 in
     let alive : In here.0.0 (open_lives (past_of (take n report.journal))) = here.0.1 in
     let its : here.0.0.page ≡ w.page = here.0.2 in
@@ -135,7 +135,7 @@ give-met t report others line n has met w =
     let older : here.0.0.cycle < w.cycle = empty.0 in
     let m : suc (w.cycle - 1) ≡ w.cycle = omega arith in
     let end : at_end (w.cycle - 1) (past_in report) ≡ at_end (w.cycle - 1) (past_of (take n report.journal)) =
-    ap (λ (l : List Line). at_end (w.cycle - 1) l) parts.1 ∙ end-behind (region_of t) t.header.goal (w.cycle - 1) parts.0 (Give w.cycle w.page w.pages) (past_of (take n report.journal)) legal (omega arith) in
+    ap (λ (l : List Line). at_end (w.cycle - 1) l) parts.1 ∙ end-behind (caching_procs t) (region_of t) t.header.goal (w.cycle - 1) parts.0 (Give w.cycle w.page w.pages) (past_of (take n report.journal)) legal (omega arith) in
     let opened : IsOpenAfter (past_in report) (w.cycle - 1) here.0.0 = rw end (open-then (w.cycle - 1) (past_of (take n report.journal)) here.0.0 alive (omega arith)) in
     let note = met.each (w.cycle - 1) here.0.0 (omega arith) opened in
     w.wrong (record {

@@ -1,18 +1,20 @@
 -- Which lines break the rules 1 to 3: answers, journal and misses.
-use Rattle.std.specs.Prelude.{◌≡◌, ℕ, ◌+◌, ◌<◌, List, length, take, Some, ◌⊎◌, ◌↔◌}
+use Rattle.std.specs.Prelude.{◌≡◌, ◌≢◌, ℕ, ◌+◌, ◌<◌, List, [], length, take, Some, ◌⊎◌, ◌↔◌}
 use Rattle.std.specs.List.{slice_get}
 use Rattle.page_bitmap.specs.declared.line.Line.{Line}
 use Rattle.page_alloc.specs.Lists.{In}
-use Rattle.page_alloc.specs.Journal.{past_of, IsBy, Legal}
+use Rattle.page_alloc.specs.Blocks.{open_blocks}
+use Rattle.page_alloc.specs.Journal.{past_of, IsBy, LegalFor}
 use Rattle.trace_reader.specs.declared.trace.Trace.{Trace}
 use Rattle.trace_reader.specs.declared.trace.Event.{Event}
 use Rattle.trace_reader.specs.Limits.{events_of}
 use Rattle.cycle_history.specs.declared.Answer.{Answer}
 use Rattle.cycle_history.specs.declared.Answer.TheVariants.{Zero, Missed}
 use Rattle.cycle_history.specs.declared.Report.{Report}
-use Rattle.cycle_history.specs.Requests.{last_cycle, region_of}
+use Rattle.cycle_history.specs.Requests.{caching_procs, last_cycle, region_of}
 use Rattle.cycle_history.specs.Objects.{Object}
 use Rattle.cycle_history.specs.Rules.{NamesMiss}
+use Rattle.cycle_history.specs.Sound.{past_in}
 use Rattle.report_rules.specs.Lines.{answer_at, journal_at, end_of}
 
 -- The answer with number i is right where the trace has an object i, and the answer is `zero` exactly where its size is 0.
@@ -33,17 +35,28 @@ abbrev pub BreaksAnswers : Trace → Report → ℕ → Type 0
 BreaksAnswers t report line = ((i : ℕ) × IsWrongAnswer t report line i)
     ⊎ ((length report.answers < length (events_of t)) × (line ≡ end_of report))
 
--- The first n lines of the journal are ones that pages of the trace's region and goal can have, by the trace's last cycle.
+-- The first n lines of the journal are ones that pages of the trace's region and goal can have, with the page caches of its
+-- processors, by the trace's last cycle.
 pub record IsJournalTo (t : Trace) (report : Report) (n : ℕ) : Type 0 where
-  pub legal : Legal (region_of t) t.header.goal (past_of (take n report.journal))
+  pub legal : LegalFor (caching_procs t) (region_of t) t.header.goal (past_of (take n report.journal))
   pub cycles : IsBy (last_cycle t) (past_of (take n report.journal))
 
--- Rule 2 is broken by the line of a journal line where the journal up to it is none that the pages can have.
-pub record BreaksJournal (t : Trace) (report : Report) (line : ℕ) : Type 0 where
+-- The journal line stands on this line of the report, and the journal up to it is none that the pages can have.
+pub record IsWrongLine (t : Trace) (report : Report) (line : ℕ) : Type 0 where
   pub number : ℕ
   pub inside : number < length report.journal
   pub wrong : ¬ IsJournalTo t report (number + 1)
   pub stands : line ≡ journal_at report number
+
+-- A block is out behind the journal's last line, and the line is `end`.
+pub record IsOutAtEnd (report : Report) (line : ℕ) : Type 0 where
+  pub out : open_blocks (past_in report) ≢ []
+  pub stands : line ≡ end_of report
+
+-- Rule 2 is broken by the line of a journal line where the journal up to it is none that the pages can have, and by `end` where a
+-- block is never dropped.
+abbrev pub BreaksJournal : Trace → Report → ℕ → Type 0
+BreaksJournal t report line = IsWrongLine t report line ⊎ IsOutAtEnd report line
 
 -- An earlier object names the journal line that this one names.
 pub record IsNamedBefore (objects : List Object) (o : Object) : Type 0 where

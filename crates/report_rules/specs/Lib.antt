@@ -4,3 +4,4 @@ pub mod Placing
 pub mod Closing
 pub mod Published
 pub mod Broken
+pub mod Plain

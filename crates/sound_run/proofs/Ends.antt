@@ -7,6 +7,7 @@ use Rattle.cycle_history.specs.Requests.{Marking, marked_by, region_of, last_cyc
 use Rattle.cycle_history.specs.Objects.{Object}
 use Rattle.cycle_history.specs.Sound.{past_in, HasAnswers}
 use Rattle.cycle_history.specs.Broken.{MeetsUpTo}
+use Rattle.cycle_history.proofs.PlainJournals.{plain-has}
 use Rattle.sound_run.specs.Run.{IsRun}
 use Rattle.sound_run.proofs.Live.{by-later}
 use Rattle.sound_run.proofs.Seats.{run-seated, run-apart}
@@ -44,7 +45,7 @@ pub run-sound : (t : Trace) (report : Report) (objects : List Object) → IsRun 
     → HasAnswers t report objects → MeetsUpTo 6 t report objects
 run-sound t report objects run answers = record {
   answers = λ le. answers;
-  journal = λ le. record { legal = run.journal; cycles = run.by };
+  journal = λ le. plain-has t report (record { legal = run.journal; cycles = run.by });
   misses = λ le. run.misses;
   places = λ le. run-seated (marked_by t) (region_of t) t.header.goal (last_cycle t) (past_in report) objects run;
   apart = λ le. run-apart (marked_by t) (region_of t) t.header.goal (last_cycle t) (past_in report) objects run;

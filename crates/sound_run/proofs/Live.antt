@@ -2,7 +2,7 @@
 use Rattle.std.proofs.Common.{◌≡◌, ℕ, zero, suc, ◌<◌, ◌≤◌, true, false, ◌||◌, leb, eqb, List, [], ◌∷◌, refl, arith, ◌⊎◌, inl, inr}
 use Rattle.std.proofs.lemmas.Bool.{le-leb, lt-leb, eqb-true, eq-eqb, cases_lt, cases_Bool, and_parts, and_from, or_cases, or_left, or_right}
 use Rattle.page_bitmap.specs.declared.line.Line.{Line}
-use Rattle.page_alloc.specs.Journal.{cycle_of, at_end, IsBy, Legal}
+use Rattle.page_alloc.specs.Journal.{cycle_of, at_end, IsBy, LegalFor}
 use Rattle.cycle_history.specs.Requests.{Marking}
 use Rattle.cycle_history.specs.Objects.{Object, is_placed, live}
 use Rattle.sound_run.specs.Run.{Lasts}
@@ -18,12 +18,12 @@ pub by-later : (c d : ℕ) (past : List Line) → c ≤ d → IsBy c past → Is
 by-later c d [] le by = tt
 by-later c d (line ∷ past) le by = omega arith
 
-pub legal-at_end : (region goal c : ℕ) (past : List Line) → Legal region goal past → Legal region goal (at_end c past)
-legal-at_end region goal c [] legal = tt
-legal-at_end region goal c (line ∷ past) legal =
+pub legal-at_end : (procs region goal c : ℕ) (past : List Line) → LegalFor procs region goal past → LegalFor procs region goal (at_end c past)
+legal-at_end procs region goal c [] legal = tt
+legal-at_end procs region goal c (line ∷ past) legal =
     elim (cases_Bool (leb (cycle_of line) c)) [
       | inl is ↦ rw is legal
-      | inr isnt ↦ rw isnt (legal-at_end region goal c past legal.2)
+      | inr isnt ↦ rw isnt (legal-at_end procs region goal c past legal.2)
     ]
 
 pub live-placed : (marked : Marking) (c : ℕ) (o : Object) → live marked c o ≡ true → is_placed o.answer ≡ true

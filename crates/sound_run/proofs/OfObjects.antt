@@ -90,7 +90,7 @@ run-places t goal c m past objects answers run are i address at =
     let is = known t m answers objects o are found.1 placed in
     let seat = run.seats o found.1 placed in
     let open-life = seat.1.stays o.cycle (live-of (marked_by t) o.cycle o placed refl) in
-    let inside = lies (region_of t) goal (at_end o.cycle past) seat.0 (legal-at_end (region_of t) goal o.cycle past run.journal) open-life in
+    let inside = lies (region_of t) goal (at_end o.cycle past) seat.0 (legal-at_end 0 (region_of t) goal o.cycle past run.journal) open-life in
     let some = inside.0 in
     let room = inside.1 in (
       seat.0.page,

@@ -6,12 +6,12 @@ use Rattle.page_bitmap.specs.declared.line.Line.{Line}
 use Rattle.page_bitmap.specs.declared.line.Line.TheVariants.{Take, Miss, Give, Scav, Pull, Cut, Drop}
 use Rattle.page_alloc.specs.Lists.{In}
 use Rattle.page_alloc.specs.Lives.{Life, open_lives}
-use Rattle.page_alloc.specs.Journal.{at_end, Legal}
+use Rattle.page_alloc.specs.Journal.{at_end, LegalFor}
 use Rattle.cycle_history.specs.Requests.{Marking}
 use Rattle.cycle_history.specs.Objects.{Object, is_placed, start_of, Sits, IsSeated, IsApart}
 use Rattle.cycle_history.specs.Rules.{AreSeated, AreApart}
 use Rattle.sound_run.specs.Run.{Fits, HasSeat, IsRun, slot_for}
-use Rattle.page_alloc.proofs.Lives.{share, from_others}
+use Rattle.page_alloc.proofs.Lives.{share-for, from_others}
 use Rattle.sound_run.proofs.Live.{legal-at_end, live-placed, live-of}
 
 slot_room : (slot count pages k : ℕ) → k < count → slot * count ≤ 8192 * pages → slot * k + slot ≤ 8192 * pages
@@ -24,16 +24,16 @@ sits-room o life k fits sits =
     rw e room
 
 -- Two runs of pages that are apart or share the first page of one.
-pub overlap : (region goal : ℕ) (past : List Line) (a b : Life) → Legal region goal past → In a (open_lives past) → In b (open_lives past) → 1 ≤ a.pages → 1 ≤ b.pages
+pub overlap : (procs region goal : ℕ) (past : List Line) (a b : Life) → LegalFor procs region goal past → In a (open_lives past) → In b (open_lives past) → 1 ≤ a.pages → 1 ≤ b.pages
     → (a ≡ b) ⊎ ((a.page + a.pages ≤ b.page) ⊎ (b.page + b.pages ≤ a.page))
-overlap region goal past a b legal ha hb some-a some-b =
+overlap procs region goal past a b legal ha hb some-a some-b =
     elim (cases_lt b.page (a.page + a.pages)) [
       | inr left ↦ inr (inl left)
       | inl one ↦ elim (cases_lt a.page (b.page + b.pages)) [
         | inr right ↦ inr (inr right)
         | inl two ↦ elim (cases_lt a.page b.page) [
-          | inl lt ↦ inl (share region goal past a b b.page legal ha hb (omega arith) one (omega arith) (omega arith))
-          | inr ge ↦ inl (share region goal past a b a.page legal ha hb (omega arith) (omega arith) ge two)
+          | inl lt ↦ inl (share-for procs region goal past a b b.page legal ha hb (omega arith) one (omega arith) (omega arith))
+          | inr ge ↦ inl (share-for procs region goal past a b a.page legal ha hb (omega arith) (omega arith) ge two)
         ]
       ]
     ]
@@ -42,16 +42,16 @@ pub sits-pages : (o : Object) (life : Life) (k : ℕ) → Fits o.need → Sits o
 sits-pages o life k fits sits = let room = sits-room o life k fits sits in let some = fits.some in omega arith
 
 -- an object sits in one open life
-pub one_life : (region goal : ℕ) (past : List Line) (o : Object) (a b : Life) (i k : ℕ) → Legal region goal past → In a (open_lives past) → In b (open_lives past)
+pub one_life : (procs region goal : ℕ) (past : List Line) (o : Object) (a b : Life) (i k : ℕ) → LegalFor procs region goal past → In a (open_lives past) → In b (open_lives past)
     → Fits o.need → Sits o a i → Sits o b k → a ≡ b
-one_life region goal past o a b i k legal ha hb fits sa sb =
+one_life procs region goal past o a b i k legal ha hb fits sa sb =
     let ra = sits-room o a i fits sa in
     let rb = sits-room o b k fits sb in
     let some = fits.some in
     let e1 = sa.address in
     let e2 = sb.address in
     let e : start_of a + o.need.slot * i ≡ start_of b + o.need.slot * k = cc in
-    elim (overlap region goal past a b legal ha hb (sits-pages o a i fits sa) (sits-pages o b k fits sb)) [
+    elim (overlap procs region goal past a b legal ha hb (sits-pages o a i fits sa) (sits-pages o b k fits sb)) [
       | inl same ↦ same
       | inr apart ↦ elim apart [ inl left ↦ absurd (omega arith) | inr right ↦ absurd (omega arith) ]
     ]
@@ -106,29 +106,29 @@ same_number (Cut cycle proc page pages class ∷ past) a b ha hb e =
 same_number (Drop cycle proc page pages ∷ past) a b ha hb e = same_number past a b ha hb e
 
 -- Rule 4.
-pub seated : (marked : Marking) (region goal : ℕ) (past : List Line) (o : Object) (life : Life) → Legal region goal past → Fits o.need → is_placed o.answer ≡ true
+pub seated : (marked : Marking) (procs region goal : ℕ) (past : List Line) (o : Object) (life : Life) → LegalFor procs region goal past → Fits o.need → is_placed o.answer ≡ true
     → HasSeat marked past o life → IsSeated marked past o life
-seated marked region goal past o life legal fits placed seat =
+seated marked procs region goal past o life legal fits placed seat =
     let here = seat.stays o.cycle (live-of marked o.cycle o placed refl) in
     record {
       number = seat.number;
       here = here;
       sits = seat.sits;
-      only = λ other k h sits. one_life region goal (at_end o.cycle past) o other life k o.index (legal-at_end region goal o.cycle past legal) h here fits sits seat.sits;
+      only = λ other k h sits. one_life procs region goal (at_end o.cycle past) o other life k o.index (legal-at_end procs region goal o.cycle past legal) h here fits sits seat.sits;
       stays = seat.stays;
     }
 
 -- Rule 5: two objects of two lives, or of two indices of one life.
-pub apart : (region goal : ℕ) (past : List Line) (a b : Object) (la lb : Life) → Legal region goal past → In la (open_lives past) → In lb (open_lives past)
+pub apart : (procs region goal : ℕ) (past : List Line) (a b : Object) (la lb : Life) → LegalFor procs region goal past → In la (open_lives past) → In lb (open_lives past)
     → Fits a.need → Fits b.need → Sits a la a.index → Sits b lb b.index → (la ≡ lb → a.index ≢ b.index) → IsApart a b
-apart region goal past a b la lb legal ha hb fa fb sa sb differ x y ax by =
+apart procs region goal past a b la lb legal ha hb fa fb sa sb differ x y ax by =
     let ra = sits-room a la a.index fa sa in
     let rb = sits-room b lb b.index fb sb in
     let e1 = sa.address in
     let e2 = sb.address in
     let ex : start_of la + a.need.slot * a.index ≡ x = cc in
     let ey : start_of lb + b.need.slot * b.index ≡ y = cc in
-    elim (overlap region goal past la lb legal ha hb (sits-pages a la a.index fa sa) (sits-pages b lb b.index fb sb)) [
+    elim (overlap procs region goal past la lb legal ha hb (sits-pages a la a.index fa sa) (sits-pages b lb b.index fb sb)) [
       | inr other ↦ elim other [ inl left ↦ inl (omega arith) | inr right ↦ inr (omega arith) ]
       | inl same ↦ (
           let c1 = sa.class in
@@ -160,7 +160,7 @@ apart region goal past a b la lb legal ha hb fa fb sa sb differ x y ax by =
 pub run-seated : (marked : Marking) (region goal c : ℕ) (past : List Line) (objects : List Object) → IsRun marked region goal c past objects → AreSeated marked past objects
 run-seated marked region goal c past objects run o h placed =
     let seat = run.seats o h placed in
-    (seat.0, seated marked region goal past o seat.0 run.journal (run.fits o h placed) placed seat.1)
+    (seat.0, seated marked 0 region goal past o seat.0 run.journal (run.fits o h placed) placed seat.1)
 
 pub run-apart : (marked : Marking) (region goal c : ℕ) (past : List Line) (objects : List Object) → IsRun marked region goal c past objects → AreApart marked objects
 run-apart marked region goal c past objects run m a b ha hb ne la lb =
@@ -170,6 +170,6 @@ run-apart marked region goal c past objects run m a b ha hb ne la lb =
     let sb = run.seats b hb pb in
     let na = sa.1.number in
     let nb = sb.1.number in
-    apart region goal (at_end m past) a b sa.0 sb.0 (legal-at_end region goal m past run.journal) (sa.1.stays m la) (sb.1.stays m lb)
+    apart 0 region goal (at_end m past) a b sa.0 sb.0 (legal-at_end 0 region goal m past run.journal) (sa.1.stays m la) (sb.1.stays m lb)
     (run.fits a ha pa) (run.fits b hb pb) sa.1.sits sb.1.sits
     (λ same. run.distinct m a b ha hb ne la lb (sym na ∙ ap (λ (l : Life). l.number) same ∙ nb))

@@ -5,10 +5,7 @@ use Rattle.std.proofs.lemmas.Bool.{cases_lt}
 use Rattle.trace_reader.specs.declared.trace.Trace.{Trace}
 use Rattle.cycle_history.specs.declared.Answer.{Answer}
 use Rattle.cycle_history.specs.declared.Report.{Report}
-use Rattle.cycle_history.specs.Objects.{Object}
 use Rattle.cycle_history.specs.Before.{IsLimited}
-use Rattle.cycle_history.specs.Sound.{IsSound}
-use Rattle.cycle_history.specs.Broken.{MeetsUpTo}
 use Rattle.report_rules.specs.Answers.{BreaksAnswers}
 use Rattle.report_rules.specs.Broken.{IsBroken}
 use Rattle.report_rules.proofs.Exact.{first-broken}
@@ -17,7 +14,7 @@ use Rattle.report_check.specs.declared.fault.CheckFault.TheVariants.{Broken, NoM
 use Rattle.report_check.specs.Fault.{IsFaultOf, MeetsChecked}
 use Rattle.report_check.specs.Fault as nine
 use Rattle.report_check.proofs.Faults.{fault-1}
-use Rattle.report_check.proofs.Sounding.{never-refused}
+use Rattle.report_check.proofs.Sounding.{never-refused, sound-meets}
 use Rattle.tiny_alloc.specs.declared.base.Based.{Based}
 use Rattle.tiny_alloc.specs.declared.part.Rider.{Rider}
 use Rattle.tiny_alloc.specs.Riders.{part_at}
@@ -64,19 +61,6 @@ tiny-10 t report based NoMemory is base sound broken = tt
 pub tiny-sound : (t : Trace) (report : Report) (based : Based) → IsAnswered t report → IsBase t report.answers based → MeetsChecked based.trace (based_report report based) → AreRiding t report.answers → MeetsTiny t report
 tiny-sound t report based is base sound riding =
     (based, sound.0, record { answers = meets-answers t report is; base = base; sound = sound.1; riding = riding })
-
-sound-meets : (n : ℕ) (t : Trace) (report : Report) (objects : List Object) → IsSound t report objects → MeetsUpTo n t report objects
-sound-meets n t report objects is = record {
-  answers = λ le. is.answers;
-  journal = λ le. is.journal;
-  misses = λ le. is.misses;
-  places = λ le. is.places;
-  apart = λ le. is.apart;
-  filling = λ le. is.filling;
-  sweeps = λ le. is.sweeps;
-  totals = λ le. is.totals;
-  profile = λ le. is.profile;
-}
 
 -- a sound report is broken at no line of no rule
 unbroken : (t : Trace) (report : Report) (rule line : ℕ) → MeetsTiny t report → ¬ IsBrokenTiny t report rule line

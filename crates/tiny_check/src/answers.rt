@@ -1,16 +1,14 @@
 //! Rule 1 of the trace itself.
 
-ghost use Rattle.std.specs.Prelude.{◌≡◌, ◌+◌, ◌<◌, ◌↔◌, length, IfErr, MatchBool, OnOk};
-ghost use Rattle.cycle_history.specs.declared.Answer.TheVariants.{Zero};
+ghost use Rattle.std.specs.Prelude.{◌≡◌, ◌+◌, ◌<◌, length, IfErr, OnOk};
 ghost use Rattle.cycle_history.specs.Before.{IsLimited, objects_before};
-ghost use Rattle.report_rules.specs.Lines as lines;
 ghost use Rattle.report_rules.specs.Answers.{BreaksAnswers};
 ghost use Rattle.report_check.specs.Fault.{IsFaultOf};
 ghost use Rattle.tiny_alloc.specs.Base.{as_version_2};
 ghost use Rattle.tiny_check.specs.Answered.{AreAnsweredTo, IsAnswered};
 
-use cycle_history::{Answer, Report};
-use report_check::CheckFault;
+use cycle_history::Report;
+use report_check::{CheckFault, end_of, is_right};
 use trace_reader::Trace;
 
 /// Whether a report has one answer for each object of the trace, zero exactly where its size is 0.
@@ -57,26 +55,4 @@ fn judge_cycle(trace: &Trace, cycle: usize, first: usize, report: &Report) -> Re
         number += 1;
     }
     Ok(())
-}
-
-// Whether an answer is zero exactly where the size is 0.
-fn is_right(answer: Answer, size: u64) -> bool
-    ensures { MatchBool result ((answer ≡ Zero) ↔ (size ≡ 0)) (¬ ((answer ≡ Zero) ↔ (size ≡ 0))) }
-{
-    match answer {
-        Answer::Zero => size == 0,
-        _ => size != 0,
-    }
-}
-
-// The number of the line `end`.
-fn end_of(report: &Report) -> u64
-    ensures { result ≡ lines.end_of report.now }
-{
-    report.answers.as_slice().len() as u64
-        + report.journal.as_slice().len() as u64
-        + report.sweeps.as_slice().len() as u64
-        + report.totals.as_slice().len() as u64
-        + report.profile.as_slice().len() as u64
-        + 1
 }

@@ -3,9 +3,9 @@ use Rattle.std.specs.List.{slice_get}
 use Rattle.std.proofs.lemmas.Option.{slice_get-get_or, slice_get_within}
 use Rattle.page_bitmap.specs.declared.line.Line.{Line}
 use Rattle.page_bitmap.specs.declared.line.Line.TheVariants.{Give}
-use Rattle.page_alloc.specs.Journal.{Legal, past_of}
+use Rattle.page_alloc.specs.Journal.{LegalFor, past_of}
 use Rattle.span_state.specs.declared.sweep.SweepNote.{SweepNote}
-use Rattle.cycle_history.specs.Requests.{last_cycle, marked_by, region_of}
+use Rattle.cycle_history.specs.Requests.{caching_procs, last_cycle, marked_by, region_of}
 use Rattle.cycle_history.specs.declared.Answer.{Answer}
 use Rattle.report_rules.specs.Lines.{IsLeast}
 use Rattle.report_rules.specs.Closing.{BreaksSweeps}
@@ -20,19 +20,19 @@ use Rattle.report_check.proofs.gives.judge_gives.Goals.{in-Give+else-not-may_giv
 use Rattle.report_check.proofs.gives.judge_gives.Goals as goal
 
 -- the next line may stand behind those before it
-legal-next : (region goal : ℕ) (journal : List Line) (n : ℕ) (d : Line) → n < length journal → Legal region goal (past_of journal) → Legal region goal (get_or journal n d ∷ past_of (take n journal))
-legal-next region goal journal n d lt legal = subst (λ (p : List Line). Legal region goal p) (line-more journal n d lt) (legal-front region goal journal (n + 1) (omega arith) legal)
+legal-next : (procs region goal : ℕ) (journal : List Line) (n : ℕ) (d : Line) → n < length journal → LegalFor procs region goal (past_of journal) → LegalFor procs region goal (get_or journal n d ∷ past_of (take n journal))
+legal-next procs region goal journal n d lt legal = subst (λ (p : List Line). LegalFor procs region goal p) (line-more journal n d lt) (legal-front procs region goal journal (n + 1) (omega arith) legal)
 
 -- the line that stands there
 line-at : (slice journal : List Line) (n : ℕ) (d : Line) → slice ≡ journal → n < length slice → slice_get journal n ≡ Some (get_or slice n d)
 line-at slice journal n d e lt = subst (λ (js : List Line). slice_get js n ≡ Some (get_or slice n d)) e (slice_get-get_or slice n d lt)
 
-legal-at : (region goal : ℕ) (slice journal : List Line) (n : ℕ) (d line : Line) → slice ≡ journal → n < length slice → line ≡ get_or slice n d → Legal region goal (past_of journal) → Legal region goal (line ∷ past_of (take n journal))
-legal-at region goal slice journal n d line e lt is legal =
-    let legal' = subst (λ (js : List Line). Legal region goal (past_of js)) (sym e) legal in
-    let next = legal-next region goal slice n d lt legal' in
-    let there = subst (λ (js : List Line). Legal region goal (get_or slice n d ∷ past_of (take n js))) e next in
-    subst (λ (l : Line). Legal region goal (l ∷ past_of (take n journal))) (sym is) there
+legal-at : (procs region goal : ℕ) (slice journal : List Line) (n : ℕ) (d line : Line) → slice ≡ journal → n < length slice → line ≡ get_or slice n d → LegalFor procs region goal (past_of journal) → LegalFor procs region goal (line ∷ past_of (take n journal))
+legal-at procs region goal slice journal n d line e lt is legal =
+    let legal' = subst (λ (js : List Line). LegalFor procs region goal (past_of js)) (sym e) legal in
+    let next = legal-next procs region goal slice n d lt legal' in
+    let there = subst (λ (js : List Line). LegalFor procs region goal (get_or slice n d ∷ past_of (take n js))) e next in
+    subst (λ (l : Line). LegalFor procs region goal (l ∷ past_of (take n journal))) (sym is) there
 
 more-at : (slice journal : List Line) (n : ℕ) (d : Line) → slice ≡ journal → n < length slice → past_of (take (n + 1) journal) ≡ get_or slice n d ∷ past_of (take n journal)
 more-at slice journal n d e lt =
@@ -66,13 +66,14 @@ take_up-requires c =
     let t = c.args.trace.now in
     let report = c.args.report.now in
     let lives = subst (λ (ls : List (Option OpenLife)). AreLives (region_of t) (past_of (take c.loop-number.number report.journal)) ls) (sym c.deref_mut.ensures.value) c.loop-number.invariant.lives in (
+      caching_procs t,
       region_of t,
       t.header.goal,
       past_of (take c.loop-number.number report.journal),
       lives,
       elim c.match-line.branch [
-        | in-Give+else-not-may_give w ↦ legal-at (region_of t) t.header.goal c.as_slice-journal.result.now report.journal c.loop-number.number _ c.match-line.line c.as_slice-journal.ensures c.loop-number-test.true (w.line-is ∙ sym w.in-Give.is) c.requires.journal.legal
-        | in_default w ↦ legal-at (region_of t) t.header.goal c.as_slice-journal.result.now report.journal c.loop-number.number _ c.match-line.line c.as_slice-journal.ensures c.loop-number-test.true w.line-is c.requires.journal.legal
+        | in-Give+else-not-may_give w ↦ legal-at (caching_procs t) (region_of t) t.header.goal c.as_slice-journal.result.now report.journal c.loop-number.number _ c.match-line.line c.as_slice-journal.ensures c.loop-number-test.true (w.line-is ∙ sym w.in-Give.is) c.requires.journal.legal
+        | in_default w ↦ legal-at (caching_procs t) (region_of t) t.header.goal c.as_slice-journal.result.now report.journal c.loop-number.number _ c.match-line.line c.as_slice-journal.ensures c.loop-number-test.true w.line-is c.requires.journal.legal
       ],
     )
 
@@ -92,22 +93,22 @@ loop-number-preserved c =
     elim c.match-line.branch [
       | in-Give+else-not-may_give w ↦ (
           let at = line-at journal report.journal n _ c.as_slice-journal.ensures lt in
-          let legal = legal-at (region_of t) t.header.goal journal report.journal n _ c.match-line.line c.as_slice-journal.ensures lt (w.line-is ∙ sym w.in-Give.is) c.requires.journal.legal in
+          let legal = legal-at (caching_procs t) (region_of t) t.header.goal journal report.journal n _ c.match-line.line c.as_slice-journal.ensures lt (w.line-is ∙ sym w.in-Give.is) c.requires.journal.legal in
           let more = subst (λ (l : Line). past_of (take (n + 1) report.journal) ≡ l ∷ past_of (take n report.journal)) (sym (w.line-is ∙ sym w.in-Give.is)) (more-at journal report.journal n _ c.as_slice-journal.ensures lt) in
           let before = subst (λ (ls : List (Option OpenLife)). AreLives (region_of t) (past_of (take n report.journal)) ls) (sym w.deref.ensures.value) c.loop-number.invariant.lives in
           record {
             lives = subst (λ (ls : List (Option OpenLife)). AreLives (region_of t) (past_of (take (n + 1) report.journal)) ls) (sym same)
-                (subst (λ (p : List Line). AreLives (region_of t) p c.take_up.new.lives) (sym more) (c.take_up.ensures (region_of t) t.header.goal (past_of (take n report.journal)) lives legal number));
+                (subst (λ (p : List Line). AreLives (region_of t) p c.take_up.new.lives) (sym more) (c.take_up.ensures (caching_procs t) (region_of t) t.header.goal (past_of (take n report.journal)) lives legal number));
             gives = gives-more t report w.deref.result.now n _ before at
                 (λ cycle page pages e. give-same (w.deref.result.now) report.sweeps _ _ _ cycle page pages (sym w.in-Give.is ∙ e) (w.if-not-may_give.ensures report.sweeps keys)) c.loop-number.invariant.gives;
           })
       | in_default w ↦ (
           let at = line-at journal report.journal n _ c.as_slice-journal.ensures lt in
-          let legal = legal-at (region_of t) t.header.goal journal report.journal n _ c.match-line.line c.as_slice-journal.ensures lt w.line-is c.requires.journal.legal in
+          let legal = legal-at (caching_procs t) (region_of t) t.header.goal journal report.journal n _ c.match-line.line c.as_slice-journal.ensures lt w.line-is c.requires.journal.legal in
           let more = subst (λ (l : Line). past_of (take (n + 1) report.journal) ≡ l ∷ past_of (take n report.journal)) (sym w.line-is) (more-at journal report.journal n _ c.as_slice-journal.ensures lt) in
           record {
             lives = subst (λ (ls : List (Option OpenLife)). AreLives (region_of t) (past_of (take (n + 1) report.journal)) ls) (sym same)
-                (subst (λ (p : List Line). AreLives (region_of t) p c.take_up.new.lives) (sym more) (c.take_up.ensures (region_of t) t.header.goal (past_of (take n report.journal)) lives legal number));
+                (subst (λ (p : List Line). AreLives (region_of t) p c.take_up.new.lives) (sym more) (c.take_up.ensures (caching_procs t) (region_of t) t.header.goal (past_of (take n report.journal)) lives legal number));
             gives = gives-more t report c.loop-number.lives.items n _ c.loop-number.invariant.lives at (λ cycle page pages e. absurd (w.in_default.not-Give cycle page pages e)) c.loop-number.invariant.gives;
           })
     ]

@@ -7,12 +7,17 @@ use Rattle.report_check.specs.Fault.{IsFault, IsUpTo}
 use Rattle.report_check.specs.Known.{AreSettledItems}
 use Rattle.report_check.proofs.Ledgers.{written}
 use Rattle.report_check.proofs.Carried.{answers-on, misses-on}
-use Rattle.report_check.proofs.Faults.{fault-1, fault-3, fault-4, fault-up-to, err-from}
+use Rattle.report_check.proofs.Faults.{fault-1, fault-2, fault-3, fault-4, fault-up-to, err-from}
 use Rattle.report_check.proofs.judge.settled.Goals as goal
 
 pub returns-in_err-items_of-clause-broken : goal.returns-in_err-items_of-clause-broken
 returns-in_err-items_of-clause-broken c =
     err-from c.from_residual.result c.in_err-items_of.field-0.0 (IsFault c.args.trace.now c.args.report.now) c.from_residual.ensures.1 (fault-1 c.args.trace.now c.args.report.now c.in_err-items_of.field-0.0 c.in_err-items_of.ensures.fault)
+
+pub returns-in_err-judge_journal-clause-broken : goal.returns-in_err-judge_journal-clause-broken
+returns-in_err-judge_journal-clause-broken c =
+    err-from c.from_residual-in_err-judge_journal.result c.in_err-judge_journal.field-0.0 (IsFault c.args.trace.now c.args.report.now) c.from_residual-in_err-judge_journal.ensures.1
+    (fault-2 c.args.trace.now c.args.report.now (objects_of c.in_ok-items_of.field-0) c.in_err-judge_journal.field-0.0 c.in_ok-items_of.ensures.answers c.in_err-judge_journal.ensures.fault)
 
 pub returns-in_err-judge_misses-clause-broken : goal.returns-in_err-judge_misses-clause-broken
 returns-in_err-judge_misses-clause-broken c =

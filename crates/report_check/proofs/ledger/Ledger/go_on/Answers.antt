@@ -19,6 +19,10 @@ use Rattle.report_check.specs.Ledgers.{AddsItems, AreUsed, used_at}
 use Rattle.report_check.proofs.Ledgers.{open-later, items-inside, next-first, vec-len, written, alive-next, ascends, kept-counted, freed-counted, used-again}
 use Rattle.report_check.proofs.ledger.Ledger.go_on.Goals as goal
 
+pub take_up-requires-clause-open : goal.take_up-requires-clause-open
+take_up-requires-clause-open c =
+    open-later c.args.objects.now.trace.now c.args.objects.now.report.now (c.args.cycle - 1 - 1) (c.args.cycle - 1) c.args.self.now.before (omega arith) c.requires.ledger.before
+
 pub take_up-requires-2-clause-open : goal.take_up-requires-2-clause-open
 take_up-requires-2-clause-open c = open-later c.args.objects.now.trace.now c.args.objects.now.report.now (c.args.cycle - 1) c.args.cycle c.args.self.now.after (omega arith) c.requires.ledger.after
 

@@ -4,7 +4,7 @@ use Rattle.page_bitmap.specs.declared.line.Line.{Line}
 use Rattle.page_bitmap.specs.declared.line.Line.TheVariants.{Take, Miss, Give, Scav, Pull, Cut, Drop}
 use Rattle.page_alloc.specs.Lists.{In, IsNumber}
 use Rattle.page_alloc.specs.Lives.{Life, life_of, all_lives}
-use Rattle.cached_journal.specs.Rule.{IsMadeBy, Makes}
+use Rattle.cycle_history.specs.Making.{IsMadeBy, Makes}
 
 later : (past : List Line) (line : Line) (life : Life) → IsMadeBy past life → IsMadeBy (line ∷ past) life
 later past line life made = record { line = made.line; number = inr made.number; makes = made.makes }
