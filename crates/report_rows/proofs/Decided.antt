@@ -6,20 +6,21 @@ use Rattle.std.proofs.lemmas.Bool.Decides.{Decides-like, Decides-eqb, Decides-no
 use Rattle.page_bitmap.specs.declared.line.Line.{Line}
 use Rattle.page_alloc.specs.Lists.{In}
 use Rattle.page_alloc.specs.Lives.{Life, open_lives}
-use Rattle.page_alloc.specs.Journal.{at_end, Legal, IsBy}
+use Rattle.page_alloc.specs.Blocks.{open_blocks}
+use Rattle.page_alloc.specs.Journal.{at_end, LegalFor, IsBy}
 use Rattle.trace_reader.specs.declared.trace.Trace.{Trace}
 use Rattle.trace_reader.specs.declared.trace.Cycle.{Cycle}
 use Rattle.cycle_history.specs.declared.Answer.{Answer}
 use Rattle.cycle_history.specs.declared.Answer.TheVariants.{Placed, Zero, Missed}
 use Rattle.cycle_history.specs.declared.Report.{Report}
-use Rattle.cycle_history.specs.Requests.{Request, requests_of, spans_after, marked_by, last_cycle, region_of}
+use Rattle.cycle_history.specs.Requests.{Request, requests_of, spans_after, marked_by, last_cycle, region_of, caching_procs}
 use Rattle.cycle_history.specs.Objects.{Object, is_placed, live}
 use Rattle.cycle_history.specs.Rules.{IsObject, AreAnswered, AreMissed, AreSeated, AreApart, AreFilled}
 use Rattle.cycle_history.specs.Sweeps.{AreSwept, AreTotals}
 use Rattle.cycle_history.specs.Sound.{past_in, HasAnswers, HasJournal, HasProfile}
 use Rattle.cycle_history.specs.Broken.{MeetsUpTo, MeetsRules}
 use Rattle.report_rows.proofs.Tests.{Decides-then, Decides-given}
-use Rattle.report_rows.proofs.Journals.{is_legal, Decides-legal, is_by, Decides-by}
+use Rattle.report_rows.proofs.Journals.{is_legal, Decides-legal, is_by, Decides-by, has_no_blocks, Decides-no_blocks}
 use Rattle.report_rows.proofs.Misses.{are_missed, Decides-missed}
 use Rattle.report_rows.proofs.Places.{sits_in, IsBounded, are_seated, Decides-are_seated}
 use Rattle.report_rows.proofs.Apart.{are_apart, Decides-are_apart}
@@ -162,8 +163,11 @@ objects_in t report = seated_objects (past_in report) (requests_of t) (reverse r
 abbrev pub meets_answers : ℕ → Trace → Report → Bool
 meets_answers n t report = elim (leb 1 n) [ true ↦ are_answered (requests_of t) (reverse report.answers) | false ↦ true ]
 
+abbrev pub is_settled : Trace → Report → Bool
+is_settled t report = elim (is_legal (caching_procs t) (region_of t) t.header.goal (past_in report)) [ true ↦ has_no_blocks (open_blocks (past_in report)) | false ↦ false ]
+
 abbrev pub has_journal : Trace → Report → Bool
-has_journal t report = elim (is_by (last_cycle t) (past_in report)) [ true ↦ is_legal (region_of t) t.header.goal (past_in report) | false ↦ false ]
+has_journal t report = elim (is_by (last_cycle t) (past_in report)) [ true ↦ is_settled t report | false ↦ false ]
 
 abbrev pub meets_journal : ℕ → Trace → Report → Bool
 meets_journal n t report = elim (leb 2 n) [ true ↦ has_journal t report | false ↦ true ]
@@ -210,9 +214,12 @@ Decides-has_answers t report =
 Decides-has_journal : (t : Trace) (report : Report) → Decides (has_journal t report) (HasJournal t report)
 Decides-has_journal t report =
     Decides-like (has_journal t report)
-    (λ (h : IsBy (last_cycle t) (past_in report) × Legal (region_of t) t.header.goal (past_in report)). record { legal = h.1; cycles = h.0 })
-    (λ h. (h.cycles, h.legal))
-    (Decides-then (is_by (last_cycle t) (past_in report)) (is_legal (region_of t) t.header.goal (past_in report)) (Decides-by (last_cycle t) (past_in report)) (Decides-legal (region_of t) t.header.goal (past_in report)))
+    (λ (h : IsBy (last_cycle t) (past_in report) × (LegalFor (caching_procs t) (region_of t) t.header.goal (past_in report) × (open_blocks (past_in report) ≡ []))).
+    record { legal = h.1.0; cycles = h.0; settled = h.1.1 })
+    (λ h. (h.cycles, (h.legal, h.settled)))
+    (Decides-then (is_by (last_cycle t) (past_in report)) (is_settled t report) (Decides-by (last_cycle t) (past_in report))
+    (Decides-then (is_legal (caching_procs t) (region_of t) t.header.goal (past_in report)) (has_no_blocks (open_blocks (past_in report)))
+    (Decides-legal (caching_procs t) (region_of t) t.header.goal (past_in report)) (Decides-no_blocks (open_blocks (past_in report)))))
 
 bounded-in : (t : Trace) (report : Report) → HasAnswers t report (objects_in t report) → (c : Object) → In c (objects_in t report) → IsBounded (marked_by t) (bound_of (length t.cycles + 1) (objects_in t report)) c
 bounded-in t report has =

@@ -10,6 +10,7 @@ use Rattle.report_rows.specs.Words.{Row, UsedRow, IsJudged, AllAgree, IsUseJudge
 use Rattle.report_rows.specs.Rows.{sound_rows, answer_rows, journal_rows, miss_rows, place_rows, apart_rows, filling_rows, used_rows}
 use Rattle.report_rows.specs.SweptRows.{marked_rows, sweep_rows, give_rows, total_rows}
 use Rattle.report_rows.specs.ProfileRows.{profile_rows, last_rows, each_rows}
+use Rattle.report_rows.specs.CachedRows.{cached_rows, cached_used_rows}
 use Rattle.report_rows.proofs.Tests.{all_in, Decides-then}
 use Rattle.report_rows.proofs.Decided.{meets, Decides-meets}
 use Rattle.report_rows.proofs.Used.{is_sound_and_used, Decides-sound_and_used}
@@ -42,6 +43,10 @@ answers_agree = all_agree answer_rows refl
 pub journals_agree : AllAgree journal_rows
 unfolding count_below slot_of pages_of objects_of journal_rows
 journals_agree = all_agree journal_rows refl
+
+pub cached_agree : AllAgree cached_rows
+unfolding count_below slot_of pages_of objects_of cached_rows
+cached_agree = all_agree cached_rows refl
 
 pub misses_agree : AllAgree miss_rows
 unfolding count_below slot_of pages_of objects_of miss_rows
@@ -114,3 +119,7 @@ all_use_agree (row ∷ rows) h =
 pub uses_agree : AllUseAgree used_rows
 unfolding count_below slot_of pages_of objects_of used_rows
 uses_agree = all_use_agree used_rows refl
+
+pub cached_uses_agree : AllUseAgree cached_used_rows
+unfolding count_below slot_of pages_of objects_of cached_used_rows
+cached_uses_agree = all_use_agree cached_used_rows refl

@@ -2,3 +2,4 @@ pub mod Words
 pub mod Rows
 pub mod SweptRows
 pub mod ProfileRows
+pub mod CachedRows

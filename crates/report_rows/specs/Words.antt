@@ -48,6 +48,10 @@ heap procs goal cycles = region 1 procs goal cycles
 abbrev pub trace : List Cycle → Trace
 trace cycles = heap 1 512 cycles
 
+-- The same trace in version 2, so that its processors have page caches.
+abbrev pub caching : Trace → Trace
+caching t = record t { header = record t.header { version = 2 } }
+
 -- A report with its answers, its journal, its sweeps and its totals.
 abbrev pub whole : List Answer → List Line → List SweepNote → List Total → Report
 whole answers journal sweeps totals = record { answers = answers; journal = journal; sweeps = sweeps; totals = totals; profile = [] }

@@ -16,6 +16,7 @@ ghost use Rattle.report_rows.specs.Rows.{
   sound_rows,
   used_rows,
 };
+ghost use Rattle.report_rows.specs.CachedRows.{cached_rows, cached_used_rows};
 ghost use Rattle.report_rows.specs.ProfileRows.{each_rows, last_rows, profile_rows};
 ghost use Rattle.report_rows.specs.SweptRows.{give_rows, marked_rows, sweep_rows, total_rows};
 
@@ -25,6 +26,7 @@ pub fn rows_agree()
     ensures marked { AllAgree marked_rows }
     ensures answers { AllAgree answer_rows }
     ensures journals { AllAgree journal_rows }
+    ensures cached { AllAgree cached_rows }
     ensures misses { AllAgree miss_rows }
     ensures places { AllAgree place_rows }
     ensures apart { AllAgree apart_rows }
@@ -36,4 +38,5 @@ pub fn rows_agree()
     ensures lasts { AllAgree last_rows }
     ensures eaches { AllAgree each_rows }
     ensures used { AllUseAgree used_rows }
+    ensures cached_used { AllUseAgree cached_used_rows }
 {}

@@ -1,4 +1,4 @@
-use Rattle.report_rows.proofs.Rows.{sounds_agree, marks_agree, answers_agree, journals_agree, misses_agree, places_agree, aparts_agree, fillings_agree, sweeps_agree, gives_agree, totals_agree, profiles_agree, lasts_agree, eaches_agree, uses_agree}
+use Rattle.report_rows.proofs.Rows.{sounds_agree, marks_agree, answers_agree, journals_agree, misses_agree, places_agree, aparts_agree, fillings_agree, sweeps_agree, gives_agree, totals_agree, profiles_agree, lasts_agree, eaches_agree, uses_agree, cached_agree, cached_uses_agree}
 use Rattle.report_rows.proofs.rows_agree.Goals as goal
 
 pub returns : goal.returns
@@ -7,6 +7,7 @@ returns c = record {
   marked = marks_agree;
   answers = answers_agree;
   journals = journals_agree;
+  cached = cached_agree;
   misses = misses_agree;
   places = places_agree;
   apart = aparts_agree;
@@ -18,4 +19,5 @@ returns c = record {
   lasts = lasts_agree;
   eaches = eaches_agree;
   used = uses_agree;
+  cached_used = cached_uses_agree;
 }
