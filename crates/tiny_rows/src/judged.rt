@@ -59,9 +59,20 @@ const NEXT_CYCLE: &str = "a 0 8 n 1\ngc 1\nm 0 0\na 0 8 n 1\n";
 /// An object that fills the region, and two for which there is no room.
 const FULL: &str = "a 0 4194304 n 1\na 0 8 n 1\na 0 8 n 1\n";
 
-const ROWS: [Row; 38] = [
+const ROWS: [Row; 43] = [
     // sound reports
     ("", "", None),
+    // a page cache's block is pulled, a span of 16 bytes is cut of it, and the rest is dropped
+    (
+        FIVE,
+        "o 0 0xc000000000\no 1 0xc000000008\no 2 0xc00000000c\no 3 0xc00000000e\no 4 0xc000000010\nj 0 0 pull 0 0 64\nj 1 0 cut 0 0 1 5\nj 2 0 drop 0 0 63\nt 2 2 0\n",
+        None,
+    ),
+    (
+        RIDER_KEPT,
+        "o 0 0xc000000000\no 1 0xc000000008\nj 0 0 pull 0 0 64\nj 1 0 cut 0 0 1 5\nj 2 0 drop 0 0 63\ns 1 0 1 0\nt 2 1 0\n",
+        None,
+    ),
     (
         FIVE,
         "o 0 0xc000000000\no 1 0xc000000008\no 2 0xc00000000c\no 3 0xc00000000e\no 4 0xc000000010\nj 0 0 take 0 1 5\nt 2 2 0\n",
@@ -149,6 +160,22 @@ const ROWS: [Row; 38] = [
         RIDER_KEPT,
         "o 0 0xc000002000\no 1 0xc000002008\nj 0 0 take 1 1 5\ns 1 1 1 0\nt 2 1 0\n",
         Some((2, 3)),
+    ),
+    // rule 2: a cut that leaves the first page, a block that is never dropped, or is dropped in another cycle
+    (
+        FIVE,
+        "o 0 0xc000002000\no 1 0xc000002008\no 2 0xc00000200c\no 3 0xc00000200e\no 4 0xc000002010\nj 0 0 pull 0 0 64\nj 1 0 cut 0 1 1 5\nj 2 0 drop 0 0 63\nt 2 2 0\n",
+        Some((2, 7)),
+    ),
+    (
+        RIDER_KEPT,
+        "o 0 0xc000000000\no 1 0xc000000008\nj 0 0 pull 0 0 64\nj 1 0 cut 0 0 1 5\ns 1 0 1 0\nt 2 1 0\n",
+        Some((2, 7)),
+    ),
+    (
+        RIDER_KEPT,
+        "o 0 0xc000000000\no 1 0xc000000008\nj 0 0 pull 0 0 64\nj 1 0 cut 0 0 1 5\nj 2 1 drop 0 0 63\ns 1 0 1 0\nt 2 1 0\n",
+        Some((2, 5)),
     ),
     // rule 3: a lead misses as 16 bytes do, and not as 8 bytes; two name one line
     (

@@ -21,6 +21,9 @@ const SMALL: &str = "heap 1 procs 1 rate 0 seed 1 goal 512";
 
 const HEAD: &str = "goheap 1\nheap 1 procs 1 rate 0 seed 1 goal 512\n";
 
+// The same in version 2.
+const CACHING: &str = "goheap 2\nheap 1 procs 1 rate 0 seed 1 goal 512\n";
+
 // Script in memory: how many bytes a call gives or takes at most, and the numbers of the reads, of the writes and of the writes of what
 // is told that fail.
 #[derive(Clone, Copy)]
