@@ -1,15 +1,16 @@
 #!/usr/bin/env bash
 # Runs goheap on each trace of this folder and has what it prints judged, and the report beside the trace as well. Without background
 # sweepers it compares the two, where one worker has each cycle to itself, so that every schedule gives the same report; with `--each`
-# it compares with the report that ends in `.each`, where there is one. A report with exchanged addresses must be refused, and so must
-# three that are no sound report of the smallest trace. Words that read nothing print the file of their name that ends in `.lines`, the
+# it compares with the report that ends in `.each`, where there is one. A report that ends in `.cached` is one of a heap with page caches:
+# it must be sound, whole and in pieces, and refused where the trace is of version 1. A report with exchanged addresses must be refused,
+# and so must three that are no sound report of the smallest trace. Words that read nothing print the file of their name that ends in `.lines`, the
 # same at each run and within a minute. Of the recorded trace of a real program it compares the totals.
 set -u
 cd "$(dirname "$0")" || exit 1
 ../goheap --build || exit 1
 failed=0
 # Two processors have events in one cycle here: which of them comes first is the schedule's.
-several=' side-by-side two-processors '
+several=' side-by-side two-processors page-caches '
 # judged NAME TRACE REPORT: the report must be a sound one of the trace.
 judged() {
   if [ "$(cat "$2" "$3" | ../goheap check)" != "check ok" ]; then
@@ -35,6 +36,18 @@ for each in *.each; do
     failed=1
   fi
   judged "$each" "$trace" "$each"
+done
+for cached in *.cached; do
+  trace=${cached%.cached}.trace
+  judged "$cached" "$trace" "$cached"
+  if [ "$(cat "$trace" "$cached" | ../goheap check --pieces=4)" != "check ok" ]; then
+    echo "$cached: refused in pieces" >&2
+    failed=1
+  fi
+  if [ "$(sed '1s/.*/goheap 1/' "$trace" | cat - "$cached" | ../goheap check 2>&1)" != "goheap: report line 8: rule 2" ]; then
+    echo "$cached: not refused by rule 2 in version 1" >&2
+    failed=1
+  fi
 done
 if [ "$(cat pointers-apart.trace pointers-apart.exchanged | ../goheap check 2>&1)" != "goheap: report line 1: rule 4" ]; then
   echo "pointers-apart.exchanged: not refused by rule 4" >&2
