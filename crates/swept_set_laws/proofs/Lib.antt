@@ -1,4 +1,5 @@
 mod Pigeons
+pub mod Across
 pub mod Stays
 pub mod EnteredKept
 pub mod EnteredMoves
