@@ -1,4 +1,4 @@
-mod Pigeons
+pub mod Pigeons
 pub mod Across
 pub mod Stays
 pub mod EnteredKept
