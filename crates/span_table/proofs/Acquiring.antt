@@ -113,7 +113,7 @@ module _ (R : ℕ) where
             (λ q z. dite (ℕ_discrete q p) (λ y. omega arith) (λ y. let u = (r.seats id w at).slot_is out q (sym (put_else g.taker p (n + 1) q y) ∙ z) in absurd (omega arith)))
             (λ q x d z. far_put g.taker p n q x d z)
             (set s.words (p + 75) new) (set s.homes (p + 1) none)
-            (words_page R c g.lock s.words r.words (after c (Acquire n p)) p new low refl (ap (set c.words p) (let y : c.generation - 1 ≡ new = omega arith in y)) refl) (still_counts R s r id w at out part (λ z. omega arith) refl (p + 75) new (λ y a l e. omega arith))
+            (words_page R c r.blocks g.lock s.words r.words (after c (Acquire n p)) p new low refl (ap (set c.words p) (let y : c.generation - 1 ≡ new = omega arith in y)) refl) (still_counts R s r id w at out part (λ z. omega arith) refl (p + 75) new (λ y a l e. omega arith))
             (stored_takes R g s.homes r.stored n w.view.own own part (after c (Acquire n p)) p (set g.homes p None) low (λ q d. get_or-set_other g.homes p q None None d) (λ q d. let y = times_more q b.page w.view.own.sweeping in omega arith) lent),
         λ q z. let same : p ≡ q = omega arith in
             subst (λ (q : ℕ). AcquiresBy (eqb (get_or s.words (p + 75) 0) old) q (get_or s.words (p + 75) 0) me (with_slot p (says_of Acquires (span_of b) w), (p + 1, Span b) ∷ me.1)) same
@@ -148,7 +148,7 @@ module _ (R : ℕ) where
         plain_rule R s r id w at out part f.core
             (subst (λ (y : ℕ). Kept f.core g.heap g.homes n (acts v (told (Finds p y) w.view.own))) (sym shown) f.kept)
             (set s.words (p + 75) x)
-            (subst (λ (ws : List ℕ). Rattle.span_table.specs.Running.Words R f.core g.lock ws) (sym (lib.Seq.set-get_or s.words (p + 75) 0)) (words_same R c g.lock s.words r.words f.core f.generation f.words f.sets)) (found_counts R s r id w at out part (λ z. omega arith) refl (p + 75))
+            (subst (λ (ws : List ℕ). Rattle.span_table.specs.Running.Words R f.core r.blocks g.lock ws) (sym (lib.Seq.set-get_or s.words (p + 75) 0)) (words_same R c r.blocks g.lock s.words r.words f.core f.generation f.words f.sets)) (found_counts R s r id w at out part (λ z. omega arith) refl (p + 75))
             (stored_still R g s.homes r.stored n w.view.own own part f.core g.heap (λ _. refl) (λ q. omega arith)),
         λ q z. let same : p ≡ q = omega arith in
             subst (λ (q : ℕ). AcquiresBy (eqb x old) q x me (says (Finds p x) w, me.1)) same

@@ -1,5 +1,6 @@
 -- Loads that tell a worker what its own part names, and what the word of a cached page and a cell say.
-use Rattle.std.proofs.Common.{◌≡◌, ℕ, zero, suc, ◌+◌, ◌*◌, ◌<◌, ◌≤◌, ◌&&◌, Bool, true, false, eqb, List, get_or, set, refl, sym, ap, subst, ◌∙◌, arith}
+use Rattle.std.proofs.Common.{◌≡◌, ℕ, zero, suc, ◌+◌, ◌*◌, ◌/◌, ◌%◌, ◌<◌, ◌≤◌, ◌&&◌, Bool, true, false, eqb, List, get_or, set, refl, sym, ap, subst, ◌∙◌, arith}
+use Rattle.std.specs.Prelude.{Option, Some}
 use mathlib.Core.Logic.{dite}
 use mathlib.Core.Option.{none, some}
 use native.Mathlib.Decide.{dec_le}
@@ -17,23 +18,22 @@ use Rattle.span_laws.proofs.Kept.{kept_note}
 use Rattle.span_laws.proofs.RuleKept.{own_at, own_never}
 use Rattle.span_laws.proofs.Uses.{cell_low, seen_filled}
 use Rattle.span_laws.proofs.WordMoves.{own_tells_of}
-use Rattle.table_words.specs.Names.{CellWord, PageWord}
-use Rattle.table_words.proofs.Places.{place_once}
+use Rattle.block_laws.specs.Blocked.{cell_by}
+use Rattle.set_blocks.specs.Names.{blocks_of}
+use Rattle.table_words.specs.Names.{CellWord, PageWord, chunks_of, first_cell}
 use Rattle.span_table.specs.Asks.{IsInside}
 use Rattle.span_table.specs.Plays.{CacheRead, CellAt, Checked, LookedBeyond, LookedCell}
 use Rattle.span_table.specs.Running.{Running, objects_placed}
-use Rattle.span_table.specs.Seats.{SeatState, says}
+use Rattle.span_table.specs.Seats.{SeatState, says, with_found}
+use Rattle.span_table.specs.declared.view.Found.{Found}
 use Rattle.span_table.specs.declared.view.Item.{Item}
 use Rattle.span_table.specs.declared.view.SeatView.{SeatView}
 use Rattle.span_table.specs.Turning.{Ruled}
 use Rattle.span_table.proofs.Ruling.{lift}
-use Rattle.span_table.proofs.Core.{found_counts, own_kept, plain_rule, unmoved}
+use Rattle.span_table.proofs.Core.{found_counts, found_rule, own_kept, unmoved}
 use Rattle.span_table.proofs.Joined.{along}
 use Rattle.span_table.proofs.StoredKept.{stored_still}
 use Rattle.span_table.proofs.WordsKept.{words_found}
-
-same_cell : (j i q k : ℕ) → CellWord j i ≡ CellWord q k → (j ≡ q) × (i ≡ k)
-same_cell j i q k e = (cc, cc)
 
 module _ (R : ℕ) where
   module _ (s : State Item SeatView) (r : Running R s) (id : ℕ) (w : SeatView) (at : get_elem? s.views id ≡ some w) (out : w.out ≡ true) where
@@ -69,18 +69,19 @@ module _ (R : ℕ) where
 
   module _ (s : State Item SeatView) (r : Running R s) (id : ℕ) (w : SeatView) (at : get_elem? s.views id ≡ some w) (out : w.out ≡ true) (j i : ℕ) (low : j < 544) (more : List (ℕ × Item)) where
     -- what is told of the cell that the core has
-    cell_told : CellAt j i (cell_of (set_of r.joint.core j) i) (w, more) (says (LooksCell j i (cell_of (set_of r.joint.core j) i)) w, more)
+    pub cell_told : CellAt j i (cell_of (set_of r.joint.core j) i) (w, more) (says (LooksCell j i (cell_of (set_of r.joint.core j) i)) w, more)
     cell_told = let g = r.joint in let v = along g.parts w.view in let k = (own_kept R s r id w at out).rule in (
       refl,
       (λ u h t m l. seen_filled g.core g.heap g.homes w.number v k j i (subst (λ (y : ℕ). is_swept_set y j ≡ false) k.generation u) h t m l),
       cell_low g.core g.heap g.homes w.number v k j i low,
     )
 
-    cell_rule : (word : ℕ) (x : ℕ) → x ≡ cell_of (set_of r.joint.core j) i → Running R record { words = set s.words word (get_or s.words word 0); homes = s.homes; views = set s.views id (says (LooksCell j i x) w) }
-    cell_rule word x is = let g = r.joint in let part : Part = told (LooksCell j i x) w.view.own in let own = (r.seats id w at).own_is out in
-        plain_rule R s r id w at out part g.core
+    pub cell_rule : (found : Option Found) → ((f : Found) → found ≡ Some f → r.blocks.entry f.set f.entry ≡ f.block + 1) → (word : ℕ) (x : ℕ) → x ≡ cell_of (set_of r.joint.core j) i
+        → Running R record { words = set s.words word (get_or s.words word 0); homes = s.homes; views = set s.views id (says (LooksCell j i x) (with_found found w)) }
+    cell_rule found names word x is = let g = r.joint in let part : Part = told (LooksCell j i x) w.view.own in let own = (r.seats id w at).own_is out in
+        found_rule R s r id w at out part found names
         (kept_note g.core g.heap g.homes w.number (along g.parts w.view) (own_kept R s r id w at out) (LooksCell j i x) tt is)
-        (set s.words word (get_or s.words word 0)) (words_found R g.core g.lock s.words r.words word) (found_counts R s r id w at out part (adds_nothing x) (places_nothing x) word)
+        (set s.words word (get_or s.words word 0)) (words_found R g.core r.blocks g.lock s.words r.words word) (found_counts R s r id w at out part (adds_nothing x) (places_nothing x) word)
         (stored_still R g s.homes r.stored w.number w.view.own own part g.core g.heap (λ _. refl) (λ p. omega arith))
       where
         adds_nothing : (x word : ℕ) → Rattle.span_laws.specs.Calls.added word (told (LooksCell j i x) w.view.own).log ≡ Rattle.span_laws.specs.Calls.added word w.view.own.log
@@ -91,18 +92,25 @@ module _ (R : ℕ) where
         places_nothing zero = refl
         places_nothing (suc x) = refl
 
-  pub look_cell_allowed : (slots id : ℕ) (me : SeatState) (j i : ℕ) → j < 544 → i < R → me.0.out ≡ true
-      → Allows (Ruled R) slots id me ((i + R * j) + (R + 619)) (λ n. n) (LookedCell (step slots ((i + R * j) + (R + 619)) 0 0 none) me)
-  look_cell_allowed slots id me j i low inside out = lift R slots id me ((i + R * j) + (R + 619)) (λ n. n) (LookedCell (step slots ((i + R * j) + (R + 619)) 0 0 none) me) out (λ s r deep at _.
-      let w = me.0 in let x = get_or s.words ((i + R * j) + (R + 619)) 0 in let shown : x ≡ cell_of (set_of r.joint.core j) i = r.words.shows (CellWord j i) (low, inside) in let z = r.stored.deep in (
-        says (LooksCell j i x) w,
+    pub names_still : (f : Found) → w.found ≡ Some f → r.blocks.entry f.set f.entry ≡ f.block + 1
+    names_still = r.traced.found id w at out
+
+  -- the cell of a block whose entry the seat found
+  pub look_cell_allowed : (slots id : ℕ) (me : SeatState) (j i x : ℕ) → j < 544 → i < R → me.0.out ≡ true → me.0.found ≡ Some (record { set = j; entry = i / 512; block = x })
+      → Allows (Ruled R) slots id me (((i % 512) + 512 * (x + blocks_of (chunks_of R) * (j % 2))) + first_cell R) (λ n. n) (LookedCell j i (step slots (((i % 512) + 512 * (x + blocks_of (chunks_of R) * (j % 2))) + first_cell R) 0 0 none) me)
+  look_cell_allowed slots id me j i x low inside out known =
+      let word = ((i % 512) + 512 * (x + blocks_of (chunks_of R) * (j % 2))) + first_cell R in
+      lift R slots id me word (λ n. n) (LookedCell j i (step slots word 0 0 none) me) out (λ s r deep at _.
+      let w = me.0 in let found = get_or s.words word 0 in let b = r.blocks in let whole = r.words.whole in
+      let entry : b.entry j (i / 512) ≡ suc x = (let z = r.traced.found id w at out (record { set = j; entry = i / 512; block = x }) known in omega arith) in
+      let n = r.words.blocked.named j (i / 512) x low (omega arith) entry in let drawn = n.1 in let few = r.words.blocked.few (j % 2) (omega arith) in
+      let shown : found ≡ cell_of (set_of r.joint.core j) i = r.words.shows (CellWord (j % 2) x (i % 512)) (omega arith, omega arith, omega arith)
+      ∙ sym (r.words.blocked.shows j i low (omega arith) ∙ ap (λ (y : ℕ). cell_by (b.cell (j % 2)) y (i % 512)) entry) in (
+        says (LooksCell j i found) w,
         keeps,
         tt,
-        cell_rule s r id w at out j i low me.1 ((i + R * j) + (R + 619)) x shown,
-        λ S q k e low' inside' is. let same_R : S ≡ R = omega arith in
-            let same = same_cell j i q k (place_once R (CellWord j i) (CellWord q k) (low, inside) (low', subst (λ (y : ℕ). k < y) same_R inside') (is ∙ ap (λ (y : ℕ). (k + y * q) + (y + 619)) same_R)) in
-            subst (λ (y : ℕ × ℕ × ℕ). CellAt y.0 y.1 x me (says (LooksCell j i x) w, me.1)) (λ t. (same.0 t, same.1 t, 0))
-            (subst (λ (y : ℕ). CellAt j i y me (says (LooksCell j i y) w, me.1)) (sym shown) (cell_told s r id w at out j i low me.1)),
+        cell_rule s r id w at out j i low me.1 w.found (names_still s r id w at out j i low me.1) word found shown,
+        subst (λ (y : ℕ). CellAt j i y me (says (LooksCell j i y) w, me.1)) (sym shown) (cell_told s r id w at out j i low me.1),
       ))
 
   -- beyond the region no cell was claimed
@@ -113,6 +121,6 @@ module _ (R : ℕ) where
         says (LooksCell j i 0) w,
         keeps,
         tt,
-        cell_rule s r id w at out j i low me.1 1 0 none_there,
+        cell_rule s r id w at out j i low me.1 w.found (names_still s r id w at out j i low me.1) 1 0 none_there,
         subst (λ (y : ℕ). CellAt j i y me (says (LooksCell j i y) w, me.1)) (sym none_there) (cell_told s r id w at out j i low me.1),
       ))

@@ -1,5 +1,5 @@
 -- The pop of an entry from an unswept set, and the fill of a claimed cell. No slot moves.
-use Rattle.std.proofs.Common.{◌≡◌, ◌≢◌, ℕ, ◌+◌, ◌*◌, ◌<◌, ◌≤◌, Bool, true, false, eqb, eq-eqb, ne_eqb, length, get_or, set, refl, sym, ap, subst, ◌∙◌, arith}
+use Rattle.std.proofs.Common.{◌≡◌, ◌≢◌, ℕ, suc, ◌+◌, ◌*◌, ◌/◌, ◌%◌, ◌<◌, ◌≤◌, Bool, true, false, eqb, eq-eqb, ne_eqb, length, get_or, set, refl, sym, ap, subst, ◌∙◌, arith}
 use Rattle.std.specs.Prelude.{Some, Option}
 use mathlib.Core.Logic.{dite}
 use mathlib.Core.Option.{none, some}
@@ -29,7 +29,9 @@ use Rattle.span_laws.proofs.Kept.{kept_note, kept_said}
 use Rattle.span_laws.proofs.Parts.{own_once}
 use Rattle.span_laws.proofs.RuleKept.{own_at, own_hand, part_at}
 use Rattle.span_laws.proofs.Uses.{ahead, entry_allowed, entry_low, fill_allowed as fill_met}
-use Rattle.table_words.specs.Names.{SetWord, head_of, head_tail, tail_of}
+use Rattle.block_laws.specs.Steps.{fills, put_three}
+use Rattle.set_blocks.specs.Names.{blocks_of}
+use Rattle.table_words.specs.Names.{SetWord, chunks_of, first_cell, head_of, head_tail, tail_of}
 use Rattle.span_table.specs.Plays.{Filled, RaisedEntry, RaisesEntryBy}
 use Rattle.span_table.specs.Running.{Running, Words}
 use Rattle.span_table.specs.Seats.{SeatState, says}
@@ -38,7 +40,7 @@ use Rattle.span_table.specs.declared.view.SeatView.{SeatView}
 use Rattle.span_table.specs.Turning.{Ruled}
 use Rattle.span_table.proofs.Ruling.{lift}
 use Rattle.span_table.proofs.Adaptors.{Goes, exchanges}
-use Rattle.span_table.proofs.Core.{found_counts, own_kept, plain_rule, still_counts}
+use Rattle.span_table.proofs.Core.{filled_rule, found_counts, own_kept, plain_rule, still_counts}
 use Rattle.span_table.proofs.Halves.{halves_once}
 use Rattle.span_table.proofs.Joined.{along}
 use Rattle.span_table.proofs.Made.{made}
@@ -76,8 +78,8 @@ module _ (R : ℕ) where
         tt,
         plain_rule R s r id w at out part (after c (PopUnswept n j)) (kept_said c g.heap g.homes n v k (PopsEntry j p) (filled, low, there) needs m.owned m.tidy m.space)
             (set s.words (j + (R + 75)) (head_tail (head + 1) tail))
-            (subst (λ (y : ℕ × ℕ). Words R (after c (PopUnswept n j)) g.lock (set s.words (j + (R + 75)) (head_tail (y.0 + 1) y.1))) (λ i. (sym head_is i, sym tail_is i))
-            (words_set R c g.lock s.words r.words (after c (PopUnswept n j)) j (raise_head q) there k.rule.sets refl refl refl refl))
+            (subst (λ (y : ℕ × ℕ). Words R (after c (PopUnswept n j)) r.blocks g.lock (set s.words (j + (R + 75)) (head_tail (y.0 + 1) y.1))) (λ i. (sym head_is i, sym tail_is i))
+            (words_set R c r.blocks g.lock s.words r.words (after c (PopUnswept n j)) j (raise_head q) there k.rule.sets refl refl refl refl (omega arith)))
             (still_counts R s r id w at out part (λ z. omega arith) refl (j + (R + 75)) (head_tail (head + 1) tail) (λ y a l e. omega arith))
             (stored_still R g s.homes r.stored n w.view.own own part (after c (PopUnswept n j)) g.heap (λ _. refl) (λ y. omega arith)),
         λ i z. let u = r.stored.deep in let same_j : j ≡ i = omega arith in
@@ -98,7 +100,7 @@ module _ (R : ℕ) where
         tt,
         plain_rule R s r id w at out part g.core
             (kept_note g.core g.heap g.homes w.number (along g.parts w.view) k (Looks j (head_of x) (tail_of x)) tt (h, t))
-            (set s.words (j + (R + 75)) x) (words_found R g.core g.lock s.words r.words (j + (R + 75))) (found_counts R s r id w at out part (λ y. omega arith) refl (j + (R + 75)))
+            (set s.words (j + (R + 75)) x) (words_found R g.core r.blocks g.lock s.words r.words (j + (R + 75))) (found_counts R s r id w at out part (λ y. omega arith) refl (j + (R + 75)))
             (stored_still R g s.homes r.stored w.number w.view.own own part g.core g.heap (λ _. refl) (λ q. omega arith)),
         λ i e. let same : j ≡ i = omega arith in
             subst (λ (y : ℕ). RaisesEntryBy (eqb x (head_tail head tail)) y p x me (says (Looks j (head_of x) (tail_of x)) w, me.1)) same
@@ -113,29 +115,32 @@ module _ (R : ℕ) where
       (λ s r deep at _ hit. entry_hits slots id me j head tail p there order fits out part_is read s r deep at hit)
       (λ s r deep at _ miss. entry_misses slots id me j head tail p there out s r deep at miss))
 
-  pub fill_allowed : (slots id : ℕ) (me : SeatState) (d : Claim) (x : ℕ) → me.0.out ≡ true → me.0.view.own.claimed ≡ Some d → x ≡ d.page + 1
-      → Allows (Ruled R) slots id me ((d.index + R * d.set) + (R + 619)) (λ _. x) (λ _. Filled (step slots ((d.index + R * d.set) + (R + 619)) x 0 none) me x)
-  fill_allowed slots id me d x out is known = lift R slots id me ((d.index + R * d.set) + (R + 619)) (λ _. x) (λ _. Filled (step slots ((d.index + R * d.set) + (R + 619)) x 0 none) me x) out (λ s r _ at _.
+  pub fill_allowed : (slots id : ℕ) (me : SeatState) (d : Claim) (b x : ℕ) → me.0.out ≡ true → me.0.view.own.claimed ≡ Some d → me.0.found ≡ Some (record { set = d.set; entry = d.index / 512; block = b }) → x ≡ d.page + 1
+      → Allows (Ruled R) slots id me (((d.index % 512) + 512 * (b + blocks_of (chunks_of R) * (d.set % 2))) + first_cell R) (λ _. x) (λ _. Filled (step slots (((d.index % 512) + 512 * (b + blocks_of (chunks_of R) * (d.set % 2))) + first_cell R) x 0 none) me x)
+  fill_allowed slots id me d b x out is seen known = let word = ((d.index % 512) + 512 * (b + blocks_of (chunks_of R) * (d.set % 2))) + first_cell R in
+      lift R slots id me word (λ _. x) (λ _. Filled (step slots word x 0 none) me x) out (λ s r _ at _.
       let w = me.0 in let g = r.joint in let c = g.core in let n = w.number in let v = along g.parts w.view in
       let k = own_kept R s r id w at out in let own = (r.seats id w at).own_is out in
       let f = k.rule.owned.sets.claim n (hand_state w.view.own) (own_at c g.heap g.homes n v k.rule) d is in
       let there : d.set < 544 = (let a = inside_at c.sets d.set f.set_at f.is_set in let b = k.rule.sets in omega arith) in
       let inside : d.index < R = (let t = k.rule.space.tails d.set f.set_at f.is_set in let b = f.below_tail in let m = r.words.many in omega arith) in
+      let entry : r.blocks.entry d.set (d.index / 512) ≡ suc b = (let z = r.traced.found id w at out (record { set = d.set; entry = d.index / 512; block = b }) seen in omega arith) in
       let needs = fill_met c g.heap g.homes n v k.rule d is in
       let m = made c (Fill n) (record { owned = k.rule.owned; tidy = k.rule.tidy; space = k.rule.space }) needs tt in
       let claim_is : (hand_of c n).claimed ≡ Some d = ap (λ (h : HandState). h.claimed) (own_hand c g.heap g.homes n v k.rule) ∙ is in
       let move_is : after c (Fill n) ≡ after_fill_of (Some d) c n = ap (λ (o : Option Claim). after_fill_of o c n) claim_is in
       let once = own_once c k.rule.owned (parts_of n v) k.rule.hands d.page f.is_page n w.view.own (part_at c g.heap g.homes n v k.rule) in let held = f.held in
-      let q = name_page d.index d.page (set_of c d.set) in let part : Part = told (Fills d.set d.page) w.view.own in (
+      let q = name_page d.index d.page (set_of c d.set) in let part : Part = told (Fills d.set d.page) w.view.own in
+      let filled : cell_of q d.index ≡ x = put_cell_here (set_of c d.set).cells d.index (d.page + 1) ∙ sym known in
+      let words = words_cell R c r.blocks g.lock s.words r.words (after c (Fill n)) d.set d.index b q there inside entry k.rule.sets (ap (λ (y : CoreState). y.generation) move_is) (ap (λ (y : CoreState). y.words) move_is) (ap (λ (y : CoreState). y.sets) move_is) refl refl
+      (λ y e. put_cell_else (set_of c d.set).cells d.index y (d.page + 1) e) in (
         says (Fills d.set d.page) w,
         keeps,
         tt,
-        plain_rule R s r id w at out part (after c (Fill n)) (kept_said c g.heap g.homes n v k (Fills d.set d.page) (d.index, is) needs m.owned m.tidy m.space)
-            (set s.words ((d.index + R * d.set) + (R + 619)) x)
-            (subst (λ (y : ℕ). Words R (after c (Fill n)) g.lock (set s.words ((d.index + R * d.set) + (R + 619)) y)) (put_cell_here (set_of c d.set).cells d.index (d.page + 1) ∙ sym known)
-            (words_cell R c g.lock s.words r.words (after c (Fill n)) d.set d.index q there inside k.rule.sets (ap (λ (y : CoreState). y.generation) move_is) (ap (λ (y : CoreState). y.words) move_is) (ap (λ (y : CoreState). y.sets) move_is) refl refl
-            (λ y e. put_cell_else (set_of c d.set).cells d.index y (d.page + 1) e)))
-            (still_counts R s r id w at out part (λ z. omega arith) refl ((d.index + R * d.set) + (R + 619)) x (λ y a l e. omega arith))
+        filled_rule R s r id w at out part (after c (Fill n)) (put_three r.blocks.cell (d.set % 2) b (d.index % 512) (cell_of q d.index)) (kept_said c g.heap g.homes n v k (Fills d.set d.page) (d.index, is) needs m.owned m.tidy m.space)
+            (set s.words word x)
+            (subst (λ (y : ℕ). Words R (after c (Fill n)) (fills (d.set % 2) b (d.index % 512) (cell_of q d.index) r.blocks) g.lock (set s.words word y)) filled words)
+            (still_counts R s r id w at out part (λ z. omega arith) refl word x (λ y a l e. omega arith))
             (stored_still R g s.homes r.stored n w.view.own own part (after c (Fill n)) g.heap (λ _. refl) (λ y. filled_lends w.view.own d y is (omega arith) held)),
         λ e same. let t = same_claim d e (sym is ∙ same) in (λ i. (says (Fills (t i).set (t i).page) w, me.1)),
       ))

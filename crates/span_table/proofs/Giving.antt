@@ -102,7 +102,7 @@ module _ (R : ℕ) where
               (λ q is. (r.seats id w at).slot_is out q is)
               (λ m q d e. e)
               (set s.words (p + 75) 0) s.homes
-              (words_page R c g.lock s.words r.words c' p 0 low refl refl refl) (still_counts R s r id w at out part (λ y. omega arith) refl (p + 75) 0 (λ y a l e. omega arith))
+              (words_page R c r.blocks g.lock s.words r.words c' p 0 low refl refl refl) (still_counts R s r id w at out part (λ y. omega arith) refl (p + 75) 0 (λ y a l e. omega arith))
               (stored_drops R g s.homes r.stored n w.view.own own part c' heap' p (λ e. let l = held.0 in absurd (omega arith)) bare (λ e. let u = (r.seats id w at).slot_is out p e in omega arith) (λ q d. given_lends w.view.own p b.pages q d)),
           refl,
         )

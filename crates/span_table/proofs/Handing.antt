@@ -27,6 +27,7 @@ use Rattle.span_table.proofs.Adaptors.{none_some}
 use Rattle.span_table.proofs.Joined.{get_at, inside}
 use Rattle.span_table.proofs.PresentKept.{present_in, present_out}
 use Rattle.span_table.proofs.StoredKept.{put, put_else, put_here}
+use Rattle.span_table.proofs.Tracing.{traced_in, traced_out}
 
 -- the last place of a longer list, or one before it
 pub at_end : {A : Type 0} (l : List A) (a b : A) (j : ℕ) → get_elem? (l ++ a ∷ []) j ≡ some b → (get_elem? l j ≡ some b) ⊎ ((j ≡ length l) × (a ≡ b))
@@ -136,11 +137,16 @@ module _ (R : ℕ) where
       joint = now;
       lawful = goes_lawful r.joint m (length s.views) r.lawful;
       locked = r.locked;
-      words = record { size = r.words.size; many = r.words.many; shows = r.words.shows };
+      blocks = r.blocks;
+      words = record { size = r.words.size; many = r.words.many; whole = r.words.whole; blocked = r.words.blocked; shows = r.words.shows };
       seats = out_seats;
       stored = record { deep = r.stored.deep; heap_home = r.stored.heap_home; at_home = r.stored.at_home; body_home = r.stored.body_home; taker_lent = r.stored.taker_lent };
       counted = record { sums = r.counted.sums; events = r.counted.events };
       present = present_out r.joint.owner r.joint.driver (length r.joint.parts) s.views r.present id w at m is_driver home none_away;
+      traced = traced_out r.joint.owner (length r.joint.parts) r.blocks s.views r.traced id w at ((r.seats id w at).drives drives).1 m from.0
+          (λ q below e. let p = r.present.seat q below in let l = inside_at s.views (r.joint.owner q) p.0 p.1 in omega arith) (λ i x there e. let l = inside_at s.views i x there in omega arith)
+          (λ i x there. ⊎_elim (λ (t : get_elem? (set s.views id (without_number m w)) i ≡ some x). inl t) (λ (t : (i ≡ length (set s.views id (without_number m w))) × (sent_out m w ≡ x)). inr (t.0 ∙ length-set s.views id (without_number m w), t.1))
+          (at_end (set s.views id (without_number m w)) (sent_out m w) x i there));
     }
 
   -- the driver hands out the worker of a number that it has
@@ -225,11 +231,13 @@ module _ (R : ℕ) where
       joint = back;
       lawful = goes_lawful r.joint x.number id r.lawful;
       locked = r.locked;
-      words = record { size = r.words.size; many = r.words.many; shows = r.words.shows };
+      blocks = r.blocks;
+      words = record { size = r.words.size; many = r.words.many; whole = r.words.whole; blocked = r.words.blocked; shows = r.words.shows };
       seats = in_seats;
       stored = record { deep = r.stored.deep; heap_home = r.stored.heap_home; at_home = r.stored.at_home; body_home = r.stored.body_home; taker_lent = r.stored.taker_lent };
       counted = record { sums = r.counted.sums; events = r.counted.events };
       present = present_in r.joint.owner r.joint.driver (length r.joint.parts) s.views r.present id w at j x driver_is apart there ((r.seats id w at).drives drives).1 drives (λ e. apart (((r.seats j x there).drives e).0 ∙ sym driver_is));
+      traced = traced_in r.joint.owner (length r.joint.parts) r.blocks s.views r.traced id w at ((r.seats id w at).drives drives).1 j x apart there out by_other (inside r.joint j x (r.seats j x there) out);
     }
 
   -- the driver takes a worker in

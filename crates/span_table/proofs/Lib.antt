@@ -1,6 +1,7 @@
 pub mod Joined
 pub mod WordsKept
 pub mod SeatsKept
+pub mod Tracing
 pub mod StoredKept
 pub mod Adaptors
 pub mod CountsKept
@@ -27,6 +28,7 @@ pub mod Storing
 pub mod Checking
 pub mod Uncaching
 pub mod Entries
+pub mod Spines
 pub mod Counting
 pub mod Placing
 pub mod Sweeping

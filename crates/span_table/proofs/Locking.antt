@@ -63,7 +63,7 @@ module _ (R : ℕ) where
             (λ p is. (r.seats id w at).slot_is out p is)
             (λ m p d e. e)
             (set s.words 0 (n + 1)) (set s.homes 0 none)
-            (words_lock R g.core g.lock s.words r.words (n + 1)) (still_counts R s r id w at out w.view.own (λ z. omega arith) refl (0) (n + 1) (λ y a l e. omega arith))
+            (words_lock R g.core r.blocks g.lock s.words r.words (n + 1)) (still_counts R s r id w at out w.view.own (λ z. omega arith) refl (0) (n + 1) (λ y a l e. omega arith))
             (stored_locks R g s.homes r.stored n w.view.own own w.view.own g.core g.heap (n + 1) none (λ e. absurd (omega arith)) (λ p. omega arith)),
         subst (λ (won : Bool). LocksBy won me (locks g.heap w, (0, Heap g.heap) ∷ me.1)) (sym (eq-eqb (get_or s.words 0 0) 0 hit)) (g.heap, refl, (let k = (own_kept R s r id w at out).rule in record { region = k.heap_region ∙ sym k.region; goal = sym k.goal; legal = k.legal; cycle = subst (λ (y : ℕ). IsBy (cycle_at y) g.heap.past) (sym k.generation) k.cycle; told = λ past is. ((r.seats id w at).told_is out past is).0; runs = has_runs R s r id w at out })),
       ))
@@ -105,7 +105,7 @@ module _ (R : ℕ) where
             (λ p is. (r.seats id w at).slot_is out p is)
             (λ m p d e. e)
             (set s.words 0 0) (set s.homes 0 (some (Heap h')))
-            (words_lock R g.core g.lock s.words r.words 0) (still_counts R s r id w at out w.view.own (λ z. omega arith) refl (0) 0 (λ y a l e. omega arith))
+            (words_lock R g.core r.blocks g.lock s.words r.words 0) (still_counts R s r id w at out w.view.own (λ z. omega arith) refl (0) 0 (λ y a l e. omega arith))
             (stored_locks R g s.homes r.stored n w.view.own own w.view.own g.core h' 0 (some (Heap h')) (λ _. refl) (λ p. omega arith)),
         refl,
       )
@@ -132,7 +132,7 @@ module _ (R : ℕ) where
             (λ p is. (r.seats id w at).slot_is out p is)
             (λ m p d e. e)
             (set s.words 0 0) (set s.homes 0 (some (Heap h')))
-            (words_lock R g.core g.lock s.words r.words 0) (still_counts R s r id w at out part (λ z. omega arith) refl (0) 0 (λ y a l e. omega arith))
+            (words_lock R g.core r.blocks g.lock s.words r.words 0) (still_counts R s r id w at out part (λ z. omega arith) refl (0) 0 (λ y a l e. omega arith))
             (stored_locks R g s.homes r.stored n w.view.own own part g.core h' 0 (some (Heap h')) (λ _. refl) (λ p. omega arith)),
         refl,
       )
@@ -172,7 +172,7 @@ module _ (R : ℕ) where
               (λ p is. (r.seats id w at).slot_is out p is)
               (λ m p d e. e)
               (set s.words (page + 75) x) s.homes
-              (words_page R c g.lock s.words r.words c' page x low refl (ap (set c.words page) (let y : c.generation ≡ x = omega arith in y)) refl) (still_counts R s r id w at out part (λ z. omega arith) refl (page + 75) x (λ y a l e. omega arith))
+              (words_page R c r.blocks g.lock s.words r.words c' page x low refl (ap (set c.words page) (let y : c.generation ≡ x = omega arith in y)) refl) (still_counts R s r id w at out part (λ z. omega arith) refl (page + 75) x (λ y a l e. omega arith))
               (stored_still R g s.homes r.stored n w.view.own own part c' heap' (λ e. let l = held.0 in absurd (omega arith))
               (λ q. let y = only_more (Rattle.std.proofs.Common.not (is_claimed q w.view.own.claimed)) (times q w.view.own.held) (times q part.held) (times_more q b.page w.view.own.held) in omega arith)),
           (

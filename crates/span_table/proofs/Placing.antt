@@ -68,10 +68,10 @@ module _ (R : ℕ) where
         refl,
       )
     where
-      still_words : Rattle.span_table.specs.Running.Words R r.joint.core r.joint.lock s.words
-          → Rattle.span_table.specs.Running.Words R (after r.joint.core (Allocate me.0.number b'.page i)) r.joint.lock (set s.words (word + 5) ((get_or s.words (word + 5) 0 + 1) % 2 ^ 64))
-      still_words k = let y = words_free R r.joint.core r.joint.lock s.words k (EventWord word) low (λ e. e) ((get_or s.words (word + 5) 0 + 1) % 2 ^ 64) in
-          Rattle.span_table.proofs.WordsKept.words_same R r.joint.core r.joint.lock (set s.words (word + 5) ((get_or s.words (word + 5) 0 + 1) % 2 ^ 64)) y (after r.joint.core (Allocate me.0.number b'.page i)) refl refl refl
+      still_words : Rattle.span_table.specs.Running.Words R r.joint.core r.blocks r.joint.lock s.words
+          → Rattle.span_table.specs.Running.Words R (after r.joint.core (Allocate me.0.number b'.page i)) r.blocks r.joint.lock (set s.words (word + 5) ((get_or s.words (word + 5) 0 + 1) % 2 ^ 64))
+      still_words k = let y = words_free R r.joint.core r.blocks r.joint.lock s.words k (EventWord word) low (λ e. e) ((get_or s.words (word + 5) 0 + 1) % 2 ^ 64) in
+          Rattle.span_table.proofs.WordsKept.words_same R r.joint.core r.blocks r.joint.lock (set s.words (word + 5) ((get_or s.words (word + 5) 0 + 1) % 2 ^ 64)) y (after r.joint.core (Allocate me.0.number b'.page i)) refl refl refl
 
   pub place_allowed : (slots id : ℕ) (me : SeatState) (b b' : Body) (i word : ℕ) → me.0.out ≡ true → word < 70 → word ≡ me.0.number → HasBody me.0.view.own b → MayPlace me.0.view.own b → HasFree b.count (allocated b) i
       → IsSameSpan b b' → ((k : ℕ) → allocated b' k ≡ with_bit i (allocated b) k)

@@ -47,7 +47,7 @@ module _ (R : ℕ) where
         tt,
         plain_rule R s r id w at out part g.core
             (kept_note g.core g.heap g.homes w.number (along g.parts w.view) k (Looks j (head_of x) (tail_of x)) tt (h, t))
-            (set s.words (j + (R + 75)) x) (words_found R g.core g.lock s.words r.words (j + (R + 75))) (found_counts R s r id w at out part (λ z. omega arith) refl (j + (R + 75)))
+            (set s.words (j + (R + 75)) x) (words_found R g.core r.blocks g.lock s.words r.words (j + (R + 75))) (found_counts R s r id w at out part (λ z. omega arith) refl (j + (R + 75)))
             (stored_still R g s.homes r.stored w.number w.view.own own part g.core g.heap (λ _. refl) (λ p. omega arith)),
         λ q e. let same : j ≡ q = omega arith in
             subst (λ (k : ℕ). LooksAt k x me (says (Looks j (head_of x) (tail_of x)) w, me.1)) same

@@ -66,7 +66,7 @@ module _ (R : ℕ) where
             (λ p is. (r.seats id w at).slot_is out p is)
             (λ m p d e. e)
             (set s.words 0 0) (set s.homes 0 (some (Heap h')))
-            (words_lock R g.core g.lock s.words r.words 0) (still_counts R s r id w at out w.view.own (λ z. omega arith) refl (0) 0 (λ y a l e. omega arith))
+            (words_lock R g.core r.blocks g.lock s.words r.words 0) (still_counts R s r id w at out w.view.own (λ z. omega arith) refl (0) 0 (λ y a l e. omega arith))
             (stored_locks R g s.homes r.stored n w.view.own own w.view.own g.core h' 0 (some (Heap h')) (λ _. refl) (λ p. omega arith)),
         refl,
       )

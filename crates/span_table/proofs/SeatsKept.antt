@@ -14,6 +14,7 @@ use Rattle.span_laws.specs.declared.view.Part.{Part}
 use Rattle.span_laws.specs.declared.view.View.{View}
 use Rattle.span_laws.proofs.Parts.{set_else}
 use Rattle.span_table.specs.Running.{JointState, Seated, Seats}
+use Rattle.span_table.specs.declared.view.Found.{Found}
 use Rattle.span_table.specs.declared.view.SeatView.{SeatView}
 use Rattle.span_table.proofs.Joined.{inside, turned}
 
@@ -26,15 +27,15 @@ pub record LockTurn (g : JointState) (n : ℕ) (heap : PageHeap) (lock : ℕ) (k
   pub low : lock ≤ length g.parts
 
 -- a view after an own step
-abbrev pub stepped_view : SeatView → Part → ℕ → Option PageHeap → Option (List Line) → SeatView
-stepped_view w h slot_out heap told = record w { view = acts w.view h; slot_out = slot_out; heap = heap; journal = told }
+abbrev pub stepped_view : SeatView → Part → ℕ → Option PageHeap → Option (List Line) → List ℕ → Option Found → SeatView
+stepped_view w h slot_out heap told spares found = record w { view = acts w.view h; slot_out = slot_out; heap = heap; journal = told; spares = spares; found = found }
 
 module _ (g : JointState) (vs : List SeatView) (all : Seats g vs) (id : ℕ) (w : SeatView) (at : get_elem? vs id ≡ some w) (out : w.out ≡ true) where
   -- another seat has another number
   other : (i m : ℕ) → i ≢ id → g.owner m ≡ i → m ≢ w.number
   other i m d o e = d (sym o ∙ ap g.owner e ∙ (all id w at).own_by out)
 
-  module _ (h : Part) (c : CoreState) (heap : PageHeap) (homes : List (Option Body)) (lock : ℕ) (taker : ℕ → ℕ) (slot_out : ℕ) (known : Option PageHeap) (told : Option (List Line))
+  module _ (h : Part) (c : CoreState) (heap : PageHeap) (homes : List (Option Body)) (lock : ℕ) (taker : ℕ → ℕ) (slot_out : ℕ) (known : Option PageHeap) (told : Option (List Line)) (spares : List ℕ) (found : Option Found)
       (turn : LockTurn g w.number heap lock known)
       (own_told : (past : List Line) → told ≡ Some past → (heap.past ≡ past) × ((m : ℕ) → m < length g.parts → g.owner m ≡ id))
       (own_slot : (p : ℕ) → taker p ≡ w.number + 1 → slot_out ≡ p + 1)
@@ -42,7 +43,7 @@ module _ (g : JointState) (vs : List SeatView) (all : Seats g vs) (id : ℕ) (w 
     abbrev now : JointState
     now = turned g w.number h c heap homes lock taker
 
-    own_seat : Seated now id (stepped_view w h slot_out known told)
+    own_seat : Seated now id (stepped_view w h slot_out known told spares found)
     own_seat = let s = all id w at in record {
       agrees = λ o. ap (λ (v : View). record v { own = h }) (s.agrees o);
       own_is = λ o. set_here g.parts w.number h (inside g id w s o);
@@ -70,8 +71,8 @@ module _ (g : JointState) (vs : List SeatView) (all : Seats g vs) (id : ℕ) (w 
       wide = λ r. s.wide r ∙ sym (length-set g.parts w.number h);
     }
 
-    pub seats_act : Seats now (set vs id (stepped_view w h slot_out known told))
+    pub seats_act : Seats now (set vs id (stepped_view w h slot_out known told spares found))
     seats_act i x e = ⊎_elim
-        (λ (t : (i ≡ id) × (stepped_view w h slot_out known told ≡ x)). subst (λ (z : ℕ × SeatView). Seated now z.0 z.1) (λ j. (sym t.0 j, t.1 j)) own_seat)
+        (λ (t : (i ≡ id) × (stepped_view w h slot_out known told spares found ≡ x)). subst (λ (z : ℕ × SeatView). Seated now z.0 z.1) (λ j. (sym t.0 j, t.1 j)) own_seat)
         (λ (t : (i ≢ id) × (get_elem? vs i ≡ some x)). other_seat i x t.0 t.1)
-        (at_set vs id i (stepped_view w h slot_out known told) x e)
+        (at_set vs id i (stepped_view w h slot_out known told spares found) x e)

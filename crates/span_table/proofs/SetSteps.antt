@@ -94,7 +94,7 @@ module _ (R : ℕ) where
               (λ y e. dite (ℕ_discrete y p) (λ z. let u = put_here g.taker p 0 y z in absurd (omega arith)) (λ z. let u = (r.seats id w at).slot_is out y (far_home g.taker p n y e) in absurd (z (omega arith))))
               (λ y z d e. far_home g.taker p y z e)
               (set s.words (j + (R + 75)) (head_tail q.head (q.tail + 1))) (set s.homes (p + 1) (some (Span b)))
-              (words_set R c g.lock s.words r.words (after c (Claim n j p)) j (raise_tail q) there k.rule.sets refl refl refl refl) (still_counts R s r id w at out part (λ z. omega arith) refl (j + (R + 75)) (head_tail q.head (q.tail + 1)) (λ y a l e. omega arith))
+              (words_set R c r.blocks g.lock s.words r.words (after c (Claim n j p)) j (raise_tail q) there k.rule.sets refl refl refl refl (omega arith)) (still_counts R s r id w at out part (λ z. omega arith) refl (j + (R + 75)) (head_tail q.head (q.tail + 1)) (λ y a l e. omega arith))
               (stored_gives R g s.homes r.stored n w.view.own own part (after c (Claim n j p)) p (Span b) (set g.homes p (Some b)) low
               (λ y d. unclaimed_lends y w.view.own (record { set = j; index = q.tail; page = p }) free d)
               (λ y d. get_or-set_other g.homes p y (Some b) None d)
@@ -146,8 +146,8 @@ module _ (R : ℕ) where
             (λ y z. dite (ℕ_discrete y p) (λ u. omega arith) (λ u. let t = (r.seats id w at).slot_is out y (sym (put_else g.taker p (n + 1) y u) ∙ z) in absurd (omega arith)))
             (λ y z d u. far_put g.taker p n y z d u)
             (set s.words (j + (R + 75)) (head_tail (head + 1) tail)) (set s.homes (p + 1) none)
-            (subst (λ (y : ℕ × ℕ). Rattle.span_table.specs.Running.Words R (after c (PopSwept n j)) g.lock (set s.words (j + (R + 75)) (head_tail (y.0 + 1) y.1))) (λ i. (sym head_is i, sym tail_is i))
-            (words_set R c g.lock s.words r.words (after c (PopSwept n j)) j (raise_head q) there k.rule.sets refl refl refl refl)) (still_counts R s r id w at out part (λ z. omega arith) refl (j + (R + 75)) (head_tail (head + 1) tail) (λ y a l e. omega arith))
+            (subst (λ (y : ℕ × ℕ). Rattle.span_table.specs.Running.Words R (after c (PopSwept n j)) r.blocks g.lock (set s.words (j + (R + 75)) (head_tail (y.0 + 1) y.1))) (λ i. (sym head_is i, sym tail_is i))
+            (words_set R c r.blocks g.lock s.words r.words (after c (PopSwept n j)) j (raise_head q) there k.rule.sets refl refl refl refl (omega arith))) (still_counts R s r id w at out part (λ z. omega arith) refl (j + (R + 75)) (head_tail (head + 1) tail) (λ y a l e. omega arith))
             (stored_takes R g s.homes r.stored n w.view.own own part (after c (PopSwept n j)) p (set g.homes p None) low (λ y d. get_or-set_other g.homes p y None None d)
             (λ y d. let u = only_more (not (is_claimed y w.view.own.claimed)) (times y w.view.own.held) (times y part.held) (times_more y b.page w.view.own.held) in omega arith) lent),
         λ i z. let u = r.stored.deep in let same_j : j ≡ i = omega arith in
@@ -168,7 +168,7 @@ module _ (R : ℕ) where
         tt,
         plain_rule R s r id w at out part g.core
             (kept_note g.core g.heap g.homes w.number (along g.parts w.view) k (Looks j (head_of x) (tail_of x)) tt (h, t))
-            (set s.words (j + (R + 75)) x) (words_found R g.core g.lock s.words r.words (j + (R + 75))) (found_counts R s r id w at out part (λ z. omega arith) refl (j + (R + 75)))
+            (set s.words (j + (R + 75)) x) (words_found R g.core r.blocks g.lock s.words r.words (j + (R + 75))) (found_counts R s r id w at out part (λ z. omega arith) refl (j + (R + 75)))
             (stored_still R g s.homes r.stored w.number w.view.own own part g.core g.heap (λ _. refl) (λ q. omega arith)),
         λ i e. let same : j ≡ i = omega arith in
             subst (λ (y : ℕ). RaisesBy (eqb x (head_tail head tail)) y p x me (says (Looks j (head_of x) (tail_of x)) w, me.1)) same

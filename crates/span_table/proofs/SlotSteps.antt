@@ -42,7 +42,7 @@ module _ (R : ℕ) where
         (λ q e. dite (ℕ_discrete q p) (λ z. let u = put_here g.taker p 0 q z in absurd (omega arith)) (λ z. let u = (r.seats id w at).slot_is out q (far_home g.taker p n q e) in absurd (z (omega arith))))
         (λ m q d e. far_home g.taker p m q e)
         (set s.words 0 (get_or s.words 0 0)) (set s.homes (p + 1) (some Nothing))
-        (words_found R g.core g.lock s.words r.words 0) (found_counts R s r id w at out w.view.own (λ z. omega arith) refl (0))
+        (words_found R g.core r.blocks g.lock s.words r.words 0) (found_counts R s r id w at out w.view.own (λ z. omega arith) refl (0))
         (stored_gives R g s.homes r.stored n w.view.own own w.view.own g.core p Nothing g.homes low (λ q d. omega arith) (λ q d. refl)
         (λ b e u. let z = u n w.view.own (Rattle.sweep_laws.proofs.Naming.set_here g.parts n w.view.own (Rattle.sweep_laws.proofs.Totals.inside_at g.parts n w.view.own own)) in absurd (omega arith))),
     refl,
@@ -73,7 +73,7 @@ module _ (R : ℕ) where
             (λ q z. dite (ℕ_discrete q p) (λ y. omega arith) (λ y. let u = (r.seats id w at).slot_is out q (sym (put_else g.taker p (n + 1) q y) ∙ z) in absurd (omega arith)))
             (λ m q d e. far_put g.taker p n m q d e)
             (set s.words 0 (get_or s.words 0 0)) (set s.homes (p + 1) none)
-            (words_found R g.core g.lock s.words r.words 0) (found_counts R s r id w at out w.view.own (λ z. omega arith) refl (0))
+            (words_found R g.core r.blocks g.lock s.words r.words 0) (found_counts R s r id w at out w.view.own (λ z. omega arith) refl (0))
             (stored_takes R g s.homes r.stored n w.view.own own w.view.own g.core p g.homes low (λ q d. refl) (λ q d. omega arith) has),
         (home.0, refl),
       )
@@ -104,7 +104,7 @@ module _ (R : ℕ) where
         tt,
         plain_rule R s r id w at out part g.core
             (kept_note g.core g.heap g.homes w.number (along g.parts w.view) k (Reads 1 x) tt tt)
-            (set s.words 1 x) (words_found R g.core g.lock s.words r.words 1) (found_counts R s r id w at out part (λ z. omega arith) refl (1))
+            (set s.words 1 x) (words_found R g.core r.blocks g.lock s.words r.words 1) (found_counts R s r id w at out part (λ z. omega arith) refl (1))
             (stored_still R g s.homes r.stored w.number w.view.own own part g.core g.heap (λ _. refl) (λ q. omega arith)),
         (refl, omega arith, omega arith, omega arith),
       ))

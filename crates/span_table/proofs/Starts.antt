@@ -20,7 +20,12 @@ use Rattle.span_laws.specs.Cycle.{Kept}
 use Rattle.span_laws.specs.Views.{first_view, no_part}
 use Rattle.span_laws.specs.declared.view.Part.{Part}
 use Rattle.span_laws.proofs.Kept.{start_kept}
-use Rattle.table_words.specs.Names.{Name, place, word_count, LockWord, GenerationWord, CounterWord, EventWord, PageWord, SetWord, CellWord}
+use Rattle.table_words.specs.Names.{Name, place, word_count, LockWord, GenerationWord, CounterWord, EventWord, PageWord, SetWord, DrawnWord, EntryWord, CellWord, chunks_of, first_cell}
+use Rattle.set_blocks.specs.Names.{blocks_of}
+use Rattle.block_laws.specs.Steps.{no_blocks}
+use Rattle.block_laws.proofs.Kept as block_steps
+use Rattle.span_table.proofs.Adaptors.{none_some}
+use Rattle.span_table.proofs.Tracing.{IsTraced, all_traced}
 use Rattle.span_table.proofs.Joined.{get_at}
 use Rattle.span_table.specs.Running.{all_added, IsShown, Running, Seated, Stored, JointState, first_seat_view, value, objects_placed}
 use Rattle.span_table.specs.declared.view.Item.{Item}
@@ -47,7 +52,7 @@ get_mapped x (y ∷ ys) (suc i) = get_mapped x ys i
 pub get_copies : {A : Type 0} (n : ℕ) (x : A) (i : ℕ) → get_or (copies n x) i x ≡ x
 get_copies n x i = get_mapped x (range_with_len 0 n) i
 
-module _ (R goal workers : ℕ) (ws : List ℕ) (xs : List Item) (heap : PageHeap) (small : R ≤ 65536) (many : 1 ≤ workers) (size : length ws ≡ word_count R) (one : get_or ws 1 0 ≡ 4) (zeros : (i : ℕ) → i ≢ 1 → get_or ws i 0 ≡ 0)
+module _ (R goal workers : ℕ) (ws : List ℕ) (xs : List Item) (heap : PageHeap) (small : R ≤ 65536) (whole : 512 * chunks_of R ≡ R) (many : 1 ≤ workers) (size : length ws ≡ word_count R) (one : get_or ws 1 0 ≡ 4) (zeros : (i : ℕ) → i ≢ 1 → get_or ws i 0 ≡ 0)
     (slots : length xs ≡ R + 1) (first : get_elem? xs 0 ≡ some (Heap heap)) (region : heap.region ≡ R) (goal_is : heap.goal ≡ goal) (past : heap.past ≡ []) where
   abbrev new : CoreState
   new = new_state R workers
@@ -68,14 +73,16 @@ module _ (R goal workers : ℕ) (ws : List ℕ) (xs : List Item) (heap : PageHea
   no_sets : (s : ℕ) → set_of core s ≡ no_set
   no_sets s = get_copies 544 no_set s
 
-  shown : (k : Name) → IsShown R k → get_or ws (place R k) 0 ≡ value core 0 k
+  shown : (k : Name) → IsShown R k → get_or ws (place R k) 0 ≡ value core no_blocks 0 k
   shown LockWord i = zeros 0 (λ e. omega arith)
   shown GenerationWord i = one
   shown (CounterWord k) i = absurd i
   shown (EventWord k) i = absurd i
   shown (PageWord p) i = let zero_word : ℕ = 0 in zeros (p + 75) (λ e. omega arith) ∙ sym (get_copies R zero_word p)
   shown (SetWord s) i = zeros (s + (R + 75)) (λ e. omega arith) ∙ sym (ap (λ (x : SetState). Rattle.table_words.specs.Names.head_tail x.head x.tail) (no_sets s))
-  shown (CellWord s j) i = zeros ((j + R * s) + (R + 619)) (λ e. omega arith) ∙ sym (ap (λ (x : SetState). cell_of x j) (no_sets s))
+  shown (DrawnWord p) i = zeros (p + (R + 619)) (λ e. omega arith)
+  shown (EntryWord s n) i = zeros ((n + chunks_of R * s) + (R + 621)) (λ e. omega arith)
+  shown (CellWord p x k) i = zeros ((k + 512 * (x + blocks_of (chunks_of R) * p)) + first_cell R) (λ e. omega arith)
 
   seated : Seated joint 0 (first_seat_view R goal workers)
   seated = record {
@@ -116,17 +123,27 @@ module _ (R goal workers : ℕ) (ws : List ℕ) (xs : List Item) (heap : PageHea
     taker_lent = λ p m e. absurd (omega arith);
   }
 
+  none_spare : (m : ℕ) → get_or (copies workers zero) m 0 ≡ 0
+  none_spare m = get_copies workers zero m
+
+  traced : (i : ℕ) (w : SeatView) → get_elem? (first_seat_view R goal workers ∷ []) i ≡ some w → IsTraced (λ _. 0) (length (copies workers no_part)) no_blocks i w
+  traced zero w e = subst (IsTraced (λ _. 0) (length (copies workers no_part)) no_blocks 0) (some-injective (first_seat_view R goal workers) w e)
+      (record { wide = λ o. length_copies workers zero ∙ sym (length_copies workers no_part); spares = λ o m low is. none_spare m; found = λ o f is. none_some f is })
+  traced (suc i) w e = absurd (some-ne-none w (sym e))
+
   none_placed : (h : Part) → h ≡ no_part → 0 ≡ (0 + objects_placed h.log) % 18446744073709551616
   none_placed h e = subst (λ (x : Part). 0 ≡ (0 + objects_placed x.log) % 18446744073709551616) (sym e) refl
 
   pub starts : Running R (opening ws xs (first_seat_view R goal workers))
   starts = record {
     joint = joint;
+    blocks = no_blocks;
     lawful = record { kept = kept_at };
     locked = omega arith;
-    words = record { size = size; many = let zero_word : ℕ = 0 in length_copies R zero_word; shows = shown };
+    words = record { size = size; many = let zero_word : ℕ = 0 in length_copies R zero_word; whole = whole; blocked = block_steps.starts (chunks_of R) 4 core.sets (λ s i. ap (λ (x : SetState). cell_of x i) (no_sets s)); shows = shown };
     seats = seats;
     stored = stored;
+    traced = all_traced (λ _. 0) (length (copies workers no_part)) no_blocks (first_seat_view R goal workers ∷ []) traced;
     present = record { driven = (first_seat_view R goal workers, refl, refl, λ m. omega arith); seat = λ m low. (first_seat_view R goal workers, refl, (refl, inr (refl, refl))) };
     counted = record { sums = λ k l. zeros (k + 2) (λ e. omega arith) ∙ ap (λ (z : ℕ). z % 18446744073709551616) (sym (none_added (k + 2) (range_with_len 0 workers))); events = λ n h few at. zeros (n + 5) (λ e. omega arith) ∙ none_placed h (sym (get_at (copies workers no_part) n h no_part at) ∙ get_copies workers no_part n) };
   }

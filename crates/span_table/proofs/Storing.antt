@@ -70,7 +70,7 @@ module _ (R : ℕ) where
         keeps,
         tt,
         plain_rule R s r id w at out part (after c (Release n p)) (kept_of c g.heap g.homes n v k Releases b (lent, marks) tt needs m.owned m.tidy m.space)
-            (set s.words (p + 75) x) (words_page R c g.lock s.words r.words (after c (Release n p)) p x low refl (ap (set c.words p) (let y : c.generation ≡ x = (let z = k.rule.generation in omega arith) in y)) refl) (still_counts R s r id w at out part (λ z. omega arith) refl (p + 75) x (λ y a l e. omega arith))
+            (set s.words (p + 75) x) (words_page R c r.blocks g.lock s.words r.words (after c (Release n p)) p x low refl (ap (set c.words p) (let y : c.generation ≡ x = (let z = k.rule.generation in omega arith) in y)) refl) (still_counts R s r id w at out part (λ z. omega arith) refl (p + 75) x (λ y a l e. omega arith))
             (stored_still R g s.homes r.stored n w.view.own own part (after c (Release n p)) g.heap (λ _. refl) (λ q. released_lends b w.view.own p q refl some (unclaimed R s r id w at out p (let z : times p w.view.own.held ≡ 0 = omega arith in z)))),
         refl,
       ))
@@ -88,7 +88,7 @@ module _ (R : ℕ) where
         keeps,
         tt,
         plain_rule R s r id w at out part (after c (Cache n p)) (kept_said c g.heap g.homes n v k (Caches p) tt needs m.owned m.tidy m.space)
-            (set s.words (p + 75) x) (words_page R c g.lock s.words r.words (after c (Cache n p)) p x low refl (ap (set c.words p) (let y : c.generation + 3 ≡ x = (let z = k.rule.generation in omega arith) in y)) refl) (still_counts R s r id w at out part (λ z. omega arith) refl (p + 75) x (λ y a l e. omega arith))
+            (set s.words (p + 75) x) (words_page R c r.blocks g.lock s.words r.words (after c (Cache n p)) p x low refl (ap (set c.words p) (let y : c.generation + 3 ≡ x = (let z = k.rule.generation in omega arith) in y)) refl) (still_counts R s r id w at out part (λ z. omega arith) refl (p + 75) x (λ y a l e. omega arith))
             (stored_still R g s.homes r.stored n w.view.own own part (after c (Cache n p)) g.heap (λ _. refl) (λ q. cached_lends w.view.own p q (has_times p w.view.own.held held) free)),
         refl,
       ))

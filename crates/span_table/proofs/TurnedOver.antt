@@ -1,7 +1,10 @@
 -- The last step of a mark end: the driver stores the new generation, and the table runs again.
-use Rattle.std.proofs.Common.{◌≡◌, ◌≢◌, inl, inr, ⊎_elim, ℕ, zero, suc, ◌+◌, ◌*◌, ◌%◌, ◌<◌, ◌≤◌, true, false, List, [], ◌∷◌, map, length, get_or, set, refl, sym, ap, subst, ◌∙◌, arith}
+use Rattle.std.proofs.Common.{◌≡◌, ◌≢◌, ◌⊎◌, inl, inr, ⊎_elim, eqb, eq-eqb, ne_eqb, Bool, ℕ, zero, suc, ◌+◌, ◌*◌, ◌/◌, ◌%◌, ◌<◌, ◌≤◌, true, false, List, [], ◌∷◌, map, length, get_or, set, refl, sym, ap, subst, ◌∙◌, arith}
 use Rattle.std.specs.Prelude.{None, Option, unwrap_or}
+use Rattle.std.specs.Prelude.{cond}
+use mathlib.Core.Logic.{dite}
 use mathlib.Core.Option.{none, some}
+use native.Mathlib.Decide.{ℕ_discrete}
 use lib.ListN.{get_elem?}
 use Rattle.std.proofs.Math.ListN.{length-set}
 use Rattle.std.proofs.lemmas.Bool.{cases_Bool}
@@ -29,14 +32,21 @@ use Rattle.span_laws.specs.declared.view.View.{View}
 use Rattle.span_laws.proofs.Kept.{kept_hand, kept_next}
 use Rattle.span_laws.proofs.MarkEnd.{next_allowed, map_at}
 use Rattle.span_laws.proofs.Parts.{set_else}
-use Rattle.table_words.specs.Names.{Name, place, head_tail, LockWord, GenerationWord, CounterWord, EventWord, PageWord, SetWord, CellWord}
+use Rattle.table_words.specs.Names.{Name, place, head_tail, LockWord, GenerationWord, CounterWord, EventWord, PageWord, SetWord, DrawnWord, EntryWord, CellWord, IsName, chunks_of, first_cell}
 use Rattle.span_table.specs.Known.{known}
 use Rattle.span_table.specs.Plays.{Turned}
-use Rattle.span_table.specs.Running.{Counted, IsShown, IsUnlent, JointState, Lawful, Present, Running, Seated, Seats, Stored, Words, all_added, objects_placed, value}
+use Rattle.span_table.specs.Running.{Counted, IsShown, IsUnlent, JointState, Lawful, Present, Running, Seated, Seats, Stored, Traced, Words, all_added, objects_placed, value}
 use Rattle.span_table.specs.Seats.{SeatState}
 use Rattle.span_table.specs.Turning.{Ruled, Turning, turned_over, turning}
 use Rattle.span_table.specs.declared.view.Item.{Item}
 use Rattle.span_table.specs.declared.view.SeatView.{SeatView}
+use Rattle.set_blocks.specs.Names.{blocks_of}
+use Rattle.swept_set_laws.proofs.Across.{eqb_is}
+use Rattle.block_laws.specs.Blocked.{Blocked, BlockState, Use, Free, Spare, InSpine, is_in_spine, swept_part}
+use Rattle.block_laws.specs.Steps.{turns as turns_blocks}
+use Rattle.block_laws.proofs.Kept.{turn_keeps}
+use Rattle.span_table.proofs.Emptying.{other_part}
+use Rattle.span_table.proofs.Tracing.{IsTraced, all_traced}
 use Rattle.span_table.proofs.Adaptors.{none_some}
 use Rattle.span_table.proofs.Driver.{all_home, alone, own_view_kept, unlocked}
 use Rattle.span_table.proofs.Joined.{get_at, inside}
@@ -72,7 +82,7 @@ nothing_more : (x : ℕ) (h old : Part) → rested old ≡ h → x ≡ x + objec
 nothing_more x h old e = subst (λ (y : Part). x ≡ x + objects_placed y.log) e (omega arith)
 
 module _ (R : ℕ) (s : State Item SeatView) (t : Turning R s) (id : ℕ) (w : SeatView) (at : get_elem? s.views id ≡ some w) (drives : w.drives ≡ true) (b : TableId) (marks : List (ℕ × ℕ)) (rising : rises marks ≡ true) (may : MayMark (known b w) marks)
-    (sets : w.emptying.sets ≡ 272) (counters : w.emptying.counters ≡ 3) where
+    (sets : w.emptying.sets ≡ 272) (counters : w.emptying.counters ≡ 3) (undrawn : w.emptying.undrawn ≡ true) where
   abbrev g : JointState
   g = t.run.joint
 
@@ -161,6 +171,9 @@ module _ (R : ℕ) (s : State Item SeatView) (t : Turning R s) (id : ℕ) (w : S
   emptied_counters : t.emptying.counters ≡ 3
   emptied_counters = sym (ap (λ (x : SeatView). x.emptying.counters) view_is) ∙ counters
 
+  emptied_drawn : t.emptying.undrawn ≡ true
+  emptied_drawn = sym (ap (λ (x : SeatView). x.emptying.undrawn) view_is) ∙ undrawn
+
   abbrev ws' : List ℕ
   ws' = set s.words 1 (t.run.joint.core.generation + 2)
 
@@ -173,7 +186,40 @@ module _ (R : ℕ) (s : State Item SeatView) (t : Turning R s) (id : ℕ) (w : S
   empty_set : (j : ℕ) → is_swept_set t.run.joint.core.generation j ≡ false → IsEmptySet (set_of (after_next t.run.joint.core marks) j)
   empty_set j e = unswept_empties t.run.joint.core.generation 0 t.run.joint.core.sets j (subst (λ (m : ℕ). is_swept_set t.run.joint.core.generation m ≡ false) (omega arith) e)
 
-  shows : (k : Name) → IsShown R k → get_or (set s.words 1 (t.run.joint.core.generation + 2)) (place R k) 0 ≡ value (after_next t.run.joint.core marks) 0 k
+  abbrev blocks' : BlockState
+  blocks' = turns_blocks t.run.joint.core.generation t.run.blocks
+
+  on : (p x y : ℕ) → p ≡ swept_part t.run.joint.core.generation → cond (eqb p (swept_part t.run.joint.core.generation)) x y ≡ x
+  on p x y e = ap (λ (z : Bool). cond z x y) (eq-eqb p (swept_part t.run.joint.core.generation) e)
+
+  off : (p x y : ℕ) → p ≢ swept_part t.run.joint.core.generation → cond (eqb p (swept_part t.run.joint.core.generation)) x y ≡ y
+  off p x y d = ap (λ (z : Bool). cond z x y) (ne_eqb p (swept_part t.run.joint.core.generation) d)
+
+  is_part : (p : ℕ) → (p ≡ swept_part t.run.joint.core.generation) ⊎ (p ≢ swept_part t.run.joint.core.generation)
+  is_part p = dite (ℕ_discrete p (swept_part t.run.joint.core.generation)) (λ z. inl z) (λ z. inr z)
+
+  of_part : (j : ℕ) → is_swept_set t.run.joint.core.generation j ≡ true → j % 2 ≡ swept_part t.run.joint.core.generation
+  of_part j e = eqb_is (j % 2) ((t.run.joint.core.generation / 2) % 2) e
+
+  not_of_part : (j : ℕ) → j % 2 ≢ swept_part t.run.joint.core.generation → is_swept_set t.run.joint.core.generation j ≡ false
+  not_of_part j d = ne_eqb (j % 2) ((t.run.joint.core.generation / 2) % 2) d
+
+  -- the cells of the unswept sets' blocks are 0: those of used indices, those that were 0, and those of blocks that no entry names
+  cell_gone : (p x k : ℕ) (u : Use) → IsName R (CellWord p x k) → p ≢ swept_part t.run.joint.core.generation → t.run.blocks.uses p x ≡ u → get_or s.words (place R (CellWord p x k)) 0 ≡ 0
+  cell_gone p x k u is other e = by_use u e
+    where
+      was_blank : is_in_spine (t.run.blocks.uses p x) ≡ false → get_or s.words (place R (CellWord p x k)) 0 ≡ 0
+      was_blank z = ⊎_elim (λ (y : get_or s.words (place R (CellWord p x k)) 0 ≡ 0). y) (λ (y : get_or s.words (place R (CellWord p x k)) 0 ≡ t.run.blocks.cell p x k). y ∙ t.run.words.blocked.blank p x k z) (t.words.cells p x k is other)
+
+      by_use : (u : Use) → t.run.blocks.uses p x ≡ u → get_or s.words (place R (CellWord p x k)) 0 ≡ 0
+      by_use Free e = was_blank (ap is_in_spine e)
+      by_use (Spare n) e = was_blank (ap is_in_spine e)
+      by_use (InSpine j m) e = let a = t.run.words.blocked.used p x j m e in let low = a.0 in let inside = a.1 in let part = a.2 in let named = a.3 in let whole = t.run.words.whole in let small = is.2 in
+          let i : ℕ = 512 * m + k in let of_entry : (512 * m + k) / 512 ≡ m = omega arith in let of_cell : (512 * m + k) % 512 ≡ k = omega arith in
+          let empty = t.words.emptied j (512 * m + k) x (low, not_of_part j (λ z. other (sym part ∙ z))) (omega arith) (inl (let z = emptied_sets in omega arith)) (ap (λ (q : ℕ). t.run.blocks.entry j q) of_entry ∙ named) in
+          (λ q. get_or s.words (place R (CellWord (sym part q) x (sym of_cell q))) 0) ∙ empty
+
+  shows : (k : Name) → IsShown R k → get_or (set s.words 1 (t.run.joint.core.generation + 2)) (place R k) 0 ≡ value (after_next t.run.joint.core marks) blocks' 0 k
   shows LockWord i = other_word 0 (λ z. omega arith) ∙ t.words.stays LockWord tt tt ∙ unlocked_now
   shows GenerationWord i = get_or-set_same s.words 1 (t.run.joint.core.generation + 2) 0 (let z = t.words.size in omega arith)
   shows (CounterWord k) i = absurd i
@@ -183,15 +229,32 @@ module _ (R : ℕ) (s : State Item SeatView) (t : Turning R s) (id : ℕ) (w : S
       (λ (e : is_swept_set t.run.joint.core.generation j ≡ true). t.words.stays (SetWord j) i e ∙ ap (λ (x : SetState). head_tail x.head x.tail) (swept_set j e))
       (λ (e : is_swept_set t.run.joint.core.generation j ≡ false). let x = empty_set j e in t.words.sets j (i, e) (let z = emptied_sets in omega arith) ∙ sym (λ l. head_tail (x.head l) (x.tail l)))
       (cases_Bool (is_swept_set t.run.joint.core.generation j))
-  shows (CellWord j q) i = other_word ((q + R * j) + (R + 619)) (λ z. omega arith) ∙ ⊎_elim
-      (λ (e : is_swept_set t.run.joint.core.generation j ≡ true). t.words.stays (CellWord j q) i e ∙ ap (λ (x : SetState). cell_of x q) (swept_set j e))
-      (λ (e : is_swept_set t.run.joint.core.generation j ≡ false). let lower = i.0 in t.words.emptied j q (i.0, e) i.1 (inl (let z = emptied_sets in omega arith)) ∙ sym ((empty_set j e).cells q))
+  shows (DrawnWord p) i = other_word (p + (R + 619)) (λ z. omega arith) ∙ ⊎_elim
+      (λ (e : p ≡ swept_part t.run.joint.core.generation). t.words.stays (DrawnWord p) i e ∙ sym (on p (t.run.blocks.drawn p) zero e))
+      (λ (d : p ≢ swept_part t.run.joint.core.generation). t.words.undrawn emptied_drawn p i d ∙ sym (off p (t.run.blocks.drawn p) zero d))
+      (is_part p)
+  shows (EntryWord j m) i = other_word ((m + chunks_of R * j) + (R + 621)) (λ z. omega arith) ∙ ⊎_elim
+      (λ (e : is_swept_set t.run.joint.core.generation j ≡ true). t.words.stays (EntryWord j m) i e ∙ sym (on (j % 2) (t.run.blocks.entry j m) zero (of_part j e)))
+      (λ (e : is_swept_set t.run.joint.core.generation j ≡ false). let low = i.0 in t.words.gone j m (i.0, e) i.1 (inl (let z = emptied_sets in omega arith)) ∙ sym (off (j % 2) (t.run.blocks.entry j m) zero (other_part t.run.joint.core.generation j e)))
       (cases_Bool (is_swept_set t.run.joint.core.generation j))
+  shows (CellWord p x k) i = other_word ((k + 512 * (x + blocks_of (chunks_of R) * p)) + first_cell R) (λ z. omega arith) ∙ ⊎_elim
+      (λ (e : p ≡ swept_part t.run.joint.core.generation). t.words.stays (CellWord p x k) i e ∙ sym (on p (t.run.blocks.cell p x k) zero e))
+      (λ (d : p ≢ swept_part t.run.joint.core.generation). cell_gone p x k (t.run.blocks.uses p x) i d refl ∙ sym (off p (t.run.blocks.cell p x k) zero d))
+      (is_part p)
 
-  words' : Words R (after_next t.run.joint.core marks) 0 (set s.words 1 (t.run.joint.core.generation + 2))
+  -- the sets of the other part are the swept ones from now on
+  blocked' : Blocked (chunks_of R) (t.run.joint.core.generation + 2) (after_next t.run.joint.core marks).sets blocks'
+  blocked' = turn_keeps (chunks_of R) t.run.joint.core.generation t.run.joint.core.sets t.run.blocks t.run.words.blocked (after_next t.run.joint.core marks).sets (t.run.joint.core.generation + 2)
+      (λ z. omega arith)
+      (λ j e. sym (swept_set j (eq-eqb (j % 2) ((t.run.joint.core.generation / 2) % 2) e)))
+      (λ j d i. (empty_set j (not_of_part j d)).cells i)
+
+  words' : Words R (after_next t.run.joint.core marks) blocks' 0 (set s.words 1 (t.run.joint.core.generation + 2))
   words' = record {
     size = length-set s.words 1 (t.run.joint.core.generation + 2) ∙ t.words.size;
     many = t.run.words.many;
+    whole = t.run.words.whole;
+    blocked = blocked';
     shows = shows;
   }
 
@@ -273,12 +336,30 @@ module _ (R : ℕ) (s : State Item SeatView) (t : Turning R s) (id : ℕ) (w : S
         );
       }
 
+  -- no seat has a spare any more, or remembers an entry
+  none_spared : (l : List ℕ) (m : ℕ) → get_or (map (λ (_ : ℕ). zero) l) m 0 ≡ 0
+  none_spared [] m = refl
+  none_spared (x ∷ l) zero = refl
+  none_spared (x ∷ l) (suc m) = none_spared l m
+
+  traced' : Traced t.run.joint.owner (length parts') blocks' (set t.before.views t.run.joint.driver (turned_over marks t.driver))
+  traced' = all_traced t.run.joint.owner (length parts') blocks' (set t.before.views t.run.joint.driver (turned_over marks t.driver)) (λ i x e. ⊎_elim
+      (λ (z : (i ≡ t.run.joint.driver) × (turned_over marks t.driver ≡ x)). subst (λ (y : ℕ × SeatView). IsTraced t.run.joint.owner (length parts') blocks' y.0 y.1) (λ l. (sym z.0 l, z.1 l))
+      (record {
+        wide = λ o. length-map t.driver.spares (λ (_ : ℕ). zero) ∙ t.run.traced.wide t.run.joint.driver t.driver t.at out ∙ sym many;
+        spares = λ o m below belongs. none_spared t.driver.spares m;
+        found = λ o f is. none_some f is;
+      }))
+      (λ (z : (i ≢ t.run.joint.driver) × (get_elem? t.before.views i ≡ some x)). record { wide = λ o. absurd (idle i x z.0 z.1 o); spares = λ o. absurd (idle i x z.0 z.1 o); found = λ o. absurd (idle i x z.0 z.1 o) })
+      (at_set t.before.views t.run.joint.driver i (turned_over marks t.driver) x e))
+
   views_are : set s.views id (turned_over marks w) ≡ set t.before.views t.run.joint.driver (turned_over marks t.driver)
   views_are = (λ j. set (t.views j) (driver_is j) (turned_over marks (view_is j))) ∙ set-set t.before.views t.run.joint.driver (turning t.emptying t.driver) (turned_over marks t.driver)
 
   pub runs_again : Running R record { words = set s.words 1 (t.run.joint.core.generation + 2); homes = s.homes; views = set s.views id (turned_over marks w) }
   runs_again = subst (λ (vs : List SeatView). Running R record { words = set s.words 1 (t.run.joint.core.generation + 2); homes = s.homes; views = vs }) (sym views_are) record {
     joint = joint';
+    blocks = blocks';
     lawful = lawful';
     locked = omega arith;
     words = words';
@@ -286,6 +367,7 @@ module _ (R : ℕ) (s : State Item SeatView) (t : Turning R s) (id : ℕ) (w : S
     stored = stored';
     counted = counted';
     present = present';
+    traced = traced';
   }
 
   pub early : w.view.generation + 2 ≤ 8589934592
@@ -295,13 +377,13 @@ module _ (R : ℕ) (s : State Item SeatView) (t : Turning R s) (id : ℕ) (w : S
   generation_is = ap (λ (x : SeatView). x.view.generation) view_is ∙ own.rule.generation
 
 module _ (R : ℕ) where
-  pub turn_allowed : (slots id : ℕ) (me : SeatState) (x : ℕ) (b : TableId) (marks : List (ℕ × ℕ)) → me.0.drives ≡ true → me.0.out ≡ false → x ≡ me.0.view.generation + 2 → rises marks ≡ true → MayMark (known b me.0) marks → me.0.emptying.sets ≡ 272 → me.0.emptying.counters ≡ 3
+  pub turn_allowed : (slots id : ℕ) (me : SeatState) (x : ℕ) (b : TableId) (marks : List (ℕ × ℕ)) → me.0.drives ≡ true → me.0.out ≡ false → x ≡ me.0.view.generation + 2 → rises marks ≡ true → MayMark (known b me.0) marks → me.0.emptying.sets ≡ 272 → me.0.emptying.counters ≡ 3 → me.0.emptying.undrawn ≡ true
       → Allows (Ruled R) slots id me 1 (λ _. x) (λ _. Turned marks (step slots 1 x 0 none) me x)
-  turn_allowed slots id me x b marks drives off is rising may sets counters s r deep at fits = let w = me.0 in let t = turns R s r id w at drives off in (
+  turn_allowed slots id me x b marks drives off is rising may sets counters undrawn s r deep at fits = let w = me.0 in let t = turns R s r id w at drives off in (
     turned_over marks w,
     keeps,
     tt,
     inl (subst (λ (y : ℕ). Running R record { words = set s.words 1 y; homes = s.homes; views = set s.views id (turned_over marks w) })
-        (sym (is ∙ ap (λ (y : ℕ). y + 2) (generation_is R s t id w at drives b marks rising may sets counters))) (runs_again R s t id w at drives b marks rising may sets counters)),
-    (refl, early R s t id w at drives b marks rising may sets counters),
+        (sym (is ∙ ap (λ (y : ℕ). y + 2) (generation_is R s t id w at drives b marks rising may sets counters undrawn))) (runs_again R s t id w at drives b marks rising may sets counters undrawn)),
+    (refl, early R s t id w at drives b marks rising may sets counters undrawn),
   )

@@ -80,7 +80,7 @@ module _ (R : ℕ) where
         keeps,
         tt,
         plain_rule R s r id w at out part (after c (Uncache n p)) (kept_said c g.heap g.homes n v k (Uncaches p) tt needs m.owned m.tidy m.space)
-            (set s.words (p + 75) x) (words_page R c g.lock s.words r.words (after c (Uncache n p)) p x low refl (ap (set c.words p) (let y : c.generation ≡ x = (let z = k.rule.generation in omega arith) in y)) refl)
+            (set s.words (p + 75) x) (words_page R c r.blocks g.lock s.words r.words (after c (Uncache n p)) p x low refl (ap (set c.words p) (let y : c.generation ≡ x = (let z = k.rule.generation in omega arith) in y)) refl)
             (still_counts R s r id w at out part (λ z. omega arith) refl (p + 75) x (λ y a l e. omega arith))
             (stored_still R g s.homes r.stored n w.view.own own part (after c (Uncache n p)) g.heap (λ _. refl) (λ q. uncached_lends w.view.own p q some (unclaimed R s r id w at out p (let z : times p w.view.own.held ≡ 0 = omega arith in z)))),
         refl,
@@ -103,7 +103,7 @@ module _ (R : ℕ) where
         keeps,
         tt,
         plain_rule R s r id w at out part (after c (StaleUncache n p)) (kept_said c g.heap g.homes n v k (UncachesStale p) tt needs m.owned m.tidy m.space)
-            (set s.words (p + 75) x) (words_page R c g.lock s.words r.words (after c (StaleUncache n p)) p x low refl (ap (set c.words p) (let y : c.generation - 1 ≡ x = (let z = k.rule.generation in omega arith) in y)) refl)
+            (set s.words (p + 75) x) (words_page R c r.blocks g.lock s.words r.words (after c (StaleUncache n p)) p x low refl (ap (set c.words p) (let y : c.generation - 1 ≡ x = (let z = k.rule.generation in omega arith) in y)) refl)
             (still_counts R s r id w at out part (λ z. omega arith) refl (p + 75) x (λ y a t e. omega arith))
             (stored_still R g s.homes r.stored n w.view.own own part (after c (StaleUncache n p)) g.heap (λ _. refl) (λ q. stale_lends w.view.own p q some)),
         (refl, has_marked c g.heap g.homes n v k.rule b fits, untouched c g.heap g.homes n v k.rule p inside (unsettled c g.heap g.homes n v k.rule _ (inr (inr word)))),

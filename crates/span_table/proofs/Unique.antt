@@ -1,5 +1,5 @@
 -- One state of the table shows one state of spans: what words, slots and views determine.
-use Rattle.std.proofs.Common.{◌≡◌, ◌≢◌, ◌⊎◌, inl, inr, ⊎_elim, ℕ, zero, suc, ◌+◌, ◌<◌, ◌≤◌, Bool, true, false, List, [], ◌∷◌, length, map, get_or, set, refl, sym, ap, subst, ◌∙◌, arith}
+use Rattle.std.proofs.Common.{◌≡◌, ◌≢◌, ◌⊎◌, inl, inr, ⊎_elim, ℕ, zero, suc, ◌+◌, ◌*◌, ◌/◌, ◌%◌, ◌<◌, ◌≤◌, Bool, true, false, List, [], ◌∷◌, length, map, get_or, set, refl, sym, ap, subst, ◌∙◌, arith}
 use Rattle.std.specs.Prelude.{Some}
 use mathlib.Core.Logic.{dite}
 use mathlib.Core.Option.{some, some-injective, some-ne-none}
@@ -10,14 +10,15 @@ use Rattle.page_alloc.specs.Heap.{PageHeap}
 use Rattle.span_state.specs.declared.body.Body.{Body}
 use Rattle.sweep_laws.specs.Lists.{has}
 use Rattle.sweep_laws.specs.Named.{begins}
-use Rattle.sweep_laws.specs.Reading.{life_in}
+use Rattle.sweep_laws.specs.Reading.{cell_of, life_in, set_of}
 use Rattle.sweep_laws.specs.State.{LifeState}
 use Rattle.span_laws.specs.Bodies.{IsAway, IsBody, IsHome, IsLent, lends}
 use Rattle.span_laws.specs.Rule.{Rule}
 use Rattle.span_laws.specs.Views.{hand_state, span_of}
 use Rattle.span_laws.specs.declared.view.Part.{Part}
 use Rattle.span_laws.specs.declared.view.Span.{Span as SpanSeen}
-use Rattle.table_words.specs.Names.{CellWord, GenerationWord, LockWord, PageWord}
+use Rattle.block_laws.specs.Blocked.{cell_by}
+use Rattle.table_words.specs.Names.{CellWord, EntryWord, GenerationWord, LockWord, PageWord, chunks_of}
 use Rattle.span_table.specs.Running.{IsUnlent, JointState, Running, whole}
 use Rattle.span_table.specs.Same.{IsSameLife, IsSameState}
 use Rattle.span_table.specs.declared.view.Item.{Item}
@@ -159,13 +160,28 @@ module _ (R : ℕ) (s : State Item SeatView) (r t : Running R s) where
         (λ (x : IsUnlent g.parts p). by_home low b x)
         (lent_or p g.parts)
 
+  -- a cell of a set is in the block that its entry names
+  same_entry : (j e : ℕ) → j < 544 → e < chunks_of R → r.blocks.entry j e ≡ t.blocks.entry j e
+  same_entry j e low inside = sym (r.words.shows (EntryWord j e) (low, inside)) ∙ t.words.shows (EntryWord j e) (low, inside)
+
+  by_entry : (j k y : ℕ) → j < 544 → k < R → r.blocks.entry j (k / 512) ≡ y → cell_by (r.blocks.cell (j % 2)) y (k % 512) ≡ cell_by (t.blocks.cell (j % 2)) y (k % 512)
+  by_entry j k zero low inside is = refl
+  by_entry j k (suc x) low inside is = let whole = r.words.whole in let n = r.words.blocked.named j (k / 512) x low (omega arith) is in let few = r.words.blocked.few (j % 2) (omega arith) in let drawn = n.1 in
+      sym (r.words.shows (CellWord (j % 2) x (k % 512)) (omega arith, omega arith, omega arith)) ∙ t.words.shows (CellWord (j % 2) x (k % 512)) (omega arith, omega arith, omega arith)
+
+  same_cell : (j k : ℕ) → j < 544 → k < R → cell_of (set_of g.core j) k ≡ cell_of (set_of h.core j) k
+  same_cell j k low inside = let whole = r.words.whole in
+      r.words.blocked.shows j k low (omega arith) ∙ by_entry j k (r.blocks.entry j (k / 512)) low inside refl
+      ∙ ap (λ (y : ℕ). cell_by (t.blocks.cell (j % 2)) y (k % 512)) (same_entry j (k / 512) low (omega arith))
+      ∙ sym (t.words.blocked.shows j k low (omega arith))
+
   pub same_state : IsSameState R g h
   same_state = record {
     lock = same_lock;
     generation = same_generation;
     words = same_word;
     sets = λ j low. (sym (head_seen R s r i d at_driver out_driver j low) ∙ head_seen R s t i d at_driver out_driver j low, sym (tail_seen R s r i d at_driver out_driver j low) ∙ tail_seen R s t i d at_driver out_driver j low);
-    cells = λ j k low inside. sym (r.words.shows (CellWord j k) (low, inside)) ∙ t.words.shows (CellWord j k) (low, inside);
+    cells = same_cell;
     parts = same_parts;
     hands = hands_are g r.lawful d.number d.view.own own_g ∙ ap (map hand_state) same_parts ∙ sym (hands_are h t.lawful d.number d.view.own own_h);
     heap = same_pages;

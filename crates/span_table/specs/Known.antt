@@ -1,5 +1,5 @@
 -- What contracts see of a worker, and what its seat is between two calls.
-use Rattle.std.specs.Prelude.{◌≡◌, ℕ, ◌+◌, ◌<◌, ◌≤◌, ◌==◌, true, [], length, None}
+use Rattle.std.specs.Prelude.{◌≡◌, ℕ, ◌+◌, ◌<◌, ◌≤◌, ◌==◌, true, List, [], length, None}
 use Rattle.atomic_table.specs.Seated.{TableId}
 use Rattle.span_laws.specs.Views.{Seen}
 use Rattle.table_words.specs.Names.{word_count}
@@ -10,9 +10,9 @@ use Rattle.span_table.specs.Seats.{SeatState}
 abbrev pub known : TableId → SeatView → Seen
 known t w = record { table = t; number = w.number; away = w.away; journal = w.journal; view = w.view }
 
--- What a worker's seat is between two calls: it has no slot out and not the lock. The number, the generation and the goal are the view's, and the seat
+-- What a worker's seat is between two calls: it has no slot out and not the lock. The number, the generation, the goal and the spares are the view's, and the seat
 -- of number 69 is the driver's.
-pub record Rests (number generation goal : ℕ) (t : TableId) (m : SeatState) : Type 0 where
+pub record Rests (number generation goal : ℕ) (spares : List ℕ) (t : TableId) (m : SeatState) : Type 0 where
   pub number_is : number ≡ m.0.number
   pub generation_is : generation ≡ m.0.view.generation
   pub goal_is : goal ≡ m.0.view.goal
@@ -24,6 +24,8 @@ pub record Rests (number generation goal : ℕ) (t : TableId) (m : SeatState) : 
   pub slot_out : m.0.slot_out ≡ 0
   pub unlocked : m.0.heap ≡ None
   pub low : number < 70
+  pub spares_are : spares ≡ m.0.spares
+  pub spared : length m.0.spares ≡ 70
   pub wide : length m.0.view.parts ≡ 70
 
 -- how large the table is

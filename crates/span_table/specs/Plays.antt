@@ -1,5 +1,6 @@
 -- What each step tells.
-use Rattle.std.specs.Prelude.{◌≡◌, ℕ, ◌+◌, ◌*◌, ◌<◌, ◌≤◌, ◌==◌, Bool, true, false, MatchBool, List, ◌∷◌, Option, Some}
+use Rattle.std.specs.Prelude.{◌≡◌, ℕ, zero, suc, ◌+◌, ◌-◌, ◌/◌, ◌<◌, ◌≤◌, ◌==◌, Bool, true, false, MatchBool, List, ◌∷◌, None, Option, Some}
+use Rattle.set_blocks.specs.Names.{blocks_of}
 use Rattle.atomic_table.specs.Table.{Step, rest}
 use Rattle.page_alloc.specs.Heap.{PageHeap}
 use Rattle.page_bitmap.specs.declared.line.Line.{Line}
@@ -26,8 +27,12 @@ use Rattle.span_table.specs.declared.view.Item.{Item}
 use Rattle.span_table.specs.declared.view.Item.TheVariants.{Heap, Span}
 use Rattle.span_table.specs.Asks.{HasEnded, HeapSeen, IsInside}
 use Rattle.span_table.specs.Emptied.{no_emptying}
-use Rattle.span_table.specs.Turning.{empties_cell, empties_counter, empties_set, goes_on, measures, turned_over, turning}
-use Rattle.span_table.specs.Seats.{SeatState, says, says_of, hears, locks, unlocks, with_slot, without_slot}
+use Rattle.span_table.specs.Turning.{empties_cell, empties_counter, empties_drawn, empties_entry, empties_set, finds_block, goes_on, measures, turned_over, turning}
+use Rattle.span_table.specs.Seats.{SeatState, says, says_of, found_in, hears, locks, unlocks, with_found, with_slot, with_spare, without_slot}
+
+-- So many chunks has the region of a table of so many slots.
+abbrev pub chunks_at : ℕ → ℕ
+chunks_at slots = (slots - 1) / 512
 
 -- What a step tells. A page or a set is read off the word's number.
 abbrev pub LooksAt : ℕ → ℕ → SeatState → SeatState → Type 0
@@ -112,9 +117,19 @@ Began st m x m' = m' ≡ (turning no_emptying m.0, m.1)
 abbrev pub Measured : Step Item → SeatState → ℕ → SeatState → Type 0
 Measured st m x m' = (m' ≡ (goes_on (measures (tail_of x)) m.0, m.1)) × (tail_of x ≤ m.0.view.region)
 
--- one of its cells, the set itself, or a counter is emptied
+-- the block of its next cell is read
+abbrev pub FoundBlock : Step Item → SeatState → ℕ → SeatState → Type 0
+FoundBlock st m x m' = (m' ≡ (goes_on (finds_block x) m.0, m.1)) × (0 < x) × (x ≤ blocks_of (chunks_at st.slots))
+
+-- one of its cells, an entry of its spine, the set itself, a counter, or the number of blocks drawn is emptied
 abbrev pub EmptiedCell : Step Item → SeatState → ℕ → SeatState → Type 0
 EmptiedCell st m x m' = m' ≡ (goes_on empties_cell m.0, m.1)
+
+abbrev pub EmptiedEntry : Step Item → SeatState → ℕ → SeatState → Type 0
+EmptiedEntry st m x m' = m' ≡ (goes_on empties_entry m.0, m.1)
+
+abbrev pub EmptiedDrawn : Step Item → SeatState → ℕ → SeatState → Type 0
+EmptiedDrawn st m x m' = m' ≡ (goes_on empties_drawn m.0, m.1)
 
 abbrev pub EmptiedSet : Step Item → SeatState → ℕ → SeatState → Type 0
 EmptiedSet st m x m' = m' ≡ (goes_on empties_set m.0, m.1)
@@ -165,8 +180,31 @@ Placed i b st m x m' = m' ≡ (says_of (Places i) b m.0, m.1)
 abbrev pub CellAt : ℕ → ℕ → ℕ → SeatState → SeatState → Type 0
 CellAt j i x m m' = (m' ≡ (says (LooksCell j i x) m.0, m.1)) × (is_swept_set m.0.view.generation j ≡ false → (h t : ℕ) → 0 < many (is_look j h t) m.0.view.own.log → i < t → 0 < x) × (x ≤ 65536)
 
-abbrev pub LookedCell : Step Item → SeatState → ℕ → SeatState → Type 0
-LookedCell st m x m' = (R j i : ℕ) → st.slots ≡ R + 1 → j < 544 → i < R → st.word ≡ (i + R * j) + (R + 619) → CellAt j i x m m'
+abbrev pub LookedCell : ℕ → ℕ → Step Item → SeatState → ℕ → SeatState → Type 0
+LookedCell j i st m x m' = CellAt j i x m m'
+
+-- an entry of a spine is read for a cell of its set: where it names no block, the cell holds 0
+abbrev pub SpineAt : ℕ → ℕ → ℕ → SeatState → SeatState → Type 0
+SpineAt j i zero m m' = CellAt j i 0 (with_found None m.0, m.1) m'
+SpineAt j i (suc x) m m' = m' ≡ (with_found (found_in j (i / 512) (suc x)) m.0, m.1)
+
+abbrev pub LookedSpine : ℕ → ℕ → Step Item → SeatState → ℕ → SeatState → Type 0
+LookedSpine j i st m x m' = SpineAt j i x m m' × (x ≤ blocks_of (chunks_at st.slots))
+
+-- the entry of the worker's claim is read
+abbrev pub SawEntry : ℕ → ℕ → Step Item → SeatState → ℕ → SeatState → Type 0
+SawEntry j e st m x m' = (m' ≡ (with_found (found_in j e x) m.0, m.1)) × (x ≤ blocks_of (chunks_at st.slots))
+
+-- a block is drawn: it is the worker's spare
+abbrev pub Drew : Step Item → SeatState → ℕ → SeatState → Type 0
+Drew st m x m' = (m' ≡ (with_spare (x + 1) m.0, m.1)) × (x < blocks_of (chunks_at st.slots))
+
+-- the spare is put in the entry of the worker's claim, or the entry names a block already and the spare stays
+abbrev pub PutsBy : Bool → ℕ → ℕ → ℕ → ℕ → SeatState → SeatState → Type 0
+PutsBy won j e v x m m' = MatchBool won (m' ≡ (with_spare 0 (with_found (found_in j e v) m.0), m.1)) (m' ≡ (with_found (found_in j e x) m.0, m.1))
+
+abbrev pub Put : ℕ → ℕ → Step Item → SeatState → ℕ → SeatState → Type 0
+Put j e st m x m' = PutsBy (x == 0) j e st.second x m m' × (x ≤ blocks_of (chunks_at st.slots)) × (st.second ≤ blocks_of (chunks_at st.slots))
 
 -- a cell beyond the region is none, and is read as one that holds 0
 abbrev pub LookedBeyond : ℕ → ℕ → Step Item → SeatState → ℕ → SeatState → Type 0

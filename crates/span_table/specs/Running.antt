@@ -1,5 +1,5 @@
 -- The rule of the running table: its words, slots and views together show one state, of which the rule of the lent state (`Kept` of span_laws) holds.
-use Rattle.std.specs.Prelude.{◌≡◌, ◌≢◌, ◌⊎◌, ℕ, ◌+◌, ◌-◌, ◌%◌, ◌<◌, ◌≤◌, true, false, List, [], length, slice_index, slice_index_or, Option, Some, None}
+use Rattle.std.specs.Prelude.{◌≡◌, ◌≢◌, ◌⊎◌, ℕ, ◌+◌, ◌-◌, ◌*◌, ◌%◌, ◌<◌, ◌≤◌, true, false, List, [], length, slice_index, slice_index_or, Option, Some, None}
 use mathlib.Core.Option.{some}
 use mathlib.Core.Option as maybe
 use lib.ListN.{get_elem?}
@@ -9,8 +9,10 @@ use Rattle.page_bitmap.specs.declared.line.Line.{Line}
 use Rattle.span_state.specs.declared.body.Body.{Body}
 use Rattle.sweep_laws.specs.Counts.{times, total}
 use Rattle.sweep_laws.specs.Lists.{has}
-use Rattle.sweep_laws.specs.Reading.{cell_of, set_of}
+use Rattle.sweep_laws.specs.Reading.{set_of}
+use Rattle.sweep_laws.specs.Start.{copies}
 use Rattle.sweep_laws.specs.State.{CoreState}
+use Rattle.block_laws.specs.Blocked.{Blocked, BlockState}
 use Rattle.span_laws.specs.Bodies.{lends}
 use Rattle.span_laws.specs.Calls.{added}
 use Rattle.span_laws.specs.Cycle.{Kept}
@@ -19,7 +21,8 @@ use Rattle.span_laws.specs.declared.view.Part.{Part}
 use Rattle.span_laws.specs.declared.view.View.{View}
 use Rattle.worker_log.specs.Logs.{placings}
 use Rattle.worker_log.specs.declared.Entry.{Entry}
-use Rattle.table_words.specs.Names.{Name, IsName, place, head_tail, word_count, LockWord, GenerationWord, CounterWord, EventWord, PageWord, SetWord, CellWord}
+use Rattle.table_words.specs.Names.{Name, IsName, place, head_tail, word_count, LockWord, GenerationWord, CounterWord, EventWord, PageWord, SetWord, DrawnWord, EntryWord, CellWord, chunks_of}
+use Rattle.span_table.specs.declared.view.Found.{Found}
 use Rattle.span_table.specs.declared.view.Item.{Item}
 use Rattle.span_table.specs.declared.view.Item.TheVariants.{Heap, Span}
 use Rattle.span_table.specs.Emptied.{no_emptying}
@@ -58,18 +61,23 @@ IsShown R (CounterWord k) = ⊥
 IsShown R (EventWord k) = ⊥
 IsShown R k = IsName R k
 
-abbrev pub value : CoreState → ℕ → Name → ℕ
-value c lock LockWord = lock
-value c lock GenerationWord = c.generation
-value c lock (PageWord p) = slice_index c.words p
-value c lock (SetWord s) = head_tail (set_of c s).head (set_of c s).tail
-value c lock (CellWord s i) = cell_of (set_of c s) i
-value c lock _ = 0
+abbrev pub value : CoreState → BlockState → ℕ → Name → ℕ
+value c b lock LockWord = lock
+value c b lock GenerationWord = c.generation
+value c b lock (PageWord p) = slice_index c.words p
+value c b lock (SetWord s) = head_tail (set_of c s).head (set_of c s).tail
+value c b lock (DrawnWord p) = b.drawn p
+value c b lock (EntryWord s e) = b.entry s e
+value c b lock (CellWord p x k) = b.cell p x k
+value c b lock _ = 0
 
-pub record Words (R : ℕ) (c : CoreState) (lock : ℕ) (ws : List ℕ) : Type 0 where
+-- the cells of the sets are those of the blocks that the spines name
+pub record Words (R : ℕ) (c : CoreState) (b : BlockState) (lock : ℕ) (ws : List ℕ) : Type 0 where
   pub size : length ws ≡ word_count R
   pub many : length c.words ≡ R
-  pub shows : (k : Name) → IsShown R k → slice_index ws (place R k) ≡ value c lock k
+  pub whole : 512 * chunks_of R ≡ R
+  pub blocked : Blocked (chunks_of R) c.generation c.sets b
+  pub shows : (k : Name) → IsShown R k → slice_index ws (place R k) ≡ value c b lock k
 
 -- 3. the view of the seat i. A seat that is out has the part of its number, agrees with all, knows the heap exactly where it has the
 -- lock, and knows which page's slot it has out; the driver has the parts of all numbers that it did not hand out, and none of those has a slot
@@ -122,16 +130,24 @@ pub record Present (owner : ℕ → ℕ) (driver many : ℕ) (vs : List SeatView
   pub driven : (d : SeatView) × (get_elem? vs driver ≡ some d) × (d.drives ≡ true) × ((m : ℕ) → times m d.away ≤ 1)
   pub seat : (m : ℕ) → m < many → (w : SeatView) × (get_elem? vs (owner m) ≡ some w) × HasPart m w
 
+-- 7. each seat has the spares of the numbers whose parts it has, and the entry that it found names its block still
+pub record Traced (owner : ℕ → ℕ) (many : ℕ) (b : BlockState) (vs : List SeatView) : Type 0 where
+  pub wide : (i : ℕ) (w : SeatView) → get_elem? vs i ≡ some w → w.out ≡ true → length w.spares ≡ many
+  pub spares : (i : ℕ) (w : SeatView) → get_elem? vs i ≡ some w → w.out ≡ true → (m : ℕ) → m < many → owner m ≡ i → slice_index w.spares m ≡ b.spare m
+  pub found : (i : ℕ) (w : SeatView) → get_elem? vs i ≡ some w → w.out ≡ true → (f : Found) → w.found ≡ Some f → b.entry f.set f.entry ≡ f.block + 1
+
 pub record Running (R : ℕ) (s : State Item SeatView) : Type 0 where
   pub joint : JointState
+  pub blocks : BlockState
   pub lawful : Lawful joint
   pub locked : joint.lock ≤ length joint.parts
-  pub words : Words R joint.core joint.lock s.words
+  pub words : Words R joint.core blocks joint.lock s.words
   pub seats : Seats joint s.views
   pub stored : Stored R joint s.homes
   pub counted : Counted joint.placed joint.parts s.words
   pub present : Present joint.owner joint.driver (length joint.parts) s.views
+  pub traced : Traced joint.owner (length joint.parts) blocks s.views
 
 -- the driver's first view: it has all parts, the own one of the last number
 abbrev pub first_seat_view : ℕ → ℕ → ℕ → SeatView
-first_seat_view pages goal workers = record { number = workers - 1; out = true; drives = true; away = []; slot_out = 0; heap = None; journal = None; view = first_view pages goal workers; emptying = no_emptying }
+first_seat_view pages goal workers = record { number = workers - 1; out = true; drives = true; away = []; slot_out = 0; heap = None; journal = None; spares = copies workers 0; found = None; view = first_view pages goal workers; emptying = no_emptying }

@@ -1,5 +1,5 @@
 -- How the view of a seat changes.
-use Rattle.std.specs.Prelude.{ℕ, ◌+◌, true, false, List, [], ◌∷◌, slice_set, Option, Some, None}
+use Rattle.std.specs.Prelude.{ℕ, zero, suc, ◌+◌, true, false, List, [], ◌∷◌, slice_index, slice_set, Option, Some, None}
 use Rattle.atomic_table.specs.Table.{Me}
 use Rattle.page_alloc.specs.Heap.{PageHeap}
 use Rattle.page_bitmap.specs.declared.line.Line.{Line}
@@ -11,6 +11,7 @@ use Rattle.span_laws.specs.declared.said.Said.{Said}
 use Rattle.span_laws.specs.declared.said.SaidOf.{SaidOf}
 use Rattle.span_laws.specs.declared.view.Span.{Span as SpanSeen}
 use Rattle.span_table.specs.Emptied.{no_emptying}
+use Rattle.span_table.specs.declared.view.Found.{Found}
 use Rattle.span_table.specs.declared.view.Item.{Item}
 use Rattle.span_table.specs.declared.view.SeatView.{SeatView}
 
@@ -42,18 +43,30 @@ with_slot p w = record w { slot_out = p + 1 }
 abbrev pub without_slot : SeatView → SeatView
 without_slot w = record w { slot_out = 0 }
 
+-- what the load of an entry tells: the block that it names, if any
+abbrev pub found_in : ℕ → ℕ → ℕ → Option Found
+found_in set entry zero = None
+found_in set entry (suc block) = Some (record { set = set; entry = entry; block = block })
+
+abbrev pub with_found : Option Found → SeatView → SeatView
+with_found f w = record w { found = f }
+
+-- the worker has a spare block, or has none any more
+abbrev pub with_spare : ℕ → SeatView → SeatView
+with_spare x w = record w { spares = slice_set w.spares w.number x }
+
 -- a worker is handed out, and comes back with its part
 abbrev pub without_number : ℕ → SeatView → SeatView
 without_number m w = record w { away = m ∷ w.away; journal = None }
 
 abbrev pub sent_out : ℕ → SeatView → SeatView
-sent_out m w = record { number = m; out = true; drives = false; away = []; slot_out = 0; heap = None; journal = None; view = handed w.number m w.view; emptying = no_emptying }
+sent_out m w = record { number = m; out = true; drives = false; away = []; slot_out = 0; heap = None; journal = None; spares = w.spares; found = None; view = handed w.number m w.view; emptying = no_emptying }
 
 abbrev pub with_number : SeatView → SeatView → SeatView
-with_number w x = record w { away = erase x.number w.away; view = record w.view { parts = slice_set w.view.parts x.number x.view.own } }
+with_number w x = record w { away = erase x.number w.away; spares = slice_set w.spares x.number (slice_index x.spares x.number); view = record w.view { parts = slice_set w.view.parts x.number x.view.own } }
 
 abbrev pub spent_seat_view : SeatView
-spent_seat_view = record { number = 0; out = false; drives = false; away = []; slot_out = 0; heap = None; journal = None; view = Rattle.span_laws.specs.Views.first_view 0 0 0; emptying = no_emptying }
+spent_seat_view = record { number = 0; out = false; drives = false; away = []; slot_out = 0; heap = None; journal = None; spares = []; found = None; view = Rattle.span_laws.specs.Views.first_view 0 0 0; emptying = no_emptying }
 
 -- a heap of nothing
 abbrev pub no_pages : PageHeap

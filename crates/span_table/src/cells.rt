@@ -1,5 +1,6 @@
 //! Cells of sets, and the entries of unswept sets: no slot moves.
-ghost use Rattle.std.specs.Prelude.{◌≡◌, ℕ, ◌+◌, ◌*◌, ◌<◌, ◌≤◌, ◌==◌, true, false, Some};
+ghost use Rattle.std.specs.Prelude.{◌≡◌, ℕ, ◌+◌, ◌/◌, ◌<◌, ◌≤◌, ◌==◌, true, false, Option, Some};
+ghost use Rattle.set_blocks.specs.Names.{blocks_of};
 ghost use Rattle.sweep_laws.specs.Reading.{is_swept_set};
 ghost use Rattle.span_laws.specs.Answers.{RaisesUnswept};
 ghost use Rattle.span_laws.specs.Logs.{is_look};
@@ -7,15 +8,18 @@ ghost use Rattle.span_laws.specs.Views.{has_cell};
 ghost use Rattle.worker_log.specs.Entries.{many};
 ghost use Rattle.table_words.specs.Names.{head_tail};
 ghost use Rattle.span_laws.specs.OwnSteps.{after_said};
-ghost use Rattle.span_table.specs.Plays.{CellAt, RaisesEntryBy};
-ghost use Rattle.span_table.specs.Seats.{says};
+ghost use Rattle.span_table.specs.Plays.{CellAt, RaisesEntryBy, SpineAt, chunks_at};
+ghost use Rattle.span_table.specs.Seats.{says, with_found};
+ghost use Rattle.span_table.specs.declared.view.Found.{Found};
 
+use crate::blocks::claimed_block;
 use crate::caches::check;
-use crate::plays::{Fill, LookBeyond, LookCell, Numbered, OfCell, RaiseEntry};
+use crate::plays::{Fill, LookBeyond, LookCell, LookSpine, Numbered, OfCell, RaiseEntry};
 use crate::shared::{Shared, Worker};
 use crate::view::{Item, SeatView};
-use crate::words::{halves, word_of_cell, word_of_set};
+use crate::words::{halves, word_of_cell, word_of_entry, word_of_set};
 use atomic_table::Seat;
+use set_blocks::{BLOCK_CELLS, PARTS};
 use span_laws::Said;
 use std::marker::Brand;
 use table_words::head_tail as join_halves;
@@ -47,30 +51,114 @@ fn look_beyond(shared: &Shared, seat: &mut Seat<Item, SeatView>, set: u32, index
     look_beyond_as::<Brand>(shared, seat, set, index);
 }
 
-// The load of a cell.
+// The load of an entry for a look at a cell.
+fn look_spine_as<J: OfCell>(
+    shared: &Shared,
+    seat: &mut Seat<Item, SeatView>,
+    set: u32,
+    index: u32,
+) -> u64
+    requires table { seat.old.table_id ≡ shared.now }
+    requires out { seat.old.me.0.out ≡ true }
+    requires cell { (set < 544) × (index + 1 < seat.old.table_id.slots) }
+    requires picked { (J.set ≡ set) × (J.index ≡ index) }
+    ensures table { seat.new.table_id ≡ seat.old.table_id }
+    ensures view { SpineAt set index result seat.old.me seat.new.me }
+    ensures low { result ≤ blocks_of (chunks_at seat.old.table_id.slots) }
+{
+    let table = &shared.table;
+    let place = word_of_entry(shared.chunks, set, index / BLOCK_CELLS);
+    table.shared.load::<LookSpine<J>>(seat, place)
+}
+
+// The entry of a set's spine that is for an index: where it names no block, this is the look at the cell.
+fn look_spine(shared: &Shared, seat: &mut Seat<Item, SeatView>, set: u32, index: u32) -> u64
+    requires table { seat.old.table_id ≡ shared.now }
+    requires out { seat.old.me.0.out ≡ true }
+    requires cell { (set < 544) × (index + 1 < seat.old.table_id.slots) }
+    ensures table { seat.new.table_id ≡ seat.old.table_id }
+    ensures view { SpineAt set index result seat.old.me seat.new.me }
+    ensures low { result ≤ blocks_of (chunks_at seat.old.table_id.slots) }
+{
+    look_spine_as::<Brand>(shared, seat, set, index)
+}
+
+fn look_named_as<J: OfCell>(
+    shared: &Shared,
+    seat: &mut Seat<Item, SeatView>,
+    set: u32,
+    block: u32,
+    index: u32,
+) -> u64
+    requires table { seat.old.table_id ≡ shared.now }
+    requires out { seat.old.me.0.out ≡ true }
+    requires cell { (set < 544) × (index + 1 < seat.old.table_id.slots) }
+    requires low { block < blocks_of (chunks_at seat.old.table_id.slots) }
+    requires found { seat.old.me.0.found ≡ Some (record { set = set; entry = index / 512; block = block }) }
+    requires picked { (J.set ≡ set) × (J.index ≡ index) }
+    ensures table { seat.new.table_id ≡ seat.old.table_id }
+    ensures view { CellAt set index result seat.old.me seat.new.me }
+{
+    let table = &shared.table;
+    let place = word_of_cell(shared.chunks, set % PARTS, block, index % BLOCK_CELLS);
+    table.shared.load::<LookCell<J>>(seat, place)
+}
+
+// The load of a cell in the block that its entry was found to name.
+fn look_named(
+    shared: &Shared,
+    seat: &mut Seat<Item, SeatView>,
+    set: u32,
+    block: u32,
+    index: u32,
+) -> u64
+    requires table { seat.old.table_id ≡ shared.now }
+    requires out { seat.old.me.0.out ≡ true }
+    requires cell { (set < 544) × (index + 1 < seat.old.table_id.slots) }
+    requires low { block < blocks_of (chunks_at seat.old.table_id.slots) }
+    requires found { seat.old.me.0.found ≡ Some (record { set = set; entry = index / 512; block = block }) }
+    ensures table { seat.new.table_id ≡ seat.old.table_id }
+    ensures view { CellAt set index result seat.old.me seat.new.me }
+{
+    look_named_as::<Brand>(shared, seat, set, block, index)
+}
+
+// A cell of a set: 0 where its entry names no block.
 fn look_inside(shared: &Shared, seat: &mut Seat<Item, SeatView>, set: u32, index: u32) -> u64
     requires table { seat.old.table_id ≡ shared.now }
     requires out { seat.old.me.0.out ≡ true }
     requires cell { (set < 544) × (index + 1 < seat.old.table_id.slots) }
     ensures table { seat.new.table_id ≡ seat.old.table_id }
-    ensures view { CellAt set index result seat.old.me seat.new.me }
+    ensures view { (found : Option Found) × CellAt set index result (with_found found seat.old.me.0, seat.old.me.1) seat.new.me }
 {
-    let table = &shared.table;
-    let place = word_of_cell(shared.chunks, set, index);
-    table.shared.load::<LookCell>(seat, place)
+    let _chunks = shared.chunks;
+    let entry = look_spine(shared, seat, set, index);
+    if entry == 0 {
+        return 0;
+    }
+    look_named(shared, seat, set, (entry - 1) as u32, index)
 }
 
-// The store in the cell of the worker's own claim.
-fn fill(shared: &Shared, seat: &mut Seat<Item, SeatView>, set: u32, index: u32, page: u32)
+// The store in the cell of the worker's own claim, in the block that its entry was found to name.
+fn fill(
+    shared: &Shared,
+    seat: &mut Seat<Item, SeatView>,
+    set: u32,
+    block: u32,
+    index: u32,
+    page: u32,
+)
     requires table { seat.old.table_id ≡ shared.now }
     requires out { seat.old.me.0.out ≡ true }
     requires cell { (set < 544) × (index + 1 < seat.old.table_id.slots) }
+    requires low { block < blocks_of (chunks_at seat.old.table_id.slots) }
     requires claimed { seat.old.me.0.view.own.claimed ≡ Some (record { set = set; index = index; page = page }) }
+    requires found { seat.old.me.0.found ≡ Some (record { set = set; entry = index / 512; block = block }) }
     ensures table { seat.new.table_id ≡ seat.old.table_id }
     ensures view { seat.new.me ≡ (says (Said.Fills set page) seat.old.me.0, seat.old.me.1) }
 {
     let table = &shared.table;
-    let place = word_of_cell(shared.chunks, set, index);
+    let place = word_of_cell(shared.chunks, set % PARTS, block, index % BLOCK_CELLS);
     table.shared.store::<Fill>(seat, place, u64::from(page) + 1);
 }
 
@@ -144,7 +232,10 @@ impl Shared {
         ensures { w.new ≡ after_said (Said.Fills set page) w.old }
     {
         check(self, &mut w.seat);
-        fill(self, &mut w.seat, set, index, page);
+        let spare = w.spares[w.number as usize];
+        let (block, left) = claimed_block(self, &mut w.seat, spare, set, index, page);
+        w.spares[w.number as usize] = left;
+        fill(self, &mut w.seat, set, block, index, page);
     }
 
     /// Pops the entry at the head of an unswept set, where head and tail are these still. It asks for the page that the worker read

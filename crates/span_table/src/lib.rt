@@ -7,6 +7,7 @@
 //! own part, what calls ask and what they answer, is in `span_laws`.
 #![tactic(auto)]
 
+mod blocks;
 mod caches;
 mod cells;
 mod counters;

@@ -9,14 +9,20 @@ ghost use Rattle.span_laws.specs.MarkEnds.{after_next};
 ghost use Rattle.span_laws.specs.OwnSteps.{after_said};
 ghost use Rattle.worker_log.specs.Entries.{is_seen_empty, many};
 ghost use Rattle.span_table.specs.Emptied.{IsUnswept, no_emptying};
+ghost use Rattle.set_blocks.specs.Names.{blocks_of};
 ghost use Rattle.span_table.specs.Known.{known};
-ghost use Rattle.span_table.specs.Turning.{IsAlone, IsTurning, empties_cell, empties_counter, empties_set, goes_on, measures, turned_over, turning, with_sets};
+ghost use Rattle.span_table.specs.Plays.{chunks_at};
+ghost use Rattle.span_table.specs.Turning.{IsAlone, IsTurning, empties_cell, empties_counter, empties_drawn, empties_entry, empties_set, finds_block, goes_on, has_cells, has_entries, measures, turned_over, turning, with_sets};
 
-use crate::plays::{Begin, EmptyCell, EmptyCounter, EmptySet, Measure, Note, OfMarks, Turn};
+use crate::plays::{
+    Begin, EmptyCell, EmptyCounter, EmptyDrawn, EmptyEntry, EmptySet, FindBlock, Measure, Note,
+    OfMarks, Turn,
+};
 use crate::shared::{Shared, Worker};
 use crate::view::{Item, SeatView};
-use crate::words::{halves, word_of_cell, word_of_set};
+use crate::words::{halves, word_of_cell, word_of_drawn, word_of_entry, word_of_set};
 use atomic_table::Seat;
+use set_blocks::{BLOCK_CELLS, PARTS};
 use span_laws::Said;
 use span_state::Marks;
 use std::marker::Brand;
@@ -63,23 +69,105 @@ fn measure(shared: &Shared, seat: &mut Seat<Item, SeatView>, set: u32) -> u32
     tail
 }
 
-// The next cell of the next set becomes 0.
-fn empty_cell(shared: &Shared, seat: &mut Seat<Item, SeatView>, set: u32, index: u32)
+// The block that has the next cell of the next set.
+fn find_block(
+    shared: &Shared,
+    seat: &mut Seat<Item, SeatView>,
+    set: u32,
+    index: u32,
+    tail: u32,
+) -> u32
+    requires table { seat.old.table_id ≡ shared.now }
+    requires turning { IsTurning seat.old.me.0 }
+    requires set { IsUnswept seat.old.me.0.view.generation set }
+    requires next { set / 2 ≡ seat.old.me.0.emptying.sets }
+    requires index { index ≡ seat.old.me.0.emptying.cells }
+    requires tail { seat.old.me.0.emptying.tail ≡ Some tail }
+    requires used { index < tail }
+    requires entries { seat.old.me.0.emptying.entries ≡ 0 }
+    requires region { index + 1 < seat.old.table_id.slots }
+    ensures table { seat.new.table_id ≡ seat.old.table_id }
+    ensures view { seat.new.me ≡ (goes_on (finds_block (result + 1)) seat.old.me.0, seat.old.me.1) }
+    ensures low { result < blocks_of (chunks_at seat.old.table_id.slots) }
+{
+    let _tail = tail;
+    let table = &shared.table;
+    let place = word_of_entry(shared.chunks, set, index / BLOCK_CELLS);
+    let entry = table.shared.load::<FindBlock>(seat, place);
+    (entry - 1) as u32
+}
+
+// The next cell of the next set becomes 0, in the block that was found.
+fn empty_cell(shared: &Shared, seat: &mut Seat<Item, SeatView>, set: u32, block: u32, index: u32)
     requires table { seat.old.table_id ≡ shared.now }
     requires turning { IsTurning seat.old.me.0 }
     requires set { IsUnswept seat.old.me.0.view.generation set }
     requires next { set / 2 ≡ seat.old.me.0.emptying.sets }
     requires index { index ≡ seat.old.me.0.emptying.cells }
     requires region { index + 1 < seat.old.table_id.slots }
+    requires block { seat.old.me.0.emptying.block ≡ block + 1 }
+    requires low { block < blocks_of (chunks_at seat.old.table_id.slots) }
     ensures table { seat.new.table_id ≡ seat.old.table_id }
     ensures view { seat.new.me ≡ (goes_on empties_cell seat.old.me.0, seat.old.me.1) }
 {
     let table = &shared.table;
-    let place = word_of_cell(shared.chunks, set, index);
+    let place = word_of_cell(shared.chunks, set % PARTS, block, index % BLOCK_CELLS);
     table.shared.store::<EmptyCell>(seat, place, 0);
 }
 
-// The word of the next set becomes 0, all whose cells below its tail are.
+// The used cells of the next set become 0.
+fn empty_cells(shared: &Shared, seat: &mut Seat<Item, SeatView>, set: u32, tail: u32)
+    requires table { seat.old.table_id ≡ shared.now }
+    requires turning { IsTurning seat.old.me.0 }
+    requires set { IsUnswept seat.old.me.0.view.generation set }
+    requires next { set / 2 ≡ seat.old.me.0.emptying.sets }
+    requires cells { seat.old.me.0.emptying.cells ≡ 0 }
+    requires block { seat.old.me.0.emptying.block ≡ 0 }
+    requires entries { seat.old.me.0.emptying.entries ≡ 0 }
+    requires tail { seat.old.me.0.emptying.tail ≡ Some tail }
+    requires region { tail < seat.old.table_id.slots }
+    ensures table { seat.new.table_id ≡ seat.old.table_id }
+    ensures view { seat.new.me ≡ (goes_on (has_cells tail) seat.old.me.0, seat.old.me.1) }
+{
+    for index in 0..tail {
+        let block = find_block(shared, seat, set, index, tail);
+        empty_cell(shared, seat, set, block, index);
+    }
+}
+
+// The next entry of the next set's spine becomes 0.
+fn empty_entry(shared: &Shared, seat: &mut Seat<Item, SeatView>, set: u32, entry: u32)
+    requires table { seat.old.table_id ≡ shared.now }
+    requires turning { IsTurning seat.old.me.0 }
+    requires set { IsUnswept seat.old.me.0.view.generation set }
+    requires next { set / 2 ≡ seat.old.me.0.emptying.sets }
+    requires entry { entry ≡ seat.old.me.0.emptying.entries }
+    requires region { entry < chunks_at seat.old.table_id.slots }
+    ensures table { seat.new.table_id ≡ seat.old.table_id }
+    ensures view { seat.new.me ≡ (goes_on empties_entry seat.old.me.0, seat.old.me.1) }
+{
+    let table = &shared.table;
+    let place = word_of_entry(shared.chunks, set, entry);
+    table.shared.store::<EmptyEntry>(seat, place, 0);
+}
+
+// The first entries of the next set's spine become 0.
+fn empty_entries(shared: &Shared, seat: &mut Seat<Item, SeatView>, set: u32, entries: u32)
+    requires table { seat.old.table_id ≡ shared.now }
+    requires turning { IsTurning seat.old.me.0 }
+    requires set { IsUnswept seat.old.me.0.view.generation set }
+    requires next { set / 2 ≡ seat.old.me.0.emptying.sets }
+    requires none { seat.old.me.0.emptying.entries ≡ 0 }
+    requires region { entries ≤ chunks_at seat.old.table_id.slots }
+    ensures table { seat.new.table_id ≡ seat.old.table_id }
+    ensures view { seat.new.me ≡ (goes_on (has_entries entries) seat.old.me.0, seat.old.me.1) }
+{
+    for entry in 0..entries {
+        empty_entry(shared, seat, set, entry);
+    }
+}
+
+// The word of the next set becomes 0, all whose cells below its tail are, and the entries for them.
 fn empty_word(shared: &Shared, seat: &mut Seat<Item, SeatView>, set: u32, tail: u32)
     requires table { seat.old.table_id ≡ shared.now }
     requires turning { IsTurning seat.old.me.0 }
@@ -87,6 +175,7 @@ fn empty_word(shared: &Shared, seat: &mut Seat<Item, SeatView>, set: u32, tail: 
     requires next { set / 2 ≡ seat.old.me.0.emptying.sets }
     requires tail { seat.old.me.0.emptying.tail ≡ Some tail }
     requires cells { tail ≤ seat.old.me.0.emptying.cells }
+    requires entries { tail ≤ 512 * seat.old.me.0.emptying.entries }
     ensures table { seat.new.table_id ≡ seat.old.table_id }
     ensures view { seat.new.me ≡ (goes_on empties_set seat.old.me.0, seat.old.me.1) }
 {
@@ -96,21 +185,23 @@ fn empty_word(shared: &Shared, seat: &mut Seat<Item, SeatView>, set: u32, tail: 
     table.shared.store::<EmptySet>(seat, place, 0);
 }
 
-// The next set is emptied: its cells and then its word.
+// The next set is emptied: its cells, then its spine, and then its word.
 fn empty_set(shared: &Shared, seat: &mut Seat<Item, SeatView>, set: u32)
     requires table { seat.old.table_id ≡ shared.now }
     requires turning { IsTurning seat.old.me.0 }
     requires set { IsUnswept seat.old.me.0.view.generation set }
     requires next { set / 2 ≡ seat.old.me.0.emptying.sets }
     requires cells { seat.old.me.0.emptying.cells ≡ 0 }
+    requires block { seat.old.me.0.emptying.block ≡ 0 }
+    requires entries { seat.old.me.0.emptying.entries ≡ 0 }
     requires region { seat.old.me.0.view.region + 1 ≡ seat.old.table_id.slots }
     ensures table { seat.new.table_id ≡ seat.old.table_id }
     ensures view { seat.new.me ≡ (goes_on empties_set seat.old.me.0, seat.old.me.1) }
 {
+    let _chunks = shared.chunks;
     let tail = measure(shared, seat, set);
-    for index in 0..tail {
-        empty_cell(shared, seat, set, index);
-    }
+    empty_cells(shared, seat, set, tail);
+    empty_entries(shared, seat, set, tail.div_ceil(BLOCK_CELLS));
     empty_word(shared, seat, set, tail);
 }
 
@@ -142,6 +233,20 @@ fn empty_counter(shared: &Shared, seat: &mut Seat<Item, SeatView>, word: u64)
     table.shared.store::<EmptyCounter>(seat, word as usize, 0);
 }
 
+// No block of the unswept sets' part is drawn any more: the part that is swept from now on.
+fn empty_drawn(shared: &Shared, seat: &mut Seat<Item, SeatView>, generation: u64)
+    requires table { seat.old.table_id ≡ shared.now }
+    requires turning { IsTurning seat.old.me.0 }
+    requires generation { generation ≡ seat.old.me.0.view.generation }
+    ensures table { seat.new.table_id ≡ seat.old.table_id }
+    ensures view { seat.new.me ≡ (goes_on empties_drawn seat.old.me.0, seat.old.me.1) }
+{
+    let table = &shared.table;
+    let part = ((generation / 2 + 1) % 2) as u32;
+    let place = word_of_drawn(shared.chunks, part);
+    table.shared.store::<EmptyDrawn>(seat, place, 0);
+}
+
 fn turn_as<J: OfMarks>(
     shared: &Shared,
     seat: &mut Seat<Item, SeatView>,
@@ -156,6 +261,7 @@ fn turn_as<J: OfMarks>(
     requires may { MayMark (known seat.old.table_id seat.old.me.0) J.marks }
     requires sets { seat.old.me.0.emptying.sets ≡ 272 }
     requires counters { seat.old.me.0.emptying.counters ≡ 3 }
+    requires undrawn { seat.old.me.0.emptying.undrawn ≡ true }
     ensures table { seat.new.table_id ≡ seat.old.table_id }
     ensures view { seat.new.me ≡ (turned_over J.marks seat.old.me.0, seat.old.me.1) }
     ensures early { generation ≤ 8589934592 }
@@ -175,6 +281,7 @@ fn turn(shared: &Shared, seat: &mut Seat<Item, SeatView>, generation: u64, marks
     requires may { MayMark (known seat.old.table_id seat.old.me.0) marks.now.pairs }
     requires sets { seat.old.me.0.emptying.sets ≡ 272 }
     requires counters { seat.old.me.0.emptying.counters ≡ 3 }
+    requires undrawn { seat.old.me.0.emptying.undrawn ≡ true }
     ensures table { seat.new.table_id ≡ seat.old.table_id }
     ensures view { seat.new.me ≡ (turned_over marks.now.pairs seat.old.me.0, seat.old.me.1) }
     ensures early { generation ≤ 8589934592 }
@@ -200,6 +307,7 @@ fn end_marking(shared: &Shared, seat: &mut Seat<Item, SeatView>, generation: u64
     empty_counter(shared, seat, SWEPT_PAGES);
     empty_counter(shared, seat, SPENT_BYTES);
     empty_counter(shared, seat, NEXT_CHUNK);
+    empty_drawn(shared, seat, generation);
     turn(shared, seat, generation + 2, marks);
 }
 
@@ -230,5 +338,6 @@ impl Shared {
         let generation = driver.generation;
         end_marking(self, &mut driver.seat, generation, marks);
         driver.generation = generation + 2;
+        driver.spares = [0; 70];
     }
 }

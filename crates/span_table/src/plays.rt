@@ -287,15 +287,7 @@ impl<J: OfPlace> Play<Item, SeatView> for Place<J> {
     ghost then = { Placed J.index J.span };
 }
 
-pub(crate) struct LookCell;
-
-impl Play<Item, SeatView> for LookCell {
-    ghost use Rattle.span_table.specs.Plays.{LookedCell};
-
-    ghost then = { LookedCell };
-}
-
-/// A cell of a set, which a call of the program picks.
+/// A cell of a set, or an entry of its spine, which a call of the program picks.
 pub trait OfCell {
     ghost use Rattle.std.specs.Prelude.{ℕ};
 
@@ -308,6 +300,54 @@ impl OfCell for Brand {
     ghost set = { 0 };
 
     ghost index = { 0 };
+}
+
+pub(crate) struct LookCell<J> {
+    cell: PhantomData<J>,
+}
+
+impl<J: OfCell> Play<Item, SeatView> for LookCell<J> {
+    ghost use Rattle.span_table.specs.Plays.{LookedCell};
+
+    ghost then = { LookedCell J.set J.index };
+}
+
+pub(crate) struct LookSpine<J> {
+    cell: PhantomData<J>,
+}
+
+impl<J: OfCell> Play<Item, SeatView> for LookSpine<J> {
+    ghost use Rattle.span_table.specs.Plays.{LookedSpine};
+
+    ghost then = { LookedSpine J.set J.index };
+}
+
+pub(crate) struct SeeEntry<J> {
+    entry: PhantomData<J>,
+}
+
+impl<J: OfCell> Play<Item, SeatView> for SeeEntry<J> {
+    ghost use Rattle.span_table.specs.Plays.{SawEntry};
+
+    ghost then = { SawEntry J.set J.index };
+}
+
+pub(crate) struct Draw;
+
+impl Play<Item, SeatView> for Draw {
+    ghost use Rattle.span_table.specs.Plays.{Drew};
+
+    ghost then = { Drew };
+}
+
+pub(crate) struct PutBlock<J> {
+    entry: PhantomData<J>,
+}
+
+impl<J: OfCell> Play<Item, SeatView> for PutBlock<J> {
+    ghost use Rattle.span_table.specs.Plays.{Put};
+
+    ghost then = { Put J.set J.index };
 }
 
 pub(crate) struct LookBeyond<J> {
@@ -410,6 +450,30 @@ impl Play<Item, SeatView> for EmptyCell {
     ghost use Rattle.span_table.specs.Plays.{EmptiedCell};
 
     ghost then = { EmptiedCell };
+}
+
+pub(crate) struct FindBlock;
+
+impl Play<Item, SeatView> for FindBlock {
+    ghost use Rattle.span_table.specs.Plays.{FoundBlock};
+
+    ghost then = { FoundBlock };
+}
+
+pub(crate) struct EmptyEntry;
+
+impl Play<Item, SeatView> for EmptyEntry {
+    ghost use Rattle.span_table.specs.Plays.{EmptiedEntry};
+
+    ghost then = { EmptiedEntry };
+}
+
+pub(crate) struct EmptyDrawn;
+
+impl Play<Item, SeatView> for EmptyDrawn {
+    ghost use Rattle.span_table.specs.Plays.{EmptiedDrawn};
+
+    ghost then = { EmptiedDrawn };
 }
 
 pub(crate) struct EmptySet;

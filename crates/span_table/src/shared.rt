@@ -46,6 +46,9 @@ pub struct Worker {
     pub(crate) generation: u64,
     // the goal for backed pages
     pub(crate) goal: u32,
+    // for each worker's number 1 plus the block that it drew and put nowhere yet, or 0; those of numbers that are not with the seat are of an
+    // earlier time
+    pub(crate) spares: [u32; 70],
     pub(crate) seat: Seat<Item, SeatView>,
 }
 
@@ -57,12 +60,13 @@ impl Model for Worker {
 
     ghost view = { λ w. known w.seat.table_id w.seat.me.0 };
 
-    ghost invariant = { λ w. Rests w.number w.generation w.goal w.seat.table_id w.seat.me };
+    ghost invariant = { λ w. Rests w.number w.generation w.goal w.spares w.seat.table_id w.seat.me };
 }
 
 // The words at the start.
 fn first_words(alloc: Global, chunks: u32) -> Result<Vec<u64>, NoMemory>
-    requires { chunks ≤ 128 }
+    requires some { 1 ≤ chunks }
+    requires few { chunks ≤ 128 }
     ensures { IfOk result (λ v. (length v.items ≡ word_count (512 * chunks)) × (slice_index v.items 1 ≡ 4) × ((i : ℕ) → i ≢ 1 → slice_index v.items i ≡ 0)) }
 {
     let mut words = vec![in alloc; 0u64; count_words(chunks)]?;
@@ -147,6 +151,7 @@ impl Shared {
             number: 69,
             generation: 4,
             goal,
+            spares: [0; 70],
             seat,
         };
         Ok((Shared { table, chunks }, driver))
@@ -167,6 +172,7 @@ impl Shared {
             number,
             generation: driver.generation,
             goal: driver.goal,
+            spares: driver.spares,
             seat,
         }
     }
@@ -178,8 +184,14 @@ impl Shared {
         requires out { worker.table ≡ self.now }
         ensures { driver.new ≡ taking_in worker driver.old }
     {
-        let Worker { seat, .. } = worker;
+        let Worker {
+            number,
+            spares,
+            seat,
+            ..
+        } = worker;
         let table = &self.table;
+        driver.spares[number as usize] = spares[number as usize];
         table.shared.join_seat::<TakeIn>(&mut driver.seat, seat);
     }
 }

@@ -21,23 +21,44 @@ pub struct SeatView {
     pub heap: Option<Pages>,
     /// The whole journal, the newest line first, where the driver was told of it while no worker was out, and nothing was written since.
     pub journal: Option<LinkedList<Line>>,
+    /// For each worker's number 1 plus the block of the swept sets' part that the worker drew and has put into no spine yet, or 0. Those of numbers
+    /// whose part the seat has not are of an earlier time.
+    pub spares: LinkedList<u64>,
+    /// The entry that the seat loaded last, where it names a block.
+    pub found: Option<Found>,
     /// What contracts see. The parts of a seat that is not the driver's are those of the time at which it was handed out.
     pub view: View,
     /// How far the driver is with a mark end, while one is under way; the seat is not out then.
     pub emptying: Emptying,
 }
 
-/// How far the driver is with a mark end: it empties the unswept sets in the order of their numbers, a set's cells before its word, and
-/// then the counters.
+/// An entry of a set's spine, and the block that it names.
+pub struct Found {
+    /// The number of the set.
+    pub set: u64,
+    /// The number of the entry in the set's spine.
+    pub entry: u64,
+    /// The number of the block in the set's part.
+    pub block: u64,
+}
+
+/// How far the driver is with a mark end: it empties the unswept sets in the order of their numbers, a set's cells, then the entries of
+/// its spine and then its word, and behind all sets the counters and the number of blocks drawn.
 pub struct Emptying {
     /// How many unswept sets are empty.
     pub sets: u64,
     /// How many cells of the next one are empty.
     pub cells: u64,
+    /// 1 plus the block that has the next cell, once the spine's entry was read, or 0.
+    pub block: u64,
+    /// How many entries of its spine are empty.
+    pub entries: u64,
     /// The tail of that set, once its word was read.
     pub tail: Option<u64>,
     /// How many of the three counters are 0.
     pub counters: u64,
+    /// Whether no block of the unswept sets' part is drawn any more.
+    pub undrawn: bool,
 }
 
 /// What a slot holds: slot 0 the heap, slot p + 1 the body of the span that begins at page p. Nothing lies there while the

@@ -1,8 +1,8 @@
 //! The words of the shared table of spans: where each of them is, and how a set's head and tail share one word.
 //!
 //! The region has 512 pages for each of its chunks, of which there are at most 128. The table begins with the words `LOCK`, `GENERATION`,
-//! `SWEPT_PAGES`, `SPENT_BYTES` and `NEXT_CHUNK`. Behind them stand a word for each worker, one for each page, one for each set of
-//! spans, and a cell for each set and page. No call takes memory.
+//! `SWEPT_PAGES`, `SPENT_BYTES` and `NEXT_CHUNK`. Behind them stand a word for each worker, one for each page and one for each set of
+//! spans, and then the spines and blocks with the sets' cells, whose numbers `set_blocks` has. No call takes memory.
 #![tactic(auto)]
 
 ghost use Rattle.std.specs.Prelude.{◌≡◌, ℕ, ◌+◌, ◌*◌, ◌<◌, ◌≤◌};
@@ -12,7 +12,6 @@ ghost use Rattle.table_words.specs.Names.{
   EventWord,
   PageWord,
   SetWord,
-  CellWord,
   place,
   word_count,
   head_tail as halves_joined,
@@ -65,14 +64,6 @@ fn first_set(chunks: u32) -> u64
     pages_of(chunks) + FIRST_PAGE
 }
 
-// The first word of the cells.
-fn first_cell(chunks: u32) -> u64
-    requires { chunks ≤ 128 }
-    ensures { result ≡ 512 * chunks + 619 }
-{
-    first_set(chunks) + u64::from(SETS)
-}
-
 /// The word that counts the allocations of a worker, whose number is at most 69.
 pub fn event_word(number: u32) -> u64
     requires { number < 70 }
@@ -96,24 +87,6 @@ pub fn set_word(chunks: u32, set: u32) -> u64
     ensures { result ≡ place (512 * chunks) (SetWord set) }
 {
     u64::from(set) + first_set(chunks)
-}
-
-/// The cell of a set of spans at an index, in a region of so many chunks: it holds 0, or 1 plus the first page of a span.
-pub fn cell_word(chunks: u32, set: u32, index: u32) -> u64
-    requires chunks { chunks ≤ 128 }
-    requires set { set < 544 }
-    requires index { index < 512 * chunks }
-    ensures { result ≡ place (512 * chunks) (CellWord set index) }
-{
-    u64::from(index) + pages_of(chunks) * u64::from(set) + first_cell(chunks)
-}
-
-/// How many words the table of a region of so many chunks has.
-pub fn words(chunks: u32) -> u64
-    requires { chunks ≤ 128 }
-    ensures { result ≡ word_count (512 * chunks) }
-{
-    pages_of(chunks) * u64::from(SETS) + first_cell(chunks)
 }
 
 /// The word of a set with this head and this tail: the tail in the low 32 bits, the head in the high ones (`headTailIndex` of

@@ -1,6 +1,6 @@
 use crate::{
-    GENERATION, LOCK, NEXT_CHUNK, SETS, SPENT_BYTES, SWEPT_PAGES, WORKERS, cell_word, event_word,
-    head_of, head_tail, page_word, set_word, tail_of, words,
+    GENERATION, LOCK, NEXT_CHUNK, SETS, SPENT_BYTES, SWEPT_PAGES, WORKERS, event_word, head_of,
+    head_tail, page_word, set_word, tail_of,
 };
 
 // The blocks of a region of one chunk, and of the largest one: each begins behind the one before it.
@@ -16,13 +16,7 @@ fn blocks(rt: HostRuntime) {
         [75, 586, 65610]
     );
     assert_eq!(rt; [set_word(1, 0), set_word(1, SETS - 1)], [587, 1130]);
-    assert_eq!(rt;
-        [cell_word(1, 0, 0), cell_word(1, 0, 511), cell_word(1, 1, 0)],
-        [1131, 1642, 1643]
-    );
-    assert_eq!(rt; [words(1), words(128)], [279659, 35717739]);
-    assert_eq!(rt; [set_word(128, 0), cell_word(128, 0, 0)], [65611, 66155]);
-    assert_eq!(rt; cell_word(128, 543, 65535), 35717738);
+    assert_eq!(rt; [set_word(128, 0), set_word(128, SETS - 1)], [65611, 66154]);
 }
 
 // The tail is in the low half of a set's word, the head in the high one.

@@ -1,22 +1,22 @@
-use Rattle.std.proofs.Common.{◌<◌, ◌*◌, arith, ◌∙◌, ℕ, sym, ap, subst}
+use Rattle.std.proofs.Common.{arith, ◌≡◌, ◌+◌, ◌*◌, ◌/◌, ◌%◌, ◌<◌, ◌≤◌, ◌∙◌, ℕ, suc, eqb, sym, ap, subst, refl}
 use mathlib.Core.Option.{none}
+use prog.Atomic.{either}
 use Rattle.atomic_table.specs.Table.{Allows, step}
-use Rattle.table_words.specs.Names.{CellWord}
+use Rattle.set_blocks.specs.Names.{blocks_of}
+use Rattle.sweep_laws.specs.declared.moves.Claimed.{Claimed as Claim}
+use Rattle.table_words.specs.Names.{CellWord, DrawnWord, EntryWord, chunks_of}
 use Rattle.table_words.proofs.Places.{place_low}
-use Rattle.span_table.specs.Plays.{EmptiedCell}
 use Rattle.span_table.specs.Turning.{Ruled}
+use Rattle.span_table.specs.Plays.{EmptiedCell}
 use Rattle.span_table.proofs.Turnings.{empty_cell_allowed}
 use Rattle.span_table.proofs.mark_end.empty_cell.Goals as goal
 
-pub word_of_cell-place-requires-clause-index : goal.word_of_cell-place-requires-clause-index
-word_of_cell-place-requires-clause-index c = let t = c.shared.invariant in let slots = t.slots in let many = ap (λ z. z.slots) (c.requires.table ∙ sym c.shared.view_is) in let inside = c.requires.region in omega arith
-
 pub store-requires : goal.store-requires
-store-requires c = let t = c.shared.invariant in let words = t.words in let slots = t.slots in let p = c.word_of_cell-place.ensures in let s = c.shared.inside.table.shared in let m = c.args.seat.now in let r = c.requires in
-    let same = r.table ∙ sym c.shared.view_is in let many = ap (λ z. z.slots) same in let inside = r.region in let low : c.args.index < 512 * c.shared.inside.chunks = omega arith in
-    let bound = place_low (512 * c.shared.inside.chunks) (CellWord c.args.set c.args.index) (r.set.0, low) in (
+store-requires c = let t = c.shared.invariant in let words = t.words in let slots = t.slots in let s = c.shared.inside.table.shared in let m = c.args.seat.now in let r = c.requires in
+    let same = r.table ∙ sym c.shared.view_is in let many = ap (λ z. z.slots) same in let p = c.word_of_cell-place.ensures in let inside = r.region in let low : c.args.index < 512 * c.shared.inside.chunks = omega arith in let few = r.low in let found = r.block in
+    let bound = place_low (512 * c.shared.inside.chunks) (CellWord (c.args.set % 2) c.args.block (c.args.index % 512)) (omega arith, omega arith, omega arith) in (
       same,
       omega arith,
       subst (λ (z : ℕ × ℕ). Allows (Ruled z.1) s.table_id.slots m.id m.me z.0 (λ _. 0) (λ _. EmptiedCell (step s.table_id.slots z.0 0 0 none) m.me 0)) (λ i. (sym p i, sym t.key_is i))
-          (empty_cell_allowed (512 * c.shared.inside.chunks) s.table_id.slots m.id m.me c.args.set c.args.index r.turning.0 r.turning.1 r.set r.next r.index low),
+          (empty_cell_allowed (512 * c.shared.inside.chunks) s.table_id.slots m.id m.me c.args.set c.args.index c.args.block r.turning.0 r.turning.1 r.set r.next r.index low (omega arith) (omega arith)),
     )

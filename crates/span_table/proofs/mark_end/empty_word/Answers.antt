@@ -12,5 +12,5 @@ store-requires c = let t = c.shared.invariant in let words = t.words in let p = 
       r.table ∙ sym c.shared.view_is,
       omega arith,
       subst (λ (z : ℕ × ℕ). Allows (Ruled z.1) s.table_id.slots m.id m.me z.0 (λ _. 0) (λ _. EmptiedSet (step s.table_id.slots z.0 0 0 none) m.me 0)) (λ i. (sym p i, sym t.key_is i))
-          (empty_set_allowed (512 * c.shared.inside.chunks) s.table_id.slots m.id m.me c.args.set c.args.tail r.turning.0 r.turning.1 r.set r.next r.tail r.cells),
+          (empty_set_allowed (512 * c.shared.inside.chunks) s.table_id.slots m.id m.me c.args.set c.args.tail r.turning.0 r.turning.1 r.set r.next r.tail r.cells r.entries),
     )

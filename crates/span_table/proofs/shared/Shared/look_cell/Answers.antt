@@ -11,4 +11,4 @@ returns-then-index-self-clause-filled c = λ u h t m l.
 
 pub returns-clause-filled : goal.returns-clause-filled
 returns-clause-filled c = λ u h t m l.
-    c.look_inside.ensures.view.1 (ap (λ (k : Seen). is_swept_set k.view.generation c.args.set) c.w.view_is ∙ u) h t (subst (λ (k : Seen). 0 < many (is_look c.args.set h t) k.view.own.log) (sym c.w.view_is) m) l
+    c.look_inside.ensures.view.1.1 (ap (λ (k : Seen). is_swept_set k.view.generation c.args.set) c.w.view_is ∙ u) h t (subst (λ (k : Seen). 0 < many (is_look c.args.set h t) k.view.own.log) (sym c.w.view_is) m) l

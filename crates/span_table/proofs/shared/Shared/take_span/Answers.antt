@@ -1,4 +1,4 @@
-use Rattle.std.proofs.Common.{◌≡◌, ℕ, List, sym, ap, ◌∙◌, subst}
+use Rattle.std.proofs.Common.{◌≡◌, ℕ, List, sym, ap, ◌∙◌, subst, arith}
 use Rattle.page_alloc.specs.FreeRuns.{HasNoRun}
 use Rattle.page_alloc.specs.Journal.{Legal}
 use Rattle.page_alloc.proofs.BlocksOut.{more-cycle}
@@ -37,3 +37,10 @@ returns-in-Err g c =
         ),
       ),
     )
+
+-- the run that was taken is of the region
+pub take-requires-in-Ok-take-clause-region : goal.take-requires-in-Ok-take-clause-region
+take-requires-in-Ok-take-clause-region g c =
+    let view = ap (λ (z : SeatState). z.0.view.region) c.lock-heap.ensures.view in let region = c.w.invariant.region in let table = ap (λ z. z.slots) c.lock-heap.ensures.table in
+    let inside = c.in-Ok-take.ensures.taken.may_follow.1.here.inside in let some_pages = span_pages c.args.class c.args.n c.requires.size in let more = c.reserve_line.ensures.same.region in let seen = c.lock-heap.ensures.heap.region in
+    let page = c.new_body-body.ensures.page in (omega arith, omega arith)

@@ -1,0 +1,25 @@
+use Rattle.std.proofs.Common.{arith, ◌≡◌, ◌+◌, ◌*◌, ◌/◌, ◌%◌, ◌<◌, ◌≤◌, ◌∙◌, ℕ, suc, eqb, sym, ap, subst, refl}
+use mathlib.Core.Option.{none}
+use prog.Atomic.{either}
+use Rattle.atomic_table.specs.Table.{Allows, step}
+use Rattle.set_blocks.specs.Names.{blocks_of}
+use Rattle.sweep_laws.specs.declared.moves.Claimed.{Claimed as Claim}
+use Rattle.table_words.specs.Names.{CellWord, DrawnWord, EntryWord, chunks_of}
+use Rattle.table_words.proofs.Places.{place_low}
+use Rattle.span_table.specs.Turning.{Ruled}
+use Rattle.span_table.specs.Plays.{CellAt, LookedCell}
+use Rattle.span_table.proofs.Checking.{look_cell_allowed}
+use Rattle.span_table.proofs.cells.look_named_as.Goals as goal
+
+pub load-requires : goal.load-requires
+load-requires g c = let t = c.shared.invariant in let words = t.words in let slots = t.slots in let s = c.shared.inside.table.shared in let m = c.args.seat.now in let r = c.requires in
+    let same = r.table ∙ sym c.shared.view_is in let many = ap (λ z. z.slots) same in let p = c.word_of_cell-place.ensures in let inside = r.cell.1 in let low : c.args.index < 512 * c.shared.inside.chunks = omega arith in let few = r.low in
+    let bound = place_low (512 * c.shared.inside.chunks) (CellWord (c.args.set % 2) c.args.block (c.args.index % 512)) (omega arith, omega arith, omega arith) in (
+      same,
+      omega arith,
+      subst (λ (z : ℕ × ℕ × ℕ × ℕ). Allows (Ruled z.1) s.table_id.slots m.id m.me z.0 (λ n. n) (LookedCell z.2 z.3 (step s.table_id.slots z.0 0 0 none) m.me)) (λ i. (sym p i, sym t.key_is i, sym r.picked.0 i, sym r.picked.1 i))
+          (look_cell_allowed (512 * c.shared.inside.chunks) s.table_id.slots m.id m.me c.args.set c.args.index c.args.block r.cell.0 low r.out r.found),
+    )
+
+pub returns-clause-view : goal.returns-clause-view
+returns-clause-view g c = let r = c.requires in subst (λ (z : ℕ × ℕ). CellAt z.0 z.1 c.load.result c.args.seat.now.me c.load.new.seat.me) (λ i. (r.picked.0 i, r.picked.1 i)) c.load.ensures.2

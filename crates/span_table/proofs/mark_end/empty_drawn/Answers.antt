@@ -1,0 +1,23 @@
+use Rattle.std.proofs.Common.{arith, ◌≡◌, ◌+◌, ◌*◌, ◌/◌, ◌%◌, ◌<◌, ◌≤◌, ◌∙◌, ℕ, suc, eqb, sym, ap, subst, refl}
+use mathlib.Core.Option.{none}
+use prog.Atomic.{either}
+use Rattle.atomic_table.specs.Table.{Allows, step}
+use Rattle.set_blocks.specs.Names.{blocks_of}
+use Rattle.sweep_laws.specs.declared.moves.Claimed.{Claimed as Claim}
+use Rattle.table_words.specs.Names.{CellWord, DrawnWord, EntryWord, chunks_of}
+use Rattle.table_words.proofs.Places.{place_low}
+use Rattle.span_table.specs.Turning.{Ruled}
+use Rattle.block_laws.specs.Blocked.{swept_part}
+use Rattle.span_table.specs.Plays.{EmptiedDrawn}
+use Rattle.span_table.proofs.Turnings.{empty_drawn_allowed}
+use Rattle.span_table.proofs.mark_end.empty_drawn.Goals as goal
+
+pub store-requires : goal.store-requires
+store-requires c = let t = c.shared.invariant in let words = t.words in let slots = t.slots in let s = c.shared.inside.table.shared in let m = c.args.seat.now in let r = c.requires in
+    let same = r.table ∙ sym c.shared.view_is in let many = ap (λ z. z.slots) same in let p = c.word_of_drawn-place.ensures in let same_g = r.generation in let part : ℕ = (c.args.generation / 2 + 1) % 2 in
+    let bound = place_low (512 * c.shared.inside.chunks) (DrawnWord part) (omega arith) in (
+      same,
+      omega arith,
+      subst (λ (z : ℕ × ℕ). Allows (Ruled z.1) s.table_id.slots m.id m.me z.0 (λ _. 0) (λ _. EmptiedDrawn (step s.table_id.slots z.0 0 0 none) m.me 0)) (λ i. (sym p i, sym t.key_is i))
+          (empty_drawn_allowed (512 * c.shared.inside.chunks) s.table_id.slots m.id m.me part r.turning.0 r.turning.1 (omega arith) (λ z. omega arith)),
+    )
