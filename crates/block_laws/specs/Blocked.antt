@@ -1,5 +1,5 @@
 -- What the words of spines and of blocks say of the cells of sets, and whose each block is.
-use Rattle.std.specs.Prelude.{◌≡◌, ℕ, zero, suc, ◌+◌, ◌*◌, ◌/◌, ◌%◌, ◌<◌, ◌≤◌, Bool, true, false, List, slice_index_or}
+use Rattle.std.specs.Prelude.{◌≡◌, ℕ, zero, suc, ◌*◌, ◌/◌, ◌%◌, ◌<◌, ◌≤◌, Bool, true, false, List, slice_index_or}
 use Rattle.set_blocks.specs.Names.{blocks_of}
 use Rattle.sweep_laws.specs.Reading.{cell_of, no_set}
 use Rattle.sweep_laws.specs.State.{SetState}

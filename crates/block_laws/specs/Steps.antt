@@ -1,6 +1,6 @@
 -- What each kind of step makes of spines and blocks.
-use Rattle.std.specs.Prelude.{◌≡◌, ℕ, suc, ◌+◌, ◌%◌, ◌==◌, ◌&&◌, cond}
-use Rattle.block_laws.specs.Blocked.{BlockState, Use, Free, Spare, InSpine, swept_part}
+use Rattle.std.specs.Prelude.{ℕ, suc, ◌+◌, ◌%◌, ◌==◌, cond}
+use Rattle.block_laws.specs.Blocked.{BlockState, Free, Spare, InSpine, swept_part}
 
 -- One value of a function changes.
 abbrev pub put_one : {A : Type 0} → (ℕ → A) → ℕ → A → ℕ → A

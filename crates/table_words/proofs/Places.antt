@@ -1,5 +1,5 @@
 -- Different names have different words: the name is read back from the place.
-use Rattle.std.proofs.Common.{◌≡◌, ℕ, ◌+◌, ◌-◌, ◌*◌, ◌/◌, ◌%◌, ◌<◌, ◌≤◌, ltb, true, false, refl, sym, ap, ◌∙◌, arith, mul-le-mul, mul-suc}
+use Rattle.std.proofs.Common.{◌≡◌, ℕ, ◌+◌, ◌-◌, ◌*◌, ◌/◌, ◌%◌, ◌<◌, ◌≤◌, ltb, false, refl, sym, ap, ◌∙◌, arith, mul-le-mul, mul-suc}
 use Rattle.std.proofs.lemmas.Bool.{lt-ltb}
 use native.Mathlib.Nat.{add-mul-div_left, add-mul-mod_self_left, div-eq_of_lt, mod-eq_of_lt}
 use Rattle.set_blocks.specs.Names.{blocks_of}
