@@ -11,8 +11,10 @@ mod profile;
 mod publisher;
 #[cfg(test)]
 mod tests;
+mod viewer;
 mod watcher;
 
 pub use history::{Board, Opened};
 pub use publisher::{Publisher, Told, board};
+pub use viewer::{Sight, Viewer};
 pub use watcher::Watcher;
