@@ -2,7 +2,7 @@
 
 ghost use Rattle.std.specs.Prelude.{◌≡◌, ◌+◌, ◌≤◌, [], length, IfOk};
 
-use crate::{Board, Opened, Publisher, Told, Watcher, board};
+use crate::{Board, Opened, Publisher, Sight, Told, Viewer, Watcher, board};
 use edge_io::{List, NoMemory};
 use profile_cycle::Count;
 use std::alloc::Global;
@@ -86,6 +86,60 @@ fn saw_by_turns<B: Board, R: Wait + Abort>(
 #[test]
 fn each_publish_is_seen(rt: HostRuntime) -> Result<(), Fail> {
     saw_by_turns::<Brand, _>(&rt, rt.alloc(), Opened::new())
+}
+
+// What the sight of a publish has: three buckets of it.
+fn sight_of(number: u32) -> Sight {
+    Sight {
+        k: number,
+        allocs: 21 * u64::from(number),
+        frees: 9 * u64::from(number),
+    }
+}
+
+// Sees before the first publish, sees twice behind it, publishes twice more, and tells.
+fn kept_by_turns<B: Board, R: Wait>(
+    rt: &R,
+    alloc: Global,
+    publisher: &mut Publisher<B>,
+    watcher: Watcher<B>,
+) -> Result<List<Sight>, NoMemory>
+    requires buckets { B.buckets ≡ 3 }
+    requires room { length publisher.old ≤ 100 }
+{
+    let mut viewer = Viewer::new(alloc, watcher, BUCKETS, 4)?;
+    viewer.watch(1);
+    publisher.publish(rt, &counts_of(alloc, 1)?)?;
+    viewer.watch(2);
+    publisher.publish(rt, &counts_of(alloc, 2)?)?;
+    publisher.publish(rt, &counts_of(alloc, 3)?)?;
+    viewer.finish(publisher.tell()?)
+}
+
+fn kept_newer_sights<B: Board, R: Wait + Abort>(
+    rt: &R,
+    alloc: Global,
+    opened: Opened,
+) -> Result<(), Fail>
+    requires name { opened ≡ B.book }
+    requires buckets { B.buckets ≡ 3 }
+{
+    let (mut publisher, watchers) = board::<B, R>(alloc, rt, opened, BUCKETS, 1)?;
+    let mut watchers = watchers.into_vec();
+    let kept = match watchers.pop() {
+        Some(watcher) => kept_by_turns(rt, alloc, &mut publisher, watcher),
+        None => Err(NoMemory),
+    };
+    publisher.close(rt);
+    let kept = kept.map_err(|_| "no memory")?;
+    let sights = [sight_of(0), sight_of(1), sight_of(3)];
+    assert!(rt; kept.as_slice() == sights.as_slice());
+    Ok(())
+}
+
+#[test]
+fn a_viewer_keeps_each_newer_sight(rt: HostRuntime) -> Result<(), Fail> {
+    kept_newer_sights::<Brand, _>(&rt, rt.alloc(), Opened::new())
 }
 
 // Publishes twice, tells behind each, and closes. What each told says, and what a watcher sees that learnt the newer one first.

@@ -1,0 +1,5 @@
+use Rattle.profile_readers.proofs.tests.a_viewer_keeps_each_newer_sight.Given as goal
+
+-- the board that was just opened
+abbrev pub ghosts-kept_newer_sights : goal.ghosts-kept_newer_sights
+ghosts-kept_newer_sights g a = record { book = a.opened; buckets = 3 }
