@@ -1,7 +1,7 @@
 -- One span is flushed.
-use Rattle.std.proofs.Common.{◌≡◌, ℕ, zero, suc, ◌+◌, ◌<◌, ◌≤◌, ◌⊎◌, inl, inr, lt-ltb, length, get_or, ⊎_elim, Bool, true, false, ◌||◌, nat_lt, List, [], ◌∷◌, ◌++◌, refl, ap, sym, subst, ◌∙◌, arith, eq-eqb, ne_eqb}
+use Rattle.std.proofs.Common.{◌≡◌, ℕ, zero, suc, ◌+◌, ◌<◌, ◌≤◌, ◌⊎◌, inl, inr, lt-ltb, length, get_or, ⊎_elim, Bool, true, false, ◌||◌, nat_lt, true≢false, List, [], ◌∷◌, ◌++◌, refl, ap, sym, subst, ◌∙◌, arith, eq-eqb, ne_eqb}
 use Rattle.std.specs.Prelude.{None, Some, Option, Result, Ok, Err, not, ◌==◌, if◌then◌else◌}
-use Rattle.std.proofs.lemmas.Bool.{cases_Bool}
+use Rattle.std.proofs.lemmas.Bool.{cases_Bool, cases_lt}
 use Rattle.std.proofs.lemmas.Bool.Decides.{nat_tests}
 use Rattle.std.proofs.lemmas.List.{append-nil}
 use mathlib.Core.Logic.{dite}
@@ -38,7 +38,7 @@ use Rattle.sweeper.specs.Work.{OnlySweeps}
 use Rattle.sweeper.proofs.Counting.{nothing-sweeps, sweeps-append}
 use Rattle.sweeper.proofs.Settling.{given_sweeps, pushed_sweeps}
 use Rattle.proc_cache.specs.Cache.{Cache, slot_at, with_slot}
-use Rattle.proc_cache.specs.Flushes.{Flushes, FlushesCache, FlushesSpan, IsFlushing}
+use Rattle.proc_cache.specs.Flushes.{Flushes, FlushesCache, FlushesSpan, IsFlushing, left_in}
 use Rattle.proc_cache.specs.Serves.{IsUsedCache, Serves, is_flushed}
 use Rattle.proc_cache.proofs.Leaving.{all-append, leaves-trans, leaves_from, leaves_nothing}
 use Rattle.proc_cache.proofs.Serving.{serves_nothing, serves_through, serves_without}
@@ -304,6 +304,14 @@ reads_idle old w g e idle = subst (λ (s : Seen). IsIdle s.view.own) (sym e) (re
 pub reads_used : (old w : Seen) (g : ℕ) → w ≡ after_said (Reads 1 g) old → IsUsedCache old.view.own → IsUsedCache w.view.own
 reads_used old w g e u = subst (λ (s : Seen). IsUsedCache s.view.own) (sym e) (λ p h f. let x = u p h f in omega arith)
 
+-- nothing left the cache of a processor that had flushed
+pub left_flushed : (c : Cache) (old : Hand) (w : Seen) (g : ℕ) → c.flushed ≡ old.worker.view.generation → w ≡ after_said (Reads 1 g) old.worker → (p : ℕ) → times p w.view.own.cached ≡ left_in c old p
+left_flushed c old w g f e p = rw (eq-eqb c.flushed old.worker.view.generation f) (ap (λ (s : Seen). times p s.view.own.cached) e)
+
+-- nothing is cached behind the flush of one that had not
+pub left_stale : (c : Cache) (old new : Hand) → is_flushed old.worker.view.generation c ≡ false → ((p : ℕ) → times p new.worker.view.own.cached ≡ 0) → (p : ℕ) → times p new.worker.view.own.cached ≡ left_in c old p
+left_stale c old new f none p = rw f (none p)
+
 -- a flush behind a read of the generation is a flush of both
 pub read_first : (c d : Cache) (old new : Hand) (w : Seen) (g : ℕ) → IsIdle old.worker.view.own → w ≡ after_said (Reads 1 g) old.worker
     → (r : Result (Unit {0}) NoMemory) → FlushesCache c d (record old { worker = w }) new r → FlushesCache c d old new r
@@ -318,6 +326,7 @@ read_first c d old new w g idle e r x = let same : w.view.generation ≡ old.wor
       x.0 ∙ same,
       flushes_by (λ k. false || not (is_flushed w.view.generation c)) (λ k. not (is_flushed old.worker.view.generation c)) c d old new (λ k. ap (λ (n : ℕ). not (is_flushed n c)) same)
           (flushes-trans (λ k. false) (λ k. not (is_flushed w.view.generation c)) c c d old mid new first x.1),
+      λ p. x.2 p ∙ ap (λ (s : Seen). if is_flushed s.view.generation c then times p s.view.own.cached else 0) e,
     )
     by_result same first (Err none) x = (
       sym (ap (λ (n : ℕ). is_flushed n c) same) ∙ x.0,
@@ -368,12 +377,21 @@ module _ (c : Cache) (old : Hand) where
       fresh = x.flushes.fresh;
     }
 
+    none_cached : (p : ℕ) → has p new.worker.view.own.cached ≡ false
+    none_cached p = elim (cases_Bool (has p new.worker.view.own.cached)) [
+      | inl h ↦ (let a = x.serves.all p h in absurd (let z : None ≡ Some a.1 = sym (all_gone a.0) ∙ ap (λ (l : List (Option Span)). get_or l a.0 None) same ∙ a.2 in cc))
+      | inr h ↦ h
+    ]
+
+    pub all_uncached : (p : ℕ) → times p new.worker.view.own.cached ≡ 0
+    all_uncached p = elim (cases_lt 0 (times p new.worker.view.own.cached)) [
+      | inl some ↦ absurd (true≢false (sym (times_has p new.worker.view.own.cached some) ∙ none_cached p))
+      | inr none ↦ omega arith
+    ]
+
     pub all_serves : e.flushed ≡ new.worker.view.generation → Serves new.worker.view.generation new.worker.view.own e
     all_serves f = serves_nothing new.worker.view.generation new.worker.view.own e all_gone
-        (λ p. elim (cases_Bool (has p new.worker.view.own.cached)) [
-          | inl h ↦ (let a = x.serves.all p h in absurd (let z : None ≡ Some a.1 = sym (all_gone a.0) ∙ ap (λ (l : List (Option Span)). get_or l a.0 None) same ∙ a.2 in cc))
-          | inr h ↦ h
-        ])
+        none_cached
         x.serves.once
         (omega arith)
 

@@ -10,12 +10,14 @@ use Rattle.page_bitmap.specs.Counts.{one_if}
 use Rattle.size_classes.specs.Classes.{pages_of}
 use Rattle.span_state.specs.Bits.{IsFull, bit_of}
 use Rattle.span_state.specs.declared.body.Body.{Body}
+use Rattle.sweep_laws.specs.Counts.{times}
 use Rattle.sweep_laws.specs.Lists.{has}
 use Rattle.worker_log.specs.declared.Entry.{Entry}
 use Rattle.worker_log.specs.declared.Entry.TheVariants.{Looked, LookedEmptyCell, Popped, Pushed, Swept, Took, Missed, Gave, Allocated, Found, Read, Added}
 use Rattle.worker_log.specs.declared.Placing.{Placing}
 use Rattle.worker_log.specs.Logs.{placings, refusals}
-use Rattle.worker_log.specs.Entries.{is_placing_in, many}
+use Rattle.worker_log.specs.Entries.{is_placing_in, is_sweep_of, many}
+use Rattle.worker_log.proofs.Logs.{many-append}
 use Rattle.span_laws.specs.declared.answers.Refused.{Refused}
 use Rattle.span_laws.specs.declared.answers.Refused.TheVariants.{NoRun, NoMemory as WantsMemory}
 use Rattle.span_laws.specs.declared.view.Span.{Span}
@@ -34,7 +36,7 @@ use Rattle.sweeper.specs.Work.{OnlySweeps}
 use Rattle.sweeper.proofs.Counting.{nothing-sweeps, sweeps-append}
 use Rattle.proc_cache.specs.Allocs.{AllocatesIn, IsPlaced, JustPlaces, KeepsOthers, PlacesOne, StopsAllocating, flushed_slot}
 use Rattle.proc_cache.specs.Cache.{Cache, page_in, slot_at, with_slot}
-use Rattle.proc_cache.specs.Flushes.{FlushesCache, IsFlush, IsFlushing}
+use Rattle.proc_cache.specs.Flushes.{FlushesCache, IsFlush, IsFlushing, IsWholeFlush}
 use Rattle.proc_cache.specs.Hits.{HitsAt, IsMissing}
 use Rattle.proc_cache.specs.Leaves.{Leaves, Sums}
 use Rattle.proc_cache.specs.RefillLogs.{HasFilled, HasLeft, HasMissed, HasPaidFor, bytes_of, taken_for}
@@ -142,8 +144,16 @@ refused_used pages distance k c d old mid e r v u p hp fp =
     gone WantsMemory r = ap (λ (z : Cache). slot_at z k) r.0 ∙ slot_gone c k
 
 -- nothing was flushed
-no_flush : (g : ℕ) → IsFlush g []
-no_flush g = record { flushing = tt; sweeps = nothing-sweeps g }
+no_flush : (c : Cache) (old : Hand) → c.flushed ≡ old.worker.view.generation → IsWholeFlush c old []
+no_flush c old stamp = record {
+  flush = record { flushing = tt; sweeps = nothing-sweeps old.worker.view.generation };
+  swept = λ p. rw (eq-eqb c.flushed old.worker.view.generation stamp) refl;
+}
+
+-- what left a cache, and what is left in it
+left_or_swept : (b : Bool) (n m t : ℕ) → n + m ≡ t → n ≡ (if b then t else 0) → m ≡ (if b then 0 else t)
+left_or_swept true n m t e h = omega arith
+left_or_swept false n m t e h = omega arith
 
 -- ---- an allocation after a refill
 
@@ -160,11 +170,11 @@ module _ (pages distance k : ℕ) (c d : Cache) (old mid : Hand) (stamp : c.flus
     ap (λ (z : Cache). slot_at z k) r.0 ∙ slot_gone c k,
     others_kept None r.0,
     r.1,
-    (s, r.2.1, r.2.2, no_placings s r.2.2.places, r.2.3, (s, [], sym (append-nil s), no_flush old.worker.view.generation, subst (λ (o : Option Span). HasMissed old pages distance k o line s) (sym (flushed_is old.worker.view.generation c k stamp)) r.2.4), r.2.5),
+    (s, r.2.1, r.2.2, no_placings s r.2.2.places, r.2.3, (s, [], sym (append-nil s), no_flush c old stamp, subst (λ (o : Option Span). HasMissed old pages distance k o line s) (sym (flushed_is old.worker.view.generation c k stamp)) r.2.4), r.2.5),
   )
   missed_refill WantsMemory r = let s = r.1.0 in let e = ap (λ (z : Cache). z.flushed) r.0 ∙ stamp in (
     inr (e, ap (λ (z : Cache). slot_at z k) r.0 ∙ slot_gone c k, others_kept None r.0),
-    (s, r.1.1, r.1.2, inr (e, (s, [], sym (append-nil s), no_flush old.worker.view.generation, subst (λ (o : Option Span). StopsFilling old.worker.view pages distance k o s) (sym (flushed_is old.worker.view.generation c k stamp)) r.1.3)), r.1.4),
+    (s, r.1.1, r.1.2, inr (e, (s, [], sym (append-nil s), no_flush c old stamp, subst (λ (o : Option Span). StopsFilling old.worker.view pages distance k o s) (sym (flushed_is old.worker.view.generation c k stamp)) r.1.3)), r.1.4),
   )
 
   module _ (from : CacheFrom) (r : RefillsCache pages distance k c d old mid (Ok from)) (v : Serves mid.worker.view.generation mid.worker.view.own d) (at : ℕ) (e : Cache) (w : Seen) (h : HitsAt k at d e mid.worker w) where
@@ -186,7 +196,7 @@ module _ (pages distance k : ℕ) (c d : Cache) (old mid : Hand) (stamp : c.flus
                   Allocated a ∷ s,
                   [],
                   sym (append-nil (Allocated a ∷ s)),
-                  no_flush old.worker.view.generation,
+                  no_flush c old stamp,
                   (Allocated a ∷ [], s, refl, subst (λ (o : Option Span). HasFilled old pages distance k o r.0 from s) (sym (flushed_is old.worker.view.generation c k stamp)) r.4.3, (a, refl)),
                 ),
               ),
@@ -264,6 +274,13 @@ no_place (Found p w) h = absurd h
 pub flush_sums : (said : List Entry) → AllByRecursion IsFlushing said → Sums 0 0 0 0 said
 flush_sums said all = record { spends = adds_nothing said all; takes = none_passes is_taking no_take said all; misses = none_passes is_missing no_miss said all; places = none_passes is_placing no_place said all }
 
+-- a flush swept just what was cached
+pub flush_whole : (c d : Cache) (old new : Hand) (f : FlushesCache c d old new (Ok tt)) → IsWholeFlush c old f.1.said
+flush_whole c d old new f = record {
+  flush = record { flushing = f.1.flushing; sweeps = f.1.sweeps };
+  swept = λ p. left_or_swept (is_flushed old.worker.view.generation c) (times p new.worker.view.own.cached) (many (is_sweep_of p) f.1.said) (times p old.worker.view.own.cached) (f.1.swept p) (f.2 p);
+}
+
 module _ (pages distance k : ℕ) (c c1 : Cache) (old mid : Hand) where
   -- memory ran out in the flush
   pub flush_refused : (e : NoMemory) → FlushesCache c c1 old mid (Err e) → AllocatesIn pages distance k c c1 old mid (Err WantsMemory)
@@ -295,20 +312,27 @@ module _ (pages distance k : ℕ) (c c1 : Cache) (old mid : Hand) where
             Allocated a ∷ s,
             leaves-trans (Allocated a ∷ []) s old mid (record mid { worker = w }) x.leaves (placing_leaves k at c1 d mid w idle v h),
             placing_one k at c1 d mid w idle v h s (no_placings s u.places) (no_refusals s u.misses),
-            inl (sums-append 0 0 0 0 0 0 0 1 (Allocated a ∷ []) s u (placing_sums k at c1 d mid w idle v h), (Allocated a ∷ [], s, refl, record { flushing = x.flushing; sweeps = x.sweeps }, (a, refl))),
+            inl (sums-append 0 0 0 0 0 0 0 1 (Allocated a ∷ []) s u (placing_sums k at c1 d mid w idle v h), (Allocated a ∷ [], s, refl, flush_whole c c1 old mid f, (a, refl))),
             placing_sets k at c1 d mid w idle v h old.worker.view.generation no_page s old.worker (λ p l. absurd (omega arith)) x.sets,
           ),
         )
 
     -- what comes behind the flush
-    flush_first : (Q : List Entry → Type 0) (said : List Entry) → Then (IsFlush mid.worker.view.generation) Q said → Then (IsFlush old.worker.view.generation) Q (said ++ f.1.said)
+    flush_first : (Q : List Entry → Type 0) (said : List Entry) → Then (IsWholeFlush c1 mid) Q said → Then (IsWholeFlush c old) Q (said ++ f.1.said)
     flush_first Q said t = (
       t.0,
       t.1 ++ f.1.said,
       ap (λ (l : List Entry). l ++ f.1.said) t.2 ∙ append_assoc t.0 t.1 f.1.said,
       record {
-        flushing = all-append IsFlushing t.1 f.1.said t.3.flushing f.1.flushing;
-        sweeps = sweeps-append old.worker.view.generation t.1 f.1.said (subst (λ (n : ℕ). OnlySweeps n t.1) same_generation t.3.sweeps) f.1.sweeps;
+        flush = record {
+          flushing = all-append IsFlushing t.1 f.1.said t.3.flush.flushing f.1.flushing;
+          sweeps = sweeps-append old.worker.view.generation t.1 f.1.said (subst (λ (n : ℕ). OnlySweeps n t.1) same_generation t.3.flush.sweeps) f.1.sweeps;
+        };
+        swept = λ p. (
+            let none : many (is_sweep_of p) t.1 ≡ 0 = t.3.swept p ∙ rw (eq-eqb c1.flushed mid.worker.view.generation flushed_now) refl in
+            let both = many-append (is_sweep_of p) t.1 f.1.said in
+            let one : many (is_sweep_of p) (t.1 ++ f.1.said) ≡ many (is_sweep_of p) f.1.said = omega arith in
+            one ∙ (flush_whole c c1 old mid f).swept p);
       },
       t.4,
     )

@@ -15,7 +15,7 @@ use Rattle.central_lists.specs.Looks.{Then}
 use Rattle.proc_cache.specs.declared.refills.CacheFrom.{CacheFrom}
 use Rattle.proc_cache.specs.declared.allocs.Placed.{Placed}
 use Rattle.proc_cache.specs.Cache.{Cache, address_of, page_in, slot_at}
-use Rattle.proc_cache.specs.Flushes.{IsFlush}
+use Rattle.proc_cache.specs.Flushes.{IsFlush, IsWholeFlush}
 use Rattle.proc_cache.specs.Leaves.{Leaves, Sums}
 use Rattle.proc_cache.specs.RefillLogs.{HasFilled, HasMissed, bytes_of, taken_for}
 use Rattle.proc_cache.specs.Findings.{WasNoRun}
@@ -44,9 +44,9 @@ JustPlaces said = (a : Placing) × (said ≡ Allocated a ∷ [])
 
 -- the object has a place in the cached span; or the cache was refilled for it
 abbrev pub IsPlaced : Hand → (pages distance : ℕ) → ℕ → Cache → List Entry → Type 0
-IsPlaced old pages distance k c said = (Sums 0 0 0 1 said × Then (IsFlush old.worker.view.generation) JustPlaces said)
+IsPlaced old pages distance k c said = (Sums 0 0 0 1 said × Then (IsWholeFlush c old) JustPlaces said)
     ⊎ ((b : Body) × ((from : CacheFrom) × Sums (bytes_of k) (taken_for from) 0 1 said
-    × Then (IsFlush old.worker.view.generation) (Then (HasFilled old pages distance k (flushed_slot old.worker.view.generation c k) b from) JustPlaces) said))
+    × Then (IsWholeFlush c old) (Then (HasFilled old pages distance k (flushed_slot old.worker.view.generation c k) b from) JustPlaces) said))
 
 -- the cache was flushed up to some class; or it was flushed, and the slot of class k is empty
 abbrev pub IsPartly : ℕ → ℕ → Cache → Cache → Type 0
@@ -57,7 +57,7 @@ IsPartly g k c d = ((d.flushed ≡ c.flushed) × (is_flushed g c ≡ false) × (
 abbrev pub StopsAllocating : Hand → (pages distance : ℕ) → ℕ → Cache → Cache → List Entry → Type 0
 StopsAllocating old pages distance k c d said = ((d.flushed ≡ c.flushed) × (is_flushed old.worker.view.generation c ≡ false) × IsFlush old.worker.view.generation said)
     ⊎ ((d.flushed ≡ old.worker.view.generation)
-    × Then (IsFlush old.worker.view.generation) (StopsFilling old.worker.view pages distance k (flushed_slot old.worker.view.generation c k)) said)
+    × Then (IsWholeFlush c old) (StopsFilling old.worker.view pages distance k (flushed_slot old.worker.view.generation c k)) said)
 
 -- an object of class k was placed, and its address is that of the one placing of the call; or no run is free, as the line says; or memory ran out.
 -- Each span of which a sweep kept some went to the set that it fits, but for the one that is cached
@@ -68,7 +68,7 @@ AllocatesIn pages distance k c d old new (Ok at) = (d.flushed ≡ old.worker.vie
 AllocatesIn pages distance k c d old new (Err (NoRun line)) = (d.flushed ≡ old.worker.view.generation) × (slot_at d k ≡ None) × KeepsOthers old.worker.view.generation k c d
     × WasNoRun old (pages_of (k / 2)) line × ((said : List Entry) × Leaves said old new × Sums 0 0 1 0 said × (placings said ≡ [])
     × (refusals said ≡ record { number = line; pages = pages_of (k / 2); class = k } ∷ [])
-    × Then (IsFlush old.worker.view.generation) (HasMissed old pages distance k (flushed_slot old.worker.view.generation c k) line) said
+    × Then (IsWholeFlush c old) (HasMissed old pages distance k (flushed_slot old.worker.view.generation c k) line) said
     × FitsSets old.worker.view.generation no_page said old.worker new.worker)
 AllocatesIn pages distance k c d old new (Err WantsMemory) = IsPartly old.worker.view.generation k c d
     × ((said : List Entry) × Leaves said old new × Sums 0 0 0 0 said × StopsAllocating old pages distance k c d said

@@ -30,6 +30,19 @@ pub record IsFlush (g : ℕ) (said : List Entry) : Type 0 where
   pub flushing : AllByRecursion IsFlushing said
   pub sweeps : OnlySweeps g said
 
+-- how often a page is cached behind the flush of a whole cache: as often as before where the processor had flushed in this cycle, and else never
+abbrev pub left_in : Cache → Hand → ℕ → ℕ
+left_in c old p = if is_flushed old.worker.view.generation c then times p old.worker.view.own.cached else 0
+
+-- how often the flush of a whole cache sweeps a page: each that is cached once, where the processor had not flushed in this cycle
+abbrev pub flushed_from : Cache → Hand → ℕ → ℕ
+flushed_from c old p = if is_flushed old.worker.view.generation c then 0 else times p old.worker.view.own.cached
+
+-- what the flush of a whole cache adds to the log: just the spans that were cached before the mark end are swept, each of them once
+pub record IsWholeFlush (c : Cache) (old : Hand) (said : List Entry) : Type 0 where
+  pub flush : IsFlush old.worker.view.generation said
+  pub swept : (p : ℕ) → many (is_sweep_of p) said ≡ flushed_from c old p
+
 -- the slots of the classes that pass a test were emptied: each page that left the worker's cache was swept once, and no other page was
 pub record Flushes (test : ℕ → Bool) (c d : Cache) (old new : Hand) : Type 0 where
   pub number : d.number ≡ c.number
@@ -47,9 +60,11 @@ abbrev pub FlushesClass : ℕ → Cache → Cache → Hand → Hand → Result (
 FlushesClass k c d old new (Ok done) = (d.flushed ≡ c.flushed) × Flushes (λ j. j == k) c d old new
 FlushesClass k c d old new (Err none) = (d ≡ c) × (new ≡ old)
 
--- the processor has flushed in this cycle: where it had not before, all classes; or memory ran out after some classes, and the rest is cached
+-- the processor has flushed in this cycle: where it had not before, all classes, and nothing is cached; or memory ran out after some classes, and the
+-- rest is cached
 abbrev pub FlushesCache : Cache → Cache → Hand → Hand → Result (Unit {0}) NoMemory → Type 0
 FlushesCache c d old new (Ok done) = (d.flushed ≡ old.worker.view.generation) × Flushes (λ k. not (is_flushed old.worker.view.generation c)) c d old new
+    × ((p : ℕ) → times p new.worker.view.own.cached ≡ left_in c old p)
 FlushesCache c d old new (Err none) = (is_flushed old.worker.view.generation c ≡ false) × (d.flushed ≡ c.flushed) × ((m : ℕ) × (m < 136) × Flushes (λ k. nat_lt k m) c d old new)
 
 -- the span of a body left the cache, and was swept and put where it belongs

@@ -2,7 +2,7 @@ use Rattle.std.proofs.Common.{refl, ◌≡◌, false, not, ap, sym, subst, ◌�
 use Rattle.span_laws.specs.Views.{Seen}
 use Rattle.proc_cache.specs.Cache.{Cache}
 use Rattle.proc_cache.specs.Serves.{is_flushed}
-use Rattle.proc_cache.proofs.Flushing.{read_first, reads_idle, reads_only, reads_serves, reads_used}
+use Rattle.proc_cache.proofs.Flushing.{left_flushed, read_first, reads_idle, reads_only, reads_serves, reads_used}
 use Rattle.span_set.proofs.Tallies.{frees-as, frees-none}
 use Rattle.proc_cache.proofs.flushes.flush.Goals as goal
 
@@ -12,6 +12,7 @@ returns-then-proc-generation-clause-flushes g c =
       e,
       reads_only c.args.proc.now c.args.hand.now c.generation-generation.new.w c.generation-generation.result (λ k. not (is_flushed c.args.hand.now.worker.view.generation c.args.proc.now)) c.requires.idle c.generation-generation.ensures.view
           (λ k. ap not (eq-eqb c.args.proc.now.flushed c.args.hand.now.worker.view.generation e)),
+      left_flushed c.args.proc.now c.args.hand.now c.generation-generation.new.w c.generation-generation.result e c.generation-generation.ensures.view,
     )
 
 pub returns-then-proc-generation-clause-serves : goal.returns-then-proc-generation-clause-serves

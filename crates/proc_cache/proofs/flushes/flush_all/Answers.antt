@@ -3,7 +3,7 @@ use Rattle.std.proofs.lemmas.List.{length-map}
 use Rattle.span_laws.specs.declared.view.View.{View}
 use Rattle.proc_cache.specs.Cache.{Cache, span_in, spans_of}
 use Rattle.proc_cache.specs.Serves.{is_flushed}
-use Rattle.proc_cache.proofs.Flushing.{FlushedSome, all_flushed, all_serves, flushes_by, some_first, some_more}
+use Rattle.proc_cache.proofs.Flushing.{FlushedSome, all_flushed, all_serves, all_uncached, flushes_by, left_stale, some_first, some_more}
 use Rattle.span_set.proofs.Tallies.{frees-both, frees-none, may-still}
 use Rattle.proc_cache.proofs.flushes.flush_all.Goals as goal
 
@@ -42,6 +42,7 @@ returns-clause-flushes g c =
       c.requires.generation,
       flushes_by (λ k. true) (λ k. not (is_flushed g c.args.proc.now)) c.args.proc.now e old new (λ k. sym (ap not c.requires.stale))
           (all_flushed c.args.proc.now old d e new x few (ap (λ (z : Cache). z.slots) c.proc.view_is) (ap (λ (z : Cache). z.number) c.proc.view_is)),
+      left_stale c.args.proc.now old new c.requires.stale (all_uncached c.args.proc.now old d e new x few (ap (λ (z : Cache). z.slots) c.proc.view_is) (ap (λ (z : Cache). z.number) c.proc.view_is)),
     )
 
 pub flush_class-requires-clause-counts : goal.flush_class-requires-clause-counts
