@@ -1,9 +1,11 @@
 -- The driver's logs tell of the cycle that has ended.
-use Rattle.std.proofs.Common.{◌≡◌, ℕ, ◌<◌, Bool, true, false, eqb, List, [], ◌∷◌, ◌++◌, map, reverse, drop, length, get_or, refl, sym, ◌∙◌, ap, subst, arith, inl, inr}
+use Rattle.std.proofs.Common.{◌≡◌, ℕ, ◌<◌, Bool, true, false, eqb, List, [], ◌∷◌, ◌++◌, map, reverse, drop, length, get_or, Some, refl, sym, ◌∙◌, ap, subst, arith, inl, inr}
 use Rattle.std.specs.List.Sorted.{IsPermutation}
 use Rattle.std.proofs.lemmas.Bool.{cases_Bool, eq-eqb, ne_eqb}
 use Rattle.std.proofs.lemmas.List.{get_or_default}
+use Rattle.page_bitmap.specs.declared.line.Line.{Line}
 use Rattle.page_alloc.specs.Lists.{In}
+use Rattle.page_alloc.specs.Lives.{open_lives}
 use Rattle.span_state.specs.declared.sweep.SweepNote.{SweepNote}
 use Rattle.trace_reader.specs.declared.trace.Trace.{Trace}
 use Rattle.trace_reader.specs.declared.trace.Cycle.{Cycle}
@@ -12,8 +14,12 @@ use Rattle.cycle_history.specs.declared.Answer.{Answer}
 use Rattle.cycle_history.specs.Before.{objects_before}
 use Rattle.cycle_history.specs.Profile.{passing}
 use Rattle.sound_run.proofs.Notes.{from-reverse, in-reverse}
+use Rattle.worker_log.specs.declared.Entry.{Entry}
+use Rattle.worker_log.specs.Logs.{placings}
+use Rattle.run_laws.specs.CycleSoFar.{CycleSoFar, past_after}
+use Rattle.run_laws.specs.PlacingFacts.{Places}
 use Rattle.span_laws.specs.Views.{Seen}
-use Rattle.heap_run.specs.Last.{TellsLast, events_in, no_cycle}
+use Rattle.heap_run.specs.Last.{ArePlacedIn, TellsLast, events_in, no_cycle}
 use Rattle.heap_run.specs.Parts.{part_at}
 use Rattle.heap_run.specs.Served.{answers_by, events_by}
 use Rattle.heap_run.specs.Swept.{AreCollected, Made, note_at}
@@ -64,3 +70,17 @@ tells-last t c d queues given old more now earlier sorted notes sweeps ended new
       swept = rw same collected;
       filed = rw lines permutation;
     }
+
+-- objects are placed in lives of the journal as the cycle ends
+pub placed-in : (past : List Line) (e : CycleSoFar) (log : List Entry) (w : ℕ) → Places e → past_after e ≡ past → e.logs w ≡ log → ArePlacedIn past log
+placed-in past e log w places whole same a h =
+    let there : In a (placings (e.logs w)) = subst (λ (l : List Entry). In a (placings l)) (sym same) h in
+    let here = places.here w a there in
+    (places.below w a there, here.0, subst (λ (l : List Line). In here.0 (open_lives l)) whole here.1, here.2)
+
+-- and of the journal that the driver is told
+pub placed-told : (past now : List Line) (d : Seen) → d.journal ≡ Some past → d.journal ≡ Some now → ((w : ℕ) → ArePlacedIn past (part_at d w).log) → (w : ℕ) → ArePlacedIn now (part_at d w).log
+placed-told past now d was is placed w =
+    let both : Some past ≡ Some now = sym was ∙ is in
+    let same : past ≡ now = cc in
+    subst (λ (l : List Line). ArePlacedIn l (part_at d w).log) same (placed w)

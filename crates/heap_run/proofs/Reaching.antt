@@ -114,6 +114,8 @@ pub record Goes (t : Trace) (c : ℕ) (d : Cycle) (objects : List Object) (answe
   pub e : CycleSoFar
   pub cycle : e.cycle ≡ c
   pub before : e.before ≡ driver.view.before
+  pub whole : past_after e ≡ past
+  pub logs : (w : ℕ) → e.logs w ≡ (part_at driver w).log
   pub news_are : e.news ≡ news
   pub notes_are : e.notes ≡ reverse sorted
   pub facts : Facts (marked_by t) (region_of t) t.header.goal objects e
@@ -179,6 +181,8 @@ goes-on t c d objects answers more queues given sweeps collected sorted driver h
       e = e;
       cycle = e_cycle;
       before = s.before;
+      whole = refl;
+      logs = s.logs;
       news_are = refl;
       notes_are = refl;
       facts = facts;

@@ -59,7 +59,7 @@ use Rattle.heap_run.proofs.Acted.{tells-length}
 use Rattle.heap_run.proofs.Driving.{same-refl}
 use Rattle.heap_run.proofs.Profiling.{HasTallied, counted-next, profiled-next, told-next}
 use Rattle.heap_run.proofs.Telling.{objects-few, profile-in}
-use Rattle.heap_run.proofs.Last.{tells-last}
+use Rattle.heap_run.proofs.Last.{placed-in, tells-last}
 use Rattle.heap_run.proofs.Reaching.{Ends, goes-on}
 use Rattle.profile_lines.specs.Read.{all_lines}
 use Rattle.heap_run.proofs.Settling.{driving-now}
@@ -302,6 +302,7 @@ cycle-run t c d old new queues given ended limits begun ran =
       flushed = subst (λ (x : Seen). HasFlushed new.procs.items x) (sym ran.worker) w.flushed;
       last = tells-last t c d queues given old.answers ran.more new.answers old.sweeps ran.sorted ended.notes.items new.sweeps v new.driver.worker ran.inside before ran.grown ran.filed ran.worker w.answered ran.queued ran.merged
           (subst (λ (k : ℕ). AreCollected k (λ i. (part_at v i).log) ended.notes.items) now w.collecting) ran.permutation begun.began.notes_older;
+      placed = λ i. placed-in goes.past goes.e (part_at new.driver.worker i).log i goes.facts.places goes.whole (goes.logs i ∙ ap (λ (x : Seen). (part_at x i).log) (sym ran.worker));
       profiled = profiled-next t c d old new queues given ran.more ran.sorted ended ran.inside begun ran.queued ran.long ran.merged ran.procs ran.permutation ran.grown same.before ran.tallied goes;
       counted = counted-next t c d old new queues given ran.more ran.sorted ended ran.inside begun ran.queued ran.long ran.merged ran.procs ran.permutation ran.grown same.before ran.tallied goes;
       told = told-next t c d old new queues given ran.more ran.sorted ended ran.inside begun ran.queued ran.long ran.merged ran.procs ran.permutation ran.grown same.before ran.tallied goes;

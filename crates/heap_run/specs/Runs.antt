@@ -14,7 +14,7 @@ use Rattle.run_laws.specs.Reached.{Began, Reached}
 use Rattle.span_laws.specs.Asks.{IsAtWork}
 use Rattle.span_laws.specs.Views.{Seen}
 use Rattle.span_laws.specs.MarkEnds.{allocated_pairs}
-use Rattle.heap_run.specs.Last.{TellsLast}
+use Rattle.heap_run.specs.Last.{ArePlacedIn, TellsLast}
 use Rattle.heap_run.specs.Parts.{part_at}
 use Rattle.heap_run.specs.Profiled.{HasCountedIn, IsCountingIn, IsProfiled, IsToldIn}
 use Rattle.heap_run.specs.Settled.{HasFlushed}
@@ -67,3 +67,4 @@ pub record HasRun (t : Trace) (c : ℕ) (run : Run) : Type 0 where
   pub counted : HasCountedIn t c objects run
   pub told : IsToldIn t c objects run
   pub last : TellsLast t c run.answers run.sweeps run.driver.worker
+  pub placed : (w : ℕ) → ArePlacedIn past (part_at run.driver.worker w).log

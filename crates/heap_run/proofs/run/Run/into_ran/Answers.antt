@@ -1,6 +1,7 @@
 use Rattle.std.proofs.Common.{refl, arith}
 use Rattle.cycle_history.specs.Requests.{last_cycle}
 use Rattle.cycle_history.proofs.OfObjects.{objects-zeros}
+use Rattle.heap_run.proofs.Last.{placed-told}
 use Rattle.heap_run.proofs.Running.{all-answers, few-answers, report-sound, run-all, some-cycle}
 use Rattle.heap_run.proofs.Telling.{few-objects}
 use Rattle.heap_run.proofs.run.Run.into_ran.Goals as goal
@@ -54,6 +55,8 @@ returns-clause-left c =
     let ran = c.requires.ran in
     record {
       works = rw s ran.set.works;
+      number = rw s ran.set.driving.number;
       journal = rw s c.in_ok-journal.ensures.journal;
       last = rw s ran.last;
+      placed = rw s (placed-told ran.past _ c.args.self.driver.worker ran.journal c.in_ok-journal.ensures.journal ran.placed);
     }
