@@ -18,7 +18,7 @@ use Rattle.proc_cache.specs.Cache.{Cache}
 use Rattle.heap_run.specs.Counts.{Counts, HaveSampled, HaveSampledTo}
 use Rattle.heap_run.specs.Gains.{HasKept, HaveKept, gains}
 use Rattle.heap_run.specs.Out.{AreOf, AreSent, AreStillOut, HasLent, HasOut, HasSent, HasTaken, IsBack, IsSent, MayStart, RisesFrom, at_home, busy, helpers}
-use Rattle.heap_run.specs.Lanes.{HasRun}
+use Rattle.heap_run.specs.Lanes.{HasDone}
 use Rattle.heap_run.specs.Parts.{IsSameRun, part_at}
 use Rattle.heap_run.specs.Swept.{Made, note_at}
 use Rattle.heap_run.specs.Turns.{HaveAnswered, IsCaching, IsCollecting, IsDriving, SaysNone, no_cache}
@@ -160,7 +160,7 @@ end-kept n was now long same kept w = elim (cases_lt w n) [
 -- ---- from those that are out to those that are back
 
 pub still-all : (table : TableId) (ring : RingId) (m : MarkSet) (s : Start) (queues : List (List Event)) (numbers : List (List ℕ)) (background : ℕ) (lanes lanes' : List Lane) (stay procs : List Cache) (given : Given) (d : Hand)
-    → MayStart table ring m s → background ≤ 4 → AreSent s queues background 0 lanes stay procs given d → length lanes' ≡ length lanes → ((k : ℕ) (x : Lane) → k < length lanes → HasRun m queues numbers (get_or lanes k x) (get_or lanes' k x))
+    → MayStart table ring m s → background ≤ 4 → AreSent s queues background 0 lanes stay procs given d → length lanes' ≡ length lanes → ((k : ℕ) (x : Lane) → k < length lanes → HasDone m queues numbers (get_or lanes k x) (get_or lanes' k x))
     → AreStillOut s m queues numbers background 0 lanes' stay procs given d
 still-all table ring m s queues numbers background lanes lanes' stay procs given d starts few sent same each =
     let n = length s.procs.value.items in
@@ -169,7 +169,7 @@ still-all table ring m s queues numbers background lanes lanes' stay procs given
     let high : RisesFrom (0 + (n - 0)) (helpers background) = rises-low (0 + (n - 0)) 64 (helpers background) (omega arith) (rises-helpers background few) in
     record {
       outs = sent-outs s.driver.value d is sent.sent (rises-busy queues (n - 0) 0 (helpers background) high);
-      back = of-each (IsSent s) (IsBack s m queues numbers) (HasRun m queues numbers) is lanes lanes' sent.went same each (λ i l l' out ran. record { before = l; sent = out; ran = ran });
+      back = of-each (IsSent s) (IsBack s m queues numbers) (HasDone m queues numbers) is lanes lanes' sent.went same each (λ i l l' out ran. record { before = l; sent = out; ran = ran });
       stays = sent.stays;
       taken = sent-taken table ring m s queues numbers is procs given d starts sent.sent sent.lent sent.long;
     }

@@ -19,6 +19,7 @@ pub mod Running
 pub mod MarkEnds
 pub mod Begins
 pub mod Answering
+pub mod Firsts
 pub mod Counting
 pub mod Sampling
 pub mod Profiling

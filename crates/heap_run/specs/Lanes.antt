@@ -11,6 +11,7 @@ use Rattle.span_laws.specs.declared.view.Part.{Part}
 use Rattle.span_set.specs.Tallies.{MayCount}
 use Rattle.span_set.specs.declared.hand.Hand.{Hand}
 use Rattle.heap_run.specs.Counts.{Counts, no_counts}
+use Rattle.heap_run.specs.Firsts.{FlushesFor}
 use Rattle.heap_run.specs.Gains.{HasKept, behind}
 use Rattle.heap_run.specs.Turns.{HasActed, IsCaching, SaysAnswers, SaysNone}
 use Rattle.heap_run.specs.declared.lanes.Lane.{Lane}
@@ -45,7 +46,7 @@ pub record IsReady (table : TableId) (ring : RingId) (m : MarkSet) (queues : Lis
 
 -- ---- what a worker does
 
--- A processor answered its events, with the numbers of their buckets.
+-- A processor answered its events, with the numbers of their buckets, behind the flush of its cache.
 pub record AnswersTurn (m : MarkSet) (events : List Event) (numbers : List ℕ) (old new : Hand) (t t' : Turn) : Type 0 where
   pub acted : HasActed (SaysAnswers (reverse events) (reverse (behind t.answers t'.answers))) old new
   pub caching : IsCaching old.worker.view.generation new.worker.view.own t'.proc
@@ -53,6 +54,7 @@ pub record AnswersTurn (m : MarkSet) (events : List Event) (numbers : List ℕ) 
   pub sampled : reverse (behind t.sampled t'.sampled) ≡ flags t.proc.countdown (reverse events) (reverse (behind t.answers t'.answers))
   pub spent_is : t'.proc.countdown ≡ spent t.proc.countdown (reverse events) (reverse (behind t.answers t'.answers))
   pub counts : Counts m (sampled_counts (behind t.sampled t'.sampled) numbers) old new
+  pub flushed : FlushesFor events t.proc t'.proc old new
   pub kept : HasKept t.answers t'.answers
   pub kept_too : HasKept t.sampled t'.sampled
 
@@ -69,5 +71,5 @@ DoesTask m queues numbers old new (Sweep n) task = Helps m old new
 DoesTask m queues numbers old new Scavenge task = Helps m old new
 
 -- It was, where memory was found for it.
-abbrev pub HasRun : MarkSet → List (List Event) → List (List ℕ) → Lane → Lane → Type 0
-HasRun m queues numbers old new = new.refused ≡ false → DoesTask m queues numbers old.hand new.hand old.task new.task
+abbrev pub HasDone : MarkSet → List (List Event) → List (List ℕ) → Lane → Lane → Type 0
+HasDone m queues numbers old new = new.refused ≡ false → DoesTask m queues numbers old.hand new.hand old.task new.task

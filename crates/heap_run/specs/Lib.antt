@@ -3,10 +3,12 @@ pub mod Gains
 pub mod Served
 pub mod Swept
 pub mod Turns
+pub mod Firsts
 pub mod Lanes
 pub mod Counts
 pub mod Out
 pub mod Settled
 pub mod Last
+pub mod Paces
 pub mod Profiled
 pub mod Runs

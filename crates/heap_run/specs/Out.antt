@@ -13,7 +13,7 @@ use Rattle.span_set.specs.declared.hand.Hand.{Hand}
 use Rattle.proc_cache.specs.Cache.{Cache}
 use Rattle.heap_run.specs.Counts.{AreNumbered, Counts, HaveSampledTo, IsOut}
 use Rattle.heap_run.specs.Gains.{HasKept, gains}
-use Rattle.heap_run.specs.Lanes.{HasRun}
+use Rattle.heap_run.specs.Lanes.{HasDone}
 use Rattle.heap_run.specs.Parts.{part_at}
 use Rattle.heap_run.specs.Turns.{HaveAnsweredTo, IsCollecting, IsDriving, SaysNone, no_cache}
 use Rattle.heap_run.specs.declared.cycle.Given.{Given}
@@ -121,7 +121,7 @@ pub record AreSent (s : Start) (queues : List (List Event)) (background p : ℕ)
 pub record IsBack (s : Start) (m : MarkSet) (queues : List (List Event)) (numbers : List (List ℕ)) (i : ℕ) (l : Lane) : Type 0 where
   pub before : Lane
   pub sent : IsSent s i before
-  pub ran : HasRun m queues numbers before l
+  pub ran : HasDone m queues numbers before l
 
 -- A worker that is out may be taken in by the driver: it is of this table, and its tally is one of the ring's that was split off in the driver's cycle.
 pub record MayJoin (table : TableId) (ring : RingId) (d h : Hand) : Type 0 where

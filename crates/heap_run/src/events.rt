@@ -6,6 +6,7 @@ ghost use Rattle.span_set.specs.Tallies.{MayCount};
 ghost use Rattle.sample_laws.specs.Counted.{one_count, sampled_counts};
 ghost use Rattle.sample_laws.specs.Countdowns.{flag, flags, spends, spent};
 ghost use Rattle.heap_run.specs.Counts.{Counts};
+ghost use Rattle.heap_run.specs.Firsts.{FlushesFor};
 ghost use Rattle.heap_run.specs.Gains.{HasKept, behind};
 ghost use Rattle.heap_run.specs.Turns.{HasActed, IsCaching, SaysAnswers};
 
@@ -52,6 +53,7 @@ pub(crate) fn answer_all<R: Wait, G: Gate>(
     ensures sampled { OnOk result (reverse (behind sampled.old sampled.new) ≡ flags proc.old.countdown (reverse events.now) (reverse (behind answers.old answers.new))) }
     ensures spent { OnOk result (proc.new.countdown ≡ spent proc.old.countdown (reverse events.now) (reverse (behind answers.old answers.new))) }
     ensures counts { OnOk result (Counts shop.now.marks.now (sampled_counts (behind sampled.old sampled.new) buckets.now) hand.old hand.new) }
+    ensures flushed { OnOk result (FlushesFor events.now proc.old proc.new hand.old hand.new) }
     ensures kept { OnOk result (HasKept answers.old answers.new × HasKept sampled.old sampled.new) }
 {
     let mut given = replace(answers, List::new(alloc)).into_vec();
@@ -92,6 +94,8 @@ fn answer<R: Wait>(
     ensures sampled { IfOk result (λ o. o.1 ≡ flag proc.old.countdown event.now o.0) }
     ensures spent { IfOk result (λ o. proc.new.countdown ≡ spends proc.old.countdown event.now o.0) }
     ensures counts { IfOk result (λ o. Counts shop.now.marks.now (one_count o.1 bucket) hand.old hand.new) }
+    ensures flushed { OnOk result (FlushesFor (event.now ∷ []) proc.old proc.new hand.old hand.new) }
+    ensures sizeless { OnOk result (event.now.size ≡ 0 → (proc.new ≡ proc.old) × (hand.new ≡ hand.old)) }
 {
     match class_of(event.size) {
         Kind::Zero => Ok((Answer::Zero, false)),

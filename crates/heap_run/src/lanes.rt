@@ -3,7 +3,7 @@
 ghost use Rattle.std.specs.Prelude.{◌≡◌, ℕ, ◌^◌, ◌<◌, ◌≤◌, [], All, length, slice_index_or, OnOk};
 ghost use Rattle.span_laws.specs.Asks.{IsAtWork, IsIdle};
 ghost use Rattle.span_set.specs.Tallies.{MayCount};
-ghost use Rattle.heap_run.specs.Lanes.{AnswersTurn, HasRun, Helps, IsReady, MayAnswer};
+ghost use Rattle.heap_run.specs.Lanes.{AnswersTurn, HasDone, Helps, IsReady, MayAnswer};
 
 use crate::events::answer_all;
 use cycle_history::Answer;
@@ -59,11 +59,11 @@ pub(crate) fn run_all<R: Threads + Wait + Sync, G: Gate>(
     requires distance { 8192 ≤ shop.now.distance }
     requires some { 0 < length lanes.old }
     requires ready { All (IsReady shop.now.shared.now shop.now.ring.now shop.now.marks.now queues.now.events queues.now.buckets) lanes.old }
-    ensures ran { (i : ℕ) (d : _) → i < length lanes.old → HasRun shop.now.marks.now queues.now.events queues.now.buckets (slice_index_or lanes.old i d) (slice_index_or lanes.new i d) }
+    ensures ran { (i : ℕ) (d : _) → i < length lanes.old → HasDone shop.now.marks.now queues.now.events queues.now.buckets (slice_index_or lanes.old i d) (slice_index_or lanes.new i d) }
 {
     let run = |_: usize, lane: &mut Lane|
         requires { (8192 ≤ shop.now.distance) × IsReady shop.now.shared.now shop.now.ring.now shop.now.marks.now queues.now.events queues.now.buckets lane.now }
-        ensures { HasRun shop.entry.now.marks.now queues.entry.now.events queues.entry.now.buckets lane.entry.now lane.exit.now }
+        ensures { HasDone shop.entry.now.marks.now queues.entry.now.events queues.entry.now.buckets lane.entry.now lane.exit.now }
     { lane.run(rt, alloc, shop, queues, gate) };
     let threads = lanes.len();
     for_each_mut(rt, lanes, threads, &run);
@@ -81,7 +81,7 @@ impl Lane {
     )
         requires distance { 8192 ≤ shop.now.distance }
         requires ready { IsReady shop.now.shared.now shop.now.ring.now shop.now.marks.now queues.now.events queues.now.buckets self.old }
-        ensures ran { HasRun shop.now.marks.now queues.now.events queues.now.buckets self.old self.new }
+        ensures ran { HasDone shop.now.marks.now queues.now.events queues.now.buckets self.old self.new }
     {
         let Lane {
             hand,

@@ -5,6 +5,7 @@ ghost use Rattle.trace_reader.specs.Limits.{WithinLimits, events_of};
 ghost use Rattle.cycle_history.specs.Requests.{last_cycle};
 ghost use Rattle.cycle_history.specs.Sound.{HasForm, IsSoundAndUsed};
 ghost use Rattle.heap_run.specs.Last.{IsLeft};
+ghost use Rattle.heap_run.specs.Paces.{pace};
 ghost use Rattle.heap_run.specs.Turns.{no_cache};
 ghost use Rattle.sweep_laws.specs.Start.{copies};
 ghost use Rattle.profile_cycle.specs.Sampling.{countdown};
@@ -300,7 +301,8 @@ fn objects_of(trace: &Trace) -> usize
 // By how many bytes sweeping is paced in a cycle: by the distance of the mark end before it.
 fn distance_before(trace: &Trace, cycle: u32) -> u64
     requires { cycle < length trace.now.cycles }
-    ensures { 8192 ≤ result }
+    ensures pace { result ≡ pace trace.now cycle }
+    ensures least { 8192 ≤ result }
 {
     if cycle == 0 {
         return LEAST;

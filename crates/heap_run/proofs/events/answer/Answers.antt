@@ -1,13 +1,15 @@
-use Rattle.std.proofs.Common.{◌≡◌, ℕ, ◌∙◌, false, [], ◌∷◌, Err, refl, ap, sym, subst}
+use Rattle.std.proofs.Common.{◌≡◌, ℕ, ◌∙◌, false, [], ◌∷◌, Err, refl, ap, sym, subst, arith}
 use Rattle.size_classes.specs.Classes.{span_class_of}
 use Rattle.span_laws.specs.declared.answers.Refused.{Refused}
 use Rattle.span_laws.specs.declared.answers.Refused.TheVariants.{NoRun}
+use Rattle.span_laws.specs.Views.{Seen}
 use Rattle.span_laws.specs.declared.view.View.{View}
 use Rattle.cycle_history.specs.declared.Answer.TheVariants.{Placed, Missed}
 use Rattle.proc_cache.specs.Allocs.{AllocatesIn}
 use Rattle.large_objects.specs.Larges.{AllocatesLarge}
 use Rattle.heap_run.specs.Turns.{SaysAnswers}
 use Rattle.heap_run.proofs.Answering.{caching-of, flushed-then, holds-acted, holds-caching, large-placed, large-refused, leaves-acted, small-placed, small-refused}
+use Rattle.heap_run.proofs.Firsts.{large-first, none-for, placed-first, refused-first}
 use Rattle.profile_cycle.specs.Naming.{slot_for}
 use Rattle.profile_cycle.specs.Sampling.{Countdown, behind, is_sample}
 use Rattle.proc_cache.specs.Cache.{Cache}
@@ -113,3 +115,44 @@ pub returns-in-Err-NoRun-alloc_large-clause-counts : goal.returns-in-Err-NoRun-a
 returns-in-Err-NoRun-alloc_large-clause-counts g c =
     refused-counts c.args.shop.now.marks.now c.args.bucket c.args.hand.now c.alloc_large.new.hand
     (frees-both c.args.shop.now.marks.now c.args.hand.now c.flush.new.hand c.alloc_large.new.hand c.in_ok-flush-in-Large.ensures.tally c.in-Err-NoRun-alloc_large.ensures.tally)
+
+pub returns-in-Zero-clause-flushed : goal.returns-in-Zero-clause-flushed
+returns-in-Zero-clause-flushed g c = none-for c.args.event.now c.args.proc.now c.args.proc.now c.args.hand.now c.args.hand.now c.in-Zero.ensures
+
+pub returns-in-Ok-clause-flushed : goal.returns-in-Ok-clause-flushed
+returns-in-Ok-clause-flushed g c e h some =
+    let class = c.in-Ok.ensures.allocates.0 in
+    placed-first c.args.shop.now.pages c.args.shop.now.distance (span_class_of class c.args.event.now.scan) c.in-Ok.placed.addr c.args.proc.now c.alloc.new.proc c.args.hand.now c.alloc.new.hand c.in-Ok.ensures.allocates.2
+
+pub returns-in-Ok-clause-sizeless : goal.returns-in-Ok-clause-sizeless
+returns-in-Ok-clause-sizeless g c zero = let some = c.in-Small.ensures.0 in absurd (omega arith)
+
+pub returns-in-Err-NoRun-clause-flushed : goal.returns-in-Err-NoRun-clause-flushed
+returns-in-Err-NoRun-clause-flushed g c e h some =
+    let class = c.in-Err-NoRun.ensures.allocates.0 in
+    let line = c.in-Err-NoRun.line in
+    let did : AllocatesIn c.args.shop.now.pages c.args.shop.now.distance (span_class_of class c.args.event.now.scan) c.args.proc.now c.alloc.new.proc c.args.hand.now c.alloc.new.hand (Err (NoRun line)) =
+    subst (λ (r : Refused). AllocatesIn c.args.shop.now.pages c.args.shop.now.distance (span_class_of class c.args.event.now.scan) c.args.proc.now c.alloc.new.proc c.args.hand.now c.alloc.new.hand (Err r)) c.in-Err-NoRun.field-0-is c.in-Err-NoRun.ensures.allocates.2 in
+    refused-first c.args.shop.now.pages c.args.shop.now.distance (span_class_of class c.args.event.now.scan) line c.args.proc.now c.alloc.new.proc c.args.hand.now c.alloc.new.hand did
+
+pub returns-in-Err-NoRun-clause-sizeless : goal.returns-in-Err-NoRun-clause-sizeless
+returns-in-Err-NoRun-clause-sizeless g c zero = let some = c.in-Small.ensures.0 in absurd (omega arith)
+
+pub returns-in-Ok-alloc_large-clause-flushed : goal.returns-in-Ok-alloc_large-clause-flushed
+returns-in-Ok-alloc_large-clause-flushed g c e h some =
+    let did = c.in-Ok-alloc_large.ensures.did.1 in
+    large-first did.0 c.args.proc.now c.flush.new.proc c.count_placed-sampled.new.proc c.args.hand.now c.flush.new.hand c.count_placed-sampled.new.hand c.alloc_large.new.hand.worker.view.own.log c.in_ok-flush-in-Large.ensures.flushes
+    (ap (λ (x : Cache). x.flushed) c.count_placed-sampled.ensures.cache) did.1.log (ap (λ (w : Seen). w.view.own.log) c.count_placed-sampled.ensures.worker)
+
+pub returns-in-Ok-alloc_large-clause-sizeless : goal.returns-in-Ok-alloc_large-clause-sizeless
+returns-in-Ok-alloc_large-clause-sizeless g c zero = let some = c.in-Large.ensures.0 in absurd (omega arith)
+
+pub returns-in-Err-NoRun-alloc_large-clause-flushed : goal.returns-in-Err-NoRun-alloc_large-clause-flushed
+returns-in-Err-NoRun-alloc_large-clause-flushed g c e h some =
+    let refused : AllocatesLarge c.args.shop.now.pages c.args.shop.now.distance c.in-Large.pages c.span_class.result c.flush.new.hand c.alloc_large.new.hand (Err (NoRun c.in-Err-NoRun-alloc_large.line)) =
+    subst (λ (r : Refused). AllocatesLarge c.args.shop.now.pages c.args.shop.now.distance c.in-Large.pages c.span_class.result c.flush.new.hand c.alloc_large.new.hand (Err r)) c.in-Err-NoRun-alloc_large.field-0-is c.in-Err-NoRun-alloc_large.ensures.did in
+    let did = refused.1 in
+    large-first did.0 c.args.proc.now c.flush.new.proc c.flush.new.proc c.args.hand.now c.flush.new.hand c.alloc_large.new.hand c.alloc_large.new.hand.worker.view.own.log c.in_ok-flush-in-Large.ensures.flushes refl did.1.log refl
+
+pub returns-in-Err-NoRun-alloc_large-clause-sizeless : goal.returns-in-Err-NoRun-alloc_large-clause-sizeless
+returns-in-Err-NoRun-alloc_large-clause-sizeless g c zero = let some = c.in-Large.ensures.0 in absurd (omega arith)

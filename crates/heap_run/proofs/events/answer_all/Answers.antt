@@ -10,6 +10,7 @@ use Rattle.heap_run.proofs.Sampling.{counts-next, flags-more}
 use Rattle.span_laws.specs.declared.view.View.{View}
 use Rattle.heap_run.specs.Gains.{behind}
 use Rattle.heap_run.specs.Turns.{SaysAnswers}
+use Rattle.heap_run.proofs.Firsts.{flushed-for, flushed-next, none-yet}
 use Rattle.heap_run.proofs.Gains.{behind-none, behind-push, kept-none, kept-push}
 use Rattle.heap_run.proofs.Acted.{acted-none, acted-then, answers-more}
 use Rattle.heap_run.proofs.events.answer_all.Goals as goal
@@ -38,6 +39,7 @@ loop-turn-init g c =
       sampled = rw none_too refl;
       spent_is = refl;
       counts = rw none_too (counts-none c.args.shop.now.marks.now c.args.hand.now c.args.hand.now refl refl);
+      flushed = none-yet c.args.proc.now c.args.hand.now;
     }
 
 pub answer-requires-clause-counts : goal.answer-requires-clause-counts
@@ -98,6 +100,8 @@ loop-turn-preserved g c =
       counts = rw more_too (counts-then c.args.shop.now.marks.now (sampled_counts got_too (take c.loop-turn.turn c.args.buckets.now)) (one_count c.in_ok-answer.flag (get_or c.args.buckets.now c.loop-turn.turn 0)) _ c.args.hand.now c.loop-turn.hand c.answer.new.hand
           i.counts c.in_ok-answer.ensures.counts
           (λ b. counts-next got_too c.args.buckets.now c.loop-turn.turn c.in_ok-answer.flag b few i.size));
+      flushed = rw (take_more c.args.events.now c.loop-turn.turn d c.loop-turn-test.true) (flushed-next (take c.loop-turn.turn c.args.events.now) e c.args.proc.now c.loop-turn.proc c.answer.new.proc c.args.hand.now c.loop-turn.hand c.answer.new.hand
+          (ap (λ (v : View). v.generation) i.acted.view) i.flushed c.in_ok-answer.ensures.sizeless c.in_ok-answer.ensures.flushed);
     }
 
 pub returns-clause-acted : goal.returns-clause-acted
@@ -125,6 +129,11 @@ pub returns-clause-counts : goal.returns-clause-counts
 returns-clause-counts g c =
     let whole = take_all c.loop-turn.turn c.args.buckets.now (let l = c.loop-turn-test.false in let b = c.requires.buckets in omega arith) in
     rw c.from_vec-2.ensures (rw whole at c.loop-turn.invariant.counts)
+
+pub returns-clause-flushed : goal.returns-clause-flushed
+returns-clause-flushed g c =
+    let whole = take_all c.loop-turn.turn c.args.events.now c.loop-turn-test.false in
+    flushed-for c.args.events.now c.args.proc.now c.loop-turn.proc c.args.hand.now c.loop-turn.hand (rw whole at c.loop-turn.invariant.flushed)
 
 pub returns-clause-kept : goal.returns-clause-kept
 returns-clause-kept g c = (rw c.from_vec.ensures c.loop-turn.invariant.kept, rw c.from_vec-2.ensures c.loop-turn.invariant.kept_too)

@@ -5,6 +5,7 @@ use Rattle.sample_laws.specs.Countdowns.{flags, spent}
 use Rattle.heap_run.specs.Counts.{Counts}
 use Rattle.heap_run.specs.Gains.{HasKept, behind}
 use Rattle.heap_run.specs.Turns.{HasActed, IsCaching, SaysAnswers}
+use Rattle.heap_run.proofs.Firsts.{FlushedSoFar}
 use Rattle.heap_run.proofs.events.answer_all.Given as goal
 
 abbrev pub invariant-loop-turn : goal.invariant-loop-turn
@@ -22,4 +23,5 @@ invariant-loop-turn g l = record {
   sampled : reverse (behind l.fn.sampled l.flags.items) ≡ flags l.initial.proc.countdown (reverse (take l.turn l.events)) (reverse (behind l.fn.answers l.given.items));
   spent_is : l.proc.countdown ≡ spent l.initial.proc.countdown (reverse (take l.turn l.events)) (reverse (behind l.fn.answers l.given.items));
   counts : Counts l.shop.marks.now (sampled_counts (behind l.fn.sampled l.flags.items) (take l.turn l.buckets)) l.initial.hand l.hand;
+  flushed : FlushedSoFar (take l.turn l.events) l.initial.proc l.proc l.initial.hand l.hand;
 }

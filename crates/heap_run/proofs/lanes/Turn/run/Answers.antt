@@ -1,0 +1,28 @@
+use Rattle.std.proofs.Common.{◌≡◌, ℕ, ◌∙◌, List, [], get_or, ap, subst}
+use Rattle.trace_reader.specs.declared.trace.Event.{Event}
+use Rattle.heap_run.specs.Lanes.{AnswersTurn}
+use Rattle.heap_run.specs.declared.lanes.Turn.{Turn}
+use Rattle.heap_run.proofs.lanes.Turn.run.Goals as goal
+
+pub returns : goal.returns
+returns g c =
+    let m = c.args.shop.now.marks.now in
+    let old = c.args.self.now in
+    let new : Turn = record { proc = c.answer_all.new.proc; answers = c.answer_all.new.answers; sampled = c.answer_all.new.sampled } in
+    let queue = get_or c.args.queues.now.events old.proc.number [] in
+    let events : c.of-events.result.now ≡ queue = c.of-events.ensures ∙ ap (λ (k : ℕ). get_or c.args.queues.now.events k []) c.number-number.ensures in
+    let buckets : c.of-buckets.result.now ≡ get_or c.args.queues.now.buckets old.proc.number [] = c.of-buckets.ensures ∙ ap (λ (k : ℕ). get_or c.args.queues.now.buckets k []) c.number-number.ensures in
+    let did = c.in_ok-answer_all.ensures in
+    let ran : AnswersTurn m c.of-events.result.now c.of-buckets.result.now c.args.hand.now c.answer_all.new.hand old new = record {
+      acted = did.acted;
+      caching = did.caching;
+      number = did.number;
+      sampled = did.sampled;
+      spent_is = did.spent;
+      counts = did.counts;
+      flushed = did.flushed;
+      kept = did.kept.0;
+      kept_too = did.kept.1;
+    } in
+    subst (λ (l : List ℕ). AnswersTurn m queue l c.args.hand.now c.answer_all.new.hand old new) buckets
+    (subst (λ (l : List Event). AnswersTurn m l c.of-buckets.result.now c.args.hand.now c.answer_all.new.hand old new) events ran)
