@@ -12,6 +12,7 @@ use report_text::read_report;
 use std::alloc::Global;
 use std::process::Abort;
 use std::sync::Wait;
+use std::sync::atomic::{AtomicBool, AtomicU64, Ordering};
 use std::test::Fail;
 use std::thread::Threads;
 use trace_reader::{Trace, read_trace};
@@ -29,10 +30,12 @@ struct Row {
 // Four objects of a megabyte of which two survive; an object that lives on beside one that dies; an emptied span that is made again; and
 // two processors, one of which is idle in the second cycle. A span that one processor sweeps and another fills. An event of size 0, which flushes
 // nothing, so that the other processor's span comes behind the stale one; and the first event of a size above 0, small or large, which does
-// before it is placed. Then traces that are sampled: of size 0; at rate 1 with one mark end and with
-// two; at rate 100, where the bytes between samples are 93, 180 and 157; and at rate 524288 with large objects, where they are 605813, 77639
-// and 43627.
-const ROWS: [Row; 13] = [
+// before it is placed: of two cached spans the one of the lower class goes back first, and a large object then has the whole region. A payment of
+// 8192 bytes where 528 pages are taken and 4 swept: at a distance of 8366 bytes behind the marking it is for 517 pages, and sweeps spans of 504, 8 and 8
+// pages; at one of 8367 it is for 516, and the last of them is swept as the cycle ends, behind the take. The reclaimer stops at the first chunk
+// both times. Then traces that are sampled: of size 0; at rate 1 with one mark end and with two; at rate 100, where the bytes between samples are
+// 93, 180 and 157; and at rate 524288 with large objects, where they are 605813, 77639 and 43627.
+const ROWS: [Row; 16] = [
     Row {
         head: "heap 1 procs 1 rate 0 seed 1 goal 512",
         lines: "a 0 1048576 n 1\na 0 1048576 n 1\na 0 1048576 n 1\na 0 1048576 n 1\ngc 1\nm 1 1\nm 3 3\na 0 1048577 n 1\n",
@@ -90,6 +93,34 @@ const ROWS: [Row; 13] = [
         head: "heap 1 procs 1 rate 0 seed 1 goal 512",
         lines: "a 0 8 s 1\ngc 1\na 0 4194304 n 1\n",
         report: "o 0 0xc000000000\no 1 0xc000000000\nj 0 0 take 0 1 2\nj 1 1 give 0 1\nj 2 1 take 0 512 1\ns 1 0 0 1\nt 0 1 0\nt 1 1 1\n",
+        last: "",
+        each: "",
+    },
+    Row {
+        head: "heap 1 procs 1 rate 0 seed 1 goal 512",
+        lines: "a 0 24 s 1\na 0 8 n 1\ngc 1\na 0 4194304 s 1\n",
+        report: "o 0 0xc000000000\no 1 0xc000002000\no 2 0xc000000000\nj 0 0 take 0 1 6\nj 1 0 take 1 1 3\nj 2 1 give 1 1\nj 3 1 give 0 1\nj 4 1 take 0 512 0\n\
+         s 1 0 0 1\ns 1 1 0 1\nt 0 1 0\nt 1 1 1\nt 3 1 1\n",
+        last: "",
+        each: "",
+    },
+    Row {
+        head: "heap 2 procs 1 rate 0 seed 1 goal 1024",
+        lines: "a 0 32768 n 1\na 0 32768 n 1\na 0 4128768 s 1\na 0 65536 s 1\na 0 65536 s 1\ngc 1056942\nm 1 2\na 0 8 s 1\n",
+        report: "o 0 0xc000000000\no 1 0xc000008000\no 2 0xc000010000\no 3 0xc000400000\no 4 0xc000410000\no 5 0xc000000000\n\
+         j 0 0 take 0 4 135\nj 1 0 take 4 4 135\nj 2 0 take 8 504 0\nj 3 0 take 512 8 0\nj 4 0 take 520 8 0\n\
+         j 5 1 give 512 8\nj 6 1 give 520 8\nj 7 1 give 0 4\nj 8 1 take 0 1 2\n\
+         s 1 0 0 1\ns 1 4 1 0\ns 1 8 1 0\ns 1 512 0 1\ns 1 520 0 1\nt 0 3 2\nt 1 1 0\nt 67 2 1\n",
+        last: "",
+        each: "",
+    },
+    Row {
+        head: "heap 2 procs 1 rate 0 seed 1 goal 1024",
+        lines: "a 0 32768 n 1\na 0 32768 n 1\na 0 4128768 s 1\na 0 65536 s 1\na 0 65536 s 1\ngc 1056943\nm 1 2\na 0 8 s 1\n",
+        report: "o 0 0xc000000000\no 1 0xc000008000\no 2 0xc000010000\no 3 0xc000400000\no 4 0xc000410000\no 5 0xc000000000\n\
+         j 0 0 take 0 4 135\nj 1 0 take 4 4 135\nj 2 0 take 8 504 0\nj 3 0 take 512 8 0\nj 4 0 take 520 8 0\n\
+         j 5 1 give 512 8\nj 6 1 give 0 4\nj 7 1 take 0 1 2\nj 8 1 give 520 8\n\
+         s 1 0 0 1\ns 1 4 1 0\ns 1 8 1 0\ns 1 512 0 1\ns 1 520 0 1\nt 0 3 2\nt 1 1 0\nt 67 2 1\n",
         last: "",
         each: "",
     },
@@ -234,6 +265,71 @@ fn workers_run_beside_each_other(rt: HostRuntime) -> Result<(), Fail> {
         let gate = HoldGate::new(first, second);
         judge(&rt, &trace, 1, false, &gate)?;
         assert!(rt; !gate.gave_up());
+    }
+    Ok(())
+}
+
+// A gate that counts its calls by the worker's number, and whether each had the next turn of its worker.
+#[derive(Drop)]
+struct CountGate {
+    calls: Vec<AtomicU64>,
+    in_turn: AtomicBool,
+}
+
+impl CountGate {
+    // Nobody has come yet.
+    fn new(alloc: Global) -> Result<CountGate, Fail> {
+        let mut calls = Vec::new(alloc);
+        for _number in 0..70 {
+            calls.push(AtomicU64::new(0))?;
+        }
+        Ok(CountGate {
+            calls,
+            in_turn: AtomicBool::new(true),
+        })
+    }
+
+    // How often the worker of a number has come.
+    fn passed(&self, worker: u32) -> u64 {
+        match self.calls.get(worker as usize) {
+            Some(calls) => calls.load(Ordering::SeqCst),
+            None => 0,
+        }
+    }
+}
+
+impl Gate for CountGate {
+    fn before(&self, worker: u32, turn: u64) {
+        let next = match self.calls.get(worker as usize) {
+            Some(calls) => calls.fetch_add(1, Ordering::SeqCst) == turn,
+            None => false,
+        };
+        if !next {
+            self.in_turn.store(false, Ordering::SeqCst);
+        }
+    }
+}
+
+// In a cycle each processor passes the gate once an event, of size 0 too, and each background sweeper that was asked for and the scavenger once.
+#[test]
+fn each_worker_passes_the_gate(rt: HostRuntime) -> Result<(), Fail> {
+    let head = "heap 1 procs 3 rate 0 seed 1 goal 512";
+    let lines = "a 0 24 s 1\na 2 0 s 1\na 0 24 s 1\na 2 8 n 1\na 0 40000 s 1\n";
+    let trace = trace_of(rt.alloc(), head, lines)?;
+    for background in 0..5 {
+        let gate = CountGate::new(rt.alloc())?;
+        judge(&rt, &trace, background, false, &gate)?;
+        assert!(rt; gate.in_turn.load(Ordering::SeqCst));
+        for worker in 0..70_u32 {
+            let wanted = match worker {
+                0 => 3,
+                2 => 2,
+                64..=67 => u64::from(worker < 64 + background),
+                68 => 1,
+                _ => 0,
+            };
+            assert_eq!(rt; gate.passed(worker), wanted);
+        }
     }
     Ok(())
 }
