@@ -1,8 +1,7 @@
 -- What the calls of this crate ask holds again behind one that was refused.
 use Rattle.std.proofs.Common.{◌≡◌, ℕ, inl, List, [], ap, sym, ◌∙◌}
-use Rattle.std.specs.Prelude.{None, Err}
+use Rattle.std.specs.Prelude.{Err}
 use Rattle.atomic_table.specs.Seated.{TableId}
-use Rattle.fallible_list.specs.declared.list.NoMemory.{NoMemory}
 use Rattle.profile_cycle.specs.History.{RingId}
 use Rattle.span_state.specs.MarkSet.{MarkSet}
 use Rattle.worker_log.specs.declared.Entry.{Entry}

@@ -36,7 +36,7 @@ use Rattle.sweeper.specs.Work.{OnlySweeps}
 use Rattle.sweeper.proofs.Counting.{nothing-sweeps, sweeps-append}
 use Rattle.proc_cache.specs.Allocs.{AllocatesIn, IsPlaced, JustPlaces, KeepsOthers, PlacesOne, StopsAllocating, flushed_slot}
 use Rattle.proc_cache.specs.Cache.{Cache, page_in, slot_at, with_slot}
-use Rattle.proc_cache.specs.Flushes.{FlushesCache, IsFlush, IsFlushing, IsWholeFlush}
+use Rattle.proc_cache.specs.Flushes.{FlushesCache, IsFlushing, IsWholeFlush}
 use Rattle.proc_cache.specs.Hits.{HitsAt, IsMissing}
 use Rattle.proc_cache.specs.Leaves.{Leaves, Sums}
 use Rattle.proc_cache.specs.RefillLogs.{HasFilled, HasLeft, HasMissed, HasPaidFor, bytes_of, taken_for}
