@@ -20,7 +20,9 @@ ghost use Rattle.run_laws.specs.Reached.{Began, Reached};
 ghost use Rattle.run_rows.specs.TwoWorkers.{bits0, bits1, cycle1, first, lines0, lines1, marked, note, notes1, object, second, small};
 ghost use Rattle.run_rows.specs.Slips.{NoneHas, Begins, AllBreak, marked_again, wrong_lines, wrong_sweeps, wrong_notes, wrong_marks, wrong_places, wrong_bits, wrong_filling, wrong_objects, wrong_refusals};
 
-pub use refusals::{a_refusal_is_a_miss_of_the_journal, a_settled_refusal_is_a_miss_of_the_journal};
+pub use refusals::{
+    a_refusal_is_a_miss_of_the_journal, a_settled_refusal_is_a_miss_of_the_journal,
+};
 
 /// The run of two processors begins cycle 1, which has its facts, and reaches its end.
 pub fn two_workers_reach_the_end()
