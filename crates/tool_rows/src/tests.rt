@@ -210,6 +210,11 @@ const ANSWERED: &[(&str, &str)] = &[
         "a 0 24 s 1\ngc 1\na 0 24 s 1\n",
         "o 0 0xc000000000\no 1 0xc000000000\nj 0 0 take 0 1 6\nj 1 1 give 0 1\nj 2 1 take 0 1 6\ns 1 0 0 1\nt 3 2 1\n",
     ),
+    // The cached span goes back before a large object looks for its run.
+    (
+        "a 0 24 s 1\ngc 1\na 0 4194304 s 1\n",
+        "o 0 0xc000000000\no 1 0xc000000000\nj 0 0 take 0 1 6\nj 1 1 give 0 1\nj 2 1 take 0 512 0\ns 1 0 0 1\nt 0 1 0\nt 3 1 1\n",
+    ),
     (
         "a 0 4194304 s 1\na 0 1 s 1\ngc 1\nm 0 1\n",
         "o 0 0xc000000000\no 1 miss 1\nj 0 0 take 0 512 0\nj 1 0 miss 1 2\ns 1 0 1 0\nt 0 1 0\n",
