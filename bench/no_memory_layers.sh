@@ -1,44 +1,41 @@
 #!/usr/bin/env bash
 # Refuses each allocation of the layers' rows in turn: of the tests of central_rows, sweeper_rows and cache_rows, which make the calls of
 # central_lists, sweeper, proc_cache and large_objects. Where memory runs out in a call its test makes it again, says so on a line of its
-# own, and holds this answer and those of the calls behind it to what they have to be. So each run must pass its test. It prints the
-# number of runs and those of them in which a call was made again; in the others a test's own scene found no memory and was made anew, or
-# a list that could not double grew by less. It ends with status 1 where a run failed, or where a crate's calls were never made again.
-# It takes a C compiler, for `bench/refuse.c`, which stands between a test and the allocator of the C library.
+# own, and holds this answer and those of the calls behind it to what they have to be. So each refusal must pass its test. It prints the
+# number of refusals and those of them in which a call was made again; in the others a test's own scene found no memory and was made anew, or
+# a list that could not double grew by less. It ends with status 1 where a test failed, or where a crate's calls were never made again.
+#
+# Each test runs once, and splits in two at each allocation (`bench/refuse_each.c`): the half that is refused goes on behind the rows that came
+# before, and ends two rows later, since each row has a table of its own. What is left out are rows that don't have the refusal.
+# Name some of the three crates to try these alone. It takes a C compiler.
 set -euo pipefail
 cd "$(dirname "$(readlink -f "$0")")/.."
 folder=$(mktemp -d)
 trap 'rm -rf "$folder"' EXIT
-cc -shared -fPIC -O1 -o "$folder/refuse.so" bench/refuse.c -ldl
+cc -shared -fPIC -O1 -o "$folder/refuse_each.so" bench/refuse_each.c -ldl
 failed=0
 
-# A test with the allocation of that number refused. What it wrote and whether it came to that call stand in files.
-run() {
-  set +e
-  timeout 60 env REFUSED="$3" LD_PRELOAD="$folder/refuse.so" "$1" "$2" >"$folder/wrote" 2>"$folder/said" 9>"$folder/refused"
-  status=$?
-  set -e
-}
+# The bytes from which on an allocation is a row's table.
+table=1000000
 
 # each TESTS NAME: refuses each allocation of this test in turn.
 each() {
-  local tests=$1 name=$2 number=0 again=0
-  while :; do
-    number=$((number + 1))
-    run "$tests" "$name" $number
-    [ -s "$folder/refused" ] || break
-    if grep -qx again "$folder/wrote"; then again=$((again + 1)); fi
-    if [ $status -ne 0 ]; then
-      echo "$name: allocation $number refused: status $status, it said: $(head -c 300 "$folder/said")" >&2
-      failed=1
-    fi
-  done
-  [ $status -eq 0 ] || failed=1
-  echo "  $name: $((number - 1)) allocations refused in turn, a call made again in $again runs"
+  local tests=$1 name=$2 status=0 count again
+  env TABLE=$table WROTE="$folder/wrote" SAID="$folder/said" LD_PRELOAD="$folder/refuse_each.so" \
+    "$tests" "$name" >"$folder/whole" 2>&1 9>"$folder/refused" || status=$?
+  count=$(wc -l <"$folder/refused")
+  again=$(awk '$3 == 1' "$folder/refused" | wc -l)
+  if [ $status -ne 0 ]; then
+    echo "$name: refused allocation: $(tail -n 1 "$folder/refused"), it said: $(head -c 300 "$folder/said")" >&2
+    failed=1
+  fi
+  echo "  $name: $count allocations refused in turn, a call made again in $again runs"
   made_again=$((made_again + again))
 }
 
-for crate in central_rows sweeper_rows cache_rows; do
+crates=("$@")
+[ $# -gt 0 ] || crates=(central_rows sweeper_rows cache_rows)
+for crate in "${crates[@]}"; do
   echo "$crate:"
   (cd "crates/$crate" && rt test) >"$folder/built" 2>&1 || {
     cat "$folder/built" >&2
