@@ -1,5 +1,5 @@
 #!/usr/bin/env bash
-# Refuses each allocation of the layers' rows in turn: of the tests of central_rows, sweeper_rows and cache_rows, which make the calls of
+# Refuses each allocation of the layers' rows in turn: of the tests of central_lists_tests, sweeper_tests and proc_cache_tests, which make the calls of
 # central_lists, sweeper, proc_cache and large_objects. Where memory runs out in a call its test makes it again, says so on a line of its
 # own, and holds this answer and those of the calls behind it to what they have to be. So each refusal must pass its test. It prints the
 # number of refusals and those of them in which a call was made again; in the others a test's own scene found no memory and was made anew, or
@@ -34,7 +34,7 @@ each() {
 }
 
 crates=("$@")
-[ $# -gt 0 ] || crates=(central_rows sweeper_rows cache_rows)
+[ $# -gt 0 ] || crates=(central_lists_tests sweeper_tests proc_cache_tests)
 for crate in "${crates[@]}"; do
   echo "$crate:"
   (cd "crates/$crate" && rt test) >"$folder/built" 2>&1 || {

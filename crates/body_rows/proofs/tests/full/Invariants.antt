@@ -1,5 +1,0 @@
-use Rattle.std.proofs.Common.{◌≡◌}
-use Rattle.body_rows.proofs.tests.full.Given as goal
-
-abbrev pub invariant-loop-want : goal.invariant-loop-want
-invariant-loop-want g l = (l.body.page ≡ 7) × (l.body.count ≡ l.count)

@@ -1,5 +1,0 @@
-use Rattle.cache_rows.proofs.Living.{found_at}
-use Rattle.cache_rows.proofs.objects.is_object.Goals as goal
-
-pub returns-then-is_at : goal.returns-then-is_at
-returns-then-is_at c = λ e. found_at c.args.objects.now c.loop-object.object-index _ c.args.page c.args.index c.loop-object-test.true (c.is_at.ensures c.if-is_at.true)

@@ -1,5 +1,0 @@
-use Rattle.cache_rows.proofs.Living.{objects-grow}
-use Rattle.cache_rows.proofs.scene.Scene.reclaim.Goals as goal
-
-pub invariant_of-self : goal.invariant_of-self
-invariant_of-self g c = (c.reclaim_pages.ensures.ready, objects-grow c.self.inside.hand.worker c.reclaim_pages.new.hand.worker c.self.inside.objects.items c.reclaim_pages.ensures.grows c.self.invariant.1)

@@ -1,4 +1,0 @@
-use Rattle.cache_rows.proofs.scene.Scene.small.Goals as goal
-
-pub invariant_of-self : goal.invariant_of-self
-invariant_of-self g c = (c.small.ensures.ready, c.small.ensures.objects)

@@ -1,5 +1,0 @@
-use Rattle.cache_rows.proofs.Living.{grows-trans}
-use Rattle.cache_rows.proofs.turns.large.Goals as goal
-
-pub returns-clause-grows : goal.returns-clause-grows
-returns-clause-grows g c = grows-trans c.args.hand.now.worker c.flush_now.new.hand.worker c.put_large.new.hand.worker c.flush_now.ensures.grows c.put_large.ensures.grows

@@ -1,0 +1,33 @@
+-- A hand is as the rows ask it at the start, and after a look for a span to cache.
+use Rattle.std.proofs.Common.{◌≡◌, ℕ, ◌<◌, List, [], ap, None, sym, subst, ◌∙◌}
+use Rattle.std.specs.Prelude.{All}
+use Rattle.std.proofs.lemmas.List.Elements.{All-nil}
+use Rattle.atomic_table.specs.Seated.{TableId}
+use Rattle.profile_cycle.specs.History.{RingId, Standing, first_view as no_calls}
+use Rattle.span_state.specs.MarkSet.{MarkSet, dead_of}
+use Rattle.worker_log.specs.declared.Entry.{Entry}
+use Rattle.span_laws.specs.declared.view.View.{View}
+use Rattle.span_laws.specs.Views.{Seen, first_view}
+use Rattle.span_set.specs.Tallies.{Frees}
+use Rattle.span_set.specs.declared.hand.Hand.{Hand}
+use Rattle.span_set.proofs.Tallies.{may-still}
+use Rattle.central_lists.specs.Works.{Does}
+use Rattle.central_lists_tests.specs.Rows.{IsReady}
+
+pub ready_after : (table : TableId) (ring : RingId) (m : MarkSet) (g class tried : ℕ) (more kept : ℕ → ℕ) (P : List Entry → Type 0) (old new : Hand) → Does g class tried more kept P old new → Frees m old new → IsReady table ring m old
+    → IsReady table ring m new
+ready_after table ring m g class tried more kept P old new d f r = let k = d.keeps in record {
+  works = (k.table ∙ r.works.0, k.away ∙ r.works.1);
+  unclaimed = k.claimed ∙ r.unclaimed;
+  marked = r.marked ∙ sym (ap (λ (v : View). v.marks) k.view);
+  counts = may-still m ring old new r.counts f;
+}
+
+pub first_ready : (table : TableId) (ring : RingId) (m : MarkSet) (pages goal workers : ℕ) (w : Seen) (h : Hand) → m.pairs ≡ [] → ((p : ℕ) → dead_of m p ≡ []) → w ≡ record { table = table; number = 69; away = []; journal = None; view = first_view pages goal workers } → h.worker ≡ w
+    → h.tally ≡ record { ring = ring; view = no_calls } → IsReady table ring m h
+first_ready table ring m pages goal workers w h none dead at same tally = let is = same ∙ at in record {
+  works = (ap (λ (s : Seen). s.table) is, ap (λ (s : Seen). s.away) is);
+  unclaimed = ap (λ (s : Seen). s.view.own.claimed) is;
+  marked = none ∙ sym (ap (λ (s : Seen). s.view.marks) is);
+  counts = record { ring = ap (λ (s : Standing). s.ring) tally; dead = λ p. subst (All (λ b. b < ring.buckets)) (sym (dead p)) (All-nil (λ b. b < ring.buckets)) };
+}

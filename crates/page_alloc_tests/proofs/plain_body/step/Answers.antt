@@ -1,0 +1,7 @@
+use Rattle.std.proofs.Common.{◌∙◌, ap}
+use Rattle.page_alloc.specs.Blocks.{open_blocks}
+use Rattle.page_alloc_tests.proofs.Outs.{none-out}
+use Rattle.page_alloc_tests.proofs.plain_body.step.Goals as goal
+
+pub scavenge-requires-clause-blocks : goal.scavenge-requires-clause-blocks
+scavenge-requires-clause-blocks g c = none-out c.reserve_line.new.self.past 0 (ap open_blocks c.in_ok-reserve_line-in_default.ensures.same.past ∙ c.requires.blocks)

@@ -1,6 +1,0 @@
-use Rattle.std.proofs.Common.{◌≡◌}
-use Rattle.page_replay.specs.Replays.{IsReplay, region_in}
-use Rattle.page_rows.proofs.cached_body.random_lines_are_those_of_a_plain_body.Given as goal
-
-abbrev pub invariant-loop : goal.invariant-loop
-invariant-loop g l = record { sound : IsReplay l.replay; region : region_in l.replay ≡ 1536 }

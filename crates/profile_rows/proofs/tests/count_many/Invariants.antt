@@ -1,5 +1,0 @@
-use Rattle.profile_rows.specs.Rows.{IsOut}
-use Rattle.profile_rows.proofs.tests.count_many.Given as goal
-
-abbrev pub invariant-loop : goal.invariant-loop
-invariant-loop l = IsOut l.ring l.tally

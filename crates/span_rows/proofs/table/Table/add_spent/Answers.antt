@@ -1,6 +1,0 @@
-use Rattle.span_rows.proofs.Tables.{ready_acts}
-use Rattle.span_rows.proofs.table.Table.add_spent.Goals as goal
-
-pub invariant_of-self : goal.invariant_of-self
-invariant_of-self c = let s = c.args.self.now in
-    record { ready = ready_acts s.shared s.driver s.ready _ _ c.add_spent.new.w c.add_spent.ensures s.ready.unclaimed }

@@ -1,6 +1,0 @@
-use Rattle.span_rows.proofs.Tables.{ready_kept}
-use Rattle.span_rows.proofs.table.Table.pop.Goals as goal
-
-pub invariant_of-self : goal.invariant_of-self
-invariant_of-self c = let s = c.args.self.now in
-    record { ready = ready_kept s.shared s.driver s.ready c.pop.new.w c.pop.ensures }

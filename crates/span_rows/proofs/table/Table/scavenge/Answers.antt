@@ -1,6 +1,0 @@
-use Rattle.span_rows.proofs.Tables.{ready_stepped}
-use Rattle.span_rows.proofs.table.Table.scavenge.Goals as goal
-
-pub invariant_of-self : goal.invariant_of-self
-invariant_of-self g c = let s = c.args.self.now in
-    record { ready = ready_stepped s.shared s.driver s.ready c.scavenge_step.new.w c.scavenge_step.result c.scavenge_step.ensures }

@@ -1,5 +1,0 @@
-use Rattle.span_rows.specs.Rows.{SeesBelow}
-use Rattle.span_rows.proofs.turns.sees_all_empty.Given as goal
-
-abbrev pub invariant-loop-set : goal.invariant-loop-set
-invariant-loop-set l = SeesBelow l.set l.fn.w l.w

@@ -1,6 +1,0 @@
-use Rattle.sweeper_rows.proofs.Ready.{ready_made}
-use Rattle.sweeper_rows.proofs.scene.Scene.make.Goals as goal
-
-pub invariant_of-self : goal.invariant_of-self
-invariant_of-self g c = let s = c.args.self.now in let d = c.new_span in
-    record { ready = ready_made s.shared s.ring s.marks s.hand d.new.hand d.ensures.tally s.ready c.max.result 1 d.result d.ensures.did }

@@ -1,0 +1,29 @@
+-- What the rows ask of a hand between calls.
+use Rattle.std.specs.Prelude.{◌≡◌, ℕ, true, [], None}
+use Rattle.atomic_table.specs.Seated.{TableId}
+use Rattle.profile_cycle.specs.History.{RingId}
+use Rattle.span_state.specs.MarkSet.{MarkSet, dead_of}
+use Rattle.span_laws.specs.Asks.{IsAtWork}
+use Rattle.span_laws.specs.Views.{Seen}
+use Rattle.span_table_tests.specs.Rows.{ArePlaced, IsFreeDriver}
+use Rattle.span_set.specs.Tallies.{MayCount}
+use Rattle.span_set.specs.declared.hand.Hand.{Hand}
+
+-- The driver's worker is one of this table, has nobody out, and has claimed and popped nothing, the marks are those of the last mark end, and its tally,
+-- which is the driver's of a ring of two buckets, may count their dead.
+pub record IsReady (table : TableId) (ring : RingId) (m : MarkSet) (h : Hand) : Type 0 where
+  pub works : IsAtWork table h.worker
+  pub unclaimed : h.worker.view.own.claimed ≡ None
+  pub unpopped : h.worker.view.own.popped ≡ []
+  pub marked : m.pairs ≡ h.worker.view.marks
+  pub counts : MayCount ring m h.tally
+  pub drives : h.tally.view.drives ≡ true
+  pub alone : h.tally.view.out ≡ 0
+  pub two : ring.buckets ≡ 2
+
+-- The driver in the first cycle, before whom no span waits; what is to be marked was placed, and nothing is dead.
+pub record IsStage (table : TableId) (m : MarkSet) (w : Seen) : Type 0 where
+  pub free : IsFreeDriver table w
+  pub generation : w.view.generation ≡ 4
+  pub placed : ArePlaced m.pairs w
+  pub dead : (page : ℕ) → dead_of m page ≡ []

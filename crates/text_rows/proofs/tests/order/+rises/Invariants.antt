@@ -1,5 +1,0 @@
-use Rattle.std.proofs.Common.{length}
-use Rattle.text_rows.proofs.tests.order.+rises.Given as goal
-
-abbrev pub decreases-rises : goal.decreases-rises
-decreases-rises g l = length l.items.now
