@@ -85,6 +85,7 @@ def runs(file, name, line, kind, forms):
             found = form and form.match(block, at)
             if not found:
                 is_kind(name, block[:100] if line == 1 else b"", f"a {kind}")
+                tool.refuse_page_caches(name, line, block[at : at + 100].decode("latin-1"))
                 raise Unusable(f"{name}: line {line}: no line of a {kind}")
             run = found.group()
             yield letter, run, line
@@ -106,8 +107,8 @@ class Trace:
         with opened(path) as file:
             front = file.readline(100)
             is_kind(self.name, front, "a trace")
-            if front != b"goheap 1\n":
-                raise Unusable(f"{self.name}: no trace: its first line is not `goheap 1`")
+            if front.decode("latin-1") not in [f"{line}\n" for line in tool.FIRST_LINES]:
+                raise Unusable(f"{self.name}: no trace: its first line is neither `{'` nor `'.join(tool.FIRST_LINES)}`")
             if not HEADER.fullmatch(file.readline(200)):
                 raise Unusable(f"{self.name}: line 2: no second line of a trace")
             for letter, run, line in runs(file, self.name, 3, "trace", TRACE_FORMS):

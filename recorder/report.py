@@ -2,7 +2,7 @@
 
 from typing import Dict, List, NamedTuple, Optional, Tuple
 
-from tool import Unusable, kind_of, named, reading, whole
+from tool import Unusable, kind_of, named, reading, refuse_page_caches, whole
 
 
 class Take(NamedTuple):
@@ -72,6 +72,7 @@ def read_report(lines, name="report"):
         try:
             ended = take_line(report, words)
         except (KeyError, ValueError, IndexError, TypeError):
+            refuse_page_caches(name, number, line)
             raise Unusable(f"{name}: line {number}: no line of a report") from None
     if not ended:
         raise Unusable(f"{name}: the report has no end")

@@ -502,7 +502,7 @@ class PinsFaults(Folder):
         ):
             self.assertEqual(run("pins", *words), (2, "", f"pins: {said}\n"))
         for text, why in (
-            ("", "no trace: its first line is not `goheap 1`"),
+            ("", "no trace: its first line is neither `goheap 1` nor `goheap 2`"),
             ("goheap 1\n", "line 2: no second line of a trace"),
             (head, "the trace has no end"),
             (head + "a 0 8 n 1\n", "the trace has no end"),

@@ -70,6 +70,18 @@ def kind_of(line):
     return next((kind for front, kind in KINDS if line.startswith(front)), None)
 
 
+# The first lines of the traces that are read here. A report of either may have no line of a page cache.
+FIRST_LINES = ("goheap 1", "goheap 2")
+OF_PAGE_CACHES = ("pull", "cut", "drop")
+
+
+def refuse_page_caches(name, number, line):
+    """Refuses a line of a page cache, which the tools don't read: `goheap run` writes none."""
+    words = line.split()
+    if words[:1] == ["j"] and words[3:4] and words[3] in OF_PAGE_CACHES:
+        raise Unusable(f"{name}: line {number}: this is a line of a page cache, which is not read here (goheap check judges it)")
+
+
 def size_text(size):
     """So many bytes, as `go tool pprof` writes them."""
     for unit, name in ((1 << 30, "GB"), (1 << 20, "MB"), (1 << 10, "kB")):

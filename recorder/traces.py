@@ -2,7 +2,7 @@
 
 from typing import List, NamedTuple, Tuple
 
-from tool import Unusable, kind_of, named, reading, whole
+from tool import FIRST_LINES, Unusable, kind_of, named, reading, whole
 
 
 class Event(NamedTuple):
@@ -27,8 +27,8 @@ def read_trace(lines, name="trace"):
     first = next(lines, (1, ""))[1]
     if kind_of(first) not in (None, "a trace"):
         raise Unusable(f"{name}: this is {kind_of(first)}, and no trace")
-    if first.split() != ["goheap", "1"]:
-        raise Unusable(f"{name}: no trace: its first line is not `goheap 1`")
+    if " ".join(first.split()) not in FIRST_LINES:
+        raise Unusable(f"{name}: no trace: its first line is neither `{'` nor `'.join(FIRST_LINES)}`")
     words = next(lines, (2, ""))[1].split()
     if words[::2] != HEADER or not all(word.isdecimal() for word in words[1::2]):
         raise Unusable(f"{name}: line 2: no second line of a trace")
