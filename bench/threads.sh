@@ -1,7 +1,7 @@
 #!/usr/bin/env bash
 # What it brings that the workers of a cycle run beside each other, in one run on one machine: on a trace of 1,000,000 objects over 8
-# processors with 10 mark ends, on the recorded trace of a real program, and on one of 10,000 mark ends of few events, `goheap run` on
-# one processor of the machine and on all of them. Each time is the median of five.
+# processors with 10 mark ends, on the recorded trace of a real program, and on one of 10,000 mark ends of few events on one chunk,
+# `goheap run` on one processor of the machine and on all of them. Each time is the median of five.
 #
 # Reading and writing stay in one thread. What they take is the time of a trace with as many objects of size 0, which are read and
 # answered and take nothing; what is left of a run without them is told too, and so are the instructions of a run, where `perf` counts
@@ -14,12 +14,12 @@ set -eu
 rounds=5
 all=$(nproc)
 
-# trace OBJECTS PROCS MARK_ENDS BYTES: so many objects, of sizes from 8 up to so many bytes (of size 0 for 0 bytes), over so many
-# processors in turn. A mark end marks every other object of the cycle before it.
+# trace OBJECTS PROCS MARK_ENDS BYTES CHUNKS: so many objects, of sizes from 8 up to so many bytes (of size 0 for 0 bytes), over so many
+# processors in turn, in a region of so many chunks. A mark end marks every other object of the cycle before it.
 trace() {
-  awk -v objects="$1" -v procs="$2" -v cycles="$(($3 + 1))" -v bytes="$4" 'BEGIN {
+  awk -v objects="$1" -v procs="$2" -v cycles="$(($3 + 1))" -v bytes="$4" -v chunks="$5" 'BEGIN {
     print "goheap 1"
-    print "heap 128 procs " procs " rate 0 seed 1 goal 65536"
+    print "heap " chunks " procs " procs " rate 0 seed 1 goal " 512 * chunks
     each = int(objects / cycles)
     for (c = 0; c < cycles; c++) {
       if (c > 0) {
@@ -33,11 +33,11 @@ trace() {
   }'
 }
 
-trace 0 8 0 512 >"$folder/empty"
-trace 1000000 8 10 512 >"$folder/eight"
-trace 1000000 8 10 0 >"$folder/eight.nothing"
-trace 40000 8 10000 512 >"$folder/cycles"
-trace 40000 8 10000 0 >"$folder/cycles.nothing"
+trace 0 8 0 512 128 >"$folder/empty"
+trace 1000000 8 10 512 128 >"$folder/eight"
+trace 1000000 8 10 0 128 >"$folder/eight.nothing"
+trace 40000 8 10000 512 1 >"$folder/cycles"
+trace 40000 8 10000 0 1 >"$folder/cycles.nothing"
 python3 -c 'import lzma, shutil, sys; shutil.copyfileobj(lzma.open(sys.argv[1]), sys.stdout.buffer)' examples/real/gofmt.trace.xz >"$folder/gofmt"
 sed 's/^a \([0-9]*\) [0-9]*/a \1 0/; /^m /d' "$folder/gofmt" >"$folder/gofmt.nothing"
 
