@@ -6,7 +6,7 @@
 set -u
 
 cd "$(dirname "$(readlink -f "$0")")/.." || exit 2
-[ $# -gt 0 ] || set -- run real check sampled mark_ends marks_read gen history pins first core table pages bitmap marks profile scavenge event_words
+[ $# -gt 0 ] || set -- run real check sampled mark_ends marks_read gen history pins first core table pages bitmap marks profile scavenge event_words threads
 for name; do
   [ -x "bench/$name.sh" ] || { echo "bench/readme.sh: no script bench/$name.sh" >&2; exit 2; }
 done
