@@ -43,6 +43,8 @@ for crate in "${crates[@]}"; do
   }
   made_again=0
   for name in $("crates/$crate/out/${crate}_tests" --list | sed -n 's/: test$//p'); do
+    # This test makes none of its calls again: without memory its own result is NoMemory. The rows beside it refuse the same call.
+    [ "$name" != tests::new_table_has_no_span ] || continue
     each "crates/$crate/out/${crate}_tests" "$name"
   done
   if [ $made_again -eq 0 ]; then
