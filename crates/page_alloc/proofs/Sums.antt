@@ -1,6 +1,7 @@
 -- The levels of sums over the chunks of a region.
 use Rattle.std.proofs.Common.{◌≡◌, ℕ, ◌+◌, ◌-◌, ◌*◌, ◌/◌, ◌%◌, ◌^◌, ◌<◌, ◌≤◌, Bool, true, false, List, length, get_or, Option, Some, None, IfSome, sym, ◌∙◌, ap, arith, ◌⊎◌, inl, inr}
 use Rattle.std.proofs.lemmas.Bool.{cases_lt, cases_Bool, false≢true}
+use Rattle.size_classes.specs.declared.TheConstants.{MAX_CHUNKS}
 use Rattle.page_bitmap.specs.declared.chunk.Chunk.{Chunk}
 use Rattle.page_bitmap.specs.Runs.{IsRun, HasNoRun, IsFirstRun, IsFrontRun, IsBackRun, IsLongestRun, SetsRun}
 use Rattle.page_bitmap.specs.Pages.{is_free}
@@ -116,20 +117,20 @@ run-in_region chunks page n some run =
     let last = inside-region chunks (page + n - 1) (run.each (page + n - 1) (omega arith) (omega arith)) in
     record { inside = omega arith; each = run.each }
 
-run-of_region : (chunks : List Chunk) (page n : ℕ) → length chunks ≤ 128 → IsRunIn (free_in chunks) (512 * length chunks) page n → IsRunIn (free_in chunks) (2 ^ 21) page n
+run-of_region : (chunks : List Chunk) (page n : ℕ) → length chunks ≤ MAX_CHUNKS → IsRunIn (free_in chunks) (512 * length chunks) page n → IsRunIn (free_in chunks) (2 ^ 21) page n
 run-of_region chunks page n few run = (let inside = run.inside in record { inside = omega arith; each = run.each })
 
-pub first-in_region : (chunks : List Chunk) (page n : ℕ) → length chunks ≤ 128 → 1 ≤ n → IsFirstRunIn (free_in chunks) (2 ^ 21) n page
+pub first-in_region : (chunks : List Chunk) (page n : ℕ) → length chunks ≤ MAX_CHUNKS → 1 ≤ n → IsFirstRunIn (free_in chunks) (2 ^ 21) n page
     → IsFirstRunIn (free_in chunks) (512 * length chunks) n page
 first-in_region chunks page n few some first = record {
   here = run-in_region chunks page n some first.here;
   least = λ q less run. first.least q less (run-of_region chunks q n few run);
 }
 
-pub none-in_region : (chunks : List Chunk) (n : ℕ) → length chunks ≤ 128 → HasNoRunIn (free_in chunks) (2 ^ 21) n → HasNoRunIn (free_in chunks) (512 * length chunks) n
+pub none-in_region : (chunks : List Chunk) (n : ℕ) → length chunks ≤ MAX_CHUNKS → HasNoRunIn (free_in chunks) (2 ^ 21) n → HasNoRunIn (free_in chunks) (512 * length chunks) n
 none-in_region chunks n few none page run = none page (run-of_region chunks page n few run)
 
-pub longest-in_region : (chunks : List Chunk) (s m e : ℕ) → length chunks ≤ 128 → IsSumOf (free_in chunks) (2 ^ 21) s m e → IsLongestRunIn (free_in chunks) (512 * length chunks) m
+pub longest-in_region : (chunks : List Chunk) (s m e : ℕ) → length chunks ≤ MAX_CHUNKS → IsSumOf (free_in chunks) (2 ^ 21) s m e → IsLongestRunIn (free_in chunks) (512 * length chunks) m
 longest-in_region chunks s m e few sum = record {
   here = elim (cases_lt 0 m) [
     | inl some ↦ (sum.longest.0, run-in_region chunks sum.longest.0 m (omega arith) sum.longest.1)
@@ -139,7 +140,7 @@ longest-in_region chunks s m e few sum = record {
 }
 
 -- the first run of the chunk that has the first one
-pub chunk-first : (chunks : List Chunk) (k n page : ℕ) (d : Chunk) → k < length chunks → length chunks ≤ 128 → IsInside (free_in chunks) (2 ^ 21) (512 * k) 512 n
+pub chunk-first : (chunks : List Chunk) (k n page : ℕ) (d : Chunk) → k < length chunks → length chunks ≤ MAX_CHUNKS → IsInside (free_in chunks) (2 ^ 21) (512 * k) 512 n
     → IsFirstRun (is_free (get_or chunks k d)) n 0 page → IsFirstRunIn (free_in chunks) (2 ^ 21) n (512 * k + page)
 chunk-first chunks k n page d lt few inside first =
     let within = first.run.within in
@@ -235,7 +236,7 @@ entry-chunk chunks k n some inside =
     let lt = inside-region chunks (512 * k + inside.run.0) (inside.run.1.each inside.run.0 (omega arith) (omega arith)) in
     omega arith
 
-pub if-first : (chunks : List Chunk) (n : ℕ) (found : Option ℕ) → length chunks ≤ 128 → 1 ≤ n → IfSome found (IsFirstRunIn (free_in chunks) (2 ^ 21) n)
+pub if-first : (chunks : List Chunk) (n : ℕ) (found : Option ℕ) → length chunks ≤ MAX_CHUNKS → 1 ≤ n → IfSome found (IsFirstRunIn (free_in chunks) (2 ^ 21) n)
     → IfSome found (IsFirstRunIn (free_in chunks) (512 * length chunks) n)
 if-first chunks n None few some first = tt
 if-first chunks n (Some page) few some first = first-in_region chunks page n few some first

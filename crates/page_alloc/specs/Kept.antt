@@ -1,5 +1,6 @@
 -- What the pages of a region keep: their maps and numbers are those of the journal, which is legal.
 use Rattle.std.specs.Prelude.{◌≡◌, ℕ, ◌+◌, ◌-◌, ◌*◌, ◌<◌, ◌≤◌, Bool, true, false, not, List, length, slice_index, Some, vec_len, vec_capacity}
+use Rattle.size_classes.specs.declared.TheConstants.{MAX_CHUNKS}
 use Rattle.page_bitmap.specs.declared.line.Line.{Line}
 use Rattle.page_alloc.specs.declared.allocator.Pages.TheInside.{Inside}
 use Rattle.page_alloc.specs.Lists.{In}
@@ -39,7 +40,7 @@ heap_of inside = record { region = region_of inside; goal = inside.goal; past = 
 -- What is true of the fields.
 pub record IsSound (inside : Inside) : Type 0 where
   pub some_chunks : 1 ≤ length inside.chunks.items
-  pub few_chunks : length inside.chunks.items ≤ 128
+  pub few_chunks : length inside.chunks.items ≤ MAX_CHUNKS
   pub maps : length inside.starts.items ≡ length inside.chunks.items
   pub numbers : length inside.lengths.items ≡ 512 * length inside.chunks.items
   pub kept : IsKept (region_of inside) inside.goal (past_in inside) (free_in inside.chunks.items) (scavenged_in inside.chunks.items) (pages_in inside.starts.items) inside.lengths.items inside.live inside.taken inside.backed

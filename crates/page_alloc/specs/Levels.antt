@@ -6,7 +6,7 @@ use Rattle.page_alloc.specs.declared.levels.Levels.{Levels}
 -- Each level below the top ends with the block of eight entries that has the region's last page.
 pub record AreCut (chunks : ℕ) (levels : Levels) : Type 0 where
   pub entries_1 : length levels.level_1.items ≡ 8
-  pub entries_2 : length levels.level_2.items ≡ 8
+  pub entries_2 : length levels.level_2.items ≡ 8 * ((chunks + 511) / 512)
   pub entries_3 : length levels.level_3.items ≡ 8 * ((chunks + 63) / 64)
   pub entries_4 : length levels.level_4.items ≡ 8 * ((chunks + 7) / 8)
 

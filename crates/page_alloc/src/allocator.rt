@@ -43,7 +43,7 @@ use crate::starts::{last_start, mark_start};
 use fallible_list::NoMemory;
 use page_bitmap::{Bitmap, Chunk, Line, Run};
 use page_cache::{Block, CutNote, PageCache};
-use size_classes::CHUNK_PAGES;
+use size_classes::{CHUNK_PAGES, MAX_CHUNKS, MAX_PAGES};
 use std::alloc::Global;
 use std::marker::Model;
 
@@ -89,11 +89,11 @@ impl Model for Pages {
 }
 
 impl Pages {
-    /// The pages of a region of so many chunks of 512 pages, from 1 to 128: all free and scavenged, with an
+    /// The pages of a region of so many chunks of 512 pages, from 1 to 4096: all free and scavenged, with an
     /// empty journal and this goal for backed pages.
     pub fn new(alloc: Global, chunks: u32, goal: u32) -> Result<Pages, NoMemory>
         requires some { 1 ≤ chunks }
-        requires few { chunks ≤ 128 }
+        requires few { chunks ≤ MAX_CHUNKS }
         ensures region { IfOk result (λ pages. pages.region ≡ 512 * chunks) }
         ensures goal { IfOk result (λ pages. pages.goal ≡ goal) }
         ensures empty { IfOk result (λ pages. pages.past ≡ []) }
@@ -370,7 +370,7 @@ impl Pages {
     pub fn region(&self) -> u32
         ensures region { result ≡ self.now.region }
         ensures some { 512 ≤ result }
-        ensures most { result ≤ 65536 }
+        ensures most { result ≤ MAX_PAGES }
     {
         CHUNK_PAGES * self.chunks.len() as u32
     }

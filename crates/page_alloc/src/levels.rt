@@ -10,7 +10,7 @@ ghost use Rattle.page_alloc.specs.Region.{HasNoRunIn, IsFirstRunIn, free_in};
 use fallible_list::NoMemory;
 use page_bitmap::Chunk;
 use page_summary::{Place, Sum, descend, merge, rebuild};
-use size_classes::CHUNK_PAGES;
+use size_classes::{CHUNK_PAGES, MAX_CHUNKS};
 use std::alloc::Global;
 
 /// The pages that an entry of each level below the top covers.
@@ -38,14 +38,14 @@ impl Levels {
     /// The levels over these chunks.
     pub(crate) fn new(alloc: Global, chunks: &[Chunk]) -> Result<Levels, NoMemory>
         requires some { 1 ≤ length chunks.now }
-        requires few { length chunks.now ≤ 128 }
+        requires few { length chunks.now ≤ MAX_CHUNKS }
         ensures { IfOk result (λ levels. AreRight (free_in chunks.now) (length chunks.now) levels) }
     {
         let none = Sum::pack(0, 0, 0);
         let mut levels = Levels {
             top: none,
             level_1: vec![in alloc; none; 8]?,
-            level_2: vec![in alloc; none; 8]?,
+            level_2: vec![in alloc; none; 8 * chunks.len().div_ceil(512)]?,
             level_3: vec![in alloc; none; 8 * chunks.len().div_ceil(64)]?,
             level_4: vec![in alloc; none; 8 * chunks.len().div_ceil(8)]?,
         };
@@ -58,7 +58,7 @@ impl Levels {
     pub(crate) fn update(&mut self, chunks: &[Chunk], first: usize, last: usize)
         requires order { first ≤ last }
         requires within { last < length chunks.now }
-        requires few { length chunks.now ≤ 128 }
+        requires few { length chunks.now ≤ MAX_CHUNKS }
         requires others { AreRightBut (free_in chunks.now) (length chunks.now) self.old first last }
         ensures { AreRight (free_in chunks.now) (length chunks.now) self.new }
     {
@@ -91,7 +91,7 @@ impl Levels {
     /// the top, at eight of each other level and at eight words of a chunk at most, and raises the counter by one for each
     /// (`mpagealloc.go`, `find`).
     pub(crate) fn find(&self, chunks: &[Chunk], search: u32, n: u32, steps: &mut u64) -> Option<u32>
-        requires few { length chunks.now ≤ 128 }
+        requires few { length chunks.now ≤ MAX_CHUNKS }
         requires levels { AreRight (free_in chunks.now) (length chunks.now) self.now }
         requires taken { (p : ℕ) → p < search → free_in chunks.now p ≡ false }
         requires some { 1 ≤ n }
@@ -134,7 +134,7 @@ impl Levels {
         n: u32,
         steps: &mut u64,
     ) -> Option<u32>
-        requires few { length chunks.now ≤ 128 }
+        requires few { length chunks.now ≤ MAX_CHUNKS }
         requires levels { AreRight (free_in chunks.now) (length chunks.now) self.now }
         requires taken { (p : ℕ) → p < search → free_in chunks.now p ≡ false }
         requires some { 1 ≤ n }
@@ -200,7 +200,7 @@ fn refresh(level: &mut [Sum], chunks: &[Chunk], first: usize, last: usize)
 fn first_run(chunks: &[Chunk], index: u32, n: u32, steps: &mut u64) -> Option<u32>
     requires some { 1 ≤ n }
     requires chunk { index < length chunks.now }
-    requires few { length chunks.now ≤ 128 }
+    requires few { length chunks.now ≤ MAX_CHUNKS }
     requires inside { IsInside (free_in chunks.now) (2 ^ 21) (512 * index) 512 n }
     requires room { steps.old + 8 < 2 ^ 64 }
     ensures found { IfSome result (IsFirstRunIn (free_in chunks.now) (2 ^ 21) n) }

@@ -32,14 +32,14 @@ ghost use Rattle.page_alloc.specs.Region.{
 };
 
 use page_bitmap::{Chunk, Run};
-use size_classes::CHUNK_PAGES;
+use size_classes::{CHUNK_PAGES, MAX_CHUNKS, MAX_PAGES};
 
 /// The most pages that one scavenging step releases (ours).
 const SCAVENGE_PAGES: u32 = 64;
 
 /// Takes the pages of a free run, and says how many of them were scavenged.
 pub(crate) fn take_run(chunks: &mut [Chunk], run: Run) -> u32
-    requires chunks { length chunks.old ≤ 128 }
+    requires chunks { length chunks.old ≤ MAX_CHUNKS }
     requires free { IsRunIn (free_in chunks.old) (512 * length chunks.old) run.page run.pages }
     ensures free { SetsRun (free_in chunks.old) (free_in chunks.new) run.page run.pages false }
     ensures scavenged { SetsRun (scavenged_in chunks.old) (scavenged_in chunks.new) run.page run.pages false }
@@ -59,7 +59,7 @@ pub(crate) fn take_run(chunks: &mut [Chunk], run: Run) -> u32
 
 /// Frees the pages of a taken run.
 pub(crate) fn free_run(chunks: &mut [Chunk], run: Run)
-    requires chunks { length chunks.old ≤ 128 }
+    requires chunks { length chunks.old ≤ MAX_CHUNKS }
     requires taken { IsRunIn (λ p. not (free_in chunks.old p)) (512 * length chunks.old) run.page run.pages }
     ensures free { SetsRun (free_in chunks.old) (free_in chunks.new) run.page run.pages true }
     ensures scavenged { (p : ℕ) → scavenged_in chunks.new p ≡ scavenged_in chunks.old p }
@@ -75,7 +75,7 @@ pub(crate) fn free_run(chunks: &mut [Chunk], run: Run)
 /// The chunk, the first page in it and the number of pages of the part of a run that follows its first `done` pages.
 fn piece(run: Run, done: u32) -> (usize, u32, u32)
     requires left { done < run.pages }
-    requires fits { run.page + run.pages ≤ 65536 }
+    requires fits { run.page + run.pages ≤ MAX_PAGES }
     ensures page { run.page + done ≡ 512 * result.0 + result.1 }
     ensures some { 1 ≤ result.2 }
     ensures chunk { result.1 + result.2 ≤ 512 }
@@ -89,7 +89,7 @@ fn piece(run: Run, done: u32) -> (usize, u32, u32)
 
 /// The number of the chunk behind the last one that a run has pages of.
 pub(crate) fn chunk_behind(run: Run) -> usize
-    requires { run.page + run.pages ≤ 65536 }
+    requires { run.page + run.pages ≤ MAX_PAGES }
     ensures behind { run.page + run.pages ≤ 512 * result }
     ensures least { 512 * result < run.page + run.pages + 512 }
 {
@@ -99,7 +99,7 @@ pub(crate) fn chunk_behind(run: Run) -> usize
 /// The run that a scavenging step releases, where no chunk from the number `end` on has a page that is free and backed: None
 /// where no chunk has one.
 pub(crate) fn top_run(chunks: &[Chunk], end: usize) -> Option<Run>
-    requires few { length chunks.now ≤ 128 }
+    requires few { length chunks.now ≤ MAX_CHUNKS }
     requires end { end ≤ length chunks.now }
     requires above { (p : ℕ) → 512 * end ≤ p → loose_in chunks.now p ≡ false }
     ensures found { IfSome result (λ run. IsTopRunIn (loose_in chunks.now) (512 * length chunks.now) run.page run.pages) }
@@ -119,7 +119,7 @@ pub(crate) fn top_run(chunks: &[Chunk], end: usize) -> Option<Run>
 
 /// Marks the pages of a free run inside one chunk as scavenged.
 pub(crate) fn scavenge_run(chunks: &mut [Chunk], run: Run)
-    requires chunks { length chunks.old ≤ 128 }
+    requires chunks { length chunks.old ≤ MAX_CHUNKS }
     requires some { 1 ≤ run.pages }
     requires one { run.page / 512 ≡ (run.page + run.pages - 1) / 512 }
     requires free { IsRunIn (free_in chunks.old) (512 * length chunks.old) run.page run.pages }

@@ -8,5 +8,5 @@ mod search;
 mod sum;
 
 pub use level::rebuild;
-pub use search::{Place, descend};
+pub use search::{MAX_ENTRIES, Place, descend};
 pub use sum::{MOST_PAGES, Sum, merge};

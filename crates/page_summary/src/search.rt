@@ -6,6 +6,9 @@ ghost use Rattle.page_summary.specs.Sums.{AllFit, AreSums};
 
 use crate::sum::Sum;
 
+/// The entries of the longest level: a chunk of 512 pages each, of 2^21 pages in all.
+pub const MAX_ENTRIES: u32 = 4096;
+
 /// Where the first run of so many free pages begins, as far as a level of sums shows.
 #[derive(Clone, Copy, Debug)]
 pub enum Place {
@@ -52,7 +55,7 @@ fn scan(block: &[Sum], pages: u32, skip: usize, n: u32, steps: &mut u64) -> Plac
 /// looks at eight entries at most, and raises the counter by one for each (`mpagealloc.go`, `find`).
 pub fn descend(level: &[Sum], pages: u32, place: Place, from: u32, n: u32, steps: &mut u64) -> Place
     requires some { 1 ≤ n }
-    requires few { length level.now ≤ 128 }
+    requires few { length level.now ≤ MAX_ENTRIES }
     requires block { HasBlock (length level.now) place }
     requires pages { pages * length level.now ≤ 2 ^ 21 }
     requires fit { AllFit pages level.now }

@@ -1,6 +1,6 @@
 //! The words of the shared table of spans: where each of them is, and how a set's head and tail share one word.
 //!
-//! The region has 512 pages for each of its chunks, of which there are at most 128. The table begins with the words `LOCK`, `GENERATION`,
+//! The region has 512 pages for each of its chunks, of which there are at most 4096. The table begins with the words `LOCK`, `GENERATION`,
 //! `SWEPT_PAGES`, `SPENT_BYTES` and `NEXT_CHUNK`. Behind them stand a word for each worker, one for each page and one for each set of
 //! spans, and then the spines and blocks with the sets' cells, whose numbers `set_blocks` has. No call takes memory.
 #![tactic(auto)]
@@ -18,6 +18,8 @@ ghost use Rattle.table_words.specs.Names.{
   head_of as head_in,
   tail_of as tail_in,
 };
+
+use set_blocks::MAX_CHUNKS;
 
 #[cfg(test)]
 mod tests;
@@ -50,7 +52,7 @@ const FIRST_PAGE: u64 = 75;
 
 // The pages of a region of so many chunks.
 fn pages_of(chunks: u32) -> u64
-    requires { chunks ≤ 128 }
+    requires { chunks ≤ MAX_CHUNKS }
     ensures { result ≡ 512 * chunks }
 {
     512 * u64::from(chunks)
@@ -58,7 +60,7 @@ fn pages_of(chunks: u32) -> u64
 
 // The first word of the sets.
 fn first_set(chunks: u32) -> u64
-    requires { chunks ≤ 128 }
+    requires { chunks ≤ MAX_CHUNKS }
     ensures { result ≡ 512 * chunks + 75 }
 {
     pages_of(chunks) + FIRST_PAGE
@@ -74,7 +76,6 @@ pub fn event_word(number: u32) -> u64
 
 /// The generation word of a page of the region.
 pub fn page_word(page: u32) -> u64
-    requires { page < 65536 }
     ensures { (R : ℕ) → result ≡ place R (PageWord page) }
 {
     u64::from(page) + FIRST_PAGE
@@ -82,7 +83,7 @@ pub fn page_word(page: u32) -> u64
 
 /// The word of a set of spans, with its head and its tail, in a region of so many chunks.
 pub fn set_word(chunks: u32, set: u32) -> u64
-    requires chunks { chunks ≤ 128 }
+    requires chunks { chunks ≤ MAX_CHUNKS }
     requires set { set < 544 }
     ensures { result ≡ place (512 * chunks) (SetWord set) }
 {

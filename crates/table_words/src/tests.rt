@@ -12,11 +12,15 @@ fn blocks(rt: HostRuntime) {
     );
     assert_eq!(rt; [event_word(0), event_word(WORKERS - 1)], [5, 74]);
     assert_eq!(rt;
-        [page_word(0), page_word(511), page_word(65535)],
-        [75, 586, 65610]
+        [page_word(0), page_word(511), page_word(2097151)],
+        [75, 586, 2097226]
     );
     assert_eq!(rt; [set_word(1, 0), set_word(1, SETS - 1)], [587, 1130]);
     assert_eq!(rt; [set_word(128, 0), set_word(128, SETS - 1)], [65611, 66154]);
+    assert_eq!(rt;
+        [set_word(4096, 0), set_word(4096, SETS - 1)],
+        [2097227, 2097770]
+    );
 }
 
 // The tail is in the low half of a set's word, the head in the high one.

@@ -1,7 +1,9 @@
 -- Lines that nothing is wrong with.
-use Rattle.std.proofs.Common.{◌≡◌, ◌≢◌, ◌==◌, ℕ, ◌+◌, ◌^◌, ◌<◌, ◌≤◌, Bool, true, false, not, List, [], ◌∷◌, ◌++◌, length, map, codes, decimal, Option, None, nat_le, refl, ap, subst, arith, length-append}
+use Rattle.std.proofs.Common.{◌≡◌, ◌≢◌, ◌==◌, ℕ, ◌+◌, ◌^◌, ◌<◌, ◌≤◌, Bool, true, false, not, List, [], ◌∷◌, ◌++◌, length, map, codes, decimal, Option, None, nat_le, refl, ap, subst, inl, inr, arith, length-append}
 use Rattle.std.specs.List.{AllByRecursion, list_all}
 use Rattle.std.specs.Option.{option_map}
+use Rattle.std.proofs.lemmas.Bool.{cases_Bool}
+use Rattle.std.proofs.lemmas.Bool.Decides.{nat_tests}
 use Rattle.std.proofs.lemmas.Fmt.{length-decimal-le_wide}
 use Rattle.edge_io.specs.Line.{IsLine}
 use Rattle.trace_reader.proofs.Compare.{at_most, below_true}
@@ -15,7 +17,7 @@ use Rattle.trace_reader.specs.declared.trace.Header.{Header}
 use Rattle.trace_reader.specs.declared.trace.Event.{Event}
 use Rattle.trace_reader.specs.Words.{IsDigit}
 use Rattle.trace_reader.specs.Spelling.{alloc_of, heap_of, kind, line_for}
-use Rattle.trace_reader.specs.Limits.{EventFits, HeaderFits, IsVersion}
+use Rattle.trace_reader.specs.Limits.{EventFits, HeaderFits, IsVersion, max_chunks, max_pages}
 use Rattle.trace_reader.specs.Checks.{bad_mark, counts_within, may_follow, numbers_within, passed, within}
 use Rattle.trace_reader.specs.Refusal.{fault_if, first_of, statement_fault}
 use Rattle.trace_reader.specs.Good.{AreGood}
@@ -85,11 +87,11 @@ heap_is_line h fits =
     let r3 = codes " seed " ++ (decimal h.seed ++ r4) in
     let r2 = codes " rate " ++ (decimal h.rate ++ r3) in
     let r1 = codes " procs " ++ (decimal h.procs ++ r2) in
-    let l5 = field_length (codes " goal ") [] h.goal 5 (omega arith) (omega arith) (omega arith) in
+    let l5 = field_length (codes " goal ") [] h.goal 7 (omega arith) (omega arith) (omega arith) in
     let l4 = field_length (codes " seed ") r4 h.seed 20 (omega arith) (omega arith) (omega arith) in
     let l3 = field_length (codes " rate ") r3 h.rate 10 (omega arith) (omega arith) (omega arith) in
     let l2 = field_length (codes " procs ") r2 h.procs 2 (omega arith) (omega arith) (omega arith) in
-    let l1 = field_length (codes "heap ") r1 h.chunks 3 (omega arith) (omega arith) (omega arith) in (
+    let l1 = field_length (codes "heap ") r1 h.chunks 4 (omega arith) (omega arith) (omega arith) in (
       omega arith,
       field_apart (codes "heap ") r1 h.chunks refl (omega arith) (field_apart (codes " procs ") r2 h.procs refl (omega arith) (field_apart (codes " rate ") r3 h.rate refl (omega arith)
           (field_apart (codes " seed ") r4 h.seed refl (omega arith) (field_apart (codes " goal ") [] h.goal refl (omega arith) tt)))),
@@ -130,8 +132,27 @@ title_good version fits = (
   tt,
 )
 
-pub header_good : (version : ℕ) (h : Header) → HeaderFits h → AreGood (Title version ∷ []) (heap_of h ∷ [])
-header_good version h fits =
+-- what is within the limits of all versions, and in version 1 within its own, is within those of the version
+chunks_fit : (h : Header) → HeaderFits h → h.chunks ≤ max_chunks h.version
+unfolding max_chunks
+chunks_fit h fits =
+    elim (cases_Bool (h.version == 1)) [
+      | inl first ↦ rw first (fits.first (grind (arith, nat_tests))).0
+      | inr later ↦ rw later fits.chunks.1
+    ]
+
+pages_fit : (h : Header) → HeaderFits h → h.goal ≤ max_pages h.version
+unfolding max_pages
+pages_fit h fits =
+    elim (cases_Bool (h.version == 1)) [
+      | inl first ↦ rw first (fits.first (grind (arith, nat_tests))).1
+      | inr later ↦ rw later fits.goal
+    ]
+
+pub header_good : (version : ℕ) (h : Header) → h.version ≡ version → HeaderFits h → AreGood (Title version ∷ []) (heap_of h ∷ [])
+header_good version h same fits =
+    let most_chunks = subst (λ (v : ℕ). h.chunks ≤ max_chunks v) same (chunks_fit h fits) in
+    let most_pages = subst (λ (v : ℕ). h.goal ≤ max_pages v) same (pages_fit h fits) in
     let chunks = fits.chunks in
     let procs = fits.procs in
     let rate = fits.rate in
@@ -142,8 +163,8 @@ header_good version h fits =
         says = said_line (heap_of h) (omega arith, (omega arith, (omega arith, (omega arith, (omega arith, tt)))));
         not_end = refl;
         no_fault = fault_none (Title version ∷ []) (heap_of h) refl
-            (pass _ _ _ (within_true 1 128 h.chunks chunks.0 chunks.1) (pass _ _ _ (within_true 1 64 h.procs procs.0 procs.1) (pass _ _ _ (at_most h.rate (2 ^ 30) rate)
-            (pass _ _ _ (below_true h.seed (2 ^ 64) seed) (pass _ _ _ (at_most h.goal 65536 goal) refl))))) refl refl;
+            (pass _ _ _ (within_true 1 (max_chunks version) h.chunks chunks.0 most_chunks) (pass _ _ _ (within_true 1 64 h.procs procs.0 procs.1) (pass _ _ _ (at_most h.rate (2 ^ 30) rate)
+            (pass _ _ _ (below_true h.seed (2 ^ 64) seed) (pass _ _ _ (at_most h.goal (max_pages version) most_pages) refl))))) refl refl;
       },
       tt,
     )

@@ -5,6 +5,7 @@ use Rattle.trace_reader.specs.declared.fault.TraceFault.{TraceFault}
 use Rattle.trace_reader.specs.declared.fault.TraceFault.TheVariants.{Malformed, Truncated, Limit, BadMark}
 use Rattle.trace_reader.specs.declared.fault.Which.TheVariants.{Bytes, Chunks, Procs, Rate, Seed, Goal, Proc, Size, Stack, Distance, Id}
 use Rattle.edge_io.specs.Text.{text}
+use Rattle.trace_reader.specs.Limits.{max_chunks, max_pages}
 use Rattle.trace_reader.specs.Says.{said}
 use Rattle.trace_reader.specs.Refusal.{refusal, fault_in, lines_fault, nothing_behind}
 
@@ -44,7 +45,7 @@ sound : map refusal (whole (codes "a 0 24 s 1" ∷ []) ∷ whole [] ∷ whole (r
     ∷ whole (codes "a 0 1099511627776 n 1" ∷ [])
     ∷ with_header (codes "heap 1 procs 64 rate 0 seed 1 goal 512")
     ∷ []) ≡ replicate 16 None
-unfolding digits said lines_fault
+unfolding digits said lines_fault max_chunks max_pages
 sound = refl
 
 -- each event that ends a line
@@ -54,7 +55,7 @@ events : map refusal ([] ∷ codes "goheap 1" ∷ headed [] ∷ headed (codes "h
     ≡ Some (Truncated 1) ∷ Some (Truncated 1) ∷ Some (Truncated 2) ∷ Some (Truncated 3) ∷ Some (Truncated 4)
     ∷ Some (Truncated 4) ∷ Some (Malformed 3) ∷ Some (Truncated 3) ∷ Some (Malformed 3) ∷ Some (Malformed 3)
     ∷ Some (Malformed 4) ∷ Some (Malformed 5) ∷ Some (Malformed 4) ∷ Some (Malformed 4) ∷ []
-unfolding digits said lines_fault
+unfolding digits said lines_fault max_chunks max_pages
 events = refl
 
 -- the byte past the limit
@@ -68,7 +69,7 @@ limits_of_bytes : fault_within 0 (codes "g") ∷ fault_within 0 [] ∷ fault_wit
     ≡ Some (Limit 1 Bytes) ∷ Some (Truncated 1) ∷ Some (Limit 1 Bytes) ∷ Some (Limit 2 Bytes) ∷ Some (Limit 2 Bytes) ∷ Some (Limit 3 Bytes) ∷ Some (Limit 3 Bytes) ∷ None
     ∷ Some (Truncated 3) ∷ Some (Malformed 4) ∷ Some (Limit 3 Bytes) ∷ Some (Malformed 3)
     ∷ Some (Limit 3 Bytes) ∷ Some (Malformed 3) ∷ []
-unfolding digits said lines_fault
+unfolding digits said lines_fault max_chunks max_pages
 limits_of_bytes = refl
 
 -- forms of the first two lines
@@ -77,20 +78,20 @@ forms_of_header : map refusal (text (codes "goheap 3" ∷ []) ∷ text (codes "g
     ∷ codes "heap 1 procs +1 rate 0 seed 1 goal 512" ∷ codes "heap 1 procs 1 rate -1 seed 1 goal 512" ∷ codes "heap 1 procs 1 rate 0 seed x goal 512" ∷ codes "heap 1 procs 1 rate 0 seed 1 goal" ∷ codes "heap 1 procs 1 rate 0 goal 512 seed 1"
     ∷ codes "heap 1 procs 1 rate 0 seed 100000000000000000000 goal 512" ∷ codes "goheap 1" ∷ codes "a 0 24 s 1" ∷ codes "end" ∷ []))
     ≡ replicate 6 (Some (Malformed 1)) ++ replicate 13 (Some (Malformed 2))
-unfolding digits said lines_fault
+unfolding digits said lines_fault max_chunks max_pages
 forms_of_header = refl
 
 -- lines behind the title of version 2
 abbrev later : List (List ℕ) → List ℕ
 later lines = text (codes "goheap 2" ∷ lines)
 
--- the versions: what is asked of the lines behind the first one is the same in both
-versions : map refusal (later (codes "heap 1 procs 1 rate 0 seed 1 goal 512" ∷ codes "a 0 24 s 1" ∷ codes "end" ∷ []) ∷ later (codes "heap 128 procs 64 rate 1 seed 1 goal 65536" ∷ codes "gc 1" ∷ codes "end" ∷ [])
-    ∷ codes "goheap 2" ∷ later [] ∷ later (codes "goheap 2" ∷ []) ∷ later (codes "heap 129 procs 1 rate 0 seed 1 goal 512" ∷ []) ∷ later (codes "heap 1 procs 1 rate 0 seed 1 goal 65537" ∷ []) ∷ later (codes "heap 1 procs 1 rate 0 seed 1 goal 512" ∷ codes "goheap 2" ∷ [])
+-- the versions: the lines behind the first one are the same in both, and the limits of regions differ
+versions : map refusal (later (codes "heap 1 procs 1 rate 0 seed 1 goal 512" ∷ codes "a 0 24 s 1" ∷ codes "end" ∷ []) ∷ later (codes "heap 4096 procs 64 rate 1 seed 1 goal 2097152" ∷ codes "gc 1" ∷ codes "end" ∷ [])
+    ∷ codes "goheap 2" ∷ later [] ∷ later (codes "goheap 2" ∷ []) ∷ later (codes "heap 4097 procs 1 rate 0 seed 1 goal 512" ∷ []) ∷ later (codes "heap 1 procs 1 rate 0 seed 1 goal 2097153" ∷ []) ∷ later (codes "heap 1 procs 1 rate 0 seed 1 goal 512" ∷ codes "goheap 2" ∷ [])
     ∷ map (λ title. text (title ∷ codes "heap 1 procs 1 rate 0 seed 1 goal 512" ∷ codes "end" ∷ [])) (codes "goheap 0" ∷ codes "goheap 3" ∷ codes "goheap 02" ∷ codes "goheap 12" ∷ codes "goheap 20" ∷ codes "goheap" ∷ codes "goheap " ∷ codes "goheap 2 "
     ∷ codes "goheap -2" ∷ codes "goheap 99999999999999999999" ∷ codes "goheap 100000000000000000002" ∷ []))
     ≡ None ∷ None ∷ Some (Truncated 1) ∷ Some (Truncated 2) ∷ Some (Malformed 2) ∷ Some (Limit 2 Chunks) ∷ Some (Limit 2 Goal) ∷ Some (Malformed 3) ∷ replicate 11 (Some (Malformed 1))
-unfolding digits said lines_fault
+unfolding digits said lines_fault max_chunks max_pages
 versions = refl
 
 -- forms of the lines behind them
@@ -98,20 +99,20 @@ forms_of_lines : map (λ line. refusal (with_line line)) (codes "a 0 024 s 1" �
     ∷ codes "a 0 24 s 1x" ∷ codes "A 0 24 s 1" ∷ codes "a 0 24 s 1\r" ∷ codes "a\t0 24 s 1" ∷ codes "a 0 100000000000000000000 s 1" ∷ codes "a 0 24 s " ∷ codes "b 0 24 s 1" ∷ [] ∷ codes "end " ∷ codes "En" ∷ (200 ∷ []) ∷ codes "goheap 1" ∷ codes "heap 1 procs 1 rate 0 seed 1 goal 512"
     ∷ codes "gc" ∷ codes "gc 01" ∷ codes "gc 1 1" ∷ codes "m 0 0" ∷ codes "m 0" ∷ [])
     ≡ replicate 28 (Some (Malformed 3))
-unfolding digits said lines_fault
+unfolding digits said lines_fault max_chunks max_pages
 forms_of_lines = refl
 
 -- limits of the header, from left to right, at the last good and the first bad value
 limits_of_header : map (λ line. refusal (with_header line)) (codes "heap 0 procs 1 rate 0 seed 1 goal 512" ∷ codes "heap 128 procs 1 rate 0 seed 1 goal 512" ∷ codes "heap 129 procs 65 rate 0 seed 1 goal 512" ∷ codes "heap 1 procs 0 rate 0 seed 1 goal 65537" ∷ codes "heap 1 procs 65 rate 1073741825 seed 1 goal 512"
     ∷ codes "heap 1 procs 1 rate 1073741824 seed 1 goal 512" ∷ codes "heap 1 procs 1 rate 1073741825 seed 18446744073709551616 goal 512" ∷ codes "heap 1 procs 1 rate 0 seed 18446744073709551615 goal 0" ∷ codes "heap 1 procs 1 rate 0 seed 18446744073709551616 goal 65537" ∷ codes "heap 1 procs 1 rate 0 seed 1 goal 65536" ∷ codes "heap 1 procs 1 rate 0 seed 1 goal 65537" ∷ codes "heap 99999999999999999999 procs 1 rate 0 seed 1 goal x" ∷ [])
     ≡ Some (Limit 2 Chunks) ∷ None ∷ Some (Limit 2 Chunks) ∷ Some (Limit 2 Procs) ∷ Some (Limit 2 Procs) ∷ None ∷ Some (Limit 2 Rate) ∷ None ∷ Some (Limit 2 Seed) ∷ None ∷ Some (Limit 2 Goal) ∷ Some (Malformed 2) ∷ []
-unfolding digits said lines_fault
+unfolding digits said lines_fault max_chunks max_pages
 limits_of_header = refl
 
 -- limits of the other lines
 limits_of_lines : map (λ line. refusal (with_line line)) (codes "a 1 1099511627777 n 1" ∷ codes "a 0 1099511627777 n 1" ∷ codes "a 0 1099511627777 n 1000000" ∷ codes "a 0 1 n 999999" ∷ codes "a 0 1 n 1000000" ∷ codes "gc 0" ∷ codes "gc 1099511627776" ∷ codes "gc 1099511627777" ∷ codes "a 99999999999999999999 0 n 1" ∷ [])
     ≡ Some (Limit 3 Proc) ∷ Some (Limit 3 Size) ∷ Some (Limit 3 Size) ∷ None ∷ Some (Limit 3 Stack) ∷ Some (Limit 3 Distance) ∷ None ∷ Some (Limit 3 Distance) ∷ Some (Limit 3 Proc) ∷ []
-unfolding digits said lines_fault
+unfolding digits said lines_fault max_chunks max_pages
 limits_of_lines = refl
 
 -- marks: order and form, limits, and objects that are not live
@@ -126,7 +127,7 @@ marks : map (λ lines. refusal (whole lines)) (
     ∷ (codes "a 0 8 n 1" ∷ codes "a 0 8 n 1" ∷ codes "gc 1" ∷ codes "m 1 1" ∷ codes "a 0 8 n 1" ∷ codes "gc 1" ∷ codes "m 1 2" ∷ codes "gc 1" ∷ codes "m 2 2" ∷ codes "gc 1" ∷ codes "m 1 2" ∷ [])
     ∷ [])
     ≡ Some (BadMark 6 0) ∷ Some (Malformed 4) ∷ Some (Malformed 4) ∷ Some (Limit 4 Id) ∷ Some (Malformed 7) ∷ Some (Malformed 7) ∷ Some (Malformed 6) ∷ Some (BadMark 5 1) ∷ Some (BadMark 5 1) ∷ Some (BadMark 13 1) ∷ []
-unfolding digits said lines_fault
+unfolding digits said lines_fault max_chunks max_pages
 marks = refl
 
 -- the first reason of a line, and headers of other numbers
@@ -135,5 +136,5 @@ first_reasons : map refusal (map with_line (codes "gc 1" ∷ codes "gc 0" ∷ co
     ++ whole (codes "a 0 24 s 1" ∷ codes "gc 1" ∷ codes "x" ∷ []) ∷ whole (codes "x" ∷ codes "gc 1" ∷ []) ∷ [])
     ≡ None ∷ Some (Limit 3 Distance) ∷ Some (Malformed 3) ∷ None ∷ None ∷ Some (Limit 3 Stack) ∷ Some (Limit 3 Proc) ∷ Some (Malformed 3)
     ∷ None ∷ None ∷ None ∷ None ∷ Some (Limit 2 Goal) ∷ Some (Malformed 5) ∷ Some (Malformed 3) ∷ []
-unfolding digits said lines_fault
+unfolding digits said lines_fault max_chunks max_pages
 first_reasons = refl

@@ -5,6 +5,8 @@ use Rattle.std.specs.Option.{option_map}
 use Rattle.std.proofs.lemmas.Bool.{cases_Bool}
 use Rattle.std.proofs.lemmas.Bool.Decides.{nat_tests}
 use Rattle.edge_io.specs.Line.{HasNoFeed, IsLine}
+use Rattle.size_classes.specs.declared.TheConstants.{MAX_CHUNKS, MAX_PAGES}
+use Rattle.trace_reader.specs.declared.limits.TheConstants.{FIRST_MAX_CHUNKS, FIRST_MAX_PAGES}
 use Rattle.trace_reader.specs.declared.fault.Which.{Which}
 use Rattle.trace_reader.specs.declared.fault.Which.TheVariants.{Bytes, Chunks, Procs, Rate, Seed, Goal}
 use Rattle.trace_reader.specs.declared.fault.TraceFault.{TraceFault}
@@ -20,7 +22,7 @@ use Rattle.trace_reader.specs.declared.trace.Event.{Event}
 use Rattle.trace_reader.specs.declared.span.Span.{Span}
 use Rattle.trace_reader.specs.Spelling.{cycle_statements, line_for, mark_of, spelled}
 use Rattle.trace_reader.specs.Says.{said}
-use Rattle.trace_reader.specs.Limits.{HeaderFits, Spells}
+use Rattle.trace_reader.specs.Limits.{HeaderFits, Spells, max_chunks, max_pages}
 use Rattle.trace_reader.specs.Checks.{bad_mark, counts_within, header_numbers, is_version, may_begin, may_follow, numbers_within, passed, within}
 use Rattle.trace_reader.specs.Refusal.{fault_if, feed, first_of, is_end, line_fault, lines_fault, next_number, nothing_behind, onto_past, pieces_of, refusal, said_fault, statement_fault}
 use Rattle.trace_reader.specs.Good.{AreGood}
@@ -279,24 +281,43 @@ group newest older past (Mark lo hi ∷ ss) good =
 header_from : ℕ → HeapForm → Header
 header_from version h = record { version = version; chunks = h.chunks; procs = h.procs; rate = h.rate; seed = h.seed; goal = h.goal }
 
-header_fits : (version : ℕ) (h : HeapForm) → is_version version ≡ true → passed (header_numbers h) ≡ None → HeaderFits (header_from version h)
+-- what is within the limits of a version is within those of all
+below_max_chunks : (version n : ℕ) → n ≤ max_chunks version → (n ≤ MAX_CHUNKS) × (version ≡ 1 → n ≤ FIRST_MAX_CHUNKS)
+unfolding max_chunks
+below_max_chunks version n le = elim (cases_Bool (version == 1)) [
+  | inl first ↦ (let low : n ≤ FIRST_MAX_CHUNKS = rw first at le in (omega arith, λ _. low))
+  | inr later ↦ (let low : n ≤ MAX_CHUNKS = rw later at le in (low, λ e. absurd (grind (arith, nat_tests))))
+]
+
+below_max_pages : (version n : ℕ) → n ≤ max_pages version → (n ≤ MAX_PAGES) × (version ≡ 1 → n ≤ FIRST_MAX_PAGES)
+unfolding max_pages
+below_max_pages version n le = elim (cases_Bool (version == 1)) [
+  | inl first ↦ (let low : n ≤ FIRST_MAX_PAGES = rw first at le in (omega arith, λ _. low))
+  | inr later ↦ (let low : n ≤ MAX_PAGES = rw later at le in (low, λ e. absurd (grind (arith, nat_tests))))
+]
+
+header_fits : (version : ℕ) (h : HeapForm) → is_version version ≡ true → passed (header_numbers version h) ≡ None → HeaderFits (header_from version h)
 unfolding header_from
 header_fits version h is e =
-    let p1 = passes Chunks (within 1 128 h.chunks) ((Procs, within 1 64 h.procs) ∷ (Rate, nat_le h.rate (2 ^ 30)) ∷ (Seed, nat_lt h.seed (2 ^ 64)) ∷ (Goal, nat_le h.goal 65536) ∷ []) e in
-    let p2 = passes Procs (within 1 64 h.procs) ((Rate, nat_le h.rate (2 ^ 30)) ∷ (Seed, nat_lt h.seed (2 ^ 64)) ∷ (Goal, nat_le h.goal 65536) ∷ []) p1.1 in
-    let p3 = passes Rate (nat_le h.rate (2 ^ 30)) ((Seed, nat_lt h.seed (2 ^ 64)) ∷ (Goal, nat_le h.goal 65536) ∷ []) p2.1 in
-    let p4 = passes Seed (nat_lt h.seed (2 ^ 64)) ((Goal, nat_le h.goal 65536) ∷ []) p3.1 in
-    let p5 = passes Goal (nat_le h.goal 65536) [] p4.1 in
-    let chunks = and_parts (nat_le 1 h.chunks) (nat_le h.chunks 128) p1.0 in
+    let last = (Goal, nat_le h.goal (max_pages version)) ∷ [] in
+    let p1 = passes Chunks (within 1 (max_chunks version) h.chunks) ((Procs, within 1 64 h.procs) ∷ (Rate, nat_le h.rate (2 ^ 30)) ∷ (Seed, nat_lt h.seed (2 ^ 64)) ∷ last) e in
+    let p2 = passes Procs (within 1 64 h.procs) ((Rate, nat_le h.rate (2 ^ 30)) ∷ (Seed, nat_lt h.seed (2 ^ 64)) ∷ last) p1.1 in
+    let p3 = passes Rate (nat_le h.rate (2 ^ 30)) ((Seed, nat_lt h.seed (2 ^ 64)) ∷ last) p2.1 in
+    let p4 = passes Seed (nat_lt h.seed (2 ^ 64)) last p3.1 in
+    let p5 = passes Goal (nat_le h.goal (max_pages version)) [] p4.1 in
+    let chunks = and_parts (nat_le 1 h.chunks) (nat_le h.chunks (max_chunks version)) p1.0 in
     let procs = and_parts (nat_le 1 h.procs) (nat_le h.procs 64) p2.0 in
-    let version = and_parts (nat_le 1 version) (nat_le version 2) is in
+    let version_is = and_parts (nat_le 1 version) (nat_le version 2) is in
+    let most_chunks = below_max_chunks version h.chunks (le_of _ _ chunks.1) in
+    let most_pages = below_max_pages version h.goal (le_of _ _ p5.0) in
     record {
-      version = (le_of _ _ version.0, le_of _ _ version.1);
-      chunks = (le_of _ _ chunks.0, le_of _ _ chunks.1);
+      version = (le_of _ _ version_is.0, le_of _ _ version_is.1);
+      chunks = (le_of _ _ chunks.0, most_chunks.0);
       procs = (le_of _ _ procs.0, le_of _ _ procs.1);
       rate = le_of _ _ p3.0;
       seed = lt_of _ _ p4.0;
-      goal = le_of _ _ p5.0;
+      goal = most_pages.0;
+      first = λ one. (most_chunks.1 one, most_pages.1 one);
     }
 
 -- Traces

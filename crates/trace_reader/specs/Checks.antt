@@ -7,7 +7,8 @@ use Rattle.trace_reader.specs.declared.statement.Statement.{Statement}
 use Rattle.trace_reader.specs.declared.statement.Statement.TheVariants.{Title, Heap, Alloc, Gc, Mark}
 use Rattle.trace_reader.specs.declared.statement.HeapForm.{HeapForm}
 use Rattle.trace_reader.specs.declared.statement.AllocForm.{AllocForm}
-use Rattle.trace_reader.specs.Past.{before_mark_end, is_live, mark_ends_of, marks_of, objects_of, procs_of}
+use Rattle.trace_reader.specs.Past.{before_mark_end, is_live, mark_ends_of, marks_of, objects_of, procs_of, version_of}
+use Rattle.trace_reader.specs.Limits.{max_chunks, max_pages}
 
 abbrev pub within : ℕ → ℕ → ℕ → Bool
 within least most n = nat_le least n && nat_le n most
@@ -33,16 +34,16 @@ may_follow (newest ∷ older ∷ past) (Heap h) = false
 may_follow (newest ∷ older ∷ past) (Mark lo hi) = nat_le lo hi && may_begin newest lo
 may_follow (newest ∷ older ∷ past) s = true
 
--- whether the numbers of a header and of an event are within their limits, from left to right
-abbrev pub header_numbers : HeapForm → List (Which × Bool)
-header_numbers h = (Chunks, within 1 128 h.chunks) ∷ (Procs, within 1 64 h.procs) ∷ (Rate, nat_le h.rate (2 ^ 30)) ∷ (Seed, nat_lt h.seed (2 ^ 64)) ∷ (Goal, nat_le h.goal 65536) ∷ []
+-- whether the numbers of a header behind this version and of an event are within their limits, from left to right
+abbrev pub header_numbers : ℕ → HeapForm → List (Which × Bool)
+header_numbers version h = (Chunks, within 1 (max_chunks version) h.chunks) ∷ (Procs, within 1 64 h.procs) ∷ (Rate, nat_le h.rate (2 ^ 30)) ∷ (Seed, nat_lt h.seed (2 ^ 64)) ∷ (Goal, nat_le h.goal (max_pages version)) ∷ []
 
 abbrev pub event_numbers : ℕ → AllocForm → List (Which × Bool)
 event_numbers procs e = (Proc, nat_lt e.proc procs) ∷ (Size, nat_le e.size (2 ^ 40)) ∷ (Stack, nat_le e.stack 999999) ∷ []
 
 -- the same of each statement
 abbrev pub numbers_within : List Statement → Statement → List (Which × Bool)
-numbers_within past (Heap h) = header_numbers h
+numbers_within past (Heap h) = header_numbers (version_of past) h
 numbers_within past (Alloc e) = event_numbers (procs_of past) e
 numbers_within past (Gc distance) = (Distance, within 1 (2 ^ 40) distance) ∷ []
 numbers_within past (Mark lo hi) = (Id, nat_le lo 999999) ∷ (Id, nat_le hi 999999) ∷ []

@@ -1,6 +1,8 @@
 -- What a trace may hold.
-use Rattle.std.specs.Prelude.{◌≡◌, ℕ, ◌+◌, ◌-◌, ◌^◌, ◌<◌, ◌≤◌, ◌⊎◌, List, [], ◌∷◌, length, sum_by, Option, Some, None, MatchOption}
+use Rattle.std.specs.Prelude.{◌≡◌, ◌==◌, if◌then◌else◌, ℕ, ◌+◌, ◌-◌, ◌^◌, ◌<◌, ◌≤◌, ◌⊎◌, List, [], ◌∷◌, length, sum_by, Option, Some, None, MatchOption}
 use Rattle.std.specs.List.{AllByRecursion, flat_map}
+use Rattle.size_classes.specs.declared.TheConstants.{MAX_CHUNKS, MAX_PAGES}
+use Rattle.trace_reader.specs.declared.limits.TheConstants.{FIRST_MAX_CHUNKS, FIRST_MAX_PAGES}
 use Rattle.trace_reader.specs.declared.trace.Trace.{Trace}
 use Rattle.trace_reader.specs.declared.trace.Header.{Header}
 use Rattle.trace_reader.specs.declared.trace.Cycle.{Cycle}
@@ -15,14 +17,23 @@ use Rattle.trace_reader.specs.Spelling.{lines_of}
 abbrev pub IsVersion : ℕ → Type 0
 IsVersion version = (1 ≤ version) × (version ≤ 2)
 
--- the numbers of a header are within their limits
+-- how many chunks the region of a trace of this version may have
+unfoldable pub max_chunks : ℕ → ℕ
+max_chunks version = if version == 1 then FIRST_MAX_CHUNKS else MAX_CHUNKS
+
+-- how many pages its goal may have
+unfoldable pub max_pages : ℕ → ℕ
+max_pages version = if version == 1 then FIRST_MAX_PAGES else MAX_PAGES
+
+-- the numbers of a header are within their limits, of which those of a region are smaller in version 1
 pub record HeaderFits (h : Header) : Type 0 where
   pub version : IsVersion h.version
-  pub chunks : (1 ≤ h.chunks) × (h.chunks ≤ 128)
+  pub chunks : (1 ≤ h.chunks) × (h.chunks ≤ MAX_CHUNKS)
   pub procs : (1 ≤ h.procs) × (h.procs ≤ 64)
   pub rate : h.rate ≤ 2 ^ 30
   pub seed : h.seed < 2 ^ 64
-  pub goal : h.goal ≤ 65536
+  pub goal : h.goal ≤ MAX_PAGES
+  pub first : h.version ≡ 1 → (h.chunks ≤ FIRST_MAX_CHUNKS) × (h.goal ≤ FIRST_MAX_PAGES)
 
 -- the numbers of an event are
 pub record EventFits (procs : ℕ) (e : Event) : Type 0 where

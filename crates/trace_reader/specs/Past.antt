@@ -1,7 +1,13 @@
 -- What the lines so far say: `past` is what each of them said, newest first.
 use Rattle.std.specs.Prelude.{ℕ, ◌+◌, ◌-◌, ◌==◌, Bool, false, ◌&&◌, ◌||◌, List, [], ◌∷◌, nat_le}
 use Rattle.trace_reader.specs.declared.statement.Statement.{Statement}
-use Rattle.trace_reader.specs.declared.statement.Statement.TheVariants.{Heap, Alloc, Gc, Mark}
+use Rattle.trace_reader.specs.declared.statement.Statement.TheVariants.{Title, Heap, Alloc, Gc, Mark}
+
+-- the version that the first line gives
+abbrev pub version_of : List Statement → ℕ
+version_of [] = 0
+version_of (Title version ∷ past) = version
+version_of (s ∷ past) = version_of past
 
 -- the processors that the header gives
 abbrev pub procs_of : List Statement → ℕ

@@ -6,7 +6,7 @@ ghost use Rattle.trace_reader.specs.declared.fault.TraceFault.TheVariants.{Limit
 ghost use Rattle.trace_reader.specs.declared.statement.Statement.{Statement as Said};
 ghost use Rattle.trace_reader.specs.declared.statement.Statement.TheVariants.{Alloc, Gc, Heap, Mark, Title};
 ghost use Rattle.trace_reader.specs.Spelling.{alloc_of, heap_of, mark_of};
-ghost use Rattle.trace_reader.specs.Limits.{EventFits, HeaderFits, IsVersion};
+ghost use Rattle.trace_reader.specs.Limits.{EventFits, HeaderFits, IsVersion, max_chunks as most_chunks, max_pages as most_pages};
 ghost use Rattle.trace_reader.specs.Says.{said};
 ghost use Rattle.trace_reader.specs.Checks.{event_numbers, header_numbers, numbers_within, passed};
 ghost use Rattle.trace_reader.specs.Refusal.{said_fault};
@@ -16,9 +16,42 @@ use crate::fault::{TraceFault, Which};
 use crate::span::Span;
 use crate::statement::{AllocForm, HeapForm, Statement, statement_of};
 use crate::trace::{Event, Header};
+use size_classes::{MAX_CHUNKS, MAX_PAGES};
 
 /// The latest version of the format. The first is 1.
 const LATEST_VERSION: u128 = 2;
+
+/// The chunks of the largest region of a trace of version 1.
+pub const FIRST_MAX_CHUNKS: u32 = 128;
+
+/// The largest goal of a trace of version 1, in pages: those of its largest region.
+pub const FIRST_MAX_PAGES: u32 = 65536;
+
+/// How many chunks the region of a trace of this version may have.
+fn max_chunks(version: u8) -> u32
+    ensures most { result ≡ most_chunks version }
+    ensures first { version ≡ 1 → result ≡ FIRST_MAX_CHUNKS }
+    ensures any { result ≤ MAX_CHUNKS }
+{
+    if version == 1 {
+        FIRST_MAX_CHUNKS
+    } else {
+        MAX_CHUNKS
+    }
+}
+
+/// How many pages the goal of a trace of this version may have.
+fn max_pages(version: u8) -> u32
+    ensures most { result ≡ most_pages version }
+    ensures first { version ≡ 1 → result ≡ FIRST_MAX_PAGES }
+    ensures any { result ≤ MAX_PAGES }
+{
+    if version == 1 {
+        FIRST_MAX_PAGES
+    } else {
+        MAX_PAGES
+    }
+}
 
 /// The version that the first line says, or what is wrong with it.
 pub(crate) fn version_of(line: &[u8], number: u64) -> Result<u8, TraceFault>
@@ -58,9 +91,9 @@ fn limited_header(form: HeapForm, number: u64, version: u8) -> Result<Header, Tr
     ensures header { IfOk result (λ h. heap_of h ≡ Heap form) }
     ensures fits { IfOk result (λ h. HeaderFits h) }
     ensures no_read { NoReadFault result }
-    ensures fault { IfErr result (λ fault. option_map (λ which. Limit number which) (passed (header_numbers form)) ≡ Some fault) }
+    ensures fault { IfErr result (λ fault. option_map (λ which. Limit number which) (passed (header_numbers version form)) ≡ Some fault) }
 {
-    if form.chunks < 1 || form.chunks > 128 {
+    if form.chunks < 1 || form.chunks > u128::from(max_chunks(version)) {
         return Err(TraceFault::Limit(number, Which::Chunks));
     }
     if form.procs < 1 || form.procs > 64 {
@@ -72,7 +105,7 @@ fn limited_header(form: HeapForm, number: u64, version: u8) -> Result<Header, Tr
     if form.seed > u128::from(u64::MAX) {
         return Err(TraceFault::Limit(number, Which::Seed));
     }
-    if form.goal > 65536 {
+    if form.goal > u128::from(max_pages(version)) {
         return Err(TraceFault::Limit(number, Which::Goal));
     }
     Ok(Header {

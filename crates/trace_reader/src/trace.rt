@@ -14,7 +14,7 @@ pub struct Trace {
 pub struct Header {
     /// The version of the format, 1 or 2. A report of a trace of version 2 may have lines of page caches.
     pub version: u8,
-    /// The chunks of the region, of 512 pages each, from 1 to 128.
+    /// The chunks of the region, of 512 pages each, from 1 to 4096, and in version 1 to 128.
     pub chunks: u32,
     /// The processors, from 1 to 64.
     pub procs: u32,
@@ -22,7 +22,7 @@ pub struct Header {
     pub rate: u64,
     /// The seed of sampling.
     pub seed: u64,
-    /// The pages above which the scavenger releases some, up to 65536.
+    /// The pages above which the scavenger releases some, up to 2097152, and in version 1 up to 65536.
     pub goal: u32,
 }
 

@@ -195,12 +195,42 @@ const VERSIONS: &[(&str, &str, Option<TraceFault>)] = &[
     ("goheap 2\n", "goheap 2\nend\n", Some(Malformed(2))),
     (
         "goheap 2\n",
-        "heap 129 procs 1 rate 0 seed 1 goal 512\nend\n",
+        "heap 129 procs 1 rate 0 seed 1 goal 65537\nend\n",
+        None,
+    ),
+    (
+        "goheap 2\n",
+        "heap 4096 procs 1 rate 0 seed 1 goal 2097152\nend\n",
+        None,
+    ),
+    (
+        "goheap 2\n",
+        "heap 4097 procs 1 rate 0 seed 1 goal 512\nend\n",
         Some(Limit(2, Which::Chunks)),
     ),
     (
         "goheap 2\n",
-        "heap 1 procs 1 rate 0 seed 1 goal 65537\nend\n",
+        "heap 1 procs 1 rate 0 seed 1 goal 2097153\nend\n",
+        Some(Limit(2, Which::Goal)),
+    ),
+    (
+        "goheap 2\n",
+        "heap 0 procs 1 rate 0 seed 1 goal 0\nend\n",
+        Some(Limit(2, Which::Chunks)),
+    ),
+    (
+        "goheap 1\n",
+        "heap 128 procs 1 rate 0 seed 1 goal 65536\nend\n",
+        None,
+    ),
+    (
+        "goheap 1\n",
+        "heap 129 procs 1 rate 0 seed 1 goal 512\nend\n",
+        Some(Limit(2, Which::Chunks)),
+    ),
+    (
+        "goheap 1\n",
+        "heap 128 procs 1 rate 0 seed 1 goal 65537\nend\n",
         Some(Limit(2, Which::Goal)),
     ),
     ("goheap 0\n", "heap 1 procs 1\n", Some(Malformed(1))),
@@ -467,6 +497,7 @@ const PRINTED: &[&str] = &[
     "goheap 1\nheap 128 procs 1 rate 0 seed 18446744073709551615 goal 65536\na 0 1099511627776 s 999999\na 0 0 n 0\nend\n",
     "goheap 1\nheap 1 procs 1 rate 0 seed 0 goal 512\na 0 8 n 1\na 0 9 s 2\ngc 1\nm 0 0\nm 1 1\ngc 1099511627776\na 0 1 n 3\ngc 7\nm 2 2\nend\n",
     "goheap 2\nheap 1 procs 1 rate 0 seed 1 goal 512\na 0 24 s 1\ngc 1\nm 0 0\nend\n",
+    "goheap 2\nheap 4096 procs 64 rate 1073741824 seed 18446744073709551615 goal 2097152\na 63 0 n 0\nend\n",
 ];
 
 #[test]

@@ -21,7 +21,7 @@ returns-in_err-header-clause-stands g c =
 pub returns-in_err-cycles-clause-refused : goal.returns-in_err-cycles-clause-refused
 returns-in_err-cycles-clause-refused g c =
     let h = c.in_ok-header.header in
-    let good = header_good c.in_ok-version.version h c.in_ok-header.ensures.fits in
+    let good = header_good c.in_ok-version.version h c.in_ok-header.ensures.version c.in_ok-header.ensures.fits in
     let p = err_from_is_err_and c.from_residual-in_err-cycles.result c.from_residual-in_err-cycles.ensures.1 in
     rw (p.1, p.2) (tells_behind g.S.Source.left c.args.lines.now c.read_title.new.lines c.read_cycles.new.lines [] (Title c.in_ok-version.version ∷ []) _ c.in_ok-version.ensures.lines (title_good _ c.in_ok-version.ensures.version)
     (tells_behind g.S.Source.left c.read_title.new.lines c.read_header.new.lines c.read_cycles.new.lines (Title c.in_ok-version.version ∷ []) (heap_of h ∷ []) _ c.in_ok-header.ensures.lines good
@@ -30,14 +30,14 @@ returns-in_err-cycles-clause-refused g c =
 pub returns-in_err-cycles-clause-stands : goal.returns-in_err-cycles-clause-stands
 returns-in_err-cycles-clause-stands g c =
     let h = c.in_ok-header.header in
-    let good = header_good c.in_ok-version.version h c.in_ok-header.ensures.fits in
+    let good = header_good c.in_ok-version.version h c.in_ok-header.ensures.version c.in_ok-header.ensures.fits in
     stands_behind g.S.Source.left c.args.lines.now c.read_title.new.lines c.read_cycles.new.lines (Title c.in_ok-version.version ∷ []) c.in_ok-version.ensures.lines (lines_of_good [] (Title c.in_ok-version.version ∷ []) (title_good _ c.in_ok-version.ensures.version))
     (stands_behind g.S.Source.left c.read_title.new.lines c.read_header.new.lines c.read_cycles.new.lines (heap_of h ∷ []) c.in_ok-header.ensures.lines (lines_of_good (Title c.in_ok-version.version ∷ []) (heap_of h ∷ []) good) c.read_cycles.ensures.stands)
 
 pub returns-clause-stands : goal.returns-clause-stands
 returns-clause-stands g c =
     let h = c.in_ok-header.header in
-    let good = header_good c.in_ok-version.version h c.in_ok-header.ensures.fits in
+    let good = header_good c.in_ok-version.version h c.in_ok-header.ensures.version c.in_ok-header.ensures.fits in
     stands_behind g.S.Source.left c.args.lines.now c.read_title.new.lines c.read_cycles.new.lines (Title c.in_ok-version.version ∷ []) c.in_ok-version.ensures.lines (lines_of_good [] (Title c.in_ok-version.version ∷ []) (title_good _ c.in_ok-version.ensures.version))
     (stands_behind g.S.Source.left c.read_title.new.lines c.read_header.new.lines c.read_cycles.new.lines (heap_of h ∷ []) c.in_ok-header.ensures.lines (lines_of_good (Title c.in_ok-version.version ∷ []) (heap_of h ∷ []) good) c.read_cycles.ensures.stands)
 
