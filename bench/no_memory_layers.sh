@@ -43,7 +43,8 @@ for crate in "${crates[@]}"; do
   }
   made_again=0
   for name in $("crates/$crate/out/${crate}_tests" --list | sed -n 's/: test$//p'); do
-    # This test makes none of its calls again: without memory its own result is NoMemory. The rows beside it refuse the same call.
+    # The calls of this test find all sets empty, and take no memory then. So only its scene can be refused, and with that the test itself
+    # ends without memory. The rows beside it refuse the same call where it takes some.
     [ "$name" != tests::new_table_has_no_span ] || continue
     each "crates/$crate/out/${crate}_tests" "$name"
   done
