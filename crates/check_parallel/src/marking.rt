@@ -4,9 +4,9 @@ ghost use Rattle.std.specs.Prelude.{◌≡◌, ◌≤◌, true, IfOk};
 ghost use Rattle.std.specs.Thread.{IsSync};
 ghost use Rattle.check_parallel.specs.Seating.{KeepsIn, MayKeep};
 
-use cycle_history::Report;
+use cycle_history::{Report, spans_at};
 use edge_io::NoMemory;
-use report_check::{Item, Opened, first_lost, spans_at};
+use report_check::{Item, Opened, first_lost};
 use std::alloc::Global;
 use std::thread::{Threads, join};
 use trace_reader::Trace;

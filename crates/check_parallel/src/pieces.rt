@@ -1,7 +1,7 @@
 //! The rules 5 and 6 in pieces.
 
 ghost use Rattle.std.specs.Prelude.{◌≡◌, ◌≤◌, ◌<◌, true, length, IfOk};
-ghost use Rattle.life_tops.specs.Tops.{lives_of, top_at};
+ghost use Rattle.report_check.specs.Tops.{lives_of, top_at};
 ghost use Rattle.report_check.specs.Filling.{IsTakenUp, place_of};
 ghost use Rattle.report_check.specs.Fitting.{IsFitting};
 ghost use Rattle.report_check.specs.Known.{AreKnown};

@@ -20,6 +20,7 @@ pub use laws::{
     a_life_has_one_making_line, a_plain_journal_meets_rule_2, an_address_has_one_place,
     an_object_sits_at_its_place, rate_0_has_an_empty_profile, version_1_has_no_page_caches,
 };
+pub use lookups::spans_at;
 pub use marks::marks_of;
 use page_bitmap::Line;
 pub use places::{PackedPlace, Place};

@@ -8,7 +8,7 @@ ghost use Rattle.cycle_history.specs.Before.{marks_at};
 use trace_reader::{Span, Trace};
 
 /// The spans that a mark end marks, in rising order.
-pub(crate) fn spans_at(trace: &Trace, mark: u32) -> &[Span]
+pub fn spans_at(trace: &Trace, mark: u32) -> &[Span]
     requires { mark ≤ last_cycle trace.now }
     ensures { result.now ≡ marks_at trace.now mark }
 {

@@ -28,10 +28,10 @@ use Rattle.report_rules.specs.Lines.{IsLeast}
 use Rattle.report_rules.specs.Placing.{BreaksApart}
 use Rattle.report_rules.proofs.Twins.{event-at}
 use Rattle.report_check.specs.declared.items.Item.{Item}
-use Rattle.life_tops.specs.declared.tops.Tops.{Tops}
+use Rattle.report_check.specs.declared.tops.Tops.{Tops}
 use Rattle.report_check.specs.Items.{need_of, object_of, objects_of}
 use Rattle.report_check.specs.Lasts.{last_at}
-use Rattle.life_tops.specs.Tops.{AreNoTops, IsRaised, top_at}
+use Rattle.report_check.specs.Tops.{AreNoTops, IsRaised, top_at}
 use Rattle.report_check.specs.Known.{AreClear, AreKnown, AreTogether, AreTops, IsSatFrom}
 use Rattle.report_check.proofs.Answered.{all-at}
 use Rattle.report_check.proofs.Numbered.{item-of, object-in}

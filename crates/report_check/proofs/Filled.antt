@@ -13,13 +13,13 @@ use Rattle.sound_run.specs.Run.{count_for}
 use Rattle.report_rules.specs.Lines.{IsLeast}
 use Rattle.report_rules.specs.Placing.{BreaksFilling, IsMisplaced}
 use Rattle.report_check.specs.declared.items.Item.{Item}
-use Rattle.life_tops.specs.declared.tops.Tops.{Tops}
+use Rattle.report_check.specs.declared.tops.Tops.{Tops}
 use Rattle.report_check.specs.declared.filling.Fill.{Fill}
 use Rattle.report_check.specs.declared.filling.Newest.{Newest}
 use Rattle.report_check.specs.declared.filling.Filling.{Filling}
 use Rattle.report_check.specs.Items.{object_of, objects_of}
 use Rattle.report_check.specs.Lasts.{last_at}
-use Rattle.life_tops.specs.Tops.{top_at}
+use Rattle.report_check.specs.Tops.{top_at}
 use Rattle.report_check.specs.Known.{AreKnown, AreTops, IsSatFrom}
 use Rattle.report_check.specs.Filling.{AreFills, AreNewest, HasRoom, IsEmptyFilling, IsSmallItem, IsTakenUp, fill_at, filled_by, newest_at, newest_by, next_in, place_of}
 use Rattle.report_check.specs.Fitting.{IsFitting, IsUnfitting}

@@ -14,6 +14,7 @@ pub mod Settled
 pub mod Carried
 pub mod Summed
 pub mod Rows
+pub mod TopRows
 pub mod Lasting
 pub mod Clearing
 pub mod Filled

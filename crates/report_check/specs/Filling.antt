@@ -7,7 +7,7 @@ use Rattle.report_check.specs.declared.filling.Fill.{Fill}
 use Rattle.report_check.specs.declared.filling.Newest.{Newest}
 use Rattle.report_check.specs.declared.filling.Filling.{Filling}
 use Rattle.report_check.specs.Known.{IsSatFrom}
-use Rattle.life_tops.specs.Tops.{AreNoTops, IsRaised, lives_of}
+use Rattle.report_check.specs.Tops.{AreNoTops, IsRaised, lives_of}
 
 -- An item is small where it is placed in a span of a size class above 0.
 abbrev pub IsSmallItem : Item → Type 0

@@ -1,11 +1,11 @@
 -- Whether an item fits how its life, and its processor's span class, are filled so far in its cycle.
 use Rattle.std.specs.Prelude.{◌≡◌, ◌≢◌, ℕ, ◌<◌, ◌≤◌, Option, Some, ◌⊎◌}
 use Rattle.report_check.specs.declared.items.Item.{Item}
-use Rattle.life_tops.specs.declared.tops.Tops.{Tops}
+use Rattle.report_check.specs.declared.tops.Tops.{Tops}
 use Rattle.report_check.specs.declared.filling.Fill.{Fill}
 use Rattle.report_check.specs.declared.filling.Newest.{Newest}
 use Rattle.report_check.specs.declared.filling.Filling.{Filling}
-use Rattle.life_tops.specs.Tops.{top_at}
+use Rattle.report_check.specs.Tops.{top_at}
 use Rattle.report_check.specs.Filling.{place_of, next_in, fill_at, newest_at}
 
 -- Another processor fills the life in the item's cycle.

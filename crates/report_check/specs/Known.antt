@@ -9,10 +9,10 @@ use Rattle.cycle_history.specs.Rules.{AreMissed, AreSeated}
 use Rattle.cycle_history.specs.Before.{IsLimited}
 use Rattle.cycle_history.specs.Sound.{past_in, HasAnswers, HasJournal}
 use Rattle.report_check.specs.declared.items.Item.{Item}
-use Rattle.life_tops.specs.declared.tops.Tops.{Tops}
+use Rattle.report_check.specs.declared.tops.Tops.{Tops}
 use Rattle.report_check.specs.Items.{objects_of}
 use Rattle.report_check.specs.Lasts.{AreLasts, last_at}
-use Rattle.life_tops.specs.Tops.{top_at}
+use Rattle.report_check.specs.Tops.{top_at}
 
 -- The items are the objects of a report that meets the rules 1, 2 and 4, in their seats, and with each one's last cycle.
 pub record AreKnown (t : Trace) (report : Report) (items : List Item) (lasts : List ℕ) : Type 0 where

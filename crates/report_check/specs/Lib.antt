@@ -6,6 +6,7 @@ pub mod Lives
 pub mod Seats
 pub mod Totals
 pub mod Lasts
+pub mod Tops
 pub mod Known
 pub mod Filling
 pub mod Fitting

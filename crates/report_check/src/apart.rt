@@ -8,7 +8,7 @@ ghost use Rattle.report_rules.specs.Placing.{BreaksApart};
 use crate::CheckFault;
 use crate::objects::Objects;
 use crate::piece::Piece;
-use life_tops::Tops;
+use crate::tops::Tops;
 use std::alloc::Global;
 
 impl Objects<'_> {

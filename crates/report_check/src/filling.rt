@@ -4,7 +4,7 @@ ghost use Rattle.std.specs.Prelude.{◌≡◌, ◌≤◌, ◌<◌, length, slice
 ghost use Rattle.cycle_history.specs.Requests.{marked_by};
 ghost use Rattle.cycle_history.specs.Rules.{AreFilled};
 ghost use Rattle.report_rules.specs.Placing.{BreaksFilling};
-ghost use Rattle.life_tops.specs.Tops.{lives_of};
+ghost use Rattle.report_check.specs.Tops.{lives_of};
 ghost use Rattle.report_check.specs.Filling.{HasRoom, IsEmptyFilling, IsTakenUp, filled_by, next_in as next_of, place_of as place_in};
 ghost use Rattle.report_check.specs.Fitting.{AreHeld, IsFitting, IsFreeAt, IsLeft, IsOthers, IsOwn, IsStaying, IsUnfitting};
 
@@ -12,8 +12,8 @@ use crate::CheckFault;
 use crate::items::Item;
 use crate::objects::Objects;
 use crate::piece::Piece;
+use crate::tops::Tops;
 use edge_io::NoMemory;
-use life_tops::Tops;
 use std::alloc::Global;
 
 /// The span classes: two for each of 68 size classes (`mheap.go`).

@@ -11,7 +11,7 @@ ghost use Rattle.report_check.specs.Items.{objects_of};
 ghost use Rattle.report_check.specs.Lasts.{AreLasts, AreSet, cycle_asked};
 
 use crate::items::Item;
-use crate::places::spans_at;
+use cycle_history::spans_at;
 use edge_io::NoMemory;
 use std::alloc::Global;
 use trace_reader::{Event, Span, Trace};

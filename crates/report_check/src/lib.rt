@@ -2,7 +2,7 @@
 //!
 //! `check` tries the rules in their order, each in passes that answer the least line that breaks it: answers (`items`), the
 //! journal (`journal`), misses (`misses`), places (`places`, by the table of open lives in `lives`), overlaps (`apart`),
-//! filling (`filling`), sweeps (`gives`, `sweeps`, by what `ledger` counts at each mark end, and `unswept`), totals (`totals`) and the
+//! filling (`filling`, by the table of last cycles in `tops`), sweeps (`gives`, `sweeps`, by what `ledger` counts at each mark end, and `unswept`), totals (`totals`) and the
 //! profile (`profile`, by the samples of `sampled`, whose buckets are searched among `sorted` numbers).
 //! From rule 5 on each object has its seat (`objects`) and its last cycle (`lasts`), so that no rule searches for a life or
 //! asks the marks again. `totals` tries rule 8 alone too, where rule 1 is met. The parts are offered each by itself, and the rules
@@ -31,6 +31,7 @@ mod profile;
 mod sampled;
 mod sorted;
 mod sweeps;
+mod tops;
 mod totals;
 mod unswept;
 
@@ -48,6 +49,7 @@ pub use lives::{OpenLife, Seat, seat_of};
 pub use misses::judge_misses;
 pub use objects::Objects;
 pub use piece::Piece;
-pub use places::{first_lost, judge_places, spans_at};
+pub use places::{first_lost, judge_places};
+pub use tops::Tops;
 pub use totals::judge_totals;
 pub use unswept::judge_lives;

@@ -3,9 +3,9 @@
 ghost use Rattle.std.specs.Prelude.{◌≡◌, ℕ, ◌+◌, ◌≤◌, ◌<◌, length, take, true, IfErr, OnOk, Some, slice_set};
 ghost use Rattle.std.specs.List.{slice_get};
 ghost use Rattle.page_alloc.specs.Journal.{IsBy, at_end, past_of};
-ghost use Rattle.cycle_history.specs.Before.{IsLimited, marks_at};
+ghost use Rattle.cycle_history.specs.Before.{IsLimited};
 ghost use Rattle.cycle_history.specs.Objects.{is_placed};
-ghost use Rattle.cycle_history.specs.Requests.{is_within, last_cycle, marked_by, region_of};
+ghost use Rattle.cycle_history.specs.Requests.{is_within, marked_by, region_of};
 ghost use Rattle.cycle_history.specs.Rules.{AreSeated};
 ghost use Rattle.cycle_history.specs.Sound.{HasAnswers, HasJournal, past_in};
 ghost use Rattle.report_rules.specs.Placing.{BreaksPlaces};
@@ -18,7 +18,7 @@ ghost use Rattle.report_check.specs.Seats.{AllHaveLives, AreSameBut, AreSeatedIn
 use crate::CheckFault;
 use crate::items::Item;
 use crate::lives::{OpenLife, Seat, has_life, no_lives, seat_of, take_up};
-use cycle_history::{Answer, Report};
+use cycle_history::{Answer, Report, spans_at};
 use page_replay::cycle_of;
 use size_classes::CHUNK_PAGES;
 use std::alloc::Global;
@@ -57,20 +57,6 @@ pub fn judge_places(
         return Err(CheckFault::Broken { rule: 4, line });
     }
     Ok(())
-}
-
-/// The spans that a mark end marks.
-pub fn spans_at(trace: &Trace, mark: u32) -> &[Span]
-    requires { mark ≤ last_cycle trace.now }
-    ensures { result.now ≡ marks_at trace.now mark }
-{
-    if mark == 0 {
-        return &[];
-    }
-    match &trace.cycles.as_slice()[mark as usize - 1].mark {
-        Some(end) => end.marks.as_slice(),
-        None => &[],
-    }
 }
 
 /// Takes up the journal's lines up to the end of a cycle, from the next one on, and answers how many there are then.

@@ -1,3 +1,5 @@
+pub mod Put
+pub mod Whole
 pub mod Fields
 pub mod OneItem
 pub mod Unique

@@ -12,7 +12,7 @@ use Rattle.cycle_history.specs.Text.{answer_line, journal_line, sweep_line, tota
 use Rattle.report_text.specs.Unique.{IsOfOneReport}
 use Rattle.report_text.proofs.Fields.{first_same}
 use Rattle.report_text.proofs.OneItem.{Kind, same5, answers_kind, journal_kind, sweeps_kind, totals_kind, profile_kind}
-use Rattle.report_writer.proofs.Whole.{numbered_plain}
+use Rattle.report_text.proofs.Whole.{numbered_plain}
 
 -- ---- one list, and what is behind it
 

@@ -1,14 +1,16 @@
-//! The text of a report, both ways: its reader, the law that a text is of at most one report, and its one writer, which stands in
-//! `report_writer`.
+//! The text of a report, both ways: its one writer, its reader, and the law that a text is of at most one report. What the text is stands
+//! with the report (`cycle_history`).
 #![tactic(auto)]
 
 mod fault;
 mod item;
 mod laws;
+mod lines;
 mod order;
 mod parse;
 mod reader;
 mod words;
+mod write;
 
 pub use fault::ReportFault;
 pub use laws::{
@@ -16,5 +18,5 @@ pub use laws::{
 };
 pub use order::Ordered;
 pub use reader::read_report;
-pub use report_writer::write_report;
 pub use words::address;
+pub use write::write_report;

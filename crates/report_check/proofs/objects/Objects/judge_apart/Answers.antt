@@ -1,7 +1,7 @@
 use Rattle.std.proofs.Common.{◌+◌, refl, sym, ◌∙◌, ap, subst, arith}
 use Rattle.std.proofs.lemmas.Option.{slice_get-get_or}
-use Rattle.life_tops.specs.declared.tops.Tops.{Tops}
-use Rattle.life_tops.specs.Tops.{lives_of}
+use Rattle.report_check.specs.declared.tops.Tops.{Tops}
+use Rattle.report_check.specs.Tops.{lives_of}
 use Rattle.report_check.specs.Known.{AreTops}
 use Rattle.report_check.specs.Pieces.{seen_by}
 use Rattle.report_check.proofs.Clearing.{tops-more, tops-other, clear-more, clear-other, clear-breaks, clear-all, placed-inside}

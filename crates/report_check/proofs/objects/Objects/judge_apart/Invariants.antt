@@ -1,5 +1,5 @@
 use Rattle.std.proofs.Common.{◌≡◌, length}
-use Rattle.life_tops.specs.Tops.{lives_of}
+use Rattle.report_check.specs.Tops.{lives_of}
 use Rattle.report_check.specs.Known.{AreClear, AreTops}
 use Rattle.report_check.specs.Pieces.{seen_by}
 use Rattle.report_check.proofs.objects.Objects.judge_apart.Given as goal

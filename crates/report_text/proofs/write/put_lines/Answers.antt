@@ -1,7 +1,7 @@
 use Rattle.std.proofs.Common.{rules}
 use Rattle.edge_io.proofs.Put.{on_err}
-use Rattle.report_writer.proofs.Put.{put_more, put_front}
-use Rattle.report_writer.proofs.write.put_lines.Goals as goal
+use Rattle.report_text.proofs.Put.{put_more, put_front}
+use Rattle.report_text.proofs.write.put_lines.Goals as goal
 
 pub loop-number-preserved : goal.loop-number-preserved
 loop-number-preserved g c = record {

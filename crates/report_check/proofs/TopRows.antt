@@ -2,7 +2,7 @@
 use Rattle.std.proofs.Common.{◌≡◌, ◌≢◌, ℕ, zero, suc, ◌<◌, List, [], ◌∷◌, ◌++◌, set, length, get_or, Option, refl, ap, arith}
 use Rattle.std.specs.List.{slice_get}
 use Rattle.std.specs.Global.{Vec}
-use Rattle.life_tops.specs.Tops.{numbers_of}
+use Rattle.report_check.specs.Tops.{numbers_of}
 
 abbrev pub AreEmptyRows : List (Vec ℕ) → Type 0
 AreEmptyRows rows = (n : ℕ) → numbers_of (slice_get rows n) ≡ []

@@ -1,6 +1,6 @@
 use Rattle.std.proofs.lemmas.Result.{on_ok_weaker}
-use Rattle.report_writer.proofs.Whole.{answers_fault, journal_fault, closing_fault, flush_fault, flushed}
-use Rattle.report_writer.proofs.write.write_all_lines.Goals as goal
+use Rattle.report_text.proofs.Whole.{answers_fault, journal_fault, closing_fault, flush_fault, flushed}
+use Rattle.report_text.proofs.write.write_all_lines.Goals as goal
 
 pub returns-in_err-put_answers-clause-front : goal.returns-in_err-put_answers-clause-front
 returns-in_err-put_answers-clause-front g c = answers_fault c.args.report.now _ _ _ _ c.requires (rw c.as_slice.ensures at c.in_err-put_answers.ensures.err)

@@ -2,7 +2,7 @@
 use Rattle.std.specs.Prelude.{◌≡◌, ◌≢◌, ℕ, max, List, [], length, slice_index_or, Option, Some, None, ◌⊎◌}
 use Rattle.std.specs.List.{slice_get}
 use Rattle.std.specs.Global.{Vec}
-use Rattle.life_tops.specs.declared.tops.Tops.{Tops}
+use Rattle.report_check.specs.declared.tops.Tops.{Tops}
 
 -- How many lives there are.
 abbrev pub lives_of : Tops → ℕ

@@ -2,8 +2,8 @@ use Rattle.std.proofs.Common.{rules}
 use Rattle.std.proofs.lemmas.List.{get_or_default}
 use Rattle.cycle_history.specs.Text.{answer_line}
 use Rattle.edge_io.proofs.Put.{on_err}
-use Rattle.report_writer.proofs.Put.{answer_line_is, put_more, put_front}
-use Rattle.report_writer.proofs.write.put_answers.Goals as goal
+use Rattle.report_text.proofs.Put.{answer_line_is, put_more, put_front}
+use Rattle.report_text.proofs.write.put_answers.Goals as goal
 
 pub loop-number-preserved : goal.loop-number-preserved
 loop-number-preserved g c = record {

@@ -3,7 +3,7 @@ use Rattle.edge_io.specs.Output.{sink_of, waiting_of}
 use Rattle.edge_io.specs.Text.{text}
 use Rattle.cycle_history.specs.Text.{numbered}
 use Rattle.edge_io.specs.Puts.{Puts}
-use Rattle.report_writer.proofs.write.put_lines.Given as goal
+use Rattle.report_text.proofs.write.put_lines.Given as goal
 
 abbrev pub invariant-loop-number : goal.invariant-loop-number
 invariant-loop-number g l = record {

@@ -1,5 +1,5 @@
 use Rattle.std.proofs.Common.{◌≡◌, ℕ, get_or, length}
-use Rattle.life_tops.proofs.tops.grow.Given as goal
+use Rattle.report_check.proofs.tops.grow.Given as goal
 
 -- the row is longer, with 0 at the new places
 abbrev pub invariant-loop-place : goal.invariant-loop-place

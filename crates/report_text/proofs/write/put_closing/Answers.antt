@@ -1,6 +1,6 @@
 use Rattle.edge_io.proofs.Put.{on_err}
-use Rattle.report_writer.proofs.Whole.{sweeps_fault, totals_fault, profile_fault, end_fault, closing_put}
-use Rattle.report_writer.proofs.write.put_closing.Goals as goal
+use Rattle.report_text.proofs.Whole.{sweeps_fault, totals_fault, profile_fault, end_fault, closing_put}
+use Rattle.report_text.proofs.write.put_closing.Goals as goal
 
 pub returns-in_err-put_lines-clause-err : goal.returns-in_err-put_lines-clause-err
 returns-in_err-put_lines-clause-err g c = on_err c.from_residual.result

@@ -1,6 +1,6 @@
 use Rattle.std.proofs.Common.{◌≡◌, length}
-use Rattle.life_tops.proofs.Rows.{AreEmptyRows}
-use Rattle.life_tops.proofs.tops.Tops.new.Given as goal
+use Rattle.report_check.proofs.TopRows.{AreEmptyRows}
+use Rattle.report_check.proofs.tops.Tops.new.Given as goal
 
 -- the rows so far are empty
 abbrev pub invariant-loop-life : goal.invariant-loop-life

@@ -1,9 +1,9 @@
 //! Until which cycle the objects live that sit at an index of a life.
 
 ghost use Rattle.std.specs.Prelude.{◌≡◌, ◌<◌, ◌≤◌, ◌^◌, ℕ, length, slice_index_or, IfOk, OnOk};
-ghost use Rattle.life_tops.specs.Tops.{AreNoTops, IsRaised, IsRaisedIn, lives_of, top_at};
+ghost use Rattle.report_check.specs.Tops.{AreNoTops, IsRaised, IsRaisedIn, lives_of, top_at};
 
-use fallible_list::NoMemory;
+use edge_io::NoMemory;
 use std::alloc::Global;
 
 /// A number for each index of each life, which is 0 until it is raised.

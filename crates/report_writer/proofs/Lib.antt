@@ -1,2 +1,0 @@
-mod Put
-pub mod Whole
