@@ -24,7 +24,7 @@ KINDS = {
     LARGE_PLAIN: ("#f0b070", "large object without pointers"),
 }
 RGB = [bytes.fromhex(KINDS[kind][0][1:]) for kind in sorted(KINDS)]
-MOST_PAGES, MOST_CYCLES = 65536, 10000
+MOST_PAGES, MOST_CYCLES = 2097152, 10000
 
 
 def kind_of(span_class):

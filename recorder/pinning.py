@@ -21,7 +21,7 @@ from tool import Unusable
 BASE = 0xC000000000  # the address of page 0
 BLOCK = 1 << 17  # bytes read at a time
 SOME = 1 << 14  # objects counted at a time
-MOST_PAGES = 65536  # of a region
+MOST_PAGES = 2097152  # of the largest region
 STEPS = 8  # of the histogram of how full spans are
 NOWHERE, ZERO, MISSED = -1, 0, 1  # no span; in the place of an address: of size 0; not placed
 

@@ -38,7 +38,7 @@ class Faults(Folder):
             (["leaks", report_of, "--trace", trace], "", f"{report_of} has 3 objects, and {trace} has 6: it is no report of this trace"),
             (["picture", "no such report"], "", "no such report: No such file or directory"),
             (["picture", odd], "", f"{odd}: line 1: no line of a report"),
-            (["picture"], "j 0 0 take 65536 1 6\nend\n", "a region has 65536 pages at most, and no page 65536"),
+            (["picture"], "j 0 0 take 2097152 1 6\nend\n", "a region has 2097152 pages at most, and no page 2097152"),
             (["picture"], "j 0 0 take 0 1 255\nend\n", "there is no span class 255"),
             (["picture"], "s 4294967295 0 1 1\nend\n", "a report has at most 10000 cycles, not 4294967295"),
             (["picture"], "s 0 0 1 1\nend\n", "nothing is swept in cycle 0"),

@@ -525,7 +525,7 @@ class PinsFaults(Folder):
             ("o 0 ", "o 1 ", "line 1: this is not the line of object 0"),
             ("j 2 ", "j 3 ", "line 12: this is not line 2 of the journal"),
             ("j 1 0 take 1 1 7", "j 1 0 take 0 1 7", "line 11: no such span can be made here"),
-            ("j 1 0 take 1 1 7", "j 1 0 take 65536 1 7", "line 11: a region has 65536 pages at most"),
+            ("j 1 0 take 1 1 7", "j 1 0 take 2097152 1 7", "line 11: a region has 2097152 pages at most"),
             ("j 1 0 take 1 1 7", "j 1 0 take 1 1 136", "line 11: no such span can be made here"),
             ("give 0 1", "give 0 2", "line 12: no such span is there to give back"),
             ("give 0 1", "scav 0 1", "line 12: these pages are not free and backed"),

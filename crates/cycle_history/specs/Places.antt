@@ -1,6 +1,7 @@
 -- Where an object lies, by its size and its address.
 use Rattle.std.specs.Prelude.{◌≡◌, ℕ, ◌+◌, ◌*◌, ◌^◌, ◌<◌, ◌≤◌, Bool, List, Some}
 use Rattle.std.specs.List.{slice_get}
+use Rattle.size_classes.specs.declared.TheConstants.{MAX_PAGES}
 use Rattle.size_classes.specs.Classes.{region_start}
 use Rattle.trace_reader.specs.declared.trace.Trace.{Trace}
 use Rattle.trace_reader.specs.declared.trace.Event.{Event}
@@ -24,7 +25,7 @@ pub record IsPlace (size address page k : ℕ) : Type 0 where
 
 -- A place with its page among those that a region can have.
 abbrev pub HasPlace : ℕ → ℕ → Type 0
-HasPlace size address = (page : ℕ) × (k : ℕ) × (page < 2 ^ 16) × IsPlace size address page k
+HasPlace size address = (page : ℕ) × (k : ℕ) × (page < MAX_PAGES) × IsPlace size address page k
 
 -- Object i of the trace lies at index k of a span that begins at the page.
 pub record LiesAt (t : Trace) (answers : List Answer) (i page k : ℕ) : Type 0 where

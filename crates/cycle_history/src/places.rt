@@ -11,14 +11,11 @@ ghost use Rattle.cycle_history.specs.Packed.{HasRoom};
 
 use crate::Answer;
 use edge_io::{List, NoMemory};
-use size_classes::{Kind, PAGE_SIZE, REGION_START, class_of, slot_size, span_objects};
+use size_classes::{Kind, MAX_PAGES, PAGE_SIZE, REGION_START, class_of, slot_size, span_objects};
 use std::alloc::Global;
 use std::marker::Model;
 use std::mem::replace;
 use trace_reader::{Event, Trace};
-
-// The bytes of a page.
-const PAGE: u32 = PAGE_SIZE as u32;
 
 // An index is below this, since no span has more objects.
 const INDICES: u32 = 1024;
@@ -174,17 +171,16 @@ fn place_of(size: u64, address: u64) -> Place
 // that the object's own is tried before any is searched for.
 fn small_place(class: u8, behind: u64) -> Place
     requires is_class { IsClass class }
-    requires place { (page : ℕ) × (k : ℕ) × (page < 2 ^ 16) × (k < objects_of class) × (behind ≡ 8192 * page + slot_of class * k) }
+    requires place { (page : ℕ) × (k : ℕ) × (page < MAX_PAGES) × (k < objects_of class) × (behind ≡ 8192 * page + slot_of class * k) }
     ensures index { result.index < objects_of class }
     ensures start { behind ≡ 8192 * result.page + slot_of class * result.index }
 {
-    let slot = slot_size(class);
-    let count = span_objects(class);
-    let behind = behind as u32;
-    match slot_at(behind % PAGE, slot, count) {
+    let slot = u64::from(slot_size(class));
+    let count = u64::from(span_objects(class));
+    match slot_at(behind % PAGE_SIZE, slot, count) {
         Some(index) => Place {
-            page: behind / PAGE,
-            index,
+            page: (behind / PAGE_SIZE) as u32,
+            index: index as u32,
         },
         None => search_place(behind, slot, count),
     }
@@ -193,23 +189,30 @@ fn small_place(class: u8, behind: u64) -> Place
 // The place of an object whose span has so many slots of this size. Its span begins at the object's page or at one of the few
 // before it: the last from which the object is a slot. It stands alone, since it is seldom needed.
 #[inline(never)]
-fn search_place(behind: u32, slot: u32, count: u32) -> Place
+fn search_place(behind: u64, slot: u64, count: u64) -> Place
+    requires near { behind < 2 ^ 35 }
     requires slot { 1 ≤ slot }
+    requires few { count < 2 ^ 32 }
     requires place { (page : ℕ) × (k : ℕ) × (k < count) × (behind ≡ 8192 * page + slot * k) }
     ensures index { result.index < count }
     ensures start { behind ≡ 8192 * result.page + slot * result.index }
 {
-    let mut page = behind / PAGE;
+    let mut page = behind / PAGE_SIZE;
     loop {
-        match slot_at(behind - page * PAGE, slot, count) {
-            Some(index) => return Place { page, index },
+        match slot_at(behind - page * PAGE_SIZE, slot, count) {
+            Some(index) => {
+                return Place {
+                    page: page as u32,
+                    index: index as u32,
+                };
+            }
             None => page -= 1,
         }
     }
 }
 
 // Which of so many slots begins so many bytes behind the start of their span, if one does.
-fn slot_at(behind: u32, slot: u32, count: u32) -> Option<u32>
+fn slot_at(behind: u64, slot: u64, count: u64) -> Option<u64>
     requires slot { 1 ≤ slot }
     ensures some { IfSome result (λ index. (index < count) × (behind ≡ slot * index)) }
     ensures none { result ≡ None → (k : ℕ) → k < count → behind ≢ slot * k }

@@ -5,6 +5,7 @@ use Rattle.std.specs.List.{AllByRecursion}
 use Rattle.std.proofs.lemmas.Bool.{cases_lt, lt-ltb, ltb-true}
 use Rattle.std.proofs.lemmas.List.{set-get_or}
 use Rattle.std.proofs.Math.ListN.{length-set}
+use Rattle.size_classes.specs.declared.TheConstants.{MAX_PAGES}
 use Rattle.page_alloc.specs.Heap.{AddsLine, HasMoreRoom, PageHeap}
 use Rattle.size_classes.proofs.Bounds.{objects_bounds}
 use Rattle.page_alloc.specs.Owners.{owner}
@@ -213,7 +214,7 @@ module _ (c : CoreState) (heap : PageHeap) (homes : List (Option Body)) (n : ℕ
 
 -- a new core with the first view
 pub start_kept : (core core' : CoreState) (heap : PageHeap) (homes : List (Option Body)) (v : View) (pages goal workers n : ℕ) → core ≡ new_state pages workers → Owned core → IsTidy core → TailsFit core → core' ≡ record core { room = length core.words } → n < workers
-    → heap.region ≡ pages → heap.goal ≡ goal → heap.past ≡ [] → homes ≡ copies pages None → pages ≤ 65536 → v ≡ first_view pages goal workers → Kept core' heap homes n v
+    → heap.region ≡ pages → heap.goal ≡ goal → heap.past ≡ [] → homes ≡ copies pages None → pages ≤ MAX_PAGES → v ≡ first_view pages goal workers → Kept core' heap homes n v
 start_kept core core' heap homes v pages goal workers n e o t f r low region goal_is past places small is = record {
   rule = start_rule core core' heap homes v pages goal workers n e o t f r low region goal_is past places small is;
   cycle = start_cycle core core' heap v pages goal workers n e r low past is;

@@ -7,6 +7,7 @@ use native.Mathlib.Decide.{ℕ_discrete}
 use mathlib.Core.Option.{some}
 use lib.ListN.{get_elem?}
 use Rattle.std.proofs.Math.ListN.{length-set}
+use Rattle.size_classes.specs.declared.TheConstants.{MAX_PAGES}
 use Rattle.page_alloc.specs.Heap.{PageHeap}
 use Rattle.page_alloc.specs.Owners.{owner}
 use Rattle.page_alloc.specs.Journal.{IsBy, Legal}
@@ -104,7 +105,7 @@ module _ (c : CoreState) (heap : PageHeap) (homes : List (Option Body)) (n : ℕ
       number = k.number;
       hands = hands_after ∙ ap (map hand_state) (parts_after h);
       region = k.region ∙ sym words;
-      small = subst (λ (m : ℕ). m ≤ 65536) (sym words) k.small;
+      small = subst (λ (m : ℕ). m ≤ MAX_PAGES) (sym words) k.small;
       goal = k.goal ∙ sym goal;
       generation = k.generation ∙ sym generation;
       sets = sets ∙ k.sets;

@@ -6,6 +6,7 @@ use Rattle.std.proofs.lemmas.List.{set-get_or}
 use Rattle.std.proofs.lemmas.List.FromFn.{length-map-range_with_len}
 use mathlib.Core.Option.{some, some-injective, some-ne-none}
 use lib.ListN.{get_elem?}
+use Rattle.size_classes.specs.declared.TheConstants.{MAX_PAGES}
 use Rattle.page_alloc.specs.Heap.{PageHeap}
 use Rattle.page_alloc.specs.Owners.{owner}
 use Rattle.page_alloc.specs.Journal.{IsBy, Legal}
@@ -47,7 +48,7 @@ module _ {A : Type 0} (a : A) where
 
 -- the rule of a core whose parts are those of a new one
 pub starts : (c : CoreState) (heap : PageHeap) (homes : List (Option Body)) (workers n : ℕ) → Owned c → IsTidy c → TailsFit c → n < workers → c.generation ≡ 4 → c.lock ≡ None → c.owners ≡ copies (length c.words) None → c.lives ≡ []
-    → c.sets ≡ copies 544 no_set → c.hands ≡ copies workers no_hand → heap.region ≡ length c.words → heap.past ≡ [] → homes ≡ copies (length c.words) None → length c.words ≤ 65536
+    → c.sets ≡ copies 544 no_set → c.hands ≡ copies workers no_hand → heap.region ≡ length c.words → heap.past ≡ [] → homes ≡ copies (length c.words) None → length c.words ≤ MAX_PAGES
     → Rule (record c { room = length c.words }) heap homes n (first_view (length c.words) heap.goal workers)
 starts c heap homes workers n o t f low g lock owners lives sets hands region past places small = let parts = set_here no_part workers n in record {
   owned = owned_of (record c { room = length c.words }) (kept_of c o);
@@ -100,10 +101,10 @@ starts c heap homes workers n o t f low g lock owners lives sets hands region pa
     none_home p = ap (λ (z : List (Option Body)). get_or z p None) places ∙ get_here None (range_with_len 0 (length c.words)) p
 
 pub start_rule : (core core' : CoreState) (heap : PageHeap) (homes : List (Option Body)) (v : View) (pages goal workers n : ℕ) → core ≡ new_state pages workers → Owned core → IsTidy core → TailsFit core → core' ≡ record core { room = length core.words } → n < workers
-    → heap.region ≡ pages → heap.goal ≡ goal → heap.past ≡ [] → homes ≡ copies pages None → pages ≤ 65536 → v ≡ first_view pages goal workers → Rule core' heap homes n v
+    → heap.region ≡ pages → heap.goal ≡ goal → heap.past ≡ [] → homes ≡ copies pages None → pages ≤ MAX_PAGES → v ≡ first_view pages goal workers → Rule core' heap homes n v
 start_rule core core' heap homes v pages goal workers n e o t f r low region goal_is past places small is =
     let many : length core.words ≡ pages = ap (λ (s : CoreState). length s.words) e ∙ length-map-range_with_len (λ _. let z : ℕ = 0 in z) 0 pages in
     subst (λ (s : CoreState). Rule s heap homes n v) (sym r) (subst (λ (x : View). Rule (record core { room = length core.words }) heap homes n x) (ap (λ (z : ℕ). first_view z heap.goal workers) many ∙ ap (λ (z : ℕ). first_view pages z workers) goal_is ∙ sym is)
     (starts core heap homes workers n o t f low (ap (λ (s : CoreState). s.generation) e) (ap (λ (s : CoreState). s.lock) e)
     (ap (λ (s : CoreState). s.owners) e ∙ ap (λ (z : ℕ). let y : List (Option ℕ) = copies z None in y) (sym many)) (ap (λ (s : CoreState). s.lives) e) (ap (λ (s : CoreState). s.sets) e) (ap (λ (s : CoreState). s.hands) e) (region ∙ sym many) past
-    (places ∙ ap (λ (z : ℕ). let y : List (Option Body) = copies z None in y) (sym many)) (subst (λ (z : ℕ). z ≤ 65536) (sym many) small)))
+    (places ∙ ap (λ (z : ℕ). let y : List (Option Body) = copies z None in y) (sym many)) (subst (λ (z : ℕ). z ≤ MAX_PAGES) (sym many) small)))

@@ -6,6 +6,7 @@ use mathlib.Core.Logic.{dite}
 use mathlib.Core.Option.{some}
 use lib.ListN.{get_elem?}
 use native.Mathlib.Decide.{ℕ_discrete, dec_le}
+use Rattle.size_classes.specs.declared.TheConstants.{MAX_PAGES}
 use Rattle.page_alloc.specs.Heap.{PageHeap}
 use Rattle.page_bitmap.specs.Counts.{one_if}
 use Rattle.span_state.specs.Bits.{HasFree}
@@ -101,15 +102,15 @@ module _ (c : CoreState) (heap : PageHeap) (homes : List (Option Body)) (n : ℕ
   pub seen_filled : (j i : ℕ) → is_swept_set c.generation j ≡ false → (h t : ℕ) → 0 < many (is_look j h t) v.own.log → i < t → 0 < cell_of (set_of c j) i
   seen_filled j i u h t m l = let y = k.tells n v.own (part_at c heap homes n v k) in let g = (y.grown j h t m).1 in (y.filled j u i (omega arith)).0
 
-  -- a cell is no more than 65536
-  pub cell_low : (j i : ℕ) → j < 544 → cell_of (set_of c j) i ≤ 65536
+  -- a cell is no more than the pages of the largest region
+  pub cell_low : (j i : ℕ) → j < 544 → cell_of (set_of c j) i ≤ MAX_PAGES
   cell_low j i low = let a = at_low c.sets j no_set (let x = k.sets in omega arith) in let most = k.small in
       dite (dec_le (suc i) (set_of c j).tail) (λ l. by_part a (omega arith) (is_swept_set c.generation j) refl)
       (λ l. let b = (kept c heap homes n v k).sets_fit.beyond j (set_of c j) a i (omega arith) in omega arith)
     where
-      by_part : get_elem? c.sets j ≡ some (set_of c j) → i < (set_of c j).tail → (b : Bool) → is_swept_set c.generation j ≡ b → cell_of (set_of c j) i ≤ 65536
+      by_part : get_elem? c.sets j ≡ some (set_of c j) → i < (set_of c j).tail → (b : Bool) → is_swept_set c.generation j ≡ b → cell_of (set_of c j) i ≤ MAX_PAGES
       by_part a l true e = let m = k.entered.sets_name j (set_of c j) a e in let p = (m.entry i l).low in let most = k.small in
-          ⊎_elim (λ (q : cell_of (set_of c j) i ≡ 0). let z : cell_of (set_of c j) i ≤ 65536 = omega arith in z) (λ (q : cell_of (set_of c j) i ≡ k.names j i + 1). omega arith) (m.cell i l)
+          ⊎_elim (λ (q : cell_of (set_of c j) i ≡ 0). let z : cell_of (set_of c j) i ≤ MAX_PAGES = omega arith in z) (λ (q : cell_of (set_of c j) i ≡ k.names j i + 1). omega arith) (m.cell i l)
       by_part a l false e = ((k.tells n v.own (part_at c heap homes n v k)).filled j e i l).1
 
   -- each marked index of a body's page is allocated

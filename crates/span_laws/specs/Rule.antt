@@ -1,5 +1,6 @@
 -- The rule of the lent state.
 use Rattle.std.specs.Prelude.{◌≡◌, ℕ, ◌-◌, ◌/◌, ◌^◌, ◌<◌, ◌≤◌, List, map, length, slice_index_or, Option, None}
+use Rattle.size_classes.specs.declared.TheConstants.{MAX_PAGES}
 use Rattle.span_state.specs.declared.body.Body.{Body}
 use Rattle.sweep_laws.specs.State.{CoreState}
 use Rattle.sweep_laws.specs.OwnedLives.{EachAt}
@@ -28,7 +29,7 @@ pub record Rule (c : CoreState) (heap : PageHeap) (homes : List (Option Body)) (
   pub number : n < length v.parts
   pub hands : c.hands ≡ map hand_state (parts_of n v)
   pub region : v.region ≡ length c.words
-  pub small : length c.words ≤ 65536
+  pub small : length c.words ≤ MAX_PAGES
   pub goal : v.goal ≡ heap.goal
   pub generation : v.generation ≡ c.generation
   pub sets : length c.sets ≡ 544

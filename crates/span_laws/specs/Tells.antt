@@ -1,5 +1,6 @@
 -- What a part tells of the pages and sets, and that it is so.
 use Rattle.std.specs.Prelude.{◌≡◌, ℕ, ◌+◌, ◌<◌, ◌≤◌, ◌==◌, ◌&&◌, true, false, List, length, slice_index, slice_index_or}
+use Rattle.size_classes.specs.declared.TheConstants.{MAX_PAGES}
 use Rattle.sweep_laws.specs.Counts.{times}
 use Rattle.sweep_laws.specs.Lists.{has}
 use Rattle.sweep_laws.specs.Reading.{cell_of, class_of_set, is_swept_set, life_in, no_set}
@@ -10,9 +11,9 @@ use Rattle.span_laws.specs.Logs.{is_look, is_placing_at}
 use Rattle.worker_log.specs.Entries.{many, is_pop, is_pop_of, is_seen_empty}
 use Rattle.span_laws.specs.Views.{has_cell}
 
--- each cell below the tail of a set is filled, by a page of a region of at most 65536 pages
+-- each cell below the tail of a set is filled, by a page of a region of at most 2097152 pages
 abbrev pub IsFilled : SetState → Type 0
-IsFilled s = (i : ℕ) → i < s.tail → (0 < cell_of s i) × (cell_of s i ≤ 65536)
+IsFilled s = (i : ℕ) → i < s.tail → (0 < cell_of s i) × (cell_of s i ≤ MAX_PAGES)
 
 -- a placed object is allocated in a swept span
 abbrev pub IsPlaced : ℕ → List ℕ → List LifeState → ℕ → ℕ → Type 0
