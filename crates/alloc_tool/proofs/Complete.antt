@@ -3,7 +3,7 @@ use Rattle.std.proofs.Common.{◌≡◌, ℕ, inl, inr, List, ◌++◌, Option, 
 use Rattle.std.proofs.lemmas.List.{append-nil}
 use Rattle.trace_reader.specs.declared.trace.Trace.{Trace}
 use Rattle.trace_reader.specs.Limits.{Spells}
-use Rattle.whole_trace.specs.WholeInput.{ReadsAll}
+use Rattle.trace_reader.specs.WholeInput.{ReadsAll}
 use Rattle.alloc_tool.specs.Top.{IsComplete, IsStatusOfRun}
 
 -- a run that answers read all bytes, and they are the trace's

@@ -9,7 +9,7 @@ use Rattle.trace_reader.specs.Limits.{Spells}
 use Rattle.trace_reader.specs.Refusal.{lines_fault, next_number, pieces_of}
 use Rattle.trace_reader.specs.Spelling.{lines_of}
 use Rattle.trace_reader.proofs.One.{one_trace}
-use Rattle.trace_reader.proofs.Whole.{whole_fault}
+use Rattle.trace_reader.proofs.NoFault.{whole_fault}
 use Rattle.cycle_history.specs.declared.Report.{Report}
 use Rattle.report_text.specs.declared.fault.ReportFault.{ReportFault}
 use Rattle.report_text.specs.Read.{IsText}

@@ -5,8 +5,8 @@ use Rattle.trace_reader.specs.declared.fault.TraceFault.{TraceFault}
 use Rattle.trace_reader.specs.Told.{IsOfTrace}
 use Rattle.commands.specs.Texts.{fault_text, status_text}
 use Rattle.commands.specs.Told.{Tells}
-use Rattle.whole_trace.specs.BrokenOff.{BreaksOff}
-use Rattle.whole_trace.specs.Refused.{IsRefused}
+use Rattle.trace_reader.specs.BrokenOff.{BreaksOff}
+use Rattle.trace_reader.specs.Refused.{IsRefused}
 use Rattle.alloc_tool.specs.Top.{AnswersAll, AnswersFront}
 
 -- What each status says of the input, of the output and of what is told on the errors, where the answer has the profile of

@@ -8,7 +8,7 @@ use Rattle.trace_reader.specs.Limits.{Spells}
 use Rattle.cycle_history.specs.declared.Report.{Report}
 use Rattle.cycle_history.specs.Sound.{HasForm, IsSoundAndUsed}
 use Rattle.cycle_history.specs.Text.{report_text}
-use Rattle.whole_trace.specs.WholeInput.{ReadsAll}
+use Rattle.trace_reader.specs.WholeInput.{ReadsAll}
 
 -- a sound report of the trace that uses what it takes, with the profile of each mark end or that of the last
 pub record IsAnswer (each : Bool) (trace : Trace) (report : Report) : Type 0 where

@@ -26,8 +26,7 @@ use report_text::write_report;
 use std::alloc::Global;
 use std::sync::Wait;
 use std::thread::Threads;
-use trace_reader::TraceFault;
-use whole_trace::read_whole;
+use trace_reader::{TraceFault, read_whole};
 
 /// Does what the words say, and answers the exit status. It runs `run`, `demo` and `check --pieces=N` itself; all other words go
 /// to [`goheap_plain`].

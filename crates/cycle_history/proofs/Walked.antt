@@ -2,8 +2,8 @@
 use Rattle.std.proofs.Common.{◌≡◌, ℕ, ◌+◌, ◌-◌, ◌<◌, ◌≤◌, Bool, true, false, List, [], ◌∷◌, length, drop, get_or, refl, sym, ◌∙◌, ap, subst, arith, inl, inr}
 use Rattle.std.proofs.lemmas.List.{drop_more, drop_all}
 use Rattle.trace_reader.specs.declared.trace.Trace.{Trace}
-use Rattle.object_spans.specs.declared.span.Span.{Span}
-use Rattle.object_spans.specs.Rising.{AreSpans}
+use Rattle.trace_reader.specs.declared.span.Span.{Span}
+use Rattle.trace_reader.specs.Rising.{AreSpans}
 use Rattle.cycle_history.specs.declared.Answer.{Answer}
 use Rattle.cycle_history.specs.Requests.{is_within, marked_by}
 use Rattle.cycle_history.specs.Marked.{HasDied, IsMarkedAt}

@@ -1,7 +1,7 @@
 -- What stands before a mark end: the objects, with their requests and answers, in a trace within the limits.
 use Rattle.std.specs.Prelude.{◌≡◌, ℕ, zero, suc, ◌<◌, ◌≤◌, Bool, false, List, [], length, take, map, reverse, slice_index_or, Some}
 use Rattle.std.specs.List.{AllByRecursion, flat_map, slice_get}
-use Rattle.object_spans.specs.declared.span.Span.{Span}
+use Rattle.trace_reader.specs.declared.span.Span.{Span}
 use Rattle.trace_reader.specs.declared.trace.Trace.{Trace}
 use Rattle.trace_reader.specs.Limits.{AreCycles, EventFits, HeaderFits, events_of}
 use Rattle.cycle_history.specs.declared.Answer.{Answer}

@@ -2,8 +2,8 @@
 use Rattle.std.specs.Prelude.{◌≡◌, ℕ, ◌-◌, ◌<◌, ◌≤◌, true, List, [], length, drop, slice_index_or, ◌⊎◌, ◌↔◌}
 use Rattle.span_state.specs.MarkSet.{MarkSet, is_marked, dead_of}
 use Rattle.trace_reader.specs.declared.trace.Trace.{Trace}
-use Rattle.object_spans.specs.declared.span.Span.{Span}
-use Rattle.object_spans.specs.Rising.{AreSpans}
+use Rattle.trace_reader.specs.declared.span.Span.{Span}
+use Rattle.trace_reader.specs.Rising.{AreSpans}
 use Rattle.cycle_history.specs.declared.Answer.{Answer}
 use Rattle.cycle_history.specs.declared.lookups.Walk.{Walk}
 use Rattle.cycle_history.specs.declared.marks.Objects.{Objects}

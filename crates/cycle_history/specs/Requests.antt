@@ -4,7 +4,7 @@ use Rattle.trace_reader.specs.declared.trace.Trace.{Trace}
 use Rattle.trace_reader.specs.declared.trace.Cycle.{Cycle}
 use Rattle.trace_reader.specs.declared.trace.Event.{Event}
 use Rattle.trace_reader.specs.declared.trace.MarkEnd.{MarkEnd}
-use Rattle.object_spans.specs.declared.span.Span.{Span}
+use Rattle.trace_reader.specs.declared.span.Span.{Span}
 
 -- A request is an event of the trace, with the number of mark ends before it as its cycle.
 pub record Request : Type 0 where

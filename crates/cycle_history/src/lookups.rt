@@ -1,7 +1,7 @@
 //! The spans of numbers that a mark end marks, and whether they have a number.
 
 ghost use Rattle.std.specs.Prelude.{◌≡◌, ℕ, ◌+◌, ◌<◌, ◌≤◌, length, slice_index_or};
-ghost use Rattle.object_spans.specs.Rising.{AreSpans};
+ghost use Rattle.trace_reader.specs.Rising.{AreSpans};
 ghost use Rattle.cycle_history.specs.Requests.{is_within, last_cycle};
 ghost use Rattle.cycle_history.specs.Before.{marks_at};
 

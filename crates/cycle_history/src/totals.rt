@@ -2,7 +2,7 @@
 
 ghost use Rattle.std.specs.Prelude.{◌≡◌, ℕ, ◌+◌, ◌/◌, ◌^◌, ◌<◌, ◌≤◌, ◌==◌, ◌&&◌, ◌||◌, nat_le, not, Bool, List as Items, length, IfOk};
 ghost use Rattle.page_alloc.specs.Lists.{one_if};
-ghost use Rattle.object_spans.specs.Rising.{AreSpans};
+ghost use Rattle.trace_reader.specs.Rising.{AreSpans};
 ghost use Rattle.trace_reader.specs.Limits.{events_of};
 ghost use Rattle.cycle_history.specs.Needs.{Need, IsNeed};
 ghost use Rattle.cycle_history.specs.Requests.{is_within, last_cycle, marked_by};

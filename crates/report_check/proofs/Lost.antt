@@ -5,7 +5,7 @@ use Rattle.std.proofs.lemmas.List.{take_more}
 use Rattle.std.proofs.lemmas.Bool.{cases_eq, cases_lt, or_cases, or_left, or_right, and_parts, and_from, le-leb, leb-true}
 use Rattle.std.proofs.lemmas.Option.{slice_get-get_or}
 use Rattle.page_alloc.specs.Lives.{Life}
-use Rattle.object_spans.specs.declared.span.Span.{Span}
+use Rattle.trace_reader.specs.declared.span.Span.{Span}
 use Rattle.cycle_history.specs.declared.Answer.{Answer}
 use Rattle.cycle_history.specs.declared.Answer.TheVariants.{Placed, Zero, Missed}
 use Rattle.cycle_history.specs.Objects.{is_placed}

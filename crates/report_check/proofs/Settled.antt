@@ -15,8 +15,8 @@ use Rattle.trace_reader.specs.declared.trace.Trace.{Trace}
 use Rattle.trace_reader.specs.declared.trace.Cycle.{Cycle}
 use Rattle.trace_reader.specs.declared.trace.Event.{Event}
 use Rattle.trace_reader.specs.declared.trace.MarkEnd.{MarkEnd}
-use Rattle.object_spans.specs.declared.span.Span.{Span}
-use Rattle.object_spans.specs.Rising.{AreSpans}
+use Rattle.trace_reader.specs.declared.span.Span.{Span}
+use Rattle.trace_reader.specs.Rising.{AreSpans}
 use Rattle.trace_reader.specs.Limits.{events_of, AreCycles, IsMarked}
 use Rattle.cycle_history.specs.declared.Answer.TheVariants.{Placed, Zero}
 use Rattle.cycle_history.specs.declared.Report.{Report}

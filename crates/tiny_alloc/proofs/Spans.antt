@@ -6,8 +6,8 @@ use Rattle.std.proofs.lemmas.Bool.{cases_lt, and_parts, and_from, le-leb, leb-tr
 use Rattle.std.proofs.lemmas.List.{get_or_default, take_more, take_all}
 use Rattle.std.proofs.lemmas.List.Sorted.{All-permutation, IsPermutation-sym}
 use Rattle.std.proofs.lemmas.List.Elements.{All-from_recursion, recursion_from_All}
-use Rattle.object_spans.specs.declared.span.Span.{Span}
-use Rattle.object_spans.specs.Rising.{AreSpans}
+use Rattle.trace_reader.specs.declared.span.Span.{Span}
+use Rattle.trace_reader.specs.Rising.{AreSpans}
 use Rattle.cycle_history.specs.Requests.{is_within}
 use Rattle.tiny_alloc.specs.Base.{AreSpaced}
 use Rattle.tiny_alloc.specs.Marks.{AreFair, HaveSame, IsFair}

@@ -1,7 +1,7 @@
 -- How the marks of a base are found.
 use Rattle.std.specs.Prelude.{◌≡◌, ℕ, ◌<◌, ◌≤◌, true, List, ◌⊎◌, ◌↔◌}
 use Rattle.std.specs.List.{AllByRecursion}
-use Rattle.object_spans.specs.declared.span.Span.{Span}
+use Rattle.trace_reader.specs.declared.span.Span.{Span}
 use Rattle.cycle_history.specs.Requests.{is_within}
 use Rattle.tiny_alloc.specs.declared.part.Part.{Part}
 use Rattle.tiny_alloc.specs.declared.part.Part.TheVariants.{Ride}

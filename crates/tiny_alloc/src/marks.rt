@@ -2,7 +2,7 @@
 
 ghost use Rattle.std.specs.Prelude.{◌≡◌, ◌+◌, ◌<◌, ◌≤◌, length, IfOk, OnOk};
 ghost use Rattle.std.specs.List.Sorted.{IsNonDecreasingBy};
-ghost use Rattle.object_spans.specs.declared.span.Span.{Span as ASpan};
+ghost use Rattle.trace_reader.specs.declared.span.Span.{Span as ASpan};
 ghost use Rattle.tiny_alloc.specs.Base.{AreBasedMarks, AreSpaced};
 ghost use Rattle.tiny_alloc.specs.Parts.{part_by};
 ghost use Rattle.tiny_alloc.specs.Marks.{AreFair, Gains, HaveLeads, HaveSame, IsLeadWithin};

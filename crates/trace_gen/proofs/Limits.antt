@@ -5,8 +5,8 @@ use Rattle.std.proofs.lemmas.List.FromFn.{length-map-range_with_len}
 use Rattle.std.proofs.lemmas.List.Sums.{sum_by-cons}
 use Rattle.trace_reader.specs.declared.trace.Cycle.{Cycle}
 use Rattle.trace_reader.specs.declared.trace.Event.{Event}
-use Rattle.object_spans.specs.declared.span.Span.{Span}
-use Rattle.object_spans.specs.Rising.{AreSpans}
+use Rattle.trace_reader.specs.declared.span.Span.{Span}
+use Rattle.trace_reader.specs.Rising.{AreSpans}
 use Rattle.trace_reader.specs.Limits.{EventFits, IsMarked, AreCycles, events_of, marked_by, WithinLimits}
 use Rattle.rand_pcg.specs.Lcg.{Lcg}
 use Rattle.trace_gen.specs.Made.{event_by, events_from, groups_from, last_cycle, made_cycle, made_trace, size_by, words_of}

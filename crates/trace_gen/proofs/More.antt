@@ -5,7 +5,7 @@ use Rattle.std.proofs.lemmas.List.FromFn.{map-range_with_len_more}
 use Rattle.rand_pcg.specs.Lcg.{Lcg}
 use Rattle.trace_reader.specs.declared.trace.Cycle.{Cycle}
 use Rattle.trace_reader.specs.declared.trace.Event.{Event}
-use Rattle.object_spans.specs.declared.span.Span.{Span}
+use Rattle.trace_reader.specs.declared.span.Span.{Span}
 use Rattle.trace_gen.specs.Made.{event_by, events_from, generator_at, groups_from, made_cycle, next_object}
 
 pub generator_next : (g : Lcg) (n m : ℕ) → n + 1 ≡ m → generator_at g m ≡ next_object (generator_at g n)

@@ -11,7 +11,7 @@ use Rattle.trace_reader.specs.Refusal.{lines_fault, next_number, nothing_behind,
 use Rattle.trace_reader.specs.Told.{IsFirstFault, IsOfTrace, TellsFault, TellsFirstFault}
 use Rattle.trace_reader.specs.Read.{IsAhead, Reads}
 use Rattle.trace_reader.proofs.Reading.{append_nil, known_rest}
-use Rattle.trace_reader.proofs.Whole.{whole_fault}
+use Rattle.trace_reader.proofs.NoFault.{whole_fault}
 use Rattle.trace_reader.proofs.One.{one_trace}
 
 -- Completeness

@@ -8,10 +8,10 @@ use Rattle.trace_reader.specs.declared.statement.Statement.TheVariants.{Gc, Mark
 use Rattle.trace_reader.specs.declared.trace.Cycle.{Cycle}
 use Rattle.trace_reader.specs.declared.trace.Event.{Event}
 use Rattle.trace_reader.specs.declared.trace.MarkEnd.{MarkEnd}
-use Rattle.object_spans.specs.declared.span.Span.{Span}
+use Rattle.trace_reader.specs.declared.span.Span.{Span}
 use Rattle.trace_reader.specs.Spelling.{alloc_of, cycle_statements, form_of, mark_of, mark_statements}
-use Rattle.object_spans.specs.Rising.{AreSpans}
-use Rattle.object_spans.proofs.Compare.{at_most, below_true}
+use Rattle.trace_reader.specs.Rising.{AreSpans}
+use Rattle.trace_reader.proofs.Compare.{at_most, below_true}
 use Rattle.trace_reader.specs.Limits.{AreCycles, EventFits, IsMarked, marked_by}
 use Rattle.trace_reader.specs.Past.{before_mark_end, is_live, is_marked, mark_ends_of, marks_of, objects_of, procs_of}
 use Rattle.trace_reader.specs.Checks.{may_begin, may_follow}

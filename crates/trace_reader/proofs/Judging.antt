@@ -3,7 +3,7 @@ use Rattle.std.proofs.Common.{◌≡◌, ◌≢◌, ◌==◌, ℕ, ◌+◌, ◌-
 use Rattle.std.specs.List.{AllByRecursion, onto_first}
 use Rattle.std.proofs.lemmas.Bool.Decides.{nat_tests}
 use Rattle.edge_io.specs.Line.{IsLine}
-use Rattle.object_spans.proofs.Compare.{below_false, below_true}
+use Rattle.trace_reader.proofs.Compare.{below_false, below_true}
 use Rattle.trace_reader.specs.declared.fault.TraceFault.{TraceFault}
 use Rattle.trace_reader.specs.declared.fault.TraceFault.TheVariants.{Malformed, Truncated, Limit}
 use Rattle.trace_reader.specs.declared.fault.Which.TheVariants.{Bytes}

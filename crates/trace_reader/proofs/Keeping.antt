@@ -16,15 +16,15 @@ use Rattle.trace_reader.specs.declared.statement.Statement.TheVariants.{Alloc, G
 use Rattle.trace_reader.specs.declared.statement.AllocForm.{AllocForm}
 use Rattle.trace_reader.specs.declared.trace.Cycle.{Cycle}
 use Rattle.trace_reader.specs.declared.trace.Event.{Event}
-use Rattle.object_spans.specs.declared.span.Span.{Span}
+use Rattle.trace_reader.specs.declared.span.Span.{Span}
 use Rattle.trace_reader.specs.Spelling.{alloc_of, cycle_statements, mark_of}
-use Rattle.object_spans.specs.Rising.{AreSpans}
+use Rattle.trace_reader.specs.Rising.{AreSpans}
 use Rattle.trace_reader.specs.Limits.{EventFits}
 use Rattle.trace_reader.specs.Past.{before_mark_end, is_live, mark_ends_of, marks_of, objects_of, procs_of}
 use Rattle.trace_reader.specs.Checks.{bad_mark, counts_within, event_numbers, may_begin, may_follow, numbers_within, passed}
 use Rattle.trace_reader.specs.Refusal.{fault_if, first_of, statement_fault}
-use Rattle.object_spans.specs.Kept.{Asked, Passes, in_spans, lives}
-use Rattle.object_spans.proofs.Compare.{above, at_most, below_false, below_true}
+use Rattle.trace_reader.specs.Kept.{Asked, Passes, in_spans, lives}
+use Rattle.trace_reader.proofs.Compare.{above, at_most, below_false, below_true}
 use Rattle.trace_reader.specs.Draft.{AreEnded, HasEnd, ended, ended_at, ending, kept_of, marks_in, told_of}
 use Rattle.trace_reader.specs.Follows.{Counts, Follows, FollowsAt, IsBody, IsMarking, IsResting, IsStart, Took, begins, behind_spans, ends_in}
 use Rattle.trace_reader.proofs.Saying.{both}

@@ -1,3 +1,5 @@
+pub mod Compare
+pub mod Walk
 pub mod Rows
 pub mod Digits
 pub mod Forms
@@ -8,8 +10,12 @@ pub mod Good
 pub mod Cycles
 pub mod Keeping
 pub mod Body
-pub mod Whole
+pub mod NoFault
 pub mod Fits
 pub mod Spelled
 pub mod One
 pub mod Complete
+pub mod Behind
+pub mod Broken
+pub mod Ended
+pub mod Left

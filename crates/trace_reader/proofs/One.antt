@@ -12,7 +12,7 @@ use Rattle.trace_reader.specs.declared.trace.Header.{Header}
 use Rattle.trace_reader.specs.declared.trace.Cycle.{Cycle}
 use Rattle.trace_reader.specs.declared.trace.Event.{Event}
 use Rattle.trace_reader.specs.declared.trace.MarkEnd.{MarkEnd}
-use Rattle.object_spans.specs.declared.span.Span.{Span}
+use Rattle.trace_reader.specs.declared.span.Span.{Span}
 use Rattle.trace_reader.specs.Says.{said}
 use Rattle.trace_reader.specs.Spelling.{alloc_of, cycle_statements, form_of, heap_of, line_for, lines_of, mark_of, mark_statements, spelled}
 use Rattle.trace_reader.specs.Limits.{AreCycles, WithinLimits}
@@ -20,7 +20,7 @@ use Rattle.trace_reader.specs.Refusal.{is_end, pieces_of}
 use Rattle.trace_reader.specs.Good.{AreGood}
 use Rattle.trace_reader.proofs.Saying.{said_line, split_at}
 use Rattle.trace_reader.proofs.Good.{end_is_line}
-use Rattle.trace_reader.proofs.Whole.{front_good, front_of, front_text}
+use Rattle.trace_reader.proofs.NoFault.{front_good, front_of, front_text}
 
 -- From bytes to statements
 

@@ -19,7 +19,7 @@ use Rattle.trace_reader.specs.declared.trace.Trace.{Trace}
 use Rattle.trace_reader.specs.declared.trace.Header.{Header}
 use Rattle.trace_reader.specs.declared.trace.Cycle.{Cycle}
 use Rattle.trace_reader.specs.declared.trace.Event.{Event}
-use Rattle.object_spans.specs.declared.span.Span.{Span}
+use Rattle.trace_reader.specs.declared.span.Span.{Span}
 use Rattle.trace_reader.specs.Spelling.{cycle_statements, line_for, mark_of, spelled}
 use Rattle.trace_reader.specs.Says.{said}
 use Rattle.trace_reader.specs.Limits.{HeaderFits, Spells, max_chunks, max_pages}

@@ -7,7 +7,7 @@ use Rattle.trace_reader.specs.Spelling.{alloc_of, cycle_statements, mark_of}
 use Rattle.trace_reader.specs.declared.draft.Draft.{Draft}
 use Rattle.trace_reader.specs.declared.trace.Cycle.{Cycle}
 use Rattle.trace_reader.specs.declared.trace.MarkEnd.{MarkEnd}
-use Rattle.object_spans.specs.declared.span.Span.{Span}
+use Rattle.trace_reader.specs.declared.span.Span.{Span}
 
 -- the marks of a mark end
 abbrev pub marks_in : Option MarkEnd → List Span

@@ -5,12 +5,12 @@ use Rattle.trace_reader.specs.declared.statement.Statement.{Statement}
 use Rattle.trace_reader.specs.declared.statement.Statement.TheVariants.{Title, Heap}
 use Rattle.trace_reader.specs.declared.statement.HeapForm.{HeapForm}
 use Rattle.trace_reader.specs.declared.draft.Draft.{Draft}
-use Rattle.object_spans.specs.declared.span.Span.{Span}
-use Rattle.object_spans.specs.Rising.{AreSpans}
+use Rattle.trace_reader.specs.declared.span.Span.{Span}
+use Rattle.trace_reader.specs.Rising.{AreSpans}
 use Rattle.trace_reader.specs.Past.{before_mark_end, is_live, is_marked, mark_ends_of, marks_of, objects_of, procs_of}
 use Rattle.trace_reader.specs.Checks.{may_begin}
 use Rattle.trace_reader.specs.Refusal.{is_end, statement_fault}
-use Rattle.object_spans.specs.Kept.{in_spans, lives, Skips}
+use Rattle.trace_reader.specs.Kept.{in_spans, lives, Skips}
 use Rattle.trace_reader.specs.Draft.{kept_of, HasEnd, told_of}
 
 -- behind the header

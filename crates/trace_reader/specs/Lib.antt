@@ -1,3 +1,5 @@
+pub mod Rising
+pub mod Kept
 pub mod Spelling
 pub mod Words
 pub mod Says
@@ -12,3 +14,6 @@ pub mod Taken
 pub mod Told
 pub mod Read
 pub mod Short
+pub mod WholeInput
+pub mod Refused
+pub mod BrokenOff

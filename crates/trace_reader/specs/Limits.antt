@@ -8,8 +8,8 @@ use Rattle.trace_reader.specs.declared.trace.Header.{Header}
 use Rattle.trace_reader.specs.declared.trace.Cycle.{Cycle}
 use Rattle.trace_reader.specs.declared.trace.Event.{Event}
 use Rattle.trace_reader.specs.declared.trace.MarkEnd.{MarkEnd}
-use Rattle.object_spans.specs.declared.span.Span.{Span}
-use Rattle.object_spans.specs.Rising.{AreSpans}
+use Rattle.trace_reader.specs.declared.span.Span.{Span}
+use Rattle.trace_reader.specs.Rising.{AreSpans}
 use Rattle.edge_io.specs.Text.{text}
 use Rattle.trace_reader.specs.Spelling.{lines_of}
 

@@ -13,11 +13,12 @@ ghost use Rattle.trace_reader.specs.Follows.{Follows, IsStart, Took};
 
 use crate::fault::{TraceFault, Which};
 use crate::limits::{limited_distance, limited_event, limited_span};
+use crate::live::first_dead;
 use crate::short::{short_alloc, short_mark};
+use crate::span::Span;
 use crate::statement::{AllocForm, Statement, statement_of};
 use crate::trace::{Cycle, Event, MarkEnd};
 use edge_io::{List, NoMemory};
-use object_spans::{Span, first_dead};
 use std::alloc::Global;
 use std::mem::replace;
 

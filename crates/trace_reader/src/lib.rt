@@ -5,10 +5,13 @@ mod draft;
 mod fault;
 mod laws;
 mod limits;
+mod live;
 mod reader;
 mod short;
+mod span;
 mod statement;
 mod trace;
+mod whole;
 pub mod words;
 
 pub use fault::{TraceFault, Which};
@@ -17,6 +20,7 @@ pub use laws::{
     what_is_refused_spells_no_trace, what_is_spelled_is_not_refused,
 };
 pub use limits::{FIRST_MAX_CHUNKS, FIRST_MAX_PAGES};
-pub use object_spans::Span;
 pub use reader::{expect_end, read_trace};
+pub use span::Span;
 pub use trace::{Cycle, Event, Header, MarkEnd, Trace};
+pub use whole::read_whole;

@@ -13,9 +13,9 @@ ghost use Rattle.trace_reader.specs.Refusal.{said_fault};
 ghost use Rattle.trace_reader.specs.Told.{NoReadFault};
 
 use crate::fault::{TraceFault, Which};
+use crate::span::Span;
 use crate::statement::{AllocForm, HeapForm, Statement, statement_of};
 use crate::trace::{Event, Header};
-use object_spans::Span;
 use size_classes::{MAX_CHUNKS, MAX_PAGES};
 
 /// The latest version of the format. The first is 1.

@@ -1,5 +1,5 @@
+use crate::span::Span;
 use edge_io::List;
-use object_spans::Span;
 
 /// What a heap did: allocations, and what was marked at each mark end. It is within the limits of the format.
 #[derive(Debug, Drop)]

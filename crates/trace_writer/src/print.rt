@@ -15,9 +15,8 @@ use crate::spelling::{
     push_alloc_line, push_gc_line, push_heap_line, push_mark_line, push_title_line,
 };
 use edge_io::{Failed, Output, Sink};
-use object_spans::Span;
 use text_line::TextLine;
-use trace_reader::{Cycle, Event, Header, MarkEnd, Trace};
+use trace_reader::{Cycle, Event, Header, MarkEnd, Span, Trace};
 
 /// Appends the one text of the trace, or after [`Failed`] a front of it. Failed comes only where the sink's count rose.
 /// It takes no memory.

@@ -3,9 +3,8 @@
 ghost use Rattle.std.specs.Prelude.{◌≡◌, [], ◌∷◌, ◌++◌};
 ghost use Rattle.trace_reader.specs.Spelling.{alloc_line, form_of, gc_line, kind, line_for, heap_of, mark_line, title_line};
 
-use object_spans::Span;
 use text_line::TextLine;
-use trace_reader::{Event, Header};
+use trace_reader::{Event, Header, Span};
 
 /// Puts the first line together.
 pub(crate) fn push_title_line(line: &mut TextLine, version: u8)

@@ -1,5 +1,5 @@
 use Rattle.std.proofs.Common.{◌≡◌, ℕ, ◌-◌, List, length, get_or, ap, sym, ◌∙◌, arith}
-use Rattle.object_spans.specs.declared.span.Span.{Span}
+use Rattle.trace_reader.specs.declared.span.Span.{Span}
 use Rattle.trace_reader.specs.declared.trace.Cycle.{Cycle}
 use Rattle.cycle_history.specs.Requests.{is_within, spans_of}
 use Rattle.heap_text.proofs.Counted.{last-marks}

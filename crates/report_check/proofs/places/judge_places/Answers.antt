@@ -4,7 +4,7 @@ use Rattle.page_bitmap.specs.declared.line.Line.{Line}
 use Rattle.page_alloc.specs.Journal.{past_of, at_end}
 use Rattle.trace_reader.specs.declared.trace.Cycle.{Cycle}
 use Rattle.trace_reader.specs.declared.trace.Trace.{Trace}
-use Rattle.object_spans.specs.declared.span.Span.{Span}
+use Rattle.trace_reader.specs.declared.span.Span.{Span}
 use Rattle.cycle_history.specs.declared.Report.{Report}
 use Rattle.cycle_history.specs.Requests.{region_of}
 use Rattle.cycle_history.specs.Before.{IsLimited, marks_at, objects_before}

@@ -1,6 +1,6 @@
 use Rattle.std.proofs.Common.{◌≡◌, ◌+◌, ◌<◌, ◌∷◌, [], ◌++◌, Vec, Global, List, length, sym, ◌∙◌, ap, subst, arith, inl}
 use Rattle.std.proofs.lemmas.List.{get_or_default}
-use Rattle.object_spans.specs.declared.span.Span.{Span}
+use Rattle.trace_reader.specs.declared.span.Span.{Span}
 use Rattle.tiny_alloc.specs.declared.part.Part.TheVariants.{Other}
 use Rattle.tiny_alloc.specs.Marks.{AreFair, Gains, IsLeadWithin}
 use Rattle.tiny_alloc.specs.Parts.{part_by}

@@ -2,7 +2,7 @@ use Rattle.std.proofs.Common.{List, get_or, sym, subst, rules}
 use Rattle.std.specs.List.Sorted.{IsNonDecreasingBy}
 use Rattle.std.proofs.lemmas.List.{get_or_default}
 use Rattle.std.proofs.lemmas.List.Sorted.{IsNonDecreasingBy-from_sort, answers_always}
-use Rattle.object_spans.specs.declared.span.Span.{Span}
+use Rattle.trace_reader.specs.declared.span.Span.{Span}
 use Rattle.tiny_alloc.specs.Base.{AreBasedMarks, AreSpaced}
 use Rattle.tiny_alloc.specs.Marks.{AreFair, HaveSame}
 use Rattle.tiny_alloc.specs.Parts.{part_by}

@@ -1,6 +1,6 @@
 use Rattle.std.proofs.Common.{◌≡◌, ◌+◌, ◌∷◌, [], ◌++◌, List, get_or, sym, ◌∙◌, ap, subst}
 use Rattle.std.proofs.lemmas.List.{get_or_default}
-use Rattle.object_spans.specs.declared.span.Span.{Span}
+use Rattle.trace_reader.specs.declared.span.Span.{Span}
 use Rattle.tiny_alloc.proofs.Spans.{Joins, joins-apart, joins-touching}
 use Rattle.tiny_alloc.proofs.marks.join.Goals.{then-span-last, else-span-last+in_ok-push}
 use Rattle.tiny_alloc.proofs.marks.join.Goals as goal

@@ -1,5 +1,5 @@
 use Rattle.std.proofs.Common.{[], ◌∷◌, get_or, rules, ◌∙◌}
-use Rattle.object_spans.specs.declared.span.Span.{Span}
+use Rattle.trace_reader.specs.declared.span.Span.{Span}
 use Rattle.trace_reader.specs.Spelling.{line_for, mark_of}
 use Rattle.edge_io.proofs.Put.{front_nothing, on_err}
 use Rattle.trace_writer.proofs.Put.{of_events, one_line, put_all, put_front, put_more}

@@ -1,6 +1,6 @@
 use Rattle.std.proofs.Common.{◌≡◌, true, List, length, sym, ◌∙◌, ap, subst, arith}
-use Rattle.object_spans.specs.declared.span.Span.{Span}
-use Rattle.object_spans.specs.Rising.{AreSpans}
+use Rattle.trace_reader.specs.declared.span.Span.{Span}
+use Rattle.trace_reader.specs.Rising.{AreSpans}
 use Rattle.cycle_history.specs.Requests.{is_within, marked_by}
 use Rattle.cycle_history.proofs.Rising.{marks-rise, marks-within}
 use Rattle.cycle_history.proofs.Settled.{below-undead}

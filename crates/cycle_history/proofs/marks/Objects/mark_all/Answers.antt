@@ -1,5 +1,5 @@
 use Rattle.std.proofs.Common.{◌≡◌, ℕ, ◌-◌, List, ◌∙◌, arith}
-use Rattle.object_spans.specs.declared.span.Span.{Span}
+use Rattle.trace_reader.specs.declared.span.Span.{Span}
 use Rattle.span_state.specs.MarkSet.{MarkSet}
 use Rattle.cycle_history.specs.declared.lookups.Walk.{Walk}
 use Rattle.cycle_history.specs.declared.marks.Objects.{Objects}

@@ -1,7 +1,7 @@
 use Rattle.std.proofs.Common.{◌<◌, ◌≤◌, length, arith}
-use Rattle.object_spans.proofs.Walk.{span_at, walk_start, walk_pass, walk_span, walk_range, walk_dead, walk_end}
-use Rattle.object_spans.proofs.live.walk.Goals as goal
-use Rattle.object_spans.proofs.live.walk.Goals.{else-at-kept-via-then-at-kept+else-from-id, else-at-kept-via-else-at-kept, else-at-kept-2-via-then-at-kept-2+else-from-id-2, else-at-kept-2-via-else-at-kept-2, else-from-id-3-via-then-from-id-3+else-id-from, else-from-id-3-via-else-from-id-3}
+use Rattle.trace_reader.proofs.Walk.{span_at, walk_start, walk_pass, walk_span, walk_range, walk_dead, walk_end}
+use Rattle.trace_reader.proofs.live.walk.Goals as goal
+use Rattle.trace_reader.proofs.live.walk.Goals.{else-at-kept-via-then-at-kept+else-from-id, else-at-kept-via-else-at-kept, else-at-kept-2-via-then-at-kept-2+else-from-id-2, else-at-kept-2-via-else-at-kept-2, else-from-id-3-via-then-from-id-3+else-id-from, else-from-id-3-via-else-from-id-3}
 
 pub loop-id-init : goal.loop-id-init
 loop-id-init c = λ rising passes. walk_start c.args.kept.now c.args.first c.args.objects c.args.span c.args.passed c.from-id.result c.from-id.ensures rising passes

@@ -1,6 +1,6 @@
 -- Spans of objects in rising order.
 use Rattle.std.specs.Prelude.{ℕ, ◌+◌, ◌≤◌, List, [], ◌∷◌}
-use Rattle.object_spans.specs.declared.span.Span.{Span}
+use Rattle.trace_reader.specs.declared.span.Span.{Span}
 
 -- each span begins above the end of the one before
 abbrev pub AreSpans : ℕ → List Span → Type 0

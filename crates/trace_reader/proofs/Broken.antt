@@ -11,7 +11,7 @@ use Rattle.trace_reader.specs.Spelling.{statements_of}
 use Rattle.trace_reader.specs.Refusal.{lines_fault, next_number, pieces_of}
 use Rattle.trace_reader.specs.Taken.{TakesLines}
 use Rattle.trace_reader.specs.Told.{BreaksInLine, BreaksOff as BreaksLines}
-use Rattle.whole_trace.specs.BrokenOff.{BreaksOff}
+use Rattle.trace_reader.specs.BrokenOff.{BreaksOff}
 
 -- in a line of the trace
 pub broken_in_trace : {S : Type 0} (left : S → Option (List ℕ)) (a b : Lines S) → number_of a ≡ 0 → room_of a ≡ 67108864 → BreaksLines left a b [] → BreaksOff (lines_left left a) (left (source_of b))

@@ -6,13 +6,15 @@ ghost use Rattle.trace_reader.specs.declared.fault.TraceFault.TheVariants.{ReadF
 ghost use Rattle.trace_reader.specs.declared.trace.Trace.{Trace as ATrace};
 ghost use Rattle.trace_reader.specs.Limits.{Spells};
 ghost use Rattle.trace_reader.specs.Told.{HasReadCause, IsOfTrace};
-ghost use Rattle.whole_trace.specs.BrokenOff.{BreaksOff};
-ghost use Rattle.whole_trace.specs.Refused.{IsRefused};
-ghost use Rattle.whole_trace.specs.WholeInput.{ReadsAll};
+ghost use Rattle.trace_reader.specs.BrokenOff.{BreaksOff};
+ghost use Rattle.trace_reader.specs.Refused.{IsRefused};
+ghost use Rattle.trace_reader.specs.WholeInput.{ReadsAll};
 
+use crate::fault::TraceFault;
+use crate::reader::{expect_end, read_trace};
+use crate::trace::Trace;
 use edge_io::{Lines, Source};
 use std::alloc::Global;
-use trace_reader::{Trace, TraceFault, expect_end, read_trace};
 
 /// The most bytes of a trace.
 const MAX_BYTES: u64 = 67_108_864;

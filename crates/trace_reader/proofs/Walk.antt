@@ -1,10 +1,10 @@
 -- The walk along kept spans.
 use Rattle.std.proofs.Common.{◌≡◌, ℕ, zero, suc, ◌+◌, ◌<◌, ◌≤◌, Bool, true, false, ◌&&◌, ◌||◌, List, [], ◌∷◌, length, drop, Some, None, nat_lt, nat_le, slice_index_or, refl, sym, ap, ◌∙◌, subst, inl, inr, arith}
 use Rattle.std.proofs.lemmas.Bool.{cases_lt}
-use Rattle.object_spans.specs.declared.span.Span.{Span}
-use Rattle.object_spans.specs.Rising.{AreSpans}
-use Rattle.object_spans.specs.Kept.{AllLive, Asked, Passes, Skips, in_spans, lives}
-use Rattle.object_spans.proofs.Compare.{above, at_most, below_false, below_true}
+use Rattle.trace_reader.specs.declared.span.Span.{Span}
+use Rattle.trace_reader.specs.Rising.{AreSpans}
+use Rattle.trace_reader.specs.Kept.{AllLive, Asked, Passes, Skips, in_spans, lives}
+use Rattle.trace_reader.proofs.Compare.{above, at_most, below_false, below_true}
 
 abbrev pub span_at : List Span → ℕ → Span
 span_at kept at = slice_index_or kept at (record { lo = 0; hi = 0 })

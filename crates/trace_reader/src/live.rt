@@ -1,14 +1,14 @@
 //! The objects that a mark end may mark.
 
 ghost use Rattle.std.specs.Prelude.{◌≤◌};
-ghost use Rattle.object_spans.specs.Kept.{Asked, Passes, lives};
+ghost use Rattle.trace_reader.specs.Kept.{Asked, Passes, lives};
 
 use crate::span::Span;
 
 /// The least object of the span that is not live, and how many of the kept spans end below the span's end; so many were
 /// passed before. Live are the objects of the kept spans, which rise, and those from `first` to below `objects`.
 #[inline(always)]
-pub fn first_dead(
+pub(crate) fn first_dead(
     kept: &[Span],
     passed: usize,
     first: u32,

@@ -4,11 +4,11 @@ use Rattle.std.proofs.lemmas.Result.{err_from_is_err_and}
 use Rattle.edge_io.specs.Text.{text}
 use Rattle.trace_reader.specs.declared.trace.Trace.{Trace}
 use Rattle.trace_reader.specs.Spelling.{lines_of}
-use Rattle.whole_trace.proofs.Behind.{refused_behind}
-use Rattle.whole_trace.proofs.Broken.{broken_behind, broken_in_trace}
-use Rattle.whole_trace.proofs.Left.{nothing_left}
-use Rattle.whole_trace.proofs.Ended.{source_ended, Consumes-none}
-use Rattle.whole_trace.proofs.whole.read_lines.Goals as goal
+use Rattle.trace_reader.proofs.Behind.{refused_behind}
+use Rattle.trace_reader.proofs.Broken.{broken_behind, broken_in_trace}
+use Rattle.trace_reader.proofs.Left.{nothing_left}
+use Rattle.trace_reader.proofs.Ended.{source_ended, Consumes-none}
+use Rattle.trace_reader.proofs.whole.read_lines.Goals as goal
 
 pub returns-clause-trace : goal.returns-clause-trace
 returns-clause-trace g c =

@@ -1,7 +1,7 @@
 use Rattle.std.proofs.Common.{◌≤◌, ◌+◌, ◌-◌, length}
-use Rattle.object_spans.specs.Kept.{Passes}
-use Rattle.object_spans.proofs.Walk.{Walking}
-use Rattle.object_spans.proofs.live.walk.Given as goal
+use Rattle.trace_reader.specs.Kept.{Passes}
+use Rattle.trace_reader.proofs.Walk.{Walking}
+use Rattle.trace_reader.proofs.live.walk.Given as goal
 
 abbrev pub invariant-loop-id : goal.invariant-loop-id
 invariant-loop-id l = l.span.lo ≤ l.span.hi → Passes l.kept l.passed l.span.lo → Walking l.kept l.first l.objects l.span l.at l.id

@@ -6,7 +6,7 @@ use Rattle.trace_reader.specs.declared.fault.TraceFault.{TraceFault}
 use Rattle.trace_reader.specs.Limits.{Spells}
 use Rattle.trace_reader.specs.Spelling.{statements_of}
 use Rattle.trace_reader.specs.Refusal.{nothing_behind, pieces_of}
-use Rattle.whole_trace.specs.Refused.{IsRefused}
+use Rattle.trace_reader.specs.Refused.{IsRefused}
 
 -- the fault behind a trace is a fault of the whole input
 pub refused_behind : (left mid : Option (List ℕ)) (bytes : List ℕ) (t : Trace) (n : ℕ) (fault : TraceFault)

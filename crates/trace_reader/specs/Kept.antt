@@ -1,7 +1,7 @@
 -- The spans that the mark end before marked, and what is live by them.
 use Rattle.std.specs.Prelude.{◌≡◌, ℕ, ◌+◌, Bool, true, false, ◌&&◌, ◌||◌, List, [], ◌∷◌, nat_lt, nat_le, Option, ◌<◌, ◌≤◌, drop, MatchOption}
-use Rattle.object_spans.specs.declared.span.Span.{Span}
-use Rattle.object_spans.specs.Rising.{AreSpans}
+use Rattle.trace_reader.specs.declared.span.Span.{Span}
+use Rattle.trace_reader.specs.Rising.{AreSpans}
 
 -- object i is in one of the spans
 abbrev pub in_spans : List Span → ℕ → Bool

@@ -5,7 +5,7 @@ use Rattle.edge_io.specs.Line.{IsLine}
 use Rattle.trace_reader.specs.declared.trace.Trace.{Trace}
 use Rattle.trace_reader.specs.declared.fault.TraceFault.TheVariants.{Truncated}
 use Rattle.trace_reader.specs.Limits.{Spells}
-use Rattle.whole_trace.specs.Refused.{IsTraceFault}
+use Rattle.trace_reader.specs.Refused.{IsTraceFault}
 
 -- a whole trace stands at the front of the bytes, and behind it a line or a front of one that nothing has ended
 pub record IsUnendedBehind (bytes : List ℕ) : Type 0 where

@@ -1,4 +1,0 @@
-pub mod Behind
-pub mod Broken
-pub mod Ended
-pub mod Left

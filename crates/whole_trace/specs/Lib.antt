@@ -1,3 +1,0 @@
-pub mod WholeInput
-pub mod Refused
-pub mod BrokenOff
