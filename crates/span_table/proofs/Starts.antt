@@ -5,6 +5,7 @@ use Rattle.std.specs.List.{range_with_len}
 use Rattle.std.proofs.lemmas.List.{length-map}
 use mathlib.Core.Option.{some, some-injective, some-ne-none}
 use lib.ListN.{get_elem?}
+use Rattle.size_classes.specs.declared.TheConstants.{MAX_PAGES}
 use Rattle.atomic_table.specs.Table.{opening}
 use Rattle.atomic_table.proofs.Lists.{at_map}
 use Rattle.page_alloc.specs.Heap.{PageHeap}
@@ -52,7 +53,7 @@ get_mapped x (y ∷ ys) (suc i) = get_mapped x ys i
 pub get_copies : {A : Type 0} (n : ℕ) (x : A) (i : ℕ) → get_or (copies n x) i x ≡ x
 get_copies n x i = get_mapped x (range_with_len 0 n) i
 
-module _ (R goal workers : ℕ) (ws : List ℕ) (xs : List Item) (heap : PageHeap) (small : R ≤ 65536) (whole : 512 * chunks_of R ≡ R) (many : 1 ≤ workers) (size : length ws ≡ word_count R) (one : get_or ws 1 0 ≡ 4) (zeros : (i : ℕ) → i ≢ 1 → get_or ws i 0 ≡ 0)
+module _ (R goal workers : ℕ) (ws : List ℕ) (xs : List Item) (heap : PageHeap) (small : R ≤ MAX_PAGES) (whole : 512 * chunks_of R ≡ R) (many : 1 ≤ workers) (size : length ws ≡ word_count R) (one : get_or ws 1 0 ≡ 4) (zeros : (i : ℕ) → i ≢ 1 → get_or ws i 0 ≡ 0)
     (slots : length xs ≡ R + 1) (first : get_elem? xs 0 ≡ some (Heap heap)) (region : heap.region ≡ R) (goal_is : heap.goal ≡ goal) (past : heap.past ≡ []) where
   abbrev new : CoreState
   new = new_state R workers

@@ -1,5 +1,6 @@
 -- What contracts see of a worker, and what its seat is between two calls.
 use Rattle.std.specs.Prelude.{◌≡◌, ℕ, ◌+◌, ◌<◌, ◌≤◌, ◌==◌, true, List, [], length, None}
+use Rattle.size_classes.specs.declared.TheConstants.{MAX_PAGES}
 use Rattle.atomic_table.specs.Seated.{TableId}
 use Rattle.span_laws.specs.Views.{Seen}
 use Rattle.table_words.specs.Names.{word_count}
@@ -32,6 +33,6 @@ pub record Rests (number generation goal : ℕ) (spares : List ℕ) (t : TableId
 pub record Fits (pages key : ℕ) (t : TableId) : Type 0 where
   pub key_is : key ≡ pages
   pub some : 512 ≤ pages
-  pub few : pages ≤ 65536
+  pub few : pages ≤ MAX_PAGES
   pub words : t.words ≡ word_count pages
   pub slots : t.slots ≡ pages + 1

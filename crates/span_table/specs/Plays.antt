@@ -1,5 +1,6 @@
 -- What each step tells.
 use Rattle.std.specs.Prelude.{◌≡◌, ℕ, zero, suc, ◌+◌, ◌-◌, ◌/◌, ◌<◌, ◌≤◌, ◌==◌, Bool, true, false, MatchBool, List, ◌∷◌, None, Option, Some}
+use Rattle.size_classes.specs.declared.TheConstants.{MAX_PAGES}
 use Rattle.set_blocks.specs.Names.{blocks_of}
 use Rattle.atomic_table.specs.Table.{Step, rest}
 use Rattle.page_alloc.specs.Heap.{PageHeap}
@@ -178,7 +179,7 @@ Placed i b st m x m' = m' ≡ (says_of (Places i) b m.0, m.1)
 
 -- a cell is read
 abbrev pub CellAt : ℕ → ℕ → ℕ → SeatState → SeatState → Type 0
-CellAt j i x m m' = (m' ≡ (says (LooksCell j i x) m.0, m.1)) × (is_swept_set m.0.view.generation j ≡ false → (h t : ℕ) → 0 < many (is_look j h t) m.0.view.own.log → i < t → 0 < x) × (x ≤ 65536)
+CellAt j i x m m' = (m' ≡ (says (LooksCell j i x) m.0, m.1)) × (is_swept_set m.0.view.generation j ≡ false → (h t : ℕ) → 0 < many (is_look j h t) m.0.view.own.log → i < t → 0 < x) × (x ≤ MAX_PAGES)
 
 abbrev pub LookedCell : ℕ → ℕ → Step Item → SeatState → ℕ → SeatState → Type 0
 LookedCell j i st m x m' = CellAt j i x m m'

@@ -20,6 +20,7 @@ use crate::view::{Item, SeatView};
 use crate::words::{halves, word_of_cell, word_of_entry, word_of_set};
 use atomic_table::Seat;
 use set_blocks::{BLOCK_CELLS, PARTS};
+use size_classes::MAX_PAGES;
 use span_laws::Said;
 use std::marker::Brand;
 use table_words::head_tail as join_halves;
@@ -216,7 +217,7 @@ impl Shared {
         requires set { set < 544 }
         ensures view { w.new ≡ after_said (Said.LooksCell set index result) w.old }
         ensures filled { is_swept_set w.old.view.generation set ≡ false → (h t : ℕ) → 0 < many (is_look set h t) w.old.view.own.log → index < t → 0 < result }
-        ensures low { result ≤ 65536 }
+        ensures low { result ≤ MAX_PAGES }
     {
         if index >= 512 * self.chunks {
             look_beyond(self, &mut w.seat, set, index);

@@ -16,6 +16,7 @@ use crate::words::count_words;
 use atomic_table::{Seat, Table};
 use fallible_list::NoMemory;
 use page_alloc::Pages;
+use size_classes::{MAX_CHUNKS, MAX_PAGES};
 use std::alloc::Global;
 use std::marker::{Brand, Model};
 
@@ -66,7 +67,7 @@ impl Model for Worker {
 // The words at the start.
 fn first_words(alloc: Global, chunks: u32) -> Result<Vec<u64>, NoMemory>
     requires some { 1 ≤ chunks }
-    requires few { chunks ≤ 128 }
+    requires few { chunks ≤ MAX_CHUNKS }
     ensures { IfOk result (λ v. (length v.items ≡ word_count (512 * chunks)) × (slice_index v.items 1 ≡ 4) × ((i : ℕ) → i ≢ 1 → slice_index v.items i ≡ 0)) }
 {
     let mut words = vec![in alloc; 0u64; count_words(chunks)]?;
@@ -76,7 +77,7 @@ fn first_words(alloc: Global, chunks: u32) -> Result<Vec<u64>, NoMemory>
 
 // The heap, and an empty slot for each page.
 fn first_items(alloc: Global, heap: Pages, pages: u32) -> Result<Vec<Item>, NoMemory>
-    requires { pages ≤ 65536 }
+    requires { pages ≤ MAX_PAGES }
     ensures { IfOk result (λ v. (length v.items ≡ pages + 1) × (get_elem? v.items 0 ≡ some (Item.Heap heap))) }
 {
     let mut items = Vec::new(alloc);
@@ -128,11 +129,11 @@ fn hand_out_seat(
 impl Shared {
     ghost use Rattle.span_laws.specs.Handed.{handed_out, handing, taking_in};
 
-    /// A region of so many chunks of 512 pages, from 1 to 128, with this goal for backed pages, and the driver's worker,
+    /// A region of so many chunks of 512 pages, from 1 to 4096, with this goal for backed pages, and the driver's worker,
     /// whose number is 69.
     pub fn new(alloc: Global, chunks: u32, goal: u32) -> Result<(Shared, Worker), NoMemory>
         requires some { 1 ≤ chunks }
-        requires few { chunks ≤ 128 }
+        requires few { chunks ≤ MAX_CHUNKS }
         ensures { IfOk result (λ made. made.1 ≡ record { table = made.0; number = 69; away = []; journal = None; view = first_view (512 * chunks) goal 70 }) }
     {
         let pages = 512 * chunks;

@@ -2,14 +2,15 @@
 ghost use Rattle.std.specs.Prelude.{◌≡◌, ◌≤◌};
 
 use crate::shared::{Shared, Worker};
+use size_classes::MAX_PAGES;
 
 impl Shared {
-    /// The number of pages of the region: 512 to 65536.
+    /// The number of pages of the region: 512 to 2097152.
     pub fn region(&self, w: &Worker) -> u32
         requires table { w.now.table ≡ self.now }
         ensures region { result ≡ w.now.view.region }
         ensures some { 512 ≤ result }
-        ensures most { result ≤ 65536 }
+        ensures most { result ≤ MAX_PAGES }
     {
         let _seat = &w.seat;
         512 * self.chunks
