@@ -13,6 +13,7 @@ use fallible_list::NoMemory;
 use page_alloc::Pages;
 use page_bitmap::Line;
 use page_cache::PageCache;
+use size_classes::MAX_CHUNKS;
 use std::alloc::Global;
 
 /// A cut has fewer pages.
@@ -37,7 +38,7 @@ impl Replay {
     /// An empty journal of a region of so many chunks and this goal, where so many processors have page caches.
     pub fn new(alloc: Global, chunks: u32, procs: u32, goal: u32) -> Result<Replay, NoMemory>
         requires some { 1 ≤ chunks }
-        requires few { chunks ≤ 128 }
+        requires few { chunks ≤ MAX_CHUNKS }
         ensures { IfOk result (Begins procs chunks goal) }
     {
         let pages = Pages::new(alloc, chunks, goal)?;

@@ -7,7 +7,7 @@ use Rattle.trace_reader.specs.declared.trace.Cycle.{Cycle}
 use Rattle.trace_reader.specs.declared.trace.Event.{Event}
 use Rattle.trace_reader.specs.declared.span.Span.{Span}
 use Rattle.trace_reader.specs.Rising.{AreSpans}
-use Rattle.trace_reader.specs.Limits.{EventFits, IsMarked, AreCycles, events_of, marked_by, WithinLimits}
+use Rattle.trace_reader.specs.Limits.{EventFits, IsMarked, AreCycles, events_of, marked_by, max_chunks, max_pages, WithinLimits}
 use Rattle.rand_pcg.specs.Lcg.{Lcg}
 use Rattle.trace_gen.specs.Made.{event_by, events_from, groups_from, last_cycle, made_cycle, made_trace, size_by, words_of}
 
@@ -158,6 +158,11 @@ paced g = record {
 first_ones : (g : Lcg) (j : ℕ) → j < 1000 → j < 0 + length (events_from g (10000 * 0) 10000)
 first_ones g j low = let count = events_from_count g (10000 * 0) 10000 in omega (arith, count)
 
+-- 128 chunks and 65536 pages are just what version 1 allows
+made_region : (128 ≤ max_chunks 1) × (65536 ≤ max_pages 1)
+unfolding max_chunks max_pages
+made_region = (omega arith, omega arith)
+
 pub made_fits : (seed objects : ℕ) → seed < 2 ^ 64 → 1 ≤ objects → objects ≤ 1000000 → WithinLimits (made_trace seed objects)
 made_fits seed objects low some few =
     let g = words_of seed in
@@ -172,6 +177,7 @@ made_fits seed objects low some few =
     ends_count (λ (c : Cycle). marked_by c.mark) (made_cycle g) last 5000 (λ k. marks_count ((10000 * k + 10000 - 8000) / 8) 1000) 0 m in
     record {
       header = record { version = (omega arith, omega arith); chunks = (omega arith, omega arith); procs = (omega arith, omega arith); rate = omega arith; seed = low; goal = omega arith };
+      region = made_region;
       events = cycles_events_fit (made_cycle g) last 0 m (λ k. events_from_fit g (10000 * k) 10000) (events_from_fit g _ _);
       cycles = cycles_follow _ _ 1000 10000 (paced g) last refl m 0 0 (λ _. ⊥) (omega arith) (omega arith) (λ j early. inr (omega arith, first_ones g j early));
       objects = omega (arith, last_events, events);

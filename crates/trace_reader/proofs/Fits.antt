@@ -20,7 +20,7 @@ use Rattle.trace_reader.specs.declared.trace.MarkEnd.{MarkEnd}
 use Rattle.trace_reader.specs.declared.span.Span.{Span}
 use Rattle.trace_reader.specs.Spelling.{alloc_of, cycle_statements, heap_of, mark_of, mark_statements, spelled, statements_of}
 use Rattle.trace_reader.specs.Rising.{AreSpans}
-use Rattle.trace_reader.specs.Limits.{AreCycles, EventFits, HeaderFits, IsMarked, WithinLimits, marked_by}
+use Rattle.trace_reader.specs.Limits.{AreCycles, EventFits, HeaderFits, IsMarked, RegionFits, WithinLimits, marked_by}
 use Rattle.trace_reader.specs.Past.{before_mark_end, is_live, is_marked, mark_ends_of, marks_of, objects_of, procs_of}
 use Rattle.trace_reader.specs.Checks.{bad_mark, counts_within, may_begin, may_follow, numbers_within, passed, within}
 use Rattle.trace_reader.specs.Refusal.{fault_if, first_of}
@@ -309,14 +309,14 @@ cycles_fit procs (c ∷ d ∷ cs) past first ends marks live ended counts only f
 abbrev pub trace_of : Header → List Cycle → Trace
 trace_of h cs = record { header = h; cycles = cs }
 
-pub trace_fits : (h : Header) (cs : List Cycle) → HeaderFits h → AreEnded cs → AreGood (heap_of h ∷ Title h.version ∷ []) (flat_map cycle_statements cs) → WithinLimits (trace_of h cs)
-trace_fits h cs fits ended good =
+pub trace_fits : (h : Header) (cs : List Cycle) → HeaderFits h → RegionFits h → AreEnded cs → AreGood (heap_of h ∷ Title h.version ∷ []) (flat_map cycle_statements cs) → WithinLimits (trace_of h cs)
+trace_fits h cs fits region ended good =
     let all = cycles_fit h.procs cs (heap_of h ∷ Title h.version ∷ []) 0 0 0 (λ _. ⊥) ended (record { body = tt; procs_are = refl; objects_are = refl; ends_are = refl; marks_are = refl }) (λ i is. absurd cc)
     (omega arith) (omega arith) (omega arith) good in
     let objects = all.objects in
     let mark_ends = all.mark_ends in
     let marked = all.marked in
-    record { header = fits; events = all.events; cycles = all.cycles; objects = omega arith; mark_ends = omega arith; marks = omega arith }
+    record { header = fits; region = region; events = all.events; cycles = all.cycles; objects = omega arith; mark_ends = omega arith; marks = omega arith }
 
 pub takes_trace : {S : Type 0} (left : S → Option (List ℕ)) (a b c d : Lines S) (h : Header) (cs : List Cycle)
     → TakesLines left a b (Title h.version ∷ []) → TakesLines left b c (heap_of h ∷ []) → TakesLines left c d (flat_map cycle_statements cs ++ End ∷ []) → TakesLines left a d (statements_of (trace_of h cs))

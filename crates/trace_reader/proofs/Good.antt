@@ -1,9 +1,7 @@
 -- Lines that nothing is wrong with.
-use Rattle.std.proofs.Common.{◌≡◌, ◌≢◌, ◌==◌, ℕ, ◌+◌, ◌^◌, ◌<◌, ◌≤◌, Bool, true, false, not, List, [], ◌∷◌, ◌++◌, length, map, codes, decimal, Option, None, nat_le, refl, ap, subst, inl, inr, arith, length-append}
+use Rattle.std.proofs.Common.{◌≡◌, ◌≢◌, ◌==◌, ℕ, ◌+◌, ◌^◌, ◌<◌, ◌≤◌, Bool, true, false, not, List, [], ◌∷◌, ◌++◌, length, map, codes, decimal, Option, None, nat_le, refl, ap, subst, arith, length-append}
 use Rattle.std.specs.List.{AllByRecursion, list_all}
 use Rattle.std.specs.Option.{option_map}
-use Rattle.std.proofs.lemmas.Bool.{cases_Bool}
-use Rattle.std.proofs.lemmas.Bool.Decides.{nat_tests}
 use Rattle.std.proofs.lemmas.Fmt.{length-decimal-le_wide}
 use Rattle.edge_io.specs.Line.{IsLine}
 use Rattle.trace_reader.proofs.Compare.{at_most, below_true}
@@ -17,7 +15,7 @@ use Rattle.trace_reader.specs.declared.trace.Header.{Header}
 use Rattle.trace_reader.specs.declared.trace.Event.{Event}
 use Rattle.trace_reader.specs.Words.{IsDigit}
 use Rattle.trace_reader.specs.Spelling.{alloc_of, heap_of, kind, line_for}
-use Rattle.trace_reader.specs.Limits.{EventFits, HeaderFits, IsVersion, max_chunks, max_pages}
+use Rattle.trace_reader.specs.Limits.{EventFits, HeaderFits, IsVersion, RegionFits, max_chunks, max_pages}
 use Rattle.trace_reader.specs.Checks.{bad_mark, counts_within, may_follow, numbers_within, passed, within}
 use Rattle.trace_reader.specs.Refusal.{fault_if, first_of, statement_fault}
 use Rattle.trace_reader.specs.Good.{AreGood}
@@ -132,27 +130,10 @@ title_good version fits = (
   tt,
 )
 
--- what is within the limits of all versions, and in version 1 within its own, is within those of the version
-chunks_fit : (h : Header) → HeaderFits h → h.chunks ≤ max_chunks h.version
-unfolding max_chunks
-chunks_fit h fits =
-    elim (cases_Bool (h.version == 1)) [
-      | inl first ↦ rw first (fits.first (grind (arith, nat_tests))).0
-      | inr later ↦ rw later fits.chunks.1
-    ]
-
-pages_fit : (h : Header) → HeaderFits h → h.goal ≤ max_pages h.version
-unfolding max_pages
-pages_fit h fits =
-    elim (cases_Bool (h.version == 1)) [
-      | inl first ↦ rw first (fits.first (grind (arith, nat_tests))).1
-      | inr later ↦ rw later fits.goal
-    ]
-
-pub header_good : (version : ℕ) (h : Header) → h.version ≡ version → HeaderFits h → AreGood (Title version ∷ []) (heap_of h ∷ [])
-header_good version h same fits =
-    let most_chunks = subst (λ (v : ℕ). h.chunks ≤ max_chunks v) same (chunks_fit h fits) in
-    let most_pages = subst (λ (v : ℕ). h.goal ≤ max_pages v) same (pages_fit h fits) in
+pub header_good : (version : ℕ) (h : Header) → h.version ≡ version → HeaderFits h → RegionFits h → AreGood (Title version ∷ []) (heap_of h ∷ [])
+header_good version h same fits region =
+    let most_chunks = subst (λ (v : ℕ). h.chunks ≤ max_chunks v) same region.0 in
+    let most_pages = subst (λ (v : ℕ). h.goal ≤ max_pages v) same region.1 in
     let chunks = fits.chunks in
     let procs = fits.procs in
     let rate = fits.rate in

@@ -31,7 +31,7 @@ front_good t limits =
     let marks = limits.marks in (
       (title_good h.version limits.header.version).0,
       (
-        (header_good h.version h refl limits.header).0,
+        (header_good h.version h refl limits.header limits.region).0,
         cycles_good h.procs t.cycles low (heap_of h ∷ Title h.version ∷ []) 0 0 0 (λ _. ⊥) (record { body = tt; procs_are = refl; objects_are = refl; ends_are = refl; marks_are = refl }) (λ i none. absurd none)
             limits.cycles limits.events (omega arith) (omega arith) (omega arith),
       ),

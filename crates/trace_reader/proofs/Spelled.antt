@@ -22,7 +22,7 @@ use Rattle.trace_reader.specs.declared.trace.Event.{Event}
 use Rattle.trace_reader.specs.declared.span.Span.{Span}
 use Rattle.trace_reader.specs.Spelling.{cycle_statements, line_for, mark_of, spelled}
 use Rattle.trace_reader.specs.Says.{said}
-use Rattle.trace_reader.specs.Limits.{HeaderFits, Spells, max_chunks, max_pages}
+use Rattle.trace_reader.specs.Limits.{HeaderFits, RegionFits, Spells, max_chunks, max_pages}
 use Rattle.trace_reader.specs.Checks.{bad_mark, counts_within, header_numbers, is_version, may_begin, may_follow, numbers_within, passed, within}
 use Rattle.trace_reader.specs.Refusal.{fault_if, feed, first_of, is_end, line_fault, lines_fault, next_number, nothing_behind, onto_past, pieces_of, refusal, said_fault, statement_fault}
 use Rattle.trace_reader.specs.Good.{AreGood}
@@ -282,21 +282,21 @@ header_from : ℕ → HeapForm → Header
 header_from version h = record { version = version; chunks = h.chunks; procs = h.procs; rate = h.rate; seed = h.seed; goal = h.goal }
 
 -- what is within the limits of a version is within those of all
-below_max_chunks : (version n : ℕ) → n ≤ max_chunks version → (n ≤ MAX_CHUNKS) × (version ≡ 1 → n ≤ FIRST_MAX_CHUNKS)
+below_max_chunks : (version n : ℕ) → n ≤ max_chunks version → n ≤ MAX_CHUNKS
 unfolding max_chunks
 below_max_chunks version n le = elim (cases_Bool (version == 1)) [
-  | inl first ↦ (let low : n ≤ FIRST_MAX_CHUNKS = rw first at le in (omega arith, λ _. low))
-  | inr later ↦ (let low : n ≤ MAX_CHUNKS = rw later at le in (low, λ e. absurd (grind (arith, nat_tests))))
+  | inl first ↦ (let low : n ≤ FIRST_MAX_CHUNKS = rw first at le in omega arith)
+  | inr later ↦ rw later at le
 ]
 
-below_max_pages : (version n : ℕ) → n ≤ max_pages version → (n ≤ MAX_PAGES) × (version ≡ 1 → n ≤ FIRST_MAX_PAGES)
+below_max_pages : (version n : ℕ) → n ≤ max_pages version → n ≤ MAX_PAGES
 unfolding max_pages
 below_max_pages version n le = elim (cases_Bool (version == 1)) [
-  | inl first ↦ (let low : n ≤ FIRST_MAX_PAGES = rw first at le in (omega arith, λ _. low))
-  | inr later ↦ (let low : n ≤ MAX_PAGES = rw later at le in (low, λ e. absurd (grind (arith, nat_tests))))
+  | inl first ↦ (let low : n ≤ FIRST_MAX_PAGES = rw first at le in omega arith)
+  | inr later ↦ rw later at le
 ]
 
-header_fits : (version : ℕ) (h : HeapForm) → is_version version ≡ true → passed (header_numbers version h) ≡ None → HeaderFits (header_from version h)
+header_fits : (version : ℕ) (h : HeapForm) → is_version version ≡ true → passed (header_numbers version h) ≡ None → HeaderFits (header_from version h) × RegionFits (header_from version h)
 unfolding header_from
 header_fits version h is e =
     let last = (Goal, nat_le h.goal (max_pages version)) ∷ [] in
@@ -308,17 +308,18 @@ header_fits version h is e =
     let chunks = and_parts (nat_le 1 h.chunks) (nat_le h.chunks (max_chunks version)) p1.0 in
     let procs = and_parts (nat_le 1 h.procs) (nat_le h.procs 64) p2.0 in
     let version_is = and_parts (nat_le 1 version) (nat_le version 2) is in
-    let most_chunks = below_max_chunks version h.chunks (le_of _ _ chunks.1) in
-    let most_pages = below_max_pages version h.goal (le_of _ _ p5.0) in
-    record {
-      version = (le_of _ _ version_is.0, le_of _ _ version_is.1);
-      chunks = (le_of _ _ chunks.0, most_chunks.0);
-      procs = (le_of _ _ procs.0, le_of _ _ procs.1);
-      rate = le_of _ _ p3.0;
-      seed = lt_of _ _ p4.0;
-      goal = most_pages.0;
-      first = λ one. (most_chunks.1 one, most_pages.1 one);
-    }
+    let most_chunks = le_of _ _ chunks.1 in
+    let most_pages = le_of _ _ p5.0 in (
+      record {
+        version = (le_of _ _ version_is.0, le_of _ _ version_is.1);
+        chunks = (le_of _ _ chunks.0, below_max_chunks version h.chunks most_chunks);
+        procs = (le_of _ _ procs.0, le_of _ _ procs.1);
+        rate = le_of _ _ p3.0;
+        seed = lt_of _ _ p4.0;
+        goal = below_max_pages version h.goal most_pages;
+      },
+      (most_chunks, most_pages),
+    )
 
 -- Traces
 
@@ -332,7 +333,7 @@ of_parts bytes version h ss good spells small =
       trace_of (header_from version h) cycles.cycles,
       record {
         lines = spells ∙ ap (λ (x : List Statement). spelled ((Title version ∷ Heap h ∷ x) ++ End ∷ [])) all;
-        limits = trace_fits (header_from version h) cycles.cycles fits cycles.ended (subst (AreGood (Heap h ∷ Title version ∷ [])) all good.1.1);
+        limits = trace_fits (header_from version h) cycles.cycles fits.0 fits.1 cycles.ended (subst (AreGood (Heap h ∷ Title version ∷ [])) all good.1.1);
         room = small;
       },
     )

@@ -25,7 +25,7 @@ max_chunks version = if version == 1 then FIRST_MAX_CHUNKS else MAX_CHUNKS
 unfoldable pub max_pages : ℕ → ℕ
 max_pages version = if version == 1 then FIRST_MAX_PAGES else MAX_PAGES
 
--- the numbers of a header are within their limits, of which those of a region are smaller in version 1
+-- the numbers of a header are within the limits that they have in any version
 pub record HeaderFits (h : Header) : Type 0 where
   pub version : IsVersion h.version
   pub chunks : (1 ≤ h.chunks) × (h.chunks ≤ MAX_CHUNKS)
@@ -33,7 +33,10 @@ pub record HeaderFits (h : Header) : Type 0 where
   pub rate : h.rate ≤ 2 ^ 30
   pub seed : h.seed < 2 ^ 64
   pub goal : h.goal ≤ MAX_PAGES
-  pub first : h.version ≡ 1 → (h.chunks ≤ FIRST_MAX_CHUNKS) × (h.goal ≤ FIRST_MAX_PAGES)
+
+-- the region and the goal of a header are within the limits of its version
+abbrev pub RegionFits : Header → Type 0
+RegionFits h = (h.chunks ≤ max_chunks h.version) × (h.goal ≤ max_pages h.version)
 
 -- the numbers of an event are
 pub record EventFits (procs : ℕ) (e : Event) : Type 0 where
@@ -67,6 +70,7 @@ marked_by (Some m) = sum_by (λ s. s.hi + 1 - s.lo) m.marks
 -- all limits of a trace but the one on its bytes
 pub record WithinLimits (t : Trace) : Type 0 where
   pub header : HeaderFits t.header
+  pub region : RegionFits t.header
   pub events : AllByRecursion (EventFits t.header.procs) (events_of t)
   pub cycles : AreCycles 0 (λ _. ⊥) t.cycles
   pub objects : length (events_of t) ≤ 1000000

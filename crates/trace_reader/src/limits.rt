@@ -6,7 +6,7 @@ ghost use Rattle.trace_reader.specs.declared.fault.TraceFault.TheVariants.{Limit
 ghost use Rattle.trace_reader.specs.declared.statement.Statement.{Statement as Said};
 ghost use Rattle.trace_reader.specs.declared.statement.Statement.TheVariants.{Alloc, Gc, Heap, Mark, Title};
 ghost use Rattle.trace_reader.specs.Spelling.{alloc_of, heap_of, mark_of};
-ghost use Rattle.trace_reader.specs.Limits.{EventFits, HeaderFits, IsVersion, max_chunks as most_chunks, max_pages as most_pages};
+ghost use Rattle.trace_reader.specs.Limits.{EventFits, HeaderFits, IsVersion, RegionFits, max_chunks as most_chunks, max_pages as most_pages};
 ghost use Rattle.trace_reader.specs.Says.{said};
 ghost use Rattle.trace_reader.specs.Checks.{event_numbers, header_numbers, numbers_within, passed};
 ghost use Rattle.trace_reader.specs.Refusal.{said_fault};
@@ -30,7 +30,6 @@ pub const FIRST_MAX_PAGES: u32 = 65536;
 /// How many chunks the region of a trace of this version may have.
 fn max_chunks(version: u8) -> u32
     ensures most { result ≡ most_chunks version }
-    ensures first { version ≡ 1 → result ≡ FIRST_MAX_CHUNKS }
     ensures any { result ≤ MAX_CHUNKS }
 {
     if version == 1 {
@@ -43,7 +42,6 @@ fn max_chunks(version: u8) -> u32
 /// How many pages the goal of a trace of this version may have.
 fn max_pages(version: u8) -> u32
     ensures most { result ≡ most_pages version }
-    ensures first { version ≡ 1 → result ≡ FIRST_MAX_PAGES }
     ensures any { result ≤ MAX_PAGES }
 {
     if version == 1 {
@@ -75,6 +73,7 @@ pub(crate) fn header_of(line: &[u8], number: u64, version: u8) -> Result<Header,
     ensures says { IfOk result (λ h. said line.now ≡ Some (heap_of h)) }
     ensures version { IfOk result (λ h. h.version ≡ version) }
     ensures fits { IfOk result (λ h. HeaderFits h) }
+    ensures region { IfOk result (λ h. RegionFits h) }
     ensures no_read { NoReadFault result }
     ensures fault { IfErr result (λ fault. said_fault number (Title version ∷ []) (said line.now) ≡ Some fault) }
 {
@@ -90,6 +89,7 @@ fn limited_header(form: HeapForm, number: u64, version: u8) -> Result<Header, Tr
     ensures version { IfOk result (λ h. h.version ≡ version) }
     ensures header { IfOk result (λ h. heap_of h ≡ Heap form) }
     ensures fits { IfOk result (λ h. HeaderFits h) }
+    ensures region { IfOk result (λ h. RegionFits h) }
     ensures no_read { NoReadFault result }
     ensures fault { IfErr result (λ fault. option_map (λ which. Limit number which) (passed (header_numbers version form)) ≡ Some fault) }
 {

@@ -9,7 +9,7 @@ ghost use Rattle.trace_reader.specs.declared.statement.Statement.{Statement as S
 ghost use Rattle.trace_reader.specs.declared.statement.Statement.TheVariants.{End, Title};
 ghost use Rattle.trace_reader.specs.declared.trace.Trace.{Trace as ATrace};
 ghost use Rattle.trace_reader.specs.Spelling.{cycle_statements, heap_of, statements_of};
-ghost use Rattle.trace_reader.specs.Limits.{HeaderFits, IsVersion};
+ghost use Rattle.trace_reader.specs.Limits.{HeaderFits, IsVersion, RegionFits};
 ghost use Rattle.trace_reader.specs.Refusal.{next_number};
 ghost use Rattle.trace_reader.specs.Good.{AreGood};
 ghost use Rattle.trace_reader.specs.Draft.{AreEnded};
@@ -92,6 +92,7 @@ fn read_header<S: Source>(lines: &mut Lines<'_, S>, version: u8) -> Result<Heade
     ensures same_source { IsSameSource lines.old lines.new }
     ensures lines { IfOk result (λ h. TakesLines S.left lines.old lines.new (heap_of h ∷ [])) }
     ensures fits { IfOk result (λ h. HeaderFits h) }
+    ensures region { IfOk result (λ h. RegionFits h) }
     ensures refused { TellsFirstFault S.left lines.old lines.new (Title version ∷ []) result }
     ensures stands { StandsInLine S.left lines.old lines.new }
     ensures cause { HasReadCause (S.faults (source_of lines.old)) (S.faults (source_of lines.new)) result }

@@ -21,7 +21,7 @@ returns-in_err-header-clause-stands g c =
 pub returns-in_err-cycles-clause-refused : goal.returns-in_err-cycles-clause-refused
 returns-in_err-cycles-clause-refused g c =
     let h = c.in_ok-header.header in
-    let good = header_good c.in_ok-version.version h c.in_ok-header.ensures.version c.in_ok-header.ensures.fits in
+    let good = header_good c.in_ok-version.version h c.in_ok-header.ensures.version c.in_ok-header.ensures.fits c.in_ok-header.ensures.region in
     let p = err_from_is_err_and c.from_residual-in_err-cycles.result c.from_residual-in_err-cycles.ensures.1 in
     rw (p.1, p.2) (tells_behind g.S.Source.left c.args.lines.now c.read_title.new.lines c.read_cycles.new.lines [] (Title c.in_ok-version.version ∷ []) _ c.in_ok-version.ensures.lines (title_good _ c.in_ok-version.ensures.version)
     (tells_behind g.S.Source.left c.read_title.new.lines c.read_header.new.lines c.read_cycles.new.lines (Title c.in_ok-version.version ∷ []) (heap_of h ∷ []) _ c.in_ok-header.ensures.lines good
@@ -30,14 +30,14 @@ returns-in_err-cycles-clause-refused g c =
 pub returns-in_err-cycles-clause-stands : goal.returns-in_err-cycles-clause-stands
 returns-in_err-cycles-clause-stands g c =
     let h = c.in_ok-header.header in
-    let good = header_good c.in_ok-version.version h c.in_ok-header.ensures.version c.in_ok-header.ensures.fits in
+    let good = header_good c.in_ok-version.version h c.in_ok-header.ensures.version c.in_ok-header.ensures.fits c.in_ok-header.ensures.region in
     stands_behind g.S.Source.left c.args.lines.now c.read_title.new.lines c.read_cycles.new.lines (Title c.in_ok-version.version ∷ []) c.in_ok-version.ensures.lines (lines_of_good [] (Title c.in_ok-version.version ∷ []) (title_good _ c.in_ok-version.ensures.version))
     (stands_behind g.S.Source.left c.read_title.new.lines c.read_header.new.lines c.read_cycles.new.lines (heap_of h ∷ []) c.in_ok-header.ensures.lines (lines_of_good (Title c.in_ok-version.version ∷ []) (heap_of h ∷ []) good) c.read_cycles.ensures.stands)
 
 pub returns-clause-stands : goal.returns-clause-stands
 returns-clause-stands g c =
     let h = c.in_ok-header.header in
-    let good = header_good c.in_ok-version.version h c.in_ok-header.ensures.version c.in_ok-header.ensures.fits in
+    let good = header_good c.in_ok-version.version h c.in_ok-header.ensures.version c.in_ok-header.ensures.fits c.in_ok-header.ensures.region in
     stands_behind g.S.Source.left c.args.lines.now c.read_title.new.lines c.read_cycles.new.lines (Title c.in_ok-version.version ∷ []) c.in_ok-version.ensures.lines (lines_of_good [] (Title c.in_ok-version.version ∷ []) (title_good _ c.in_ok-version.ensures.version))
     (stands_behind g.S.Source.left c.read_title.new.lines c.read_header.new.lines c.read_cycles.new.lines (heap_of h ∷ []) c.in_ok-header.ensures.lines (lines_of_good (Title c.in_ok-version.version ∷ []) (heap_of h ∷ []) good) c.read_cycles.ensures.stands)
 
@@ -51,7 +51,7 @@ pub returns-clause-spelled : goal.returns-clause-spelled
 returns-clause-spelled g c =
     let h = c.in_ok-header.header in
     let cs = c.in_ok-cycles.cycles in
-    let limits = trace_fits h cs c.in_ok-header.ensures.fits c.in_ok-cycles.ensures.ended (c.in_ok-cycles.ensures.good (heap_of h ∷ Title h.version ∷ []) (_, _, refl, refl)) in
+    let limits = trace_fits h cs c.in_ok-header.ensures.fits c.in_ok-header.ensures.region c.in_ok-cycles.ensures.ended (c.in_ok-cycles.ensures.good (heap_of h ∷ Title h.version ∷ []) (_, _, refl, refl)) in
     reads_trace g.S.Source.left c.args.lines.now c.read_cycles.new.lines h cs (returns-clause-lines g c) limits
 
 pub returns-in_err-version-clause-complete : goal.returns-in_err-version-clause-complete
