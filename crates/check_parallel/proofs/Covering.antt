@@ -22,7 +22,7 @@ use Rattle.report_check.specs.declared.fault.CheckFault.TheVariants.{Broken, NoM
 use Rattle.report_check.specs.declared.items.Item.{Item}
 use Rattle.report_check.specs.declared.piece.Piece.{Piece}
 use Rattle.report_check.specs.Items.{object_of, objects_of}
-use Rattle.report_check.specs.Known.{AreKnown}
+use Rattle.report_check.specs.Known.{AreKnownItems}
 use Rattle.report_check.specs.Pieces.{is_of, seen_by}
 use Rattle.report_check.proofs.Clearing.{seats-apart}
 use Rattle.report_check.proofs.Numbered.{item-of}
@@ -49,7 +49,7 @@ home-has count class = eq-eqb (class / 2 % count) (home count class) refl
 
 -- ---- two objects in one life
 
-same-class : (t : Trace) (report : Report) (items : List Item) (lasts : List ℕ) (a b : Object) → AreKnown t report items lasts → In a (objects_of items) → In b (objects_of items) → is_placed a.answer ≡ true → is_placed b.answer ≡ true
+same-class : (t : Trace) (report : Report) (items : List Item) (lasts : List ℕ) (a b : Object) → AreKnownItems t report items lasts → In a (objects_of items) → In b (objects_of items) → is_placed a.answer ≡ true → is_placed b.answer ≡ true
     → a.life ≡ b.life → a.need.class ≡ b.need.class
 same-class t report items lasts a b known ia ib pa pb e =
     let sa = known.places a ia pa in
@@ -58,7 +58,7 @@ same-class t report items lasts a b known ia ib pa pb e =
     sym sa.1.sits.class ∙ (ap (λ (l : Life). l.class) same ∙ sb.1.sits.class)
 
 -- objects of two span classes that live in one cycle are apart
-apart-else : (t : Trace) (report : Report) (items : List Item) (lasts : List ℕ) (c : ℕ) (a b : Object) → AreKnown t report items lasts → In a (objects_of items) → In b (objects_of items)
+apart-else : (t : Trace) (report : Report) (items : List Item) (lasts : List ℕ) (c : ℕ) (a b : Object) → AreKnownItems t report items lasts → In a (objects_of items) → In b (objects_of items)
     → live (marked_by t) c a ≡ true → live (marked_by t) c b ≡ true → (a.need.class ≡ b.need.class → ⊥) → IsApart a b
 apart-else t report items lasts c a b known ia ib la lb differ =
     let x = item-of items a ia in
@@ -86,7 +86,7 @@ apart-out p marked items line b = record {
   stands = b.stands;
 }
 
-module _ (t : Trace) (report : Report) (items : List Item) (lasts : List ℕ) (known : AreKnown t report items lasts) (count : ℕ) (some : 1 ≤ count) where
+module _ (t : Trace) (report : Report) (items : List Item) (lasts : List ℕ) (known : AreKnownItems t report items lasts) (count : ℕ) (some : 1 ≤ count) where
   -- what the piece of a span class sees
   abbrev seen_at : ℕ → List Object
   seen_at k = objects_of (seen_by (piece_at count k) items)
@@ -257,7 +257,7 @@ mapped of (Some v) x e = (v, refl, some-same e)
 at-map : (of : Verdict → Result (Unit {0}) CheckFault) (verdicts : List Verdict) (i : ℕ) (x : Result (Unit {0}) CheckFault) → slice_get (map of verdicts) i ≡ Some x → (v : Verdict) × (slice_get verdicts i ≡ Some v) × (of v ≡ x)
 at-map of verdicts i x at = mapped of (slice_get verdicts i) x (sym (slice_get-map of verdicts i) ∙ at)
 
-pub apart-joined : (t : Trace) (report : Report) (items : List Item) (lasts : List ℕ) (verdicts : List Verdict) → AreKnown t report items lasts → 1 ≤ length verdicts → AreVerdicts t items verdicts → IsApartJudged t items (least (map (λ (v : Verdict). v.apart) verdicts))
+pub apart-joined : (t : Trace) (report : Report) (items : List Item) (lasts : List ℕ) (verdicts : List Verdict) → AreKnownItems t report items lasts → 1 ≤ length verdicts → AreVerdicts t items verdicts → IsApartJudged t items (least (map (λ (v : Verdict). v.apart) verdicts))
 apart-joined t report items lasts verdicts known some are =
     let count = length verdicts in
     let answers = map (λ (v : Verdict). v.apart) verdicts in
@@ -272,7 +272,7 @@ apart-joined t report items lasts verdicts known some are =
     (λ line b. apart-out (piece_at count b.0) (marked_by t) items line b.2)
     (apart-in t report items lasts known count some) (least answers) counted
 
-pub filling-joined : (t : Trace) (report : Report) (items : List Item) (lasts : List ℕ) (verdicts : List Verdict) → AreKnown t report items lasts → 1 ≤ length verdicts → AreVerdicts t items verdicts → IsFillingJudged t items (least (map (λ (v : Verdict). v.filling) verdicts))
+pub filling-joined : (t : Trace) (report : Report) (items : List Item) (lasts : List ℕ) (verdicts : List Verdict) → AreKnownItems t report items lasts → 1 ≤ length verdicts → AreVerdicts t items verdicts → IsFillingJudged t items (least (map (λ (v : Verdict). v.filling) verdicts))
 filling-joined t report items lasts verdicts known some are =
     let count = length verdicts in
     let answers = map (λ (v : Verdict). v.filling) verdicts in

@@ -24,7 +24,7 @@ use Rattle.report_check.specs.declared.asked.Asked.{Asked}
 use Rattle.report_check.specs.declared.cycle_lives.Opened.{Opened}
 use Rattle.report_check.specs.declared.items.Item.{Item}
 use Rattle.report_check.specs.declared.lives.OpenLife.{OpenLife}
-use Rattle.report_check.specs.Items.{AreAsked, IsItem, object_of, objects_of, request_of}
+use Rattle.report_check.specs.Items.{AreRequests, IsItem, object_of, objects_of, request_of}
 use Rattle.report_check.specs.Lives.{AreLives, IsOne}
 use Rattle.report_check.specs.Ledgers.{IsOpenTo}
 use Rattle.report_check.specs.Seats.{AllKept, AreSeatedIn, HasOne, IsFirstLost}
@@ -33,7 +33,7 @@ use Rattle.report_check.proofs.Lasting.{cycles-rise}
 use Rattle.report_check.proofs.Ledgers.{open-later}
 use Rattle.report_check.proofs.Lost.{Of}
 use Rattle.report_check.proofs.Settled.{AreSettled, IsAsked, asked-at, at-cycle, settled-all, settled-more, settled-none}
-use Rattle.check_parallel.specs.Seating.{ArePartSeated, AreSeatedItems, AreSeatedTo, HasOwnSeat, HaveOwnSeats, IsPart, IsSeatedAs, KeepsAt, KeepsIn}
+use Rattle.check_parallel.specs.Seating.{ArePartSeated, AreSeatedItems, AreSeatedTo, HasOwnSeat, HaveOwnSeats, IsItemsPart, IsSeatedAs, KeepsAt, KeepsIn}
 
 -- ---- lists
 
@@ -126,7 +126,7 @@ seated-step t report asked answers items new n r a item inside ra aa is here all
       all i r' a' item' (omega arith) ri ai i3)
 ]
 
-pub seat-next : (t : Trace) (report : Report) (asked : List Asked) (answers : List Answer) (old items : List Item) (n : ℕ) (d : Asked) (da : Answer) (item : Item) (table lives : List (Option OpenLife)) → IsPart t report asked answers (length old)
+pub seat-next : (t : Trace) (report : Report) (asked : List Asked) (answers : List Answer) (old items : List Item) (n : ℕ) (d : Asked) (da : Answer) (item : Item) (table lives : List (Option OpenLife)) → IsItemsPart t report asked answers (length old)
     → length items ≡ length old → n < length items → table ≡ lives → AreLives (region_of t) (at_end (get_or asked n d).cycle (past_in report)) lives → IsItem (request_of (get_or asked n d)) item → item.answer ≡ get_or answers n da
     → (is_placed item.answer ≡ true → HasOne table item) → AreSeatedTo t report asked answers items n → AreSeatedTo t report asked answers (set items n item) (n + 1)
 seat-next t report asked answers old items n d da item table lives part size lt same are is answer one all =
@@ -143,7 +143,7 @@ seat-next t report asked answers old items n d da item table lives part size lt 
     } in
     seated-step t report asked answers items (set items n item) n (get_or asked n d) (get_or answers n da) item lt (slice_get-get_or asked n d (omega arith)) (slice_get-get_or answers n da (omega arith)) refl here all
 
-pub open-next : (t : Trace) (report : Report) (asked : List Asked) (answers : List Answer) (old : List Item) (n : ℕ) (d r : Asked) (opened : Opened) → IsPart t report asked answers (length old) → n < length old
+pub open-next : (t : Trace) (report : Report) (asked : List Asked) (answers : List Answer) (old : List Item) (n : ℕ) (d r : Asked) (opened : Opened) → IsItemsPart t report asked answers (length old) → n < length old
     → IsOpenTo t report (get_or asked n d).cycle opened → slice_get asked (n + 1) ≡ Some r → IsOpenTo t report r.cycle opened
 open-next t report asked answers old n d r opened part lt is at =
     let ea = part.requests in
@@ -151,7 +151,7 @@ open-next t report asked answers old n d r opened part lt is at =
 
 -- ---- parts
 
-pub part-front : (t : Trace) (report : Report) (asked first : List Asked) (answers few : List Answer) (n m : ℕ) → m ≤ n → first ≡ take m asked → few ≡ take m answers → IsPart t report asked answers n → IsPart t report first few m
+pub part-front : (t : Trace) (report : Report) (asked first : List Asked) (answers few : List Answer) (n m : ℕ) → m ≤ n → first ≡ take m asked → few ≡ take m answers → IsItemsPart t report asked answers n → IsItemsPart t report first few m
 part-front t report asked first answers few n m le fa fb is = record {
   journal = is.journal;
   chunks = is.chunks;
@@ -161,7 +161,7 @@ part-front t report asked first answers few n m le fa fb is = record {
   rise = λ i j a b order ia jb. is.rise i j a b order (at-take m asked i a (subst (λ (xs : List Asked). slice_get xs i ≡ Some a) fa ia)) (at-take m asked j b (subst (λ (xs : List Asked). slice_get xs j ≡ Some b) fa jb));
 }
 
-pub part-back : (t : Trace) (report : Report) (asked rest : List Asked) (answers others : List Answer) (n m k : ℕ) → m + k ≡ n → rest ≡ drop m asked → others ≡ drop m answers → IsPart t report asked answers n → IsPart t report rest others k
+pub part-back : (t : Trace) (report : Report) (asked rest : List Asked) (answers others : List Answer) (n m k : ℕ) → m + k ≡ n → rest ≡ drop m asked → others ≡ drop m answers → IsItemsPart t report asked answers n → IsItemsPart t report rest others k
 part-back t report asked rest answers others n m k sum ra rb is = record {
   journal = is.journal;
   chunks = is.chunks;
@@ -196,7 +196,7 @@ parts-joined t report asked first rest answers few others m front back whole lon
 abbrev blank : ℕ → Item
 blank cycle = record { proc = 0; cycle = cycle; class = 0; pages = 0; slot = 0; count = 0; answer = Zero; life = 0; index = 0 }
 
-asked-is : (t : Trace) (asked : List Asked) (i : ℕ) (r : Asked) → AreAsked t asked → slice_get asked i ≡ Some r → IsAsked t i (blank r.cycle)
+asked-is : (t : Trace) (asked : List Asked) (i : ℕ) (r : Asked) → AreRequests t asked → slice_get asked i ≡ Some r → IsAsked t i (blank r.cycle)
 asked-is t asked i r are at =
     let here : slice_get (map request_of asked) i ≡ Some (request_of r) = slice_get-map request_of asked i ∙ ap (λ (o : Option Asked). option_map request_of o) at in
     let got : slice_get (requests_from 0 t.cycles) i ≡ Some (request_of r) = subst (λ (rs : List Request). slice_get rs i ≡ Some (request_of r)) are here in
@@ -209,7 +209,7 @@ asked-is t asked i r are at =
       slot = λ placed. (let f : false ≡ true = placed in cc);
     }
 
-pub part-whole : (t : Trace) (report : Report) (asked : List Asked) (answers : List Answer) (n : ℕ) → IsLimited t → HasJournal t report → AreAsked t asked → length asked ≡ n → length answers ≡ n → t.header.chunks ≤ 128 → IsPart t report asked answers n
+pub part-whole : (t : Trace) (report : Report) (asked : List Asked) (answers : List Answer) (n : ℕ) → IsLimited t → HasJournal t report → AreRequests t asked → length asked ≡ n → length answers ≡ n → t.header.chunks ≤ 128 → IsItemsPart t report asked answers n
 part-whole t report asked answers n limited journal are long all chunks = record {
   journal = journal;
   chunks = chunks;
@@ -222,7 +222,7 @@ part-whole t report asked answers n limited journal are long all chunks = record
   rise = λ i j a b order ia jb. cycles-rise t i j (blank a.cycle) (blank b.cycle) (asked-is t asked i a are ia) (asked-is t asked j b are jb) order;
 }
 
-pub own-seats : (t : Trace) (report : Report) (asked : List Asked) (answers : List Answer) (items : List Item) → IsPart t report asked answers (length items) → ArePartSeated t report asked answers items → HaveOwnSeats t report items
+pub own-seats : (t : Trace) (report : Report) (asked : List Asked) (answers : List Answer) (items : List Item) → IsItemsPart t report asked answers (length items) → ArePartSeated t report asked answers items → HaveOwnSeats t report items
 own-seats t report asked answers items is all i item at placed =
     let lt = slice_get_within items i item at in
     let ea = is.requests in
@@ -234,7 +234,7 @@ own-seats t report asked answers items is all i item at placed =
     none = record { proc = 0; size = 0; scan = false; stack = 0 }
 
 -- rule 1
-done-to : (t : Trace) (report : Report) (asked : List Asked) (answers : List Answer) (items : List Item) (n : ℕ) → AreAsked t asked → answers ≡ report.answers → IsPart t report asked answers (length items) → ArePartSeated t report asked answers items → n ≤ length items
+done-to : (t : Trace) (report : Report) (asked : List Asked) (answers : List Answer) (items : List Item) (n : ℕ) → AreRequests t asked → answers ≡ report.answers → IsItemsPart t report asked answers (length items) → ArePartSeated t report asked answers items → n ≤ length items
     → AreDone t report asked answers (take n items) n
 done-to t report asked answers items zero are same is all le = subst (λ (xs : List Item). AreDone t report asked answers xs 0) (none items) (done-none t report asked answers)
   where
@@ -253,7 +253,7 @@ done-to t report asked answers items (suc n) are same is all le =
     subst (λ (k : ℕ). AreDone t report asked answers (take k items) k) e
     (done-more t report asked answers (take n items) (take (n + 1) items) n n d Zero item are same (omega arith) refl (omega arith) before here.is here.answer (take_more items n (blank 0) (omega arith)))
 
-pub answers-by : (t : Trace) (report : Report) (asked : List Asked) (answers : List Answer) (items : List Item) → AreAsked t asked → answers ≡ report.answers → IsPart t report asked answers (length items) → ArePartSeated t report asked answers items
+pub answers-by : (t : Trace) (report : Report) (asked : List Asked) (answers : List Answer) (items : List Item) → AreRequests t asked → answers ≡ report.answers → IsItemsPart t report asked answers (length items) → ArePartSeated t report asked answers items
     → HasAnswers t report (objects_of items)
 answers-by t report asked answers items are same is all =
     let ea = is.requests in

@@ -27,8 +27,8 @@ use Rattle.check_parallel.specs.declared.settled.Lived.{Lived}
 use Rattle.check_parallel.specs.Verdicts.{AnswersRule}
 
 -- A fault of one part, or of a later one where the first is met.
-abbrev pub Then : (CheckFault → Type 0) → Type 0 → (CheckFault → Type 0) → CheckFault → Type 0
-Then early met late fault = early fault ⊎ (met × late fault)
+abbrev pub FailsInTurn : (CheckFault → Type 0) → Type 0 → (CheckFault → Type 0) → CheckFault → Type 0
+FailsInTurn early met late fault = early fault ⊎ (met × late fault)
 
 -- The last cycles are those of the items of whichever report.
 abbrev pub AreLastsOf : Trace → Result (Vec ℕ) NoMemory → Type 0
@@ -69,14 +69,14 @@ abbrev pub MeetsInside : Trace → List Item → Type 0
 MeetsInside t items = MeetsApart t items × MeetsFilling t items
 
 abbrev pub FaultOfInside : Trace → List Item → CheckFault → Type 0
-FaultOfInside t items = Then (FaultOfApart t items) (MeetsApart t items) (FaultOfFilling t items)
+FaultOfInside t items = FailsInTurn (FaultOfApart t items) (MeetsApart t items) (FaultOfFilling t items)
 
 abbrev pub IsInsideJudged : Trace → List Item → Result (Unit {0}) CheckFault → Type 0
 IsInsideJudged t items answer = OnOk answer (MeetsInside t items) × IfErr answer (FaultOfInside t items)
 
 -- The rules 3, 5 and 6.
 abbrev pub IsEarlyJudged : Trace → Report → List Item → Result (Unit {0}) CheckFault → Type 0
-IsEarlyJudged t report items answer = OnOk answer (MeetsMisses report items × MeetsInside t items) × IfErr answer (Then (FaultOfMisses report items) (MeetsMisses report items) (FaultOfInside t items))
+IsEarlyJudged t report items answer = OnOk answer (MeetsMisses report items × MeetsInside t items) × IfErr answer (FailsInTurn (FaultOfMisses report items) (MeetsMisses report items) (FaultOfInside t items))
 
 -- A piece's answers to the rules 5 and 6.
 pub record IsVerdict (t : Trace) (items : List Item) (piece : Piece) (verdict : Verdict) : Type 0 where
@@ -147,11 +147,11 @@ abbrev pub MeetsCounted : Trace → Report → List Item → Type 0
 MeetsCounted t report items = MeetsTotals t report items × MeetsProfile t report items
 
 abbrev pub FaultOfCounted : Trace → Report → List Item → CheckFault → Type 0
-FaultOfCounted t report items = Then (FaultOfTotals t report items) (MeetsTotals t report items) (FaultOfProfile t report items)
+FaultOfCounted t report items = FailsInTurn (FaultOfTotals t report items) (MeetsTotals t report items) (FaultOfProfile t report items)
 
 abbrev pub IsCountedJudged : Trace → Report → List Item → Result (Unit {0}) CheckFault → Type 0
 IsCountedJudged t report items answer = OnOk answer (MeetsCounted t report items) × IfErr answer (FaultOfCounted t report items)
 
 -- The rules 7 to 9.
 abbrev pub IsClosingJudged : Trace → Report → List Item → Result (Unit {0}) CheckFault → Type 0
-IsClosingJudged t report items answer = OnOk answer (MeetsSweeps t report items × MeetsCounted t report items) × IfErr answer (Then (FaultOfSweeps t report items) (MeetsSweeps t report items) (FaultOfCounted t report items))
+IsClosingJudged t report items answer = OnOk answer (MeetsSweeps t report items × MeetsCounted t report items) × IfErr answer (FailsInTurn (FaultOfSweeps t report items) (MeetsSweeps t report items) (FaultOfCounted t report items))

@@ -28,7 +28,7 @@ pub record IsSeatedAs (t : Trace) (report : Report) (r : Asked) (a : Answer) (it
   pub seat : is_placed item.answer ≡ true → HasOwnSeat t report item
 
 -- A part of so many objects: each has a request and an answer, and their cycles never fall.
-pub record IsPart (t : Trace) (report : Report) (asked : List Asked) (answers : List Answer) (n : ℕ) : Type 0 where
+pub record IsItemsPart (t : Trace) (report : Report) (asked : List Asked) (answers : List Answer) (n : ℕ) : Type 0 where
   pub journal : HasJournal t report
   pub chunks : t.header.chunks ≤ 128
   pub requests : length asked ≡ n

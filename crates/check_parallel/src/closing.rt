@@ -5,7 +5,7 @@ ghost use Rattle.std.specs.Thread.{IsSync};
 ghost use Rattle.trace_reader.specs.declared.trace.Trace.{Trace as ATrace};
 ghost use Rattle.cycle_history.specs.declared.Report.{Report as AReport};
 ghost use Rattle.report_check.specs.declared.items.Item.{Item as AnItem};
-ghost use Rattle.report_check.specs.Known.{AreKnown};
+ghost use Rattle.report_check.specs.Known.{AreKnownItems};
 ghost use Rattle.check_parallel.specs.Parts.{IsClosingJudged, IsCountedJudged, IsLived, IsNotesJudged, IsProfileJudged, IsSweepsJudged, IsTotalsJudged};
 
 use crate::settled::Lived;
@@ -25,18 +25,18 @@ pub(crate) fn judge_closing<R: Threads + Sync>(
     lasts: &[u32],
     lived: Lived,
 ) -> Result<(), CheckFault>
-    requires known { AreKnown trace.now report.now items.now lasts.now }
+    requires known { AreKnownItems trace.now report.now items.now lasts.now }
     requires lived { IsLived trace.now report.now lived }
     ensures { IsClosingJudged trace.now report.now items.now result }
 {
     let (notes, counted) = join(
         rt,
         || -> Result<(), CheckFault>
-            requires { AreKnown trace.now report.now items.now lasts.now }
+            requires { AreKnownItems trace.now report.now items.now lasts.now }
             ensures { IsNotesJudged trace.entry.now report.entry.now items.entry.now result }
         { judge_notes(alloc, trace, report, items, lasts) },
         || -> Result<(), CheckFault>
-            requires { IsSync R.row × AreKnown trace.now report.now items.now lasts.now }
+            requires { IsSync R.row × AreKnownItems trace.now report.now items.now lasts.now }
             ensures { IsCountedJudged trace.entry.now report.entry.now items.entry.now result }
         { judge_counted(rt, alloc, trace, report, items, lasts) },
     );
@@ -46,7 +46,7 @@ pub(crate) fn judge_closing<R: Threads + Sync>(
 
 // Rule 7, by what the Gives, the sweeps and the lives say of it: their lines stand in this order.
 fn sweeps_of(lived: Lived, notes: Result<(), CheckFault>) -> Result<(), CheckFault>
-    ensures { (trace : ATrace) (report : AReport) (items : List AnItem) (lasts : List ℕ) → AreKnown trace report items lasts
+    ensures { (trace : ATrace) (report : AReport) (items : List AnItem) (lasts : List ℕ) → AreKnownItems trace report items lasts
         → IsLived trace report lived → IsNotesJudged trace report items notes → IsSweepsJudged trace report items result }
 {
     let Lived { gives, lives } = lived;
@@ -63,7 +63,7 @@ fn judge_notes(
     items: &[Item],
     lasts: &[u32],
 ) -> Result<(), CheckFault>
-    requires known { AreKnown trace.now report.now items.now lasts.now }
+    requires known { AreKnownItems trace.now report.now items.now lasts.now }
     ensures { IsNotesJudged trace.now report.now items.now result }
 {
     let objects = Objects {
@@ -84,17 +84,17 @@ fn judge_counted<R: Threads + Sync>(
     items: &[Item],
     lasts: &[u32],
 ) -> Result<(), CheckFault>
-    requires known { AreKnown trace.now report.now items.now lasts.now }
+    requires known { AreKnownItems trace.now report.now items.now lasts.now }
     ensures { IsCountedJudged trace.now report.now items.now result }
 {
     let (totals, profile) = join(
         rt,
         || -> Result<(), CheckFault>
-            requires { AreKnown trace.now report.now items.now lasts.now }
+            requires { AreKnownItems trace.now report.now items.now lasts.now }
             ensures { IsTotalsJudged trace.entry.now report.entry.now items.entry.now result }
         { totals_of(alloc, trace, report, items, lasts) },
         || -> Result<(), CheckFault>
-            requires { AreKnown trace.now report.now items.now lasts.now }
+            requires { AreKnownItems trace.now report.now items.now lasts.now }
             ensures { IsProfileJudged trace.entry.now report.entry.now items.entry.now result }
         { judge_profile(alloc, trace, report, items, lasts) },
     );
@@ -110,7 +110,7 @@ fn totals_of(
     _items: &[Item],
     _lasts: &[u32],
 ) -> Result<(), CheckFault>
-    requires known { AreKnown trace.now report.now _items.now _lasts.now }
+    requires known { AreKnownItems trace.now report.now _items.now _lasts.now }
     ensures { IsTotalsJudged trace.now report.now _items.now result }
 {
     judge_totals(alloc, trace, report)
@@ -124,7 +124,7 @@ fn judge_profile(
     items: &[Item],
     lasts: &[u32],
 ) -> Result<(), CheckFault>
-    requires known { AreKnown trace.now report.now items.now lasts.now }
+    requires known { AreKnownItems trace.now report.now items.now lasts.now }
     ensures { IsProfileJudged trace.now report.now items.now result }
 {
     let objects = Objects {

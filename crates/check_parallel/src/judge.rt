@@ -5,7 +5,7 @@ ghost use Rattle.std.specs.Thread.{IsSync};
 ghost use Rattle.cycle_history.specs.Before.{IsLimited};
 ghost use Rattle.report_check.specs.declared.fault.CheckFault.TheVariants.{NoMemory as OutOfMemory};
 ghost use Rattle.report_check.specs.Fault.{IsFault, MeetsChecked};
-ghost use Rattle.report_check.specs.Known.{AreKnown};
+ghost use Rattle.report_check.specs.Known.{AreKnownItems};
 ghost use Rattle.report_check.specs.Lasts.{AreLasts};
 ghost use Rattle.check_parallel.specs.Parts.{IsClosingJudged, IsEarlyJudged, IsInsideJudged, IsLived, IsMissesJudged};
 ghost use Rattle.check_parallel.specs.Seating.{AreSeatedItems};
@@ -79,12 +79,15 @@ fn judge_settled<R: Threads + Sync>(
     lived: Lived,
     pieces: u32,
 ) -> Result<(), CheckFault>
+    // what is known of the objects and the lives, and how many pieces there may be
     requires limited { IsLimited trace.now }
     requires settled { AreSeatedItems trace.now report.now items.now }
     requires lasts { AreLasts trace.now items.now lasts.now }
     requires lived { IsLived trace.now report.now lived }
     requires some { 1 ≤ pieces }
     requires few { pieces ≤ 64 }
+
+    // the verdict
     ensures met { OnOk result (MeetsChecked trace.now report.now) }
     ensures broken { IfErr result (IsFault trace.now report.now) }
 {
@@ -104,7 +107,7 @@ fn judge_beside<R: Threads + Sync>(
     lived: Lived,
     pieces: u32,
 ) -> (Result<(), CheckFault>, Result<(), CheckFault>)
-    requires known { AreKnown trace.now report.now items.now lasts.now }
+    requires known { AreKnownItems trace.now report.now items.now lasts.now }
     requires lived { IsLived trace.now report.now lived }
     requires some { 1 ≤ pieces }
     requires few { pieces ≤ 64 }
@@ -114,11 +117,11 @@ fn judge_beside<R: Threads + Sync>(
     join(
         rt,
         || -> Result<(), CheckFault>
-            requires { IsSync R.row × AreKnown trace.now report.now items.now lasts.now × (1 ≤ pieces) × (pieces ≤ 64) }
+            requires { IsSync R.row × AreKnownItems trace.now report.now items.now lasts.now × (1 ≤ pieces) × (pieces ≤ 64) }
             ensures { IsEarlyJudged trace.entry.now report.entry.now items.entry.now result }
         { judge_early(rt, alloc, trace, report, items, lasts, pieces) },
         || -> Result<(), CheckFault>
-            requires { IsSync R.row × AreKnown trace.now report.now items.now lasts.now × IsLived trace.now report.now lived }
+            requires { IsSync R.row × AreKnownItems trace.now report.now items.now lasts.now × IsLived trace.now report.now lived }
             ensures { IsClosingJudged trace.entry.now report.entry.now items.entry.now result }
         { judge_closing(rt, alloc, trace, report, items, lasts, lived) },
     )
@@ -134,7 +137,7 @@ fn judge_early<R: Threads + Sync>(
     lasts: &[u32],
     pieces: u32,
 ) -> Result<(), CheckFault>
-    requires known { AreKnown trace.now report.now items.now lasts.now }
+    requires known { AreKnownItems trace.now report.now items.now lasts.now }
     requires some { 1 ≤ pieces }
     requires few { pieces ≤ 64 }
     ensures { IsEarlyJudged trace.now report.now items.now result }
@@ -145,7 +148,7 @@ fn judge_early<R: Threads + Sync>(
             ensures { IsMissesJudged report.entry.now items.entry.now result }
         { judge_misses(alloc, report, items) },
         || -> Result<(), CheckFault>
-            requires { IsSync R.row × AreKnown trace.now report.now items.now lasts.now × (1 ≤ pieces) × (pieces ≤ 64) }
+            requires { IsSync R.row × AreKnownItems trace.now report.now items.now lasts.now × (1 ≤ pieces) × (pieces ≤ 64) }
             ensures { IsInsideJudged trace.entry.now items.entry.now result }
         { judge_inside(rt, alloc, trace, report, items, lasts, pieces) },
     );

@@ -2,9 +2,9 @@
 
 ghost use Rattle.std.specs.Prelude.{◌≡◌, ◌≤◌, ◌<◌, true, length, IfOk};
 ghost use Rattle.report_check.specs.Tops.{lives_of, top_at};
-ghost use Rattle.report_check.specs.Filling.{IsTakenUp, place_of};
+ghost use Rattle.report_check.specs.Filling.{IsTakenUp, place_of_class};
 ghost use Rattle.report_check.specs.Fitting.{IsFitting};
-ghost use Rattle.report_check.specs.Known.{AreKnown};
+ghost use Rattle.report_check.specs.Known.{AreKnownItems};
 ghost use Rattle.report_check.specs.Pieces.{seen_by};
 ghost use Rattle.check_parallel.specs.Homes.{AreHomes};
 ghost use Rattle.check_parallel.specs.Parts.{AreVerdicts, IsInsideJudged, IsVerdict, MeetsInside};
@@ -36,7 +36,7 @@ pub(crate) fn judge_inside<R: Threads + Sync>(
     lasts: &[u32],
     pieces: u32,
 ) -> Result<(), CheckFault>
-    requires known { AreKnown trace.now report.now items.now lasts.now }
+    requires known { AreKnownItems trace.now report.now items.now lasts.now }
     requires some { 1 ≤ pieces }
     requires few { pieces ≤ 64 }
     ensures { IsInsideJudged trace.now items.now result }
@@ -58,7 +58,7 @@ fn verdicts_of<R: Threads + Sync>(
     homes: &[u8],
     pieces: u32,
 ) -> Result<Vec<Verdict>, NoMemory>
-    requires known { AreKnown trace.now report.now items.now lasts.now }
+    requires known { AreKnownItems trace.now report.now items.now lasts.now }
     requires homes { AreHomes pieces items.now homes.now }
     ensures all { IfOk result (λ verdicts. length verdicts.items ≡ pieces) }
     ensures each { IfOk result (λ verdicts. AreVerdicts trace.now items.now verdicts.items) }
@@ -68,7 +68,7 @@ fn verdicts_of<R: Threads + Sync>(
         .with_min_len(1)
         .map(
             |number: u32| -> Verdict
-                requires { AreKnown trace.now report.now items.now lasts.now × AreHomes pieces items.now homes.now }
+                requires { AreKnownItems trace.now report.now items.now lasts.now × AreHomes pieces items.now homes.now }
                 ensures { IsVerdict trace.entry.now items.entry.now (record { number = number; count = pieces }) result }
             {
                 verdict_of(
@@ -99,7 +99,7 @@ fn verdict_of(
     homes: &[u8],
     piece: Piece,
 ) -> Verdict
-    requires known { AreKnown trace.now report.now items.now lasts.now }
+    requires known { AreKnownItems trace.now report.now items.now lasts.now }
     requires homes { AreHomes piece.count items.now homes.now }
     ensures { IsVerdict trace.now items.now piece result }
 {
@@ -131,7 +131,7 @@ fn all_fit(
     homes: &[u8],
     piece: Piece,
 ) -> Result<bool, NoMemory>
-    requires known { AreKnown trace.now report.now items.now lasts.now }
+    requires known { AreKnownItems trace.now report.now items.now lasts.now }
     requires homes { AreHomes piece.count items.now homes.now }
     ensures { IfOk result (λ fit. fit ≡ true → MeetsInside trace.now (seen_by piece items.now)) }
 {
@@ -152,11 +152,14 @@ fn all_fit(
 
 // Takes up an object with its last cycle, where it is clear of those before it and fills its life as it should.
 fn takes(filling: &mut Filling, item: &Item, last: u32) -> Result<bool, NoMemory>
+    // the object has its place in the table
     requires life { item.now.life < length filling.old.fills.items }
     requires row { item.now.life < lives_of filling.old.tops }
-    requires place { place_of item.now.proc item.now.class < length filling.old.newest.items }
+    requires place { place_of_class item.now.proc item.now.class < length filling.old.newest.items }
     requires last { last < 20000 }
     requires index { item.now.index < 20000 }
+
+    // where it fits it is taken up
     ensures clear { IfOk result (λ fit. fit ≡ true → top_at filling.old.tops item.now.life item.now.index ≤ item.now.cycle) }
     ensures fitting { IfOk result (λ fit. fit ≡ true → 2 ≤ item.now.class → IsFitting filling.old item.now) }
     ensures taken { IfOk result (λ fit. fit ≡ true → IsTakenUp filling.old filling.new item.now last) }

@@ -5,10 +5,10 @@ ghost use Rattle.std.specs.Thread.{IsSync};
 ghost use Rattle.cycle_history.specs.Before.{IsLimited};
 ghost use Rattle.cycle_history.specs.Objects.{is_placed};
 ghost use Rattle.cycle_history.specs.Sound.{HasJournal};
-ghost use Rattle.report_check.specs.Items.{AreAsked, IsItem, request_of};
+ghost use Rattle.report_check.specs.Items.{AreRequests, IsItem, request_of};
 ghost use Rattle.report_check.specs.Lives.{AreAtPages};
 ghost use Rattle.report_check.specs.Seats.{HasOne};
-ghost use Rattle.check_parallel.specs.Seating.{ArePartSeated, AreSeatedItems, IsPart};
+ghost use Rattle.check_parallel.specs.Seating.{ArePartSeated, AreSeatedItems, IsItemsPart};
 
 use crate::marking::keep_lives;
 use cycle_history::{Answer, Report};
@@ -31,7 +31,7 @@ pub(crate) fn seated_items<R: Threads + Sync>(
 ) -> Result<bool, NoMemory>
     requires limited { IsLimited trace.now }
     requires journal { HasJournal trace.now report.now }
-    requires asked { AreAsked trace.now asked.now }
+    requires asked { AreRequests trace.now asked.now }
     requires items { length items.old ≡ length report.now.answers }
     ensures { IfOk result (λ all. all ≡ true → AreSeatedItems trace.now report.now items.new) }
 {
@@ -58,7 +58,7 @@ fn seat_parts<R: Threads + Sync>(
     items: &mut [Item],
     pieces: u32,
 ) -> Result<bool, NoMemory>
-    requires { IsPart trace.now report.now asked.now answers.now (length items.old) }
+    requires { IsItemsPart trace.now report.now asked.now answers.now (length items.old) }
     ensures { IfOk result (λ all. all ≡ true → ArePartSeated trace.now report.now asked.now answers.now items.new) }
 {
     if pieces < 2 {
@@ -70,12 +70,12 @@ fn seat_parts<R: Threads + Sync>(
     let (answers, answers_then) = answers.split_at(middle);
     let (front, back) = items.split_at_mut(middle);
     let mut one = || -> Result<bool, NoMemory>
-        requires { IsSync R.row × IsPart trace.now report.now asked.now answers.now (length front.now) }
+        requires { IsSync R.row × IsItemsPart trace.now report.now asked.now answers.now (length front.now) }
         ensures { (length front.exit.now ≡ length front.entry.now)
             × IfOk result (λ all. all ≡ true → ArePartSeated trace.entry.now report.entry.now asked.entry.now answers.entry.now front.exit.now) }
     { seat_parts(rt, alloc, trace, report, asked, answers, front, low) };
     let mut two = || -> Result<bool, NoMemory>
-        requires { IsSync R.row × (low ≤ pieces) × IsPart trace.now report.now asked_then.now answers_then.now (length back.now) }
+        requires { IsSync R.row × (low ≤ pieces) × IsItemsPart trace.now report.now asked_then.now answers_then.now (length back.now) }
         ensures { (length back.exit.now ≡ length back.entry.now)
             × IfOk result (λ all. all ≡ true → ArePartSeated trace.entry.now report.entry.now asked_then.entry.now answers_then.entry.now back.exit.now) }
     {
@@ -106,7 +106,7 @@ fn seat_part(
     answers: &[Answer],
     items: &mut [Item],
 ) -> Result<bool, NoMemory>
-    requires { IsPart trace.now report.now asked.now answers.now (length items.old) }
+    requires { IsItemsPart trace.now report.now asked.now answers.now (length items.old) }
     ensures { IfOk result (λ all. all ≡ true → ArePartSeated trace.now report.now asked.now answers.now items.new) }
 {
     let mut opened = Opened::new(alloc, trace)?;

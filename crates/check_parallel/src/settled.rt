@@ -5,7 +5,7 @@ ghost use Rattle.std.specs.Thread.{IsSync};
 ghost use Rattle.cycle_history.specs.Before.{IsLimited};
 ghost use Rattle.cycle_history.specs.Sound.{HasJournal};
 ghost use Rattle.report_check.specs.Fault.{IsFault};
-ghost use Rattle.report_check.specs.Items.{AreAsked};
+ghost use Rattle.report_check.specs.Items.{AreRequests};
 ghost use Rattle.report_check.specs.Lasts.{AreLasts};
 ghost use Rattle.check_parallel.specs.Parts.{AreLastsOf, IsLived, IsPagesJudged};
 ghost use Rattle.check_parallel.specs.Seating.{AreSeatedItems};
@@ -99,7 +99,7 @@ fn seat<R: Threads + Sync>(
     requires limited { IsLimited trace.now }
     requires journal { HasJournal trace.now report.now }
     requires blank { IfOk blank (λ blank. length blank.items ≡ length report.now.answers) }
-    requires asked { IfOk asked (AreAsked trace.now) }
+    requires asked { IfOk asked (AreRequests trace.now) }
     ensures settled { IfOk result (λ items. AreSeatedItems trace.now report.now items.items) }
     ensures broken { IfErr result (IsFault trace.now report.now) }
 {
@@ -145,7 +145,7 @@ fn prepared<R: Threads + Sync>(
 )
     requires limited { IsLimited trace.now }
     ensures blank { IfOk result.0.0 (λ blank. length blank.items ≡ length report.now.answers) }
-    ensures asked { IfOk result.0.1 (AreAsked trace.now) }
+    ensures asked { IfOk result.0.1 (AreRequests trace.now) }
     ensures pages { IsPagesJudged trace.now report.now result.1.0 }
     ensures lasts { AreLastsOf trace.now result.1.1 }
 {
@@ -153,7 +153,7 @@ fn prepared<R: Threads + Sync>(
         rt,
         || -> (Result<Vec<Item>, NoMemory>, Result<List<Asked>, NoMemory>)
             requires { IsSync R.row × IsLimited trace.now }
-            ensures { IfOk result.0 (λ blank. length blank.items ≡ length report.entry.now.answers) × IfOk result.1 (AreAsked trace.entry.now) }
+            ensures { IfOk result.0 (λ blank. length blank.items ≡ length report.entry.now.answers) × IfOk result.1 (AreRequests trace.entry.now) }
         { unwritten(rt, alloc, trace, report) },
         || -> (Result<Lived, CheckFault>, Result<Vec<u32>, NoMemory>)
             requires { IsSync R.row × IsLimited trace.now }
@@ -171,7 +171,7 @@ fn unwritten<R: Threads + Sync>(
 ) -> (Result<Vec<Item>, NoMemory>, Result<List<Asked>, NoMemory>)
     requires limited { IsLimited trace.now }
     ensures blank { IfOk result.0 (λ blank. length blank.items ≡ length report.now.answers) }
-    ensures asked { IfOk result.1 (AreAsked trace.now) }
+    ensures asked { IfOk result.1 (AreRequests trace.now) }
 {
     join(
         rt,
@@ -180,7 +180,7 @@ fn unwritten<R: Threads + Sync>(
         { blank_items(alloc, report.answers.as_slice().len()) },
         || -> Result<List<Asked>, NoMemory>
             requires { IsLimited trace.now }
-            ensures { IfOk result (AreAsked trace.entry.now) }
+            ensures { IfOk result (AreRequests trace.entry.now) }
         { asked_of(alloc, trace) },
     )
 }

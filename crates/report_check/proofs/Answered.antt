@@ -21,7 +21,7 @@ use Rattle.report_rules.specs.Lines.{end_of, IsLeast}
 use Rattle.report_rules.specs.Answers.{IsRightAnswer, BreaksAnswers}
 use Rattle.report_check.specs.declared.asked.Asked.{Asked}
 use Rattle.report_check.specs.declared.items.Item.{Item}
-use Rattle.report_check.specs.Items.{AreAsked, IsItem, object_of, objects_of, request_of}
+use Rattle.report_check.specs.Items.{AreRequests, IsItem, object_of, objects_of, request_of}
 
 -- the objects of one item more
 pub objects-more : (items : List Item) (item : Item) → objects_of (items ++ item ∷ []) ≡ object_of (length (reverse items)) item ∷ objects_of items
@@ -52,14 +52,14 @@ printed-step answers items i d item lt is all =
 -- ---- right answers
 
 -- the event with a number
-pub event-at : (t : Trace) (asked : List Asked) (i : ℕ) (d : Asked) → AreAsked t asked → i < length asked → slice_get (events_of t) i ≡ Some (get_or asked i d).event
+pub event-at : (t : Trace) (asked : List Asked) (i : ℕ) (d : Asked) → AreRequests t asked → i < length asked → slice_get (events_of t) i ≡ Some (get_or asked i d).event
 event-at t asked i d is lt =
     let same : map (λ (r : Request). r.event) (map request_of asked) ≡ events_of t = ap (λ (rs : List Request). map (λ (r : Request). r.event) rs) is ∙ requests-events 0 t.cycles in
     sym (ap (λ (es : List Event). slice_get es i) same)
     ∙ (slice_get-map (λ (r : Request). r.event) (map request_of asked) i
     ∙ ap (λ (o : Option Request). option_map (λ (r : Request). r.event) o) (slice_get-map request_of asked i ∙ ap (λ (o : Option Asked). option_map request_of o) (slice_get-get_or asked i d lt)))
 
-pub events-length : (t : Trace) (asked : List Asked) → AreAsked t asked → length (events_of t) ≡ length asked
+pub events-length : (t : Trace) (asked : List Asked) → AreRequests t asked → length (events_of t) ≡ length asked
 events-length t asked is =
     let same : map (λ (r : Request). r.event) (map request_of asked) ≡ events_of t = ap (λ (rs : List Request). map (λ (r : Request). r.event) rs) is ∙ requests-events 0 t.cycles in
     sym (ap (λ (es : List Event). length es) same) ∙ (length-map (map request_of asked) (λ (r : Request). r.event) ∙ length-map asked request_of)
@@ -121,10 +121,10 @@ done-none t report asked answers = record { number = refl; few = omega arith; an
 printed-at : (answers slice : List Answer) (n : ℕ) (d : Answer) → slice ≡ answers → n < length slice → slice_get answers n ≡ Some (get_or slice n d)
 printed-at answers slice n d same lt = sym (ap (λ (xs : List Answer). slice_get xs n) same) ∙ slice_get-get_or slice n d lt
 
-right-here : (t : Trace) (asked : List Asked) (i : ℕ) (d : Asked) (a : Answer) → AreAsked t asked → i < length asked → (a ≡ Zero) ↔ ((get_or asked i d).event.size ≡ 0) → IsRightAnswer t i a
+right-here : (t : Trace) (asked : List Asked) (i : ℕ) (d : Asked) (a : Answer) → AreRequests t asked → i < length asked → (a ≡ Zero) ↔ ((get_or asked i d).event.size ≡ 0) → IsRightAnswer t i a
 right-here t asked i d a are lt iff = record { event = (get_or asked i d).event; asked = event-at t asked i d are lt; zero = iff }
 
-pub wrong-zero : (t : Trace) (asked : List Asked) (i : ℕ) (d : Asked) (a : Answer) → AreAsked t asked → i < length asked → ¬ ((a ≡ Zero) ↔ ((get_or asked i d).event.size ≡ 0)) → ¬ IsRightAnswer t i a
+pub wrong-zero : (t : Trace) (asked : List Asked) (i : ℕ) (d : Asked) (a : Answer) → AreRequests t asked → i < length asked → ¬ ((a ≡ Zero) ↔ ((get_or asked i d).event.size ≡ 0)) → ¬ IsRightAnswer t i a
 wrong-zero t asked i d a are lt off r =
     let here = event-at t asked i d are lt in
     let there = r.asked in
@@ -132,7 +132,7 @@ wrong-zero t asked i d a are lt off r =
     off (subst (λ (e : Event). (a ≡ Zero) ↔ (e.size ≡ 0)) same r.zero)
 
 pub done-more : (t : Trace) (report : Report) (asked : List Asked) (answers : List Answer) (items new : List Item) (i k : ℕ) (d : Asked) (da : Answer) (item : Item)
-    → AreAsked t asked → answers ≡ report.answers → i < length asked → k ≡ i → k < length answers → AreDone t report asked answers items i
+    → AreRequests t asked → answers ≡ report.answers → i < length asked → k ≡ i → k < length answers → AreDone t report asked answers items i
     → IsItem (request_of (get_or asked i d)) item → item.answer ≡ get_or answers k da → new ≡ items ++ item ∷ [] → AreDone t report asked answers new (i + 1)
 done-more t report asked answers items new i k d da item are same lt at inside done is answer more =
     let here : item.answer ≡ get_or answers i da = answer ∙ ap (λ (j : ℕ). get_or answers j da) at in
@@ -147,7 +147,7 @@ done-more t report asked answers items new i k d da item are same lt at inside d
       right = right-more t report i (get_or answers i da) done.right (printed-at report.answers answers i da same (omega arith)) right;
     })
 
-pub done-missing : (t : Trace) (report : Report) (asked : List Asked) (answers : List Answer) (items : List Item) (i k line : ℕ) → AreAsked t asked → answers ≡ report.answers
+pub done-missing : (t : Trace) (report : Report) (asked : List Asked) (answers : List Answer) (items : List Item) (i k line : ℕ) → AreRequests t asked → answers ≡ report.answers
     → AreDone t report asked answers items i → i < length asked → k ≡ length items → k ≡ length answers → line ≡ end_of report → IsLeast (BreaksAnswers t report) line
 done-missing t report asked answers items i k line are same done lt number all end =
     let count = events-length t asked are in
@@ -156,7 +156,7 @@ done-missing t report asked answers items i k line are same done lt number all e
     let e : i ≡ length report.answers = omega arith in
     rw end (missing-last t report (subst (λ (n : ℕ). AreRight t report n) e done.right) (omega arith))
 
-pub done-wrong : (t : Trace) (report : Report) (asked : List Asked) (answers : List Answer) (items : List Item) (i k : ℕ) (d : Asked) (da : Answer) → AreAsked t asked → answers ≡ report.answers
+pub done-wrong : (t : Trace) (report : Report) (asked : List Asked) (answers : List Answer) (items : List Item) (i k : ℕ) (d : Asked) (da : Answer) → AreRequests t asked → answers ≡ report.answers
     → AreDone t report asked answers items i → i < length asked → k ≡ length items → k < length answers → ¬ ((get_or answers k da ≡ Zero) ↔ ((get_or asked i d).event.size ≡ 0))
     → IsLeast (BreaksAnswers t report) (k + 1)
 done-wrong t report asked answers items i k d da are same done lt number inside off =
@@ -165,7 +165,7 @@ done-wrong t report asked answers items i k d da are same done lt number inside 
     let wrong : ¬ IsRightAnswer t k (get_or answers k da) = subst (λ (n : ℕ). ¬ IsRightAnswer t n (get_or answers k da)) e (wrong-zero t asked i d (get_or answers k da) are lt off) in
     wrong-first t report k (get_or answers k da) right (printed-at report.answers answers k da same inside) wrong
 
-pub done-behind : (t : Trace) (report : Report) (asked : List Asked) (answers : List Answer) (items : List Item) (i k n : ℕ) → AreAsked t asked → answers ≡ report.answers
+pub done-behind : (t : Trace) (report : Report) (asked : List Asked) (answers : List Answer) (items : List Item) (i k n : ℕ) → AreRequests t asked → answers ≡ report.answers
     → AreDone t report asked answers items i → length asked ≤ i → k ≡ length items → n ≡ length items → k < length answers → IsLeast (BreaksAnswers t report) (n + 1)
 done-behind t report asked answers items i k n are same done le number again inside =
     let e : i ≡ n = sym done.number ∙ sym again in
@@ -179,7 +179,7 @@ all-of [] (suc k) le = refl
 all-of {X} (y ∷ ys) zero le = absurd (omega arith)
 all-of {X} (y ∷ ys) (suc k) le = ap (λ (l : List X). y ∷ l) (all-of ys k (omega arith))
 
-pub done-all : (t : Trace) (report : Report) (asked : List Asked) (answers : List Answer) (items : List Item) (i k : ℕ) → AreAsked t asked → answers ≡ report.answers
+pub done-all : (t : Trace) (report : Report) (asked : List Asked) (answers : List Answer) (items : List Item) (i k : ℕ) → AreRequests t asked → answers ≡ report.answers
     → AreDone t report asked answers items i → length asked ≤ i → k ≡ length items → length answers ≤ k → HasAnswers t report (objects_of items)
 done-all t report asked answers items i k are same done le number all =
     let here = done.number in
@@ -192,5 +192,5 @@ all-at P [] k x all is = cc
 all-at P (y ∷ xs) zero x all is = (let same : y ≡ x = cc in subst P same all.0)
 all-at P (y ∷ xs) (suc k) x all is = all-at P xs k x all.1 is
 
-pub size-at : (t : Trace) (asked : List Asked) (i : ℕ) (d : Asked) → IsLimited t → AreAsked t asked → i < length asked → (get_or asked i d).event.size ≤ 2 ^ 40
+pub size-at : (t : Trace) (asked : List Asked) (i : ℕ) (d : Asked) → IsLimited t → AreRequests t asked → i < length asked → (get_or asked i d).event.size ≤ 2 ^ 40
 size-at t asked i d limited are lt = (all-at (EventFits t.header.procs) (events_of t) i (get_or asked i d).event limited.events (event-at t asked i d are lt)).size

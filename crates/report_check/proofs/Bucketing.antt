@@ -15,10 +15,10 @@ use Rattle.cycle_history.specs.Profile.{Bucket, allocs_at, frees_at, is_sample, 
 use Rattle.cycle_history.specs.Sampled.{stack_of}
 use Rattle.report_check.specs.declared.items.Item.{Item}
 use Rattle.report_check.specs.Items.{object_of, objects_of}
-use Rattle.report_check.specs.Known.{AreKnown}
+use Rattle.report_check.specs.Known.{AreKnownItems}
 use Rattle.report_check.specs.Lasts.{last_at}
 use Rattle.report_check.specs.Order.{place_of}
-use Rattle.report_check.specs.Sampling.{AreFew, AreFlags, ArePlacesBy, flag_at, is_before}
+use Rattle.report_check.specs.Sampling.{FitTheirTypes, AreFlags, ArePlacesBy, flag_at, is_before}
 use Rattle.report_check.proofs.Counting.{count-permutation}
 use Rattle.report_check.proofs.Numbered.{item-of}
 use Rattle.report_check.proofs.Tallying.{bool-same, count-same, count-snoc, front-more}
@@ -28,7 +28,7 @@ use Rattle.report_check.proofs.Tallying.{bool-same, count-same, count-snoc, fron
 -- the places of the first n items
 pub record ArePlaced (items : List Item) (flags : List Bool) (stacks cycles : List ℕ) (n : ℕ) (list : List ℕ) : Type 0 where
   pub places : ArePlacesBy flags stacks cycles (objects_of (take n items)) list
-  pub few : AreFew items stacks cycles n
+  pub few : FitTheirTypes items stacks cycles n
 
 pub placed-first : (items : List Item) (flags : List Bool) (stacks cycles list : List ℕ) → list ≡ [] → ArePlaced items flags stacks cycles 0 list
 placed-first items flags stacks cycles list e = record {
@@ -37,7 +37,7 @@ placed-first items flags stacks cycles list e = record {
 }
 
 few-more : (items : List Item) (stacks cycles : List ℕ) (n : ℕ) (item : Item) → slice_get items n ≡ Some item → get_or stacks n 0 < 2 ^ 32 → item.slot < 2 ^ 64 → get_or cycles n 0 < 2 ^ 32
-    → AreFew items stacks cycles n → AreFew items stacks cycles (n + 1)
+    → FitTheirTypes items stacks cycles n → FitTheirTypes items stacks cycles (n + 1)
 few-more items stacks cycles n item at a b c are i x lt there = elim (cases_eq i n) [
   | inl same ↦ (
       let e : item ≡ x = (let there' : slice_get items n ≡ Some x = subst (λ (k : ℕ). slice_get items k ≡ Some x) same there in cc) in
@@ -71,10 +71,10 @@ placed-skip items flags stacks cycles list n item at off a b c are = record {
 }
 
 pub placed-all : (items : List Item) (flags : List Bool) (stacks cycles list : List ℕ) (n : ℕ) → length items ≤ n → n ≤ length items → ArePlaced items flags stacks cycles n list
-    → ArePlacesBy flags stacks cycles (objects_of items) list × AreFew items stacks cycles (length items)
+    → ArePlacesBy flags stacks cycles (objects_of items) list × FitTheirTypes items stacks cycles (length items)
 placed-all items flags stacks cycles list n all le are =
     let whole : take n items ≡ items = take_all n items all in
-    (subst (λ (xs : List Item). ArePlacesBy flags stacks cycles (objects_of xs) list) whole are.places, subst (λ (k : ℕ). AreFew items stacks cycles k) (let e : n ≡ length items = omega arith in e) are.few)
+    (subst (λ (xs : List Item). ArePlacesBy flags stacks cycles (objects_of xs) list) whole are.places, subst (λ (k : ℕ). FitTheirTypes items stacks cycles k) (let e : n ≡ length items = omega arith in e) are.few)
 
 -- ---- places of a bucket
 
@@ -178,7 +178,7 @@ flagged-sample t flags b o s x placed e = elim (cases_Bool (flag_at flags o.id))
     none false d = refl
 
 -- an object is placed before a mark end that doesn't mark it exactly where its last cycle is before
-pub freed-when : (t : Trace) (report : Report) (items : List Item) (lasts : List ℕ) (i m : ℕ) (item : Item) → AreKnown t report items lasts → slice_get items i ≡ Some item
+pub freed-when : (t : Trace) (report : Report) (items : List Item) (lasts : List ℕ) (i m : ℕ) (item : Item) → AreKnownItems t report items lasts → slice_get items i ≡ Some item
     → (ltb item.cycle m && not (marked_by t m i)) ≡ ltb (last_at lasts i) m
 freed-when t report items lasts i m item known at =
     let own = known.until.own i item at in
@@ -207,7 +207,7 @@ pub record AreMade (t : Trace) (items : List Item) (flags : List Bool) (stacks c
   pub flagged : AreFlags t items flags (objects_of items)
   pub stacked : stacks ≡ map (λ (e : Event). e.stack) (events_of t)
   pub placed : ArePlacesBy flags stacks cycles (objects_of items) places
-  pub few : AreFew items stacks cycles (length items)
+  pub few : FitTheirTypes items stacks cycles (length items)
   pub same : IsPermutation places sorted
 
 made-count : (t : Trace) (items : List Item) (flags : List Bool) (stacks cycles places sorted : List ℕ) (b : Bucket) (m : ℕ) (when : Object → Bool) → AreMade t items flags stacks cycles places sorted → b.slot < 2 ^ 64 → m < 2 ^ 32
@@ -231,7 +231,7 @@ pub made-allocs : (t : Trace) (items : List Item) (flags : List Bool) (stacks cy
 made-allocs t items flags stacks cycles places sorted b m made own lb lm = made-count t items flags stacks cycles places sorted b m (λ o. ltb o.cycle m) made lb lm
     (λ i item at. ap (λ (k : ℕ). ltb k m) (ap (λ (xs : List ℕ). get_or xs i 0) own ∙ cycle-at items i item at))
 
-pub made-frees : (t : Trace) (report : Report) (items : List Item) (lasts : List ℕ) (flags : List Bool) (stacks places sorted : List ℕ) (b : Bucket) (m : ℕ) → AreKnown t report items lasts → AreMade t items flags stacks lasts places sorted → b.slot < 2 ^ 64 → m < 2 ^ 32
+pub made-frees : (t : Trace) (report : Report) (items : List Item) (lasts : List ℕ) (flags : List Bool) (stacks places sorted : List ℕ) (b : Bucket) (m : ℕ) → AreKnownItems t report items lasts → AreMade t items flags stacks lasts places sorted → b.slot < 2 ^ 64 → m < 2 ^ 32
     → count (is_before b m) sorted ≡ frees_at (marked_by t) (samples_in t (flag_at flags)) (objects_of items) m b
 made-frees t report items lasts flags stacks places sorted b m known made lb lm = made-count t items flags stacks lasts places sorted b m (λ o. ltb o.cycle m && not (marked_by t m o.id)) made lb lm
     (λ i item at. sym (freed-when t report items lasts i m item known at))

@@ -32,7 +32,7 @@ use Rattle.report_check.specs.declared.tops.Tops.{Tops}
 use Rattle.report_check.specs.Items.{need_of, object_of, objects_of}
 use Rattle.report_check.specs.Lasts.{last_at}
 use Rattle.report_check.specs.Tops.{AreNoTops, IsRaised, top_at}
-use Rattle.report_check.specs.Known.{AreClear, AreKnown, AreTogether, AreTops, IsSatFrom}
+use Rattle.report_check.specs.Known.{FollowInSeats, AreKnownItems, AreTogether, AreTops, IsSatFrom}
 use Rattle.report_check.proofs.Answered.{all-at}
 use Rattle.report_check.proofs.Numbered.{item-of, object-in}
 use Rattle.report_check.proofs.Settled.{IsAsked, asked-at, one-life, life-line, number-on}
@@ -128,7 +128,7 @@ pub record IsPlacedItem (t : Trace) (report : Report) (i : ℕ) (item : Item) : 
   pub few : item.count ≤ 1024
   pub proc : item.proc < t.header.procs
 
-pub placed-item : (t : Trace) (report : Report) (items : List Item) (lasts : List ℕ) (i : ℕ) (item : Item) → AreKnown t report items lasts → slice_get items i ≡ Some item → is_placed item.answer ≡ true → IsPlacedItem t report i item
+pub placed-item : (t : Trace) (report : Report) (items : List Item) (lasts : List ℕ) (i : ℕ) (item : Item) → AreKnownItems t report items lasts → slice_get items i ≡ Some item → is_placed item.answer ≡ true → IsPlacedItem t report i item
 placed-item t report items lasts i item known at placed =
     let among = object-in items i item at in
     let r = request-of (requests_of t) (objects_of items) (object_of i item) known.answers.asked among in
@@ -152,7 +152,7 @@ pub life-inside : (past : List Line) (c : ℕ) (life : Life) → In life (open_l
 life-inside past c life among = let made = life-line (at_end c past) life among in number-below life.number made.line past (number-on c life.number past made.line made.number)
 
 -- an item lives in a cycle exactly where the cycle is neither before its own nor behind its last one
-pub lives-when : (t : Trace) (report : Report) (items : List Item) (lasts : List ℕ) (i c : ℕ) (item : Item) → AreKnown t report items lasts → slice_get items i ≡ Some item → live (marked_by t) c (object_of i item) ≡ true
+pub lives-when : (t : Trace) (report : Report) (items : List Item) (lasts : List ℕ) (i c : ℕ) (item : Item) → AreKnownItems t report items lasts → slice_get items i ≡ Some item → live (marked_by t) c (object_of i item) ≡ true
     → (item.cycle ≤ c) × (c ≤ last_at lasts i)
 lives-when t report items lasts i c item known at alive =
     let own = known.until.own i item at in
@@ -161,7 +161,7 @@ lives-when t report items lasts i c item known at alive =
       | inr on ↦ (let w = (known.until.marked i c item at).0 on in let lt = w.0 in (omega arith, w.1))
     ]
 
-pub lives-then : (t : Trace) (report : Report) (items : List Item) (lasts : List ℕ) (i c : ℕ) (item : Item) → AreKnown t report items lasts → slice_get items i ≡ Some item → is_placed item.answer ≡ true → item.cycle ≤ c → c ≤ last_at lasts i
+pub lives-then : (t : Trace) (report : Report) (items : List Item) (lasts : List ℕ) (i c : ℕ) (item : Item) → AreKnownItems t report items lasts → slice_get items i ≡ Some item → is_placed item.answer ≡ true → item.cycle ≤ c → c ≤ last_at lasts i
     → live (marked_by t) c (object_of i item) ≡ true
 lives-then t report items lasts i c item known at placed low high = elim (cases_eq item.cycle c) [
   | inl own ↦ live-of (marked_by t) c (object_of i item) placed own
@@ -169,7 +169,7 @@ lives-then t report items lasts i c item known at placed low high = elim (cases_
 ]
 
 -- two items that live in one cycle are apart where they have two seats
-pub seats-apart : (t : Trace) (report : Report) (items : List Item) (lasts : List ℕ) (i j c : ℕ) (a b : Item) → AreKnown t report items lasts → slice_get items i ≡ Some a → slice_get items j ≡ Some b
+pub seats-apart : (t : Trace) (report : Report) (items : List Item) (lasts : List ℕ) (i j c : ℕ) (a b : Item) → AreKnownItems t report items lasts → slice_get items i ≡ Some a → slice_get items j ≡ Some b
     → live (marked_by t) c (object_of i a) ≡ true → live (marked_by t) c (object_of j b) ≡ true → (AreTogether a b → ⊥) → IsApart (object_of i a) (object_of j b)
 seats-apart t report items lasts i j c a b known ia jb la lb differ =
     let pa = placed-item t report items lasts i a known ia (live-placed (marked_by t) c (object_of i a) la) in
@@ -181,7 +181,7 @@ seats-apart t report items lasts i j c a b known ia jb la lb differ =
     (λ same index. differ (sym na ∙ (ap (λ (l : Life). l.number) same ∙ nb), index))
 
 -- and overlap where they have one
-pub seats-overlap : (t : Trace) (report : Report) (items : List Item) (lasts : List ℕ) (i j : ℕ) (a b : Item) → AreKnown t report items lasts → slice_get items i ≡ Some a → slice_get items j ≡ Some b
+pub seats-overlap : (t : Trace) (report : Report) (items : List Item) (lasts : List ℕ) (i j : ℕ) (a b : Item) → AreKnownItems t report items lasts → slice_get items i ≡ Some a → slice_get items j ≡ Some b
     → is_placed a.answer ≡ true → is_placed b.answer ≡ true → AreTogether a b → ¬ IsApart (object_of i a) (object_of j b)
 seats-overlap t report items lasts i j a b known ia jb placed placed' one off =
     let pa = placed-item t report items lasts i a known ia placed in
@@ -282,10 +282,10 @@ tops-other items lasts n item tops at off are life index c = (
 
 -- ---- clear
 
-pub clear-none : (items : List Item) (lasts : List ℕ) → AreClear items lasts 0
+pub clear-none : (items : List Item) (lasts : List ℕ) → FollowInSeats items lasts 0
 clear-none items lasts i j a b lt less ia jb pa pb one = absurd (omega arith)
 
-pub clear-other : (items : List Item) (lasts : List ℕ) (n : ℕ) (item : Item) → slice_get items n ≡ Some item → (is_placed item.answer ≡ true → ⊥) → AreClear items lasts n → AreClear items lasts (n + 1)
+pub clear-other : (items : List Item) (lasts : List ℕ) (n : ℕ) (item : Item) → slice_get items n ≡ Some item → (is_placed item.answer ≡ true → ⊥) → FollowInSeats items lasts n → FollowInSeats items lasts (n + 1)
 clear-other items lasts n item at off are i j a b lt less ia jb pa pb one = elim (cases_eq j n) [
   | inr other ↦ are i j a b lt (omega arith) ia jb pa pb one
   | inl same ↦ (
@@ -298,7 +298,7 @@ clear-other items lasts n item at off are i j a b lt less ia jb pa pb one = elim
     some-same h = cc
 
 pub clear-more : (items : List Item) (lasts : List ℕ) (n : ℕ) (item : Item) (tops : Tops) → slice_get items n ≡ Some item → AreTops items lasts n tops → top_at tops item.life item.index ≤ item.cycle
-    → AreClear items lasts n → AreClear items lasts (n + 1)
+    → FollowInSeats items lasts n → FollowInSeats items lasts (n + 1)
 clear-more items lasts n item tops at tops-are le are i j a b lt less ia jb pa pb one = elim (cases_eq j n) [
   | inr other ↦ are i j a b lt (omega arith) ia jb pa pb one
   | inl same ↦ (
@@ -326,7 +326,7 @@ clear-more items lasts n item tops at tops-are le are i j a b lt less ia jb pa p
     some-same h = cc
 
 -- of the first items each two are apart that live in one cycle
-clear-pair : (t : Trace) (report : Report) (items : List Item) (lasts : List ℕ) (n i j c : ℕ) (a b : Item) → AreKnown t report items lasts → AreClear items lasts n → i < j → j < n → slice_get items i ≡ Some a → slice_get items j ≡ Some b
+clear-pair : (t : Trace) (report : Report) (items : List Item) (lasts : List ℕ) (n i j c : ℕ) (a b : Item) → AreKnownItems t report items lasts → FollowInSeats items lasts n → i < j → j < n → slice_get items i ≡ Some a → slice_get items j ≡ Some b
     → live (marked_by t) c (object_of i a) ≡ true → live (marked_by t) c (object_of j b) ≡ true → IsApart (object_of i a) (object_of j b)
 clear-pair t report items lasts n i j c a b known clear lt less ia jb la lb =
     seats-apart t report items lasts i j c a b known ia jb la lb
@@ -341,7 +341,7 @@ clear-pair t report items lasts n i j c a b known clear lt less ia jb la lb =
 apart-turned : (a b : Object) → IsApart a b → IsApart b a
 apart-turned a b is x y bx ay = elim (is y x ay bx) [ inl le ↦ inr le | inr le ↦ inl le ]
 
-pub clear-all : (t : Trace) (report : Report) (items : List Item) (lasts : List ℕ) (n : ℕ) → AreKnown t report items lasts → length items ≤ n → AreClear items lasts n → AreApart (marked_by t) (objects_of items)
+pub clear-all : (t : Trace) (report : Report) (items : List Item) (lasts : List ℕ) (n : ℕ) → AreKnownItems t report items lasts → length items ≤ n → FollowInSeats items lasts n → AreApart (marked_by t) (objects_of items)
 clear-all t report items lasts n known all clear c a b ia ib ne la lb =
     let x = item-of items a ia in
     let y = item-of items b ib in
@@ -360,8 +360,8 @@ clear-all t report items lasts n known all clear c a b ia ib ne la lb =
     ] in
     subst (λ (o : Object). IsApart o b) (sym x.is) (subst (λ (o : Object). IsApart (object_of x.number x.item) o) (sym y.is) is)
 
-pub clear-breaks : (t : Trace) (report : Report) (items : List Item) (lasts : List ℕ) (n : ℕ) (item : Item) (tops : Tops) → AreKnown t report items lasts → slice_get items n ≡ Some item → is_placed item.answer ≡ true
-    → AreTops items lasts n tops → item.cycle < top_at tops item.life item.index → AreClear items lasts n → IsLeast (BreaksApart (marked_by t) (objects_of items)) (n + 1)
+pub clear-breaks : (t : Trace) (report : Report) (items : List Item) (lasts : List ℕ) (n : ℕ) (item : Item) (tops : Tops) → AreKnownItems t report items lasts → slice_get items n ≡ Some item → is_placed item.answer ≡ true
+    → AreTops items lasts n tops → item.cycle < top_at tops item.life item.index → FollowInSeats items lasts n → IsLeast (BreaksApart (marked_by t) (objects_of items)) (n + 1)
 clear-breaks t report items lasts n item tops known at placed tops-are above clear =
     let sat = (tops-are item.life item.index item.cycle).0 above in
     let asked = asked-at t report items sat.number sat.item known.answers sat.at in
@@ -398,14 +398,14 @@ clear-breaks t report items lasts n item tops known at placed tops-are above cle
 
 -- ---- what the judges' calls ask
 
-pub placed-index : (t : Trace) (report : Report) (items : List Item) (lasts : List ℕ) (i : ℕ) (item : Item) → AreKnown t report items lasts → slice_get items i ≡ Some item → is_placed item.answer ≡ true → item.index < 1024
+pub placed-index : (t : Trace) (report : Report) (items : List Item) (lasts : List ℕ) (i : ℕ) (item : Item) → AreKnownItems t report items lasts → slice_get items i ≡ Some item → is_placed item.answer ≡ true → item.index < 1024
 placed-index t report items lasts i item known at placed =
     let p = placed-item t report items lasts i item known at placed in
     let k = p.seated.sits.index in
     let few = p.few in
     omega arith
 
-pub placed-place : (t : Trace) (report : Report) (items : List Item) (lasts : List ℕ) (i : ℕ) (item : Item) → AreKnown t report items lasts → slice_get items i ≡ Some item → is_placed item.answer ≡ true
+pub placed-place : (t : Trace) (report : Report) (items : List Item) (lasts : List ℕ) (i : ℕ) (item : Item) → AreKnownItems t report items lasts → slice_get items i ≡ Some item → is_placed item.answer ≡ true
     → item.proc * 136 + item.class < t.header.procs * 136
 placed-place t report items lasts i item known at placed =
     let p = placed-item t report items lasts i item known at placed in
@@ -413,7 +413,7 @@ placed-place t report items lasts i item known at placed =
     let class = p.class in
     omega arith
 
-pub placed-inside : (t : Trace) (report : Report) (items : List Item) (lasts : List ℕ) (i : ℕ) (item : Item) → AreKnown t report items lasts → slice_get items i ≡ Some item → is_placed item.answer ≡ true → item.life < length report.journal
+pub placed-inside : (t : Trace) (report : Report) (items : List Item) (lasts : List ℕ) (i : ℕ) (item : Item) → AreKnownItems t report items lasts → slice_get items i ≡ Some item → is_placed item.answer ≡ true → item.life < length report.journal
 placed-inside t report items lasts i item known at placed =
     let p = placed-item t report items lasts i item known at placed in
     let inside = life-inside (past_in report) item.cycle p.life p.seated.here in

@@ -20,8 +20,8 @@ use Rattle.report_check.specs.declared.filling.Filling.{Filling}
 use Rattle.report_check.specs.Items.{object_of, objects_of}
 use Rattle.report_check.specs.Lasts.{last_at}
 use Rattle.report_check.specs.Tops.{top_at}
-use Rattle.report_check.specs.Known.{AreKnown, AreTops, IsSatFrom}
-use Rattle.report_check.specs.Filling.{AreFills, AreNewest, HasRoom, IsEmptyFilling, IsSmallItem, IsTakenUp, fill_at, filled_by, newest_at, newest_by, next_in, place_of}
+use Rattle.report_check.specs.Known.{AreKnownItems, AreTops, IsSatFrom}
+use Rattle.report_check.specs.Filling.{AreFills, AreNewest, HasFillingRoom, IsEmptyFilling, IsSmallItem, IsTakenUp, fill_at, filled_by, newest_at, newest_by, next_in, place_of_class}
 use Rattle.report_check.specs.Fitting.{IsFitting, IsUnfitting}
 use Rattle.report_check.proofs.Numbered.{item-of, object-in}
 use Rattle.report_check.proofs.Settled.{asked-at}
@@ -35,12 +35,12 @@ none-some : {X : Type 0} {x : X} → None ≡ Some x → ⊥
 none-some h = cc
 
 -- the small items before one are of its cycle or earlier ones
-rises : (t : Trace) (report : Report) (items : List Item) (lasts : List ℕ) (i n : ℕ) (a b : Item) → AreKnown t report items lasts → slice_get items i ≡ Some a → slice_get items n ≡ Some b → i ≤ n → a.cycle ≤ b.cycle
+rises : (t : Trace) (report : Report) (items : List Item) (lasts : List ℕ) (i n : ℕ) (a b : Item) → AreKnownItems t report items lasts → slice_get items i ≡ Some a → slice_get items n ≡ Some b → i ≤ n → a.cycle ≤ b.cycle
 rises t report items lasts i n a b known ia nb le = cycles-rise t i n a b (asked-at t report items i a known.answers ia) (asked-at t report items n b known.answers nb) le
 
 -- ---- what an item holds
 
-pub sat-held : (t : Trace) (report : Report) (items : List Item) (lasts : List ℕ) (n life k : ℕ) (item : Item) → AreKnown t report items lasts → slice_get items n ≡ Some item → IsSatFrom items lasts n life k item.cycle
+pub sat-held : (t : Trace) (report : Report) (items : List Item) (lasts : List ℕ) (n life k : ℕ) (item : Item) → AreKnownItems t report items lasts → slice_get items n ≡ Some item → IsSatFrom items lasts n life k item.cycle
     → IsHeld (marked_by t) (objects_of items) item.cycle n life k
 sat-held t report items lasts n life k item known at sat =
     let lt = sat.before in
@@ -58,7 +58,7 @@ sat-held t report items lasts n life k item known at sat =
       },
     )
 
-pub held-sat : (t : Trace) (report : Report) (items : List Item) (lasts : List ℕ) (n life k : ℕ) (item : Item) → AreKnown t report items lasts → slice_get items n ≡ Some item → IsHeld (marked_by t) (objects_of items) item.cycle n life k
+pub held-sat : (t : Trace) (report : Report) (items : List Item) (lasts : List ℕ) (n life k : ℕ) (item : Item) → AreKnownItems t report items lasts → slice_get items n ≡ Some item → IsHeld (marked_by t) (objects_of items) item.cycle n life k
     → IsSatFrom items lasts n life k item.cycle
 held-sat t report items lasts n life k item known at held =
     let x = item-of items held.0 held.1 in
@@ -84,7 +84,7 @@ held-sat t report items lasts n life k item known at held =
     ]
 
 -- two small items of one span class have as many slots
-count-same : (t : Trace) (report : Report) (items : List Item) (lasts : List ℕ) (i n : ℕ) (a b : Item) → AreKnown t report items lasts → slice_get items i ≡ Some a → slice_get items n ≡ Some b → IsSmallItem a → IsSmallItem b → a.class ≡ b.class
+count-same : (t : Trace) (report : Report) (items : List Item) (lasts : List ℕ) (i n : ℕ) (a b : Item) → AreKnownItems t report items lasts → slice_get items i ≡ Some a → slice_get items n ≡ Some b → IsSmallItem a → IsSmallItem b → a.class ≡ b.class
     → a.count ≡ b.count
 count-same t report items lasts i n a b known ia nb sa sb e =
     let pa = placed-item t report items lasts i a known ia sa.0 in
@@ -106,7 +106,7 @@ next-some (Some its) cycle j lt = elim (cases_Bool (eqb its.cycle cycle)) [
   | inr off ↦ absurd (let l : j < 0 = rw off at lt in omega arith)
 ]
 
-pub in-place : (t : Trace) (report : Report) (items : List Item) (lasts : List ℕ) (n : ℕ) (item : Item) (filling : Filling) → AreKnown t report items lasts → slice_get items n ≡ Some item → IsSmallItem item
+pub in-place : (t : Trace) (report : Report) (items : List Item) (lasts : List ℕ) (n : ℕ) (item : Item) (filling : Filling) → AreKnownItems t report items lasts → slice_get items n ≡ Some item → IsSmallItem item
     → AreTops items lasts n filling.tops → AreFills items lasts n filling → AreNewest items lasts n filling → IsFitting filling item → IsInPlace items lasts n item
 in-place t report items lasts n item filling known at small tops fills newest fits = record {
   one = λ i a lt ia sa cycle life. (
@@ -129,9 +129,9 @@ in-place t report items lasts n item filling known at small tops fills newest fi
   left = λ i a lt ia sa cycle proc class life j inside. (
       let e = newest.each i a lt ia sa in
       let its = e.0 in
-      let place : place_of a.proc a.class ≡ place_of item.proc item.class = ap (λ (p : ℕ). place_of p a.class) proc ∙ ap (λ (k : ℕ). place_of item.proc k) class in
-      let here : newest_at filling (place_of item.proc item.class) ≡ Some its = subst (λ (k : ℕ). newest_at filling k ≡ Some its) place e.1 in
-      let s = newest.some (place_of item.proc item.class) its here in
+      let place : place_of_class a.proc a.class ≡ place_of_class item.proc item.class = ap (λ (p : ℕ). place_of_class p a.class) proc ∙ ap (λ (k : ℕ). place_of_class item.proc k) class in
+      let here : newest_at filling (place_of_class item.proc item.class) ≡ Some its = subst (λ (k : ℕ). newest_at filling k ≡ Some its) place e.1 in
+      let s = newest.some (place_of_class item.proc item.class) its here in
       let less = s.2 in
       let order = rises t report items lasts s.0 n s.1 item known s.3 at (omega arith) in
       let cycle' = s.6 in
@@ -148,19 +148,19 @@ in-place t report items lasts n item filling known at small tops fills newest fi
 }
 
 -- an index that is free isn't held
-not-held : (t : Trace) (report : Report) (items : List Item) (lasts : List ℕ) (n life j : ℕ) (item : Item) (tops : Tops) → AreKnown t report items lasts → slice_get items n ≡ Some item → AreTops items lasts n tops → top_at tops life j ≤ item.cycle
+not-held : (t : Trace) (report : Report) (items : List Item) (lasts : List ℕ) (n life j : ℕ) (item : Item) (tops : Tops) → AreKnownItems t report items lasts → slice_get items n ≡ Some item → AreTops items lasts n tops → top_at tops life j ≤ item.cycle
     → ¬ IsHeld (marked_by t) (objects_of items) item.cycle n life j
 not-held t report items lasts n life j item tops known at are le held =
     let above = (are life j item.cycle).1 (held-sat t report items lasts n life j item known at held) in
     omega arith
 
-places-same : (p q k l : ℕ) → k < 136 → l < 136 → place_of p k ≡ place_of q l → (p ≡ q) × (k ≡ l)
+places-same : (p q k l : ℕ) → k < 136 → l < 136 → place_of_class p k ≡ place_of_class q l → (p ≡ q) × (k ≡ l)
 places-same p q k l kl ll e = elim (cases_order p q) [
   | inl same ↦ (same, omega arith)
   | inr order ↦ elim order [ inl lt ↦ absurd (omega arith) | inr gt ↦ absurd (omega arith) ]
 ]
 
-pub misplaced : (t : Trace) (report : Report) (items : List Item) (lasts : List ℕ) (n : ℕ) (item : Item) (filling : Filling) → AreKnown t report items lasts → slice_get items n ≡ Some item → IsSmallItem item
+pub misplaced : (t : Trace) (report : Report) (items : List Item) (lasts : List ℕ) (n : ℕ) (item : Item) (filling : Filling) → AreKnownItems t report items lasts → slice_get items n ≡ Some item → IsSmallItem item
     → AreTops items lasts n filling.tops → AreFills items lasts n filling → AreNewest items lasts n filling → IsUnfitting filling item → IsMisplaced (marked_by t) (objects_of items) (object_of n item)
 misplaced t report items lasts n item filling known at small tops fills newest un = elim un [
   | inl others ↦ (
@@ -178,7 +178,7 @@ misplaced t report items lasts n item filling known at small tops fills newest u
     | inl free ↦ inr (inl (free.0, record { below = free.2; free = not-held t report items lasts n item.life free.0 item filling.tops known at tops free.3 }))
     | inr left ↦ (
         let is = left.1 in
-        let s = newest.some (place_of item.proc item.class) is.its is.is in
+        let s = newest.some (place_of_class item.proc item.class) is.its is.is in
         let pa = placed-item t report items lasts s.0 s.1 known s.3 s.4.0 in
         let pb = placed-item t report items lasts n item known at small.0 in
         let same = places-same s.1.proc item.proc s.1.class item.class pa.class pb.class s.5 in
@@ -230,13 +230,13 @@ fill-here old new item lives lt e = ap (λ (xs : List (Option Fill)). get_or xs 
 fill-other : (old new : Filling) (item : Item) (life : ℕ) → life ≢ item.life → new.fills.items ≡ set old.fills.items item.life (Some (filled_by (fill_at old item.life) item)) → fill_at new life ≡ fill_at old life
 fill-other old new item life ne e = ap (λ (xs : List (Option Fill)). get_or xs life None) e ∙ get_or-set_other old.fills.items item.life life (Some (filled_by (fill_at old item.life) item)) None ne
 
-newest-here : (old new : Filling) (item : Item) → place_of item.proc item.class < length old.newest.items → new.newest.items ≡ set old.newest.items (place_of item.proc item.class) (Some (newest_by item)) → newest_at new (place_of item.proc item.class) ≡ Some (newest_by item)
-newest-here old new item lt e = ap (λ (xs : List (Option Newest)). get_or xs (place_of item.proc item.class) None) e ∙ get_or-set_same old.newest.items (place_of item.proc item.class) (Some (newest_by item)) None lt
+newest-here : (old new : Filling) (item : Item) → place_of_class item.proc item.class < length old.newest.items → new.newest.items ≡ set old.newest.items (place_of_class item.proc item.class) (Some (newest_by item)) → newest_at new (place_of_class item.proc item.class) ≡ Some (newest_by item)
+newest-here old new item lt e = ap (λ (xs : List (Option Newest)). get_or xs (place_of_class item.proc item.class) None) e ∙ get_or-set_same old.newest.items (place_of_class item.proc item.class) (Some (newest_by item)) None lt
 
-newest-other : (old new : Filling) (item : Item) (place : ℕ) → place ≢ place_of item.proc item.class → new.newest.items ≡ set old.newest.items (place_of item.proc item.class) (Some (newest_by item)) → newest_at new place ≡ newest_at old place
-newest-other old new item place ne e = ap (λ (xs : List (Option Newest)). get_or xs place None) e ∙ get_or-set_other old.newest.items (place_of item.proc item.class) place (Some (newest_by item)) None ne
+newest-other : (old new : Filling) (item : Item) (place : ℕ) → place ≢ place_of_class item.proc item.class → new.newest.items ≡ set old.newest.items (place_of_class item.proc item.class) (Some (newest_by item)) → newest_at new place ≡ newest_at old place
+newest-other old new item place ne e = ap (λ (xs : List (Option Newest)). get_or xs place None) e ∙ get_or-set_other old.newest.items (place_of_class item.proc item.class) place (Some (newest_by item)) None ne
 
-pub fills-more : (t : Trace) (report : Report) (items : List Item) (lasts : List ℕ) (n : ℕ) (item : Item) (old new : Filling) → AreKnown t report items lasts → slice_get items n ≡ Some item → IsSmallItem item → item.life < length old.fills.items
+pub fills-more : (t : Trace) (report : Report) (items : List Item) (lasts : List ℕ) (n : ℕ) (item : Item) (old new : Filling) → AreKnownItems t report items lasts → slice_get items n ≡ Some item → IsSmallItem item → item.life < length old.fills.items
     → IsInPlace items lasts n item → new.fills.items ≡ set old.fills.items item.life (Some (filled_by (fill_at old item.life) item)) → AreFills items lasts n old → AreFills items lasts (n + 1) new
 fills-more t report items lasts n item old new known at small room place e are = record {
   held = λ life j fill is lt. elim (cases_eq life item.life) [
@@ -282,26 +282,26 @@ fills-more t report items lasts n item old new known at small room place e are =
   ];
 }
 
-pub newest-more : (t : Trace) (report : Report) (items : List Item) (lasts : List ℕ) (n : ℕ) (item : Item) (old new : Filling) → AreKnown t report items lasts → slice_get items n ≡ Some item → IsSmallItem item
-    → place_of item.proc item.class < length old.newest.items → IsInPlace items lasts n item → new.newest.items ≡ set old.newest.items (place_of item.proc item.class) (Some (newest_by item)) → AreNewest items lasts n old → AreNewest items lasts (n + 1) new
+pub newest-more : (t : Trace) (report : Report) (items : List Item) (lasts : List ℕ) (n : ℕ) (item : Item) (old new : Filling) → AreKnownItems t report items lasts → slice_get items n ≡ Some item → IsSmallItem item
+    → place_of_class item.proc item.class < length old.newest.items → IsInPlace items lasts n item → new.newest.items ≡ set old.newest.items (place_of_class item.proc item.class) (Some (newest_by item)) → AreNewest items lasts n old → AreNewest items lasts (n + 1) new
 newest-more t report items lasts n item old new known at small room in-place e are = record {
-  some = λ place its is. elim (cases_eq place (place_of item.proc item.class)) [
+  some = λ place its is. elim (cases_eq place (place_of_class item.proc item.class)) [
     | inr other ↦ (let s = are.some place its (sym (newest-other old new item place other e) ∙ is) in let lt = s.2 in (s.0, s.1, omega arith, s.3, s.4, s.5, s.6, s.7))
     | inl same ↦ (
-        let here : newest_at new (place_of item.proc item.class) ≡ Some its = subst (λ (k : ℕ). newest_at new k ≡ Some its) same is in
+        let here : newest_at new (place_of_class item.proc item.class) ≡ Some its = subst (λ (k : ℕ). newest_at new k ≡ Some its) same is in
         let eq : newest_by item ≡ its = some-same (sym (newest-here old new item room e) ∙ here) in
         (n, item, omega arith, at, small, sym same, ap (λ (x : Newest). x.cycle) eq, ap (λ (x : Newest). x.life) eq))
   ];
   each = λ i a lt ia sa. elim (item-cases items i n a item lt ia at) [
     | inr new' ↦ (
-        let place : place_of a.proc a.class ≡ place_of item.proc item.class = ap (λ (x : Item). place_of x.proc x.class) new'.1 in
+        let place : place_of_class a.proc a.class ≡ place_of_class item.proc item.class = ap (λ (x : Item). place_of_class x.proc x.class) new'.1 in
         let cycle = ap (λ (x : Item). x.cycle) new'.1 in
         (newest_by item, subst (λ (k : ℕ). newest_at new k ≡ Some (newest_by item)) (sym place) (newest-here old new item room e), omega arith, λ same. inl (ap (λ (x : Item). x.life) new'.1)))
-    | inl before ↦ elim (cases_eq (place_of a.proc a.class) (place_of item.proc item.class)) [
+    | inl before ↦ elim (cases_eq (place_of_class a.proc a.class) (place_of_class item.proc item.class)) [
       | inr other ↦ (
           let s = are.each i a before ia sa in (
             s.0,
-            newest-other old new item (place_of a.proc a.class) other e ∙ s.1,
+            newest-other old new item (place_of_class a.proc a.class) other e ∙ s.1,
             s.2,
             λ cycle. elim (s.3 cycle) [
               | inl life ↦ inl life
@@ -345,7 +345,7 @@ newest-same items lasts n item old new at off e are = record {
     | inl before ↦ (
         let s = are.each i a before ia sa in (
           s.0,
-          same (place_of a.proc a.class) ∙ s.1,
+          same (place_of_class a.proc a.class) ∙ s.1,
           s.2,
           λ cycle. elim (s.3 cycle) [
             | inl life ↦ inl life
@@ -378,7 +378,7 @@ small-item : (o : Object) (n : ℕ) (item : Item) → o ≡ object_of n item →
 small-item o n item e small = subst (λ (x : Object). IsSmall x) e small
 
 -- an item in its place isn't misplaced
-not-misplaced : (t : Trace) (report : Report) (items : List Item) (lasts : List ℕ) (n : ℕ) (item : Item) → AreKnown t report items lasts → slice_get items n ≡ Some item → IsInPlace items lasts n item
+not-misplaced : (t : Trace) (report : Report) (items : List Item) (lasts : List ℕ) (n : ℕ) (item : Item) → AreKnownItems t report items lasts → slice_get items n ≡ Some item → IsInPlace items lasts n item
     → ¬ IsMisplaced (marked_by t) (objects_of items) (object_of n item)
 not-misplaced t report items lasts n item known at is wrong = elim wrong [
   | inl two ↦ (
@@ -403,7 +403,7 @@ not-misplaced t report items lasts n item known at is wrong = elim wrong [
   ]
 ]
 
-pub filled-fault : (t : Trace) (report : Report) (items : List Item) (lasts : List ℕ) (n : ℕ) (item : Item) (filling : Filling) → AreKnown t report items lasts → slice_get items n ≡ Some item → IsSmallItem item
+pub filled-fault : (t : Trace) (report : Report) (items : List Item) (lasts : List ℕ) (n : ℕ) (item : Item) (filling : Filling) → AreKnownItems t report items lasts → slice_get items n ≡ Some item → IsSmallItem item
     → AreTops items lasts n filling.tops → AreFills items lasts n filling → AreNewest items lasts n filling → AreInPlace items lasts n → IsUnfitting filling item
     → IsLeast (BreaksFilling (marked_by t) (objects_of items)) (n + 1)
 filled-fault t report items lasts n item filling known at small tops fills newest are un = record {
@@ -416,7 +416,7 @@ filled-fault t report items lasts n item filling known at small tops fills newes
       not-misplaced t report items lasts x.number x.item known x.at is (subst (λ (o : Object). IsMisplaced (marked_by t) (objects_of items) o) x.is b.wrong));
 }
 
-pub filled-all : (t : Trace) (report : Report) (items : List Item) (lasts : List ℕ) (n : ℕ) → AreKnown t report items lasts → length items ≤ n → AreInPlace items lasts n → AreFilled (marked_by t) (objects_of items)
+pub filled-all : (t : Trace) (report : Report) (items : List Item) (lasts : List ℕ) (n : ℕ) → AreKnownItems t report items lasts → length items ≤ n → AreInPlace items lasts n → AreFilled (marked_by t) (objects_of items)
 filled-all t report items lasts n known all are = record {
   one_processor = λ a b ia ib sa sb cycle life. (
       let x = item-of items a ia in
@@ -464,7 +464,7 @@ filled-all t report items lasts n known all are = record {
 }
 
 -- the room stays as it is
-pub room-more : (old new : Filling) (item : Item) (last lives places : ℕ) → IsTakenUp old new item last → HasRoom old lives places → HasRoom new lives places
+pub room-more : (old new : Filling) (item : Item) (last lives places : ℕ) → IsTakenUp old new item last → HasFillingRoom old lives places → HasFillingRoom new lives places
 room-more old new item last lives places taken room = elim (cases_lt item.class 2) [
   | inl large ↦ (
       let same = taken.large large in
@@ -472,7 +472,7 @@ room-more old new item last lives places taken room = elim (cases_lt item.class 
   | inr small ↦ record {
     tops = taken.tops.lives ∙ room.tops;
     fills = ap (λ (xs : List (Option Fill)). length xs) (taken.fills small) ∙ (length-set old.fills.items item.life (Some (filled_by (fill_at old item.life) item)) ∙ room.fills);
-    newest = ap (λ (xs : List (Option Newest)). length xs) (taken.newest small) ∙ (length-set old.newest.items (place_of item.proc item.class) (Some (newest_by item)) ∙ room.newest);
+    newest = ap (λ (xs : List (Option Newest)). length xs) (taken.newest small) ∙ (length-set old.newest.items (place_of_class item.proc item.class) (Some (newest_by item)) ∙ room.newest);
   }
 ]
 
@@ -483,8 +483,8 @@ pub record AreFilledTo (items : List Item) (lasts : List ℕ) (n : ℕ) (filling
   pub newest : AreNewest items lasts n filling
   pub placed : AreInPlace items lasts n
 
-pub filled-more : (t : Trace) (report : Report) (items : List Item) (lasts : List ℕ) (n places : ℕ) (item : Item) (old new : Filling) → AreKnown t report items lasts → slice_get items n ≡ Some item → is_placed item.answer ≡ true
-    → HasRoom old (length report.journal) places → place_of item.proc item.class < places → (2 ≤ item.class → IsFitting old item) → IsTakenUp old new item (last_at lasts n) → AreFilledTo items lasts n old → AreFilledTo items lasts (n + 1) new
+pub filled-more : (t : Trace) (report : Report) (items : List Item) (lasts : List ℕ) (n places : ℕ) (item : Item) (old new : Filling) → AreKnownItems t report items lasts → slice_get items n ≡ Some item → is_placed item.answer ≡ true
+    → HasFillingRoom old (length report.journal) places → place_of_class item.proc item.class < places → (2 ≤ item.class → IsFitting old item) → IsTakenUp old new item (last_at lasts n) → AreFilledTo items lasts n old → AreFilledTo items lasts (n + 1) new
 filled-more t report items lasts n places item old new known at placed room inside fits taken are = elim (cases_lt item.class 2) [
   | inl large ↦ (
       let same = taken.large large in

@@ -21,7 +21,7 @@ use Rattle.report_check.specs.declared.cycle_lives.Opened.{Opened}
 use Rattle.report_check.specs.declared.ledger.Alive.{Alive}
 use Rattle.report_check.specs.Items.{object_of, objects_of}
 use Rattle.report_check.specs.Lasts.{last_at}
-use Rattle.report_check.specs.Known.{AreKnown}
+use Rattle.report_check.specs.Known.{AreKnownItems}
 use Rattle.report_check.specs.Tallies.{CountsAlive, alive_of, is_freed, is_kept}
 use Rattle.report_check.specs.Ledgers.{AddsItems, AreUsed, AscendTo, IsOpenTo, added, used_at}
 use Rattle.report_check.proofs.Numbered.{item-of, object-in}
@@ -55,7 +55,7 @@ pub open-later : (t : Trace) (report : Report) (c d : ℕ) (opened : Opened) →
 open-later t report c d opened le is = record { inside = is.inside; by = by-on c d (past_of (take opened.read report.journal)) le is.by; lives = is.lives }
 
 -- an item of the first cycles
-front-cycle : (t : Trace) (report : Report) (items : List Item) (lasts : List ℕ) (i c : ℕ) (item : Item) → AreKnown t report items lasts → slice_get items i ≡ Some item → i < objects_before t (c + 1) → item.cycle ≤ c
+front-cycle : (t : Trace) (report : Report) (items : List Item) (lasts : List ℕ) (i c : ℕ) (item : Item) → AreKnownItems t report items lasts → slice_get items i ≡ Some item → i < objects_before t (c + 1) → item.cycle ≤ c
 front-cycle t report items lasts i c item known at lt =
     let asked = asked-at t report items i item known.answers at in
     let low = asked.low in
@@ -65,7 +65,7 @@ front-cycle t report items lasts i c item known at lt =
     ]
 
 -- an item behind the first cycles
-back-cycle : (t : Trace) (report : Report) (items : List Item) (lasts : List ℕ) (i c : ℕ) (item : Item) → AreKnown t report items lasts → slice_get items i ≡ Some item → objects_before t c ≤ i → c ≤ item.cycle
+back-cycle : (t : Trace) (report : Report) (items : List Item) (lasts : List ℕ) (i c : ℕ) (item : Item) → AreKnownItems t report items lasts → slice_get items i ≡ Some item → objects_before t c ≤ i → c ≤ item.cycle
 back-cycle t report items lasts i c item known at le =
     let asked = asked-at t report items i item known.answers at in
     let high = asked.high in
@@ -74,14 +74,14 @@ back-cycle t report items lasts i c item known at le =
       | inr ge ↦ ge
     ]
 
-pub ascends : (t : Trace) (report : Report) (items : List Item) (lasts : List ℕ) (n : ℕ) → AreKnown t report items lasts → AscendTo items n
+pub ascends : (t : Trace) (report : Report) (items : List Item) (lasts : List ℕ) (n : ℕ) → AreKnownItems t report items lasts → AscendTo items n
 ascends t report items lasts n known i j a b le lt ia jb = cycles-rise t i j a b (asked-at t report items i a known.answers ia) (asked-at t report items j b known.answers jb) le
 
-pub items-inside : (t : Trace) (report : Report) (items : List Item) (lasts : List ℕ) (c : ℕ) → AreKnown t report items lasts → objects_before t c ≤ length items
+pub items-inside : (t : Trace) (report : Report) (items : List Item) (lasts : List ℕ) (c : ℕ) → AreKnownItems t report items lasts → objects_before t c ≤ length items
 items-inside t report items lasts c known = (let a = count-items t report items known.answers in let b = before-le t c in omega arith)
 
 -- what an object's living in a cycle says, as a test of its item
-front-live : (t : Trace) (report : Report) (items : List Item) (lasts : List ℕ) (i c : ℕ) (item : Item) → AreKnown t report items lasts → slice_get items i ≡ Some item → item.cycle ≤ c
+front-live : (t : Trace) (report : Report) (items : List Item) (lasts : List ℕ) (i c : ℕ) (item : Item) → AreKnownItems t report items lasts → slice_get items i ≡ Some item → item.cycle ≤ c
     → live (marked_by t) c (object_of i item) ≡ (is_placed item.answer && leb c (last_at lasts i))
 front-live t report items lasts i c item known at le = bool-same (live (marked_by t) c (object_of i item)) (is_placed item.answer && leb c (last_at lasts i))
     (λ alive. (
@@ -95,7 +95,7 @@ front-live t report items lasts i c item known at le = bool-same (live (marked_b
 -- ---- the objects that live
 
 -- an object of the cycle comes
-new-live : (t : Trace) (report : Report) (items : List Item) (lasts : List ℕ) (c n : ℕ) (item : Item) (test : Alive → Bool) → AreKnown t report items lasts → slice_get items n ≡ Some item → item.cycle ≡ c
+new-live : (t : Trace) (report : Report) (items : List Item) (lasts : List ℕ) (c n : ℕ) (item : Item) (test : Alive → Bool) → AreKnownItems t report items lasts → slice_get items n ≡ Some item → item.cycle ≡ c
     → (live (marked_by t) c (object_of n item) && test (alive_of lasts (object_of n item))) ≡ (is_placed item.answer && test (alive_of lasts (object_of n item)))
 new-live t report items lasts c n item test known at own =
     let own' = known.until.own n item at in
@@ -112,7 +112,7 @@ abbrev Living : Trace → List ℕ → ℕ → (Alive → Bool) → Object → B
 Living t lasts c test o = live (marked_by t) c o && test (alive_of lasts o)
 
 -- the items of the cycle are counted besides those before
-living-more : (t : Trace) (report : Report) (items : List Item) (lasts : List ℕ) (c m k : ℕ) (test : Alive → Bool) → AreKnown t report items lasts → m + k ≤ length items → m ≡ objects_before t c → m + k ≤ objects_before t (c + 1)
+living-more : (t : Trace) (report : Report) (items : List Item) (lasts : List ℕ) (c m k : ℕ) (test : Alive → Bool) → AreKnownItems t report items lasts → m + k ≤ length items → m ≡ objects_before t c → m + k ≤ objects_before t (c + 1)
     → count (Living t lasts c test) (objects_of (take (m + k) items)) ≡ count (Living t lasts c test) (objects_of (take m items)) + added items lasts m (m + k) test
 living-more t report items lasts c m zero test known room first high =
     let e : m + 0 ≡ m = omega arith in
@@ -137,7 +137,7 @@ living-more t report items lasts c m (suc k) test known room first high =
     none : Item
     none = record { proc = 0; cycle = 0; class = 0; pages = 0; slot = 0; count = 0; answer = Rattle.cycle_history.specs.declared.Answer.TheVariants.Zero; life = 0; index = 0 }
 
-    one-more : (t : Trace) (report : Report) (items : List Item) (lasts : List ℕ) (c m n : ℕ) (test : Alive → Bool) → AreKnown t report items lasts → n < length items → m ≤ n → m ≡ objects_before t c → n < objects_before t (c + 1)
+    one-more : (t : Trace) (report : Report) (items : List Item) (lasts : List ℕ) (c m n : ℕ) (test : Alive → Bool) → AreKnownItems t report items lasts → n < length items → m ≤ n → m ≡ objects_before t c → n < objects_before t (c + 1)
         → count (Living t lasts c test) (objects_of (take (n + 1) items)) + added items lasts m n test ≡ count (Living t lasts c test) (objects_of (take n items)) + added items lasts m (n + 1) test
     one-more t report items lasts c m n test known inside le first high =
         let item = get_or items n none in
@@ -152,7 +152,7 @@ living-more t report items lasts c m (suc k) test known room first high =
         omega arith
 
 -- those that the mark end of the next cycle marks live in it
-living-next : (t : Trace) (report : Report) (items : List Item) (lasts : List ℕ) (c : ℕ) (test : Alive → Bool) → AreKnown t report items lasts
+living-next : (t : Trace) (report : Report) (items : List Item) (lasts : List ℕ) (c : ℕ) (test : Alive → Bool) → AreKnownItems t report items lasts
     → count (λ (o : Object). live (marked_by t) c o && (leb (c + 1) (last_at lasts o.id) && test (alive_of lasts o))) (objects_of (take (objects_before t (c + 1)) items)) ≡ count (Living t lasts (c + 1) test) (objects_of (take (objects_before t (c + 1)) items))
 living-next t report items lasts c test known = count-same (λ (o : Object). live (marked_by t) c o && (leb (c + 1) (last_at lasts o.id) && test (alive_of lasts o))) (Living t lasts (c + 1) test) (objects_of (take (objects_before t (c + 1)) items))
     (λ o among. (
@@ -176,7 +176,7 @@ living-next t report items lasts c test known = count-same (λ (o : Object). liv
         and-off true = refl
         and-off false = refl
 
-pub alive-first : (t : Trace) (report : Report) (items : List Item) (lasts : List ℕ) (n : ℕ) (alive : List Alive) (used used' : List ℕ) → AreKnown t report items lasts → n ≡ objects_before t 1 → AddsItems items lasts 0 n [] alive used used' → CountsAlive t items lasts 0 n alive
+pub alive-first : (t : Trace) (report : Report) (items : List Item) (lasts : List ℕ) (n : ℕ) (alive : List Alive) (used used' : List ℕ) → AreKnownItems t report items lasts → n ≡ objects_before t 1 → AddsItems items lasts 0 n [] alive used used' → CountsAlive t items lasts 0 n alive
 alive-first t report items lasts n alive used used' known first adds test =
     let room = items-inside t report items lasts 1 known in
     let e = living-more t report items lasts 0 0 n test known (omega arith) refl (omega arith) in
@@ -187,7 +187,7 @@ alive-first t report items lasts n alive used used' known first adds test =
     let c = adds.counts test in
     omega arith
 
-pub alive-next : (t : Trace) (report : Report) (items : List Item) (lasts : List ℕ) (c m n : ℕ) (old kept new : List Alive) (used used' : List ℕ) → AreKnown t report items lasts → m ≡ objects_before t (c + 1) → n ≡ objects_before t (c + 2)
+pub alive-next : (t : Trace) (report : Report) (items : List Item) (lasts : List ℕ) (c m n : ℕ) (old kept new : List Alive) (used used' : List ℕ) → AreKnownItems t report items lasts → m ≡ objects_before t (c + 1) → n ≡ objects_before t (c + 2)
     → CountsAlive t items lasts c m old → ((test : Alive → Bool) → count test kept ≡ count (λ (a : Alive). leb (c + 1) a.last && test a) old) → AddsItems items lasts m n kept new used used' → CountsAlive t items lasts (c + 1) n new
 alive-next t report items lasts c m n old kept new used used' known first last counts survive adds test =
     let room = items-inside t report items lasts (c + 2) known in
@@ -209,7 +209,7 @@ alive-next t report items lasts c m n old kept new used used' known first last c
 
 -- ---- what the mark end keeps and frees
 
-pub kept-counted : (t : Trace) (report : Report) (items : List Item) (lasts : List ℕ) (c m life : ℕ) (alive : List Alive) → AreKnown t report items lasts → m ≡ objects_before t (c + 1) → CountsAlive t items lasts c m alive
+pub kept-counted : (t : Trace) (report : Report) (items : List Item) (lasts : List ℕ) (c m life : ℕ) (alive : List Alive) → AreKnownItems t report items lasts → m ≡ objects_before t (c + 1) → CountsAlive t items lasts c m alive
     → count (is_kept (c + 1) life) alive ≡ kept (marked_by t) (objects_of items) (c + 1) life
 kept-counted t report items lasts c m life alive known first counts =
     let room = items-inside t report items lasts (c + 1) known in
@@ -255,7 +255,7 @@ kept-counted t report items lasts c m life alive known first counts =
         and-off true = refl
         and-off false = refl
 
-pub freed-counted : (t : Trace) (report : Report) (items : List Item) (lasts : List ℕ) (c m life : ℕ) (alive : List Alive) → AreKnown t report items lasts → m ≡ objects_before t (c + 1) → CountsAlive t items lasts c m alive
+pub freed-counted : (t : Trace) (report : Report) (items : List Item) (lasts : List ℕ) (c m life : ℕ) (alive : List Alive) → AreKnownItems t report items lasts → m ≡ objects_before t (c + 1) → CountsAlive t items lasts c m alive
     → count (is_freed (c + 1) life) alive ≡ freed (marked_by t) (objects_of items) (c + 1) life
 freed-counted t report items lasts c m life alive known first counts =
     let room = items-inside t report items lasts (c + 1) known in
@@ -291,7 +291,7 @@ freed-counted t report items lasts c m life alive known first counts =
     turned false false d = refl
 
 -- a life is used again where an object of the cycle is placed in it
-pub used-again : (t : Trace) (report : Report) (items : List Item) (lasts : List ℕ) (c n : ℕ) (life : Life) (used : List ℕ) → AreKnown t report items lasts → 1 ≤ c → n ≡ objects_before t (c + 1) → life.number < length used → AreUsed items n used
+pub used-again : (t : Trace) (report : Report) (items : List Item) (lasts : List ℕ) (c n : ℕ) (life : Life) (used : List ℕ) → AreKnownItems t report items lasts → 1 ≤ c → n ≡ objects_before t (c + 1) → life.number < length used → AreUsed items n used
     → (used_at used life.number ≡ c) ↔ IsUsedAgain (objects_of items) c life
 used-again t report items lasts c n life used known some last inside are = (
   λ e. (

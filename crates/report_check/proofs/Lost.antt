@@ -13,7 +13,7 @@ use Rattle.cycle_history.specs.Requests.{is_within}
 use Rattle.report_check.specs.declared.items.Item.{Item}
 use Rattle.report_check.specs.declared.lives.OpenLife.{OpenLife}
 use Rattle.report_check.specs.Lives.{HasLife, HasNumber}
-use Rattle.report_check.specs.Seats.{AllHaveLives, AllKept, IsFirstLost, IsKept, IsLost}
+use Rattle.report_check.specs.Seats.{AllHaveLives, AllKept, IsFirstLost, KeepsLife, IsLost}
 
 abbrev pub Range : ℕ → ℕ → ℕ → Type 0
 Range low high i = (low ≤ i) × (i < high)
@@ -33,7 +33,7 @@ range-lost lives items low high bound n address d lt room from to has placed gon
       kept = λ i item less named at' is'. kept i item (omega arith) (named.0, less) at' is';
     }
 
-pub range-more : (lives : List (Option OpenLife)) (items : List Item) (low bound n : ℕ) (d : Item) → n < length items → (is_placed (get_or items n d).answer ≡ true → IsKept lives (get_or items n d))
+pub range-more : (lives : List (Option OpenLife)) (items : List Item) (low bound n : ℕ) (d : Item) → n < length items → (is_placed (get_or items n d).answer ≡ true → KeepsLife lives (get_or items n d))
     → AllKept lives (Range low n) items bound → AllKept lives (Range low (n + 1)) items bound
 range-more lives items low bound n d inside here kept i item less named at is = elim (cases_eq i n) [
   | inl same ↦ (
@@ -41,7 +41,7 @@ range-more lives items low bound n d inside here kept i item less named at is = 
       let at' : slice_get items n ≡ Some item = subst (λ (k : ℕ). slice_get items k ≡ Some item) same at in
       let e : get_or items n d ≡ item = cc in
       let f : is_placed (get_or items n d).answer ≡ true = subst (λ (x : Item). is_placed x.answer ≡ true) (sym e) is in
-      subst (λ (x : Item). IsKept lives x) e (here f))
+      subst (λ (x : Item). KeepsLife lives x) e (here f))
   | inr other ↦ (let to = named.1 in kept i item less (named.0, omega arith) at is)
 ]
 

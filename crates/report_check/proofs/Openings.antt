@@ -14,7 +14,7 @@ use Rattle.cycle_history.specs.declared.Answer.TheVariants.{Placed}
 use Rattle.cycle_history.specs.Objects.{Object, Sits, start_of}
 use Rattle.report_check.specs.declared.lives.OpenLife.{OpenLife}
 use Rattle.report_check.specs.declared.lives.Seat.{Seat}
-use Rattle.report_check.specs.Lives.{entry_of, Holds, AreAtPages, AreLives, IsSeatAt, NoSeatAt}
+use Rattle.report_check.specs.Lives.{entry_of, HoldsLife, AreAtPages, AreLives, IsSeatAt, NoSeatAt}
 
 abbrev life_in : OpenLife → Life
 life_in entry = life_of entry.number entry.cycle entry.page entry.pages entry.class
@@ -84,18 +84,18 @@ lives-made procs region goal past lives line cycle page pages class are makes lt
     apart : AllApart (λ (a b : Life). a.page ≢ b.page) (born ∷ open_lives past)
     apart = subst (AllApart (λ (a b : Life). a.page ≢ b.page)) makes (pages-apart-for procs region goal (line ∷ past) legal)
 
-    held : (life : Life) → In life (born ∷ open_lives past) → Holds (set lives page (Some new)) life
+    held : (life : Life) → In life (born ∷ open_lives past) → HoldsLife (set lives page (Some new)) life
     held life i = elim i [
-      | inl is ↦ subst (λ (l : Life). Holds (set lives page (Some new)) l) is here
+      | inl is ↦ subst (λ (l : Life). HoldsLife (set lives page (Some new)) l) is here
       | inr there ↦ (
           let other = apart.0 life there in
           get_or-set_other lives page life.page (Some new) None (λ e. other (sym e)) ∙ (are.all life).0 there)
     ]
 
-    to : (life : Life) → In life (open_lives (line ∷ past)) → Holds (set lives page (Some new)) life
+    to : (life : Life) → In life (open_lives (line ∷ past)) → HoldsLife (set lives page (Some new)) life
     to life i = held life (subst (λ (ls : List Life). In life ls) makes i)
 
-    open-one : (life : Life) → Holds (set lives page (Some new)) life → In life (born ∷ open_lives past)
+    open-one : (life : Life) → HoldsLife (set lives page (Some new)) life → In life (born ∷ open_lives past)
     open-one life holds = elim (cases_eq life.page page) [
       | inl same ↦ (
           let now : get_or (set lives page (Some new)) page None ≡ Some (entry_of life) = subst (λ (n : ℕ). get_or (set lives page (Some new)) n None ≡ Some (entry_of life)) same holds in
@@ -105,7 +105,7 @@ lives-made procs region goal past lives line cycle page pages class are makes lt
       | inr other ↦ inr ((are.all life).1 (sym (get_or-set_other lives page life.page (Some new) None other) ∙ holds))
     ]
 
-    from : (life : Life) → Holds (set lives page (Some new)) life → In life (open_lives (line ∷ past))
+    from : (life : Life) → HoldsLife (set lives page (Some new)) life → In life (open_lives (line ∷ past))
     from life holds = subst (λ (ls : List Life). In life ls) (sym makes) (open-one life holds)
 
 pub lives-take : (procs region goal : ℕ) (past : List Line) (lives : List (Option OpenLife)) (cycle page pages class : ℕ) → AreLives region past lives → LegalFor procs region goal (Take cycle page pages class ∷ past)
@@ -137,10 +137,10 @@ lives-give procs region goal past lives cycle page pages are legal = record {
     here : get_or (set lives page None) page None ≡ None
     here = get_or-set_same lives page None None inside
 
-    to : (life : Life) → In life (others page (open_lives past)) → Holds (set lives page None) life
+    to : (life : Life) → In life (others page (open_lives past)) → HoldsLife (set lives page None) life
     to life i = let f = from_others page (open_lives past) life i in get_or-set_other lives page life.page None None f.1 ∙ (are.all life).0 f.0
 
-    from : (life : Life) → Holds (set lives page None) life → In life (others page (open_lives past))
+    from : (life : Life) → HoldsLife (set lives page None) life → In life (others page (open_lives past))
     from life holds = elim (cases_eq life.page page) [
       | inl same ↦ (
           let now : get_or (set lives page None) page None ≡ Some (entry_of life) = subst (λ (n : ℕ). get_or (set lives page None) n None ≡ Some (entry_of life)) same holds in

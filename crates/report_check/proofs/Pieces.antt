@@ -17,7 +17,7 @@ use Rattle.cycle_history.specs.Sound.{past_in, HasAnswers}
 use Rattle.report_check.specs.declared.items.Item.{Item}
 use Rattle.report_check.specs.declared.piece.Piece.{Piece}
 use Rattle.report_check.specs.Items.{object_of, objects_from, objects_of}
-use Rattle.report_check.specs.Known.{AreKnown}
+use Rattle.report_check.specs.Known.{AreKnownItems}
 use Rattle.report_check.specs.Lasts.{AreLasts, last_at}
 use Rattle.report_check.specs.Pieces.{IsSeen, is_of, left_in, seen, seen_by, unplaced}
 use Rattle.report_check.proofs.Numbered.{item-of, object-in}
@@ -156,7 +156,7 @@ lasts-seen p t items lasts are = record {
       subst (λ (k : ℕ). (marked_by t c i ≡ true) ↔ ((k < c) × (c ≤ last_at lasts i))) (sym e) (are.marked i c w.0 w.1));
 }
 
-pub known-seen : (p : Piece) (t : Trace) (report : Report) (items : List Item) (lasts : List ℕ) → AreKnown t report items lasts → AreKnown t (report_of report (seen_by p items)) (seen_by p items) lasts
+pub known-seen : (p : Piece) (t : Trace) (report : Report) (items : List Item) (lasts : List ℕ) → AreKnownItems t report items lasts → AreKnownItems t (report_of report (seen_by p items)) (seen_by p items) lasts
 known-seen p t report items lasts known = record {
   limited = known.limited;
   answers = answers-seen p t report items known.answers;

@@ -27,9 +27,9 @@ use Rattle.report_check.specs.declared.lives.OpenLife.{OpenLife}
 use Rattle.report_check.specs.declared.ledger.Ledger.{Ledger}
 use Rattle.report_check.specs.Lives.{AreLives, entry_of}
 use Rattle.report_check.specs.Items.{objects_of}
-use Rattle.report_check.specs.Known.{AreKnown}
+use Rattle.report_check.specs.Known.{AreKnownItems}
 use Rattle.report_check.specs.Tallies.{freed_in, kept_in, tally_at}
-use Rattle.report_check.specs.Ledgers.{Tells}
+use Rattle.report_check.specs.Ledgers.{TellsMarkEnd}
 use Rattle.report_check.specs.Sweeping.{AllMayGive, AllSwept, AreRightTo, CanGive, HasNote, IsDisorder, IsFirstWrong, LacksSweep}
 use Rattle.report_check.specs.SaidSweeps.{IsSettledLife, SaysRight}
 use Rattle.report_check.proofs.Settled.{table-has}
@@ -64,7 +64,7 @@ open-entry region past lives life are among = (are.all life).0 among
 -- ---- a sweep that the ledger says is right
 
 -- as far as its counts and its life go
-pub says-right : (t : Trace) (report : Report) (items : List Item) (lasts : List ℕ) (c : ℕ) (ledger : Ledger) (note : SweepNote) → AreKnown t report items lasts → Tells t report (objects_of items) c ledger → 1 ≤ c → c ≤ last_cycle t → note.cycle ≡ c → SaysRight ledger note
+pub says-right : (t : Trace) (report : Report) (items : List Item) (lasts : List ℕ) (c : ℕ) (ledger : Ledger) (note : SweepNote) → AreKnownItems t report items lasts → TellsMarkEnd t report (objects_of items) c ledger → 1 ≤ c → c ≤ last_cycle t → note.cycle ≡ c → SaysRight ledger note
     → IsRightSweep (marked_by t) (last_cycle t) report (objects_of items) note
 says-right t report items lasts c ledger note known tells some last cycle says =
     let k = c - 1 in
@@ -96,7 +96,7 @@ says-right t report items lasts c ledger note known tells some last cycle says =
     }
 
 -- and a right one the ledger says is right
-pub right-says : (t : Trace) (report : Report) (items : List Item) (lasts : List ℕ) (c : ℕ) (ledger : Ledger) (note : SweepNote) → AreKnown t report items lasts → Tells t report (objects_of items) c ledger → 1 ≤ c → note.cycle ≡ c
+pub right-says : (t : Trace) (report : Report) (items : List Item) (lasts : List ℕ) (c : ℕ) (ledger : Ledger) (note : SweepNote) → AreKnownItems t report items lasts → TellsMarkEnd t report (objects_of items) c ledger → 1 ≤ c → note.cycle ≡ c
     → IsRightSweep (marked_by t) (last_cycle t) report (objects_of items) note → SaysRight ledger note
 right-says t report items lasts c ledger note known tells some cycle right =
     let is = right.counts in
@@ -285,7 +285,7 @@ open-back m (line ∷ past) life le among = elim (cases_Bool (leb (cycle_of line
     behind (Drop cycle proc page pages) past life m le off among = among
 
 -- the end of an earlier cycle, by the lines before one
-front-end : (t : Trace) (report : Report) (items : List Item) (lasts : List ℕ) (n m : ℕ) (d : Line) → AreKnown t report items lasts → n < length report.journal → m < cycle_of (get_or report.journal n d) → at_end m (past_in report) ≡ at_end m (past_of (take n report.journal))
+front-end : (t : Trace) (report : Report) (items : List Item) (lasts : List ℕ) (n m : ℕ) (d : Line) → AreKnownItems t report items lasts → n < length report.journal → m < cycle_of (get_or report.journal n d) → at_end m (past_in report) ≡ at_end m (past_of (take n report.journal))
 front-end t report items lasts n m d known lt behind =
     let k = length report.journal - n - 1 in
     let size : (n + k) + 1 ≡ length report.journal = omega arith in
@@ -294,7 +294,7 @@ front-end t report items lasts n m d known lt behind =
     ap (λ (js : List Line). at_end m (past_of js)) (sym whole) ∙ l.1
 
 -- a Give's life kept nothing
-given-empty : (t : Trace) (report : Report) (items : List Item) (lasts : List ℕ) (n cycle page pages : ℕ) (life : Life) → AreKnown t report items lasts → AllMayGive report → AreRightTo t report (objects_of items) (length report.sweeps)
+given-empty : (t : Trace) (report : Report) (items : List Item) (lasts : List ℕ) (n cycle page pages : ℕ) (life : Life) → AreKnownItems t report items lasts → AllMayGive report → AreRightTo t report (objects_of items) (length report.sweeps)
     → slice_get report.journal n ≡ Some (Give cycle page pages) → In life (open_lives (past_of (take n report.journal))) → life.page ≡ page → (life.cycle < cycle) × (kept (marked_by t) (objects_of items) cycle life.number ≡ 0)
 given-empty t report items lasts n cycle page pages life known gives right at among begins =
     let may = gives n cycle page pages at in
@@ -316,7 +316,7 @@ given-empty t report items lasts n cycle page pages life known gives right at am
     )
 
 -- so of all Gives
-gives-front : (t : Trace) (report : Report) (items : List Item) (lasts : List ℕ) (n : ℕ) → AreKnown t report items lasts → AllMayGive report → AreRightTo t report (objects_of items) (length report.sweeps) → n ≤ length report.journal
+gives-front : (t : Trace) (report : Report) (items : List Item) (lasts : List ℕ) (n : ℕ) → AreKnownItems t report items lasts → AllMayGive report → AreRightTo t report (objects_of items) (length report.sweeps) → n ≤ length report.journal
     → GivesWhenEmpty (marked_by t) (objects_of items) (past_of (take n report.journal))
 gives-front t report items lasts zero known gives right le = tt
 gives-front t report items lasts (suc n) known gives right le =
@@ -343,7 +343,7 @@ apart-from R (x ∷ xs) all = (
   apart-from R xs (λ j k a b lt ia kb. all (suc j) (suc k) a b (omega arith) ia kb),
 )
 
-pub swept-all : (t : Trace) (report : Report) (items : List Item) (lasts : List ℕ) → AreKnown t report items lasts → AllMayGive report → AreRightTo t report (objects_of items) (length report.sweeps) → AllSwept t report
+pub swept-all : (t : Trace) (report : Report) (items : List Item) (lasts : List ℕ) → AreKnownItems t report items lasts → AllMayGive report → AreRightTo t report (objects_of items) (length report.sweeps) → AllSwept t report
     → AreSwept (marked_by t) (last_cycle t) (past_in report) (objects_of items) report.sweeps
 swept-all t report items lasts known gives right all = record {
   order = apart-from IsSweepBefore report.sweeps (λ j k a b lt ia kb. right.order j k a b lt (slice_get_within report.sweeps k b kb) ia kb);
@@ -429,7 +429,7 @@ swept-more t report lives cycle are some here before m life lt alive = elim (cas
 ]
 
 -- the sweeps of a cycle are passed
-pub right-more : (t : Trace) (report : Report) (items : List Item) (lasts : List ℕ) (c from to : ℕ) (ledger : Ledger) → AreKnown t report items lasts → Tells t report (objects_of items) c ledger → 1 ≤ c → c ≤ last_cycle t
+pub right-more : (t : Trace) (report : Report) (items : List Item) (lasts : List ℕ) (c from to : ℕ) (ledger : Ledger) → AreKnownItems t report items lasts → TellsMarkEnd t report (objects_of items) c ledger → 1 ≤ c → c ≤ last_cycle t
     → ((k : ℕ) (note : SweepNote) → from ≤ k → k < to → slice_get report.sweeps k ≡ Some note → (note.cycle ≡ c) × SaysRight ledger note)
     → ((k : ℕ) (note : SweepNote) → k < from → slice_get report.sweeps k ≡ Some note → IsRightSweep (marked_by t) (last_cycle t) report (objects_of items) note)
     → (k : ℕ) (note : SweepNote) → k < to → slice_get report.sweeps k ≡ Some note → IsRightSweep (marked_by t) (last_cycle t) report (objects_of items) note

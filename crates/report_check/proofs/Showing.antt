@@ -21,10 +21,10 @@ use Rattle.report_rules.specs.Published.{BreaksProfile, IsDue, IsRightProf, is_o
 use Rattle.report_check.specs.declared.items.Item.{Item}
 use Rattle.report_check.specs.declared.sampled.Sampled.{Sampled}
 use Rattle.report_check.specs.Items.{object_of, objects_of}
-use Rattle.report_check.specs.Known.{AreKnown}
+use Rattle.report_check.specs.Known.{AreKnownItems}
 use Rattle.report_check.specs.Lasts.{last_at}
 use Rattle.report_check.specs.Order.{place_of}
-use Rattle.report_check.specs.Printed.{AllPrinted, ArePrinted, AreRightProfs, HasLine, IsFirstWrongProf, IsItemPrinted, LacksOne, bucket_at}
+use Rattle.report_check.specs.Printed.{AllPrinted, ArePrinted, AreRightProfs, HasBucketLine, IsFirstWrongProf, IsItemPrinted, LacksLine, bucket_at}
 use Rattle.report_check.specs.Sampling.{AreSamples, flag_at, samples_by}
 use Rattle.report_check.proofs.Bucketing.{freed-when, place-one, stack-at}
 use Rattle.report_check.proofs.Counting.{count-lt, count-one, count-other, count-some, in-permutation}
@@ -113,7 +113,7 @@ is-of-cases m b line = elim (cases_eq line.mark m) [
   ]
 ]
 
-line-cases : (lines : List Prof) (m : ℕ) (b : Bucket) → HasLine lines m b ⊎ ¬ HasLine lines m b
+line-cases : (lines : List Prof) (m : ℕ) (b : Bucket) → HasBucketLine lines m b ⊎ ¬ HasBucketLine lines m b
 line-cases [] m b = inr (λ has. has.1)
 line-cases (line ∷ lines) m b = elim (is-of-cases m b line) [
   | inl is ↦ inl (line, inl refl, is)
@@ -130,23 +130,23 @@ line-cases (line ∷ lines) m b = elim (is-of-cases m b line) [
 
 -- what is asked of an item, by tests
 pub item-printed : (each : Bool) (last n : ℕ) (items : List Item) (lasts stacks : List ℕ) (lines : List Prof) (item : Item) → slice_get items n ≡ Some item
-    → (item.cycle < last → HasLine lines last (bucket_at item (get_or stacks n 0)))
-    → (each ≡ true → item.cycle + 1 < last → HasLine lines (item.cycle + 1) (bucket_at item (get_or stacks n 0)))
-    → (each ≡ true → last_at lasts n + 1 < last → HasLine lines (last_at lasts n + 1) (bucket_at item (get_or stacks n 0)))
+    → (item.cycle < last → HasBucketLine lines last (bucket_at item (get_or stacks n 0)))
+    → (each ≡ true → item.cycle + 1 < last → HasBucketLine lines (item.cycle + 1) (bucket_at item (get_or stacks n 0)))
+    → (each ≡ true → last_at lasts n + 1 < last → HasBucketLine lines (last_at lasts n + 1) (bucket_at item (get_or stacks n 0)))
     → IsItemPrinted each last items lasts stacks lines n
 item-printed each last n items lasts stacks lines item at one two three other there =
     let e : item ≡ other = (let s : Some item ≡ Some other = sym at ∙ there in cc) in
-    subst (λ (x : Item). (x.cycle < last → HasLine lines last (bucket_at x (get_or stacks n 0)))
-    × (each ≡ true → x.cycle + 1 < last → HasLine lines (x.cycle + 1) (bucket_at x (get_or stacks n 0)))
-    × (each ≡ true → last_at lasts n + 1 < last → HasLine lines (last_at lasts n + 1) (bucket_at x (get_or stacks n 0)))) e (one, two, three)
+    subst (λ (x : Item). (x.cycle < last → HasBucketLine lines last (bucket_at x (get_or stacks n 0)))
+    × (each ≡ true → x.cycle + 1 < last → HasBucketLine lines (x.cycle + 1) (bucket_at x (get_or stacks n 0)))
+    × (each ≡ true → last_at lasts n + 1 < last → HasBucketLine lines (last_at lasts n + 1) (bucket_at x (get_or stacks n 0)))) e (one, two, three)
 
 -- line of one bucket is that of another with the same numbers
-moved : (lines : List Prof) (m n : ℕ) (b c : Bucket) → m ≡ n → b.stack ≡ c.stack → b.slot ≡ c.slot → HasLine lines m b → HasLine lines n c
+moved : (lines : List Prof) (m n : ℕ) (b c : Bucket) → m ≡ n → b.stack ≡ c.stack → b.slot ≡ c.slot → HasBucketLine lines m b → HasBucketLine lines n c
 moved lines m n b c em es el has = (has.0, has.1, record { mark = has.2.mark ∙ em; stack = has.2.stack ∙ es; size = has.2.size ∙ el })
 
 pub item-shown : (each : Bool) (last m n stack end : ℕ) (items : List Item) (lasts stacks : List ℕ) (lines : List Prof) (item : Item) (r : Bool) → slice_get items n ≡ Some item → each ≡ true → m ≡ last → stack ≡ get_or stacks n 0 → end ≡ last_at lasts n
-    → (ltb item.cycle m ≡ true → HasLine lines m (record { stack = stack; slot = item.slot })) → (ltb (item.cycle + 1) m ≡ true → HasLine lines (item.cycle + 1) (record { stack = stack; slot = item.slot }))
-    → MatchBool r (ltb (end + 1) m ≡ true → HasLine lines (end + 1) (record { stack = stack; slot = item.slot })) (¬ (ltb (end + 1) m ≡ true → HasLine lines (end + 1) (record { stack = stack; slot = item.slot })))
+    → (ltb item.cycle m ≡ true → HasBucketLine lines m (record { stack = stack; slot = item.slot })) → (ltb (item.cycle + 1) m ≡ true → HasBucketLine lines (item.cycle + 1) (record { stack = stack; slot = item.slot }))
+    → MatchBool r (ltb (end + 1) m ≡ true → HasBucketLine lines (end + 1) (record { stack = stack; slot = item.slot })) (¬ (ltb (end + 1) m ≡ true → HasBucketLine lines (end + 1) (record { stack = stack; slot = item.slot })))
     → MatchBool r (IsItemPrinted each last items lasts stacks lines n) (¬ IsItemPrinted each last items lasts stacks lines n)
 item-shown each last m n stack end items lasts stacks lines item true at form em es ee one two three =
     let b : Bucket = record { stack = stack; slot = item.slot } in
@@ -217,7 +217,7 @@ ltb-next x m other = elim (cases_lt x m) [
   ]
 ]
 
-module _ (each : Bool) (t : Trace) (report : Report) (items : List Item) (lasts : List ℕ) (sampled : Sampled) (known : AreKnown t report items lasts) (are : AreSamples t items sampled) where
+module _ (each : Bool) (t : Trace) (report : Report) (items : List Item) (lasts : List ℕ) (sampled : Sampled) (known : AreKnownItems t report items lasts) (are : AreSamples t items sampled) where
   -- a bucket whose numbers changed has a sample that was placed in the cycle, or lived last in it
   changed-by : (m : ℕ) (b : Bucket) → IsChanged (marked_by t) (samples_by t sampled) (objects_of items) m b
       → (o : Object) × (h : IsSampleItem t items sampled b o) × ((h.item.cycle ≡ m) ⊎ (last_at lasts h.number ≡ m))
@@ -319,22 +319,22 @@ module _ (each : Bool) (t : Trace) (report : Report) (items : List Item) (lasts 
 
   -- a sample whose lines aren't all there
   pub due-lacks : (lines : List Prof) (n : ℕ) (item : Item) → slice_get items n ≡ Some item → flag_at sampled.flags.items n ≡ true
-      → ¬ IsItemPrinted each (last_cycle t) items lasts sampled.stacks.items lines n → LacksOne each (marked_by t) (samples_by t sampled) (last_cycle t) (objects_of items) lines
+      → ¬ IsItemPrinted each (last_cycle t) items lasts sampled.stacks.items lines n → LacksLine each (marked_by t) (samples_by t sampled) (last_cycle t) (objects_of items) lines
   due-lacks lines n item at on off =
       let b = bucket_at item (get_or sampled.stacks.items n 0) in
       let last = last_cycle t in
-      let one : (item.cycle < last → HasLine lines last b) ⊎ LacksOne each (marked_by t) (samples_by t sampled) last (objects_of items) lines = elim (cases_lt item.cycle last) [
+      let one : (item.cycle < last → HasBucketLine lines last b) ⊎ LacksLine each (marked_by t) (samples_by t sampled) last (objects_of items) lines = elim (cases_lt item.cycle last) [
         | inr ge ↦ inl (λ lt. absurd (omega arith))
         | inl lt ↦ elim (line-cases lines last b) [ inl has ↦ inl (λ _. has) | inr none ↦ inr (last, b, due-last n item at on lt, none) ]
       ] in
-      let two : (each ≡ true → item.cycle + 1 < last → HasLine lines (item.cycle + 1) b) ⊎ LacksOne each (marked_by t) (samples_by t sampled) last (objects_of items) lines = elim (cases_Bool each) [
+      let two : (each ≡ true → item.cycle + 1 < last → HasBucketLine lines (item.cycle + 1) b) ⊎ LacksLine each (marked_by t) (samples_by t sampled) last (objects_of items) lines = elim (cases_Bool each) [
         | inr none ↦ inl (λ form. absurd (let e : true ≡ false = sym form ∙ none in cc))
         | inl form ↦ elim (cases_lt (item.cycle + 1) last) [
           | inr ge ↦ inl (λ _ lt. absurd (omega arith))
           | inl lt ↦ elim (line-cases lines (item.cycle + 1) b) [ inl has ↦ inl (λ _ _. has) | inr none ↦ inr (item.cycle + 1, b, due-own n item at on form lt, none) ]
         ]
       ] in
-      let three : (each ≡ true → last_at lasts n + 1 < last → HasLine lines (last_at lasts n + 1) b) ⊎ LacksOne each (marked_by t) (samples_by t sampled) last (objects_of items) lines = elim (cases_Bool each) [
+      let three : (each ≡ true → last_at lasts n + 1 < last → HasBucketLine lines (last_at lasts n + 1) b) ⊎ LacksLine each (marked_by t) (samples_by t sampled) last (objects_of items) lines = elim (cases_Bool each) [
         | inr none ↦ inl (λ form. absurd (let e : true ≡ false = sym form ∙ none in cc))
         | inl form ↦ elim (cases_lt (last_at lasts n + 1) last) [
           | inr ge ↦ inl (λ _ lt. absurd (omega arith))
@@ -391,7 +391,7 @@ prof-fault t report items sampled n are is = record {
 
 pub lacks-fault : (t : Trace) (report : Report) (items : List Item) (sampled : Sampled) → AreSamples t items sampled
     → AreRightProfs (IsRightProf (is_of_each (last_cycle t) report.profile) (marked_by t) (samples_by t sampled) (last_cycle t) (objects_of items)) report.profile (length report.profile)
-    → LacksOne (is_of_each (last_cycle t) report.profile) (marked_by t) (samples_by t sampled) (last_cycle t) (objects_of items) report.profile → IsLeast (BreaksProfile t report (objects_of items)) (end_of report)
+    → LacksLine (is_of_each (last_cycle t) report.profile) (marked_by t) (samples_by t sampled) (last_cycle t) (objects_of items) report.profile → IsLeast (BreaksProfile t report (objects_of items)) (end_of report)
 lacks-fault t report items sampled are right lacks = record {
   here = (flag_at sampled.flags.items, are.flags.sampled, inr (lacks.0, lacks.1, record { due = lacks.2; missing = λ prof among is. lacks.3 (prof, among, is) }, refl));
   least = λ line less breaks. elim breaks.2 [

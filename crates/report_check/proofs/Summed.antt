@@ -20,7 +20,7 @@ use Rattle.report_rules.specs.Lines.{IsLeast, total_at, end_of}
 use Rattle.report_rules.specs.Closing.{BreaksTotals, IsWrongTotal}
 use Rattle.report_rules.proofs.Exact.{right-of}
 use Rattle.report_rules.proofs.Twins.{answers-length}
-use Rattle.report_check.specs.Totals.{AreFitting, IsMisfit, HasAll, LacksOne}
+use Rattle.report_check.specs.Totals.{AreFitting, IsMisfit, HasAll, LacksTotal}
 
 -- ---- places of a list
 
@@ -271,7 +271,7 @@ misfit-least marked last report objects right n are is = record {
 }
 
 pub lacking-least : (marked : Marking) (last : ℕ) (report : Report) (objects : List Object) (right : List Total) → AreTotals marked last objects right → AreFitting right report.totals (length report.totals)
-    → LacksOne report.totals right → IsLeast (BreaksTotals marked last report objects) (end_of report)
+    → LacksTotal report.totals right → IsLeast (BreaksTotals marked last report objects) (end_of report)
 lacking-least marked last report objects right are fits lacks =
     let x = lacks.0 in
     let ix = are.right x lacks.1 in
@@ -309,10 +309,10 @@ fits-told counted right printed totals same told fits =
     subst (λ (xs : List Total). AreFitting counted xs (length xs)) told one
 
 pub judge-lacking : (marked : Marking) (last : ℕ) (report : Report) (objects : List Object) (counted right again printed : List Total) (line : ℕ) → right ≡ counted → again ≡ counted → printed ≡ report.totals
-    → AreTotals marked last objects counted → AreFitting right printed (length printed) → LacksOne printed again → line ≡ end_of report → IsLeast (BreaksTotals marked last report objects) line
+    → AreTotals marked last objects counted → AreFitting right printed (length printed) → LacksTotal printed again → line ≡ end_of report → IsLeast (BreaksTotals marked last report objects) line
 judge-lacking marked last report objects counted right again printed line same twice told are fits lacks at =
-    let one : LacksOne printed counted = subst (λ (xs : List Total). LacksOne printed xs) twice lacks in
-    let two : LacksOne report.totals counted = subst (λ (xs : List Total). LacksOne xs counted) told one in
+    let one : LacksTotal printed counted = subst (λ (xs : List Total). LacksTotal printed xs) twice lacks in
+    let two : LacksTotal report.totals counted = subst (λ (xs : List Total). LacksTotal xs counted) told one in
     rw at (lacking-least marked last report objects counted are (fits-told counted right printed report.totals same told fits) two)
 
 pub judge-met : (marked : Marking) (last : ℕ) (report : Report) (objects : List Object) (counted right again printed : List Total) → right ≡ counted → again ≡ counted → printed ≡ report.totals

@@ -3,6 +3,7 @@ use Rattle.std.specs.Prelude.{◌≡◌, ℕ, ◌+◌, ◌*◌, ◌<◌, ◌≤�
 use Rattle.std.specs.List.{slice_get}
 use Rattle.cycle_history.specs.Objects.{is_placed}
 use Rattle.report_check.specs.declared.items.Item.{Item}
+use Rattle.report_check.specs.declared.filling.TheConstants.{SPAN_CLASSES}
 use Rattle.report_check.specs.declared.filling.Fill.{Fill}
 use Rattle.report_check.specs.declared.filling.Newest.{Newest}
 use Rattle.report_check.specs.declared.filling.Filling.{Filling}
@@ -14,8 +15,8 @@ abbrev pub IsSmallItem : Item → Type 0
 IsSmallItem item = (is_placed item.answer ≡ true) × (2 ≤ item.class)
 
 -- The place of a processor's span class among all.
-abbrev pub place_of : ℕ → ℕ → ℕ
-place_of proc class = proc * 136 + class
+abbrev pub place_of_class : ℕ → ℕ → ℕ
+place_of_class proc class = proc * SPAN_CLASSES + class
 
 -- The index up to which a life is known to be held in the cycle.
 abbrev pub next_in : Option Fill → ℕ → ℕ
@@ -41,11 +42,11 @@ newest_by item = record { cycle = item.cycle; life = item.life }
 pub record IsTakenUp (old new : Filling) (item : Item) (last : ℕ) : Type 0 where
   pub tops : IsRaised old.tops new.tops item.life item.index (last + 1)
   pub fills : 2 ≤ item.class → new.fills.items ≡ slice_set old.fills.items item.life (Some (filled_by (fill_at old item.life) item))
-  pub newest : 2 ≤ item.class → new.newest.items ≡ slice_set old.newest.items (place_of item.proc item.class) (Some (newest_by item))
+  pub newest : 2 ≤ item.class → new.newest.items ≡ slice_set old.newest.items (place_of_class item.proc item.class) (Some (newest_by item))
   pub large : item.class < 2 → (new.fills.items ≡ old.fills.items) × (new.newest.items ≡ old.newest.items)
 
 -- There is room for so many lives, and so many processors' span classes.
-pub record HasRoom (filling : Filling) (lives places : ℕ) : Type 0 where
+pub record HasFillingRoom (filling : Filling) (lives places : ℕ) : Type 0 where
   pub tops : lives_of filling.tops ≡ lives
   pub fills : length filling.fills.items ≡ lives
   pub newest : length filling.newest.items ≡ places
@@ -68,7 +69,7 @@ pub record AreFills (items : List Item) (lasts : List ℕ) (n : ℕ) (filling : 
 -- that all others of the cycle are full.
 pub record AreNewest (items : List Item) (lasts : List ℕ) (n : ℕ) (filling : Filling) : Type 0 where
   pub some : (place : ℕ) (its : Newest) → newest_at filling place ≡ Some its
-      → (i : ℕ) × (item : Item) × (i < n) × (slice_get items i ≡ Some item) × IsSmallItem item × (place_of item.proc item.class ≡ place) × (item.cycle ≡ its.cycle) × (item.life ≡ its.life)
+      → (i : ℕ) × (item : Item) × (i < n) × (slice_get items i ≡ Some item) × IsSmallItem item × (place_of_class item.proc item.class ≡ place) × (item.cycle ≡ its.cycle) × (item.life ≡ its.life)
   pub each : (i : ℕ) (item : Item) → i < n → slice_get items i ≡ Some item → IsSmallItem item
-      → (its : Newest) × (newest_at filling (place_of item.proc item.class) ≡ Some its) × (item.cycle ≤ its.cycle)
+      → (its : Newest) × (newest_at filling (place_of_class item.proc item.class) ≡ Some its) × (item.cycle ≤ its.cycle)
       × (item.cycle ≡ its.cycle → (item.life ≡ its.life) ⊎ ((j : ℕ) → j < item.count → IsSatFrom items lasts n item.life j its.cycle))

@@ -6,7 +6,7 @@ use Rattle.report_check.specs.declared.filling.Fill.{Fill}
 use Rattle.report_check.specs.declared.filling.Newest.{Newest}
 use Rattle.report_check.specs.declared.filling.Filling.{Filling}
 use Rattle.report_check.specs.Tops.{top_at}
-use Rattle.report_check.specs.Filling.{place_of, next_in, fill_at, newest_at}
+use Rattle.report_check.specs.Filling.{place_of_class, next_in, fill_at, newest_at}
 
 -- Another processor fills the life in the item's cycle.
 pub record IsOthers (fill : Option Fill) (item : Item) : Type 0 where
@@ -28,7 +28,7 @@ abbrev pub IsFreeAt : Tops → ℕ → ℕ → ℕ → ℕ → Type 0
 IsFreeAt tops life low high cycle = (j : ℕ) × (low ≤ j) × (j < high) × (top_at tops life j ≤ cycle)
 
 -- Of the item's processor and span class, another life is filled in the cycle.
-pub record IsLeft (newest : Option Newest) (item : Item) (left : ℕ) : Type 0 where
+pub record FillsOther (newest : Option Newest) (item : Item) (left : ℕ) : Type 0 where
   pub its : Newest
   pub is : newest ≡ Some its
   pub now : its.cycle ≡ item.cycle
@@ -44,10 +44,10 @@ IsStaying newest item = (its : Newest) → newest ≡ Some its → its.cycle ≡
 pub record IsFitting (filling : Filling) (item : Item) : Type 0 where
   pub own : IsOwn (fill_at filling item.life) item
   pub below : AreHeld filling.tops item.life (next_in (fill_at filling item.life) item.cycle) item.index item.cycle
-  pub full : (left : ℕ) → IsLeft (newest_at filling (place_of item.proc item.class)) item left → AreHeld filling.tops left 0 item.count item.cycle
+  pub full : (left : ℕ) → FillsOther (newest_at filling (place_of_class item.proc item.class)) item left → AreHeld filling.tops left 0 item.count item.cycle
 
 -- One of the three isn't so.
 abbrev pub IsUnfitting : Filling → Item → Type 0
 IsUnfitting filling item = IsOthers (fill_at filling item.life) item
     ⊎ (IsFreeAt filling.tops item.life (next_in (fill_at filling item.life) item.cycle) item.index item.cycle
-    ⊎ ((left : ℕ) × IsLeft (newest_at filling (place_of item.proc item.class)) item left × IsFreeAt filling.tops left 0 item.count item.cycle))
+    ⊎ ((left : ℕ) × FillsOther (newest_at filling (place_of_class item.proc item.class)) item left × IsFreeAt filling.tops left 0 item.count item.cycle))

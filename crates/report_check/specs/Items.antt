@@ -13,8 +13,8 @@ abbrev pub request_of : Asked → Request
 request_of asked = record { cycle = asked.cycle; event = asked.event }
 
 -- These are a trace's requests, in its order.
-abbrev pub AreAsked : Trace → List Asked → Type 0
-AreAsked t asked = map request_of asked ≡ requests_from 0 t.cycles
+abbrev pub AreRequests : Trace → List Asked → Type 0
+AreRequests t asked = map request_of asked ≡ requests_from 0 t.cycles
 
 -- The need of an item.
 abbrev pub need_of : Item → Need

@@ -15,7 +15,7 @@ use Rattle.report_check.specs.Lasts.{AreLasts, last_at}
 use Rattle.report_check.specs.Tops.{top_at}
 
 -- The items are the objects of a report that meets the rules 1, 2 and 4, in their seats, and with each one's last cycle.
-pub record AreKnown (t : Trace) (report : Report) (items : List Item) (lasts : List ℕ) : Type 0 where
+pub record AreKnownItems (t : Trace) (report : Report) (items : List Item) (lasts : List ℕ) : Type 0 where
   pub limited : IsLimited t
   pub answers : HasAnswers t report (objects_of items)
   pub journal : HasJournal t report
@@ -42,8 +42,8 @@ abbrev pub AreTops : List Item → List ℕ → ℕ → Tops → Type 0
 AreTops items lasts n tops = (life index cycle : ℕ) → (cycle < top_at tops life index) ↔ IsSatFrom items lasts n life index cycle
 
 -- Of the first n items each two that have one seat follow each other: the first one's last cycle is before the other's.
-abbrev pub AreClear : List Item → List ℕ → ℕ → Type 0
-AreClear items lasts n = (i j : ℕ) (a b : Item) → i < j → j < n → slice_get items i ≡ Some a → slice_get items j ≡ Some b → is_placed a.answer ≡ true → is_placed b.answer ≡ true
+abbrev pub FollowInSeats : List Item → List ℕ → ℕ → Type 0
+FollowInSeats items lasts n = (i j : ℕ) (a b : Item) → i < j → j < n → slice_get items i ≡ Some a → slice_get items j ≡ Some b → is_placed a.answer ≡ true → is_placed b.answer ≡ true
     → AreTogether a b → last_at lasts i < b.cycle
 
 -- The items are the objects of a report that meets the rules 1 to 4, in their seats.

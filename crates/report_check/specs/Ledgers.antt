@@ -66,7 +66,7 @@ pub record IsLedger (t : Trace) (report : Report) (items : List Item) (lasts : L
 
 -- What the ledger tells of mark end c: the lives before it and behind it, what of them was kept and freed, and which were
 -- used again.
-pub record Tells (t : Trace) (report : Report) (objects : List Object) (c : ℕ) (ledger : Ledger) : Type 0 where
+pub record TellsMarkEnd (t : Trace) (report : Report) (objects : List Object) (c : ℕ) (ledger : Ledger) : Type 0 where
   pub before : AreLives (region_of t) (at_end (c - 1) (past_in report)) ledger.before.lives.items
   pub after : AreLives (region_of t) (at_end c (past_in report)) ledger.after.lives.items
   pub kept_is : (life : ℕ) → life < length report.journal → kept_in (tally_at ledger.tallies.items life) c ≡ kept (marked_by t) objects c life

@@ -14,8 +14,8 @@ abbrev pub entry_of : Life → OpenLife
 entry_of life = record { number = life.number; cycle = life.cycle; page = life.page; pages = life.pages; class = life.class }
 
 -- The table has the life at its first page.
-abbrev pub Holds : List (Option OpenLife) → Life → Type 0
-Holds lives life = slice_index_or lives life.page None ≡ Some (entry_of life)
+abbrev pub HoldsLife : List (Option OpenLife) → Life → Type 0
+HoldsLife lives life = slice_index_or lives life.page None ≡ Some (entry_of life)
 
 -- Each life of the table stands at its first page.
 abbrev pub AreAtPages : List (Option OpenLife) → Type 0
@@ -25,15 +25,15 @@ AreAtPages lives = (page : ℕ) (life : OpenLife) → slice_index_or lives page 
 pub record AreLives (region : ℕ) (past : List Line) (lives : List (Option OpenLife)) : Type 0 where
   pub size : length lives ≡ region
   pub pages : AreAtPages lives
-  pub all : (life : Life) → In life (open_lives past) ↔ Holds lives life
+  pub all : (life : Life) → In life (open_lives past) ↔ HoldsLife lives life
 
 -- The seat is the object's index in a life of the table, the only one in which the object sits.
 pub record IsOne (lives : List (Option OpenLife)) (o : Object) (seat : Seat) : Type 0 where
   pub life : Life
   pub number : seat.life ≡ life.number
-  pub holds : Holds lives life
+  pub holds : HoldsLife lives life
   pub sits : Sits o life seat.index
-  pub only : (other : Life) (k : ℕ) → Holds lives other → Sits o other k → other ≡ life
+  pub only : (other : Life) (k : ℕ) → HoldsLife lives other → Sits o other k → other ≡ life
 
 -- The item sits in a life with the number that it has.
 pub record HasLife (item : Item) (life : Life) : Type 0 where
@@ -51,9 +51,9 @@ pub record IsSeatAt (lives : List (Option OpenLife)) (o : Object) (page : ℕ) (
   pub life : Life
   pub number : seat.life ≡ life.number
   pub begins : life.page ≡ page
-  pub holds : Holds lives life
+  pub holds : HoldsLife lives life
   pub sits : Sits o life seat.index
 
 -- The object sits in no life of the table that begins at the page.
 abbrev pub NoSeatAt : List (Option OpenLife) → Object → ℕ → Type 0
-NoSeatAt lives o page = (life : Life) (k : ℕ) → life.page ≡ page → Holds lives life → ¬ Sits o life k
+NoSeatAt lives o page = (life : Life) (k : ℕ) → life.page ≡ page → HoldsLife lives life → ¬ Sits o life k

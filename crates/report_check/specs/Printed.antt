@@ -35,20 +35,20 @@ pub record IsFirstWrongProf (IsRight : Prof → Type 0) (lines : List Prof) (n :
   pub before : AreRightProfs IsRight lines n
 
 -- A line is of the bucket and the mark end.
-abbrev pub HasLine : List Prof → ℕ → Bucket → Type 0
-HasLine lines m b = (line : Prof) × In line lines × IsOf m b line
+abbrev pub HasBucketLine : List Prof → ℕ → Bucket → Type 0
+HasBucketLine lines m b = (line : Prof) × In line lines × IsOf m b line
 
 -- Each bucket has a line of each mark end at which it is due.
 abbrev pub AllPrinted : Bool → Marking → Samples → ℕ → List Object → List Prof → Type 0
-AllPrinted each marked s last objects lines = (m : ℕ) (b : Bucket) → IsDue each marked s last objects m b → HasLine lines m b
+AllPrinted each marked s last objects lines = (m : ℕ) (b : Bucket) → IsDue each marked s last objects m b → HasBucketLine lines m b
 
 -- A bucket has no line of a mark end at which it is due.
-abbrev pub LacksOne : Bool → Marking → Samples → ℕ → List Object → List Prof → Type 0
-LacksOne each marked s last objects lines = (m : ℕ) × (b : Bucket) × IsDue each marked s last objects m b × ¬ HasLine lines m b
+abbrev pub LacksLine : Bool → Marking → Samples → ℕ → List Object → List Prof → Type 0
+LacksLine each marked s last objects lines = (m : ℕ) × (b : Bucket) × IsDue each marked s last objects m b × ¬ HasBucketLine lines m b
 
 -- The places are those of the lines.
 abbrev pub ArePrinted : List Prof → List ℕ → Type 0
-ArePrinted lines places = (m stack slot : ℕ) → m < 2 ^ 32 → slot < 2 ^ 64 → In (place_of stack slot m) places ↔ HasLine lines m (record { stack = stack; slot = slot })
+ArePrinted lines places = (m stack slot : ℕ) → m < 2 ^ 32 → slot < 2 ^ 64 → In (place_of stack slot m) places ↔ HasBucketLine lines m (record { stack = stack; slot = slot })
 
 -- The bucket of an item.
 abbrev pub bucket_at : Item → ℕ → Bucket
@@ -57,6 +57,6 @@ bucket_at item stack = record { stack = stack; slot = item.slot }
 -- The bucket of an item, which is a sample, has a line of each mark end at which the sample makes it due.
 abbrev pub IsItemPrinted : Bool → ℕ → List Item → List ℕ → List ℕ → List Prof → ℕ → Type 0
 IsItemPrinted each last items lasts stacks lines i = (item : Item) → slice_get items i ≡ Some item
-    → (item.cycle < last → HasLine lines last (bucket_at item (slice_index stacks i)))
-    × (each ≡ true → item.cycle + 1 < last → HasLine lines (item.cycle + 1) (bucket_at item (slice_index stacks i)))
-    × (each ≡ true → last_at lasts i + 1 < last → HasLine lines (last_at lasts i + 1) (bucket_at item (slice_index stacks i)))
+    → (item.cycle < last → HasBucketLine lines last (bucket_at item (slice_index stacks i)))
+    × (each ≡ true → item.cycle + 1 < last → HasBucketLine lines (item.cycle + 1) (bucket_at item (slice_index stacks i)))
+    × (each ≡ true → last_at lasts i + 1 < last → HasBucketLine lines (last_at lasts i + 1) (bucket_at item (slice_index stacks i)))

@@ -41,8 +41,8 @@ abbrev pub ArePlacesBy : List Bool → List ℕ → List ℕ → List Object →
 ArePlacesBy flags stacks cycles objects places = (test : ℕ → Bool) → count test places ≡ count (λ o. flag_at flags o.id && test (place_of (slice_index stacks o.id) o.need.slot (slice_index cycles o.id))) objects
 
 -- The numbers of the first n items are those of their types.
-abbrev pub AreFew : List Item → List ℕ → List ℕ → ℕ → Type 0
-AreFew items stacks cycles n = (i : ℕ) (item : Item) → i < n → slice_get items i ≡ Some item → (slice_index stacks i < 2 ^ 32) × (item.slot < 2 ^ 64) × (slice_index cycles i < 2 ^ 32)
+abbrev pub FitTheirTypes : List Item → List ℕ → List ℕ → ℕ → Type 0
+FitTheirTypes items stacks cycles n = (i : ℕ) (item : Item) → i < n → slice_get items i ≡ Some item → (slice_index stacks i < 2 ^ 32) × (item.slot < 2 ^ 64) × (slice_index cycles i < 2 ^ 32)
 
 -- The samples that the flags name.
 abbrev pub samples_by : Trace → Sampled → Samples

@@ -22,8 +22,8 @@ abbrev pub AreSameBut : List Item → List Item → Type 0
 AreSameBut old new = map unseated new ≡ map unseated old
 
 -- Item i, which is placed and is one of the spans', has its life still in the table.
-abbrev pub IsKept : List (Option OpenLife) → Item → Type 0
-IsKept lives item = (life : Life) → HasLife item life → HasNumber lives life.page item.life
+abbrev pub KeepsLife : List (Option OpenLife) → Item → Type 0
+KeepsLife lives item = (life : Life) → HasLife item life → HasNumber lives life.page item.life
 
 -- Item i, which is placed, has lost its life: the table doesn't have it.
 pub record IsLost (lives : List (Option OpenLife)) (items : List Item) (i : ℕ) : Type 0 where
@@ -40,7 +40,7 @@ AllHaveLives named items bound = (i : ℕ) (item : Item) → i < bound → named
 
 -- The placed items below the bound that the test names have their lives still in the table.
 abbrev pub AllKept : List (Option OpenLife) → (ℕ → Type 0) → List Item → ℕ → Type 0
-AllKept lives named items bound = (i : ℕ) (item : Item) → i < bound → named i → slice_get items i ≡ Some item → is_placed item.answer ≡ true → IsKept lives item
+AllKept lives named items bound = (i : ℕ) (item : Item) → i < bound → named i → slice_get items i ≡ Some item → is_placed item.answer ≡ true → KeepsLife lives item
 
 -- The item with this number isn't above the bound, and where it is below it has lost its life.
 pub record IsFirstLost (lives : List (Option OpenLife)) (named : ℕ → Type 0) (items : List Item) (bound found : ℕ) : Type 0 where

@@ -23,5 +23,5 @@ abbrev pub HasAll : List Total → List Total → Type 0
 HasAll printed totals = (total : Total) → In total totals → In total printed
 
 -- One of these totals isn't printed.
-abbrev pub LacksOne : List Total → List Total → Type 0
-LacksOne printed totals = (total : Total) × In total totals × ¬ In total printed
+abbrev pub LacksTotal : List Total → List Total → Type 0
+LacksTotal printed totals = (total : Total) × In total totals × ¬ In total printed

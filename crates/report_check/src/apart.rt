@@ -14,14 +14,14 @@ use std::alloc::Global;
 impl Objects<'_> {
     ghost use Rattle.report_check.specs.Fault.{IsFaultOf};
     ghost use Rattle.report_check.specs.Items.{objects_of};
-    ghost use Rattle.report_check.specs.Known.{AreKnown};
+    ghost use Rattle.report_check.specs.Known.{AreKnownItems};
     ghost use Rattle.report_check.specs.Pieces.{seen_by};
 
     /// Whether no two of the piece's objects that live in one cycle overlap: rule 5. As each has its seat, two do where
     /// they have one, and the first still lives in the other's cycle. It takes time in the objects.
     pub fn judge_apart(&self, alloc: Global, piece: Piece) -> Result<(), CheckFault>
         requires piece { 1 ≤ piece.count }
-        requires known { AreKnown self.now.trace.now self.now.report.now self.now.items.now self.now.lasts.now }
+        requires known { AreKnownItems self.now.trace.now self.now.report.now self.now.items.now self.now.lasts.now }
         ensures apart { OnOk result (AreApart (marked_by self.now.trace.now) (objects_of (seen_by piece self.now.items.now))) }
         ensures fault { IfErr result (IsFaultOf 5 (BreaksApart (marked_by self.now.trace.now) (objects_of (seen_by piece self.now.items.now)))) }
     {

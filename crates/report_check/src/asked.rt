@@ -1,7 +1,7 @@
 //! What a trace asks for, as one list.
 
 ghost use Rattle.std.specs.Prelude.{◌≡◌, ◌≤◌, ◌++◌, length, map, IfOk, OnOk};
-ghost use Rattle.report_check.specs.Items.{AreAsked};
+ghost use Rattle.report_check.specs.Items.{AreRequests};
 ghost use Rattle.report_check.specs.Asked.{asked_in};
 
 use edge_io::{List, NoMemory};
@@ -20,7 +20,7 @@ pub struct Asked {
 /// The events of a trace in order, each with its cycle.
 pub fn asked_of(alloc: Global, trace: &Trace) -> Result<List<Asked>, NoMemory>
     requires { length trace.now.cycles ≤ 10001 }
-    ensures { IfOk result (AreAsked trace.now) }
+    ensures { IfOk result (AreRequests trace.now) }
 {
     let mut asked = List::new(alloc);
     let mut cycle = 0;

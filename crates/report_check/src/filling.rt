@@ -5,8 +5,8 @@ ghost use Rattle.cycle_history.specs.Requests.{marked_by};
 ghost use Rattle.cycle_history.specs.Rules.{AreFilled};
 ghost use Rattle.report_rules.specs.Placing.{BreaksFilling};
 ghost use Rattle.report_check.specs.Tops.{lives_of};
-ghost use Rattle.report_check.specs.Filling.{HasRoom, IsEmptyFilling, IsTakenUp, filled_by, next_in as next_of, place_of as place_in};
-ghost use Rattle.report_check.specs.Fitting.{AreHeld, IsFitting, IsFreeAt, IsLeft, IsOthers, IsOwn, IsStaying, IsUnfitting};
+ghost use Rattle.report_check.specs.Filling.{HasFillingRoom, IsEmptyFilling, IsTakenUp, filled_by, next_in as next_of, place_of_class};
+ghost use Rattle.report_check.specs.Fitting.{AreHeld, IsFitting, IsFreeAt, FillsOther, IsOthers, IsOwn, IsStaying, IsUnfitting};
 
 use crate::CheckFault;
 use crate::items::Item;
@@ -49,13 +49,13 @@ pub struct Filling {
 impl Objects<'_> {
     ghost use Rattle.report_check.specs.Fault.{IsFaultOf};
     ghost use Rattle.report_check.specs.Items.{objects_of};
-    ghost use Rattle.report_check.specs.Known.{AreKnown};
+    ghost use Rattle.report_check.specs.Known.{AreKnownItems};
     ghost use Rattle.report_check.specs.Pieces.{seen_by};
 
     /// Whether each small object of the piece fills its life as it should: rule 6. It takes time in the objects and the marks.
     pub fn judge_filling(&self, alloc: Global, piece: Piece) -> Result<(), CheckFault>
         requires piece { 1 ≤ piece.count }
-        requires known { AreKnown self.now.trace.now self.now.report.now self.now.items.now self.now.lasts.now }
+        requires known { AreKnownItems self.now.trace.now self.now.report.now self.now.items.now self.now.lasts.now }
         ensures filling { OnOk result (AreFilled (marked_by self.now.trace.now) (objects_of (seen_by piece self.now.items.now))) }
         ensures fault { IfErr result (IsFaultOf 6 (BreaksFilling (marked_by self.now.trace.now) (objects_of (seen_by piece self.now.items.now)))) }
     {
@@ -78,7 +78,7 @@ impl Objects<'_> {
 impl Filling {
     /// Nothing is known of so many lives, and so many processors' span classes.
     pub fn new(alloc: Global, lives: usize, places: usize) -> Result<Filling, NoMemory>
-        ensures room { IfOk result (λ filling. HasRoom filling lives places) }
+        ensures room { IfOk result (λ filling. HasFillingRoom filling lives places) }
         ensures empty { IfOk result (λ filling. IsEmptyFilling filling) }
     {
         Ok(Filling {
@@ -91,7 +91,7 @@ impl Filling {
     /// Whether an object fills its life as it should, if it is small.
     pub fn fits(&self, item: &Item) -> bool
         requires life { item.now.life < length self.now.fills.items }
-        requires place { place_in item.now.proc item.now.class < length self.now.newest.items }
+        requires place { place_of_class item.now.proc item.now.class < length self.now.newest.items }
         ensures { MatchBool result (2 ≤ item.now.class → IsFitting self.now item.now) ((2 ≤ item.now.class) × IsUnfitting self.now item.now) }
     {
         if item.class < 2 {
@@ -115,7 +115,7 @@ impl Filling {
     pub fn take_up(&mut self, item: &Item, last: u32) -> Result<(), NoMemory>
         requires life { item.now.life < length self.old.fills.items }
         requires row { item.now.life < lives_of self.old.tops }
-        requires place { place_in item.now.proc item.now.class < length self.old.newest.items }
+        requires place { place_of_class item.now.proc item.now.class < length self.old.newest.items }
         requires last { last < 20000 }
         requires index { item.now.index < 20000 }
         ensures { OnOk result (IsTakenUp self.old self.new item.now last) }
@@ -133,7 +133,7 @@ impl Filling {
 
 // The place of the item's processor and span class.
 fn place_of(item: &Item) -> usize
-    ensures { result ≡ place_in item.now.proc item.now.class }
+    ensures { result ≡ place_of_class item.now.proc item.now.class }
 {
     item.proc as usize * SPAN_CLASSES + item.class as usize
 }
@@ -174,7 +174,7 @@ fn next_in(fill: Option<Fill>, cycle: u32) -> u32
 
 // The other life that the object's processor filled before, in this cycle.
 fn left_by(newest: Option<Newest>, item: &Item) -> Option<u64>
-    ensures left { IfSome result (λ life. IsLeft newest item.now life) }
+    ensures left { IfSome result (λ life. FillsOther newest item.now life) }
     ensures staying { IfNone result (IsStaying newest item.now) }
 {
     match newest {

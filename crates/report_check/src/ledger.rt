@@ -5,7 +5,7 @@ ghost use Rattle.page_alloc.specs.Lists.{count, one_if};
 ghost use Rattle.cycle_history.specs.Before.{objects_before};
 ghost use Rattle.cycle_history.specs.Requests.{last_cycle};
 ghost use Rattle.report_check.specs.Items.{objects_of};
-ghost use Rattle.report_check.specs.Known.{AreKnown};
+ghost use Rattle.report_check.specs.Known.{AreKnownItems};
 ghost use Rattle.report_check.specs.declared.ledger.Alive.{Alive as AnAlive};
 ghost use Rattle.report_check.specs.Tallies.{AreBefore, AreTallied, freed_in, kept_in};
 ghost use Rattle.report_check.specs.Ledgers.{AddsItems};
@@ -47,11 +47,11 @@ pub(crate) struct Ledger {
 }
 
 impl Ledger {
-    ghost use Rattle.report_check.specs.Ledgers.{IsLedger, Tells};
+    ghost use Rattle.report_check.specs.Ledgers.{IsLedger, TellsMarkEnd};
 
     /// Cycle 0 has passed.
     pub(crate) fn new(alloc: Global, objects: &Objects<'_>) -> Result<Ledger, NoMemory>
-        requires known { AreKnown objects.now.trace.now objects.now.report.now objects.now.items.now objects.now.lasts.now }
+        requires known { AreKnownItems objects.now.trace.now objects.now.report.now objects.now.items.now objects.now.lasts.now }
         ensures { IfOk result (λ ledger. IsLedger objects.now.trace.now objects.now.report.now objects.now.items.now objects.now.lasts.now 0 (objects_before objects.now.trace.now 1) ledger) }
     {
         let lives = objects.report.journal.len();
@@ -76,12 +76,12 @@ impl Ledger {
         objects: &Objects<'_>,
         cycle: u32,
     ) -> Result<(), NoMemory>
-        requires known { AreKnown objects.now.trace.now objects.now.report.now objects.now.items.now objects.now.lasts.now }
+        requires known { AreKnownItems objects.now.trace.now objects.now.report.now objects.now.items.now objects.now.lasts.now }
         requires some { 1 ≤ cycle }
         requires inside { cycle ≤ last_cycle objects.now.trace.now }
         requires ledger { IsLedger objects.now.trace.now objects.now.report.now objects.now.items.now objects.now.lasts.now (cycle - 1) (objects_before objects.now.trace.now cycle) self.old }
         ensures ledger { OnOk result (IsLedger objects.now.trace.now objects.now.report.now objects.now.items.now objects.now.lasts.now cycle (objects_before objects.now.trace.now (cycle + 1)) self.new) }
-        ensures tells { OnOk result (Tells objects.now.trace.now objects.now.report.now (objects_of objects.now.items.now) cycle self.new) }
+        ensures tells { OnOk result (TellsMarkEnd objects.now.trace.now objects.now.report.now (objects_of objects.now.items.now) cycle self.new) }
     {
         self.before
             .take_up(objects.trace, objects.report, cycle - 1);

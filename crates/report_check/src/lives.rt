@@ -16,6 +16,9 @@ use page_bitmap::Line;
 use size_classes::{PAGE_SIZE, REGION_START};
 use std::alloc::Global;
 
+/// The bytes of a page.
+const PAGE: u128 = PAGE_SIZE as u128;
+
 /// A life that no Give line has ended: the number of its Take or Cut line, with its cycle, its pages and its span class.
 #[derive(Clone, Copy, Debug)]
 pub struct OpenLife {
@@ -127,11 +130,11 @@ pub fn seat_of(lives: &[Option<OpenLife>], item: &Item, address: u64) -> Option<
 // The first page that a life can have in which the object sits, if its address is in the last one.
 fn first_page(item: &Item, last: u64) -> u64
     requires count { 1 ≤ item.now.count }
-    ensures low { (k : ℕ) → k < item.now.count → result ≤ last - (item.now.slot * k) / 8192 }
+    ensures low { (k : ℕ) → k < item.now.count → result ≤ last - (item.now.slot * k) / PAGE_SIZE }
     ensures high { result ≤ last }
 {
     let bytes = u128::from(item.slot) * u128::from(item.count - 1);
-    let pages = bytes / 8192;
+    let pages = bytes / PAGE;
     if pages < u128::from(last) {
         last - pages as u64
     } else {
@@ -144,7 +147,7 @@ fn seat_at(lives: &[Option<OpenLife>], item: &Item, offset: u64, page: u64) -> O
     requires pages { AreAtPages lives.now }
     requires slot { 1 ≤ item.now.slot }
     requires address { item.now.answer ≡ Placed (region_start + offset) }
-    requires page { 8192 * page ≤ offset }
+    requires page { PAGE_SIZE * page ≤ offset }
     ensures { MatchOption result (NoSeatAt lives.now (object_of 0 item.now) page) (IsSeatAt lives.now (object_of 0 item.now) page) }
 {
     if page >= lives.len() as u64 {

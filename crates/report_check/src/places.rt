@@ -67,10 +67,13 @@ pub(crate) fn take_up_to(
     next: usize,
     cycle: u32,
 ) -> usize
+    // the lines before the next one are taken up
     requires journal { HasJournal trace.now report.now }
     requires next { next ≤ length report.now.journal }
     requires by { IsBy cycle (past_of (take next report.now.journal)) }
     requires lives { AreLives (region_of trace.now) (past_of (take next report.now.journal)) lives.old }
+
+    // those of the cycle are too
     ensures next { result ≤ length report.now.journal }
     ensures by { IsBy cycle (past_of (take result report.now.journal)) }
     ensures end { past_of (take result report.now.journal) ≡ at_end cycle (past_in report.now) }

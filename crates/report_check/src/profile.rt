@@ -7,7 +7,7 @@ ghost use Rattle.cycle_history.specs.Profile.{allocs_at, frees_at};
 ghost use Rattle.cycle_history.specs.Requests.{last_cycle, marked_by};
 ghost use Rattle.report_rules.specs.Lines as lines;
 ghost use Rattle.report_rules.specs.Published.{IsRightProf, is_of_each};
-ghost use Rattle.report_check.specs.Printed.{ArePrinted, HasLine, HasNumbers, IsFirstWrongProf, IsItemPrinted, LacksOne, AreRightProfs};
+ghost use Rattle.report_check.specs.Printed.{ArePrinted, HasBucketLine, HasNumbers, IsFirstWrongProf, IsItemPrinted, LacksLine, AreRightProfs};
 
 use crate::CheckFault;
 use crate::lines::end_of;
@@ -24,14 +24,14 @@ impl Objects<'_> {
     ghost use Rattle.report_rules.specs.Published.{BreaksProfile};
     ghost use Rattle.report_check.specs.Fault.{IsFaultOf};
     ghost use Rattle.report_check.specs.Items.{objects_of};
-    ghost use Rattle.report_check.specs.Known.{AreKnown};
+    ghost use Rattle.report_check.specs.Known.{AreKnownItems};
     ghost use Rattle.report_check.specs.Printed.{AllPrinted};
     ghost use Rattle.report_check.specs.Sampling.{AreSamples, samples_by};
 
     /// Whether the profile is that of the samples, in the form that its first line is of: rule 9. It takes time in the
     /// objects and the profile's lines, but for a logarithm.
     pub fn judge_profile(&self, alloc: Global) -> Result<(), CheckFault>
-        requires known { AreKnown self.now.trace.now self.now.report.now self.now.items.now self.now.lasts.now }
+        requires known { AreKnownItems self.now.trace.now self.now.report.now self.now.items.now self.now.lasts.now }
         ensures profile { OnOk result (HasProfile self.now.trace.now self.now.report.now (objects_of self.now.items.now)) }
         ensures fault { IfErr result (IsFaultOf 9 (BreaksProfile self.now.trace.now self.now.report.now (objects_of self.now.items.now))) }
     {
@@ -50,7 +50,7 @@ impl Objects<'_> {
 
     // The number of the last mark end, and 0 where there is none.
     fn last_mark(&self) -> u32
-        requires known { AreKnown self.now.trace.now self.now.report.now self.now.items.now self.now.lasts.now }
+        requires known { AreKnownItems self.now.trace.now self.now.report.now self.now.items.now self.now.lasts.now }
         ensures last { result ≡ last_cycle self.now.trace.now }
         ensures few { result < 2 ^ 31 }
     {
@@ -59,7 +59,7 @@ impl Objects<'_> {
 
     // Whether the profile is of the form of each mark end: its first line names one before the last.
     fn is_of_each(&self) -> bool
-        requires known { AreKnown self.now.trace.now self.now.report.now self.now.items.now self.now.lasts.now }
+        requires known { AreKnownItems self.now.trace.now self.now.report.now self.now.items.now self.now.lasts.now }
         ensures { result ≡ is_of_each (last_cycle self.now.trace.now) self.now.report.now.profile }
     {
         let lines = self.report.profile.as_slice();
@@ -81,7 +81,7 @@ impl Objects<'_> {
 
     // The first line of the profile that isn't right, or is out of order.
     fn first_wrong_prof(&self, sampled: &Sampled, each: bool) -> Option<usize>
-        requires known { AreKnown self.now.trace.now self.now.report.now self.now.items.now self.now.lasts.now }
+        requires known { AreKnownItems self.now.trace.now self.now.report.now self.now.items.now self.now.lasts.now }
         requires sampled { AreSamples self.now.trace.now self.now.items.now sampled.now }
         ensures { MatchOption result
             (AreRightProfs (IsRightProf each (marked_by self.now.trace.now) (samples_by self.now.trace.now sampled.now) (last_cycle self.now.trace.now) (objects_of self.now.items.now)) self.now.report.now.profile (length self.now.report.now.profile))
@@ -101,7 +101,7 @@ impl Objects<'_> {
 
     // Whether a line of the profile is right in the form.
     fn is_right_prof(&self, sampled: &Sampled, each: bool, line: Prof) -> bool
-        requires known { AreKnown self.now.trace.now self.now.report.now self.now.items.now self.now.lasts.now }
+        requires known { AreKnownItems self.now.trace.now self.now.report.now self.now.items.now self.now.lasts.now }
         requires sampled { AreSamples self.now.trace.now self.now.items.now sampled.now }
         ensures { MatchBool result
             (IsRightProf each (marked_by self.now.trace.now) (samples_by self.now.trace.now sampled.now) (last_cycle self.now.trace.now) (objects_of self.now.items.now) line)
@@ -136,11 +136,11 @@ impl Objects<'_> {
 
     // Whether each bucket has a line of each mark end at which it is due.
     fn all_printed(&self, alloc: Global, sampled: &Sampled, each: bool) -> Result<bool, NoMemory>
-        requires known { AreKnown self.now.trace.now self.now.report.now self.now.items.now self.now.lasts.now }
+        requires known { AreKnownItems self.now.trace.now self.now.report.now self.now.items.now self.now.lasts.now }
         requires sampled { AreSamples self.now.trace.now self.now.items.now sampled.now }
         ensures { IfOk result (λ all. MatchBool all
             (AllPrinted each (marked_by self.now.trace.now) (samples_by self.now.trace.now sampled.now) (last_cycle self.now.trace.now) (objects_of self.now.items.now) self.now.report.now.profile)
-            (LacksOne each (marked_by self.now.trace.now) (samples_by self.now.trace.now sampled.now) (last_cycle self.now.trace.now) (objects_of self.now.items.now) self.now.report.now.profile)) }
+            (LacksLine each (marked_by self.now.trace.now) (samples_by self.now.trace.now sampled.now) (last_cycle self.now.trace.now) (objects_of self.now.items.now) self.now.report.now.profile)) }
     {
         let printed = printed_of(alloc, self.report.profile.as_slice())?;
         for number in 0..self.items.len() {
@@ -154,7 +154,7 @@ impl Objects<'_> {
     // Whether the bucket of a sample has a line of each mark end at which the sample makes it due: the last, and in the
     // form of each mark end the first behind its own cycle and the first behind its last one.
     fn is_printed(&self, printed: &Sorted, sampled: &Sampled, each: bool, number: usize) -> bool
-        requires known { AreKnown self.now.trace.now self.now.report.now self.now.items.now self.now.lasts.now }
+        requires known { AreKnownItems self.now.trace.now self.now.report.now self.now.items.now self.now.lasts.now }
         requires sampled { AreSamples self.now.trace.now self.now.items.now sampled.now }
         requires printed { ArePrinted self.now.report.now.profile printed.now }
         requires inside { number < length self.now.items.now }
@@ -216,7 +216,7 @@ fn printed_of(alloc: Global, lines: &[Prof]) -> Result<Sorted, NoMemory>
 // Whether the profile has a line of the bucket and the mark end.
 fn has_line(printed: &Sorted, stack: u32, slot: u64, mark: u32) -> bool
     ensures { (lines : Lines ALine) → ArePrinted lines printed.now
-        → MatchBool result (HasLine lines mark (record { stack = stack; slot = slot })) (¬ HasLine lines mark (record { stack = stack; slot = slot })) }
+        → MatchBool result (HasBucketLine lines mark (record { stack = stack; slot = slot })) (¬ HasBucketLine lines mark (record { stack = stack; slot = slot })) }
 {
     printed.has(place_of(stack, slot, mark))
 }
@@ -224,7 +224,7 @@ fn has_line(printed: &Sorted, stack: u32, slot: u64, mark: u32) -> bool
 // Whether the profile has a line of the bucket and the mark end, where that is due.
 fn is_shown(printed: &Sorted, stack: u32, slot: u64, mark: u32, due: bool) -> bool
     ensures { (lines : Lines ALine) → ArePrinted lines printed.now
-        → MatchBool result (due ≡ true → HasLine lines mark (record { stack = stack; slot = slot })) (¬ (due ≡ true → HasLine lines mark (record { stack = stack; slot = slot }))) }
+        → MatchBool result (due ≡ true → HasBucketLine lines mark (record { stack = stack; slot = slot })) (¬ (due ≡ true → HasBucketLine lines mark (record { stack = stack; slot = slot }))) }
 {
     !due || has_line(printed, stack, slot, mark)
 }

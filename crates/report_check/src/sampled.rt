@@ -8,9 +8,9 @@ ghost use Rattle.trace_reader.specs.declared.trace.Event.{Event as AnEvent};
 ghost use Rattle.trace_reader.specs.Limits.{events_of};
 ghost use Rattle.cycle_history.specs.Objects.{is_placed};
 ghost use Rattle.report_check.specs.Items.{objects_of};
-ghost use Rattle.report_check.specs.Known.{AreKnown};
+ghost use Rattle.report_check.specs.Known.{AreKnownItems};
 ghost use Rattle.report_check.specs.Order as order;
-ghost use Rattle.report_check.specs.Sampling.{AreCountdowns, AreFlags, AreFew, ArePlacesBy, AreSamples, is_before};
+ghost use Rattle.report_check.specs.Sampling.{AreCountdowns, AreFlags, FitTheirTypes, ArePlacesBy, AreSamples, is_before};
 
 use crate::items::Item;
 use crate::lasts::own_cycles;
@@ -38,7 +38,7 @@ pub(crate) struct Sampled {
 impl Sampled {
     /// The samples by the trace's rate and seed. It takes time in the objects.
     pub(crate) fn of(alloc: Global, objects: &Objects<'_>) -> Result<Sampled, NoMemory>
-        requires known { AreKnown objects.now.trace.now objects.now.report.now objects.now.items.now objects.now.lasts.now }
+        requires known { AreKnownItems objects.now.trace.now objects.now.report.now objects.now.items.now objects.now.lasts.now }
         ensures { IfOk result (λ sampled. AreSamples objects.now.trace.now objects.now.items.now sampled) }
     {
         let flags = flags_of(alloc, objects)?;
@@ -80,7 +80,7 @@ pub(crate) fn count_before(places: &Sorted, stack: u32, slot: u64, mark: u32) ->
 
 // Whether each object is a sample: the countdown of its processor says so.
 fn flags_of(alloc: Global, objects: &Objects<'_>) -> Result<Vec<bool>, NoMemory>
-    requires known { AreKnown objects.now.trace.now objects.now.report.now objects.now.items.now objects.now.lasts.now }
+    requires known { AreKnownItems objects.now.trace.now objects.now.report.now objects.now.items.now objects.now.lasts.now }
     ensures flags { IfOk result (λ flags. AreFlags objects.now.trace.now objects.now.items.now flags.items (objects_of objects.now.items.now)) }
     ensures size { IfOk result (λ flags. length flags.items ≡ length objects.now.items.now) }
 {
@@ -153,7 +153,7 @@ fn places_by(
     requires stacks { length stacks.now ≡ length items.now }
     requires cycles { length cycles.now ≡ length items.now }
     ensures places { IfOk result (λ places. ArePlacesBy flags.now stacks.now cycles.now (objects_of items.now) places.items) }
-    ensures few { OnOk result (AreFew items.now stacks.now cycles.now (length items.now)) }
+    ensures few { OnOk result (FitTheirTypes items.now stacks.now cycles.now (length items.now)) }
 {
     let mut places = Vec::new(alloc);
     for number in 0..items.len() {

@@ -27,13 +27,13 @@ use std::alloc::Global;
 impl Objects<'_> {
     ghost use Rattle.report_check.specs.Fault.{IsFaultOf};
     ghost use Rattle.report_check.specs.Items.{objects_of};
-    ghost use Rattle.report_check.specs.Known.{AreKnown};
+    ghost use Rattle.report_check.specs.Known.{AreKnownItems};
     ghost use Rattle.report_check.specs.Sweeping.{AllMayGive, AreRightTo, IsFirstWrong};
 
     /// Whether the sweeps are those of the lives that the mark ends find alive, and lives are given back where nothing of
     /// them is kept: rule 7. It takes time in the journal, the sweeps, the objects and the marks.
     pub fn judge_sweeps(&self, alloc: Global) -> Result<(), CheckFault>
-        requires known { AreKnown self.now.trace.now self.now.report.now self.now.items.now self.now.lasts.now }
+        requires known { AreKnownItems self.now.trace.now self.now.report.now self.now.items.now self.now.lasts.now }
         ensures sweeps { OnOk result (AreSwept (marked_by self.now.trace.now) (last_cycle self.now.trace.now) (past_in self.now.report.now) (objects_of self.now.items.now) self.now.report.now.sweeps) }
         ensures fault { IfErr result (IsFaultOf 7 (BreaksSweeps (marked_by self.now.trace.now) (last_cycle self.now.trace.now) self.now.report.now (objects_of self.now.items.now))) }
     {
@@ -45,7 +45,7 @@ impl Objects<'_> {
     /// Whether the sweeps are right and in order: rule 7, as far as the lines of the sweeps tell it. The fault is the first
     /// that breaks the rule where no Give does.
     pub fn judge_notes(&self, alloc: Global) -> Result<(), CheckFault>
-        requires known { AreKnown self.now.trace.now self.now.report.now self.now.items.now self.now.lasts.now }
+        requires known { AreKnownItems self.now.trace.now self.now.report.now self.now.items.now self.now.lasts.now }
         ensures right { OnOk result (AreRightTo self.now.trace.now self.now.report.now (objects_of self.now.items.now) (length self.now.report.now.sweeps)) }
         ensures fault { IfErr result (λ fault. AllMayGive self.now.report.now
             → IsFaultOf 7 (BreaksSweeps (marked_by self.now.trace.now) (last_cycle self.now.trace.now) self.now.report.now (objects_of self.now.items.now)) fault) }
@@ -70,7 +70,7 @@ impl Objects<'_> {
 
     // The first sweep that isn't right, or is out of order.
     fn first_wrong(&self, alloc: Global) -> Result<Option<usize>, NoMemory>
-        requires known { AreKnown self.now.trace.now self.now.report.now self.now.items.now self.now.lasts.now }
+        requires known { AreKnownItems self.now.trace.now self.now.report.now self.now.items.now self.now.lasts.now }
         ensures few { IfOk result (λ place. IfSome place (λ place. place < 2 ^ 62)) }
         ensures wrong { IfOk result (λ place. MatchOption place (AreRightTo self.now.trace.now self.now.report.now (objects_of self.now.items.now) (length self.now.report.now.sweeps)) (IsFirstWrong self.now.trace.now self.now.report.now (objects_of self.now.items.now))) }
     {

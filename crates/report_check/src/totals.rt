@@ -10,7 +10,7 @@ ghost use Rattle.cycle_history.specs.Sweeps.{AreTotals};
 ghost use Rattle.report_rules.specs.Closing.{BreaksTotals};
 ghost use Rattle.report_rules.specs.Lines as lines;
 ghost use Rattle.report_check.specs.Fault.{IsFaultOf};
-ghost use Rattle.report_check.specs.Totals.{AreFitting, HasAll, IsMisfit, LacksOne};
+ghost use Rattle.report_check.specs.Totals.{AreFitting, HasAll, IsMisfit, LacksTotal};
 
 use crate::CheckFault;
 use crate::lines::end_of;
@@ -76,7 +76,7 @@ fn first_misfit(printed: &[Total], right: &[Total]) -> Option<usize>
 
 // Whether each of these totals is printed.
 fn has_all(printed: &[Total], totals: &[Total]) -> bool
-    ensures { MatchBool result (HasAll printed.now totals.now) (LacksOne printed.now totals.now) }
+    ensures { MatchBool result (HasAll printed.now totals.now) (LacksTotal printed.now totals.now) }
 {
     for total in totals {
         if !has(printed, *total) {

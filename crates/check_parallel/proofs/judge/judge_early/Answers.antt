@@ -1,6 +1,6 @@
 use Rattle.std.proofs.Common.{inl, inr}
 use Rattle.report_check.specs.declared.fault.CheckFault.{CheckFault}
-use Rattle.check_parallel.specs.Parts.{FaultOfInside, FaultOfMisses, MeetsInside, MeetsMisses, Then}
+use Rattle.check_parallel.specs.Parts.{FaultOfInside, FaultOfMisses, MeetsInside, MeetsMisses, FailsInTurn}
 use Rattle.check_parallel.proofs.Answering.{err-both, err-map, if-err, ok-map, when-ok}
 use Rattle.check_parallel.proofs.judge.judge_early.Goals as goal
 
@@ -8,7 +8,7 @@ pub returns-in_err-misses : goal.returns-in_err-misses
 returns-in_err-misses g c =
     let report = c.args.report.now in
     let items = c.args.items.now in
-    err-both c.from_residual.result c.in_err-misses.field-0.0 (MeetsMisses report items × MeetsInside c.args.trace.now items) (Then (FaultOfMisses report items) (MeetsMisses report items) (FaultOfInside c.args.trace.now items))
+    err-both c.from_residual.result c.in_err-misses.field-0.0 (MeetsMisses report items × MeetsInside c.args.trace.now items) (FailsInTurn (FaultOfMisses report items) (MeetsMisses report items) (FaultOfInside c.args.trace.now items))
     c.from_residual.ensures.1 (inl (if-err c.join-misses.result.0 c.in_err-misses.field-0.0 _ c.in_err-misses.was c.join-misses.ensures.first.1))
 
 pub returns : goal.returns

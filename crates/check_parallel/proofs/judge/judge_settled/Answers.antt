@@ -6,13 +6,13 @@ use Rattle.report_check.specs.declared.items.Item.{Item}
 use Rattle.report_check.specs.Fault.{IsFault}
 use Rattle.report_check.specs.Items.{objects_of}
 use Rattle.report_check.proofs.Faults.{err-from, fault-3, fault-5, fault-6, fault-7, fault-8, fault-9}
-use Rattle.check_parallel.specs.Parts.{FaultOfCounted, FaultOfInside, FaultOfMisses, FaultOfSweeps, MeetsInside, MeetsMisses, MeetsSweeps, Then}
+use Rattle.check_parallel.specs.Parts.{FaultOfCounted, FaultOfInside, FaultOfMisses, FaultOfSweeps, MeetsInside, MeetsMisses, MeetsSweeps, FailsInTurn}
 use Rattle.check_parallel.specs.Seating.{AreSeatedItems}
 use Rattle.check_parallel.proofs.Answering.{err-map, if-err, when-ok}
 use Rattle.check_parallel.proofs.judge.judge_settled.Goals as goal
 
 -- a fault of the rules 3, 5 and 6
-early-fault : (t : Trace) (report : Report) (items : List Item) (fault : CheckFault) → AreSeatedItems t report items → Then (FaultOfMisses report items) (MeetsMisses report items) (FaultOfInside t items) fault → IsFault t report fault
+early-fault : (t : Trace) (report : Report) (items : List Item) (fault : CheckFault) → AreSeatedItems t report items → FailsInTurn (FaultOfMisses report items) (MeetsMisses report items) (FaultOfInside t items) fault → IsFault t report fault
 early-fault t report items fault s is = elim is [
   | inl misses ↦ fault-3 t report (objects_of items) fault s.answers s.journal misses
   | inr rest ↦ elim rest.1 [
@@ -23,7 +23,7 @@ early-fault t report items fault s is = elim is [
 
 -- a fault of the rules 7 to 9
 closing-fault : (t : Trace) (report : Report) (items : List Item) (fault : CheckFault) → AreSeatedItems t report items → MeetsMisses report items → MeetsInside t items
-    → Then (FaultOfSweeps t report items) (MeetsSweeps t report items) (FaultOfCounted t report items) fault → IsFault t report fault
+    → FailsInTurn (FaultOfSweeps t report items) (MeetsSweeps t report items) (FaultOfCounted t report items) fault → IsFault t report fault
 closing-fault t report items fault s misses inside is = elim is [
   | inl sweeps ↦ fault-7 t report (objects_of items) fault s.answers s.journal misses s.places inside.0 inside.1 sweeps
   | inr rest ↦ elim rest.1 [

@@ -3,7 +3,7 @@ use Rattle.std.proofs.lemmas.Option.{slice_get-get_or}
 use Rattle.cycle_history.specs.declared.Answer.TheVariants.{Zero}
 use Rattle.report_check.specs.declared.filling.Filling.{Filling}
 use Rattle.report_check.specs.declared.items.Item.{Item}
-use Rattle.report_check.specs.Filling.{HasRoom}
+use Rattle.report_check.specs.Filling.{HasFillingRoom}
 use Rattle.report_check.specs.Pieces.{seen_by}
 use Rattle.report_check.proofs.Clearing.{clear-all, clear-more, clear-none, clear-other, placed-inside, placed-index, placed-place}
 use Rattle.report_check.proofs.Filled.{AreFilledTo, filled-all, filled-more, filled-none, filled-other, room-more}
@@ -14,7 +14,7 @@ use Rattle.check_parallel.proofs.pieces.all_fit.Goals as goal
 
 pub loop-number-init : goal.loop-number-init
 loop-number-init c = record {
-  room = subst (λ (k : ℕ). HasRoom c.in_ok-filling.filling k (c.args.trace.now.header.procs * 136)) c.len.ensures c.in_ok-filling.ensures.room;
+  room = subst (λ (k : ℕ). HasFillingRoom c.in_ok-filling.filling k (c.args.trace.now.header.procs * 136)) c.len.ensures c.in_ok-filling.ensures.room;
   filled = filled-none (seen_by c.args.piece c.args.items.now) c.args.lasts.now c.in_ok-filling.filling c.in_ok-filling.ensures.empty;
   clear = clear-none (seen_by c.args.piece c.args.items.now) c.args.lasts.now;
 }
@@ -74,7 +74,7 @@ loop-number-preserved c =
           let fit = w.if-not-branch.false in
           let taken = w.in_ok-takes.ensures.taken fit in
           record {
-            room = subst (λ (x : Filling). HasRoom x lives places) (sym w.filling-is) (room-more c.loop-number.filling w.takes.new.filling _ _ lives places taken c.loop-number.invariant.room);
+            room = subst (λ (x : Filling). HasFillingRoom x lives places) (sym w.filling-is) (room-more c.loop-number.filling w.takes.new.filling _ _ lives places taken c.loop-number.invariant.room);
             filled = subst (λ (x : Filling). AreFilledTo seen lasts (n + 1) x) (sym w.filling-is)
                 (filled-more t (report_of report seen) seen lasts n places _ c.loop-number.filling w.takes.new.filling known own is.0 c.loop-number.invariant.room inside
                 (w.in_ok-takes.ensures.fitting fit) taken c.loop-number.invariant.filled);
@@ -84,7 +84,7 @@ loop-number-preserved c =
           let other = at-seen piece items n _ at in
           let off = not-seen piece _ w.if-sees.ensures in
           record {
-            room = subst (λ (x : Filling). HasRoom x lives places) (sym w.filling-is) c.loop-number.invariant.room;
+            room = subst (λ (x : Filling). HasFillingRoom x lives places) (sym w.filling-is) c.loop-number.invariant.room;
             filled = subst (λ (x : Filling). AreFilledTo seen lasts (n + 1) x) (sym w.filling-is) (filled-other seen lasts n _ c.loop-number.filling other off c.loop-number.invariant.filled);
             clear = clear-other seen lasts n _ other off c.loop-number.invariant.clear;
           })
@@ -93,7 +93,7 @@ loop-number-preserved c =
           let other = at-seen piece items n (get_or items n nothing) at' in
           let off = not-seen piece (get_or items n nothing) (λ see. w.if-from-piece.false (c.from.ensures ∙ seen-home piece items c.args.homes.now n (get_or items n nothing) c.requires.homes at' see)) in
           record {
-            room = subst (λ (x : Filling). HasRoom x lives places) (sym w.filling-is) c.loop-number.invariant.room;
+            room = subst (λ (x : Filling). HasFillingRoom x lives places) (sym w.filling-is) c.loop-number.invariant.room;
             filled = subst (λ (x : Filling). AreFilledTo seen lasts (n + 1) x) (sym w.filling-is) (filled-other seen lasts n _ c.loop-number.filling other off c.loop-number.invariant.filled);
             clear = clear-other seen lasts n _ other off c.loop-number.invariant.clear;
           })

@@ -1,7 +1,7 @@
 use Rattle.std.proofs.Common.{◌≤◌, List, Result, length, map, sym, ◌∙◌, ap, subst, arith, inl, inr}
 use Rattle.report_check.specs.declared.fault.CheckFault.{CheckFault}
 use Rattle.check_parallel.specs.declared.pieces.Verdict.{Verdict}
-use Rattle.check_parallel.specs.Parts.{FaultOfApart, FaultOfFilling, IsApartJudged, IsFillingJudged, MeetsApart, MeetsFilling, Then}
+use Rattle.check_parallel.specs.Parts.{FaultOfApart, FaultOfFilling, IsApartJudged, IsFillingJudged, MeetsApart, MeetsFilling, FailsInTurn}
 use Rattle.check_parallel.specs.Verdicts.{least}
 use Rattle.check_parallel.proofs.Answering.{err-both, err-map, if-err, ok-map, when-ok}
 use Rattle.check_parallel.proofs.Covering.{apart-joined, filling-joined}
@@ -18,7 +18,7 @@ returns-in_err-least_apart g c =
     let is = c.least_apart.ensures ∙ ap (λ (vs : List Verdict). least (map (λ (v : Verdict). v.apart) vs)) c.deref-2.ensures.value in
     let said = subst (λ (r : Result (Unit {0}) CheckFault). IsApartJudged t items r) (sym is) joined in
     let fault = if-err c.least_apart.result c.in_err-least_apart.field-0.0 _ c.in_err-least_apart.was said.1 in
-    err-both c.from_residual-in_err-least_apart.result c.in_err-least_apart.field-0.0 (MeetsApart t items × MeetsFilling t items) (Then (FaultOfApart t items) (MeetsApart t items) (FaultOfFilling t items))
+    err-both c.from_residual-in_err-least_apart.result c.in_err-least_apart.field-0.0 (MeetsApart t items × MeetsFilling t items) (FailsInTurn (FaultOfApart t items) (MeetsApart t items) (FaultOfFilling t items))
     c.from_residual-in_err-least_apart.ensures.1 (inl fault)
 
 pub returns : goal.returns

@@ -1,7 +1,7 @@
 use Rattle.std.proofs.Common.{◌≡◌, List, length, sym, ◌∙◌, ap, subst, arith}
 use Rattle.cycle_history.specs.declared.Answer.{Answer}
 use Rattle.report_check.specs.declared.asked.Asked.{Asked}
-use Rattle.check_parallel.specs.Seating.{IsPart}
+use Rattle.check_parallel.specs.Seating.{IsItemsPart}
 use Rattle.check_parallel.proofs.Answering.{ok-done}
 use Rattle.check_parallel.proofs.OwnSeats.{answers-by, own-seats, part-whole, places-by}
 use Rattle.check_parallel.proofs.seating.seated_items.Goals as goal
@@ -43,7 +43,7 @@ returns g c =
     let size = c.seat_parts.auto.items in
     let long = c.len-cycles.ensures in
     let few = c.requires.limited.mark_ends in
-    let part : IsPart t report asked answers (length items) = part-whole t report asked answers (length items) c.requires.limited c.requires.journal c.requires.asked (omega arith) (omega arith) c.requires.limited.header.chunks.1 in
+    let part : IsItemsPart t report asked answers (length items) = part-whole t report asked answers (length items) c.requires.limited c.requires.journal c.requires.asked (omega arith) (omega arith) c.requires.limited.header.chunks.1 in
     let seated = c.in_ok-seat_parts.ensures c.if-not-branch.false in
     let known = answers-by t report asked answers items c.requires.asked c.as_slice-answers.ensures part seated in
     let own = own-seats t report asked answers items part seated in

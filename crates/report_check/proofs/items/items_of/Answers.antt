@@ -1,5 +1,5 @@
 use Rattle.std.proofs.Common.{refl, arith}
-use Rattle.report_check.specs.Items.{AreAsked}
+use Rattle.report_check.specs.Items.{AreRequests}
 use Rattle.report_check.proofs.Answered.{done-none, done-more, done-missing, done-wrong, done-behind, done-all, size-at}
 use Rattle.report_check.proofs.items.items_of.Goals as goal
 
@@ -11,7 +11,7 @@ bounds-answers-number c = omega arith
 
 pub returns-then-number-answers-clause-fault : goal.returns-then-number-answers-clause-fault
 returns-then-number-answers-clause-fault c =
-    let are : AreAsked c.args.trace.now c.as_slice-request-items.result.now = rw c.as_slice-request-items.ensures c.in_ok-asked.ensures in (
+    let are : AreRequests c.args.trace.now c.as_slice-request-items.result.now = rw c.as_slice-request-items.ensures c.in_ok-asked.ensures in (
       refl,
       done-missing c.args.trace.now c.args.report.now c.as_slice-request-items.result.now c.as_slice-answers.result.now c.loop-request.items c.loop-request.request-index c.len-number.result c.end_of-line.result
           are c.as_slice-answers.ensures c.loop-request.invariant (omega arith) c.len-number.ensures (omega arith) c.end_of-line.ensures,
@@ -19,7 +19,7 @@ returns-then-number-answers-clause-fault c =
 
 pub returns-then-not-is_right-clause-fault : goal.returns-then-not-is_right-clause-fault
 returns-then-not-is_right-clause-fault c =
-    let are : AreAsked c.args.trace.now c.as_slice-request-items.result.now = rw c.as_slice-request-items.ensures c.in_ok-asked.ensures in (
+    let are : AreRequests c.args.trace.now c.as_slice-request-items.result.now = rw c.as_slice-request-items.ensures c.in_ok-asked.ensures in (
       refl,
       done-wrong c.args.trace.now c.args.report.now c.as_slice-request-items.result.now c.as_slice-answers.result.now c.loop-request.items c.loop-request.request-index c.len-number.result _ _
           are c.as_slice-answers.ensures c.loop-request.invariant (omega arith) c.len-number.ensures (omega arith) c.if-not-is_right.ensures,
@@ -27,19 +27,19 @@ returns-then-not-is_right-clause-fault c =
 
 pub new-requires-clause-size : goal.new-requires-clause-size
 new-requires-clause-size c =
-    let are : AreAsked c.args.trace.now c.as_slice-request-items.result.now = rw c.as_slice-request-items.ensures c.in_ok-asked.ensures in
+    let are : AreRequests c.args.trace.now c.as_slice-request-items.result.now = rw c.as_slice-request-items.ensures c.in_ok-asked.ensures in
     size-at c.args.trace.now c.as_slice-request-items.result.now c.loop-request.request-index _ c.requires.limited are (omega arith)
 
 pub loop-request-preserved : goal.loop-request-preserved
 loop-request-preserved c =
-    let are : AreAsked c.args.trace.now c.as_slice-request-items.result.now = rw c.as_slice-request-items.ensures c.in_ok-asked.ensures in
+    let are : AreRequests c.args.trace.now c.as_slice-request-items.result.now = rw c.as_slice-request-items.ensures c.in_ok-asked.ensures in
     let number = c.loop-request.invariant.number in
     done-more c.args.trace.now c.args.report.now c.as_slice-request-items.result.now c.as_slice-answers.result.now c.loop-request.items c.push.new.self c.loop-request.request-index c.len-number.result _ _ c.new.result
     are c.as_slice-answers.ensures (omega arith) (omega arith) (omega arith) c.loop-request.invariant c.new.ensures.item c.new.ensures.answer c.in_ok-push.ensures.ok
 
 pub returns-then-len-answers-clause-fault : goal.returns-then-len-answers-clause-fault
 returns-then-len-answers-clause-fault c =
-    let are : AreAsked c.args.trace.now c.as_slice-request-items.result.now = rw c.as_slice-request-items.ensures c.in_ok-asked.ensures in (
+    let are : AreRequests c.args.trace.now c.as_slice-request-items.result.now = rw c.as_slice-request-items.ensures c.in_ok-asked.ensures in (
       refl,
       done-behind c.args.trace.now c.args.report.now c.as_slice-request-items.result.now c.as_slice-answers.result.now c.loop-request.items c.loop-request.request-index c.len.result c.len-then-len-answers.result
           are c.as_slice-answers.ensures c.loop-request.invariant (omega arith) c.len.ensures c.len-then-len-answers.ensures (omega arith),
@@ -47,6 +47,6 @@ returns-then-len-answers-clause-fault c =
 
 pub returns-clause-answers : goal.returns-clause-answers
 returns-clause-answers c =
-    let are : AreAsked c.args.trace.now c.as_slice-request-items.result.now = rw c.as_slice-request-items.ensures c.in_ok-asked.ensures in
+    let are : AreRequests c.args.trace.now c.as_slice-request-items.result.now = rw c.as_slice-request-items.ensures c.in_ok-asked.ensures in
     done-all c.args.trace.now c.args.report.now c.as_slice-request-items.result.now c.as_slice-answers.result.now c.loop-request.items c.loop-request.request-index c.len.result
     are c.as_slice-answers.ensures c.loop-request.invariant (omega arith) c.len.ensures (omega arith)

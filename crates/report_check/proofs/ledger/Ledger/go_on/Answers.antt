@@ -11,7 +11,7 @@ use Rattle.cycle_history.specs.Objects.{freed, kept}
 use Rattle.cycle_history.specs.Sweeps.{IsUsedAgain}
 use Rattle.report_check.specs.declared.items.Item.{Item}
 use Rattle.report_check.specs.Items.{objects_of}
-use Rattle.report_check.specs.Known.{AreKnown}
+use Rattle.report_check.specs.Known.{AreKnownItems}
 use Rattle.report_check.specs.declared.ledger.Alive.{Alive}
 use Rattle.report_check.specs.declared.ledger.Tally.{Tally}
 use Rattle.report_check.specs.Tallies.{AreTallied, CountsAlive, freed_in, is_freed, is_kept, kept_in, tally_at}
@@ -51,7 +51,7 @@ add_all-requires-clause-last c =
     omega arith
 
 -- the objects that live once those of the cycle came
-alive-at : (t : Trace) (report : Report) (items : List Item) (lasts : List ℕ) (cycle m n : ℕ) (old kept new : List Alive) (used used' : List ℕ) → AreKnown t report items lasts → 1 ≤ cycle → m ≡ objects_before t cycle → n ≡ objects_before t (cycle + 1)
+alive-at : (t : Trace) (report : Report) (items : List Item) (lasts : List ℕ) (cycle m n : ℕ) (old kept new : List Alive) (used used' : List ℕ) → AreKnownItems t report items lasts → 1 ≤ cycle → m ≡ objects_before t cycle → n ≡ objects_before t (cycle + 1)
     → CountsAlive t items lasts (cycle - 1) m old → ((test : Alive → Bool) → count test kept ≡ count (λ (a : Alive). leb cycle a.last && test a) old) → AddsItems items lasts m n kept new used used' → CountsAlive t items lasts cycle n new
 alive-at t report items lasts cycle m n old kept new used used' known some first last counts survive adds =
     let c = cycle - 1 in

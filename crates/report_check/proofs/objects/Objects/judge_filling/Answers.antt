@@ -1,7 +1,7 @@
 use Rattle.std.proofs.Common.{ℕ, ◌+◌, ◌*◌, length, refl, sym, subst, arith}
 use Rattle.std.proofs.lemmas.Option.{slice_get-get_or}
 use Rattle.report_check.specs.declared.filling.Filling.{Filling}
-use Rattle.report_check.specs.Filling.{HasRoom}
+use Rattle.report_check.specs.Filling.{HasFillingRoom}
 use Rattle.report_check.specs.Pieces.{seen_by}
 use Rattle.report_check.proofs.Clearing.{placed-inside, placed-index, placed-place}
 use Rattle.report_check.proofs.Filled.{AreFilledTo, room-more, filled-none, filled-more, filled-other, filled-fault, filled-all}
@@ -11,7 +11,7 @@ use Rattle.report_check.proofs.objects.Objects.judge_filling.Goals as goal
 
 pub loop-number-init : goal.loop-number-init
 loop-number-init c = record {
-  room = subst (λ (k : ℕ). HasRoom c.in_ok-filling.filling k (c.args.self.now.trace.now.header.procs * 136)) c.len.ensures c.in_ok-filling.ensures.room;
+  room = subst (λ (k : ℕ). HasFillingRoom c.in_ok-filling.filling k (c.args.self.now.trace.now.header.procs * 136)) c.len.ensures c.in_ok-filling.ensures.room;
   filled = filled-none (seen_by c.args.piece c.args.self.now.items.now) c.args.self.now.lasts.now c.in_ok-filling.filling c.in_ok-filling.ensures.empty;
 }
 
@@ -95,7 +95,7 @@ loop-number-preserved c =
           let known = known-seen piece t report items lasts c.requires.known in
           let inside = placed-place t report items lasts n _ c.requires.known at is.0 in
           record {
-            room = subst (λ (x : Filling). HasRoom x lives places) (sym w.filling-is) (room-more c.loop-number.filling w.take_up.new.self _ _ lives places w.in_ok-take_up.ensures c.loop-number.invariant.room);
+            room = subst (λ (x : Filling). HasFillingRoom x lives places) (sym w.filling-is) (room-more c.loop-number.filling w.take_up.new.self _ _ lives places w.in_ok-take_up.ensures c.loop-number.invariant.room);
             filled = subst (λ (x : Filling). AreFilledTo seen lasts (n + 1) x) (sym w.filling-is)
                 (filled-more t (report_of report seen) seen lasts n places _ c.loop-number.filling w.take_up.new.self known own is.0 c.loop-number.invariant.room inside
                 w.if-not-fits.ensures w.in_ok-take_up.ensures c.loop-number.invariant.filled);
@@ -104,7 +104,7 @@ loop-number-preserved c =
           let other = at-seen piece items n _ at in
           let off = not-seen piece _ w.if-sees.ensures in
           record {
-            room = subst (λ (x : Filling). HasRoom x lives places) (sym w.filling-is) c.loop-number.invariant.room;
+            room = subst (λ (x : Filling). HasFillingRoom x lives places) (sym w.filling-is) c.loop-number.invariant.room;
             filled = subst (λ (x : Filling). AreFilledTo seen lasts (n + 1) x) (sym w.filling-is) (filled-other seen lasts n _ c.loop-number.filling other off c.loop-number.invariant.filled);
           })
     ]

@@ -3,7 +3,7 @@ use Rattle.cycle_history.specs.Requests.{last_cycle, marked_by}
 use Rattle.report_rules.specs.Lines.{IsLeast}
 use Rattle.report_rules.specs.Published.{BreaksProfile, IsRightProf}
 use Rattle.report_check.specs.Items.{objects_of}
-use Rattle.report_check.specs.Printed.{AllPrinted, AreRightProfs, IsFirstWrongProf, LacksOne}
+use Rattle.report_check.specs.Printed.{AllPrinted, AreRightProfs, IsFirstWrongProf, LacksLine}
 use Rattle.report_check.specs.Sampling.{samples_by}
 use Rattle.report_check.proofs.Righting.{on-false, on-true}
 use Rattle.report_check.proofs.Showing.{lacks-fault, prof-fault, profile-has}
@@ -24,7 +24,7 @@ returns-then-not-branch-clause-fault c =
     let items = c.args.self.now.items.now in
     let s = samples_by t c.in_ok-sampled.sampled in
     let right = subst (λ (each : Bool). AreRightProfs (IsRightProf each (marked_by t) s (last_cycle t) (objects_of items)) report.profile (length report.profile)) c.is_of_each-each.ensures c.in_default.ensures in
-    let lacks = subst (λ (each : Bool). LacksOne each (marked_by t) s (last_cycle t) (objects_of items) report.profile) c.is_of_each-each.ensures (on-false _ _ _ c.if-not-branch.true c.in_ok-all_printed.ensures) in
+    let lacks = subst (λ (each : Bool). LacksLine each (marked_by t) s (last_cycle t) (objects_of items) report.profile) c.is_of_each-each.ensures (on-false _ _ _ c.if-not-branch.true c.in_ok-all_printed.ensures) in
     (refl, subst (λ (k : ℕ). IsLeast (BreaksProfile t report (objects_of items)) k) (sym c.end_of-line.ensures) (lacks-fault t report items c.in_ok-sampled.sampled c.in_ok-sampled.ensures right lacks))
 
 pub returns-clause-profile : goal.returns-clause-profile

@@ -3,7 +3,7 @@ use Rattle.std.proofs.lemmas.List.{length-map}
 use Rattle.trace_reader.specs.declared.trace.Event.{Event}
 use Rattle.trace_reader.specs.Limits.{events_of}
 use Rattle.report_check.specs.Items.{objects_of}
-use Rattle.report_check.specs.Sampling.{AreFew, ArePlacesBy}
+use Rattle.report_check.specs.Sampling.{FitTheirTypes, ArePlacesBy}
 use Rattle.report_check.proofs.Bucketing.{AreMade, made-allocs, made-frees}
 use Rattle.report_check.proofs.Settled.{count-items}
 use Rattle.report_check.proofs.sampled.Sampled.of.Goals as goal
@@ -34,8 +34,8 @@ returns c =
       placed = subst (λ (fs : List Bool). ArePlacesBy fs stacks c.in_ok-cycles.cycles.items (objects_of items) c.in_ok-starts.starts.items) c.deref.ensures.value
           (subst (λ (xs : List ℕ). ArePlacesBy c.deref.result.now xs c.in_ok-cycles.cycles.items (objects_of items) c.in_ok-starts.starts.items) c.deref-2.ensures.value
           (subst (λ (xs : List ℕ). ArePlacesBy c.deref.result.now c.deref-2.result.now xs (objects_of items) c.in_ok-starts.starts.items) c.deref-3.ensures.value c.in_ok-starts.ensures.places));
-      few = subst (λ (xs : List ℕ). AreFew items xs c.in_ok-cycles.cycles.items (length items)) c.deref-2.ensures.value
-          (subst (λ (xs : List ℕ). AreFew items c.deref-2.result.now xs (length items)) c.deref-3.ensures.value c.in_ok-starts.ensures.few);
+      few = subst (λ (xs : List ℕ). FitTheirTypes items xs c.in_ok-cycles.cycles.items (length items)) c.deref-2.ensures.value
+          (subst (λ (xs : List ℕ). FitTheirTypes items c.deref-2.result.now xs (length items)) c.deref-3.ensures.value c.in_ok-starts.ensures.few);
       same = c.of.ensures;
     } in
     let ends : AreMade t items flags stacks lasts c.in_ok-ends.ends.items c.of-2.result = record {
@@ -43,7 +43,7 @@ returns c =
       stacked = c.in_ok-stacks.ensures;
       placed = subst (λ (fs : List Bool). ArePlacesBy fs stacks lasts (objects_of items) c.in_ok-ends.ends.items) c.deref-4.ensures.value
           (subst (λ (xs : List ℕ). ArePlacesBy c.deref-4.result.now xs lasts (objects_of items) c.in_ok-ends.ends.items) c.deref-5.ensures.value c.in_ok-ends.ensures.places);
-      few = subst (λ (xs : List ℕ). AreFew items xs lasts (length items)) c.deref-5.ensures.value c.in_ok-ends.ensures.few;
+      few = subst (λ (xs : List ℕ). FitTheirTypes items xs lasts (length items)) c.deref-5.ensures.value c.in_ok-ends.ensures.few;
       same = c.of-2.ensures;
     } in
     record {
