@@ -35,8 +35,8 @@ module _ (t : TableId) (r : RingId) (m : MarkSet) (old new : Hand) (may : MaySea
     alloc_again WantsMemory x = leaves_again x.1.0 x.1.1
 
     pub refill_again : (e : Refused) → RefillsCache pages distance k c d old new (Err e) → Serves new.worker.view.generation new.worker.view.own d → IsUsedBut k new.worker.view.own d
-        → MaySearch t r m new × IsIdle new.worker.view.own × IsMissing d k × (d.flushed ≡ c.flushed) × IsUsedCache new.worker.view.own
+        → MaySearch t r m new × IsIdle new.worker.view.own × IsMissing d k × (d.flushed ≡ c.flushed) × (new.worker.view.generation ≡ old.worker.view.generation) × IsUsedCache new.worker.view.own
     refill_again (NoRun line) x v u = let a = leaves_again x.2.0 x.2.1 in
-        (a.0, a.1, inl (ap (λ (z : Cache). slot_at z k) x.0 ∙ slot_gone c k), ap (λ (z : Cache). z.flushed) x.0, refused_used pages distance k c d old new (NoRun line) x v u)
+        (a.0, a.1, inl (ap (λ (z : Cache). slot_at z k) x.0 ∙ slot_gone c k), ap (λ (z : Cache). z.flushed) x.0, ap (λ (y : View). y.generation) x.2.1.view, refused_used pages distance k c d old new (NoRun line) x v u)
     refill_again WantsMemory x v u = let a = leaves_again x.1.0 x.1.1 in
-        (a.0, a.1, inl (ap (λ (z : Cache). slot_at z k) x.0 ∙ slot_gone c k), ap (λ (z : Cache). z.flushed) x.0, refused_used pages distance k c d old new WantsMemory x v u)
+        (a.0, a.1, inl (ap (λ (z : Cache). slot_at z k) x.0 ∙ slot_gone c k), ap (λ (z : Cache). z.flushed) x.0, ap (λ (y : View). y.generation) x.1.1.view, refused_used pages distance k c d old new WantsMemory x v u)

@@ -23,7 +23,7 @@ pub fn a_refused_allocation_may_be_made_again()
     ensures refill { (t : TableId) (r : RingId) (m : MarkSet) (pages : ℕ) (distance : ℕ) (k : ℕ) (c : Cache) (d : Cache) (old : Hand) (new : Hand) (e : Refused)
         → MaySearch t r m old → RefillsCache pages distance k c d old new (Err e) → Frees m old new
         → Serves new.worker.view.generation new.worker.view.own d → IsUsedBut k new.worker.view.own d
-        → MaySearch t r m new × IsIdle new.worker.view.own × IsMissing d k × (d.flushed ≡ c.flushed) × IsUsedCache new.worker.view.own }
+        → MaySearch t r m new × IsIdle new.worker.view.own × IsMissing d k × (d.flushed ≡ c.flushed) × (new.worker.view.generation ≡ old.worker.view.generation) × IsUsedCache new.worker.view.own }
     ensures alloc { (t : TableId) (r : RingId) (m : MarkSet) (pages : ℕ) (distance : ℕ) (k : ℕ) (c : Cache) (d : Cache) (old : Hand) (new : Hand) (e : Refused)
         → MaySearch t r m old → AllocatesIn pages distance k c d old new (Err e) → Frees m old new → MaySearch t r m new × IsIdle new.worker.view.own }
 {}
