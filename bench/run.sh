@@ -8,9 +8,9 @@ set -eu
 rounds=9
 counts='10000 100000 1000000'
 
-# make_trace CHUNKS: a trace on so many chunks, with the allocations that the input has.
+# make_trace CHUNKS [VERSION]: a trace on so many chunks, with the allocations that the input has; more than 128 want version 2.
 make_trace() {
-  echo "goheap 1"
+  echo "goheap ${2:-1}"
   echo "heap $1 procs 1 rate 0 seed 1 goal 65536"
   cat
   echo "end"
@@ -38,6 +38,8 @@ for kind in $kinds; do
   done
 done
 
+make_trace 4096 2 </dev/null >"$folder/largest.0"
+
 run_goheap() { ./goheap run <"$folder/$1" >/dev/null; }
 run_wc() { wc -l <"$folder/$1" >/dev/null; }
 run_awk() { awk '{ s += $3 } END { print s }' <"$folder/$1" >/dev/null; }
@@ -46,6 +48,7 @@ net() { echo $(($(median "$1" "$2.$3") - $(median "$1" "$2.0"))); }
 
 run_goheap small_sizes.0 # once, before anything is timed
 for ((round = 0; round < rounds; round++)); do
+  time_of goheap largest.0
   for tool in wc awk; do
     time_of $tool small_sizes.0
     time_of $tool small_sizes.1000000
@@ -76,5 +79,8 @@ empty=$(peak small_sizes.0 run)
 awk -v large="$(median goheap small_sizes.0)" -v one="$(median goheap misses.0)" -v peak=$empty -v least="$(peak misses.0 run)" 'BEGIN {
   printf "an empty trace of 128 chunks: %.2f s, %.0f MB\n", large / 1000000, 1024 * peak / 1000000
   printf "an empty trace of one chunk: %.3f s, %.0f MB\n", one / 1000000, 1024 * least / 1000000
+}'
+awk -v time="$(median goheap largest.0)" -v peak="$(peak largest.0 run)" 'BEGIN {
+  printf "an empty trace of 4096 chunks: %.2f s, %.0f MB\n", time / 1000000, 1024 * peak / 1000000
 }'
 awk -v kilobytes=$(($(peak small_sizes.1000000 run) - empty)) 'BEGIN { printf "memory: %.1f bytes an object beyond an empty trace\n", 1024 * kilobytes / 1000000 }'
