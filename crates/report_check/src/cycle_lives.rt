@@ -11,7 +11,7 @@ use crate::lives::{OpenLife, no_lives};
 use crate::places::take_up_to;
 use cycle_history::Report;
 use edge_io::NoMemory;
-use size_classes::CHUNK_PAGES;
+use size_classes::{CHUNK_PAGES, MAX_CHUNKS};
 use std::alloc::Global;
 use trace_reader::Trace;
 
@@ -29,7 +29,7 @@ impl Opened {
 
     /// No line is taken up.
     pub fn new(alloc: Global, trace: &Trace) -> Result<Opened, NoMemory>
-        requires { trace.now.header.chunks ≤ 128 }
+        requires { trace.now.header.chunks ≤ MAX_CHUNKS }
         ensures { IfOk result (λ opened. (report : AReport) (c : ℕ) → IsOpenTo trace.now report c opened) }
     {
         let lives = no_lives(alloc, CHUNK_PAGES as usize * trace.header.chunks as usize)?;

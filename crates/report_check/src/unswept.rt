@@ -19,6 +19,7 @@ use crate::lines::end_of;
 use crate::lives::OpenLife;
 use cycle_history::Report;
 use edge_io::NoMemory;
+use size_classes::MAX_PAGES;
 use std::alloc::Global;
 use trace_reader::Trace;
 
@@ -59,7 +60,7 @@ fn all_swept(alloc: Global, trace: &Trace, report: &Report) -> Result<bool, NoMe
 
 // Whether each life of the table has a sweep of the cycle.
 fn all_noted(lives: &[Option<OpenLife>], keys: &Keys, cycle: u32) -> bool
-    requires { length lives.now ≤ 65536 }
+    requires { length lives.now ≤ MAX_PAGES }
     ensures { (sweeps : Things Note) → AreKeys false sweeps keys.now → MatchBool result (AreAllNoted lives.now sweeps cycle) (LacksNote lives.now sweeps cycle) }
 {
     for page in 0..lives.len() {
