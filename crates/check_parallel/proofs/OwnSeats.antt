@@ -5,6 +5,7 @@ use Rattle.std.specs.Option.{option_map}
 use Rattle.std.proofs.lemmas.Bool.{cases_eq, cases_lt}
 use Rattle.std.proofs.lemmas.List.{length-set, length-take-le, length-map, take_more, take_all}
 use Rattle.std.proofs.lemmas.Option.{slice_get-get_or, slice_get_within, slice_get-map, get_or_from_slice_get}
+use Rattle.size_classes.specs.declared.TheConstants.{MAX_CHUNKS}
 use Rattle.page_alloc.specs.Lives.{Life}
 use Rattle.page_alloc.specs.Journal.{at_end}
 use Rattle.page_bitmap.specs.declared.line.Line.{Line}
@@ -209,7 +210,7 @@ asked-is t asked i r are at =
       slot = λ placed. (let f : false ≡ true = placed in cc);
     }
 
-pub part-whole : (t : Trace) (report : Report) (asked : List Asked) (answers : List Answer) (n : ℕ) → IsLimited t → HasJournal t report → AreRequests t asked → length asked ≡ n → length answers ≡ n → t.header.chunks ≤ 128 → IsItemsPart t report asked answers n
+pub part-whole : (t : Trace) (report : Report) (asked : List Asked) (answers : List Answer) (n : ℕ) → IsLimited t → HasJournal t report → AreRequests t asked → length asked ≡ n → length answers ≡ n → t.header.chunks ≤ MAX_CHUNKS → IsItemsPart t report asked answers n
 part-whole t report asked answers n limited journal are long all chunks = record {
   journal = journal;
   chunks = chunks;

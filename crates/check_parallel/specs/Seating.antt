@@ -1,6 +1,7 @@
 -- The objects of a report that get their answers and seats in parts.
 use Rattle.std.specs.Prelude.{◌≡◌, ℕ, ◌<◌, ◌≤◌, ◌^◌, true, List, length, Some, Option}
 use Rattle.std.specs.List.{slice_get}
+use Rattle.size_classes.specs.declared.TheConstants.{MAX_CHUNKS}
 use Rattle.trace_reader.specs.declared.trace.Trace.{Trace}
 use Rattle.cycle_history.specs.declared.Answer.{Answer}
 use Rattle.cycle_history.specs.declared.Report.{Report}
@@ -30,7 +31,7 @@ pub record IsSeatedAs (t : Trace) (report : Report) (r : Asked) (a : Answer) (it
 -- A part of so many objects: each has a request and an answer, and their cycles never fall.
 pub record IsItemsPart (t : Trace) (report : Report) (asked : List Asked) (answers : List Answer) (n : ℕ) : Type 0 where
   pub journal : HasJournal t report
-  pub chunks : t.header.chunks ≤ 128
+  pub chunks : t.header.chunks ≤ MAX_CHUNKS
   pub requests : length asked ≡ n
   pub answered : length answers ≡ n
   pub sizes : (i : ℕ) (r : Asked) → slice_get asked i ≡ Some r → r.event.size ≤ 2 ^ 40
