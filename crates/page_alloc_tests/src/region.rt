@@ -1,4 +1,4 @@
-//! What the calls answer over one, two, three and 128 chunks.
+//! What the calls answer over one, two, three, 128 and 4096 chunks.
 
 ghost use Rattle.std.specs.Prelude.{[], ◌≡◌, ◌*◌, ◌<◌, ◌≤◌, IsTrue};
 ghost use Rattle.page_alloc.specs.FreeRuns.{IsSpanSize};
@@ -7,7 +7,7 @@ ghost use Rattle.page_alloc.specs.Journal.{IsBy};
 
 use page_alloc::{NoRun, Pages};
 use page_bitmap::{Line, Run};
-use size_classes::span_pages;
+use size_classes::{MAX_CHUNKS, span_pages};
 use std::process::Abort;
 use std::test::Fail;
 
@@ -82,7 +82,7 @@ fn answer(rt: &impl Abort, pages: &mut Pages, chunks: u32, step: Step) -> Result
     requires by { IsBy 0 pages.old.past }
     requires blocks { open_blocks pages.old.past ≡ [] }
     requires region { pages.old.region ≡ 512 * chunks }
-    requires few { chunks ≤ 128 }
+    requires few { chunks ≤ MAX_CHUNKS }
     ensures by { IsBy 0 pages.new.past }
     ensures blocks { open_blocks pages.new.past ≡ [] }
     ensures region { pages.new.region ≡ 512 * chunks }
@@ -115,7 +115,7 @@ fn answers<R: Abort + AllocGlobal>(
     steps: &[Step],
 ) -> Result<(), Fail>
     requires some { 1 ≤ chunks }
-    requires few { chunks ≤ 128 }
+    requires few { chunks ≤ MAX_CHUNKS }
 {
     let mut pages = Pages::new(rt.alloc(), chunks, goal)?;
     for step in steps {
@@ -191,6 +191,21 @@ const OVER_128_CHUNKS: [Step; 6] = [
     Find(65536, Some(0)),
 ];
 
+// The same of the largest region, with a run over the border of the entries of two blocks of the second level.
+const OVER_4096_CHUNKS: [Step; 11] = [
+    Find(2097152, Some(0)),
+    Find(2097153, None),
+    Take(2097151, 0, Some(0)),
+    Find(1, Some(2097151)),
+    Find(2, None),
+    Give(0),
+    Take(262100, 0, Some(0)),
+    Take(100, 0, Some(262100)),
+    Take(1834952, 0, Some(262200)),
+    Give(262100),
+    Find(100, Some(262100)),
+];
+
 // The pages 500 to 531, over the border of two chunks, are free.
 const ACROSS_TWO_CHUNKS: [Step; 7] = [
     Take(500, 0, Some(0)),
@@ -219,7 +234,8 @@ fn calls_are_answered(rt: HostRuntime) -> Result<(), Fail> {
     answers(&rt, 3, 600, OVER_THREE_CHUNKS.as_slice())?;
     answers(&rt, 2, 1024, OVER_TWO_CHUNKS.as_slice())?;
     answers(&rt, 2, 1024, ACROSS_TWO_CHUNKS.as_slice())?;
-    answers(&rt, 128, 65536, OVER_128_CHUNKS.as_slice())
+    answers(&rt, 128, 65536, OVER_128_CHUNKS.as_slice())?;
+    answers(&rt, MAX_CHUNKS, 2097152, OVER_4096_CHUNKS.as_slice())
 }
 
 #[test]

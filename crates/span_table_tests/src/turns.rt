@@ -4,6 +4,7 @@ ghost use Rattle.span_laws.specs.Asks.{IsAtWork};
 ghost use Rattle.span_table_tests.specs.Rows.{ArePlaced, HasPlaced, HasTurned, IsFreeDriver, KeepsCached, KeepsPlaced, SeesEmpty};
 
 use fallible_list::NoMemory;
+use size_classes::MAX_CHUNKS;
 use span_set::{SetId, claim, fill, push, reset};
 use span_state::{Body, Marks};
 use span_table::{Acquired, Shared, Worker};
@@ -19,7 +20,7 @@ pub const LARGE: SetId = SetId {
 /// A region of so many chunks with this goal for backed pages, and the driver's worker.
 pub fn start(alloc: Global, chunks: u32, goal: u32) -> Result<(Shared, Worker), NoMemory>
     requires some { 1 ≤ chunks }
-    requires few { chunks ≤ 128 }
+    requires few { chunks ≤ MAX_CHUNKS }
     ensures free { IfOk result (λ made. IsFreeDriver made.0 made.1) }
     ensures generation { IfOk result (λ made. made.1.view.generation ≡ 4) }
     ensures region { IfOk result (λ made. made.1.view.region ≡ 512 * chunks) }

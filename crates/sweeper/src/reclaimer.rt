@@ -6,7 +6,7 @@ ghost use Rattle.sweeper.specs.ReclaimSteps.{ReclaimsChunk, ReclaimsNext};
 
 use crate::settle::settle;
 use fallible_list::NoMemory;
-use size_classes::CHUNK_PAGES;
+use size_classes::{CHUNK_PAGES, MAX_PAGES};
 use span_set::{Hand, Shop};
 use span_state::Body;
 use std::sync::Wait;
@@ -67,7 +67,7 @@ fn reclaim_chunk<R: Wait>(
     requires unclaimed { hand.old.worker.view.own.claimed ≡ None }
     requires unpopped { hand.old.worker.view.own.popped ≡ [] }
     requires region { region ≡ hand.old.worker.view.region }
-    requires few { region ≤ 65536 }
+    requires few { region ≤ MAX_PAGES }
     requires chunk { 512 * chunk < region }
     requires counts { MayCount shop.now.ring.now shop.now.marks.now hand.old.tally }
     ensures did { ReclaimsChunk chunk hand.old hand.new result }

@@ -6,6 +6,7 @@ ghost use Rattle.sweeper_tests.specs.Rows.{IsReady, IsStage};
 use crate::meet::{Met, meet_entry, meet_page};
 use fallible_list::NoMemory;
 use profile_cycle::{Count, Ring};
+use size_classes::MAX_CHUNKS;
 use span_set::{Hand, Shop};
 use span_state::Marks;
 use span_table::{Shared, Step, Worker};
@@ -109,7 +110,7 @@ impl Scene {
         })
     }
 
-    /// A region of so many chunks, from 1 to 128, behind its first mark end, with large spans of so many pages, at least five each,
+    /// A region of so many chunks, from 1 to 4096, behind its first mark end, with large spans of so many pages, at least five each,
     /// and whether their objects are marked. NoMemory for other numbers of chunks.
     pub fn after_mark_end<R: Wait>(
         rt: &R,
@@ -117,7 +118,7 @@ impl Scene {
         chunks: u32,
         spans: &[(u32, bool)],
     ) -> Result<Scene, NoMemory> {
-        if chunks == 0 || chunks > 128 {
+        if chunks == 0 || chunks > MAX_CHUNKS {
             return Err(NoMemory);
         }
         let (ring, tally) = Ring::new(alloc, 2)?;

@@ -18,6 +18,11 @@ Goheap 1/|1: malformed
 goheap 01/|1: malformed
 goheap 3/|1: malformed
 goheap 2/|2: ends early
+goheap 2/heap 4097 procs 1 rate 0 seed 1 goal 2097152/a 0 1 n 1/end/|2: limit chunks
+goheap 2/heap 4096 procs 1 rate 0 seed 1 goal 2097153/a 0 1 n 1/end/|2: limit goal
+goheap 2/heap 0 procs 1 rate 0 seed 1 goal 512/end/|2: limit chunks
+goheap 1/heap 129 procs 1 rate 0 seed 1 goal 65536/a 0 1 n 1/end/|2: limit chunks
+goheap 1/heap 128 procs 1 rate 0 seed 1 goal 65537/a 0 1 n 1/end/|2: limit goal
 end/|1: malformed
 [121]|1: malformed
 [120]|1: ends early

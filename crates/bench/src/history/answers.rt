@@ -9,7 +9,7 @@ ghost use Rattle.bench.specs.Filled.{AreFilled};
 
 use cycle_history::Answer;
 use edge_io::{List, NoMemory};
-use size_classes::{Kind, PAGE_SIZE, REGION_START, class_of};
+use size_classes::{Kind, MAX_PAGES, PAGE_SIZE, REGION_START, class_of};
 use trace_reader::{Event, Trace};
 
 /// Puts the answers of a cycle's objects at the end.
@@ -46,7 +46,7 @@ fn push(
 // The answer of an object of this size at index 0 of a span at this page.
 fn answer_of(size: u64, page: u32) -> Answer
     requires size { size ≤ 2 ^ 40 }
-    requires page { page < 2 ^ 16 }
+    requires page { page < MAX_PAGES }
     ensures { (result ≡ Zero) ↔ (size ≡ 0) }
 {
     let address = REGION_START + PAGE_SIZE * u64::from(page);
