@@ -7,7 +7,7 @@ use Rattle.trace_reader.specs.declared.trace.Event.{Event}
 use Rattle.cycle_history.specs.declared.Answer.{Answer}
 use Rattle.cycle_history.specs.declared.Answer.TheVariants.{Placed, Zero, Missed}
 use Rattle.worker_log.specs.declared.Entry.{Entry}
-use Rattle.worker_log.specs.declared.Entry.TheVariants.{Looked, LookedEmptyCell, Popped, Pushed, Swept, Took, Missed as MissedEntry, Gave, Allocated, Found, Read, Added}
+use Rattle.worker_log.specs.declared.Entry.TheVariants.{Looked, LookedEmptyCell, Popped, Pushed, Swept, Took, Missed as MissedEntry, Gave, Allocated, Found, Read, Added, Pulled, NoPage, Cut as CutEntry, NoCut, Settled}
 use Rattle.worker_log.specs.declared.Placing.{Placing}
 use Rattle.worker_log.specs.declared.Sweeping.{Sweeping}
 use Rattle.page_bitmap.specs.declared.line.Line.{Line}
@@ -46,6 +46,11 @@ placings-append (Swept s ∷ xs) ys = placings-append xs ys
 placings-append (MissedEntry n line ∷ xs) ys = placings-append xs ys
 placings-append (Looked a b c ∷ xs) ys = placings-append xs ys
 placings-append (LookedEmptyCell a b ∷ xs) ys = placings-append xs ys
+placings-append (Pulled number line ∷ xs) ys = placings-append xs ys
+placings-append (NoPage ∷ xs) ys = placings-append xs ys
+placings-append (CutEntry page pages class ∷ xs) ys = placings-append xs ys
+placings-append (NoCut pages left ∷ xs) ys = placings-append xs ys
+placings-append (Settled number ∷ xs) ys = placings-append xs ys
 placings-append (Popped a b ∷ xs) ys = placings-append xs ys
 placings-append (Pushed a b ∷ xs) ys = placings-append xs ys
 placings-append (Took n line ∷ xs) ys = placings-append xs ys
@@ -61,6 +66,11 @@ sweepings-append (Swept s ∷ xs) ys = ap (λ (l : List Sweeping). s ∷ l) (swe
 sweepings-append (MissedEntry n line ∷ xs) ys = sweepings-append xs ys
 sweepings-append (Looked a b c ∷ xs) ys = sweepings-append xs ys
 sweepings-append (LookedEmptyCell a b ∷ xs) ys = sweepings-append xs ys
+sweepings-append (Pulled number line ∷ xs) ys = sweepings-append xs ys
+sweepings-append (NoPage ∷ xs) ys = sweepings-append xs ys
+sweepings-append (CutEntry page pages class ∷ xs) ys = sweepings-append xs ys
+sweepings-append (NoCut pages left ∷ xs) ys = sweepings-append xs ys
+sweepings-append (Settled number ∷ xs) ys = sweepings-append xs ys
 sweepings-append (Popped a b ∷ xs) ys = sweepings-append xs ys
 sweepings-append (Pushed a b ∷ xs) ys = sweepings-append xs ys
 sweepings-append (Took n line ∷ xs) ys = sweepings-append xs ys
@@ -76,6 +86,11 @@ takings-append (Swept s ∷ xs) ys = takings-append xs ys
 takings-append (MissedEntry n line ∷ xs) ys = takings-append xs ys
 takings-append (Looked a b c ∷ xs) ys = takings-append xs ys
 takings-append (LookedEmptyCell a b ∷ xs) ys = takings-append xs ys
+takings-append (Pulled number line ∷ xs) ys = takings-append xs ys
+takings-append (NoPage ∷ xs) ys = takings-append xs ys
+takings-append (CutEntry page pages class ∷ xs) ys = takings-append xs ys
+takings-append (NoCut pages left ∷ xs) ys = takings-append xs ys
+takings-append (Settled number ∷ xs) ys = takings-append xs ys
 takings-append (Popped a b ∷ xs) ys = takings-append xs ys
 takings-append (Pushed a b ∷ xs) ys = takings-append xs ys
 takings-append (Took n line ∷ xs) ys = ap (λ (l : List Taking). record { number = n; line = line } ∷ l) (takings-append xs ys)
@@ -97,6 +112,11 @@ refusals-append (MissedEntry n (Cut c o p q k) ∷ xs) ys = refusals-append xs y
 refusals-append (MissedEntry n (Drop c o p q) ∷ xs) ys = refusals-append xs ys
 refusals-append (Looked a b c ∷ xs) ys = refusals-append xs ys
 refusals-append (LookedEmptyCell a b ∷ xs) ys = refusals-append xs ys
+refusals-append (Pulled number line ∷ xs) ys = refusals-append xs ys
+refusals-append (NoPage ∷ xs) ys = refusals-append xs ys
+refusals-append (CutEntry page pages class ∷ xs) ys = refusals-append xs ys
+refusals-append (NoCut pages left ∷ xs) ys = refusals-append xs ys
+refusals-append (Settled number ∷ xs) ys = refusals-append xs ys
 refusals-append (Popped a b ∷ xs) ys = refusals-append xs ys
 refusals-append (Pushed a b ∷ xs) ys = refusals-append xs ys
 refusals-append (Took n line ∷ xs) ys = refusals-append xs ys
@@ -113,6 +133,11 @@ notes-told g (Allocated a ∷ said) = append-nil (notes_of g said) ∙ notes-tol
 notes-told g (MissedEntry n line ∷ said) = append-nil (notes_of g said) ∙ notes-told g said
 notes-told g (Looked a b c ∷ said) = append-nil (notes_of g said) ∙ notes-told g said
 notes-told g (LookedEmptyCell a b ∷ said) = append-nil (notes_of g said) ∙ notes-told g said
+notes-told g (Pulled number line ∷ said) = append-nil (notes_of g said) ∙ notes-told g said
+notes-told g (NoPage ∷ said) = append-nil (notes_of g said) ∙ notes-told g said
+notes-told g (CutEntry page pages class ∷ said) = append-nil (notes_of g said) ∙ notes-told g said
+notes-told g (NoCut pages left ∷ said) = append-nil (notes_of g said) ∙ notes-told g said
+notes-told g (Settled number ∷ said) = append-nil (notes_of g said) ∙ notes-told g said
 notes-told g (Popped a b ∷ said) = append-nil (notes_of g said) ∙ notes-told g said
 notes-told g (Pushed a b ∷ said) = append-nil (notes_of g said) ∙ notes-told g said
 notes-told g (Took n line ∷ said) = append-nil (notes_of g said) ∙ notes-told g said
@@ -284,6 +309,11 @@ flushing-none (MissedEntry n line ∷ said) all = absurd all.0
 flushing-none (Took n line ∷ said) all = absurd all.0
 flushing-none (Looked a b c ∷ said) all = absurd all.0
 flushing-none (LookedEmptyCell a b ∷ said) all = absurd all.0
+flushing-none (Pulled number line ∷ said) all = absurd all.0
+flushing-none (NoPage ∷ said) all = absurd all.0
+flushing-none (CutEntry page pages class ∷ said) all = absurd all.0
+flushing-none (NoCut pages left ∷ said) all = absurd all.0
+flushing-none (Settled number ∷ said) all = absurd all.0
 flushing-none (Popped a b ∷ said) all = absurd all.0
 flushing-none (Found a b ∷ said) all = absurd all.0
 
@@ -313,6 +343,11 @@ few-none (Gave a b ∷ said) p m = few-none said (omega arith) (omega arith)
 few-none (Took n line ∷ said) p m = few-none said (omega arith) (omega arith)
 few-none (Looked a b c ∷ said) p m = few-none said (omega arith) (omega arith)
 few-none (LookedEmptyCell a b ∷ said) p m = few-none said (omega arith) (omega arith)
+few-none (Pulled number line ∷ said) p m = few-none said (omega arith) (omega arith)
+few-none (NoPage ∷ said) p m = few-none said (omega arith) (omega arith)
+few-none (CutEntry page pages class ∷ said) p m = few-none said (omega arith) (omega arith)
+few-none (NoCut pages left ∷ said) p m = few-none said (omega arith) (omega arith)
+few-none (Settled number ∷ said) p m = few-none said (omega arith) (omega arith)
 few-none (Popped a b ∷ said) p m = few-none said (omega arith) (omega arith)
 few-none (Found a b ∷ said) p m = few-none said (omega arith) (omega arith)
 

@@ -12,7 +12,7 @@ use Rattle.page_bitmap.specs.declared.line.Line.{Line}
 use Rattle.page_alloc.specs.Lists.{In}
 use Rattle.span_state.specs.MarkSet.{MarkSet, has_pair}
 use Rattle.worker_log.specs.declared.Entry.{Entry}
-use Rattle.worker_log.specs.declared.Entry.TheVariants.{Looked, LookedEmptyCell, Popped, Pushed, Swept, Took, Missed as MissedEntry, Gave, Allocated, Found, Read, Added}
+use Rattle.worker_log.specs.declared.Entry.TheVariants.{Looked, LookedEmptyCell, Popped, Pushed, Swept, Took, Missed as MissedEntry, Gave, Allocated, Found, Read, Added, Pulled, NoPage, Cut as CutEntry, NoCut, Settled}
 use Rattle.worker_log.specs.declared.Placing.{Placing}
 use Rattle.worker_log.specs.Logs.{placings, refusals, sweepings, takings}
 use Rattle.worker_log.specs.Entries.{many}
@@ -91,6 +91,11 @@ logged-pair (Swept s ∷ log) p k h = let rest = logged-pair log p k h in omega 
 logged-pair (MissedEntry n line ∷ log) p k h = let rest = logged-pair log p k h in omega arith
 logged-pair (Looked a b c ∷ log) p k h = let rest = logged-pair log p k h in omega arith
 logged-pair (LookedEmptyCell a b ∷ log) p k h = let rest = logged-pair log p k h in omega arith
+logged-pair (Pulled number line ∷ log) p k h = let rest = logged-pair log p k h in omega arith
+logged-pair (NoPage ∷ log) p k h = let rest = logged-pair log p k h in omega arith
+logged-pair (CutEntry page pages class ∷ log) p k h = let rest = logged-pair log p k h in omega arith
+logged-pair (NoCut pages left ∷ log) p k h = let rest = logged-pair log p k h in omega arith
+logged-pair (Settled number ∷ log) p k h = let rest = logged-pair log p k h in omega arith
 logged-pair (Popped a b ∷ log) p k h = let rest = logged-pair log p k h in omega arith
 logged-pair (Pushed a b ∷ log) p k h = let rest = logged-pair log p k h in omega arith
 logged-pair (Took n line ∷ log) p k h = let rest = logged-pair log p k h in omega arith

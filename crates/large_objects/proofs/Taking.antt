@@ -5,7 +5,7 @@ use Rattle.page_bitmap.specs.declared.line.Line.TheVariants.{Take}
 use Rattle.span_state.specs.declared.body.Body.{Body}
 use Rattle.sweep_laws.specs.Lists.{has}
 use Rattle.worker_log.specs.declared.Entry.{Entry}
-use Rattle.worker_log.specs.declared.Entry.TheVariants.{Looked, LookedEmptyCell, Popped, Pushed, Swept, Took, Missed, Gave, Allocated, Found, Read, Added}
+use Rattle.worker_log.specs.declared.Entry.TheVariants.{Looked, LookedEmptyCell, Popped, Pushed, Swept, Took, Missed, Gave, Allocated, Found, Read, Added, Pulled, NoPage, Cut as CutEntry, NoCut, Settled}
 use Rattle.worker_log.specs.declared.Placing.{Placing}
 use Rattle.worker_log.specs.Logs.{Taking, takings}
 use Rattle.worker_log.specs.SetNumbers.{swept_set}
@@ -41,6 +41,11 @@ no_takings (Swept s ∷ said) e = no_takings said (omega arith)
 no_takings (Missed number line ∷ said) e = no_takings said (omega arith)
 no_takings (Looked set head tail ∷ said) e = no_takings said (omega arith)
 no_takings (LookedEmptyCell set index ∷ said) e = no_takings said (omega arith)
+no_takings (Pulled number line ∷ said) e = no_takings said (omega arith)
+no_takings (NoPage ∷ said) e = no_takings said (omega arith)
+no_takings (CutEntry page pages class ∷ said) e = no_takings said (omega arith)
+no_takings (NoCut pages left ∷ said) e = no_takings said (omega arith)
+no_takings (Settled number ∷ said) e = no_takings said (omega arith)
 no_takings (Popped set page ∷ said) e = no_takings said (omega arith)
 no_takings (Pushed set page ∷ said) e = no_takings said (omega arith)
 no_takings (Gave page pages ∷ said) e = no_takings said (omega arith)
@@ -56,6 +61,11 @@ takings-append (Swept s ∷ later) first = takings-append later first
 takings-append (Missed number line ∷ later) first = takings-append later first
 takings-append (Looked set head tail ∷ later) first = takings-append later first
 takings-append (LookedEmptyCell set index ∷ later) first = takings-append later first
+takings-append (Pulled number line ∷ later) first = takings-append later first
+takings-append (NoPage ∷ later) first = takings-append later first
+takings-append (CutEntry page pages class ∷ later) first = takings-append later first
+takings-append (NoCut pages left ∷ later) first = takings-append later first
+takings-append (Settled number ∷ later) first = takings-append later first
 takings-append (Popped set page ∷ later) first = takings-append later first
 takings-append (Pushed set page ∷ later) first = takings-append later first
 takings-append (Gave page pages ∷ later) first = takings-append later first

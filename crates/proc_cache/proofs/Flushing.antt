@@ -17,7 +17,7 @@ use Rattle.sweep_laws.specs.Counts.{times}
 use Rattle.sweep_laws.specs.Lists.{erase, has}
 use Rattle.sweep_laws.proofs.Naming.{has_times, times_erase, times_erase_else, times_has}
 use Rattle.worker_log.specs.declared.Entry.{Entry}
-use Rattle.worker_log.specs.declared.Entry.TheVariants.{Looked, LookedEmptyCell, Popped, Pushed, Took, Missed, Gave, Allocated, Found, Read, Added, Swept as SweptEntry}
+use Rattle.worker_log.specs.declared.Entry.TheVariants.{Looked, LookedEmptyCell, Popped, Pushed, Took, Missed, Gave, Allocated, Found, Read, Added, Swept as SweptEntry, Pulled, NoPage, Cut as CutEntry, NoCut, Settled}
 use Rattle.worker_log.specs.SetNumbers.{swept_set}
 use Rattle.worker_log.specs.Entries.{is_pop_of, is_placing_in, is_sweep_of, many}
 use Rattle.worker_log.proofs.Logs.{many-append}
@@ -146,6 +146,11 @@ no_pop set page (Pushed s p) h = refl
 no_pop set page (Gave p n) h = refl
 no_pop set page (Looked s a b) h = absurd h
 no_pop set page (LookedEmptyCell s i) h = absurd h
+no_pop set page (Pulled number line) h = absurd h
+no_pop set page NoPage h = absurd h
+no_pop set page (CutEntry p n k) h = absurd h
+no_pop set page (NoCut pages left) h = absurd h
+no_pop set page (Settled number) h = absurd h
 no_pop set page (Popped s p) h = absurd h
 no_pop set page (Took number line) h = absurd h
 no_pop set page (Missed number line) h = absurd h

@@ -5,7 +5,7 @@ use Rattle.page_bitmap.specs.declared.line.Line.{Line}
 use Rattle.page_bitmap.specs.declared.line.Line.TheVariants.{Take, Miss, Give, Scav, Pull, Cut, Drop}
 use Rattle.sweep_laws.specs.Named.{only}
 use Rattle.worker_log.specs.declared.Entry.{Entry}
-use Rattle.worker_log.specs.declared.Entry.TheVariants.{Looked, LookedEmptyCell, Popped, Pushed, Swept, Took, Missed, Gave, Allocated, Found, Read, Added}
+use Rattle.worker_log.specs.declared.Entry.TheVariants.{Looked, LookedEmptyCell, Popped, Pushed, Swept, Took, Missed, Gave, Allocated, Found, Read, Added, Pulled, NoPage, Cut as CutEntry, NoCut, Settled}
 use Rattle.worker_log.specs.declared.Placing.{Placing}
 use Rattle.worker_log.specs.Logs.{Refusal, placings, refusals, refused}
 use Rattle.worker_log.specs.Entries.{many}
@@ -32,6 +32,11 @@ no_placings (Swept s ∷ said) e = no_placings said (omega arith)
 no_placings (Missed number line ∷ said) e = no_placings said (omega arith)
 no_placings (Looked set head tail ∷ said) e = no_placings said (omega arith)
 no_placings (LookedEmptyCell set index ∷ said) e = no_placings said (omega arith)
+no_placings (Pulled number line ∷ said) e = no_placings said (omega arith)
+no_placings (NoPage ∷ said) e = no_placings said (omega arith)
+no_placings (CutEntry page pages class ∷ said) e = no_placings said (omega arith)
+no_placings (NoCut pages left ∷ said) e = no_placings said (omega arith)
+no_placings (Settled number ∷ said) e = no_placings said (omega arith)
 no_placings (Popped set page ∷ said) e = no_placings said (omega arith)
 no_placings (Pushed set page ∷ said) e = no_placings said (omega arith)
 no_placings (Took number line ∷ said) e = no_placings said (omega arith)
@@ -47,6 +52,11 @@ no_refusals (Allocated a ∷ said) e = no_refusals said (omega arith)
 no_refusals (Swept s ∷ said) e = no_refusals said (omega arith)
 no_refusals (Looked set head tail ∷ said) e = no_refusals said (omega arith)
 no_refusals (LookedEmptyCell set index ∷ said) e = no_refusals said (omega arith)
+no_refusals (Pulled number line ∷ said) e = no_refusals said (omega arith)
+no_refusals (NoPage ∷ said) e = no_refusals said (omega arith)
+no_refusals (CutEntry page pages class ∷ said) e = no_refusals said (omega arith)
+no_refusals (NoCut pages left ∷ said) e = no_refusals said (omega arith)
+no_refusals (Settled number ∷ said) e = no_refusals said (omega arith)
 no_refusals (Popped set page ∷ said) e = no_refusals said (omega arith)
 no_refusals (Pushed set page ∷ said) e = no_refusals said (omega arith)
 no_refusals (Took number line ∷ said) e = no_refusals said (omega arith)
@@ -63,6 +73,11 @@ placings-append (Swept s ∷ later) first = placings-append later first
 placings-append (Missed number line ∷ later) first = placings-append later first
 placings-append (Looked set head tail ∷ later) first = placings-append later first
 placings-append (LookedEmptyCell set index ∷ later) first = placings-append later first
+placings-append (Pulled number line ∷ later) first = placings-append later first
+placings-append (NoPage ∷ later) first = placings-append later first
+placings-append (CutEntry page pages class ∷ later) first = placings-append later first
+placings-append (NoCut pages left ∷ later) first = placings-append later first
+placings-append (Settled number ∷ later) first = placings-append later first
 placings-append (Popped set page ∷ later) first = placings-append later first
 placings-append (Pushed set page ∷ later) first = placings-append later first
 placings-append (Took number line ∷ later) first = placings-append later first
@@ -87,6 +102,11 @@ refusals-append (Allocated a ∷ later) first = refusals-append later first
 refusals-append (Swept s ∷ later) first = refusals-append later first
 refusals-append (Looked set head tail ∷ later) first = refusals-append later first
 refusals-append (LookedEmptyCell set index ∷ later) first = refusals-append later first
+refusals-append (Pulled number line ∷ later) first = refusals-append later first
+refusals-append (NoPage ∷ later) first = refusals-append later first
+refusals-append (CutEntry page pages class ∷ later) first = refusals-append later first
+refusals-append (NoCut pages left ∷ later) first = refusals-append later first
+refusals-append (Settled number ∷ later) first = refusals-append later first
 refusals-append (Popped set page ∷ later) first = refusals-append later first
 refusals-append (Pushed set page ∷ later) first = refusals-append later first
 refusals-append (Took number line ∷ later) first = refusals-append later first
@@ -108,6 +128,11 @@ adds_none word (Swept s ∷ said) e = let r = adds_none word said (omega arith) 
 adds_none word (Missed number line ∷ said) e = let r = adds_none word said (omega arith) in omega arith
 adds_none word (Looked set head tail ∷ said) e = let r = adds_none word said (omega arith) in omega arith
 adds_none word (LookedEmptyCell set index ∷ said) e = let r = adds_none word said (omega arith) in omega arith
+adds_none word (Pulled number line ∷ said) e = let r = adds_none word said (omega arith) in omega arith
+adds_none word (NoPage ∷ said) e = let r = adds_none word said (omega arith) in omega arith
+adds_none word (CutEntry page pages class ∷ said) e = let r = adds_none word said (omega arith) in omega arith
+adds_none word (NoCut pages left ∷ said) e = let r = adds_none word said (omega arith) in omega arith
+adds_none word (Settled number ∷ said) e = let r = adds_none word said (omega arith) in omega arith
 adds_none word (Popped set page ∷ said) e = let r = adds_none word said (omega arith) in omega arith
 adds_none word (Pushed set page ∷ said) e = let r = adds_none word said (omega arith) in omega arith
 adds_none word (Took number line ∷ said) e = let r = adds_none word said (omega arith) in omega arith

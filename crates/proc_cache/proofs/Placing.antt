@@ -13,7 +13,7 @@ use Rattle.span_state.specs.declared.body.Body.{Body}
 use Rattle.sweep_laws.specs.Counts.{times}
 use Rattle.sweep_laws.specs.Lists.{has}
 use Rattle.worker_log.specs.declared.Entry.{Entry}
-use Rattle.worker_log.specs.declared.Entry.TheVariants.{Looked, LookedEmptyCell, Popped, Pushed, Swept, Took, Missed, Gave, Allocated, Found, Read, Added}
+use Rattle.worker_log.specs.declared.Entry.TheVariants.{Looked, LookedEmptyCell, Popped, Pushed, Swept, Took, Missed, Gave, Allocated, Found, Read, Added, Pulled, NoPage, Cut as CutEntry, NoCut, Settled}
 use Rattle.worker_log.specs.declared.Placing.{Placing}
 use Rattle.worker_log.specs.Logs.{placings, refusals}
 use Rattle.worker_log.specs.Entries.{is_placing_in, is_sweep_of, many}
@@ -219,6 +219,11 @@ no_add (Pushed s p) h = refl
 no_add (Gave p n) h = refl
 no_add (Looked s a b) h = absurd h
 no_add (LookedEmptyCell s i) h = absurd h
+no_add (Pulled number line) h = absurd h
+no_add NoPage h = absurd h
+no_add (CutEntry page pages class) h = absurd h
+no_add (NoCut pages left) h = absurd h
+no_add (Settled number) h = absurd h
 no_add (Popped s p) h = absurd h
 no_add (Took number line) h = absurd h
 no_add (Missed number line) h = absurd h
@@ -237,6 +242,11 @@ no_take (Pushed s p) h = refl
 no_take (Gave p n) h = refl
 no_take (Looked s a b) h = absurd h
 no_take (LookedEmptyCell s i) h = absurd h
+no_take (Pulled number line) h = absurd h
+no_take NoPage h = absurd h
+no_take (CutEntry page pages class) h = absurd h
+no_take (NoCut pages left) h = absurd h
+no_take (Settled number) h = absurd h
 no_take (Popped s p) h = absurd h
 no_take (Took number line) h = absurd h
 no_take (Missed number line) h = absurd h
@@ -251,6 +261,11 @@ no_miss (Pushed s p) h = refl
 no_miss (Gave p n) h = refl
 no_miss (Looked s a b) h = absurd h
 no_miss (LookedEmptyCell s i) h = absurd h
+no_miss (Pulled number line) h = absurd h
+no_miss NoPage h = absurd h
+no_miss (CutEntry page pages class) h = absurd h
+no_miss (NoCut pages left) h = absurd h
+no_miss (Settled number) h = absurd h
 no_miss (Popped s p) h = absurd h
 no_miss (Took number line) h = absurd h
 no_miss (Missed number line) h = absurd h
@@ -265,6 +280,11 @@ no_place (Pushed s p) h = refl
 no_place (Gave p n) h = refl
 no_place (Looked s a b) h = absurd h
 no_place (LookedEmptyCell s i) h = absurd h
+no_place (Pulled number line) h = absurd h
+no_place NoPage h = absurd h
+no_place (CutEntry page pages class) h = absurd h
+no_place (NoCut pages left) h = absurd h
+no_place (Settled number) h = absurd h
 no_place (Popped s p) h = absurd h
 no_place (Took number line) h = absurd h
 no_place (Missed number line) h = absurd h

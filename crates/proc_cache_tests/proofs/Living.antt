@@ -13,7 +13,7 @@ use Rattle.span_state.specs.MarkSet.{MarkSet, has_pair, is_marked}
 use Rattle.sweep_laws.proofs.Naming.{set_here}
 use Rattle.atomic_table.specs.Seated.{TableId}
 use Rattle.worker_log.specs.declared.Entry.{Entry}
-use Rattle.worker_log.specs.declared.Entry.TheVariants.{Looked, LookedEmptyCell, Popped, Pushed, Swept, Took, Missed, Gave, Allocated, Found, Read, Added}
+use Rattle.worker_log.specs.declared.Entry.TheVariants.{Looked, LookedEmptyCell, Popped, Pushed, Swept, Took, Missed, Gave, Allocated, Found, Read, Added, Pulled, NoPage, Cut as CutEntry, NoCut, Settled}
 use Rattle.worker_log.specs.declared.Placing.{Placing}
 use Rattle.worker_log.specs.Logs.{placings}
 use Rattle.worker_log.specs.Entries.{many}
@@ -34,6 +34,11 @@ placings-append (Swept s ∷ xs) ys = placings-append xs ys
 placings-append (Missed n line ∷ xs) ys = placings-append xs ys
 placings-append (Looked set head tail ∷ xs) ys = placings-append xs ys
 placings-append (LookedEmptyCell set index ∷ xs) ys = placings-append xs ys
+placings-append (Pulled number line ∷ xs) ys = placings-append xs ys
+placings-append (NoPage ∷ xs) ys = placings-append xs ys
+placings-append (CutEntry page pages class ∷ xs) ys = placings-append xs ys
+placings-append (NoCut pages left ∷ xs) ys = placings-append xs ys
+placings-append (Settled number ∷ xs) ys = placings-append xs ys
 placings-append (Popped set page ∷ xs) ys = placings-append xs ys
 placings-append (Pushed set page ∷ xs) ys = placings-append xs ys
 placings-append (Took n line ∷ xs) ys = placings-append xs ys
@@ -52,6 +57,11 @@ placed_in (Swept s ∷ log) a i = let r = placed_in log a i in omega arith
 placed_in (Missed n line ∷ log) a i = let r = placed_in log a i in omega arith
 placed_in (Looked set head tail ∷ log) a i = let r = placed_in log a i in omega arith
 placed_in (LookedEmptyCell set index ∷ log) a i = let r = placed_in log a i in omega arith
+placed_in (Pulled number line ∷ log) a i = let r = placed_in log a i in omega arith
+placed_in (NoPage ∷ log) a i = let r = placed_in log a i in omega arith
+placed_in (CutEntry page pages class ∷ log) a i = let r = placed_in log a i in omega arith
+placed_in (NoCut pages left ∷ log) a i = let r = placed_in log a i in omega arith
+placed_in (Settled number ∷ log) a i = let r = placed_in log a i in omega arith
 placed_in (Popped set page ∷ log) a i = let r = placed_in log a i in omega arith
 placed_in (Pushed set page ∷ log) a i = let r = placed_in log a i in omega arith
 placed_in (Took n line ∷ log) a i = let r = placed_in log a i in omega arith

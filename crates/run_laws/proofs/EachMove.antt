@@ -4,7 +4,7 @@ use Rattle.std.specs.Prelude.{None}
 use Rattle.page_alloc.specs.Lists.{In}
 use Rattle.page_alloc.specs.Lives.{Life, open_lives}
 use Rattle.sweep_laws.specs.declared.moves.Move.{Move}
-use Rattle.sweep_laws.specs.declared.moves.Move.TheVariants.{Lock, Unlock, Take, Give, Acquire, Release, Cache, Allocate, Uncache, StaleUncache, Claim, Fill, PopSwept, PopUnswept, DropPopped, Next}
+use Rattle.sweep_laws.specs.declared.moves.Move.TheVariants.{Lock, Unlock, Take, Give, Acquire, Release, Cache, Allocate, Uncache, StaleUncache, Claim, Fill, PopSwept, PopUnswept, DropPopped, Pull, Cut, Drop, Next}
 use Rattle.sweep_laws.specs.Reading.{hand_of}
 use Rattle.sweep_laws.specs.NeedsOfRange.{refusal}
 use Rattle.sweep_laws.specs.Needs.{fill_needs, allocate_needs}
@@ -61,4 +61,7 @@ module _ (region goal : ℕ) (c : CoreState) (e : CycleSoFar) (now : ShowsCycle 
   move-shows (PopSwept w s) next met on = subst (ShowsCycle region goal _) (sym on) (pop_swept-shows region goal c e now o w s met)
   move-shows (PopUnswept w s) next met on = subst (ShowsCycle region goal _) (sym on) (pop_unswept-shows region goal c e now o w s met)
   move-shows (DropPopped w p) next met on = subst (ShowsCycle region goal _) (sym on) (drop_popped-shows region goal c e now o w p met)
+  move-shows (Pull w) next met on = absurd on
+  move-shows (Cut w p pages count class) next met on = absurd on
+  move-shows (Drop w) next met on = absurd on
   move-shows (Next marks) next met on = subst (ShowsCycle region goal _) (sym on) (next-shows region goal c e now o marks met)

@@ -11,7 +11,7 @@ use Rattle.sound_run.proofs.Seats.{number-below}
 use Rattle.worker_log.specs.declared.Placing.{Placing}
 use Rattle.worker_log.specs.declared.Sweeping.{Sweeping}
 use Rattle.worker_log.specs.declared.Entry.{Entry}
-use Rattle.worker_log.specs.declared.Entry.TheVariants.{Looked, LookedEmptyCell, Popped, Pushed, Swept, Took, Missed, Gave, Allocated, Found, Read, Added}
+use Rattle.worker_log.specs.declared.Entry.TheVariants.{Looked, LookedEmptyCell, Popped, Pushed, Swept, Took, Missed, Gave, Allocated, Found, Read, Added, Pulled, NoPage, Cut as CutEntry, NoCut, Settled}
 use Rattle.worker_log.specs.Logs.{Refusal, Taking, placings, sweepings, refusals, takings}
 use Rattle.worker_log.specs.SweptLast.{is_swept_last}
 use Rattle.worker_log.proofs.Logs.{LookAlike}
@@ -47,6 +47,11 @@ swept-has p (Allocated a ∷ log) h = swept-has p log h
 swept-has p (Missed number line ∷ log) h = swept-has p log h
 swept-has p (Looked set head tail ∷ log) h = swept-has p log h
 swept-has p (LookedEmptyCell set index ∷ log) h = swept-has p log h
+swept-has p (Pulled number line ∷ log) h = swept-has p log h
+swept-has p (NoPage ∷ log) h = swept-has p log h
+swept-has p (CutEntry page pages class ∷ log) h = swept-has p log (and_parts _ (is_swept_last p log) h).1
+swept-has p (NoCut pages left ∷ log) h = swept-has p log h
+swept-has p (Settled number ∷ log) h = swept-has p log h
 swept-has p (Popped set page ∷ log) h = swept-has p log h
 swept-has p (Pushed set page ∷ log) h = swept-has p log h
 swept-has p (Found page word ∷ log) h = swept-has p log h

@@ -160,7 +160,7 @@ module _ (region goal : ℕ) (c : CoreState) (e : CycleSoFar) (now : ShowsCycle 
       | inl is ↦ is
       | inr isnt ↦ (
           let m = all_met (next_needs c marks) met in
-          let allocated = marks-name (not_true _ m.1.1.1.1.1.1.1.0) on in
+          let allocated = marks-name (not_true _ m.1.1.1.1.1.1.1.1.0) on in
           let none = Rattle.run_laws.proofs.Shown.absent-life p c.lives isnt in
           let empty : has k (life_in p c.lives).allocated ≡ false = ap (λ (l : LifeState). has k l.allocated) none in
           let nothing : ⊥ = cc in

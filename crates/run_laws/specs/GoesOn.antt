@@ -7,7 +7,7 @@ use Rattle.page_alloc.specs.Journal.{MayFollow}
 use Rattle.sound_run.specs.Run.{count_for}
 use Rattle.sweep_laws.specs.declared.moves.Claimed.{Claimed}
 use Rattle.sweep_laws.specs.declared.moves.Move.{Move}
-use Rattle.sweep_laws.specs.declared.moves.Move.TheVariants.{Lock, Unlock, Take, Give, Acquire, Release, Cache, Allocate, Uncache, StaleUncache, Claim, Fill, PopSwept, PopUnswept, DropPopped, Next}
+use Rattle.sweep_laws.specs.declared.moves.Move.TheVariants.{Lock, Unlock, Take, Give, Acquire, Release, Cache, Allocate, Uncache, StaleUncache, Claim, Fill, PopSwept, PopUnswept, DropPopped, Pull, Cut, Drop, Next}
 use Rattle.sweep_laws.specs.Reading.{hand_of, life_of}
 use Rattle.sweep_laws.specs.State.{CoreState}
 use Rattle.worker_log.specs.declared.Placing.{Placing}
@@ -23,7 +23,8 @@ use Rattle.run_laws.specs.ShowsCycle.{MayLetGo, IsSweepOf, after_mark_end}
 -- The cycle goes on from e to `next` at a move, where its call may make it: a Release comes with the entry of its sweep, an
 -- Allocate with that of its object in a span beside which the worker has no other of the class with room and objects of this cycle,
 -- a Take with its first-fit line and its entry, a Give by the worker that swept the span last with both, and a Fill where
--- the worker may let the page go. At a mark end the next cycle begins, and at all other moves nothing is written.
+-- the worker may let the page go. At a mark end the next cycle begins, and at all other moves nothing is written. No worker of a
+-- run has a page cache yet, so a run goes on by no Pull, Cut or Drop.
 abbrev pub GoesOn : ℕ → ℕ → CoreState → CycleSoFar → Move → CycleSoFar → Type 0
 GoesOn region goal c e (Lock w) next = next ≡ e
 GoesOn region goal c e (Unlock w) next = next ≡ e
@@ -41,4 +42,7 @@ GoesOn region goal c e (Fill w) next = ((d : Claimed) → (hand_of c w).claimed 
 GoesOn region goal c e (PopSwept w s) next = next ≡ e
 GoesOn region goal c e (PopUnswept w s) next = next ≡ e
 GoesOn region goal c e (DropPopped w p) next = next ≡ e
+GoesOn region goal c e (Pull w) next = ⊥
+GoesOn region goal c e (Cut w p pages count class) next = ⊥
+GoesOn region goal c e (Drop w) next = ⊥
 GoesOn region goal c e (Next marks) next = next ≡ after_mark_end e marks

@@ -17,3 +17,5 @@ pub mod Keeping
 pub mod Shown
 pub mod ShowsCycle
 pub mod GoesOn
+pub mod Blocks
+pub mod ShowsBlocks

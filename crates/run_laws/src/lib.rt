@@ -12,6 +12,8 @@
 
 ghost use Rattle.std.specs.Prelude.{◌≡◌, ℕ, suc, ◌<◌, ◌≤◌, Bool, ◌&&◌, ◌==◌, List, [], ◌++◌, length, reverse, None};
 ghost use Rattle.page_bitmap.specs.declared.line.Line.{Line};
+ghost use Rattle.page_bitmap.specs.declared.line.Line.TheVariants.{Miss, Scav};
+ghost use Rattle.run_laws.specs.Steps.{after_line};
 ghost use Rattle.page_alloc.specs.Lists.{In, count};
 ghost use Rattle.page_alloc.specs.Lives.{Life, open_lives};
 ghost use Rattle.span_state.specs.MarkSet.{MarkSet};
@@ -41,6 +43,7 @@ ghost use Rattle.run_laws.specs.Facts.{Facts, Marks};
 ghost use Rattle.run_laws.specs.Occupied.{NamedHaveSome};
 ghost use Rattle.run_laws.specs.ShowsCycle.{ShowsCycle, after_mark_end, first_cycle};
 ghost use Rattle.run_laws.specs.GoesOn.{GoesOn};
+ghost use Rattle.run_laws.specs.ShowsBlocks.{BlocksGoOn, ShowsBlocks};
 ghost use Rattle.run_laws.specs.Reached.{Began, Reached};
 ghost use Rattle.run_laws.specs.Profile.{Calls, AreCalls, published_allocs, published_frees};
 ghost use Rattle.run_laws.specs.CycleCalls.{KnowsSamples, has_died, dead_in};
@@ -98,6 +101,24 @@ pub fn a_new_state_shows_the_first_cycle()
 pub fn a_move_keeps_the_cycle_under_way()
     ensures { (region : ℕ) (goal : ℕ) (c : CoreState) (e : CycleSoFar) (move : Move) (next : CycleSoFar) → ShowsCycle region goal c e → Owned c
         → refusal (needs_of c move) ≡ None → GoesOn region goal c e move next → ShowsCycle region goal (after c move) next }
+{}
+
+/// Each move of span ownership keeps what a state, the journal and the logs say of the blocks of page caches, with the lines and the entry that
+/// come with it. No worker of a run has a page cache yet.
+pub fn a_move_keeps_what_logs_tell_of_blocks()
+    ensures { (c : CoreState) (e : CycleSoFar) (move : Move) (next : CycleSoFar) → ShowsBlocks c e → Owned c
+        → refusal (needs_of c move) ≡ None → BlocksGoOn c e move next → ShowsBlocks (after c move) next }
+{}
+
+/// So does a Miss line, and the line of a scavenging step.
+pub fn a_line_keeps_what_logs_tell_of_blocks()
+    ensures missed { (c : CoreState) (e : CycleSoFar) (pages : ℕ) (class : ℕ) → ShowsBlocks c e → ShowsBlocks c (after_line e (Miss e.cycle pages class)) }
+    ensures scavenged { (c : CoreState) (e : CycleSoFar) (page : ℕ) (pages : ℕ) → ShowsBlocks c e → ShowsBlocks c (after_line e (Scav e.cycle page pages)) }
+{}
+
+/// At the start, where all pages are free and nothing is written, no block is out.
+pub fn a_new_state_has_no_block_out()
+    ensures { (region : ℕ) (workers : ℕ) → ShowsBlocks (new_state region workers) first_cycle }
 {}
 
 /// Where a mark end may come, a state of span ownership that shows a cycle under way, with no span in it left empty, gives

@@ -29,7 +29,9 @@ use Rattle.sweep_laws.specs.Step.{after}
 use Rattle.sweep_laws.specs.declared.moves.Move.TheVariants.{Give, Lock, Take}
 use Rattle.sweep_laws.specs.declared.moves.Claimed.{Claimed}
 use Rattle.std.proofs.Math.ListN.{length-set}
-use Rattle.span_laws.proofs.Heap.{free_run}
+use Rattle.sweep_laws.specs.Reading.{is_free_page}
+use Rattle.sweep_laws.specs.Named.{pullers}
+use Rattle.sweep_laws.proofs.PulledPages.{none_in_range, page_free}
 use Rattle.span_laws.proofs.RuleKept.{low_number, own_hand, own_at, own_never}
 
 -- a number is below a bound, or not
@@ -97,8 +99,8 @@ pub lock_allowed : (c : CoreState) (n : ℕ) → n < length c.hands → c.lock �
 lock_allowed c n low e = none_refuses (lock_needs c n) (lt-ltb n (length c.hands) low, (ap (λ (o : Option ℕ). not (is_some o)) e, tt))
 
 pub take_allowed : (c : CoreState) (n page pages count class : ℕ) → n < length c.hands → page + pages ≤ length c.words → 1 ≤ pages → 1 ≤ count → class < 136
-    → ((q : ℕ) → page ≤ q → q < page + pages → get_or c.owners q None ≡ None) → refusal (take_needs (after c (Lock n)) n page pages count class) ≡ None
-take_allowed c n page pages count class low inside some objects small free = none_refuses (take_needs (after c (Lock n)) n page pages count class) (
+    → ((q : ℕ) → page ≤ q → q < page + pages → get_or c.owners q None ≡ None) → ((q : ℕ) → pullers q c.hands ≡ 0) → refusal (take_needs (after c (Lock n)) n page pages count class) ≡ None
+take_allowed c n page pages count class low inside some objects small free unpulled = none_refuses (take_needs (after c (Lock n)) n page pages count class) (
   lt-ltb n (length c.hands) low,
   (
     lt-ltb page (length c.words) (omega arith),
@@ -108,7 +110,7 @@ take_allowed c n page pages count class low inside some objects small free = non
         lt-ltb class 136 small,
         (
           eq-eqb n n refl,
-          (rw (lt-ltb 0 pages (omega arith), lt-ltb 0 count (omega arith)) refl, (ap (λ (o : Option ℕ). not (is_some o)) (free_run c.owners page pages free), tt)),
+          (rw (lt-ltb 0 pages (omega arith), lt-ltb 0 count (omega arith)) refl, (ap (λ (o : Option ℕ). not (is_some o)) (none_in_range (λ q. not (is_free_page c q)) page pages (λ q l h. ap not (page_free c.owners c.hands q (free q l h) (unpulled q)))), tt)),
         ),
       ),
     ),

@@ -4,7 +4,7 @@ use Rattle.std.proofs.lemmas.List.{append-nil}
 use Rattle.span_state.specs.declared.sweep.SweepNote.{SweepNote}
 use Rattle.sweep_laws.specs.Counts.{total}
 use Rattle.worker_log.specs.declared.Entry.{Entry}
-use Rattle.worker_log.specs.declared.Entry.TheVariants.{Looked, LookedEmptyCell, Popped, Pushed, Swept, Took, Missed, Gave, Allocated, Found, Read, Added}
+use Rattle.worker_log.specs.declared.Entry.TheVariants.{Looked, LookedEmptyCell, Popped, Pushed, Swept, Took, Missed, Gave, Allocated, Found, Read, Added, Pulled, NoPage, Cut as CutEntry, NoCut, Settled}
 use Rattle.worker_log.specs.Entries.{is_placing_in, many}
 use Rattle.span_laws.specs.Asks.{mine}
 use Rattle.span_laws.specs.Calls.{Keeps, is_placing, note_in, notes_of}
@@ -25,6 +25,11 @@ no-placing p (Allocated a ∷ log) e = absurd (omega arith)
 no-placing p (Swept s ∷ log) e = let z = no-placing p log (omega arith) in omega arith
 no-placing p (Looked s h t ∷ log) e = let z = no-placing p log (omega arith) in omega arith
 no-placing p (LookedEmptyCell s i ∷ log) e = let z = no-placing p log (omega arith) in omega arith
+no-placing p (Pulled number line ∷ log) e = let z = no-placing p log (omega arith) in omega arith
+no-placing p (NoPage ∷ log) e = let z = no-placing p log (omega arith) in omega arith
+no-placing p (CutEntry page pages class ∷ log) e = let z = no-placing p log (omega arith) in omega arith
+no-placing p (NoCut pages left ∷ log) e = let z = no-placing p log (omega arith) in omega arith
+no-placing p (Settled number ∷ log) e = let z = no-placing p log (omega arith) in omega arith
 no-placing p (Popped s q ∷ log) e = let z = no-placing p log (omega arith) in omega arith
 no-placing p (Pushed s q ∷ log) e = let z = no-placing p log (omega arith) in omega arith
 no-placing p (Took m x ∷ log) e = let z = no-placing p log (omega arith) in omega arith

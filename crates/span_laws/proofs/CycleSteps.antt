@@ -16,7 +16,7 @@ use Rattle.sweep_laws.specs.Step.{after, needs_of}
 use Rattle.sweep_laws.specs.declared.moves.Claimed.{Claimed}
 use Rattle.swept_set_laws.specs.Entered.{is_full_life}
 use Rattle.worker_log.specs.declared.Entry.{Entry}
-use Rattle.worker_log.specs.declared.Entry.TheVariants.{Looked, LookedEmptyCell, Popped, Pushed, Swept, Took, Missed, Gave, Allocated, Found, Read, Added}
+use Rattle.worker_log.specs.declared.Entry.TheVariants.{Looked, LookedEmptyCell, Popped, Pushed, Swept, Took, Missed, Gave, Allocated, Found, Read, Added, Pulled, NoPage, Cut as CutEntry, NoCut, Settled}
 use Rattle.worker_log.specs.declared.Placing.{Placing}
 use Rattle.worker_log.specs.Logs.{placings}
 use Rattle.worker_log.specs.SetNumbers.{is_full_set}
@@ -47,6 +47,11 @@ placed_in a p (Allocated b ∷ log) h at = ⊎_elim (λ (s : b ≡ a). let z = a
 placed_in a p (Swept s ∷ log) h at = let r = placed_in a p log h at in omega arith
 placed_in a p (Looked s x y ∷ log) h at = let r = placed_in a p log h at in omega arith
 placed_in a p (LookedEmptyCell s i ∷ log) h at = let r = placed_in a p log h at in omega arith
+placed_in a p (Pulled number line ∷ log) h at = let r = placed_in a p log h at in omega arith
+placed_in a p (NoPage ∷ log) h at = let r = placed_in a p log h at in omega arith
+placed_in a p (CutEntry page pages class ∷ log) h at = let r = placed_in a p log h at in omega arith
+placed_in a p (NoCut pages left ∷ log) h at = let r = placed_in a p log h at in omega arith
+placed_in a p (Settled number ∷ log) h at = let r = placed_in a p log h at in omega arith
 placed_in a p (Popped s q ∷ log) h at = let r = placed_in a p log h at in omega arith
 placed_in a p (Pushed s q ∷ log) h at = let r = placed_in a p log h at in omega arith
 placed_in a p (Took m x ∷ log) h at = let r = placed_in a p log h at in omega arith

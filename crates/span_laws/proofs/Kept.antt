@@ -61,7 +61,8 @@ use Rattle.span_laws.proofs.CycleTurns.{life_cycle, miss_cycle, next_cycle, room
 use Rattle.span_laws.proofs.LifeMoves.{give_keeps}
 use Rattle.span_laws.proofs.MarkEnd.{next_keeps}
 use Rattle.span_laws.proofs.Notes.{heap_keeps, miss_keeps, note_keeps, room_keeps, seat_keeps}
-use Rattle.span_laws.proofs.Parts.{set_apart}
+use Rattle.sweep_laws.specs.Named.{pullers}
+use Rattle.span_laws.proofs.Parts.{none_pulled, set_apart}
 use Rattle.span_laws.proofs.RuleKept.{low_number, own_at, own_hand}
 use Rattle.span_laws.proofs.SaidKept.{of_keeps, said_keeps}
 use Rattle.span_laws.proofs.Start.{start_rule}
@@ -208,7 +209,7 @@ module _ (c : CoreState) (heap : PageHeap) (homes : List (Option Body)) (n : ℕ
         cycle = subst (λ (s : CoreState). KeepsCycle s heap' n (acts v (told_of (Takes now) (span_of b) v.own))) (sym e)
             (subst (λ (z : ℕ × ℕ × ℕ). KeepsCycle (record (after_take c₁ n z.0 z.1 b.count z.2) { lock = None }) heap' n (acts v (told_of (Takes now) (span_of b) v.own))) (λ i. (at i, is_new.pages i, is_new.class i))
             (take_cycle c₁ heap₁ homes n v k₁.rule k₁.cycle (span_of b) (lock_allowed c₁ n number₁ k₁.rule.unlocked)
-            (take_allowed c₁ n b.page b.pages b.count b.class number₁ (omega arith) (span_pages b.class b.pages own.may_follow.0) (new_some pages class b is_new (subst (λ (z : ℕ × ℕ). IsSpanSize z.0 z.1) (λ i. (is_new.class i, is_new.pages i)) own.may_follow.0)) (subst (λ (z : ℕ). z < 136) (sym is_new.class) small) free)
+            (take_allowed c₁ n b.page b.pages b.count b.class number₁ (omega arith) (span_pages b.class b.pages own.may_follow.0) (new_some pages class b is_new (subst (λ (z : ℕ × ℕ). IsSpanSize z.0 z.1) (λ i. (is_new.class i, is_new.pages i)) own.may_follow.0)) (subst (λ (z : ℕ). z < 136) (sym is_new.class) small) free (λ q. ap (pullers q) k₁.rule.hands ∙ none_pulled q (parts_of n v)))
             (new_count pages class b is_new ∙ ap count_for (sym is_new.class)) now (is ∙ ap cycle_at (sym k.rule.generation)) heap' (line_may c₁ heap₁ homes n v k₁ (TakeLine now b.page b.pages b.class) own.may_follow) own.past number));
       }
 

@@ -237,13 +237,17 @@ module _ (c : CoreState) (heap : PageHeap) (homes : List (Option Body)) (n : ℕ
         (
           ap (λ (o : Option ℕ). not (is_some o)) (none_placed (λ (h : HandState). not (is_idle h)) c.hands (λ m h a. let i = idle m h a in rw (i.0, i.1, i.2) refl)),
           (
-            ap (λ (o : Option HandState). not (is_some o)) (none_found (λ (h : HandState). is_some h.claimed) c.hands (λ m h a. ap is_some (idle m h a).3)),
+            ap (λ (o : Option HandState). not (is_some o)) (none_found (λ (h : HandState). not (eqb (length h.pulled) 0)) c.hands
+                (λ m h a. let x = hand_part m h a in ap (λ (y : HandState). not (eqb (length y.pulled) 0)) (sym x.2))),
             (
-              ap (λ (o : Option ℕ). not (is_some o)) (none_found (λ (w : ℕ). not (is_settled c.generation w)) c.words
-                  (λ m w a. let low = inside_at c.words m w a in let is : get_or c.words m 0 ≡ w = some-injective _ w (sym (at_low c.words m 0 low) ∙ a) in ap not (subst (λ (y : ℕ). is_settled c.generation y ≡ true) is (settled m low)))),
+              ap (λ (o : Option HandState). not (is_some o)) (none_found (λ (h : HandState). is_some h.claimed) c.hands (λ m h a. ap is_some (idle m h a).3)),
               (
-                ap (λ (o : Option SetState). not (is_some o)) (none_unpopped c.generation 0 c.sets (λ m s a u. level m s a (subst (λ (z : ℕ). is_swept_set c.generation z ≡ false) (let z : 0 + m ≡ m = omega arith in z) u))),
-                (ap (λ (o : Option (ℕ × ℕ)). not (is_some (option_map (λ (m : ℕ × ℕ). m.1) o))) (none_wrong marks known), tt),
+                ap (λ (o : Option ℕ). not (is_some o)) (none_found (λ (w : ℕ). not (is_settled c.generation w)) c.words
+                    (λ m w a. let low = inside_at c.words m w a in let is : get_or c.words m 0 ≡ w = some-injective _ w (sym (at_low c.words m 0 low) ∙ a) in ap not (subst (λ (y : ℕ). is_settled c.generation y ≡ true) is (settled m low)))),
+                (
+                  ap (λ (o : Option SetState). not (is_some o)) (none_unpopped c.generation 0 c.sets (λ m s a u. level m s a (subst (λ (z : ℕ). is_swept_set c.generation z ≡ false) (let z : 0 + m ≡ m = omega arith in z) u))),
+                  (ap (λ (o : Option (ℕ × ℕ)). not (is_some (option_map (λ (m : ℕ × ℕ). m.1) o))) (none_wrong marks known), tt),
+                ),
               ),
             ),
           ),

@@ -11,7 +11,7 @@ use Rattle.sweep_laws.specs.Lists.{erase, has}
 use Rattle.sweep_laws.specs.Reading.{is_swept_set, set_of}
 use Rattle.sweep_laws.specs.State.{CoreState}
 use Rattle.worker_log.specs.declared.Entry.{Entry}
-use Rattle.worker_log.specs.declared.Entry.TheVariants.{Looked, LookedEmptyCell, Popped, Pushed, Swept, Took, Missed, Gave, Allocated, Found, Read, Added}
+use Rattle.worker_log.specs.declared.Entry.TheVariants.{Looked, LookedEmptyCell, Popped, Pushed, Swept, Took, Missed, Gave, Allocated, Found, Read, Added, Pulled, NoPage, Cut as CutEntry, NoCut, Settled}
 use Rattle.worker_log.specs.Entries.{is_seen_empty, many}
 use Rattle.span_laws.specs.Cycle.{Kept}
 use Rattle.span_laws.specs.Scans.{IsPassing, PassesPages, SeesEmpty, nth_unswept}
@@ -62,6 +62,11 @@ passing_below g from m to l (e ∷ said) a = (one e a.0, passing_below g from m 
     one (Found page word) x = (x.0, (let y = x.1 in omega arith), x.2)
     one (Looked s h t) x = absurd x
     one (LookedEmptyCell s i) x = absurd x
+    one (Pulled number line) x = absurd x
+    one NoPage x = absurd x
+    one (CutEntry page pages class) x = absurd x
+    one (NoCut pages left) x = absurd x
+    one (Settled number) x = absurd x
     one (Popped s q) x = absurd x
     one (Pushed s q) x = absurd x
     one (Swept s) x = absurd x

@@ -32,7 +32,7 @@ use Rattle.sweep_laws.proofs.Totals.{part_le}
 use Rattle.swept_set_laws.specs.Entered.{IsEntry, IsSettled, is_full_life}
 use Rattle.swept_set_laws.proofs.EnteredKept.{claim_room, queued_by}
 use Rattle.worker_log.specs.declared.Entry.{Entry}
-use Rattle.worker_log.specs.declared.Entry.TheVariants.{Looked, LookedEmptyCell, Popped, Pushed, Swept, Took, Missed, Gave, Allocated, Found, Read, Added}
+use Rattle.worker_log.specs.declared.Entry.TheVariants.{Looked, LookedEmptyCell, Popped, Pushed, Swept, Took, Missed, Gave, Allocated, Found, Read, Added, Pulled, NoPage, Cut as CutEntry, NoCut, Settled}
 use Rattle.worker_log.specs.SetNumbers.{is_full_set}
 use Rattle.worker_log.specs.Entries.{is_placing_in, is_pop_of, many}
 use Rattle.span_laws.specs.BodyAsks.{HasMarked}
@@ -63,6 +63,11 @@ some_index p (Allocated a ∷ log) l = dite (ℕ_discrete a.page p)
 some_index p (Swept s ∷ log) l = let r = some_index p log (omega arith) in (r.0, let z = r.1 in omega arith)
 some_index p (Looked s h t ∷ log) l = let r = some_index p log (omega arith) in (r.0, let z = r.1 in omega arith)
 some_index p (LookedEmptyCell s i ∷ log) l = let r = some_index p log (omega arith) in (r.0, let z = r.1 in omega arith)
+some_index p (Pulled number line ∷ log) l = let r = some_index p log (omega arith) in (r.0, let z = r.1 in omega arith)
+some_index p (NoPage ∷ log) l = let r = some_index p log (omega arith) in (r.0, let z = r.1 in omega arith)
+some_index p (CutEntry page pages class ∷ log) l = let r = some_index p log (omega arith) in (r.0, let z = r.1 in omega arith)
+some_index p (NoCut pages left ∷ log) l = let r = some_index p log (omega arith) in (r.0, let z = r.1 in omega arith)
+some_index p (Settled number ∷ log) l = let r = some_index p log (omega arith) in (r.0, let z = r.1 in omega arith)
 some_index p (Popped s q ∷ log) l = let r = some_index p log (omega arith) in (r.0, let z = r.1 in omega arith)
 some_index p (Pushed s q ∷ log) l = let r = some_index p log (omega arith) in (r.0, let z = r.1 in omega arith)
 some_index p (Took m x ∷ log) l = let r = some_index p log (omega arith) in (r.0, let z = r.1 in omega arith)

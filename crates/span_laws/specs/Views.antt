@@ -25,9 +25,9 @@ pub record Seen : Type 0 where
 abbrev pub drives : Seen → Bool
 drives w = w.number == 69
 
--- the hand of a part, as the core has it
+-- the hand of a part, as the core has it: no worker of the table has a page cache yet
 abbrev pub hand_state : Part → HandState
-hand_state h = record { sweeping = h.sweeping; held = h.held; cached = h.cached; popped = h.popped; claimed = h.claimed; swept = h.swept }
+hand_state h = record { sweeping = h.sweeping; held = h.held; cached = h.cached; popped = h.popped; claimed = h.claimed; swept = h.swept; pulled = [] }
 
 -- a body as a span
 abbrev pub span_of : Body → Span

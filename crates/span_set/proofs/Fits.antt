@@ -7,7 +7,7 @@ use Rattle.page_bitmap.specs.Counts.{one_if}
 use Rattle.span_state.specs.Bits.{IsFull, bit_of, count_below, with_bit}
 use Rattle.span_state.specs.Counts.{count_below-le, count_below-with}
 use Rattle.worker_log.specs.declared.Entry.{Entry}
-use Rattle.worker_log.specs.declared.Entry.TheVariants.{Looked, LookedEmptyCell, Popped, Pushed, Swept, Took, Missed, Gave, Allocated, Found, Read, Added}
+use Rattle.worker_log.specs.declared.Entry.TheVariants.{Looked, LookedEmptyCell, Popped, Pushed, Swept, Took, Missed, Gave, Allocated, Found, Read, Added, Pulled, NoPage, Cut as CutEntry, NoCut, Settled}
 use Rattle.worker_log.specs.declared.Sweeping.{Sweeping}
 use Rattle.worker_log.specs.Logs.{sweepings}
 use Rattle.worker_log.specs.SetNumbers.{swept_set}
@@ -24,6 +24,11 @@ sweepings-append (Swept s ∷ xs) ys = ap (λ (l : List Sweeping). s ∷ l) (swe
 sweepings-append (Missed m line ∷ xs) ys = sweepings-append xs ys
 sweepings-append (Looked s h t ∷ xs) ys = sweepings-append xs ys
 sweepings-append (LookedEmptyCell s i ∷ xs) ys = sweepings-append xs ys
+sweepings-append (Pulled number line ∷ xs) ys = sweepings-append xs ys
+sweepings-append (NoPage ∷ xs) ys = sweepings-append xs ys
+sweepings-append (CutEntry page pages class ∷ xs) ys = sweepings-append xs ys
+sweepings-append (NoCut pages left ∷ xs) ys = sweepings-append xs ys
+sweepings-append (Settled number ∷ xs) ys = sweepings-append xs ys
 sweepings-append (Popped s p ∷ xs) ys = sweepings-append xs ys
 sweepings-append (Pushed s p ∷ xs) ys = sweepings-append xs ys
 sweepings-append (Took m line ∷ xs) ys = sweepings-append xs ys

@@ -11,14 +11,15 @@ use Rattle.page_bitmap.specs.declared.line.Line.TheVariants.{Miss as MissLine, T
 use Rattle.span_state.specs.declared.body.Body.{Body}
 use Rattle.sweep_laws.specs.Changes.{after_take}
 use Rattle.sweep_laws.specs.Counts.{times}
-use Rattle.sweep_laws.specs.Named.{only}
+use Rattle.sweep_laws.specs.Named.{only, pullers}
 use Rattle.sweep_laws.specs.State.{CoreState}
 use Rattle.sweep_laws.specs.Step.{after}
 use Rattle.sweep_laws.specs.declared.moves.Move.TheVariants.{Lock, Take, Unlock}
 use Rattle.span_laws.specs.Bodies.{is_claimed}
 use Rattle.span_laws.specs.OwnSteps.{told, told_of}
 use Rattle.span_laws.specs.TakeAnswers.{IsNew, cycle_at}
-use Rattle.span_laws.specs.Views.{span_of}
+use Rattle.span_laws.specs.Views.{parts_of, span_of}
+use Rattle.span_laws.proofs.Parts.{none_pulled}
 use Rattle.span_laws.specs.declared.said.Said.TheVariants.{Misses}
 use Rattle.span_laws.specs.declared.said.SaidOf.TheVariants.{Takes}
 use Rattle.span_laws.specs.declared.view.Part.{Part}
@@ -158,7 +159,7 @@ module _ (R : ℕ) where
         let gen = k.rule.generation in
         let a = made c₁ (Lock n) (record { owned = k₁.rule.owned; tidy = k₁.rule.tidy; space = k₁.rule.space }) (lock_met c₁ n low₁ k₁.rule.unlocked) tt in
         let t = made (after c₁ (Lock n)) (Take n page pages b.count class) a
-        (take_met c₁ n page pages b.count class low₁ (omega arith) some_pages b.some_object small (λ q l u. k₁.rule.heap_owner q (omega arith) ∙ (line.may_follow.1.here.free q l u).owner)) (omega arith) in
+        (take_met c₁ n page pages b.count class low₁ (omega arith) some_pages b.some_object small (λ q l u. k₁.rule.heap_owner q (omega arith) ∙ (line.may_follow.1.here.free q l u).owner) (λ q. ap (pullers q) k₁.rule.hands ∙ none_pulled q (parts_of n v))) (omega arith) in
         let z = made (after (after c₁ (Lock n)) (Take n page pages b.count class)) (Unlock n) t (unlock_met c₁ n page pages b.count class low₁) tt in
         let c' : CoreState = record (after_take c₁ n page pages b.count class) { lock = None } in
         let part : Part = told_of (Takes (cycle_at w.view.generation)) (span_of b) w.view.own in (

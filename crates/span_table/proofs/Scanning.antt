@@ -7,7 +7,7 @@ use Rattle.sweep_laws.specs.Lists.{erase}
 use Rattle.sweep_laws.specs.Reading.{is_swept_set}
 use Rattle.sweep_reads.specs.Waiting.{HasNoMark}
 use Rattle.worker_log.specs.declared.Entry.{Entry}
-use Rattle.worker_log.specs.declared.Entry.TheVariants.{Looked, LookedEmptyCell, Popped, Pushed, Swept, Took, Missed, Gave, Allocated, Found, Read, Added}
+use Rattle.worker_log.specs.declared.Entry.TheVariants.{Looked, LookedEmptyCell, Popped, Pushed, Swept, Took, Missed, Gave, Allocated, Found, Read, Added, Pulled, NoPage, Cut as CutEntry, NoCut, Settled}
 use Rattle.span_laws.specs.Scans.{IsPassing, logs, nth_unswept}
 use Rattle.span_laws.specs.OwnSteps.{after_said}
 use Rattle.span_laws.specs.Views.{Seen, acts}
@@ -24,6 +24,11 @@ passing_below g from m to l (e ∷ said) a = (one e a.0, passing_below g from m 
     one (Found page word) x = (x.0, (let y = x.1 in omega arith), x.2)
     one (Looked s h t) x = absurd x
     one (LookedEmptyCell s i) x = absurd x
+    one (Pulled number line) x = absurd x
+    one NoPage x = absurd x
+    one (CutEntry page pages class) x = absurd x
+    one (NoCut pages left) x = absurd x
+    one (Settled number) x = absurd x
     one (Popped s q) x = absurd x
     one (Pushed s q) x = absurd x
     one (Swept s) x = absurd x

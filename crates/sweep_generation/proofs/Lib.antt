@@ -5,3 +5,4 @@ mod Zeros
 mod Tried
 mod Packed
 mod Runs
+mod Ranges

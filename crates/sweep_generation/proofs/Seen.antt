@@ -242,8 +242,10 @@ bare-hands pages workers hands is =
       cached = omega arith;
       popped = omega arith;
       swept = omega arith;
+      pulled = omega arith;
       sweeping_table = omega arith;
       held_table = omega arith;
       cached_table = omega arith;
       popped_table = omega arith;
+      pulled_table = omega arith;
     }

@@ -1,11 +1,9 @@
 //! Searches that needs ask for. They read, and write nothing.
 
-ghost use Rattle.std.specs.Prelude.{◌≡◌, option_copied};
-ghost use Rattle.std.specs.List.{find, position};
-ghost use Rattle.std.specs.Option.{is_some};
+ghost use Rattle.std.specs.Prelude.{◌≡◌};
+ghost use Rattle.std.specs.List.{position};
 ghost use Rattle.sweep_laws.specs.Lists.{has, least_of};
 ghost use Rattle.sweep_laws.specs.Reading.{listed};
-ghost use Rattle.sweep_laws.specs.NeedsOfPages.{owner_in};
 ghost use Rattle.sweep_lists.specs.Views.{hand_view};
 
 use sweep_laws::Kind;
@@ -24,21 +22,4 @@ pub(crate) fn least(items: &[u32]) -> Option<u32>
 {
     let (first, rest) = items.split_first()?;
     Some(rest.iter().fold(*first, |a, &x| if x < a { x } else { a }))
-}
-
-// The first entry of an owned page.
-fn find_owned(owners: &[Option<u32>]) -> Option<&Option<u32>>
-    ensures { option_copied result ≡ find is_some owners.now }
-{
-    owners.iter().find(|owner| owner.is_some())
-}
-
-// The first owner among those of some pages.
-pub(crate) fn first_owner(owners: &[Option<u32>]) -> Option<u32>
-    ensures { result ≡ owner_in owners.now }
-{
-    match find_owned(owners) {
-        Some(owner) => *owner,
-        None => None,
-    }
 }

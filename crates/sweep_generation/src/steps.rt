@@ -12,6 +12,7 @@ use crate::mark_end::{next, next_met};
 use crate::moves_cache::{allocate, allocate_met, allocate_usual, cache, uncache};
 use crate::moves_lock::{lock, unlock};
 use crate::moves_pages::{give, take};
+use crate::moves_pull::{cut, drop_block, pull};
 use crate::moves_sets::{claim, fill, pop_swept, pop_unswept};
 use crate::moves_sweep::{acquire, drop_popped, release, stale_uncache};
 use crate::state::Core;
@@ -39,6 +40,11 @@ pub(crate) fn step_by(core: &mut Core, mv: &Move) -> Result<Reply, StepFault>
         Move::PopSwept(worker, set) => pop_swept(core, *worker, *set),
         Move::PopUnswept(worker, set) => pop_unswept(core, *worker, *set),
         Move::DropPopped(worker, page) => drop_popped(core, *worker, *page),
+        Move::Pull(worker) => pull(core, *worker),
+        Move::Cut(worker, page, pages, count, class) => {
+            cut(core, *worker, *page, *pages, *count, *class)
+        }
+        Move::Drop(worker) => drop_block(core, *worker),
         Move::Next(marks) => next(core, marks.as_slice()),
     }
 }

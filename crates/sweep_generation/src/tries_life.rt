@@ -3,37 +3,25 @@
 ghost use Rattle.std.specs.Prelude.{◌≡◌, ◌<◌, ◌≤◌, ◌+◌, true, None, OnOk, length, [], ◌∷◌};
 ghost use Rattle.sweep_laws.specs.Reading.{life_of};
 ghost use Rattle.sweep_laws.specs.NeedsOfRange.{refusal, run_in_range};
-ghost use Rattle.sweep_laws.specs.NeedsOfPages.{is_holder, nothing_allocated, run_is_free, is_at_hand, may_allocate, is_least_free, free_index};
+ghost use Rattle.sweep_laws.specs.NeedsOfPages.{is_holder, nothing_allocated, is_at_hand, may_allocate, is_least_free, free_index};
 ghost use Rattle.sweep_laws.specs.Needs.{take_needs, give_needs, allocate_needs};
 ghost use Rattle.sweep_laws.specs.Tries.{Tried};
 
-use crate::scan::{first_owner, least};
+use crate::scan::least;
 use crate::state::Core;
 use crate::tries::demand;
 use sweep_laws::{Found, Kind, StepFault};
 
 // The number of span classes.
-const SPAN_CLASSES: u8 = 136;
+pub(crate) const SPAN_CLASSES: u8 = 136;
 
 impl Core {
-    fn try_run(&self, page: u32, pages: u32) -> Result<(), StepFault>
+    pub(crate) fn try_run(&self, page: u32, pages: u32) -> Result<(), StepFault>
         ensures ok { OnOk result (page + pages ≤ length self.now.words) }
         ensures tried { Tried (run_in_range self.now page pages ∷ []) result }
     {
         let end = u64::from(page) + u64::from(pages);
         demand(end <= self.words.len() as u64, Found::Range)
-    }
-
-    fn try_run_is_free(&self, page: u32, pages: u32) -> Result<(), StepFault>
-        requires { page + pages ≤ length self.now.words }
-        ensures { Tried (run_is_free self.now page pages ∷ []) result }
-    {
-        let start = page as usize;
-        let end = start + pages as usize;
-        match first_owner(&self.owners[start..end]) {
-            Some(owner) => demand(false, Found::Owner(owner)),
-            None => Ok(()),
-        }
     }
 
     fn try_nothing_allocated(&self, page: u32) -> Result<(), StepFault>

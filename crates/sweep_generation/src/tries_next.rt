@@ -261,6 +261,7 @@ impl Core {
             Found::Word(self.generation),
         )?;
         self.try_idle()?;
+        self.try_nothing_pulled()?;
         self.try_no_claims()?;
         self.try_settled()?;
         self.try_popped()?;

@@ -386,3 +386,91 @@ fn tails_are_limited(rt: HostRuntime) -> Result<(), Fail> {
     claim_behind_the_limit(&rt, &mut core);
     Ok(())
 }
+
+// A region of 130 pages and two workers: blocks of pages 0 to 63, 64 to 127, and 128 and 129. A span stands at pages 1 and 2.
+fn pulls(rt: &impl Abort, core: &mut Core) {
+    gives(rt, core, Move::Pull(2), RANGE);
+    gives(rt, core, Move::Pull(0), NOBODY);
+    gives(rt, core, Move::Lock(0), DONE);
+    gives(rt, core, Move::Take(0, 1, 2, 5, 6), DONE);
+    gives(rt, core, Move::Pull(1), holder(0));
+    gives(rt, core, Move::Pull(0), DONE);
+    gives(rt, core, Move::Pull(0), index(0));
+}
+
+// The first page of a run that is not free decides what a Take finds.
+fn takes_of_pulled_pages(rt: &impl Abort, core: &mut Core) {
+    gives(rt, core, Move::Take(0, 0, 3, 5, 6), index(0));
+    gives(rt, core, Move::Take(0, 2, 2, 5, 6), not(Found::Owner(1)));
+    gives(rt, core, Move::Take(0, 63, 2, 5, 6), index(63));
+    gives(rt, core, Move::Unlock(0), DONE);
+}
+
+// A worker cuts its own pulled pages alone, without the lock.
+fn cuts(rt: &impl Abort, core: &mut Core) {
+    gives(rt, core, Move::Cut(0, 130, 1, 8, 6), RANGE);
+    gives(rt, core, Move::Cut(0, 129, 2, 8, 6), RANGE);
+    gives(rt, core, Move::Cut(0, 3, 2, 8, 136), RANGE);
+    gives(rt, core, Move::Cut(0, 3, 0, 8, 6), RANGE);
+    gives(rt, core, Move::Cut(0, 3, 2, 0, 6), RANGE);
+    gives(rt, core, Move::Cut(1, 3, 2, 8, 6), index(3));
+    gives(rt, core, Move::Cut(0, 0, 2, 8, 6), index(1));
+    gives(rt, core, Move::Cut(0, 63, 2, 8, 6), index(64));
+    gives(rt, core, Move::Cut(0, 3, 2, 8, 6), DONE);
+    gives(rt, core, Move::Cut(0, 4, 1, 8, 6), index(4));
+    gives(rt, core, Move::Cache(0, 3), DONE);
+}
+
+// The other worker pulls the block behind. What is left of a block is free again after a Drop, one of nothing included.
+fn drops(rt: &impl Abort, core: &mut Core) {
+    gives(rt, core, Move::Drop(0), NOBODY);
+    gives(rt, core, Move::Lock(1), DONE);
+    gives(rt, core, Move::Pull(1), DONE);
+    gives(rt, core, Move::Drop(0), holder(1));
+    gives(rt, core, Move::Take(1, 128, 2, 5, 6), DONE);
+    gives(rt, core, Move::Drop(1), DONE);
+    gives(rt, core, Move::Drop(1), DONE);
+    gives(rt, core, Move::Take(1, 64, 64, 5, 6), DONE);
+    gives(rt, core, Move::Pull(1), NO_INDEX);
+    gives(rt, core, Move::Unlock(1), DONE);
+}
+
+#[test]
+fn blocks_of_two_workers(rt: HostRuntime) -> Result<(), Fail> {
+    let mut core = Core::new(rt.alloc(), 130, 2)?;
+    pulls(&rt, &mut core);
+    takes_of_pulled_pages(&rt, &mut core);
+    cuts(&rt, &mut core);
+    assert_eq!(rt; core.hands()[0].pulled.len(), 60);
+    assert_eq!(rt; core.hands()[0].pulled.as_slice()[0], 0);
+    assert_eq!(rt; core.hands()[0].pulled.as_slice()[1], 5);
+    assert_eq!(rt; core.owners()[4], Some(3));
+    drops(&rt, &mut core);
+    Ok(())
+}
+
+// A mark end is refused while a block is out: behind what hands hold, and before a claim.
+fn mark_end_with_a_block(rt: &impl Abort, alloc: Global, core: &mut Core) -> Result<(), Fail> {
+    gives(rt, core, Move::Lock(1), DONE);
+    gives(rt, core, Move::Take(1, 0, 128, 1, 0), DONE);
+    gives(rt, core, Move::Pull(1), DONE);
+    gives(rt, core, Move::Unlock(1), DONE);
+    gives(rt, core, next(alloc, &[])?, holder(1));
+    gives(rt, core, Move::Claim(1, 0, 0), Ok(Reply::Index(0)));
+    gives(rt, core, Move::Fill(1), DONE);
+    gives(rt, core, next(alloc, &[])?, index(128));
+    gives(rt, core, Move::Cut(1, 128, 1, 8, 6), DONE);
+    gives(rt, core, Move::Cache(1, 128), DONE);
+    gives(rt, core, next(alloc, &[])?, index(129));
+    gives(rt, core, Move::Cut(1, 129, 1, 8, 6), DONE);
+    gives(rt, core, Move::Cache(1, 129), DONE);
+    gives(rt, core, next(alloc, &[])?, DONE);
+    Ok(())
+}
+
+#[test]
+fn a_block_before_a_mark_end(rt: HostRuntime) -> Result<(), Fail> {
+    let alloc = rt.alloc();
+    let mut core = Core::new(alloc, 130, 2)?;
+    mark_end_with_a_block(&rt, alloc, &mut core)
+}

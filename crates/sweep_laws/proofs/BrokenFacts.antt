@@ -61,7 +61,7 @@ abbrev pub no_core : CoreState
 no_core = record { generation = 4; words = []; owners = []; lives = []; sets = []; lock = None; hands = []; room = 0; prepared = 0 }
 
 abbrev pub idle_hand : HandState
-idle_hand = record { sweeping = []; held = []; cached = []; popped = []; claimed = None; swept = [] }
+idle_hand = record { sweeping = []; held = []; cached = []; popped = []; claimed = None; swept = []; pulled = [] }
 
 abbrev pub one_life : LifeState
 one_life = record { page = 0; pages = 1; count = 1; class = 0; allocated = []; kept = [] }
@@ -115,7 +115,7 @@ pub swept_free_page_breaks : BreaksAlone 2 swept_free_page
 swept_free_page_breaks = record {
   broken = λ f. let e = f 0 (omega arith) refl in let z : ⊥ = omega arith in z;
   others = others_of 2 swept_free_page
-      (λ _. record { generation = record { even = refl; low = omega arith; high = omega arith }; lives = record { entries = refl; word = λ p low. rw (first 0 p low) (inl refl); begin = λ p low. rw (first 0 p low) refl; owner_is = λ p low. rw (first 0 p low) refl; apart = λ p. omega arith; whole = tt } })
+      (λ _. record { generation = record { even = refl; low = omega arith; high = omega arith }; lives = record { entries = refl; word = λ p low. rw (first 0 p low) (inl refl); begin = λ p low. rw (first 0 p low) refl; owner_is = λ p low. rw (first 0 p low) refl; apart = λ p. omega arith; whole = tt }; pulled = λ p. omega arith })
       (λ n. absurd (n refl))
       (λ _ p low. rw (first 0 p low) (λ e. absurd (omega arith)))
       (λ _ p low. rw (first 0 p low) (λ e. absurd (omega arith)))
@@ -135,7 +135,7 @@ pub lost_page_breaks : BreaksAlone 3 lost_page
 lost_page_breaks = record {
   broken = λ f. let e = (f 0 (omega arith) refl).once in let z : ⊥ = omega arith in z;
   others = others_of 3 lost_page
-      (λ _. record { generation = record { even = refl; low = omega arith; high = omega arith }; lives = record { entries = refl; word = λ p low. rw (first 2 p low) (inr (inl refl)); begin = λ p low. rw (first 2 p low) refl; owner_is = λ p low. rw (first 2 p low) refl; apart = λ p. one_covers p (one_life); whole = (omega arith, tt) } })
+      (λ _. record { generation = record { even = refl; low = omega arith; high = omega arith }; lives = record { entries = refl; word = λ p low. rw (first 2 p low) (inr (inl refl)); begin = λ p low. rw (first 2 p low) refl; owner_is = λ p low. rw (first 2 p low) refl; apart = λ p. one_covers p (one_life); whole = (omega arith, tt) }; pulled = λ p. let z = one_covers p (one_life) in omega arith })
       (λ _ p low. rw (first 2 p low) (λ e. absurd (omega arith)))
       (λ n. absurd (n refl))
       (λ _ p low. rw (first 2 p low) (λ e. absurd (omega arith)))
@@ -155,7 +155,7 @@ pub unswept_by_all_breaks : BreaksAlone 4 unswept_by_all
 unswept_by_all_breaks = record {
   broken = λ f. let e = (f 0 (omega arith) refl).one in let z : ⊥ = omega arith in z;
   others = others_of 4 unswept_by_all
-      (λ _. record { generation = record { even = refl; low = omega arith; high = omega arith }; lives = record { entries = refl; word = λ p low. rw (first 3 p low) (inr (inr (inl refl))); begin = λ p low. rw (first 3 p low) refl; owner_is = λ p low. rw (first 3 p low) refl; apart = λ p. one_covers p (one_life); whole = (omega arith, tt) } })
+      (λ _. record { generation = record { even = refl; low = omega arith; high = omega arith }; lives = record { entries = refl; word = λ p low. rw (first 3 p low) (inr (inr (inl refl))); begin = λ p low. rw (first 3 p low) refl; owner_is = λ p low. rw (first 3 p low) refl; apart = λ p. one_covers p (one_life); whole = (omega arith, tt) }; pulled = λ p. let z = one_covers p (one_life) in omega arith })
       (λ _ p low. rw (first 3 p low) (λ e. absurd (omega arith)))
       (λ _ p low. rw (first 3 p low) (λ e. absurd (omega arith)))
       (λ n. absurd (n refl))
@@ -175,7 +175,7 @@ pub nobodys_page_breaks : BreaksAlone 5 nobodys_page
 nobodys_page_breaks = record {
   broken = λ f. let e = (f 0 (omega arith) refl).one in let z : ⊥ = omega arith in z;
   others = others_of 5 nobodys_page
-      (λ _. record { generation = record { even = refl; low = omega arith; high = omega arith }; lives = record { entries = refl; word = λ p low. rw (first 4 p low) (inr (inr (inr (inl refl)))); begin = λ p low. rw (first 4 p low) refl; owner_is = λ p low. rw (first 4 p low) refl; apart = λ p. one_covers p (one_life); whole = (omega arith, tt) } })
+      (λ _. record { generation = record { even = refl; low = omega arith; high = omega arith }; lives = record { entries = refl; word = λ p low. rw (first 4 p low) (inr (inr (inr (inl refl)))); begin = λ p low. rw (first 4 p low) refl; owner_is = λ p low. rw (first 4 p low) refl; apart = λ p. one_covers p (one_life); whole = (omega arith, tt) }; pulled = λ p. let z = one_covers p (one_life) in omega arith })
       (λ _ p low. rw (first 4 p low) (λ e. absurd (omega arith)))
       (λ _ p low. rw (first 4 p low) (λ e. absurd (omega arith)))
       (λ _ p low. rw (first 4 p low) (λ e. absurd (omega arith)))
@@ -195,7 +195,7 @@ pub uncached_page_breaks : BreaksAlone 6 uncached_page
 uncached_page_breaks = record {
   broken = λ f. let e = (f 0 (omega arith) (inl refl)).one in let z : ⊥ = omega arith in z;
   others = others_of 6 uncached_page
-      (λ _. record { generation = record { even = refl; low = omega arith; high = omega arith }; lives = record { entries = refl; word = λ p low. rw (first 5 p low) (inr (inr (inr (inr (inl refl))))); begin = λ p low. rw (first 5 p low) refl; owner_is = λ p low. rw (first 5 p low) refl; apart = λ p. one_covers p (one_life); whole = (omega arith, tt) } })
+      (λ _. record { generation = record { even = refl; low = omega arith; high = omega arith }; lives = record { entries = refl; word = λ p low. rw (first 5 p low) (inr (inr (inr (inr (inl refl))))); begin = λ p low. rw (first 5 p low) refl; owner_is = λ p low. rw (first 5 p low) refl; apart = λ p. one_covers p (one_life); whole = (omega arith, tt) }; pulled = λ p. let z = one_covers p (one_life) in omega arith })
       (λ _ p low. rw (first 5 p low) (λ e. absurd (omega arith)))
       (λ _ p low. rw (first 5 p low) (λ e. absurd (omega arith)))
       (λ _ p low. rw (first 5 p low) (λ e. absurd (omega arith)))
@@ -215,7 +215,7 @@ pub popped_twice_breaks : BreaksAlone 7 popped_twice
 popped_twice_breaks = record {
   broken = λ f. let e = f.entries 0 (omega arith) in let z : ⊥ = omega arith in z;
   others = others_of 7 popped_twice
-      (λ _. record { generation = record { even = refl; low = omega arith; high = omega arith }; lives = record { entries = refl; word = λ p low. rw (first 4 p low) (inr (inr (inr (inl refl)))); begin = λ p low. rw (first 4 p low) refl; owner_is = λ p low. rw (first 4 p low) refl; apart = λ p. one_covers p (one_life); whole = (omega arith, tt) } })
+      (λ _. record { generation = record { even = refl; low = omega arith; high = omega arith }; lives = record { entries = refl; word = λ p low. rw (first 4 p low) (inr (inr (inr (inl refl)))); begin = λ p low. rw (first 4 p low) refl; owner_is = λ p low. rw (first 4 p low) refl; apart = λ p. one_covers p (one_life); whole = (omega arith, tt) }; pulled = λ p. let z = one_covers p (one_life) in omega arith })
       (λ _ p low. rw (first 4 p low) (λ e. absurd (omega arith)))
       (λ _ p low. rw (first 4 p low) (λ e. absurd (omega arith)))
       (λ _ p low. rw (first 4 p low) (λ e. absurd (omega arith)))
@@ -235,7 +235,7 @@ pub head_past_tail_breaks : BreaksAlone 8 head_past_tail
 head_past_tail_breaks = record {
   broken = λ f. let e = f.order 0 (record { head = 1; tail = 0; cells = [] }) refl in let z : ⊥ = omega arith in z;
   others = others_of 8 head_past_tail
-      (λ _. record { generation = record { even = refl; low = omega arith; high = omega arith }; lives = record { entries = refl; word = λ p low. absurd (omega arith); begin = λ p low. absurd (omega arith); owner_is = λ p low. absurd (omega arith); apart = λ p. omega arith; whole = tt } })
+      (λ _. record { generation = record { even = refl; low = omega arith; high = omega arith }; lives = record { entries = refl; word = λ p low. absurd (omega arith); begin = λ p low. absurd (omega arith); owner_is = λ p low. absurd (omega arith); apart = λ p. omega arith; whole = tt }; pulled = λ p. omega arith })
       (λ _ p low. absurd (omega arith))
       (λ _ p low. absurd (omega arith))
       (λ _ p low. absurd (omega arith))
@@ -255,7 +255,7 @@ pub swept_and_stale_breaks : BreaksAlone 9 swept_and_stale
 swept_and_stale_breaks = record {
   broken = λ f. ⊎_elim (λ (x : 5 ≡ 0). let z : ⊥ = omega arith in z) (λ (y : (5 ≡ 4) ⊎ (5 ≡ 7)). ⊎_elim (λ (x : 5 ≡ 4). let z : ⊥ = omega arith in z) (λ (x : 5 ≡ 7). let z : ⊥ = omega arith in z) y) (f.word 0 (omega arith) (omega arith));
   others = others_of 9 swept_and_stale
-      (λ _. record { generation = record { even = refl; low = omega arith; high = omega arith }; lives = record { entries = refl; word = λ p low. rw (first 5 p low) (inr (inr (inr (inr (inl refl))))); begin = λ p low. rw (first 5 p low) refl; owner_is = λ p low. rw (first 5 p low) refl; apart = λ p. one_covers p (one_life); whole = (omega arith, tt) } })
+      (λ _. record { generation = record { even = refl; low = omega arith; high = omega arith }; lives = record { entries = refl; word = λ p low. rw (first 5 p low) (inr (inr (inr (inr (inl refl))))); begin = λ p low. rw (first 5 p low) refl; owner_is = λ p low. rw (first 5 p low) refl; apart = λ p. one_covers p (one_life); whole = (omega arith, tt) }; pulled = λ p. let z = one_covers p (one_life) in omega arith })
       (λ _ p low. rw (first 5 p low) (λ e. absurd (omega arith)))
       (λ _ p low. rw (first 5 p low) (λ e. absurd (omega arith)))
       (λ _ p low. rw (first 5 p low) (λ e. absurd (omega arith)))
@@ -275,7 +275,7 @@ pub far_object_breaks : BreaksAlone 10 far_object
 far_object_breaks = record {
   broken = λ f. let e = f.0.allocated 1 (omega arith) in let z : ⊥ = omega arith in z;
   others = others_of 10 far_object
-      (λ _. record { generation = record { even = refl; low = omega arith; high = omega arith }; lives = record { entries = refl; word = λ p low. rw (first 4 p low) (inr (inr (inr (inl refl)))); begin = λ p low. rw (first 4 p low) refl; owner_is = λ p low. rw (first 4 p low) refl; apart = λ p. one_covers p (record one_life { allocated = 1 ∷ [] }); whole = (omega arith, tt) } })
+      (λ _. record { generation = record { even = refl; low = omega arith; high = omega arith }; lives = record { entries = refl; word = λ p low. rw (first 4 p low) (inr (inr (inr (inl refl)))); begin = λ p low. rw (first 4 p low) refl; owner_is = λ p low. rw (first 4 p low) refl; apart = λ p. one_covers p (record one_life { allocated = 1 ∷ [] }); whole = (omega arith, tt) }; pulled = λ p. let z = one_covers p (record one_life { allocated = 1 ∷ [] }) in omega arith })
       (λ _ p low. rw (first 4 p low) (λ e. absurd (omega arith)))
       (λ _ p low. rw (first 4 p low) (λ e. absurd (omega arith)))
       (λ _ p low. rw (first 4 p low) (λ e. absurd (omega arith)))
@@ -313,3 +313,17 @@ page_beyond = record no_core { sets = record { head = 0; tail = 0; cells = [] } 
 
 pub page_beyond_is_refused : Owned page_beyond → ⊥
 page_beyond_is_refused o = let e = (o.sets.unswept_cell 1 record { head = 0; tail = 1; cells = 1 ∷ [] } refl refl 0 (omega arith) (omega arith)).2 in let z : ⊥ = omega arith in z
+
+-- a pulled page that a life covers
+abbrev pub pulled_span : CoreState
+pulled_span = one_page 4 one_life (record idle_hand { held = 0 ∷ []; pulled = 0 ∷ [] })
+
+pub pulled_span_is_refused : Owned pulled_span → ⊥
+pulled_span_is_refused o = let e = o.lives.pulled 0 in let z : ⊥ = omega arith in z
+
+-- a page that two hands have pulled
+abbrev pub pulled_twice : CoreState
+pulled_twice = record no_core { words = 0 ∷ []; owners = None ∷ []; hands = record idle_hand { pulled = 0 ∷ [] } ∷ record idle_hand { pulled = 0 ∷ [] } ∷ [] }
+
+pub pulled_twice_is_refused : Owned pulled_twice → ⊥
+pulled_twice_is_refused o = let e = o.lives.pulled 0 in let z : ⊥ = omega arith in z

@@ -25,7 +25,7 @@ module _ (g : ℕ) (ws : List ℕ) (os : List (Option ℕ)) (ls : List LifeState
       turned g ws os ls ss hs n h h' at k p ws' ls (length-set ws p (g + 3)) (λ q o. get_or-set_other ws p q (g + 3) 0 o)
       (λ _. both_owned (get_or ws' p 0) (get_or ws p 0) (omega arith) (omega arith)) (same_alike ls) k.objects
       record { sweeping = λ q o. refl; held = λ q o. times_erase_else q p h.held o; cached = λ q o. times_end_else q p h.cached o; popped = λ q o. refl; swept = λ q o. refl }
-      refl (λ x e. absurd (some_none x (sym e ∙ none_claimed)))
+      refl refl (λ x e. absurd (some_none x (sym e ∙ none_claimed)))
       (λ _. record {
         standing = is_cached w (omega arith) (omega arith);
         waiting = let m = r.waiting in omega arith;
@@ -42,7 +42,7 @@ module _ (g : ℕ) (ws : List ℕ) (os : List (Option ℕ)) (ls : List LifeState
       turned g ws os ls ss hs n h h' at k p ws' ls (length-set ws p g) (λ q o. get_or-set_other ws p q g 0 o)
       (λ _. both_owned (get_or ws' p 0) (get_or ws p 0) (omega arith) (omega arith)) (same_alike ls) k.objects
       record { sweeping = λ q o. refl; held = λ q o. times_end_else q p h.held o; cached = λ q o. times_erase_else q p h.cached o; popped = λ q o. refl; swept = λ q o. refl }
-      refl (λ x e. let z = (k.sets_fit.claim n h at x e).held in let y = times_append x.page h.held (p ∷ []) in omega arith)
+      refl refl (λ x e. let z = (k.sets_fit.claim n h at x e).held in let y = times_append x.page h.held (p ∷ []) in omega arith)
       (λ _. record {
         standing = is_swept w (omega arith) (omega arith);
         waiting = let m = r.waiting in omega arith;
@@ -60,7 +60,7 @@ module _ (g : ℕ) (ws : List ℕ) (os : List (Option ℕ)) (ls : List LifeState
       turned g ws os ls ss hs n h h' at k p ws' ls (length-set ws p (g - 1)) (λ q o. get_or-set_other ws p q (g - 1) 0 o)
       (λ _. both_owned (get_or ws' p 0) (get_or ws p 0) (omega arith) (omega arith)) (same_alike ls) k.objects
       record { sweeping = λ q o. times_end_else q p h.sweeping o; held = λ q o. refl; cached = λ q o. times_erase_else q p h.cached o; popped = λ q o. refl; swept = λ q o. refl }
-      refl (λ x e. (k.sets_fit.claim n h at x e).held)
+      refl refl (λ x e. (k.sets_fit.claim n h at x e).held)
       (λ _. record {
         standing = is_sweeping (omega arith) (omega arith) (omega arith);
         waiting = let m = r.waiting in omega arith;

@@ -6,7 +6,7 @@ use mathlib.Core.Option.{some}
 use lib.ListN.{get_elem?}
 use Rattle.sweep_laws.specs.State.{HandState}
 use Rattle.sweep_laws.specs.Counts.{times}
-use Rattle.sweep_laws.specs.Named.{sweepers, holders, cachers, poppers, swept_by}
+use Rattle.sweep_laws.specs.Named.{sweepers, holders, cachers, poppers, swept_by, pullers}
 use Rattle.sweep_laws.specs.Standing.{Tally, Page}
 use Rattle.sweep_laws.proofs.Totals.{total_set, part_le}
 
@@ -16,6 +16,7 @@ pub record Deltas (p : ℕ) (hs hs' : List HandState) (h h' : HandState) : Type 
   pub cached : cachers p hs' + times p h.cached ≡ cachers p hs + times p h'.cached
   pub popped : poppers p hs' + times p h.popped ≡ poppers p hs + times p h'.popped
   pub swept : swept_by p hs' + times p h.swept ≡ swept_by p hs + times p h'.swept
+  pub pulled : pullers p hs' + times p h.pulled ≡ pullers p hs + times p h'.pulled
 
 pub deltas : (hs : List HandState) (n : ℕ) (h h' : HandState) → get_elem? hs n ≡ some h → (p : ℕ) → Deltas p hs (set hs n h') h h'
 deltas hs n h h' at p = record {
@@ -24,6 +25,7 @@ deltas hs n h h' at p = record {
   cached = total_set (λ (x : HandState). times p x.cached) hs n h h' at;
   popped = total_set (λ (x : HandState). times p x.popped) hs n h h' at;
   swept = total_set (λ (x : HandState). times p x.swept) hs n h h' at;
+  pulled = total_set (λ (x : HandState). times p x.pulled) hs n h h' at;
 }
 
 -- what one hand's lists name, all hands' lists name
@@ -33,6 +35,7 @@ pub record Parts (p : ℕ) (hs : List HandState) (h : HandState) : Type 0 where
   pub cached : times p h.cached ≤ cachers p hs
   pub popped : times p h.popped ≤ poppers p hs
   pub swept : times p h.swept ≤ swept_by p hs
+  pub pulled : times p h.pulled ≤ pullers p hs
 
 pub parts : (hs : List HandState) (n : ℕ) (h : HandState) → get_elem? hs n ≡ some h → (p : ℕ) → Parts p hs h
 parts hs n h at p = record {
@@ -41,6 +44,7 @@ parts hs n h at p = record {
   cached = part_le (λ (x : HandState). times p x.cached) hs n h at;
   popped = part_le (λ (x : HandState). times p x.popped) hs n h at;
   swept = part_le (λ (x : HandState). times p x.swept) hs n h at;
+  pulled = part_le (λ (x : HandState). times p x.pulled) hs n h at;
 }
 
 pub both_owned : (a b : ℕ) → 0 < a → 0 < b → not (eqb a 0) ≡ not (eqb b 0)

@@ -20,6 +20,7 @@ use Rattle.sweep_laws.proofs.Unpopped.{put_between, put_cell_here, put_cell_else
 use Rattle.sweep_laws.proofs.NeedsMet.{some_none}
 use Rattle.sweep_laws.proofs.Standings.{same_tally, held_list, page_swept}
 use Rattle.sweep_laws.proofs.Deltas.{deltas, parts}
+use Rattle.sweep_laws.proofs.Turned.{pulled_as}
 use Rattle.sweep_laws.proofs.Reset.{set_deltas, claim_reset, sets_reset}
 use Rattle.sweep_laws.proofs.Claims.{claim_else, claim_gone, two_claimers}
 
@@ -29,6 +30,7 @@ module _ (g : ℕ) (ws : List ℕ) (os : List (Option ℕ)) (ls : List LifeState
   fill_keeps = record {
     generation = k.generation;
     lives_fit = k.lives_fit;
+    pulled = pulled_as g ws os ls ss hs n h h' at ls refl (λ q. omega arith) k.pulled;
     page = λ q l. dite (ℕ_discrete q d.page) (λ e. subst (λ (z : ℕ). Page g (tally g ws ls ss' hs' z)) (sym e) here_page) (λ o. else_page q o l);
     sets_fit = sets_reset g (length ws) ls ss hs hs' d.set s s' there k.sets_fit (k.sets_fit.order d.set s there)
         (λ i l. else_cell i (λ e. let u = below_tail in omega arith) ∙ k.sets_fit.beyond d.set s there i l)

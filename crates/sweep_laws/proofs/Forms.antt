@@ -15,6 +15,7 @@ pub kept_of : (c : CoreState) → Owned c → CoreKept c
 kept_of c o = record {
   generation = o.lives.generation;
   lives_fit = o.lives.lives;
+  pulled = o.lives.pulled;
   page = λ p low. record {
     standing = stands p low (o.lives.lives.word p low);
     waiting = o.once.entries p low;
@@ -35,7 +36,7 @@ kept_of c o = record {
 
 pub owned_of : (c : CoreState) → CoreKept c → Owned c
 owned_of c k = record {
-  lives = record { generation = k.generation; lives = k.lives_fit };
+  lives = record { generation = k.generation; lives = k.lives_fit; pulled = k.pulled };
   free = λ p low e. free_word c.generation (page_of c p) k.generation.low (k.page p low).standing e;
   unswept = λ p low e. let f = unswept_word c.generation (page_of c p) k.generation.low (k.page p low).standing e in record { nobodys = f.0; once = f.1 };
   sweeping = λ p low e. let f = sweeping_word c.generation (page_of c p) k.generation.low (k.page p low).standing e in record { one = f.0; no_other = f.1 };

@@ -14,7 +14,9 @@ pub mod CacheMoves
 pub mod UnsweptMoves
 pub mod SweptMoves
 pub mod FillMove
+pub mod PulledPages
 pub mod HeapMoves
+pub mod PullMoves
 pub mod Claims
 pub mod Reset
 pub mod MarkEnd

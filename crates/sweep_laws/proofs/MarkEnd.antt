@@ -84,6 +84,7 @@ module _ (g : ℕ) (ws : List ℕ) (os : List (Option ℕ)) (ls : List LifeState
       apart = λ p. subst (λ (z : ℕ). z ≤ 1) (alike_covers p ls ls' alike) (k.lives_fit.apart p);
       whole = alike_whole ls ls' alike k.lives_fit.whole;
     };
+    pulled = λ p. let t = total_mapped forget_swept (λ (h : HandState). times p h.pulled) hs in let a = k.pulled p in let e = alike_covers p ls ls' alike in omega arith;
     page = pages;
     sets_fit = record {
       order = λ j x a. let t = at_emptied g ss j x a in subst (λ (z : SetState). z.head ≤ z.tail) t.2 (by_part (λ z. z.head ≤ z.tail) j t.0 (λ e. k.sets_fit.order j t.0 t.1) (λ e. omega arith));

@@ -86,7 +86,7 @@ runs_memory old new moves r runs o t h p e = let s = subst (Runs old new moves) 
 -- the start
 
 empty_never : (p : ℕ) → NamesNever p no_hand
-empty_never p = record { sweeping = refl; held = refl; cached = refl; popped = refl; swept = refl }
+empty_never p = record { sweeping = refl; held = refl; cached = refl; popped = refl; swept = refl; pulled = refl }
 
 -- a state without lives, whose hands have nothing, is tidy
 pub start_tidy : (c : CoreState) (workers : ℕ) → c.hands ≡ copies workers no_hand → c.lives ≡ [] → IsTidy c

@@ -10,34 +10,36 @@ use lib.ListN.{get_elem?}
 use native.Mathlib.Decide.{ℕ_discrete}
 use Rattle.sweep_laws.specs.declared.moves.Claimed.{Claimed}
 use Rattle.sweep_laws.specs.declared.moves.Move.{Move}
-use Rattle.sweep_laws.specs.declared.moves.Move.TheVariants.{Lock, Unlock, Take, Give, Acquire, Release, Cache, Allocate, Uncache, StaleUncache, Claim, Fill, PopSwept, PopUnswept, DropPopped, Next}
+use Rattle.sweep_laws.specs.declared.moves.Move.TheVariants.{Lock, Unlock, Take, Give, Acquire, Release, Cache, Allocate, Uncache, StaleUncache, Claim, Fill, PopSwept, PopUnswept, DropPopped, Pull, Cut, Drop, Next}
 use Rattle.sweep_laws.specs.State.{LifeState, SetState, CoreState}
 use Rattle.sweep_laws.specs.Lists.{has}
-use Rattle.sweep_laws.specs.Reading.{hand_of, set_of, cell_of, life_of, no_hand, no_set, class_of_set, is_settled, life_in}
+use Rattle.sweep_laws.specs.Reading.{hand_of, set_of, cell_of, life_of, no_hand, no_set, class_of_set, is_settled, life_in, is_free_page, free_block}
 use Rattle.sweep_laws.specs.NeedsOfRange.{refusal}
 use Rattle.sweep_laws.specs.NeedsOfMarkEnd.{is_allocated}
-use Rattle.sweep_laws.specs.Needs.{take_needs, give_needs, acquire_needs, release_needs, cache_needs, allocate_needs, uncache_needs, stale_uncache_needs, claim_needs, pop_swept_needs, pop_unswept_needs, drop_popped_needs, fill_needs, next_needs}
+use Rattle.sweep_laws.specs.Needs.{take_needs, give_needs, acquire_needs, release_needs, cache_needs, allocate_needs, uncache_needs, stale_uncache_needs, claim_needs, pop_swept_needs, pop_unswept_needs, drop_popped_needs, fill_needs, pull_needs, cut_needs, drop_needs, next_needs}
 use Rattle.sweep_laws.specs.ChangesOfHands.{hold, pop_entry}
 use Rattle.sweep_laws.specs.ChangesOfLives.{marks_at}
 use Rattle.sweep_laws.specs.ChangesOfSets.{base_of, raise_head}
-use Rattle.sweep_laws.specs.Changes.{after_take, after_give, after_acquire, after_release, after_cache, after_allocate, after_uncache, after_stale_uncache, after_claim, after_fill, after_fill_of, after_pop_swept, after_pop_unswept, after_drop_popped, after_next}
+use Rattle.sweep_laws.specs.Changes.{after_take, after_give, after_acquire, after_release, after_cache, after_allocate, after_uncache, after_stale_uncache, after_claim, after_fill, after_fill_of, after_pop_swept, after_pop_unswept, after_drop_popped, after_pull, after_cut, after_drop, after_next}
 use Rattle.sweep_laws.specs.Step.{needs_of, after}
 use Rattle.sweep_laws.specs.Counts.{one_if, times}
-use Rattle.sweep_laws.specs.Named.{is_covered, covers, is_class, claimers}
+use Rattle.sweep_laws.specs.Named.{is_covered, covers, pullers, is_class, claimers}
 use Rattle.sweep_laws.specs.OwnedSets.{IsPage}
 use Rattle.sweep_laws.specs.Owned.{Owned}
 use Rattle.sweep_laws.specs.Standing.{Kept, CoreKept}
 use Rattle.sweep_laws.proofs.Totals.{inside_at, part_le}
 use Rattle.sweep_laws.proofs.Naming.{has_times, at_low}
-use Rattle.sweep_laws.proofs.NeedsMet.{all_met, both, either_one, not_true, eqb-false, holder_is, none_there, some_there, some_none, empty_list, not_found, no_position, unowned_run}
+use Rattle.sweep_laws.proofs.NeedsMet.{all_met, both, either_one, not_true, eqb-false, holder_is, none_there, some_there, some_none, empty_list, not_found, no_position}
 use Rattle.sweep_laws.proofs.Objects.{free_below, allocate_keeps}
-use Rattle.sweep_laws.proofs.LivesChange.{is_in}
+use Rattle.sweep_laws.proofs.LivesChange.{is_in, unowned_covers}
 use Rattle.sweep_laws.proofs.SweepMoves.{acquire_keeps, release_keeps}
 use Rattle.sweep_laws.proofs.CacheMoves.{cache_keeps, uncache_keeps, stale_uncache_keeps}
 use Rattle.sweep_laws.proofs.UnsweptMoves.{drop_popped_keeps, pop_unswept_keeps}
 use Rattle.sweep_laws.proofs.SweptMoves.{pop_swept_keeps, claim_keeps}
 use Rattle.sweep_laws.proofs.FillMove.{fill_keeps}
-use Rattle.sweep_laws.proofs.HeapMoves.{take_keeps, give_keeps}
+use Rattle.sweep_laws.proofs.PulledPages.{range_none, free_page, block_free}
+use Rattle.sweep_laws.proofs.HeapMoves.{take_keeps, cut_keeps, give_keeps}
+use Rattle.sweep_laws.proofs.PullMoves.{pull_keeps, drop_keeps}
 use Rattle.sweep_laws.proofs.MarkEnd.{all_index, next_keeps}
 use Rattle.sweep_laws.proofs.Forms.{kept_of, owned_of}
 
@@ -97,18 +99,49 @@ module _ (c : CoreState) (k : CoreKept c) where
       leb_true : (a b : ℕ) → leb a b ≡ true → a ≤ b
       leb_true a b h = grind arith
 
+  run_pages : (w page pages count class : ℕ) → refusal (take_needs c w page pages count class) ≡ None → (q : ℕ) → page ≤ q → q < page + pages → (get_or c.owners q None ≡ None) × (pullers q c.hands ≡ 0)
+  run_pages w page pages count class e q l u = let m = all_met (take_needs c w page pages count class) e in
+      free_page c.owners c.hands q (Rattle.sweep_laws.proofs.NeedsMet.not_false _ (range_none _ page pages (none_there _ (not_true _ m.1.1.1.1.1.1.0)) q l u))
+
   pub run_free : (w page pages count class : ℕ) → refusal (take_needs c w page pages count class) ≡ None → (q : ℕ) → page ≤ q → q < page + pages → get_or c.owners q None ≡ None
-  run_free w page pages count class e = let m = all_met (take_needs c w page pages count class) e in unowned_run c.owners page pages (not_true _ m.1.1.1.1.1.1.0)
+  run_free w page pages count class e q l u = (run_pages w page pages count class e q l u).0
+
+  pub run_unpulled : (w page pages count class : ℕ) → refusal (take_needs c w page pages count class) ≡ None → (q : ℕ) → page ≤ q → q < page + pages → pullers q c.hands ≡ 0
+  run_unpulled w page pages count class e q l u = (run_pages w page pages count class e q l u).1
+
+  -- what the needs of a Cut say of the run
+  pub cut_inside : (w page pages count class : ℕ) → refusal (cut_needs c w page pages count class) ≡ None → (page + pages ≤ length c.words) × (0 < pages)
+  cut_inside w page pages count class e = let m = all_met (cut_needs c w page pages count class) e in (leb_true (page + pages) (length c.words) m.1.1.0, ltb-true 0 pages (both _ _ m.1.1.1.1.0).0)
+    where
+      leb_true : (a b : ℕ) → leb a b ≡ true → a ≤ b
+      leb_true a b h = grind arith
+
+  pub cut_pulled : (w page pages count class : ℕ) → refusal (cut_needs c w page pages count class) ≡ None → (q : ℕ) → page ≤ q → q < page + pages → 0 < times q (hand_of c w).pulled
+  cut_pulled w page pages count class e q l u = let m = all_met (cut_needs c w page pages count class) e in
+      has_times q (hand_of c w).pulled (Rattle.sweep_laws.proofs.NeedsMet.not_false _ (range_none _ page pages (none_there _ (not_true _ m.1.1.1.1.1.0)) q l u))
 
   -- what the needs of a mark end say of the words
   pub settled_words : (marks : List (ℕ × ℕ)) → refusal (next_needs c marks) ≡ None → (p : ℕ) → p < length c.words → (get_or c.words p 0 ≡ 0) ⊎ (get_or c.words p 0 ≡ c.generation) ⊎ (get_or c.words p 0 ≡ c.generation + 3)
   settled_words marks e p low = let m = all_met (next_needs c marks) e in
-      settled_word c.generation (get_or c.words p 0) (Rattle.sweep_laws.proofs.NeedsMet.not_false _ (not_found _ c.words (none_there _ (not_true _ m.1.1.1.1.1.0)) p (get_or c.words p 0) (at_low c.words p 0 low)))
+      settled_word c.generation (get_or c.words p 0) (Rattle.sweep_laws.proofs.NeedsMet.not_false _ (not_found _ c.words (none_there _ (not_true _ m.1.1.1.1.1.1.0)) p (get_or c.words p 0) (at_low c.words p 0 low)))
 
   take_kept : (w page pages count class : ℕ) → refusal (take_needs c w page pages count class) ≡ None → CoreKept (after_take c w page pages count class)
   take_kept w page pages count class e = let m = all_met (take_needs c w page pages count class) e in
       take_keeps c.generation c.words c.owners c.lives c.sets c.hands k w (hand_of c w) (hand_at w m.0) page (ltb-true page (length c.words) m.1.0) pages count class
-      (run_inside w page pages count class e).0 (run_inside w page pages count class e).1 (run_free w page pages count class e)
+      (run_inside w page pages count class e).0 (run_inside w page pages count class e).1 (run_free w page pages count class e) (run_unpulled w page pages count class e)
+
+  pull_kept : (w : ℕ) → refusal (pull_needs c w) ≡ None → CoreKept (after_pull c w)
+  pull_kept w e = let m = all_met (pull_needs c w) e in let b = block_free c in
+      pull_keeps c.generation c.words c.owners c.lives c.sets c.hands k w (hand_of c w) (hand_at w m.0) (free_block c) (empty_list (hand_of c w).pulled m.1.1.0) b.once
+      (λ q h. let f = b.free q h in let p = free_page c.owners c.hands q f.1 in let o = unowned_covers q c.lives (sym (k.lives_fit.owner_is q f.0) ∙ p.0) in let n = p.1 in omega arith)
+
+  cut_kept : (w page pages count class : ℕ) → refusal (cut_needs c w page pages count class) ≡ None → CoreKept (after_cut c w page pages count class)
+  cut_kept w page pages count class e = let m = all_met (cut_needs c w page pages count class) e in
+      cut_keeps c.generation c.words c.owners c.lives c.sets c.hands k w (hand_of c w) (hand_at w m.0) page (ltb-true page (length c.words) m.1.0) pages count class
+      (cut_inside w page pages count class e).0 (cut_inside w page pages count class e).1 (cut_pulled w page pages count class e)
+
+  drop_kept : (w : ℕ) → refusal (drop_needs c w) ≡ None → CoreKept (after_drop c w)
+  drop_kept w e = let m = all_met (drop_needs c w) e in drop_keeps c.generation c.words c.owners c.lives c.sets c.hands k w (hand_of c w) (hand_at w m.0)
 
   give_kept : (w page : ℕ) → refusal (give_needs c w page) ≡ None → CoreKept (after_give c w page)
   give_kept w page e = let m = all_met (give_needs c w page) e in
@@ -175,7 +208,7 @@ module _ (c : CoreState) (k : CoreKept c) where
   pub marked_allocated : (marks : List (ℕ × ℕ)) → refusal (next_needs c marks) ≡ None → (n : ℕ) (l : LifeState) → get_elem? c.lives n ≡ some l → (i : ℕ) → 0 < times i (marks_at l.page marks) → 0 < times i l.allocated
   marked_allocated marks e n l at i h = let m = all_met (next_needs c marks) e in has_times i l.allocated (subst (λ (z : LifeState). has i z.allocated ≡ true)
       (first_is c.lives n l at (all_index (λ (z : LifeState). 1 ≤ z.pages) c.lives n l k.lives_fit.whole at) k.lives_fit.whole (k.lives_fit.apart l.page))
-      (marks_allocated c l.page i marks (no_mark marks (none_there _ (not_true _ m.1.1.1.1.1.1.1.0))) h))
+      (marks_allocated c l.page i marks (no_mark marks (none_there _ (not_true _ m.1.1.1.1.1.1.1.1.0))) h))
     where
       no_mark : (marks : List (ℕ × ℕ)) → Rattle.std.specs.Prelude.option_map (λ (mark : ℕ × ℕ). mark.1) (find (λ mark. not (is_allocated c mark)) marks) ≡ None → find (λ mark. not (is_allocated c mark)) marks ≡ None
       no_mark marks f = go (find (λ mark. not (is_allocated c mark)) marks) f
@@ -188,7 +221,7 @@ module _ (c : CoreState) (k : CoreKept c) where
   next_kept marks e = let m = all_met (next_needs c marks) e in
       next_keeps c.generation c.words c.owners c.lives c.sets c.hands k marks (ltb-true _ _ m.1.1.0)
       (λ n h at. let i = no_position _ c.hands (not_true _ m.1.1.1.0) n h at in let j = both _ _ (Rattle.sweep_laws.proofs.NeedsMet.not_false _ i) in let l = both _ _ j.1 in
-      (empty_list h.sweeping j.0, empty_list h.held l.0, empty_list h.popped l.1, none_there h.claimed (not_found _ c.hands (none_there _ (not_true _ m.1.1.1.1.0)) n h at)))
+      (empty_list h.sweeping j.0, empty_list h.held l.0, empty_list h.popped l.1, none_there h.claimed (not_found _ c.hands (none_there _ (not_true _ m.1.1.1.1.1.0)) n h at)))
       (settled_words marks e)
       (marked_allocated marks e)
 
@@ -208,6 +241,9 @@ module _ (c : CoreState) (k : CoreKept c) where
   move_kept (PopSwept w s) e = pop_swept_kept w s e
   move_kept (PopUnswept w s) e = pop_unswept_kept w s e
   move_kept (DropPopped w page) e = drop_popped_kept w page e
+  move_kept (Pull w) e = pull_kept w e
+  move_kept (Cut w page pages count class) e = cut_kept w page pages count class e
+  move_kept (Drop w) e = drop_kept w e
   move_kept (Next marks) e = next_kept marks e
 
 -- each move keeps the rule of ownership from any state that has it

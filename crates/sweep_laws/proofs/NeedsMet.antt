@@ -8,7 +8,7 @@ use Rattle.std.proofs.lemmas.List.{get_or-drop, get_or-take}
 use mathlib.Core.Option.{some, some-injective, some-ne-none}
 use lib.ListN.{get_elem?}
 use Rattle.sweep_laws.specs.NeedsOfRange.{Need, refusal}
-use Rattle.sweep_laws.specs.NeedsOfPages.{is_holder, owner_in}
+use Rattle.sweep_laws.specs.NeedsOfPages.{is_holder}
 
 pub some_none : {A : Type 0} (a : A) → Some a ≡ None → ⊥
 some_none a e = cc
@@ -91,14 +91,3 @@ no_position test xs e n a at = go (ltb (prefix_len (λ x. not (test x)) xs) (len
     go : (b : Bool) → ltb (prefix_len (λ x. not (test x)) xs) (length xs) ≡ b → is_some (cond b (Some (prefix_len (λ x. not (test x)) xs)) None) ≡ false → test a ≡ false
     go true s f = absurd (true≢false f)
     go false s f = not_true (test a) (all_pass (λ x. not (test x)) xs (ltb-false _ _ s) n a at)
-
--- no owner in a run: no page of it is owned
-no_owner : (xs : List (Option ℕ)) → is_some (owner_in xs) ≡ false → (i : ℕ) → get_or xs i None ≡ None
-no_owner [] e i = refl
-no_owner (None ∷ xs) e zero = refl
-no_owner (None ∷ xs) e (suc i) = no_owner xs e i
-no_owner (Some v ∷ xs) e i = absurd (true≢false e)
-
-pub unowned_run : (xs : List (Option ℕ)) (p n : ℕ) → is_some (owner_in (slice_range xs p (p + n))) ≡ false → (q : ℕ) → p ≤ q → q < p + n → get_or xs q None ≡ None
-unowned_run xs p n e q a b = let i : ℕ = q - p in let s : p + i ≡ q = omega arith in
-    ap (λ (z : ℕ). get_or xs z None) (sym s) ∙ sym (get_or-drop p xs i None) ∙ sym (get_or-take (p + n - p) (Rattle.std.proofs.Common.drop p xs) i None (omega arith)) ∙ no_owner (slice_range xs p (p + n)) e i

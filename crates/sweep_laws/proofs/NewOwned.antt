@@ -63,6 +63,7 @@ module _ (pages : ℕ) (ss : List SetState) (hs : List HandState) (each_set : (i
       apart = λ p. omega arith;
       whole = tt;
     };
+    pulled = λ p. let z = none_of (λ h. times p h.pulled) refl in omega arith;
     page = λ p low. page_fits p;
     sets_fit = record {
       order = λ k s e. subst (λ (x : SetState). x.head ≤ x.tail) (each_set k s e) (omega arith);

@@ -8,7 +8,7 @@ use Rattle.sweep_laws.specs.State.{LifeState, SetState, HandState}
 use Rattle.sweep_laws.specs.Lists.{has, least_outside}
 use Rattle.sweep_laws.specs.Reading.{cell_of, class_of_set, life_in}
 use Rattle.sweep_laws.specs.ChangesOfLives.{change_life, allocate_index}
-use Rattle.sweep_laws.specs.Named.{poppers, is_class, claimers}
+use Rattle.sweep_laws.specs.Named.{poppers, pullers, is_class, claimers}
 use Rattle.sweep_laws.specs.OwnedLives.{ObjectsFit}
 use Rattle.sweep_laws.specs.OwnedSets.{IsPage}
 use Rattle.sweep_laws.specs.Standing.{tally, Page, Kept}
@@ -60,6 +60,7 @@ module _ (g : ℕ) (ws : List ℕ) (os : List (Option ℕ)) (ls : List LifeState
       apart = λ q. subst (λ (z : ℕ). z ≤ 1) (alike_covers q ls ls' alike) (k.lives_fit.apart q);
       whole = alike_whole ls ls' alike k.lives_fit.whole;
     };
+    pulled = λ q. subst (λ (z : ℕ). z + pullers q hs ≤ 1) (alike_covers q ls ls' alike) (k.pulled q);
     page = λ q low. subst (λ (z : ℕ). Page g (record (tally g ws ls ss hs q) { own = z + poppers q hs })) (sym (alike_own g q ls ls' ss alike)) (k.page q low);
     sets_fit = record {
       order = k.sets_fit.order;

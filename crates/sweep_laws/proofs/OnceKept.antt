@@ -42,7 +42,7 @@ allowed_append c (x ∷ xs) ys a b = (a.0, allowed_append (after c x) xs ys a.1 
 -- a state stands of which `Once` speaks
 pub unmarked_end : (c : CoreState) (marks : List (ℕ × ℕ)) → IsAllowed c (Next marks) → IsAllowed c (Next [])
 unmarked_end c marks e = let m = all_met (next_needs c marks) e in
-    none_refuses (next_needs c []) (refl, (m.1.0, (m.1.1.0, (m.1.1.1.0, (m.1.1.1.1.0, (m.1.1.1.1.1.0, (m.1.1.1.1.1.1.0, (refl, tt))))))))
+    none_refuses (next_needs c []) (refl, (m.1.0, (m.1.1.0, (m.1.1.1.0, (m.1.1.1.1.0, (m.1.1.1.1.1.0, (m.1.1.1.1.1.1.0, (m.1.1.1.1.1.1.1.0, (refl, tt)))))))))
 
 -- moves without a mark end
 pub record Traced (c d : CoreState) (p n : ℕ) : Type 0 where

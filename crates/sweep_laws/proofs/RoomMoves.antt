@@ -2,13 +2,16 @@
 use Rattle.std.proofs.Common.{◌≡◌, ℕ, ◌+◌, ◌<◌, ◌≤◌, ⊎_elim, Bool, true, not, List, length, get_or, sym, ◌∙◌, subst, arith}
 use Rattle.std.specs.Prelude.{Option, None, IfSome}
 use Rattle.std.proofs.lemmas.Bool.{eqb-true, ltb-true}
+use mathlib.Core.Logic.{dite}
+use native.Mathlib.Decide.{dec_le}
+use Rattle.sweep_laws.specs.Counts.{times}
 use Rattle.sweep_laws.specs.declared.moves.Claimed.{Claimed}
 use Rattle.sweep_laws.specs.declared.moves.Move.{Move}
-use Rattle.sweep_laws.specs.declared.moves.Move.TheVariants.{Lock, Unlock, Take, Give, Acquire, Release, Cache, Allocate, Uncache, StaleUncache, Claim, Fill, PopSwept, PopUnswept, DropPopped, Next}
+use Rattle.sweep_laws.specs.declared.moves.Move.TheVariants.{Lock, Unlock, Take, Give, Acquire, Release, Cache, Allocate, Uncache, StaleUncache, Claim, Fill, PopSwept, PopUnswept, DropPopped, Pull, Cut, Drop, Next}
 use Rattle.sweep_laws.specs.State.{LifeState, SetState, CoreState}
-use Rattle.sweep_laws.specs.Reading.{hand_of, set_of, cell_of, life_of, class_of_set, is_swept_set}
+use Rattle.sweep_laws.specs.Reading.{hand_of, set_of, cell_of, life_of, class_of_set, is_swept_set, free_block}
 use Rattle.sweep_laws.specs.NeedsOfRange.{refusal}
-use Rattle.sweep_laws.specs.Needs.{take_needs, acquire_needs, release_needs, cache_needs, allocate_needs, uncache_needs, stale_uncache_needs, fill_needs, pop_swept_needs, pop_unswept_needs, next_needs}
+use Rattle.sweep_laws.specs.Needs.{take_needs, acquire_needs, release_needs, cache_needs, allocate_needs, uncache_needs, stale_uncache_needs, fill_needs, pop_swept_needs, pop_unswept_needs, cut_needs, next_needs}
 use Rattle.sweep_laws.specs.ChangesOfLives.{marks_at}
 use Rattle.sweep_laws.specs.Step.{needs_of, HasRoom}
 use Rattle.sweep_laws.specs.Named.{only, names_in, unswept, is_class, claimers}
@@ -25,9 +28,11 @@ use Rattle.sweep_laws.proofs.Reset.{sets_part, set_deltas}
 use Rattle.sweep_laws.proofs.Standings.{free_word, unswept_word, cached_word, sweeping_list, held_list, queued_list}
 use Rattle.sweep_laws.proofs.Deltas.{parts, unlisted}
 use Rattle.sweep_laws.proofs.Objects.{free_below}
-use Rattle.sweep_laws.proofs.HeapMoves.{free_before}
+use Rattle.sweep_laws.proofs.HeapMoves.{free_before, free_uncovered, pulled_uncovered}
+use Rattle.sweep_laws.proofs.PulledPages.{block_free}
+use Rattle.sweep_laws.proofs.Counted.{short}
 use Rattle.sweep_laws.proofs.MarkEnd.{all_index}
-use Rattle.sweep_laws.proofs.MovesKept.{hand_at, set_at, run_free, run_inside, marked_allocated}
+use Rattle.sweep_laws.proofs.MovesKept.{hand_at, set_at, run_free, run_inside, cut_inside, cut_pulled, marked_allocated}
 use Rattle.sweep_laws.proofs.MarksOnce.{marks_once}
 use Rattle.sweep_laws.proofs.Forms.{kept_of}
 use Rattle.sweep_laws.proofs.ListsShort.{page_of, sweeping_short, held_short, cached_short, popped_short, swept_short, lives_short, kept_short, allocated_short, marks_short, free_unlisted}
@@ -42,6 +47,20 @@ module _ (c : CoreState) (k : CoreKept c) (t : IsTidy c) (s : HasSpace c) where
       let l = lives_short c k t page low (unowned_covers page c.lives (sym (k.lives_fit.owner_is page low) ∙ free)) in
       let h = held_short c k t w (hand_of c w) (hand_at c k w m.0) page low (omega arith) in
       let r = s.room in (omega arith, omega arith, has)
+
+  cut_room : (w page pages count class : ℕ) → refusal (cut_needs c w page pages count class) ≡ None → count ≤ c.prepared → HasRoom c (Cut w page pages count class)
+  cut_room w page pages count class e has = let m = all_met (cut_needs c w page pages count class) e in
+      let low = ltb-true page (length c.words) m.1.0 in let at = hand_at c k w m.0 in
+      let free = pulled_uncovered c.generation c.words c.owners c.lives c.sets c.hands k w (hand_of c w) at page low page (cut_pulled c k w page pages count class e page (omega arith) (let z = (cut_inside c k w page pages count class e).1 in omega arith)) in
+      let word = free_uncovered c.generation c.words c.owners c.lives k.lives_fit page low free in
+      let n = free_word c.generation (page_of c page) k.generation.low (k.page page low).standing word in
+      let l = lives_short c k t page low free in
+      let h = held_short c k t w (hand_of c w) at page low (omega arith) in
+      let r = s.room in (omega arith, omega arith, has)
+
+  pull_room : (w : ℕ) → HasRoom c (Pull w)
+  pull_room w = let b = block_free c in let r = s.room in let l = short (free_block c) (length c.words) (λ p _. b.once p)
+      (λ p far. dite (dec_le 1 (times p (free_block c))) (λ y. let f = (b.free p (omega arith)).0 in absurd (omega arith)) (λ y. omega arith)) in omega arith
 
   acquire_room : (w page : ℕ) → refusal (acquire_needs c w page) ≡ None → HasRoom c (Acquire w page)
   acquire_room w page e = let m = all_met (acquire_needs c w page) e in let low = ltb-true page (length c.words) m.1.0 in
@@ -123,6 +142,9 @@ module _ (c : CoreState) (k : CoreKept c) (t : IsTidy c) (s : HasSpace c) where
   move_room (PopSwept w n) e p = pop_swept_room w n e
   move_room (PopUnswept w n) e p = pop_unswept_room w n e
   move_room (DropPopped w page) e p = tt
+  move_room (Pull w) e p = pull_room w
+  move_room (Cut w page pages count class) e p = cut_room w page pages count class e p
+  move_room (Drop w) e p = tt
   move_room (Next marks) e p = next_room marks e
 
 -- a move that is allowed and provided for has room for all that it puts into lists

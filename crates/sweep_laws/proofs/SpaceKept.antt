@@ -8,7 +8,7 @@ use lib.ListN.{get_elem?}
 use native.Mathlib.Decide.{dec_le}
 use Rattle.sweep_laws.specs.declared.moves.Claimed.{Claimed}
 use Rattle.sweep_laws.specs.declared.moves.Move.{Move}
-use Rattle.sweep_laws.specs.declared.moves.Move.TheVariants.{Lock, Unlock, Take, Give, Acquire, Release, Cache, Allocate, Uncache, StaleUncache, Claim, Fill, PopSwept, PopUnswept, DropPopped, Next}
+use Rattle.sweep_laws.specs.declared.moves.Move.TheVariants.{Lock, Unlock, Take, Give, Acquire, Release, Cache, Allocate, Uncache, StaleUncache, Claim, Fill, PopSwept, PopUnswept, DropPopped, Pull, Cut, Drop, Next}
 use Rattle.sweep_laws.specs.State.{SetState, CoreState}
 use Rattle.sweep_laws.specs.Reading.{hand_of, set_of, no_set, is_swept_set}
 use Rattle.sweep_laws.specs.ChangesOfSets.{raise_head, raise_tail, name_page, empty_unswept}
@@ -43,6 +43,9 @@ room_stays c (Fill w) = filled_room (hand_of c w).claimed c w
 room_stays c (PopSwept w s) = refl
 room_stays c (PopUnswept w s) = refl
 room_stays c (DropPopped w page) = refl
+room_stays c (Pull w) = refl
+room_stays c (Cut w page pages count class) = refl
+room_stays c (Drop w) = refl
 room_stays c (Next marks) = refl
 
 -- no move changes the number of pages
@@ -62,6 +65,9 @@ pages_stay c (Fill w) = filled_words (hand_of c w).claimed c w
 pages_stay c (PopSwept w s) = refl
 pages_stay c (PopUnswept w s) = refl
 pages_stay c (DropPopped w page) = refl
+pages_stay c (Pull w) = refl
+pages_stay c (Cut w page pages count class) = length-set c.words page c.generation
+pages_stay c (Drop w) = refl
 pages_stay c (Next marks) = refl
 
 -- no set claimed more than n cells
@@ -109,6 +115,9 @@ module _ (c : CoreState) (s : HasSpace c) where
   move_tails (PopSwept w j) p = tails_set (length c.words) c.sets j (raise_head (set_of c j)) s.tails (tail_of j)
   move_tails (PopUnswept w j) p = tails_set (length c.words) c.sets j (raise_head (set_of c j)) s.tails (tail_of j)
   move_tails (DropPopped w page) p = s.tails
+  move_tails (Pull w) p = s.tails
+  move_tails (Cut w page pages count class) p = s.tails
+  move_tails (Drop w) p = s.tails
   move_tails (Next marks) p = tails_emptied (length c.words) c.generation 0 c.sets s.tails
 
 -- a state that has space has it after a move that is provided for

@@ -19,6 +19,7 @@ use Rattle.sweep_laws.proofs.Naming.{at_set, set_here}
 use Rattle.sweep_laws.proofs.Unpopped.{head_between, tail_between}
 use Rattle.sweep_laws.proofs.Standings.{same_tally, queued_list, page_swept}
 use Rattle.sweep_laws.proofs.Deltas.{deltas}
+use Rattle.sweep_laws.proofs.Turned.{pulled_as}
 use Rattle.sweep_laws.proofs.Reset.{set_deltas, claim_reset, sets_reset, head_raised}
 use Rattle.sweep_laws.proofs.Claims.{claim_here, claim_else, no_claimers, claim_made}
 
@@ -28,6 +29,7 @@ module _ (g : ℕ) (ws : List ℕ) (os : List (Option ℕ)) (ls : List LifeState
   pop_swept_keeps more here = record {
     generation = k.generation;
     lives_fit = k.lives_fit;
+    pulled = pulled_as g ws os ls ss hs n h h' at ls refl (λ q. omega arith) k.pulled;
     page = λ q l. dite (ℕ_discrete q p) (λ e. subst (λ (z : ℕ). Page g (tally g ws ls ss' hs' z)) (sym e) here_page) (λ o. else_page q o l);
     sets_fit = head_raised g (length ws) ls ss hs k.sets_fit n h h' at refl (λ q. let t = times_append q h.held (p ∷ []) in omega arith) j s there more (omega arith);
     objects = k.objects;
@@ -61,6 +63,7 @@ module _ (g : ℕ) (ws : List ℕ) (os : List (Option ℕ)) (ls : List LifeState
   claim_keeps has unclaimed class = record {
     generation = k.generation;
     lives_fit = k.lives_fit;
+    pulled = pulled_as g ws os ls ss hs n h h' at ls refl (λ q. omega arith) k.pulled;
     page = pages;
     sets_fit = sets_reset g (length ws) ls ss hs hs' j s s' there k.sets_fit (let o = order in omega arith) (λ i l. k.sets_fit.beyond j s there i (omega arith))
         (λ e i l m. absurd (true≢false (sym part ∙ e)))

@@ -6,16 +6,16 @@ use Rattle.std.proofs.lemmas.Bool.{ltb-true}
 use mathlib.Core.Logic.{dite}
 use mathlib.Core.Option.{some}
 use lib.ListN.{get_elem?}
-use native.Mathlib.Decide.{ℕ_discrete}
+use native.Mathlib.Decide.{ℕ_discrete, dec_le}
 use Rattle.sweep_laws.specs.declared.moves.Claimed.{Claimed}
 use Rattle.sweep_laws.specs.declared.moves.Move.{Move}
-use Rattle.sweep_laws.specs.declared.moves.Move.TheVariants.{Lock, Unlock, Take, Give, Acquire, Release, Cache, Allocate, Uncache, StaleUncache, Claim, Fill, PopSwept, PopUnswept, DropPopped, Next}
+use Rattle.sweep_laws.specs.declared.moves.Move.TheVariants.{Lock, Unlock, Take, Give, Acquire, Release, Cache, Allocate, Uncache, StaleUncache, Claim, Fill, PopSwept, PopUnswept, DropPopped, Pull, Cut, Drop, Next}
 use Rattle.sweep_laws.specs.State.{LifeState, SetState, HandState, CoreState}
 use Rattle.sweep_laws.specs.Lists.{erase}
-use Rattle.sweep_laws.specs.Reading.{hand_of, set_of, cell_of, life_in, life_of, class_of_set}
+use Rattle.sweep_laws.specs.Reading.{hand_of, set_of, cell_of, life_in, life_of, class_of_set, free_block}
 use Rattle.sweep_laws.specs.NeedsOfRange.{refusal}
-use Rattle.sweep_laws.specs.Needs.{allocate_needs, claim_needs, fill_needs, pop_swept_needs, pop_unswept_needs, next_needs}
-use Rattle.sweep_laws.specs.ChangesOfHands.{hold, let_go, start_sweep, end_sweep, put_in_cache, take_from_cache, sweep_from_cache, claim_cell, fill_cell, pop_entry, drop_entry, forget_swept}
+use Rattle.sweep_laws.specs.Needs.{allocate_needs, claim_needs, fill_needs, pop_swept_needs, pop_unswept_needs, pull_needs, cut_needs, drop_needs, next_needs}
+use Rattle.sweep_laws.specs.ChangesOfHands.{hold, let_go, start_sweep, end_sweep, put_in_cache, take_from_cache, sweep_from_cache, claim_cell, fill_cell, pop_entry, drop_entry, pull_pages, cut_span, drop_pulled, forget_swept}
 use Rattle.sweep_laws.specs.ChangesOfLives.{change_life, new_life, keep_marked, allocate_index, mark_life}
 use Rattle.sweep_laws.specs.ChangesOfSets.{head_base}
 use Rattle.sweep_laws.specs.Changes.{after_fill_of}
@@ -32,6 +32,7 @@ use Rattle.sweep_laws.proofs.Naming.{times_erase_else, at_set}
 use Rattle.sweep_laws.proofs.NeedsMet.{all_met, not_true, eqb-false, holder_is, some_there}
 use Rattle.sweep_laws.proofs.LivesChange.{all_append, all_drop}
 use Rattle.sweep_laws.proofs.MarkEnd.{all_index, all_mapped}
+use Rattle.sweep_laws.proofs.PulledPages.{block_free, erased_le}
 use Rattle.sweep_laws.proofs.MovesKept.{hand_at, set_at, base_is}
 use Rattle.sweep_laws.proofs.MarksOnce.{marks_once}
 use Rattle.sweep_laws.proofs.Forms.{kept_of}
@@ -60,41 +61,54 @@ module _ (n page : ℕ) (low : page < n) (h : HandState) (all : Within n h) wher
   erased xs p far z = times_erase_else p page xs (λ e. omega arith) ∙ z
 
   hold_within : Within n (hold page h)
-  hold_within p far = let z = all p far in record { sweeping = z.sweeping; held = added h.held p far z.held; cached = z.cached; popped = z.popped; swept = z.swept }
+  hold_within p far = let z = all p far in record { sweeping = z.sweeping; held = added h.held p far z.held; cached = z.cached; popped = z.popped; swept = z.swept; pulled = z.pulled }
 
   let_go_within : Within n (let_go page h)
-  let_go_within p far = let z = all p far in record { sweeping = z.sweeping; held = erased h.held p far z.held; cached = z.cached; popped = z.popped; swept = z.swept }
+  let_go_within p far = let z = all p far in record { sweeping = z.sweeping; held = erased h.held p far z.held; cached = z.cached; popped = z.popped; swept = z.swept; pulled = z.pulled }
 
   start_sweep_within : Within n (start_sweep page h)
-  start_sweep_within p far = let z = all p far in record { sweeping = added h.sweeping p far z.sweeping; held = z.held; cached = z.cached; popped = erased h.popped p far z.popped; swept = z.swept }
+  start_sweep_within p far = let z = all p far in record { sweeping = added h.sweeping p far z.sweeping; held = z.held; cached = z.cached; popped = erased h.popped p far z.popped; swept = z.swept; pulled = z.pulled }
 
   end_sweep_within : Within n (end_sweep page h)
-  end_sweep_within p far = let z = all p far in record { sweeping = erased h.sweeping p far z.sweeping; held = added h.held p far z.held; cached = z.cached; popped = z.popped; swept = added h.swept p far z.swept }
+  end_sweep_within p far = let z = all p far in record { sweeping = erased h.sweeping p far z.sweeping; held = added h.held p far z.held; cached = z.cached; popped = z.popped; swept = added h.swept p far z.swept; pulled = z.pulled }
 
   put_in_cache_within : Within n (put_in_cache page h)
-  put_in_cache_within p far = let z = all p far in record { sweeping = z.sweeping; held = erased h.held p far z.held; cached = added h.cached p far z.cached; popped = z.popped; swept = z.swept }
+  put_in_cache_within p far = let z = all p far in record { sweeping = z.sweeping; held = erased h.held p far z.held; cached = added h.cached p far z.cached; popped = z.popped; swept = z.swept; pulled = z.pulled }
 
   take_from_cache_within : Within n (take_from_cache page h)
-  take_from_cache_within p far = let z = all p far in record { sweeping = z.sweeping; held = added h.held p far z.held; cached = erased h.cached p far z.cached; popped = z.popped; swept = z.swept }
+  take_from_cache_within p far = let z = all p far in record { sweeping = z.sweeping; held = added h.held p far z.held; cached = erased h.cached p far z.cached; popped = z.popped; swept = z.swept; pulled = z.pulled }
 
   sweep_from_cache_within : Within n (sweep_from_cache page h)
-  sweep_from_cache_within p far = let z = all p far in record { sweeping = added h.sweeping p far z.sweeping; held = z.held; cached = erased h.cached p far z.cached; popped = z.popped; swept = z.swept }
+  sweep_from_cache_within p far = let z = all p far in record { sweeping = added h.sweeping p far z.sweeping; held = z.held; cached = erased h.cached p far z.cached; popped = z.popped; swept = z.swept; pulled = z.pulled }
 
   fill_cell_within : Within n (fill_cell page h)
-  fill_cell_within p far = let z = all p far in record { sweeping = z.sweeping; held = erased h.held p far z.held; cached = z.cached; popped = z.popped; swept = z.swept }
+  fill_cell_within p far = let z = all p far in record { sweeping = z.sweeping; held = erased h.held p far z.held; cached = z.cached; popped = z.popped; swept = z.swept; pulled = z.pulled }
 
   pop_entry_within : Within n (pop_entry page h)
-  pop_entry_within p far = let z = all p far in record { sweeping = z.sweeping; held = z.held; cached = z.cached; popped = added h.popped p far z.popped; swept = z.swept }
+  pop_entry_within p far = let z = all p far in record { sweeping = z.sweeping; held = z.held; cached = z.cached; popped = added h.popped p far z.popped; swept = z.swept; pulled = z.pulled }
 
   drop_entry_within : Within n (drop_entry page h)
-  drop_entry_within p far = let z = all p far in record { sweeping = z.sweeping; held = z.held; cached = z.cached; popped = erased h.popped p far z.popped; swept = z.swept }
+  drop_entry_within p far = let z = all p far in record { sweeping = z.sweeping; held = z.held; cached = z.cached; popped = erased h.popped p far z.popped; swept = z.swept; pulled = z.pulled }
+
+  cut_span_within : (pages : ℕ) → Within n (cut_span page pages h)
+  cut_span_within pages p far = let z = all p far in record {
+    sweeping = z.sweeping;
+    held = added h.held p far z.held;
+    cached = z.cached;
+    popped = z.popped;
+    swept = z.swept;
+    pulled = let a = erased_le p page pages h.pulled in let b = z.pulled in omega arith;
+  }
+
+pull_pages_within : (n : ℕ) (xs : List ℕ) (h : HandState) → ((p : ℕ) → n ≤ p → times p xs ≡ 0) → Within n h → Within n (pull_pages xs h)
+pull_pages_within n xs h out all p far = let z = all p far in record { sweeping = z.sweeping; held = z.held; cached = z.cached; popped = z.popped; swept = z.swept; pulled = out p far }
 
 claim_cell_within : (n s i page : ℕ) (h : HandState) → Within n h → Within n (claim_cell s i page h)
-claim_cell_within n s i page h all p far = let z = all p far in record { sweeping = z.sweeping; held = z.held; cached = z.cached; popped = z.popped; swept = z.swept }
+claim_cell_within n s i page h all p far = let z = all p far in record { sweeping = z.sweeping; held = z.held; cached = z.cached; popped = z.popped; swept = z.swept; pulled = z.pulled }
 
 forget_within : (n : ℕ) (hs : List HandState) → AllWithin n hs → AllWithin n (map forget_swept hs)
 forget_within n hs all i x e = let t = at_mapped forget_swept hs i x e in subst (Within n) t.2
-    (λ p far. let z = all i t.0 t.1 p far in record { sweeping = z.sweeping; held = z.held; cached = z.cached; popped = z.popped; swept = refl })
+    (λ p far. let z = all i t.0 t.1 p far in record { sweeping = z.sweeping; held = z.held; cached = z.cached; popped = z.popped; swept = refl; pulled = z.pulled })
 
 -- the first life that begins at a page changes
 all_changed : (P : LifeState → Type 0) (p : ℕ) (f : LifeState → LifeState) (ls : List LifeState) → (P (life_in p ls) → P (f (life_in p ls))) → AllByRecursion P ls → AllByRecursion P (change_life p f ls)
@@ -183,6 +197,15 @@ module _ (c : CoreState) (k : CoreKept c) (t : IsTidy c) where
   move_tidy (DropPopped w page) e = let m = all_met (needs_of c (DropPopped w page)) e in let low = ltb-true page (length c.words) m.1.0 in
       tidy_as (after c (DropPopped w page)) refl
       (one_hand w (drop_entry page (hand_of c w)) (drop_entry_within (length c.words) page low (hand_of c w) (before w m.0))) t.lives
+  move_tidy (Pull w) e = let m = all_met (pull_needs c w) e in let b = block_free c in
+      tidy_as (after c (Pull w)) refl (one_hand w (pull_pages (free_block c) (hand_of c w)) (pull_pages_within (length c.words) (free_block c) (hand_of c w)
+      (λ p far. dite (dec_le 1 (times p (free_block c))) (λ l. let f = (b.free p (omega arith)).0 in absurd (omega arith)) (λ l. omega arith)) (before w m.0))) t.lives
+  move_tidy (Cut w page pages count class) e = let m = all_met (cut_needs c w page pages count class) e in let low = ltb-true page (length c.words) m.1.0 in
+      tidy_as (after c (Cut w page pages count class)) (length-set c.words page c.generation)
+      (one_hand w (cut_span page pages (hand_of c w)) (cut_span_within (length c.words) page low (hand_of c w) (before w m.0) pages))
+      (all_append (IsTidyLife (length c.words)) c.lives (new_life page pages count class) t.lives (record { page = low; allocated = λ i. omega arith; kept = λ i. omega arith }))
+  move_tidy (Drop w) e = let m = all_met (drop_needs c w) e in
+      tidy_as (after c (Drop w)) refl (one_hand w (drop_pulled (hand_of c w)) (pull_pages_within (length c.words) [] (hand_of c w) (λ p far. refl) (before w m.0))) t.lives
   move_tidy (Next marks) e = let m = all_met (next_needs c marks) e in
       tidy_as (after c (Next marks)) refl (forget_within (length c.words) c.hands t.hands)
       (all_mapped (IsTidyLife (length c.words)) (mark_life marks) c.lives (λ n l at. let y = all_index (IsTidyLife (length c.words)) c.lives n l t.lives at in

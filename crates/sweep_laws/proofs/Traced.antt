@@ -9,11 +9,11 @@ use native.Mathlib.Decide.{ℕ_discrete, dec_le}
 use Rattle.std.proofs.lemmas.List.{get_or_past}
 use Rattle.sweep_laws.specs.declared.moves.Claimed.{Claimed}
 use Rattle.sweep_laws.specs.declared.moves.Move.{Move}
-use Rattle.sweep_laws.specs.declared.moves.Move.TheVariants.{Lock, Unlock, Take, Give, Acquire, Release, Cache, Allocate, Uncache, StaleUncache, Claim, Fill, PopSwept, PopUnswept, DropPopped, Next}
+use Rattle.sweep_laws.specs.declared.moves.Move.TheVariants.{Lock, Unlock, Take, Give, Acquire, Release, Cache, Allocate, Uncache, StaleUncache, Claim, Fill, PopSwept, PopUnswept, DropPopped, Pull, Cut, Drop, Next}
 use Rattle.sweep_laws.specs.State.{HandState, CoreState}
-use Rattle.sweep_laws.specs.Reading.{hand_of, no_hand, set_of}
-use Rattle.sweep_laws.specs.Needs.{take_needs, give_needs, acquire_needs, release_needs, cache_needs, uncache_needs, stale_uncache_needs, claim_needs, fill_needs, pop_swept_needs, pop_unswept_needs, drop_popped_needs}
-use Rattle.sweep_laws.specs.ChangesOfHands.{hold, let_go, start_sweep, end_sweep, put_in_cache, take_from_cache, sweep_from_cache, claim_cell, fill_cell, pop_entry, drop_entry, forget_swept}
+use Rattle.sweep_laws.specs.Reading.{hand_of, no_hand, set_of, free_block}
+use Rattle.sweep_laws.specs.Needs.{take_needs, give_needs, acquire_needs, release_needs, cache_needs, uncache_needs, stale_uncache_needs, claim_needs, fill_needs, pop_swept_needs, pop_unswept_needs, drop_popped_needs, pull_needs, cut_needs, drop_needs}
+use Rattle.sweep_laws.specs.ChangesOfHands.{hold, let_go, start_sweep, end_sweep, put_in_cache, take_from_cache, sweep_from_cache, claim_cell, fill_cell, pop_entry, drop_entry, pull_pages, cut_span, drop_pulled, forget_swept}
 use Rattle.sweep_laws.specs.ChangesOfLives.{mark_life}
 use Rattle.sweep_laws.specs.ChangesOfSets.{head_base}
 use Rattle.sweep_laws.specs.Changes.{after_fill_of}
@@ -30,8 +30,8 @@ use Rattle.sweep_laws.proofs.Lives.{mapped_alike, alike_begins}
 use Rattle.sweep_laws.proofs.Standings.{sweeping_list, held_list}
 use Rattle.sweep_laws.proofs.Deltas.{deltas, parts}
 use Rattle.sweep_laws.proofs.Turned.{total_kept}
-use Rattle.sweep_laws.proofs.HeapMoves.{free_before}
-use Rattle.sweep_laws.proofs.MovesKept.{settled_words, run_free, run_inside}
+use Rattle.sweep_laws.proofs.HeapMoves.{free_before, free_uncovered, pulled_uncovered}
+use Rattle.sweep_laws.proofs.MovesKept.{settled_words, run_free, run_inside, cut_inside, cut_pulled}
 
 -- a word of a span that is to be swept
 abbrev is_due : ℕ → ℕ → Bool
@@ -143,6 +143,15 @@ module _ (c : CoreState) (k : CoreKept c) where
       quiet (after c (PopUnswept w s)) w (pop_entry (head_base c s) (hand_of c w)) refl (hand_here w (ltb-true _ _ m.0)) refl refl (λ x. refl) q
   move_traced (DropPopped w page) n e q = let m = all_met (drop_popped_needs c w page) e in
       quiet (after c (DropPopped w page)) w (drop_entry page (hand_of c w)) refl (hand_here w (ltb-true _ _ m.0)) refl refl (λ x. refl) q
+  move_traced (Pull w) n e q = let m = all_met (pull_needs c w) e in
+      quiet (after c (Pull w)) w (pull_pages (free_block c) (hand_of c w)) refl (hand_here w (ltb-true _ _ m.0)) refl refl (λ x. refl) q
+  move_traced (Cut w page pages count class) n e q = let m = all_met (cut_needs c w page pages count class) e in let low = ltb-true page (length c.words) m.1.0 in let at = hand_here w (ltb-true _ _ m.0) in
+      let free = pulled_uncovered c.generation c.words c.owners c.lives c.sets c.hands k w (hand_of c w) at page low page (cut_pulled c k w page pages count class e page (omega arith) (let r = (cut_inside c k w page pages count class e).1 in omega arith)) in
+      let z = free_uncovered c.generation c.words c.owners c.lives k.lives_fit page low free in
+      quiet (after c (Cut w page pages count class)) w (cut_span page pages (hand_of c w)) refl at refl refl
+      (word_same c.generation c.words page c.generation low (due_swept c.generation c.generation refl ∙ sym (due_free c.generation (get_or c.words page 0) k.generation.low z))) q
+  move_traced (Drop w) n e q = let m = all_met (drop_needs c w) e in
+      quiet (after c (Drop w)) w (drop_pulled (hand_of c w)) refl (hand_here w (ltb-true _ _ m.0)) refl refl (λ x. refl) q
   move_traced (Next marks) n e q = absurd (true≢false n)
 
   -- beyond the region no word is due

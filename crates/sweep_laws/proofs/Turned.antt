@@ -11,8 +11,8 @@ use Rattle.sweep_laws.specs.declared.moves.Claimed.{Claimed}
 use Rattle.sweep_laws.specs.State.{LifeState, SetState, HandState}
 use Rattle.sweep_laws.specs.Reading.{cell_of, class_of_set, is_swept_set}
 use Rattle.sweep_laws.specs.Counts.{one_if, times, total, total_from}
-use Rattle.sweep_laws.specs.Named.{is_claim, claimers, only, names_in, unswept, unswept_own, is_class}
-use Rattle.sweep_laws.specs.OwnedLives.{ObjectsFit}
+use Rattle.sweep_laws.specs.Named.{is_claim, claimers, covers, only, names_in, unswept, unswept_own, is_class}
+use Rattle.sweep_laws.specs.OwnedLives.{PulledApart, ObjectsFit}
 use Rattle.sweep_laws.specs.OwnedSets.{IsPage, ClaimFits, SetsFit}
 use Rattle.sweep_laws.specs.Standing.{tally, Page, Kept}
 use Rattle.sweep_laws.proofs.Totals.{total_set}
@@ -93,15 +93,20 @@ module _ (g : ℕ) (ws : List ℕ) (os : List (Option ℕ)) (ls : List LifeState
       (λ j x i a u l m c. sym (alike_class c.0 (class_of_set j) ls ls' alike) ∙ c.3)
       (λ m x a d f c. sym (alike_class d.page (class_of_set d.set) ls ls' alike) ∙ c.class) s
 
+  -- the pulled lists name each page as often as before, and lives cover it no more often
+  pub pulled_as : (ls' : List LifeState) → h'.pulled ≡ h.pulled → ((q : ℕ) → covers q ls' ≤ covers q ls) → PulledApart ls hs → PulledApart ls' (set hs n h')
+  pulled_as ls' same fewer apart q = let t = total_kept (λ (x : HandState). times q x.pulled) hs n h h' at (ap (times q) same) in
+      let a = apart q in let f = fewer q in omega arith
+
   -- page p stands as the new lists say, all else as before
-  pub turned : (k : Kept g ws os ls ss hs) (p : ℕ) (ws' : List ℕ) (ls' : List LifeState)
+  pub turned_pulled : (k : Kept g ws os ls ss hs) (p : ℕ) (ws' : List ℕ) (ls' : List LifeState)
       → length ws' ≡ length ws → ((q : ℕ) → q ≢ p → get_or ws' q 0 ≡ get_or ws q 0)
       → (p < length ws → not (eqb (get_or ws' p 0) 0) ≡ not (eqb (get_or ws p 0) 0))
       → Alike ls ls' → AllByRecursion ObjectsFit ls'
-      → NamesElse p h h' → h'.claimed ≡ h.claimed → ((d : Claimed) → h.claimed ≡ Some d → 0 < times d.page h'.held)
+      → NamesElse p h h' → PulledApart ls' (set hs n h') → h'.claimed ≡ h.claimed → ((d : Claimed) → h.claimed ≡ Some d → 0 < times d.page h'.held)
       → (p < length ws → Page g (tally g ws' ls' ss (set hs n h') p))
       → Kept g ws' os ls' ss (set hs n h')
-  turned k p ws' ls' len else_word owned alike objects names same held page = record {
+  turned_pulled k p ws' ls' len else_word owned alike objects names pulled same held page = record {
     generation = k.generation;
     lives_fit = record {
       entries = k.lives_fit.entries ∙ sym len;
@@ -113,6 +118,7 @@ module _ (g : ℕ) (ws : List ℕ) (os : List (Option ℕ)) (ls : List LifeState
       apart = λ q. subst (λ (z : ℕ). z ≤ 1) (alike_covers q ls ls' alike) (k.lives_fit.apart q);
       whole = alike_whole ls ls' alike k.lives_fit.whole;
     };
+    pulled = pulled;
     page = pages;
     sets_fit = sets_kept (length ws) (length ws') ls' (sym len) alike same held k.sets_fit;
     objects = objects;
@@ -125,3 +131,14 @@ module _ (g : ℕ) (ws : List ℕ) (os : List (Option ℕ)) (ls : List LifeState
       pages q low = dite (ℕ_discrete q p)
           (λ e. subst (λ (z : ℕ). Page g (tally g ws' ls' ss (set hs n h') z)) (sym e) (page (subst (λ (z : ℕ). z < length ws) e (low_of q low))))
           (λ d. subst (Page g) (sym (tally_else ws' ls' p q d (else_word q d) (alike_own g q ls ls' ss alike) names)) (k.page q (low_of q low)))
+
+  -- the same where the hand keeps its pulled list
+  pub turned : (k : Kept g ws os ls ss hs) (p : ℕ) (ws' : List ℕ) (ls' : List LifeState)
+      → length ws' ≡ length ws → ((q : ℕ) → q ≢ p → get_or ws' q 0 ≡ get_or ws q 0)
+      → (p < length ws → not (eqb (get_or ws' p 0) 0) ≡ not (eqb (get_or ws p 0) 0))
+      → Alike ls ls' → AllByRecursion ObjectsFit ls'
+      → NamesElse p h h' → h'.pulled ≡ h.pulled → h'.claimed ≡ h.claimed → ((d : Claimed) → h.claimed ≡ Some d → 0 < times d.page h'.held)
+      → (p < length ws → Page g (tally g ws' ls' ss (set hs n h') p))
+      → Kept g ws' os ls' ss (set hs n h')
+  turned k p ws' ls' len else_word owned alike objects names pulled same held page =
+      turned_pulled k p ws' ls' len else_word owned alike objects names (pulled_as ls' pulled (λ q. let e = alike_covers q ls ls' alike in omega arith) k.pulled) same held page

@@ -18,7 +18,7 @@ use Rattle.sweep_laws.proofs.Unpopped.{head_between}
 use Rattle.sweep_laws.proofs.Lives.{same_alike}
 use Rattle.sweep_laws.proofs.Standings.{unswept_word, page_entries}
 use Rattle.sweep_laws.proofs.Deltas.{deltas}
-use Rattle.sweep_laws.proofs.Turned.{turned}
+use Rattle.sweep_laws.proofs.Turned.{turned, pulled_as}
 use Rattle.sweep_laws.proofs.Reset.{set_deltas, head_raised}
 
 pub only_step : (b : Bool) (x y : ℕ) → x ≡ suc y → (only b x ≡ suc (only b y)) ⊎ ((only b x ≡ 0) × (only b y ≡ 0))
@@ -30,7 +30,7 @@ module _ (g : ℕ) (ws : List ℕ) (os : List (Option ℕ)) (ls : List LifeState
   drop_popped_keeps other = let h' : HandState = drop_entry p h in let d = deltas hs n h h' at p in
       turned g ws os ls ss hs n h h' at k p ws ls refl (λ q o. refl) (λ _. refl) (same_alike ls) k.objects
       record { sweeping = λ q o. refl; held = λ q o. refl; cached = λ q o. refl; popped = λ q o. times_erase_else q p h.popped o; swept = λ q o. refl }
-      refl (λ x e. (k.sets_fit.claim n h at x e).held)
+      refl refl (λ x e. (k.sets_fit.claim n h at x e).held)
       (λ _. page_entries g (tally g ws ls ss hs p) (tally g ws ls ss (set hs n h') p) (k.page p low) refl (omega arith) (omega arith) (omega arith) refl
       (λ e. absurd (other e)) (let a = times_erase_le p h.popped in let w = (k.page p low).waiting in omega arith) (omega arith))
 
@@ -39,6 +39,7 @@ module _ (g : ℕ) (ws : List ℕ) (os : List (Option ℕ)) (ls : List LifeState
   pop_unswept_keeps j s there part more here = record {
     generation = k.generation;
     lives_fit = k.lives_fit;
+    pulled = pulled_as g ws os ls ss hs n h h' at ls refl (λ q. omega arith) k.pulled;
     page = λ q l. dite (ℕ_discrete q p) (λ e. subst (λ (z : ℕ). Page g (tally g ws ls ss' hs' z)) (sym e) here_page) (λ o. else_page q o l);
     sets_fit = head_raised g (length ws) ls ss hs k.sets_fit n h h' at refl (λ q. omega arith) j s there more (omega arith);
     objects = k.objects;

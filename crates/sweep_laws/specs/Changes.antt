@@ -3,8 +3,8 @@ use Rattle.std.specs.Prelude.{ℕ, ◌+◌, ◌-◌, List, [], ◌∷◌, ◌++�
 use Rattle.sweep_laws.specs.declared.moves.Claimed.{Claimed}
 use Rattle.sweep_laws.specs.State.{CoreState, HandState, SetState, LifeState}
 use Rattle.sweep_laws.specs.Lists.{put_run}
-use Rattle.sweep_laws.specs.Reading.{hand_of, set_of, life_of}
-use Rattle.sweep_laws.specs.ChangesOfHands.{hold, let_go, start_sweep, end_sweep, put_in_cache, take_from_cache, sweep_from_cache, claim_cell, fill_cell, pop_entry, drop_entry, forget_swept}
+use Rattle.sweep_laws.specs.Reading.{hand_of, set_of, life_of, free_block}
+use Rattle.sweep_laws.specs.ChangesOfHands.{hold, let_go, start_sweep, end_sweep, put_in_cache, take_from_cache, sweep_from_cache, claim_cell, fill_cell, pop_entry, drop_entry, pull_pages, cut_span, drop_pulled, forget_swept}
 use Rattle.sweep_laws.specs.ChangesOfLives.{change_life, drop_life, new_life, keep_marked, allocate_index, mark_life, left_prepared}
 use Rattle.sweep_laws.specs.ChangesOfSets.{raise_tail, raise_head, name_page, head_base, empty_unswept}
 
@@ -88,6 +88,21 @@ after_pop_unswept c w s = with_hand (with_set c s (raise_head (set_of c s))) w (
 
 abbrev pub after_drop_popped : CoreState → ℕ → ℕ → CoreState
 after_drop_popped c w page = with_hand c w (drop_entry page (hand_of c w))
+
+abbrev pub after_pull : CoreState → ℕ → CoreState
+after_pull c w = with_hand c w (pull_pages (free_block c) (hand_of c w))
+
+abbrev pub after_cut : CoreState → ℕ → ℕ → ℕ → ℕ → ℕ → CoreState
+after_cut c w page pages count class = record c {
+  words = slice_set c.words page c.generation;
+  owners = put_run c.owners page pages (Some page);
+  lives = c.lives ++ new_life page pages count class ∷ [];
+  hands = slice_set c.hands w (cut_span page pages (hand_of c w));
+  prepared = left_prepared c.prepared count;
+}
+
+abbrev pub after_drop : CoreState → ℕ → CoreState
+after_drop c w = with_hand c w (drop_pulled (hand_of c w))
 
 abbrev pub after_next : CoreState → List (ℕ × ℕ) → CoreState
 after_next c marks = record c {

@@ -1,7 +1,7 @@
 -- What a move changes of one hand: a page comes to one of its lists or leaves it, a cell is claimed or filled.
-use Rattle.std.specs.Prelude.{ℕ, [], ◌∷◌, ◌++◌, Some, None}
+use Rattle.std.specs.Prelude.{ℕ, List, [], ◌∷◌, ◌++◌, Some, None}
 use Rattle.sweep_laws.specs.State.{HandState}
-use Rattle.sweep_laws.specs.Lists.{erase}
+use Rattle.sweep_laws.specs.Lists.{erase, erase_run}
 
 -- the hand holds one page more
 abbrev pub hold : ℕ → HandState → HandState
@@ -46,6 +46,18 @@ pop_entry page h = record h { popped = h.popped ++ page ∷ [] }
 -- the hand forgets an entry that it popped
 abbrev pub drop_entry : ℕ → HandState → HandState
 drop_entry page h = record h { popped = erase page h.popped }
+
+-- the hand has pulled pages
+abbrev pub pull_pages : List ℕ → HandState → HandState
+pull_pages pages h = record h { pulled = pages }
+
+-- the hand holds a span of pages that it had pulled
+abbrev pub cut_span : ℕ → ℕ → HandState → HandState
+cut_span page pages h = record h { held = h.held ++ page ∷ []; pulled = erase_run page pages h.pulled }
+
+-- the hand has pulled nothing
+abbrev pub drop_pulled : HandState → HandState
+drop_pulled h = record h { pulled = [] }
 
 -- a mark end begins a new cycle, in which the hand has swept nothing
 abbrev pub forget_swept : HandState → HandState

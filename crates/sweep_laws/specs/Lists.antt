@@ -20,6 +20,16 @@ change_first test f (x ∷ xs) = if test x then f x ∷ xs else x ∷ change_fir
 abbrev pub erase : ℕ → List ℕ → List ℕ
 erase x xs = drop_first (λ y. y == x) xs
 
+-- the list without the first place of each of n numbers, from `start` on
+abbrev pub erase_run : ℕ → ℕ → List ℕ → List ℕ
+erase_run start zero xs = xs
+erase_run start (suc n) xs = erase (start + n) (erase_run start n xs)
+
+-- the first number of the list
+abbrev pub first_of : List ℕ → Option ℕ
+first_of [] = None
+first_of (x ∷ xs) = Some x
+
 -- the list with x at each of the n places from `start` on that it has
 abbrev pub put_run : {A : Type 0} → List A → ℕ → ℕ → A → List A
 put_run xs start zero x = xs

@@ -26,6 +26,10 @@ poppers p hands = total (λ h. times p h.popped) hands
 abbrev pub swept_by : ℕ → List HandState → ℕ
 swept_by p hands = total (λ h. times p h.swept) hands
 
+-- how often the hands' pulled lists name it
+abbrev pub pullers : ℕ → List HandState → ℕ
+pullers p hands = total (λ h. times p h.pulled) hands
+
 -- whether a claim is of this index of this set
 abbrev pub is_claim : ℕ → ℕ → Option Claimed → Bool
 is_claim set index None = false

@@ -5,9 +5,9 @@ use Rattle.sweep_laws.specs.State.{CoreState}
 use Rattle.sweep_laws.specs.Lists.{rises}
 use Rattle.sweep_laws.specs.Reading.{word_of}
 use Rattle.sweep_laws.specs.NeedsOfRange.{Need, need, worker_in_range, page_in_range, set_in_range, run_in_range, class_in_range}
-use Rattle.sweep_laws.specs.NeedsOfPages.{lock_is_free, lock_is_own, sweeps, holds, caches, pops, word_is_below, word_is_above, run_is_free, nothing_allocated, is_at_hand, may_allocate, is_least_free}
+use Rattle.sweep_laws.specs.NeedsOfPages.{lock_is_free, lock_is_own, sweeps, holds, caches, pops, word_is_below, word_is_above, run_is_free, run_is_pulled, pulls_nothing, page_is_free, nothing_allocated, is_at_hand, may_allocate, is_least_free}
 use Rattle.sweep_laws.specs.NeedsOfSets.{claims_nothing, claims_something, has_entries, part_is_swept, part_is_unswept, life_begins, class_is_of_set, tail_has_room, cell_is_filled}
-use Rattle.sweep_laws.specs.NeedsOfMarkEnd.{generation_is_low, hands_are_idle, no_claims, words_are_settled, sets_are_popped, marks_are_allocated}
+use Rattle.sweep_laws.specs.NeedsOfMarkEnd.{generation_is_low, hands_are_idle, nothing_pulled, no_claims, words_are_settled, sets_are_popped, marks_are_allocated}
 
 abbrev pub lock_needs : CoreState → ℕ → List Need
 lock_needs c w = worker_in_range c w ∷ lock_is_free c ∷ []
@@ -67,7 +67,19 @@ drop_popped_needs c w page =
     worker_in_range c w ∷ page_in_range c page ∷ pops c w page
     ∷ need (not (word_of c page + 2 == c.generation)) (Word (word_of c page)) ∷ []
 
+abbrev pub pull_needs : CoreState → ℕ → List Need
+pull_needs c w = worker_in_range c w ∷ lock_is_own c w ∷ pulls_nothing c w ∷ page_is_free c ∷ []
+
+-- the lock is not asked for: nobody else cuts pages that the worker pulled
+abbrev pub cut_needs : CoreState → ℕ → ℕ → ℕ → ℕ → ℕ → List Need
+cut_needs c w page pages count class =
+    worker_in_range c w ∷ page_in_range c page ∷ run_in_range c page pages ∷ class_in_range class
+    ∷ need (nat_lt 0 pages && nat_lt 0 count) Range ∷ run_is_pulled c w page pages ∷ []
+
+abbrev pub drop_needs : CoreState → ℕ → List Need
+drop_needs c w = worker_in_range c w ∷ lock_is_own c w ∷ []
+
 abbrev pub next_needs : CoreState → List (ℕ × ℕ) → List Need
 next_needs c marks =
-    need (rises marks) Range ∷ lock_is_free c ∷ generation_is_low c ∷ hands_are_idle c ∷ no_claims c
+    need (rises marks) Range ∷ lock_is_free c ∷ generation_is_low c ∷ hands_are_idle c ∷ nothing_pulled c ∷ no_claims c
     ∷ words_are_settled c ∷ sets_are_popped c ∷ marks_are_allocated c marks ∷ []

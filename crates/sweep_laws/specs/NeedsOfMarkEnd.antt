@@ -4,7 +4,7 @@ use Rattle.std.specs.Option.{is_some}
 use Rattle.std.specs.List.{position, find}
 use Rattle.sweep_laws.specs.declared.moves.Found.TheVariants.{Word, Holder, HeadTail, Index}
 use Rattle.sweep_laws.specs.State.{CoreState, HandState, SetState}
-use Rattle.sweep_laws.specs.Lists.{has}
+use Rattle.sweep_laws.specs.Lists.{has, first_of}
 use Rattle.sweep_laws.specs.Reading.{no_set, allocated_at, is_swept_set, is_settled}
 use Rattle.sweep_laws.specs.NeedsOfRange.{Need, need}
 use Rattle.sweep_laws.specs.NeedsOfSets.{claimed_index}
@@ -24,6 +24,18 @@ busy_hand c = position (λ h. not (is_idle h)) c.hands
 -- all hands are idle; else the first that is not is told
 abbrev pub hands_are_idle : CoreState → Need
 hands_are_idle c = need (not (is_some (busy_hand c))) (Holder (busy_hand c))
+
+-- the first hand that has pulled a page
+abbrev pub first_puller : CoreState → Option HandState
+first_puller c = find (λ h. not (length h.pulled == 0)) c.hands
+
+-- the first page of a hand's pulled list
+abbrev pub pulled_index : HandState → Option ℕ
+pulled_index h = first_of h.pulled
+
+-- no hand has pulled a page; else the first page of the first such hand is told
+abbrev pub nothing_pulled : CoreState → Need
+nothing_pulled c = need (not (is_some (first_puller c))) (Index (option_and_then pulled_index (first_puller c)))
 
 -- the index that a hand claims
 abbrev pub claim_index : HandState → Option ℕ

@@ -1,13 +1,14 @@
 -- What a move may need of the lock, of a page and its life, and of the hand that has it.
-use Rattle.std.specs.Prelude.{ℕ, ◌+◌, ◌==◌, ◌&&◌, ◌||◌, Bool, false, not, if◌then◌else◌, List, length, Option, Some, None, slice_range, unwrap_or}
+use Rattle.std.specs.Prelude.{ℕ, ◌+◌, ◌==◌, ◌&&◌, ◌||◌, Bool, false, not, if◌then◌else◌, length, Option, Some, None, slice_index_or, unwrap_or}
 use Rattle.std.specs.Option.{is_some}
-use Rattle.std.specs.List.{find}
+use Rattle.std.specs.List.{find, range_with_len}
 use Rattle.sweep_laws.specs.declared.kind.Kind.{Kind}
 use Rattle.sweep_laws.specs.declared.kind.Kind.TheVariants.{Sweeping, Held, Cached, Popped}
+use Rattle.sweep_laws.specs.declared.moves.Found.{Found}
 use Rattle.sweep_laws.specs.declared.moves.Found.TheVariants.{Word, Holder, Owner, Index}
 use Rattle.sweep_laws.specs.State.{CoreState}
-use Rattle.sweep_laws.specs.Lists.{has, least_outside, least_of}
-use Rattle.sweep_laws.specs.Reading.{word_of, hand_of, life_of, allocated_at, listed, lister}
+use Rattle.sweep_laws.specs.Lists.{has, least_outside, least_of, first_of}
+use Rattle.sweep_laws.specs.Reading.{word_of, hand_of, life_of, allocated_at, listed, lister, is_free_page, least_free}
 use Rattle.sweep_laws.specs.NeedsOfRange.{Need, need}
 
 -- whether a number is there, and is this one
@@ -51,17 +52,38 @@ word_is_below c page below = need (word_of c page + below == c.generation) (Word
 abbrev pub word_is_above : CoreState → ℕ → ℕ → Need
 word_is_above c page above = need (word_of c page == c.generation + above) (Word (word_of c page))
 
--- the first owner in a list of owners of pages
-abbrev pub owner_in : List (Option ℕ) → Option ℕ
-owner_in owners = unwrap_or (find is_some owners) None
+-- the first page of a run that is not free
+abbrev pub first_taken : CoreState → ℕ → ℕ → Option ℕ
+first_taken c page pages = find (λ p. not (is_free_page c p)) (range_with_len page pages)
 
--- the owner of the first page of a run that has one
-abbrev pub run_owner : CoreState → ℕ → ℕ → Option ℕ
-run_owner c page pages = owner_in (slice_range c.owners page (page + pages))
+-- what is told of a page that is not free: the span that has it, or else the page itself, which a hand has pulled
+abbrev pub owner_or_page : Option ℕ → ℕ → Found
+owner_or_page None page = Index (Some page)
+owner_or_page (Some owner) page = Owner owner
 
--- no page of a run has an owner
+-- the same in a state
+abbrev pub taken_by : CoreState → ℕ → Found
+taken_by c page = owner_or_page (slice_index_or c.owners page None) page
+
+-- each page of a run is free; else the first that is not is told
 abbrev pub run_is_free : CoreState → ℕ → ℕ → Need
-run_is_free c page pages = need (not (is_some (run_owner c page pages))) (Owner (unwrap_or (run_owner c page pages) 0))
+run_is_free c page pages = need (not (is_some (first_taken c page pages))) (taken_by c (unwrap_or (first_taken c page pages) 0))
+
+-- the first page of a run that the worker has not pulled
+abbrev pub first_unpulled : CoreState → ℕ → ℕ → ℕ → Option ℕ
+first_unpulled c w page pages = find (λ p. not (has p (hand_of c w).pulled)) (range_with_len page pages)
+
+-- the worker has pulled each page of a run; else the first that it has not is told
+abbrev pub run_is_pulled : CoreState → ℕ → ℕ → ℕ → Need
+run_is_pulled c w page pages = need (not (is_some (first_unpulled c w page pages))) (Index (first_unpulled c w page pages))
+
+-- the worker has pulled nothing; else the first page of its list is told
+abbrev pub pulls_nothing : CoreState → ℕ → Need
+pulls_nothing c w = need (length (hand_of c w).pulled == 0) (Index (first_of (hand_of c w).pulled))
+
+-- a page is free
+abbrev pub page_is_free : CoreState → Need
+page_is_free c = need (is_some (least_free c)) (Index None)
 
 -- the page's life has no allocated index; else the least is told
 abbrev pub nothing_allocated : CoreState → ℕ → Need

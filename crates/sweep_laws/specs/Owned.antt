@@ -4,14 +4,15 @@ use Rattle.std.specs.Prelude.{◌≡◌, ◌⊎◌, ◌+◌, ◌<◌, ◌≤◌,
 use Rattle.std.specs.List.{AllByRecursion}
 use Rattle.sweep_laws.specs.Named.{poppers, swept_by, unswept}
 use Rattle.sweep_laws.specs.State.{CoreState}
-use Rattle.sweep_laws.specs.OwnedLives.{EachPage, EachAt, IsGeneration, LivesFit, ObjectsFit}
+use Rattle.sweep_laws.specs.OwnedLives.{EachPage, EachAt, IsGeneration, LivesFit, PulledApart, ObjectsFit}
 use Rattle.sweep_laws.specs.OwnedSets.{SetsFit}
 use Rattle.sweep_laws.specs.OwnedPages.{NamesOnce, IsNobodys, WaitsOnce, IsSweptByOne, IsHeldOrQueued, IsCachedByOne}
 
--- 1. the generation, the words, the owners and the lives fit together
+-- 1. the generation, the words, the owners, the lives and the pulled lists fit together
 pub record LivesAreApart (c : CoreState) : Type 0 where
   pub generation : IsGeneration c.generation
   pub lives : LivesFit c.generation c.words c.owners c.lives
+  pub pulled : PulledApart c.lives c.hands
 
 -- 2. a page with word 0 is nobody's
 abbrev pub FreeIsNobodys : CoreState → Type 0

@@ -5,8 +5,8 @@ use Rattle.std.specs.List.{AllByRecursion}
 use lib.ListN.{get_elem?}
 use mathlib.Core.Option.{some}
 use Rattle.sweep_laws.specs.Counts.{times}
-use Rattle.sweep_laws.specs.Named.{covers, owner, begins}
-use Rattle.sweep_laws.specs.State.{LifeState}
+use Rattle.sweep_laws.specs.Named.{covers, owner, begins, pullers}
+use Rattle.sweep_laws.specs.State.{LifeState, HandState}
 
 -- each page with its word
 abbrev pub EachPage : List ℕ → (ℕ → ℕ → Type 0) → Type 0
@@ -35,6 +35,10 @@ pub record LivesFit (g : ℕ) (words : List ℕ) (owners : List (Option ℕ)) (l
   pub owner_is : EachPage words (λ p w. slice_index_or owners p None ≡ owner p lives)
   pub apart : (p : ℕ) → covers p lives ≤ 1
   pub whole : AllByRecursion (λ l. 1 ≤ l.pages) lives
+
+-- a page that a pulled list has is in no other pulled list, stands there once, and no life covers it
+abbrev pub PulledApart : List LifeState → List HandState → Type 0
+PulledApart lives hands = (p : ℕ) → covers p lives + pullers p hands ≤ 1
 
 -- of a life, kept is a part of allocated, and allocated indices are below the count
 pub record ObjectsFit (l : LifeState) : Type 0 where

@@ -2,7 +2,7 @@
 use Rattle.std.specs.Prelude.{◌≡◌, ◌⊎◌, ℕ, ◌+◌, ◌<◌, ◌≤◌, List, length, slice_index, Option}
 use Rattle.std.specs.List.{AllByRecursion}
 use Rattle.sweep_laws.specs.Named.{sweepers, holders, cachers, poppers, swept_by, queued, unswept, unswept_own}
-use Rattle.sweep_laws.specs.OwnedLives.{IsGeneration, LivesFit, ObjectsFit}
+use Rattle.sweep_laws.specs.OwnedLives.{IsGeneration, LivesFit, PulledApart, ObjectsFit}
 use Rattle.sweep_laws.specs.OwnedSets.{SetsFit}
 use Rattle.sweep_laws.specs.State.{LifeState, SetState, HandState, CoreState}
 
@@ -52,6 +52,7 @@ pub record Page (g : ℕ) (t : Tally) : Type 0 where
 pub record Kept (g : ℕ) (words : List ℕ) (owners : List (Option ℕ)) (lives : List LifeState) (sets : List SetState) (hands : List HandState) : Type 0 where
   pub generation : IsGeneration g
   pub lives_fit : LivesFit g words owners lives
+  pub pulled : PulledApart lives hands
   pub page : (p : ℕ) → p < length words → Page g (tally g words lives sets hands p)
   pub sets_fit : SetsFit g (length words) lives sets hands
   pub objects : AllByRecursion ObjectsFit lives

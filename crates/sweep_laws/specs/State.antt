@@ -20,7 +20,8 @@ pub record SetState : Type 0 where
   pub cells : List ℕ
 
 -- what one worker has, by first pages: spans that it sweeps, holds, has cached, entries that it popped from
--- unswept sets, the index that it claimed, and what it swept since the last mark end
+-- unswept sets, the index that it claimed, and what it swept since the last mark end; and each of the pages that it pulled
+-- into its page cache and that no span has yet
 pub record HandState : Type 0 where
   pub sweeping : List ℕ
   pub held : List ℕ
@@ -28,6 +29,7 @@ pub record HandState : Type 0 where
   pub popped : List ℕ
   pub claimed : Option Claimed
   pub swept : List ℕ
+  pub pulled : List ℕ
 
 -- the whole state. `words` and `owners` have one entry for each page of the region, `sets` one for each set
 -- and `hands` one for each worker. `room` is the number of entries for which the lives, each set's cells and

@@ -2,7 +2,7 @@
 use Rattle.std.specs.Prelude.{◌≡◌, ℕ, ◌<◌, ◌≤◌, length, List, [], ◌∷◌}
 use Rattle.std.specs.List.{AllByRecursion}
 use Rattle.sweep_laws.specs.declared.moves.Move.{Move}
-use Rattle.sweep_laws.specs.declared.moves.Move.TheVariants.{Take, Claim}
+use Rattle.sweep_laws.specs.declared.moves.Move.TheVariants.{Take, Claim, Cut}
 use Rattle.sweep_laws.specs.State.{LifeState, HandState, CoreState}
 use Rattle.sweep_laws.specs.Counts.{times}
 use Rattle.sweep_laws.specs.Reading.{set_of}
@@ -16,6 +16,7 @@ pub record NamesNever (p : ℕ) (h : HandState) : Type 0 where
   pub cached : times p h.cached ≡ 0
   pub popped : times p h.popped ≡ 0
   pub swept : times p h.swept ≡ 0
+  pub pulled : times p h.pulled ≡ 0
 
 -- a life begins in the region, and its lists name no index twice
 pub record IsTidyLife (pages : ℕ) (l : LifeState) : Type 0 where
@@ -37,10 +38,11 @@ pub record HasSpace (c : CoreState) : Type 0 where
   pub room : length c.words ≤ c.room
   pub tails : TailsFit c
 
--- for a Take a life is prepared, and a Claim is of a set in which fewer cells were claimed than there are pages
+-- for a Take and a Cut a life is prepared, and a Claim is of a set in which fewer cells were claimed than there are pages
 abbrev pub IsProvided : CoreState → Move → Type 0
 IsProvided c (Take w page pages count class) = count ≤ c.prepared
 IsProvided c (Claim w s page) = (set_of c s).tail < length c.words
+IsProvided c (Cut w page pages count class) = count ≤ c.prepared
 IsProvided c _ = Unit {0}
 
 -- so is each move of a list in the state that those before it made

@@ -11,7 +11,8 @@ pub struct Claimed {
     pub page: u32,
 }
 
-/// One event of the allocator. The first field is the worker, pages are numbers of the region.
+/// One event of the allocator. The first field is the worker, pages are numbers of the region. A block of a page cache is 64 pages
+/// from a multiple of 64 on, cut off at the end of the region (`pageAlloc.allocToCache`, `mpagecache.go`).
 #[derive(Debug, Drop)]
 pub enum Move {
     /// Takes the heap lock.
@@ -44,6 +45,12 @@ pub enum Move {
     PopUnswept(u32, u32),
     /// Forgets an entry whose span another worker swept: worker, first page.
     DropPopped(u32, u32),
+    /// Puts the free pages of the block with the least free page into the worker's own list: worker.
+    Pull(u32),
+    /// Makes a span of pages that the worker pulled: worker, first page, pages, objects, span class.
+    Cut(u32, u32, u32, u32, u8),
+    /// Frees the pages that the worker pulled and has not cut: worker.
+    Drop(u32),
     /// Ends a mark phase: the marked pairs of first page and index, strictly rising.
     Next(List<(u32, u32)>),
 }
@@ -72,7 +79,7 @@ pub enum Found {
     HeadTail(u32, u32),
     /// The first page of the span that owns a page.
     Owner(u32),
-    /// An index: of an object, or of a claimed cell.
+    /// An index: of an object, or of a claimed cell; or a page that a worker has pulled, or has not.
     Index(Option<u32>),
     /// A worker, page, span class, set or list of marks is out of range.
     Range,

@@ -1,5 +1,5 @@
 -- A table that tells which numbers a list has.
-use Rattle.std.proofs.Common.{◌≡◌, ◌≢◌, ℕ, suc, ◌+◌, ◌-◌, ◌<◌, ◌≤◌, ◌==◌, Bool, true, false, ◌||◌, eqb, eq-eqb, ne_eqb, List, [], ◌∷◌, length, get_or, set, take, drop, refl, sym, ap, ◌∙◌, arith, get_or-set_other, get_or-set_same}
+use Rattle.std.proofs.Common.{◌≡◌, ◌≢◌, ℕ, zero, suc, ◌+◌, ◌-◌, ◌<◌, ◌≤◌, ◌==◌, Bool, true, false, ◌||◌, eqb, eq-eqb, ne_eqb, List, [], ◌∷◌, length, get_or, set, take, drop, refl, sym, ap, ◌∙◌, arith, get_or-set_other, get_or-set_same}
 use Rattle.std.specs.Bool.{beq}
 use Rattle.std.specs.Prelude.{slice_range}
 use Rattle.std.proofs.lemmas.Bool.{or_parts}
@@ -97,3 +97,9 @@ gone_erased i x [] e = refl
 gone_erased i x (y ∷ xs) e = let p = or_parts (y == i) (has i xs) e in dite (ℕ_discrete y x)
     (λ s. rw (eq-eqb y x s) p.1)
     (λ o. rw (ne_eqb y x o, p.0) (gone_erased i x xs p.1))
+
+-- the first number of the rest of a list leaves it
+pub erased_first : (xs : List ℕ) (k d : ℕ) → k < length xs → erase (get_or (drop k xs) 0 d) (drop k xs) ≡ drop (suc k) xs
+erased_first [] k d low = absurd (omega arith)
+erased_first (x ∷ xs) zero d low = rw (eq-eqb x x refl) refl
+erased_first (x ∷ xs) (suc k) d low = erased_first xs k d (omega arith)

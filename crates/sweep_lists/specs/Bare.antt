@@ -12,6 +12,7 @@ bare_hand pages = record {
   popped = record { items = []; space = 0; reach = pages };
   claimed = None;
   swept = record { items = []; space = 0 };
+  pulled = record { items = []; space = 0; reach = pages };
 }
 
 -- a set with nothing in it and no room

@@ -1,11 +1,11 @@
 //! What one worker has. Its moves alone write its hand, but for a mark end, which empties `swept` of each. A page is handed
 //! from list to list by one call that needs room in the new list first: so a page is never lost where memory runs out.
 
-ghost use Rattle.std.specs.Prelude.{◌≡◌, ◌≤◌, ◌<◌, ◌⊎◌, ℕ, [], ◌∷◌, ◌++◌, length, None, IfOk, OnOk, OnErr};
+ghost use Rattle.std.specs.Prelude.{◌≡◌, ◌≤◌, ◌<◌, ◌+◌, ◌^◌, ◌⊎◌, ℕ, [], ◌∷◌, ◌++◌, length, None, IfOk, OnOk, OnErr};
 ghost use Rattle.sweep_laws.specs.Lists.{erase};
 ghost use Rattle.sweep_laws.specs.Reading.{listed};
 ghost use Rattle.sweep_laws.specs.NeedsOfMarkEnd.{is_idle as no_pages};
-ghost use Rattle.sweep_laws.specs.ChangesOfHands.{hold, let_go, start_sweep, end_sweep, put_in_cache, take_from_cache, sweep_from_cache, claim_cell, fill_cell, pop_entry, drop_entry};
+ghost use Rattle.sweep_laws.specs.ChangesOfHands.{hold, let_go, start_sweep, end_sweep, put_in_cache, take_from_cache, sweep_from_cache, claim_cell, fill_cell, pop_entry, drop_entry, pull_pages, cut_span, drop_pulled};
 ghost use Rattle.sweep_lists.specs.Bare.{bare_hand};
 ghost use Rattle.sweep_lists.specs.Loops.{without_swept};
 ghost use Rattle.sweep_lists.specs.Views.{hand_view, HandRoom};
@@ -31,6 +31,8 @@ pub struct CoreHand {
     pub claimed: Option<Claimed>,
     /// Spans that it swept since the last mark end.
     pub swept: Entries<u32>,
+    /// Each of the pages that it pulled into its page cache and that no span has yet, in rising order.
+    pub pulled: Numbers,
 }
 
 impl CoreHand {
@@ -47,6 +49,7 @@ impl CoreHand {
             popped,
             claimed: None,
             swept: Entries::new(alloc),
+            pulled: Numbers::with_table(alloc, pages)?,
         })
     }
 
@@ -179,6 +182,7 @@ impl CoreHand {
         self.held.reserve(room)?;
         self.cached.reserve(room)?;
         self.popped.reserve(room)?;
+        self.pulled.reserve(room)?;
         self.swept.reserve(room)
     }
 
@@ -199,6 +203,45 @@ impl CoreHand {
         ensures room { (pages n : ℕ) → HandRoom pages n self.old → HandRoom pages n self.new }
     {
         self.held.push(page);
+    }
+
+    /// Makes room for so many pulled pages.
+    pub fn reserve_pulled(&mut self, count: usize) -> Result<(), NoMemory>
+        ensures view { hand_view self.new ≡ hand_view self.old }
+        ensures pulled { OnOk result (count ≤ self.new.pulled.space) }
+        ensures full { OnErr result (self.old.pulled.space < count) }
+        ensures room { (pages n : ℕ) → HandRoom pages n self.old → HandRoom pages n self.new }
+    {
+        self.pulled.reserve(count)
+    }
+
+    /// Has pulled pages, for which there is room, where it had none.
+    pub fn pull_pages(&mut self, pages: &[u32])
+        requires none { self.old.pulled.items ≡ [] }
+        requires space { length pages.now ≤ self.old.pulled.space }
+        ensures view { hand_view self.new ≡ pull_pages pages.now (hand_view self.old) }
+        ensures room { (pages n : ℕ) → HandRoom pages n self.old → HandRoom pages n self.new }
+    {
+        self.pulled.extend(pages);
+    }
+
+    /// Holds a span of pages that it had pulled.
+    pub fn cut_span(&mut self, page: u32, pages: u32)
+        requires run { page + pages < 2 ^ 32 }
+        requires held { length self.old.held.items < self.old.held.space }
+        ensures view { hand_view self.new ≡ cut_span page pages (hand_view self.old) }
+        ensures room { (pages n : ℕ) → HandRoom pages n self.old → HandRoom pages n self.new }
+    {
+        self.held.push(page);
+        self.pulled.erase_run(page, pages);
+    }
+
+    /// Has pulled nothing.
+    pub fn drop_pulled(&mut self)
+        ensures view { hand_view self.new ≡ drop_pulled (hand_view self.old) }
+        ensures room { (pages n : ℕ) → HandRoom pages n self.old → HandRoom pages n self.new }
+    {
+        self.pulled.clear();
     }
 
     /// Makes room for the end of a sweep.

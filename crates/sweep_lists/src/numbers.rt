@@ -1,8 +1,8 @@
 //! A list of pages or indices with a table beside it. Only the methods here write the two, always both, so that the table says
 //! what the list says.
 
-ghost use Rattle.std.specs.Prelude.{◌≡◌, ◌<◌, ◌≤◌, ◌==◌, ◌&&◌, ◌||◌, not, ℕ, false, true, nat_lt, [], ◌∷◌, ◌++◌, length, IfOk, OnOk, OnErr, slice_index_or};
-ghost use Rattle.sweep_laws.specs.Lists.{has, erase};
+ghost use Rattle.std.specs.Prelude.{◌≡◌, ◌<◌, ◌≤◌, ◌+◌, ◌^◌, ◌==◌, ◌&&◌, ◌||◌, not, ℕ, false, true, nat_lt, [], ◌∷◌, ◌++◌, length, IfOk, OnOk, OnErr, slice_index_or};
+ghost use Rattle.sweep_laws.specs.Lists.{has, erase, erase_run};
 ghost use Rattle.sweep_lists.specs.Tables.{AreMembers};
 
 use crate::entries::Entries;
@@ -196,6 +196,37 @@ impl Numbers {
         self.reserve_one()?;
         self.push(item);
         Ok(())
+    }
+
+    /// Puts the numbers of a slice at the end, for which there is room.
+    pub fn extend(&mut self, items: &[u32])
+        requires { length self.old.items + length items.now ≤ self.old.space }
+        ensures { self.new ≡ record self.old { items = self.old.items ++ items.now } }
+    {
+        for &item in items {
+            self.push(item);
+        }
+    }
+
+    /// Takes out the first place of each of `count` numbers from `start` on.
+    pub fn erase_run(&mut self, start: u32, count: u32)
+        requires { start + count < 2 ^ 32 }
+        ensures { self.new ≡ record self.old { items = erase_run start count self.old.items } }
+    {
+        for k in 0..count {
+            self.erase(start + k);
+        }
+    }
+
+    /// Takes all numbers out, one after the other from the front on.
+    pub fn clear(&mut self)
+        ensures { self.new ≡ record self.old { items = [] } }
+    {
+        let count = self.items.len();
+        for _ in 0..count {
+            let first = self.items.as_slice()[0];
+            self.erase(first);
+        }
     }
 
     /// Takes out the first place of a number, if it is there; those behind it move up. Where the table tells that it is

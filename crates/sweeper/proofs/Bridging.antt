@@ -4,7 +4,7 @@ use Rattle.std.proofs.lemmas.List.{append-nil, map-append, reverse-append}
 use Rattle.span_state.specs.declared.sweep.SweepNote.{SweepNote}
 use Rattle.sweep_laws.specs.Counts.{times}
 use Rattle.worker_log.specs.declared.Entry.{Entry}
-use Rattle.worker_log.specs.declared.Entry.TheVariants.{Looked, LookedEmptyCell, Popped, Pushed, Swept, Took, Missed, Gave, Allocated, Found, Read, Added}
+use Rattle.worker_log.specs.declared.Entry.TheVariants.{Looked, LookedEmptyCell, Popped, Pushed, Swept, Took, Missed, Gave, Allocated, Found, Read, Added, Pulled, NoPage, Cut as CutEntry, NoCut, Settled}
 use Rattle.worker_log.specs.Logs.{sweepings}
 use Rattle.span_laws.specs.TakeAnswers.{cycle_at}
 use Rattle.span_laws.specs.Calls.{Keeps, notes_of as notes_in}
@@ -36,6 +36,11 @@ notes-same g (Allocated a ∷ said) = notes-same g said ∙ sym (append-nil (not
 notes-same g (Missed m line ∷ said) = notes-same g said ∙ sym (append-nil (notes_in g said))
 notes-same g (Looked s h t ∷ said) = notes-same g said ∙ sym (append-nil (notes_in g said))
 notes-same g (LookedEmptyCell s i ∷ said) = notes-same g said ∙ sym (append-nil (notes_in g said))
+notes-same g (Pulled number line ∷ said) = notes-same g said ∙ sym (append-nil (notes_in g said))
+notes-same g (NoPage ∷ said) = notes-same g said ∙ sym (append-nil (notes_in g said))
+notes-same g (CutEntry page pages class ∷ said) = notes-same g said ∙ sym (append-nil (notes_in g said))
+notes-same g (NoCut pages left ∷ said) = notes-same g said ∙ sym (append-nil (notes_in g said))
+notes-same g (Settled number ∷ said) = notes-same g said ∙ sym (append-nil (notes_in g said))
 notes-same g (Popped s p ∷ said) = notes-same g said ∙ sym (append-nil (notes_in g said))
 notes-same g (Pushed s p ∷ said) = notes-same g said ∙ sym (append-nil (notes_in g said))
 notes-same g (Took m line ∷ said) = notes-same g said ∙ sym (append-nil (notes_in g said))

@@ -2,7 +2,7 @@
 use Rattle.std.proofs.Common.{◌≡◌, ℕ, ◌+◌, ◌<◌, Bool, List, [], ◌∷◌, ◌++◌, map, reverse, refl, ap, ◌∙◌, arith}
 use Rattle.std.proofs.lemmas.List.{reverse-append, map-append}
 use Rattle.worker_log.specs.declared.Entry.{Entry}
-use Rattle.worker_log.specs.declared.Entry.TheVariants.{Looked, LookedEmptyCell, Popped, Pushed, Swept, Took, Missed, Gave, Allocated, Found, Read, Added}
+use Rattle.worker_log.specs.declared.Entry.TheVariants.{Looked, LookedEmptyCell, Popped, Pushed, Swept, Took, Missed, Gave, Allocated, Found, Read, Added, Pulled, NoPage, Cut as CutEntry, NoCut, Settled}
 use Rattle.worker_log.specs.declared.Sweeping.{Sweeping}
 use Rattle.worker_log.specs.Logs.{sweepings}
 use Rattle.worker_log.specs.Entries.{is_placing_in, is_pop_of, many}
@@ -37,6 +37,11 @@ sweepings-append (Swept s ∷ xs) ys = ap (λ (l : List Sweeping). s ∷ l) (swe
 sweepings-append (Missed m line ∷ xs) ys = sweepings-append xs ys
 sweepings-append (Looked s h t ∷ xs) ys = sweepings-append xs ys
 sweepings-append (LookedEmptyCell s i ∷ xs) ys = sweepings-append xs ys
+sweepings-append (Pulled number line ∷ xs) ys = sweepings-append xs ys
+sweepings-append (NoPage ∷ xs) ys = sweepings-append xs ys
+sweepings-append (CutEntry page pages class ∷ xs) ys = sweepings-append xs ys
+sweepings-append (NoCut pages left ∷ xs) ys = sweepings-append xs ys
+sweepings-append (Settled number ∷ xs) ys = sweepings-append xs ys
 sweepings-append (Popped s p ∷ xs) ys = sweepings-append xs ys
 sweepings-append (Pushed s p ∷ xs) ys = sweepings-append xs ys
 sweepings-append (Took m line ∷ xs) ys = sweepings-append xs ys

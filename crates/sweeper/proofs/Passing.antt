@@ -5,7 +5,7 @@ use Rattle.std.specs.List.{AllByRecursion}
 use Rattle.sweep_laws.specs.Counts.{total}
 use Rattle.sweep_laws.specs.Reading.{is_swept_set}
 use Rattle.worker_log.specs.declared.Entry.{Entry}
-use Rattle.worker_log.specs.declared.Entry.TheVariants.{Looked, LookedEmptyCell, Popped, Pushed, Swept, Took, Missed, Gave, Allocated, Found, Read, Added}
+use Rattle.worker_log.specs.declared.Entry.TheVariants.{Looked, LookedEmptyCell, Popped, Pushed, Swept, Took, Missed, Gave, Allocated, Found, Read, Added, Pulled, NoPage, Cut as CutEntry, NoCut, Settled}
 use Rattle.worker_log.specs.Logs.{sweepings}
 use Rattle.worker_log.specs.Entries.{is_sweep_of, many}
 use Rattle.span_laws.specs.TakeAnswers.{cycle_at}
@@ -58,6 +58,11 @@ passing_looks g h from to [] a = looks_nothing g
 passing_looks g h from to (Found page word ∷ said) a = looks_more g (Found page word) said (looks_found g page word) (passing_looks g h from to said a.1)
 passing_looks g h from to (Looked s x y ∷ said) a = absurd a.0
 passing_looks g h from to (LookedEmptyCell s i ∷ said) a = absurd a.0
+passing_looks g h from to (Pulled number line ∷ said) a = absurd a.0
+passing_looks g h from to (NoPage ∷ said) a = absurd a.0
+passing_looks g h from to (CutEntry page pages class ∷ said) a = absurd a.0
+passing_looks g h from to (NoCut pages left ∷ said) a = absurd a.0
+passing_looks g h from to (Settled number ∷ said) a = absurd a.0
 passing_looks g h from to (Popped s p ∷ said) a = absurd a.0
 passing_looks g h from to (Pushed s p ∷ said) a = absurd a.0
 passing_looks g h from to (Swept s ∷ said) a = absurd a.0
@@ -82,6 +87,11 @@ empty_looks g [] a = looks_nothing g
 empty_looks g (Looked s x y ∷ said) a = looks_more g (Looked s x y) said (looks_empty g s x y a.0.0) (empty_looks g said a.1)
 empty_looks g (Found p w ∷ said) a = absurd a.0
 empty_looks g (LookedEmptyCell s i ∷ said) a = absurd a.0
+empty_looks g (Pulled number line ∷ said) a = absurd a.0
+empty_looks g (NoPage ∷ said) a = absurd a.0
+empty_looks g (CutEntry page pages class ∷ said) a = absurd a.0
+empty_looks g (NoCut pages left ∷ said) a = absurd a.0
+empty_looks g (Settled number ∷ said) a = absurd a.0
 empty_looks g (Popped s p ∷ said) a = absurd a.0
 empty_looks g (Pushed s p ∷ said) a = absurd a.0
 empty_looks g (Swept s ∷ said) a = absurd a.0

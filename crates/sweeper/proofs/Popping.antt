@@ -9,7 +9,7 @@ use Rattle.span_state.specs.declared.sweep.SweepNote.{SweepNote}
 use Rattle.sweep_laws.specs.Lists.{erase}
 use Rattle.sweep_laws.specs.Reading.{is_swept_set}
 use Rattle.worker_log.specs.declared.Entry.{Entry}
-use Rattle.worker_log.specs.declared.Entry.TheVariants.{Looked, LookedEmptyCell, Popped, Pushed, Swept, Took, Missed, Gave, Allocated, Found, Read, Added}
+use Rattle.worker_log.specs.declared.Entry.TheVariants.{Looked, LookedEmptyCell, Popped, Pushed, Swept, Took, Missed, Gave, Allocated, Found, Read, Added, Pulled, NoPage, Cut as CutEntry, NoCut, Settled}
 use Rattle.worker_log.specs.declared.Sweeping.{Sweeping}
 use Rattle.worker_log.specs.Logs.{sweepings}
 use Rattle.worker_log.specs.Entries.{is_pop, many}
@@ -40,6 +40,11 @@ module _ (set : ℕ) where
   look_is : (e : Entry) → IsLookAt set e → (h : ℕ) × (t : ℕ) × (e ≡ Looked set h t)
   look_is (Looked s h t) a = (h, t, ap (λ (x : ℕ). Looked x h t) a)
   look_is (LookedEmptyCell s i) a = absurd a
+  look_is (Pulled number line) a = absurd a
+  look_is NoPage a = absurd a
+  look_is (CutEntry page pages class) a = absurd a
+  look_is (NoCut pages left) a = absurd a
+  look_is (Settled number) a = absurd a
   look_is (Popped s p) a = absurd a
   look_is (Pushed s p) a = absurd a
   look_is (Swept s) a = absurd a

@@ -11,23 +11,23 @@ use Rattle.sweep_laws.specs.declared.moves.Move.TheVariants.{Claim as ClaimMove}
 use Rattle.sweep_laws.specs.Counts.{times}
 use Rattle.sweep_laws.specs.Lists.{has, least_outside}
 use Rattle.sweep_laws.specs.Named.{begins, is_class}
-use Rattle.sweep_laws.specs.Reading.{hand_of, set_of, cell_of, life_of, life_in, allocated_at, class_of_set, is_swept_set, no_set}
+use Rattle.sweep_laws.specs.Reading.{hand_of, set_of, cell_of, life_of, life_in, allocated_at, class_of_set, free_block, is_swept_set, no_set}
 use Rattle.sweep_laws.specs.NeedsOfRange.{refusal}
-use Rattle.sweep_laws.specs.Needs.{acquire_needs, release_needs, cache_needs, uncache_needs, stale_uncache_needs, take_needs, give_needs, allocate_needs, claim_needs, fill_needs, pop_swept_needs, pop_unswept_needs, drop_popped_needs, next_needs}
-use Rattle.sweep_laws.specs.ChangesOfHands.{hold, let_go, start_sweep, end_sweep, put_in_cache, take_from_cache, sweep_from_cache, claim_cell, pop_entry, drop_entry, forget_swept}
+use Rattle.sweep_laws.specs.Needs.{acquire_needs, release_needs, cache_needs, uncache_needs, stale_uncache_needs, take_needs, give_needs, allocate_needs, claim_needs, fill_needs, pop_swept_needs, pop_unswept_needs, drop_popped_needs, pull_needs, cut_needs, drop_needs, next_needs}
+use Rattle.sweep_laws.specs.ChangesOfHands.{hold, let_go, start_sweep, end_sweep, put_in_cache, take_from_cache, sweep_from_cache, claim_cell, pop_entry, drop_entry, pull_pages, cut_span, drop_pulled, forget_swept}
 use Rattle.sweep_laws.specs.ChangesOfLives.{new_life, keep_marked}
 use Rattle.sweep_laws.specs.ChangesOfSets.{raise_head, head_base, empty_unswept}
-use Rattle.sweep_laws.specs.Changes.{after_take, after_give, after_acquire, after_release, after_cache, after_allocate, after_uncache, after_stale_uncache, after_claim, after_fill, after_fill_of, after_pop_swept, after_pop_unswept, after_drop_popped, after_next}
+use Rattle.sweep_laws.specs.Changes.{after_take, after_give, after_acquire, after_release, after_cache, after_allocate, after_uncache, after_stale_uncache, after_claim, after_fill, after_fill_of, after_pop_swept, after_pop_unswept, after_drop_popped, after_pull, after_cut, after_drop, after_next}
 use Rattle.sweep_laws.specs.OwnedLives.{ObjectsFit}
 use Rattle.sweep_laws.specs.OwnedSets.{IsPage}
 use Rattle.sweep_laws.specs.Owned.{Owned}
 use Rattle.sweep_laws.specs.Standing.{tally, CoreKept}
 use Rattle.sweep_laws.specs.State.{LifeState, SetState, HandState, CoreState}
 use Rattle.sweep_laws.proofs.Forms.{kept_of}
-use Rattle.sweep_laws.proofs.HeapMoves.{free_before}
+use Rattle.sweep_laws.proofs.HeapMoves.{free_before, free_uncovered, pulled_uncovered}
 use Rattle.sweep_laws.proofs.LivesChange.{all_at}
 use Rattle.sweep_laws.proofs.MarkEnd.{turns}
-use Rattle.sweep_laws.proofs.MovesKept.{hand_at, set_at, run_free, move_kept, base_is}
+use Rattle.sweep_laws.proofs.MovesKept.{hand_at, set_at, run_free, cut_inside, cut_pulled, move_kept, base_is}
 use Rattle.sweep_laws.proofs.Naming.{has_times, times_has, times_erase_else, at_low, set_here}
 use Rattle.sweep_laws.proofs.NeedsMet.{all_met, both, either_one, not_true, eqb-false, holder_is, some_there, some_none, none_there, not_found}
 use Rattle.sweep_laws.proofs.Objects.{free_below}
@@ -226,6 +226,28 @@ module _ (c : CoreState) (o : Owned c) (logs : List (List Entry)) (names : ℕ �
         enters (set c.words p c.generation) _ w (hold p (hand_of c w)) (length-set c.words p c.generation) (append_stays c.generation c.words c.lives p c.generation lt none (new_life p pages count class) refl) (hand_at c k w m.0) refl
         (λ q l x y z. (let d = times_end_else q p (hand_of c w).held (λ s. none (subst (λ (i : ℕ). IsSettled c.generation (get_or c.words i 0)) s x)) in omega arith))
 
+    pub cut_keeps_names : (w p pages count class : ℕ) → refusal (cut_needs c w p pages count class) ≡ None → EnteredIn (after_cut c w p pages count class) logs' names
+    cut_keeps_names w p pages count class met =
+        let m = all_met (cut_needs c w p pages count class) met in
+        let lt = inside p m.1.0 in
+        let at = hand_at c k w m.0 in
+        let some_page = (cut_inside c k w p pages count class met).1 in
+        let uncovered = pulled_uncovered c.generation c.words c.owners c.lives c.sets c.hands k w (hand_of c w) at p lt p (cut_pulled c k w p pages count class met p (omega arith) (omega arith)) in
+        let word : get_or c.words p 0 ≡ 0 = free_uncovered c.generation c.words c.owners c.lives k.lives_fit p lt uncovered in
+        let none : IsSettled c.generation (get_or c.words p 0) → ⊥ = unsettled c.generation (get_or c.words p 0) k.generation.low (inr (inr (inr word))) in
+        enters (set c.words p c.generation) _ w (cut_span p pages (hand_of c w)) (length-set c.words p c.generation) (append_stays c.generation c.words c.lives p c.generation lt none (new_life p pages count class) refl) at refl
+        (λ q l x y z. (let d = times_end_else q p (hand_of c w).held (λ s. none (subst (λ (i : ℕ). IsSettled c.generation (get_or c.words i 0)) s x)) in omega arith))
+
+    pub pull_keeps_names : (w : ℕ) → refusal (pull_needs c w) ≡ None → EnteredIn (after_pull c w) logs' names
+    pull_keeps_names w met =
+        let m = all_met (pull_needs c w) met in
+        enters c.words c.lives w (pull_pages (free_block c) (hand_of c w)) refl (λ q l x y. (x, refl, λ i. refl)) (hand_at c k w m.0) refl (λ q l x y z. z)
+
+    pub drop_keeps_names : (w : ℕ) → refusal (drop_needs c w) ≡ None → EnteredIn (after_drop c w) logs' names
+    drop_keeps_names w met =
+        let m = all_met (drop_needs c w) met in
+        enters c.words c.lives w (drop_pulled (hand_of c w)) refl (λ q l x y. (x, refl, λ i. refl)) (hand_at c k w m.0) refl (λ q l x y z. z)
+
     pub give_keeps_names : (w p : ℕ) → refusal (give_needs c w p) ≡ None → EnteredIn (after_give c w p) logs' names
     give_keeps_names w p met =
         let m = all_met (give_needs c w p) met in
@@ -290,7 +312,7 @@ next_keeps_names c o marks logs names met silent =
     let m = all_met (next_needs c marks) met in
     empty_enters (c.generation + 2) (length c.words) c.words _ (empty_unswept c.generation 0 c.sets) (map forget_swept c.hands) logs names
     (λ j s at part. emptied-at c.generation 0 c.sets j s at (not-swept j part))
-    (λ n h at. (let was = at-mapped c.hands n h at in ap (λ (y : HandState). y.claimed) (sym was.2) ∙ none_there was.0.claimed (not_found _ c.hands (none_there _ (not_true _ m.1.1.1.1.0)) n was.0 was.1)))
+    (λ n h at. (let was = at-mapped c.hands n h at in ap (λ (y : HandState). y.claimed) (sym was.2) ∙ none_there was.0.claimed (not_found _ c.hands (none_there _ (not_true _ m.1.1.1.1.1.0)) n was.0 was.1)))
     silent
   where
     not-swept : (j : ℕ) → is_swept_set (c.generation + 2) j ≡ true → is_swept_set c.generation (0 + j) ≡ false

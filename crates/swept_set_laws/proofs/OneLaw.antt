@@ -2,7 +2,7 @@
 use Rattle.std.proofs.Common.{◌≡◌, ℕ, List, length, sym, subst}
 use Rattle.std.specs.Prelude.{None}
 use Rattle.sweep_laws.specs.declared.moves.Move.{Move}
-use Rattle.sweep_laws.specs.declared.moves.Move.TheVariants.{Lock, Unlock, Take, Give, Acquire, Release, Cache, Allocate, Uncache, StaleUncache, Claim, Fill, PopSwept, PopUnswept, DropPopped, Next}
+use Rattle.sweep_laws.specs.declared.moves.Move.TheVariants.{Lock, Unlock, Take, Give, Acquire, Release, Cache, Allocate, Uncache, StaleUncache, Claim, Fill, PopSwept, PopUnswept, DropPopped, Pull, Cut, Drop, Next}
 use Rattle.sweep_laws.specs.Reading.{set_of}
 use Rattle.sweep_laws.specs.NeedsOfRange.{refusal}
 use Rattle.sweep_laws.specs.Changes.{after_claim}
@@ -12,7 +12,7 @@ use Rattle.sweep_laws.specs.Step.{needs_of, after}
 use Rattle.worker_log.specs.declared.Entry.{Entry}
 use Rattle.swept_set_laws.specs.Entered.{EnteredIn}
 use Rattle.swept_set_laws.specs.NamesGoOn.{NamesGoOn, SamePops, put_name}
-use Rattle.swept_set_laws.proofs.EachMove.{entered_logs, logs_keep_names, acquire_keeps_names, release_keeps_names, cache_keeps_names, uncache_keeps_names, stale_uncache_keeps_names, take_keeps_names, give_keeps_names, drop_popped_keeps_names, pop_unswept_keeps_names, allocate_keeps_names, claim_keeps_names, fill_keeps_names, pop_swept_keeps_names, next_keeps_names}
+use Rattle.swept_set_laws.proofs.EachMove.{entered_logs, logs_keep_names, acquire_keeps_names, release_keeps_names, cache_keeps_names, uncache_keeps_names, stale_uncache_keeps_names, take_keeps_names, give_keeps_names, drop_popped_keeps_names, pull_keeps_names, cut_keeps_names, drop_keeps_names, pop_unswept_keeps_names, allocate_keeps_names, claim_keeps_names, fill_keeps_names, pop_swept_keeps_names, next_keeps_names}
 
 -- other logs with the same pops in any state of this generation
 in_logs : (g : ℕ) (c : CoreState) (logs logs' : List (List Entry)) (names : ℕ → ℕ → ℕ) → c.generation ≡ g → SamePops g logs' logs → EnteredIn c logs names → EnteredIn c logs' names
@@ -32,6 +32,9 @@ module _ (c : CoreState) (o : Owned c) (logs : List (List Entry)) (names : ℕ �
   move_keeps_names (StaleUncache w p) met on = subst (λ (n : ℕ → ℕ → ℕ). EnteredIn (after c (StaleUncache w p)) logs' n) (sym on.1) (stale_uncache_keeps_names c o logs names e logs' on.0 w p met)
   move_keeps_names (PopUnswept w s) met on = subst (λ (n : ℕ → ℕ → ℕ). EnteredIn (after c (PopUnswept w s)) logs' n) (sym on.1) (pop_unswept_keeps_names c o logs names e logs' on.0 w s met)
   move_keeps_names (DropPopped w p) met on = subst (λ (n : ℕ → ℕ → ℕ). EnteredIn (after c (DropPopped w p)) logs' n) (sym on.1) (drop_popped_keeps_names c o logs names e logs' on.0 w p met)
+  move_keeps_names (Pull w) met on = subst (λ (n : ℕ → ℕ → ℕ). EnteredIn (after c (Pull w)) logs' n) (sym on.1) (pull_keeps_names c o logs names e logs' on.0 w met)
+  move_keeps_names (Cut w p pages count class) met on = subst (λ (n : ℕ → ℕ → ℕ). EnteredIn (after c (Cut w p pages count class)) logs' n) (sym on.1) (cut_keeps_names c o logs names e logs' on.0 w p pages count class met)
+  move_keeps_names (Drop w) met on = subst (λ (n : ℕ → ℕ → ℕ). EnteredIn (after c (Drop w)) logs' n) (sym on.1) (drop_keeps_names c o logs names e logs' on.0 w met)
   move_keeps_names (Claim w s p) met on = subst (λ (n : ℕ → ℕ → ℕ). EnteredIn (after c (Claim w s p)) logs' n) (sym on.2)
       (in_logs c.generation (after_claim c w s p) logs logs' (put_name names s (set_of c s).tail p) (λ i. c.generation) on.1 (claim_keeps_names c o logs names e w s p met on.0))
   move_keeps_names (Fill w) met on = subst (λ (n : ℕ → ℕ → ℕ). EnteredIn (after c (Fill w)) logs' n) (sym on.1)

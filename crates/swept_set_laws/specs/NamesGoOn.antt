@@ -1,7 +1,7 @@
 -- How what the swept sets name, and the logs of all workers, go on at a move.
 use Rattle.std.specs.Prelude.{◌≡◌, ◌≢◌, ℕ, ◌+◌, ◌<◌, ◌==◌, ◌&&◌, true, cond, List, [], length}
 use Rattle.sweep_laws.specs.declared.moves.Move.{Move}
-use Rattle.sweep_laws.specs.declared.moves.Move.TheVariants.{Lock, Unlock, Take, Give, Acquire, Release, Cache, Allocate, Uncache, StaleUncache, Claim, Fill, PopSwept, PopUnswept, DropPopped, Next}
+use Rattle.sweep_laws.specs.declared.moves.Move.TheVariants.{Lock, Unlock, Take, Give, Acquire, Release, Cache, Allocate, Uncache, StaleUncache, Claim, Fill, PopSwept, PopUnswept, DropPopped, Pull, Cut, Drop, Next}
 use Rattle.sweep_laws.specs.ChangesOfSets.{head_base}
 use Rattle.sweep_laws.specs.Counts.{one_if}
 use Rattle.sweep_laws.specs.Reading.{is_swept_set, life_in, set_of}
@@ -52,3 +52,6 @@ NamesGoOn c logs names (StaleUncache w p) logs' names' = SamePops c.generation l
 NamesGoOn c logs names (Fill w) logs' names' = SamePops c.generation logs' logs × (names' ≡ names)
 NamesGoOn c logs names (PopUnswept w s) logs' names' = SamePops c.generation logs' logs × (names' ≡ names)
 NamesGoOn c logs names (DropPopped w p) logs' names' = SamePops c.generation logs' logs × (names' ≡ names)
+NamesGoOn c logs names (Pull w) logs' names' = SamePops c.generation logs' logs × (names' ≡ names)
+NamesGoOn c logs names (Cut w p pages count class) logs' names' = SamePops c.generation logs' logs × (names' ≡ names)
+NamesGoOn c logs names (Drop w) logs' names' = SamePops c.generation logs' logs × (names' ≡ names)

@@ -3,7 +3,7 @@ use Rattle.std.proofs.Common.{◌≡◌, ℕ, ◌+◌, Bool, true, List, [], ◌
 use Rattle.std.specs.List.{AllByRecursion}
 use Rattle.std.proofs.lemmas.List.{reverse-append}
 use Rattle.worker_log.specs.declared.Entry.{Entry}
-use Rattle.worker_log.specs.declared.Entry.TheVariants.{Looked, LookedEmptyCell, Popped, Pushed, Swept, Took, Missed, Gave, Allocated, Found, Read, Added}
+use Rattle.worker_log.specs.declared.Entry.TheVariants.{Looked, LookedEmptyCell, Popped, Pushed, Swept, Took, Missed, Gave, Allocated, Found, Read, Added, Pulled, NoPage, Cut as CutEntry, NoCut, Settled}
 use Rattle.worker_log.specs.Logs.{placings, sweepings, refusals, takings}
 use Rattle.worker_log.specs.SweptLast.{is_swept_last}
 use Rattle.worker_log.specs.Entries.{many, is_quiet}
@@ -34,6 +34,11 @@ quiet-alike (Took number line) log h = cc
 quiet-alike (Gave page pages) log h = cc
 quiet-alike (Looked set head tail) log h = record { placed = refl; swept = refl; refused = refl; took = refl; last = λ p. refl }
 quiet-alike (LookedEmptyCell set index) log h = record { placed = refl; swept = refl; refused = refl; took = refl; last = λ p. refl }
+quiet-alike (Pulled number line) log h = cc
+quiet-alike NoPage log h = record { placed = refl; swept = refl; refused = refl; took = refl; last = λ p. refl }
+quiet-alike (CutEntry page pages class) log h = cc
+quiet-alike (NoCut pages left) log h = record { placed = refl; swept = refl; refused = refl; took = refl; last = λ p. refl }
+quiet-alike (Settled number) log h = cc
 quiet-alike (Popped set page) log h = record { placed = refl; swept = refl; refused = refl; took = refl; last = λ p. refl }
 quiet-alike (Pushed set page) log h = record { placed = refl; swept = refl; refused = refl; took = refl; last = λ p. refl }
 quiet-alike (Found page word) log h = record { placed = refl; swept = refl; refused = refl; took = refl; last = λ p. refl }

@@ -2,10 +2,11 @@
 use Rattle.std.specs.Prelude.{◌≡◌, ℕ, ◌+◌, ◌==◌, ◌&&◌, Bool, true, false, not, List, [], ◌∷◌, ◌++◌}
 use Rattle.page_bitmap.specs.Counts.{one_if}
 use Rattle.worker_log.specs.declared.Entry.{Entry}
-use Rattle.worker_log.specs.declared.Entry.TheVariants.{Looked, LookedEmptyCell, Popped, Pushed, Swept, Took, Missed, Gave, Allocated, Found, Read, Added}
+use Rattle.worker_log.specs.declared.Entry.TheVariants.{Looked, LookedEmptyCell, Popped, Pushed, Swept, Took, Missed, Gave, Allocated, Found, Read, Added, Pulled, NoPage, Cut, NoCut, Settled}
 use Rattle.worker_log.specs.SetNumbers.{is_full_set}
 
--- The entry is one that the laws of a run don't look at: what a worker looked at, popped, pushed, read or added.
+-- The entry is one that the laws of a run don't look at: what a worker looked at, popped, pushed, read or added, and where it
+-- found no page to pull or no run to cut.
 abbrev pub is_quiet : Entry → Bool
 is_quiet (Allocated a) = false
 is_quiet (Swept s) = false
@@ -19,6 +20,11 @@ is_quiet (Pushed set page) = true
 is_quiet (Found page word) = true
 is_quiet (Read word value) = true
 is_quiet (Added word value) = true
+is_quiet (Pulled number line) = false
+is_quiet NoPage = true
+is_quiet (Cut page pages class) = false
+is_quiet (NoCut pages left) = true
+is_quiet (Settled number) = false
 
 -- How many entries pass a test.
 abbrev pub many : (Entry → Bool) → List Entry → ℕ

@@ -1,11 +1,11 @@
 -- What the laws of a run see in the log of a worker: what it placed, swept, took and was refused. A log has its newest entry first.
 use Rattle.std.specs.Prelude.{ℕ, List, [], ◌∷◌}
 use Rattle.page_bitmap.specs.declared.line.Line.{Line}
-use Rattle.page_bitmap.specs.declared.line.Line.TheVariants.{Take, Miss, Give, Scav, Pull, Cut, Drop}
+use Rattle.page_bitmap.specs.declared.line.Line.TheVariants.{Take, Miss, Give, Scav, Pull, Cut as CutLine, Drop}
 use Rattle.worker_log.specs.declared.Placing.{Placing}
 use Rattle.worker_log.specs.declared.Sweeping.{Sweeping}
 use Rattle.worker_log.specs.declared.Entry.{Entry}
-use Rattle.worker_log.specs.declared.Entry.TheVariants.{Looked, LookedEmptyCell, Popped, Pushed, Swept, Took, Missed, Gave, Allocated, Found, Read, Added}
+use Rattle.worker_log.specs.declared.Entry.TheVariants.{Looked, LookedEmptyCell, Popped, Pushed, Swept, Took, Missed, Gave, Allocated, Found, Read, Added, Pulled, NoPage, Cut, NoCut, Settled}
 
 -- A request was refused at the Miss line with this number, of so many pages and this span class.
 pub record Refusal : Type 0 where
@@ -20,7 +20,7 @@ refused number (Take cycle page pages class) rest = rest
 refused number (Give cycle page pages) rest = rest
 refused number (Scav cycle page pages) rest = rest
 refused number (Pull cycle proc page pages) rest = rest
-refused number (Cut cycle proc page pages class) rest = rest
+refused number (CutLine cycle proc page pages class) rest = rest
 refused number (Drop cycle proc page pages) rest = rest
 
 -- The objects that the log's worker placed.
@@ -38,6 +38,11 @@ placings (Gave page pages ∷ log) = placings log
 placings (Found page word ∷ log) = placings log
 placings (Read word value ∷ log) = placings log
 placings (Added word value ∷ log) = placings log
+placings (Pulled number line ∷ log) = placings log
+placings (NoPage ∷ log) = placings log
+placings (Cut page pages class ∷ log) = placings log
+placings (NoCut pages left ∷ log) = placings log
+placings (Settled number ∷ log) = placings log
 
 -- The spans that it swept.
 abbrev pub sweepings : List Entry → List Sweeping
@@ -54,6 +59,11 @@ sweepings (Gave page pages ∷ log) = sweepings log
 sweepings (Found page word ∷ log) = sweepings log
 sweepings (Read word value ∷ log) = sweepings log
 sweepings (Added word value ∷ log) = sweepings log
+sweepings (Pulled number line ∷ log) = sweepings log
+sweepings (NoPage ∷ log) = sweepings log
+sweepings (Cut page pages class ∷ log) = sweepings log
+sweepings (NoCut pages left ∷ log) = sweepings log
+sweepings (Settled number ∷ log) = sweepings log
 
 -- The requests that it was refused.
 abbrev pub refusals : List Entry → List Refusal
@@ -70,6 +80,11 @@ refusals (Gave page pages ∷ log) = refusals log
 refusals (Found page word ∷ log) = refusals log
 refusals (Read word value ∷ log) = refusals log
 refusals (Added word value ∷ log) = refusals log
+refusals (Pulled number line ∷ log) = refusals log
+refusals (NoPage ∷ log) = refusals log
+refusals (Cut page pages class ∷ log) = refusals log
+refusals (NoCut pages left ∷ log) = refusals log
+refusals (Settled number ∷ log) = refusals log
 
 -- A run of pages was taken, as the line of this number tells.
 pub record Taking : Type 0 where
@@ -91,3 +106,8 @@ takings (Gave page pages ∷ log) = takings log
 takings (Found page word ∷ log) = takings log
 takings (Read word value ∷ log) = takings log
 takings (Added word value ∷ log) = takings log
+takings (Pulled number line ∷ log) = takings log
+takings (NoPage ∷ log) = takings log
+takings (Cut page pages class ∷ log) = takings log
+takings (NoCut pages left ∷ log) = takings log
+takings (Settled number ∷ log) = takings log

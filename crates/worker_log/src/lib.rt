@@ -57,4 +57,14 @@ pub enum Entry {
     Read(u64, u64),
     /// A word was raised: the word, by how much.
     Added(u64, u64),
+    /// The free pages of a block were pulled: the number of the journal line that tells it, and the line.
+    Pulled(u64, Line),
+    /// No page was free that could be pulled.
+    NoPage,
+    /// A span was cut out of the worker's block: its first page, its pages, its span class.
+    Cut(u64, u64, u64),
+    /// The worker's block had no run of so many pages: the pages, and how many the block has left, 0 where there is none.
+    NoCut(u64, u64),
+    /// The worker's block was settled: the number of the journal line that tells how many pages it gave back.
+    Settled(u64),
 }

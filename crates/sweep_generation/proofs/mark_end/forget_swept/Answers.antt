@@ -24,8 +24,10 @@ returns-clause-room c = λ pages n all.
       cached = h.cached;
       popped = h.popped;
       swept = h.swept;
+      pulled = h.pulled;
       sweeping_table = h.sweeping_table;
       held_table = h.held_table;
       cached_table = h.cached_table;
       popped_table = h.popped_table;
+      pulled_table = h.pulled_table;
     }) 0 c.loop-k.k c.args.hands.now all)
