@@ -22,4 +22,4 @@ pub use laws::{
 pub use reader::{expect_end, read_trace};
 pub use span::Span;
 pub use trace::{Cycle, Event, Header, MarkEnd, Trace};
-pub use whole::read_whole;
+pub use whole::{TRACE_BYTES, read_whole};
