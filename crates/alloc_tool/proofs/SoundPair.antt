@@ -7,6 +7,7 @@ use Rattle.trace_reader.specs.declared.trace.Trace.{Trace}
 use Rattle.trace_reader.specs.declared.fault.TraceFault.{TraceFault}
 use Rattle.trace_reader.specs.Limits.{Spells}
 use Rattle.trace_reader.specs.Refusal.{lines_fault, next_number, pieces_of}
+use Rattle.trace_reader.specs.Refused.{IsTraceFault}
 use Rattle.trace_reader.specs.Spelling.{lines_of}
 use Rattle.trace_reader.proofs.One.{one_trace}
 use Rattle.trace_reader.proofs.NoFault.{whole_fault}
@@ -16,7 +17,7 @@ use Rattle.report_text.specs.Read.{IsText}
 use Rattle.report_text.proofs.Refused.{not_refused_law}
 use Rattle.report_text.proofs.Unique.{one_report}
 use Rattle.report_check.specs.Fault.{BreaksRules, MeetsChecked}
-use Rattle.commands.specs.Pair.{ArePair, IsReportFault, IsTraceFault}
+use Rattle.commands.specs.Pair.{ArePair, IsReportFault}
 use Rattle.commands.specs.Heaped.{Heaped}
 use Rattle.alloc_tool.specs.Checked.{BreaksAt, Checked}
 use Rattle.alloc_tool.specs.Top.{IsUndisturbed}

@@ -17,7 +17,7 @@ use Rattle.heap_text.specs.Text.{heap_text}
 use Rattle.commands.specs.Pair.{BreaksOff, IsReadFault, Refuses}
 use Rattle.trace_reader.specs.Told.{IsOfTrace}
 use Rattle.report_text.specs.Read.{IsOfReport}
-use Rattle.commands.specs.Heaped.{BreaksAt, Heaped, Makes}
+use Rattle.commands.specs.Heaped.{BreaksAt, Heaped, MakesHeap}
 use Rattle.commands.specs.Stopped.{stop_status, stop_text}
 use Rattle.commands.specs.Texts.{report_fault_text, rule_text, status_text}
 use Rattle.commands.specs.Told.{Tells}
@@ -27,7 +27,7 @@ clash s k n apart e f = apart (sym e ∙ f)
 
 -- the report is sound: the text was written, or a write failed
 pub heaped_ok : {S K E : Type 0} (left : S → Option (List ℕ)) (reads : S → ℕ) (held : K → Option (List ℕ)) (writes : K → ℕ) (shown : E → Option (List ℕ)) (tells : E → ℕ) (input input' : S) (output output' : K) (errors errors' : E) (heap : HeapText) (status : ℕ)
-    → Makes (left input) (left input') heap → (status ≡ 0) ⊎ (status ≡ 6) → (status ≡ 0 → Appends (held output) (held output') (heap_text heap)) → (status ≡ 0 → errors' ≡ errors) → (status ≡ 6 → Rose (writes output) (writes output'))
+    → MakesHeap (left input) (left input') heap → (status ≡ 0) ⊎ (status ≡ 6) → (status ≡ 0 → Appends (held output) (held output') (heap_text heap)) → (status ≡ 0 → errors' ≡ errors) → (status ≡ 6 → Rose (writes output) (writes output'))
     → (status ≡ 6 → AppendsFront (held output) (held output') (heap_text heap)) → (status ≡ 6 → Tells shown tells errors errors' (status_text 6)) → Heaped left reads held writes shown tells input input' output output' errors errors' status
 heaped_ok left reads held writes shown tells input input' output output' errors errors' heap status made ends answered silent rose front told = record {
   ends = elim ends [ inl zero ↦ inl zero | inr six ↦ inr (inr (inr (inr (inl six)))) ];

@@ -1,19 +1,18 @@
 -- A report behind a trace.
-use Rattle.std.proofs.Common.{◌≡◌, ℕ, false, List, [], ◌∷◌, ◌++◌, Option, Some, None, refl, ◌∙◌, map, subst, inl, inr}
-use Rattle.std.specs.Io.KnownBytes.{Consumes, IsAtEnd, prepend_known}
+use Rattle.std.proofs.Common.{◌≡◌, ℕ, false, List, ◌++◌, Option, refl, ◌∙◌, map, subst, inr}
+use Rattle.std.specs.Io.KnownBytes.{Consumes}
 use Rattle.std.proofs.KnownBytes.{Consumes-trans}
 use Rattle.edge_io.specs.declared.lines.Lines.{Lines}
-use Rattle.edge_io.specs.Reading.{is_dry, lines_left, number_of, room_of, source_of}
+use Rattle.edge_io.specs.Reading.{is_dry, lines_left, room_of, source_of}
 use Rattle.trace_reader.specs.declared.trace.Trace.{Trace}
 use Rattle.trace_reader.specs.declared.fault.TraceFault.{TraceFault}
 use Rattle.trace_reader.specs.declared.fault.TraceFault.TheVariants.{ReadFault, Malformed, Truncated, Limit, BadMark, NoMemory}
 use Rattle.trace_reader.specs.Read.{Reads}
-use Rattle.trace_reader.specs.Refusal.{lines_fault, next_number, pieces_of}
-use Rattle.trace_reader.specs.Told.{BreaksOff as BreaksTrace}
+use Rattle.trace_reader.proofs.Ended.{source_ended}
 use Rattle.cycle_history.specs.declared.Report.{Report}
 use Rattle.report_text.specs.declared.fault.ReportFault.{ReportFault}
 use Rattle.report_text.specs.declared.fault.ReportFault.TheVariants.{ReadFault as Unread, Malformed as OddLine, Truncated as EndsEarly, Limit as TooLong, NoMemory as OutOfMemory}
-use Rattle.report_text.specs.Read.{BreaksOff as BreaksReport, Reads as ReadsReport}
+use Rattle.report_text.specs.Read.{BreaksInReport, Reads as ReadsReport}
 use Rattle.report_text.specs.Items.{line_for}
 use Rattle.report_text.specs.Refusal.{told}
 use Rattle.report_text.proofs.Begun.{lines_begin}
@@ -21,12 +20,6 @@ use Rattle.commands.specs.declared.stop.Stop.{Stop}
 use Rattle.commands.specs.declared.stop.Stop.TheVariants.{Trace as OfTrace, Report as OfReport, Verdict as OfVerdict}
 use Rattle.commands.specs.Judged.{Stops}
 use Rattle.commands.specs.Pair.{BreaksOff, IsReadFault, ReadsPair, Refuses}
-
--- at the end of the lines nothing is left of the source
-source_ended : (ahead : List ℕ) (a left : Option (List ℕ)) (bytes : List ℕ) → Consumes a (prepend_known ahead left) bytes → IsAtEnd (prepend_known ahead left) → Consumes a left bytes × IsAtEnd left
-source_ended ahead a None bytes taken end = (taken, tt)
-source_ended [] a (Some xs) bytes taken end = (taken, end)
-source_ended (y ∷ ys) a (Some xs) bytes taken end = absurd (let e : y ∷ (ys ++ xs) ≡ [] = end in cc)
 
 pub reads_pair : {S : Type 0} (left : S → Option (List ℕ)) (a b c d : Lines S) (trace : Trace) (report : Report) → Reads left a b trace → room_of a ≡ 67108864 → lines_left left c ≡ lines_left left b → is_dry c ≡ is_dry b → is_dry b ≡ false
     → room_of c ≡ 4294967296 → ReadsReport left c d report → ReadsPair (lines_left left a) (left (source_of d)) trace report
@@ -71,21 +64,9 @@ report_unread (EndsEarly line) is = absurd is
 report_unread (TooLong line) is = absurd is
 report_unread OutOfMemory is = absurd is
 
--- a read failed in the trace
-pub broken_trace : {S : Type 0} (left : S → Option (List ℕ)) (a b : Lines S) → number_of a ≡ 0 → room_of a ≡ 67108864 → BreaksTrace left a b [] → BreaksOff (lines_left left a) (left (source_of b))
-broken_trace left a b number room off = record {
-  bytes = off.bytes;
-  taken = subst (λ (o : Option (List ℕ)). Consumes (lines_left left a) o off.bytes) off.all_used off.taken;
-  unended = inl (
-    number_of b,
-    λ behind. subst (λ (k : ℕ). lines_fault behind (next_number 0) k [] (pieces_of off.bytes) ≡ Some (Truncated (number_of b))) room
-        (subst (λ (k : ℕ). lines_fault behind (next_number k) (room_of a) [] (pieces_of off.bytes) ≡ Some (Truncated (number_of b))) number (off.ends_early behind)),
-  );
-}
-
 -- a read failed in the report behind it
 pub broken_report : {S : Type 0} (left : S → Option (List ℕ)) (a b c d : Lines S) (trace : Trace) → Reads left a b trace → room_of a ≡ 67108864 → lines_left left c ≡ lines_left left b → room_of c ≡ 4294967296
-    → BreaksReport left c d → BreaksOff (lines_left left a) (left (source_of d))
+    → BreaksInReport left c d → BreaksOff (lines_left left a) (left (source_of d))
 broken_report left a b c d trace read limit same room off =
     let front = read.0 in
     let rest = told off.items ++ off.front in

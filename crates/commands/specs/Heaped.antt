@@ -20,8 +20,8 @@ use Rattle.commands.specs.Told.{Tells}
 
 -- A trace was read, and behind it the text of a sound report to the end of the input, and the heap profile is that of the trace and the
 -- printed answers.
-abbrev pub Makes : (left left' : Option (List ℕ)) → HeapText → Type 0
-Makes left left' heap = (trace : Trace) × (report : Report) × ReadsPair left left' trace report × MeetsChecked trace report × IsHeapOf trace report.answers heap
+abbrev pub MakesHeap : (left left' : Option (List ℕ)) → HeapText → Type 0
+MakesHeap left left' heap = (trace : Trace) × (report : Report) × ReadsPair left left' trace report × MeetsChecked trace report × IsHeapOf trace report.answers heap
 
 -- A trace was read, and behind it the text of a report to the end of the input, and the report breaks this rule first, at
 -- this line.
@@ -34,7 +34,7 @@ pub record Heaped {S K E : Type 0} (left : S → Option (List ℕ)) (reads : S �
     (shown : E → Option (List ℕ)) (tells : E → ℕ) (input input' : S) (output output' : K) (errors errors' : E) (status : ℕ) : Type 0 where
   pub ends : (status ≡ 0) ⊎ (status ≡ 3) ⊎ (status ≡ 4) ⊎ (status ≡ 5) ⊎ (status ≡ 6) ⊎ (status ≡ 7)
   -- 0: a trace and a report that meets the rules were read to the end of the input, and the text of their heap profile was written
-  pub answered : status ≡ 0 → (heap : HeapText) × Makes (left input) (left input') heap × Appends (held output) (held output') (heap_text heap)
+  pub answered : status ≡ 0 → (heap : HeapText) × MakesHeap (left input) (left input') heap × Appends (held output) (held output') (heap_text heap)
   pub silent : status ≡ 0 → errors' ≡ errors
   -- 3: the line on the errors tells a fault of the trace, which its bytes have where they are told
   pub refused : status ≡ 3 → (fault : TraceFault) × IsOfTrace fault × Refuses (left input) (OfTrace fault) × Tells shown tells errors errors' (fault_text fault)
@@ -46,7 +46,7 @@ pub record Heaped {S K E : Type 0} (left : S → Option (List ℕ)) (reads : S �
   pub broken_off : status ≡ 5 → BreaksOff (left input) (left input')
   -- 6: a write failed, and a front of the text was written
   pub write_fault : status ≡ 6 → Rose (writes output) (writes output')
-  pub partly_written : status ≡ 6 → (heap : HeapText) × Makes (left input) (left input') heap × AppendsFront (held output) (held output') (heap_text heap)
+  pub partly_written : status ≡ 6 → (heap : HeapText) × MakesHeap (left input) (left input') heap × AppendsFront (held output) (held output') (heap_text heap)
   -- any other status: nothing was written, and the line on the errors is the status's
   pub unwritten : status ≢ 0 → status ≢ 6 → output' ≡ output
   pub told : status ≢ 0 → status ≢ 3 → status ≢ 4 → Tells shown tells errors errors' (status_text status)

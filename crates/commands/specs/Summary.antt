@@ -12,8 +12,8 @@ use Rattle.cycle_history.specs.declared.Total.{Total}
 use Rattle.cycle_history.specs.Requests.{last_cycle}
 
 -- the objects of a cycle
-abbrev pub objects_of : Cycle → ℕ
-objects_of c = length c.events
+abbrev pub objects_asked : Cycle → ℕ
+objects_asked c = length c.events
 
 -- 1 for a placed object, and 1 for a refused one
 abbrev pub one_placed : Answer → ℕ
@@ -48,7 +48,7 @@ counted name number = name ++ decimal number
 -- totals, those over the profile as of the last mark end, and that the report is sound.
 abbrev pub summary_lines : Trace → Report → List (List ℕ)
 summary_lines t report =
-    counted (codes "objects ") (sum_by objects_of t.cycles)
+    counted (codes "objects ") (sum_by objects_asked t.cycles)
     ∷ counted (codes "placed ") (sum_by one_placed report.answers)
     ∷ counted (codes "refused ") (sum_by one_refused report.answers)
     ∷ counted (codes "mark ends ") (last_cycle t)

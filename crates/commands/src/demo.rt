@@ -38,9 +38,14 @@ pub fn write_summary<K: Sink>(
     trace: &Trace,
     report: &Report,
 ) -> Result<(), SummaryFault>
+    // what is known of the trace
     requires { WithinLimits trace.now }
+
+    // a sound report is summed up
     ensures checked { OnOk result (MeetsChecked trace.now report.now) }
     ensures ok { OnOk result (Appends (K.held out.old) (K.held out.new) (summary_text trace.now report.now)) }
+
+    // what a fault says, and what was written before it
     ensures cause { IsErrOf result WriteFailed → Rose (K.faults out.old) (K.faults out.new) }
     ensures front { IsErrOf result WriteFailed → AppendsFront (K.held out.old) (K.held out.new) (summary_text trace.now report.now) }
     ensures broken { IfErr result (TellsBroken trace.now report.now) }

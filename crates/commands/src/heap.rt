@@ -11,7 +11,7 @@ ghost use Rattle.heap_text.specs.Lawful.{IsLawful};
 ghost use Rattle.heap_text.specs.Text.{heap_text};
 ghost use Rattle.commands.specs.Texts.{status_text};
 ghost use Rattle.commands.specs.Told.{Tells};
-ghost use Rattle.commands.specs.Heaped.{Heaped, Makes};
+ghost use Rattle.commands.specs.Heaped.{Heaped, MakesHeap};
 
 use crate::pair::read_pair;
 use crate::refusals::{refuse_pair, stop_writing};
@@ -39,7 +39,7 @@ pub fn show_heap<S: Source, K: Sink, E: Sink>(
 
 // The heap profile of the trace and the report that stands behind it, where the report is sound.
 fn heap_in<S: Source>(alloc: Global, input: &mut S) -> Result<HeapText, Stop>
-    ensures makes { IfOk result (λ heap. Makes (S.left input.old) (S.left input.new) heap) }
+    ensures makes { IfOk result (λ heap. MakesHeap (S.left input.old) (S.left input.new) heap) }
     ensures lawful { IfOk result (λ heap. IsLawful heap) }
     ensures stopped { IfErr result (Stops BreaksRules (S.left input.old) (S.left input.new)) }
     ensures broken_off { IfErr result (λ stop. IsReadFault stop → BreaksOff (S.left input.old) (S.left input.new)) }
@@ -61,10 +61,15 @@ fn heap_in<S: Source>(alloc: Global, input: &mut S) -> Result<HeapText, Stop>
 
 // Writes the profile's text.
 fn write_text<K: Sink, E: Sink>(heap: &HeapText, output: &mut K, errors: &mut E) -> u8
+    // what is known of the profile
     requires lawful { IsLawful heap.now }
+
+    // the statuses, and what a written text is
     ensures status { (result ≡ 0) ⊎ (result ≡ 6) }
     ensures answered { result ≡ 0 → Appends (K.held output.old) (K.held output.new) (heap_text heap.now) }
     ensures silent { result ≡ 0 → errors.new ≡ errors.old }
+
+    // what a failed write leaves
     ensures write_fault { result ≡ 6 → Rose (K.faults output.old) (K.faults output.new) }
     ensures partly_written { result ≡ 6 → AppendsFront (K.held output.old) (K.held output.new) (heap_text heap.now) }
     ensures told { result ≡ 6 → Tells E.held E.faults errors.old errors.new (status_text 6) }

@@ -9,10 +9,7 @@ use cycle_history::Report;
 use edge_io::{Lines, Source};
 use report_text::read_report;
 use std::alloc::Global;
-use trace_reader::{Trace, read_trace};
-
-/// The most bytes of a trace.
-const TRACE_BYTES: u64 = 67_108_864;
+use trace_reader::{TRACE_BYTES, Trace, read_trace};
 
 /// The most bytes of a report.
 const REPORT_BYTES: u64 = 4_294_967_296;
@@ -32,13 +29,20 @@ pub fn read_pair<S: Source>(alloc: Global, input: &mut S) -> Result<(Trace, Repo
 
 // Reads both from lines that nothing was read of.
 fn read_both<S: Source>(alloc: Global, lines: &mut Lines<'_, S>) -> Result<(Trace, Report), Stop>
+    // what is known before
     requires fresh { is_dry lines.old ≡ false }
-    requires room { room_of lines.old ≡ 67108864 }
+    requires room { room_of lines.old ≡ TRACE_BYTES }
     requires number { number_of lines.old ≡ 0 }
-    ensures same_source { IsSameSource lines.old lines.new }
+
+    // what is read
     ensures read { IfOk result (λ pair. ReadsPair (lines_left S.left lines.old) (S.left (source_of lines.new)) pair.0 pair.1) }
+
+    // why it is refused, and where
     ensures refused { IfErr result (λ stop. Refuses (lines_left S.left lines.old) stop) }
     ensures broken_off { IfErr result (λ stop. IsReadFault stop → BreaksOff (lines_left S.left lines.old) (S.left (source_of lines.new))) }
+
+    // where the lines then stand, and what the source did
+    ensures same_source { IsSameSource lines.old lines.new }
     ensures cause { HasReadCause (S.faults (source_of lines.old)) (S.faults (source_of lines.new)) result }
 {
     let trace = match read_trace(alloc, lines) {

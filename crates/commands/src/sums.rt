@@ -2,14 +2,14 @@
 
 ghost use Rattle.std.specs.Prelude.{◌≡◌};
 ghost use Rattle.std.specs.List.{sum_by};
-ghost use Rattle.commands.specs.Summary.{dead_at, frees_of, mallocs_of, objects_of, one_placed, one_refused, sampled_at};
+ghost use Rattle.commands.specs.Summary.{dead_at, frees_of, mallocs_of, objects_asked, one_placed, one_refused, sampled_at};
 
 use cycle_history::{Answer, Prof, Total};
 use trace_reader::Cycle;
 
 // The objects of these cycles.
 pub(crate) fn objects(cycles: &[Cycle]) -> u128
-    ensures { result ≡ sum_by objects_of cycles.now }
+    ensures { result ≡ sum_by objects_asked cycles.now }
 {
     let mut sum: u128 = 0;
     for cycle in cycles {

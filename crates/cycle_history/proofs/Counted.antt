@@ -35,15 +35,15 @@ take-one xs n x at =
     ∙ reverse-append (take n xs) (x ∷ [])
 
 -- the newest of the first objects, and those before it
-record IsNewest (t : Trace) (answers : List Answer) (n : ℕ) (r : Request) (a : Answer) (objects : List Object) : Type 0 where
-  newest : Object
-  older : List Object
-  are : objects ≡ newest ∷ older
-  asked : IsObject r n newest
-  answered : newest.answer ≡ a
-  first : AreFirstOf t answers n older
+pub record IsNewest (t : Trace) (answers : List Answer) (n : ℕ) (r : Request) (a : Answer) (objects : List Object) : Type 0 where
+  pub newest : Object
+  pub older : List Object
+  pub are : objects ≡ newest ∷ older
+  pub asked : IsObject r n newest
+  pub answered : newest.answer ≡ a
+  pub first : AreFirstOf t answers n older
 
-newest-of : (t : Trace) (answers : List Answer) (n : ℕ) (r : Request) (a : Answer) (objects : List Object) → slice_get (requests_from 0 t.cycles) n ≡ Some r → slice_get answers n ≡ Some a
+pub newest-of : (t : Trace) (answers : List Answer) (n : ℕ) (r : Request) (a : Answer) (objects : List Object) → slice_get (requests_from 0 t.cycles) n ≡ Some r → slice_get answers n ≡ Some a
     → AreFirstOf t answers (n + 1) objects → IsNewest t answers n r a objects
 newest-of t answers n r a objects at-r at-a first =
     split objects

@@ -1,4 +1,5 @@
 mod Rows
+pub mod InLists
 pub mod Meets
 pub mod Plain
 pub mod Cycles

@@ -20,6 +20,8 @@ use Rattle.cycle_history.specs.Objects.{is_placed}
 use Rattle.cycle_history.specs.Counted.{AreZeros}
 use Rattle.heap_text.specs.declared.asked.Asked.{Asked}
 use Rattle.heap_text.specs.Counting.{AreDifferent, IsLimitedBucket, request_of}
+use Rattle.profile_cycle.proofs.Named.{slot-large}
+use Rattle.heap_text.proofs.SlotSizes.{small-slot}
 use Rattle.heap_text.proofs.Sampling.{event-at, requests-length}
 
 eqb-swap : (x y : ℕ) → eqb x y ≡ eqb y x
@@ -79,8 +81,8 @@ fold-all P (p ∷ ps) known all pairs = fold-all P ps (named known p) (named-all
 
 slot-some : (size : ℕ) → 1 ≤ size → size ≤ 2 ^ 40 → (1 ≤ slot_for size) × (slot_for size ≤ 2 ^ 41)
 slot-some size some most = elim (cases_lt 32768 size) [
-  | inl large ↦ (let e = Rattle.heap_text.proofs.SlotSizes.slot-large size ((size + 8191) / 8192) large refl in (omega arith, omega arith))
-  | inr small ↦ Rattle.heap_text.proofs.SlotSizes.small-slot size some small
+  | inl large ↦ (let e = slot-large size ((size + 8191) / 8192) large refl in (omega arith, omega arith))
+  | inr small ↦ small-slot size some small
 ]
 
 pairs-limited : (procs : ℕ) (events : List Event) → AllByRecursion (EventFits procs) events → AllByRecursion IsLimitedBucket (pairs_of events)

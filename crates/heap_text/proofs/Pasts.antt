@@ -11,7 +11,7 @@ use Rattle.heap_text.specs.declared.sums.Sums.{Sums}
 use Rattle.heap_text.specs.declared.past.Past.{Past}
 use Rattle.heap_text.specs.Text.{sums_of}
 use Rattle.heap_text.specs.Lawful.{AreFalling, AreLawful, AreLow, HasSlot, IsLawfulLine, MayFollow}
-use Rattle.heap_text.specs.Past.{Allows, IsLeast, IsPast, added}
+use Rattle.heap_text.specs.Past.{Allows, IsLeastInUse, IsPast, added}
 use Rattle.heap_text.proofs.Parts.{same_sums}
 
 -- ---- one line

@@ -28,7 +28,7 @@ use Rattle.heap_text.specs.Lawful.{AreLawful, AreLow, MayFollow}
 use Rattle.heap_text.specs.Past.{Allows, IsPast}
 use Rattle.heap_text.specs.Words.{SaysLine, SaysTop}
 use Rattle.heap_text.specs.Refusal.{IsLineThat, IsNextLine, IsOffence, IsTop, IsTopLine, IsUnended, told}
-use Rattle.heap_text.specs.Read.{AreBegun, BreaksOff, HasRead, IsText, Offends, OffendsBehind, Reads, Refuses, StopsShort, TakesOne}
+use Rattle.heap_text.specs.Read.{AreBegun, BreaksInHeap, HasRead, IsText, Offends, OffendsBehind, Reads, Refuses, StopsShort, TakesOne}
 use Rattle.heap_text.proofs.Parts.{one_line, one_top}
 use Rattle.heap_text.proofs.Pasts.{allowed_follows, follows_allowed}
 
@@ -281,12 +281,12 @@ stands_on left a b c before read stands =
       omega arith,
     )
 
-pub broken_first : {S : Type 0} (left : S → Option (List ℕ)) (a b : Lines S) → BreaksInLine left a b → BreaksOff left a b
+pub broken_first : {S : Type 0} (left : S → Option (List ℕ)) (a b : Lines S) → BreaksInLine left a b → BreaksInHeap left a b
 broken_first left a b breaks =
     let room = breaks.in_line.room in
     record { lines = []; front = line_of b; taken = breaks.in_line.taken; begun = inl refl; is_line = breaks.in_line.is_line; room = omega arith; all_used = breaks.all_used }
 
-pub broken_on : {S : Type 0} (left : S → Option (List ℕ)) (a b c : Lines S) (twice : ℕ) (sums : Sums) (lines : List HeapLine) → HasRead left a b (lines_so_far twice sums lines) → IsTop twice sums → AreLawful lines → BreaksInLine left b c → BreaksOff left a c
+pub broken_on : {S : Type 0} (left : S → Option (List ℕ)) (a b c : Lines S) (twice : ℕ) (sums : Sums) (lines : List HeapLine) → HasRead left a b (lines_so_far twice sums lines) → IsTop twice sums → AreLawful lines → BreaksInLine left b c → BreaksInHeap left a c
 broken_on left a b c twice sums lines read top lawful breaks =
     let front = told twice sums lines in
     let room = read.taken.room in

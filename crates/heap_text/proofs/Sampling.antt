@@ -1,11 +1,9 @@
 -- How the samplers and the counts of the buckets go on with one more object.
-use Rattle.std.proofs.Common.{◌≡◌, ◌≢◌, ℕ, zero, suc, ◌+◌, ◌*◌, ◌^◌, ◌<◌, ◌≤◌, Bool, true, false, ◌&&◌, not, eqb, nat_lt, List, [], ◌∷◌, ◌++◌, length, map, reverse, replicate, take, get_or, Option, Some, None, refl, sym, ◌∙◌, ap, subst, arith, ◌⊎◌, inl, inr, length-append, ◌↔◌}
-use Rattle.std.specs.List.{AllByRecursion, list_any, slice_get, sum_by}
+use Rattle.std.proofs.Common.{◌≡◌, ◌≢◌, ℕ, zero, suc, ◌+◌, ◌*◌, ◌^◌, ◌<◌, ◌≤◌, Bool, true, false, ◌&&◌, not, eqb, nat_lt, List, [], ◌∷◌, ◌++◌, length, map, reverse, replicate, Option, Some, refl, sym, ◌∙◌, ap, subst, arith, ◌⊎◌, inl, inr, ◌↔◌}
+use Rattle.std.specs.List.{AllByRecursion, slice_get, sum_by}
 use Rattle.std.proofs.lemmas.Bool.{cases_Bool, cases_eq, cases_lt, eq-eqb, ne_eqb}
-use Rattle.std.proofs.lemmas.List.{length-map, length-reverse, length-take-le, reverse-append, take_all, take_more}
-use Rattle.std.proofs.lemmas.Option.{get_or_from_slice_get, slice_get-get_or, slice_get_within}
-use Rattle.page_alloc.specs.Lists.{In, count, one_if}
-use Rattle.trace_reader.specs.declared.trace.Header.{Header}
+use Rattle.std.proofs.lemmas.List.{length-map, take_all}
+use Rattle.page_alloc.specs.Lists.{count, one_if}
 use Rattle.trace_reader.specs.declared.trace.Trace.{Trace}
 use Rattle.trace_reader.specs.declared.trace.Event.{Event}
 use Rattle.trace_reader.specs.Limits.{events_of}
@@ -13,56 +11,19 @@ use Rattle.profile_cycle.specs.declared.buckets.Bucket.{Bucket}
 use Rattle.profile_cycle.specs.declared.counts.Count.{Count}
 use Rattle.profile_cycle.specs.Naming.{is_same, slot_for}
 use Rattle.profile_cycle.specs.Sampling.{Countdown, behind, countdown, is_sample, sampled}
-use Rattle.heap_text.proofs.SlotSizes.{slot-large, slot-small}
+use Rattle.profile_cycle.proofs.Named.{slot-large, slot-small}
 use Rattle.cycle_history.specs.declared.Answer.{Answer}
 use Rattle.cycle_history.specs.declared.Answer.TheVariants.{Zero}
 use Rattle.cycle_history.specs.Needs.{Need, IsNeed}
-use Rattle.cycle_history.specs.Requests.{Request, requests_from, requests_of, marked_by, last_cycle}
+use Rattle.cycle_history.specs.Requests.{Request, requests_from, marked_by, last_cycle}
 use Rattle.cycle_history.specs.Objects.{Object, is_placed}
 use Rattle.cycle_history.specs.Rules.{IsObject, AreAnswered}
-use Rattle.cycle_history.specs.Sampled.{passing}
-use Rattle.cycle_history.specs.Profile.{Samples, SamplesBy, allocs_at, frees_at, is_sample as is_sample_of, placed_by, samples_in}
+use Rattle.cycle_history.specs.Profile.{SamplesBy, allocs_at, frees_at, is_sample as is_sample_of, placed_by, samples_in}
 use Rattle.cycle_history.specs.Counted.{AreFirstOf, AreObjectsOf}
 use Rattle.cycle_history.proofs.OfObjects.{requests-events}
+use Rattle.cycle_history.proofs.Counted.{newest-of}
 use Rattle.heap_text.specs.Counting.{AreBehind, AreCounted, AreFirst, CountsOne, count_at, no_count}
 use Rattle.heap_text.specs.Published.{buckets_in}
-
--- ---- one object more
-
-take-one : {X : Type 0} (xs : List X) (n : ℕ) (x : X) → slice_get xs n ≡ Some x → reverse (take (n + 1) xs) ≡ x ∷ reverse (take n xs)
-take-one xs n x at =
-    let lt = slice_get_within xs n x at in
-    ap (λ ys. reverse ys) (take_more xs n x lt ∙ ap (λ y. take n xs ++ y ∷ []) (get_or_from_slice_get xs n x x at)) ∙ reverse-append (take n xs) (x ∷ [])
-
--- the newest of the first objects, and those before it
-record IsNewest (t : Trace) (answers : List Answer) (n : ℕ) (r : Request) (a : Answer) (objects : List Object) : Type 0 where
-  newest : Object
-  older : List Object
-  are : objects ≡ newest ∷ older
-  asked : IsObject r n newest
-  answered : newest.answer ≡ a
-  first : AreFirstOf t answers n older
-
-newest-of : (t : Trace) (answers : List Answer) (n : ℕ) (r : Request) (a : Answer) (objects : List Object) → slice_get (requests_from 0 t.cycles) n ≡ Some r → slice_get answers n ≡ Some a
-    → AreFirstOf t answers (n + 1) objects → IsNewest t answers n r a objects
-newest-of t answers n r a objects at-r at-a first =
-    split objects
-    (subst (λ (rs : List Request). AreAnswered rs objects) (take-one (requests_from 0 t.cycles) n r at-r) first.asked)
-    (first.printed ∙ take-one answers n a at-a)
-  where
-    counted : length (reverse (take n (requests_from 0 t.cycles))) ≡ n
-    counted = length-reverse (take n (requests_from 0 t.cycles)) ∙ length-take-le n (requests_from 0 t.cycles) (let lt = slice_get_within (requests_from 0 t.cycles) n r at-r in omega arith)
-
-    split : (os : List Object) → AreAnswered (r ∷ reverse (take n (requests_from 0 t.cycles))) os → map (λ (o : Object). o.answer) os ≡ a ∷ reverse (take n answers) → IsNewest t answers n r a os
-    split [] asked printed = absurd asked
-    split (o ∷ os) asked printed = record {
-      newest = o;
-      older = os;
-      are = refl;
-      asked = subst (λ (k : ℕ). IsObject r k o) counted asked.0;
-      answered = cc;
-      first = record { asked = asked.1; printed = cc };
-    }
 
 -- ---- samples
 

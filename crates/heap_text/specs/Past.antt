@@ -17,14 +17,14 @@ added s line = record {
 }
 
 -- No line has fewer bytes in use, and no higher number can be said of all.
-pub record IsLeast (lines : List HeapLine) (least : ℕ) : Type 0 where
+pub record IsLeastInUse (lines : List HeapLine) (least : ℕ) : Type 0 where
   pub below : AllByRecursion (λ (line : HeapLine). least ≤ line.bytes) lines
   pub highest : (b : ℕ) → b < 2 ^ 64 → AllByRecursion (λ (line : HeapLine). b ≤ line.bytes) lines → b ≤ least
 
 -- This is what the lines leave.
 pub record IsPast (lines : List HeapLine) (past : Past) : Type 0 where
   pub sums : past.sums ≡ sums_of lines
-  pub least : IsLeast lines past.least
+  pub least : IsLeastInUse lines past.least
 
 -- The line may stand behind lines that leave this.
 pub record Allows (past : Past) (line : HeapLine) : Type 0 where

@@ -64,7 +64,7 @@ abbrev pub AreBegun : List (List ℕ) → Type 0
 AreBegun lines = (lines ≡ []) ⊎ ((twice : ℕ) × (sums : Sums) × (behind : List HeapLine) × IsTop twice sums × AreLawful behind × (lines ≡ top_line twice sums ∷ map heap_line behind))
 
 -- A read failed behind lines that nothing is wrong with and a front of the next line, and all that the source gave was read.
-pub record BreaksOff {S : Type 0} (left : S → Option (List ℕ)) (old new : Lines S) : Type 0 where
+pub record BreaksInHeap {S : Type 0} (left : S → Option (List ℕ)) (old new : Lines S) : Type 0 where
   pub lines : List (List ℕ)
   pub front : List ℕ
   pub taken : Consumes (lines_left left old) (lines_left left new) (text lines ++ front)

@@ -11,7 +11,7 @@ ghost use Rattle.report_text.specs.Read.{HasReadCause, IsOfReport};
 ghost use Rattle.heap_text.specs.declared.text.HeapText.{HeapText as AHeap};
 ghost use Rattle.heap_text.specs.Lawful.{AreLow};
 ghost use Rattle.heap_text.specs.Past.{Allows};
-ghost use Rattle.heap_text.specs.Read.{BreaksOff, IsAhead, Offends, OffendsBehind, Reads, Refuses, StopsShort, TakesOne};
+ghost use Rattle.heap_text.specs.Read.{BreaksInHeap, IsAhead, Offends, OffendsBehind, Reads, Refuses, StopsShort, TakesOne};
 ghost use Rattle.heap_text.specs.Refusal.{IsLineThat, IsTop, IsTopLine};
 ghost use Rattle.heap_text.specs.Text.{heap_line, top_line};
 
@@ -30,12 +30,17 @@ pub fn read_heap<S: Source>(
     alloc: Global,
     lines: &mut Lines<'_, S>,
 ) -> Result<HeapText, ReportFault>
-    ensures same_source { IsSameSource lines.old lines.new }
+    // what is read
     ensures read { IfOk result (λ heap. Reads S.left lines.old lines.new heap) }
+
+    // why it is refused, and where
     ensures refused { IfErr result (λ fault. IsOfReport fault → Refuses S.left lines.old fault) }
     ensures complete { (heap : AHeap) → IsAhead S.left lines.old heap
         → MatchResult result (λ read. read ≡ heap) (λ fault. IsOfReport fault → ⊥) }
-    ensures broken_off { IsErrOf result ReadFault → BreaksOff S.left lines.old lines.new }
+    ensures broken_off { IsErrOf result ReadFault → BreaksInHeap S.left lines.old lines.new }
+
+    // where the lines then stand, and what the source did
+    ensures same_source { IsSameSource lines.old lines.new }
     ensures stands { StandsInLine S.left lines.old lines.new }
     ensures cause { HasReadCause (S.faults (source_of lines.old)) (S.faults (source_of lines.new)) result }
 {
@@ -47,11 +52,18 @@ fn read_onto<S: Source>(
     lines: &mut Lines<'_, S>,
     mut list: List<HeapLine>,
 ) -> Result<HeapText, ReportFault>
+    // what is known before
     requires { list ≡ [] }
-    ensures same_source { IsSameSource lines.old lines.new }
+
+    // what is read
     ensures read { IfOk result (λ heap. Reads S.left lines.old lines.new heap) }
+
+    // why it is refused, and where
     ensures refused { IfErr result (λ fault. IsOfReport fault → Refuses S.left lines.old fault) }
-    ensures broken_off { IsErrOf result ReadFault → BreaksOff S.left lines.old lines.new }
+    ensures broken_off { IsErrOf result ReadFault → BreaksInHeap S.left lines.old lines.new }
+
+    // where the lines then stand, and what the source did
+    ensures same_source { IsSameSource lines.old lines.new }
     ensures stands { StandsInLine S.left lines.old lines.new }
     ensures cause { HasReadCause (S.faults (source_of lines.old)) (S.faults (source_of lines.new)) result }
 {
@@ -75,11 +87,16 @@ fn read_onto<S: Source>(
 
 // What the first line says.
 fn read_top<S: Source>(lines: &mut Lines<'_, S>) -> Result<Top, ReportFault>
-    ensures same_source { IsSameSource lines.old lines.new }
+    // what is read
     ensures top { IfOk result (λ top. IsTop top.twice top.sums) }
     ensures taken { IfOk result (λ top. TakesOne S.left lines.old lines.new (top_line top.twice top.sums)) }
+
+    // why it is refused, and where
     ensures refused { IfErr result (λ fault. IsOfReport fault → Offends S.left lines.old IsTopLine fault) }
     ensures broken_off { IsErrOf result ReadFault → BreaksInLine S.left lines.old lines.new }
+
+    // where the lines then stand, and what the source did
+    ensures same_source { IsSameSource lines.old lines.new }
     ensures number { number_of lines.new ≡ next_number (number_of lines.old) }
     ensures stands { StandsInLine S.left lines.old lines.new }
     ensures cause { HasReadCause (S.faults (source_of lines.old)) (S.faults (source_of lines.new)) result }
@@ -98,12 +115,19 @@ fn next_line<S: Source>(
     lines: &mut Lines<'_, S>,
     past: &Past,
 ) -> Result<Option<HeapLine>, ReportFault>
+    // what is known before
     requires { AreLow past.now.sums }
-    ensures same_source { IsSameSource lines.old lines.new }
+
+    // what is read
     ensures allowed { IfOk result (λ found. MatchOption found (Unit {0}) (λ line. Allows past.now line)) }
     ensures taken { IfOk result (λ found. MatchOption found (IsEnded S.left lines.old lines.new) (λ line. TakesOne S.left lines.old lines.new (heap_line line))) }
+
+    // why it is refused, and where
     ensures refused { IfErr result (λ fault. IsOfReport fault → OffendsBehind S.left lines.old (IsLineThat (Allows past.now)) fault) }
     ensures broken_off { IsErrOf result ReadFault → BreaksInLine S.left lines.old lines.new }
+
+    // where the lines then stand, and what the source did
+    ensures same_source { IsSameSource lines.old lines.new }
     ensures number { number_of lines.new ≡ next_number (number_of lines.old) }
     ensures stands { StandsInLine S.left lines.old lines.new }
     ensures cause { HasReadCause (S.faults (source_of lines.old)) (S.faults (source_of lines.new)) result }
@@ -119,11 +143,16 @@ fn next_line<S: Source>(
 
 // Reads a whole line, and answers whether the input did not end before it.
 fn read_line<S: Source>(lines: &mut Lines<'_, S>) -> Result<bool, ReportFault>
-    ensures same_source { IsSameSource lines.old lines.new }
+    // what is read
     ensures line { IfOk result (λ is. MatchBool is (Takes S.left lines.old lines.new (the_line lines.new ++ 10 ∷ [])) (IsEnded S.left lines.old lines.new)) }
     ensures is_line { IfOk result (λ is. MatchBool is (IsLine (the_line lines.new)) (Unit {0})) }
+
+    // why it is refused, and where
     ensures refused { IfErr result (λ fault. IsOfReport fault → StopsShort S.left lines.old fault) }
     ensures broken_off { IsErrOf result ReadFault → BreaksInLine S.left lines.old lines.new }
+
+    // where the lines then stand, and what the source did
+    ensures same_source { IsSameSource lines.old lines.new }
     ensures number { number_of lines.new ≡ next_number (number_of lines.old) }
     ensures stands { StandsInLine S.left lines.old lines.new }
     ensures cause { HasReadCause (S.faults (source_of lines.old)) (S.faults (source_of lines.new)) result }

@@ -8,5 +8,4 @@ pub mod Finding
 pub mod Filling
 pub mod Placing
 pub mod Sampling
-pub mod SlotSizes
 pub mod Again

@@ -1,4 +1,4 @@
-mod Named
+pub mod Named
 mod Numbered
 mod Listing
 mod Counted

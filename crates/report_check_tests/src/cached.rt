@@ -1,18 +1,11 @@
 //! A table of traces and reports as text, for rule 2 in a trace whose processors have page caches.
 
-ghost use Rattle.std.specs.Prelude.{IfOk};
-ghost use Rattle.cycle_history.specs.Before.{IsLimited};
-
 use crate::beside::agree;
-use cycle_history::Report;
-use edge_io::{Lines, List, MemorySource};
+use crate::text::{Heading, report_of, trace_of};
 use report_check::{CheckFault, check};
-use report_text::read_report;
-use std::alloc::Global;
 use std::process::Abort;
 use std::test::Fail;
 use std::thread::Threads;
-use trace_reader::{Trace, read_trace};
 
 /// The lines of a trace of one chunk; its version, its processors and its goal; the lines of a report's journal,
 /// behind one answer; and the first line that breaks rule 2. Rule 1 is met.
@@ -23,30 +16,6 @@ const ONE: &str = "a 0 24 s 1\n";
 
 /// The same before a mark end.
 const TWO_CYCLES: &str = "a 0 24 s 1\ngc 1\n";
-
-fn trace_of(alloc: Global, header: (u32, u32, u32), lines: &str) -> Result<Trace, Fail>
-    ensures { IfOk result IsLimited }
-{
-    let (version, procs, goal) = header;
-    let text = format!(in alloc;
-        "goheap {version}\nheap 1 procs {procs} rate 0 seed 1 goal {goal}\n{lines}end\n"
-    )?;
-    let bytes = List::from_vec(text.as_bytes().to_vec(alloc)?);
-    let mut source = MemorySource::new(bytes, List::new(alloc));
-    let mut lines = Lines::new(&mut source, 67_108_864);
-    Ok(read_trace(alloc, &mut lines)?)
-}
-
-fn report_of(alloc: Global, journal: &str) -> Result<Report, Fail> {
-    let text = format!(in alloc; "o 0 0xc000000000\n{journal}end\n")?;
-    let bytes = List::from_vec(text.as_bytes().to_vec(alloc)?);
-    let mut source = MemorySource::new(bytes, List::new(alloc));
-    let mut lines = Lines::new(&mut source, 67_108_864);
-    match read_report(alloc, &mut lines) {
-        Ok(report) => Ok(report),
-        Err(_) => Err("no report".into()),
-    }
-}
 
 // The line that breaks rule 2, where it is the first rule that the report breaks.
 fn line_of_rule_2(found: &Result<(), CheckFault>) -> Result<Option<u64>, Fail> {
@@ -64,10 +33,17 @@ fn judge<R: Abort + AllocGlobal + Threads + Sync>(
     number: usize,
     row: &CachedRow,
 ) -> Result<(), Fail> {
-    let (lines, header, journal, broken) = *row;
+    let (lines, (version, procs, goal), journal, broken) = *row;
     let alloc = rt.alloc();
-    let trace = trace_of(alloc, header, lines)?;
-    let report = report_of(alloc, journal)?;
+    let heading = Heading {
+        version,
+        procs,
+        rate: 0,
+        goal,
+    };
+    let trace = trace_of(alloc, heading, lines)?;
+    let printed = format!(in alloc; "o 0 0xc000000000\n{journal}")?;
+    let report = report_of(alloc, &printed)?;
     let found = line_of_rule_2(&check(alloc, &trace, &report))?;
     assert_eq!(rt; found, broken, "row {number}: {journal}");
     agree(rt, &trace, &report)

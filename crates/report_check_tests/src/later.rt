@@ -1,46 +1,18 @@
 //! A table of traces and reports as text, for all rules, where nothing is sampled.
 
-ghost use Rattle.std.specs.Prelude.{IfOk};
-ghost use Rattle.cycle_history.specs.Before.{IsLimited};
-
 use crate::beside::agree;
 use crate::profile::{self, Bucket, ProfileRow};
+use crate::text::{Heading, PLAIN, report_of, trace_of};
 use cycle_history::{Prof, Report};
-use edge_io::{Lines, List, MemorySource};
 use report_check::{CheckFault, check};
-use report_text::read_report;
 use std::alloc::Global;
 use std::process::Abort;
 use std::test::Fail;
 use std::thread::Threads;
-use trace_reader::{Trace, read_trace};
 
 /// The lines of a trace of one processor and one chunk, a report of it without its last line, and the rule and the line
 /// that it breaks first.
 type Row = (&'static str, &'static str, Option<(u8, u64)>);
-
-fn trace_of(alloc: Global, rate: u32, lines: &str) -> Result<Trace, Fail>
-    ensures { IfOk result IsLimited }
-{
-    let text = format!(in alloc;
-        "goheap 1\nheap 1 procs 1 rate {rate} seed 1 goal 512\n{lines}end\n"
-    )?;
-    let bytes = List::from_vec(text.as_bytes().to_vec(alloc)?);
-    let mut source = MemorySource::new(bytes, List::new(alloc));
-    let mut lines = Lines::new(&mut source, 67_108_864);
-    Ok(read_trace(alloc, &mut lines)?)
-}
-
-fn report_of(alloc: Global, lines: &str) -> Result<Report, Fail> {
-    let text = format!(in alloc; "{lines}end\n")?;
-    let bytes = List::from_vec(text.as_bytes().to_vec(alloc)?);
-    let mut source = MemorySource::new(bytes, List::new(alloc));
-    let mut lines = Lines::new(&mut source, 67_108_864);
-    match read_report(alloc, &mut lines) {
-        Ok(report) => Ok(report),
-        Err(_) => Err("no report".into()),
-    }
-}
 
 // A report with these lines of its profile.
 fn report_with(alloc: Global, lines: &str, profile: &[Bucket]) -> Result<Report, Fail> {
@@ -65,7 +37,7 @@ fn judge<R: Abort + AllocGlobal + Threads + Sync>(
 ) -> Result<(), Fail> {
     let (lines, printed, buckets, broken) = *row;
     let alloc = rt.alloc();
-    let trace = trace_of(alloc, rate, lines)?;
+    let trace = trace_of(alloc, Heading { rate, ..PLAIN }, lines)?;
     let report = report_with(alloc, printed, buckets)?;
     let found = match check(alloc, &trace, &report) {
         Ok(()) => None,

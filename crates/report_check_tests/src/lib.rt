@@ -3,7 +3,7 @@
 //! `tests` tries the rules 1 to 4 alone, over the tables of `answers`, `journal`, `misses` and `places`; `totals` tries rule 8
 //! alone; and `later` all nine rules, over its own table, where nothing is sampled, and that of `profile`, where all is.
 //! `beside` tries each of these reports by the judge in pieces too. `cached` tries rule 2 where
-//! processors have page caches, over its own table.
+//! processors have page caches, over its own table. `text` reads the traces and reports of all tables.
 #![tactic(auto)]
 
 #[cfg(test)]
@@ -24,5 +24,7 @@ mod places;
 mod profile;
 #[cfg(test)]
 mod tests;
+#[cfg(test)]
+mod text;
 #[cfg(test)]
 mod totals;

@@ -12,7 +12,7 @@ use Rattle.cycle_history.specs.Text.{answer_text, journal_text}
 use Rattle.report_text.specs.declared.item.Item.TheVariants.{Object, Journal, Sweep, Class, Bucket}
 use Rattle.report_text.specs.Items.{Says}
 use Rattle.report_text.specs.Unique.{AnswerFits, LineFits}
-use Rattle.report_text.specs.Words.{IsBlock, IsCutOut, IsHead, IsLast, IsMissed, IsNoCacheChange, IsNoPlainChange, IsRun, IsTaken}
+use Rattle.report_text.specs.Words.{IsBlock, IsCutOut, IsHead, IsLast, IsMissed, IsNoCacheChange, IsNoPlainChange, IsRunOfPages, IsTaken}
 use Rattle.report_text.proofs.Fields.{same_behind}
 use Rattle.report_text.proofs.Numbers.{Within, one_head}
 
@@ -133,10 +133,10 @@ pub missed_class : (bytes r0 r1 : List ℕ) (a : ℕ) → bytes ≡ codes "miss 
 missed_class bytes r0 r1 a front h1 none pages class missed =
     none class (record { spelled = behind_short a pages (codes "miss ") bytes r0 r1 _ front h1 missed.spelled missed.pages_fit; small = missed.class_fits })
 
-pub run_page : (word bytes r0 : List ℕ) → bytes ≡ word ++ r0 → NoHead (2 ^ 32) r0 → (page pages : ℕ) → ¬ IsRun word bytes page pages
+pub run_page : (word bytes r0 : List ℕ) → bytes ≡ word ++ r0 → NoHead (2 ^ 32) r0 → (page pages : ℕ) → ¬ IsRunOfPages word bytes page pages
 run_page word bytes r0 front none page pages run = none page _ (record { spelled = same_behind word r0 _ (sym front ∙ run.spelled); small = run.page_fits })
 
-pub run_pages : (word bytes r0 r1 : List ℕ) (a : ℕ) → bytes ≡ word ++ r0 → IsHead (2 ^ 32) r0 a r1 → NoLast (2 ^ 32) r1 → (page pages : ℕ) → ¬ IsRun word bytes page pages
+pub run_pages : (word bytes r0 r1 : List ℕ) (a : ℕ) → bytes ≡ word ++ r0 → IsHead (2 ^ 32) r0 a r1 → NoLast (2 ^ 32) r1 → (page pages : ℕ) → ¬ IsRunOfPages word bytes page pages
 run_pages word bytes r0 r1 a front h1 none page pages run =
     none pages (record { spelled = behind_short a page word bytes r0 r1 _ front h1 run.spelled run.page_fits; small = run.pages_fit })
 

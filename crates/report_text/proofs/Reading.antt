@@ -22,7 +22,7 @@ use Rattle.report_text.specs.declared.fault.ReportFault.TheVariants.{Malformed}
 use Rattle.report_text.specs.Items.{AreInTurn, MayFollow, Says, last_of, line_for}
 use Rattle.report_text.specs.Gathered.{with_item}
 use Rattle.report_text.specs.Refusal.{IsOffence, number_behind, told}
-use Rattle.report_text.specs.Read.{BreaksOff, Offends, Reads, Refuses, TakesItem}
+use Rattle.report_text.specs.Read.{BreaksInReport, Offends, Reads, Refuses, TakesItem}
 use Rattle.report_text.proofs.OneSaid.{one_said}
 use Rattle.report_text.proofs.Turns.{body, rank_of, told_text}
 use Rattle.report_text.proofs.Stage.{Stage, body_more}
@@ -165,7 +165,7 @@ stands_on left a b c xs read stands =
     )
 
 -- a read that failed behind the lines so far
-pub broken_on : {S : Type 0} (left : S → Option (List ℕ)) (a b c : Lines S) (xs : List Item) → HasRead left a b xs → AreInTurn None xs → BreaksInLine left b c → number_of c ≡ next_number (number_of b) → BreaksOff left a c
+pub broken_on : {S : Type 0} (left : S → Option (List ℕ)) (a b c : Lines S) (xs : List Item) → HasRead left a b xs → AreInTurn None xs → BreaksInLine left b c → number_of c ≡ next_number (number_of b) → BreaksInReport left a c
 broken_on left a b c xs read turn breaks next =
     let number = read.number in
     let room = read.taken.room in

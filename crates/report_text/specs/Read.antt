@@ -77,7 +77,7 @@ IsAtLine number NoMemory = Unit {0}
 
 -- A read failed behind lines in turn and a front of the next line, whose number the lines have, and all that the source
 -- gave was read.
-pub record BreaksOff {S : Type 0} (left : S → Option (List ℕ)) (old new : Lines S) : Type 0 where
+pub record BreaksInReport {S : Type 0} (left : S → Option (List ℕ)) (old new : Lines S) : Type 0 where
   pub items : List Item
   pub front : List ℕ
   pub taken : Consumes (lines_left left old) (lines_left left new) (told items ++ front)

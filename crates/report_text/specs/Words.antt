@@ -31,7 +31,7 @@ pub record IsMissed (bytes : List ℕ) (pages class : ℕ) : Type 0 where
   pub class_fits : class < 2 ^ 8
 
 -- What stands behind the cycle of a line with this word and a run of pages.
-pub record IsRun (word bytes : List ℕ) (page pages : ℕ) : Type 0 where
+pub record IsRunOfPages (word bytes : List ℕ) (page pages : ℕ) : Type 0 where
   pub spelled : bytes ≡ word ++ (decimal page ++ 32 ∷ (decimal pages ++ []))
   pub page_fits : page < 2 ^ 32
   pub pages_fit : pages < 2 ^ 32
@@ -54,9 +54,9 @@ pub record IsBlock (word bytes : List ℕ) (proc page pages : ℕ) : Type 0 wher
 -- Behind the cycle stands no line of spans, of a miss or of scavenged pages.
 pub record IsNoPlainChange (bytes : List ℕ) : Type 0 where
   pub take : (page pages class : ℕ) → ¬ IsTaken bytes page pages class
-  pub give : (page pages : ℕ) → ¬ IsRun (codes "give ") bytes page pages
+  pub give : (page pages : ℕ) → ¬ IsRunOfPages (codes "give ") bytes page pages
   pub miss : (pages class : ℕ) → ¬ IsMissed bytes pages class
-  pub scav : (page pages : ℕ) → ¬ IsRun (codes "scav ") bytes page pages
+  pub scav : (page pages : ℕ) → ¬ IsRunOfPages (codes "scav ") bytes page pages
 
 -- Behind the cycle stands no line of a page cache.
 pub record IsNoCacheChange (bytes : List ℕ) : Type 0 where

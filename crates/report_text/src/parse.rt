@@ -11,7 +11,7 @@ ghost use Rattle.report_text.specs.declared.item.Item.{Item as Said};
 ghost use Rattle.report_text.specs.declared.item.Item.TheVariants.{Bucket, Class, Journal, Object, Sweep};
 ghost use Rattle.report_text.specs.Items.{Says};
 ghost use Rattle.report_text.specs.Unique.{AnswerFits, LineFits};
-ghost use Rattle.report_text.specs.Words.{IsBlock, IsCutOut, IsMissed, IsNoCacheChange, IsNoPlainChange, IsRun, IsTaken};
+ghost use Rattle.report_text.specs.Words.{IsBlock, IsCutOut, IsMissed, IsNoCacheChange, IsNoPlainChange, IsRunOfPages, IsTaken};
 
 use crate::item::Item;
 use crate::words::{address, byte_head, byte_last, head, last, short_head, short_last};
@@ -177,8 +177,8 @@ fn missed(bytes: &[u8]) -> Option<(u32, u8)>
 // The pages behind the word.
 fn run(bytes: &[u8], word: &[u8]) -> Option<(u32, u32)>
     ensures { MatchOption result
-        ((page : ℕ) (pages : ℕ) → ¬ IsRun word.now bytes.now page pages)
-        (λ found. IsRun word.now bytes.now found.0 found.1) }
+        ((page : ℕ) (pages : ℕ) → ¬ IsRunOfPages word.now bytes.now page pages)
+        (λ found. IsRunOfPages word.now bytes.now found.0 found.1) }
 {
     let (page, rest) = short_head(after(bytes, word)?)?;
     Some((page, short_last(rest)?))

@@ -10,7 +10,7 @@ ghost use Rattle.cycle_history.specs.declared.Report.{Report as AReport};
 ghost use Rattle.report_text.specs.declared.fault.ReportFault.TheVariants.{ReadFault};
 ghost use Rattle.report_text.specs.declared.item.Item.TheVariants.{End};
 ghost use Rattle.report_text.specs.Gathered.{IsEmpty, with_item};
-ghost use Rattle.report_text.specs.Read.{BreaksOff, HasReadCause, IsAhead, IsAtLine, IsOfReport, Reads, Refuses, TakesItem, TellsOffence};
+ghost use Rattle.report_text.specs.Read.{BreaksInReport, HasReadCause, IsAhead, IsAtLine, IsOfReport, Reads, Refuses, TakesItem, TellsOffence};
 
 use crate::fault::ReportFault;
 use crate::item::Item;
@@ -27,13 +27,18 @@ pub fn read_report<S: Source>(
     alloc: Global,
     lines: &mut Lines<'_, S>,
 ) -> Result<Report, ReportFault>
-    ensures same_source { IsSameSource lines.old lines.new }
+    // what is read
     ensures read { IfOk result (λ report. Reads S.left lines.old lines.new report) }
+
+    // why it is refused, and where
     ensures refused { IfErr result (λ fault. IsOfReport fault → Refuses S.left lines.old fault) }
     ensures complete { (report : AReport) → IsAhead S.left lines.old report
         → MatchResult result (λ read. read ≡ report) (λ fault. IsOfReport fault → ⊥) }
     ensures at_line { IfErr result (IsAtLine (number_of lines.new)) }
-    ensures broken_off { IsErrOf result ReadFault → BreaksOff S.left lines.old lines.new }
+    ensures broken_off { IsErrOf result ReadFault → BreaksInReport S.left lines.old lines.new }
+
+    // where the lines then stand, and what the source did
+    ensures same_source { IsSameSource lines.old lines.new }
     ensures stands { StandsInLine S.left lines.old lines.new }
     ensures cause { HasReadCause (S.faults (source_of lines.old)) (S.faults (source_of lines.new)) result }
 {
@@ -43,12 +48,19 @@ pub fn read_report<S: Source>(
 
 // Reads the lines of a report onto an empty one.
 fn read_onto<S: Source>(lines: &mut Lines<'_, S>, mut report: Report) -> Result<Report, ReportFault>
+    // what is known before
     requires { IsEmpty report }
-    ensures same_source { IsSameSource lines.old lines.new }
+
+    // what is read
     ensures read { IfOk result (λ report. Reads S.left lines.old lines.new report) }
+
+    // why it is refused, and where
     ensures refused { IfErr result (λ fault. IsOfReport fault → Refuses S.left lines.old fault) }
     ensures at_line { IfErr result (IsAtLine (number_of lines.new)) }
-    ensures broken_off { IsErrOf result ReadFault → BreaksOff S.left lines.old lines.new }
+    ensures broken_off { IsErrOf result ReadFault → BreaksInReport S.left lines.old lines.new }
+
+    // where the lines then stand, and what the source did
+    ensures same_source { IsSameSource lines.old lines.new }
     ensures stands { StandsInLine S.left lines.old lines.new }
     ensures cause { HasReadCause (S.faults (source_of lines.old)) (S.faults (source_of lines.new)) result }
 {
@@ -66,12 +78,19 @@ fn read_onto<S: Source>(lines: &mut Lines<'_, S>, mut report: Report) -> Result<
 
 // What the next line says, behind one that says `before` and is not the last.
 fn next_item<S: Source>(lines: &mut Lines<'_, S>, before: Option<Item>) -> Result<Item, ReportFault>
+    // what is known before
     requires { before ≢ Some End }
-    ensures same_source { IsSameSource lines.old lines.new }
+
+    // what is read
     ensures told { IfOk result (λ item. TakesItem S.left lines.old lines.new before item) }
+
+    // why it is refused, and where
     ensures refused { TellsOffence S.left lines.old before result }
     ensures at_line { IfErr result (IsAtLine (number_of lines.new)) }
     ensures broken_off { IsErrOf result ReadFault → BreaksInLine S.left lines.old lines.new }
+
+    // where the lines then stand, and what the source did
+    ensures same_source { IsSameSource lines.old lines.new }
     ensures number { number_of lines.new ≡ next_number (number_of lines.old) }
     ensures stands { StandsInLine S.left lines.old lines.new }
     ensures cause { HasReadCause (S.faults (source_of lines.old)) (S.faults (source_of lines.new)) result }
@@ -112,14 +131,21 @@ fn put(report: &mut Report, item: Item) -> Result<(), NoMemory>
 
 // Reads a whole line, behind one that says `before` and is not the last.
 fn read_line<S: Source>(lines: &mut Lines<'_, S>, before: Option<Item>) -> Result<(), ReportFault>
+    // what is known before
     requires { before ≢ Some End }
-    ensures same_source { IsSameSource lines.old lines.new }
+
+    // what is read
     ensures line { OnOk result (Takes S.left lines.old lines.new (line_of lines.new ++ 10 ∷ [])) }
     ensures is_line { OnOk result (IsLine (line_of lines.new)) }
-    ensures number { number_of lines.new ≡ next_number (number_of lines.old) }
+
+    // why it is refused, and where
     ensures refused { TellsOffence S.left lines.old before result }
     ensures at_line { IfErr result (IsAtLine (number_of lines.new)) }
     ensures broken_off { IsErrOf result ReadFault → BreaksInLine S.left lines.old lines.new }
+
+    // where the lines then stand, and what the source did
+    ensures same_source { IsSameSource lines.old lines.new }
+    ensures number { number_of lines.new ≡ next_number (number_of lines.old) }
     ensures stands { StandsInLine S.left lines.old lines.new }
     ensures cause { HasReadCause (S.faults (source_of lines.old)) (S.faults (source_of lines.new)) result }
 {
@@ -136,11 +162,16 @@ fn read_line<S: Source>(lines: &mut Lines<'_, S>, before: Option<Item>) -> Resul
 
 // Wants that nothing is left behind the last line.
 fn expect_end<S: Source>(lines: &mut Lines<'_, S>) -> Result<(), ReportFault>
-    ensures same_source { IsSameSource lines.old lines.new }
+    // what is read
     ensures ended { OnOk result (IsEnded S.left lines.old lines.new) }
+
+    // why it is refused, and where
     ensures refused { TellsOffence S.left lines.old (Some End) result }
     ensures at_line { IfErr result (IsAtLine (number_of lines.new)) }
     ensures broken_off { IsErrOf result ReadFault → BreaksInLine S.left lines.old lines.new }
+
+    // where the lines then stand, and what the source did
+    ensures same_source { IsSameSource lines.old lines.new }
     ensures number { number_of lines.new ≡ next_number (number_of lines.old) }
     ensures stands { StandsInLine S.left lines.old lines.new }
     ensures cause { HasReadCause (S.faults (source_of lines.old)) (S.faults (source_of lines.new)) result }

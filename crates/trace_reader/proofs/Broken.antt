@@ -10,18 +10,19 @@ use Rattle.trace_reader.specs.Limits.{Spells}
 use Rattle.trace_reader.specs.Spelling.{statements_of}
 use Rattle.trace_reader.specs.Refusal.{lines_fault, next_number, pieces_of}
 use Rattle.trace_reader.specs.Taken.{TakesLines}
-use Rattle.trace_reader.specs.Told.{BreaksInLine, BreaksOff as BreaksLines}
-use Rattle.trace_reader.specs.BrokenOff.{BreaksOff}
+use Rattle.trace_reader.specs.Told.{BreaksInLine, BreaksInTrace}
+use Rattle.trace_reader.specs.BrokenOff.{BreaksOff, EndsEarly}
 
 -- in a line of the trace
-pub broken_in_trace : {S : Type 0} (left : S → Option (List ℕ)) (a b : Lines S) → number_of a ≡ 0 → room_of a ≡ 67108864 → BreaksLines left a b [] → BreaksOff (lines_left left a) (left (source_of b))
-broken_in_trace left a b number room off = record {
+pub broken_in_trace : {S : Type 0} (behind : List ℕ → Type 0) (left : S → Option (List ℕ)) (a b : Lines S) → number_of a ≡ 0 → room_of a ≡ 67108864 → BreaksInTrace left a b []
+    → EndsEarly behind (lines_left left a) (left (source_of b))
+broken_in_trace behind left a b number room off = record {
   bytes = off.bytes;
   taken = subst (λ (o : Option (List ℕ)). Consumes (lines_left left a) o off.bytes) off.all_used off.taken;
   unended = inl (
     number_of b,
-    λ behind. subst (λ (k : ℕ). lines_fault behind (next_number 0) k [] (pieces_of off.bytes) ≡ Some (Truncated (number_of b))) room
-        (subst (λ (k : ℕ). lines_fault behind (next_number k) (room_of a) [] (pieces_of off.bytes) ≡ Some (Truncated (number_of b))) number (off.ends_early behind)),
+    λ more. subst (λ (k : ℕ). lines_fault more (next_number 0) k [] (pieces_of off.bytes) ≡ Some (Truncated (number_of b))) room
+        (subst (λ (k : ℕ). lines_fault more (next_number k) (room_of a) [] (pieces_of off.bytes) ≡ Some (Truncated (number_of b))) number (off.ends_early more)),
   );
 }
 

@@ -23,7 +23,7 @@ use Rattle.trace_reader.specs.Checks.{bad_mark, counts_within, may_follow, numbe
 use Rattle.trace_reader.specs.Refusal.{fault_if, feed, first_of, lines_fault, next_number, nothing_behind, pieces_of, said_fault}
 use Rattle.trace_reader.specs.Good.{AreGood}
 use Rattle.trace_reader.specs.Taken.{IsFrontOfLine, StandsInLine, Takes, TakesLines}
-use Rattle.trace_reader.specs.Told.{BreaksOff, IsAtLine, IsFaultBehind, IsFirstFault, IsOfTrace, TellsFault, TellsFirstFault}
+use Rattle.trace_reader.specs.Told.{BreaksInTrace, IsAtLine, IsFaultAhead, IsFirstFault, IsOfTrace, TellsFault, TellsFirstFault}
 use Rattle.trace_reader.proofs.Saying.{Says-said}
 use Rattle.trace_reader.proofs.Judging.{feed_pieces, lines_cut, lines_go, lines_long, lines_over, lines_stop, onto}
 
@@ -109,7 +109,7 @@ pub tells_memory : {S : Type 0} (left : S → Option (List ℕ)) (a b : Lines S)
 tells_memory left a b past = record { first = λ of. absurd of; at_line = tt; read_fault = λ e. absurd cc }
 
 -- a read fault in the line behind these
-breaks_in_line : {S : Type 0} (left : S → Option (List ℕ)) (a b : Lines S) (past : List Statement) → StopsInLine left a b → number_of b ≡ next_number (number_of a) → lines_left left b ≡ left (source_of b) → BreaksOff left a b past
+breaks_in_line : {S : Type 0} (left : S → Option (List ℕ)) (a b : Lines S) (past : List Statement) → StopsInLine left a b → number_of b ≡ next_number (number_of a) → lines_left left b ≡ left (source_of b) → BreaksInTrace left a b past
 breaks_in_line left a b past stops number used =
     let room = stops.room in
     record {
@@ -123,7 +123,7 @@ pub tells_read : {S : Type 0} (left : S → Option (List ℕ)) (a b : Lines S) (
 tells_read left a b past stops number used = record { first = λ of. absurd of; at_line = tt; read_fault = λ _. breaks_in_line left a b past stops number used }
 
 -- good lines come before a read fault
-breaks_behind : {S : Type 0} (left : S → Option (List ℕ)) (a b c : Lines S) (past ss : List Statement) → TakesLines left a b ss → AreGood past ss → BreaksOff left b c (onto ss past) → BreaksOff left a c past
+breaks_behind : {S : Type 0} (left : S → Option (List ℕ)) (a b c : Lines S) (past ss : List Statement) → TakesLines left a b ss → AreGood past ss → BreaksInTrace left b c (onto ss past) → BreaksInTrace left a c past
 breaks_behind left a b c past ss takes good off =
     let room = takes.bytes.room in
     let number = takes.number in
@@ -343,7 +343,7 @@ some_shown Long bytes line rest room shows other e = not_nil line rest shows.3.0
 some_shown Over bytes line rest room shows other e = not_nil line rest shows.2.0 (sym (append_one line rest shows.2.0) ∙ ap (λ (x : List ℕ). x ++ rest) (sym shows.2.1) ∙ e)
 some_shown Finished bytes line rest room shows other e = other refl
 
-pub fault_behind : {S : Type 0} (left : S → Option (List ℕ)) (a b : Lines S) (seen : Seen) (number : ℕ) → Shown left a b seen → (seen ≡ Finished → ⊥) → number ≡ next_number (number_of a) → IsFaultBehind left a (Malformed number)
+pub fault_behind : {S : Type 0} (left : S → Option (List ℕ)) (a b : Lines S) (seen : Seen) (number : ℕ) → Shown left a b seen → (seen ≡ Finished → ⊥) → number ≡ next_number (number_of a) → IsFaultAhead left a (Malformed number)
 fault_behind left a b seen number shown other counted = λ bytes e.
     let known = known_rest (lines_left left a) (lines_left left b) shown.0 bytes shown.1 e in
     let some : bytes ≡ [] → ⊥ = λ (none : bytes ≡ []). some_shown seen shown.0 (line_of b) known.0 (room_of a) shown.2 other (sym known.2 ∙ none) in

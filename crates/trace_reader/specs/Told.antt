@@ -40,7 +40,7 @@ IsAtLine number NoMemory = Unit {0}
 
 -- A read failed. The bytes before it are faulty only in that they end there, in the line whose number the lines have, if
 -- the lines before said `past`; and all that the source gave was read.
-pub record BreaksOff {S : Type 0} (left : S → Option (List ℕ)) (old new : Lines S) (past : List Statement) : Type 0 where
+pub record BreaksInTrace {S : Type 0} (left : S → Option (List ℕ)) (old new : Lines S) (past : List Statement) : Type 0 where
   pub bytes : List ℕ
   pub taken : Consumes (lines_left left old) (lines_left left new) bytes
   pub ends_early : (behind : ℕ → List (List ℕ) → Option TraceFault)
@@ -52,14 +52,14 @@ pub record BreaksOff {S : Type 0} (left : S → Option (List ℕ)) (old new : Li
 pub record TellsFault {S : Type 0} (left : S → Option (List ℕ)) (old new : Lines S) (past : List Statement) (fault : TraceFault) : Type 0 where
   pub first : IsOfTrace fault → IsFirstFault left old past fault
   pub at_line : IsAtLine (number_of new) fault
-  pub read_fault : fault ≡ ReadFault → BreaksOff left old new past
+  pub read_fault : fault ≡ ReadFault → BreaksInTrace left old new past
 
 abbrev pub TellsFirstFault : {S T : Type 0} → (S → Option (List ℕ)) → Lines S → Lines S → List Statement → Result T TraceFault → Type 0
 TellsFirstFault left old new past result = IfErr result (λ fault. TellsFault left old new past fault)
 
 -- where the source tells its bytes, this is the fault of what the lines have before them, behind a trace
-abbrev pub IsFaultBehind : {S : Type 0} → (S → Option (List ℕ)) → Lines S → TraceFault → Type 0
-IsFaultBehind left lines fault = (bytes : List ℕ) → lines_left left lines ≡ Some bytes → nothing_behind (next_number (number_of lines)) (pieces_of bytes) ≡ Some fault
+abbrev pub IsFaultAhead : {S : Type 0} → (S → Option (List ℕ)) → Lines S → TraceFault → Type 0
+IsFaultAhead left lines fault = (bytes : List ℕ) → lines_left left lines ≡ Some bytes → nothing_behind (next_number (number_of lines)) (pieces_of bytes) ≡ Some fault
 
 -- a read failed before the byte or the end of the input that ends the line, and all that the source gave was read
 pub record BreaksInLine {S : Type 0} (left : S → Option (List ℕ)) (old new : Lines S) : Type 0 where

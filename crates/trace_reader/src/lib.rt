@@ -23,4 +23,4 @@ pub use limits::{FIRST_MAX_CHUNKS, FIRST_MAX_PAGES};
 pub use reader::{expect_end, read_trace};
 pub use span::Span;
 pub use trace::{Cycle, Event, Header, MarkEnd, Trace};
-pub use whole::read_whole;
+pub use whole::{TRACE_BYTES, read_whole};

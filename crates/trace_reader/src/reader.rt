@@ -15,7 +15,7 @@ ghost use Rattle.trace_reader.specs.Good.{AreGood};
 ghost use Rattle.trace_reader.specs.Draft.{AreEnded};
 ghost use Rattle.trace_reader.specs.Follows.{IsStart};
 ghost use Rattle.trace_reader.specs.Taken.{IsEnded, StandsInLine, Takes, TakesLines};
-ghost use Rattle.trace_reader.specs.Told.{BreaksInLine, HasReadCause, IsFaultBehind, IsOfTrace, TellsFirstFault};
+ghost use Rattle.trace_reader.specs.Told.{BreaksInLine, HasReadCause, IsFaultAhead, IsOfTrace, TellsFirstFault};
 ghost use Rattle.trace_reader.specs.Read.{IsAhead, Reads};
 
 use crate::draft::Draft;
@@ -31,12 +31,17 @@ use std::alloc::Global;
 /// where the source's count rose, and only behind lines that nothing is wrong with, before the byte or the end of the
 /// input that ends the next one. Lines that have seen the end of the input before end early, and nothing is read.
 pub fn read_trace<S: Source>(alloc: Global, lines: &mut Lines<'_, S>) -> Result<Trace, TraceFault>
-    ensures same_source { IsSameSource lines.old lines.new }
+    // what is read
     ensures spelled { IfOk result (λ trace. Reads S.left lines.old lines.new trace) }
     ensures lines { IfOk result (λ trace. TakesLines S.left lines.old lines.new (statements_of trace)) }
+
+    // why it is refused, and where
     ensures refused { TellsFirstFault S.left lines.old lines.new [] result }
     ensures complete { (trace : ATrace) → IsAhead S.left lines.old trace
         → MatchResult result (λ read. read ≡ trace) (λ fault. IsOfTrace fault → ⊥) }
+
+    // where the lines then stand, and what the source did
+    ensures same_source { IsSameSource lines.old lines.new }
     ensures dry { is_dry lines.old ≡ true → IsErrOf result (Truncated (next_number (number_of lines.old))) × (source_of lines.new ≡ source_of lines.old) }
     ensures stands { StandsInLine S.left lines.old lines.new }
     ensures cause { HasReadCause (S.faults (source_of lines.old)) (S.faults (source_of lines.new)) result }
@@ -52,12 +57,17 @@ pub fn read_trace<S: Source>(alloc: Global, lines: &mut Lines<'_, S>) -> Result<
 /// rose, before the byte or the end of the input that ends that line. No other fault comes. Lines that have seen the end
 /// of the input before have nothing left, and nothing is read.
 pub fn expect_end<S: Source>(lines: &mut Lines<'_, S>) -> Result<(), TraceFault>
-    ensures same_source { IsSameSource lines.old lines.new }
+    // what is read
     ensures ended { OnOk result (IsEnded S.left lines.old lines.new) }
+
+    // why it is refused, and where
     ensures only { IfErr result (λ fault. (fault ≡ ReadFault) ⊎ (fault ≡ Malformed (number_of lines.new))) }
-    ensures number { number_of lines.new ≡ next_number (number_of lines.old) }
-    ensures refused { IfErr result (λ fault. IsOfTrace fault → IsFaultBehind S.left lines.old fault) }
+    ensures refused { IfErr result (λ fault. IsOfTrace fault → IsFaultAhead S.left lines.old fault) }
     ensures read_fault { IsErrOf result ReadFault → BreaksInLine S.left lines.old lines.new }
+
+    // where the lines then stand, and what the source did
+    ensures same_source { IsSameSource lines.old lines.new }
+    ensures number { number_of lines.new ≡ next_number (number_of lines.old) }
     ensures dry { is_dry lines.old ≡ true → IsOk result × (source_of lines.new ≡ source_of lines.old) }
     ensures stands { StandsInLine S.left lines.old lines.new }
     ensures cause { HasReadCause (S.faults (source_of lines.old)) (S.faults (source_of lines.new)) result }
@@ -73,10 +83,15 @@ pub fn expect_end<S: Source>(lines: &mut Lines<'_, S>) -> Result<(), TraceFault>
 
 // Reads the first line, which says the version.
 fn read_title<S: Source>(lines: &mut Lines<'_, S>) -> Result<u8, TraceFault>
-    ensures same_source { IsSameSource lines.old lines.new }
+    // what is read
     ensures lines { IfOk result (λ version. TakesLines S.left lines.old lines.new (Title version ∷ [])) }
     ensures version { IfOk result (λ version. IsVersion version) }
+
+    // why it is refused, and where
     ensures refused { TellsFirstFault S.left lines.old lines.new [] result }
+
+    // where the lines then stand, and what the source did
+    ensures same_source { IsSameSource lines.old lines.new }
     ensures stands { StandsInLine S.left lines.old lines.new }
     ensures dry { is_dry lines.old ≡ true → IsErrOf result (Truncated (next_number (number_of lines.old))) × (source_of lines.new ≡ source_of lines.old) }
     ensures cause { HasReadCause (S.faults (source_of lines.old)) (S.faults (source_of lines.new)) result }
@@ -87,13 +102,20 @@ fn read_title<S: Source>(lines: &mut Lines<'_, S>) -> Result<u8, TraceFault>
 
 // Reads the second line, behind a first one of this version.
 fn read_header<S: Source>(lines: &mut Lines<'_, S>, version: u8) -> Result<Header, TraceFault>
+    // what is known before
     requires { IsVersion version }
+
+    // what is read
     ensures version { IfOk result (λ h. h.version ≡ version) }
-    ensures same_source { IsSameSource lines.old lines.new }
     ensures lines { IfOk result (λ h. TakesLines S.left lines.old lines.new (heap_of h ∷ [])) }
     ensures fits { IfOk result (λ h. HeaderFits h) }
     ensures region { IfOk result (λ h. RegionFits h) }
+
+    // why it is refused, and where
     ensures refused { TellsFirstFault S.left lines.old lines.new (Title version ∷ []) result }
+
+    // where the lines then stand, and what the source did
+    ensures same_source { IsSameSource lines.old lines.new }
     ensures stands { StandsInLine S.left lines.old lines.new }
     ensures cause { HasReadCause (S.faults (source_of lines.old)) (S.faults (source_of lines.new)) result }
 {
@@ -107,11 +129,16 @@ fn read_cycles<S: Source>(
     lines: &mut Lines<'_, S>,
     procs: u8,
 ) -> Result<List<Cycle>, TraceFault>
-    ensures same_source { IsSameSource lines.old lines.new }
+    // what is read
     ensures lines { IfOk result (λ cycles. TakesLines S.left lines.old lines.new (flat_map cycle_statements cycles ++ End ∷ [])) }
     ensures ended { IfOk result (λ cycles. AreEnded cycles) }
     ensures good { IfOk result (λ cycles. (past : Items Said) → IsStart past procs → AreGood past (flat_map cycle_statements cycles)) }
+
+    // why it is refused, and where
     ensures refused { (past : Items Said) → IsStart past procs → TellsFirstFault S.left lines.old lines.new past result }
+
+    // where the lines then stand, and what the source did
+    ensures same_source { IsSameSource lines.old lines.new }
     ensures stands { StandsInLine S.left lines.old lines.new }
     ensures cause { HasReadCause (S.faults (source_of lines.old)) (S.faults (source_of lines.new)) result }
 {
@@ -128,11 +155,16 @@ fn read_cycles<S: Source>(
 // Reads a whole line.
 #[inline(always)]
 fn read_line<S: Source>(lines: &mut Lines<'_, S>) -> Result<(), TraceFault>
-    ensures same_source { IsSameSource lines.old lines.new }
+    // what is read
     ensures line { OnOk result (Takes S.left lines.old lines.new (line_of lines.new ++ 10 ∷ [])) }
     ensures is_line { OnOk result (IsLine (line_of lines.new)) }
-    ensures number { number_of lines.new ≡ next_number (number_of lines.old) }
+
+    // why it is refused, and where
     ensures refused { (past : Items Said) → TellsFirstFault S.left lines.old lines.new past result }
+
+    // where the lines then stand, and what the source did
+    ensures same_source { IsSameSource lines.old lines.new }
+    ensures number { number_of lines.new ≡ next_number (number_of lines.old) }
     ensures dry { is_dry lines.old ≡ true → IsErrOf result (Truncated (next_number (number_of lines.old))) × (source_of lines.new ≡ source_of lines.old) }
     ensures stands { StandsInLine S.left lines.old lines.new }
     ensures cause { HasReadCause (S.faults (source_of lines.old)) (S.faults (source_of lines.new)) result }

@@ -17,7 +17,7 @@ use edge_io::{Lines, Source};
 use std::alloc::Global;
 
 /// The most bytes of a trace.
-const MAX_BYTES: u64 = 67_108_864;
+pub const TRACE_BYTES: u64 = 67_108_864;
 
 /// Reads a trace to the end of the input, which has at most 67,108,864 bytes. A refusal is the first fault of the trace, or
 /// that something stands behind it. [`TraceFault::ReadFault`] comes only where the source's count of faults rose, and nothing
@@ -30,22 +30,29 @@ pub fn read_whole<S: Source>(alloc: Global, input: &mut S) -> Result<Trace, Trac
     ensures complete { (bytes : List ℕ) (trace : ATrace) → S.left input.old ≡ Some bytes → Spells bytes trace
         → IfErr result (λ fault. IsOfTrace fault → ⊥) }
 {
-    let mut lines = Lines::new(input, MAX_BYTES);
+    let mut lines = Lines::new(input, TRACE_BYTES);
     read_lines(alloc, &mut lines)
 }
 
 // Reads a trace, and wants that nothing is left.
 fn read_lines<S: Source>(alloc: Global, lines: &mut Lines<'_, S>) -> Result<Trace, TraceFault>
+    // what is known before
     requires fresh { is_dry lines.old ≡ false }
-    requires room { room_of lines.old ≡ 67108864 }
+    requires room { room_of lines.old ≡ TRACE_BYTES }
     requires number { number_of lines.old ≡ 0 }
-    ensures same_source { IsSameSource lines.old lines.new }
+
+    // what is read
     ensures trace { IfOk result (λ trace. ReadsAll (lines_left S.left lines.old) (S.left (source_of lines.new)) trace) }
+
+    // why it is refused, and where
     ensures refused { (left : Option (List ℕ)) → lines_left S.left lines.old ≡ left → IfErr result (λ fault. IsOfTrace fault → IsRefused left fault) }
     ensures broken_off { IsErrOf result ReadFault → BreaksOff (lines_left S.left lines.old) (S.left (source_of lines.new)) }
-    ensures cause { HasReadCause (S.faults (source_of lines.old)) (S.faults (source_of lines.new)) result }
     ensures complete { (bytes : List ℕ) (trace : ATrace) → lines_left S.left lines.old ≡ Some bytes → Spells bytes trace
         → IfErr result (λ fault. IsOfTrace fault → ⊥) }
+
+    // where the lines then stand, and what the source did
+    ensures same_source { IsSameSource lines.old lines.new }
+    ensures cause { HasReadCause (S.faults (source_of lines.old)) (S.faults (source_of lines.new)) result }
 {
     let trace = read_trace(alloc, lines)?;
     expect_end(lines)?;

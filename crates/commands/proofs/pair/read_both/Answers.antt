@@ -1,5 +1,7 @@
 use Rattle.std.proofs.Common.{Err, ap}
-use Rattle.commands.proofs.Pairs.{broken_report, broken_trace, reads_pair, report_unread, trace_unread}
+use Rattle.trace_reader.proofs.Broken.{broken_in_trace}
+use Rattle.commands.specs.Pair.{IsUnendedReport}
+use Rattle.commands.proofs.Pairs.{broken_report, reads_pair, report_unread, trace_unread}
 use Rattle.commands.proofs.pair.read_both.Goals as goal
 
 pub returns-in-Ok-read_report-clause-read : goal.returns-in-Ok-read_report-clause-read
@@ -9,7 +11,7 @@ returns-in-Ok-read_report-clause-read g c =
 
 pub returns-in-Err-clause-broken_off : goal.returns-in-Err-clause-broken_off
 returns-in-Err-clause-broken_off g c = λ is.
-    broken_trace g.S.Source.left c.args.lines.now c.read_trace.new.lines c.requires.number c.requires.room (c.in-Err.ensures.refused.read_fault (trace_unread c.in-Err.fault is))
+    broken_in_trace IsUnendedReport g.S.Source.left c.args.lines.now c.read_trace.new.lines c.requires.number c.requires.room (c.in-Err.ensures.refused.read_fault (trace_unread c.in-Err.fault is))
 
 pub returns-in-Err-read_report-clause-broken_off : goal.returns-in-Err-read_report-clause-broken_off
 returns-in-Err-read_report-clause-broken_off g c = λ is.

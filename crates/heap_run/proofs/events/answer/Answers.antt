@@ -13,7 +13,7 @@ use Rattle.heap_run.proofs.Firsts.{large-first, none-for, placed-first, refused-
 use Rattle.profile_cycle.specs.Naming.{slot_for}
 use Rattle.profile_cycle.specs.Sampling.{Countdown, behind, is_sample}
 use Rattle.proc_cache.specs.Cache.{Cache}
-use Rattle.sample_laws.proofs.Slots.{slot-large}
+use Rattle.profile_cycle.proofs.Named.{slot-large}
 use Rattle.span_set.proofs.Tallies.{frees-both, may-still}
 use Rattle.heap_run.proofs.Acted.{acted-alike, caching-counted}
 use Rattle.heap_run.proofs.Counting.{counted-one, large-counts, ones-counts, refused-counts}

@@ -1,5 +1,5 @@
 use Rattle.std.proofs.Common.{ℕ, ◌*◌, ap, ◌∙◌}
-use Rattle.heap_text.proofs.SlotSizes.{slot-small, slot-large}
+use Rattle.profile_cycle.proofs.Named.{slot-small, slot-large}
 use Rattle.heap_text.proofs.counts.slot_of.Goals as goal
 
 pub returns-in-Small : goal.returns-in-Small

@@ -2,7 +2,7 @@ use Rattle.std.proofs.Common.{◌≡◌, ℕ, ap, sym, subst, ◌∙◌}
 use Rattle.std.specs.Prelude.{Ok}
 use Rattle.profile_cycle.specs.Naming.{slot_for}
 use Rattle.profile_cycle.specs.Sampling.{Countdown, behind, is_sample}
-use Rattle.proc_cache.proofs.SlotSizes.{small_slot}
+use Rattle.profile_cycle.proofs.Named.{slot-small}
 use Rattle.span_laws.specs.Views.{Seen}
 use Rattle.span_set.proofs.Tallies.{may-still}
 use Rattle.proc_cache.specs.Allocs.{AllocatesIn}
@@ -27,11 +27,11 @@ pub returns-clause-number : goal.returns-clause-number
 returns-clause-number g c = ap (λ (z : Cache). z.number) c.count_placed-sampled.ensures.cache ∙ c.alloc_in.ensures.number
 
 pub returns-clause-sampled : goal.returns-clause-sampled
-returns-clause-sampled g c = let slot : c.from-slot.result ≡ slot_for c.args.event.size = c.from-slot.ensures ∙ c.slot_size.ensures.size ∙ small_slot c.args.event.size c.in-Small.class c.in-Small.ensures.0 c.in-Small.ensures.1 c.in-Small.ensures.2 in
+returns-clause-sampled g c = let slot : c.from-slot.result ≡ slot_for c.args.event.size = c.from-slot.ensures ∙ c.slot_size.ensures.size ∙ slot-small c.args.event.size c.in-Small.class c.in-Small.ensures.0 c.in-Small.ensures.1 c.in-Small.ensures.2 in
     c.count_placed-sampled.ensures.sampled ∙ ap (λ (t : Countdown). is_sample t c.from-slot.result) c.alloc_in.ensures.countdown ∙ ap (is_sample c.args.proc.now.countdown) slot
 
 pub returns-clause-countdown : goal.returns-clause-countdown
-returns-clause-countdown g c = let slot : c.from-slot.result ≡ slot_for c.args.event.size = c.from-slot.ensures ∙ c.slot_size.ensures.size ∙ small_slot c.args.event.size c.in-Small.class c.in-Small.ensures.0 c.in-Small.ensures.1 c.in-Small.ensures.2 in
+returns-clause-countdown g c = let slot : c.from-slot.result ≡ slot_for c.args.event.size = c.from-slot.ensures ∙ c.slot_size.ensures.size ∙ slot-small c.args.event.size c.in-Small.class c.in-Small.ensures.0 c.in-Small.ensures.1 c.in-Small.ensures.2 in
     ap (λ (z : Cache). z.countdown) c.count_placed-sampled.ensures.cache ∙ ap (λ (t : Countdown). behind t c.from-slot.result) c.alloc_in.ensures.countdown ∙ ap (behind c.args.proc.now.countdown) slot
 
 pub returns-clause-counted : goal.returns-clause-counted

@@ -2,7 +2,7 @@ use Rattle.std.proofs.Common.{◌≡◌, ℕ, ◌*◌, ◌≤◌, false, eqb, Op
 use Rattle.std.specs.Prelude.{position}
 use Rattle.std.proofs.lemmas.Bool.{ne_eqb}
 use Rattle.profile_cycle.specs.Naming.{is_same, slot_for}
-use Rattle.sample_laws.proofs.Slots.{slot-large, slot-small}
+use Rattle.profile_cycle.proofs.Named.{slot-large, slot-small}
 use Rattle.run_lists.proofs.queues.bucket_of.Goals.{in-Small, in-Large}
 use Rattle.run_lists.proofs.queues.bucket_of.Goals as goal
 

@@ -46,7 +46,7 @@ returns-in_err-expect_end-clause-complete g c = λ bytes t told spells.
 pub returns-in_err-trace-clause-broken_off : goal.returns-in_err-trace-clause-broken_off
 returns-in_err-trace-clause-broken_off g c =
     let p = err_from_is_err_and c.from_residual.result c.from_residual.ensures.1 in
-    rw (p.1, p.2) (λ e. broken_in_trace _ _ _ c.requires.number c.requires.room (c.in_err-trace.ensures.refused.read_fault cc))
+    rw (p.1, p.2) (λ e. broken_in_trace _ _ _ _ c.requires.number c.requires.room (c.in_err-trace.ensures.refused.read_fault cc))
 
 pub returns-in_err-expect_end-clause-broken_off : goal.returns-in_err-expect_end-clause-broken_off
 returns-in_err-expect_end-clause-broken_off g c =
