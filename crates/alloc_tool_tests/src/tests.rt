@@ -432,8 +432,10 @@ fn placed(alloc: Global, count: u64, slot: u64, behind: &str) -> Result<String, 
 // One object takes all pages of the largest region, which a trace of version 2 may have, and the next one finds none.
 #[test]
 fn largest_region(rt: HostRuntime) -> Result<(), Fail> {
-    let input = "goheap 2\nheap 4096 procs 1 rate 0 seed 1 goal 2097152\na 0 17179869184 n 1\na 0 1 n 1\nend\n";
-    let report = "o 0 0xc000000000\no 1 miss 1\nj 0 0 take 0 2097152 1\nj 1 0 miss 1 3\nt 0 1 0\nend\n";
+    let input =
+        "goheap 2\nheap 4096 procs 1 rate 0 seed 1 goal 2097152\na 0 17179869184 n 1\na 0 1 n 1\nend\n";
+    let report =
+        "o 0 0xc000000000\no 1 miss 1\nj 0 0 take 0 2097152 1\nj 1 0 miss 1 3\nt 0 1 0\nend\n";
     expect(
         &rt,
         "the largest region",
