@@ -121,6 +121,7 @@ impl Pages {
     pub fn reserve_line(&mut self) -> Result<(), NoMemory>
         ensures ok { OnOk result (owed self.new.past + 2 ≤ self.new.spare) }
         ensures same { HasMoreRoom self.old self.new }
+        ensures err { OnErr result (self.new ≡ self.old) }
     {
         self.journal
             .reserve(self.live + BLOCK_LINES * self.out + 2)?;
@@ -253,6 +254,7 @@ impl Pages {
     pub fn reserve_pull(&mut self) -> Result<(), NoMemory>
         ensures ok { OnOk result (owed self.new.past + 130 ≤ self.new.spare) }
         ensures same { HasMoreRoom self.old self.new }
+        ensures err { OnErr result (self.new ≡ self.old) }
     {
         self.journal
             .reserve(self.live + BLOCK_LINES * self.out + 130)?;
