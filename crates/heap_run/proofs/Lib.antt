@@ -26,3 +26,5 @@ pub mod Profiling
 pub mod Telling
 pub mod Last
 pub mod Unsampled
+pub mod Alike
+pub mod Showing

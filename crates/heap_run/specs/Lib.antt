@@ -12,3 +12,5 @@ pub mod Last
 pub mod Paces
 pub mod Profiled
 pub mod Runs
+pub mod Watching
+pub mod Watched

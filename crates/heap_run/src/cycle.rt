@@ -17,6 +17,7 @@ use crate::turns::{bring_back, flush_processor};
 use cycle_history::Answer;
 use edge_io::{Gate, List, NoMemory};
 use proc_cache::Proc;
+use profile_readers::{Board, Viewer};
 use run_lists::Queues;
 use scavenger::scavenge_to;
 use span_set::{Hand, Shop};
@@ -33,10 +34,11 @@ pub(crate) struct Given {
     pub sampled: Vec<List<bool>>,
 }
 
-/// The processors with an event, the background sweepers and the scavenger run beside each other, and the driver takes them all in.
+/// The processors with an event, the background sweepers, the scavenger and the viewers run beside each other, and the driver takes all
+/// workers in.
 /// What the processors' events come to is put behind what is in their lists. Without memory the processors and their lists may be
 /// lost.
-pub(crate) fn run_beside<R: Threads + Wait + Sync, G: Gate>(
+pub(crate) fn run_beside<B: Board + Send + Sync, R: Threads + Wait + Sync, G: Gate>(
     rt: &R,
     alloc: Global,
     shop: &Shop,
@@ -46,6 +48,7 @@ pub(crate) fn run_beside<R: Threads + Wait + Sync, G: Gate>(
     background: u32,
     gate: &G,
     given: &mut Given,
+    viewers: &mut [Viewer<B>],
 ) -> Result<(), NoMemory>
     requires works { IsAtWork shop.now.shared.now driver.old.worker }
     requires distance { 8192 ≤ shop.now.distance }
@@ -80,7 +83,8 @@ pub(crate) fn run_beside<R: Threads + Wait + Sync, G: Gate>(
     let mut out = send_all(
         alloc, shop, driver, procs, queues, background, given, &start,
     )?;
-    run_all(rt, alloc, shop, queues, gate, out.lanes.as_mut_slice());
+    let lanes = out.lanes.as_mut_slice();
+    run_all(rt, alloc, shop, queues, gate, lanes, viewers);
     take_processors(
         shop, driver, procs, queues, background, given, &mut out, &start,
     )?;
@@ -270,7 +274,7 @@ pub(crate) fn end_cycle<R: Wait>(
 
 /// All of a cycle: the processors answer their events, the background sweepers sweep, the scavenger scavenges, and the cycle ends.
 /// The queues are let go before what came of them is merged, so that both are never in memory. Without memory the lists may be lost.
-pub(crate) fn run_workers<R: Threads + Wait + Sync, G: Gate>(
+pub(crate) fn run_workers<B: Board + Send + Sync, R: Threads + Wait + Sync, G: Gate>(
     rt: &R,
     alloc: Global,
     shop: &Shop,
@@ -280,6 +284,7 @@ pub(crate) fn run_workers<R: Threads + Wait + Sync, G: Gate>(
     background: u32,
     gate: &G,
     given: &mut Given,
+    viewers: &mut [Viewer<B>],
 ) -> Result<(), NoMemory>
     requires works { IsAtWork shop.now.shared.now driver.old.worker }
     requires distance { 8192 ≤ shop.now.distance }
@@ -305,7 +310,7 @@ pub(crate) fn run_workers<R: Threads + Wait + Sync, G: Gate>(
     ensures kept { OnOk result (HaveKept given.old.answers.items given.new.answers.items × HaveKept given.old.sampled.items given.new.sampled.items) }
 {
     run_beside(
-        rt, alloc, shop, driver, procs, &queues, background, gate, given,
+        rt, alloc, shop, driver, procs, &queues, background, gate, given, viewers,
     )?;
     end_cycle(rt, alloc, shop, driver, procs)?;
     Ok(())

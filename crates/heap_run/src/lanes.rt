@@ -1,20 +1,23 @@
 //! The workers of a cycle while they are out: each does its task beside the others.
 
 ghost use Rattle.std.specs.Prelude.{◌≡◌, ℕ, ◌^◌, ◌<◌, ◌≤◌, [], All, length, slice_index_or, OnOk};
+ghost use Rattle.std.specs.Thread.{IsSync};
 ghost use Rattle.span_laws.specs.Asks.{IsAtWork, IsIdle};
 ghost use Rattle.span_set.specs.Tallies.{MayCount};
 ghost use Rattle.heap_run.specs.Lanes.{AnswersTurn, HasDone, Helps, IsReady, MayAnswer};
 
+use crate::audience::watch_all;
 use crate::events::answer_all;
 use cycle_history::Answer;
 use edge_io::{Gate, List, NoMemory};
 use proc_cache::Proc;
+use profile_readers::{Board, Viewer};
 use run_lists::Queues;
 use scavenger::scavenge_to;
 use span_set::{Hand, Shop};
 use std::alloc::Global;
 use std::sync::Wait;
-use std::thread::{Threads, for_each_mut};
+use std::thread::{Threads, for_each_mut, join};
 use sweeper::finish;
 
 /// The number of the scavenger's worker.
@@ -47,8 +50,40 @@ pub(crate) struct Lane {
     pub(crate) refused: bool,
 }
 
-/// Each worker does its task, beside the others. Where no thread can be made for one, it does it behind another.
-pub(crate) fn run_all<R: Threads + Wait + Sync, G: Gate>(
+/// Each worker does its task, beside the others, and the viewers look meanwhile. Where no thread can be made for one, it does it behind
+/// another.
+pub(crate) fn run_all<B: Board + Send + Sync, R: Threads + Wait + Sync, G: Gate>(
+    rt: &R,
+    alloc: Global,
+    shop: &Shop,
+    queues: &Queues,
+    gate: &G,
+    lanes: &mut [Lane],
+    viewers: &mut [Viewer<B>],
+)
+    requires distance { 8192 ≤ shop.now.distance }
+    requires some { 0 < length lanes.old }
+    requires ready { All (IsReady shop.now.shared.now shop.now.ring.now shop.now.marks.now queues.now.events queues.now.buckets) lanes.old }
+    ensures ran { (i : ℕ) (d : _) → i < length lanes.old → HasDone shop.now.marks.now queues.now.events queues.now.buckets (slice_index_or lanes.old i d) (slice_index_or lanes.new i d) }
+{
+    if viewers.is_empty() {
+        run_lanes(rt, alloc, shop, queues, gate, lanes);
+        return;
+    }
+    join(
+        rt,
+        || -> ()
+            requires { IsSync R.row × (8192 ≤ shop.now.distance) × (0 < length lanes.now) × All (IsReady shop.now.shared.now shop.now.ring.now shop.now.marks.now queues.now.events queues.now.buckets) lanes.now }
+            ensures { (i : ℕ) (d : _) → i < length lanes.entry.now → HasDone shop.entry.now.marks.now queues.entry.now.events queues.entry.now.buckets (slice_index_or lanes.entry.now i d) (slice_index_or lanes.exit.now i d) }
+        { run_lanes(rt, alloc, shop, queues, gate, lanes) },
+        || -> ()
+            requires { IsSync R.row × (0 < length viewers.now) }
+        { watch_all(rt, viewers) },
+    );
+}
+
+// Each worker does its task, beside the others.
+fn run_lanes<R: Threads + Wait + Sync, G: Gate>(
     rt: &R,
     alloc: Global,
     shop: &Shop,

@@ -1,6 +1,6 @@
 //! The run of a whole trace.
 
-ghost use Rattle.std.specs.Prelude.{◌≡◌, ℕ, ◌+◌, ◌^◌, ◌<◌, ◌≤◌, [], length, slice_index_or, vec_len, None, Some, IfOk, OnOk};
+ghost use Rattle.std.specs.Prelude.{◌≡◌, ℕ, suc, ◌+◌, ◌-◌, ◌^◌, ◌<◌, ◌≤◌, [], length, slice_index_or, vec_len, is_some, None, Some, IfOk, OnOk};
 ghost use Rattle.trace_reader.specs.Limits.{WithinLimits, events_of};
 ghost use Rattle.cycle_history.specs.Requests.{last_cycle};
 ghost use Rattle.cycle_history.specs.Sound.{HasForm, IsSoundAndUsed};
@@ -10,10 +10,12 @@ ghost use Rattle.heap_run.specs.Turns.{no_cache};
 ghost use Rattle.sweep_laws.specs.Start.{copies};
 ghost use Rattle.profile_cycle.specs.Sampling.{countdown};
 
+use crate::audience::Audience;
 use crate::cycle::{Given, run_workers};
 use cycle_history::{Answer, PackedPlace, Report, marks_of};
 use edge_io::{Gate, List, NoMemory};
 use proc_cache::Proc;
+use profile_readers::{Board, Publisher, Viewer};
 use run_lists::{file_notes, lend, number_all, queues_of, take_back};
 use run_profile::{Profile, read_rest};
 use size_classes::PAGE_SIZE;
@@ -21,6 +23,7 @@ use span_set::{Hand, Shop, reset};
 use span_state::{Marks, SweepNote};
 use span_table::{Shared, Worker};
 use std::alloc::Global;
+use std::marker::Brand;
 use std::sync::Wait;
 use std::thread::Threads;
 use trace_reader::{Header, Trace};
@@ -69,7 +72,10 @@ pub fn run_trace<R: Threads + Wait + Sync, G: Gate>(
     ensures left { IfOk result (λ ran. IsLeft trace.now ran) }
 {
     let mut run = Run::new(alloc, trace, options.each)?;
-    run.run_cycles(rt, alloc, trace, options.background, gate)?;
+    let mut nobody: Audience<Brand> = Audience::nobody(alloc);
+    let ran = run.run_cycles(rt, alloc, trace, options.background, gate, &mut nobody);
+    nobody.close(rt);
+    ran?;
     run.into_ran(alloc, trace)
 }
 
@@ -95,9 +101,10 @@ pub(crate) struct Run {
 
 impl Run {
     ghost use Rattle.heap_run.specs.Runs.{HasBegun, HasRun};
+    ghost use Rattle.heap_run.specs.Watching.{GoesOn, HasShown};
 
-    // Nothing is asked yet.
-    fn new(alloc: Global, trace: &Trace, each: bool) -> Result<Run, NoMemory>
+    /// Nothing is asked yet.
+    pub(crate) fn new(alloc: Global, trace: &Trace, each: bool) -> Result<Run, NoMemory>
         requires limits { WithinLimits trace.now }
         ensures begun { IfOk result (λ run. HasBegun trace.now 0 run) }
         ensures each { IfOk result (λ run. run.profile.each ≡ each) }
@@ -125,32 +132,37 @@ impl Run {
         })
     }
 
-    // Runs all cycles, with a mark end behind each but the last.
-    fn run_cycles<R: Threads + Wait + Sync, G: Gate>(
+    /// Runs all cycles before an audience, with a mark end behind each but the last. If there is a publisher, it publishes the profile of
+    /// each mark end.
+    pub(crate) fn run_cycles<B: Board + Send + Sync, R: Threads + Wait + Sync, G: Gate>(
         &mut self,
         rt: &R,
         alloc: Global,
         trace: &Trace,
         background: u32,
         gate: &G,
+        audience: &mut Audience<B>,
     ) -> Result<(), NoMemory>
         requires limits { WithinLimits trace.now }
         requires background { background ≤ 4 }
         requires begun { HasBegun trace.now 0 self.old }
+        requires unshown { HasShown B.buckets trace.now 0 0 self.old audience.old.publisher }
         ensures ran { OnOk result (HasRun trace.now (last_cycle trace.now) self.new) }
         ensures each { OnOk result (self.new.profile.each ≡ self.old.profile.each) }
+        ensures publisher { is_some audience.new.publisher ≡ is_some audience.old.publisher }
+        ensures viewers { vec_len audience.new.viewers ≡ vec_len audience.old.viewers }
+        ensures shown { OnOk result (HasShown B.buckets trace.now (suc (last_cycle trace.now)) (last_cycle trace.now) self.new audience.new.publisher) }
     {
         let last = trace.cycles.len() as u32 - 1;
         for cycle in 0..last {
-            self.run_cycle(rt, alloc, trace, cycle, background, gate)?;
+            self.run_and_show(rt, alloc, trace, cycle, background, gate, audience)?;
             self.mark_end(alloc, trace, cycle)?;
         }
-        self.run_cycle(rt, alloc, trace, last, background, gate)?;
-        Ok(())
+        self.run_and_show(rt, alloc, trace, last, background, gate, audience)
     }
 
-    // Runs a cycle to its end.
-    fn run_cycle<R: Threads + Wait + Sync, G: Gate>(
+    // Runs a cycle to its end, and shows the profile of the mark end before it.
+    fn run_and_show<B: Board + Send + Sync, R: Threads + Wait + Sync, G: Gate>(
         &mut self,
         rt: &R,
         alloc: Global,
@@ -158,6 +170,61 @@ impl Run {
         cycle: u32,
         background: u32,
         gate: &G,
+        audience: &mut Audience<B>,
+    ) -> Result<(), NoMemory>
+        requires limits { WithinLimits trace.now }
+        requires background { background ≤ 4 }
+        requires inside { cycle ≤ last_cycle trace.now }
+        requires begun { HasBegun trace.now cycle self.old }
+        requires before { HasShown B.buckets trace.now cycle (cycle - 1) self.old audience.old.publisher }
+        ensures ran { OnOk result (HasRun trace.now cycle self.new) }
+        ensures each { OnOk result (self.new.profile.each ≡ self.old.profile.each) }
+        ensures publisher { is_some audience.new.publisher ≡ is_some audience.old.publisher }
+        ensures viewers { vec_len audience.new.viewers ≡ vec_len audience.old.viewers }
+        ensures shown { OnOk result (HasShown B.buckets trace.now (suc cycle) cycle self.new audience.new.publisher) }
+    {
+        let viewers = audience.viewers.as_mut_slice();
+        self.run_cycle(rt, alloc, trace, cycle, background, gate, viewers)?;
+        self.show(rt, alloc, trace, cycle, &mut audience.publisher)
+    }
+
+    // Publishes the profile behind the full sweep of a cycle, if there is a publisher. Before the first mark end there is none.
+    fn show<B: Board, R: Wait>(
+        &mut self,
+        rt: &R,
+        alloc: Global,
+        _trace: &Trace,
+        cycle: u32,
+        publisher: &mut Option<Publisher<B>>,
+    ) -> Result<(), NoMemory>
+        requires limits { WithinLimits _trace.now }
+        requires inside { cycle ≤ last_cycle _trace.now }
+        requires ran { HasRun _trace.now cycle self.old }
+        requires before { HasShown B.buckets _trace.now (suc cycle) (cycle - 1) self.old publisher.old }
+        ensures same { self.new ≡ self.old }
+        ensures publisher { is_some publisher.new ≡ is_some publisher.old }
+        ensures shown { OnOk result (HasShown B.buckets _trace.now (suc cycle) cycle self.old publisher.new) }
+    {
+        let Some(publisher) = publisher else {
+            return Ok(());
+        };
+        if cycle == 0 {
+            return Ok(());
+        }
+        let counts = self.profile.counts(alloc, &mut self.driver.tally)?;
+        publisher.publish(rt, &counts)
+    }
+
+    // Runs a cycle to its end.
+    fn run_cycle<B: Board + Send + Sync, R: Threads + Wait + Sync, G: Gate>(
+        &mut self,
+        rt: &R,
+        alloc: Global,
+        trace: &Trace,
+        cycle: u32,
+        background: u32,
+        gate: &G,
+        viewers: &mut [Viewer<B>],
     ) -> Result<(), NoMemory>
         requires limits { WithinLimits trace.now }
         requires background { background ≤ 4 }
@@ -165,6 +232,7 @@ impl Run {
         requires begun { HasBegun trace.now cycle self.old }
         ensures ran { OnOk result (HasRun trace.now cycle self.new) }
         ensures each { OnOk result (self.new.profile.each ≡ self.old.profile.each) }
+        ensures follows { OnOk result (GoesOn self.old self.new) }
     {
         let events = trace.cycles.as_slice()[cycle as usize].events.as_slice();
         let before = self.buckets.len();
@@ -192,6 +260,7 @@ impl Run {
             background,
             gate,
             &mut given,
+            viewers,
         )?;
         self.profile.end_sweep(&mut self.driver.tally, cycle);
         let Given { answers, sampled } = given;
@@ -208,6 +277,8 @@ impl Run {
         requires ran { HasRun trace.now cycle self.old }
         ensures begun { OnOk result (HasBegun trace.now (cycle + 1) self.new) }
         ensures each { OnOk result (self.new.profile.each ≡ self.old.profile.each) }
+        ensures kept { OnOk result ((self.new.answers ≡ self.old.answers) × (self.new.sampled ≡ self.old.sampled)) }
+        ensures known { OnOk result (self.new.profile.known ≡ self.old.profile.known) }
     {
         marks_of(
             alloc,
@@ -227,13 +298,14 @@ impl Run {
         Ok(())
     }
 
-    // The report, where all is answered.
-    fn into_ran(self, alloc: Global, trace: &Trace) -> Result<Ran, NoMemory>
+    /// The report, where all is answered.
+    pub(crate) fn into_ran(self, alloc: Global, trace: &Trace) -> Result<Ran, NoMemory>
         requires limits { WithinLimits trace.now }
         requires ran { HasRun trace.now (last_cycle trace.now) self }
         ensures sound { IfOk result (λ ran. IsSoundAndUsed trace.now ran.report) }
         ensures form { IfOk result (λ ran. HasForm trace.now ran.report self.profile.each) }
         ensures left { IfOk result (λ ran. IsLeft trace.now ran) }
+        ensures answers { IfOk result (λ ran. ran.report.answers ≡ self.answers) }
     {
         let Run {
             shared,

@@ -6,6 +6,7 @@ ghost use Rattle.trace_reader.specs.Limits.{EventFits, events_of};
 ghost use Rattle.profile_cycle.specs.declared.calls.What.TheVariants.{AfterSweep, NextCycle};
 ghost use Rattle.profile_cycle.specs.History.{calls, first_view};
 ghost use Rattle.run_profile.specs.Naming.{KnowsBuckets};
+ghost use Rattle.run_profile.specs.Counts.{counts_from};
 ghost use Rattle.profile_lines.specs.Read.{AreDifferent, AreFew, IsOrder, all_lines, changed_lines, count_of};
 
 use cycle_history::Prof;
@@ -138,6 +139,24 @@ impl Profile {
             mark,
             &mut self.lines,
         )
+    }
+
+    /// What is published of each bucket, by its number. Nothing changes.
+    pub fn counts(&self, alloc: Global, tally: &mut Tally) -> Result<List<Count>, NoMemory>
+        requires ring { tally.old.ring ≡ self.now.ring }
+        requires drives { tally.old.view.drives ≡ true }
+        requires alone { tally.old.view.out ≡ 0 }
+        requires room { length self.now.known ≤ self.now.ring.buckets }
+        requires few { AreFew (length self.now.known) tally.old.view.calls }
+        ensures tally { tally.new ≡ tally.old }
+        ensures counts { IfOk result (λ counts. counts ≡ counts_from tally.old.view.calls 0 self.now.known) }
+    {
+        let buckets = self.known.len();
+        let mut counts = List::with_room(alloc, buckets as usize)?;
+        for bucket in 0..buckets {
+            counts.push(self.ring.published(tally, bucket))?;
+        }
+        Ok(counts)
     }
 }
 
