@@ -1,7 +1,7 @@
 use Rattle.std.proofs.Common.{ℕ, refl, subst}
 use Rattle.trace_gen.specs.Made.{made_trace}
 use Rattle.alloc_tool.specs.Demo.{Demos}
-use Rattle.alloc_tool.proofs.Asked.{check_or_pieces, check_or_seeded, heap_or_pieces, heap_or_seeded, one_seeded, pieces_or_seeded, run_or_check, run_or_demo, run_or_heap, run_or_pieces}
+use Rattle.alloc_tool.proofs.Asked.{check_or_pieces, check_or_seeded, check_or_watch, heap_or_pieces, heap_or_seeded, heap_or_watch, one_seeded, one_watch, pieces_or_seeded, pieces_or_watch, run_or_check, run_or_demo, run_or_heap, run_or_pieces, run_or_watch, watch_or_seeded}
 use Rattle.alloc_tool.proofs.Complete.{complete}
 use Rattle.alloc_tool.proofs.SoundPair.{sound_pair}
 use Rattle.alloc_tool.proofs.top.goheap.Goals as goal
@@ -55,10 +55,10 @@ pub returns-in-Some-wanted_by-clause-accepts_in_pieces : goal.returns-in-Some-wa
 returns-in-Some-wanted_by-clause-accepts_in_pieces g c = λ n is. absurd (pieces_or_seeded _ c.args.words.now n _ _ is c.in-Some-wanted_by.ensures)
 
 pub returns-in-Some-clause-other_words : goal.returns-in-Some-clause-other_words
-returns-in-Some-clause-other_words g c = λ run demo pieces. absurd (pieces c.in-Some.pieces c.in-Some.ensures)
+returns-in-Some-clause-other_words g c = λ run demo pieces watch. absurd (pieces c.in-Some.pieces c.in-Some.ensures)
 
 pub returns-in-Some-wanted_by-clause-other_words : goal.returns-in-Some-wanted_by-clause-other_words
-returns-in-Some-wanted_by-clause-other_words g c = λ run demo pieces. absurd (demo _ _ c.in-Some-wanted_by.ensures)
+returns-in-Some-wanted_by-clause-other_words g c = λ run demo pieces watch. absurd (demo _ _ c.in-Some-wanted_by.ensures)
 
 pub returns-in-None-clause-in_pieces : goal.returns-in-None-clause-in_pieces
 returns-in-None-clause-in_pieces g c = λ n is. absurd (c.in_default.ensures n is)
@@ -74,3 +74,21 @@ returns-in-Some-clause-heap g c = λ heap. absurd (heap_or_pieces c.args.words.n
 
 pub returns-in-Some-wanted_by-clause-heap : goal.returns-in-Some-wanted_by-clause-heap
 returns-in-Some-wanted_by-clause-heap g c = λ heap. absurd (heap_or_seeded _ c.args.words.now _ _ heap c.in-Some-wanted_by.ensures)
+
+pub returns-then-are_of_run-clause-watch : goal.returns-then-are_of_run-clause-watch
+returns-then-are_of_run-clause-watch g c = λ n is. absurd (run_or_watch c.args.words.now n (c.are_of_run.ensures.0 c.if-are_of_run.true) is)
+
+pub returns-then-are_of_run-clause-watch_words : goal.returns-then-are_of_run-clause-watch_words
+returns-then-are_of_run-clause-watch_words g c = λ n is. absurd (run_or_watch c.args.words.now n (c.are_of_run.ensures.0 c.if-are_of_run.true) is)
+
+pub returns-then-are_of_run-clause-watch_complete : goal.returns-then-are_of_run-clause-watch_complete
+returns-then-are_of_run-clause-watch_complete g c = λ n is. absurd (run_or_watch c.args.words.now n (c.are_of_run.ensures.0 c.if-are_of_run.true) is)
+
+pub returns-in-Some-clause-watch : goal.returns-in-Some-clause-watch
+returns-in-Some-clause-watch g c = λ n is. absurd (pieces_or_watch c.args.words.now _ n c.in-Some.ensures is)
+
+pub returns-in-Some-clause-watch_words : goal.returns-in-Some-clause-watch_words
+returns-in-Some-clause-watch_words g c = λ n is. absurd (pieces_or_watch c.args.words.now _ n c.in-Some.ensures is)
+
+pub returns-in-Some-clause-watch_complete : goal.returns-in-Some-clause-watch_complete
+returns-in-Some-clause-watch_complete g c = λ n is. absurd (pieces_or_watch c.args.words.now _ n c.in-Some.ensures is)
