@@ -90,11 +90,11 @@ same-published t n marked s answers os ps m b ao ap' =
 -- ---- one cycle more
 
 -- behind parts of one length
-tails : {X : Type 0} (as bs cs ds : List X) → length as ≡ length cs → as ++ bs ≡ cs ++ ds → bs ≡ ds
-tails [] bs [] ds l e = e
-tails [] bs (c ∷ cs) ds l e = absurd (omega (arith, l))
-tails (a ∷ as) bs [] ds l e = absurd (omega (arith, l))
-tails (a ∷ as) bs (c ∷ cs) ds l e = tails as bs cs ds (omega (arith, l)) (let f : a ∷ (as ++ bs) ≡ c ∷ (cs ++ ds) = e in cc)
+tails : {X : Type 0} (xs ys us vs : List X) → length xs ≡ length us → xs ++ ys ≡ us ++ vs → ys ≡ vs
+tails [] ys [] vs l e = e
+tails [] ys (c ∷ us) vs l e = absurd (omega (arith, l))
+tails (a ∷ xs) ys [] vs l e = absurd (omega (arith, l))
+tails (a ∷ xs) ys (c ∷ us) vs l e = tails xs ys us vs (omega (arith, l)) (let f : a ∷ (xs ++ ys) ≡ c ∷ (us ++ vs) = e in cc)
 
 -- Objects of a cycle's requests, and those of the requests before.
 pub record Parted (c : ℕ) (requests : List Request) (objects : List Object) : Type 0 where
