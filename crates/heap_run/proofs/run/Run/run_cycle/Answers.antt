@@ -244,3 +244,27 @@ returns-clause-ran g c =
 
 pub returns-clause-each : goal.returns-clause-each
 returns-clause-each g c = ap (λ q. q.each) c.end_sweep.ensures.profile
+
+pub returns-clause-follows : goal.returns-clause-follows
+returns-clause-follows g c =
+    let t = c.args.trace.now in
+    let d = c.index-as_slice-cycle.result in
+    let least = some-cycle 0 (λ _. ⊥) t.cycles c.requires.limits.cycles in
+    let inside : c.args.cycle < length t.cycles = (let i = c.requires.inside in omega arith) in
+    let ev = events-of c.as_slice-events.result.now c.as_slice.result.now t.cycles c.args.cycle d c.as_slice-events.ensures c.as_slice.ensures in
+    let fits : AllByRecursion (EventFits t.header.procs) c.as_slice-events.result.now = subst (λ (l : List Event). AllByRecursion (EventFits t.header.procs) l) (sym ev) (cycle-fits t c.args.cycle d c.requires.limits inside) in
+    let old : Run = c.args.self.now in
+    let ran = c.in_ok-run_workers.ensures.ran in
+    let same : length c.run_workers.new.given.answers.items ≡ length c.in_ok-answers.answers.items = (let a = c.in_ok-run_workers.ensures.size.0 in let l = c.in_ok-answers.ensures.length in let e = c.requires.begun.set.procs in omega (arith, c.args.self.now.procs.ok.0, c.run_workers.new.given.answers.ok.0, c.in_ok-answers.answers.ok.0)) in
+    let lent : length c.in_ok-answers.answers.items ≡ t.header.procs = (let l = c.in_ok-answers.ensures.length in omega (arith, c.in_ok-answers.answers.ok.0)) in
+    let m = taken-back c.as_slice-events.result.now t.header.procs c.in_ok-answers.answers.items c.run_workers.new.given.answers.items old.answers c.lend.new.own c.take_back.new.own lent (same ∙ lent) c.in_ok-run_workers.ensures.kept.0
+    c.in_ok-answers.ensures.one c.in_ok-answers.ensures.several c.lend.ensures.kept (procs-below t.header.procs (length c.run_workers.new.given.answers.items) c.as_slice-events.result.now (same ∙ lent) fits)
+    (given-sizes c.in_ok-queues.queues.events (gains c.in_ok-answers.answers.items c.run_workers.new.given.answers.items) c.as_slice-events.result.now c.run_workers.new.driver.worker ran.answered c.in_ok-queues.ensures.queues) c.in_ok-take_back.ensures.one c.in_ok-take_back.ensures.several in
+    let same_too : length c.run_workers.new.given.sampled.items ≡ length c.in_ok-sampled.sampled.items = (let a = c.in_ok-run_workers.ensures.size.1 in let l = c.in_ok-sampled.ensures.length in let e = c.requires.begun.set.procs in omega (arith, c.args.self.now.procs.ok.0, c.run_workers.new.given.sampled.ok.0, c.in_ok-sampled.sampled.ok.0)) in
+    let lent_too : length c.in_ok-sampled.sampled.items ≡ t.header.procs = (let l = c.in_ok-sampled.ensures.length in omega (arith, c.in_ok-sampled.sampled.ok.0)) in
+    let n = taken-back c.as_slice-events.result.now t.header.procs c.in_ok-sampled.sampled.items c.run_workers.new.given.sampled.items old.sampled c.lend-2.new.own c.take_back-2.new.own lent_too (same_too ∙ lent_too) c.in_ok-run_workers.ensures.kept.1
+    c.in_ok-sampled.ensures.one c.in_ok-sampled.ensures.several c.lend-2.ensures.kept (procs-below t.header.procs (length c.run_workers.new.given.sampled.items) c.as_slice-events.result.now (same_too ∙ lent_too) fits)
+    (flags-long c.in_ok-queues.queues.events (gains c.in_ok-answers.answers.items c.run_workers.new.given.answers.items) (gains c.in_ok-sampled.sampled.items c.run_workers.new.given.sampled.items) c.as_slice-events.result.now old.procs.items c.run_workers.new.procs.items c.run_workers.new.driver.worker ran.answered c.in_ok-run_workers.ensures.sampled
+    (gains-length c.in_ok-sampled.sampled.items c.run_workers.new.given.sampled.items same_too ∙ lent_too ∙ sym c.requires.begun.set.procs) (let a = c.in_ok-queues.ensures.length.0 in let e = c.requires.begun.set.procs in omega arith) c.in_ok-queues.ensures.queues)
+    c.in_ok-take_back-2.ensures.one c.in_ok-take_back-2.ensures.several in
+    record { answers = m.0; answered = m.1; flags = n.0; sampled = n.1; known = ap (λ q. q.known) c.end_sweep.ensures.profile }
