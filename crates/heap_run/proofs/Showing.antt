@@ -68,6 +68,10 @@ counts-shown marked s objects m calls bs shows =
       let same : k ≡ 0 + k = omega arith in
       subst (λ (i : ℕ). (published_allocs i calls ≡ allocs_at s objects m (bucket_at bs k)) × (published_frees i calls ≡ frees_at marked s objects m (bucket_at bs k))) same (shows.allocs k lt, shows.frees k lt)))
 
+pub counts-long : (calls : List Call) (n : ℕ) (bs : List Bucket) → length (counts_from calls n bs) ≡ length bs
+counts-long calls n [] = refl
+counts-long calls n (b ∷ bs) = ap suc (counts-long calls (n + 1) bs)
+
 -- one more
 shown-more : (marked : Marking) (s : Samples) (objects : List Object) (bs : List Bucket) (m : ℕ) (ps : Profiles) (p : List Count) → AreShownFrom marked s objects bs m ps → p ≡ map (count_at marked s objects (m + length ps)) bs
     → AreShownFrom marked s objects bs m (ps ++ p ∷ [])

@@ -53,7 +53,7 @@ impl<B: Board> Audience<B> {
         ensures viewers { OnOk result (vec_len self.new.viewers ≡ length watchers) }
     {
         let mut watchers = watchers.into_vec();
-        for _ in 0..watchers.len() {
+        for _seated in 0..watchers.len() {
             let Some(watcher) = watchers.pop() else {
                 unreachable!()
             };
@@ -75,7 +75,7 @@ impl<B: Board> Audience<B> {
             unreachable!()
         };
         let mut seen = List::with_room(alloc, viewers.len())?;
-        for _ in 0..viewers.len() {
+        for _done in 0..viewers.len() {
             let Some(viewer) = viewers.pop() else {
                 unreachable!()
             };

@@ -1,6 +1,6 @@
 //! The run of a whole trace before watchers, which see its profile while it goes on.
 
-ghost use Rattle.std.specs.Prelude.{◌≡◌, ◌≤◌, false, length, IfOk};
+ghost use Rattle.std.specs.Prelude.{◌≡◌, ◌≤◌, [], false, length, vec_len, Some, IfOk};
 ghost use Rattle.trace_reader.specs.Limits.{WithinLimits};
 ghost use Rattle.cycle_history.specs.Sound.{HasForm, IsSoundAndUsed};
 ghost use Rattle.heap_run.specs.Last.{IsLeft};
