@@ -17,7 +17,7 @@ use scavenger::scavenge_to;
 use span_set::{Hand, Shop};
 use std::alloc::Global;
 use std::sync::Wait;
-use std::thread::{Threads, for_each_mut, join};
+use std::thread::{Threads, for_each_mut, join_mut};
 use sweeper::finish;
 
 /// The number of the scavenger's worker.
@@ -70,13 +70,13 @@ pub(crate) fn run_all<B: Board + Send + Sync, R: Threads + Wait + Sync, G: Gate>
         run_lanes(rt, alloc, shop, queues, gate, lanes);
         return;
     }
-    join(
+    join_mut(
         rt,
-        || -> ()
+        &mut ||
             requires { IsSync R.row × (8192 ≤ shop.now.distance) × (0 < length lanes.now) × All (IsReady shop.now.shared.now shop.now.ring.now shop.now.marks.now queues.now.events queues.now.buckets) lanes.now }
             ensures { (i : ℕ) (d : _) → i < length lanes.entry.now → HasDone shop.entry.now.marks.now queues.entry.now.events queues.entry.now.buckets (slice_index_or lanes.entry.now i d) (slice_index_or lanes.exit.now i d) }
         { run_lanes(rt, alloc, shop, queues, gate, lanes) },
-        || -> ()
+        &mut ||
             requires { IsSync R.row × (0 < length viewers.now) }
         { watch_all(rt, viewers) },
     );

@@ -29,7 +29,7 @@ loop-done-preserved g c =
         | inr new ↦ elim new [
           | inl here ↦ subst (λ (l : List Sight). RiseTo (length c.tell.new.self) l × AreSights b c.tell.new.self l) here
               (subst (λ (ps : List (List Count)). RiseTo (length ps) one × AreSights b ps one) told (c.in_ok-finish.ensures.rise, c.in_ok-finish.ensures.right))
-          | inr no ↦ absurd no
+          | inr none ↦ absurd none
         ]
       ];
     }
