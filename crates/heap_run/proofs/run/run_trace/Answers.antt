@@ -5,5 +5,5 @@ use Rattle.heap_run.proofs.run.run_trace.Goals as goal
 
 pub returns-clause-form : goal.returns-clause-form
 returns-clause-form g c =
-    let same : c.run_cycles.new.self.profile.each ≡ c.args.options.each = c.in_ok-run_cycles.ensures.each ∙ c.in_ok-run.ensures.each in
+    let same : c.run_cycles-ran.new.self.profile.each ≡ c.args.options.each = c.in_ok-ran.ensures.each ∙ c.in_ok-run.ensures.each in
     subst (λ (each : Bool). IfOk c.into_ran.result (λ (ran : Ran). HasForm c.args.trace.now ran.report each)) same c.into_ran.ensures.form

@@ -12,16 +12,16 @@ loop-cycle-preserved g c =
     let i = c.loop-cycle.invariant in
     let ran = c.in_ok-run_and_show.ensures in
     let marked = c.in_ok-mark_end.ensures in
-    let kept = shown-kept b t (suc k) k c.run_and_show-in-loop-cycle.new.self c.mark_end.new.self c.run_and_show-in-loop-cycle.new.audience.publisher marked.kept.0 marked.kept.1 marked.known ran.shown in
+    let kept = shown-kept b t (suc k) k c.run_and_show.new.self c.mark_end.new.self c.run_and_show.new.audience.publisher marked.kept.0 marked.kept.1 marked.known ran.shown in
     let next : suc k ≡ k + 1 = omega arith in
     let now : k ≡ k + 1 - 1 = omega arith in
     record {
       begun = marked.begun;
       each = marked.each ∙ ran.each ∙ i.each;
-      publisher = c.run_and_show-in-loop-cycle.ensures.publisher ∙ i.publisher;
-      viewers = c.run_and_show-in-loop-cycle.ensures.viewers ∙ i.viewers;
-      shown = subst (λ (n : ℕ). HasShown b t n (k + 1 - 1) c.mark_end.new.self c.run_and_show-in-loop-cycle.new.audience.publisher) next
-          (subst (λ (n : ℕ). HasShown b t (suc k) n c.mark_end.new.self c.run_and_show-in-loop-cycle.new.audience.publisher) now kept);
+      publisher = c.run_and_show.ensures.publisher ∙ i.publisher;
+      viewers = c.run_and_show.ensures.viewers ∙ i.viewers;
+      shown = subst (λ (n : ℕ). HasShown b t n (k + 1 - 1) c.mark_end.new.self c.run_and_show.new.audience.publisher) next
+          (subst (λ (n : ℕ). HasShown b t (suc k) n c.mark_end.new.self c.run_and_show.new.audience.publisher) now kept);
     }
 
 pub run_and_show-requires-2-clause-begun : goal.run_and_show-requires-2-clause-begun
