@@ -31,7 +31,8 @@ impl<B: Board> Audience<B> {
 
     /// The publisher, before a viewer has come.
     pub(crate) fn of(alloc: Global, publisher: Publisher<B>) -> Audience<B>
-        ensures { result.publisher ≡ Some publisher }
+        ensures publisher { result.publisher ≡ Some publisher }
+        ensures none { vec_len result.viewers ≡ 0 }
     {
         Audience {
             publisher: Some(publisher),
