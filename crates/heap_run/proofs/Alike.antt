@@ -114,12 +114,12 @@ part-objects c (x ∷ xs) ys (o ∷ objects) of are =
       olds = rest.olds;
       whole = ap (λ (l : List Object). o ∷ l) rest.whole;
       asked = rest.asked;
-      cycles = λ p h. elim h [ | inl here ↦ ap (λ (q : Object). q.cycle) (sym here) ∙ are.0.cycle ∙ of x (inl refl) | inr there ↦ rest.cycles p there ];
+      cycles = λ p h. elim h [ inl here ↦ ap (λ (q : Object). q.cycle) (sym here) ∙ are.0.cycle ∙ of x (inl refl) | inr there ↦ rest.cycles p there ];
     }
 
 in-cycle : (c : ℕ) (events : List Event) (r : Request) → In r (map (request_in c) events) → r.cycle ≡ c
 in-cycle c [] r i = absurd i
-in-cycle c (x ∷ events) r i = elim i [ | inl here ↦ ap (λ (q : Request). q.cycle) (sym here) | inr there ↦ in-cycle c events r there ]
+in-cycle c (x ∷ events) r i = elim i [ inl here ↦ ap (λ (q : Request). q.cycle) (sym here) | inr there ↦ in-cycle c events r there ]
 
 requests-next : (t : Trace) (c : ℕ) (d : Cycle) → c < length t.cycles → requests_before t (suc c) ≡ map (request_in c) (reverse (get_or t.cycles c d).events) ++ requests_before t c
 requests-next t c d lt =

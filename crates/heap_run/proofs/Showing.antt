@@ -58,15 +58,15 @@ counts-at marked s objects m calls n (b ∷ bs) each =
     let here = subst (λ (i : ℕ). (published_allocs i calls ≡ allocs_at s objects m b) × (published_frees i calls ≡ frees_at marked s objects m b)) zero-is (each 0 (omega arith)) in
     let one : count_of calls n ≡ count_at marked s objects m b = λ i. record { allocs = here.0 i; frees = here.1 i } in
     let rest = counts-at marked s objects m calls (n + 1) bs (λ k lt. (
-      let next : n + suc k ≡ n + 1 + k = omega arith in
-      subst (λ (i : ℕ). (published_allocs i calls ≡ allocs_at s objects m (get_or bs k no_bucket)) × (published_frees i calls ≡ frees_at marked s objects m (get_or bs k no_bucket))) next (each (suc k) (omega arith)))) in
+    let next : n + suc k ≡ n + 1 + k = omega arith in
+    subst (λ (i : ℕ). (published_allocs i calls ≡ allocs_at s objects m (get_or bs k no_bucket)) × (published_frees i calls ≡ frees_at marked s objects m (get_or bs k no_bucket))) next (each (suc k) (omega arith)))) in
     ap (λ (x : Count). x ∷ counts_from calls (n + 1) bs) one ∙ ap (λ (l : List Count). count_at marked s objects m b ∷ l) rest
 
 counts-shown : (marked : Marking) (s : Samples) (objects : List Object) (m : ℕ) (calls : List Call) (bs : List Bucket) → ShowsMarkEnd marked s bs m objects calls → counts_from calls 0 bs ≡ map (count_at marked s objects m) bs
 counts-shown marked s objects m calls bs shows =
     counts-at marked s objects m calls 0 bs (λ k lt. (
-      let same : k ≡ 0 + k = omega arith in
-      subst (λ (i : ℕ). (published_allocs i calls ≡ allocs_at s objects m (bucket_at bs k)) × (published_frees i calls ≡ frees_at marked s objects m (bucket_at bs k))) same (shows.allocs k lt, shows.frees k lt)))
+    let same : k ≡ 0 + k = omega arith in
+    subst (λ (i : ℕ). (published_allocs i calls ≡ allocs_at s objects m (bucket_at bs k)) × (published_frees i calls ≡ frees_at marked s objects m (bucket_at bs k))) same (shows.allocs k lt, shows.frees k lt)))
 
 pub counts-long : (calls : List Call) (n : ℕ) (bs : List Bucket) → length (counts_from calls n bs) ≡ length bs
 counts-long calls n [] = refl
@@ -201,7 +201,7 @@ blank-at marked s objects (b ∷ bs) =
 
 sight-in : (buckets : ℕ) (ps : Profiles) (sights : List Sight) (x : Sight) → AreSights buckets ps sights → In x sights → IsSight buckets ps x
 sight-in buckets ps [] x are h = absurd h
-sight-in buckets ps (y ∷ sights) x are h = elim h [ | inl here ↦ subst (λ (z : Sight). IsSight buckets ps z) here are.0 | inr there ↦ sight-in buckets ps sights x are.1 there ]
+sight-in buckets ps (y ∷ sights) x are h = elim h [ inl here ↦ subst (λ (z : Sight). IsSight buckets ps z) here are.0 | inr there ↦ sight-in buckets ps sights x are.1 there ]
 
 -- a sight of the board has the sums of its mark end
 sight-sums : (marked : Marking) (s : Samples) (objects : List Object) (bs : List Bucket) (ps : Profiles) (x : Sight) → length bs < 4294967296 → length objects ≤ 2147483648 → AreShownFrom marked s objects bs 1 ps → IsSight (length bs) ps x

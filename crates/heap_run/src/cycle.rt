@@ -83,7 +83,15 @@ pub(crate) fn run_beside<B: Board + Send + Sync, R: Threads + Wait + Sync, G: Ga
     let mut out = send_all(
         alloc, shop, driver, procs, queues, background, given, &start,
     )?;
-    run_all(rt, alloc, shop, queues, gate, out.lanes.as_mut_slice(), viewers);
+    run_all(
+        rt,
+        alloc,
+        shop,
+        queues,
+        gate,
+        out.lanes.as_mut_slice(),
+        viewers,
+    );
     take_processors(
         shop, driver, procs, queues, background, given, &mut out, &start,
     )?;

@@ -37,4 +37,4 @@ returns-clause-shown g c =
     let was = subst (λ (p : Option (List (List Count))). HasShown b t (suc k) (k - 1) run p) c.in-Some.is c.requires.before in
     let some : 1 ≤ k = (let no = c.if-cycle-eq0.false in omega arith) in
     on-ok c.publish.result (λ more. subst (λ (ps : List (List Count)). HasShown b t (suc k) k run (Some ps)) (sym more)
-        (was.0, published-next t k run p c.in_ok-counts.counts some c.requires.ran c.in_ok-counts.ensures.counts was.1)) c.publish.ensures.ok
+    (was.0, published-next t k run p c.in_ok-counts.counts some c.requires.ran c.in_ok-counts.ensures.counts was.1)) c.publish.ensures.ok
