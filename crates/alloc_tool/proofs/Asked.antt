@@ -1,5 +1,5 @@
 -- Words that ask for one thing ask for no other.
-use Rattle.std.proofs.Common.{◌≡◌, ℕ, List, [], ◌∷◌, codes, sym, ◌∙◌, String, arith}
+use Rattle.std.proofs.Common.{◌≡◌, ℕ, List, [], ◌∷◌, codes, sym, ◌∙◌, ap, String, arith}
 use Rattle.std.specs.declared.alloc.Global.{Global}
 use Rattle.trace_reader.proofs.Digits.{decimal_injective_wide}
 use Rattle.commands.specs.Pieces.{AsksPieces}
@@ -65,8 +65,13 @@ heap_or_pieces words n heap pieces = one_or_two _ _ _ (sym heap ∙ pieces.spell
 pub run_or_watch : (words : List (String Global)) (n : ℕ) → IsRun words → AsksWatchers words n → ⊥
 run_or_watch words n run watch = (let e : codes "run" ≡ codes "watch" = heads _ _ _ _ (sym run.2.1 ∙ watch.spelled) in cc)
 
+-- `c` is not `w`
+first : List ℕ → ℕ
+first [] = 0
+first (x ∷ xs) = x
+
 pub pieces_or_watch : (words : List (String Global)) (n m : ℕ) → AsksPieces words n → AsksWatchers words m → ⊥
-pieces_or_watch words n m pieces watch = (let e : codes "check" ≡ codes "watch" = heads _ _ _ _ (sym pieces.spelled ∙ watch.spelled) in cc)
+pieces_or_watch words n m pieces watch = (let e : 99 ≡ 119 = ap first (heads _ _ _ _ (sym pieces.spelled ∙ watch.spelled)) in omega arith)
 
 pub check_or_watch : (words : List (String Global)) (n : ℕ) → IsCheck words → AsksWatchers words n → ⊥
 check_or_watch words n check watch = one_or_two _ _ _ (sym check ∙ watch.spelled)

@@ -7,7 +7,7 @@ ghost use Rattle.std.specs.Io.KnownBytes.{Appends};
 ghost use Rattle.std.specs.Prelude.{◌++◌, length, OnOk};
 ghost use Rattle.edge_io.specs.Causes.{HasCause};
 ghost use Rattle.edge_io.specs.Front.{AppendsFront};
-ghost use Rattle.cycle_history.specs.Orders.{AreRisingProfile};
+ghost use Rattle.cycle_history.specs.Orders.{AreRisingProfile, AreRisingSweeps, AreRisingTotals};
 ghost use Rattle.cycle_history.specs.Text.{report_text};
 ghost use Rattle.sight_text.specs.Text.{seen_text};
 ghost use Rattle.alloc_tool.specs.Outcome.{Outcome};
@@ -61,6 +61,8 @@ fn write_seen<K: Sink>(
     report: &Report,
     seen: &[List<Sight>],
 ) -> Result<(), Failed>
+    requires sweeps { AreRisingSweeps report.now.sweeps }
+    requires totals { AreRisingTotals report.now.totals }
     requires profile { AreRisingProfile report.now.profile }
     requires few { length seen.now ≤ 4 }
     ensures ok { OnOk result (Appends (K.held output.old) (K.held output.new) (report_text report.now ++ seen_text 0 seen.now)) }
