@@ -1,5 +1,5 @@
 -- Words that ask for one thing ask for no other.
-use Rattle.std.proofs.Common.{◌≡◌, ℕ, List, [], ◌∷◌, codes, sym, ◌∙◌, ap, String, arith}
+use Rattle.std.proofs.Common.{◌≡◌, ℕ, ◌+◌, List, [], ◌∷◌, codes, refl, sym, ◌∙◌, ap, String, arith}
 use Rattle.std.specs.declared.alloc.Global.{Global}
 use Rattle.trace_reader.proofs.Digits.{decimal_injective_wide}
 use Rattle.commands.specs.Pieces.{AsksPieces}
@@ -70,8 +70,12 @@ first : List ℕ → ℕ
 first [] = 0
 first (x ∷ xs) = x
 
+twenty_apart : (a b : ℕ) → a ≡ b → a + 20 ≡ b → ⊥
+twenty_apart a b same apart = omega arith
+
 pub pieces_or_watch : (words : List (String Global)) (n m : ℕ) → AsksPieces words n → AsksWatchers words m → ⊥
-pieces_or_watch words n m pieces watch = (let e : 99 ≡ 119 = ap first (heads _ _ _ _ (sym pieces.spelled ∙ watch.spelled)) in omega arith)
+unfolding first
+pieces_or_watch words n m pieces watch = twenty_apart 99 119 (ap first (heads (codes "check") (codes "watch") _ _ (sym pieces.spelled ∙ watch.spelled))) refl
 
 pub check_or_watch : (words : List (String Global)) (n : ℕ) → IsCheck words → AsksWatchers words n → ⊥
 check_or_watch words n check watch = one_or_two _ _ _ (sym check ∙ watch.spelled)
