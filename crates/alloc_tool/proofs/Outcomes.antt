@@ -11,12 +11,10 @@ use Rattle.cycle_history.specs.declared.Report.{Report}
 use Rattle.cycle_history.specs.Objects.{Object}
 use Rattle.cycle_history.specs.Orders.{AreRisingProfile}
 use Rattle.cycle_history.specs.Sound.{HasProfileIn, IsSoundAndUsed}
-use Rattle.cycle_history.specs.Text.{report_text}
 use Rattle.commands.specs.Texts.{fault_status, fault_text, status_text, write_fault}
 use Rattle.commands.specs.Told.{Tells}
 use Rattle.whole_trace.specs.BrokenOff.{BreaksOff}
 use Rattle.whole_trace.specs.Refused.{IsRefused}
-use Rattle.alloc_tool.specs.Top.{IsAnswer}
 use Rattle.whole_trace.specs.WholeInput.{ReadsAll}
 use Rattle.alloc_tool.specs.Outcome.{Outcome}
 use Rattle.alloc_tool.proofs.Faults.{is_of_trace, is_read_fault, line_of_status}

@@ -56,11 +56,7 @@ pub(crate) fn watch<R: Threads + Wait + Sync, S: Source, K: Sink, E: Sink, G: Ga
 }
 
 // Writes the report, and behind it the lines of what watchers saw.
-fn write_seen<K: Sink>(
-    output: &mut K,
-    report: &Report,
-    seen: &[List<Sight>],
-) -> Result<(), Failed>
+fn write_seen<K: Sink>(output: &mut K, report: &Report, seen: &[List<Sight>]) -> Result<(), Failed>
     requires sweeps { AreRisingSweeps report.now.sweeps }
     requires totals { AreRisingTotals report.now.totals }
     requires profile { AreRisingProfile report.now.profile }

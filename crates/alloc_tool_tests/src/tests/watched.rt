@@ -10,7 +10,8 @@ const EMPTY: &str = "goheap 1\nheap 1 procs 1 rate 0 seed 1 goal 512\nend\n";
 const DYING: &str =
     "goheap 1\nheap 1 procs 1 rate 1 seed 1 goal 512\na 0 24 s 7\na 0 24 s 7\na 0 24 s 7\ngc 1\nm 0 0\nend\n";
 
-const REPORT: &str = "o 0 0xc000000000\no 1 0xc000000018\no 2 0xc000000030\nj 0 0 take 0 1 6\ns 1 0 1 2\nt 3 3 2\np 1 7 24 3 2\nend\n";
+const REPORT: &str =
+    "o 0 0xc000000000\no 1 0xc000000018\no 2 0xc000000030\nj 0 0 take 0 1 6\ns 1 0 1 2\nt 3 3 2\np 1 7 24 3 2\nend\n";
 
 // How often the run is watched whose lines depend on who comes first.
 const RUNS: u32 = 20;
@@ -18,9 +19,23 @@ const RUNS: u32 = 20;
 #[test]
 fn lines_of_watchers_stand_behind_the_report(rt: HostRuntime) -> Result<(), Fail> {
     let none = answered("end\nw 0 0 0 0\n");
-    expect(&rt, "", &["watch", "1"], EMPTY.as_bytes(), failing(&[], &[]), none)?;
+    expect(
+        &rt,
+        "",
+        &["watch", "1"],
+        EMPTY.as_bytes(),
+        failing(&[], &[]),
+        none,
+    )?;
     let four = answered("end\nw 0 0 0 0\nw 1 0 0 0\nw 2 0 0 0\nw 3 0 0 0\n");
-    expect(&rt, "", &["watch", "4"], EMPTY.as_bytes(), failing(&[], &[]), four)?;
+    expect(
+        &rt,
+        "",
+        &["watch", "4"],
+        EMPTY.as_bytes(),
+        failing(&[], &[]),
+        four,
+    )?;
     let late = format!(in rt.alloc(); "{REPORT}w 0 1 3 2\n")?;
     let early = format!(in rt.alloc(); "{REPORT}w 0 0 0 0\nw 0 1 3 2\n")?;
     let wanted = Wanted {
@@ -29,7 +44,14 @@ fn lines_of_watchers_stand_behind_the_report(rt: HostRuntime) -> Result<(), Fail
         told: "",
     };
     for _ in 0..RUNS {
-        expect(&rt, "", &["watch", "1"], DYING.as_bytes(), failing(&[], &[]), wanted)?;
+        expect(
+            &rt,
+            "",
+            &["watch", "1"],
+            DYING.as_bytes(),
+            failing(&[], &[]),
+            wanted,
+        )?;
     }
     Ok(())
 }
@@ -38,7 +60,10 @@ fn lines_of_watchers_stand_behind_the_report(rt: HostRuntime) -> Result<(), Fail
 #[test]
 fn watching_stops_as_running_does(rt: HostRuntime) -> Result<(), Fail> {
     let script = failing(&[], &[]);
-    for input in ["goheap 3\nheap 1 procs 1 rate 0 seed 1 goal 512\nend\n", "goheap 4\n"] {
+    for input in [
+        "goheap 3\nheap 1 procs 1 rate 0 seed 1 goal 512\nend\n",
+        "goheap 4\n",
+    ] {
         let wanted = refused(3, "goheap: trace line 1: malformed\n");
         expect(&rt, "", &["watch", "1"], input.as_bytes(), script, wanted)?;
         expect(&rt, "", &["run"], input.as_bytes(), script, wanted)?;
@@ -46,11 +71,25 @@ fn watching_stops_as_running_does(rt: HostRuntime) -> Result<(), Fail> {
     let wanted = refused(3, "goheap: trace line 2: ends early\n");
     expect(&rt, "", &["watch", "1"], b"goheap 1\n", script, wanted)?;
     let wanted = refused(5, "goheap: read fault\n");
-    expect(&rt, "", &["watch", "1"], EMPTY.as_bytes(), failing(&[0], &[]), wanted)?;
+    expect(
+        &rt,
+        "",
+        &["watch", "1"],
+        EMPTY.as_bytes(),
+        failing(&[0], &[]),
+        wanted,
+    )?;
     let wanted = Wanted {
         status: 6,
         written: Text::Is(b"end\n"),
         told: "goheap: write fault\n",
     };
-    expect(&rt, "", &["watch", "1"], EMPTY.as_bytes(), failing(&[], &[1]), wanted)
+    expect(
+        &rt,
+        "",
+        &["watch", "1"],
+        EMPTY.as_bytes(),
+        failing(&[], &[1]),
+        wanted,
+    )
 }
