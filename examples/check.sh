@@ -4,7 +4,8 @@
 # it compares with the report that ends in `.each`, where there is one. A report that ends in `.cached` is one of a heap with page caches:
 # it must be sound, whole and in pieces, and refused where the trace is of version 1. A report with exchanged addresses must be refused,
 # and so must three that are no sound report of the smallest trace. Words that read nothing print the file of their name that ends in `.lines`, the
-# same at each run and within a minute. Of the recorded trace of a real program it compares the totals.
+# same at each run and within a minute. Each line of what a watcher sees must be one of the file that ends in `.watched`, and the last one its last:
+# which others there are is up to who comes first. Of the recorded trace of a real program it compares the totals.
 set -u
 cd "$(dirname "$0")" || exit 1
 ../goheap --build || exit 1
@@ -36,6 +37,16 @@ for each in *.each; do
     failed=1
   fi
   judged "$each" "$trace" "$each"
+done
+for watched in *.watched; do
+  trace=${watched%.watched}.trace
+  printed=$(../goheap watch 1 <"$trace")
+  seen=$(grep '^w ' <<<"$printed")
+  judged "$watched" "$trace" <(grep -v '^w ' <<<"$printed")
+  if [ "${seen##*$'\n'}" != "$(tail -n 1 "$watched")" ] || grep -vxqF -f "$watched" <<<"$seen"; then
+    echo "$watched: another profile is seen" >&2
+    failed=1
+  fi
 done
 for cached in *.cached; do
   trace=${cached%.cached}.trace

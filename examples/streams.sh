@@ -6,7 +6,7 @@ cd "$(dirname "$(readlink -f "$0")")"
 folder=$(mktemp -d)
 trap 'rm -rf "$folder"' EXIT
 goheap=../goheap
-usage="usage: goheap run [--background=N] [--each] / check [--pieces=N] / gen SEED OBJECTS / demo SEED OBJECTS / classes / heap"
+usage="usage: goheap run [--background=N] [--each] / check [--pieces=N] / gen SEED OBJECTS / demo SEED OBJECTS / classes / watch N / heap"
 failed=0
 "$goheap" --build || exit 1
 

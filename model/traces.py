@@ -26,9 +26,9 @@ def mark_lines(marked):
     return [f"m {low} {high}" for low, high in lines]
 
 
-def made_trace(rng, chunk_counts=(1, 1, 1, 2, 3), proc_counts=(1, 1, 2, 3, 4, 64), alone=False):
-    """A trace with a number of chunks and of processors out of these. Where each is to work alone, the events of a cycle are of one
-    processor, and the goal is the whole region."""
+def made_trace(rng, chunk_counts=(1, 1, 1, 2, 3), proc_counts=(1, 1, 2, 3, 4, 64), alone=False, ends=None):
+    """A trace with a number of chunks and of processors out of these, and with so many mark ends, or 1 to 7. Where each is to work
+    alone, the events of a cycle are of one processor, and the goal is the whole region."""
     chunks = rng.choice(chunk_counts)
     procs = rng.choice(proc_counts)
     goal = rng.choice([512 * chunks, 512 * chunks, 0, rng.randrange(512 * chunks + 1)])
@@ -38,7 +38,7 @@ def made_trace(rng, chunk_counts=(1, 1, 1, 2, 3), proc_counts=(1, 1, 2, 3, 4, 64
     lines = ["goheap 1", f"heap {chunks} procs {procs} rate {rate} seed {seed} goal {goal}"]
     common = [rng.choice(SIZES) for _ in range(rng.randrange(1, 4))]
     count, alive = 0, set()
-    for _ in range(rng.randrange(1, 8)):
+    for _ in range(rng.randrange(1, 8) if ends is None else ends):
         fresh = rng.choice([0, 1, 5, 40, 300])
         lines += events(rng, procs, common, fresh, alone)
         share = rng.choice([0.0, 0.2, 0.5, 0.9, 1.0])

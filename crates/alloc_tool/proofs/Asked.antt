@@ -1,8 +1,9 @@
 -- Words that ask for one thing ask for no other.
-use Rattle.std.proofs.Common.{◌≡◌, ℕ, List, [], ◌∷◌, codes, sym, ◌∙◌, String, arith}
+use Rattle.std.proofs.Common.{◌≡◌, ℕ, ◌+◌, List, [], ◌∷◌, codes, refl, sym, ◌∙◌, ap, String, arith}
 use Rattle.std.specs.declared.alloc.Global.{Global}
 use Rattle.trace_reader.proofs.Digits.{decimal_injective_wide}
 use Rattle.commands.specs.Pieces.{AsksPieces}
+use Rattle.commands.specs.Watchers.{AsksWatchers}
 use Rattle.alloc_tool.specs.Words.{IsCheck, IsDemo, IsHeap, IsRun, IsSeeded}
 
 heads : (a b : List ℕ) (xs ys : List (List ℕ)) → a ∷ xs ≡ b ∷ ys → a ≡ b
@@ -59,3 +60,37 @@ pieces_or_seeded word words n seed objects pieces seeded = two_or_three _ _ _ _ 
 
 pub heap_or_pieces : (words : List (String Global)) (n : ℕ) → IsHeap words → AsksPieces words n → ⊥
 heap_or_pieces words n heap pieces = one_or_two _ _ _ (sym heap ∙ pieces.spelled)
+
+-- words that ask for watchers are none of the others, and ask for one number of them
+pub run_or_watch : (words : List (String Global)) (n : ℕ) → IsRun words → AsksWatchers words n → ⊥
+run_or_watch words n run watch = (let e : codes "run" ≡ codes "watch" = heads _ _ _ _ (sym run.2.1 ∙ watch.spelled) in cc)
+
+-- `c` is not `w`
+first : List ℕ → ℕ
+first [] = 0
+first (x ∷ xs) = x
+
+twenty_apart : (a b : ℕ) → a ≡ b → a + 20 ≡ b → ⊥
+twenty_apart a b same apart = omega arith
+
+pub pieces_or_watch : (words : List (String Global)) (n m : ℕ) → AsksPieces words n → AsksWatchers words m → ⊥
+unfolding first
+pieces_or_watch words n m pieces watch = twenty_apart 99 119 (ap first (heads (codes "check") (codes "watch") _ _ (sym pieces.spelled ∙ watch.spelled))) refl
+
+pub check_or_watch : (words : List (String Global)) (n : ℕ) → IsCheck words → AsksWatchers words n → ⊥
+check_or_watch words n check watch = one_or_two _ _ _ (sym check ∙ watch.spelled)
+
+pub heap_or_watch : (words : List (String Global)) (n : ℕ) → IsHeap words → AsksWatchers words n → ⊥
+heap_or_watch words n heap watch = one_or_two _ _ _ (sym heap ∙ watch.spelled)
+
+pub watch_or_seeded : (word : List ℕ) (words : List (String Global)) (n seed objects : ℕ) → AsksWatchers words n → IsSeeded word words seed objects → ⊥
+watch_or_seeded word words n seed objects watch seeded = two_or_three _ _ _ _ _ (sym watch.spelled ∙ seeded.spelled)
+
+seconds : (a b c : List ℕ) → a ∷ b ∷ [] ≡ a ∷ c ∷ [] → b ≡ c
+seconds a b c e = cc
+
+pub one_watch : (words : List (String Global)) (n m : ℕ) → AsksWatchers words n → AsksWatchers words m → n ≡ m
+one_watch words n m a b =
+    let na = a.few in
+    let nb = b.few in
+    decimal_injective_wide n m (omega arith) (omega arith) (seconds (codes "watch") _ _ (sym a.spelled ∙ b.spelled))

@@ -9,3 +9,4 @@ pub mod Plain
 pub mod Checked
 pub mod SoundPair
 pub mod Unbroken
+pub mod Behind

@@ -11,12 +11,10 @@ use Rattle.cycle_history.specs.declared.Report.{Report}
 use Rattle.cycle_history.specs.Objects.{Object}
 use Rattle.cycle_history.specs.Orders.{AreRisingProfile}
 use Rattle.cycle_history.specs.Sound.{HasProfileIn, IsSoundAndUsed}
-use Rattle.cycle_history.specs.Text.{report_text}
 use Rattle.commands.specs.Texts.{fault_status, fault_text, status_text, write_fault}
 use Rattle.commands.specs.Told.{Tells}
 use Rattle.trace_reader.specs.BrokenOff.{BreaksOff}
 use Rattle.trace_reader.specs.Refused.{IsRefused}
-use Rattle.alloc_tool.specs.Top.{IsAnswer}
 use Rattle.trace_reader.specs.WholeInput.{ReadsAll}
 use Rattle.alloc_tool.specs.Outcome.{Outcome}
 use Rattle.alloc_tool.proofs.Faults.{is_of_trace, is_read_fault, line_of_status}
@@ -39,12 +37,12 @@ no_writing (BadMark line object) = (λ e. cc, λ e. cc)
 no_writing NoMemory = (λ e. cc, λ e. cc)
 
 -- a fault was told
-pub refused_outcome : {S K E : Type 0} (each : Bool) (left : S → Option (List ℕ)) (reads : S → ℕ) (held : K → Option (List ℕ)) (writes : K → ℕ) (shown : E → Option (List ℕ)) (tells : E → ℕ)
+pub refused_outcome : {S K E : Type 0} (Answers : Trace → List ℕ → Type 0) (left : S → Option (List ℕ)) (reads : S → ℕ) (held : K → Option (List ℕ)) (writes : K → ℕ) (shown : E → Option (List ℕ)) (tells : E → ℕ)
     (input input' : S) (output output' : K) (errors errors' : E) (fault : TraceFault) (status : ℕ)
     → status ≡ fault_status fault → output' ≡ output → Tells shown tells errors errors' (fault_text fault)
     → (IsOfTrace fault → IsRefused (left input) fault) → (fault ≡ ReadFault → Rose (reads input) (reads input')) → (fault ≡ ReadFault → BreaksOff (left input) (left input'))
-    → Outcome each left reads held writes shown tells input input' output output' errors errors' status
-refused_outcome each left reads held writes shown tells input input' output output' errors errors' fault status is same told refused rose broken = record {
+    → Outcome Answers left reads held writes shown tells input input' output output' errors errors' status
+refused_outcome Answers left reads held writes shown tells input input' output output' errors errors' fault status is same told refused rose broken = record {
   answered = λ zero. absurd ((no_writing fault).0 (sym is ∙ zero));
   silent = λ zero. absurd ((no_writing fault).0 (sym is ∙ zero));
   refused = λ three. (let of = is_of_trace fault (sym is ∙ three) in (fault, of, refused of, told));
@@ -57,12 +55,12 @@ refused_outcome each left reads held writes shown tells input input' output outp
 }
 
 -- the whole answer was written
-pub answered_outcome : {S K E : Type 0} (each : Bool) (left : S → Option (List ℕ)) (reads : S → ℕ) (held : K → Option (List ℕ)) (writes : K → ℕ) (shown : E → Option (List ℕ)) (tells : E → ℕ)
-    (input input' : S) (output output' : K) (errors errors' : E) (trace : Trace) (report : Report)
-    → ReadsAll (left input) (left input') trace → IsAnswer each trace report → Appends (held output) (held output') (report_text report) → errors' ≡ errors
-    → Outcome each left reads held writes shown tells input input' output output' errors errors' 0
-answered_outcome each left reads held writes shown tells input input' output output' errors errors' trace report reads_all answer appends same = record {
-  answered = λ _. (trace, report, reads_all, answer, appends);
+pub answered_outcome : {S K E : Type 0} (Answers : Trace → List ℕ → Type 0) (left : S → Option (List ℕ)) (reads : S → ℕ) (held : K → Option (List ℕ)) (writes : K → ℕ) (shown : E → Option (List ℕ)) (tells : E → ℕ)
+    (input input' : S) (output output' : K) (errors errors' : E) (trace : Trace) (written : List ℕ)
+    → ReadsAll (left input) (left input') trace → Answers trace written → Appends (held output) (held output') written → errors' ≡ errors
+    → Outcome Answers left reads held writes shown tells input input' output output' errors errors' 0
+answered_outcome Answers left reads held writes shown tells input input' output output' errors errors' trace written reads_all answer appends same = record {
+  answered = λ _. (trace, written, reads_all, answer, appends);
   silent = λ _. same;
   refused = λ e. absurd cc;
   read_fault = λ e. absurd cc;
@@ -74,19 +72,19 @@ answered_outcome each left reads held writes shown tells input input' output out
 }
 
 -- a write failed
-pub written_outcome : {S K E : Type 0} (each : Bool) (left : S → Option (List ℕ)) (reads : S → ℕ) (held : K → Option (List ℕ)) (writes : K → ℕ) (shown : E → Option (List ℕ)) (tells : E → ℕ)
-    (input input' : S) (output output' : K) (errors errors' : E) (trace : Trace) (report : Report) (status : ℕ)
-    → status ≡ 6 → ReadsAll (left input) (left input') trace → IsAnswer each trace report → AppendsFront (held output) (held output') (report_text report)
+pub written_outcome : {S K E : Type 0} (Answers : Trace → List ℕ → Type 0) (left : S → Option (List ℕ)) (reads : S → ℕ) (held : K → Option (List ℕ)) (writes : K → ℕ) (shown : E → Option (List ℕ)) (tells : E → ℕ)
+    (input input' : S) (output output' : K) (errors errors' : E) (trace : Trace) (written : List ℕ) (status : ℕ)
+    → status ≡ 6 → ReadsAll (left input) (left input') trace → Answers trace written → AppendsFront (held output) (held output') written
     → Rose (writes output) (writes output') → Tells shown tells errors errors' write_fault
-    → Outcome each left reads held writes shown tells input input' output output' errors errors' status
-written_outcome each left reads held writes shown tells input input' output output' errors errors' trace report status is reads_all answer front rose told = record {
+    → Outcome Answers left reads held writes shown tells input input' output output' errors errors' status
+written_outcome Answers left reads held writes shown tells input input' output output' errors errors' trace written status is reads_all answer front rose told = record {
   answered = λ e. absurd (clash 0 (λ f. cc) e);
   silent = λ e. absurd (clash 0 (λ f. cc) e);
   refused = λ e. absurd (clash 3 (λ f. cc) e);
   read_fault = λ e. absurd (clash 5 (λ f. cc) e);
   broken_off = λ e. absurd (clash 5 (λ f. cc) e);
   write_fault = λ _. rose;
-  partly_written = λ _. (trace, report, reads_all, answer, front);
+  partly_written = λ _. (trace, written, reads_all, answer, front);
   unwritten = λ _ other. absurd (other is);
   told = λ _ _. subst (λ (k : ℕ). Tells shown tells errors errors' (status_text k)) (sym is) told;
 } where

@@ -4,3 +4,4 @@ pub mod Words
 pub mod Plain
 pub mod Checked
 pub mod Demo
+pub mod Watch

@@ -15,16 +15,20 @@ pub record IsAnswer (each : Bool) (trace : Trace) (report : Report) : Type 0 whe
   pub sound : IsSoundAndUsed trace report
   pub form : HasForm trace report each
 
--- The bytes that were read spell a trace, and nothing is left unread. The bytes that were written are the text of an
--- answer to that trace.
-abbrev pub AnswersAll : Bool → (left left' held held' : Option (List ℕ)) → Type 0
-AnswersAll each left left' held held' = (trace : Trace) × (report : Report)
-    × ReadsAll left left' trace × IsAnswer each trace report × Appends held held' (report_text report)
+-- the text of such a report
+abbrev pub IsReportText : Bool → Trace → List ℕ → Type 0
+IsReportText each trace written = (report : Report) × IsAnswer each trace report × (written ≡ report_text report)
+
+-- The bytes that were read spell a trace, and nothing is left unread. The bytes that were written are a text that answers
+-- that trace.
+abbrev pub AnswersAll : (Trace → List ℕ → Type 0) → (left left' held held' : Option (List ℕ)) → Type 0
+AnswersAll Answers left left' held held' = (trace : Trace) × (written : List ℕ)
+    × ReadsAll left left' trace × Answers trace written × Appends held held' written
 
 -- the same, but that only a front of the text was written
-abbrev pub AnswersFront : Bool → (left left' held held' : Option (List ℕ)) → Type 0
-AnswersFront each left left' held held' = (trace : Trace) × (report : Report)
-    × ReadsAll left left' trace × IsAnswer each trace report × AppendsFront held held' (report_text report)
+abbrev pub AnswersFront : (Trace → List ℕ → Type 0) → (left left' held held' : Option (List ℕ)) → Type 0
+AnswersFront Answers left left' held held' = (trace : Trace) × (written : List ℕ)
+    × ReadsAll left left' trace × Answers trace written × AppendsFront held held' written
 
 -- how a run ends: with its answer, at a refused trace, at a fault of its input or its output, or for want of memory
 abbrev pub IsStatusOfRun : ℕ → Type 0

@@ -6,19 +6,22 @@ ghost use Rattle.trace_reader.specs.Limits.{Spells};
 ghost use Rattle.commands.specs.Classes.{classes_text};
 ghost use Rattle.trace_gen.specs.Made.{made_trace};
 ghost use Rattle.commands.specs.Pieces.{AsksPieces};
+ghost use Rattle.commands.specs.Watchers.{AsksWatchers};
 ghost use Rattle.alloc_tool.specs.Checked.{AcceptsSound, Checked};
 ghost use Rattle.alloc_tool.specs.Demo.{Demos};
 ghost use Rattle.alloc_tool.specs.Outcome.{Outcome};
 ghost use Rattle.alloc_tool.specs.Plain.{Plain, Writes};
-ghost use Rattle.alloc_tool.specs.Top.{IsComplete, IsStatusOfRun, IsUndisturbed};
+ghost use Rattle.alloc_tool.specs.Top.{IsComplete, IsReportText, IsStatusOfRun, IsUndisturbed};
+ghost use Rattle.alloc_tool.specs.Watch.{IsWatchText};
 ghost use Rattle.alloc_tool.specs.Words.{IsCheck, IsDemo, IsHeap, IsRun, IsRunWith, IsWord};
 
 use crate::demo::show_run;
 use crate::generate::{generate, wanted_by};
 use crate::judging::{judge_in_pieces, judge_report};
+use crate::watch::watch;
 use commands::{
     are_of_run, pieces_of, read_options, refuse_trace, refuse_words, show_heap, stop_writing,
-    write_classes,
+    watchers_of, write_classes,
 };
 use edge_io::{Gate, NoMemory, Sink, Source};
 use heap_run::{Options, run_trace};
@@ -28,11 +31,12 @@ use std::sync::Wait;
 use std::thread::Threads;
 use trace_reader::{TraceFault, read_whole};
 
-/// Does what the words say, and answers the exit status. It runs `run`, `demo` and `check --pieces=N` itself; all other words go
-/// to [`goheap_plain`].
+/// Does what the words say, and answers the exit status. It runs `run`, `watch`, `demo` and `check --pieces=N` itself; all other
+/// words go to [`goheap_plain`].
 ///
 /// `words` are those behind the program's name. `run` reads a trace from `input` to its end and writes its report to
-/// `output`; its options are `--each` and `--background=N` or `--background N`. `demo SEED OBJECTS` makes a trace, runs and
+/// `output`; its options are `--each` and `--background=N` or `--background N`. `watch N` does what `run` does, with N watchers of
+/// the run's profile, and writes behind the report what they saw. `demo SEED OBJECTS` makes a trace, runs and
 /// judges it, and writes what came of it. `check --pieces=N` does what `check` does, with the objects in N pieces that are judged
 /// beside each other. Where a call does not answer, one line on `errors` says why.
 pub fn goheap<R: Threads + Wait + Sync, S: Source, K: Sink, E: Sink, G: Gate>(
@@ -45,14 +49,19 @@ pub fn goheap<R: Threads + Wait + Sync, S: Source, K: Sink, E: Sink, G: Gate>(
     gate: &G,
 ) -> u8
     ensures outcome { (background : ℕ) (each : Bool) → IsRunWith words.now background each
-        → Outcome each S.left S.faults K.held K.faults E.held E.faults input.old input.new output.old output.new errors.old errors.new result }
+        → Outcome (IsReportText each) S.left S.faults K.held K.faults E.held E.faults input.old input.new output.old output.new errors.old errors.new result }
     ensures run_words { IsRun words.now → IsStatusOfRun result }
+    ensures watch { (n : ℕ) → AsksWatchers words.now n
+        → Outcome (IsWatchText n) S.left S.faults K.held K.faults E.held E.faults input.old input.new output.old output.new errors.old errors.new result }
+    ensures watch_words { (n : ℕ) → AsksWatchers words.now n → IsStatusOfRun result }
     ensures demo { (seed objects : ℕ) → IsDemo words.now seed objects
         → Demos (made_trace seed objects) K.held K.faults E.held E.faults output.old output.new errors.old errors.new result × (input.new ≡ input.old) }
     ensures in_pieces { (n : ℕ) → AsksPieces words.now n
         → Checked S.left S.faults K.held K.faults E.held E.faults input.old input.new output.old output.new errors.old errors.new result }
-    ensures other_words { (IsRun words.now → ⊥) → ((seed objects : ℕ) → IsDemo words.now seed objects → ⊥) → ((n : ℕ) → AsksPieces words.now n → ⊥) → Plain S.left S.faults K.held K.faults E.held E.faults words.now input.old input.new output.old output.new errors.old errors.new result }
+    ensures other_words { (IsRun words.now → ⊥) → ((seed objects : ℕ) → IsDemo words.now seed objects → ⊥) → ((n : ℕ) → AsksPieces words.now n → ⊥) → ((n : ℕ) → AsksWatchers words.now n → ⊥) → Plain S.left S.faults K.held K.faults E.held E.faults words.now input.old input.new output.old output.new errors.old errors.new result }
     ensures complete { IsRun words.now → (bytes : List ℕ)
+        → IsUndisturbed S.left S.faults K.faults input.old input.new output.old output.new bytes → IsComplete bytes result }
+    ensures watch_complete { (n : ℕ) → AsksWatchers words.now n → (bytes : List ℕ)
         → IsUndisturbed S.left S.faults K.faults input.old input.new output.old output.new bytes → IsComplete bytes result }
     ensures check { IsCheck words.now → (bytes : List ℕ)
         → IsUndisturbed S.left S.faults K.faults input.old input.new output.old output.new bytes → AcceptsSound bytes result }
@@ -67,6 +76,9 @@ pub fn goheap<R: Threads + Wait + Sync, S: Source, K: Sink, E: Sink, G: Gate>(
     if let Some(pieces) = pieces_of(words) {
         return judge_in_pieces(rt, alloc, pieces, input, output, errors);
     }
+    if let Some(readers) = watchers_of(words) {
+        return watch(rt, alloc, readers, input, output, errors, gate);
+    }
     match wanted_by(words, "demo") {
         Some(wanted) => show_run(rt, alloc, wanted, output, errors, gate),
         None => goheap_plain(alloc, words, input, output, errors),
@@ -76,7 +88,7 @@ pub fn goheap<R: Threads + Wait + Sync, S: Source, K: Sink, E: Sink, G: Gate>(
 /// Does what the words say where that needs no runtime, and answers the exit status. `classes` writes the table of size
 /// classes to `output`, and `gen SEED OBJECTS` a made trace. `check` reads a trace from `input` and directly behind it a report to
 /// the end, judges the report, and writes `check ok` where it is sound. `heap` does the same, and writes the heap profile as of the
-/// last mark end in its place. All other words are not known yet, and `run` and `demo` need the runtime.
+/// last mark end in its place. All other words are not known yet, and `run`, `watch` and `demo` need the runtime.
 pub fn goheap_plain<S: Source, K: Sink, E: Sink>(
     alloc: Global,
     words: &[String],
@@ -135,7 +147,7 @@ fn run<R: Threads + Wait + Sync, S: Source, K: Sink, E: Sink, G: Gate>(
 ) -> u8
     requires { IsRun words.now }
     ensures outcome { (background : ℕ) (each : Bool) → IsRunWith words.now background each
-        → Outcome each S.left S.faults K.held K.faults E.held E.faults input.old input.new output.old output.new errors.old errors.new result }
+        → Outcome (IsReportText each) S.left S.faults K.held K.faults E.held E.faults input.old input.new output.old output.new errors.old errors.new result }
     ensures status { IsStatusOfRun result }
     ensures complete { (bytes : List ℕ) (trace : ATrace) → S.left input.old ≡ Some bytes → Spells bytes trace → result ≢ 3 }
 {
@@ -162,7 +174,7 @@ fn run_by<R: Threads + Wait + Sync, S: Source, K: Sink, E: Sink, G: Gate>(
     gate: &G,
 ) -> u8
     requires { options.background ≤ 4 }
-    ensures outcome { Outcome options.each S.left S.faults K.held K.faults E.held E.faults input.old input.new output.old output.new errors.old errors.new result }
+    ensures outcome { Outcome (IsReportText options.each) S.left S.faults K.held K.faults E.held E.faults input.old input.new output.old output.new errors.old errors.new result }
     ensures status { IsStatusOfRun result }
     ensures complete { (bytes : List ℕ) (trace : ATrace) → S.left input.old ≡ Some bytes → Spells bytes trace → result ≢ 3 }
 {

@@ -15,6 +15,7 @@ mod faults;
 mod judged;
 mod pieces;
 mod streams;
+mod watched;
 
 // The second line of most traces.
 const SMALL: &str = "heap 1 procs 1 rate 0 seed 1 goal 512";
@@ -46,10 +47,11 @@ fn failing<'a>(reads: &'a [u64], writes: &'a [u64]) -> Script<'a>
     }
 }
 
-// What is to be written: these bytes, or some that begin and end with these.
+// What is to be written: these bytes, one of these two texts, or some that begin and end with these.
 #[derive(Clone, Copy)]
 enum Text<'a> {
     Is(&'a [u8]),
+    Either(&'a [u8], &'a [u8]),
     Round(&'a [u8], &'a [u8]),
 }
 
@@ -57,6 +59,7 @@ enum Text<'a> {
 fn fits(text: Text<'_>, bytes: &[u8]) -> bool {
     match text {
         Text::Is(whole) => bytes == whole,
+        Text::Either(one, other) => bytes == one || bytes == other,
         Text::Round(front, tail) => bytes.starts_with(front) && bytes.ends_with(tail),
     }
 }

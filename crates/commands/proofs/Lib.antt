@@ -7,3 +7,4 @@ pub mod PiecesAsked
 pub mod ClassLines
 pub mod SummaryWhole
 pub mod Pairs
+mod WatchersAsked

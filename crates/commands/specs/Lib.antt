@@ -12,3 +12,4 @@ pub mod Texts
 pub mod Told
 pub mod Stopped
 pub mod Heaped
+pub mod Watchers

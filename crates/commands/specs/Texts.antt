@@ -9,7 +9,7 @@ use Rattle.trace_reader.specs.declared.fault.Which.TheVariants.{Bytes, Chunks, P
 
 -- the line for words that are not known
 abbrev pub usage : List ℕ
-usage = codes "usage: goheap run [--background=N] [--each] / check [--pieces=N] / gen SEED OBJECTS / demo SEED OBJECTS / classes / heap"
+usage = codes "usage: goheap run [--background=N] [--each] / check [--pieces=N] / gen SEED OBJECTS / demo SEED OBJECTS / classes / watch N / heap"
 
 -- the line after a write that failed
 abbrev pub write_fault : List ℕ

@@ -17,6 +17,7 @@ mod stop;
 mod summary;
 mod sums;
 mod wanted;
+mod watchers;
 
 pub use classes::write_classes;
 pub use demo::{SummaryFault, write_summary};
@@ -30,3 +31,4 @@ pub use refusals::{refuse_pair, refuse_trace, refuse_words, stop_writing};
 pub use run_words::are_of_run;
 pub use stop::{Stop, Verdict};
 pub use wanted::{Wanted, read_words};
+pub use watchers::watchers_of;

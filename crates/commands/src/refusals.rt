@@ -19,7 +19,7 @@ pub fn refuse_words<E: Sink>(errors: &mut E) -> u8
 {
     tell(
         errors,
-        b"usage: goheap run [--background=N] [--each] / check [--pieces=N] / gen SEED OBJECTS / demo SEED OBJECTS / classes / heap\n",
+        b"usage: goheap run [--background=N] [--each] / check [--pieces=N] / gen SEED OBJECTS / demo SEED OBJECTS / classes / watch N / heap\n",
     );
     2
 }

@@ -17,6 +17,8 @@ use std::test::Fail;
 use std::thread::Threads;
 use trace_reader::{Trace, read_trace};
 
+mod watched;
+
 // A trace with its report: the trace's second line and the lines behind it, the report's lines before its profile, and the profile in its
 // two forms, of the last mark end alone and of each.
 struct Row {

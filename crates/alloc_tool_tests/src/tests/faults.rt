@@ -243,6 +243,15 @@ const OTHER_WORDS: &[&[&str]] = &[
     &["check", "--pieces", "1"],
     &["check", "--pieces=1", "--pieces=1"],
     &["--pieces=1", "check"],
+    &["watch"],
+    &["watch", "0"],
+    &["watch", "5"],
+    &["watch", "01"],
+    &["watch", "+1"],
+    &["watch", ""],
+    &["watch", "1", "1"],
+    &["watch", "--each", "1"],
+    &["1", "watch"],
     &["classes", ""],
     &["gen", "1", "0"],
     &["gen", "1", "1000001"],
@@ -275,7 +284,7 @@ const OTHER_WORDS: &[&[&str]] = &[
 #[test]
 fn other_words_are_refused(rt: HostRuntime) -> Result<(), Fail> {
     let usage =
-        "usage: goheap run [--background=N] [--each] / check [--pieces=N] / gen SEED OBJECTS / demo SEED OBJECTS / classes / heap\n";
+        "usage: goheap run [--background=N] [--each] / check [--pieces=N] / gen SEED OBJECTS / demo SEED OBJECTS / classes / watch N / heap\n";
     for &words in OTHER_WORDS {
         // A read or a write would fail.
         expect(
@@ -339,7 +348,8 @@ fn expect_plain<R: AllocGlobal + Abort>(rt: &R, words: &[&str]) -> Result<(), Fa
 fn plain_words_are_refused(rt: HostRuntime) -> Result<(), Fail> {
     expect_plain(&rt, &["run"])?;
     expect_plain(&rt, &["demo"])?;
-    expect_plain(&rt, &["check", "--pieces=1"])
+    expect_plain(&rt, &["check", "--pieces=1"])?;
+    expect_plain(&rt, &["watch", "1"])
 }
 
 // A limit of the bytes that are read, and how many cycles a trace of one object then has, or why it is refused.
