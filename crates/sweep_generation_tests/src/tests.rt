@@ -435,16 +435,31 @@ fn drops(rt: &impl Abort, core: &mut Core) {
     gives(rt, core, Move::Unlock(1), DONE);
 }
 
+// How many pages are left of the block of worker 0.
+fn left(core: &Core) -> Option<usize> {
+    Some(core.hands().first()?.pulled.len())
+}
+
+// The page of this place among those that are left of the block of worker 0, lowest first.
+fn page_left(core: &Core, place: usize) -> Option<u32> {
+    Some(*core.hands().first()?.pulled.as_slice().get(place)?)
+}
+
+// The first page of the span that has this page.
+fn owner(core: &Core, page: usize) -> Option<u32> {
+    *core.owners().get(page)?
+}
+
 #[test]
 fn blocks_of_two_workers(rt: HostRuntime) -> Result<(), Fail> {
     let mut core = Core::new(rt.alloc(), 130, 2)?;
     pulls(&rt, &mut core);
     takes_of_pulled_pages(&rt, &mut core);
     cuts(&rt, &mut core);
-    assert_eq!(rt; core.hands()[0].pulled.len(), 60);
-    assert_eq!(rt; core.hands()[0].pulled.as_slice()[0], 0);
-    assert_eq!(rt; core.hands()[0].pulled.as_slice()[1], 5);
-    assert_eq!(rt; core.owners()[4], Some(3));
+    assert_eq!(rt; left(&core), Some(60));
+    assert_eq!(rt; page_left(&core, 0), Some(0));
+    assert_eq!(rt; page_left(&core, 1), Some(5));
+    assert_eq!(rt; owner(&core, 4), Some(3));
     drops(&rt, &mut core);
     Ok(())
 }
