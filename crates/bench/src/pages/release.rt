@@ -48,6 +48,17 @@ fn release(pages: &mut Pages) -> Result<u64, NoMemory>
     Ok(u64::from(PAGES))
 }
 
+/// Releases all pages where it is asked to, and counts the runs.
+fn release_if(pages: &mut Pages, releases: bool) -> Result<u64, NoMemory>
+    requires by { IsBy 0 pages.old.past }
+    requires blocks { open_blocks pages.old.past ≡ [] }
+    ensures by { IsBy 0 pages.new.past }
+    ensures blocks { open_blocks pages.new.past ≡ [] }
+    ensures region { pages.new.region ≡ pages.old.region }
+{
+    if releases { release(pages) } else { Ok(0) }
+}
+
 /// Takes all pages and gives them back so many times, and each time releases them too where it is asked to. The answer is the
 /// number of runs that were released.
 pub fn rounds(alloc: Global, calls: u64, releases: bool) -> Result<u64, NoMemory> {
@@ -56,9 +67,7 @@ pub fn rounds(alloc: Global, calls: u64, releases: bool) -> Result<u64, NoMemory
     let mut runs = 0u64;
     for _ in 0..calls {
         refill(&mut pages, &mut live)?;
-        if releases {
-            runs = runs.wrapping_add(release(&mut pages)?);
-        }
+        runs = runs.wrapping_add(release_if(&mut pages, releases)?);
     }
     Ok(runs)
 }
