@@ -1,12 +1,12 @@
 -- What a watcher keeps, as it knows of more publishes and keeps more sights.
-use Rattle.std.proofs.Common.{◌≡◌, ℕ, ◌<◌, ◌≤◌, ◌+◌, ◌%◌, ◌^◌, List, [], ◌∷◌, ◌++◌, length, take, take_all, Option, Some, None, Result, Ok, Err, IfOk, refl, sym, ◌∙◌, ap, subst, arith}
-use Rattle.std.proofs.lemmas.List.{take-append-le}
+use Rattle.std.proofs.Common.{◌≡◌, ℕ, ◌<◌, ◌≤◌, ◌^◌, Bool, true, false, List, [], ◌∷◌, ◌++◌, length, take, take_all, Option, Some, None, Result, Ok, Err, IfOk, refl, sym, ◌∙◌, ap, subst, arith, ◌⊎◌, inl, inr}
+use Rattle.std.proofs.lemmas.List.{append-nil, take-append-le}
 use mathlib.Core.List.{IsPrefix}
 use Rattle.std.specs.List.{sum_by}
 use Rattle.profile_cycle.specs.declared.counts.Count.{Count}
 use Rattle.profile_readers.specs.declared.viewer.Sight.{Sight}
 use Rattle.profile_readers.specs.History.{profile_after}
-use Rattle.profile_readers.specs.Sights.{AreSights, IsNewer, IsNewest, IsSight, RiseTo, allocs_of, frees_of}
+use Rattle.profile_readers.specs.Sights.{AreSights, HasReached, IsNewer, IsNewest, IsSight, RiseTo, allocs_of, frees_of}
 
 abbrev pub Publishes : Type 0
 Publishes = List (List Count)
@@ -76,3 +76,36 @@ whole-sight buckets p counts s number is allocs frees =
 pub all-sights : {E : Type 0} (buckets : ℕ) (p q : Publishes) (n : ℕ) (r : Result (List Sight) E) → IsPrefix p q → n ≡ length p → IfOk r (λ sights. RiseTo n sights) → IfOk r (λ sights. AreSights buckets q sights) → IfOk r (λ sights. AreSights buckets p sights)
 all-sights buckets p q n (Ok sights) pre same rise are = sights-back buckets p q sights pre (subst (λ (k : ℕ). RiseTo k sights) same rise) are
 all-sights buckets p q n (Err e) pre same rise are = tt
+
+-- the last number is that of publishes that are known
+rise-past : (buckets n : ℕ) (p : Publishes) (s : Sight) (sights : List Sight) → RiseTo n (s ∷ sights) → AreSights buckets p (s ∷ sights) → n ≤ length p
+rise-past buckets n p s [] rise are = let past = are.0.past in let same : s.k ≡ n = rise in omega arith
+rise-past buckets n p s (t ∷ sights) rise are = rise-past buckets n p t sights rise.1 are.1
+
+rise-to : (buckets n k : ℕ) (p : Publishes) (sights : List Sight) → k ≡ length p → AreSights buckets p sights → RiseTo n sights → k ≤ n → RiseTo (length p) sights
+rise-to buckets n k p [] is are rise le = absurd rise
+rise-to buckets n k p (s ∷ sights) is are rise le =
+    let past = rise-past buckets n p s sights rise are in
+    let same : n ≡ length p = omega arith in
+    subst (λ (m : ℕ). RiseTo m (s ∷ sights)) same rise
+
+-- where the last sight is no older than all that is known, it has that number
+pub all-reached : (buckets : ℕ) (p : Publishes) (sights : List Sight) (newest : Option ℕ) (k : ℕ) → k ≡ length p → AreSights buckets p sights → IsNewest newest sights → HasReached k newest → RiseTo (length p) sights
+all-reached buckets p sights None k is are none reached = absurd reached
+all-reached buckets p sights (Some n) k is are rise reached = rise-to buckets n k p sights is are rise reached
+
+-- what is kept begins with what was kept
+pub more-kept : (old new : List Sight) (s : Sight) → (new ≡ old) ⊎ (new ≡ old ++ s ∷ []) → IsPrefix old new
+more-kept old new s kept = elim kept [
+  | inl same ↦ ([], append-nil old ∙ sym same)
+  | inr more ↦ (s ∷ [], sym more)
+]
+
+pub kept-first : {E : Type 0} (old new : List Sight) (r : Result (List Sight) E) → IsPrefix old new → IfOk r (λ sights. sights ≡ new) → IfOk r (λ sights. IsPrefix old sights)
+kept-first old new (Ok sights) pre same = subst (λ (l : List Sight). IsPrefix old l) (sym same) pre
+kept-first old new (Err e) pre same = tt
+
+pub unrefused : {E : Type 0} (old new : Bool) (r : Result (List Sight) E) → (old ≡ true → new ≡ true) → IfOk r (λ sights. new ≡ false) → IfOk r (λ sights. old ≡ false)
+unrefused false new (Ok sights) stays not = refl
+unrefused true new (Ok sights) stays not = absurd (cc (stays refl, not))
+unrefused old new (Err e) stays not = tt

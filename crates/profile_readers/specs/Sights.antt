@@ -1,9 +1,15 @@
 -- What a watcher keeps of the profiles that it sees.
-use Rattle.std.specs.Prelude.{◌≡◌, ℕ, ◌<◌, ◌≤◌, ◌^◌, List, [], ◌∷◌, length, take, Option, Some, None}
+use Rattle.std.specs.Prelude.{◌≡◌, ℕ, ◌<◌, ◌≤◌, ◌^◌, Bool, List, [], ◌∷◌, length, take, Option, Some, None}
 use Rattle.std.specs.List.{sum_by}
 use Rattle.profile_cycle.specs.declared.counts.Count.{Count}
 use Rattle.profile_readers.specs.declared.viewer.Sight.{Sight}
 use Rattle.profile_readers.specs.History.{profile_after}
+
+-- A watcher that keeps sights: the publishes that it knows of, the oldest first, the sights that it kept, and whether one found no memory.
+pub record Viewing : Type 0 where
+  pub publishes : List (List Count)
+  pub sights : List Sight
+  pub refused : Bool
 
 -- The allocations and the frees of a bucket.
 abbrev pub allocs_of : Count → ℕ
@@ -38,3 +44,8 @@ IsNewest (Some n) sights = RiseTo n sights
 abbrev pub IsNewer : Option ℕ → ℕ → Type 0
 IsNewer None k = Unit {0}
 IsNewer (Some n) k = n < k
+
+-- There is a last sight, and its number is at least k.
+abbrev pub HasReached : ℕ → Option ℕ → Type 0
+HasReached k None = ⊥
+HasReached k (Some n) = k ≤ n

@@ -1,9 +1,9 @@
 //! Watchers that keep what they saw.
 
-ghost use Rattle.std.specs.Prelude.{◌≡◌, ◌<◌, ◌^◌, ◌⊎◌, ◌++◌, ◌∷◌, [], length, IfOk, IsTrue};
+ghost use Rattle.std.specs.Prelude.{◌≡◌, ◌<◌, ◌^◌, ◌⊎◌, ◌++◌, ◌∷◌, [], true, false, length, IfOk, IsTrue, IsFalse};
 ghost use Rattle.std.specs.List.{sum_by};
 ghost use mathlib.Core.List.{IsPrefix};
-ghost use Rattle.profile_readers.specs.Sights.{AreSights, IsNewer, IsNewest, RiseTo, allocs_of, frees_of};
+ghost use Rattle.profile_readers.specs.Sights.{AreSights, HasReached, IsNewer, IsNewest, RiseTo, allocs_of, frees_of};
 
 use crate::history::Board;
 use crate::publisher::Told;
@@ -25,7 +25,7 @@ pub struct Sight {
 }
 
 /// A watcher that keeps a sight each time that it sees a newer profile, its first included. Contracts see it as the publishes that it
-/// knows of.
+/// knows of, the sights that it kept, and whether one of them found no memory.
 #[derive(Drop)]
 pub struct Viewer<B: Board> {
     watcher: Watcher<B>,
@@ -45,13 +45,12 @@ struct Kept {
 }
 
 impl<B: Board> Model for Viewer<B> {
-    ghost use Rattle.std.specs.Prelude.{◌≡◌, List, length};
-    ghost use Rattle.profile_cycle.specs.declared.counts.Count.{Count};
-    ghost use Rattle.profile_readers.specs.Sights.{AreSights, IsNewest};
+    ghost use Rattle.std.specs.Prelude.{◌≡◌, length};
+    ghost use Rattle.profile_readers.specs.Sights.{AreSights, IsNewest, Viewing};
 
-    ghost Value = { List (List Count) };
+    ghost Value = { Viewing };
 
-    ghost view = { λ v. v.watcher };
+    ghost view = { λ v. record { publishes = v.watcher; sights = v.kept.sights; refused = v.kept.refused } };
 
     ghost invariant = { λ v. (length v.counts ≡ B.buckets) × AreSights B.buckets v.watcher v.kept.sights × IsNewest v.kept.newest v.kept.sights };
 }
@@ -65,7 +64,7 @@ impl<B: Board> Viewer<B> {
         sights: usize,
     ) -> Result<Viewer<B>, NoMemory>
         requires buckets { buckets ≡ B.buckets }
-        ensures { IfOk result (λ v. v ≡ watcher) }
+        ensures { IfOk result (λ v. v ≡ record { publishes = watcher; sights = []; refused = false }) }
     {
         let none = Count {
             allocs: 0,
@@ -83,18 +82,25 @@ impl<B: Board> Viewer<B> {
         })
     }
 
-    /// Sees so many times. It waits for nobody, and where it was made with room for all sights takes no memory.
+    /// Sees so many times. Of the newest profile that it saw it has a sight then, or it found no memory for one. It waits for nobody,
+    /// and where it was made with room for all sights takes no memory.
     pub fn watch(&mut self, times: u32)
-        ensures { IsPrefix self.old self.new }
+        ensures seen { IsPrefix self.old.publishes self.new.publishes }
+        ensures kept { IsPrefix self.old.sights self.new.sights }
+        ensures newest { 0 < times → (self.new.refused ≡ true) ⊎ RiseTo (length self.new.publishes) self.new.sights }
+        ensures refused { self.old.refused ≡ true → self.new.refused ≡ true }
     {
-        for _ in 0..times {
+        for _looks in 0..times {
             self.look();
         }
     }
 
     // Sees once, and keeps the sight if it is the first, or newer than the last.
     fn look(&mut self)
-        ensures { IsPrefix self.old self.new }
+        ensures seen { IsPrefix self.old.publishes self.new.publishes }
+        ensures kept { IsPrefix self.old.sights self.new.sights }
+        ensures newest { (self.new.refused ≡ true) ⊎ RiseTo (length self.new.publishes) self.new.sights }
+        ensures refused { self.old.refused ≡ true → self.new.refused ≡ true }
     {
         let k = self.watcher.see(&mut self.counts);
         let sums = sums_of(self.counts.as_slice());
@@ -106,11 +112,13 @@ impl<B: Board> Viewer<B> {
     }
 
     /// Learns what the board's publisher told at its end, sees once more, and hands out the sights. Their numbers strictly rise and end
-    /// with the number of publishes, and each has the sums of the profile after so many of them. Without memory, also of an earlier
-    /// sight, there is none.
+    /// with the number of publishes, and each has the sums of the profile after so many of them. Those that it kept before come first.
+    /// Without memory, also of an earlier sight, there is none.
     pub fn finish(mut self, told: Told<B>) -> Result<List<Sight>, NoMemory>
         ensures rise { IfOk result (λ sights. RiseTo (length told) sights) }
         ensures right { IfOk result (λ sights. AreSights B.buckets told sights) }
+        ensures kept { IfOk result (λ sights. IsPrefix self.sights sights) }
+        ensures refused { IfOk result (λ sights. self.refused ≡ false) }
     {
         let number = told.number();
         self.learn(told);
@@ -120,7 +128,9 @@ impl<B: Board> Viewer<B> {
     // The sights, if the last has this number.
     fn into_sights(self, number: u32) -> Result<List<Sight>, NoMemory>
         ensures rise { IfOk result (λ sights. RiseTo number sights) }
-        ensures right { IfOk result (λ sights. AreSights B.buckets self sights) }
+        ensures right { IfOk result (λ sights. AreSights B.buckets self.publishes sights) }
+        ensures same { IfOk result (λ sights. sights ≡ self.sights) }
+        ensures refused { IfOk result (λ sights. self.refused ≡ false) }
     {
         let Viewer {
             watcher: _,
@@ -132,7 +142,9 @@ impl<B: Board> Viewer<B> {
 
     // Takes in what was told, and sees once more.
     fn learn(&mut self, told: Told<B>)
-        ensures { IsPrefix told self.new }
+        ensures learnt { IsPrefix told self.new.publishes }
+        ensures kept { IsPrefix self.old.sights self.new.sights }
+        ensures refused { self.old.refused ≡ true → self.new.refused ≡ true }
     {
         self.watcher.learn(told);
         self.look();
@@ -145,6 +157,8 @@ impl Kept {
         requires newest { IsNewest self.old.newest self.old.sights }
         ensures newest { IsNewest self.new.newest self.new.sights }
         ensures kept { (self.new.sights ≡ self.old.sights) ⊎ (self.new.sights ≡ self.old.sights ++ sight ∷ []) }
+        ensures reached { (self.new.refused ≡ true) ⊎ HasReached sight.k self.new.newest }
+        ensures refused { self.old.refused ≡ true → self.new.refused ≡ true }
     {
         if !self.is_before(sight.k) {
             return;
@@ -157,7 +171,8 @@ impl Kept {
 
     // Whether a sight of this number is the first, or newer than the last.
     fn is_before(&self, k: u32) -> bool
-        ensures { IsTrue result → IsNewer self.now.newest k }
+        ensures before { IsTrue result → IsNewer self.now.newest k }
+        ensures reached { IsFalse result → HasReached k self.now.newest }
     {
         match self.newest {
             Some(newest) => newest < k,
@@ -170,6 +185,7 @@ impl Kept {
         requires newest { IsNewest self.newest self.sights }
         ensures rise { IfOk result (λ sights. RiseTo number sights) }
         ensures same { IfOk result (λ sights. sights ≡ self.sights) }
+        ensures refused { IfOk result (λ sights. self.refused ≡ false) }
     {
         let Kept {
             sights,

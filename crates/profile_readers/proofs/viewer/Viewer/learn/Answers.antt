@@ -1,4 +1,3 @@
-use Rattle.std.proofs.Common.{◌≡◌}
 use Rattle.profile_readers.proofs.Sights.{sights-grow}
 use Rattle.profile_readers.proofs.viewer.Viewer.learn.Goals as goal
 
