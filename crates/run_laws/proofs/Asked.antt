@@ -7,7 +7,7 @@ use Rattle.trace_reader.specs.declared.trace.Cycle.{Cycle}
 use Rattle.trace_reader.specs.Limits.{AreCycles}
 use Rattle.cycle_history.specs.Requests.{Request, Marking, requests_from, marked_by}
 use Rattle.cycle_history.specs.Rules.{IsObject, AreAnswered}
-use Rattle.sound_run.specs.Run.{Fits, Lasts}
+use Rattle.sound_run.specs.Run.{Fits, IsJournal, Lasts}
 use Rattle.cycle_history.proofs.Plain.{request_in}
 use Rattle.cycle_history.proofs.Cycles.{requests-one}
 use Rattle.sound_run.proofs.Lasting.{lasts-next}
@@ -16,7 +16,6 @@ use Rattle.page_bitmap.specs.declared.line.Line.TheVariants.{Take, Miss, Give, S
 use Rattle.size_classes.specs.Classes.{pages_of}
 use Rattle.page_alloc.specs.Lives.{Life, open_lives}
 use Rattle.page_alloc.specs.FreeRuns.{IsSpanSize}
-use Rattle.page_alloc.specs.Journal.{Legal}
 use Rattle.page_alloc.proofs.Lives.{from_others}
 use Rattle.cycle_history.specs.Objects.{Object, is_placed}
 use Rattle.run_laws.specs.Lists.{ArePaired}
@@ -115,7 +114,7 @@ news-last t done c rest news o are cycles now of h =
 -- ---- all that is asked of a cycle's objects
 
 -- an open life has the pages of its span class
-pub open-size : (region goal : ℕ) (past : List Line) (life : Life) → Legal region goal past → In life (open_lives past) → IsSpanSize life.class life.pages
+pub open-size : (region goal : ℕ) (past : List Line) (life : Life) → IsJournal region goal past → In life (open_lives past) → IsSpanSize life.class life.pages
 open-size region goal [] life legal h = absurd h
 open-size region goal (Take cycle page pages class ∷ past) life legal h = elim h [
   | inl new ↦ rw (ap (λ (l : Life). l.class) (sym new), ap (λ (l : Life). l.pages) (sym new)) legal.0.0
@@ -132,7 +131,7 @@ open-size region goal (Cut cycle proc page pages class ∷ past) life legal h = 
 open-size region goal (Drop cycle proc page pages ∷ past) life legal h = open-size region goal past life legal.2 h
 
 -- so a small object's life has its pages
-pub small-pages : (region goal : ℕ) (past : List Line) (life : Life) (o : Object) → Legal region goal past → In life (open_lives past) → life.class ≡ o.need.class → 2 ≤ o.need.class
+pub small-pages : (region goal : ℕ) (past : List Line) (life : Life) (o : Object) → IsJournal region goal past → In life (open_lives past) → life.class ≡ o.need.class → 2 ≤ o.need.class
     → o.need.pages ≡ pages_of (o.need.class / 2) → life.pages ≡ o.need.pages
 small-pages region goal past life o legal h class small pages =
     let size = (open-size region goal past life legal h).0 (omega arith) in
@@ -141,7 +140,7 @@ small-pages region goal past life o legal h class small pages =
 -- the objects of a cycle's requests, with what the logs say of them
 pub objects-from : (marked : Marking) (requests older : List Request) (objects : List Object) (e : CycleSoFar) → AreAnsweredFrom (length older) requests e.news → AreAnswered older objects
     → ((r : Request) → In r requests → r.cycle ≡ e.cycle) → ((o : Object) → In o e.news → Lasts marked o) → ((o : Object) → In o e.news → is_placed o.answer ≡ true → Fits o.need)
-    → ((w : ℕ) → ArePaired IsPlacing (placed_by w e.news) (placings (e.logs w))) → ((w : ℕ) → ArePaired IsRefusal (missed_by w e.news) (refusals (e.logs w)))
+    → ((w : ℕ) → ArePaired (IsPlacing (past_after e)) (placed_by w e.news) (placings (e.logs w))) → ((w : ℕ) → ArePaired IsRefusal (missed_by w e.news) (refusals (e.logs w)))
     → ((o : Object) (life : Life) → In o e.news → is_placed o.answer ≡ true → In life (open_lives (past_after e)) → life.number ≡ o.life → life.pages ≡ o.need.pages)
     → Objects marked objects e
 objects-from marked requests older objects e now was of lasts fits placed missed pages = record {

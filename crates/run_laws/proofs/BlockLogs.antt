@@ -11,7 +11,11 @@ use Rattle.sweep_laws.specs.Counts.{one_if}
 use Rattle.worker_log.specs.declared.Entry.{Entry}
 use Rattle.run_laws.specs.Lists.{begins_at}
 use Rattle.run_laws.specs.Steps.{put}
-use Rattle.run_laws.specs.Blocks.{CutOut, cut_line, cut_times, is_of_cache, out_of, pullings, settlings, told_lines}
+use Rattle.run_laws.specs.Blocks.{CutOut, OutBlock, cut_line, cut_times, cuttings, is_of_cache, out_of, pullings, settlings, told_lines}
+
+-- the same block
+pub same_block : (a b : OutBlock) → Some a ≡ Some b → a ≡ b
+same_block a b s = cc
 
 -- two logs tell the same of blocks
 pub record SameBlocks (new old : List Entry) : Type 0 where
@@ -19,9 +23,10 @@ pub record SameBlocks (new old : List Entry) : Type 0 where
   pub lines : (cycle w : ℕ) → told_lines cycle w new ≡ told_lines cycle w old
   pub pullings : pullings new ≡ pullings old
   pub settlings : settlings new ≡ settlings old
+  pub cuts : cuttings new ≡ cuttings old
 
 pub same_blocks : (log : List Entry) → SameBlocks log log
-same_blocks log = record { out = refl; lines = λ cycle w. refl; pullings = refl; settlings = refl }
+same_blocks log = record { out = refl; lines = λ cycle w. refl; pullings = refl; settlings = refl; cuts = refl }
 
 -- one log gains an entry that tells nothing of blocks
 pub same_put : (logs : ℕ → List Entry) (w : ℕ) (x : Entry) → SameBlocks (x ∷ logs w) (logs w) → (v : ℕ) → SameBlocks (put logs w (x ∷ logs w) v) (logs v)

@@ -40,12 +40,8 @@ use Rattle.run_laws.specs.Steps.{after_took, after_gave}
 use Rattle.run_laws.specs.ShowsCycle.{after_mark_end}
 use Rattle.run_laws.specs.Blocks.{CutOut, OutBlock, cut_line, cut_out, cut_times, cuts_in, cuts_of, is_of_cache, out_of, pages_cut, pullings, settled_lines, settlings, told_lines, with_cut}
 use Rattle.run_laws.specs.ShowsBlocks.{IsLifeCut, ShowsBlocks, after_cut_out, after_settled}
-use Rattle.run_laws.proofs.BlockLogs.{SameBlocks, same_put, put_own, put_else, number_more, same_numbers, cuts_own, cuts_others, cuts_cached, cuts_owner, cuts_lives, cuts_begin, cut_begins, others_begin}
+use Rattle.run_laws.proofs.BlockLogs.{SameBlocks, same_block, same_put, put_own, put_else, number_more, same_numbers, cuts_own, cuts_others, cuts_cached, cuts_owner, cuts_lives, cuts_begin, cut_begins, others_begin}
 use Rattle.run_laws.proofs.BlocksKept.{SameSpan, same_span, marked_span, marked_begins, dropped_life, owner_of_life, pulled_stay, cut_as, life_as, cut_at_as, newer_cut, newer_life, newer_here, newer_each, placed, within_of}
-
--- the same block
-pub same_block : (a b : OutBlock) → Some a ≡ Some b → a ≡ b
-same_block a b s = cc
 
 -- a list without the first places of a run of numbers that it has
 erase_shorter : (x : ℕ) (xs : List ℕ) → 0 < times x xs → length (erase x xs) + 1 ≡ length xs
@@ -97,7 +93,7 @@ module _ (c : CoreState) (e : CycleSoFar) (now : ShowsBlocks c e) (o : Owned c) 
       absent = nothing_begins p low (free_before c.generation c.words c.owners c.lives (kept_of c o).lives_fit p low (run_free c (kept_of c o) w p pages count class met p (omega arith) (let r = (run_inside c (kept_of c o) w p pages count class met).1 in omega arith)))
 
       logs : (v : ℕ) → SameBlocks ((after_took e w p pages class).logs v) (e.logs v)
-      logs = same_put e.logs w (Took _ _) (record { out = refl; lines = λ cycle u. refl; pullings = refl; settlings = refl })
+      logs = same_put e.logs w (Took _ _) (record { out = refl; lines = λ cycle u. refl; pullings = refl; settlings = refl; cuts = refl })
 
       hands : (v : ℕ) → (hand_of d v).pulled ≡ (hand_of c v).pulled
       hands = pulled_stay c.hands w (hold p (hand_of c w)) (ltb-true w (length c.hands) m.0) refl
@@ -153,7 +149,7 @@ module _ (c : CoreState) (e : CycleSoFar) (now : ShowsBlocks c e) (o : Owned c) 
       low = ltb-true p (length c.words) m.1.0
 
       logs : (v : ℕ) → SameBlocks ((after_gave e w p (life_of c p).pages).logs v) (e.logs v)
-      logs = same_put e.logs w (Gave _ _) (record { out = refl; lines = λ cycle u. refl; pullings = refl; settlings = refl })
+      logs = same_put e.logs w (Gave _ _) (record { out = refl; lines = λ cycle u. refl; pullings = refl; settlings = refl; cuts = refl })
 
       hands : (v : ℕ) → (hand_of d v).pulled ≡ (hand_of c v).pulled
       hands = pulled_stay c.hands w (let_go p (hand_of c w)) (ltb-true w (length c.hands) m.0) refl
@@ -171,11 +167,11 @@ module _ (c : CoreState) (e : CycleSoFar) (now : ShowsBlocks c e) (o : Owned c) 
       ]
 
   -- a span is cut out of the own block: the log tells it, and nothing is written
-  pub cut_blocks : (w p pages count class : ℕ) → refusal (cut_needs c w p pages count class) ≡ None → count ≡ count_for class → ShowsBlocks (after_cut c w p pages count class) (after_cut_out e w p pages class)
-  cut_blocks w p pages count class met same = record {
+  pub cut_blocks : (w n p pages count class : ℕ) → refusal (cut_needs c w p pages count class) ≡ None → count ≡ count_for class → ShowsBlocks (after_cut c w p pages count class) (after_cut_out e w n p pages class)
+  cut_blocks w n p pages count class met same = record {
     lines = λ v. now.lines v ∙ told v;
     named = λ v x h. now.named v x (pulls v x h);
-    settled = λ v n h. now.settled v n (settles v n h);
+    settled = λ v k h. now.settled v k (settles v k h);
     pulled = pulled;
     none = none;
     size = size;
@@ -192,7 +188,7 @@ module _ (c : CoreState) (e : CycleSoFar) (now : ShowsBlocks c e) (o : Owned c) 
       d = after_cut c w p pages count class
 
       next : CycleSoFar
-      next = after_cut_out e w p pages class
+      next = after_cut_out e w n p pages class
 
       new : CutOut
       new = cut_out p pages class

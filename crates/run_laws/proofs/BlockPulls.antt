@@ -46,9 +46,9 @@ use Rattle.run_laws.specs.Lists.{begins_at}
 use Rattle.run_laws.specs.Steps.{after_line, with_logs}
 use Rattle.run_laws.specs.Blocks.{CutOut, OutBlock, cut_times, cuts_in, cuts_of, is_of_cache, out_of, pages_cut, pullings, settlings, told_lines}
 use Rattle.run_laws.specs.ShowsBlocks.{BlocksGoOn, ShowsBlocks, after_pulled}
-use Rattle.run_laws.proofs.BlockLogs.{SameBlocks, same_blocks, same_put, put_own, put_else}
+use Rattle.run_laws.proofs.BlockLogs.{SameBlocks, same_block, same_blocks, same_put, put_own, put_else}
 use Rattle.run_laws.proofs.BlocksKept.{SameState, same_span, changed_span, changed_begins, owner_of_life, pulled_stay, state_shows, placed, within_of}
-use Rattle.run_laws.proofs.BlockMoves.{same_block, take_blocks, give_blocks, cut_blocks, drop_blocks, next_blocks}
+use Rattle.run_laws.proofs.BlockMoves.{take_blocks, give_blocks, cut_blocks, drop_blocks, next_blocks}
 
 -- ---- how often the numbers that pass a test name a number
 
@@ -184,11 +184,11 @@ module _ (c : CoreState) (e : CycleSoFar) (now : ShowsBlocks c e) (o : Owned c) 
     settled = λ v n h. let s = now.settled v n (settles v n h) in (s.0, s.1, inr s.2);
     pulled = pulled;
     none = λ v z. elim (cases_eq v w) [
-      | inl is ↦ absurd (some_none (record { page = page; pages = pages; cuts = [] }) (sym (ap out_of (log_own v is)) ∙ z))
+      | inl is ↦ absurd (some_none (record { number = length (past_after e); page = page; pages = pages; cuts = [] }) (sym (ap out_of (log_own v is)) ∙ z))
       | inr isnt ↦ else_hand v isnt ∙ now.none v (sym (ap out_of (log_else v isnt)) ∙ z)
     ];
     size = λ v g z. elim (cases_eq v w) [
-      | inl is ↦ subst (λ (y : OutBlock). length (hand_of d v).pulled + pages_cut y.cuts ≡ y.pages) (same_block (record { page = page; pages = pages; cuts = [] }) g (sym (ap out_of (log_own v is)) ∙ z))
+      | inl is ↦ subst (λ (y : OutBlock). length (hand_of d v).pulled + pages_cut y.cuts ≡ y.pages) (same_block (record { number = length (past_after e); page = page; pages = pages; cuts = [] }) g (sym (ap out_of (log_own v is)) ∙ z))
           (let a = ap (λ (l : List ℕ). length l) (own_hand v is ∙ block_is) in let k = b.count in let f = filtered_count (is_free_page c) page 64 in let s = count_same 64 (λ i. is_free_page c (page + i)) (λ i. not (is_held (past_after e) (page + i))) as_held in omega arith)
       | inr isnt ↦ ap (λ (l : List ℕ). length l + pages_cut g.cuts) (else_hand v isnt) ∙ now.size v g (sym (ap out_of (log_else v isnt)) ∙ z)
     ];
@@ -363,7 +363,7 @@ module _ (c : CoreState) (e : CycleSoFar) (now : ShowsBlocks c e) (o : Owned c) 
     owners = refl;
     begin = λ q. changed_begins p keep_marked (λ l. refl) q c.lives;
     span = λ q. changed_span p keep_marked (λ l. refl) (λ l. record { pages = refl; class = refl; count = refl }) q c.lives;
-  }) (same_put e.logs w (Swept on.1) (record { out = refl; lines = λ cycle u. refl; pullings = refl; settlings = refl })))
+  }) (same_put e.logs w (Swept on.1) (record { out = refl; lines = λ cycle u. refl; pullings = refl; settlings = refl; cuts = refl })))
   move_blocks (Cache w p) next met on = subst (ShowsBlocks (after c (Cache w p))) (sym on) (stays _ (quiet_state _ w (put_in_cache p (hand_of c w)) (length-set c.words p (c.generation + 3)) refl (low_of w (all_met (cache_needs c w p) met).0) refl refl refl))
   move_blocks (Allocate w p i) next met on = subst (ShowsBlocks (after c (Allocate w p i))) (sym on.1) (state_shows c e now _ _ _ (record {
     size = refl;
@@ -371,7 +371,7 @@ module _ (c : CoreState) (e : CycleSoFar) (now : ShowsBlocks c e) (o : Owned c) 
     owners = refl;
     begin = λ q. changed_begins p (allocate_index i) (λ l. refl) q c.lives;
     span = λ q. changed_span p (allocate_index i) (λ l. refl) (λ l. record { pages = refl; class = refl; count = refl }) q c.lives;
-  }) (same_put e.logs w (Allocated on.0) (record { out = refl; lines = λ cycle u. refl; pullings = refl; settlings = refl })))
+  }) (same_put e.logs w (Allocated on.0) (record { out = refl; lines = λ cycle u. refl; pullings = refl; settlings = refl; cuts = refl })))
   move_blocks (Uncache w p) next met on = subst (ShowsBlocks (after c (Uncache w p))) (sym on) (stays _ (quiet_state _ w (take_from_cache p (hand_of c w)) (length-set c.words p c.generation) refl (low_of w (all_met (uncache_needs c w p) met).0) refl refl refl))
   move_blocks (StaleUncache w p) next met on = subst (ShowsBlocks (after c (StaleUncache w p))) (sym on) (stays _ (quiet_state _ w (sweep_from_cache p (hand_of c w)) (length-set c.words p (c.generation - 1)) refl (low_of w (all_met (stale_uncache_needs c w p) met).0) refl refl refl))
   move_blocks (Claim w s p) next met on = subst (ShowsBlocks (after c (Claim w s p))) (sym on) (stays _ (quiet_state _ w (claim_cell s (set_of c s).tail p (hand_of c w)) refl refl (low_of w (all_met (claim_needs c w s p) met).0) refl refl refl))
@@ -380,7 +380,7 @@ module _ (c : CoreState) (e : CycleSoFar) (now : ShowsBlocks c e) (o : Owned c) 
   move_blocks (PopUnswept w s) next met on = subst (ShowsBlocks (after c (PopUnswept w s))) (sym on) (stays _ (quiet_state _ w (pop_entry (head_base c s) (hand_of c w)) refl refl (low_of w (all_met (pop_unswept_needs c w s) met).0) refl refl refl))
   move_blocks (DropPopped w p) next met on = subst (ShowsBlocks (after c (DropPopped w p))) (sym on) (stays _ (quiet_state _ w (drop_entry p (hand_of c w)) refl refl (low_of w (all_met (drop_popped_needs c w p) met).0) refl refl refl))
   move_blocks (Pull w) next met on = subst (ShowsBlocks (after c (Pull w))) (sym on.4) (pull_blocks w on.0 on.1 met on.2 on.3)
-  move_blocks (Cut w p pages count class) next met on = subst (ShowsBlocks (after c (Cut w p pages count class))) (sym on.1) (cut_blocks c e now o w p pages count class met on.0)
+  move_blocks (Cut w p pages count class) next met on = subst (ShowsBlocks (after c (Cut w p pages count class))) (sym on.3) (cut_blocks c e now o w on.0.number p pages count class met on.2)
   move_blocks (Drop w) next met on = subst (ShowsBlocks (after c (Drop w))) (sym on.2) (drop_blocks c e now o w on.0 met on.1)
   move_blocks (Next marks) next met on = subst (ShowsBlocks (after c (Next marks))) (sym on.1) (next_blocks c e now o marks on.0)
 

@@ -1,5 +1,5 @@
 -- Each move keeps what a state shows of the blocks of page caches.
-use Rattle.std.proofs.Common.{◌≡◌, ◌≢◌, ℕ, ◌+◌, ◌-◌, ◌<◌, ◌≤◌, ◌⊎◌, inl, inr, Bool, true, false, true≢false, cond, ◌&&◌, eqb, ltb, leb, eq-eqb, ne_eqb, List, [], ◌∷◌, ◌++◌, map, length, set, get_or, get_or-set_other, get_or-set_same, sym, refl, ap, ◌∙◌, subst, arith}
+use Rattle.std.proofs.Common.{◌≡◌, ◌≢◌, ℕ, ◌+◌, ◌<◌, ◌≤◌, ◌⊎◌, inl, inr, Bool, true, false, true≢false, cond, ◌&&◌, eqb, ltb, leb, eq-eqb, ne_eqb, List, [], ◌∷◌, ◌++◌, map, length, set, get_or, get_or-set_other, get_or-set_same, sym, refl, ap, ◌∙◌, subst, arith}
 use Rattle.std.specs.Prelude.{Option, Some, None}
 use Rattle.std.proofs.lemmas.Bool.{cases_eq, cases_lt, cases_Bool, eqb-true, lt-ltb, le-ltb}
 use Rattle.page_alloc.specs.Lists.{In}
@@ -16,7 +16,7 @@ use Rattle.worker_log.specs.declared.Entry.{Entry}
 use Rattle.worker_log.specs.Logs.{Taking}
 use Rattle.run_laws.specs.CycleSoFar.{CycleSoFar}
 use Rattle.run_laws.specs.Shown.{IsLifeOf}
-use Rattle.run_laws.specs.Blocks.{CutOut, OutBlock, cut_times, cuts_in, pages_cut, pullings, settlings}
+use Rattle.run_laws.specs.Blocks.{CutOut, OutBlock, cut_times, cuts_in, pages_cut}
 use Rattle.run_laws.specs.ShowsBlocks.{IsCutAt, IsLifeCut, ShowsBlocks}
 use Rattle.run_laws.proofs.BlockLogs.{SameBlocks}
 
@@ -129,7 +129,7 @@ pulled_stay hs n h low same w = elim (cases_eq w n) [
 
 -- the cycle with other bits and logs
 abbrev pub relogged : CycleSoFar → (ℕ → ℕ → Bool) → (ℕ → List Entry) → CycleSoFar
-relogged e bits logs = record { cycle = e.cycle; before = e.before; lines = e.lines; carried = e.carried; marks = e.marks; bits = bits; logs = logs; news = e.news; notes = e.notes }
+relogged e bits logs = record { cycle = e.cycle; before = e.before; lines = e.lines; known = e.known; carried = e.carried; marks = e.marks; bits = bits; logs = logs; news = e.news; notes = e.notes }
 
 module _ (c : CoreState) (e : CycleSoFar) (now : ShowsBlocks c e) where
   -- what is the same in another state: its pages, its pulled lists, its owners, and its lives as far as blocks go

@@ -1,10 +1,12 @@
 -- The start of a run, a mark end, and the end of a run.
 use Rattle.std.proofs.Common.{◌≡◌, ℕ, suc, ◌-◌, Bool, List, [], reverse, arith}
 use Rattle.page_bitmap.specs.declared.line.Line.{Line}
+use Rattle.page_alloc.specs.Blocks.{open_blocks}
+use Rattle.page_alloc.specs.Journal.{AreAllowed}
 use Rattle.span_state.specs.declared.sweep.SweepNote.{SweepNote}
 use Rattle.trace_reader.specs.declared.trace.Trace.{Trace}
 use Rattle.cycle_history.specs.declared.Report.{Report}
-use Rattle.cycle_history.specs.Requests.{Marking, marked_by, region_of, last_cycle}
+use Rattle.cycle_history.specs.Requests.{Marking, marked_by, region_of, last_cycle, caching_procs}
 use Rattle.cycle_history.specs.Objects.{Object}
 use Rattle.cycle_history.specs.Sweeps.{AreTotals}
 use Rattle.cycle_history.specs.Sound.{past_in, HasAnswers, HasProfile, IsSoundAndUsed}
@@ -47,10 +49,11 @@ began-next marked region goal c past objects notes bits reached =
 
 -- the report of a run that has reached the end of the last cycle
 pub reached-sound : (t : Trace) (report : Report) (objects : List Object) (notes : List SweepNote) (bits : ℕ → ℕ → Bool)
-    → Reached (marked_by t) (region_of t) t.header.goal (last_cycle t) (past_in report) objects notes bits → HasAnswers t report objects → report.sweeps ≡ reverse notes
+    → Reached (marked_by t) (region_of t) t.header.goal (last_cycle t) (past_in report) objects notes bits → AreAllowed (caching_procs t) (past_in report)
+    → open_blocks (past_in report) ≡ [] → HasAnswers t report objects → report.sweeps ≡ reverse notes
     → AreTotals (marked_by t) (last_cycle t) objects report.totals → HasProfile t report objects → IsSoundAndUsed t report
-reached-sound t report objects notes bits reached answers sweeps totals profile = (
+reached-sound t report objects notes bits reached allowed settled answers sweeps totals profile = (
   objects,
-  meets-sound t report objects (run-sound_to_9 t report objects notes reached.run answers reached.noted sweeps totals profile),
+  meets-sound t report objects (run-sound_to_9 t report objects notes reached.run allowed settled answers reached.noted sweeps totals profile),
   record { wanted = reached.wanted; scavenged = λ c le. reached.scavenged c le },
 )

@@ -5,14 +5,14 @@ use Rattle.page_bitmap.specs.declared.line.Line.{Line}
 use Rattle.page_bitmap.specs.declared.line.Line.TheVariants.{Take, Miss, Give, Scav, Pull, Cut, Drop}
 use Rattle.page_alloc.specs.Lists.{In}
 use Rattle.page_alloc.specs.Lives.{Life, open_lives}
-use Rattle.page_alloc.specs.Journal.{cycle_of, IsBy, Legal}
-use Rattle.page_alloc.proofs.Lives.{same_page}
+use Rattle.page_alloc.specs.Journal.{cycle_of, IsBy}
+use Rattle.sound_run.proofs.Journals.{same_page}
 use Rattle.span_state.specs.Bits.{count_below}
 use Rattle.span_state.specs.declared.sweep.SweepNote.{SweepNote}
 use Rattle.cycle_history.specs.Requests.{Marking}
 use Rattle.cycle_history.specs.Objects.{Object, is_placed, kept}
 use Rattle.cycle_history.specs.Sweeps.{IsNote, GivesWhenEmpty}
-use Rattle.sound_run.specs.Run.{count_for, Lasts, IsRun}
+use Rattle.sound_run.specs.Run.{count_for, IsJournal, IsRun, Lasts}
 use Rattle.sound_run.specs.Spans.{AreBits, AreMarks, HasMarkedIndex}
 use Rattle.sound_run.proofs.Live.{by-later}
 use Rattle.sound_run.proofs.Counts.{gives-same, kept-counts}
@@ -65,7 +65,7 @@ note-at marked region goal c m past objects life bits marks note is run ids by h
 -- ---- Gives
 
 gives-news : (marked : Marking) (region goal c : ℕ) (news objects : List Object) (past : List Line) → ((o : Object) → In o news → o.cycle ≡ c) → ((o : Object) → In o news → Lasts marked o) → IsBy c past
-    → Legal region goal past → GivesWhenEmpty marked objects past → GivesWhenEmpty marked (news ++ objects) past
+    → IsJournal region goal past → GivesWhenEmpty marked objects past → GivesWhenEmpty marked (news ++ objects) past
 gives-news marked region goal c [] objects past now lasts by legal gives = gives
 gives-news marked region goal c (o ∷ news) objects past now lasts by legal gives =
     let e = now o (inl refl) in
@@ -120,23 +120,14 @@ marked-here marked region goal objects notes e began facts life k here on =
     let same : at.0 ≡ life = same_page region goal (past_after e) at.0 life facts.writes.legal there here at.2 in
     (has.0, has.1, has.2, has.3, has.4 ∙ ap (λ (l : Life). l.number) same, has.5)
 
--- and so has one of the life of a placing
-pub marked-placing : (marked : Marking) (region goal : ℕ) (objects : List Object) (notes : List SweepNote) (e : CycleSoFar) → Began marked region goal e.cycle e.before objects notes e.carried
-    → Facts marked region goal objects e → (w : ℕ) (a : Placing) (k : ℕ) → In a (placings (e.logs w)) → e.marks a.page k ≡ true → HasMarkedIndex marked e.cycle objects a.number k
-marked-placing marked region goal objects notes e began facts w a k h on =
-    let at = facts.places.here w a h in
-    let on' : e.marks at.0.page k ≡ true = rw at.2.page on in
-    let has = marked-here marked region goal objects notes e began facts at.0 k at.1 on' in
-    (has.0, has.1, has.2, has.3, has.4 ∙ at.2.number, has.5)
-
 -- ---- placings
 
 -- the placing of an object
 pub object-placing : (marked : Marking) (region goal : ℕ) (objects : List Object) (e : CycleSoFar) → Facts marked region goal objects e → (o : Object) → In o e.news → is_placed o.answer ≡ true
-    → (a : Placing) × In a (placings (e.logs o.proc)) × IsPlacing o a
+    → (a : Placing) × In a (placings (e.logs o.proc)) × IsPlacing (past_after e) o a
 object-placing marked region goal objects e facts o h placed =
     let test = and_from (eqb o.proc o.proc) (is_placed o.answer) (eq-eqb o.proc o.proc refl) placed in
-    paired-right IsPlacing (placed_by o.proc e.news) (placings (e.logs o.proc)) o (facts.objects_are.placed o.proc) (in-passing _ e.news o h test)
+    paired-right (IsPlacing (past_after e)) (placed_by o.proc e.news) (placings (e.logs o.proc)) o (facts.objects_are.placed o.proc) (in-passing _ e.news o h test)
 
 -- an object of a worker is one of the cycle
 pub placed-parts : (w : ℕ) (news : List Object) (o : Object) → In o (placed_by w news) → In o news × (o.proc ≡ w) × (is_placed o.answer ≡ true)
@@ -147,8 +138,18 @@ placed-parts w news o h =
 
 -- the object of a placing
 pub placing-object : (marked : Marking) (region goal : ℕ) (objects : List Object) (e : CycleSoFar) → Facts marked region goal objects e → (w : ℕ) (a : Placing) → In a (placings (e.logs w))
-    → (o : Object) × In o e.news × (o.proc ≡ w) × (is_placed o.answer ≡ true) × IsPlacing o a
+    → (o : Object) × In o e.news × (o.proc ≡ w) × (is_placed o.answer ≡ true) × IsPlacing (past_after e) o a
 placing-object marked region goal objects e facts w a h =
-    let at = paired-left IsPlacing (placed_by w e.news) (placings (e.logs w)) a (facts.objects_are.placed w) h in
+    let at = paired-left (IsPlacing (past_after e)) (placed_by w e.news) (placings (e.logs w)) a (facts.objects_are.placed w) h in
     let parts = placed-parts w e.news at.0 at.1 in
     (at.0, parts.0, parts.1, parts.2, at.2)
+
+-- placings of objects in one life begin at one page
+pub placed-page : (marked : Marking) (region goal : ℕ) (objects : List Object) (e : CycleSoFar) → Facts marked region goal objects e → (v w : ℕ) (o b : Object) (x y : Placing)
+    → In x (placings (e.logs v)) → In y (placings (e.logs w)) → IsPlacing (past_after e) o x → IsPlacing (past_after e) b y → o.life ≡ b.life → x.page ≡ y.page
+placed-page marked region goal objects e facts v w o b x y hx hy is-x is-y life =
+    let at = facts.places.here v x hx in
+    let to = facts.places.here w y hy in
+    let number : at.0.number ≡ to.0.number = is-x.life at.0 at.1 at.2.page ∙ life ∙ sym (is-y.life to.0 to.1 to.2.page) in
+    let same : at.0 ≡ to.0 = same_number (past_after e) at.0 to.0 at.1 to.1 number in
+    sym at.2.page ∙ ap (λ (l : Life). l.page) same ∙ to.2.page

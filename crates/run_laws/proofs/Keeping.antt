@@ -3,11 +3,9 @@ use Rattle.std.proofs.Common.{◌≡◌, ◌≢◌, ℕ, ◌+◌, ◌<◌, ◌�
 use Rattle.std.proofs.lemmas.Bool.{cases_eq, cases_lt, cases_Bool, or_right}
 use Rattle.page_bitmap.specs.declared.line.Line.{Line}
 use Rattle.page_alloc.specs.Lists.{In}
-use Rattle.page_alloc.specs.Lives.{Life, open_lives}
-use Rattle.page_alloc.proofs.Lives.{same_page}
+use Rattle.page_alloc.specs.Lives.{Life}
 use Rattle.span_state.specs.Bits.{with_bit}
 use Rattle.sound_run.specs.Run.{count_for}
-use Rattle.sound_run.proofs.Seats.{same_number}
 use Rattle.sweep_laws.specs.Counts.{times, total}
 use Rattle.sweep_laws.specs.Standing.{Tally, Standing, is_free, is_unswept, is_sweeping, is_swept, is_stale, is_cached, CoreKept}
 use Rattle.sweep_laws.specs.State.{HandState, CoreState}
@@ -16,7 +14,7 @@ use Rattle.run_laws.specs.Shown.{has_of}
 use Rattle.worker_log.specs.declared.Placing.{Placing}
 use Rattle.worker_log.specs.declared.Sweeping.{Sweeping}
 use Rattle.worker_log.specs.Logs.{placings}
-use Rattle.run_laws.specs.CycleSoFar.{CycleSoFar, past_after}
+use Rattle.run_laws.specs.CycleSoFar.{CycleSoFar}
 use Rattle.run_laws.specs.PlacingFacts.{IsIn}
 use Rattle.run_laws.specs.Underway.{IsUnderway}
 use Rattle.run_laws.specs.StepNeeds.{MayAllocate, MaySweep}
@@ -26,35 +24,29 @@ use Rattle.run_laws.proofs.Underway.{put_here, put_else, placings-swept, more-pl
 
 -- a worker may allocate in a span that it has, if it has no other of the class
 pub may-allocate : (region goal : ℕ) (e : CycleSoFar) (waits : ℕ → Bool) (has : Having) (w : ℕ) (life : Life) (a : Placing) → IsUnderway region goal e waits → KeepsRoom e has → IsOnes has
-    → In life (open_lives (past_after e)) → IsIn a life → waits a.page ≡ false → a.index < count_for a.class → e.bits a.page a.index ≡ false → ((j : ℕ) → j < a.index → e.bits a.page j ≡ true)
+    → ((x y : Life) → In x e.known → In y e.known → x.page ≡ y.page → x.class ≡ y.class) → In life e.known → IsIn a life → life.number ≡ a.number → waits a.page ≡ false → a.index < count_for a.class → e.bits a.page a.index ≡ false → ((j : ℕ) → j < a.index → e.bits a.page j ≡ true)
     → has w a.page → HasOneOf e has w a.class a.page → MayAllocate e waits w life a
-may-allocate region goal e waits has w life a now room ones here is swept below free least mine one =
-    let page_of : (v : ℕ) (b : Placing) → In b (placings (e.logs v)) → b.number ≡ a.number → (b.page ≡ a.page) × (b.class ≡ a.class) = λ v b h number. (
-    let at = now.places.here v b h in
-    let same : at.0 ≡ life = same_number (past_after e) at.0 life at.1 here (at.2.number ∙ number ∙ sym is.number) in
-    (sym at.2.page ∙ ap (λ (l : Life). l.page) same ∙ is.page, sym at.2.class ∙ ap (λ (l : Life). l.class) same ∙ is.class)) in
-    let number_of : (b : Placing) → In b (placings (e.logs w)) → b.page ≡ a.page → b.number ≡ a.number = λ b h page. (
-    let at = now.places.here w b h in
-    let same : at.0 ≡ life = same_page region goal (past_after e) at.0 life now.writes.legal at.1 here (at.2.page ∙ page ∙ sym is.page) in
-    sym at.2.number ∙ ap (λ (l : Life). l.number) same ∙ is.number) in
-    record {
-      here = here;
-      is_in = is;
-      swept = swept;
-      below = below;
-      free = free;
-      least = least;
-      own = λ v b h number. (
-          let same = page_of v b h number in
-          let inside : a.index < count_for b.class = rw same.1 below in
-          let off : e.bits b.page a.index ≡ false = rw same.0 free in
-          let theirs : has v a.page = subst (λ (p : ℕ). has v p) same.0 (room v b a.index h inside off) in
-          ones v w a.page theirs mine);
-      left_full = λ b h class other j lt. elim (cases_Bool (e.bits b.page j)) [
-        | inl on ↦ on
-        | inr off ↦ absurd (other (number_of b h (one b j h class (room w b j h lt off) lt off)))
-      ];
-    }
+may-allocate region goal e waits has w life a now room ones alike here is number swept below free least mine one = record {
+  here = here;
+  is_in = is;
+  number = number;
+  swept = swept;
+  below = below;
+  free = free;
+  least = least;
+  own = λ v b h page. (
+      let inside : a.index < count_for b.class = rw (class_of v b h page) below in
+      let off : e.bits b.page a.index ≡ false = rw page free in
+      let theirs : has v a.page = subst (λ (p : ℕ). has v p) page (room v b a.index h inside off) in
+      ones v w a.page theirs mine);
+  left_full = λ b h class other j lt. elim (cases_Bool (e.bits b.page j)) [
+    | inl on ↦ on
+    | inr off ↦ absurd (other (one b j h class (room w b j h lt off) lt off))
+  ];
+}
+  where
+    class_of : (v : ℕ) (b : Placing) → In b (placings (e.logs v)) → b.page ≡ a.page → b.class ≡ a.class
+    class_of v b h page = let at = now.places.here v b h in sym at.2.class ∙ alike at.0 life at.1 here (at.2.page ∙ page ∙ sym is.page) ∙ is.class
 
 -- an allocation in a span that the worker has
 pub room-allocate : (e : CycleSoFar) (has : Having) (w : ℕ) (a : Placing) → KeepsRoom e has → has w a.page → KeepsRoom (after_allocate e w a) has

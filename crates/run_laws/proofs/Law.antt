@@ -35,7 +35,7 @@ use Rattle.run_laws.specs.Reached.{Began, Reached}
 use Rattle.run_laws.proofs.Lists.{in-left, in-right, in-cases, apart-append, apart-map, apart-pick, number-kept, number-one, in-passing, passing-apart, paired-right, paired-apart}
 use Rattle.run_laws.proofs.Lines.{at_end-lines, by-lines, older-by, life-older, longer, has_number, number-there, number-absent}
 use Rattle.run_laws.proofs.Cycle.{cycle-keeps, cycle-noted, notes-same}
-use Rattle.run_laws.proofs.Here.{one-less, same-old, note-at, cycle-gives, marked-here, marked-placing, object-placing, placed-parts, placing-object}
+use Rattle.run_laws.proofs.Here.{one-less, same-old, note-at, cycle-gives, marked-here, object-placing, placed-parts, placing-object, placed-page}
 use Rattle.run_laws.proofs.Filling.{log-no_gap, log-full_first, first-taken}
 
 -- ---- seats
@@ -47,7 +47,7 @@ new-seat marked region goal objects e facts o h placed =
     let a = object-placing marked region goal objects e facts o h placed in
     let at = facts.places.here o.proc a.0 a.1 in
     let is = a.2 in
-    let number : at.0.number ≡ o.life = at.2.number ∙ sym is.life in
+    let number : at.0.number ≡ o.life = is.life at.0 at.1 at.2.page in
     let many : o.need.count ≡ count_for a.0.class = (facts.objects_are.fits o h placed).count ∙ ap (λ (n : ℕ). count_for n) is.class in
     let below = facts.places.below o.proc a.0 a.1 in
     let i = is.index in
@@ -79,7 +79,7 @@ one-processor : (marked : Marking) (region goal : ℕ) (objects : List Object) (
 one-processor marked region goal objects e facts a b ha hb pa pb life =
     let x = object-placing marked region goal objects e facts a ha pa in
     let y = object-placing marked region goal objects e facts b hb pb in
-    facts.places.one_log a.proc b.proc x.0 y.0 x.1 y.1 (sym x.2.life ∙ life ∙ y.2.life)
+    facts.places.one_log a.proc b.proc x.0 y.0 x.1 y.1 (placed-page marked region goal objects e facts a.proc b.proc a b x.0 y.0 x.1 y.1 x.2 y.2 life)
 
 in-placed : (w : ℕ) (news : List Object) (o : Object) → In o news → o.proc ≡ w → is_placed o.answer ≡ true → In o (placed_by w news)
 in-placed w news o h proc placed = in-passing _ news o h (and_from (eqb o.proc w) (is_placed o.answer) (eq-eqb o.proc w proc) placed)
@@ -88,10 +88,9 @@ apart-new : (marked : Marking) (region goal : ℕ) (objects : List Object) (e : 
     → is_placed a.answer ≡ true → is_placed b.answer ≡ true → a.id ≢ b.id → a.life ≡ b.life → a.index ≢ b.index
 apart-new marked region goal objects e facts a b ha hb pa pb ne life same =
     let proc = one-processor marked region goal objects e facts a b ha hb pa pb life in
-    let Q : Object → Object → Type 0 = λ x y. x.life ≡ y.life → x.index ≢ y.index in
-    let apart = paired-apart IsPlacing (λ (x y : Placing). x.number ≡ y.number → x.index ≢ y.index) (λ (x y : Object). x.life ≡ y.life → x.index ≢ y.index) (placed_by b.proc e.news) (placings (e.logs b.proc))
+    let apart = paired-apart (IsPlacing (past_after e)) (λ (x y : Placing). x.page ≡ y.page → x.index ≢ y.index) (λ (x y : Object). x.life ≡ y.life → x.index ≢ y.index) (placed_by b.proc e.news) (placings (e.logs b.proc))
     (facts.objects_are.placed b.proc) (facts.places.apart b.proc)
-    (λ x y p q xp yq differ one two. differ (sym xp.life ∙ one ∙ yq.life) (sym xp.index ∙ two ∙ yq.index)) in
+    (λ x y p q hp hq xp yq differ one two. differ (placed-page marked region goal objects e facts b.proc b.proc x y p q hp hq xp yq one) (sym xp.index ∙ two ∙ yq.index)) in
     elim (apart-pick (λ (x y : Object). x.life ≡ y.life → x.index ≢ y.index) (placed_by b.proc e.news) a b apart (in-placed b.proc e.news a ha proc pa) (in-placed b.proc e.news b hb refl pb)) [
       | inl one ↦ ne (ap (λ (o : Object). o.id) one)
       | inr two ↦ elim two [ inl first ↦ first life same | inr then ↦ then (sym life) (sym same) ]
@@ -105,7 +104,7 @@ apart-old marked region goal objects notes e began facts a b ha hb pa pb mark li
     let at = facts.places.here a.proc x.0 x.1 in
     let off = facts.places.unmarked a.proc x.0 x.1 in
     let old = old-life marked region goal e.cycle e.before objects began.run b hb pb mark in
-    let one : at.0 ≡ old.0 = same-old e at.0 old.0 at.1 old.1 (at.2.number ∙ sym x.2.life ∙ life ∙ sym old.2) in
+    let one : at.0 ≡ old.0 = same-old e at.0 old.0 at.1 old.1 (x.2.life at.0 at.1 at.2.page ∙ life ∙ sym old.2) in
     let on : e.marks old.0.page b.index ≡ true = (facts.marks.right old.0 old.1).shown b hb pb mark (sym old.2) in
     let page : old.0.page ≡ x.0.page = ap (λ (l : Life). l.page) (sym one) ∙ at.2.page in
     let index : b.index ≡ x.0.index = sym same ∙ x.2.index in
@@ -163,7 +162,7 @@ cycle-misses marked region goal objects notes e began facts =
               let proc = facts.misses.one_log a.proc b.proc x.0 y.0 x.1 y.1 (x.2 ∙ sym y.2) in
               let apart = paired-apart IsRefusal (λ (p q : Refusal). p.number ≢ q.number) (λ (p q : Object). (m n : ℕ) → p.answer ≡ Missed m → q.answer ≡ Missed n → m ≢ n) (missed_by b.proc e.news) (refusals (e.logs b.proc))
               (facts.objects_are.missed b.proc) (facts.misses.apart b.proc)
-              (λ p q r s pr qs ne m n pm qn same. ne (same-line p.answer p.answer r.number m refl pr.answer pm ∙ same ∙ sym (same-line q.answer q.answer s.number n refl qs.answer qn))) in
+              (λ p q r s hr hs pr qs ne m n pm qn same. ne (same-line p.answer p.answer r.number m refl pr.answer pm ∙ same ∙ sym (same-line q.answer q.answer s.number n refl qs.answer qn))) in
               elim (apart-pick _ (missed_by b.proc e.news) a b apart (missed-parts b.proc e.news a line a-new proc ma) (missed-parts b.proc e.news b line b-new refl mb)) [
                 | inl one ↦ ap (λ (o : Object). o.id) one
                 | inr two ↦ elim two [ inl first ↦ absurd (first line line ma mb refl) | inr then ↦ absurd (then line line mb ma refl) ]
@@ -203,14 +202,14 @@ facts-cycle marked region goal objects notes e began facts = record {
   apart_old = λ a b ha hb pa pb mark life. apart-old marked region goal objects notes e began facts a b ha hb pa pb mark life;
   misses = cycle-misses marked region goal objects notes e began facts;
   one_processor = λ a b ha hb sa sb life. one-processor marked region goal objects e facts a b ha hb sa.0 sb.0 life;
-  no_gap = λ o h small j lt. log-no_gap marked e.cycle (e.news ++ objects) e.marks (placed_by o.proc e.news) (placings (e.logs o.proc)) (facts.objects_are.placed o.proc) (facts.fills o.proc)
+  no_gap = λ o h small j lt. log-no_gap marked e.cycle (e.news ++ objects) e.marks (past_after e) (placed_by o.proc e.news) (placings (e.logs o.proc)) (facts.objects_are.placed o.proc) (facts.places.here o.proc) (facts.fills o.proc)
       (passing-apart (λ (newer older : Object). older.id < newer.id) _ e.news facts.objects_are.order) (among marked region goal objects e facts o.proc)
-      (λ a k i on. mark-among marked e.cycle e.news objects a.number k (marked-placing marked region goal objects notes e began facts o.proc a k i on))
+      (λ life k here on. mark-among marked e.cycle e.news objects life.number k (marked-here marked region goal objects notes e began facts life k here on))
       o (in-placed o.proc e.news o h refl small.0) small j lt;
   full_first = λ a b ha hb sa sb proc class before life j lt.
-      log-full_first marked e.cycle (e.news ++ objects) e.marks (placed_by b.proc e.news) (placings (e.logs b.proc)) (facts.objects_are.placed b.proc) (facts.fills b.proc)
+      log-full_first marked e.cycle (e.news ++ objects) e.marks (past_after e) (placed_by b.proc e.news) (placings (e.logs b.proc)) (facts.objects_are.placed b.proc) (facts.places.here b.proc) (facts.fills b.proc)
       (passing-apart (λ (newer older : Object). older.id < newer.id) _ e.news facts.objects_are.order) (among marked region goal objects e facts b.proc)
-      (λ p k i on. mark-among marked e.cycle e.news objects p.number k (marked-placing marked region goal objects notes e began facts b.proc p k i on))
+      (λ life k here on. mark-among marked e.cycle e.news objects life.number k (marked-here marked region goal objects notes e began facts life k here on))
       a b (in-placed b.proc e.news a ha proc sa.0) (in-placed b.proc e.news b hb refl sb.0) sb (facts.objects_are.fits a ha sa.0).count class before life j lt;
 }
 
@@ -218,7 +217,7 @@ facts-cycle marked region goal objects notes e began facts = record {
 
 -- an index of an open life that is allocated but not marked has an object of the cycle
 used-now : (marked : Marking) (region goal : ℕ) (objects : List Object) (e : CycleSoFar) → Facts marked region goal objects e → (life : Life) → In life (open_lives (past_after e))
-    → ((k : ℕ) → e.marks life.page k ≡ true → ⊥) → (w : ℕ) × (a : Placing) × In a (placings (e.logs w)) × (a.number ≡ life.number)
+    → ((k : ℕ) → e.marks life.page k ≡ true → ⊥) → (w : ℕ) × (a : Placing) × In a (placings (e.logs w)) × (a.page ≡ life.page)
 used-now marked region goal objects e facts life here none =
     let some = facts.holdings.some life here in
     elim (facts.holdings.from life some.0 here some.1) [
@@ -245,11 +244,11 @@ all-note marked region goal objects e facts m is life note right =
     let right' : IsNote marked objects (suc m) life note = rw is at right in
     rw is (notes-same marked e.cycle m e.news objects life note facts.objects_are.now facts.objects_are.lasts (omega arith) right')
 
-used-object : (marked : Marking) (region goal : ℕ) (objects : List Object) (e : CycleSoFar) → Facts marked region goal objects e → (m : ℕ) → e.cycle ≡ suc m → (life : Life) (w : ℕ) (a : Placing)
-    → In a (placings (e.logs w)) → a.number ≡ life.number → IsUsedAgain (e.news ++ objects) (suc m) life
-used-object marked region goal objects e facts m is life w a h same =
+used-object : (marked : Marking) (region goal : ℕ) (objects : List Object) (e : CycleSoFar) → Facts marked region goal objects e → (m : ℕ) → e.cycle ≡ suc m → (life : Life) → In life (open_lives (past_after e)) → (w : ℕ) (a : Placing)
+    → In a (placings (e.logs w)) → a.page ≡ life.page → IsUsedAgain (e.news ++ objects) (suc m) life
+used-object marked region goal objects e facts m is life here w a h same =
     let o = placing-object marked region goal objects e facts w a h in
-    (o.0, in-left e.news objects o.0 o.1, o.4.life ∙ same, facts.objects_are.now o.0 o.1 ∙ is, o.3)
+    (o.0, in-left e.news objects o.0 o.1, sym (o.4.life life here (sym same)), facts.objects_are.now o.0 o.1 ∙ is, o.3)
 
 cycle-done : (marked : Marking) (region goal : ℕ) (objects : List Object) (notes : List SweepNote) (e : CycleSoFar) → Began marked region goal e.cycle e.before objects notes e.carried
     → Facts marked region goal objects e → (m : ℕ) → e.cycle ≡ suc m → (life : Life) → In life (open_lives e.before) → (note : SweepNote) × In note e.notes × IsNote marked (e.news ++ objects) e.cycle life note
@@ -286,7 +285,7 @@ facts-notes marked region goal objects notes e began facts = record {
                   let has = marked-here marked region goal objects notes e began facts life k here on in
                   let some = kept-counts marked has.0 (e.news ++ objects) e.cycle life.number (in-right e.news objects has.0 has.1) has.2 has.4 has.3 in
                   omega arith)) in
-                  inr (used-object marked region goal objects e facts m is life used.0 used.1 used.2 used.3))
+                  inr (used-object marked region goal objects e facts m is life here used.0 used.1 used.2 used.3))
               | inr gone ↦ inl (λ h. (
                   let h' : In life (open_lives (past_after e)) = rw (sym is, now) at h in
                   number-absent life.number (open_lives (past_after e)) life gone h' refl))
@@ -351,10 +350,12 @@ cycle-wanted marked region goal objects notes e began facts life h =
           omega arith) in
           let used = used-now marked region goal objects e facts life new.1 (λ k on. unmarked life.number k refl (marked-here marked region goal objects notes e began facts life k new.1 on)) in
           elim (first-taken e.marks (placings (e.logs used.0)) used.1 (facts.fills used.0) used.2 (facts.places.below used.0 used.1 used.2)) [
-            | inl on ↦ absurd (unmarked used.1.number 0 used.3 (marked-placing marked region goal objects notes e began facts used.0 used.1 0 used.2 on))
+            | inl on ↦ (
+                let on' : e.marks life.page 0 ≡ true = rw used.3 at on in
+                absurd (unmarked life.number 0 refl (marked-here marked region goal objects notes e began facts life 0 new.1 on')))
             | inr at ↦ (
                 let o = placing-object marked region goal objects e facts used.0 at.0 at.1 in
-                (o.0, in-left e.news objects o.0 o.1, o.3, o.4.life ∙ at.2 ∙ used.3, o.4.index ∙ at.3, facts.objects_are.now o.0 o.1 ∙ sym new.2))
+                (o.0, in-left e.news objects o.0 o.1, o.3, sym (o.4.life life new.1 (sym used.3 ∙ sym at.2)), o.4.index ∙ at.3, facts.objects_are.now o.0 o.1 ∙ sym new.2))
           ])
     ]
 
@@ -370,7 +371,7 @@ cycle-bits marked region goal objects notes e began facts life here = record {
     | inl new ↦ (
         let a = object-placing marked region goal objects e facts o new (live-placed marked e.cycle o lives) in
         let at = facts.places.here o.proc a.0 a.1 in
-        let same : at.0 ≡ life = same_number (past_after e) at.0 life at.1 here (at.2.number ∙ sym a.2.life ∙ one) in
+        let same : at.0 ≡ life = same_number (past_after e) at.0 life at.1 here (a.2.life at.0 at.1 at.2.page ∙ one) in
         let on = facts.holdings.placed o.proc a.0 a.1 in
         bit-moved e.bits a.0.page life.page a.0.index o.index (sym at.2.page ∙ ap (λ (l : Life). l.page) same) (sym a.2.index) on)
     | inr old ↦ elim (live-cases marked e.cycle o lives) [
@@ -390,7 +391,7 @@ cycle-bits marked region goal objects notes e began facts life here = record {
         (has.0, in-right e.news objects has.0 has.1, live-marked marked e.cycle has.0 has.2 has.3, has.4, has.5))
     | inr at ↦ (
         let o = placing-object marked region goal objects e facts at.0 at.1 at.2 in
-        (o.0, in-left e.news objects o.0 o.1, live-of marked e.cycle o.0 o.3 (facts.objects_are.now o.0 o.1), o.4.life ∙ at.3, o.4.index ∙ at.4))
+        (o.0, in-left e.news objects o.0 o.1, live-of marked e.cycle o.0 o.3 (facts.objects_are.now o.0 o.1), sym (o.4.life life here (sym at.3)), o.4.index ∙ at.4))
   ];
 }
 

@@ -5,12 +5,13 @@ use Rattle.page_bitmap.specs.declared.line.Line.{Line}
 use Rattle.page_bitmap.specs.declared.line.Line.TheVariants.{Take, Miss, Give, Scav, Pull, Cut, Drop}
 use Rattle.page_alloc.specs.Lists.{In}
 use Rattle.page_alloc.specs.Lives.{Life, open_lives}
-use Rattle.page_alloc.specs.Journal.{cycle_of, at_end, IsBy, Legal}
+use Rattle.page_alloc.specs.Journal.{cycle_of, at_end, IsBy}
 use Rattle.page_alloc.proofs.Lives.{from_others, to_others}
 use Rattle.run_laws.specs.Lists.{begins_at}
 use Rattle.cycle_history.specs.Requests.{Marking}
 use Rattle.cycle_history.specs.Objects.{Object, kept}
 use Rattle.cycle_history.specs.Sweeps.{GivesWhenEmpty}
+use Rattle.sound_run.specs.Run.{IsJournal}
 use Rattle.sound_run.proofs.Live.{at_end-before, by-later}
 
 -- ---- the journal at the ends of cycles
@@ -25,7 +26,7 @@ by-lines c [] past all by = by
 by-lines c (line ∷ lines) past all by = let e = all line (inl refl) in omega arith
 
 -- each line of a legal journal is of a cycle that it has come to
-pub lines-by : (region goal c : ℕ) (past : List Line) (line : Line) → Legal region goal past → IsBy c past → In line past → cycle_of line ≤ c
+pub lines-by : (region goal c : ℕ) (past : List Line) (line : Line) → IsJournal region goal past → IsBy c past → In line past → cycle_of line ≤ c
 lines-by region goal c [] line legal by h = absurd h
 lines-by region goal c (first ∷ past) line legal by h = elim h [
   | inl here ↦ (let e : cycle_of first ≡ cycle_of line = ap cycle_of here in omega arith)
@@ -149,3 +150,10 @@ page-absent p (first ∷ lives) life h there e =
             | inr behind ↦ page-absent p lives life h' behind e
           ])
     ]
+
+pub there-begins : (lives : List Life) (life : Life) → In life lives → begins_at life.page lives ≡ true
+there-begins [] life h = absurd h
+there-begins (l ∷ lives) life h = elim h [
+  | inl here ↦ (let e = eq-eqb l.page life.page (ap (λ (x : Life). x.page) here) in rw e refl)
+  | inr there ↦ (let rest = there-begins lives life there in elim (cases_Bool (eqb l.page life.page)) [ inl on ↦ rw on refl | inr off ↦ rw off rest ])
+]

@@ -5,12 +5,11 @@ use Rattle.std.specs.List.{find, range_with_len}
 use Rattle.std.proofs.lemmas.Bool.{cases_eq, cases_Bool, eq-eqb, ne_eqb, eqb-true, ltb-true}
 use mathlib.Core.Option.{some, some-injective}
 use lib.ListN.{get_elem?}
-use Rattle.page_bitmap.specs.declared.line.Line.TheVariants.{Take}
+use Rattle.page_bitmap.specs.declared.line.Line.TheVariants.{Take, Give, Pull}
 use Rattle.page_alloc.specs.Lists.{In}
 use Rattle.page_alloc.specs.Lives.{Life, open_lives}
-use Rattle.page_alloc.specs.Journal.{MayFollow}
 use Rattle.span_state.specs.Bits.{count_below}
-use Rattle.sound_run.specs.Run.{count_for}
+use Rattle.sound_run.specs.Run.{count_for, IsJournal}
 use Rattle.sweep_laws.specs.declared.moves.Claimed.{Claimed}
 use Rattle.sweep_laws.specs.declared.moves.Move.TheVariants.{Give as GiveMove}
 use Rattle.sweep_laws.specs.Counts.{times}
@@ -18,17 +17,17 @@ use Rattle.sweep_laws.specs.Lists.{has}
 use Rattle.sweep_laws.specs.Named.{begins}
 use Rattle.sweep_laws.specs.Reading.{hand_of, set_of, life_of, life_in, no_life, allocated_at}
 use Rattle.sweep_laws.specs.NeedsOfRange.{refusal}
-use Rattle.sweep_laws.specs.Needs.{take_needs, give_needs, acquire_needs, release_needs, cache_needs, allocate_needs, uncache_needs, stale_uncache_needs, claim_needs, fill_needs, pop_swept_needs, pop_unswept_needs, drop_popped_needs}
-use Rattle.sweep_laws.specs.ChangesOfHands.{hold, let_go, start_sweep, end_sweep, put_in_cache, take_from_cache, sweep_from_cache, claim_cell, fill_cell, pop_entry, drop_entry}
+use Rattle.sweep_laws.specs.Needs.{take_needs, give_needs, acquire_needs, release_needs, cache_needs, allocate_needs, uncache_needs, stale_uncache_needs, claim_needs, fill_needs, pop_swept_needs, pop_unswept_needs, drop_popped_needs, pull_needs, cut_needs, drop_needs}
+use Rattle.sweep_laws.specs.ChangesOfHands.{hold, let_go, start_sweep, end_sweep, put_in_cache, take_from_cache, sweep_from_cache, claim_cell, fill_cell, pop_entry, drop_entry, pull_pages, cut_span, drop_pulled}
 use Rattle.sweep_laws.specs.ChangesOfLives.{drop_life, change_life, keep_marked, allocate_index}
 use Rattle.sweep_laws.specs.ChangesOfSets.{raise_head, raise_tail, head_base}
-use Rattle.sweep_laws.specs.Changes.{with_hand, with_word, after_lock, after_unlock, after_take, after_give, after_acquire, after_release, after_cache, after_allocate as core_allocate, after_uncache, after_stale_uncache, after_claim, after_fill, after_fill_of, after_pop_swept, after_pop_unswept, after_drop_popped}
+use Rattle.sweep_laws.specs.Changes.{with_hand, with_word, after_lock, after_unlock, after_take, after_give, after_acquire, after_release, after_cache, after_allocate as core_allocate, after_uncache, after_stale_uncache, after_claim, after_fill, after_fill_of, after_pop_swept, after_pop_unswept, after_drop_popped, after_pull, after_cut, after_drop}
 use Rattle.sweep_laws.specs.Owned.{Owned}
 use Rattle.sweep_laws.specs.Standing.{tally}
 use Rattle.sweep_laws.specs.State.{LifeState, SetState, HandState, CoreState}
 use Rattle.sweep_laws.proofs.Forms.{kept_of}
-use Rattle.sweep_laws.proofs.HeapMoves.{free_before}
-use Rattle.sweep_laws.proofs.MovesKept.{hand_at, run_free, move_kept}
+use Rattle.sweep_laws.proofs.HeapMoves.{free_before, free_uncovered, pulled_uncovered}
+use Rattle.sweep_laws.proofs.MovesKept.{hand_at, run_free, move_kept, cut_inside, cut_pulled}
 use Rattle.sweep_laws.proofs.Naming.{has_times, times_erase_else, set_here, set_else}
 use Rattle.sweep_laws.proofs.NeedsMet.{all_met, both, either_one, empty_list, holder_is, some_none}
 use Rattle.sweep_laws.proofs.Objects.{free_below}
@@ -45,8 +44,11 @@ use Rattle.run_laws.specs.Shown.{bits_of, marks_of, is_waiting, waits_of, has_of
 use Rattle.run_laws.specs.ShowsCycle.{ShowsCycle, MayLetGo, IsSweepOf}
 use Rattle.run_laws.proofs.Keeping.{core-ones, room-gets, room-lets_go}
 use Rattle.run_laws.proofs.Shown.{waits-same, waiting-sweep, waiting-below, waiting-above, settled-word, absent-life}
-use Rattle.run_laws.proofs.CoreEnded.{shown-begins, change-shown, take-shown}
-use Rattle.run_laws.proofs.ShowsKept.{shows-frame, shows-release, shows-allocate, shows-take, shows-give}
+use Rattle.run_laws.specs.Blocks.{OutBlock, settled_lines}
+use Rattle.run_laws.specs.ShowsBlocks.{ShowsBlocks, after_pulled, after_cut_out, after_settled}
+use Rattle.run_laws.proofs.Lines.{page-there}
+use Rattle.run_laws.proofs.CoreEnded.{shown-begins, change-shown, new-shown}
+use Rattle.run_laws.proofs.ShowsKept.{shows-frame, shows-release, shows-allocate, shows-take, shows-give, shows-pull, shows-cut, shows-settle}
 
 -- ---- hands
 
@@ -120,7 +122,7 @@ kept-drop p q (l ∷ ls) other = elim (cases_eq l.page p) [
       rw e (elim (cases_Bool (eqb l.page q)) [ inl here ↦ rw here refl | inr there ↦ rw there (kept-drop p q ls other) ]))
 ]
 
-module _ (region goal : ℕ) (c : CoreState) (e : CycleSoFar) (now : ShowsCycle region goal c e) (o : Owned c) where
+module _ (region goal : ℕ) (c : CoreState) (e : CycleSoFar) (now : ShowsCycle region goal c e) (blocks : ShowsBlocks c e) (o : Owned c) where
   low : 4 ≤ c.generation
   low = (kept_of c o).generation.low
 
@@ -208,11 +210,11 @@ module _ (region goal : ℕ) (c : CoreState) (e : CycleSoFar) (now : ShowsCycle 
           let some = has_times p (hand_of c w).sweeping m.1.1.0 in
           let word = sweeping_list c.generation (tally c.generation c.words c.lives c.sets c.hands p) ((kept_of c o).page p lt).standing (omega arith) in
           let waits : waits_of c p ≡ true = waiting-one c.generation (slice_index c.words p) word.0 in
-          let is = now.lives.same life here in
+          let is = (blocks.lives life here).1 in
           let count : (life_of c p).count ≡ count_for life.class = ap (λ (q : ℕ). (life_of c q).count) (sym page) ∙ is.count in
           let new : CoreState = after_release c w life.page in
-          let lives : LivesShown new (past_after e) = change-shown c new (past_after e) life.page keep_marked refl (λ l. record { page = refl; pages = refl; class = refl }) (λ l. refl) now.lives in
-          let done : ShowsCycle region goal new (after_sweep e w life s) = shows-release region goal c e w life s now old (ap (waits_of c) page ∙ waits) (rw page lt) (shown-begins c (past_after e) life now.lives here) (counts.page ∙ sym page)
+          let lives : LivesShown new e.known = change-shown c new e.known life.page keep_marked refl (λ l. record { page = refl; pages = refl; class = refl }) (λ l. refl) now.lives in
+          let done : ShowsCycle region goal new (after_sweep e w life s) = shows-release region goal c e w life s now old (ap (waits_of c) page ∙ waits) (rw page lt) (blocks.lives life here).0 (counts.page ∙ sym page)
           (counts.kept ∙ ap (λ (n : ℕ). count_below n (λ k. marks_of c p k)) count ∙ ap (λ (q : ℕ). count_below (count_for life.class) (λ k. marks_of c q k)) (sym page))
           (counts.freed ∙ ap (λ (n : ℕ). count_below n (λ k. bits_of c p k && not (marks_of c p k))) count ∙ ap (λ (q : ℕ). count_below (count_for life.class) (λ k. bits_of c q k && not (marks_of c q k))) (sym page))
           low
@@ -293,9 +295,9 @@ module _ (region goal : ℕ) (c : CoreState) (e : CycleSoFar) (now : ShowsCycle 
   -- ---- objects
 
   -- an object is placed in a span that the worker has, where it has no other of the class with objects of this cycle
-  pub allocate-shows : (w : ℕ) (life : Life) (a : Placing) → refusal (allocate_needs c w a.page a.index) ≡ None → In life (open_lives (past_after e)) → IsIn a life → HasOneOf e (has_of c) w a.class a.page
+  pub allocate-shows : (w : ℕ) (life : Life) (a : Placing) → refusal (allocate_needs c w a.page a.index) ≡ None → In life e.known → IsIn a life → life.number ≡ a.number → HasOneOf e (has_of c) w a.class a.page
       → ShowsCycle region goal (core_allocate c a.page a.index) (after_allocate e w a)
-  allocate-shows w life a met here is one =
+  allocate-shows w life a met here is number one =
       let m = all_met (allocate_needs c w a.page a.index) met in
       let at = hand_at c (kept_of c o) w m.0 in
       let lt = inside a.page m.1.0 in
@@ -310,17 +312,17 @@ module _ (region goal : ℕ) (c : CoreState) (e : CycleSoFar) (now : ShowsCycle 
       let shown = now.lives.same life here in
       let count : (life_of c a.page).count ≡ count_for a.class = ap (λ (q : ℕ). (life_of c q).count) (sym is.page) ∙ shown.count ∙ ap count_for is.class in
       let new : CoreState = core_allocate c a.page a.index in
-      shows-allocate region goal c e w life a (kept_of c o) now here is settled (subst (λ (n : ℕ). a.index < n) count below) least.0 (λ j lower. least.1 j (omega arith) lower)
-      (subst (λ (q : ℕ). begins q c.lives ≡ true) is.page (shown-begins c (past_after e) life now.lives here)) (lt, hand_of c w, at, mine) one
+      shows-allocate region goal c e w life a (kept_of c o) now here is number settled (subst (λ (n : ℕ). a.index < n) count below) least.0 (λ j lower. least.1 j (omega arith) lower)
+      (subst (λ (q : ℕ). begins q c.lives ≡ true) is.page (shown-begins c e.known life now.lives here)) (lt, hand_of c w, at, mine) one
       (λ q k. ap (λ (xs : List ℕ). has k xs) (kept-changed a.page q (allocate_index a.index) c.lives (λ l. refl) (λ l. refl)))
-      (change-shown c new (past_after e) a.page (allocate_index a.index) refl (λ l. record { page = refl; pages = refl; class = refl }) (λ l. refl) now.lives)
+      (change-shown c new e.known a.page (allocate_index a.index) refl (λ l. record { page = refl; pages = refl; class = refl }) (λ l. refl) now.lives)
 
   -- ---- the heap
 
   -- a span is taken at first fit, with its line
-  pub take-shows : (w p pages count class : ℕ) → refusal (take_needs c w p pages count class) ≡ None → MayFollow region goal (past_after e) (Take e.cycle p pages class) → count ≡ count_for class
+  pub take-shows : (w p pages count class : ℕ) → refusal (take_needs c w p pages count class) ≡ None → IsJournal region goal (Take e.cycle p pages class ∷ past_after e) → count ≡ count_for class
       → ShowsCycle region goal (after_take c w p pages count class) (after_took e w p pages class)
-  take-shows w p pages count class met follows same =
+  take-shows w p pages count class met legal same =
       let m = all_met (take_needs c w p pages count class) met in
       let at = hand_at c (kept_of c o) w m.0 in
       let lt = inside p m.1.0 in
@@ -330,15 +332,15 @@ module _ (region goal : ℕ) (c : CoreState) (e : CycleSoFar) (now : ShowsCycle 
       let none : begins p c.lives ≡ false = (kept_of c o).lives_fit.begin p lt ∙ ap not (eq-eqb (slice_index c.words p) 0 word) in
       let absent : life_in p c.lives ≡ no_life = absent-life p c.lives none in
       let new : CoreState = after_take c w p pages count class in
-      shows-take region goal c e w p pages count class now follows low lt word (λ k. ap (λ (l : LifeState). has k l.allocated) absent)
+      shows-take region goal c e w p pages count class now legal (sym (now.lives.begin p) ∙ none) low lt word (λ k. ap (λ (l : LifeState). has k l.allocated) absent)
       (λ q k is. ap (λ (xs : List ℕ). has k xs) (kept-append q _ c.lives refl))
       (λ v q has. has-turned c new w (hand_of c w) (hold p (hand_of c w)) (length-set c.words p c.generation) refl at v q (λ s had. (let z = times_append q (hand_of c w).held (p ∷ []) in omega arith)) has)
-      (take-shown c (past_after e) w e.cycle p pages count class now.lives none same) (length-set c.words p c.generation)
+      (new-shown c new e.known (length (past_after e)) e.cycle p pages count class now.lives none same refl) (length-set c.words p c.generation)
 
   -- a span is given back by the worker that swept it in this cycle and has not taken or given its page since, with its line
-  pub give-shows : (w p : ℕ) → refusal (give_needs c w p) ≡ None → is_swept_last p (e.logs w) ≡ true
+  pub give-shows : (w p : ℕ) → refusal (give_needs c w p) ≡ None → is_swept_last p (e.logs w) ≡ true → IsJournal region goal (Give e.cycle p (life_of c p).pages ∷ past_after e)
       → ShowsCycle region goal (after_give c w p) (after_gave e w p (life_of c p).pages)
-  give-shows w p met swept =
+  give-shows w p met swept legal =
       let m = all_met (give_needs c w p) met in
       let at = hand_at c (kept_of c o) w m.0 in
       let lt = inside p m.1.0 in
@@ -357,9 +359,11 @@ module _ (region goal : ℕ) (c : CoreState) (e : CycleSoFar) (now : ShowsCycle 
       given : (life : Life) → In life (open_lives (past_after e)) → life.page ≡ p → life.number < length e.before → p < length c.words → get_elem? c.hands w ≡ some (hand_of c w) → slice_index c.words p ≡ c.generation
           → allocated_at c p ≡ [] → begins p (drop_life p c.lives) ≡ false → ShowsCycle region goal (after_give c w p) (after_gave e w p (life_of c p).pages)
       given life here page old lt at word none gone =
-          let pages : (life_of c p).pages ≡ life.pages = ap (λ (q : ℕ). (life_of c q).pages) (sym page) ∙ (now.lives.same life here).pages in
+          let pages : (life_of c p).pages ≡ life.pages = ap (λ (q : ℕ). (life_of c q).pages) (sym page) ∙ (blocks.lives life here).1.pages in
+          let told = page-there life.page e.known (sym (now.lives.begin life.page) ∙ (blocks.lives life here).0) in
+          let legal' : IsJournal region goal (Give e.cycle life.page life.pages ∷ past_after e) = subst (λ (x : ℕ × ℕ). IsJournal region goal (Give e.cycle x.0 x.1 ∷ past_after e)) (λ i. (sym page i, pages i)) legal in
           let new : CoreState = after_give c w life.page in
-          let done : ShowsCycle region goal new (after_gave e w life.page life.pages) = shows-give region goal c e w life now here old (ap (slice_index c.words) page ∙ word) low (rw page lt) (ap (allocated_at c) page ∙ none)
+          let done : ShowsCycle region goal new (after_gave e w life.page life.pages) = shows-give region goal c e w life told.0 now legal' here told.1 told.2 old (ap (slice_index c.words) page ∙ word) low (rw page lt) (ap (allocated_at c) page ∙ none)
           (subst (λ (q : ℕ). begins q (drop_life q c.lives) ≡ false) (sym page) gone) (subst (λ (q : ℕ). is_swept_last q (e.logs w) ≡ true) (sym page) swept)
           (λ q k is. (
           let other : q ≢ life.page = λ same. (
@@ -371,3 +375,40 @@ module _ (region goal : ℕ) (c : CoreState) (e : CycleSoFar) (now : ShowsCycle 
           (λ v q other has. has-turned c new w (hand_of c w) (let_go life.page (hand_of c w)) (length-set c.words life.page 0) refl at v q (λ s had. (let z = times_erase_else q life.page (hand_of c w).held other in omega arith)) has)
           (length-set c.words life.page 0) in
           subst (λ (x : ℕ × ℕ). ShowsCycle region goal (after_give c w x.0) (after_gave e w x.0 x.1)) (λ i. (page i, sym pages i)) done
+
+  -- ---- page caches
+
+  -- a block is pulled, with its line
+  pub pull-shows : (w page pages : ℕ) → refusal (pull_needs c w) ≡ None → IsJournal region goal (Pull e.cycle w page pages ∷ past_after e) → ShowsCycle region goal (after_pull c w) (after_pulled e w page pages)
+  pull-shows w page pages met legal =
+      let m = all_met (pull_needs c w) met in
+      let new : CoreState = after_pull c w in
+      shows-pull region goal c new e w page pages now legal refl refl refl
+      (λ v q has. has-turned c new w (hand_of c w) (pull_pages (Rattle.sweep_laws.specs.Reading.free_block c) (hand_of c w)) refl refl (hand_at c (kept_of c o) w m.0) v q (λ same had. had) has)
+
+  -- a block is settled, with its lines
+  pub drop-shows : (w : ℕ) (b : OutBlock) → refusal (drop_needs c w) ≡ None → IsJournal region goal (settled_lines e.cycle w (Some b) ++ past_after e) → ShowsCycle region goal (after_drop c w) (after_settled e w b)
+  drop-shows w b met legal =
+      let m = all_met (drop_needs c w) met in
+      let new : CoreState = after_drop c w in
+      shows-settle region goal c new e w b now legal refl refl refl
+      (λ v q has. has-turned c new w (hand_of c w) (drop_pulled (hand_of c w)) refl refl (hand_at c (kept_of c o) w m.0) v q (λ same had. had) has)
+
+  -- a span is cut out of a block: no life began there, and nothing was allocated
+  pub cut-shows : (w n p pages count class : ℕ) → refusal (cut_needs c w p pages count class) ≡ None → count ≡ count_for class
+      → ShowsCycle region goal (after_cut c w p pages count class) (after_cut_out e w n p pages class)
+  cut-shows w n p pages count class met same =
+      let m = all_met (cut_needs c w p pages count class) met in
+      let at = hand_at c (kept_of c o) w m.0 in
+      let lt = inside p m.1.0 in
+      let some_page = (cut_inside c (kept_of c o) w p pages count class met).1 in
+      let mine = cut_pulled c (kept_of c o) w p pages count class met p (omega arith) (omega arith) in
+      let bare = pulled_uncovered c.generation c.words c.owners c.lives c.sets c.hands (kept_of c o) w (hand_of c w) at p lt p mine in
+      let word : slice_index c.words p ≡ 0 = free_uncovered c.generation c.words c.owners c.lives (kept_of c o).lives_fit p lt bare in
+      let none : begins p c.lives ≡ false = (kept_of c o).lives_fit.begin p lt ∙ ap not (eq-eqb (slice_index c.words p) 0 word) in
+      let absent : life_in p c.lives ≡ no_life = absent-life p c.lives none in
+      let new : CoreState = after_cut c w p pages count class in
+      shows-cut region goal c e w n p pages count class now (sym (now.lives.begin p) ∙ none) low lt word (λ k. ap (λ (l : LifeState). has k l.allocated) absent)
+      (λ q k is. ap (λ (xs : List ℕ). has k xs) (kept-append q _ c.lives refl))
+      (λ v q has. has-turned c new w (hand_of c w) (cut_span p pages (hand_of c w)) (length-set c.words p c.generation) refl at v q (λ s had. (let z = times_append q (hand_of c w).held (p ∷ []) in omega arith)) has)
+      (new-shown c new e.known n e.cycle p pages count class now.lives none same refl)

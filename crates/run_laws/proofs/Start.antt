@@ -21,7 +21,7 @@ none-waits region workers p = ap (λ (w : ℕ). is_waiting 4 w) (zero-word (rang
 pub new-shows : (region goal workers : ℕ) → ShowsCycle region goal (new_state region workers) first_cycle
 new-shows region goal workers = record {
   under = underway-alike region goal first_cycle (λ p. false) (waits_of (new_state region workers)) first_cycle.bits
-      (fresh-underway region goal first_cycle record { legal = tt; no_lines = refl; no_entries = λ w. refl; as_before = λ n k. refl; marks_of_lives = λ p k on. (let none : ⊥ = cc in absurd none) })
+      (fresh-underway region goal first_cycle record { legal = tt; no_lines = refl; known = λ p. refl; no_entries = λ w. refl; as_before = λ n k. refl; marks_of_lives = λ p k on. (let none : ⊥ = cc in absurd none) })
       (λ p k. refl) (λ p. none-waits region workers p);
   bits = λ p k. refl;
   marks = λ p k is. refl;

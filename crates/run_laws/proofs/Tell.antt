@@ -1,12 +1,13 @@
 -- What the logs tell of spans stays so, and a cycle is under way by other logs that tell the same.
-use Rattle.std.proofs.Common.{◌≡◌, ◌≢◌, ℕ, ◌<◌, Bool, true, not, eqb, List, [], ◌∷◌, length, refl, sym, ◌∙◌, ap, subst, arith, ◌⊎◌, inl, inr}
+use Rattle.std.proofs.Common.{◌≡◌, ◌≢◌, ℕ, ◌<◌, Bool, true, not, eqb, List, [], ◌∷◌, ◌++◌, ◌+◌, map, Some, length, refl, sym, ◌∙◌, ap, subst, arith, ◌⊎◌, inl, inr}
 use Rattle.std.proofs.lemmas.Bool.{cases_eq, eqb-true, eq-eqb, or_cases, and_parts}
+use Rattle.std.proofs.lemmas.List.{append_assoc}
 use Rattle.page_bitmap.specs.declared.line.Line.{Line}
 use Rattle.page_bitmap.specs.declared.line.Line.TheVariants.{Take, Miss, Give, Scav, Pull, Cut, Drop}
 use Rattle.page_alloc.specs.Lists.{In, IsNumber, AllApart}
 use Rattle.page_alloc.specs.Lives.{Life, open_lives}
-use Rattle.page_alloc.specs.Journal.{IsBy, MayFollow}
 use Rattle.page_alloc.proofs.Lives.{to_others}
+use Rattle.sound_run.specs.Run.{IsJournal}
 use Rattle.sound_run.proofs.Seats.{number-below}
 use Rattle.worker_log.specs.declared.Placing.{Placing}
 use Rattle.worker_log.specs.declared.Sweeping.{Sweeping}
@@ -21,6 +22,8 @@ use Rattle.run_laws.specs.Facts.{AreGivesOld}
 use Rattle.run_laws.specs.Underway.{IsUnderway, LogsTell}
 use Rattle.run_laws.specs.StepNeeds.{MaySweep}
 use Rattle.run_laws.specs.Steps.{put, with_logs, after_sweep, after_allocate, after_line, after_took, after_missed, after_gave}
+use Rattle.run_laws.specs.Blocks.{CutOut, OutBlock, cut_line, settled_lines}
+use Rattle.run_laws.specs.ShowsBlocks.{after_pulled, after_cut_out, after_settled}
 use Rattle.run_laws.proofs.Underway.{put_here, put_else}
 use Rattle.run_laws.proofs.Steps.{miss-adds}
 use Rattle.run_laws.proofs.Whole.{refuse-keeps}
@@ -117,6 +120,32 @@ tell-took e w page pages class tell =
     ])
     (λ n line h. inr h)
 
+-- a Pull, with its line
+pub tell-pulled : (e : CycleSoFar) (w page pages : ℕ) → LogsTell e → LogsTell (after_pulled e w page pages)
+tell-pulled e w page pages tell = tell-step e (after_pulled e w page pages) w (Pulled (length (past_after e)) (Pull e.cycle w page pages)) tell refl (λ v. log-cases e.logs w v (Pulled (length (past_after e)) (Pull e.cycle w page pages)))
+    (λ v q l on was h is. h) (λ q on. inl on) (λ y h. inl h) (λ n line h. inr h)
+
+-- a cut
+pub tell-cut : (e : CycleSoFar) (w n page pages class : ℕ) → LogsTell e → LogsTell (after_cut_out e w n page pages class)
+tell-cut e w n page pages class tell = tell-step e (after_cut_out e w n page pages class) w (CutEntry page pages class) tell refl (λ v. log-cases e.logs w v (CutEntry page pages class))
+    (λ v q l on was h is. h) (λ q on. inl (and_parts (not (eqb page q)) (is_swept_last q (e.logs w)) on).1) (λ y h. inl h) (λ n line h. h)
+
+-- the settling of a block, with its lines
+pub tell-settled : (e : CycleSoFar) (w : ℕ) (b : OutBlock) → LogsTell e → LogsTell (after_settled e w b)
+tell-settled e w b tell =
+    let whole : past_after (after_settled e w b) ≡ settled_lines e.cycle w (Some b) ++ past_after e = append_assoc (settled_lines e.cycle w (Some b)) e.lines e.before in
+    tell-step e (after_settled e w b) w (Settled (length b.cuts + length (past_after e))) tell refl (λ v. log-cases e.logs w v (Settled (length b.cuts + length (past_after e))))
+    (λ v q l on was h is. subst (λ (p : List Line). In l (open_lives p)) (sym whole) (open-behind w b.cuts (past_after e) l h)) (λ q on. inl on) (λ y h. inl h)
+    (λ n line h. subst (λ (p : List Line). IsNumber n line p) (sym whole) (inr (number-behind w b.cuts (past_after e) n line h)))
+  where
+    open-behind : (w : ℕ) (cuts : List CutOut) (past : List Line) (l : Life) → In l (open_lives past) → In l (open_lives (map (cut_line e.cycle w) cuts ++ past))
+    open-behind w [] past l h = h
+    open-behind w (x ∷ cuts) past l h = inr (open-behind w cuts past l h)
+
+    number-behind : (w : ℕ) (cuts : List CutOut) (past : List Line) (n : ℕ) (line : Line) → IsNumber n line past → IsNumber n line (map (cut_line e.cycle w) cuts ++ past)
+    number-behind w [] past n line h = h
+    number-behind w (x ∷ cuts) past n line h = inr (number-behind w cuts past n line h)
+
 -- a Give by the worker that swept the span last
 pub tell-gave : (region goal : ℕ) (e : CycleSoFar) (waits : ℕ → Bool) (w page pages : ℕ) → IsUnderway region goal e waits → is_swept_last page (e.logs w) ≡ true → LogsTell e → LogsTell (after_gave e w page pages)
 tell-gave region goal e waits w page pages now mine tell = tell-step e (after_gave e w page pages) w (Gave page pages) tell refl (λ v. log-cases e.logs w v (Gave page pages))
@@ -175,7 +204,7 @@ underway-logs region goal e waits logs now placed swept refused =
         here = λ v a h. now.places.here v a (p v a h);
         below = λ v a h. now.places.below v a (p v a h);
         unmarked = λ v a h. now.places.unmarked v a (p v a h);
-        apart = λ v. subst (λ (l : List Placing). AllApart (λ (a b : Placing). a.number ≡ b.number → a.index ≢ b.index) l) (sym (placed v)) (now.places.apart v);
+        apart = λ v. subst (λ (l : List Placing). AllApart (λ (a b : Placing). a.page ≡ b.page → a.index ≢ b.index) l) (sym (placed v)) (now.places.apart v);
         one_log = λ u v a b ha hb. now.places.one_log u v a b (p u a ha) (p v b hb);
       };
       holds = record {
@@ -186,7 +215,9 @@ underway-logs region goal e waits logs now placed swept refused =
         marked = now.holds.marked;
         placed = λ v a h. now.holds.placed v a (p v a h);
         marked_open = now.holds.marked_open;
+        marked_known = now.holds.marked_known;
       };
+      numbered = λ v a h. now.numbered v a (p v a h);
       fills = λ v. subst (λ (l : List Placing). Fills e.marks l) (sym (placed v)) (now.fills v);
       misses = record {
         named = λ v y h. now.misses.named v y (x v y h);
@@ -222,11 +253,11 @@ number-short : (n : ℕ) (x : Line) (xs : List Line) → IsNumber n x xs → n <
 number-short n x [] h = absurd h
 number-short n x (y ∷ xs) h = elim h [ inl here ↦ (let e = here.0 in omega arith) | inr there ↦ (let lt = number-short n x xs there in omega arith) ]
 
-pub missed-keeps : (region goal : ℕ) (e : CycleSoFar) (waits : ℕ → Bool) (w pages class : ℕ) → IsUnderway region goal e waits → IsBy e.cycle e.before → MayFollow region goal (past_after e) (Miss e.cycle pages class)
+pub missed-keeps : (region goal : ℕ) (e : CycleSoFar) (waits : ℕ → Bool) (w pages class : ℕ) → IsUnderway region goal e waits → IsJournal region goal (Miss e.cycle pages class ∷ past_after e)
     → IsUnderway region goal (after_missed e w pages class) waits
-missed-keeps region goal e waits w pages class now by follows =
+missed-keeps region goal e waits w pages class now legal =
     let x : Refusal = record { number = length (past_after e); pages = pages; class = class } in
-    refuse-keeps region goal (after_line e (Miss e.cycle pages class)) waits w x (miss-adds region goal e waits pages class now by follows) record {
+    refuse-keeps region goal (after_line e (Miss e.cycle pages class)) waits w x (miss-adds region goal e waits pages class now legal) record {
       named = inl (refl, refl);
       alone = λ v y h same. (let lt = number-short y.number (Miss e.cycle y.pages y.class) (past_after e) (now.misses.named v y h) in omega arith);
     }

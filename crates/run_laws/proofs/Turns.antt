@@ -7,7 +7,8 @@ use Rattle.page_bitmap.specs.declared.line.Line.{Line}
 use Rattle.page_bitmap.specs.declared.line.Line.TheVariants.{Miss, Scav}
 use Rattle.page_alloc.specs.Lists.{In}
 use Rattle.page_alloc.specs.Lives.{open_lives}
-use Rattle.page_alloc.specs.Journal.{IsBy, MayFollow}
+use Rattle.page_alloc.specs.Journal.{IsBy}
+use Rattle.sound_run.specs.Run.{IsJournal}
 use Rattle.span_state.specs.declared.sweep.SweepNote.{SweepNote}
 use Rattle.cycle_history.specs.Requests.{Marking}
 use Rattle.cycle_history.specs.Objects.{Object}
@@ -42,12 +43,14 @@ use Rattle.run_laws.specs.Shown.{waits_of, LivesShown}
 use Rattle.run_laws.specs.ShowsCycle.{ShowsCycle, has_mark, after_mark_end}
 use Rattle.run_laws.proofs.Lines.{by-lines, page-there}
 use Rattle.run_laws.proofs.Shown.{next-waits}
-use Rattle.run_laws.proofs.CoreEnded.{shown-begins, core-ended}
+use Rattle.run_laws.specs.Blocks.{out_of}
+use Rattle.run_laws.specs.ShowsBlocks.{ShowsBlocks}
+use Rattle.run_laws.proofs.CoreEnded.{shown-begins, core-ended, journal-begins}
 use Rattle.run_laws.proofs.Steps.{HasEnded, scav-adds, fresh-underway}
 use Rattle.run_laws.proofs.Tell.{tell-missed, tell-scav, tell-logs, underway-logs, missed-keeps, filter-more}
 use Rattle.run_laws.proofs.Whole.{underway-alike, underway-facts}
 
-module _ (region goal : ℕ) (c : CoreState) (e : CycleSoFar) (now : ShowsCycle region goal c e) where
+module _ (region goal : ℕ) (c : CoreState) (e : CycleSoFar) (now : ShowsCycle region goal c e) (blocks : ShowsBlocks c e) where
   -- the logs grow by what the laws don't look at
   pub logs-show : (logs : ℕ → List Entry) → ((w : ℕ) → LookAlike (logs w) (e.logs w)) → ShowsCycle region goal c (with_logs e logs)
   logs-show logs alike = record {
@@ -62,9 +65,9 @@ module _ (region goal : ℕ) (c : CoreState) (e : CycleSoFar) (now : ShowsCycle 
   }
 
   -- no run of pages is free
-  pub missed-shows : (w pages class : ℕ) → MayFollow region goal (past_after e) (Miss e.cycle pages class) → ShowsCycle region goal c (after_missed e w pages class)
-  missed-shows w pages class follows = record {
-    under = missed-keeps region goal e (waits_of c) w pages class now.under now.by follows;
+  pub missed-shows : (w pages class : ℕ) → IsJournal region goal (Miss e.cycle pages class ∷ past_after e) → ShowsCycle region goal c (after_missed e w pages class)
+  missed-shows w pages class legal = record {
+    under = missed-keeps region goal e (waits_of c) w pages class now.under legal;
     bits = now.bits;
     marks = now.marks;
     lives = record { begin = now.lives.begin; same = now.lives.same };
@@ -75,9 +78,9 @@ module _ (region goal : ℕ) (c : CoreState) (e : CycleSoFar) (now : ShowsCycle 
   }
 
   -- pages are scavenged
-  pub scav-shows : (page pages : ℕ) → MayFollow region goal (past_after e) (Scav e.cycle page pages) → ShowsCycle region goal c (after_line e (Scav e.cycle page pages))
-  scav-shows page pages follows = record {
-    under = scav-adds region goal e (waits_of c) page pages now.under now.by follows;
+  pub scav-shows : (page pages : ℕ) → IsJournal region goal (Scav e.cycle page pages ∷ past_after e) → ShowsCycle region goal c (after_line e (Scav e.cycle page pages))
+  scav-shows page pages legal = record {
+    under = scav-adds region goal e (waits_of c) page pages now.under legal;
     bits = now.bits;
     marks = now.marks;
     lives = record { begin = now.lives.begin; same = now.lives.same };
@@ -89,7 +92,7 @@ module _ (region goal : ℕ) (c : CoreState) (e : CycleSoFar) (now : ShowsCycle 
 
   -- ---- the end
 
-  module _ (o : Owned c) (marks : List (ℕ × ℕ)) (met : refusal (next_needs c marks) ≡ None) where
+  module _ (none_out : (w : ℕ) → out_of (e.logs w) ≡ None) (o : Owned c) (marks : List (ℕ × ℕ)) (met : refusal (next_needs c marks) ≡ None) where
     pub next-settled : IsSettled c
     next-settled =
         let m = all_met (next_needs c marks) met in
@@ -100,9 +103,24 @@ module _ (region goal : ℕ) (c : CoreState) (e : CycleSoFar) (now : ShowsCycle 
 
     -- where a mark end may come, the cycle has ended
     pub shows-ended : NamedHaveSome c → HasEnded e (waits_of c)
-    shows-ended named = core-ended region goal e c now.under.writes.legal now.size (kept_of c o).generation.low now.lives now.bits o next-settled named
+    shows-ended named = core-ended region goal e c now.under.writes.legal now.size (kept_of c o).generation.low now.lives now.bits blocks none_out o next-settled named
 
     -- ---- the mark end
+
+    in-journal : (p : ℕ) → begins p c.lives ≡ true → begins_at p (open_lives (past_after e)) ≡ true
+    in-journal p on = journal-begins c e blocks none_out p on
+
+    -- workers know the lives of the journal
+    journal-known : (p : ℕ) → begins_at p e.known ≡ begins_at p (open_lives (past_after e))
+    journal-known p = elim (cases_Bool (begins_at p (open_lives (past_after e)))) [
+      | inl there ↦ (
+          let at = page-there p (open_lives (past_after e)) there in
+          sym (now.lives.begin p) ∙ subst (λ (q : ℕ). begins q c.lives ≡ true) at.2 (blocks.lives at.0 at.1).0 ∙ sym there)
+      | inr isnt ↦ elim (cases_Bool (begins_at p e.known)) [
+        | inl is ↦ (let on = in-journal p (now.lives.begin p ∙ is) in let nothing : ⊥ = cc in absurd nothing)
+        | inr off ↦ off ∙ sym isnt
+      ]
+    ]
 
     life-mapped : (q : ℕ) (ls : List LifeState) → begins q ls ≡ true → life_in q (map (mark_life marks) ls) ≡ mark_life marks (life_in q ls)
     life-mapped q [] is = let none : ⊥ = cc in absurd none
@@ -131,8 +149,8 @@ module _ (region goal : ℕ) (c : CoreState) (e : CycleSoFar) (now : ShowsCycle 
         no_life_beyond : (p : ℕ) → length c.words ≤ p → begins p c.lives ≡ false
         no_life_beyond p out = elim (cases_Bool (begins p c.lives)) [
           | inl on ↦ (
-              let there = page-there p (open_lives (past_after e)) (sym (now.lives.begin p) ∙ on) in
-              let lie = Rattle.page_alloc.proofs.Lives.lies region goal (past_after e) there.0 now.under.writes.legal there.1 in
+              let there = page-there p (open_lives (past_after e)) (in-journal p on) in
+              let lie = Rattle.sound_run.proofs.Journals.lies region goal (past_after e) there.0 now.under.writes.legal there.1 in
               let a = lie.0 in
               let b = lie.1 in
               let s = now.size in
@@ -141,12 +159,12 @@ module _ (region goal : ℕ) (c : CoreState) (e : CycleSoFar) (now : ShowsCycle 
           | inr off ↦ off
         ]
 
-    next-lives : LivesShown (after_next c marks) (past_after e)
+    next-lives : LivesShown (after_next c marks) e.known
     next-lives = record {
       begin = λ p. sym (alike_begins p c.lives (map (mark_life marks) c.lives) (mapped_alike (mark_life marks) (λ l. record { page = refl; pages = refl; class = refl }) c.lives)) ∙ now.lives.begin p;
       same = λ life h. (
           let was = now.lives.same life h in
-          let is : life_in life.page (map (mark_life marks) c.lives) ≡ mark_life marks (life_in life.page c.lives) = life-mapped life.page c.lives (shown-begins c (past_after e) life now.lives h) in
+          let is : life_in life.page (map (mark_life marks) c.lives) ≡ mark_life marks (life_in life.page c.lives) = life-mapped life.page c.lives (shown-begins c e.known life now.lives h) in
           record {
             pages = ap (λ (l : LifeState). l.pages) is ∙ was.pages;
             class = ap (λ (l : LifeState). l.class) is ∙ was.class;
@@ -203,12 +221,13 @@ module _ (region goal : ℕ) (c : CoreState) (e : CycleSoFar) (now : ShowsCycle 
         let fresh : IsFresh region goal new = record {
           legal = now.under.writes.legal;
           no_lines = refl;
+          known = journal-known;
           no_entries = λ w. refl;
           as_before = λ n k. refl;
-          marks_of_lives = λ p k on. (let there = page-there p (open_lives (past_after e)) (sym (now.lives.begin p) ∙ mark-there p k on) in (there.0, there.1, there.2));
+          marks_of_lives = λ p k on. (let there = page-there p (open_lives (past_after e)) (in-journal p (mark-there p k on)) in (there.0, there.1, there.2));
         } in
         record {
-          under = underway-alike region goal new (λ p. begins_at p (open_lives new.before)) (waits_of (after_next c marks)) new.bits (fresh-underway region goal new fresh) (λ p k. refl) (λ p. waits-next p ∙ now.lives.begin p);
+          under = underway-alike region goal new (λ p. begins_at p (open_lives new.before)) (waits_of (after_next c marks)) new.bits (fresh-underway region goal new fresh) (λ p k. refl) (λ p. waits-next p ∙ now.lives.begin p ∙ journal-known p);
           bits = λ p k. now.bits p k ∙ sym (ap (λ (xs : List ℕ). has k xs) (allocated-mapped p c.lives));
           marks = λ p k is. (
               let begin : begins p c.lives ≡ true = sym (waits-next p) ∙ is in
@@ -227,8 +246,8 @@ module _ (region goal : ℕ) (c : CoreState) (e : CycleSoFar) (now : ShowsCycle 
 -- ---- the facts of a cycle
 
 -- where a mark end may come, a cycle under way has its facts with its objects, its notes and the marks of its beginning
-pub shows-facts : (marked : Marking) (region goal : ℕ) (objects news : List Object) (notes : List SweepNote) (c : CoreState) (e : CycleSoFar) (marks : List (ℕ × ℕ)) → ShowsCycle region goal c e → Owned c
-    → refusal (next_needs c marks) ≡ None → NamedHaveSome c → Notes (with_objects e news notes) → Marks marked objects (with_objects e news notes) → Objects marked objects (with_objects e news notes)
+pub shows-facts : (marked : Marking) (region goal : ℕ) (objects news : List Object) (notes : List SweepNote) (c : CoreState) (e : CycleSoFar) (marks : List (ℕ × ℕ)) → ShowsCycle region goal c e → ShowsBlocks c e → Owned c
+    → refusal (next_needs c marks) ≡ None → ((w : ℕ) → out_of (e.logs w) ≡ None) → NamedHaveSome c → Notes (with_objects e news notes) → Marks marked objects (with_objects e news notes) → Objects marked objects (with_objects e news notes)
     → IsScavenged region goal (past_after e) → Facts marked region goal objects (with_objects e news notes)
-shows-facts marked region goal objects news notes c e marks now o met named tells are objects_are scavenged =
-    underway-facts marked region goal objects news notes e (waits_of c) now.under (shows-ended region goal c e now o marks met named) tells are objects_are scavenged
+shows-facts marked region goal objects news notes c e marks now blocks o met none_out named tells are objects_are scavenged =
+    underway-facts marked region goal objects news notes e (waits_of c) now.under (shows-ended region goal c e now blocks none_out o marks met named) tells are objects_are scavenged

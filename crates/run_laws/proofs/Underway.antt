@@ -5,8 +5,8 @@ use Rattle.page_bitmap.specs.declared.line.Line.{Line}
 use Rattle.page_bitmap.specs.declared.line.Line.TheVariants.{Take, Miss, Give, Scav, Pull, Cut, Drop}
 use Rattle.page_alloc.specs.Lists.{In, AllApart}
 use Rattle.page_alloc.specs.Lives.{Life, open_lives}
-use Rattle.page_alloc.specs.Journal.{Legal}
-use Rattle.page_alloc.proofs.Lives.{same_page}
+use Rattle.sound_run.specs.Run.{IsJournal}
+use Rattle.sound_run.proofs.Journals.{same_page}
 use Rattle.worker_log.specs.declared.Entry.{Entry}
 use Rattle.worker_log.specs.declared.Entry.TheVariants.{Allocated, Swept}
 use Rattle.worker_log.specs.declared.Placing.{Placing}
@@ -191,7 +191,7 @@ sweep-keeps region goal e waits w life s now may =
         here = λ v a h. now.places.here v a (back v a h);
         below = λ v a h. now.places.below v a (back v a h);
         unmarked = λ v a h. now.places.unmarked v a (back v a h);
-        apart = λ v. subst (λ (l : List Placing). AllApart (λ (a b : Placing). a.number ≡ b.number → a.index ≢ b.index) l) (sym (placings-swept e.logs w v s)) (now.places.apart v);
+        apart = λ v. subst (λ (l : List Placing). AllApart (λ (a b : Placing). a.page ≡ b.page → a.index ≢ b.index) l) (sym (placings-swept e.logs w v s)) (now.places.apart v);
         one_log = λ u v a b ha hb same. now.places.one_log u v a b (back u a ha) (back v b hb) same;
       };
       holds = record {
@@ -218,7 +218,9 @@ sweep-keeps region goal e waits w life s now may =
             let was = back v a h in
             ap (λ (f : ℕ → Bool). f a.index) (put_else e.bits life.page a.page (e.marks life.page) (placed_else v a was)) ∙ now.holds.placed v a was);
         marked_open = now.holds.marked_open;
+        marked_known = now.holds.marked_known;
       };
+      numbered = λ v a h. now.numbered v a (back v a h);
       fills = λ v. subst (λ (l : List Placing). Fills e.marks l) (sym (placings-swept e.logs w v s)) (now.fills v);
       misses = record {
         named = λ v x h. now.misses.named v x (from-new v x h);
@@ -227,7 +229,7 @@ sweep-keeps region goal e waits w life s now may =
       };
     }
   where
-    legal-before : (region goal : ℕ) (lines before : List Line) → Legal region goal (lines ++ before) → Legal region goal before
+    legal-before : (region goal : ℕ) (lines before : List Line) → IsJournal region goal (lines ++ before) → IsJournal region goal before
     legal-before region goal [] before legal = legal
     legal-before region goal (line ∷ lines) before legal = legal-before region goal lines before legal.2
 

@@ -21,7 +21,7 @@ use Rattle.run_laws.specs.Underway.{IsUnderway}
 use Rattle.run_laws.specs.StepNeeds.{MayRefuse}
 use Rattle.run_laws.specs.Steps.{put, after_refuse, refusal_entry}
 use Rattle.run_laws.proofs.Underway.{put_here, put_else}
-use Rattle.run_laws.proofs.Steps.{HasEnded, ended-sweeps, ended-holdings}
+use Rattle.run_laws.proofs.Steps.{HasEnded, ended-sweeps, ended-holdings, ended-places}
 
 -- ---- a refusal
 
@@ -70,7 +70,7 @@ refuse-keeps region goal e waits w x now may =
         here = λ v a h. now.places.here v a (p v a h);
         below = λ v a h. now.places.below v a (p v a h);
         unmarked = λ v a h. now.places.unmarked v a (p v a h);
-        apart = λ v. subst (λ (l : List Placing). AllApart (λ (a b : Placing). a.number ≡ b.number → a.index ≢ b.index) l) (sym (placings-refused e.cycle e.logs w v x)) (now.places.apart v);
+        apart = λ v. subst (λ (l : List Placing). AllApart (λ (a b : Placing). a.page ≡ b.page → a.index ≢ b.index) l) (sym (placings-refused e.cycle e.logs w v x)) (now.places.apart v);
         one_log = λ u v a b ha hb. now.places.one_log u v a b (p u a ha) (p v b hb);
       };
       holds = record {
@@ -81,7 +81,9 @@ refuse-keeps region goal e waits w x now may =
         marked = now.holds.marked;
         placed = λ v a h. now.holds.placed v a (p v a h);
         marked_open = now.holds.marked_open;
+        marked_known = now.holds.marked_known;
       };
+      numbered = λ v a h. now.numbered v a (p v a h);
       fills = λ v. subst (λ (l : List Placing). Fills e.marks l) (sym (placings-refused e.cycle e.logs w v x)) (now.fills v);
       misses = record {
         named = λ v y h. elim (more-refused e.cycle e.logs w v x y h) [
@@ -130,12 +132,13 @@ pub underway-facts : (marked : Marking) (region goal : ℕ) (objects news : List
 underway-facts marked region goal objects news notes e waits now end tells marks are scavenged =
     let sweeps = ended-sweeps region goal e waits now end in
     let holds = ended-holdings region goal e waits now end in
+    let places = ended-places region goal e waits now end in
     record {
       writes = record { legal = now.writes.legal; now = now.writes.now; gives = now.writes.gives };
       sweeps = record { each = sweeps.each; only = sweeps.only; kept = sweeps.kept; freed = sweeps.freed };
       notes = tells;
       marks = marks;
-      places = record { here = now.places.here; below = now.places.below; unmarked = now.places.unmarked; apart = now.places.apart; one_log = now.places.one_log };
+      places = record { here = places.here; below = places.below; unmarked = places.unmarked; apart = places.apart; one_log = places.one_log };
       holdings = record { from = holds.from; marked = holds.marked; placed = holds.placed; some = holds.some };
       fills = now.fills;
       objects_are = are;
@@ -147,7 +150,7 @@ underway-facts marked region goal objects news notes e waits now end tells marks
 
 -- the cycle so far with other bits
 abbrev pub with_bits : CycleSoFar → (ℕ → ℕ → Bool) → CycleSoFar
-with_bits e bits = record { cycle = e.cycle; before = e.before; lines = e.lines; carried = e.carried; marks = e.marks; bits = bits; logs = e.logs; news = e.news; notes = e.notes }
+with_bits e bits = record { cycle = e.cycle; before = e.before; lines = e.lines; known = e.known; carried = e.carried; marks = e.marks; bits = bits; logs = e.logs; news = e.news; notes = e.notes }
 
 -- bits and waiting pages of which each has the same value do as well
 pub underway-alike : (region goal : ℕ) (e : CycleSoFar) (waits waits' : ℕ → Bool) (bits : ℕ → ℕ → Bool) → IsUnderway region goal e waits → ((p k : ℕ) → bits p k ≡ e.bits p k) → ((p : ℕ) → waits' p ≡ waits p)
@@ -167,7 +170,9 @@ underway-alike region goal e waits waits' bits now same same' = record {
     marked = λ l k h is on. same l.page k ∙ now.holds.marked l k h (sym (same' l.page) ∙ is) on;
     placed = λ w a h. same a.page a.index ∙ now.holds.placed w a h;
     marked_open = now.holds.marked_open;
+    marked_known = now.holds.marked_known;
   };
+  numbered = now.numbered;
   fills = now.fills;
   misses = record { named = now.misses.named; apart = now.misses.apart; one_log = now.misses.one_log };
 }

@@ -1,6 +1,6 @@
 -- What logs tell of the blocks of page caches. A worker with a page cache has the number of its processor. Logs, journals and cuts have
 -- the newest first.
-use Rattle.std.specs.Prelude.{ℕ, ◌+◌, ◌-◌, ◌==◌, Bool, false, List, [], ◌∷◌, ◌++◌, map, Option, Some, None, option_map}
+use Rattle.std.specs.Prelude.{ℕ, ◌-◌, ◌==◌, Bool, false, List, [], ◌∷◌, ◌++◌, map, Option, Some, None, option_map}
 use Rattle.page_bitmap.specs.declared.line.Line.{Line}
 use Rattle.page_bitmap.specs.declared.line.Line.TheVariants.{Take, Miss, Give, Scav, Pull, Cut, Drop}
 use Rattle.page_alloc.specs.Owners.{within}
@@ -18,28 +18,29 @@ pub record CutOut : Type 0 where
 abbrev pub cut_out : ℕ → ℕ → ℕ → CutOut
 cut_out page pages class = record { page = page; pages = pages; class = class }
 
--- A block that is out: the first page and the pages of its Pull line, and the spans that were cut out of it.
+-- A block that is out: the number, the first page and the pages of its Pull line, and the spans that were cut out of it.
 pub record OutBlock : Type 0 where
+  pub number : ℕ
   pub page : ℕ
   pub pages : ℕ
   pub cuts : List CutOut
 
--- The block of a Pull line.
-abbrev pub block_pulled : Line → Option OutBlock
-block_pulled (Take cycle page pages class) = None
-block_pulled (Miss cycle pages class) = None
-block_pulled (Give cycle page pages) = None
-block_pulled (Scav cycle page pages) = None
-block_pulled (Pull cycle proc page pages) = Some (record { page = page; pages = pages; cuts = [] })
-block_pulled (Cut cycle proc page pages class) = None
-block_pulled (Drop cycle proc page pages) = None
+-- The block of a Pull line with this number.
+abbrev pub block_pulled : ℕ → Line → Option OutBlock
+block_pulled number (Take cycle page pages class) = None
+block_pulled number (Miss cycle pages class) = None
+block_pulled number (Give cycle page pages) = None
+block_pulled number (Scav cycle page pages) = None
+block_pulled number (Pull cycle proc page pages) = Some (record { number = number; page = page; pages = pages; cuts = [] })
+block_pulled number (Cut cycle proc page pages class) = None
+block_pulled number (Drop cycle proc page pages) = None
 
 abbrev pub with_cut : CutOut → OutBlock → OutBlock
-with_cut x b = record { page = b.page; pages = b.pages; cuts = x ∷ b.cuts }
+with_cut x b = record { number = b.number; page = b.page; pages = b.pages; cuts = x ∷ b.cuts }
 
 -- The block that is out after an entry: a Pulled entry has it out, a Cut entry cuts a span out of it, a Settled entry ends it.
 abbrev pub block_after : Entry → Option OutBlock → Option OutBlock
-block_after (Pulled number line) out = block_pulled line
+block_after (Pulled number line) out = block_pulled number line
 block_after (CutEntry page pages class) out = option_map (with_cut (cut_out page pages class)) out
 block_after (Settled number) out = None
 block_after _ out = out
@@ -56,6 +57,15 @@ cuts_in (Some b) = b.cuts
 
 abbrev pub cuts_of : List Entry → List CutOut
 cuts_of log = cuts_in (out_of log)
+
+-- The spans that a log cut, of all its blocks.
+abbrev pub cut_by : Entry → List CutOut
+cut_by (CutEntry page pages class) = cut_out page pages class ∷ []
+cut_by _ = []
+
+abbrev pub cuttings : List Entry → List CutOut
+cuttings [] = []
+cuttings (e ∷ log) = cut_by e ++ cuttings log
 
 -- How often cuts cover a page.
 abbrev pub cut_times : ℕ → List CutOut → ℕ

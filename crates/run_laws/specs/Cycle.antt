@@ -3,13 +3,13 @@ use Rattle.std.specs.Prelude.{◌≡◌, ◌≢◌, ℕ, suc, ◌<◌, true, Lis
 use Rattle.page_bitmap.specs.declared.line.Line.{Line}
 use Rattle.page_alloc.specs.Lists.{In, AllApart}
 use Rattle.page_alloc.specs.Lives.{Life, open_lives}
-use Rattle.page_alloc.specs.Journal.{cycle_of, Legal}
+use Rattle.page_alloc.specs.Journal.{cycle_of}
 use Rattle.span_state.specs.declared.sweep.SweepNote.{SweepNote}
 use Rattle.cycle_history.specs.Requests.{Marking}
 use Rattle.cycle_history.specs.Objects.{Object, is_placed, Sits, IsHeld}
 use Rattle.cycle_history.specs.Rules.{IsSmall, AreMissed}
 use Rattle.cycle_history.specs.Sweeps.{IsNote, GivesWhenEmpty}
-use Rattle.sound_run.specs.Run.{Fits, Lasts}
+use Rattle.sound_run.specs.Run.{Fits, IsJournal, Lasts}
 use Rattle.sound_run.specs.Notes.{AllDone}
 
 -- An object of the cycle sits in a life that is open as the cycle ends.
@@ -23,7 +23,7 @@ pub record IsCycle (marked : Marking) (region goal c : ℕ) (past : List Line) (
   pub older : (o : Object) → In o objects → o.cycle < c
   pub lines_now : (line : Line) → In line lines → cycle_of line ≡ c
   pub now : (o : Object) → In o news → o.cycle ≡ c
-  pub journal : Legal region goal (lines ++ past)
+  pub journal : IsJournal region goal (lines ++ past)
   pub gives : GivesWhenEmpty marked (news ++ objects) (lines ++ past)
   pub lasts : (o : Object) → In o news → Lasts marked o
   pub fits : (o : Object) → In o news → is_placed o.answer ≡ true → Fits o.need

@@ -4,9 +4,10 @@ use Rattle.page_bitmap.specs.declared.line.Line.{Line}
 use Rattle.page_bitmap.specs.declared.line.Line.TheVariants.{Take, Miss, Give, Scav, Pull, Cut, Drop}
 use Rattle.page_alloc.specs.Lists.{In}
 use Rattle.page_alloc.specs.Lives.{Life, open_lives}
-use Rattle.page_alloc.specs.Journal.{cycle_of, Legal}
+use Rattle.page_alloc.specs.Journal.{cycle_of}
 use Rattle.cycle_history.specs.Requests.{Marking}
 use Rattle.cycle_history.specs.Objects.{Object}
+use Rattle.sound_run.specs.Run.{IsJournal}
 use Rattle.sound_run.specs.Spans.{AreMarks}
 use Rattle.cycle_history.specs.Sound.{IsScavenged}
 use Rattle.worker_log.specs.declared.Entry.{Entry}
@@ -37,7 +38,7 @@ AreGivesOld logs before (Drop cycle proc page pages ∷ lines) = AreGivesOld log
 -- The journal is legal, all lines since the cycle began are of the cycle, and each Give is of an old life that was
 -- swept and kept nothing.
 pub record Writes (region goal : ℕ) (e : CycleSoFar) : Type 0 where
-  pub legal : Legal region goal (past_after e)
+  pub legal : IsJournal region goal (past_after e)
   pub now : (line : Line) → In line e.lines → cycle_of line ≡ e.cycle
   pub gives : AreGivesOld e.logs e.before e.lines
 
@@ -52,7 +53,7 @@ pub record Facts (marked : Marking) (region goal : ℕ) (objects : List Object) 
   pub sweeps : Sweeps e
   pub notes : Notes e
   pub marks : Marks marked objects e
-  pub places : Places e
+  pub places : Places e (open_lives (past_after e))
   pub holdings : Holdings e
   pub fills : (w : ℕ) → Fills e.marks (placings (e.logs w))
   pub objects_are : Objects marked objects e

@@ -18,4 +18,5 @@ pub mod Shown
 pub mod ShowsCycle
 pub mod GoesOn
 pub mod Blocks
+pub mod Known
 pub mod ShowsBlocks

@@ -1,6 +1,7 @@
 -- What is a fact of the new objects of a cycle that has ended: which placing or refusal in the logs is whose.
 use Rattle.std.specs.Prelude.{◌≡◌, ◌≢◌, ℕ, ◌+◌, ◌*◌, ◌<◌, Bool, true, false, ◌&&◌, ◌==◌, List}
 use Rattle.size_classes.specs.Classes.{region_start}
+use Rattle.page_bitmap.specs.declared.line.Line.{Line}
 use Rattle.page_bitmap.specs.declared.line.Line.TheVariants.{Miss}
 use Rattle.page_alloc.specs.Lists.{In, IsNumber, AllApart}
 use Rattle.page_alloc.specs.Lives.{Life, open_lives}
@@ -25,9 +26,9 @@ is_missed (Missed line) = true
 abbrev pub missed_by : ℕ → List Object → List Object
 missed_by w objects = passing (λ o. o.proc == w && is_missed o.answer) objects
 
--- The object is the one that was placed there.
-pub record IsPlacing (o : Object) (a : Placing) : Type 0 where
-  pub life : o.life ≡ a.number
+-- The object is the one that was placed there, in a life of the journal.
+pub record IsPlacing (past : List Line) (o : Object) (a : Placing) : Type 0 where
+  pub life : (life : Life) → In life (open_lives past) → life.page ≡ a.page → life.number ≡ o.life
   pub index : o.index ≡ a.index
   pub class : o.need.class ≡ a.class
   pub address : o.answer ≡ Placed (region_start + 8192 * a.page + o.need.slot * a.index)
@@ -46,7 +47,7 @@ pub record Objects (marked : Marking) (objects : List Object) (e : CycleSoFar) :
   pub order : AllApart (λ (newer older : Object). older.id < newer.id) e.news
   pub lasts : (o : Object) → In o e.news → Lasts marked o
   pub fits : (o : Object) → In o e.news → is_placed o.answer ≡ true → Fits o.need
-  pub placed : (w : ℕ) → ArePaired IsPlacing (placed_by w e.news) (placings (e.logs w))
+  pub placed : (w : ℕ) → ArePaired (IsPlacing (past_after e)) (placed_by w e.news) (placings (e.logs w))
   pub missed : (w : ℕ) → ArePaired IsRefusal (missed_by w e.news) (refusals (e.logs w))
   pub pages : (o : Object) (life : Life) → In o e.news → is_placed o.answer ≡ true → In life (open_lives (past_after e)) → life.number ≡ o.life → life.pages ≡ o.need.pages
 

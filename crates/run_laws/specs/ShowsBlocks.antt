@@ -3,7 +3,7 @@ use Rattle.std.specs.Prelude.{◌≡◌, ◌≢◌, ℕ, ◌+◌, ◌<◌, ◌�
 use Rattle.std.specs.List.{filter}
 use Rattle.page_bitmap.specs.declared.line.Line.TheVariants.{Pull as PullLine, Drop as DropLine}
 use Rattle.page_alloc.specs.Lists.{In, IsNumber}
-use Rattle.page_alloc.specs.Lives.{Life, open_lives}
+use Rattle.page_alloc.specs.Lives.{Life, life_of as new_life, open_lives}
 use Rattle.page_alloc.specs.Owners.{cached, is_number, owner}
 use Rattle.page_alloc.specs.Blocks.{IsLeastBlock}
 use Rattle.sound_run.specs.Run.{count_for}
@@ -55,21 +55,21 @@ pub record ShowsBlocks (c : CoreState) (e : CycleSoFar) : Type 0 where
 
 -- Worker w pulls a block, and its log tells the line.
 abbrev pub after_pulled : CycleSoFar → ℕ → ℕ → ℕ → CycleSoFar
-after_pulled e w page pages = record { cycle = e.cycle; before = e.before; lines = PullLine e.cycle w page pages ∷ e.lines; carried = e.carried; marks = e.marks; bits = e.bits; logs = put e.logs w (Pulled (length (past_after e)) (PullLine e.cycle w page pages) ∷ e.logs w); news = e.news; notes = e.notes }
+after_pulled e w page pages = record { cycle = e.cycle; before = e.before; lines = PullLine e.cycle w page pages ∷ e.lines; known = e.known; carried = e.carried; marks = e.marks; bits = e.bits; logs = put e.logs w (Pulled (length (past_after e)) (PullLine e.cycle w page pages) ∷ e.logs w); news = e.news; notes = e.notes }
 
--- Worker w cuts a span out of its block: its log tells it, and nothing is written.
-abbrev pub after_cut_out : CycleSoFar → ℕ → ℕ → ℕ → ℕ → CycleSoFar
-after_cut_out e w page pages class = record { cycle = e.cycle; before = e.before; lines = e.lines; carried = e.carried; marks = e.marks; bits = e.bits; logs = put e.logs w (CutEntry page pages class ∷ e.logs w); news = e.news; notes = e.notes }
+-- Worker w cuts a span out of its block, which was pulled by line n: its log tells it, and nothing is written.
+abbrev pub after_cut_out : CycleSoFar → ℕ → ℕ → ℕ → ℕ → ℕ → CycleSoFar
+after_cut_out e w n page pages class = record { cycle = e.cycle; before = e.before; lines = e.lines; known = new_life n e.cycle page pages class ∷ e.known; carried = e.carried; marks = e.marks; bits = e.bits; logs = put e.logs w (CutEntry page pages class ∷ e.logs w); news = e.news; notes = e.notes }
 
 -- Worker w settles its block: its cuts and the Drop are written, and its log names the Drop line.
 abbrev pub after_settled : CycleSoFar → ℕ → OutBlock → CycleSoFar
-after_settled e w b = record { cycle = e.cycle; before = e.before; lines = settled_lines e.cycle w (Some b) ++ e.lines; carried = e.carried; marks = e.marks; bits = e.bits; logs = put e.logs w (Settled (length b.cuts + length (past_after e)) ∷ e.logs w); news = e.news; notes = e.notes }
+after_settled e w b = record { cycle = e.cycle; before = e.before; lines = settled_lines e.cycle w (Some b) ++ e.lines; known = e.known; carried = e.carried; marks = e.marks; bits = e.bits; logs = put e.logs w (Settled (length b.cuts + length (past_after e)) ∷ e.logs w); news = e.news; notes = e.notes }
 
 -- How that goes on at a move. A Pull is made by a worker that has no block out, of the block that the journal has to pull; a Drop by one
 -- that has; a Give not of a span that was cut since its block was pulled; a mark end comes while no block is out.
 abbrev pub BlocksGoOn : CoreState → CycleSoFar → Move → CycleSoFar → Type 0
 BlocksGoOn c e (Pull w) next = (page : ℕ) × (pages : ℕ) × (out_of (e.logs w) ≡ None) × IsLeastBlock (length c.words) (past_after e) page pages × (next ≡ after_pulled e w page pages)
-BlocksGoOn c e (Cut w p pages count class) next = (count ≡ count_for class) × (next ≡ after_cut_out e w p pages class)
+BlocksGoOn c e (Cut w p pages count class) next = (b : OutBlock) × (out_of (e.logs w) ≡ Some b) × (count ≡ count_for class) × (next ≡ after_cut_out e w b.number p pages class)
 BlocksGoOn c e (Drop w) next = (b : OutBlock) × (out_of (e.logs w) ≡ Some b) × (next ≡ after_settled e w b)
 BlocksGoOn c e (Take w p pages count class) next = (count ≡ count_for class) × (next ≡ after_took e w p pages class)
 BlocksGoOn c e (Give w p) next = ((v : ℕ) (x : CutOut) → In x (cuts_of (e.logs v)) → x.page ≢ p) × (next ≡ after_gave e w p (life_of c p).pages)

@@ -22,7 +22,7 @@ pub record ShowsCycle (region goal : ℕ) (c : CoreState) (e : CycleSoFar) : Typ
   pub under : IsUnderway region goal e (waits_of c)
   pub bits : (p k : ℕ) → e.bits p k ≡ bits_of c p k
   pub marks : (p k : ℕ) → waits_of c p ≡ true → marks_of c p k ≡ e.marks p k
-  pub lives : LivesShown c (past_after e)
+  pub lives : LivesShown c e.known
   pub room : KeepsRoom e (has_of c)
   pub tell : LogsTell e
   pub size : length c.words ≡ region
@@ -45,8 +45,8 @@ has_mark marks p k = has k (marks_at p marks)
 
 -- The cycle that a mark end begins.
 abbrev pub after_mark_end : CycleSoFar → List (ℕ × ℕ) → CycleSoFar
-after_mark_end e marks = record { cycle = e.cycle + 1; before = past_after e; lines = []; carried = e.bits; marks = has_mark marks; bits = e.bits; logs = λ w. []; news = []; notes = [] }
+after_mark_end e marks = record { cycle = e.cycle + 1; before = past_after e; lines = []; known = e.known; carried = e.bits; marks = has_mark marks; bits = e.bits; logs = λ w. []; news = []; notes = [] }
 
 -- The cycle that a run begins with: nothing is written, marked or allocated, and all logs are empty.
 abbrev pub first_cycle : CycleSoFar
-first_cycle = record { cycle = 0; before = []; lines = []; carried = λ p k. false; marks = λ p k. false; bits = λ p k. false; logs = λ w. []; news = []; notes = [] }
+first_cycle = record { cycle = 0; before = []; lines = []; known = []; carried = λ p k. false; marks = λ p k. false; bits = λ p k. false; logs = λ w. []; news = []; notes = [] }

@@ -3,14 +3,14 @@
 use Rattle.std.specs.Prelude.{◌≡◌, ◌≢◌, ℕ, ◌<◌, Bool, true, false, ◌&&◌, not, [], length, ◌⊎◌}
 use Rattle.page_alloc.specs.Lists.{In, IsNumber, AllApart}
 use Rattle.page_alloc.specs.Lives.{Life, open_lives}
-use Rattle.page_alloc.specs.Journal.{Legal}
 use Rattle.span_state.specs.Bits.{count_below}
-use Rattle.sound_run.specs.Run.{count_for}
+use Rattle.sound_run.specs.Run.{count_for, IsJournal}
 use Rattle.worker_log.specs.declared.Placing.{Placing}
 use Rattle.worker_log.specs.declared.Sweeping.{Sweeping}
 use Rattle.worker_log.specs.Logs.{Taking, placings, sweepings, takings}
 use Rattle.worker_log.specs.SweptLast.{is_swept_last}
 use Rattle.run_laws.specs.CycleSoFar.{CycleSoFar, past_after}
+use Rattle.run_laws.specs.Lists.{begins_at}
 use Rattle.run_laws.specs.PlacingFacts.{Places, Fills, IsPlacedAt}
 use Rattle.run_laws.specs.ObjectFacts.{Misses}
 use Rattle.run_laws.specs.Facts.{Writes}
@@ -34,20 +34,22 @@ pub record SweepsSoFar (e : CycleSoFar) (waits : ℕ → Bool) : Type 0 where
   pub once : (w : ℕ) → AllApart (λ (s t : Sweeping). s.page ≢ t.page) (sweepings (e.logs w))
   pub one_sweeper : (v w : ℕ) (s t : Sweeping) → In s (sweepings (e.logs v)) → In t (sweepings (e.logs w)) → s.page ≡ t.page → v ≡ w
 
--- The bits of an open life that doesn't wait are the marked indices and those at which objects were placed; a marked life is
+-- The bits of a life that is open as workers know it and doesn't wait are the marked indices and those at which objects were placed; a marked life is
 -- an old one, and stays open.
 pub record HoldsSoFar (e : CycleSoFar) (waits : ℕ → Bool) : Type 0 where
-  pub from : (life : Life) (k : ℕ) → In life (open_lives (past_after e)) → waits life.page ≡ false → e.bits life.page k ≡ true → (e.marks life.page k ≡ true) ⊎ IsPlacedAt e.logs life.number k
-  pub marked : (life : Life) (k : ℕ) → In life (open_lives (past_after e)) → waits life.page ≡ false → e.marks life.page k ≡ true → e.bits life.page k ≡ true
+  pub from : (life : Life) (k : ℕ) → In life e.known → waits life.page ≡ false → e.bits life.page k ≡ true → (e.marks life.page k ≡ true) ⊎ IsPlacedAt e.logs life.page k
+  pub marked : (life : Life) (k : ℕ) → In life e.known → waits life.page ≡ false → e.marks life.page k ≡ true → e.bits life.page k ≡ true
   pub placed : (w : ℕ) (a : Placing) → In a (placings (e.logs w)) → e.bits a.page a.index ≡ true
   pub marked_open : (page k : ℕ) → e.marks page k ≡ true → (life : Life) × In life (open_lives e.before) × In life (open_lives (past_after e)) × (life.page ≡ page)
+  pub marked_known : (page k : ℕ) → e.marks page k ≡ true → (life : Life) × In life e.known × (life.page ≡ page)
 
--- All of it.
+-- All of it. An object was placed in a life of the number that its entry tells.
 pub record IsUnderway (region goal : ℕ) (e : CycleSoFar) (waits : ℕ → Bool) : Type 0 where
   pub writes : Writes region goal e
   pub waiting : Waiting e waits
   pub sweeps : SweepsSoFar e waits
-  pub places : Places e
+  pub places : Places e e.known
+  pub numbered : (w : ℕ) (a : Placing) → In a (placings (e.logs w)) → (life : Life) × In life e.known × (life.page ≡ a.page) × (life.number ≡ a.number)
   pub holds : HoldsSoFar e waits
   pub fills : (w : ℕ) → Fills e.marks (placings (e.logs w))
   pub misses : Misses e
@@ -58,10 +60,11 @@ pub record LogsTell (e : CycleSoFar) : Type 0 where
   pub old : (w page : ℕ) → is_swept_last page (e.logs w) ≡ true → (life : Life) × In life (open_lives (past_after e)) × (life.page ≡ page) × (life.number < length e.before)
   pub took : (w : ℕ) (x : Taking) → In x (takings (e.logs w)) → IsNumber x.number x.line (past_after e)
 
--- As the cycle begins nothing is written and no entry made, and all open lives wait.
+-- As the cycle begins nothing is written and no entry made, the open lives are those of the journal, and all of them wait.
 pub record IsFresh (region goal : ℕ) (e : CycleSoFar) : Type 0 where
-  pub legal : Legal region goal e.before
+  pub legal : IsJournal region goal e.before
   pub no_lines : e.lines ≡ []
+  pub known : (p : ℕ) → begins_at p e.known ≡ begins_at p (open_lives e.before)
   pub no_entries : (w : ℕ) → e.logs w ≡ []
   pub as_before : (n k : ℕ) → e.bits n k ≡ e.carried n k
   pub marks_of_lives : (page k : ℕ) → e.marks page k ≡ true → (life : Life) × In life (open_lives e.before) × (life.page ≡ page)

@@ -16,12 +16,14 @@ ghost use Rattle.page_bitmap.specs.declared.line.Line.TheVariants.{Miss, Scav};
 ghost use Rattle.run_laws.specs.Steps.{after_line};
 ghost use Rattle.page_alloc.specs.Lists.{In, count};
 ghost use Rattle.page_alloc.specs.Lives.{Life, open_lives};
+ghost use Rattle.page_alloc.specs.Blocks.{open_blocks};
+ghost use Rattle.page_alloc.specs.Journal.{AreAllowed};
 ghost use Rattle.span_state.specs.MarkSet.{MarkSet};
 ghost use Rattle.span_state.specs.declared.sweep.SweepNote.{SweepNote};
 ghost use Rattle.trace_reader.specs.declared.trace.Trace.{Trace};
 ghost use Rattle.cycle_history.specs.declared.Answer.{Answer};
 ghost use Rattle.cycle_history.specs.declared.Report.{Report};
-ghost use Rattle.cycle_history.specs.Requests.{Marking, marked_by, last_cycle, region_of};
+ghost use Rattle.cycle_history.specs.Requests.{Marking, marked_by, last_cycle, region_of, caching_procs};
 ghost use Rattle.cycle_history.specs.Objects.{Object};
 ghost use Rattle.cycle_history.specs.Marked.{AreMarksOf};
 ghost use Rattle.cycle_history.specs.Before.{AreObjectsBefore};
@@ -43,6 +45,8 @@ ghost use Rattle.run_laws.specs.Facts.{Facts, Marks};
 ghost use Rattle.run_laws.specs.Occupied.{NamedHaveSome};
 ghost use Rattle.run_laws.specs.ShowsCycle.{ShowsCycle, after_mark_end, first_cycle};
 ghost use Rattle.run_laws.specs.GoesOn.{GoesOn};
+ghost use Rattle.run_laws.specs.Blocks.{out_of};
+ghost use Rattle.run_laws.specs.Known.{KnowsBlocks};
 ghost use Rattle.run_laws.specs.ShowsBlocks.{BlocksGoOn, ShowsBlocks};
 ghost use Rattle.run_laws.specs.Reached.{Began, Reached};
 ghost use Rattle.run_laws.specs.Profile.{Calls, AreCalls, published_allocs, published_frees};
@@ -67,11 +71,12 @@ pub fn a_mark_end_begins_a_cycle()
         → Reached marked region goal c past objects notes bits → Began marked region goal (suc c) past objects notes bits }
 {}
 
-/// The report of a run that has reached the end of the trace's last cycle is sound and used, where its profile is that of
-/// the run's samples.
+/// The report of a run that has reached the end of the trace's last cycle is sound and used, where its page caches are those of
+/// the trace's processors, no block is out, and its profile is that of the run's samples.
 pub fn a_reached_run_is_sound()
     ensures { (t : Trace) (report : Report) (objects : List Object) (notes : List SweepNote) (bits : ℕ → ℕ → Bool)
-        → Reached (marked_by t) (region_of t) t.header.goal (last_cycle t) (past_in report) objects notes bits → HasAnswers t report objects
+        → Reached (marked_by t) (region_of t) t.header.goal (last_cycle t) (past_in report) objects notes bits → AreAllowed (caching_procs t) (past_in report)
+        → open_blocks (past_in report) ≡ [] → HasAnswers t report objects
         → report.sweeps ≡ reverse notes → AreTotals (marked_by t) (last_cycle t) objects report.totals
         → HasProfile t report objects → IsSoundAndUsed t report }
 {}
@@ -99,12 +104,12 @@ pub fn a_new_state_shows_the_first_cycle()
 
 /// Each move of span ownership that may be made keeps a cycle under way, with the line and the entry that come with it.
 pub fn a_move_keeps_the_cycle_under_way()
-    ensures { (region : ℕ) (goal : ℕ) (c : CoreState) (e : CycleSoFar) (move : Move) (next : CycleSoFar) → ShowsCycle region goal c e → Owned c
+    ensures { (region : ℕ) (goal : ℕ) (c : CoreState) (e : CycleSoFar) (move : Move) (next : CycleSoFar) → ShowsCycle region goal c e → ShowsBlocks c e → Owned c
         → refusal (needs_of c move) ≡ None → GoesOn region goal c e move next → ShowsCycle region goal (after c move) next }
 {}
 
 /// Each move of span ownership keeps what a state, the journal and the logs say of the blocks of page caches, with the lines and the entry that
-/// come with it. No worker of a run has a page cache yet.
+/// come with it.
 pub fn a_move_keeps_what_logs_tell_of_blocks()
     ensures { (c : CoreState) (e : CycleSoFar) (move : Move) (next : CycleSoFar) → ShowsBlocks c e → Owned c
         → refusal (needs_of c move) ≡ None → BlocksGoOn c e move next → ShowsBlocks (after c move) next }
@@ -116,22 +121,34 @@ pub fn a_line_keeps_what_logs_tell_of_blocks()
     ensures scavenged { (c : CoreState) (e : CycleSoFar) (page : ℕ) (pages : ℕ) → ShowsBlocks c e → ShowsBlocks c (after_line e (Scav e.cycle page pages)) }
 {}
 
+/// Each move keeps which lives and blocks workers know.
+pub fn a_move_keeps_which_lives_are_known()
+    ensures { (c : CoreState) (e : CycleSoFar) (move : Move) (next : CycleSoFar) → KnowsBlocks e → BlocksGoOn c e move next → KnowsBlocks next }
+{}
+
+/// So does a Miss line, and the line of a scavenging step.
+pub fn a_line_keeps_which_lives_are_known()
+    ensures missed { (e : CycleSoFar) (pages : ℕ) (class : ℕ) → KnowsBlocks e → KnowsBlocks (after_line e (Miss e.cycle pages class)) }
+    ensures scavenged { (e : CycleSoFar) (page : ℕ) (pages : ℕ) → KnowsBlocks e → KnowsBlocks (after_line e (Scav e.cycle page pages)) }
+{}
+
 /// At the start, where all pages are free and nothing is written, no block is out.
 pub fn a_new_state_has_no_block_out()
     ensures { (region : ℕ) (workers : ℕ) → ShowsBlocks (new_state region workers) first_cycle }
 {}
 
-/// Where a mark end may come, a state of span ownership that shows a cycle under way, with no span in it left empty, gives
-/// the cycle its facts. Its objects, its notes, the marks of its beginning and the scavenging are added here.
+/// Where a mark end may come and no block is out, a state of span ownership that shows a cycle under way, with no span in it left
+/// empty, gives the cycle its facts. Its objects, its notes, the marks of its beginning and the scavenging are added here.
 pub fn a_settled_core_ends_a_cycle()
     ensures { (marked : Marking) (region : ℕ) (goal : ℕ) (objects : List Object) (news : List Object) (notes : List SweepNote) (c : CoreState) (e : CycleSoFar)
-        (marks : List (ℕ × ℕ)) → ShowsCycle region goal c e → Owned c → refusal (next_needs c marks) ≡ None → NamedHaveSome c
+        (marks : List (ℕ × ℕ)) → ShowsCycle region goal c e → ShowsBlocks c e → Owned c → refusal (next_needs c marks) ≡ None
+        → ((w : ℕ) → out_of (e.logs w) ≡ None) → NamedHaveSome c
         → Notes (with_objects e news notes) → Marks marked objects (with_objects e news notes) → Objects marked objects (with_objects e news notes)
         → IsScavenged region goal (past_after e) → Facts marked region goal objects (with_objects e news notes) }
 {}
 
 /// A mark end begins the next cycle under way: all open lives wait to be swept, nothing is written and no entry is made.
 pub fn a_mark_end_shows_the_next_cycle()
-    ensures { (region : ℕ) (goal : ℕ) (c : CoreState) (e : CycleSoFar) (marks : List (ℕ × ℕ)) → ShowsCycle region goal c e → Owned c
-        → refusal (next_needs c marks) ≡ None → ShowsCycle region goal (after_next c marks) (after_mark_end e marks) }
+    ensures { (region : ℕ) (goal : ℕ) (c : CoreState) (e : CycleSoFar) (marks : List (ℕ × ℕ)) → ShowsCycle region goal c e → ShowsBlocks c e → Owned c
+        → refusal (next_needs c marks) ≡ None → ((w : ℕ) → out_of (e.logs w) ≡ None) → ShowsCycle region goal (after_next c marks) (after_mark_end e marks) }
 {}

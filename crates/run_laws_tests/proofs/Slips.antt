@@ -4,7 +4,7 @@ use Rattle.size_classes.specs.Classes.{objects_of}
 use Rattle.page_bitmap.specs.declared.line.Line.TheVariants.{Take, Miss}
 use Rattle.page_alloc.specs.Lists
 use Rattle.page_alloc.specs.Lists.{In}
-use Rattle.page_alloc.specs.Lives.{Life, life_of}
+use Rattle.page_alloc.specs.Lives.{Life, life_of, open_lives}
 use Rattle.span_state.specs.Bits.{count_below}
 use Rattle.span_state.specs.declared.sweep.SweepNote.{SweepNote}
 use Rattle.worker_log.specs.declared.Entry.{Entry}
@@ -113,10 +113,10 @@ no-marks = (
 
 -- ---- places
 
-pub no-places : NoneHas Places wrong_places
+pub no-places : NoneHas (λ e. Places e (open_lives (past_after e))) wrong_places
 unfolding objects_of
 no-places = (
-  (λ p. (let at = p.here 1 _ (inl refl) in let number = at.2.number in let low = lives1 (λ l. l.number ≤ 1) (omega arith) (omega arith) at.0 at.1 in absurd (omega arith))),
+  (λ p. (let at = p.here 1 _ (inl refl) in let page = at.2.page in let low = lives1 (λ l. l.page ≤ 1) (omega arith) (omega arith) at.0 at.1 in absurd (omega arith))),
   (
     (λ p. (let lt : 2 < 2 = p.below 1 _ (inl refl) in absurd (omega arith))),
     (
@@ -138,7 +138,7 @@ pub no-holdings : NoneHas Holdings wrong_bits
 no-holdings = (
   (λ h. elim (h.from life0 1 (inr (inl refl)) refl) [
     | inl mark ↦ cc
-    | inr placed ↦ (let number = placed.3 in let one = placings1 (λ w a. a.number ≡ 1) refl placed.0 placed.1 placed.2 in absurd (omega arith))
+    | inr placed ↦ (let page = placed.3 in let one = placings1 (λ w a. a.page ≡ 1) refl placed.0 placed.1 placed.2 in absurd (omega arith))
   ]),
   (
     (λ h. (let on = h.marked life1 1 (inl refl) refl in cc)),
@@ -159,7 +159,7 @@ unfolding objects_of
 no-fills = (
   (λ f. elim (((f 1).0 (omega arith)).lowest 0 (omega arith)) [
     | inl mark ↦ cc
-    | inr older ↦ (let number = older.2 in let one = each (λ (a : Placing). a.number ≡ 1) (placings (at 1 0 1 88 ∷ [])) (refl, tt) older.0 older.1 in absurd (omega arith))
+    | inr older ↦ (let page = older.2 in let one = each (λ (a : Placing). a.page ≡ 1) (placings (at 1 0 1 88 ∷ [])) (refl, tt) older.0 older.1 in absurd (omega arith))
   ]),
   (
     (λ f. elim (((f 1).0 (omega arith)).left_full _ (inl refl) refl (λ e. absurd (omega arith)) 1 (omega arith)) [
@@ -183,7 +183,7 @@ no-objects = (
       (
         (λ o. (let le = (o.fits _ (inl refl) refl).room in absurd (omega arith))),
         (
-          (λ o. (let e = (o.placed 1).0.life in absurd (omega arith))),
+          (λ o. (let e = (o.placed 1).0.life life1 (inl refl) refl in absurd (omega arith))),
           (
             (λ o. o.missed 1),
             (

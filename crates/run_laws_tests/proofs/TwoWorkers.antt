@@ -1,5 +1,5 @@
 -- The run of two processors is closed: each cycle has its facts.
-use Rattle.std.proofs.Common.{◌≡◌, ◌≢◌, ℕ, zero, suc, ◌+◌, ◌*◌, ◌<◌, ◌≤◌, true, false, ◌&&◌, ◌||◌, not, eqb, List, [], ◌∷◌, ◌++◌, None, refl, sym, ap, arith, ◌⊎◌, inl, inr}
+use Rattle.std.proofs.Common.{◌≡◌, ◌≢◌, ℕ, zero, suc, ◌+◌, ◌*◌, ◌<◌, ◌≤◌, true, false, ◌&&◌, ◌||◌, not, eqb, List, [], ◌∷◌, ◌++◌, None, refl, sym, ◌∙◌, ap, arith, ◌⊎◌, inl, inr}
 use Rattle.std.proofs.lemmas.Bool.{eqb-true, ne_eqb, and_parts, or_cases, or_right}
 use Rattle.page_bitmap.specs.declared.line.Line.{Line}
 use Rattle.page_bitmap.specs.declared.line.Line.TheVariants.{Take}
@@ -9,7 +9,7 @@ use Rattle.page_alloc.specs.Owners.{owner}
 use Rattle.page_alloc.specs.Lives.{Life, life_of, open_lives}
 use Rattle.page_alloc.specs.FreeRuns.{IsSpanSize, IsFirstFit}
 use Rattle.page_alloc.specs.Journal.{Legal, cycle_of}
-use Rattle.page_alloc.proofs.BlocksOut.{keeps-none}
+use Rattle.page_alloc.proofs.BlocksOut.{keeps-none, legal-more}
 use Rattle.page_alloc.proofs.Lives.{within-false}
 use Rattle.span_state.specs.Bits.{count_below}
 use Rattle.span_state.specs.declared.sweep.SweepNote.{SweepNote}
@@ -99,36 +99,36 @@ legal0 = ((large_size, fit2), omega arith, legal0_2, keeps-none 512 512 (Take 0 
 
 writes0 : Writes 512 512 cycle0
 writes0 = record {
-  legal = legal0;
+  legal = legal-more 0 64 512 512 lines0 (omega arith) legal0;
   now = each (λ (l : Line). cycle_of l ≡ 0) lines0 (refl, (refl, (refl, tt)));
   gives = tt;
 }
 
-places0 : Places cycle0
+places0 : Places cycle0 (open_lives (past_after cycle0))
 unfolding objects_of
 places0 = record {
-  here = each0 (λ w a. (life : Life) × Open0 life × IsIn a life) (life_of 0 0 0 1 88, inr (inr (inl refl)), record { number = refl; page = refl; class = refl }) (life_of 2 0 2 5 1, inl refl, record { number = refl; page = refl; class = refl })
-      (life_of 1 0 1 1 88, inr (inl refl), record { number = refl; page = refl; class = refl }) (life_of 1 0 1 1 88, inr (inl refl), record { number = refl; page = refl; class = refl });
+  here = each0 (λ w a. (life : Life) × Open0 life × IsIn a life) (life_of 0 0 0 1 88, inr (inr (inl refl)), record { page = refl; class = refl }) (life_of 2 0 2 5 1, inl refl, record { page = refl; class = refl })
+      (life_of 1 0 1 1 88, inr (inl refl), record { page = refl; class = refl }) (life_of 1 0 1 1 88, inr (inl refl), record { page = refl; class = refl });
   below = each0 (λ w a. a.index < count_for a.class) (omega arith) (omega arith) (omega arith) (omega arith);
   unmarked = λ w a h. refl;
   apart = apart;
   one_log = λ v w a b ha hb same. (let x = worker v a ha in let y = worker w b hb in omega arith);
 }
   where
-    apart : (w : ℕ) → AllApart (λ (a b : Placing). a.number ≡ b.number → a.index ≢ b.index) (placings (logs0 w))
+    apart : (w : ℕ) → AllApart (λ (a b : Placing). a.page ≡ b.page → a.index ≢ b.index) (placings (logs0 w))
     apart zero = ((λ y h. absurd h), tt)
     apart (suc zero) = (
-      each (λ (b : Placing). 2 ≡ b.number → 0 ≢ b.index) (record { page = 1; index = 1; number = 1; class = 88 } ∷ record { page = 1; index = 0; number = 1; class = 88 } ∷ []) ((λ e. absurd (omega arith)), ((λ e. absurd (omega arith)), tt)),
-      (each (λ (b : Placing). 1 ≡ b.number → 1 ≢ b.index) (record { page = 1; index = 0; number = 1; class = 88 } ∷ []) ((λ e s. (omega arith)), tt), ((λ y h. absurd h), tt)),
+      each (λ (b : Placing). 2 ≡ b.page → 0 ≢ b.index) (record { page = 1; index = 1; number = 1; class = 88 } ∷ record { page = 1; index = 0; number = 1; class = 88 } ∷ []) ((λ e. absurd (omega arith)), ((λ e. absurd (omega arith)), tt)),
+      (each (λ (b : Placing). 1 ≡ b.page → 1 ≢ b.index) (record { page = 1; index = 0; number = 1; class = 88 } ∷ []) ((λ e s. (omega arith)), tt), ((λ y h. absurd h), tt)),
     )
     apart (suc (suc w)) = tt
 
-    worker : (w : ℕ) (a : Placing) → In a (placings (logs0 w)) → ((w ≡ 0) × (a.number ≡ 0)) ⊎ ((w ≡ 1) × (1 ≤ a.number))
-    worker = each0 (λ w a. ((w ≡ 0) × (a.number ≡ 0)) ⊎ ((w ≡ 1) × (1 ≤ a.number))) (inl (refl, refl)) (inr (refl, omega arith)) (inr (refl, omega arith)) (inr (refl, omega arith))
+    worker : (w : ℕ) (a : Placing) → In a (placings (logs0 w)) → ((w ≡ 0) × (a.page ≡ 0)) ⊎ ((w ≡ 1) × (1 ≤ a.page))
+    worker = each0 (λ w a. ((w ≡ 0) × (a.page ≡ 0)) ⊎ ((w ≡ 1) × (1 ≤ a.page))) (inl (refl, refl)) (inr (refl, omega arith)) (inr (refl, omega arith)) (inr (refl, omega arith))
 
 holdings0 : Holdings cycle0
 holdings0 = record {
-  from = λ life k h on. inr (lives0 (λ l. (k : ℕ) → bits0 l.page k ≡ true → IsPlacedAt logs0 l.number k)
+  from = λ life k h on. inr (lives0 (λ l. (k : ℕ) → bits0 l.page k ≡ true → IsPlacedAt logs0 l.page k)
       (λ k on. (0, _, inl refl, refl, sym (eqb-true k 0 on)))
       (λ k on. elim (or_cases (eqb k 0) (eqb k 1) on) [ inl is ↦ (1, _, inr (inr (inl refl)), refl, sym (eqb-true k 0 is)) | inr is ↦ (1, _, inr (inl refl), refl, sym (eqb-true k 1 is)) ])
       (λ k on. (1, _, inl refl, refl, sym (eqb-true k 0 on))) life h k on);
@@ -144,7 +144,7 @@ fills0 (suc zero) = (
   (
     (λ two. record {
       lowest = λ j lt. (let e : 0 ≡ j = omega arith in inr (_, inl refl, refl, e));
-      left_full = λ b h class other. elim h [ inl here ↦ absurd (other (ap (λ (x : Placing). x.number) (sym here))) | inr there ↦ absurd there ];
+      left_full = λ b h class other. elim h [ inl here ↦ absurd (other (ap (λ (x : Placing). x.page) (sym here))) | inr there ↦ absurd there ];
     }),
     (
       (λ two. record { lowest = λ j lt. absurd (omega arith); left_full = λ b h. absurd h }),
@@ -164,8 +164,13 @@ small_fits = record { some = omega arith; room = omega arith; slot = refl; count
 large_fits : Fits large
 large_fits = record { some = omega arith; room = omega arith; slot = refl; count = refl }
 
-placing : (o : Object) (a : Placing) → o.life ≡ a.number → o.index ≡ a.index → o.need.class ≡ a.class → o.answer ≡ Placed (0xc000000000 + 8192 * a.page + o.need.slot * a.index) → IsPlacing o a
-placing o a l i c d = record { life = l; index = i; class = c; address = d }
+-- where the lives of a journal are numbered as their pages are, an object is placed in the life of the page
+placing : (past : List Line) → ((life : Life) → In life (open_lives past) → life.number ≡ life.page) → (o : Object) (a : Placing) → a.page ≡ o.life → o.index ≡ a.index → o.need.class ≡ a.class
+    → o.answer ≡ Placed (0xc000000000 + 8192 * a.page + o.need.slot * a.index) → IsPlacing past o a
+placing past same o a l i c d = record { life = λ life h page. same life h ∙ page ∙ l; index = i; class = c; address = d }
+
+placing0 : (o : Object) (a : Placing) → a.page ≡ o.life → o.index ≡ a.index → o.need.class ≡ a.class → o.answer ≡ Placed (0xc000000000 + 8192 * a.page + o.need.slot * a.index) → IsPlacing (past_after cycle0) o a
+placing0 = placing (past_after cycle0) (lives0 (λ l. l.number ≡ l.page) refl refl refl)
 
 objects0 : Objects marked [] cycle0
 objects0 = record {
@@ -203,9 +208,9 @@ objects0 = record {
     lasts : (id proc : ℕ) (need : Need) (page life index : ℕ) → Lasts marked (object id proc 0 need page life index)
     lasts id proc need page life index = record { first = refl; next = λ m h. inl (early id m h) }
 
-    placed : (w : ℕ) → ArePaired IsPlacing (placed_by w first) (placings (logs0 w))
-    placed zero = (placing _ _ refl refl refl refl, tt)
-    placed (suc zero) = (placing _ _ refl refl refl refl, (placing _ _ refl refl refl refl, (placing _ _ refl refl refl refl, tt)))
+    placed : (w : ℕ) → ArePaired (IsPlacing (past_after cycle0)) (placed_by w first) (placings (logs0 w))
+    placed zero = (placing0 _ _ refl refl refl refl, tt)
+    placed (suc zero) = (placing0 _ _ refl refl refl refl, (placing0 _ _ refl refl refl refl, (placing0 _ _ refl refl refl refl, tt)))
     placed (suc (suc w)) = (let a : eqb 0 (suc (suc w)) ≡ false = ne_eqb 0 (suc (suc w)) (λ q. omega arith) in let b : eqb 1 (suc (suc w)) ≡ false = ne_eqb 1 (suc (suc w)) (λ q. omega arith) in rw (a, b) tt)
 
     missed : (w : ℕ) → ArePaired IsRefusal (missed_by w first) (refusals (logs0 w))
@@ -306,17 +311,17 @@ marks_only zero k on = (_, inr (inr (inl refl)), refl)
 marks_only (suc zero) k on = (_, inr (inl refl), refl)
 marks_only (suc (suc p)) k on = cc
 
-places1 : Places cycle1
+places1 : Places cycle1 (open_lives (past_after cycle1))
 unfolding objects_of
 places1 = record {
-  here = placings1 (λ w a. (life : Life) × Open1 life × IsIn a life) (life_of 1 0 1 1 88, inl refl, record { number = refl; page = refl; class = refl });
+  here = placings1 (λ w a. (life : Life) × Open1 life × IsIn a life) (life_of 1 0 1 1 88, inl refl, record { page = refl; class = refl });
   below = placings1 (λ w a. a.index < count_for a.class) (omega arith);
   unmarked = placings1 (λ w a. marks1 a.page a.index ≡ false) refl;
   apart = apart;
   one_log = λ v w a b ha hb same. (let x = placings1 (λ w a. w ≡ 1) refl v a ha in let y = placings1 (λ w a. w ≡ 1) refl w b hb in omega arith);
 }
   where
-    apart : (w : ℕ) → AllApart (λ (a b : Placing). a.number ≡ b.number → a.index ≢ b.index) (placings (logs1 w))
+    apart : (w : ℕ) → AllApart (λ (a b : Placing). a.page ≡ b.page → a.index ≢ b.index) (placings (logs1 w))
     apart zero = tt
     apart (suc zero) = ((λ y h. absurd h), tt)
     apart (suc (suc zero)) = tt
@@ -324,7 +329,7 @@ places1 = record {
 
 holdings1 : Holdings cycle1
 holdings1 = record {
-  from = λ life k h on. lives1 (λ l. (k : ℕ) → bits1 l.page k ≡ true → (marks1 l.page k ≡ true) ⊎ IsPlacedAt logs1 l.number k)
+  from = λ life k h on. lives1 (λ l. (k : ℕ) → bits1 l.page k ≡ true → (marks1 l.page k ≡ true) ⊎ IsPlacedAt logs1 l.page k)
       (λ k on. inl on)
       (λ k on. elim (or_cases (eqb k 0) (eqb k 1) on) [ inl is ↦ inr (1, _, inl refl, refl, sym (eqb-true k 0 is)) | inr is ↦ inl is ]) life h k on;
   marked = λ life k h on. lives1 (λ l. (k : ℕ) → marks1 l.page k ≡ true → bits1 l.page k ≡ true) (λ k on. on) (λ k on. or_right (eqb k 0) (eqb k 1) on) life h k on;
@@ -350,9 +355,9 @@ objects1 = record {
   pages = λ o life ho placed hl. each (λ (o : Object). (life : Life) → Open1 life → life.number ≡ o.life → life.pages ≡ o.need.pages) second (lives1 (λ l. l.number ≡ 1 → l.pages ≡ 1) (λ e. refl) (λ e. refl), tt) o ho life hl;
 }
   where
-    placed : (w : ℕ) → ArePaired IsPlacing (placed_by w second) (placings (logs1 w))
+    placed : (w : ℕ) → ArePaired (IsPlacing (past_after cycle1)) (placed_by w second) (placings (logs1 w))
     placed zero = tt
-    placed (suc zero) = (placing _ _ refl refl refl refl, tt)
+    placed (suc zero) = (placing (past_after cycle1) (lives1 (λ l. l.number ≡ l.page) refl refl) _ _ refl refl refl refl, tt)
     placed (suc (suc zero)) = tt
     placed (suc (suc (suc w))) = (let a : eqb 0 (suc (suc (suc w))) ≡ false = ne_eqb 0 (suc (suc (suc w))) (λ q. omega arith) in let b : eqb 1 (suc (suc (suc w))) ≡ false = ne_eqb 1 (suc (suc (suc w))) (λ q. omega arith) in rw b tt)
 
@@ -365,7 +370,7 @@ objects1 = record {
 pub facts1 : Facts marked 512 512 first cycle1
 facts1 = record {
   writes = record {
-    legal = ((life_of 2 0 2 5 1, inl refl, refl, refl), omega arith, legal0, keeps-none 512 512 _ _ legal0);
+    legal = legal-more 0 64 512 512 (lines1 ++ lines0) (omega arith) ((life_of 2 0 2 5 1, inl refl, refl, refl), omega arith, legal0, keeps-none 512 512 _ _ legal0);
     now = each (λ (l : Line). cycle_of l ≡ 1) lines1 (refl, tt);
     gives = ((λ life h begins. lives0 (λ l. l.page ≡ 2 → (l.number < 3) × IsSweptEmpty logs1 2) (λ e. absurd (omega arith)) (λ e. absurd (omega arith)) (λ e. (omega arith, (2, _, inl refl, refl, refl))) life h begins), tt);
   };

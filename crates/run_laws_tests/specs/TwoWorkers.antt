@@ -2,7 +2,7 @@
 -- marks an object of each span. In cycle 1 the second processor sweeps its own stale span and goes on in it, while the
 -- first one's stays cached and stale, and the large span waits. As the cycle ends the driver has the first processor's span
 -- flushed, and sweeps the large one and gives it back.
-use Rattle.std.specs.Prelude.{ℕ, zero, suc, ◌+◌, ◌*◌, Bool, false, ◌&&◌, ◌||◌, ◌==◌, List, [], ◌∷◌}
+use Rattle.std.specs.Prelude.{ℕ, zero, suc, ◌+◌, ◌*◌, Bool, false, ◌&&◌, ◌||◌, ◌==◌, List, [], ◌∷◌, ◌++◌}
 use Rattle.page_bitmap.specs.declared.line.Line.{Line}
 use Rattle.page_bitmap.specs.declared.line.Line.TheVariants.{Take, Give}
 use Rattle.page_alloc.specs.Lists.{In}
@@ -60,7 +60,7 @@ abbrev pub none : ℕ → ℕ → Bool
 none n k = false
 
 abbrev pub cycle0 : CycleSoFar
-cycle0 = record { cycle = 0; before = []; lines = lines0; carried = none; marks = none; bits = bits0; logs = logs0; news = first; notes = [] }
+cycle0 = record { cycle = 0; before = []; lines = lines0; known = open_lives lines0; carried = none; marks = none; bits = bits0; logs = logs0; news = first; notes = [] }
 
 abbrev pub Open0 : Life → Type 0
 Open0 life = In life (open_lives (past_after cycle0))
@@ -104,7 +104,7 @@ abbrev pub notes1 : List SweepNote
 notes1 = note 2 0 1 ∷ note 1 1 1 ∷ note 0 1 0 ∷ []
 
 abbrev pub cycle1 : CycleSoFar
-cycle1 = record { cycle = 1; before = lines0; lines = lines1; carried = bits0; marks = marks1; bits = bits1; logs = logs1; news = second; notes = notes1 }
+cycle1 = record { cycle = 1; before = lines0; lines = lines1; known = open_lives (lines1 ++ lines0); carried = bits0; marks = marks1; bits = bits1; logs = logs1; news = second; notes = notes1 }
 
 abbrev pub Open1 : Life → Type 0
 Open1 life = In life (open_lives (past_after cycle1))

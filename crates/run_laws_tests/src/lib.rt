@@ -11,6 +11,7 @@ ghost use Rattle.std.specs.Prelude.{ℕ, ◌&&◌, ◌==◌, [], ◌∷◌, ◌+
 ghost use Rattle.worker_log.specs.Logs.{placings};
 ghost use Rattle.cycle_history.specs.Sound.{IsScavenged};
 ghost use Rattle.page_bitmap.specs.declared.line.Line.TheVariants.{Take, Miss};
+ghost use Rattle.page_alloc.specs.Lives.{open_lives};
 ghost use Rattle.run_laws.specs.CycleSoFar.{past_after};
 ghost use Rattle.run_laws.specs.SweepFacts.{Notes, Sweeps};
 ghost use Rattle.run_laws.specs.PlacingFacts.{Fills, Holdings, Places};
@@ -37,7 +38,7 @@ pub fn each_fact_can_be_missing()
     ensures sweeps { NoneHas Sweeps wrong_sweeps }
     ensures notes { NoneHas Notes wrong_notes }
     ensures marks { NoneHas (Marks marked first) wrong_marks }
-    ensures places { NoneHas Places wrong_places }
+    ensures places { NoneHas (λ e. Places e (open_lives (past_after e))) wrong_places }
     ensures holdings { NoneHas Holdings wrong_bits }
     ensures fills { NoneHas (λ e. (w : ℕ) → Fills e.marks (placings (e.logs w))) wrong_filling }
     ensures objects { NoneHas (Objects marked first) wrong_objects }

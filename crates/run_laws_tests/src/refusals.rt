@@ -18,7 +18,7 @@ pub fn a_refusal_is_a_miss_of_the_journal()
     ensures { (region : ℕ) (goal : ℕ) (e : CycleSoFar) (w : ℕ) (x : Refusal) → Writes region goal e → Misses e → In x (refusals (e.logs w)) → IsMissOf region (past_after e) e.cycle x }
 {}
 
-/// What `settle` of the shared spans tells the driver as a cycle ends holds of each refusal that a log of the cycle has, whichever worker wrote it and
+/// What `end_cycle` of the shared spans tells the driver as a cycle ends holds of each refusal that a log of the cycle has, whichever worker wrote it and
 /// however many were out: it is a Miss line of the journal that the driver knows from then on, and no run of so many pages was free behind the lines before it.
 pub fn a_settled_refusal_is_a_miss_of_the_journal()
     ensures { (old : Seen) (new : Seen) (w : ℕ) (x : Refusal) (past : List Line) → SettlesCycle old new → new.journal ≡ Some past → In x (refusals (log_of (logs_of old.number old.view) w))

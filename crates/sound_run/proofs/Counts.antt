@@ -5,12 +5,12 @@ use Rattle.page_bitmap.specs.declared.line.Line.{Line}
 use Rattle.page_bitmap.specs.declared.line.Line.TheVariants.{Take, Miss, Give, Scav, Pull, Cut, Drop}
 use Rattle.page_alloc.specs.Lists.{In, one_if}
 use Rattle.page_alloc.specs.Lives.{Life}
-use Rattle.page_alloc.specs.Journal.{IsBy, Legal}
+use Rattle.page_alloc.specs.Journal.{IsBy}
 use Rattle.span_state.specs.declared.sweep.SweepNote.{SweepNote}
 use Rattle.cycle_history.specs.Requests.{Marking}
 use Rattle.cycle_history.specs.Objects.{Object, is_placed, live, kept, freed}
 use Rattle.cycle_history.specs.Sweeps.{IsNote, GivesWhenEmpty}
-use Rattle.sound_run.specs.Run.{Lasts}
+use Rattle.sound_run.specs.Run.{IsJournal, Lasts}
 use Rattle.sound_run.proofs.Live.{marked-after, by-later}
 
 -- an object isn't marked in its own cycle or before
@@ -48,7 +48,7 @@ note-same marked o objects m life note lasts lt is =
     record { cycle = is.cycle; page = is.page; kept = is.kept ∙ sym k; freed = is.freed ∙ sym f }
 
 -- and so do the Gives
-pub gives-same : (marked : Marking) (region goal : ℕ) (o : Object) (objects : List Object) (past : List Line) → Lasts marked o → IsBy o.cycle past → Legal region goal past
+pub gives-same : (marked : Marking) (region goal : ℕ) (o : Object) (objects : List Object) (past : List Line) → Lasts marked o → IsBy o.cycle past → IsJournal region goal past
     → GivesWhenEmpty marked objects past → GivesWhenEmpty marked (o ∷ objects) past
 gives-same marked region goal o objects [] lasts by legal gives = tt
 gives-same marked region goal o objects (Take cycle page pages class ∷ past) lasts by legal gives = gives-same marked region goal o objects past lasts (by-later cycle o.cycle past by legal.1) legal.2 gives

@@ -1,13 +1,15 @@
 -- The start of a run, a mark end, and the end.
-use Rattle.std.proofs.Common.{ℕ, suc, List, [], arith}
+use Rattle.std.proofs.Common.{◌≡◌, ℕ, suc, List, [], arith}
 use Rattle.page_bitmap.specs.declared.line.Line.{Line}
+use Rattle.page_alloc.specs.Blocks.{open_blocks}
+use Rattle.page_alloc.specs.Journal.{AreAllowed}
+use Rattle.page_alloc.proofs.BlocksOut.{legal-for}
 use Rattle.trace_reader.specs.declared.trace.Trace.{Trace}
 use Rattle.cycle_history.specs.declared.Report.{Report}
-use Rattle.cycle_history.specs.Requests.{Marking, marked_by, region_of, last_cycle}
+use Rattle.cycle_history.specs.Requests.{Marking, marked_by, region_of, last_cycle, caching_procs}
 use Rattle.cycle_history.specs.Objects.{Object}
 use Rattle.cycle_history.specs.Sound.{past_in, HasAnswers}
 use Rattle.cycle_history.specs.Broken.{MeetsUpTo}
-use Rattle.cycle_history.proofs.PlainJournals.{plain-has}
 use Rattle.sound_run.specs.Run.{IsRun}
 use Rattle.sound_run.proofs.Live.{by-later}
 use Rattle.sound_run.proofs.Seats.{run-seated, run-apart}
@@ -40,12 +42,12 @@ next-keeps marked region goal c past objects run = record {
   filling = run.filling;
 }
 
--- the report of a run of the last cycle meets the rules 1 to 6
+-- the report of a run of the last cycle meets the rules 1 to 6, where its page caches are those of the trace's processors and no block is out
 pub run-sound : (t : Trace) (report : Report) (objects : List Object) → IsRun (marked_by t) (region_of t) t.header.goal (last_cycle t) (past_in report) objects
-    → HasAnswers t report objects → MeetsUpTo 6 t report objects
-run-sound t report objects run answers = record {
+    → AreAllowed (caching_procs t) (past_in report) → open_blocks (past_in report) ≡ [] → HasAnswers t report objects → MeetsUpTo 6 t report objects
+run-sound t report objects run allowed settled answers = record {
   answers = λ le. answers;
-  journal = λ le. plain-has t report (record { legal = run.journal; cycles = run.by });
+  journal = λ le. record { legal = legal-for 64 (caching_procs t) (region_of t) t.header.goal (past_in report) allowed run.journal; cycles = run.by; settled = settled };
   misses = λ le. run.misses;
   places = λ le. run-seated (marked_by t) (region_of t) t.header.goal (last_cycle t) (past_in report) objects run;
   apart = λ le. run-apart (marked_by t) (region_of t) t.header.goal (last_cycle t) (past_in report) objects run;

@@ -1,4 +1,5 @@
 pub mod Live
+pub mod Journals
 pub mod Seats
 pub mod Counts
 pub mod Ends

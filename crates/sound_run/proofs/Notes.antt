@@ -5,11 +5,12 @@ use Rattle.std.proofs.lemmas.Bool.{cases_lt}
 use Rattle.page_bitmap.specs.declared.line.Line.{Line}
 use Rattle.page_alloc.specs.Lists.{In, AllApart}
 use Rattle.page_alloc.specs.Lives.{Life, open_lives}
-use Rattle.page_alloc.specs.Journal.{IsBy}
+use Rattle.page_alloc.specs.Blocks.{open_blocks}
+use Rattle.page_alloc.specs.Journal.{AreAllowed, IsBy}
 use Rattle.span_state.specs.declared.sweep.SweepNote.{SweepNote}
 use Rattle.trace_reader.specs.declared.trace.Trace.{Trace}
 use Rattle.cycle_history.specs.declared.Report.{Report}
-use Rattle.cycle_history.specs.Requests.{Marking, marked_by, region_of, last_cycle}
+use Rattle.cycle_history.specs.Requests.{Marking, marked_by, region_of, last_cycle, caching_procs}
 use Rattle.cycle_history.specs.Objects.{Object}
 use Rattle.cycle_history.specs.Orders.{IsSweepBefore}
 use Rattle.cycle_history.specs.Sweeps.{IsOpenAfter, AreSwept, AreTotals}
@@ -115,10 +116,10 @@ notes-swept marked last past objects notes has = record {
 
 -- all nine rules
 pub run-sound_to_9 : (t : Trace) (report : Report) (objects : List Object) (notes : List SweepNote) → IsRun (marked_by t) (region_of t) t.header.goal (last_cycle t) (past_in report) objects
-    → HasAnswers t report objects → HasNotes (marked_by t) (last_cycle t) (last_cycle t) (past_in report) objects notes → report.sweeps ≡ reverse notes
+    → AreAllowed (caching_procs t) (past_in report) → open_blocks (past_in report) ≡ [] → HasAnswers t report objects → HasNotes (marked_by t) (last_cycle t) (last_cycle t) (past_in report) objects notes → report.sweeps ≡ reverse notes
     → AreTotals (marked_by t) (last_cycle t) objects report.totals → HasProfile t report objects → MeetsUpTo 9 t report objects
-run-sound_to_9 t report objects notes run answers has sweeps totals profile =
-    let six = run-sound t report objects run answers in
+run-sound_to_9 t report objects notes run allowed settled answers has sweeps totals profile =
+    let six = run-sound t report objects run allowed settled answers in
     record {
       answers = λ le. answers;
       journal = λ le. six.journal (omega arith);

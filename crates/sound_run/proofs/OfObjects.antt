@@ -6,7 +6,7 @@ use Rattle.page_bitmap.specs.declared.line.Line.{Line}
 use Rattle.page_alloc.specs.Lists.{In}
 use Rattle.page_alloc.specs.Lives.{Life, open_lives}
 use Rattle.page_alloc.specs.Journal.{at_end}
-use Rattle.page_alloc.proofs.Lives.{lies, same_page}
+use Rattle.sound_run.proofs.Journals.{lies, same_page}
 use Rattle.span_state.specs.MarkSet.{MarkSet, is_marked}
 use Rattle.trace_reader.specs.declared.trace.Trace.{Trace}
 use Rattle.trace_reader.specs.declared.trace.Event.{Event}
@@ -90,7 +90,7 @@ run-places t goal c m past objects answers run are i address at =
     let is = known t m answers objects o are found.1 placed in
     let seat = run.seats o found.1 placed in
     let open-life = seat.1.stays o.cycle (live-of (marked_by t) o.cycle o placed refl) in
-    let inside = lies (region_of t) goal (at_end o.cycle past) seat.0 (legal-at_end 0 (region_of t) goal o.cycle past run.journal) open-life in
+    let inside = lies (region_of t) goal (at_end o.cycle past) seat.0 (legal-at_end 64 (region_of t) goal o.cycle past run.journal) open-life in
     let some = inside.0 in
     let room = inside.1 in (
       seat.0.page,

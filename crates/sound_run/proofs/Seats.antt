@@ -160,7 +160,7 @@ apart procs region goal past a b la lb legal ha hb fa fb sa sb differ x y ax by 
 pub run-seated : (marked : Marking) (region goal c : ℕ) (past : List Line) (objects : List Object) → IsRun marked region goal c past objects → AreSeated marked past objects
 run-seated marked region goal c past objects run o h placed =
     let seat = run.seats o h placed in
-    (seat.0, seated marked 0 region goal past o seat.0 run.journal (run.fits o h placed) placed seat.1)
+    (seat.0, seated marked 64 region goal past o seat.0 run.journal (run.fits o h placed) placed seat.1)
 
 pub run-apart : (marked : Marking) (region goal c : ℕ) (past : List Line) (objects : List Object) → IsRun marked region goal c past objects → AreApart marked objects
 run-apart marked region goal c past objects run m a b ha hb ne la lb =
@@ -170,6 +170,6 @@ run-apart marked region goal c past objects run m a b ha hb ne la lb =
     let sb = run.seats b hb pb in
     let na = sa.1.number in
     let nb = sb.1.number in
-    apart 0 region goal (at_end m past) a b sa.0 sb.0 (legal-at_end 0 region goal m past run.journal) (sa.1.stays m la) (sb.1.stays m lb)
+    apart 64 region goal (at_end m past) a b sa.0 sb.0 (legal-at_end 64 region goal m past run.journal) (sa.1.stays m la) (sb.1.stays m lb)
     (run.fits a ha pa) (run.fits b hb pb) sa.1.sits sb.1.sits
     (λ same. run.distinct m a b ha hb ne la lb (sym na ∙ ap (λ (l : Life). l.number) same ∙ nb))

@@ -4,7 +4,7 @@ use Rattle.page_bitmap.specs.declared.line.Line.{Line}
 use Rattle.size_classes.specs.Classes.{slot_of, objects_of}
 use Rattle.page_alloc.specs.Lists.{In}
 use Rattle.page_alloc.specs.Lives.{Life, open_lives}
-use Rattle.page_alloc.specs.Journal.{at_end, IsBy, Legal}
+use Rattle.page_alloc.specs.Journal.{at_end, IsBy, LegalFor}
 use Rattle.cycle_history.specs.Needs.{Need}
 use Rattle.cycle_history.specs.Requests.{Marking}
 use Rattle.cycle_history.specs.Objects.{Object, is_placed, live, Sits}
@@ -36,10 +36,14 @@ pub record HasSeat (marked : Marking) (past : List Line) (o : Object) (life : Li
   pub sits : Sits o life o.index
   pub stays : (c : ℕ) → live marked c o ≡ true → In life (open_lives (at_end c past))
 
+-- A journal that a run can have: it is legal, where each processor that a trace can have may have a page cache.
+abbrev pub IsJournal : ℕ → ℕ → List Line → Type 0
+IsJournal region goal past = LegalFor 64 region goal past
+
 -- A run of cycle c so far: its journal is legal, and its objects have seats of their own and meet the rules on misses
 -- and filling; what later mark ends mark is part of the marking. The notes of sweeps come with mark ends.
 pub record IsRun (marked : Marking) (region goal c : ℕ) (past : List Line) (objects : List Object) : Type 0 where
-  pub journal : Legal region goal past
+  pub journal : IsJournal region goal past
   pub by : IsBy c past
   pub cycles : (o : Object) → In o objects → o.cycle ≤ c
   pub lasts : (o : Object) → In o objects → Lasts marked o
