@@ -1,17 +1,19 @@
 -- The needs of each move, met by what a worker's view tells.
-use Rattle.std.proofs.Common.{◌≡◌, ◌≢◌, ℕ, ◌+◌, ◌<◌, ◌≤◌, ◌⊎◌, ⊎_elim, true, not, ltb, List, length, get_or, refl, sym, ap, subst, ◌∙◌, arith, eq-eqb}
-use Rattle.std.specs.Prelude.{Option, None}
+use Rattle.std.proofs.Common.{◌≡◌, ◌≢◌, ℕ, ◌+◌, ◌-◌, ◌<◌, ◌≤◌, ◌⊎◌, ⊎_elim, inl, inr, Bool, true, true≢false, not, eqb, ltb, List, [], length, get_or, refl, sym, ap, subst, ◌∙◌, arith, eq-eqb}
+use Rattle.std.specs.Prelude.{Option, Some, None}
 use Rattle.std.specs.Option.{is_some}
-use Rattle.std.proofs.lemmas.Bool.{lt-ltb}
+use Rattle.std.proofs.lemmas.Bool.{cases_Bool, cases_lt, lt-ltb}
+use Rattle.page_cache.specs.Cache.{Cache, in_block}
+use Rattle.page_cache.specs.Runs.{IsRun}
 use Rattle.sweep_laws.specs.State.{HandState, CoreState}
 use Rattle.sweep_laws.specs.Lists.{has}
-use Rattle.sweep_laws.specs.Counts.{times}
+use Rattle.sweep_laws.specs.Counts.{one_if, times}
 use Rattle.sweep_laws.specs.Reading.{allocated_at, hand_of, cell_of, class_of_set, is_swept_set, no_set, set_of}
 use Rattle.sweep_laws.specs.NeedsOfRange.{refusal}
-use Rattle.sweep_laws.specs.Needs.{acquire_needs, give_needs, pop_swept_needs, lock_needs, unlock_needs, take_needs, release_needs, cache_needs, uncache_needs, stale_uncache_needs}
+use Rattle.sweep_laws.specs.Needs.{acquire_needs, give_needs, pop_swept_needs, lock_needs, unlock_needs, take_needs, release_needs, cache_needs, uncache_needs, stale_uncache_needs, pull_needs, cut_needs, drop_needs}
 use Rattle.sweep_laws.specs.Standing.{tally}
-use Rattle.sweep_laws.proofs.Naming.{has_times}
-use Rattle.sweep_laws.proofs.NeedsMet.{none_refuses}
+use Rattle.sweep_laws.proofs.Naming.{has_times, times_has}
+use Rattle.sweep_laws.proofs.NeedsMet.{none_refuses, none_there}
 use Rattle.sweep_laws.proofs.Standings.{cached_list}
 use Rattle.sweep_laws.proofs.Totals.{part_le}
 use Rattle.sweep_laws.proofs.Forms.{kept_of}
@@ -26,13 +28,14 @@ use Rattle.sweep_laws.proofs.Naming.{at_low}
 use Rattle.std.proofs.Common.{ne_eqb}
 use Rattle.span_laws.specs.Views.{hand_state}
 use Rattle.sweep_laws.specs.Step.{after}
-use Rattle.sweep_laws.specs.declared.moves.Move.TheVariants.{Give, Lock, Take}
+use Rattle.sweep_laws.specs.declared.moves.Move.TheVariants.{Drop, Give, Lock, Pull, Take}
 use Rattle.sweep_laws.specs.declared.moves.Claimed.{Claimed}
 use Rattle.std.proofs.Math.ListN.{length-set}
-use Rattle.sweep_laws.specs.Reading.{is_free_page}
+use Rattle.sweep_laws.specs.Reading.{is_free_page, least_free}
 use Rattle.sweep_laws.specs.Named.{pullers}
-use Rattle.sweep_laws.proofs.PulledPages.{none_in_range, page_free}
-use Rattle.span_laws.proofs.RuleKept.{low_number, own_hand, own_at, own_never}
+use Rattle.sweep_laws.proofs.PulledPages.{none_in_range, page_free, range_none}
+use Rattle.span_laws.specs.Caches.{CacheTells}
+use Rattle.span_laws.proofs.RuleKept.{low_number, own_hand, own_at, own_never, part_at}
 
 -- a number is below a bound, or not
 low_by : (p m : ℕ) (xs : List ℕ) → has p xs ≡ true → (m ≤ p → times p xs ≡ 0) → p < m
@@ -99,7 +102,7 @@ pub lock_allowed : (c : CoreState) (n : ℕ) → n < length c.hands → c.lock �
 lock_allowed c n low e = none_refuses (lock_needs c n) (lt-ltb n (length c.hands) low, (ap (λ (o : Option ℕ). not (is_some o)) e, tt))
 
 pub take_allowed : (c : CoreState) (n page pages count class : ℕ) → n < length c.hands → page + pages ≤ length c.words → 1 ≤ pages → 1 ≤ count → class < 136
-    → ((q : ℕ) → page ≤ q → q < page + pages → get_or c.owners q None ≡ None) → ((q : ℕ) → pullers q c.hands ≡ 0) → refusal (take_needs (after c (Lock n)) n page pages count class) ≡ None
+    → ((q : ℕ) → page ≤ q → q < page + pages → get_or c.owners q None ≡ None) → ((q : ℕ) → page ≤ q → q < page + pages → pullers q c.hands ≡ 0) → refusal (take_needs (after c (Lock n)) n page pages count class) ≡ None
 take_allowed c n page pages count class low inside some objects small free unpulled = none_refuses (take_needs (after c (Lock n)) n page pages count class) (
   lt-ltb n (length c.hands) low,
   (
@@ -110,7 +113,7 @@ take_allowed c n page pages count class low inside some objects small free unpul
         lt-ltb class 136 small,
         (
           eq-eqb n n refl,
-          (rw (lt-ltb 0 pages (omega arith), lt-ltb 0 count (omega arith)) refl, (ap (λ (o : Option ℕ). not (is_some o)) (none_in_range (λ q. not (is_free_page c q)) page pages (λ q l h. ap not (page_free c.owners c.hands q (free q l h) (unpulled q)))), tt)),
+          (rw (lt-ltb 0 pages (omega arith), lt-ltb 0 count (omega arith)) refl, (ap (λ (o : Option ℕ). not (is_some o)) (none_in_range (λ q. not (is_free_page c q)) page pages (λ q l h. ap not (page_free c.owners c.hands q (free q l h) (unpulled q l h)))), tt)),
         ),
       ),
     ),
@@ -147,3 +150,74 @@ unlock_given c n page low = none_refuses (unlock_needs (after (after c (Lock n))
 
 pub acquire_allowed : (c : CoreState) (n page : ℕ) → n < length c.hands → page < length c.words → get_or c.words page 0 + 2 ≡ c.generation → refusal (acquire_needs c n page) ≡ None
 acquire_allowed c n page low inside w = none_refuses (acquire_needs c n page) (lt-ltb n _ low, (lt-ltb page _ inside, (eq-eqb _ _ w, tt)))
+
+-- ---- page caches
+
+-- a page is free where one of the region is
+some_free : (c : CoreState) (page : ℕ) → page < length c.words → get_or c.owners page None ≡ None → pullers page c.hands ≡ 0 → is_some (least_free c) ≡ true
+some_free c page low free none = elim (cases_Bool (is_some (least_free c))) [
+  | inl on ↦ on
+  | inr off ↦ absurd (true≢false (sym (page_free c.owners c.hands page free none) ∙ range_none (is_free_page c) 0 (length c.words) (none_there (least_free c) off) page (omega arith) (omega arith)))
+]
+
+pub pull_allowed : (c : CoreState) (n page : ℕ) → n < length c.hands → (hand_of c n).pulled ≡ [] → page < length c.words → get_or c.owners page None ≡ None → pullers page c.hands ≡ 0 → refusal (pull_needs (after c (Lock n)) n) ≡ None
+pull_allowed c n page low nothing inside free none = none_refuses (pull_needs (after c (Lock n)) n)
+    (lt-ltb n (length c.hands) low, (eq-eqb n n refl, (ap (λ (l : List ℕ). eqb (length l) 0) nothing, (some_free c page inside free none, tt))))
+
+pub unlock_pulled : (c : CoreState) (n : ℕ) → n < length c.hands → refusal (unlock_needs (after (after c (Lock n)) (Pull n)) n) ≡ None
+unlock_pulled c n low = none_refuses (unlock_needs (after (after c (Lock n)) (Pull n)) n)
+    (lt-ltb n _ (subst (λ (m : ℕ). n < m) (sym (length-set c.hands n _)) low), (eq-eqb n n refl, tt))
+
+pub drop_allowed : (c : CoreState) (n : ℕ) → n < length c.hands → refusal (drop_needs (after c (Lock n)) n) ≡ None
+drop_allowed c n low = none_refuses (drop_needs (after c (Lock n)) n) (lt-ltb n (length c.hands) low, (eq-eqb n n refl, tt))
+
+pub unlock_dropped : (c : CoreState) (n : ℕ) → n < length c.hands → refusal (unlock_needs (after (after c (Lock n)) (Drop n)) n) ≡ None
+unlock_dropped c n low = none_refuses (unlock_needs (after (after c (Lock n)) (Drop n)) n)
+    (lt-ltb n _ (subst (λ (m : ℕ). n < m) (sym (length-set c.hands n _)) low), (eq-eqb n n refl, tt))
+
+-- a run of a set whose pages the hand has pulled
+pub cut_allowed : (c : CoreState) (n page pages count class : ℕ) (set : ℕ → Bool) → n < length c.hands → page + pages ≤ length c.words → 1 ≤ pages → 1 ≤ count → class < 136
+    → ((p : ℕ) → times p (hand_of c n).pulled ≡ one_if (set p)) → IsRun set page pages → refusal (cut_needs c n page pages count class) ≡ None
+cut_allowed c n page pages count class set low inside some objects small named run = none_refuses (cut_needs c n page pages count class) (
+  lt-ltb n (length c.hands) low,
+  (
+    lt-ltb page (length c.words) (omega arith),
+    (
+      leb_yes (page + pages) (length c.words) inside,
+      (
+        lt-ltb class 136 small,
+        (
+          rw (lt-ltb 0 pages (omega arith), lt-ltb 0 count (omega arith)) refl,
+          (
+            ap (λ (o : Option ℕ). not (is_some o)) (none_in_range (λ q. not (has q (hand_of c n).pulled)) page pages (λ q l h. (
+                let one : times q (hand_of c n).pulled ≡ 1 = named q ∙ ap one_if (run q l h) in
+                ap not (times_has q (hand_of c n).pulled (omega arith))))),
+            tt,
+          ),
+        ),
+      ),
+    ),
+  ),
+)
+
+module _ (c : CoreState) (heap : PageHeap) (homes : List (Option Body)) (n : ℕ) (v : View) (k : Rule c heap homes n v) where
+  pub own_tells : CacheTells n v.own
+  own_tells = k.caches n v.own (part_at c heap homes n v k)
+
+  -- the hand has pulled the pages of the own page cache's block
+  pub own_pulled : (x : Cache) → v.own.cache ≡ Some x → (p : ℕ) → times p (hand_of c n).pulled ≡ one_if (in_block x.block p)
+  own_pulled x is p = ap (λ (s : HandState). times p s.pulled) (own_hand c heap homes n v k) ∙ (own_tells.some x is).pages p
+
+  -- a run of that block is one of the region
+  pub cut_low : (x : Cache) (page pages : ℕ) → v.own.cache ≡ Some x → 1 ≤ pages → IsRun (in_block x.block) page pages → page + pages ≤ length c.words
+  cut_low x page pages is some run = elim (cases_lt (page + pages - 1) (length c.words)) [
+    | inl low ↦ omega arith
+    | inr far ↦ (
+        let last : times (page + pages - 1) v.own.pulled ≡ 1 = (own_tells.some x is).pages (page + pages - 1) ∙ ap one_if (run (page + pages - 1) (omega arith) (omega arith)) in
+        let never = (own_never c heap homes n v k (page + pages - 1) far).pulled in
+        absurd (omega arith))
+  ]
+
+  pub own_cut_allowed : (x : Cache) (page pages count class : ℕ) → v.own.cache ≡ Some x → 1 ≤ pages → 1 ≤ count → class < 136 → IsRun (in_block x.block) page pages → refusal (cut_needs c n page pages count class) ≡ None
+  own_cut_allowed x page pages count class is some objects small run =
+      cut_allowed c n page pages count class (in_block x.block) (low_number c heap homes n v k) (cut_low x page pages is some run) some objects small (own_pulled x is) run

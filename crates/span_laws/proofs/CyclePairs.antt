@@ -1,7 +1,7 @@
 -- The pairs of a first page and an index that are allocated as a cycle ends, by the marks and the logs.
 use Rattle.std.proofs.Common.{◌≡◌, ℕ, zero, suc, inl, inr, ⊎_elim, Bool, ◌&&◌, ◌||◌, eqb, eq-eqb, true, false, List, [], ◌∷◌, ◌++◌, map, get_or, refl, sym, ap, subst, ◌∙◌}
 use Rattle.std.proofs.lemmas.Bool.{cases_Bool, eqb-true}
-use Rattle.page_alloc.specs.Lives.{Life, open_lives}
+use Rattle.page_alloc.specs.Lives.{Life}
 use Rattle.page_alloc.specs.Lists.{In}
 use Rattle.span_state.specs.MarkSet.{has_pair}
 use Rattle.sweep_laws.specs.State.{CoreState}
@@ -9,12 +9,11 @@ use Rattle.sweep_laws.proofs.NeedsMet.{both, either_one}
 use Rattle.worker_log.specs.declared.Entry.{Entry}
 use Rattle.worker_log.specs.declared.Placing.{Placing}
 use Rattle.worker_log.specs.Logs.{placings}
-use Rattle.run_laws.specs.CycleSoFar.{CycleSoFar, past_after}
+use Rattle.run_laws.specs.CycleSoFar.{CycleSoFar}
 use Rattle.run_laws.specs.Shown.{bits_of, waits_of}
 use Rattle.run_laws.specs.ShowsCycle.{ShowsCycle}
 use Rattle.run_laws.proofs.Lines.{page-there}
 use Rattle.run_laws.proofs.Shown.{absent-life}
-use Rattle.sound_run.proofs.Seats.{same_number}
 use Rattle.sweep_laws.specs.Lists.{has}
 use Rattle.sweep_laws.specs.Named.{begins}
 use Rattle.sweep_laws.specs.State.{LifeState}
@@ -77,8 +76,8 @@ module _ (region goal : ℕ) (c : CoreState) (e : CycleSoFar) (s : ShowsCycle re
     (marks_are : (p j : ℕ) → has_pair marks p j ≡ e.marks p j) (logs_are : (w : ℕ) → e.logs w ≡ log_at parts w) where
   is_bit : (p j : ℕ) → has_pair (marks ++ placed_pairs parts) p j ≡ true → bits_of c p j ≡ true
   is_bit p j h = sym (s.bits p j) ∙ ⊎_elim
-      (λ (x : has_pair marks p j ≡ true). (let m = s.under.holds.marked_open p j (sym (marks_are p j) ∙ x) in
-      ap (λ (q : ℕ). e.bits q j) (sym m.3) ∙ s.under.holds.marked m.0 j m.2 (settled m.0.page) (ap (λ (q : ℕ). e.marks q j) m.3 ∙ sym (marks_are p j) ∙ x)))
+      (λ (x : has_pair marks p j ≡ true). (let m = s.under.holds.marked_known p j (sym (marks_are p j) ∙ x) in
+      ap (λ (q : ℕ). e.bits q j) (sym m.2) ∙ s.under.holds.marked m.0 j m.1 (settled m.0.page) (ap (λ (q : ℕ). e.marks q j) m.2 ∙ sym (marks_are p j) ∙ x)))
       (λ (x : has_pair (placed_pairs parts) p j ≡ true). (let r = parts_from parts p j x in
       (λ i. e.bits (sym r.3 i) (sym r.4 i)) ∙ s.under.holds.placed r.0 r.1 (subst (λ (l : List Entry). In r.1 (placings l)) (sym (logs_are r.0)) r.2)))
       (either_one (has_pair marks p j) (has_pair (placed_pairs parts) p j) (sym (pair_append marks (placed_pairs parts) p j) ∙ h))
@@ -89,17 +88,15 @@ module _ (region goal : ℕ) (c : CoreState) (e : CycleSoFar) (s : ShowsCycle re
         let none : has j (let l : LifeState = Rattle.sweep_laws.specs.Reading.life_in p c.lives in l).allocated ≡ false = ap (λ (l : LifeState). has j l.allocated) (absent-life p c.lives isnt) in
         let nothing : ⊥ = cc in
         absurd nothing)
-    | inl is ↦ by_life (page-there p (open_lives (past_after e)) (sym (s.lives.begin p) ∙ is))
+    | inl is ↦ by_life (page-there p e.known (sym (s.lives.begin p) ∙ is))
   ]
     where
-      by_life : (life : Life) × In life (open_lives (past_after e)) × (life.page ≡ p) → has_pair (marks ++ placed_pairs parts) p j ≡ true
+      by_life : (life : Life) × In life e.known × (life.page ≡ p) → has_pair (marks ++ placed_pairs parts) p j ≡ true
       by_life (life, here, at) = pair_append marks (placed_pairs parts) p j ∙ elim (s.under.holds.from life j here (settled life.page) (s.bits life.page j ∙ ap (λ (q : ℕ). bits_of c q j) at ∙ on)) [
         | inl mark ↦ ap (λ (b : Bool). b || has_pair (placed_pairs parts) p j) (marks_are p j ∙ ap (λ (q : ℕ). e.marks q j) (sym at) ∙ mark)
         | inr placed ↦ (
             let a = placed.1 in
-            let seat = s.under.places.here placed.0 a placed.2 in
-            let same : seat.0 ≡ life = same_number (past_after e) seat.0 life seat.1 here (seat.2.number ∙ placed.3) in
-            let page : a.page ≡ p = sym seat.2.page ∙ ap (λ (l : Life). l.page) same ∙ at in
+            let page : a.page ≡ p = placed.3 ∙ at in
             or_right (has_pair marks p j) (has_pair (placed_pairs parts) p j)
             ((λ i. has_pair (placed_pairs parts) (sym page i) (sym placed.4 i)) ∙ parts_have parts placed.0 a (subst (λ (l : List Entry). In a (placings l)) (logs_are placed.0) placed.2)))
       ]

@@ -14,6 +14,7 @@ use Rattle.sweep_laws.specs.OwnedSets.{ClaimFits}
 use Rattle.sweep_laws.specs.State.{CoreState, HandState}
 use Rattle.sweep_laws.specs.Step.{after, needs_of}
 use Rattle.sweep_laws.specs.declared.moves.Claimed.{Claimed}
+use Rattle.sweep_laws.specs.declared.moves.Move.TheVariants.{Acquire, Cache, Claim, DropPopped, Fill, PopSwept, PopUnswept, StaleUncache, Uncache}
 use Rattle.swept_set_laws.specs.Entered.{is_full_life}
 use Rattle.worker_log.specs.declared.Entry.{Entry}
 use Rattle.worker_log.specs.declared.Entry.TheVariants.{Looked, LookedEmptyCell, Popped, Pushed, Swept, Took, Missed, Gave, Allocated, Found, Read, Added, Pulled, NoPage, Cut as CutEntry, NoCut, Settled}
@@ -21,10 +22,8 @@ use Rattle.worker_log.specs.declared.Placing.{Placing}
 use Rattle.worker_log.specs.Logs.{placings}
 use Rattle.worker_log.specs.SetNumbers.{is_full_set}
 use Rattle.worker_log.specs.Entries.{is_placing_in, many}
-use Rattle.worker_log.proofs.Logs.{all-alike, quiet-alike}
 use Rattle.run_laws.specs.Shown.{bits_of}
 use Rattle.run_laws.specs.ShowsCycle.{MayLetGo}
-use Rattle.run_laws.proofs.Moves.{acquire-shows, cache-shows, claim-shows, drop_popped-shows, fill-shows, pop_swept-shows, pop_unswept-shows, stale_uncache-shows, uncache-shows}
 use Rattle.span_laws.specs.Cycle.{KeepsCycle}
 use Rattle.span_laws.specs.Moves.{move_of}
 use Rattle.span_laws.specs.Rule.{Rule}
@@ -32,10 +31,11 @@ use Rattle.span_laws.specs.Suits.{IsQuiet, Suits}
 use Rattle.span_laws.specs.Views.{acts, hand_state, span_of}
 use Rattle.span_laws.specs.OwnSteps.{told, told_of}
 use Rattle.span_laws.specs.declared.said.Said.{Said}
-use Rattle.span_laws.specs.declared.said.Said.TheVariants.{Finds, Caches, Uncaches, UncachesStale, Looks, LooksCell, Claims, Fills, PopsEntry, Reads, Adds, Resets}
+use Rattle.span_laws.specs.declared.said.Said.TheVariants.{Finds, Caches, Uncaches, UncachesStale, Looks, LooksCell, Claims, Fills, PopsEntry, Reads, Adds, Resets, FindsNoPage, FindsNoCut}
 use Rattle.span_laws.specs.declared.said.SaidOf.TheVariants.{Acquires, Pops}
+use Rattle.span_laws.specs.declared.view.Part.{Part}
 use Rattle.span_laws.specs.declared.view.View.{View}
-use Rattle.span_laws.proofs.CycleKept.{cycle_quiet, e, same_alike, still_unplaced}
+use Rattle.span_laws.proofs.CycleKept.{TellSame, all_shown, cycle_quiet, cycle_stays, e, still_unplaced, tell_more, tell_same}
 use Rattle.span_laws.proofs.Ready.{all_in}
 use Rattle.span_laws.proofs.RuleKept.{log_own, own_at, own_hand}
 use Rattle.span_laws.proofs.WordMoves.{kept}
@@ -61,7 +61,7 @@ placed_in a p (Found q w ∷ log) h at = let r = placed_in a p log h at in omega
 placed_in a p (Read w x ∷ log) h at = let r = placed_in a p log h at in omega arith
 placed_in a p (Added w x ∷ log) h at = let r = placed_in a p log h at in omega arith
 
-module _ (c : CoreState) (heap : PageHeap) (homes : List (Option Body)) (n : ℕ) (v : View) (k : Rule c heap homes n v) (y : KeepsCycle c heap n v) where
+module _ (c : CoreState) (heap : PageHeap) (homes : List (Option Body)) (n : ℕ) (v : View) (k : Rule c heap homes n v) (y : KeepsCycle c heap n v k.known) where
   -- a placing of the own log, as the cycle has it
   pub own_placing : (a : Placing) → In a (placings ((e c heap homes n v k y).logs n)) → In a (placings v.own.log)
   own_placing a h = subst (λ (l : List Entry). In a (placings l)) (log_own c heap homes n v k v.own) h
@@ -84,54 +84,54 @@ module _ (c : CoreState) (heap : PageHeap) (homes : List (Option Body)) (n : ℕ
           let count : (life_in d.page c.lives).count ≡ count_for b.class = ap (λ (q : ℕ). (life_in q c.lives).count) (sym (life.2.page ∙ at)) ∙ same.count ∙ ap count_for life.2.class in
           all_in (life_in d.page c.lives) is_full j (subst (λ (m : ℕ). j < m) (sym count) low)
 
+  -- an entry without a move
+  noted : (h : Part) → TellSame h.log v.own.log → h.claimed ≡ v.own.claimed → ((q : ℕ) → many (is_placing_in q) h.log ≡ many (is_placing_in q) v.own.log) → KeepsCycle c heap n (acts v h) k.known
+  noted h alike claimed same = cycle_quiet c heap homes n v k y c h (all_shown c heap homes n v k y) alike (still_unplaced c heap homes n v k y h claimed same)
+
   -- a move that changes no body
-  pub said_cycle : (s : Said) → Suits c v.own s → refusal (needs_of c (move_of n s)) ≡ None → KeepsCycle (after c (move_of n s)) heap n (acts v (told s v.own))
+  pub said_cycle : (s : Said) → Suits c v.own s → refusal (needs_of c (move_of n s)) ≡ None → KeepsCycle (after c (move_of n s)) heap n (acts v (told s v.own)) k.known
   said_cycle (Finds p w) u a = let h = told (Finds p w) v.own in
-      cycle_quiet c heap homes n v k y _ h (drop_popped-shows v.region v.goal c _ y.shows k.owned n p a) (quiet-alike (Found p w) v.own.log refl) (still_unplaced c heap homes n v k y h refl (λ q. omega arith))
+      cycle_stays c heap homes n v k y (DropPopped n p) h a refl refl (tell_more (Found p w ∷ []) v.own.log (refl, tt)) (still_unplaced c heap homes n v k y h refl (λ q. omega arith))
   said_cycle (Caches p) u a = let h = told (Caches p) v.own in
-      cycle_quiet c heap homes n v k y _ h (cache-shows v.region v.goal c _ y.shows k.owned n p a) (same_alike v.own.log) (still_unplaced c heap homes n v k y h refl (λ q. refl))
+      cycle_stays c heap homes n v k y (Cache n p) h a refl refl (tell_same v.own.log) (still_unplaced c heap homes n v k y h refl (λ q. refl))
   said_cycle (Uncaches p) u a = let h = told (Uncaches p) v.own in
-      cycle_quiet c heap homes n v k y _ h (uncache-shows v.region v.goal c _ y.shows k.owned n p a) (same_alike v.own.log) (still_unplaced c heap homes n v k y h refl (λ q. refl))
+      cycle_stays c heap homes n v k y (Uncache n p) h a refl refl (tell_same v.own.log) (still_unplaced c heap homes n v k y h refl (λ q. refl))
   said_cycle (UncachesStale p) u a = let h = told (UncachesStale p) v.own in
-      cycle_quiet c heap homes n v k y _ h (stale_uncache-shows v.region v.goal c _ y.shows k.owned n p a) (same_alike v.own.log) (still_unplaced c heap homes n v k y h refl (λ q. refl))
+      cycle_stays c heap homes n v k y (StaleUncache n p) h a refl refl (tell_same v.own.log) (still_unplaced c heap homes n v k y h refl (λ q. refl))
   said_cycle (Fills set page) u a = let h = told (Fills set page) v.own in let d : Claimed = record { set = set; index = u.0; page = page } in
       let is : (hand_of c n).claimed ≡ Some d = ap (λ (s : HandState). s.claimed) (own_hand c heap homes n v k) ∙ u.1 in
-      cycle_quiet c heap homes n v k y _ h (fill-shows v.region v.goal c _ y.shows k.owned n d a is (may_let_go d u.1)) (quiet-alike (Pushed set page) v.own.log refl) (λ x none. absurd (Rattle.sweep_laws.proofs.NeedsMet.some_none x (sym none)))
+      cycle_stays c heap homes n v k y (Fill n) h a (λ x at. may_let_go x (sym (ap (λ (s : HandState). s.claimed) (own_hand c heap homes n v k)) ∙ at), refl) refl (tell_more (Pushed set page ∷ []) v.own.log (refl, tt))
+      (λ x none. absurd (Rattle.sweep_laws.proofs.NeedsMet.some_none x (sym none)))
   said_cycle (PopsEntry set page) u a = let h = told (PopsEntry set page) v.own in
-      cycle_quiet c heap homes n v k y _ h (pop_unswept-shows v.region v.goal c _ y.shows k.owned n set a) (quiet-alike (Popped set page) v.own.log refl) (still_unplaced c heap homes n v k y h refl (λ q. omega arith))
+      cycle_stays c heap homes n v k y (PopUnswept n set) h a refl refl (tell_more (Popped set page ∷ []) v.own.log (refl, tt)) (still_unplaced c heap homes n v k y h refl (λ q. omega arith))
   said_cycle _ u a = absurd u
 
   -- an entry without a move
-  pub note_cycle : (s : Said) → IsQuiet v.own s → KeepsCycle c heap n (acts v (told s v.own))
-  note_cycle (Finds p w) q = let h = told (Finds p w) v.own in
-      cycle_quiet c heap homes n v k y c h y.shows (quiet-alike (Found p w) v.own.log refl) (still_unplaced c heap homes n v k y h refl (λ q. omega arith))
-  note_cycle (Looks set head tail) q = let h = told (Looks set head tail) v.own in
-      cycle_quiet c heap homes n v k y c h y.shows (quiet-alike (Looked set head tail) v.own.log refl) (still_unplaced c heap homes n v k y h refl (λ q. omega arith))
+  pub note_cycle : (s : Said) → IsQuiet v.own s → KeepsCycle c heap n (acts v (told s v.own)) k.known
+  note_cycle (Finds p w) q = noted (told (Finds p w) v.own) (tell_more (Found p w ∷ []) v.own.log (refl, tt)) refl (λ q. omega arith)
+  note_cycle (Looks set head tail) q = noted (told (Looks set head tail) v.own) (tell_more (Looked set head tail ∷ []) v.own.log (refl, tt)) refl (λ q. omega arith)
   note_cycle (LooksCell set index cell) q = by_cell cell
     where
-      by_cell : (x : ℕ) → KeepsCycle c heap n (acts v (told (LooksCell set index x) v.own))
-      by_cell zero = let h = told (LooksCell set index 0) v.own in
-          cycle_quiet c heap homes n v k y c h y.shows (quiet-alike (LookedEmptyCell set index) v.own.log refl) (still_unplaced c heap homes n v k y h refl (λ q. omega arith))
-      by_cell (suc x) = let h = told (LooksCell set index (suc x)) v.own in
-          cycle_quiet c heap homes n v k y c h y.shows (same_alike v.own.log) (still_unplaced c heap homes n v k y h refl (λ q. refl))
-  note_cycle (Reads word value) q = let h = told (Reads word value) v.own in
-      cycle_quiet c heap homes n v k y c h y.shows (quiet-alike (Read word value) v.own.log refl) (still_unplaced c heap homes n v k y h refl (λ q. omega arith))
-  note_cycle (Adds word value number) q = let h = told (Adds word value number) v.own in
-      cycle_quiet c heap homes n v k y c h y.shows (all-alike (Added word number ∷ Read word value ∷ []) v.own.log (refl, (refl, tt))) (still_unplaced c heap homes n v k y h refl (λ q. omega arith))
-  note_cycle (Resets set) q = let h = told (Resets set) v.own in
-      cycle_quiet c heap homes n v k y c h y.shows (same_alike v.own.log) (still_unplaced c heap homes n v k y h refl (λ q. refl))
+      by_cell : (x : ℕ) → KeepsCycle c heap n (acts v (told (LooksCell set index x) v.own)) k.known
+      by_cell zero = noted (told (LooksCell set index 0) v.own) (tell_more (LookedEmptyCell set index ∷ []) v.own.log (refl, tt)) refl (λ q. omega arith)
+      by_cell (suc x) = noted (told (LooksCell set index (suc x)) v.own) (tell_same v.own.log) refl (λ q. refl)
+  note_cycle (Reads word value) q = noted (told (Reads word value) v.own) (tell_more (Read word value ∷ []) v.own.log (refl, tt)) refl (λ q. omega arith)
+  note_cycle (Adds word value number) q = noted (told (Adds word value number) v.own) (tell_more (Added word number ∷ Read word value ∷ []) v.own.log (refl, (refl, tt))) refl (λ q. omega arith)
+  note_cycle (Resets set) q = noted (told (Resets set) v.own) (tell_same v.own.log) refl (λ q. refl)
+  note_cycle FindsNoPage q = noted (told FindsNoPage v.own) (tell_more (NoPage ∷ []) v.own.log (refl, tt)) refl (λ q. omega arith)
+  note_cycle (FindsNoCut pages left) q = noted (told (FindsNoCut pages left) v.own) (tell_more (NoCut pages left ∷ []) v.own.log (refl, tt)) refl (λ q. omega arith)
   note_cycle _ q = absurd q
 
   -- a span that was at home is acquired
-  pub acquire_cycle : (b : Body) (p : ℕ) → refusal (acquire_needs c n p) ≡ None → (c' : CoreState) → c' ≡ after_acquire c n p → KeepsCycle c' heap n (acts v (told_of Acquires (span_of b) v.own))
-  acquire_cycle b p a c' same = let h = told_of Acquires (span_of b) v.own in subst (λ (s : CoreState). KeepsCycle s heap n (acts v h)) (sym same)
-      (cycle_quiet c heap homes n v k y _ h (acquire-shows v.region v.goal c _ y.shows k.owned n p a) (same_alike v.own.log) (still_unplaced c heap homes n v k y h refl (λ q. refl)))
+  pub acquire_cycle : (b : Body) (p : ℕ) → refusal (acquire_needs c n p) ≡ None → (c' : CoreState) → c' ≡ after_acquire c n p → KeepsCycle c' heap n (acts v (told_of Acquires (span_of b) v.own)) k.known
+  acquire_cycle b p a c' same = let h = told_of Acquires (span_of b) v.own in subst (λ (s : CoreState). KeepsCycle s heap n (acts v h) k.known) (sym same)
+      (cycle_stays c heap homes n v k y (Acquire n p) h a refl refl (tell_same v.own.log) (still_unplaced c heap homes n v k y h refl (λ q. refl)))
 
   -- an index is claimed, in a partial set for a span in which the worker placed nothing
   pub claim_cycle : (j p index : ℕ) → refusal (claim_needs c n j p) ≡ None → (is_full_set j ≡ false → many (is_placing_in p) v.own.log ≡ 0) → (c' : CoreState) → c' ≡ after_claim c n j p
-      → KeepsCycle c' heap n (acts v (told (Claims j index p) v.own))
-  claim_cycle j p index a none c' same = let h = told (Claims j index p) v.own in subst (λ (s : CoreState). KeepsCycle s heap n (acts v h)) (sym same)
-      (cycle_quiet c heap homes n v k y _ h (claim-shows v.region v.goal c _ y.shows k.owned n j p a) (same_alike v.own.log) (λ d is part. unplaced d (some_same _ d is) part))
+      → KeepsCycle c' heap n (acts v (told (Claims j index p) v.own)) k.known
+  claim_cycle j p index a none c' same = let h = told (Claims j index p) v.own in subst (λ (s : CoreState). KeepsCycle s heap n (acts v h) k.known) (sym same)
+      (cycle_stays c heap homes n v k y (Claim n j p) h a refl refl (tell_same v.own.log) (λ d is part. unplaced d (some_same _ d is) part))
     where
       some_same : (x d : Claimed) → Some x ≡ Some d → x ≡ d
       some_same x d z = cc
@@ -140,6 +140,6 @@ module _ (c : CoreState) (heap : PageHeap) (homes : List (Option Body)) (n : ℕ
       unplaced d is part = subst (λ (x : Claimed). is_full_set x.set ≡ false → many (is_placing_in x.page) v.own.log ≡ 0) is none part
 
   -- a span is popped from a swept set
-  pub pop_cycle : (b : Body) (j : ℕ) → refusal (pop_swept_needs c n j) ≡ None → (c' : CoreState) → c' ≡ after_pop_swept c n j → KeepsCycle c' heap n (acts v (told_of (Pops j) (span_of b) v.own))
-  pop_cycle b j a c' same = let h = told_of (Pops j) (span_of b) v.own in subst (λ (s : CoreState). KeepsCycle s heap n (acts v h)) (sym same)
-      (cycle_quiet c heap homes n v k y _ h (pop_swept-shows v.region v.goal c _ y.shows k.owned n j a) (quiet-alike (Popped j b.page) v.own.log refl) (still_unplaced c heap homes n v k y h refl (λ q. omega arith)))
+  pub pop_cycle : (b : Body) (j : ℕ) → refusal (pop_swept_needs c n j) ≡ None → (c' : CoreState) → c' ≡ after_pop_swept c n j → KeepsCycle c' heap n (acts v (told_of (Pops j) (span_of b) v.own)) k.known
+  pop_cycle b j a c' same = let h = told_of (Pops j) (span_of b) v.own in subst (λ (s : CoreState). KeepsCycle s heap n (acts v h) k.known) (sym same)
+      (cycle_stays c heap homes n v k y (PopSwept n j) h a refl refl (tell_more (Popped j b.page ∷ []) v.own.log (refl, tt)) (still_unplaced c heap homes n v k y h refl (λ q. omega arith)))

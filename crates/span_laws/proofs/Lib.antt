@@ -1,4 +1,3 @@
-pub mod Heap
 pub mod Has
 pub mod Parts
 pub mod BodiesKept
@@ -10,6 +9,7 @@ pub mod WordMoves
 pub mod Lives
 pub mod LifeMoves
 pub mod Notes
+pub mod CacheRule
 pub mod SetMoves
 pub mod Placing
 pub mod SaidKept
@@ -24,7 +24,11 @@ pub mod CallLogs
 pub mod CycleKept
 pub mod CycleSteps
 pub mod CycleLives
+pub mod CycleCaches
 pub mod CyclePairs
 pub mod CycleTurns
 pub mod Kept
 pub mod Scans
+pub mod Caches
+pub mod CacheLines
+pub mod OwnCaches

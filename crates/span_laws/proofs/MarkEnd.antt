@@ -35,13 +35,14 @@ use Rattle.sweep_laws.specs.Tidy.{IsTidy, HasSpace}
 use Rattle.sweep_laws.proofs.LivesChange.{life_page}
 use Rattle.sweep_laws.proofs.MarkEnd.{turns}
 use Rattle.sweep_laws.proofs.Naming.{at_low, has_times, times_has}
-use Rattle.sweep_laws.proofs.NeedsMet.{none_refuses, not_true}
+use Rattle.sweep_laws.proofs.NeedsMet.{none_refuses, not_true, some_none}
 use Rattle.sweep_laws.proofs.Totals.{inside_at, total_none}
 use Rattle.swept_set_laws.proofs.EnteredRest.{empty_enters}
 use Rattle.worker_log.specs.Entries.{many}
 use Rattle.span_laws.specs.MarkEndAsks.{IsAtRest, IsKnown}
 use Rattle.span_laws.specs.Bodies.{Bodies, Fits, IsAway, IsBody, IsHome, IsLent, lends}
 use Rattle.span_laws.specs.Logs.{is_placing_at}
+use Rattle.span_laws.specs.Caches.{CacheTells}
 use Rattle.span_laws.specs.Rule.{Rule, logs_of}
 use Rattle.span_laws.specs.Tells.{IsFilled, Tells}
 use Rattle.span_laws.specs.Views.{hand_state, parts_of, span_of}
@@ -52,7 +53,7 @@ use Rattle.span_laws.specs.declared.view.View.{View}
 use Rattle.span_laws.proofs.LifeMoves.{begin_at}
 use Rattle.span_laws.proofs.Lives.{marks_has}
 use Rattle.span_laws.proofs.Parts.{at_map, has_none}
-use Rattle.span_laws.proofs.RuleKept.{part_at}
+use Rattle.span_laws.proofs.RuleKept.{RuleOf, part_at}
 use Rattle.span_laws.proofs.WordMoves.{four, kept}
 
 module _ {A : Type 0} (test : A → Bool) where
@@ -227,8 +228,8 @@ module _ (c : CoreState) (heap : PageHeap) (homes : List (Option Body)) (n : ℕ
   none_wrong [] a = refl
   none_wrong (m ∷ ms) a = let x : is_allocated c m ≡ true = times_has m.1 (life_in m.0 c.lives).allocated (is_known m a.0).1 in rw x (none_wrong ms a.1)
 
-  pub next_allowed : refusal (next_needs c marks) ≡ None
-  next_allowed = none_refuses (next_needs c marks) (
+  pub next_allowed : EachAt c.hands (λ (m : ℕ) (h : HandState). h.pulled ≡ []) → refusal (next_needs c marks) ≡ None
+  next_allowed nothing = none_refuses (next_needs c marks) (
     rising,
     (
       ap (λ (o : Option ℕ). not (is_some o)) k.unlocked,
@@ -238,7 +239,7 @@ module _ (c : CoreState) (heap : PageHeap) (homes : List (Option Body)) (n : ℕ
           ap (λ (o : Option ℕ). not (is_some o)) (none_placed (λ (h : HandState). not (is_idle h)) c.hands (λ m h a. let i = idle m h a in rw (i.0, i.1, i.2) refl)),
           (
             ap (λ (o : Option HandState). not (is_some o)) (none_found (λ (h : HandState). not (eqb (length h.pulled) 0)) c.hands
-                (λ m h a. let x = hand_part m h a in ap (λ (y : HandState). not (eqb (length y.pulled) 0)) (sym x.2))),
+                (λ m h a. ap (λ (l : List ℕ). not (eqb (length l) 0)) (nothing m h a))),
             (
               ap (λ (o : Option HandState). not (is_some o)) (none_found (λ (h : HandState). is_some h.claimed) c.hands (λ m h a. ap is_some (idle m h a).3)),
               (
@@ -283,7 +284,7 @@ module _ (c : CoreState) (heap : PageHeap) (homes : List (Option Body)) (n : ℕ
       go true e = subst P (sym (marked_here marks p c.lives e)) (f (life_in p c.lives) h)
       go false e = let t = marked_none marks p c.lives e in subst P (sym t.0) (subst P t.1 h)
 
-  fits_after : (p : ℕ) (s : Span) → Fits heap.past c.lives p s → Fits heap.past ls' p s
+  fits_after : (p : ℕ) (s : Span) → Fits k.known c.lives p s → Fits k.known ls' p s
   fits_after p s f = record {
     page = f.page;
     body = life_after (IsBody s) p (λ l b. record { page = b.page; pages = b.pages; count = b.count; class = b.class; bits = b.bits }) f.body;
@@ -311,55 +312,68 @@ module _ (c : CoreState) (heap : PageHeap) (homes : List (Option Body)) (n : ℕ
       word_of l e = let s = settled p l in let x : is_settled c.generation (c.generation + 2 + 3) ≡ true = subst (λ (z : ℕ). is_settled c.generation z ≡ true) e s in
           true≢false (sym x ∙ (let f = four c heap homes n v k in rw (ne_eqb (c.generation + 2 + 3) 0 (λ z. omega arith), ne_eqb (c.generation + 2 + 3) c.generation (λ z. omega arith), ne_eqb (c.generation + 2 + 3) (c.generation + 3) (λ z. omega arith)) refl))
 
-  pub next_keeps : (past : List Line) → v.generation < 8589934592 → (c' : CoreState) → c' ≡ after_next c marks → Owned c' → IsTidy c' → HasSpace c' → Rule c' heap homes n (marked n past marks v)
-  next_keeps past low c' e o t r = subst (λ (s : CoreState). Rule s heap homes n (marked n past marks v)) (sym e) (record {
-    owned = subst Owned e o;
-    tidy = subst IsTidy e t;
-    space = subst HasSpace e r;
-    unlocked = k.unlocked;
-    number = subst (λ (z : ℕ). n < z) (sym (length-map v.parts rested)) k.number;
-    hands = ap (map forget_swept) k.hands ∙ same_map forget_swept hand_state hand_state rested (λ x. refl) ps ∙ ap (map hand_state) (sym parts');
-    region = k.region;
-    small = k.small;
-    goal = k.goal;
-    generation = ap (λ (z : ℕ). z + 2) k.generation;
-    sets = length_emptied c.generation 0 c.sets ∙ k.sets;
-    heap_region = k.heap_region;
-    heap_owner = k.heap_owner;
-    legal = k.legal;
-    cycle = is_by_more ((c.generation - 4) / 2) ((c.generation + 2 - 4) / 2) heap.past (omega arith) k.cycle;
-    early = (let x = low in let g = k.generation in let y = (kept c heap homes n v k).generation.even in omega arith);
-    names = λ s i. 0;
-    entered = empty_enters (c.generation + 2) (length c.words) c.words ls' (empty_unswept c.generation 0 c.sets) (map forget_swept c.hands) (logs_of n (marked n past marks v)) (λ s i. 0)
-        (λ s x a part. emptied_at c.generation 0 c.sets s x a (let z : 0 + s ≡ s = omega arith in ap (is_swept_set c.generation) z ∙ not_true (is_swept_set c.generation s) (sym (turns c.generation s) ∙ part)))
-        (λ m h a. let x = map_at forget_swept c.hands m h a in ap (λ (z : HandState). z.claimed) (sym x.2) ∙ (idle m x.0 x.1).3)
-        (λ m. ap (λ (l : List Part). get_or (map (λ (h : Part). h.log) l) m []) parts' ∙ silent ps m);
-    bodies = subst (λ (l : List Part). Bodies (length c.words) heap.past ls' homes l) (sym parts') (record {
-      many = k.bodies.many;
-      lent = λ m x a p l. let y = map_at rested ps m x a in
-          subst (λ (z : Part). IsLent heap.past ls' z p) y.2 (let s = k.bodies.lent m y.0 y.1 p (subst (λ (z : Part). 0 < lends p z) (sym y.2) l) in let z : IsLent heap.past ls' (rested y.0) p = (s.0, s.1, fits_after p s.0 s.2) in z);
-      gone = λ m x a p l. let y = map_at rested ps m x a in k.bodies.gone m y.0 y.1 p (subst (λ (z : Part). 0 < lends p z) (sym y.2) l);
-      bare = λ p b. k.bodies.bare p (sym (marked_begins marks p c.lives) ∙ b);
-      home = λ p l b. ⊎_elim (λ (a : IsAway ps p). inl (a.0, rested a.1, at_map rested ps a.0 a.1 a.2, a.3)) (λ (x : IsHome heap.past c.lives homes p). inr (x.0, x.1, fits_after p (span_of x.0) x.2))
-          (k.bodies.home p l (sym (marked_begins marks p c.lives) ∙ b));
-    });
-    marks = record {
-      kept = λ p low w. let b = begin_at c heap homes n v k p low (λ z. let f = four c heap homes n v k in
-          ⊎_elim (λ (y : get_or c.words p 0 + 2 ≡ c.generation + 2). let u : ⊥ = omega arith in u)
-          (λ (y : (get_or c.words p 0 + 1 ≡ c.generation + 2) ⊎ (get_or c.words p 0 ≡ c.generation + 2 + 1)). ⊎_elim (λ (q : get_or c.words p 0 + 1 ≡ c.generation + 2). let u : ⊥ = omega arith in u) (λ (q : get_or c.words p 0 ≡ c.generation + 2 + 1). let u : ⊥ = omega arith in u) y) w) in
-          ap (λ (l : LifeState). l.kept) (marked_here marks p c.lives b) ∙ ap (λ (z : ℕ). marks_at z marks) (life_page p c.lives b);
-      allocated = λ p i m. let x = from_marks (IsKnown n v) p i marks known m in let y = is_known x.0 x.1 in
-          (subst (λ (z : ℕ). z < length c.words) x.2 y.0, life_after (λ (l : LifeState). 0 < times i l.allocated) p (λ l h. h) (subst (λ (z : ℕ × ℕ). 0 < times z.1 (life_in z.0 c.lives).allocated) (λ j. (x.2 j, x.3 j)) y.1));
-    };
-    tells = subst (λ (l : List Part). EachAt l (λ i h. Tells (c.generation + 2) c.words ls' (empty_unswept c.generation 0 c.sets) h)) (sym parts')
-        (λ m x a. let y = map_at rested ps m x a in subst (Tells (c.generation + 2) c.words ls' (empty_unswept c.generation 0 c.sets)) y.2 (record {
-          fresh = λ p. not_cached p y.0 m y.1;
-          placed = λ p i l. absurd (omega arith);
-          emptied = λ s u l. absurd (omega arith);
-          read = λ s i p l. absurd (true≢false (sym l));
-          filled = λ s u. filled_after s u;
-          waits = λ s p u l w. absurd (omega arith);
-          grown = λ s x y l. absurd (omega arith);
-          passed = λ k. omega arith;
-        }));
-  })
+  -- a worker without a page cache has pulled nothing
+  pub none_pulled : EachAt (parts_of n v) (λ (m : ℕ) (h : Part). h.cache ≡ None) → EachAt c.hands (λ (m : ℕ) (h : HandState). h.pulled ≡ [])
+  none_pulled uncached m h a = let x = hand_part m h a in ap (λ (y : HandState). y.pulled) (sym x.2) ∙ ((k.caches m x.0 x.1).none (uncached m x.0 x.1)).1
+
+  -- nor has it one behind a mark end
+  rested_cache : EachAt (parts_of n v) (λ (m : ℕ) (h : Part). h.cache ≡ None) → (m : ℕ) (h : Part) → get_elem? ps m ≡ some h → CacheTells m (rested h)
+  rested_cache uncached m h a = let t = (k.caches m h a).none (uncached m h a) in record { none = λ e. (refl, t.1); some = λ x e. absurd (some_none x (sym e ∙ uncached m h a)) }
+
+  pub next_keeps : EachAt (parts_of n v) (λ (m : ℕ) (h : Part). h.cache ≡ None) → (past : List Line) → v.generation < 8589934592 → (c' : CoreState) → c' ≡ after_next c marks → Owned c' → IsTidy c' → HasSpace c' → RuleOf c' heap homes n (marked n past marks v) k.known
+  next_keeps uncached past low c' e o t r = subst (λ (s : CoreState). RuleOf s heap homes n (marked n past marks v) k.known) (sym e) (
+    record {
+      owned = subst Owned e o;
+      tidy = subst IsTidy e t;
+      space = subst HasSpace e r;
+      unlocked = k.unlocked;
+      number = subst (λ (z : ℕ). n < z) (sym (length-map v.parts rested)) k.number;
+      hands = ap (map forget_swept) k.hands ∙ same_map forget_swept hand_state hand_state rested (λ x. refl) ps ∙ ap (map hand_state) (sym parts');
+      region = k.region;
+      small = k.small;
+      goal = k.goal;
+      generation = ap (λ (z : ℕ). z + 2) k.generation;
+      sets = length_emptied c.generation 0 c.sets ∙ k.sets;
+      heap_region = k.heap_region;
+      legal = k.legal;
+      allowed = k.allowed;
+      cycle = is_by_more ((c.generation - 4) / 2) ((c.generation + 2 - 4) / 2) heap.past (omega arith) k.cycle;
+      early = (let x = low in let g = k.generation in let y = (kept c heap homes n v k).generation.even in omega arith);
+      names = λ s i. 0;
+      entered = empty_enters (c.generation + 2) (length c.words) c.words ls' (empty_unswept c.generation 0 c.sets) (map forget_swept c.hands) (logs_of n (marked n past marks v)) (λ s i. 0)
+          (λ s x a part. emptied_at c.generation 0 c.sets s x a (let z : 0 + s ≡ s = omega arith in ap (is_swept_set c.generation) z ∙ not_true (is_swept_set c.generation s) (sym (turns c.generation s) ∙ part)))
+          (λ m h a. let x = map_at forget_swept c.hands m h a in ap (λ (z : HandState). z.claimed) (sym x.2) ∙ (idle m x.0 x.1).3)
+          (λ m. ap (λ (l : List Part). get_or (map (λ (h : Part). h.log) l) m []) parts' ∙ silent ps m);
+      known = k.known;
+      bodies = subst (λ (l : List Part). Bodies (length c.words) k.known ls' homes l) (sym parts') (record {
+        many = k.bodies.many;
+        lent = λ m x a p l. let y = map_at rested ps m x a in
+            subst (λ (z : Part). IsLent k.known ls' z p) y.2 (let s = k.bodies.lent m y.0 y.1 p (subst (λ (z : Part). 0 < lends p z) (sym y.2) l) in let z : IsLent k.known ls' (rested y.0) p = (s.0, s.1, fits_after p s.0 s.2) in z);
+        gone = λ m x a p l. let y = map_at rested ps m x a in k.bodies.gone m y.0 y.1 p (subst (λ (z : Part). 0 < lends p z) (sym y.2) l);
+        bare = λ p b. k.bodies.bare p (sym (marked_begins marks p c.lives) ∙ b);
+        home = λ p l b. ⊎_elim (λ (a : IsAway ps p). inl (a.0, rested a.1, at_map rested ps a.0 a.1 a.2, a.3)) (λ (x : IsHome k.known c.lives homes p). inr (x.0, x.1, fits_after p (span_of x.0) x.2))
+            (k.bodies.home p l (sym (marked_begins marks p c.lives) ∙ b));
+      });
+      marks = record {
+        kept = λ p low w. let b = begin_at c heap homes n v k p low (λ z. let f = four c heap homes n v k in
+            ⊎_elim (λ (y : get_or c.words p 0 + 2 ≡ c.generation + 2). let u : ⊥ = omega arith in u)
+            (λ (y : (get_or c.words p 0 + 1 ≡ c.generation + 2) ⊎ (get_or c.words p 0 ≡ c.generation + 2 + 1)). ⊎_elim (λ (q : get_or c.words p 0 + 1 ≡ c.generation + 2). let u : ⊥ = omega arith in u) (λ (q : get_or c.words p 0 ≡ c.generation + 2 + 1). let u : ⊥ = omega arith in u) y) w) in
+            ap (λ (l : LifeState). l.kept) (marked_here marks p c.lives b) ∙ ap (λ (z : ℕ). marks_at z marks) (life_page p c.lives b);
+        allocated = λ p i m. let x = from_marks (IsKnown n v) p i marks known m in let y = is_known x.0 x.1 in
+            (subst (λ (z : ℕ). z < length c.words) x.2 y.0, life_after (λ (l : LifeState). 0 < times i l.allocated) p (λ l h. h) (subst (λ (z : ℕ × ℕ). 0 < times z.1 (life_in z.0 c.lives).allocated) (λ j. (x.2 j, x.3 j)) y.1));
+      };
+      tells = subst (λ (l : List Part). EachAt l (λ i h. Tells (c.generation + 2) c.words ls' (empty_unswept c.generation 0 c.sets) h)) (sym parts')
+          (λ m x a. let y = map_at rested ps m x a in subst (Tells (c.generation + 2) c.words ls' (empty_unswept c.generation 0 c.sets)) y.2 (record {
+            fresh = λ p. not_cached p y.0 m y.1;
+            placed = λ p i l. absurd (omega arith);
+            emptied = λ s u l. absurd (omega arith);
+            read = λ s i p l. absurd (true≢false (sym l));
+            filled = λ s u. filled_after s u;
+            waits = λ s p u l w. absurd (omega arith);
+            grown = λ s x y l. absurd (omega arith);
+            passed = λ k. omega arith;
+          }));
+      caches = subst (λ (l : List Part). EachAt l (λ i h. CacheTells i h)) (sym parts') (λ m x a. let y = map_at rested ps m x a in subst (CacheTells m) y.2 (rested_cache uncached m y.0 y.1));
+    },
+    refl,
+  )

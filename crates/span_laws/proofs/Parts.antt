@@ -6,7 +6,7 @@ use lib.ListN.{get_elem?}
 use native.Mathlib.Decide.{ℕ_discrete}
 use Rattle.sweep_laws.specs.Counts.{times, total}
 use Rattle.sweep_laws.specs.Lists.{erase, has}
-use Rattle.sweep_laws.specs.Named.{only, pullers}
+use Rattle.sweep_laws.specs.Named.{only}
 use Rattle.sweep_laws.specs.Owned.{Owned}
 use Rattle.sweep_laws.specs.Standing.{Standing, is_free, is_unswept, is_sweeping, is_swept, is_stale, is_cached, Tally, tally}
 use Rattle.sweep_laws.specs.State.{CoreState, HandState}
@@ -35,11 +35,6 @@ pub at_map : {A B : Type 0} (f : A → B) (l : List A) (n : ℕ) (a : A) → get
 at_map f [] n a e = absurd (some-ne-none a (sym e))
 at_map f (x ∷ l) zero a e = ap (λ y. some (f y)) (some-injective x a e)
 at_map f (x ∷ l) (suc n) a e = at_map f l n a e
-
--- no hand of the table has pulled a page
-pub none_pulled : (q : ℕ) (ps : List Part) → pullers q (map hand_state ps) ≡ 0
-none_pulled q [] = refl
-none_pulled q (h ∷ ps) = let t = none_pulled q ps in omega arith
 
 pub only-le : (b : Bool) (n : ℕ) → only b n ≤ n
 only-le true n = omega arith

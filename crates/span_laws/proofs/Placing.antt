@@ -9,7 +9,7 @@ use native.Mathlib.Decide.{ℕ_discrete}
 use Rattle.std.proofs.lemmas.Bool.{eqb-true}
 use Rattle.std.proofs.lemmas.List.{set-get_or}
 use Rattle.page_alloc.specs.Heap.{PageHeap}
-use Rattle.page_alloc.specs.Lives.{Life, life_of, open_lives}
+use Rattle.page_alloc.specs.Lives.{Life, life_of}
 use Rattle.page_alloc.specs.Lists.{In}
 use Rattle.page_bitmap.specs.Counts.{one_if}
 use Rattle.span_state.specs.Bits.{bit_of, with_bit}
@@ -44,7 +44,7 @@ use Rattle.span_laws.specs.OwnSteps.{told_of}
 use Rattle.span_laws.proofs.Lives.{allocate_body, changed_here}
 use Rattle.span_laws.proofs.LifeMoves.{begin_at}
 use Rattle.span_laws.proofs.Parts.{lends-le}
-use Rattle.span_laws.proofs.RuleKept.{own_at, own_hand, same_pops, turned}
+use Rattle.span_laws.proofs.RuleKept.{RuleOf, own_at, own_cache, own_hand, same_pops, turned}
 use Rattle.span_laws.proofs.TellsKept.{Leads, own_tells}
 use Rattle.span_laws.proofs.WordMoves.{four, gone_now, kept, lent_now, own_tells_of, span_else, span_here}
 
@@ -77,7 +77,7 @@ module _ (c : CoreState) (heap : PageHeap) (homes : List (Option Body)) (n : ℕ
         (λ (y : (0 < times b.page v.own.held) × (v.own.claimed ≡ None)). let z = held_popped c.generation c.words c.owners c.lives c.sets c.hands (kept c heap homes n v k) (logs_of n v) k.names k.entered n (hand_state v.own) (own_at c heap homes n v k) b.page low y.0 y.1 m x a part j l is in let w : ⊥ = omega arith in w)
         way
 
-    pub place_keeps : (c' : CoreState) → c' ≡ after_allocate c b.page i → Owned c' → IsTidy c' → HasSpace c' → Rule c' heap homes n (acts v (told_of (Places i) b v.own))
+    pub place_keeps : (c' : CoreState) → c' ≡ after_allocate c b.page i → Owned c' → IsTidy c' → HasSpace c' → RuleOf c' heap homes n (acts v (told_of (Places i) b v.own)) k.known
     place_keeps c' e o t r =
         let p = b.page in let h = told_of (Places i) b v.own in let g = c.generation in let l = life_in p c.lives in
         let ls' = change_life p (allocate_index i) c.lives in
@@ -85,7 +85,7 @@ module _ (c : CoreState) (heap : PageHeap) (homes : List (Option Body)) (n : ℕ
         let now : life_in p ls' ≡ allocate_index i l = changed_here p (allocate_index i) (λ z. refl) c.lives begun in
         let life : (q : ℕ) → q ≢ p → life_in q ls' ≡ life_in q c.lives = (λ q d. (change_else p q (allocate_index i) (λ z. refl) c.lives d).0) in
         let was = lent_now c heap homes n v k p has in
-        let fits : Fits heap.past c.lives p s = subst (Fits heap.past c.lives p) (some_same was.0 s (sym was.1 ∙ lent)) was.2 in
+        let fits : Fits k.known c.lives p s = subst (Fits k.known c.lives p) (some_same was.0 s (sym was.1 ∙ lent)) was.2 in
         let d : CoreState = after_allocate c p i in
         let lead : Leads g c.words c.lives c.sets c.words ls' c.sets p = record {
           words = λ q x. refl;
@@ -109,8 +109,8 @@ module _ (c : CoreState) (heap : PageHeap) (homes : List (Option Body)) (n : ℕ
         } in
         let le = lends-le p v.own in
         let hands : c.hands ≡ set c.hands n (hand_state h) = sym (set-get_or c.hands n no_hand) ∙ ap (λ (y : HandState). set c.hands n y) (own_hand c heap homes n v k) in
-        subst (λ (y : CoreState). Rule y heap homes n (acts v h)) (sym e)
-        (turned c heap homes n v k d heap homes h (subst Owned e o) (subst IsTidy e t) (subst HasSpace e r) refl refl refl hands refl refl refl k.legal k.cycle k.heap_owner
+        subst (λ (y : CoreState). RuleOf y heap homes n (acts v h) k.known) (sym e)
+        (turned c heap homes n v k d heap homes h (subst Owned e o) (subst IsTidy e t) (subst HasSpace e r) refl refl refl hands refl refl refl k.legal k.allowed k.cycle k.known (own_cache c heap homes n v k h refl refl refl)
         p low (inl (omega arith)) k.names
         (subst (λ (y : List HandState). Entered g (length c.words) c.words ls' c.sets y (logs_of n (acts v h)) k.names) hands
         (logs_enter (logs_of n (acts v h)) (same_pops c heap homes n v k h (λ j q. omega arith))
@@ -123,7 +123,7 @@ module _ (c : CoreState) (heap : PageHeap) (homes : List (Option Body)) (n : ℕ
           record {
             page = refl;
             body = subst (IsBody b) (sym now) (allocate_body s b l i fits.body (record { page = place.page; pages = place.pages; count = place.count; class = place.class }) bits);
-            line = (fits.line.0, subst (λ (z : Life). In z (open_lives heap.past)) (λ j. life_of (place.life j) fits.line.0 (place.page j) (place.pages j) (place.class j)) fits.line.1);
+            line = (fits.line.0, subst (λ (z : Life). In z k.known) (λ j. life_of (place.life j) fits.line.0 (place.page j) (place.pages j) (place.class j)) fits.line.1);
           },
         ))
         (λ y. inl has)

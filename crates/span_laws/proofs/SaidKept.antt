@@ -21,7 +21,7 @@ use Rattle.swept_set_laws.specs.Entered.{IsSettled}
 use Rattle.span_laws.specs.declared.said.Said.{Said}
 use Rattle.span_laws.specs.declared.said.Said.TheVariants.{Finds, Caches, Uncaches, UncachesStale, Fills, PopsEntry}
 use Rattle.span_laws.specs.declared.said.SaidOf.{SaidOf}
-use Rattle.span_laws.specs.declared.said.SaidOf.TheVariants.{Acquires, Releases, Takes, Pops, Places}
+use Rattle.span_laws.specs.declared.said.SaidOf.TheVariants.{Acquires, Releases, Takes, Pops, Places, Cuts}
 use Rattle.span_laws.specs.declared.view.Span.{Span}
 use Rattle.span_laws.specs.declared.view.View.{View}
 use Rattle.span_laws.specs.Moves.{move_of, move_on}
@@ -32,7 +32,7 @@ use Rattle.span_laws.specs.OwnSteps.{told, told_of}
 use Rattle.span_laws.proofs.LifeMoves.{release_keeps}
 use Rattle.span_laws.proofs.Notes.{drop_keeps}
 use Rattle.span_laws.proofs.Placing.{place_keeps}
-use Rattle.span_laws.proofs.RuleKept.{own_hand}
+use Rattle.span_laws.proofs.RuleKept.{RuleOf, own_hand}
 use Rattle.span_laws.proofs.SetMoves.{entry_keeps, fill_keeps}
 use Rattle.span_laws.proofs.WordMoves.{cache_keeps, stale_keeps, uncache_keeps}
 
@@ -43,7 +43,7 @@ module _ (c : CoreState) (heap : PageHeap) (homes : List (Option Body)) (n : ℕ
   unclaimed_own : not (is_some (hand_of c n).claimed) ≡ true → v.own.claimed ≡ None
   unclaimed_own h = none_there v.own.claimed (not_true (is_some v.own.claimed) (sym (ap (λ (s : HandState). not (is_some s.claimed)) (own_hand c heap homes n v k)) ∙ h))
 
-  pub said_keeps : (s : Said) → Suits c v.own s → let c' = after c (move_of n s) in refusal (needs_of c (move_of n s)) ≡ None → Owned c' → IsTidy c' → HasSpace c' → Rule c' heap homes n (acts v (told s v.own))
+  pub said_keeps : (s : Said) → Suits c v.own s → let c' = after c (move_of n s) in refusal (needs_of c (move_of n s)) ≡ None → Owned c' → IsTidy c' → HasSpace c' → RuleOf c' heap homes n (acts v (told s v.own)) k.known
   said_keeps (Finds p w) u a o t r = drop_keeps c heap homes n v k p w _ refl o t r
   said_keeps (Caches p) u a o t r = let m = all_met (cache_needs c n p) a in
       cache_keeps c heap homes n v k p (ltb-true p (length c.words) m.1.0) (in_own (λ s. s.held) p m.1.1.0) (unclaimed_own m.1.1.1.0) _ refl o t r
@@ -58,7 +58,7 @@ module _ (c : CoreState) (heap : PageHeap) (homes : List (Option Body)) (n : ℕ
       entry_keeps c heap homes n v k set page u.2 (not_true _ m.1.1.0) (ltb-true _ _ m.1.1.1.0) u.0 u.1 _ refl o t r
   said_keeps _ u a o t r = absurd u
 
-  pub of_keeps : (s : SaidOf) (b : Span) → SuitsOf c heap v s b → let c' = after c (move_on n s b) in refusal (needs_of c (move_on n s b)) ≡ None → Owned c' → IsTidy c' → HasSpace c' → Rule c' heap homes n (acts v (told_of s b v.own))
+  pub of_keeps : (s : SaidOf) (b : Span) → SuitsOf c heap v s b → let c' = after c (move_on n s b) in refusal (needs_of c (move_on n s b)) ≡ None → Owned c' → IsTidy c' → HasSpace c' → RuleOf c' heap homes n (acts v (told_of s b v.own)) k.known
   of_keeps Releases b u a o t r = let m = all_met (release_needs c n b.page) a in
       release_keeps c heap homes n v k b (ltb-true b.page (length c.words) m.1.0) (in_own (λ s. s.sweeping) b.page m.1.1.0) u.0 u.1 _ refl o t r
   of_keeps (Places i) b u a o t r = let m = all_met (allocate_needs c n b.page i) a in
@@ -75,3 +75,4 @@ module _ (c : CoreState) (heap : PageHeap) (homes : List (Option Body)) (n : ℕ
   of_keeps Acquires b u a o t r = absurd u
   of_keeps (Takes y) b u a o t r = absurd u
   of_keeps (Pops y) b u a o t r = absurd u
+  of_keeps (Cuts left) b u a o t r = absurd u

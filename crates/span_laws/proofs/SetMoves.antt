@@ -56,7 +56,7 @@ use Rattle.page_bitmap.specs.Counts.{one_if}
 use Rattle.span_laws.proofs.Parts.{alone, at_map, has3, lends-le}
 use Rattle.span_laws.proofs.LifeMoves.{unclaimed}
 use Rattle.span_laws.proofs.Lives.{none_here}
-use Rattle.span_laws.proofs.RuleKept.{log_else, log_own, logs_same, moved, own_at, part_at, turned}
+use Rattle.span_laws.proofs.RuleKept.{RuleOf, log_else, log_own, logs_same, moved, own_at, own_cache, part_at, turned}
 use Rattle.span_laws.proofs.TellsKept.{Leads, own_tells, tells_turn}
 use Rattle.span_laws.proofs.WordMoves.{as_own, held_lent, kept, lent_now, once, own_tells_of, span_else, span_here}
 
@@ -114,19 +114,19 @@ module _ (c : CoreState) (heap : PageHeap) (homes : List (Option Body)) (n : ℕ
     low_set : j < length c.sets
     low_set = let x = k.sets in omega arith
 
-    pub claim_keeps : (c' : CoreState) → c' ≡ after_claim c n j b.page → Owned c' → IsTidy c' → HasSpace c' → Rule c' heap (set homes b.page (Some b)) n (acts v (told (Claims j (set_of c j).tail b.page) v.own))
+    pub claim_keeps : (c' : CoreState) → c' ≡ after_claim c n j b.page → Owned c' → IsTidy c' → HasSpace c' → RuleOf c' heap (set homes b.page (Some b)) n (acts v (told (Claims j (set_of c j).tail b.page) v.own)) k.known
     claim_keeps c' e o t r =
         let p = b.page in let s = set_of c j in let h = told (Claims j s.tail p) v.own in let g = c.generation in let have = has_times p v.own.held held in let once₁ = once c heap homes n v k p low in
         let d : CoreState = after_claim c n j p in
         let lead = set_leads j (raise_tail s) low_set (λ u x. absurd (true≢false (sym part ∙ u))) (λ i q x. x) (omega arith, omega arith) (λ u. absurd (true≢false (sym part ∙ u))) p in
         let was = lent_now c heap homes n v k p (held_lent c heap homes n v k p held free) in
         let same : was.0 ≡ span_of b = some_same was.0 (span_of b) (sym was.1 ∙ lent) in
-        let fits : Fits heap.past c.lives p (span_of b) = subst (Fits heap.past c.lives p) same was.2 in
+        let fits : Fits k.known c.lives p (span_of b) = subst (Fits k.known c.lives p) same was.2 in
         let entered = claim_enters g c.words c.owners c.lives c.sets c.hands (kept c heap homes n v k) (logs_of n v) k.names k.entered n (hand_state v.own) (own_at c heap homes n v k) p low have free j s (at_low c.sets j no_set low_set) part class used full
         (ap (many (is_pop_of j p)) (log_own c heap homes n v k v.own) ∙ unpopped) in
         let claimed : is_claimed p h.claimed ≡ true = eq-eqb p p refl in
-        subst (λ (y : CoreState). Rule y heap (set homes p (Some b)) n (acts v h)) (sym e)
-        (turned c heap homes n v k d heap (set homes p (Some b)) h (subst Owned e o) (subst IsTidy e t) (subst HasSpace e r) refl refl refl (as_own c heap homes n v k h (claim_cell j s.tail p) refl) (length-set c.sets j _) refl refl k.legal k.cycle k.heap_owner
+        subst (λ (y : CoreState). RuleOf y heap (set homes p (Some b)) n (acts v h) k.known) (sym e)
+        (turned c heap homes n v k d heap (set homes p (Some b)) h (subst Owned e o) (subst IsTidy e t) (subst HasSpace e r) refl refl refl (as_own c heap homes n v k h (claim_cell j s.tail p) refl) (length-set c.sets j _) refl refl k.legal k.allowed k.cycle k.known (own_cache c heap homes n v k h refl refl refl)
         p low (inl (omega arith)) (put_name k.names j s.tail p)
         (subst (λ (l : List (List Entry)). Entered g (length c.words) c.words c.lives (set c.sets j (raise_tail s)) (set c.hands n (hand_state h)) l (put_name k.names j s.tail p)) same_logs entered)
         lead (λ q x. refl) (λ q x. refl) (length-set homes p (Some b)) (λ z x y. y) (λ q x. get_or-set_other homes p q (Some b) None x)
@@ -157,8 +157,8 @@ module _ (c : CoreState) (heap : PageHeap) (homes : List (Option Body)) (n : ℕ
     set_at_is = some-injective mine.set_at (set_of c d.set) (sym mine.is_set ∙ at_low c.sets d.set no_set claim_set)
 
     -- nobody has the body, so it is at home
-    filled_home : begins d.page c.lives ≡ true → IsHome heap.past c.lives homes d.page
-    filled_home g = ⊎_elim away (λ (x : IsHome heap.past c.lives homes d.page). x) (k.bodies.home d.page mine.is_page g)
+    filled_home : begins d.page c.lives ≡ true → IsHome k.known c.lives homes d.page
+    filled_home g = ⊎_elim away (λ (x : IsHome k.known c.lives homes d.page). x) (k.bodies.home d.page mine.is_page g)
       where
         none : lends d.page v.own ≡ 0
         none = let o = once c heap homes n v k d.page mine.is_page in let f = mine.held in
@@ -166,13 +166,13 @@ module _ (c : CoreState) (heap : PageHeap) (homes : List (Option Body)) (n : ℕ
             ap (λ (y : Option Claimed). times d.page v.own.sweeping + times d.page v.own.cached + only (not (is_claimed d.page y)) (times d.page v.own.held)) claimed
             ∙ ap (λ (y : Bool). times d.page v.own.sweeping + times d.page v.own.cached + only (not y) (times d.page v.own.held)) (eq-eqb d.page d.page refl) in omega arith
 
-        away : IsAway (parts_of n v) d.page → IsHome heap.past c.lives homes d.page
+        away : IsAway (parts_of n v) d.page → IsHome k.known c.lives homes d.page
         away a = dite (ℕ_discrete a.0 n)
             (λ e. let s : a.1 ≡ v.own = some-injective a.1 v.own (sym a.2 ∙ ap (get_elem? (parts_of n v)) e ∙ part_at c heap homes n v k) in
             let l : 0 < lends d.page v.own = subst (λ (y : Part). 0 < lends d.page y) s a.3 in absurd (let z = none in omega arith))
             (λ e. let f = mine.held in let z = alone c k.owned (parts_of n v) k.hands d.page mine.is_page n v.own (part_at c heap homes n v k) (omega arith) a.0 a.1 e a.2 in let y = lends-le d.page a.1 in let l = a.3 in absurd (omega arith))
 
-    pub fill_keeps : (c' : CoreState) → c' ≡ after_fill_of (Some d) c n → Owned c' → IsTidy c' → HasSpace c' → Rule c' heap homes n (acts v (told (Fills d.set d.page) v.own))
+    pub fill_keeps : (c' : CoreState) → c' ≡ after_fill_of (Some d) c n → Owned c' → IsTidy c' → HasSpace c' → RuleOf c' heap homes n (acts v (told (Fills d.set d.page) v.own)) k.known
     fill_keeps c' e o t r =
         let p = d.page in let s = set_of c d.set in let h = told (Fills d.set p) v.own in let g = c.generation in let low = mine.is_page in let have = mine.held in let once₁ = once c heap homes n v k p low in
         let less = times_erase p v.own.held have in
@@ -181,8 +181,8 @@ module _ (c : CoreState) (heap : PageHeap) (homes : List (Option Body)) (n : ℕ
         let lead = set_leads d.set (name_page d.index p s) claim_set (λ u x. absurd (true≢false (sym mine.is_swept ∙ u)))
         (λ i q x. dite (ℕ_discrete i d.index) (λ z. let y : cell_of s d.index ≡ q + 1 = subst (λ (w : ℕ). cell_of s w ≡ q + 1) z x in absurd (omega arith)) (λ z. put_cell_else s.cells d.index i (p + 1) z ∙ x)) (omega arith, omega arith) (λ u. absurd (true≢false (sym mine.is_swept ∙ u))) p in
         let entered = fill_enters g c.words c.owners c.lives c.sets c.hands (kept c heap homes n v k) (logs_of n v) k.names k.entered n (hand_state v.own) (own_at c heap homes n v k) d claimed s (at_low c.sets d.set no_set claim_set) in
-        subst (λ (y : CoreState). Rule y heap homes n (acts v h)) (sym e)
-        (turned c heap homes n v k d' heap homes h (subst Owned e o) (subst IsTidy e t) (subst HasSpace e r) refl refl refl (as_own c heap homes n v k h (fill_cell p) refl) (length-set c.sets d.set _) refl refl k.legal k.cycle k.heap_owner
+        subst (λ (y : CoreState). RuleOf y heap homes n (acts v h) k.known) (sym e)
+        (turned c heap homes n v k d' heap homes h (subst Owned e o) (subst IsTidy e t) (subst HasSpace e r) refl refl refl (as_own c heap homes n v k h (fill_cell p) refl) (length-set c.sets d.set _) refl refl k.legal k.allowed k.cycle k.known (own_cache c heap homes n v k h refl refl refl)
         p low (inl (omega arith)) k.names (log_entered h (λ j q. omega arith) entered) lead (λ q x. refl) (λ q x. refl) refl (λ z x y. y) (λ q x. refl)
         (λ q x. rw (times_erase_else q p v.own.held x)
         (sym (ap (λ (y : Option Claimed). times q v.own.sweeping + times q v.own.cached + only (not (is_claimed q y)) (times q v.own.held)) claimed ∙ ap (λ (y : Bool). times q v.own.sweeping + times q v.own.cached + only (not y) (times q v.own.held)) (ne_eqb p q (λ z. x (sym z))))))
@@ -208,11 +208,11 @@ module _ (c : CoreState) (heap : PageHeap) (homes : List (Option Body)) (n : ℕ
 
   -- the page at the head of a swept set is popped, with the body that was at home
   module _ (b : Body) (j : ℕ) (there : j < 544) (part : is_swept_set c.generation j ≡ true) (more : (set_of c j).head < (set_of c j).tail) (filled : cell_of (set_of c j) (set_of c j).head ≡ b.page + 1) (low : b.page < length c.words)
-      (fits : Fits heap.past c.lives b.page (span_of b)) where
+      (fits : Fits k.known c.lives b.page (span_of b)) where
     pop_set : j < length c.sets
     pop_set = let x = k.sets in omega arith
 
-    pub pop_keeps : (c' : CoreState) → c' ≡ after_pop_swept c n j → Owned c' → IsTidy c' → HasSpace c' → Rule c' heap (set homes b.page None) n (acts v (told_of (Pops j) (span_of b) v.own))
+    pub pop_keeps : (c' : CoreState) → c' ≡ after_pop_swept c n j → Owned c' → IsTidy c' → HasSpace c' → RuleOf c' heap (set homes b.page None) n (acts v (told_of (Pops j) (span_of b) v.own)) k.known
     pop_keeps c' e o t r =
         let p = b.page in let s = set_of c j in let h = told_of (Pops j) (span_of b) v.own in let g = c.generation in
         let base : head_base c j ≡ p = base_is (length c.words) (cell_of s s.head) p filled low in
@@ -227,9 +227,9 @@ module _ (c : CoreState) (heap : PageHeap) (homes : List (Option Body)) (n : ℕ
         let entered = pop_swept_enters g c.words c.owners c.lives c.sets c.hands (kept c heap homes n v k) (logs_of n v) k.names k.entered n (hand_state v.own) (own_at c heap homes n v k) j s (at_low c.sets j no_set pop_set) part more p low filled (logs_of n (acts v h))
         (λ m q. let x = ap (many (is_pop_of m q)) (log_own c heap homes n v k h) in let y = ap (many (is_pop_of m q)) (log_own c heap homes n v k v.own) in omega arith)
         (λ m x. log_else c heap homes n v k h m x) in
-        subst (λ (y : CoreState). Rule y heap (set homes p None) n (acts v h)) (sym e)
+        subst (λ (y : CoreState). RuleOf y heap (set homes p None) n (acts v h) k.known) (sym e)
         (turned c heap homes n v k d heap (set homes p None) h (subst Owned e o) (subst IsTidy e t) (subst HasSpace e r) refl refl refl
-        (ap (λ (q : ℕ). set c.hands n (hold q (hand_of c n))) base ∙ as_own c heap homes n v k h (hold p) refl) (length-set c.sets j _) refl refl k.legal k.cycle k.heap_owner
+        (ap (λ (q : ℕ). set c.hands n (hold q (hand_of c n))) base ∙ as_own c heap homes n v k h (hold p) refl) (length-set c.sets j _) refl refl k.legal k.allowed k.cycle k.known (own_cache c heap homes n v k h refl refl refl)
         p low (inr (omega arith)) k.names entered lead (λ q x. refl) (λ q x. refl) (length-set homes p None) (λ z x y. y) (λ q x. get_or-set_other homes p q None None x)
         (λ q x. rw (times_end_else q p v.own.held x) refl) (λ q x. span_else (span_of b) v.own.spans q x)
         (λ l. (span_of b, span_here (span_of b) v.own.spans, fits))
@@ -250,18 +250,18 @@ module _ (c : CoreState) (heap : PageHeap) (homes : List (Option Body)) (n : ℕ
 
   -- the entry at the head of an unswept set is popped
   module _ (j p : ℕ) (there : j < 544) (part : is_swept_set c.generation j ≡ false) (more : (set_of c j).head < (set_of c j).tail) (filled : cell_of (set_of c j) (set_of c j).head ≡ p + 1) (low : p < length c.words) where
-    pub entry_keeps : (c' : CoreState) → c' ≡ after_pop_unswept c n j → Owned c' → IsTidy c' → HasSpace c' → Rule c' heap homes n (acts v (told (PopsEntry j p) v.own))
+    pub entry_keeps : (c' : CoreState) → c' ≡ after_pop_unswept c n j → Owned c' → IsTidy c' → HasSpace c' → RuleOf c' heap homes n (acts v (told (PopsEntry j p) v.own)) k.known
     entry_keeps c' e o t r =
         let s = set_of c j in let h = told (PopsEntry j p) v.own in let g = c.generation in
         let low_set : j < length c.sets = (let x = k.sets in omega arith) in
         let base : head_base c j ≡ p = base_is (length c.words) (cell_of s s.head) p filled low in
         let d : CoreState = after_pop_unswept c n j in
         let lead = set_leads j (raise_head s) low_set (λ u x. absurd (omega arith)) (λ i q x. x) (omega arith, omega arith) (λ u f. f) (length c.words) in
-        subst (λ (y : CoreState). Rule y heap homes n (acts v h)) (sym e)
+        subst (λ (y : CoreState). RuleOf y heap homes n (acts v h) k.known) (sym e)
         (moved c heap homes n v k d heap homes h (subst Owned e o) (subst IsTidy e t) (subst HasSpace e r) refl refl refl
-        (ap (λ (q : ℕ). set c.hands n (pop_entry q (hand_of c n))) base ∙ as_own c heap homes n v k h (pop_entry p) refl) (length-set c.sets j _) refl refl k.legal k.cycle k.heap_owner k.names
+        (ap (λ (q : ℕ). set c.hands n (pop_entry q (hand_of c n))) base ∙ as_own c heap homes n v k h (pop_entry p) refl) (length-set c.sets j _) refl refl k.legal k.allowed k.cycle k.known (own_cache c heap homes n v k h refl refl refl) k.names
         (unswept_enters g c.words c.owners c.lives c.sets c.hands (kept c heap homes n v k) (logs_of n v) k.names k.entered j (raise_head s) part n (hand_state v.own) (hand_state h) (own_at c heap homes n v k) refl refl refl (logs_of n (acts v h)) pops)
-        (bodies_stay (length c.words) heap.past c.lives homes (parts_of n v) k.bodies n v.own (part_at c heap homes n v k) h (λ q. refl) refl) k.marks
+        (bodies_stay (length c.words) k.known c.lives homes (parts_of n v) k.bodies n v.own (part_at c heap homes n v k) h (λ q. refl) refl) k.marks
         (tells_turn g c.words c.lives c.sets c.words c.lives (set c.sets j (raise_head s)) (length c.words) lead (parts_of n v) n h k.tells (λ m x y z. beyond m x z)
         (set_tells h refl refl (λ q i m. omega arith) (λ s q u m. entry_pop s q m (eqb j s && eqb p q) refl) (λ q m. omega arith) (λ s x y m. omega arith) refl (set c.sets j (raise_head s)) (length c.words) lead (pop_passed j (raise_head s) low_set refl p))))
       where

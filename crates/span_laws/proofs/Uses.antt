@@ -119,19 +119,19 @@ module _ (c : CoreState) (heap : PageHeap) (homes : List (Option Body)) (n : ℕ
       by_part a l false e = ((k.tells n v.own (part_at c heap homes n v k)).filled j e i l).1
 
   -- each marked index of a body's page is allocated
-  pub has_marked : (b : Body) → Fits heap.past c.lives b.page (span_of b) → HasMarked v.marks b
+  pub has_marked : (b : Body) → Fits k.known c.lives b.page (span_of b) → HasMarked v.marks b
   has_marked b f j m = let t = k.marks.allocated b.page j (has_times j (marks_at b.page v.marks) (marks_has b.page j v.marks ∙ m)) in f.body.bits j ∙ times_has j (life_in b.page c.lives).allocated t.1
 
   -- nobody has a page at which a life begins, so its body is at home
-  home_now : (p : ℕ) → p < length c.words → begins p c.lives ≡ true → ((m : ℕ) (x : Part) → get_elem? (parts_of n v) m ≡ some x → has3 p x ≡ 0) → IsHome heap.past c.lives homes p
-  home_now p low b none = ⊎_elim (λ (a : IsAway (parts_of n v) p). let z = none a.0 a.1 a.2 in let y = lends-le p a.1 in let l = a.3 in absurd (omega arith)) (λ (x : IsHome heap.past c.lives homes p). x) (k.bodies.home p low b)
+  home_now : (p : ℕ) → p < length c.words → begins p c.lives ≡ true → ((m : ℕ) (x : Part) → get_elem? (parts_of n v) m ≡ some x → has3 p x ≡ 0) → IsHome k.known c.lives homes p
+  home_now p low b none = ⊎_elim (λ (a : IsAway (parts_of n v) p). let z = none a.0 a.1 a.2 in let y = lends-le p a.1 in let l = a.3 in absurd (omega arith)) (λ (x : IsHome k.known c.lives homes p). x) (k.bodies.home p low b)
 
   -- a worker has nothing of a page that waits
   pub waiting_mine : (p : ℕ) → p < length c.words → get_or c.words p 0 + 2 ≡ c.generation → has3 p v.own ≡ 0
   waiting_mine p low w = let z = (unswept_word c.generation (tally c.generation c.words c.lives c.sets c.hands p) (four c heap homes n v k) ((kept c heap homes n v k).page p low).standing w).0 in
       nobodys c (parts_of n v) k.hands p (omega arith) n v.own (part_at c heap homes n v k)
 
-  pub waiting_home : (p : ℕ) → p < length c.words → get_or c.words p 0 + 2 ≡ c.generation → IsHome heap.past c.lives homes p
+  pub waiting_home : (p : ℕ) → p < length c.words → get_or c.words p 0 + 2 ≡ c.generation → IsHome k.known c.lives homes p
   waiting_home p low w = let z = (unswept_word c.generation (tally c.generation c.words c.lives c.sets c.hands p) (four c heap homes n v k) ((kept c heap homes n v k).page p low).standing w).0 in
       home_now p low (begin_at c heap homes n v k p low (λ e. let f = four c heap homes n v k in omega arith)) (nobodys c (parts_of n v) k.hands p (omega arith))
 
@@ -147,8 +147,8 @@ module _ (c : CoreState) (heap : PageHeap) (homes : List (Option Body)) (n : ℕ
     pub held_begins : begins b.page c.lives ≡ true
     held_begins = begin_at c heap homes n v k b.page held_low (λ e. let f = four c heap homes n v k in let w = held_word in omega arith)
 
-    pub held_fits : Fits heap.past c.lives b.page (span_of b)
-    held_fits = let l = lent_now c heap homes n v k b.page (held_lent c heap homes n v k b.page held free) in subst (Fits heap.past c.lives b.page) (some_same l.0 (span_of b) (sym l.1 ∙ lent)) l.2
+    pub held_fits : Fits k.known c.lives b.page (span_of b)
+    held_fits = let l = lent_now c heap homes n v k b.page (held_lent c heap homes n v k b.page held free) in subst (Fits k.known c.lives b.page) (some_same l.0 (span_of b) (sym l.1 ∙ lent)) l.2
 
     module _ (j : ℕ) (there : j < 544) (part : is_swept_set c.generation j ≡ true) (fits : IsOfSet j b) (unpopped : many (is_pop_of j b.page) v.own.log ≡ 0) where
       abbrev pub l : LifeState
@@ -205,7 +205,7 @@ module _ (c : CoreState) (heap : PageHeap) (homes : List (Option Body)) (n : ℕ
     pub popped_low : p < length c.words
     popped_low = entry.low
 
-    pub popped_home : IsHome heap.past c.lives homes p
+    pub popped_home : IsHome k.known c.lives homes p
     popped_home = let q = queued_by c.generation c.words c.owners c.lives c.sets c.hands (kept c heap homes n v k) (logs_of n v) k.names k.entered n (hand_state v.own) (own_at c heap homes n v k) j (set_of c j) (at_low c.sets j no_set (let x = k.sets in omega arith)) part (set_of c j).head (omega arith) more p filled in
         let x = queued_list c.generation (tally c.generation c.words c.lives c.sets c.hands p) ((kept c heap homes n v k).page p entry.low).standing q in let x₂ = x.2 in
         home_now p entry.low (begin_at c heap homes n v k p entry.low (λ e. let f = four c heap homes n v k in let w = x.0 in omega arith)) (nobodys c (parts_of n v) k.hands p (omega arith))
@@ -235,7 +235,7 @@ module _ (c : CoreState) (heap : PageHeap) (homes : List (Option Body)) (n : ℕ
     entry_begins = begin_at c heap homes n v k p entry.low (λ e. let f = four c heap homes n v k in
         ⊎_elim (λ (y : get_or c.words p 0 ≡ c.generation). let u : ⊥ = omega arith in u) (λ (y : get_or c.words p 0 ≡ c.generation + 3). let u : ⊥ = omega arith in u) entry.word)
 
-    pub popped_fits : (b : Body) → Fits heap.past c.lives p (span_of b) → IsOfSet j b
+    pub popped_fits : (b : Body) → Fits k.known c.lives p (span_of b) → IsOfSet j b
     popped_fits b f = let m = k.entered.sets_name j (set_of c j) (at_low c.sets j no_set (let x = k.sets in omega arith)) part in let i = first_in (life_in p c.lives).allocated entry.used in
         let w = (all_at ObjectsFit p c.lives (kept c heap homes n v k).objects entry_begins).allocated i.0 (has_times i.0 (life_in p c.lives).allocated i.1) in
         let e : k.names j (set_of c j).head ≡ p = ⊎_elim (λ (z : cell_of (set_of c j) (set_of c j).head ≡ 0). absurd (omega arith)) (λ (z : cell_of (set_of c j) (set_of c j).head ≡ k.names j (set_of c j).head + 1). let y : k.names j (set_of c j).head ≡ p = omega arith in y) (m.cell (set_of c j).head more) in record {
@@ -263,8 +263,8 @@ module _ (c : CoreState) (heap : PageHeap) (homes : List (Option Body)) (n : ℕ
     pub place_has : 0 < lends b.page v.own
     place_has = ⊎_elim (λ x. cached_lent c heap homes n v k b.page x.0) (λ x. held_lent c heap homes n v k b.page x.0 x.1) may
 
-    pub place_fits : Fits heap.past c.lives b.page (span_of b)
-    place_fits = let l = lent_now c heap homes n v k b.page place_has in subst (Fits heap.past c.lives b.page) (some_same l.0 (span_of b) (sym l.1 ∙ lent)) l.2
+    pub place_fits : Fits k.known c.lives b.page (span_of b)
+    place_fits = let l = lent_now c heap homes n v k b.page place_has in subst (Fits k.known c.lives b.page) (some_same l.0 (span_of b) (sym l.1 ∙ lent)) l.2
 
     pub place_low : b.page < length c.words
     place_low = ⊎_elim (λ x. low_of b.page (λ s. s.cached) (λ le. (own_never c heap homes n v k b.page le).cached) x.0) (λ x. low_of b.page (λ s. s.held) (λ le. (own_never c heap homes n v k b.page le).held) x.0) may

@@ -26,6 +26,7 @@ use Rattle.swept_set_laws.specs.Entered.{Entered, IsSettled}
 use Rattle.swept_set_laws.proofs.EnteredKept.{turned_enters}
 use Rattle.swept_set_laws.proofs.Stays.{Stays, word_stays}
 use Rattle.worker_log.specs.declared.Entry.{Entry}
+use Rattle.run_laws.specs.Blocks.{out_of}
 use Rattle.worker_log.specs.Entries.{many, is_pop, is_pop_of, is_seen_empty}
 use Rattle.span_laws.specs.declared.said.Said.TheVariants.{Caches, Uncaches, UncachesStale}
 use Rattle.span_laws.specs.declared.said.SaidOf.TheVariants.{Acquires}
@@ -40,7 +41,7 @@ use Rattle.span_laws.specs.Tells.{IsPlaced, Tells}
 use Rattle.span_laws.specs.Views.{acts, hand_state, has_cell, parts_of, span_at, span_of}
 use Rattle.span_laws.specs.OwnSteps.{told, told_of, without}
 use Rattle.span_laws.proofs.Parts.{has3, has_none, own_once, has_end_here, has_end_else, has_erase_else}
-use Rattle.span_laws.proofs.RuleKept.{own_at, own_hand, part_at, same_pops, turned}
+use Rattle.span_laws.proofs.RuleKept.{RuleOf, own_at, own_cache, own_hand, part_at, same_pops, turned}
 use Rattle.span_laws.proofs.TellsKept.{Leads, own_tells}
 
 pub span_here : (b : Span) (spans : List Span) → span_at b.page (b ∷ spans) ≡ Some b
@@ -130,15 +131,15 @@ module _ (c : CoreState) (heap : PageHeap) (homes : List (Option Body)) (n : ℕ
 
   module _ (b : Body) (low : b.page < length c.words) where
     -- a worker begins to sweep a span that was at home
-    pub acquire_keeps : get_or c.words b.page 0 + 2 ≡ c.generation → Fits heap.past c.lives b.page (span_of b) → (c' : CoreState) → c' ≡ after_acquire c n b.page → Owned c' → IsTidy c' → HasSpace c'
-        → Rule c' heap (set homes b.page None) n (acts v (told_of Acquires (span_of b) v.own))
+    pub acquire_keeps : get_or c.words b.page 0 + 2 ≡ c.generation → Fits k.known c.lives b.page (span_of b) → (c' : CoreState) → c' ≡ after_acquire c n b.page → Owned c' → IsTidy c' → HasSpace c'
+        → RuleOf c' heap (set homes b.page None) n (acts v (told_of Acquires (span_of b) v.own)) k.known
     acquire_keeps w fits c' e o t r =
         let p = b.page in let h = told_of Acquires (span_of b) v.own in
         let none = unswept_word c.generation (tally c.generation c.words c.lives c.sets c.hands p) four (kept.page p low).standing w in
         let z = part_le (λ (y : HandState). times p y.cached) c.hands n (hand_state v.own) (own_at c heap homes n v k) in let z₂ = none.0 in
         let here = times_end p v.own.sweeping in
-        subst (λ (s : CoreState). Rule s heap (set homes p None) n (acts v h)) (sym e)
-        (turned c heap homes n v k (after_acquire c n p) heap (set homes p None) h (subst Owned e o) (subst IsTidy e t) (subst HasSpace e r) refl (length-set c.words p _) refl (as_own h (start_sweep p) refl) refl refl refl k.legal k.cycle k.heap_owner
+        subst (λ (s : CoreState). RuleOf s heap (set homes p None) n (acts v h) k.known) (sym e)
+        (turned c heap homes n v k (after_acquire c n p) heap (set homes p None) h (subst Owned e o) (subst IsTidy e t) (subst HasSpace e r) refl (length-set c.words p _) refl (as_own h (start_sweep p) refl) refl refl refl k.legal k.allowed k.cycle k.known (own_cache c heap homes n v k h refl refl refl)
         p low (inr (omega arith)) k.names
         (enters _ _ h (word_stays c.generation c.words c.lives p _ low (λ y. absurd (unsettled _ (inl w) y))) refl (λ q l x y s. s) (λ j q. refl))
         (word_leads p (c.generation - 1) low (λ y. omega arith) (λ i m. absurd (unsettled _ (inl w) m.1))) (λ q d. refl) (λ q d. refl) (length-set homes p None) (λ s d x. x) (λ q d. get_or-set_other homes p q None None d)
@@ -148,7 +149,7 @@ module _ (c : CoreState) (heap : PageHeap) (homes : List (Option Body)) (n : ℕ
         (fresh_stays p (c.generation - 1) low h refl refl (has_none p v.own.cached (omega arith))) (λ q i m. inl m) (λ s q u m. inl m) (λ s u m. inl m) (λ s i q m. inl m) (λ s x y m. inl m) own_tells_of.passed))
 
   -- the body that the own part has is that of its life
-  pub lent_now : (p : ℕ) → 0 < lends p v.own → IsLent heap.past c.lives v.own p
+  pub lent_now : (p : ℕ) → 0 < lends p v.own → IsLent k.known c.lives v.own p
   lent_now p l = k.bodies.lent n v.own (part_at c heap homes n v k) p l
 
   -- its place at home is empty
@@ -165,15 +166,15 @@ module _ (c : CoreState) (heap : PageHeap) (homes : List (Option Body)) (n : ℕ
       (e : c' ≡ record c { words = set c.words p x; hands = set c.hands n (f (hand_of c n)) }) (o : Owned c') (t : IsTidy c') (r : HasSpace c') where
     word_keeps : (x + 2 ≡ c.generation → ⊥) → 0 < has3 p v.own → (IsSettled c.generation (get_or c.words p 0) → IsSettled c.generation x) → (IsWaiting c.generation x → IsWaiting c.generation (get_or c.words p 0)) → h.claimed ≡ v.own.claimed
         → ((q : ℕ) → q < length c.words → IsSettled c.generation (get_or c.words q 0) → 0 < length (life_in q c.lives).allocated → 0 < times q h.held + times q h.cached → 0 < times q v.own.held + times q v.own.cached)
-        → h.log ≡ v.own.log → h.read ≡ v.own.read → h.spans ≡ v.own.spans → ((q : ℕ) → q ≢ p → lends q h ≡ lends q v.own) → 0 < lends p v.own → 0 < lends p h
-        → ((q : ℕ) → has q h.fresh ≡ (has q h.cached && eqb (get_or (set c.words p x) q 0) (c.generation + 3))) → Rule c' heap homes n (acts v h)
-    word_keeps off mine still waits claims has log read spans lend was is fresh =
+        → h.log ≡ v.own.log → h.read ≡ v.own.read → h.spans ≡ v.own.spans → h.cache ≡ v.own.cache → h.pulled ≡ v.own.pulled → ((q : ℕ) → q ≢ p → lends q h ≡ lends q v.own) → 0 < lends p v.own → 0 < lends p h
+        → ((q : ℕ) → has q h.fresh ≡ (has q h.cached && eqb (get_or (set c.words p x) q 0) (c.generation + 3))) → RuleOf c' heap homes n (acts v h) k.known
+    word_keeps off mine still waits claims has log read spans cache pulled lend was is fresh =
         let d : CoreState = record c { words = set c.words p x; hands = set c.hands n (f (hand_of c n)) } in
         let lead = word_leads p x low off (λ i m. still m.1) in
-        subst (λ (s : CoreState). Rule s heap homes n (acts v h)) (sym e)
-        (turned c heap homes n v k d heap homes h (subst Owned e o) (subst IsTidy e t) (subst HasSpace e r) refl (length-set c.words p x) refl (as_own h f same) refl refl refl k.legal k.cycle k.heap_owner
+        subst (λ (s : CoreState). RuleOf s heap homes n (acts v h) k.known) (sym e)
+        (turned c heap homes n v k d heap homes h (subst Owned e o) (subst IsTidy e t) (subst HasSpace e r) refl (length-set c.words p x) refl (as_own h f same) refl refl refl k.legal k.allowed k.cycle k.known (own_cache c heap homes n v k h cache pulled (ap out_of log))
         p low (inl mine) k.names (word_entered p x h low still claims has log) lead (λ q d. refl) (λ q d. refl) refl (λ s d x. x) (λ q d. refl) lend (λ q d. ap (span_at q) spans)
-        (λ l. let y = lent_now p was in let z : IsLent heap.past c.lives h p = (y.0, ap (span_at p) spans ∙ y.1, y.2) in z) (λ g. inl is) (λ _. gone_now p was)
+        (λ l. let y = lent_now p was in let z : IsLent k.known c.lives h p = (y.0, ap (span_at p) spans ∙ y.1, y.2) in z) (λ g. inl is) (λ _. gone_now p was)
         (λ y. k.marks.kept p low (waits (subst (IsWaiting c.generation) (word_here p x low) y))) (λ i a b. a)
         (own_tells c.generation c.words c.lives c.sets (set c.words p x) c.lives c.sets p lead v.own h own_tells_of fresh
         (λ q i m. inl (subst (λ (y : List Entry). 0 < many (is_placing_at q i) y) log m)) (λ s q u m. inl (subst (λ (y : List Entry). 0 < many (is_pop_of s q) y) log m)) (λ s u m. inl (subst (λ (y : List Entry). 0 < many (is_seen_empty s) y) log m))
@@ -185,7 +186,7 @@ module _ (c : CoreState) (heap : PageHeap) (homes : List (Option Body)) (n : ℕ
   held_lent p h none = let t = has_times p v.own.held h in
       let z : lends p v.own ≡ times p v.own.sweeping + times p v.own.cached + times p v.own.held = ap (λ (o : Option Claimed). times p v.own.sweeping + times p v.own.cached + only (not (is_claimed p o)) (times p v.own.held)) none in omega arith
 
-  pub cache_keeps : (p : ℕ) → p < length c.words → has p v.own.held ≡ true → v.own.claimed ≡ None → (c' : CoreState) → c' ≡ after_cache c n p → Owned c' → IsTidy c' → HasSpace c' → Rule c' heap homes n (acts v (told (Caches p) v.own))
+  pub cache_keeps : (p : ℕ) → p < length c.words → has p v.own.held ≡ true → v.own.claimed ≡ None → (c' : CoreState) → c' ≡ after_cache c n p → Owned c' → IsTidy c' → HasSpace c' → RuleOf c' heap homes n (acts v (told (Caches p) v.own)) k.known
   cache_keeps p low held none c' e o t r =
       let h = told (Caches p) v.own in let g = c.generation in let have = has_times p v.own.held held in let more = times_end p v.own.cached in
       let once = once p low in
@@ -193,7 +194,7 @@ module _ (c : CoreState) (heap : PageHeap) (homes : List (Option Body)) (n : ℕ
       word_keeps p (g + 3) low h (put_in_cache p) refl c' e o t r (λ y. omega arith) (omega arith) (λ y. inr refl) (λ y. absurd (not_waiting _ (inr refl) y)) refl
       (λ q l x y z. dite (ℕ_discrete q p) (λ s. subst (λ (i : ℕ). 0 < times i v.own.held + times i v.own.cached) (sym s) (omega arith))
       (λ d. let a = times_erase_else q p v.own.held d in let b = times_end_else q p v.own.cached d in omega arith))
-      refl refl refl
+      refl refl refl refl refl
       (λ q d. let a = times_erase_else q p v.own.held d in let b = times_end_else q p v.own.cached d in
       rw a (let s = only (not (is_claimed q v.own.claimed)) (times q v.own.held) in omega arith))
       (held_lent p held none) (omega arith)
@@ -223,25 +224,25 @@ module _ (c : CoreState) (heap : PageHeap) (homes : List (Option Body)) (n : ℕ
         (rw (none, word_here p x low, ne_eqb x (c.generation + 3) d) (sym (and_false (has p (erase p v.own.cached))))))
         (λ y. fs q y ∙ own_tells_of.fresh q ∙ ap (λ (w : ℕ). has q v.own.cached && eqb w (c.generation + 3)) (sym (word_else p x low q y)) ∙ ap (λ (b : Bool). b && eqb (get_or (set c.words p x) q 0) (c.generation + 3)) (sym (has_erase_else q p v.own.cached y))))
 
-    pub uncache_keeps : get_or c.words p 0 ≡ c.generation + 3 → (c' : CoreState) → c' ≡ after_uncache c n p → Owned c' → IsTidy c' → HasSpace c' → Rule c' heap homes n (acts v (told (Uncaches p) v.own))
+    pub uncache_keeps : get_or c.words p 0 ≡ c.generation + 3 → (c' : CoreState) → c' ≡ after_uncache c n p → Owned c' → IsTidy c' → HasSpace c' → RuleOf c' heap homes n (acts v (told (Uncaches p) v.own)) k.known
     uncache_keeps w c' e o t r =
         let h = told (Uncaches p) v.own in let g = c.generation in let have = has_times p v.own.cached cached in let more = times_end p v.own.held in let free = not_claimed p low have in
         word_keeps p g low h (take_from_cache p) refl c' e o t r (λ y. omega arith) (omega arith) (λ y. inl refl) (λ y. absurd (not_waiting _ (inl refl) y)) refl
         (λ q l x y z. dite (ℕ_discrete q p) (λ s. subst (λ (i : ℕ). 0 < times i v.own.held + times i v.own.cached) (sym s) (omega arith))
         (λ d. let a = times_erase_else q p v.own.cached d in let b = times_end_else q p v.own.held d in omega arith))
-        refl refl refl
+        refl refl refl refl refl
         (λ q d. rw (times_erase_else q p v.own.cached d, times_end_else q p v.own.held d) refl)
         (cached_lent p cached) (rw free (omega arith))
         (uncached_else h g refl (λ q d. without_else q p v.own.fresh d) (without_here p v.own.fresh) (λ y. omega arith))
 
-    pub stale_keeps : get_or c.words p 0 ≡ c.generation + 1 → (c' : CoreState) → c' ≡ after_stale_uncache c n p → Owned c' → IsTidy c' → HasSpace c' → Rule c' heap homes n (acts v (told (UncachesStale p) v.own))
+    pub stale_keeps : get_or c.words p 0 ≡ c.generation + 1 → (c' : CoreState) → c' ≡ after_stale_uncache c n p → Owned c' → IsTidy c' → HasSpace c' → RuleOf c' heap homes n (acts v (told (UncachesStale p) v.own)) k.known
     stale_keeps w c' e o t r =
         let h = told (UncachesStale p) v.own in let g = c.generation in let have = has_times p v.own.cached cached in let more = times_end p v.own.sweeping in let l = four in
         let stale : has p v.own.fresh ≡ false = own_tells_of.fresh p ∙ rw (w, ne_eqb (g + 1) (g + 3) (λ y. omega arith)) (and_false (has p v.own.cached)) in
         word_keeps p (g - 1) low h (sweep_from_cache p) refl c' e o t r (λ y. omega arith) (omega arith) (λ y. absurd (unsettled _ (inr (inr w)) y)) (λ y. inr (inr w)) refl
         (λ q l x y z. dite (ℕ_discrete q p) (λ s. subst (λ (i : ℕ). 0 < times i v.own.held + times i v.own.cached) (sym s) (omega arith))
         (λ d. let a = times_erase_else q p v.own.cached d in omega arith))
-        refl refl refl
+        refl refl refl refl refl
         (λ q d. rw (times_erase_else q p v.own.cached d, times_end_else q p v.own.sweeping d) refl)
         (cached_lent p cached) (let s = only (not (is_claimed p v.own.claimed)) (times p v.own.held) in omega arith)
         (uncached_else h (g - 1) refl (λ q d. refl) stale (λ y. omega arith))

@@ -3,8 +3,7 @@ use Rattle.std.specs.Prelude.{◌≡◌, ◌⊎◌, ℕ, ◌+◌, ◌<◌, ◌==
 use lib.ListN.{get_elem?}
 use mathlib.Core.Option.{some}
 use Rattle.page_alloc.specs.Lists.{In}
-use Rattle.page_alloc.specs.Lives.{life_of, open_lives}
-use Rattle.page_bitmap.specs.declared.line.Line.{Line}
+use Rattle.page_alloc.specs.Lives.{Life, life_of}
 use Rattle.span_state.specs.Bits.{bit_of}
 use Rattle.span_state.specs.declared.body.Body.{Body}
 use Rattle.sweep_laws.specs.ChangesOfLives.{marks_at}
@@ -27,15 +26,15 @@ pub record IsBody (s : Span) (l : LifeState) : Type 0 where
   pub class : s.class ≡ l.class
   pub bits : (k : ℕ) → bit_of s.bits k ≡ has k l.allocated
 
--- the span was taken by the line of its number, and was not given back
-abbrev pub IsOpen : List Line → Span → Type 0
-IsOpen past s = (cycle : ℕ) × In (life_of s.life cycle s.page s.pages s.class) (open_lives past)
+-- the span is one of the open lives that workers know, by its number
+abbrev pub IsOpen : List Life → Span → Type 0
+IsOpen known s = (cycle : ℕ) × In (life_of s.life cycle s.page s.pages s.class) known
 
--- the span is that of the page, as its life and the journal have it
-pub record Fits (past : List Line) (lives : List LifeState) (p : ℕ) (s : Span) : Type 0 where
+-- the span is that of the page, as its life has it, and is known
+pub record Fits (known : List Life) (lives : List LifeState) (p : ℕ) (s : Span) : Type 0 where
   pub page : s.page ≡ p
   pub body : IsBody s (life_in p lives)
-  pub line : IsOpen past s
+  pub line : IsOpen known s
 
 -- whether a page is claimed for
 abbrev pub is_claimed : ℕ → Option Claimed → Bool
@@ -47,25 +46,25 @@ abbrev pub lends : ℕ → Part → ℕ
 lends p h = times p h.sweeping + times p h.cached + only (not (is_claimed p h.claimed)) (times p h.held)
 
 -- a body that is lent is the newest of its page among the part's spans
-abbrev pub IsLent : List Line → List LifeState → Part → ℕ → Type 0
-IsLent past lives h p = (s : Span) × (span_at p h.spans ≡ Some s) × Fits past lives p s
+abbrev pub IsLent : List Life → List LifeState → Part → ℕ → Type 0
+IsLent known lives h p = (s : Span) × (span_at p h.spans ≡ Some s) × Fits known lives p s
 
 -- some worker has the body
 abbrev pub IsAway : List Part → ℕ → Type 0
 IsAway parts p = (n : ℕ) × (h : Part) × (get_elem? parts n ≡ some h) × (0 < lends p h)
 
 -- the body is at home
-abbrev pub IsHome : List Line → List LifeState → List (Option Body) → ℕ → Type 0
-IsHome past lives homes p = (b : Body) × (slice_index_or homes p None ≡ Some b) × Fits past lives p (span_of b)
+abbrev pub IsHome : List Life → List LifeState → List (Option Body) → ℕ → Type 0
+IsHome known lives homes p = (b : Body) × (slice_index_or homes p None ≡ Some b) × Fits known lives p (span_of b)
 
 -- each body that is lent to a worker is as the worker's part says, and its place at home is empty, as that of a page without a span is;
 -- and each other one is at home
-pub record Bodies (pages : ℕ) (past : List Line) (lives : List LifeState) (homes : List (Option Body)) (parts : List Part) : Type 0 where
+pub record Bodies (pages : ℕ) (known : List Life) (lives : List LifeState) (homes : List (Option Body)) (parts : List Part) : Type 0 where
   pub many : length homes ≡ pages
-  pub lent : EachAt parts (λ n h. (p : ℕ) → 0 < lends p h → IsLent past lives h p)
+  pub lent : EachAt parts (λ n h. (p : ℕ) → 0 < lends p h → IsLent known lives h p)
   pub gone : EachAt parts (λ n h. (p : ℕ) → 0 < lends p h → slice_index_or homes p None ≡ None)
   pub bare : (p : ℕ) → begins p lives ≡ false → slice_index_or homes p None ≡ None
-  pub home : (p : ℕ) → p < pages → begins p lives ≡ true → IsAway parts p ⊎ IsHome past lives homes p
+  pub home : (p : ℕ) → p < pages → begins p lives ≡ true → IsAway parts p ⊎ IsHome known lives homes p
 
 -- a word says that the span waits for its sweep, cached or not
 abbrev pub IsWaiting : ℕ → ℕ → Type 0

@@ -4,6 +4,7 @@ pub mod Handed
 pub mod MarkEnds
 pub mod Logs
 pub mod Bodies
+pub mod Caches
 pub mod Tells
 pub mod Rule
 pub mod Moves
@@ -13,6 +14,7 @@ pub mod BodyAsks
 pub mod Asks
 pub mod MarkEndAsks
 pub mod TakeAnswers
+pub mod CacheAnswers
 pub mod ScavengeAnswers
 pub mod Answers
 pub mod Scans

@@ -1,5 +1,5 @@
 -- The rule of the lent state.
-use Rattle.std.specs.Prelude.{◌≡◌, ℕ, ◌-◌, ◌/◌, ◌^◌, ◌<◌, ◌≤◌, List, map, length, slice_index_or, Option, None}
+use Rattle.std.specs.Prelude.{◌≡◌, ℕ, ◌-◌, ◌/◌, ◌^◌, ◌<◌, ◌≤◌, List, map, length, Option, None}
 use Rattle.size_classes.specs.declared.TheConstants.{MAX_PAGES}
 use Rattle.span_state.specs.declared.body.Body.{Body}
 use Rattle.sweep_laws.specs.State.{CoreState}
@@ -7,11 +7,13 @@ use Rattle.sweep_laws.specs.OwnedLives.{EachAt}
 use Rattle.sweep_laws.specs.Owned.{Owned}
 use Rattle.sweep_laws.specs.Tidy.{IsTidy, HasSpace}
 use Rattle.page_alloc.specs.Heap.{PageHeap}
-use Rattle.page_alloc.specs.Owners.{owner}
-use Rattle.page_alloc.specs.Journal.{IsBy, Legal}
+use Rattle.page_alloc.specs.Lives.{Life}
+use Rattle.page_alloc.specs.Journal.{AreAllowed, IsBy}
+use Rattle.sound_run.specs.Run.{IsJournal}
 use Rattle.span_laws.specs.declared.view.View.{View}
 use Rattle.worker_log.specs.declared.Entry.{Entry}
 use Rattle.span_laws.specs.Bodies.{Bodies, Marked}
+use Rattle.span_laws.specs.Caches.{CacheTells}
 use Rattle.swept_set_laws.specs.Entered.{Entered}
 use Rattle.span_laws.specs.Tells.{Tells}
 use Rattle.span_laws.specs.Views.{hand_state, parts_of}
@@ -34,12 +36,14 @@ pub record Rule (c : CoreState) (heap : PageHeap) (homes : List (Option Body)) (
   pub generation : v.generation ≡ c.generation
   pub sets : length c.sets ≡ 544
   pub heap_region : heap.region ≡ length c.words
-  pub heap_owner : (p : ℕ) → p < length c.words → slice_index_or c.owners p None ≡ owner heap.past p
-  pub legal : Legal heap.region heap.goal heap.past
+  pub legal : IsJournal heap.region heap.goal heap.past
+  pub allowed : AreAllowed v.procs heap.past
   pub cycle : IsBy ((c.generation - 4) / 2) heap.past
   pub early : c.generation ≤ 2 ^ 33
   pub names : ℕ → ℕ → ℕ
   pub entered : Entered c.generation (length c.words) c.words c.lives c.sets c.hands (logs_of n v) names
-  pub bodies : Bodies (length c.words) heap.past c.lives homes (parts_of n v)
+  pub known : List Life
+  pub bodies : Bodies (length c.words) known c.lives homes (parts_of n v)
   pub marks : Marked c.generation c.words c.lives v.marks
   pub tells : EachAt (parts_of n v) (λ m h. Tells c.generation c.words c.lives c.sets h)
+  pub caches : EachAt (parts_of n v) (λ m h. CacheTells m h)

@@ -7,7 +7,7 @@ use Rattle.sweep_laws.specs.State.{CoreState}
 use Rattle.span_state.specs.Bits.{bit_of, with_bit}
 use Rattle.span_state.specs.MarkSet.{has_pair}
 use Rattle.span_laws.specs.declared.said.Said.{Said}
-use Rattle.span_laws.specs.declared.said.Said.TheVariants.{Finds, Caches, Uncaches, UncachesStale, Looks, LooksCell, Fills, PopsEntry, Reads, Adds, Resets}
+use Rattle.span_laws.specs.declared.said.Said.TheVariants.{Finds, Caches, Uncaches, UncachesStale, Looks, LooksCell, Fills, PopsEntry, Reads, Adds, Resets, FindsNoPage, FindsNoCut}
 use Rattle.span_laws.specs.declared.said.SaidOf.{SaidOf}
 use Rattle.span_laws.specs.declared.said.SaidOf.TheVariants.{Releases, Places}
 use Rattle.span_laws.specs.declared.view.Part.{Part}
@@ -62,4 +62,6 @@ IsQuiet h (LooksCell set index cell) = Unit {0}
 IsQuiet h (Reads word value) = Unit {0}
 IsQuiet h (Adds word value number) = Unit {0}
 IsQuiet h (Resets set) = Unit {0}
+IsQuiet h FindsNoPage = Unit {0}
+IsQuiet h (FindsNoCut pages left) = Unit {0}
 IsQuiet h _ = ⊥

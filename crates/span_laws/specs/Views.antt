@@ -12,12 +12,13 @@ use Rattle.span_laws.specs.declared.view.Part.{Part}
 use Rattle.span_laws.specs.declared.view.View.{View}
 
 -- what contracts see of a worker: its table; its number; the numbers that it handed out and has not taken in, which only the driver
--- does; the whole journal, the newest line first, where it was told of it while it had nobody out, and nothing was written since; and
--- its view
+-- does; whether it went out with a page cache; the whole journal, the newest line first, where it was told of it while it had nobody out,
+-- and nothing was written since; and its view
 pub record Seen : Type 0 where
   pub table : TableId
   pub number : ℕ
   pub away : List ℕ
+  pub caching : Bool
   pub journal : Option (List Line)
   pub view : View
 
@@ -25,9 +26,9 @@ pub record Seen : Type 0 where
 abbrev pub drives : Seen → Bool
 drives w = w.number == 69
 
--- the hand of a part, as the core has it: no worker of the table has a page cache yet
+-- the hand of a part, as the core has it
 abbrev pub hand_state : Part → HandState
-hand_state h = record { sweeping = h.sweeping; held = h.held; cached = h.cached; popped = h.popped; claimed = h.claimed; swept = h.swept; pulled = [] }
+hand_state h = record { sweeping = h.sweeping; held = h.held; cached = h.cached; popped = h.popped; claimed = h.claimed; swept = h.swept; pulled = h.pulled }
 
 -- a body as a span
 abbrev pub span_of : Body → Span
@@ -52,12 +53,12 @@ acts v h = record v { own = h }
 
 -- a part of nothing
 abbrev pub no_part : Part
-no_part = record { sweeping = []; held = []; cached = []; popped = []; claimed = None; swept = []; log = []; fresh = []; spans = []; read = []; reset = [] }
+no_part = record { sweeping = []; held = []; cached = []; popped = []; claimed = None; swept = []; log = []; fresh = []; spans = []; read = []; reset = []; pulled = []; cache = None }
 
 -- all parts of a view, the own one of number n in its place
 abbrev pub parts_of : ℕ → View → List Part
 parts_of n v = slice_set v.parts n v.own
 
 -- the view of the first seat: nobody has anything
-abbrev pub first_view : ℕ → ℕ → ℕ → View
-first_view pages goal workers = record { region = pages; goal = goal; generation = 4; marks = []; before = []; carried = []; own = no_part; parts = copies workers no_part }
+abbrev pub first_view : ℕ → ℕ → ℕ → ℕ → View
+first_view pages goal procs workers = record { region = pages; goal = goal; procs = procs; generation = 4; marks = []; before = []; carried = []; own = no_part; parts = copies workers no_part }

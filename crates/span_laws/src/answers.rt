@@ -28,6 +28,15 @@ pub enum Refused {
     NoMemory,
 }
 
+/// What a pull answers.
+#[derive(Clone, Copy, Debug, PartialEq, Eq)]
+pub enum Pulled {
+    /// The worker has a block of so many pages.
+    Got(u32),
+    /// No page was free.
+    NoPage,
+}
+
 /// A scavenging step.
 #[derive(Clone, Copy, Debug, PartialEq, Eq)]
 pub struct Step {

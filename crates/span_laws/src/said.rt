@@ -1,3 +1,5 @@
+use page_cache::Block;
+
 /// What a step says that changes no body.
 #[derive(Drop)]
 pub enum Said {
@@ -29,6 +31,14 @@ pub enum Said {
     Adds(u64, u64, u64),
     /// It resets an unswept set.
     Resets(u32),
+    /// It pulls a block, as the line of this number says: line, cycle, processor, the block.
+    Pulls(u64, u32, u32, Block),
+    /// It found no page to pull.
+    FindsNoPage,
+    /// It found no run of so many pages in its block, and how many pages that has left, 0 where it has none: pages, pages left.
+    FindsNoCut(u32, u32),
+    /// It settles its block, as the lines up to that of this number say: line.
+    Settles(u64),
 }
 
 /// What a step says that leaves a body with the worker.
@@ -44,4 +54,6 @@ pub enum SaidOf {
     Pops(u32),
     /// It places an object at an index: index.
     Places(u32),
+    /// It cuts the span out of its block, and this is left: block.
+    Cuts(Block),
 }

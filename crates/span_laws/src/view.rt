@@ -1,4 +1,5 @@
 use page_bitmap::Line;
+use page_cache::PageCache;
 use std::collections::LinkedList;
 use sweep_laws::Claimed;
 use worker_log::Entry;
@@ -15,7 +16,7 @@ pub struct Span {
     pub count: u64,
     /// The span class.
     pub class: u64,
-    /// The number of the journal line that took the span.
+    /// The number of the journal line that took the span, or that pulled the block of which it was cut.
     pub life: u64,
     /// The free index.
     pub next: u64,
@@ -55,6 +56,10 @@ pub struct Part {
     pub read: LinkedList<Cell>,
     /// The unswept sets that it has reset for the next mark end.
     pub reset: LinkedList<u64>,
+    /// What is left of the block that it pulled, in rising order.
+    pub pulled: LinkedList<u64>,
+    /// Its page cache, while it is out with one.
+    pub cache: Option<PageCache>,
 }
 
 /// What a seat knows: its own part, the parts that wait, by number, and what all seats agree on.
@@ -63,6 +68,8 @@ pub struct View {
     pub region: u64,
     /// The goal for backed pages.
     pub goal: u64,
+    /// How many processors may have page caches.
+    pub procs: u64,
     /// The heap generation: it starts at 4 and rises by 2 at each mark end.
     pub generation: u64,
     /// The pairs of first page and index that the last mark end marked.
