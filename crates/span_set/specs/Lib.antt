@@ -1,4 +1,5 @@
 pub mod Asks
+pub mod Blocks
 pub mod Fits
 pub mod Pops
 pub mod Resets

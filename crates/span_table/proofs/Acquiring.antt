@@ -97,7 +97,7 @@ module _ (R : ℕ) where
       let inside : p < length c.words = (let m = r.words.many in omega arith) in
       let shown : get_or s.words (p + 75) 0 ≡ get_or c.words p 0 = r.words.shows (PageWord p) low in
       let wait : get_or c.words p 0 + 2 ≡ c.generation = omega arith in
-      let home : IsHome g.heap.past c.lives g.homes p = waiting_home c g.heap g.homes n v k.rule p inside wait in
+      let home : IsHome k.rule.known c.lives g.homes p = waiting_home c g.heap g.homes n v k.rule p inside wait in
       let b : Body = home.0 in let e : b.page ≡ p = acquired_page c g.heap g.homes n v k.rule p inside wait b home.1 in
       let part : Part = told_of Acquires (span_of b) w.view.own in
       let m = made c (Acquire n p) (record { owned = k.rule.owned; tidy = k.rule.tidy; space = k.rule.space }) (needs_met c n p (low_number c g.heap g.homes n v k.rule) inside wait) tt in
@@ -126,7 +126,7 @@ module _ (R : ℕ) where
                 acquired_untouched c g.heap g.homes n v k.rule p inside wait b home.1,
                 acquired_mine c g.heap g.homes n v k.rule p inside wait b home.1,
                 acquired_pops c g.heap g.homes n v k.rule p inside wait b home.1,
-                acquired_class c g.heap g.homes n v k.rule p inside wait b home.1,
+                acquired_class c g.heap g.homes n v k.rule p inside wait b home.1 k.cycle,
               ),
             )),
       )

@@ -23,7 +23,7 @@ use Rattle.set_blocks.specs.Names.{blocks_of}
 use Rattle.table_words.specs.Names.{CellWord, PageWord, chunks_of, first_cell}
 use Rattle.span_table.specs.Asks.{IsInside}
 use Rattle.span_table.specs.Plays.{CacheRead, CellAt, Checked, LookedBeyond, LookedCell}
-use Rattle.span_table.specs.Running.{Running, objects_placed}
+use Rattle.span_table.specs.Running.{Running, events_told}
 use Rattle.span_table.specs.Seats.{SeatState, says, with_found}
 use Rattle.span_table.specs.declared.view.Found.{Found}
 use Rattle.span_table.specs.declared.view.Item.{Item}
@@ -88,7 +88,7 @@ module _ (R : ℕ) where
         adds_nothing zero word = omega arith
         adds_nothing (suc x) word = refl
 
-        places_nothing : (x : ℕ) → objects_placed (told (LooksCell j i x) w.view.own).log ≡ objects_placed w.view.own.log
+        places_nothing : (x : ℕ) → events_told (told (LooksCell j i x) w.view.own).log ≡ events_told w.view.own.log
         places_nothing zero = refl
         places_nothing (suc x) = refl
 

@@ -20,7 +20,7 @@ use Rattle.span_laws.specs.Views.{acts, hand_state}
 use Rattle.span_laws.specs.declared.view.Part.{Part}
 use Rattle.span_laws.proofs.RuleKept.{own_at}
 use Rattle.block_laws.specs.Blocked.{BlockState}
-use Rattle.span_table.specs.Running.{Counted, Present, Running, Stored, Slots, Traced, Words, objects_placed}
+use Rattle.span_table.specs.Running.{Counted, Present, Running, Stored, Slots, Traced, Words, events_told}
 use Rattle.span_table.specs.declared.view.Found.{Found}
 use Rattle.span_table.specs.declared.view.Item.{Item}
 use Rattle.span_table.specs.declared.view.SeatView.{SeatView}
@@ -47,11 +47,11 @@ module _ (R : ℕ) (s : State Item SeatView) (r : Running R s) (id : ℕ) (w : S
           ne_eqb d.page q (λ z. let y = subst (λ (t : ℕ). 0 < times t w.view.own.held) z f in absurd (omega arith))
 
   -- the log adds nothing to a counter, and a word that is none is written, or a word is read
-  pub still_counts : (h : Part) → ((word : ℕ) → added word h.log ≡ added word w.view.own.log) → objects_placed h.log ≡ objects_placed w.view.own.log → (i x : ℕ) → ((j : ℕ) → 2 ≤ j → j < 75 → j ≢ i) → Counted r.joint.placed (set r.joint.parts w.number h) (set s.words i x)
-  still_counts h = counts_still r.joint.placed r.joint.parts s.words r.counted w.number w.view.own ((r.seats id w at).own_is out) h
+  pub still_counts : (h : Part) → ((word : ℕ) → added word h.log ≡ added word w.view.own.log) → events_told h.log ≡ events_told w.view.own.log → (i x : ℕ) → ((j : ℕ) → 2 ≤ j → j < 75 → j ≢ i) → Counted r.joint.events (set r.joint.parts w.number h) (set s.words i x)
+  still_counts h = counts_still r.joint.events r.joint.parts s.words r.counted w.number w.view.own ((r.seats id w at).own_is out) h
 
-  pub found_counts : (h : Part) → ((word : ℕ) → added word h.log ≡ added word w.view.own.log) → objects_placed h.log ≡ objects_placed w.view.own.log → (i : ℕ) → Counted r.joint.placed (set r.joint.parts w.number h) (set s.words i (get_or s.words i 0))
-  found_counts h = counts_found r.joint.placed r.joint.parts s.words r.counted w.number w.view.own ((r.seats id w at).own_is out) h
+  pub found_counts : (h : Part) → ((word : ℕ) → added word h.log ≡ added word w.view.own.log) → events_told h.log ≡ events_told w.view.own.log → (i : ℕ) → Counted r.joint.events (set r.joint.parts w.number h) (set s.words i (get_or s.words i 0))
+  found_counts h = counts_found r.joint.events r.joint.parts s.words r.counted w.number w.view.own ((r.seats id w at).own_is out) h
 
   -- nobody takes the lock or lets it go
   pub lock_still : LockTurn r.joint w.number r.joint.heap r.joint.lock w.heap
@@ -73,7 +73,7 @@ module _ (R : ℕ) (s : State Item SeatView) (r : Running R s) (id : ℕ) (w : S
       → Kept c heap homes w.number (acts (along r.joint.parts w.view) h)
       → LockTurn r.joint w.number heap lock known → ((past : List Line) → told ≡ Some past → (heap.past ≡ past) × ((m : ℕ) → m < length r.joint.parts → r.joint.owner m ≡ id)) → ((p : ℕ) → taker p ≡ w.number + 1 → slot_out ≡ p + 1)
       → ((m p : ℕ) → m ≢ w.number → taker p ≡ m + 1 → r.joint.taker p ≡ m + 1)
-      → (ws : List ℕ) (hs : Slots) → Words R c b lock ws → Counted r.joint.placed (set r.joint.parts w.number h) ws → Stored R (turned r.joint w.number h c heap homes lock taker) hs
+      → (ws : List ℕ) (hs : Slots) → Words R c b lock ws → Counted r.joint.events (set r.joint.parts w.number h) ws → Stored R (turned r.joint w.number h c heap homes lock taker) hs
       → Stand r.blocks b → ((m : ℕ) → m < length r.joint.parts → r.joint.owner m ≢ id → b.spare m ≡ r.blocks.spare m) → IsTraced r.joint.owner (length r.joint.parts) b id (stepped_view w h slot_out known told spares found)
       → Running R record { words = ws; homes = hs; views = set s.views id (stepped_view w h slot_out known told spares found) }
   block_rule h c heap homes lock taker slot_out known told b spares found now turn own_told own_slot far ws hs words counted stored stand others own_traced = record {
@@ -84,7 +84,7 @@ module _ (R : ℕ) (s : State Item SeatView) (r : Running R s) (id : ℕ) (w : S
     words = words;
     seats = seats_act r.joint s.views r.seats id w at out h c heap homes lock taker slot_out known told spares found turn own_told own_slot far;
     stored = stored;
-    counted = record { sums = counted.sums; events = counted.events };
+    counted = record { sums = counted.sums; each = counted.each };
     present = subst (λ (many : ℕ). Present r.joint.owner r.joint.driver many (set s.views id (stepped_view w h slot_out known told spares found))) (sym (length-set r.joint.parts w.number h))
         (present_act r.joint.owner r.joint.driver (length r.joint.parts) s.views r.present id w at (stepped_view w h slot_out known told spares found) refl refl refl refl);
     traced = subst (λ (many : ℕ). Traced r.joint.owner many b (set s.views id (stepped_view w h slot_out known told spares found))) (sym (length-set r.joint.parts w.number h))
@@ -96,7 +96,7 @@ module _ (R : ℕ) (s : State Item SeatView) (r : Running R s) (id : ℕ) (w : S
       → Kept c heap homes w.number (acts (along r.joint.parts w.view) h)
       → LockTurn r.joint w.number heap lock known → ((past : List Line) → told ≡ Some past → (heap.past ≡ past) × ((m : ℕ) → m < length r.joint.parts → r.joint.owner m ≡ id)) → ((p : ℕ) → taker p ≡ w.number + 1 → slot_out ≡ p + 1)
       → ((m p : ℕ) → m ≢ w.number → taker p ≡ m + 1 → r.joint.taker p ≡ m + 1)
-      → (ws : List ℕ) (hs : Slots) → Words R c (record (r.blocks) { cell = cells }) lock ws → Counted r.joint.placed (set r.joint.parts w.number h) ws → Stored R (turned r.joint w.number h c heap homes lock taker) hs
+      → (ws : List ℕ) (hs : Slots) → Words R c (record (r.blocks) { cell = cells }) lock ws → Counted r.joint.events (set r.joint.parts w.number h) ws → Stored R (turned r.joint w.number h c heap homes lock taker) hs
       → Running R record { words = ws; homes = hs; views = set s.views id (stepped_view w h slot_out known told w.spares w.found) }
   cells_rule h c heap homes lock taker slot_out known told cells now turn own_told own_slot far ws hs words counted stored =
       block_rule h c heap homes lock taker slot_out known told (record (r.blocks) { cell = cells }) w.spares w.found now turn own_told own_slot far ws hs words counted stored
@@ -107,7 +107,7 @@ module _ (R : ℕ) (s : State Item SeatView) (r : Running R s) (id : ℕ) (w : S
       → Kept c heap homes w.number (acts (along r.joint.parts w.view) h)
       → LockTurn r.joint w.number heap lock known → ((past : List Line) → told ≡ Some past → (heap.past ≡ past) × ((m : ℕ) → m < length r.joint.parts → r.joint.owner m ≡ id)) → ((p : ℕ) → taker p ≡ w.number + 1 → slot_out ≡ p + 1)
       → ((m p : ℕ) → m ≢ w.number → taker p ≡ m + 1 → r.joint.taker p ≡ m + 1)
-      → (ws : List ℕ) (hs : Slots) → Words R c r.blocks lock ws → Counted r.joint.placed (set r.joint.parts w.number h) ws → Stored R (turned r.joint w.number h c heap homes lock taker) hs
+      → (ws : List ℕ) (hs : Slots) → Words R c r.blocks lock ws → Counted r.joint.events (set r.joint.parts w.number h) ws → Stored R (turned r.joint w.number h c heap homes lock taker) hs
       → Running R record { words = ws; homes = hs; views = set s.views id (stepped_view w h slot_out known told w.spares w.found) }
   core_rule h c heap homes lock taker slot_out known told now turn own_told own_slot far ws hs words counted stored =
       cells_rule h c heap homes lock taker slot_out known told r.blocks.cell now turn own_told own_slot far ws hs words counted stored
@@ -115,7 +115,7 @@ module _ (R : ℕ) (s : State Item SeatView) (r : Running R s) (id : ℕ) (w : S
   -- neither the lock nor the slots change
   pub plain_rule : (h : Part) (c : CoreState)
       → Kept c r.joint.heap r.joint.homes w.number (acts (along r.joint.parts w.view) h)
-      → (ws : List ℕ) → Words R c r.blocks r.joint.lock ws → Counted r.joint.placed (set r.joint.parts w.number h) ws → Stored R (turned r.joint w.number h c r.joint.heap r.joint.homes r.joint.lock r.joint.taker) s.homes
+      → (ws : List ℕ) → Words R c r.blocks r.joint.lock ws → Counted r.joint.events (set r.joint.parts w.number h) ws → Stored R (turned r.joint w.number h c r.joint.heap r.joint.homes r.joint.lock r.joint.taker) s.homes
       → Running R record { words = ws; homes = s.homes; views = set s.views id (record w { view = acts w.view h }) }
   plain_rule h c now ws words counted stored = core_rule h c r.joint.heap r.joint.homes r.joint.lock r.joint.taker w.slot_out w.heap w.journal now
       lock_still (λ past is. (r.seats id w at).told_is out past is) (λ p is. (r.seats id w at).slot_is out p is) (λ m p d e. e) ws s.homes words counted stored
@@ -123,7 +123,7 @@ module _ (R : ℕ) (s : State Item SeatView) (r : Running R s) (id : ℕ) (w : S
   -- the seat found an entry, or forgets the one that it found
   pub found_rule : (h : Part) (found : Option Found) → ((f : Found) → found ≡ Some f → r.blocks.entry f.set f.entry ≡ f.block + 1)
       → Kept r.joint.core r.joint.heap r.joint.homes w.number (acts (along r.joint.parts w.view) h)
-      → (ws : List ℕ) → Words R r.joint.core r.blocks r.joint.lock ws → Counted r.joint.placed (set r.joint.parts w.number h) ws → Stored R (turned r.joint w.number h r.joint.core r.joint.heap r.joint.homes r.joint.lock r.joint.taker) s.homes
+      → (ws : List ℕ) → Words R r.joint.core r.blocks r.joint.lock ws → Counted r.joint.events (set r.joint.parts w.number h) ws → Stored R (turned r.joint w.number h r.joint.core r.joint.heap r.joint.homes r.joint.lock r.joint.taker) s.homes
       → Running R record { words = ws; homes = s.homes; views = set s.views id (record w { view = acts w.view h; found = found }) }
   found_rule h found names now ws words counted stored = block_rule h r.joint.core r.joint.heap r.joint.homes r.joint.lock r.joint.taker w.slot_out w.heap w.journal r.blocks w.spares found now
       lock_still (λ past is. (r.seats id w at).told_is out past is) (λ p is. (r.seats id w at).slot_is out p is) (λ m p d e. e) ws s.homes words counted stored
@@ -132,13 +132,13 @@ module _ (R : ℕ) (s : State Item SeatView) (r : Running R s) (id : ℕ) (w : S
 
   -- a cell of a block is filled
   pub filled_rule : (h : Part) (c : CoreState) (cells : ℕ → ℕ → ℕ → ℕ) → Kept c r.joint.heap r.joint.homes w.number (acts (along r.joint.parts w.view) h)
-      → (ws : List ℕ) → Words R c (record (r.blocks) { cell = cells }) r.joint.lock ws → Counted r.joint.placed (set r.joint.parts w.number h) ws → Stored R (turned r.joint w.number h c r.joint.heap r.joint.homes r.joint.lock r.joint.taker) s.homes
+      → (ws : List ℕ) → Words R c (record (r.blocks) { cell = cells }) r.joint.lock ws → Counted r.joint.events (set r.joint.parts w.number h) ws → Stored R (turned r.joint w.number h c r.joint.heap r.joint.homes r.joint.lock r.joint.taker) s.homes
       → Running R record { words = ws; homes = s.homes; views = set s.views id (record w { view = acts w.view h }) }
   filled_rule h c cells now ws words counted stored = cells_rule h c r.joint.heap r.joint.homes r.joint.lock r.joint.taker w.slot_out w.heap w.journal cells now
       lock_still (λ past is. (r.seats id w at).told_is out past is) (λ p is. (r.seats id w at).slot_is out p is) (λ m p d e. e) ws s.homes words counted stored
 
   -- neither do core nor parts: only spines and blocks, and what the seat knows of them
-  pub spine_rule : (b : BlockState) (spares : List ℕ) (found : Option Found) (ws : List ℕ) → Words R r.joint.core b r.joint.lock ws → Counted r.joint.placed (set r.joint.parts w.number w.view.own) ws
+  pub spine_rule : (b : BlockState) (spares : List ℕ) (found : Option Found) (ws : List ℕ) → Words R r.joint.core b r.joint.lock ws → Counted r.joint.events (set r.joint.parts w.number w.view.own) ws
       → Stand r.blocks b → ((m : ℕ) → m < length r.joint.parts → r.joint.owner m ≢ id → b.spare m ≡ r.blocks.spare m) → IsTraced r.joint.owner (length r.joint.parts) b id (record w { spares = spares; found = found })
       → Running R record { words = ws; homes = s.homes; views = set s.views id (record w { spares = spares; found = found }) }
   spine_rule b spares found ws words counted stand others own_traced = block_rule w.view.own r.joint.core r.joint.heap r.joint.homes r.joint.lock r.joint.taker w.slot_out w.heap w.journal b spares found own_kept

@@ -48,7 +48,7 @@ module _ (R : ℕ) where
         tt,
         plain_rule R s r id w at out part g.core (kept_note g.core g.heap g.homes w.number (along g.parts w.view) (own_kept R s r id w at out) (Adds (i + 2) x number) tt tt)
             (set s.words (i + 2) ((x + number) % 2 ^ 64)) (words_free R g.core r.blocks g.lock s.words r.words (CounterWord i) low (λ e. e) ((x + number) % 2 ^ 64))
-            (counts_added g.placed g.parts s.words r.counted w.number w.view.own own part i number low (omega arith) (adds_here w.view.own (i + 2) x number) (λ y e. adds_else w.view.own (i + 2) x number y e) refl)
+            (counts_added g.events g.parts s.words r.counted w.number w.view.own own part i number low (omega arith) (adds_here w.view.own (i + 2) x number) (λ y e. adds_else w.view.own (i + 2) x number y e) refl)
             (stored_still R g s.homes r.stored w.number w.view.own own part g.core g.heap (λ _. refl) (λ q. omega arith)),
         refl,
       ))

@@ -8,8 +8,11 @@ use lib.ListN.{get_elem?}
 use Rattle.std.proofs.Math.ListN.{length-set}
 use Rattle.atomic_table.proofs.Lists.{set_again}
 use Rattle.sweep_laws.specs.Lists.{has}
+use Rattle.sweep_laws.specs.OwnedLives.{EachAt}
 use Rattle.sweep_laws.proofs.Naming.{set_here}
-use Rattle.span_laws.specs.Cycle.{Kept}
+use Rattle.sweep_laws.proofs.Totals.{inside_at}
+use Rattle.span_laws.specs.Cycle.{Kept, KeepsCycle}
+use Rattle.span_laws.specs.Rule.{Rule}
 use Rattle.span_laws.specs.Views.{parts_of}
 use Rattle.span_laws.specs.declared.view.Part.{Part}
 use Rattle.span_laws.specs.declared.view.View.{View}
@@ -41,6 +44,15 @@ module _ (g : JointState) (i : ℕ) (w : SeatView) (seat : Seated g i w) (drives
   pub alone : (m : ℕ) → m < length g.parts → g.owner m ≡ i
   alone m low = let d = seat.drives drives in dite (ℕ_discrete m w.number) (λ e. ap g.owner e ∙ seat.own_by d.1) (λ e. (seat.rest d.0 m low (ap (has m) home) e).0)
 
+  -- nobody has a page cache, where the driver has none
+  pub none_cached : w.view.own.cache ≡ None → EachAt g.parts (λ m h. h.cache ≡ None)
+  none_cached bare m h at = let d = seat.drives drives in dite (ℕ_discrete m w.number)
+      (λ e. ap (λ (x : Part). x.cache) (some-injective h w.view.own (sym at ∙ ap (get_elem? g.parts) e ∙ seat.own_is d.1)) ∙ bare)
+      (λ e. (seat.rest d.0 m (inside_at g.parts m h at) (ap (has m) home) e).4 h at)
+
+  pub none_cached_here : w.view.own.cache ≡ None → EachAt (parts_of w.number w.view) (λ m h. h.cache ≡ None)
+  none_cached_here bare = subst (λ (ps : List Part). EachAt ps (λ m h. h.cache ≡ None)) all_home (none_cached bare)
+
   pub driver_kept : Lawful g → Kept g.core g.heap g.homes w.number (record w.view { parts = parts_of w.number w.view })
   driver_kept k = subst (λ (ps : List Part). Kept g.core g.heap g.homes w.number (along ps w.view)) all_home (kept_own g i w seat (seat.drives drives).1 k)
 
@@ -55,7 +67,6 @@ module _ (g : JointState) (i : ℕ) (w : SeatView) (seat : Seated g i w) (drives
   pub own_view_kept : Lawful g → Kept g.core g.heap g.homes w.number w.view
   own_view_kept k = let v : View = record w.view { parts = parts_of w.number w.view } in let now = driver_kept k in let d = seat.drives drives in
       let low : w.number < length w.view.parts = (let own = inside g i w seat d.1 in let wide = seat.wide d.0 in omega arith) in
-      let same : set w.view.parts w.number w.view.own ≡ parts_of w.number v = sym (set_again (parts_of w.number w.view) w.number w.view.own (set_here w.view.parts w.number w.view.own low)) in record {
-        rule = seat_keeps g.core g.heap g.homes w.number v now.rule w.number w.view.own w.view.parts same low;
-        cycle = seat_cycle g.core g.heap g.homes w.number v now.rule now.cycle w.number w.view.own w.view.parts same;
-      }
+      let same : set w.view.parts w.number w.view.own ≡ parts_of w.number v = sym (set_again (parts_of w.number w.view) w.number w.view.own (set_here w.view.parts w.number w.view.own low)) in
+      let u = seat_keeps g.core g.heap g.homes w.number v now.rule w.number w.view.own w.view.parts same low in
+      record { rule = u.0; cycle = subst (KeepsCycle g.core g.heap w.number w.view) (sym u.1) (seat_cycle g.core g.heap g.homes w.number v now.rule now.cycle w.number w.view.own w.view.parts same) }

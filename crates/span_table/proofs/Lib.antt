@@ -7,12 +7,16 @@ pub mod Adaptors
 pub mod CountsKept
 pub mod Core
 pub mod Halves
+pub mod Recaching
 pub mod Handing
 pub mod Starts
 pub mod Made
 pub mod Reading
 pub mod Acquiring
+pub mod OwnBlocks
 pub mod Locking
+pub mod Pulling
+pub mod CacheCalls
 pub mod SetSteps
 pub mod SlotSteps
 pub mod Resting

@@ -19,7 +19,6 @@ use Rattle.span_laws.specs.Bodies.{is_claimed}
 use Rattle.span_laws.specs.OwnSteps.{told, told_of}
 use Rattle.span_laws.specs.TakeAnswers.{IsNew, cycle_at}
 use Rattle.span_laws.specs.Views.{parts_of, span_of}
-use Rattle.span_laws.proofs.Parts.{none_pulled}
 use Rattle.span_laws.specs.declared.said.Said.TheVariants.{Misses}
 use Rattle.span_laws.specs.declared.said.SaidOf.TheVariants.{Takes}
 use Rattle.span_laws.specs.declared.view.Part.{Part}
@@ -42,6 +41,7 @@ use Rattle.span_table.proofs.Driver.{unlocked}
 use Rattle.span_table.proofs.Giving.{has_runs}
 use Rattle.span_table.proofs.Joined.{along}
 use Rattle.span_table.proofs.Made.{made, times_more}
+use Rattle.span_table.proofs.OwnBlocks.{free_core, heap_blocks, heap_cut, heap_none_out}
 use Rattle.span_table.proofs.StoredKept.{stored_locks, stored_still}
 use Rattle.span_table.proofs.WordsKept.{words_lock, words_page}
 
@@ -66,7 +66,7 @@ module _ (R : ℕ) where
             (set s.words 0 (n + 1)) (set s.homes 0 none)
             (words_lock R g.core r.blocks g.lock s.words r.words (n + 1)) (still_counts R s r id w at out w.view.own (λ z. omega arith) refl (0) (n + 1) (λ y a l e. omega arith))
             (stored_locks R g s.homes r.stored n w.view.own own w.view.own g.core g.heap (n + 1) none (λ e. absurd (omega arith)) (λ p. omega arith)),
-        subst (λ (won : Bool). LocksBy won me (locks g.heap w, (0, Heap g.heap) ∷ me.1)) (sym (eq-eqb (get_or s.words 0 0) 0 hit)) (g.heap, refl, (let k = (own_kept R s r id w at out).rule in record { region = k.heap_region ∙ sym k.region; goal = sym k.goal; legal = k.legal; cycle = subst (λ (y : ℕ). IsBy (cycle_at y) g.heap.past) (sym k.generation) k.cycle; told = λ past is. ((r.seats id w at).told_is out past is).0; runs = has_runs R s r id w at out })),
+        subst (λ (won : Bool). LocksBy won me (locks g.heap w, (0, Heap g.heap) ∷ me.1)) (sym (eq-eqb (get_or s.words 0 0) 0 hit)) (g.heap, refl, (let k = (own_kept R s r id w at out).rule in record { region = k.heap_region ∙ sym k.region; goal = sym k.goal; legal = k.legal; cycle = subst (λ (y : ℕ). IsBy (cycle_at y) g.heap.past) (sym k.generation) k.cycle; told = λ past is. ((r.seats id w at).told_is out past is).0; blocks = heap_blocks R s r id w at out; none_out = heap_none_out R s r id w at out; cut = heap_cut R s r id w at out; runs = has_runs R s r id w at out })),
       ))
       (λ s r _ at _ miss. (
         me.0,
@@ -159,9 +159,10 @@ module _ (R : ℕ) where
         let gen = k.rule.generation in
         let a = made c₁ (Lock n) (record { owned = k₁.rule.owned; tidy = k₁.rule.tidy; space = k₁.rule.space }) (lock_met c₁ n low₁ k₁.rule.unlocked) tt in
         let t = made (after c₁ (Lock n)) (Take n page pages b.count class) a
-        (take_met c₁ n page pages b.count class low₁ (omega arith) some_pages b.some_object small (λ q l u. k₁.rule.heap_owner q (omega arith) ∙ (line.may_follow.1.here.free q l u).owner) (λ q. ap (pullers q) k₁.rule.hands ∙ none_pulled q (parts_of n v))) (omega arith) in
+        (take_met c₁ n page pages b.count class low₁ (omega arith) some_pages b.some_object small (λ q l u. (free_core c₁ heap₁ g.homes n v k₁ q (omega arith) (line.may_follow.1.here.free q l u)).0) (λ q l u. (free_core c₁ heap₁ g.homes n v k₁ q (omega arith) (line.may_follow.1.here.free q l u)).1)) (omega arith) in
         let z = made (after (after c₁ (Lock n)) (Take n page pages b.count class)) (Unlock n) t (unlock_met c₁ n page pages b.count class low₁) tt in
         let c' : CoreState = record (after_take c₁ n page pages b.count class) { lock = None } in
+        let unowned : get_or c₁.owners b.page None ≡ None = ap (λ (q : ℕ). get_or c₁.owners q None) at_page ∙ (free_core c₁ heap₁ g.homes n v k₁ page (omega arith) (line.may_follow.1.here.free page (omega arith) (omega arith))).0 in
         let part : Part = told_of (Takes (cycle_at w.view.generation)) (span_of b) w.view.own in (
           locks heap' (says_of (Takes (cycle_at w.view.generation)) (span_of b) w),
           keeps,
@@ -178,8 +179,8 @@ module _ (R : ℕ) where
               (λ q. let y = only_more (Rattle.std.proofs.Common.not (is_claimed q w.view.own.claimed)) (times q w.view.own.held) (times q part.held) (times_more q b.page w.view.own.held) in omega arith)),
           (
             refl,
-            run_untouched c g.heap g.homes n v k.rule heap₁ more₀ c₁ b.count refl (cycle_at w.view.generation) page pages class heap' line b is_new at_page,
-            run_mine c g.heap g.homes n v k.rule heap₁ more₀ c₁ b.count refl (cycle_at w.view.generation) page pages class heap' line b is_new at_page,
+            run_untouched c g.heap g.homes n v k.rule heap₁ more₀ c₁ b.count refl (cycle_at w.view.generation) page pages class heap' line b is_new at_page unowned,
+            run_mine c g.heap g.homes n v k.rule heap₁ more₀ c₁ b.count refl (cycle_at w.view.generation) page pages class heap' line b is_new at_page unowned,
           ),
         )
 

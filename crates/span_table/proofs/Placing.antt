@@ -25,7 +25,7 @@ use Rattle.span_table.specs.Plays.{Placed}
 use Rattle.span_table.specs.Running.{Counted, Running}
 use Rattle.span_table.specs.Seats.{SeatState, says_of}
 use Rattle.span_table.specs.Turning.{Ruled}
-use Rattle.span_table.proofs.CountsKept.{counts_placed}
+use Rattle.span_table.proofs.CountsKept.{counts_event}
 use Rattle.span_table.proofs.Ruling.{lift}
 use Rattle.span_table.proofs.Core.{own_kept, plain_rule}
 use Rattle.span_table.proofs.Joined.{along}
@@ -62,8 +62,8 @@ module _ (R : ℕ) where
         tt,
         plain_rule R s r id w at out part (after c (Allocate n b'.page i)) (kept_of c g.heap g.homes n v k (Places i) (span_of b') suits (alone_in w.view.own b b' i may same) needs m.owned m.tidy m.space)
             (set s.words (word + 5) ((x + 1) % 2 ^ 64)) (still_words r.words)
-            (subst (λ (q : ℕ). Counted g.placed (set g.parts n part) (set s.words (q + 5) ((get_or s.words (q + 5) 0 + 1) % 2 ^ 64))) (sym mine)
-            (counts_placed g.placed g.parts s.words r.counted n w.view.own own part (λ z. omega arith) (omega arith) (let y = mine in omega arith) (let y = r.words.size in let z = mine in omega arith)))
+            (subst (λ (q : ℕ). Counted g.events (set g.parts n part) (set s.words (q + 5) ((get_or s.words (q + 5) 0 + 1) % 2 ^ 64))) (sym mine)
+            (counts_event g.events g.parts s.words r.counted n w.view.own own part (λ z. omega arith) (omega arith) (let y = mine in omega arith) (let y = r.words.size in let z = mine in omega arith)))
             (stored_still R g s.homes r.stored n w.view.own own part (after c (Allocate n b'.page i)) g.heap (λ _. refl) (λ q. omega arith)),
         refl,
       )

@@ -12,7 +12,7 @@ use Rattle.sweep_laws.proofs.Naming.{set_here, times_erase, times_erase_else, ti
 use Rattle.sweep_laws.proofs.Totals.{inside_at, other_one}
 use Rattle.span_laws.proofs.Parts.{has_erase_else, has_none, set_else}
 use Rattle.span_table.specs.Running.{HasPart, Present}
-use Rattle.span_table.specs.Seats.{sent_out, spent_seat_view, with_number, without_number}
+use Rattle.span_table.specs.Seats.{sent_out, sent_out_for, spent_seat_view, with_number, without_number}
 use Rattle.span_table.specs.declared.view.SeatView.{SeatView}
 use Rattle.span_table.proofs.StoredKept.{put, put_else, put_here}
 
@@ -42,36 +42,42 @@ module _ (owner : ℕ → ℕ) (driver many : ℕ) (vs : List SeatView) (k : Pre
         (λ e. (s.0, set_else vs id w' (owner m) e ∙ s.1, s.2));
   }
 
-  -- the driver hands a number out
-  pub present_out : (m : ℕ) → id ≡ driver → has m w.away ≡ false → times m w.away ≡ 0 → Present (put owner m (length vs)) driver many (set vs id (without_number m w) ++ sent_out m w ∷ [])
-  present_out m is home none = record {
+  -- the driver hands a number out, to a seat with this view
+  present_new : (m : ℕ) (z : SeatView) → z.out ≡ true → z.number ≡ m → id ≡ driver → has m w.away ≡ false → times m w.away ≡ 0 → Present (put owner m (length vs)) driver many (set vs id (without_number m w) ++ z ∷ [])
+  present_new m z z_out z_number is home none = record {
     driven = let d = k.driven in let same = same_seat driver d.0 (sym is) d.1 in (
       without_number m w,
-      at_longer (set vs id (without_number m w)) (sent_out m w ∷ []) driver (without_number m w) (ap (get_elem? (set vs id (without_number m w))) (sym is) ∙ set_here vs id (without_number m w) (inside_at vs id w at)),
+      at_longer (set vs id (without_number m w)) (z ∷ []) driver (without_number m w) (ap (get_elem? (set vs id (without_number m w))) (sym is) ∙ set_here vs id (without_number m w) (inside_at vs id w at)),
       ap (λ (x : SeatView). x.drives) same ∙ d.2,
       λ q. dite (ℕ_discrete m q)
-          (λ e. let z = Rattle.sweep_laws.proofs.Totals.same_one m in subst (λ (y : ℕ). times y (m ∷ w.away) ≤ 1) e (omega arith))
-          (λ e. let z = other_one m q e in let y = subst (λ (l : List ℕ). times q l ≤ 1) (sym (ap (λ (x : SeatView). x.away) same)) (d.3 q) in omega arith),
+          (λ e. let one = Rattle.sweep_laws.proofs.Totals.same_one m in subst (λ (y : ℕ). times y (m ∷ w.away) ≤ 1) e (omega arith))
+          (λ e. let one = other_one m q e in let y = subst (λ (l : List ℕ). times q l ≤ 1) (sym (ap (λ (x : SeatView). x.away) same)) (d.3 q) in omega arith),
     );
     seat = λ q low. dite (ℕ_discrete q m)
-        (λ e. let r : (x : SeatView) × (get_elem? (set vs id (without_number m w) ++ sent_out m w ∷ []) (put owner m (length vs) q) ≡ some x) × HasPart q x = (
-          sent_out m w,
-          ap (get_elem? (set vs id (without_number m w) ++ sent_out m w ∷ [])) (put_here owner m (length vs) q e) ∙ at_last (set vs id (without_number m w)) (sent_out m w) (length vs) (length-set vs id (without_number m w)),
-          (refl, inl (sym e)),
+        (λ e. let r : (x : SeatView) × (get_elem? (set vs id (without_number m w) ++ z ∷ []) (put owner m (length vs) q) ≡ some x) × HasPart q x = (
+          z,
+          ap (get_elem? (set vs id (without_number m w) ++ z ∷ [])) (put_here owner m (length vs) q e) ∙ at_last (set vs id (without_number m w)) (z) (length vs) (length-set vs id (without_number m w)),
+          (z_out, inl (z_number ∙ sym e)),
         ) in r)
         (λ e. let s = k.seat q low in dite (ℕ_discrete (owner q) id)
-        (λ f. let same = same_seat (owner q) s.0 f s.1 in let r : (x : SeatView) × (get_elem? (set vs id (without_number m w) ++ sent_out m w ∷ []) (put owner m (length vs) q) ≡ some x) × HasPart q x = (
+        (λ f. let same = same_seat (owner q) s.0 f s.1 in let r : (x : SeatView) × (get_elem? (set vs id (without_number m w) ++ z ∷ []) (put owner m (length vs) q) ≡ some x) × HasPart q x = (
           without_number m w,
-          ap (get_elem? (set vs id (without_number m w) ++ sent_out m w ∷ [])) (put_else owner m (length vs) q e ∙ f) ∙ at_longer (set vs id (without_number m w)) (sent_out m w ∷ []) id (without_number m w) (set_here vs id (without_number m w) (inside_at vs id w at)),
+          ap (get_elem? (set vs id (without_number m w) ++ z ∷ [])) (put_else owner m (length vs) q e ∙ f) ∙ at_longer (set vs id (without_number m w)) (z ∷ []) id (without_number m w) (set_here vs id (without_number m w) (inside_at vs id w at)),
           (
             ap (λ (x : SeatView). x.out) same ∙ s.2.0,
             ⊎_elim (λ (t : s.0.number ≡ q). inl (ap (λ (x : SeatView). x.number) same ∙ t))
-                (λ (t : (s.0.drives ≡ true) × (has q s.0.away ≡ false)). inr (ap (λ (x : SeatView). x.drives) same ∙ t.0, ap (λ (b : Bool). b || has q w.away) (ne_eqb m q (λ z. e (sym z))) ∙ ap (λ (x : SeatView). has q x.away) same ∙ t.1)) s.2.1,
+                (λ (t : (s.0.drives ≡ true) × (has q s.0.away ≡ false)). inr (ap (λ (x : SeatView). x.drives) same ∙ t.0, ap (λ (b : Bool). b || has q w.away) (ne_eqb m q (λ f. e (sym f))) ∙ ap (λ (x : SeatView). has q x.away) same ∙ t.1)) s.2.1,
           ),
         ) in r)
-        (λ f. let r : (x : SeatView) × (get_elem? (set vs id (without_number m w) ++ sent_out m w ∷ []) (put owner m (length vs) q) ≡ some x) × HasPart q x =
-        (s.0, ap (get_elem? (set vs id (without_number m w) ++ sent_out m w ∷ [])) (put_else owner m (length vs) q e) ∙ at_longer (set vs id (without_number m w)) (sent_out m w ∷ []) (owner q) s.0 (set_else vs id (without_number m w) (owner q) f ∙ s.1), s.2) in r));
+        (λ f. let r : (x : SeatView) × (get_elem? (set vs id (without_number m w) ++ z ∷ []) (put owner m (length vs) q) ≡ some x) × HasPart q x =
+        (s.0, ap (get_elem? (set vs id (without_number m w) ++ z ∷ [])) (put_else owner m (length vs) q e) ∙ at_longer (set vs id (without_number m w)) (z ∷ []) (owner q) s.0 (set_else vs id (without_number m w) (owner q) f ∙ s.1), s.2) in r));
   }
+
+  pub present_out : (m : ℕ) → id ≡ driver → has m w.away ≡ false → times m w.away ≡ 0 → Present (put owner m (length vs)) driver many (set vs id (without_number m w) ++ sent_out m w ∷ [])
+  present_out m = present_new m (sent_out m w) refl refl
+
+  pub present_out_for : (m : ℕ) → id ≡ driver → has m w.away ≡ false → times m w.away ≡ 0 → Present (put owner m (length vs)) driver many (set vs id (without_number m w) ++ sent_out_for m w ∷ [])
+  present_out_for m = present_new m (sent_out_for m w) refl refl
 
   -- and takes one in, whose seat is the other one
   pub present_in : (j : ℕ) (x : SeatView) → id ≡ driver → j ≢ id → get_elem? vs j ≡ some x → w.out ≡ true → w.drives ≡ true → (x.drives ≡ true → ⊥) → Present (put owner x.number id) driver many (set (set vs id (with_number w x)) j spent_seat_view)

@@ -1,5 +1,5 @@
 -- The first driver, and who is handed out by it.
-use Rattle.std.proofs.Common.{◌≡◌, ◌≢◌, ℕ, get_or, set, [], refl, ap, sym, subst, ◌∙◌}
+use Rattle.std.proofs.Common.{◌≡◌, ◌≢◌, ℕ, false, get_or, set, [], refl, ap, sym, subst, ◌∙◌}
 use Rattle.std.specs.Prelude.{None}
 use Rattle.std.proofs.lemmas.List.{get_or-set_other}
 use Rattle.sweep_laws.specs.Start.{copies}
@@ -13,8 +13,8 @@ pub unclaimed_copy : (many n m : ℕ) (h : Part) → m ≢ n → (get_or (set (c
 unclaimed_copy many n m h other = ap (λ (x : Part). x.claimed) (get_or-set_other (copies many no_part) n m h no_part other ∙ get_copies many no_part m)
 
 -- over variables, so that no list of parts is written out
-first_of : (t : TableId) (workers n pages goal : ℕ) (w : Seen) → w ≡ record { table = t; number = n; away = []; journal = None; view = first_view pages goal workers } → n ≡ 69 → workers ≡ 70 → IsFirstDriver t w
-first_of t workers n pages goal w e is many = subst (IsFirstDriver t) (sym e) (record { table = refl; number = is; pages = pages; goal = goal; view = ap (first_view pages goal) many })
+first_of : (t : TableId) (workers n pages goal procs : ℕ) (w : Seen) → w ≡ record { table = t; number = n; away = []; caching = false; journal = None; view = first_view pages goal procs workers } → n ≡ 69 → workers ≡ 70 → IsFirstDriver t w
+first_of t workers n pages goal procs w e is many = subst (IsFirstDriver t) (sym e) (record { table = refl; number = is; pages = pages; goal = goal; procs = procs; view = ap (first_view pages goal procs) many })
 
-pub first_driver : (t : TableId) (pages goal : ℕ) (w : Seen) → w ≡ record { table = t; number = 69; away = []; journal = None; view = first_view pages goal 70 } → IsFirstDriver t w
-first_driver t pages goal w e = first_of t 70 69 pages goal w e refl refl
+pub first_driver : (t : TableId) (pages goal procs : ℕ) (w : Seen) → w ≡ record { table = t; number = 69; away = []; caching = false; journal = None; view = first_view pages goal procs 70 } → IsFirstDriver t w
+first_driver t pages goal procs w e = first_of t 70 69 pages goal procs w e refl refl

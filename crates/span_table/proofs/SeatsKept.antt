@@ -53,7 +53,7 @@ module _ (g : JointState) (vs : List SeatView) (all : Seats g vs) (id : ℕ) (w 
       told_is = λ o past is. let t = own_told past is in (t.0, λ m l. t.1 m (subst (λ (z : ℕ). m < z) (length-set g.parts w.number h) l));
       slot_is = λ o. own_slot;
       drives = s.drives;
-      rest = λ d m low home m_else. let r = s.rest d m (subst (λ (z : ℕ). m < z) (length-set g.parts w.number h) low) home m_else in (r.0, set_else g.parts w.number h m m_else ∙ r.1, λ p e. r.2 p (far m p m_else e), λ e. r.3 (turn.back m m_else e));
+      rest = λ d m low home m_else. let r = s.rest d m (subst (λ (z : ℕ). m < z) (length-set g.parts w.number h) low) home m_else in (r.0, set_else g.parts w.number h m m_else ∙ r.1, λ p e. r.2 p (far m p m_else e), λ e. r.3 (turn.back m m_else e), λ y e. r.4 y (sym (set_else g.parts w.number h m m_else) ∙ e));
       wide = λ d. s.wide d ∙ sym (length-set g.parts w.number h);
     }
 
@@ -67,7 +67,7 @@ module _ (g : JointState) (vs : List SeatView) (all : Seats g vs) (id : ℕ) (w 
       told_is = λ o past is. absurd (d (sym ((s.told_is o past is).1 w.number (inside g id w (all id w at) out)) ∙ (all id w at).own_by out));
       slot_is = λ o p is. s.slot_is o p (far x.number p (other i x.number d (s.own_by o)) is);
       drives = s.drives;
-      rest = λ r m low home m_else. let t = s.rest r m (subst (λ (z : ℕ). m < z) (length-set g.parts w.number h) low) home m_else in (t.0, set_else g.parts w.number h m (other i m d t.0) ∙ t.1, λ p z. t.2 p (far m p (other i m d t.0) z), λ z. t.3 (turn.back m (other i m d t.0) z));
+      rest = λ r m low home m_else. let t = s.rest r m (subst (λ (z : ℕ). m < z) (length-set g.parts w.number h) low) home m_else in (t.0, set_else g.parts w.number h m (other i m d t.0) ∙ t.1, λ p z. t.2 p (far m p (other i m d t.0) z), λ z. t.3 (turn.back m (other i m d t.0) z), λ y z. t.4 y (sym (set_else g.parts w.number h m (other i m d t.0)) ∙ z));
       wide = λ r. s.wide r ∙ sym (length-set g.parts w.number h);
     }
 

@@ -28,7 +28,7 @@ use Rattle.block_laws.proofs.Kept as block_steps
 use Rattle.span_table.proofs.Adaptors.{none_some}
 use Rattle.span_table.proofs.Tracing.{IsTraced, all_traced}
 use Rattle.span_table.proofs.Joined.{get_at}
-use Rattle.span_table.specs.Running.{all_added, IsShown, Running, Seated, Stored, JointState, first_seat_view, value, objects_placed}
+use Rattle.span_table.specs.Running.{all_added, IsShown, Running, Seated, Stored, JointState, first_seat_view, value, events_told}
 use Rattle.span_table.specs.declared.view.Item.{Item}
 use Rattle.span_table.specs.declared.view.Item.TheVariants.{Heap, Nothing}
 use Rattle.span_table.specs.declared.view.SeatView.{SeatView}
@@ -53,7 +53,7 @@ get_mapped x (y ∷ ys) (suc i) = get_mapped x ys i
 pub get_copies : {A : Type 0} (n : ℕ) (x : A) (i : ℕ) → get_or (copies n x) i x ≡ x
 get_copies n x i = get_mapped x (range_with_len 0 n) i
 
-module _ (R goal workers : ℕ) (ws : List ℕ) (xs : List Item) (heap : PageHeap) (small : R ≤ MAX_PAGES) (whole : 512 * chunks_of R ≡ R) (many : 1 ≤ workers) (size : length ws ≡ word_count R) (one : get_or ws 1 0 ≡ 4) (zeros : (i : ℕ) → i ≢ 1 → get_or ws i 0 ≡ 0)
+module _ (R goal procs workers : ℕ) (ws : List ℕ) (xs : List Item) (heap : PageHeap) (small : R ≤ MAX_PAGES) (whole : 512 * chunks_of R ≡ R) (many : 1 ≤ workers) (size : length ws ≡ word_count R) (one : get_or ws 1 0 ≡ 4) (zeros : (i : ℕ) → i ≢ 1 → get_or ws i 0 ≡ 0)
     (slots : length xs ≡ R + 1) (first : get_elem? xs 0 ≡ some (Heap heap)) (region : heap.region ≡ R) (goal_is : heap.goal ≡ goal) (past : heap.past ≡ []) where
   abbrev new : CoreState
   new = new_state R workers
@@ -62,14 +62,14 @@ module _ (R goal workers : ℕ) (ws : List ℕ) (xs : List Item) (heap : PageHea
   core = record (new_state R workers) { room = R }
 
   abbrev joint : JointState
-  joint = record { core = core; heap = heap; homes = copies R None; base = first_view R goal workers; parts = copies workers no_part; lock = 0; owner = λ _. 0; driver = 0; taker = λ _. 0; placed = λ _. 0 }
+  joint = record { core = core; heap = heap; homes = copies R None; base = first_view R goal procs workers; parts = copies workers no_part; lock = 0; owner = λ _. 0; driver = 0; taker = λ _. 0; events = λ _. 0 }
 
-  kept_at : (n : ℕ) → n < length (copies workers no_part) → Kept core heap (copies R None) n (record (first_view R goal workers) { own = get_or (copies workers no_part) n no_part; parts = copies workers no_part })
-  kept_at n low = let zero_word : ℕ = 0 in start_kept new core heap (copies R None) (record (first_view R goal workers) { own = get_or (copies workers no_part) n no_part; parts = copies workers no_part }) R goal workers n
+  kept_at : (n : ℕ) → n < length (copies workers no_part) → Kept core heap (copies R None) n (record (first_view R goal procs workers) { own = get_or (copies workers no_part) n no_part; parts = copies workers no_part })
+  kept_at n low = let zero_word : ℕ = 0 in start_kept new core heap (copies R None) (record (first_view R goal procs workers) { own = get_or (copies workers no_part) n no_part; parts = copies workers no_part }) R goal procs workers n
       refl (owned_as new R workers refl) (start_tidy new workers refl refl) (start_tails new R workers refl)
       (ap (λ (z : ℕ). record (new_state R workers) { room = z }) (sym (length_copies R zero_word)))
       (let y = length_copies workers no_part in omega arith) region goal_is past refl small
-      (λ i. record (first_view R goal workers) { own = get_copies workers no_part n i; parts = copies workers no_part })
+      (λ i. record (first_view R goal procs workers) { own = get_copies workers no_part n i; parts = copies workers no_part })
 
   no_sets : (s : ℕ) → set_of core s ≡ no_set
   no_sets s = get_copies 544 no_set s
@@ -85,7 +85,7 @@ module _ (R goal workers : ℕ) (ws : List ℕ) (xs : List Item) (heap : PageHea
   shown (EntryWord s n) i = zeros ((n + chunks_of R * s) + (R + 621)) (λ e. omega arith)
   shown (CellWord p x k) i = zeros ((k + 512 * (x + blocks_of (chunks_of R) * p)) + first_cell R) (λ e. omega arith)
 
-  seated : Seated joint 0 (first_seat_view R goal workers)
+  seated : Seated joint 0 (first_seat_view R goal procs workers)
   seated = record {
     agrees = λ o. refl;
     own_is = λ o. at_low (copies workers no_part) (workers - 1) no_part (let y = length_copies workers no_part in omega arith) ∙ ap (λ (x : Part). some x) (get_copies workers no_part (workers - 1));
@@ -95,7 +95,7 @@ module _ (R goal workers : ℕ) (ws : List ℕ) (xs : List Item) (heap : PageHea
     told_is = λ o past e. absurd (no_lines past e);
     slot_is = λ o p e. absurd (omega arith);
     drives = λ e. (refl, refl);
-    rest = λ d m low home other. (refl, refl, λ p e. omega arith, λ e. omega arith);
+    rest = λ d m low home other. (refl, refl, λ p e. omega arith, λ e. omega arith, λ h e. ap (λ (x : Part). x.cache) (sym (get_at (copies workers no_part) m h no_part e) ∙ get_copies workers no_part m));
     wide = λ d. refl;
   }
     where
@@ -105,8 +105,8 @@ module _ (R goal workers : ℕ) (ws : List ℕ) (xs : List Item) (heap : PageHea
       no_lines : (h : List Line) → None ≡ Some h → ⊥
       no_lines h e = cc
 
-  seats : (i : ℕ) (w : SeatView) → get_elem? (first_seat_view R goal workers ∷ []) i ≡ some w → Seated joint i w
-  seats zero w e = subst (Seated joint 0) (some-injective (first_seat_view R goal workers) w e) seated
+  seats : (i : ℕ) (w : SeatView) → get_elem? (first_seat_view R goal procs workers ∷ []) i ≡ some w → Seated joint i w
+  seats zero w e = subst (Seated joint 0) (some-injective (first_seat_view R goal procs workers) w e) seated
   seats (suc i) w e = absurd (some-ne-none w (sym e))
 
   no_body : (p : ℕ) (b : Body) → get_or (copies R None) p None ≡ Some b → ⊥
@@ -127,15 +127,15 @@ module _ (R goal workers : ℕ) (ws : List ℕ) (xs : List Item) (heap : PageHea
   none_spare : (m : ℕ) → get_or (copies workers zero) m 0 ≡ 0
   none_spare m = get_copies workers zero m
 
-  traced : (i : ℕ) (w : SeatView) → get_elem? (first_seat_view R goal workers ∷ []) i ≡ some w → IsTraced (λ _. 0) (length (copies workers no_part)) no_blocks i w
-  traced zero w e = subst (IsTraced (λ _. 0) (length (copies workers no_part)) no_blocks 0) (some-injective (first_seat_view R goal workers) w e)
+  traced : (i : ℕ) (w : SeatView) → get_elem? (first_seat_view R goal procs workers ∷ []) i ≡ some w → IsTraced (λ _. 0) (length (copies workers no_part)) no_blocks i w
+  traced zero w e = subst (IsTraced (λ _. 0) (length (copies workers no_part)) no_blocks 0) (some-injective (first_seat_view R goal procs workers) w e)
       (record { wide = λ o. length_copies workers zero ∙ sym (length_copies workers no_part); spares = λ o m low is. none_spare m; found = λ o f is. none_some f is })
   traced (suc i) w e = absurd (some-ne-none w (sym e))
 
-  none_placed : (h : Part) → h ≡ no_part → 0 ≡ (0 + objects_placed h.log) % 18446744073709551616
-  none_placed h e = subst (λ (x : Part). 0 ≡ (0 + objects_placed x.log) % 18446744073709551616) (sym e) refl
+  none_placed : (h : Part) → h ≡ no_part → 0 ≡ (0 + events_told h.log) % 18446744073709551616
+  none_placed h e = subst (λ (x : Part). 0 ≡ (0 + events_told x.log) % 18446744073709551616) (sym e) refl
 
-  pub starts : Running R (opening ws xs (first_seat_view R goal workers))
+  pub starts : Running R (opening ws xs (first_seat_view R goal procs workers))
   starts = record {
     joint = joint;
     blocks = no_blocks;
@@ -144,7 +144,7 @@ module _ (R goal workers : ℕ) (ws : List ℕ) (xs : List Item) (heap : PageHea
     words = record { size = size; many = let zero_word : ℕ = 0 in length_copies R zero_word; whole = whole; blocked = block_steps.starts (chunks_of R) 4 core.sets (λ s i. ap (λ (x : SetState). cell_of x i) (no_sets s)); shows = shown };
     seats = seats;
     stored = stored;
-    traced = all_traced (λ _. 0) (length (copies workers no_part)) no_blocks (first_seat_view R goal workers ∷ []) traced;
-    present = record { driven = (first_seat_view R goal workers, refl, refl, λ m. omega arith); seat = λ m low. (first_seat_view R goal workers, refl, (refl, inr (refl, refl))) };
-    counted = record { sums = λ k l. zeros (k + 2) (λ e. omega arith) ∙ ap (λ (z : ℕ). z % 18446744073709551616) (sym (none_added (k + 2) (range_with_len 0 workers))); events = λ n h few at. zeros (n + 5) (λ e. omega arith) ∙ none_placed h (sym (get_at (copies workers no_part) n h no_part at) ∙ get_copies workers no_part n) };
+    traced = all_traced (λ _. 0) (length (copies workers no_part)) no_blocks (first_seat_view R goal procs workers ∷ []) traced;
+    present = record { driven = (first_seat_view R goal procs workers, refl, refl, λ m. omega arith); seat = λ m low. (first_seat_view R goal procs workers, refl, (refl, inr (refl, refl))) };
+    counted = record { sums = λ k l. zeros (k + 2) (λ e. omega arith) ∙ ap (λ (z : ℕ). z % 18446744073709551616) (sym (none_added (k + 2) (range_with_len 0 workers))); each = λ n h few at. zeros (n + 5) (λ e. omega arith) ∙ none_placed h (sym (get_at (copies workers no_part) n h no_part at) ∙ get_copies workers no_part n) };
   }

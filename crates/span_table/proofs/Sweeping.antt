@@ -1,9 +1,10 @@
 -- Who sweeps a span does so alone, and nobody sweeps a cached one: from the rule of the lent state, over all workers.
-use Rattle.std.proofs.Common.{◌≡◌, ◌≢◌, ◌⊎◌, ⊎_elim, ℕ, suc, ◌+◌, ◌<◌, ◌&&◌, Bool, eqb, List, length, get_or, map, set, ap, ◌∙◌, arith}
+use Rattle.std.proofs.Common.{◌≡◌, ◌≢◌, ◌⊎◌, ⊎_elim, ℕ, suc, ◌+◌, ◌<◌, ◌&&◌, Bool, eqb, List, length, get_or, map, set, refl, sym, ap, ◌∙◌, arith}
 use mathlib.Core.Logic.{dite}
 use mathlib.Core.Option.{some}
 use native.Mathlib.Decide.{dec_le}
 use lib.ListN.{get_elem?}
+use Rattle.run_laws.specs.Shown.{bits_of}
 use Rattle.sweep_laws.specs.Counts.{times}
 use Rattle.sweep_laws.specs.Standing.{Page, tally}
 use Rattle.sweep_laws.specs.State.{HandState}
@@ -12,6 +13,7 @@ use Rattle.sweep_laws.proofs.Naming.{times_has}
 use Rattle.sweep_laws.proofs.Standings.{cached_list, sweeping_list}
 use Rattle.sweep_laws.proofs.Totals.{inside_at, part_le, two_parts_le}
 use Rattle.span_laws.specs.Asks.{mine}
+use Rattle.span_laws.specs.Cycle.{KeepsCycle, cycle_seen}
 use Rattle.span_laws.specs.Rule.{Rule}
 use Rattle.span_laws.specs.Views.{hand_state, no_part, parts_of}
 use Rattle.span_laws.specs.declared.view.Part.{Part}
@@ -25,6 +27,10 @@ use Rattle.span_table.proofs.Joined.{get_at}
 module _ (g : JointState) (k : Lawful g) (n : ℕ) (h : Part) (at : get_elem? g.parts n ≡ some h) where
   pub rule : Rule g.core g.heap g.homes n (whole g.base g.parts n)
   rule = (k.kept n (inside_at g.parts n h at)).rule
+
+  cycle : KeepsCycle g.core g.heap n (whole g.base g.parts n) rule.known
+  unfolding rule
+  cycle = (k.kept n (inside_at g.parts n h at)).cycle
 
   own_is : get_or g.parts n no_part ≡ h
   own_is = get_at g.parts n h no_part at
@@ -69,6 +75,11 @@ module _ (g : JointState) (k : Lawful g) (n : ℕ) (h : Part) (at : get_elem? g.
             (λ d. ⊎_elim (λ (e : get_or g.core.words p 0 ≡ 0). absurd (omega arith)) (λ (t : (get_or g.core.words p 0 ≡ g.core.generation) ⊎ (get_or g.core.words p 0 ≡ g.core.generation + 3)).
             ⊎_elim (λ (e : get_or g.core.words p 0 ≡ g.core.generation). absurd (omega arith)) (λ (e : get_or g.core.words p 0 ≡ g.core.generation + 3). absurd (omega arith)) t) (y.listed_word (omega arith)));
         body = rule.bodies.lent n h (ap (λ (l : List Part). get_elem? l n) all_parts ∙ at) p (omega arith);
+        known = rule.known;
+        cycle = cycle_seen n (whole g.base g.parts n) cycle.lines rule.known (bits_of g.core);
+        journal = sym cycle.since;
+        lives = refl;
+        knows = cycle.knows;
       }
 
   pub cached_by : (p : ℕ) → 0 < times p h.cached → IsCachedBy g n p h

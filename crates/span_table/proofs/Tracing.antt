@@ -10,7 +10,7 @@ use Rattle.std.proofs.lemmas.List.{get_or-set_same, get_or-set_other}
 use Rattle.sweep_laws.proofs.Naming.{at_set}
 use Rattle.block_laws.specs.Blocked.{BlockState}
 use Rattle.span_table.specs.Running.{Traced}
-use Rattle.span_table.specs.Seats.{sent_out, spent_seat_view, with_number, without_number}
+use Rattle.span_table.specs.Seats.{spent_seat_view, with_number, without_number}
 use Rattle.span_table.specs.declared.view.Found.{Found}
 use Rattle.span_table.specs.declared.view.SeatView.{SeatView}
 use Rattle.span_table.proofs.Adaptors.{none_some}
@@ -53,9 +53,9 @@ module _ (owner : ℕ → ℕ) (many : ℕ) (b : BlockState) (vs : List SeatView
       found = λ z g is. k.found id w at out g (sym f ∙ is);
     }
 
-    -- a number is handed out
-    module _ (m : ℕ) (mine : owner m ≡ id) (inside : (q : ℕ) → q < many → owner q ≢ length vs) (below : (i : ℕ) (x : SeatView) → get_elem? vs i ≡ some x → i ≢ length vs)
-        (at_end : (i : ℕ) (x : SeatView) → get_elem? (set vs id (without_number m w) ++ sent_out m w ∷ []) i ≡ some x → (get_elem? (set vs id (without_number m w)) i ≡ some x) ⊎ ((i ≡ length vs) × (sent_out m w ≡ x))) where
+    -- a number is handed out, to a seat with the view y
+    module _ (m : ℕ) (y : SeatView) (same : y.spares ≡ w.spares) (nothing : y.found ≡ None) (mine : owner m ≡ id) (inside : (q : ℕ) → q < many → owner q ≢ length vs) (below : (i : ℕ) (x : SeatView) → get_elem? vs i ≡ some x → i ≢ length vs)
+        (at_end : (i : ℕ) (x : SeatView) → get_elem? (set vs id (without_number m w) ++ y ∷ []) i ≡ some x → (get_elem? (set vs id (without_number m w)) i ≡ some x) ⊎ ((i ≡ length vs) × (y ≡ x))) where
       was : (q i : ℕ) → i ≢ length vs → put owner m (length vs) q ≡ i → owner q ≡ i
       was q i d is = dite (ℕ_discrete q m) (λ z. absurd (d (sym is ∙ put_here owner m (length vs) q z))) (λ z. sym (put_else owner m (length vs) q z) ∙ is)
 
@@ -68,16 +68,16 @@ module _ (owner : ℕ → ℕ) (many : ℕ) (b : BlockState) (vs : List SeatView
       driver_stays : IsTraced (put owner m (length vs)) many b id (without_number m w)
       driver_stays = record { wide = λ o. k.wide id w at out; spares = λ o q low is. k.spares id w at out q low (was q id (below id w at) is); found = λ o. k.found id w at out }
 
-      goes_out : IsTraced (put owner m (length vs)) many b (length vs) (sent_out m w)
-      goes_out = record { wide = λ o. k.wide id w at out; spares = λ o q low is. k.spares id w at out q low (new q low is); found = λ o f is. none_some f is }
+      goes_out : IsTraced (put owner m (length vs)) many b (length vs) (y)
+      goes_out = record { wide = λ o. ap (λ (l : List ℕ). length l) same ∙ k.wide id w at out; spares = λ o q low is. ap (λ (l : List ℕ). get_or l q 0) same ∙ k.spares id w at out q low (new q low is); found = λ o f is. none_some f (sym nothing ∙ is) }
 
-      pub traced_out : Traced (put owner m (length vs)) many b (set vs id (without_number m w) ++ sent_out m w ∷ [])
-      traced_out = all_traced (put owner m (length vs)) many b (set vs id (without_number m w) ++ sent_out m w ∷ []) (λ i x there. ⊎_elim
+      pub traced_out : Traced (put owner m (length vs)) many b (set vs id (without_number m w) ++ y ∷ [])
+      traced_out = all_traced (put owner m (length vs)) many b (set vs id (without_number m w) ++ y ∷ []) (λ i x there. ⊎_elim
           (λ (t : get_elem? (set vs id (without_number m w)) i ≡ some x). ⊎_elim
           (λ (u : (i ≡ id) × (without_number m w ≡ x)). subst (λ (z : ℕ × SeatView). IsTraced (put owner m (length vs)) many b z.0 z.1) (λ j. (sym u.0 j, u.1 j)) driver_stays)
           (λ (u : (i ≢ id) × (get_elem? vs i ≡ some x)). stays i x u.1)
           (at_set vs id i (without_number m w) x t))
-          (λ (t : (i ≡ length vs) × (sent_out m w ≡ x)). subst (λ (z : ℕ × SeatView). IsTraced (put owner m (length vs)) many b z.0 z.1) (λ j. (sym t.0 j, t.1 j)) goes_out)
+          (λ (t : (i ≡ length vs) × (y ≡ x)). subst (λ (z : ℕ × SeatView). IsTraced (put owner m (length vs)) many b z.0 z.1) (λ j. (sym t.0 j, t.1 j)) goes_out)
           (at_end i x there))
 
     -- a worker is taken in, whose number the seat had not

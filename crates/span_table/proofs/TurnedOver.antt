@@ -17,6 +17,7 @@ use Rattle.sweep_laws.specs.Changes.{after_next}
 use Rattle.sweep_laws.specs.ChangesOfSets.{empty_unswept}
 use Rattle.sweep_laws.specs.Lists.{has, rises}
 use Rattle.sweep_laws.specs.NeedsOfRange.{refusal}
+use Rattle.sweep_laws.specs.OwnedLives.{EachAt}
 use Rattle.sweep_laws.specs.Reading.{cell_of, is_swept_set, no_set, set_of}
 use Rattle.sweep_laws.specs.State.{CoreState, SetState}
 use Rattle.sweep_laws.specs.Step.{needs_of}
@@ -30,12 +31,12 @@ use Rattle.span_laws.specs.Views.{parts_of, no_part}
 use Rattle.span_laws.specs.declared.view.Part.{Part}
 use Rattle.span_laws.specs.declared.view.View.{View}
 use Rattle.span_laws.proofs.Kept.{kept_hand, kept_next}
-use Rattle.span_laws.proofs.MarkEnd.{next_allowed, map_at}
+use Rattle.span_laws.proofs.MarkEnd.{map_at, next_allowed, none_pulled}
 use Rattle.span_laws.proofs.Parts.{set_else}
 use Rattle.table_words.specs.Names.{Name, place, head_tail, LockWord, GenerationWord, CounterWord, EventWord, PageWord, SetWord, DrawnWord, EntryWord, CellWord, IsName, chunks_of, first_cell}
 use Rattle.span_table.specs.Known.{known}
 use Rattle.span_table.specs.Plays.{Turned}
-use Rattle.span_table.specs.Running.{Counted, IsShown, IsUnlent, JointState, Lawful, Present, Running, Seated, Seats, Stored, Traced, Words, all_added, objects_placed, value}
+use Rattle.span_table.specs.Running.{Counted, IsShown, IsUnlent, JointState, Lawful, Present, Running, Seated, Seats, Stored, Traced, Words, all_added, events_told, value}
 use Rattle.span_table.specs.Seats.{SeatState}
 use Rattle.span_table.specs.Turning.{Ruled, Turning, turned_over, turning}
 use Rattle.span_table.specs.declared.view.Item.{Item}
@@ -48,7 +49,7 @@ use Rattle.block_laws.proofs.Kept.{turn_keeps}
 use Rattle.span_table.proofs.Emptying.{other_part}
 use Rattle.span_table.proofs.Tracing.{IsTraced, all_traced}
 use Rattle.span_table.proofs.Adaptors.{none_some}
-use Rattle.span_table.proofs.Driver.{all_home, alone, own_view_kept, unlocked}
+use Rattle.span_table.proofs.Driver.{all_home, alone, none_cached, none_cached_here, own_view_kept, unlocked}
 use Rattle.span_table.proofs.Joined.{get_at, inside}
 use Rattle.span_table.proofs.Made.{IsSound, made}
 use Rattle.span_table.proofs.Ruling.{is_driver, turning_view, turns}
@@ -78,8 +79,8 @@ nothing_added : (word : ℕ) (parts : List Part) → all_added word (map rested 
 nothing_added word [] = refl
 nothing_added word (h ∷ parts) = let z = nothing_added word parts in omega arith
 
-nothing_more : (x : ℕ) (h old : Part) → rested old ≡ h → x ≡ x + objects_placed h.log
-nothing_more x h old e = subst (λ (y : Part). x ≡ x + objects_placed y.log) e (omega arith)
+nothing_more : (x : ℕ) (h old : Part) → rested old ≡ h → x ≡ x + events_told h.log
+nothing_more x h old e = subst (λ (y : Part). x ≡ x + events_told y.log) e (omega arith)
 
 module _ (R : ℕ) (s : State Item SeatView) (t : Turning R s) (id : ℕ) (w : SeatView) (at : get_elem? s.views id ≡ some w) (drives : w.drives ≡ true) (b : TableId) (marks : List (ℕ × ℕ)) (rising : rises marks ≡ true) (may : MayMark (known b w) marks)
     (sets : w.emptying.sets ≡ 272) (counters : w.emptying.counters ≡ 3) (undrawn : w.emptying.undrawn ≡ true) where
@@ -104,6 +105,10 @@ module _ (R : ℕ) (s : State Item SeatView) (t : Turning R s) (id : ℕ) (w : S
   may_mark : MayMark (known b t.driver) marks
   may_mark = let m = subst (λ (x : SeatView). MayMark (known b x) marks) view_is may in record { rest = m.rest; reset = m.reset; early = m.early; known = m.known; told = m.told }
 
+  -- no worker has a page cache
+  uncached : EachAt (parts_of t.driver.number t.driver.view) (λ m h. h.cache ≡ None)
+  uncached = none_cached_here t.run.joint t.run.joint.driver t.driver seat t.alone.drives t.alone.home t.alone.bare
+
   out : t.driver.out ≡ true
   out = (seat.drives t.alone.drives).1
 
@@ -127,12 +132,13 @@ module _ (R : ℕ) (s : State Item SeatView) (t : Turning R s) (id : ℕ) (w : S
 
   needs : refusal (needs_of t.run.joint.core (Next marks)) ≡ None
   needs = next_allowed t.run.joint.core t.run.joint.heap t.run.joint.homes t.driver.number t.driver.view own.rule marks rising may_mark.rest may_mark.known
+      (none_pulled t.run.joint.core t.run.joint.heap t.run.joint.homes t.driver.number t.driver.view own.rule marks rising may_mark.rest may_mark.known uncached)
 
   sound : IsSound (after_next t.run.joint.core marks)
   sound = made t.run.joint.core (Next marks) (record { owned = own.rule.owned; tidy = own.rule.tidy; space = own.rule.space }) needs tt
 
   now : Kept (after_next t.run.joint.core marks) t.run.joint.heap t.run.joint.homes t.driver.number (marked t.driver.number (unwrap_or t.driver.journal []) marks t.driver.view)
-  now = kept_next t.run.joint.core t.run.joint.heap t.run.joint.homes t.driver.number t.driver.view own marks rising may_mark.rest may_mark.known (unwrap_or t.driver.journal []) told may_mark.early
+  now = kept_next t.run.joint.core t.run.joint.heap t.run.joint.homes t.driver.number t.driver.view own marks rising may_mark.rest uncached may_mark.known (unwrap_or t.driver.journal []) told may_mark.early
       (after_next t.run.joint.core marks) refl sound.owned sound.tidy sound.space
 
   abbrev joint' : JointState
@@ -146,7 +152,7 @@ module _ (R : ℕ) (s : State Item SeatView) (t : Turning R s) (id : ℕ) (w : S
     owner = t.run.joint.owner;
     driver = t.run.joint.driver;
     taker = t.run.joint.taker;
-    placed = λ n. t.run.joint.placed n + objects_placed (get_or t.run.joint.parts n no_part).log;
+    events = λ n. t.run.joint.events n + events_told (get_or t.run.joint.parts n no_part).log;
   }
 
   many : length (parts_of t.driver.number (marked t.driver.number (unwrap_or t.driver.journal []) marks t.driver.view)) ≡ length t.run.joint.parts
@@ -260,18 +266,23 @@ module _ (R : ℕ) (s : State Item SeatView) (t : Turning R s) (id : ℕ) (w : S
 
   -- the objects that a worker placed by then are counted with those before
   placed_events : (n : ℕ) (h : Part) → n < 70 → get_elem? (parts_of t.driver.number (marked t.driver.number (unwrap_or t.driver.journal []) marks t.driver.view)) n ≡ some h
-      → get_or s.words (n + 5) 0 ≡ ((t.run.joint.placed n + objects_placed (get_or t.run.joint.parts n no_part).log) + objects_placed h.log) % 18446744073709551616
+      → get_or s.words (n + 5) 0 ≡ ((t.run.joint.events n + events_told (get_or t.run.joint.parts n no_part).log) + events_told h.log) % 18446744073709551616
   placed_events n h few there = let old = map_at rested t.run.joint.parts n h (ap (λ (ps : List Part). get_elem? ps n) (sym parts_are) ∙ there) in
-      t.words.stays (EventWord n) few tt ∙ t.run.counted.events n old.0 few old.1
-      ∙ ap (λ (x : Part). (t.run.joint.placed n + objects_placed x.log) % 18446744073709551616) (sym (get_at t.run.joint.parts n old.0 no_part old.1))
-      ∙ ap (λ (z : ℕ). z % 18446744073709551616) (nothing_more (t.run.joint.placed n + objects_placed (get_or t.run.joint.parts n no_part).log) h old.0 old.2)
+      t.words.stays (EventWord n) few tt ∙ t.run.counted.each n old.0 few old.1
+      ∙ ap (λ (x : Part). (t.run.joint.events n + events_told x.log) % 18446744073709551616) (sym (get_at t.run.joint.parts n old.0 no_part old.1))
+      ∙ ap (λ (z : ℕ). z % 18446744073709551616) (nothing_more (t.run.joint.events n + events_told (get_or t.run.joint.parts n no_part).log) h old.0 old.2)
 
-  counted' : Counted (joint'.placed) parts' (set s.words 1 (t.run.joint.core.generation + 2))
+  counted' : Counted (joint'.events) parts' (set s.words 1 (t.run.joint.core.generation + 2))
   counted' = record {
     sums = λ k below. other_word (k + 2) (λ z. omega arith) ∙ t.words.counters k (let z = emptied_counters in omega arith) below
         ∙ sym (ap (λ (ps : List Part). all_added (k + 2) ps % 18446744073709551616) parts_are ∙ ap (λ (x : ℕ). x % 18446744073709551616) (nothing_added (k + 2) t.run.joint.parts));
-    events = λ n h few there. other_word (n + 5) (λ z. omega arith) ∙ placed_events n h few there;
+    each = λ n h few there. other_word (n + 5) (λ z. omega arith) ∙ placed_events n h few there;
   }
+
+  -- nor has one behind the mark end
+  rested_cache : EachAt (parts_of t.driver.number (marked t.driver.number (unwrap_or t.driver.journal []) marks t.driver.view)) (λ m h. h.cache ≡ None)
+  rested_cache m h there = let old = map_at rested t.run.joint.parts m h (ap (λ (ps : List Part). get_elem? ps m) (sym parts_are) ∙ there) in
+      ap (λ (x : Part). x.cache) (sym old.2) ∙ none_cached t.run.joint t.run.joint.driver t.driver seat t.alone.drives t.alone.home t.alone.bare m old.0 old.1
 
   -- the seats
   own_seat : Seated joint' t.run.joint.driver (turned_over marks t.driver)
@@ -283,7 +294,7 @@ module _ (R : ℕ) (s : State Item SeatView) (t : Turning R s) (id : ℕ) (w : S
     holds = λ o e. absurd (omega arith);
     slot_is = λ o p e. seat.slot_is out p e;
     drives = λ e. (refl, refl);
-    rest = λ e m below home other. let r = seat.rest refl m (let x = many in omega arith) home other in (r.0, set_else (map rested t.driver.view.parts) t.driver.number (rested t.driver.view.own) m other, r.2, λ z. omega arith);
+    rest = λ e m below home other. let r = seat.rest refl m (let x = many in omega arith) home other in (r.0, set_else (map rested t.driver.view.parts) t.driver.number (rested t.driver.view.own) m other, r.2, λ z. omega arith, λ h there. rested_cache m h there);
     told_is = λ o past e. none_some past e;
     wide = λ e. sym (length-set (map rested t.driver.view.parts) t.driver.number (rested t.driver.view.own));
   }

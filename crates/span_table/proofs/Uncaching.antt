@@ -98,7 +98,7 @@ module _ (R : ℕ) where
       let m = made c (StaleUncache n p) (record { owned = k.rule.owned; tidy = k.rule.tidy; space = k.rule.space }) needs tt in
       let some = has_times p w.view.own.cached cached in let part : Part = told (UncachesStale p) w.view.own in
       let l = lent_now c g.heap g.homes n v k.rule p (cached_lent c g.heap g.homes n v k.rule p cached) in
-      let fits : Fits g.heap.past c.lives p (span_of b) = subst (Fits g.heap.past c.lives p) (some_same l.0 (span_of b) (sym l.1 ∙ lent)) l.2 in (
+      let fits : Fits k.rule.known c.lives p (span_of b) = subst (Fits k.rule.known c.lives p) (some_same l.0 (span_of b) (sym l.1 ∙ lent)) l.2 in (
         says (UncachesStale p) w,
         keeps,
         tt,

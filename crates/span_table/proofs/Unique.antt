@@ -120,10 +120,10 @@ module _ (R : ℕ) (s : State Item SeatView) (r t : Running R s) where
 
   -- a body in a worker's hands says which life it is of
   module _ (p : ℕ) where
-    lent_g : (n : ℕ) (x : Part) → get_elem? g.parts n ≡ some x → 0 < lends p x → IsLent g.heap.past g.core.lives x p
+    lent_g : (n : ℕ) (x : Part) → get_elem? g.parts n ≡ some x → 0 < lends p x → IsLent rule_g.known g.core.lives x p
     lent_g n x at has = rule_g.bodies.lent n x (ap (λ (l : List Part). get_elem? l n) (all_parts g r.lawful d.number d.view.own own_g) ∙ at) p has
 
-    lent_h : (n : ℕ) (x : Part) → get_elem? h.parts n ≡ some x → 0 < lends p x → IsLent h.heap.past h.core.lives x p
+    lent_h : (n : ℕ) (x : Part) → get_elem? h.parts n ≡ some x → 0 < lends p x → IsLent rule_h.known h.core.lives x p
     lent_h n x at has = rule_h.bodies.lent n x (ap (λ (l : List Part). get_elem? l n) (all_parts h t.lawful d.number d.view.own own_h) ∙ at) p has
 
     by_lent : (n : ℕ) (x : Part) → get_elem? g.parts n ≡ some x → 0 < lends p x → IsSameLife (life_in p g.core.lives) (life_in p h.core.lives)
@@ -131,16 +131,16 @@ module _ (R : ℕ) (s : State Item SeatView) (r t : Running R s) where
         one_life a.0 (life_in p g.core.lives) (life_in p h.core.lives) a.2.body (subst (λ (y : SpanSeen). IsBody y (life_in p h.core.lives)) (same_span b.0 a.0 (sym b.1 ∙ a.1)) b.2.body)
 
     -- and so does one in its slot
-    home_g : p < R → begins p g.core.lives ≡ true → IsUnlent g.parts p → IsHome g.heap.past g.core.lives g.homes p
+    home_g : p < R → begins p g.core.lives ≡ true → IsUnlent g.parts p → IsHome rule_g.known g.core.lives g.homes p
     home_g low b none = ⊎_elim
         (λ (a : IsAway _ p). let z = none a.0 a.1 (ap (λ (l : List Part). get_elem? l a.0) (sym (all_parts g r.lawful d.number d.view.own own_g)) ∙ a.2) in let y = a.3 in absurd (omega arith))
-        (λ (a : IsHome g.heap.past g.core.lives g.homes p). a)
+        (λ (a : IsHome rule_g.known g.core.lives g.homes p). a)
         (rule_g.bodies.home p (subst (λ (z : ℕ). p < z) (sym r.words.many) low) b)
 
-    home_h : p < R → begins p h.core.lives ≡ true → IsUnlent h.parts p → IsHome h.heap.past h.core.lives h.homes p
+    home_h : p < R → begins p h.core.lives ≡ true → IsUnlent h.parts p → IsHome rule_h.known h.core.lives h.homes p
     home_h low b none = ⊎_elim
         (λ (a : IsAway _ p). let z = none a.0 a.1 (ap (λ (l : List Part). get_elem? l a.0) (sym (all_parts h t.lawful d.number d.view.own own_h)) ∙ a.2) in let y = a.3 in absurd (omega arith))
-        (λ (a : IsHome h.heap.past h.core.lives h.homes p). a)
+        (λ (a : IsHome rule_h.known h.core.lives h.homes p). a)
         (rule_h.bodies.home p (subst (λ (z : ℕ). p < z) (sym t.words.many) low) b)
 
     begins_h : p < R → begins p g.core.lives ≡ true → begins p h.core.lives ≡ true

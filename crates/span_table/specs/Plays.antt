@@ -5,6 +5,7 @@ use Rattle.set_blocks.specs.Names.{blocks_of}
 use Rattle.atomic_table.specs.Table.{Step, rest}
 use Rattle.page_alloc.specs.Heap.{PageHeap}
 use Rattle.page_bitmap.specs.declared.line.Line.{Line}
+use Rattle.page_cache.specs.declared.block.Block.{Block as BlockSeen}
 use Rattle.span_state.specs.Bits.{bit_of}
 use Rattle.span_state.specs.MarkSet.{has_pair}
 use Rattle.span_state.specs.declared.body.Body.{Body}
@@ -20,8 +21,8 @@ use Rattle.span_laws.specs.Logs.{is_look}
 use Rattle.span_laws.specs.OwnSteps.{told_of}
 use Rattle.span_laws.specs.TakeAnswers.{cycle_at}
 use Rattle.span_laws.specs.Views.{span_of}
-use Rattle.span_laws.specs.declared.said.Said.TheVariants.{Adds, Caches, Claims, Fills, Finds, Gives, Looks, LooksCell, Misses, PopsEntry, Reads, Uncaches, UncachesStale, Resets}
-use Rattle.span_laws.specs.declared.said.SaidOf.TheVariants.{Acquires, Places, Pops, Releases, Takes}
+use Rattle.span_laws.specs.declared.said.Said.TheVariants.{Adds, Caches, Claims, Fills, Finds, Gives, Looks, LooksCell, Misses, PopsEntry, Reads, Uncaches, UncachesStale, Resets, Pulls, FindsNoPage, FindsNoCut, Settles}
+use Rattle.span_laws.specs.declared.said.SaidOf.TheVariants.{Acquires, Places, Pops, Releases, Takes, Cuts}
 use Rattle.span_laws.specs.declared.view.Span.{Span as SpanSeen}
 use Rattle.table_words.specs.Names.{head_of, tail_of}
 use Rattle.span_table.specs.declared.view.Item.{Item}
@@ -86,6 +87,26 @@ Took b heap st m x m' = (m' ≡ (locks heap (says_of (Takes (cycle_at m.0.view.g
 -- the run of a span is given back: the heap is another
 abbrev pub Gave : SpanSeen → PageHeap → Step Item → SeatState → ℕ → SeatState → Type 0
 Gave b heap st m x m' = m' ≡ (locks heap (says (Gives b.page b.pages) m.0), m.1)
+
+-- a block is pulled: the heap is another
+abbrev pub Pulled : ℕ → BlockSeen → PageHeap → Step Item → SeatState → ℕ → SeatState → Type 0
+Pulled line block heap st m x m' = m' ≡ (locks heap (says (Pulls line (cycle_at m.0.view.generation) m.0.number block) m.0), m.1)
+
+-- the heap comes home, and the lock is free, where no page was free
+abbrev pub FoundNoPage : Step Item → SeatState → ℕ → SeatState → Type 0
+FoundNoPage st m x m' = m' ≡ (unlocks (says FindsNoPage m.0), rest m.1)
+
+-- the worker's block is settled: the heap is another
+abbrev pub SettledBlock : ℕ → PageHeap → Step Item → SeatState → ℕ → SeatState → Type 0
+SettledBlock line heap st m x m' = m' ≡ (locks heap (says (Settles line) m.0), m.1)
+
+-- a span is cut out of the worker's block
+abbrev pub CutOff : SpanSeen → BlockSeen → Step Item → SeatState → ℕ → SeatState → Type 0
+CutOff b left st m x m' = (m' ≡ (says_of (Cuts left) b m.0, m.1)) × IsUntouched m.0.view.generation m.0.view.own b.page × (mine b.page m.0.view.own ≡ 0)
+
+-- no run of so many pages is in it
+abbrev pub FoundNoCut : ℕ → ℕ → Step Item → SeatState → ℕ → SeatState → Type 0
+FoundNoCut pages left st m x m' = m' ≡ (says (FindsNoCut pages left) m.0, m.1)
 
 -- an empty slot comes home, or goes out
 abbrev pub Returned : Step Item → SeatState → ℕ → SeatState → Type 0

@@ -1,5 +1,5 @@
 -- What the helpers of the tests tell of a worker in the first cycle.
-use Rattle.std.specs.Prelude.{◌≡◌, ℕ, true, None}
+use Rattle.std.specs.Prelude.{◌≡◌, ℕ, true, false, None}
 use Rattle.atomic_table.specs.Seated.{TableId}
 use Rattle.sweep_laws.specs.Lists.{has}
 use Rattle.span_state.specs.declared.body.Body.{Body}
@@ -8,11 +8,12 @@ use Rattle.span_laws.specs.BodyAsks.{IsFullBody, IsUsed}
 use Rattle.worker_log.specs.Entries.{is_pop_of, many}
 use Rattle.span_laws.specs.Views.{Seen, first_view}
 
--- The worker is of this table and has claimed nothing.
+-- The worker is of this table, has claimed nothing and has no page cache.
 pub record IsReady (t : TableId) (w : Seen) : Type 0 where
   pub table : w.table ≡ t
   pub first : w.view.generation ≡ 4
   pub unclaimed : w.view.own.claimed ≡ None
+  pub bare : w.caching ≡ false
 
 -- It holds a span, and has its body.
 pub record Holds (w : Seen) (b : Body) : Type 0 where
@@ -34,4 +35,5 @@ pub record IsFirstDriver (t : TableId) (w : Seen) : Type 0 where
   pub number : w.number ≡ 69
   pub pages : ℕ
   pub goal : ℕ
-  pub view : w.view ≡ first_view pages goal 70
+  pub procs : ℕ
+  pub view : w.view ≡ first_view pages goal procs 70

@@ -19,6 +19,7 @@ use Rattle.span_laws.specs.Cycle.{Kept}
 use Rattle.span_laws.specs.Views.{first_view, no_part}
 use Rattle.span_laws.specs.declared.view.Part.{Part}
 use Rattle.span_laws.specs.declared.view.View.{View}
+use Rattle.run_laws.specs.Blocks.{pullings, settlings}
 use Rattle.worker_log.specs.Logs.{placings}
 use Rattle.worker_log.specs.declared.Entry.{Entry}
 use Rattle.table_words.specs.Names.{Name, IsName, place, head_tail, word_count, LockWord, GenerationWord, CounterWord, EventWord, PageWord, SetWord, DrawnWord, EntryWord, CellWord, chunks_of}
@@ -34,7 +35,7 @@ Slots = List (maybe.Option Item)
 -- What a state of the table shows. The core's own lock is free throughout: who has the heap lock stands apart, 0 for nobody or 1 plus a
 -- worker's number, and a Take or a Give under it is one step of the lent state. `parts` has the part of each number, whether it is out or with the
 -- driver, and `base` what all views agree on. `owner` says which seat has the part of a number, `taker` who has the slot of a page out,
--- 0 for nobody or 1 plus a worker's number, and `placed` how many objects each worker had placed up to the last mark end.
+-- 0 for nobody or 1 plus a worker's number, and `events` how many events each worker had counted up to the last mark end.
 pub record JointState : Type 0 where
   pub core : CoreState
   pub heap : PageHeap
@@ -45,7 +46,7 @@ pub record JointState : Type 0 where
   pub owner : ℕ → ℕ
   pub driver : ℕ
   pub taker : ℕ → ℕ
-  pub placed : ℕ → ℕ
+  pub events : ℕ → ℕ
 
 -- the view that worker n would have if the whole state were lent to it
 abbrev pub whole : View → List Part → ℕ → View
@@ -81,7 +82,7 @@ pub record Words (R : ℕ) (c : CoreState) (b : BlockState) (lock : ℕ) (ws : L
 
 -- 3. the view of the seat i. A seat that is out has the part of its number, agrees with all, knows the heap exactly where it has the
 -- lock, and knows which page's slot it has out; the driver has the parts of all numbers that it did not hand out, and none of those has a slot
--- out or the lock
+-- out, the lock or a page cache
 pub record Seated (g : JointState) (i : ℕ) (w : SeatView) : Type 0 where
   pub agrees : w.out ≡ true → w.view ≡ record g.base { own = w.view.own; parts = w.view.parts }
   pub own_is : w.out ≡ true → get_elem? g.parts w.number ≡ some w.view.own
@@ -90,7 +91,7 @@ pub record Seated (g : JointState) (i : ℕ) (w : SeatView) : Type 0 where
   pub holds : w.out ≡ true → g.lock ≡ w.number + 1 → w.heap ≡ Some g.heap
   pub slot_is : w.out ≡ true → (p : ℕ) → g.taker p ≡ w.number + 1 → w.slot_out ≡ p + 1
   pub drives : w.drives ≡ true → (i ≡ g.driver) × (w.out ≡ true)
-  pub rest : i ≡ g.driver → (m : ℕ) → m < length g.parts → has m w.away ≡ false → m ≢ w.number → (g.owner m ≡ i) × (get_elem? g.parts m ≡ get_elem? w.view.parts m) × ((p : ℕ) → g.taker p ≢ m + 1) × (g.lock ≢ m + 1)
+  pub rest : i ≡ g.driver → (m : ℕ) → m < length g.parts → has m w.away ≡ false → m ≢ w.number → (g.owner m ≡ i) × (get_elem? g.parts m ≡ get_elem? w.view.parts m) × ((p : ℕ) → g.taker p ≢ m + 1) × (g.lock ≢ m + 1) × ((h : Part) → get_elem? g.parts m ≡ some h → h.cache ≡ None)
   pub told_is : w.out ≡ true → (past : List Line) → w.journal ≡ Some past → (g.heap.past ≡ past) × ((m : ℕ) → m < length g.parts → g.owner m ≡ i)
   pub wide : i ≡ g.driver → length w.view.parts ≡ length g.parts
 
@@ -109,17 +110,17 @@ pub record Stored (R : ℕ) (g : JointState) (hs : Slots) : Type 0 where
   pub body_home : (p : ℕ) (b : Body) → p < R → slice_index_or g.homes p None ≡ Some b → IsUnlent g.parts p → get_elem? hs (p + 1) ≡ some (some (Span b))
   pub taker_lent : (p m : ℕ) → g.taker p ≡ m + 1 → (h : Part) × (get_elem? g.parts m ≡ some h) × (0 < lends p h)
 
--- 5. each of the three counters has what the logs of all workers added to it since the last mark end, modulo 2^64, and the word of a worker's
--- allocations the objects that it placed, those before the last mark end and those that its log tells
+-- 5. each of the three counters has what the logs of all workers added to it since the last mark end, modulo 2^64, and the event word of a
+-- worker how often it placed an object, pulled a block or settled one, before the last mark end and by its log since
 abbrev pub all_added : ℕ → List Part → ℕ
 all_added word parts = total (λ h. added word h.log) parts
 
-abbrev pub objects_placed : List Entry → ℕ
-objects_placed log = length (placings log)
+abbrev pub events_told : List Entry → ℕ
+events_told log = length (placings log) + length (pullings log) + length (settlings log)
 
-pub record Counted (placed : ℕ → ℕ) (parts : List Part) (ws : List ℕ) : Type 0 where
+pub record Counted (events : ℕ → ℕ) (parts : List Part) (ws : List ℕ) : Type 0 where
   pub sums : (k : ℕ) → k < 3 → slice_index ws (k + 2) ≡ all_added (k + 2) parts % 18446744073709551616
-  pub events : (n : ℕ) (h : Part) → n < 70 → get_elem? parts n ≡ some h → slice_index ws (n + 5) ≡ (placed n + objects_placed h.log) % 18446744073709551616
+  pub each : (n : ℕ) (h : Part) → n < 70 → get_elem? parts n ≡ some h → slice_index ws (n + 5) ≡ (events n + events_told h.log) % 18446744073709551616
 
 -- 6. the part of each number is in one of the views: in that of the seat which was handed out with it, or in that of the driver, which names
 -- no number twice among those that it handed out
@@ -144,10 +145,10 @@ pub record Running (R : ℕ) (s : State Item SeatView) : Type 0 where
   pub words : Words R joint.core blocks joint.lock s.words
   pub seats : Seats joint s.views
   pub stored : Stored R joint s.homes
-  pub counted : Counted joint.placed joint.parts s.words
+  pub counted : Counted joint.events joint.parts s.words
   pub present : Present joint.owner joint.driver (length joint.parts) s.views
   pub traced : Traced joint.owner (length joint.parts) blocks s.views
 
 -- the driver's first view: it has all parts, the own one of the last number
-abbrev pub first_seat_view : ℕ → ℕ → ℕ → SeatView
-first_seat_view pages goal workers = record { number = workers - 1; out = true; drives = true; away = []; slot_out = 0; heap = None; journal = None; spares = copies workers 0; found = None; view = first_view pages goal workers; emptying = no_emptying }
+abbrev pub first_seat_view : ℕ → ℕ → ℕ → ℕ → SeatView
+first_seat_view pages goal procs workers = record { number = workers - 1; out = true; drives = true; caching = false; away = []; slot_out = 0; heap = None; journal = None; spares = copies workers 0; found = None; view = first_view pages goal procs workers; emptying = no_emptying }

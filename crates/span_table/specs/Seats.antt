@@ -3,8 +3,10 @@ use Rattle.std.specs.Prelude.{ℕ, zero, suc, ◌+◌, true, false, List, [], �
 use Rattle.atomic_table.specs.Table.{Me}
 use Rattle.page_alloc.specs.Heap.{PageHeap}
 use Rattle.page_bitmap.specs.declared.line.Line.{Line}
+use Rattle.page_cache.specs.Cache.{only}
+use Rattle.page_cache.specs.declared.block.Block.{Block as BlockSeen}
 use Rattle.sweep_laws.specs.Lists.{erase}
-use Rattle.span_laws.specs.Handed.{handed}
+use Rattle.span_laws.specs.Handed.{handed, with_cache, with_own_cache}
 use Rattle.span_laws.specs.OwnSteps.{heard, heard_of, told, told_of}
 use Rattle.span_laws.specs.Views.{acts}
 use Rattle.span_laws.specs.declared.said.Said.{Said}
@@ -60,13 +62,21 @@ abbrev pub without_number : ℕ → SeatView → SeatView
 without_number m w = record w { away = m ∷ w.away; journal = None }
 
 abbrev pub sent_out : ℕ → SeatView → SeatView
-sent_out m w = record { number = m; out = true; drives = false; away = []; slot_out = 0; heap = None; journal = None; spares = w.spares; found = None; view = handed w.number m w.view; emptying = no_emptying }
+sent_out m w = record { number = m; out = true; drives = false; caching = false; away = []; slot_out = 0; heap = None; journal = None; spares = w.spares; found = None; view = with_own_cache None (handed w.number m w.view); emptying = no_emptying }
+
+-- the same with a page cache
+abbrev pub sent_out_for : ℕ → SeatView → SeatView
+sent_out_for m w = record (sent_out m w) { caching = true; view = with_own_cache (Some (only m None)) (handed w.number m w.view) }
 
 abbrev pub with_number : SeatView → SeatView → SeatView
-with_number w x = record w { away = erase x.number w.away; spares = slice_set w.spares x.number (slice_index x.spares x.number); view = record w.view { parts = slice_set w.view.parts x.number x.view.own } }
+with_number w x = record w { away = erase x.number w.away; spares = slice_set w.spares x.number (slice_index x.spares x.number); view = record w.view { parts = slice_set w.view.parts x.number (with_cache None x.view.own) } }
 
 abbrev pub spent_seat_view : SeatView
-spent_seat_view = record { number = 0; out = false; drives = false; away = []; slot_out = 0; heap = None; journal = None; spares = []; found = None; view = Rattle.span_laws.specs.Views.first_view 0 0 0; emptying = no_emptying }
+spent_seat_view = record { number = 0; out = false; drives = false; caching = false; away = []; slot_out = 0; heap = None; journal = None; spares = []; found = None; view = Rattle.span_laws.specs.Views.first_view 0 0 0 0; emptying = no_emptying }
+
+-- a block of nothing
+abbrev pub no_block : BlockSeen
+no_block = record { page = 0; free = 0 }
 
 -- a heap of nothing
 abbrev pub no_pages : PageHeap

@@ -74,6 +74,7 @@ pub record IsAlone (w : SeatView) : Type 0 where
   pub home : w.away ≡ []
   pub unlocked : w.heap ≡ None
   pub slot_out : w.slot_out ≡ 0
+  pub bare : w.view.own.cache ≡ None
 
 -- A mark end is under way. The table is what it was as the mark end began, `before`, but for the driver's view and for the words that are emptied
 -- before the new generation is stored.

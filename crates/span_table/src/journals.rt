@@ -1,7 +1,8 @@
 //! The journal and the counts of pages, under the heap lock.
 ghost use Rattle.std.specs.Prelude.{◌≡◌, true, [], Some, List, IfOk};
-ghost use Rattle.page_alloc.specs.Journal.{Legal, past_of};
+ghost use Rattle.page_alloc.specs.Journal.{past_of};
 ghost use Rattle.page_alloc.specs.Owners.{taken};
+ghost use Rattle.sound_run.specs.Run.{IsJournal};
 ghost use Rattle.page_bitmap.specs.declared.line.Line.{Line};
 ghost use Rattle.span_laws.specs.Asks.{IsAtWork, KnowsJournal};
 ghost use Rattle.span_laws.specs.Handed.{knows};
@@ -30,11 +31,11 @@ fn copy_lines(alloc: Global, lines: &[Line]) -> Result<List<Line>, NoMemory>
 }
 
 impl Shared {
-    /// The number of pages that spans have. Takes no memory, and waits for the heap lock.
+    /// The number of pages that spans and page caches have. Takes no memory, and waits for the heap lock.
     pub fn pages_taken<R: Wait>(&self, rt: &R, w: &mut Worker) -> u32
         requires table { w.old.table ≡ self.now }
         ensures same { w.new ≡ w.old }
-        ensures taken { (past : List Line) × Legal w.old.view.region w.old.view.goal past × IsToldOf w.old past × (result ≡ taken w.old.view.region past) }
+        ensures taken { (past : List Line) × IsJournal w.old.view.region w.old.view.goal past × IsToldOf w.old past × (result ≡ taken w.old.view.region past) }
     {
         let heap = lock(rt, self, &mut w.seat, w.number);
         let taken = heap.taken();
@@ -65,7 +66,7 @@ impl Shared {
     pub fn learn_journal(&self, driver: &mut Worker)
         requires works { IsAtWork self.now driver.old }
         requires drives { drives driver.old ≡ true }
-        ensures { (past : List Line) × Legal driver.old.view.region driver.old.view.goal past × IsToldOf driver.old past × (driver.new ≡ knows past driver.old) }
+        ensures { (past : List Line) × IsJournal driver.old.view.region driver.old.view.goal past × IsToldOf driver.old past × (driver.new ≡ knows past driver.old) }
     {
         let heap = lock_alone(self, &mut driver.seat, driver.number);
         unlock_told(self, &mut driver.seat, heap, None);
@@ -74,7 +75,7 @@ impl Shared {
     /// Ends the sweeping of a cycle before its mark end: no worker is out, none sweeps or holds a span, each cached span was cached
     /// in this cycle and has an object of it, and the driver saw each unswept set empty. The driver is told the whole journal, and
     /// what is so of the cycle. Takes no memory, and waits for nobody.
-    pub fn settle(&self, driver: &mut Worker)
+    pub fn end_cycle(&self, driver: &mut Worker)
         requires works { IsAtWork self.now driver.old }
         requires may { MaySettle driver.old }
         ensures { SettlesCycle driver.old driver.new }
@@ -89,7 +90,7 @@ impl Shared {
         requires drives { drives driver.old ≡ true }
         requires told { KnowsJournal driver.old }
         ensures same { driver.new ≡ driver.old }
-        ensures legal { IfOk result (λ lines. Legal driver.old.view.region driver.old.view.goal (past_of lines)) }
+        ensures legal { IfOk result (λ lines. IsJournal driver.old.view.region driver.old.view.goal (past_of lines)) }
         ensures journal { IfOk result (λ lines. driver.old.journal ≡ Some (past_of lines)) }
     {
         let heap = lock_alone(self, &mut driver.seat, driver.number);

@@ -15,6 +15,7 @@ mod journals;
 mod laws;
 mod locks;
 mod mark_end;
+mod page_caches;
 mod places;
 mod plays;
 #[cfg(test)]

@@ -6,12 +6,13 @@ ghost use Rattle.span_laws.specs.MarkEndAsks.{MaySettle};
 ghost use Rattle.span_laws.specs.ScavengeAnswers.{told_if};
 ghost use Rattle.span_laws.specs.TakeAnswers.{IsNew, cycle_at};
 ghost use Rattle.span_laws.specs.Views.{span_of};
-ghost use Rattle.span_table.specs.Asks.{GivesRun, HasEnded, HeapSeen, IsOfRegion, KeepsHeap, MayGive, MissesRun, ScavengesRun, TakesRun};
+ghost use Rattle.span_table.specs.Asks.{CutsRun, GivesRun, HasEnded, HeapSeen, IsOfRegion, KeepsHeap, MayGive, MissesRun, PullsRun, ScavengesRun, SettlesRun, TakesRun};
 ghost use Rattle.span_table.specs.Known.{known};
 ghost use Rattle.span_table.specs.Seats.{hears, locks, unlocks, says, says_of};
 
 use crate::plays::{
-    Give, Hear, Hearing, Lock, LockAlone, Miss, Missing, OfRun, Settle, Take, Unlock,
+    Cut, FindNoCut, FindNoPage, Give, Hear, Hearing, Lock, LockAlone, Miss, Missing, OfCut,
+    OfNumbers, OfPull, OfRun, Pull, Settle, SettleBlock, Take, Unlock,
 };
 use crate::shared::Shared;
 use crate::view::{Item, SeatView};
@@ -19,10 +20,12 @@ use crate::words::word_of_page;
 use atomic_table::Seat;
 use page_alloc::Pages;
 use page_bitmap::{Line, Run};
+use page_cache::Block;
 use span_laws::{Said, SaidOf};
 use span_state::Body;
 use std::marker::Brand;
 use std::sync::Wait;
+use table_words::event_word;
 
 // Takes the heap lock if it is free, and the heap out. Else the word that was found.
 pub(crate) fn try_lock(
@@ -282,6 +285,7 @@ fn unlock_settled_as<J: Hearing>(shared: &Shared, seat: &mut Seat<Item, SeatView
     requires table { seat.old.table_id ≡ shared.now }
     requires out { seat.old.me.0.out ≡ true }
     requires alone { (seat.old.me.0.drives ≡ true) × (seat.old.me.0.away ≡ []) }
+    requires bare { seat.old.me.0.view.own.cache ≡ None }
     requires may { MaySettle (known seat.old.table_id seat.old.me.0) }
     requires picked { J.journal ≡ Some heap.past }
     requires mine { KeepsHeap heap seat.old.me.0 }
@@ -301,6 +305,7 @@ pub(crate) fn unlock_settled(shared: &Shared, seat: &mut Seat<Item, SeatView>, h
     requires table { seat.old.table_id ≡ shared.now }
     requires out { seat.old.me.0.out ≡ true }
     requires alone { (seat.old.me.0.drives ≡ true) × (seat.old.me.0.away ≡ []) }
+    requires bare { seat.old.me.0.view.own.cache ≡ None }
     requires may { MaySettle (known seat.old.table_id seat.old.me.0) }
     requires mine { KeepsHeap heap seat.old.me.0 }
     requires empty { seat.old.me.1 ≡ (0, Item.Nothing) ∷ [] }
@@ -309,4 +314,188 @@ pub(crate) fn unlock_settled(shared: &Shared, seat: &mut Seat<Item, SeatView>, h
     ensures ended { HasEnded heap.past seat.old.me.0 }
 {
     unlock_settled_as::<Brand>(shared, seat, heap);
+}
+
+fn pull_block_as<J: OfPull>(
+    shared: &Shared,
+    seat: &mut Seat<Item, SeatView>,
+    number: u32,
+    _heap: &Pages,
+    _line: u64,
+    _block: Block,
+)
+    requires table { seat.old.table_id ≡ shared.now }
+    requires out { seat.old.me.0.out ≡ true }
+    requires number { number < 70 }
+    requires own { number ≡ seat.old.me.0.number }
+    requires picked { (J.line ≡ _line) × (J.block ≡ _block) × (J.heap ≡ _heap.now) }
+    requires run { PullsRun _heap.now _line _block seat.old.me.0 }
+    ensures table { seat.new.table_id ≡ seat.old.table_id }
+    ensures view { seat.new.me ≡ (locks J.heap (says (Said.Pulls J.line (cycle_at seat.old.me.0.view.generation) seat.old.me.0.number J.block) seat.old.me.0), seat.old.me.1) }
+{
+    let table = &shared.table;
+    let word = event_word(number) as usize;
+    table.shared.fetch_add::<Pull<J>>(seat, word, 1);
+}
+
+// Counts the pull of a block, which the journal's line of that number tells.
+pub(crate) fn pull_block(
+    shared: &Shared,
+    seat: &mut Seat<Item, SeatView>,
+    number: u32,
+    heap: &Pages,
+    line: u64,
+    block: Block,
+)
+    requires table { seat.old.table_id ≡ shared.now }
+    requires out { seat.old.me.0.out ≡ true }
+    requires number { number < 70 }
+    requires own { number ≡ seat.old.me.0.number }
+    requires run { PullsRun heap.now line block seat.old.me.0 }
+    ensures table { seat.new.table_id ≡ seat.old.table_id }
+    ensures view { seat.new.me ≡ (locks heap.now (says (Said.Pulls line (cycle_at seat.old.me.0.view.generation) seat.old.me.0.number block) seat.old.me.0), seat.old.me.1) }
+{
+    pull_block_as::<Brand>(shared, seat, number, heap, line, block);
+}
+
+// Gives the heap and the lock back, where no page was free: the entry comes with this step.
+pub(crate) fn unlock_barren(shared: &Shared, seat: &mut Seat<Item, SeatView>, heap: Pages)
+    requires table { seat.old.table_id ≡ shared.now }
+    requires out { seat.old.me.0.out ≡ true }
+    requires mine { KeepsHeap heap seat.old.me.0 }
+    requires empty { seat.old.me.1 ≡ (0, Item.Nothing) ∷ [] }
+    ensures table { seat.new.table_id ≡ seat.old.table_id }
+    ensures view { seat.new.me ≡ (unlocks (says Said.FindsNoPage seat.old.me.0), []) }
+{
+    let table = &shared.table;
+    put_heap(shared, seat, heap);
+    table.shared.store::<FindNoPage>(seat, 0, 0);
+    table.shared.wake_one(0);
+}
+
+fn settle_block_as<J: OfPull>(
+    shared: &Shared,
+    seat: &mut Seat<Item, SeatView>,
+    number: u32,
+    _heap: &Pages,
+    _line: u64,
+)
+    requires table { seat.old.table_id ≡ shared.now }
+    requires out { seat.old.me.0.out ≡ true }
+    requires number { number < 70 }
+    requires own { number ≡ seat.old.me.0.number }
+    requires picked { (J.line ≡ _line) × (J.heap ≡ _heap.now) }
+    requires run { SettlesRun _heap.now _line seat.old.me.0 }
+    ensures table { seat.new.table_id ≡ seat.old.table_id }
+    ensures view { seat.new.me ≡ (locks J.heap (says (Said.Settles J.line) seat.old.me.0), seat.old.me.1) }
+{
+    let table = &shared.table;
+    let word = event_word(number) as usize;
+    table.shared.fetch_add::<SettleBlock<J>>(seat, word, 1);
+}
+
+// Counts that the worker's block was settled by lines up to that of this number.
+pub(crate) fn settle_block(
+    shared: &Shared,
+    seat: &mut Seat<Item, SeatView>,
+    number: u32,
+    heap: &Pages,
+    line: u64,
+)
+    requires table { seat.old.table_id ≡ shared.now }
+    requires out { seat.old.me.0.out ≡ true }
+    requires number { number < 70 }
+    requires own { number ≡ seat.old.me.0.number }
+    requires run { SettlesRun heap.now line seat.old.me.0 }
+    ensures table { seat.new.table_id ≡ seat.old.table_id }
+    ensures view { seat.new.me ≡ (locks heap.now (says (Said.Settles line) seat.old.me.0), seat.old.me.1) }
+{
+    settle_block_as::<Brand>(shared, seat, number, heap, line);
+}
+
+fn cut_off_as<J: OfCut>(
+    shared: &Shared,
+    seat: &mut Seat<Item, SeatView>,
+    body: &Body,
+    _left: Block,
+    generation: u64,
+)
+    requires table { seat.old.table_id ≡ shared.now }
+    requires out { seat.old.me.0.out ≡ true }
+    requires region { IsOfRegion body.now.page seat.old.table_id seat.old.me.0 }
+    requires generation { generation ≡ seat.old.me.0.view.generation }
+    requires picked { (J.span ≡ span_of body.now) × (J.left ≡ _left) }
+    requires cut { CutsRun body.now _left seat.old.me.0 }
+    requires is_new { IsNew body.now.pages body.now.class body.now }
+    requires class { body.now.class < 136 }
+    ensures table { seat.new.table_id ≡ seat.old.table_id }
+    ensures view { seat.new.me ≡ (says_of (SaidOf.Cuts J.left) J.span seat.old.me.0, seat.old.me.1) }
+    ensures untouched { IsUntouched seat.old.me.0.view.generation seat.old.me.0.view.own J.span.page }
+    ensures nothing { mine J.span.page seat.old.me.0.view.own ≡ 0 }
+{
+    let table = &shared.table;
+    let place = word_of_page(body.page);
+    table.shared.store::<Cut<J>>(seat, place, generation);
+}
+
+// The store of G, at the first page of a run that was cut out of the worker's block for a body.
+pub(crate) fn cut_off(
+    shared: &Shared,
+    seat: &mut Seat<Item, SeatView>,
+    body: &Body,
+    left: Block,
+    generation: u64,
+)
+    requires table { seat.old.table_id ≡ shared.now }
+    requires out { seat.old.me.0.out ≡ true }
+    requires region { IsOfRegion body.now.page seat.old.table_id seat.old.me.0 }
+    requires generation { generation ≡ seat.old.me.0.view.generation }
+    requires cut { CutsRun body.now left seat.old.me.0 }
+    requires is_new { IsNew body.now.pages body.now.class body.now }
+    requires class { body.now.class < 136 }
+    ensures table { seat.new.table_id ≡ seat.old.table_id }
+    ensures view { seat.new.me ≡ (says_of (SaidOf.Cuts left) (span_of body.now) seat.old.me.0, seat.old.me.1) }
+    ensures untouched { IsUntouched seat.old.me.0.view.generation seat.old.me.0.view.own body.now.page }
+    ensures nothing { mine body.now.page seat.old.me.0.view.own ≡ 0 }
+{
+    cut_off_as::<Brand>(shared, seat, body, left, generation);
+}
+
+fn find_no_cut_as<J: OfNumbers>(
+    shared: &Shared,
+    seat: &mut Seat<Item, SeatView>,
+    number: u32,
+    _pages: u32,
+    _left: u32,
+)
+    requires table { seat.old.table_id ≡ shared.now }
+    requires out { seat.old.me.0.out ≡ true }
+    requires number { number < 70 }
+    requires own { number ≡ seat.old.me.0.number }
+    requires picked { (J.first ≡ _pages) × (J.second ≡ _left) }
+    ensures table { seat.new.table_id ≡ seat.old.table_id }
+    ensures view { seat.new.me ≡ (says (Said.FindsNoCut J.first J.second) seat.old.me.0, seat.old.me.1) }
+{
+    let table = &shared.table;
+    let word = event_word(number) as usize;
+    table.shared.load::<FindNoCut<J>>(seat, word);
+}
+
+// The log is told that the worker's block had no run of so many pages, and how many pages it has left. The step reads the worker's own
+// event word, which nobody else writes.
+pub(crate) fn find_no_cut(
+    shared: &Shared,
+    seat: &mut Seat<Item, SeatView>,
+    number: u32,
+    pages: u32,
+    left: u32,
+)
+    requires table { seat.old.table_id ≡ shared.now }
+    requires out { seat.old.me.0.out ≡ true }
+    requires number { number < 70 }
+    requires own { number ≡ seat.old.me.0.number }
+    ensures table { seat.new.table_id ≡ seat.old.table_id }
+    ensures view { seat.new.me ≡ (says (Said.FindsNoCut pages left) seat.old.me.0, seat.old.me.1) }
+{
+    find_no_cut_as::<Brand>(shared, seat, number, pages, left);
 }

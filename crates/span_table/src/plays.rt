@@ -121,6 +121,18 @@ impl<J: Numbered> Split<SeatView> for HandOut<J> {
     ghost right = { sent_out J.number };
 }
 
+pub(crate) struct HandOutFor<J> {
+    number: PhantomData<J>,
+}
+
+impl<J: Numbered> Split<SeatView> for HandOutFor<J> {
+    ghost use Rattle.span_table.specs.Seats.{sent_out_for, without_number};
+
+    ghost left = { without_number J.number };
+
+    ghost right = { sent_out_for J.number };
+}
+
 pub(crate) struct TakeIn;
 
 impl Join<SeatView> for TakeIn {
@@ -521,4 +533,109 @@ impl Play<Item, SeatView> for Note {
     ghost use Rattle.span_table.specs.Plays.{Noted};
 
     ghost then = { Noted };
+}
+
+/// A block that was pulled by the line of this number, and the heap then, which a call of the program picks.
+pub trait OfPull {
+    ghost use Rattle.std.specs.Prelude.{ℕ};
+    ghost use Rattle.page_alloc.specs.Heap.{PageHeap};
+    ghost use Rattle.page_cache.specs.declared.block.Block.{Block};
+
+    ghost line: { ℕ };
+
+    ghost block: { Block };
+
+    ghost heap: { PageHeap };
+}
+
+impl OfPull for Brand {
+    ghost use Rattle.span_table.specs.Seats.{no_block, no_pages};
+
+    ghost line = { 0 };
+
+    ghost block = { no_block };
+
+    ghost heap = { no_pages };
+}
+
+pub(crate) struct Pull<J> {
+    pull: PhantomData<J>,
+}
+
+impl<J: OfPull> Play<Item, SeatView> for Pull<J> {
+    ghost use Rattle.span_table.specs.Plays.{Pulled};
+
+    ghost then = { Pulled J.line J.block J.heap };
+}
+
+pub(crate) struct FindNoPage;
+
+impl Play<Item, SeatView> for FindNoPage {
+    ghost use Rattle.span_table.specs.Plays.{FoundNoPage};
+
+    ghost then = { FoundNoPage };
+}
+
+pub(crate) struct SettleBlock<J> {
+    pull: PhantomData<J>,
+}
+
+impl<J: OfPull> Play<Item, SeatView> for SettleBlock<J> {
+    ghost use Rattle.span_table.specs.Plays.{SettledBlock};
+
+    ghost then = { SettledBlock J.line J.heap };
+}
+
+/// A span that is cut out of a block, and what is left of the block, which a call of the program picks.
+pub trait OfCut {
+    ghost use Rattle.page_cache.specs.declared.block.Block.{Block};
+    ghost use Rattle.span_laws.specs.declared.view.Span.{Span};
+
+    ghost span: { Span };
+
+    ghost left: { Block };
+}
+
+impl OfCut for Brand {
+    ghost use Rattle.span_laws.specs.Views.{no_span};
+    ghost use Rattle.span_table.specs.Seats.{no_block};
+
+    ghost span = { no_span };
+
+    ghost left = { no_block };
+}
+
+pub(crate) struct Cut<J> {
+    cut: PhantomData<J>,
+}
+
+impl<J: OfCut> Play<Item, SeatView> for Cut<J> {
+    ghost use Rattle.span_table.specs.Plays.{CutOff};
+
+    ghost then = { CutOff J.span J.left };
+}
+
+/// Two numbers, which a call of the program picks.
+pub trait OfNumbers {
+    ghost use Rattle.std.specs.Prelude.{ℕ};
+
+    ghost first: { ℕ };
+
+    ghost second: { ℕ };
+}
+
+impl OfNumbers for Brand {
+    ghost first = { 0 };
+
+    ghost second = { 0 };
+}
+
+pub(crate) struct FindNoCut<J> {
+    pages: PhantomData<J>,
+}
+
+impl<J: OfNumbers> Play<Item, SeatView> for FindNoCut<J> {
+    ghost use Rattle.span_table.specs.Plays.{FoundNoCut};
+
+    ghost then = { FoundNoCut J.first J.second };
 }

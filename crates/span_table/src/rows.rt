@@ -17,7 +17,7 @@ pub(crate) const LARGE: u32 = 2;
 pub(crate) fn start(alloc: Global, goal: u32) -> Result<(Shared, Worker), NoMemory>
     ensures { IfOk result (λ made. IsFirstDriver made.0 made.1 × (made.1.away ≡ [])) }
 {
-    let (shared, driver) = Shared::new(alloc, 1, goal)?;
+    let (shared, driver) = Shared::new(alloc, 1, goal, 0)?;
     Ok((shared, driver))
 }
 

@@ -11,5 +11,5 @@ impl TableRule<Item, SeatView, Size> for OneState {
 
     ghost holds = { λ key. Ruled key.pages };
 
-    ghost first = { λ key. first_seat_view key.pages key.goal key.workers };
+    ghost first = { λ key. first_seat_view key.pages key.goal key.procs key.workers };
 }

@@ -1,5 +1,5 @@
 //! The table, and the workers' seats.
-ghost use Rattle.std.specs.Prelude.{◌≡◌, ◌≢◌, ℕ, ◌+◌, ◌*◌, ◌<◌, ◌≤◌, true, false, None, [], IfOk, IfSome, length, slice_index};
+ghost use Rattle.std.specs.Prelude.{◌≡◌, ◌≢◌, ◌⊎◌, ℕ, ◌+◌, ◌*◌, ◌<◌, ◌≤◌, true, false, None, [], IfOk, IfSome, length, slice_index};
 ghost use mathlib.Core.Option.{some};
 ghost use lib.ListN.{get_elem?};
 ghost use Rattle.sweep_laws.specs.Lists.{has};
@@ -7,15 +7,17 @@ ghost use Rattle.span_laws.specs.Views.{first_view};
 ghost use Rattle.table_words.specs.Names.{word_count};
 ghost use Rattle.span_laws.specs.Views.{Seen, drives};
 ghost use Rattle.span_table.specs.Known.{known};
-ghost use Rattle.span_table.specs.Seats.{without_number, sent_out, with_number};
+ghost use Rattle.span_laws.specs.CacheAnswers.{IsEmptyCache};
+ghost use Rattle.span_table.specs.Seats.{without_number, sent_out, sent_out_for, with_number};
 
-use crate::plays::{HandOut, Numbered, TakeIn};
+use crate::plays::{HandOut, HandOutFor, Numbered, TakeIn};
 use crate::rule::OneState;
 use crate::view::{Item, SeatView, Size};
 use crate::words::count_words;
 use atomic_table::{Seat, Table};
 use fallible_list::NoMemory;
 use page_alloc::Pages;
+use page_cache::PageCache;
 use size_classes::{MAX_CHUNKS, MAX_PAGES};
 use std::alloc::Global;
 use std::marker::{Brand, Model};
@@ -50,6 +52,10 @@ pub struct Worker {
     // for each worker's number 1 plus the block that it drew and put nowhere yet, or 0; those of numbers that are not with the seat are of an
     // earlier time
     pub(crate) spares: [u32; 70],
+    // its page cache, where it went out with one
+    pub(crate) cache: Option<PageCache>,
+    // the number of the journal line that pulled the block which is out
+    pub(crate) line: u64,
     pub(crate) seat: Seat<Item, SeatView>,
 }
 
@@ -61,7 +67,7 @@ impl Model for Worker {
 
     ghost view = { λ w. known w.seat.table_id w.seat.me.0 };
 
-    ghost invariant = { λ w. Rests w.number w.generation w.goal w.spares w.seat.table_id w.seat.me };
+    ghost invariant = { λ w. Rests w.number w.generation w.goal w.spares w.cache w.line w.seat.table_id w.seat.me };
 }
 
 // The words at the start.
@@ -126,15 +132,58 @@ fn hand_out_seat(
     hand_out_as::<Brand>(shared, seat, number)
 }
 
-impl Shared {
-    ghost use Rattle.span_laws.specs.Handed.{handed_out, handing, taking_in};
+fn hand_out_for_as<J: Numbered>(
+    shared: &Shared,
+    seat: &mut Seat<Item, SeatView>,
+    _number: u32,
+) -> Seat<Item, SeatView>
+    requires table { seat.old.table_id ≡ shared.now }
+    requires out { seat.old.me.0.out ≡ true }
+    requires drives { seat.old.me.0.drives ≡ true }
+    requires number { J.number < length seat.old.me.0.view.parts }
+    requires home { has J.number seat.old.me.0.away ≡ false }
+    requires other { J.number ≢ seat.old.me.0.number }
+    ensures tables { (seat.new.table_id ≡ seat.old.table_id) × (result.table_id ≡ seat.old.table_id) }
+    ensures driver { seat.new.me ≡ (without_number J.number seat.old.me.0, seat.old.me.1) }
+    ensures worker { result.me ≡ (sent_out_for J.number seat.old.me.0, []) }
+{
+    let table = &shared.table;
+    table.shared.split_seat::<HandOutFor<J>>(seat)
+}
 
-    /// A region of so many chunks of 512 pages, from 1 to 4096, with this goal for backed pages, and the driver's worker,
-    /// whose number is 69.
-    pub fn new(alloc: Global, chunks: u32, goal: u32) -> Result<(Shared, Worker), NoMemory>
+// The same with a page cache.
+fn hand_out_seat_for(
+    shared: &Shared,
+    seat: &mut Seat<Item, SeatView>,
+    number: u32,
+) -> Seat<Item, SeatView>
+    requires table { seat.old.table_id ≡ shared.now }
+    requires out { seat.old.me.0.out ≡ true }
+    requires drives { seat.old.me.0.drives ≡ true }
+    requires number { number < length seat.old.me.0.view.parts }
+    requires home { has number seat.old.me.0.away ≡ false }
+    requires other { number ≢ seat.old.me.0.number }
+    ensures tables { (seat.new.table_id ≡ seat.old.table_id) × (result.table_id ≡ seat.old.table_id) }
+    ensures driver { seat.new.me ≡ (without_number number seat.old.me.0, seat.old.me.1) }
+    ensures worker { result.me ≡ (sent_out_for number seat.old.me.0, []) }
+{
+    hand_out_for_as::<Brand>(shared, seat, number)
+}
+
+impl Shared {
+    ghost use Rattle.span_laws.specs.Handed.{handed_out, handed_out_for, handing, taking_in};
+
+    /// A region of so many chunks of 512 pages, from 1 to 4096, with this goal for backed pages, in which so many processors may have
+    /// page caches, and the driver's worker, whose number is 69.
+    pub fn new(
+        alloc: Global,
+        chunks: u32,
+        goal: u32,
+        procs: u32,
+    ) -> Result<(Shared, Worker), NoMemory>
         requires some { 1 ≤ chunks }
         requires few { chunks ≤ MAX_CHUNKS }
-        ensures { IfOk result (λ made. made.1 ≡ record { table = made.0; number = 69; away = []; journal = None; view = first_view (512 * chunks) goal 70 }) }
+        ensures { IfOk result (λ made. made.1 ≡ record { table = made.0; number = 69; away = []; caching = false; journal = None; view = first_view (512 * chunks) goal procs 70 }) }
     {
         let pages = 512 * chunks;
         let heap = Pages::new(alloc, chunks, goal)?;
@@ -143,6 +192,7 @@ impl Shared {
         let size = Size {
             pages,
             goal,
+            procs,
             workers: 70,
         };
         let Ok((table, seat)) = Table::new(alloc, &words, items, &size) else {
@@ -153,6 +203,8 @@ impl Shared {
             generation: 4,
             goal,
             spares: [0; 70],
+            cache: None,
+            line: 0,
             seat,
         };
         Ok((Shared { table, chunks }, driver))
@@ -174,15 +226,41 @@ impl Shared {
             generation: driver.generation,
             goal: driver.goal,
             spares: driver.spares,
+            cache: None,
+            line: 0,
             seat,
         }
     }
 
-    /// Takes a worker in, with its part.
+    /// The same with a page cache for the processor of that number: one that may have one, and below 64.
+    pub fn hand_out_for(&self, driver: &mut Worker, proc: u32) -> Worker
+        requires table { driver.old.table ≡ self.now }
+        requires drives { drives driver.old ≡ true }
+        requires home { has proc driver.old.away ≡ false }
+        requires number { proc < 64 }
+        requires procs { proc < driver.old.view.procs }
+        requires part { proc < length driver.old.view.parts }
+        ensures driver { driver.new ≡ handing proc driver.old }
+        ensures worker { result ≡ handed_out_for proc driver.old }
+    {
+        let seat = hand_out_seat_for(self, &mut driver.seat, proc);
+        Worker {
+            number: proc,
+            generation: driver.generation,
+            goal: driver.goal,
+            spares: driver.spares,
+            cache: Some(PageCache::new(proc)),
+            line: 0,
+            seat,
+        }
+    }
+
+    /// Takes a worker in, with its part. Where it went out with a page cache, that has no block.
     pub fn take_in(&self, driver: &mut Worker, worker: Worker)
         requires table { driver.old.table ≡ self.now }
         requires drives { drives driver.old ≡ true }
         requires out { worker.table ≡ self.now }
+        requires settled { (worker.caching ≡ false) ⊎ IsEmptyCache worker.view.own.cache }
         ensures { driver.new ≡ taking_in worker driver.old }
     {
         let Worker {

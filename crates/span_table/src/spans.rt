@@ -46,7 +46,7 @@ fn slot(class: u8, n: u32) -> u64
 }
 
 // The body of a new span.
-fn new_body(page: u32, n: u32, class: u8, life: u64) -> Body
+pub(crate) fn new_body(page: u32, n: u32, class: u8, life: u64) -> Body
     requires { 2 ≤ class → IsClass (class / 2) }
     ensures is_new { IsNew n class result }
     ensures page { result.page ≡ page }

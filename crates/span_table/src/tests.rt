@@ -41,7 +41,7 @@ fn run_all<R: Threads + Wait + Sync>(
 
 #[test]
 fn two_workers_take_spans_side_by_side(rt: HostRuntime) -> Result<(), Fail> {
-    let (shared, mut driver) = Shared::new(rt.alloc(), 1, 100)?;
+    let (shared, mut driver) = Shared::new(rt.alloc(), 1, 100, 0)?;
     let mut one = shared.hand_out(&mut driver, 0);
     let mut two = shared.hand_out(&mut driver, 1);
     let (a, b) = join(
@@ -104,14 +104,14 @@ fn a_span_goes_through_sets_and_the_cache(rt: HostRuntime) -> Result<(), Fail> {
 #[test]
 fn nothing_waits_at_the_start(rt: HostRuntime) -> Result<(), Fail> {
     let alloc = rt.alloc();
-    let (shared, mut driver) = Shared::new(alloc, 1, 100)?;
+    let (shared, mut driver) = Shared::new(alloc, 1, 100, 0)?;
     let marks = Marks::empty(alloc);
     assert!(rt;
         shared
             .acquire_unmarked(&mut driver, &marks, 0, 512)
             .is_none()
     );
-    let (shared, mut driver) = Shared::new(alloc, 1, 100)?;
+    let (shared, mut driver) = Shared::new(alloc, 1, 100, 0)?;
     assert!(rt; shared.next_unswept(&mut driver, 0).is_none());
     Ok(())
 }
@@ -134,7 +134,7 @@ fn counters_add_up(rt: HostRuntime) -> Result<(), Fail> {
 #[test]
 fn the_driver_learns_the_journal_and_closes(rt: HostRuntime) -> Result<(), Fail> {
     let alloc = rt.alloc();
-    let (shared, mut driver) = Shared::new(alloc, 1, 3)?;
+    let (shared, mut driver) = Shared::new(alloc, 1, 3, 0)?;
     assert!(rt; shared.region(&driver) == 512 && shared.goal(&driver) == 3);
     let Ok(Some(body)) = shared.try_span(&rt, &mut driver, 5, 0) else {
         panic!(rt; "a run is free")

@@ -13,6 +13,8 @@ pub struct SeatView {
     pub out: bool,
     /// Whether it is the driver's.
     pub drives: bool,
+    /// Whether it went out with a page cache.
+    pub caching: bool,
     /// The numbers that the driver has handed out.
     pub away: LinkedList<u64>,
     /// 1 plus the page whose slot is out with the seat, or 0.
@@ -80,6 +82,8 @@ pub struct Size {
     pub pages: u32,
     /// The goal for backed pages.
     pub goal: u32,
+    /// How many processors may have page caches.
+    pub procs: u32,
     /// How many workers there are, with the driver.
     pub workers: u32,
 }

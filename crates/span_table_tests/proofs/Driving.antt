@@ -48,8 +48,8 @@ idle_part : IsIdle no_part
 idle_part = record { sweeping = refl; held = refl; popped = refl; claimed = refl }
 
 -- at the start no worker has anything; over variables, so that no list of parts is written out
-free_start : (t : TableId) (workers n pages goal : ℕ) (w : Seen) → w ≡ record { table = t; number = n; away = []; journal = None; view = first_view pages goal workers } → n ≡ 69 → workers ≡ 70 → IsFreeDriver t w
-free_start t workers n pages goal w e is many_is = subst (IsFreeDriver t) (sym e) (record {
+free_start : (t : TableId) (workers n pages goal procs : ℕ) (w : Seen) → w ≡ record { table = t; number = n; away = []; caching = false; journal = None; view = first_view pages goal procs workers } → n ≡ 69 → workers ≡ 70 → IsFreeDriver t w
+free_start t workers n pages goal procs w e is many_is = subst (IsFreeDriver t) (sym e) (record {
   works = (refl, refl);
   number = is;
   many = length-map-range_with_len (λ _. no_part) 0 workers ∙ many_is;
@@ -58,8 +58,8 @@ free_start t workers n pages goal w e is many_is = subst (IsFreeDriver t) (sym e
   used = λ m x a p h. absurd (true≢false (sym h ∙ ap (λ (y : Part). has p y.cached) (sym (at_here no_part (range_with_len 0 workers) m x (subst (λ (l : List Part). get_elem? l m ≡ some x) (copy_here no_part workers n) a)))));
 })
 
-pub starts : (t : TableId) (pages goal : ℕ) (w : Seen) → w ≡ record { table = t; number = 69; away = []; journal = None; view = first_view pages goal 70 } → IsFreeDriver t w
-starts t pages goal w e = free_start t 70 69 pages goal w e refl refl
+pub starts : (t : TableId) (pages goal procs : ℕ) (w : Seen) → w ≡ record { table = t; number = 69; away = []; caching = false; journal = None; view = first_view pages goal procs 70 } → IsFreeDriver t w
+starts t pages goal procs w e = free_start t 70 69 pages goal procs w e refl refl
 
 -- the own part of an idle driver
 pub own_of : (t : TableId) (w : Seen) → IsIdleDriver t w → IsIdle w.view.own

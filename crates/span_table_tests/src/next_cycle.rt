@@ -85,6 +85,7 @@ fn word_found(shared: &Shared, w: &mut Worker, page: u32) -> Option<u64>
     requires table { w.old.table ≡ shared.now }
     requires low { page < w.old.view.region }
     ensures table { w.new.table ≡ shared.now }
+    ensures caching { w.new.caching ≡ w.old.caching }
 {
     match shared.acquire(w, page) {
         Acquired::Got(_) => None,

@@ -72,7 +72,7 @@ fn end_mark<R: Wait>(
 impl Table {
     // With this goal for backed pages.
     pub(crate) fn new(alloc: Global, goal: u32) -> Result<Table, NoMemory> {
-        let (shared, driver) = Shared::new(alloc, 1, goal)?;
+        let (shared, driver) = Shared::new(alloc, 1, goal, 0)?;
         Ok(Table { shared, driver })
     }
 

@@ -27,7 +27,7 @@ pub fn start(alloc: Global, chunks: u32, goal: u32) -> Result<(Shared, Worker), 
     ensures marks { IfOk result (λ made. made.1.view.marks ≡ []) }
     ensures uncached { IfOk result (λ made. made.1.view.own.cached ≡ []) }
 {
-    let (shared, w) = Shared::new(alloc, chunks, goal)?;
+    let (shared, w) = Shared::new(alloc, chunks, goal, 0)?;
     Ok((shared, w))
 }
 
@@ -81,7 +81,7 @@ pub fn turn(shared: &Shared, w: &mut Worker, marks: &Marks) -> Result<(), NoMemo
         return Err(NoMemory);
     }
     reset(shared, w);
-    shared.settle(w);
+    shared.end_cycle(w);
     shared.next_generation(w, marks);
     Ok(())
 }
@@ -107,7 +107,7 @@ pub fn turn_one(alloc: Global, shared: &Shared, w: &mut Worker, page: u32) -> Re
         return Err(NoMemory);
     }
     reset(shared, w);
-    shared.settle(w);
+    shared.end_cycle(w);
     let marks = one_mark(alloc, page)?;
     shared.next_generation(w, &marks);
     Ok(())

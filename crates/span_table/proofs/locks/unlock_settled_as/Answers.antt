@@ -11,7 +11,7 @@ store-requires g c = let t = c.shared.invariant in let w = t.words in let m = c.
     let now = c.put_heap.ensures.view in (
       c.put_heap.ensures.table ∙ c.requires.table ∙ sym c.shared.view_is,
       omega arith,
-      settle_allowed c.shared.inside.table.shared.key.pages m.table_id c.shared.inside.table.shared.table_id.slots c.put_heap.new.seat.id c.put_heap.new.seat.me m.me.0 a.0 c.args.heap [] now c.requires.alone.0 c.requires.out c.requires.alone.1 c.requires.may a.1 a.2 g.J.Hearing.journal c.requires.picked,
+      settle_allowed c.shared.inside.table.shared.key.pages m.table_id c.shared.inside.table.shared.table_id.slots c.put_heap.new.seat.id c.put_heap.new.seat.me m.me.0 a.0 c.args.heap [] now c.requires.alone.0 c.requires.out c.requires.alone.1 c.requires.bare c.requires.may a.1 a.2 g.J.Hearing.journal c.requires.picked,
     )
 
 pub returns-clause-ended : goal.returns-clause-ended

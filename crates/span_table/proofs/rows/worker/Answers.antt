@@ -16,4 +16,5 @@ returns-clause-ready c = let r = c.requires.first in let w = c.hand_out.ensures.
   unclaimed = ap (λ (k : Seen). k.view.own.claimed) w
       ∙ ap (λ (v : View). (handed 69 c.args.number v).own.claimed) r.view
       ∙ unclaimed_copy 70 69 c.args.number no_part (λ e. omega arith);
+  bare = ap (λ (k : Seen). k.caching) w;
 }

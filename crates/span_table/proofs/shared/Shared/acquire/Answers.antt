@@ -38,7 +38,7 @@ compare_exchange-word-requires c = let t = c.self.invariant in let words = t.wor
 pub invariant_of-w : goal.invariant_of-w
 invariant_of-w c = let i = c.w.inside in let x = c.compare_exchange-word.result in let t = c.compare_exchange-word.ensures.2 c.args.page c.word_of_page-place.ensures in
     let e = subst (λ (b : Bool). AcquiresBy b c.args.page x i.seat.me c.compare_exchange-word.new.seat.me) (ne_eqb x (i.generation - 2) c.if-word-waits.true) t in
-    rests_said i.number i.generation i.goal i.spares i.seat.table_id c.compare_exchange-word.new.seat.table_id i.seat.me c.compare_exchange-word.new.seat.me c.w.invariant c.compare_exchange-word.ensures.0 (Finds c.args.page x) e
+    rests_said i.number i.generation i.goal i.spares i.cache i.line i.seat.table_id c.compare_exchange-word.new.seat.table_id i.seat.me c.compare_exchange-word.new.seat.me c.w.invariant c.compare_exchange-word.ensures.0 (Finds c.args.page x) refl refl e
 
 -- the worker has the body's slot
 pub exchange-requires : goal.exchange-requires
@@ -68,7 +68,7 @@ load-requires c = let i = c.w.inside in let x = c.compare_exchange-word.result i
 pub invariant_of-w-2 : goal.invariant_of-w-2
 invariant_of-w-2 c = let i = c.w.inside in let x = c.compare_exchange-word.result in let t = c.compare_exchange-word.ensures.2 c.args.page c.word_of_page-place.ensures in let r = c.w.invariant in
     let e = subst (λ (b : Bool). AcquiresBy b c.args.page x i.seat.me c.compare_exchange-word.new.seat.me) (eq-eqb x (i.generation - 2) c.if-word-waits.false) t in
-    rests_by i.number i.generation i.goal i.spares i.seat.table_id c.load.new.seat.table_id i.seat.me c.load.new.seat.me r (c.load.ensures.0 ∙ c.exchange.ensures.0 ∙ c.compare_exchange-word.ensures.0) (told_of Acquires (span_of c.in-Span.body) i.seat.me.0.view.own) i.seat.me.0.journal
+    rests_by i.number i.generation i.goal i.spares i.cache i.line i.seat.table_id c.load.new.seat.table_id i.seat.me c.load.new.seat.me r (c.load.ensures.0 ∙ c.exchange.ensures.0 ∙ c.compare_exchange-word.ensures.0) (told_of Acquires (span_of c.in-Span.body) i.seat.me.0.view.own) i.seat.me.0.journal refl refl
     (home_is Acquires c.args.page e.0 i.seat.me c.compare_exchange-word.new.seat.me c.exchange.new.seat.me c.exchange.result e.1.0 c.exchange.ensures.2 c.exchange.ensures.3 r.empty c.load.new.seat.me c.load.ensures.2 r.slot_out c.in-Span.body c.in-Span.is)
 
 pub returns : goal.returns
@@ -77,7 +77,7 @@ returns c = let i = c.w.inside in let x = c.compare_exchange-word.result in let 
     let home = home_is Acquires c.args.page e.0 i.seat.me c.compare_exchange-word.new.seat.me c.exchange.new.seat.me c.exchange.result e.1.0 c.exchange.ensures.2 c.exchange.ensures.3 r.empty c.load.new.seat.me c.load.ensures.2 r.slot_out c.in-Span.body c.in-Span.is in
     let body = body_is Acquires c.args.page e.0 i.seat.me c.compare_exchange-word.new.seat.me c.exchange.new.seat.me c.exchange.result e.1.0 c.exchange.ensures.2 c.exchange.ensures.3 r.empty c.in-Span.body c.in-Span.is in
     let now : known c.load.new.seat.table_id c.load.new.seat.me.0 ≡ after_of Acquires (span_of c.in-Span.body) c.args.w.now =
-    seen_of i.number i.generation i.goal i.spares i.seat.table_id c.load.new.seat.table_id i.seat.me c.load.new.seat.me r (c.load.ensures.0 ∙ c.exchange.ensures.0 ∙ c.compare_exchange-word.ensures.0) c.args.w.now c.w.view_is Acquires (span_of c.in-Span.body) (ap (λ (z : SeatState). z.0) home) in
+    seen_of i.number i.generation i.goal i.spares i.cache i.line i.seat.table_id c.load.new.seat.table_id i.seat.me c.load.new.seat.me r (c.load.ensures.0 ∙ c.exchange.ensures.0 ∙ c.compare_exchange-word.ensures.0) c.args.w.now c.w.view_is Acquires (span_of c.in-Span.body) (ap (λ (z : SeatState). z.0) home) in
     let facts : AcquiresSpan c.args.page (known i.seat.table_id i.seat.me.0) (after_of Acquires (span_of e.0) (known i.seat.table_id i.seat.me.0)) (Got e.0) = (e.1.1, refl, e.1.2, e.1.3, e.1.4, e.1.5, e.1.6) in
     let seen = subst (λ (z : Seen × Body). AcquiresSpan c.args.page z.0 (after_of Acquires (span_of z.1) z.0) (Got z.1)) (λ j. (c.w.view_is j, body j)) facts in
     subst (λ (z : Seen). AcquiresSpan c.args.page c.args.w.now z (Got c.in-Span.body)) (sym now) seen

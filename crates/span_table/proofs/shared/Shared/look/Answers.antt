@@ -1,4 +1,4 @@
-use Rattle.std.proofs.Common.{arith, ◌≡◌, ◌*◌, ℕ, sym, ap, ◌∙◌, subst}
+use Rattle.std.proofs.Common.{refl, arith, ◌≡◌, ◌*◌, ℕ, sym, ap, ◌∙◌, subst}
 use mathlib.Core.Option.{none}
 use Rattle.atomic_table.specs.Table.{Allows, step}
 use Rattle.span_laws.specs.Answers.{IsAhead}
@@ -25,12 +25,12 @@ pub invariant_of-w : goal.invariant_of-w
 invariant_of-w c = let i = c.w.inside in let t = c.self.invariant in let s = t.slots in let p = c.word_of_set-place.ensures in let x = c.load-word.result in
     let same : i.seat.table_id ≡ c.self.inside.table.shared.table_id = ap (λ (k : Seen). k.table) c.w.view_is ∙ c.requires.table ∙ sym c.self.view_is in
     let e = c.load-word.ensures.2 c.args.set (omega arith) in
-    rests_said i.number i.generation i.goal i.spares i.seat.table_id c.load-word.new.seat.table_id i.seat.me c.load-word.new.seat.me c.w.invariant c.load-word.ensures.0 (Looks c.args.set (head_of x) (tail_of x)) e.0
+    rests_said i.number i.generation i.goal i.spares i.cache i.line i.seat.table_id c.load-word.new.seat.table_id i.seat.me c.load-word.new.seat.me c.w.invariant c.load-word.ensures.0 (Looks c.args.set (head_of x) (tail_of x)) refl refl e.0
 
 pub returns-clause-view : goal.returns-clause-view
 returns-clause-view c = let i = c.w.inside in let t = c.self.invariant in let s = t.slots in let p = c.word_of_set-place.ensures in let x = c.load-word.result in let h = c.halves.ensures in
     let e = c.load-word.ensures.2 c.args.set (omega arith) in
-    seen_said i.number i.generation i.goal i.spares i.seat.table_id c.load-word.new.seat.table_id i.seat.me c.load-word.new.seat.me c.w.invariant c.load-word.ensures.0 c.args.w.now c.w.view_is (Looks c.args.set (head_of x) (tail_of x)) (ap (λ (z : SeatState). z.0) e.0)
+    seen_said i.number i.generation i.goal i.spares i.cache i.line i.seat.table_id c.load-word.new.seat.table_id i.seat.me c.load-word.new.seat.me c.w.invariant c.load-word.ensures.0 c.args.w.now c.w.view_is (Looks c.args.set (head_of x) (tail_of x)) (ap (λ (z : SeatState). z.0) e.0)
     ∙ (λ j. after_said (Looks c.args.set (sym h.head j) (sym h.tail j)) c.args.w.now)
 
 pub returns-clause-ahead : goal.returns-clause-ahead

@@ -1,4 +1,4 @@
-use Rattle.std.proofs.Common.{◌*◌, arith, ◌∙◌, ℕ, sym, ap, subst}
+use Rattle.std.proofs.Common.{refl, ◌*◌, arith, ◌∙◌, ℕ, sym, ap, subst}
 use mathlib.Core.Option.{none}
 use Rattle.atomic_table.specs.Table.{Allows, step}
 use Rattle.span_laws.specs.Views.{Seen}
@@ -20,8 +20,8 @@ load-requires c = let t = c.self.invariant in let w = t.words in let p = c.word_
 
 pub invariant_of-driver : goal.invariant_of-driver
 invariant_of-driver c = let i = c.driver.inside in let t = c.self.invariant in let s = t.slots in let p = c.word_of_set-place.ensures in
-    rests_said i.number i.generation i.goal i.spares i.seat.table_id c.load.new.seat.table_id i.seat.me c.load.new.seat.me c.driver.invariant c.load.ensures.0 (Resets c.args.set) (c.load.ensures.2 c.args.set (omega arith))
+    rests_said i.number i.generation i.goal i.spares i.cache i.line i.seat.table_id c.load.new.seat.table_id i.seat.me c.load.new.seat.me c.driver.invariant c.load.ensures.0 (Resets c.args.set) refl refl (c.load.ensures.2 c.args.set (omega arith))
 
 pub returns : goal.returns
 returns c = let i = c.driver.inside in let t = c.self.invariant in let s = t.slots in let p = c.word_of_set-place.ensures in
-    seen_said i.number i.generation i.goal i.spares i.seat.table_id c.load.new.seat.table_id i.seat.me c.load.new.seat.me c.driver.invariant c.load.ensures.0 c.args.driver.now c.driver.view_is (Resets c.args.set) (ap (λ (z : SeatState). z.0) (c.load.ensures.2 c.args.set (omega arith)))
+    seen_said i.number i.generation i.goal i.spares i.cache i.line i.seat.table_id c.load.new.seat.table_id i.seat.me c.load.new.seat.me c.driver.invariant c.load.ensures.0 c.args.driver.now c.driver.view_is (Resets c.args.set) (ap (λ (z : SeatState). z.0) (c.load.ensures.2 c.args.set (omega arith)))

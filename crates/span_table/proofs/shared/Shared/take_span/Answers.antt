@@ -1,7 +1,6 @@
 use Rattle.std.proofs.Common.{◌≡◌, ℕ, List, sym, ap, ◌∙◌, subst, arith}
 use Rattle.page_alloc.specs.FreeRuns.{HasNoRun}
-use Rattle.page_alloc.specs.Journal.{Legal}
-use Rattle.page_alloc.proofs.BlocksOut.{more-cycle}
+use Rattle.sound_run.specs.Run.{IsJournal}
 use Rattle.page_alloc.proofs.Lives.{span_pages}
 use Rattle.page_bitmap.specs.declared.line.Line.{Line}
 use Rattle.span_laws.specs.TakeAnswers.{cycle_at}
@@ -9,6 +8,7 @@ use Rattle.span_laws.specs.declared.said.Said.TheVariants.{Misses}
 use Rattle.span_laws.specs.OwnSteps.{after_said}
 use Rattle.span_laws.specs.Views.{Seen}
 use Rattle.span_table.specs.Known.{known}
+use Rattle.span_table.proofs.OwnBlocks.{blocks_now}
 use Rattle.span_table.specs.Seats.{SeatState, locks, says, unlocks}
 use Rattle.span_table.proofs.shared.Shared.take_span.Goals as goal
 
@@ -16,7 +16,7 @@ pub take-requires-clause-some : goal.take-requires-clause-some
 take-requires-clause-some g c = span_pages c.args.class c.args.n c.requires.size
 
 pub take-requires-clause-blocks : goal.take-requires-clause-blocks
-take-requires-clause-blocks g c = more-cycle c.lock-heap.result c.reserve_line.new.self _ c.reserve_line.ensures.same c.lock-heap.ensures.heap.legal
+take-requires-clause-blocks g c = blocks_now c.w.inside.seat.me.0 c.w.inside.generation c.lock-heap.result c.reserve_line.new.self c.lock-heap.ensures.heap.blocks c.reserve_line.ensures.same.past c.w.invariant.generation_is
 
 pub returns-in-Err : goal.returns-in-Err
 returns-in-Err g c =
@@ -32,7 +32,7 @@ returns-in-Err g c =
         c.reserve_line.new.self.past,
         sym c.in-Err.ensures.line,
         (
-          subst (λ (z : ℕ × ℕ × List Line). Legal z.0 z.1 z.2) (λ j. ((sym more.region ∙ region) j, (sym more.goal ∙ goal) j, sym more.past j)) seen.legal,
+          subst (λ (z : ℕ × ℕ × List Line). IsJournal z.0 z.1 z.2) (λ j. ((sym more.region ∙ region) j, (sym more.goal ∙ goal) j, sym more.past j)) seen.legal,
           subst (λ (r : ℕ). HasNoRun r c.reserve_line.new.self.past c.args.n) region c.in-Err.ensures.missed.may_follow.1,
         ),
       ),

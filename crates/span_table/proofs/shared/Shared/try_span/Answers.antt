@@ -2,12 +2,12 @@ use Rattle.std.proofs.Common.{arith, ◌≡◌, ℕ, true, false, true≢false, 
 use Rattle.std.specs.Prelude.{None, Some, Option, IfNone, IfSome}
 use Rattle.std.specs.Option.{is_some}
 use Rattle.page_alloc.specs.FreeRuns.{HasNoRun, IsFirstFit, IsFree}
-use Rattle.page_alloc.specs.Journal.{Legal}
-use Rattle.page_alloc.proofs.BlocksOut.{more-cycle}
+use Rattle.sound_run.specs.Run.{IsJournal}
 use Rattle.page_alloc.proofs.Lives.{span_pages}
 use Rattle.page_bitmap.specs.declared.line.Line.{Line}
 use Rattle.span_laws.specs.Views.{Seen}
 use Rattle.span_table.specs.Known.{known}
+use Rattle.span_table.proofs.OwnBlocks.{blocks_now}
 use Rattle.span_table.specs.Seats.{SeatState, locks, unlocks}
 use Rattle.span_table.proofs.shared.Shared.try_span.Goals as goal
 
@@ -26,7 +26,7 @@ pub take-requires-clause-some : goal.take-requires-clause-some
 take-requires-clause-some g c = span_pages c.args.class c.args.n c.requires.size
 
 pub take-requires-clause-blocks : goal.take-requires-clause-blocks
-take-requires-clause-blocks g c = more-cycle c.lock-heap.result c.reserve_line.new.self _ c.reserve_line.ensures.same c.lock-heap.ensures.heap.legal
+take-requires-clause-blocks g c = blocks_now c.w.inside.seat.me.0 c.w.inside.generation c.lock-heap.result c.reserve_line.new.self c.lock-heap.ensures.heap.blocks c.reserve_line.ensures.same.past c.w.invariant.generation_is
 
 pub returns-then-is_none : goal.returns-then-is_none
 returns-then-is_none g c =
@@ -39,7 +39,7 @@ returns-then-is_none g c =
         h.past,
         (λ known is. seen.told known (ap (λ (k : Seen). k.journal) c.w.view_is ∙ is)),
         (
-          subst (λ (z : Seen). Legal z.view.region z.view.goal h.past) c.w.view_is (subst (λ (z : ℕ × ℕ). Legal z.0 z.1 h.past) (λ i. (seen.region i, seen.goal i)) seen.legal),
+          subst (λ (z : Seen). IsJournal z.view.region z.view.goal h.past) c.w.view_is (subst (λ (z : ℕ × ℕ). IsJournal z.0 z.1 h.past) (λ i. (seen.region i, seen.goal i)) seen.legal),
           subst (λ (z : Seen). HasNoRun z.view.region h.past c.args.n) c.w.view_is (subst (λ (z : ℕ). HasNoRun z h.past c.args.n) seen.region none),
         ),
       ),

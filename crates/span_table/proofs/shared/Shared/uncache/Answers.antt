@@ -8,14 +8,14 @@ use Rattle.span_table.proofs.shared.Shared.uncache.Goals as goal
 pub read_cached-word-requires-clause-region : goal.read_cached-word-requires-clause-region
 read_cached-word-requires-clause-region c = let i = c.w.inside in let p = c.args.body.now.page in
     let h = has_times p i.seat.me.0.view.own.cached (subst (λ (k : Seen). has p k.view.own.cached ≡ true) (sym c.w.view_is) c.requires.cached) in
-    still_inside i.number i.generation i.goal i.spares i.seat.table_id c.check.new.seat.table_id i.seat.me c.check.new.seat.me c.w.invariant c.check.ensures.table c.check.ensures.view c.check.ensures.inside p (omega arith)
+    still_inside i.number i.generation i.goal i.spares i.cache i.line i.seat.table_id c.check.new.seat.table_id i.seat.me c.check.new.seat.me c.w.invariant c.check.ensures.table c.check.ensures.view c.check.ensures.inside p (omega arith)
 
 pub uncache_fresh-requires-clause-region : goal.uncache_fresh-requires-clause-region
 uncache_fresh-requires-clause-region c = let i = c.w.inside in let p = c.args.body.now.page in
     let h = has_times p i.seat.me.0.view.own.cached (subst (λ (k : Seen). has p k.view.own.cached ≡ true) (sym c.w.view_is) c.requires.cached) in
-    still_inside i.number i.generation i.goal i.spares i.seat.table_id c.read_cached-word.new.seat.table_id i.seat.me c.read_cached-word.new.seat.me c.w.invariant (c.read_cached-word.ensures.table ∙ c.check.ensures.table) (c.read_cached-word.ensures.view ∙ c.check.ensures.view) c.check.ensures.inside p (omega arith)
+    still_inside i.number i.generation i.goal i.spares i.cache i.line i.seat.table_id c.read_cached-word.new.seat.table_id i.seat.me c.read_cached-word.new.seat.me c.w.invariant (c.read_cached-word.ensures.table ∙ c.check.ensures.table) (c.read_cached-word.ensures.view ∙ c.check.ensures.view) c.check.ensures.inside p (omega arith)
 
 pub uncache_stale-requires-clause-region : goal.uncache_stale-requires-clause-region
 uncache_stale-requires-clause-region c = let i = c.w.inside in let p = c.args.body.now.page in
     let h = has_times p i.seat.me.0.view.own.cached (subst (λ (k : Seen). has p k.view.own.cached ≡ true) (sym c.w.view_is) c.requires.cached) in
-    still_inside i.number i.generation i.goal i.spares i.seat.table_id c.read_cached-word.new.seat.table_id i.seat.me c.read_cached-word.new.seat.me c.w.invariant (c.read_cached-word.ensures.table ∙ c.check.ensures.table) (c.read_cached-word.ensures.view ∙ c.check.ensures.view) c.check.ensures.inside p (omega arith)
+    still_inside i.number i.generation i.goal i.spares i.cache i.line i.seat.table_id c.read_cached-word.new.seat.table_id i.seat.me c.read_cached-word.new.seat.me c.w.invariant (c.read_cached-word.ensures.table ∙ c.check.ensures.table) (c.read_cached-word.ensures.view ∙ c.check.ensures.view) c.check.ensures.inside p (omega arith)
