@@ -62,12 +62,13 @@ module _ (g class : ℕ) where
     sets = fits-both g j i l y.said x.said a.worker b.worker d.worker (λ p z. let s = keeps p in omega arith) (λ p z. let s = keeps p in omega arith) x.sets y.sets;
     property = r y.said x.said x.property y.property;
     keeps = keeps-trans a.worker b.worker d.worker x.keeps y.keeps (λ q s. let z = had_still t m j P a b x q in omega arith);
+    caching = y.caching ∙ x.caching;
     held = λ q. let z = x.held q in let w = y.held q in let s = mores q in omega arith;
     notes = y.notes ∙ ap (λ (z : List SweepNote). z ++ notes_of g y.said) x.notes ∙ append_assoc a.notes.items (notes_of g x.said) (notes_of g y.said) ∙ ap (λ (z : List SweepNote). a.notes.items ++ z) (sym (notes-append g y.said x.said));
   }
 
   pub does-change : (t : ℕ) (m j : ℕ → ℕ) (P Q : List Entry → Type 0) (a b : Hand) → Does g class t m j P a b → ((s : List Entry) → P s → Q s) → Does g class t m j Q a b
-  does-change t m j P Q a b x f = record { said = x.said; log = x.log; says = x.says; sets = x.sets; property = f x.said x.property; keeps = x.keeps; held = x.held; notes = x.notes }
+  does-change t m j P Q a b x f = record { said = x.said; log = x.log; says = x.says; sets = x.sets; property = f x.said x.property; keeps = x.keeps; caching = x.caching; held = x.held; notes = x.notes }
 
   pub does-nothing : (a : Hand) → Does g class 0 nothing nothing Whatever a a
   does-nothing a = record {
@@ -77,6 +78,7 @@ module _ (g class : ℕ) where
     sets = fits-none g nothing [] a.worker a.worker [] refl refl;
     property = tt;
     keeps = keeps-refl a.worker;
+    caching = refl;
     held = λ q. omega arith;
     notes = sym (append-nil a.notes.items);
   }

@@ -83,6 +83,7 @@ module _ (class : ℕ) (a d : Hand) (notes : d.notes.items ≡ a.notes.items) wh
         property = rw (eq-eqb set set refl, eq-eqb b.page b.page refl) (omega arith);
         keeps = keeps_by a.worker d.worker (after looks).view.own whole refl refl refl refl (λ q. refl) (λ q. refl)
             (λ q m. span_else (span_of b) own.spans q (λ x. let z = ap (λ (y : ℕ). mine y own) x in let y = pops.7.nothing in omega arith));
+        caching = ap (λ (w : Seen). w.caching) whole;
         held = λ q. ap (λ (x : Seen). times q x.view.own.held) whole ∙ times_more q b.page own.held;
         notes = no_notes _ (ap (λ (x : List SweepNote). (x ++ []) ++ []) (looks_note g set g pops.3.said pops.3.looks));
       },
@@ -96,6 +97,7 @@ module _ (class : ℕ) (a d : Hand) (notes : d.notes.items ≡ a.notes.items) wh
     sets = fits-none g nothing (Looked set head tail ∷ (l.said ++ Read 1 g ∷ [])) a.worker d.worker [] (looks_sweep set g l.said l.looks) (ap (λ (w : Seen). w.view.own.spans) l.view);
     property = rw (eq-eqb set set refl, eq-eqb head head refl, eq-eqb tail head (sym same)) (omega arith);
     keeps = keeps_by a.worker d.worker (record a.worker.view.own { log = Looked set head tail ∷ (l.said ++ Read 1 g ∷ a.worker.view.own.log); read = l.cells ++ a.worker.view.own.read }) l.view refl refl refl refl (λ q. refl) (λ q. refl) (λ q m. refl);
+    caching = ap (λ (w : Seen). w.caching) l.view;
     held = λ q. let z = ap (λ (w : Seen). times q w.view.own.held) l.view in omega arith;
     notes = no_notes _ (ap (λ (x : List SweepNote). x ++ []) (looks_note g set g l.said l.looks));
   }
@@ -108,6 +110,7 @@ module _ (class : ℕ) (a d : Hand) (notes : d.notes.items ≡ a.notes.items) wh
     sets = fits-none g nothing (LookedEmptyCell set head ∷ looks) a.worker d.worker [] (looks_sweep set g l.said l.looks) (ap (λ (w : Seen). w.view.own.spans) whole);
     property = rw (eq-eqb set set refl, eq-eqb head head refl) (omega arith);
     keeps = keeps_by a.worker d.worker (record a.worker.view.own { log = LookedEmptyCell set head ∷ Looked set head tail ∷ (l.said ++ Read 1 g ∷ a.worker.view.own.log); read = l.cells ++ a.worker.view.own.read }) whole refl refl refl refl (λ q. refl) (λ q. refl) (λ q m. refl);
+    caching = ap (λ (w : Seen). w.caching) whole;
     held = λ q. let z = ap (λ (w : Seen). times q w.view.own.held) whole in omega arith;
     notes = no_notes _ (ap (λ (x : List SweepNote). (x ++ []) ++ []) (looks_note g set g l.said l.looks));
   }

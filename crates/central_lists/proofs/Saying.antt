@@ -15,6 +15,7 @@ use Rattle.span_state.specs.declared.sweep.SweepNote.{SweepNote}
 use Rattle.span_laws.specs.Calls.{is_giving, is_missing, is_placing, note_in, notes_of, number_added, pages_swept}
 use Rattle.span_laws.specs.Logs.{is_taking}
 use Rattle.span_laws.proofs.CallLogs.{total-append}
+use Rattle.span_set.specs.Blocks.{is_of_block}
 use Rattle.span_set.specs.Pops.{IsLookAt}
 use Rattle.span_set.proofs.Numbers.{full_is, partial_is, unswept_is}
 use Rattle.central_lists.specs.Works.{Says, just, nothing}
@@ -54,6 +55,7 @@ module _ (g class : ℕ) where
     misses_nothing = refl;
     gives_nothing = refl;
     places_nothing = refl;
+    keeps_block = refl;
     pops_no_full = λ j p s f. refl;
   }
 
@@ -69,6 +71,7 @@ module _ (g class : ℕ) where
     misses_nothing = let e = many-append is_missing y x in let i = a.misses_nothing in let j = b.misses_nothing in omega arith;
     gives_nothing = let e = many-append is_giving y x in let i = a.gives_nothing in let j = b.gives_nothing in omega arith;
     places_nothing = let e = many-append is_placing y x in let i = a.places_nothing in let j = b.places_nothing in omega arith;
+    keeps_block = let e = many-append is_of_block y x in let i = a.keeps_block in let j = b.keeps_block in omega arith;
     pops_no_full = λ j p s f. let e = many-append (is_pop_of j p) y x in let i = a.pops_no_full j p s f in let l = b.pops_no_full j p s f in omega arith;
   }
 
@@ -85,6 +88,7 @@ module _ (g class : ℕ) where
     misses_nothing = refl;
     gives_nothing = refl;
     places_nothing = refl;
+    keeps_block = refl;
     pops_no_full = λ j p s f. refl;
   }
 
@@ -100,6 +104,7 @@ module _ (g class : ℕ) where
     misses_nothing = refl;
     gives_nothing = refl;
     places_nothing = refl;
+    keeps_block = refl;
     pops_no_full = λ j p s f. refl;
   }
 
@@ -115,6 +120,7 @@ module _ (g class : ℕ) where
     misses_nothing = refl;
     gives_nothing = refl;
     places_nothing = refl;
+    keeps_block = refl;
     pops_no_full = λ j p s f. refl;
   }
 
@@ -130,6 +136,7 @@ module _ (g class : ℕ) where
     misses_nothing = refl;
     gives_nothing = refl;
     places_nothing = refl;
+    keeps_block = refl;
     pops_no_full = λ j p s f. refl;
   }
 
@@ -155,6 +162,7 @@ module _ (g class : ℕ) where
     misses_nothing = refl;
     gives_nothing = refl;
     places_nothing = refl;
+    keeps_block = refl;
     pops_no_full = λ j p s f. let z = none_and (eqb (unswept_set g class full) j) (eqb page p) (ne_eqb _ j (λ e. true≢false (sym s ∙ ap (is_swept_set g) (sym e) ∙ unswept_is g class full (omega arith)))) in omega arith;
   }
 
@@ -171,6 +179,7 @@ module _ (g class : ℕ) where
     misses_nothing = refl;
     gives_nothing = refl;
     places_nothing = refl;
+    keeps_block = refl;
     pops_no_full = λ j p s f. let z = none_and (eqb (swept_set g class 0) j) (eqb page p) (ne_eqb _ j (λ e. true≢false (sym f ∙ ap is_full_set (sym e) ∙ partial_is g class))) in omega arith;
   }
 
@@ -187,6 +196,7 @@ module _ (g class : ℕ) where
     misses_nothing = refl;
     gives_nothing = refl;
     places_nothing = refl;
+    keeps_block = refl;
     pops_no_full = λ j p t f. refl;
   }
 
@@ -203,6 +213,7 @@ module _ (g class : ℕ) where
     misses_nothing = refl;
     gives_nothing = refl;
     places_nothing = refl;
+    keeps_block = refl;
     pops_no_full = λ j p t f. refl;
   }
 

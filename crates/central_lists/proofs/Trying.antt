@@ -121,6 +121,7 @@ module _ (g class full : ℕ) where
         sets = fits-none g nothing said a.worker d.worker [] (looks_sweep set value l.said l.looks) (ap (λ (w : Seen). w.view.own.spans) l.view);
         property = tt;
         keeps = keeps_by a.worker d.worker h l.view refl refl refl refl (λ q. refl) (λ q. refl) (λ q m. refl);
+        caching = ap (λ (w : Seen). w.caching) l.view;
         held = λ q. let z = ap (λ (w : Seen). times q w.view.own.held) l.view in omega arith;
         notes = notes ∙ sym (ap (λ (x : List SweepNote). a.notes.items ++ (x ++ [])) (looks_note g set value l.said l.looks) ∙ append-nil a.notes.items);
       }
@@ -136,6 +137,7 @@ module _ (g class full : ℕ) where
     sets = x.sets;
     property = rw (eq-eqb set set refl, eq-eqb head tail pops.0) (omega arith);
     keeps = x.keeps;
+    caching = x.caching;
     held = x.held;
     notes = x.notes;
   }
@@ -151,6 +153,7 @@ module _ (g class full : ℕ) where
           sets = fits-none g nothing (Found page word ∷ pop.said) a.worker d.worker [] pop.sweeps (ap (λ (x : Seen). x.view.own.spans) all);
           property = tt;
           keeps = keeps_by a.worker d.worker h all refl refl refl refl (λ q. refl) (λ q. times_back q page a.worker.view.own.popped) (λ q m. refl);
+          caching = ap (λ (w : Seen). w.caching) all;
           held = λ q. let z = ap (λ (x : Seen). times q x.view.own.held) all in omega arith;
           notes = notes ∙ sym (ap (λ (x : List SweepNote). a.notes.items ++ (x ++ [])) pop.notes ∙ append-nil a.notes.items);
         }
@@ -264,6 +267,7 @@ module _ (g class full : ℕ) where
           sets = fits-kept g (just b.page) (sweep_said ++ pop.said) a.worker mid.worker (span_of b ∷ span_of b₀ ∷ []) sweeping_is one_sweep (ap (λ (x : Seen). x.view.own.spans) all) (rw (eq-eqb b.page b.page refl) (omega arith));
           property = rw (eq-eqb b.page b.page refl) (omega arith);
           keeps = keeps_by a.worker mid.worker (sweep (after_of Acquires (span_of b₀) start)).view.own all refl refl refl refl sweeping_back popped_back bodies;
+          caching = ap (λ (w : Seen). w.caching) all;
           held = λ q. ap (λ (x : Seen). times q x.view.own.held) all ∙ times_more q b.page a.worker.view.own.held;
           notes = notes_after;
         },
@@ -283,6 +287,7 @@ module _ (g class full : ℕ) where
             sets = fits-pushed g nothing (said ++ pop.said) a.worker d.worker (span_of b₀ ∷ []) sweeping_is (span_of b) true one_sweep (ap (λ (x : Seen). x.view.own.spans) whole) refl kept_count (λ z. full) (λ z. absurd (true≢false z)) to_full;
             property = tt;
             keeps = keeps_by a.worker d.worker (push (sweep (after_of Acquires (span_of b₀) start))).view.own whole refl refl (sym free) refl sweeping_back popped_back bodies;
+            caching = ap (λ (w : Seen). w.caching) whole;
             held = λ q. let z = ap (λ (x : Seen). times q x.view.own.held) whole in let y = times_back q b.page a.worker.view.own.held in omega arith;
             notes = notes ∙ notes_after ∙ ap (λ (x : List SweepNote). a.notes.items ++ x) (sym more_notes);
           }

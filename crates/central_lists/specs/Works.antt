@@ -8,6 +8,7 @@ use Rattle.worker_log.specs.Entries.{is_partial_push, is_pop_of, is_push_of, is_
 use Rattle.span_laws.specs.Calls.{Keeps, added, is_giving, is_missing, is_placing, notes_of, swept_pages}
 use Rattle.span_laws.specs.Logs.{is_taking}
 use Rattle.span_set.specs.declared.hand.Hand.{Hand}
+use Rattle.span_set.specs.Blocks.{is_of_block}
 use Rattle.span_set.specs.Fits.{FitsSets}
 use Rattle.central_lists.specs.Looks.{tries}
 
@@ -22,7 +23,7 @@ just page q = one_if (page == q)
 -- what the log of a call has, whatever it answers: nothing is pushed to a partial set; so many entries of the unswept sets are popped; each
 -- span that is swept is pushed to the swept full set of the class, but for those that are kept; the numbers that are added to word 2 are the
 -- pages of the swept spans, and nothing is added to the words 3 and 4; no run is taken or missed, no span is given back and no object
--- placed; and nothing is popped from a swept full set
+-- placed; nothing is done to the block of the worker's page cache; and nothing is popped from a swept full set
 pub record Says (g class tried : ℕ) (kept : ℕ → ℕ) (said : List Entry) : Type 0 where
   pub hides_nothing : many is_partial_push said ≡ 0
   pub tried_is : tries g class said ≡ tried
@@ -34,6 +35,7 @@ pub record Says (g class tried : ℕ) (kept : ℕ → ℕ) (said : List Entry) :
   pub misses_nothing : many is_missing said ≡ 0
   pub gives_nothing : many is_giving said ≡ 0
   pub places_nothing : many is_placing said ≡ 0
+  pub keeps_block : many is_of_block said ≡ 0
   pub pops_no_full : (j p : ℕ) → is_swept_set g j ≡ true → is_full_set j ≡ true → many (is_pop_of j p) said ≡ 0
 
 -- what some work did: the log grew by what it says, which has a property besides; each span of which a sweep kept some went to the set that it fits, but
@@ -45,5 +47,6 @@ pub record Does (g class tried : ℕ) (more kept : ℕ → ℕ) (P : List Entry 
   pub sets : FitsSets g kept said old.worker new.worker
   pub property : P said
   pub keeps : Keeps old.worker new.worker
+  pub caching : new.worker.caching ≡ old.worker.caching
   pub held : (q : ℕ) → times q new.worker.view.own.held ≡ times q old.worker.view.own.held + more q
   pub notes : new.notes.items ≡ old.notes.items ++ notes_of g said

@@ -1,5 +1,5 @@
 -- A hand is as the rows ask it at the start, and after a look for a span to cache.
-use Rattle.std.proofs.Common.{◌≡◌, ℕ, ◌<◌, List, [], ap, None, sym, subst, ◌∙◌}
+use Rattle.std.proofs.Common.{◌≡◌, ℕ, ◌<◌, false, List, [], ap, None, sym, subst, ◌∙◌}
 use Rattle.std.specs.Prelude.{All}
 use Rattle.std.proofs.lemmas.List.Elements.{All-nil}
 use Rattle.atomic_table.specs.Seated.{TableId}
@@ -23,9 +23,9 @@ ready_after table ring m g class tried more kept P old new d f r = let k = d.kee
   counts = may-still m ring old new r.counts f;
 }
 
-pub first_ready : (table : TableId) (ring : RingId) (m : MarkSet) (pages goal workers : ℕ) (w : Seen) (h : Hand) → m.pairs ≡ [] → ((p : ℕ) → dead_of m p ≡ []) → w ≡ record { table = table; number = 69; away = []; journal = None; view = first_view pages goal workers } → h.worker ≡ w
+pub first_ready : (table : TableId) (ring : RingId) (m : MarkSet) (pages goal procs workers : ℕ) (w : Seen) (h : Hand) → m.pairs ≡ [] → ((p : ℕ) → dead_of m p ≡ []) → w ≡ record { table = table; number = 69; away = []; caching = false; journal = None; view = first_view pages goal procs workers } → h.worker ≡ w
     → h.tally ≡ record { ring = ring; view = no_calls } → IsReady table ring m h
-first_ready table ring m pages goal workers w h none dead at same tally = let is = same ∙ at in record {
+first_ready table ring m pages goal procs workers w h none dead at same tally = let is = same ∙ at in record {
   works = (ap (λ (s : Seen). s.table) is, ap (λ (s : Seen). s.away) is);
   unclaimed = ap (λ (s : Seen). s.view.own.claimed) is;
   marked = none ∙ sym (ap (λ (s : Seen). s.view.marks) is);

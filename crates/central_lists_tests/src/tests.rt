@@ -25,7 +25,7 @@ fn start(alloc: Global) -> Result<Scene, NoMemory>
     ensures { IfOk result (λ s. IsReady s.shared s.ring s.marks s.hand) }
 {
     let (ring, tally) = Ring::new(alloc, 1)?;
-    let (shared, driver) = Shared::new(alloc, 1, 512)?;
+    let (shared, driver) = Shared::new(alloc, 1, 512, 0)?;
     Ok(Scene {
         shared,
         marks: Marks::empty(alloc),

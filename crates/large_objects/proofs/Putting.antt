@@ -78,6 +78,7 @@ module _ (k bytes before at : ℕ) (b : Body) (old mid new : Hand) (holding : Is
     away = ap (λ (s : Seen). s.away) e;
     table = ap (λ (s : Seen). s.table) e;
     number = ap (λ (s : Seen). s.number) e;
+    caching = ap (λ (s : Seen). s.caching) e;
     view = subst (λ (s : Seen). s.view ≡ acts old.worker.view s.view.own) (sym e) refl;
     reset = ap (λ (s : Seen). s.view.own.reset) e;
     sweeping = ap (λ (s : Seen). s.view.own.sweeping) e ∙ holding.sweeping;

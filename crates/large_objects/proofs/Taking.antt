@@ -1,5 +1,5 @@
 -- A large allocation, from its payment to its object.
-use Rattle.std.proofs.Common.{◌≡◌, ℕ, ◌+◌, ◌*◌, ◌<◌, inr, false, List, [], ◌∷◌, ◌++◌, refl, ap, sym, subst, ◌∙◌, arith, append_assoc}
+use Rattle.std.proofs.Common.{◌≡◌, ℕ, ◌+◌, ◌*◌, ◌<◌, inl, inr, ⊎_elim, false, eq-eqb, List, [], ◌∷◌, ◌++◌, refl, ap, sym, subst, ◌∙◌, arith, append_assoc}
 use Rattle.std.specs.Prelude.{Ok, Err}
 use Rattle.page_bitmap.specs.declared.line.Line.TheVariants.{Take}
 use Rattle.span_state.specs.declared.body.Body.{Body}
@@ -10,6 +10,7 @@ use Rattle.worker_log.specs.declared.Placing.{Placing}
 use Rattle.worker_log.specs.Logs.{Taking, takings}
 use Rattle.worker_log.specs.SetNumbers.{swept_set}
 use Rattle.worker_log.specs.Entries.{many}
+use Rattle.worker_log.proofs.Logs.{many-append}
 use Rattle.span_laws.specs.declared.answers.Refused.{Refused}
 use Rattle.span_laws.specs.declared.answers.Refused.TheVariants.{NoRun, NoMemory as WantsMemory}
 use Rattle.span_laws.specs.declared.said.Said.TheVariants.{Adds}
@@ -23,14 +24,15 @@ use Rattle.span_laws.proofs.Parts.{has_none}
 use Rattle.span_set.specs.declared.hand.Hand.{Hand}
 use Rattle.span_set.specs.Fits.{FitsSets, no_page}
 use Rattle.span_set.proofs.Fits.{fits-both}
+use Rattle.sweeper.specs.Entries.{is_cut_of}
 use Rattle.sweeper.specs.NewSpans.{MakesSpan}
 use Rattle.proc_cache.specs.Leaves.{Holds, Sums}
 use Rattle.proc_cache.specs.RefillLogs.{HasPaidFor}
 use Rattle.proc_cache.specs.Findings.{IsHolding}
-use Rattle.proc_cache.proofs.Finding.{making_from, missed_from, missed_takes, no_run_from, one_missed, one_refusal, refusal_behind, stops_making, took_from, took_misses, took_one}
+use Rattle.proc_cache.proofs.Finding.{made_from, made_misses, made_one, making_from, missed_from, missed_takes, no_run_from, one_missed, one_refusal, refusal_behind, stops_making}
 use Rattle.proc_cache.proofs.Holding.{holds-then, holds-trans, idle_after, of_sweeper, sums_of}
 use Rattle.proc_cache.proofs.Logging.{no_placings, no_refusals, placings-append, refusals-append, sums-append}
-use Rattle.large_objects.specs.Larges.{AllocatesLarge, IsForOne, PutsObject}
+use Rattle.large_objects.specs.Larges.{AllocatesLarge, IsForOne, IsMadeFor, PutsObject}
 use Rattle.large_objects.proofs.Putting.{placing_is, put_holds, put_said}
 
 pub no_takings : (said : List Entry) → many is_taking said ≡ 0 → takings said ≡ []
@@ -80,21 +82,22 @@ module _ (pages distance n k : ℕ) (old m1 : Hand) (first : List Entry) (x : Ho
 
   pub large_refused : (new : Hand) (e : Refused) → MakesSpan n k m1 new (Err e) → AllocatesLarge pages distance n k old new (Err e)
   large_refused new (NoRun line) m = let w = m.1 in let s = w.said in let t = sums_of [] _ m1 new idle w 0 1 (missed_takes m1 n k line s w.did) (one_missed m1 n k line s w.did) in (
-    no_run_from old m1 x.view n line m.0,
+    no_run_from old m1 x.view x.caching n line m.0,
     (
       s ++ first,
       holds-trans [] s first old m1 new x (of_sweeper [] _ m1 new idle w),
       sums-append 0 0 0 0 0 0 1 0 s first sums t,
       placings-append s first ∙ (λ i. no_placings s t.places i ++ no_placings first sums.places i),
       refusal_behind _ s first (one_refusal m1 n k line s w.did) (no_refusals first sums.misses),
-      (s, first, refl, paid, missed_from old m1 x.view n k line s w.did),
+      (s, first, refl, paid, missed_from old m1 x.view x.caching n k line s w.did),
+      m.2,
     ),
   )
   large_refused new WantsMemory w = (
     w.said ++ first,
     holds-trans [] w.said first old m1 new x (of_sweeper [] _ m1 new idle w),
     sums-append 0 0 0 0 0 0 0 0 w.said first sums (sums_of [] _ m1 new idle w 0 0 w.did.0.untaken w.did.0.unmissed),
-    inr (w.said, first, refl, paid, making_from old m1 x.view w.said (stops_making n k m1 new w)),
+    inr (w.said, first, refl, paid, making_from old m1 x.view x.caching w.said (stops_making n k m1 new w)),
   )
 
   -- a span was made
@@ -129,7 +132,7 @@ module _ (pages distance n k : ℕ) (old m1 : Hand) (first : List Entry) (x : Ho
       sums2 = record { spends = omega arith; takes = refl; misses = refl; places = refl }
 
       sums1 : Sums 0 1 0 0 m.1.said
-      sums1 = sums_of (b.page ∷ []) _ m1 m2 idle m.1 1 0 (took_one m1 n b m.1.said m.1.did) (took_misses m1 n b m.1.said m.1.did)
+      sums1 = sums_of (b.page ∷ []) _ m1 m2 idle m.1 1 0 (made_one m1 n b m.1.said m.1.did) (made_misses m1 n b m.1.said m.1.did)
 
       abbrev place : Placing
       place = record { page = b.page; index = 0; number = b.life; class = b.class }
@@ -138,10 +141,21 @@ module _ (pages distance n k : ℕ) (old m1 : Hand) (first : List Entry) (x : Ho
       first_sets = fits-both old.worker.view.generation no_page no_page no_page m.1.said first old.worker m1.worker m2.worker (λ p l. l) (λ p l. l) x.sets
           (subst (λ (v : View). FitsSets v.generation no_page m.1.said m1.worker m2.worker) x.view m.1.does.sets)
 
-      -- the run that was taken
-      one_taking : takings m.1.said ≡ record { number = b.life; line = Take (cycle_at old.worker.view.generation) b.page n k } ∷ []
-      one_taking = let t = m.1.did in let h = m.0.is_new in let v = ap (λ (z : View). z.generation) x.view in ap takings t.log
-          ∙ (λ i. (let y : Taking = record { number = b.life; line = Take (cycle_at (v i)) b.page (h.pages i) (h.class i) } in y) ∷ no_takings t.before t.takes_none.untaken i)
+      -- how the span came
+      one_making : (z : List Entry) → takings z ≡ [] → IsMadeFor n k old.worker.view.generation place (z ++ (m.1.said ++ first))
+      one_making z none = let t = m.1.did in let s = m.1.said in let h = m.0.is_new in let g = ap (λ (v : View). v.generation) x.view in
+          let all = takings-append z (s ++ first) ∙ (λ i. none i ++ takings-append s first i) in
+          let after = no_takings t.before t.takes_none.untaken in let none_first = no_takings first sums.takes in ⊎_elim
+          (λ (e : t.making ≡ Took b.life (Take (cycle_at m1.worker.view.generation) b.page b.pages b.class)).
+          let here : takings s ≡ record { number = b.life; line = Take (cycle_at old.worker.view.generation) b.page n k } ∷ [] = ap takings t.log ∙ (λ i. takings (e i ∷ t.before))
+          ∙ (λ i. (let y : Taking = record { number = b.life; line = Take (cycle_at (g i)) b.page (h.pages i) (h.class i) } in y) ∷ after i) in
+          inl (all ∙ (λ i. here i ++ none_first i)))
+          (λ (e : t.making ≡ CutEntry b.page b.pages b.class).
+          let here : takings s ≡ [] = ap takings t.log ∙ (λ i. takings (e i ∷ t.before)) ∙ after in
+          let cut : many (is_cut_of b.page n k) (CutEntry b.page b.pages b.class ∷ t.before) ≡ 1 + many (is_cut_of b.page n k) t.before = rw (eq-eqb b.page b.page refl, eq-eqb b.pages n h.pages, eq-eqb b.class k h.class) refl in
+          let said : many (is_cut_of b.page n k) s ≡ many (is_cut_of b.page n k) (CutEntry b.page b.pages b.class ∷ t.before) = ap (many (is_cut_of b.page n k)) t.log ∙ (λ i. many (is_cut_of b.page n k) (e i ∷ t.before)) in
+          inr (all ∙ (λ i. here i ++ none_first i), let a = many-append (is_cut_of b.page n k) z (s ++ first) in let c = many-append (is_cut_of b.page n k) s first in omega arith))
+          t.makes
 
       pub large_done : AllocatesLarge pages distance n k old new (Ok at)
       large_done =
@@ -161,7 +175,7 @@ module _ (pages distance n k : ℕ) (old m1 : Hand) (first : List Entry) (x : Ho
                 index = refl;
                 address = put.0;
                 refused = refusals-append z (s ++ first) ∙ refusals-append s first ∙ (λ i. no_refusals s sums1.misses i ++ no_refusals first sums.misses i);
-                taken = takings-append z (s ++ first) ∙ takings-append s first ∙ (λ i. one_taking i ++ no_takings first sums.takes i);
+                made = one_making z refl;
               },
               (
                 z ++ s,
@@ -172,7 +186,7 @@ module _ (pages distance n k : ℕ) (old m1 : Hand) (first : List Entry) (x : Ho
                   z,
                   s,
                   refl,
-                  took_from old m1 x.view n b s m.1.did,
+                  made_from old m1 x.view x.caching n b s m.1.did,
                   (
                     Pushed (swept_set m2.worker.view.generation k 1) b.page ∷ Read 1 m2.worker.view.generation ∷ Allocated (record { page = put.2.0.page; index = 0; number = put.2.0.life; class = put.2.0.class }) ∷ [],
                     Added 3 (8192 * n) ∷ Read 3 before ∷ [],

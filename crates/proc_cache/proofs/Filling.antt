@@ -62,6 +62,7 @@ module _ (k p set g : ℕ) (old new : Hand) (idle : IsIdle old.worker.view.own)
     away = ap (λ (w : Seen). w.away) view;
     table = ap (λ (w : Seen). w.table) view;
     number = ap (λ (w : Seen). w.number) view;
+    caching = ap (λ (w : Seen). w.caching) view;
     view = subst (λ (w : Seen). w.view ≡ acts old.worker.view w.view.own) (sym view) refl;
     reset = ap (λ (w : Seen). w.view.own.reset) view;
     idle = record {
@@ -110,6 +111,7 @@ module _ (k bytes before : ℕ) (b : Body) (old new : Hand) (holding : IsHolding
     away = ap (λ (w : Seen). w.away) view;
     table = ap (λ (w : Seen). w.table) view;
     number = ap (λ (w : Seen). w.number) view;
+    caching = ap (λ (w : Seen). w.caching) view;
     view = subst (λ (w : Seen). w.view ≡ acts old.worker.view w.view.own) (sym view) refl;
     reset = ap (λ (w : Seen). w.view.own.reset) view;
     idle = record {
@@ -137,6 +139,7 @@ leaves_after pages later first a b d x y = record {
   away = y.away ∙ x.away;
   table = y.table ∙ x.table;
   number = y.number ∙ x.number;
+  caching = y.caching ∙ x.caching;
   view = subst (λ (v : View). d.worker.view ≡ acts v d.worker.view.own) x.view y.view;
   reset = y.reset ∙ x.reset;
   idle = y.idle;
@@ -205,16 +208,17 @@ module _ (pages distance k : ℕ) (c c1 : Cache) (old m1 : Hand) (left : LeavesF
 
   -- a refusal behind it
   pub refill_refused : (new : Hand) (e : Refused) → FindsSpan pages distance k m1 new (Err e) → RefillsCache pages distance k c c1 old new (Err e)
-  refill_refused new (NoRun line) f = let s = f.1.0 in let t = f.1.4 in let y = t.4.1.1 in let v = left.2.1.view in (
+  refill_refused new (NoRun line) f = let s = f.1.0 in let t = f.1.4 in let y = t.4.1.1 in let v = left.2.1.view in let q = left.2.1.caching in (
     left.0,
-    no_run_from old m1 v (pages_of (k / 2)) line f.0,
+    no_run_from old m1 v q (pages_of (k / 2)) line f.0,
     (
       s ++ left.2.0,
       leaves-trans s left.2.0 old m1 new left.2.1 (holds_nothing s m1 new f.1.1),
       sums-append 0 0 0 0 0 0 1 0 s left.2.0 (left_sums old.worker.view.generation (slot_at c k) left.2.0 left.2.2) f.1.2,
       refusal_behind _ s left.2.0 f.1.3 (no_refusals left.2.0 (left_sums old.worker.view.generation (slot_at c k) left.2.0 left.2.2).misses),
-      (s, left.2.0, refl, left.2.2, (t.0, t.1, t.2, paid_from t.1 t.3, (t.4.0, (t.4.1.0, (y.0, y.1, y.2, looked_from old m1 v k t.4.0 t.4.1.0 y.1 y.3, missed_from old m1 v (pages_of (k / 2)) k line y.0 y.4))))),
+      (s, left.2.0, refl, left.2.2, (t.0, t.1, t.2, paid_from t.1 t.3, (t.4.0, (t.4.1.0, (y.0, y.1, y.2, looked_from old m1 v q k t.4.0 t.4.1.0 y.1 y.3, missed_from old m1 v q (pages_of (k / 2)) k line y.0 y.4))))),
       sets_behind no_page s new f.1.1.sets,
+      f.1.5,
     ),
   )
   refill_refused new WantsMemory f = (
@@ -223,7 +227,7 @@ module _ (pages distance k : ℕ) (c c1 : Cache) (old m1 : Hand) (left : LeavesF
       f.0 ++ left.2.0,
       leaves-trans f.0 left.2.0 old m1 new left.2.1 (holds_nothing f.0 m1 new f.1),
       sums-append 0 0 0 0 0 0 0 0 f.0 left.2.0 (left_sums old.worker.view.generation (slot_at c k) left.2.0 left.2.2) f.2,
-      (f.0, left.2.0, refl, left.2.2, subst (λ (v : View). StopsFinding v pages distance k f.0) left.2.1.view f.3),
+      (f.0, left.2.0, refl, left.2.2, subst (λ (z : Bool × View). StopsFinding z.0 z.1 pages distance k f.0) (λ i. (left.2.1.caching i, left.2.1.view i)) f.3),
       sets_behind no_page f.0 new f.1.sets,
     ),
   )
@@ -254,7 +258,7 @@ module _ (pages distance k : ℕ) (c c1 : Cache) (old m1 : Hand) (left : LeavesF
       z ++ (s ++ left.2.0),
       subst (λ (l : List Entry). Leaves l old new) (append_assoc z s left.2.0) (leaves-trans (z ++ s) left.2.0 old m1 new left.2.1 (leaves_after (b.page ∷ []) z s m1 m2 new f.1.1 kept.2.1)),
       all_sums from s z f.1.2 kept.2.2,
-      (z ++ s, left.2.0, sym (append_assoc z s left.2.0), left.2.2, (z ++ t.0, t.1, ap (λ (l : List Entry). z ++ l) t.2 ∙ sym (append_assoc z t.0 t.1), paid_from t.1 t.3, (z, t.0, refl, comes_from old m1 left.2.1.view k b from t.0 t.4, kept.2.2))),
+      (z ++ s, left.2.0, sym (append_assoc z s left.2.0), left.2.2, (z ++ t.0, t.1, ap (λ (l : List Entry). z ++ l) t.2 ∙ sym (append_assoc z t.0 t.1), paid_from t.1 t.3, (z, t.0, refl, comes_from old m1 left.2.1.view left.2.1.caching k b from t.0 t.4, kept.2.2))),
       all_sets m2 new d b s z (sets_behind (λ q. times q (b.page ∷ [])) s m2 f.1.1.sets) kept.1 kept.2.2 kept.3 (ap (λ (v : View). v.generation) f.1.1.view ∙ ap (λ (v : View). v.generation) left.2.1.view),
     ),
   )

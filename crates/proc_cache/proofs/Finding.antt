@@ -1,14 +1,15 @@
 -- A span for the cache is found, or refused.
-use Rattle.std.proofs.Common.{◌≡◌, ℕ, ◌/◌, ◌<◌, inl, inr, List, [], ◌∷◌, ◌++◌, refl, ap, sym, subst, ◌∙◌, arith}
+use Rattle.std.proofs.Common.{◌≡◌, ℕ, ◌/◌, ◌<◌, inl, inr, Bool, true, false, List, [], ◌∷◌, ◌++◌, refl, ap, sym, subst, ◌∙◌, arith}
 use Rattle.std.specs.Prelude.{Result, Ok, Err}
 use Rattle.page_alloc.specs.FreeRuns.{HasNoRun}
-use Rattle.page_alloc.specs.Journal.{Legal}
-use Rattle.page_bitmap.specs.declared.line.Line.TheVariants.{Take as TakeLine, Miss as MissLine}
+use Rattle.page_bitmap.specs.Counts.{one_if}
+use Rattle.page_bitmap.specs.declared.line.Line.TheVariants.{Miss as MissLine}
 use Rattle.size_classes.specs.Classes.{pages_of}
+use Rattle.sound_run.specs.Run.{IsJournal}
 use Rattle.span_state.specs.declared.body.Body.{Body}
 use Rattle.sweep_laws.specs.Lists.{has}
 use Rattle.worker_log.specs.declared.Entry.{Entry}
-use Rattle.worker_log.specs.declared.Entry.TheVariants.{Took, Missed}
+use Rattle.worker_log.specs.declared.Entry.TheVariants.{Missed}
 use Rattle.worker_log.specs.Logs.{Refusal, refusals}
 use Rattle.worker_log.specs.SetNumbers.{swept_set}
 use Rattle.worker_log.specs.Entries.{is_pop_of, many}
@@ -17,9 +18,11 @@ use Rattle.span_laws.specs.declared.answers.Refused.TheVariants.{NoRun, NoMemory
 use Rattle.span_laws.specs.declared.view.View.{View}
 use Rattle.span_laws.specs.TakeAnswers.{cycle_at}
 use Rattle.span_laws.specs.Asks.{IsIdle}
+use Rattle.span_laws.specs.Calls.{is_missing}
 use Rattle.span_laws.specs.Logs.{is_taking}
 use Rattle.span_laws.specs.Views.{acts}
 use Rattle.span_laws.proofs.Parts.{has_none}
+use Rattle.span_set.specs.Blocks.{HasNoBlock}
 use Rattle.span_set.specs.declared.hand.Hand.{Hand}
 use Rattle.span_set.proofs.Numbers.{full_is, swept_is, swept_low}
 use Rattle.fallible_list.specs.declared.list.NoMemory.{NoMemory}
@@ -30,7 +33,7 @@ use Rattle.central_lists.specs.Works.{Says, just, nothing}
 use Rattle.central_lists.specs.Lists.{Caches, HandsOut}
 use Rattle.sweeper.specs.declared.answers.Paid.{Paid}
 use Rattle.sweeper.specs.declared.answers.Paid.TheVariants.{Reached, NothingLeft}
-use Rattle.sweeper.specs.NewSpans.{MakesSpan, MissedAtLast, TookAtLast}
+use Rattle.sweeper.specs.NewSpans.{IsMaking, MadeAtLast, MakesSpan, MissedAtLast}
 use Rattle.sweeper.specs.Pays.{Pays}
 use Rattle.sweeper.specs.Reclaims.{HasReclaimed}
 use Rattle.sweeper.specs.Work.{IsPlain, OnlySweeps, SawAllEmpty, Works}
@@ -45,17 +48,21 @@ use Rattle.proc_cache.proofs.Logging.{no_refusals, refusals-append, sums-append}
 
 -- ---- what does not depend on the own part
 
-module _ (old mid : Hand) (v : mid.worker.view ≡ acts old.worker.view mid.worker.view.own) where
+module _ (old mid : Hand) (v : mid.worker.view ≡ acts old.worker.view mid.worker.view.own) (q : mid.worker.caching ≡ old.worker.caching) where
   pub no_run_from : (n line : ℕ) → WasNoRun mid n line → WasNoRun old n line
-  no_run_from n line w = (w.0, w.1, subst (λ (z : View). Legal z.region z.goal w.0 × HasNoRun z.region w.0 n) v w.2)
+  no_run_from n line w = (w.0, w.1, subst (λ (z : View). IsJournal z.region z.goal w.0 × HasNoRun z.region w.0 n) v w.2)
 
-  pub took_from : (n : ℕ) (b : Body) (said : List Entry) → TookAtLast mid n b said → TookAtLast old n b said
-  took_from n b said t = record {
+  pub made_from : (n : ℕ) (b : Body) (said : List Entry) → MadeAtLast mid n b said → MadeAtLast old n b said
+  made_from n b said t = record {
+    making = t.making;
     before = t.before;
-    log = t.log ∙ ap (λ (z : View). Took b.life (TakeLine (cycle_at z.generation) b.page b.pages b.class) ∷ t.before) v;
+    log = t.log;
+    makes = subst (λ (z : View). IsMaking z.generation b t.making) v t.makes;
     takes_none = t.takes_none;
     sweeps = subst (λ (z : View). OnlySweeps z.generation t.before) v t.sweeps;
     reclaimed = subst (λ (z : View). HasReclaimed z.marks z.region n t.before) v t.reclaimed;
+    cuts_first = λ on few took. t.cuts_first (q ∙ on) few took;
+    uncached = λ off. t.uncached (q ∙ off);
   }
 
   pub missed_from : (n class line : ℕ) (said : List Entry) → MissedAtLast mid n class line said → MissedAtLast old n class line said
@@ -66,6 +73,7 @@ module _ (old mid : Hand) (v : mid.worker.view ≡ acts old.worker.view mid.work
     sweeps = subst (λ (z : View). OnlySweeps z.generation t.before) v t.sweeps;
     reclaimed = subst (λ (z : View). HasReclaimed z.marks z.region n t.before) v t.reclaimed;
     saw_empty = subst (λ (z : View). SawAllEmpty z.generation t.before) v t.saw_empty;
+    uncached = λ off. t.uncached (q ∙ off);
   }
 
   pub looked_from : (k : ℕ) (look : Look) (tried : ℕ) (said : List Entry) → LookedFor mid.worker.view.generation k look tried said → LookedFor old.worker.view.generation k look tried said
@@ -77,17 +85,17 @@ module _ (old mid : Hand) (v : mid.worker.view ≡ acts old.worker.view mid.work
     (t.0, t.1, t.2, subst (λ (z : View). SawNone (swept_set z.generation k 0) t.1) v t.3, t.4),
     (x.1.0, x.1.1, subst (λ (z : View). Says z.generation k x.1.0 (just b.page) said) v x.1.2),
   )
-  comes_from k b (Fresh look tried) said x = (x.0, x.1, x.2, looked_from k look tried x.1 x.3, took_from (pages_of (k / 2)) b x.0 x.4)
+  comes_from k b (Fresh look tried) said x = (x.0, x.1, x.2, looked_from k look tried x.1 x.3, made_from (pages_of (k / 2)) b x.0 x.4)
 
-  pub taking_from : (k : ℕ) (said : List Entry) → StopsTaking mid.worker.view k said → StopsTaking old.worker.view k said
-  taking_from k said x = subst (λ (z : View). StopsTaking z k said) v x
+  pub taking_from : (k : ℕ) (said : List Entry) → StopsTaking mid.worker.caching mid.worker.view k said → StopsTaking old.worker.caching old.worker.view k said
+  taking_from k said x = subst (λ (z : Bool × View). StopsTaking z.0 z.1 k said) (λ i. (q i, v i)) x
 
-  pub making_from : (said : List Entry) → StopsMaking mid.worker.view.generation mid.worker.view.region said → StopsMaking old.worker.view.generation old.worker.view.region said
-  making_from said x = subst (λ (z : View). StopsMaking z.generation z.region said) v x
+  pub making_from : (said : List Entry) → StopsMaking mid.worker.caching mid.worker.view.generation mid.worker.view.region said → StopsMaking old.worker.caching old.worker.view.generation old.worker.view.region said
+  making_from said x = subst (λ (z : Bool × View). StopsMaking z.0 z.1.generation z.1.region said) (λ i. (q i, v i)) x
 
 -- the making of a span that memory stopped
-pub stops_making : (n k : ℕ) (mid new : Hand) (w : MakesSpan n k mid new (Err WantsMemory)) → StopsMaking mid.worker.view.generation mid.worker.view.region w.said
-stops_making n k mid new w = record { sweeps = w.does.sweeps; takes_none = w.did.0; few = w.did.1 }
+pub stops_making : (n k : ℕ) (mid new : Hand) (w : MakesSpan n k mid new (Err WantsMemory)) → StopsMaking mid.worker.caching mid.worker.view.generation mid.worker.view.region w.said
+stops_making n k mid new w = record { sweeps = w.does.sweeps; takes_none = w.did.0; few = w.did.1; uncached = w.did.2 }
 
 -- ---- refusals
 
@@ -99,18 +107,26 @@ module _ (mid : Hand) (n k line : ℕ) (said : List Entry) (t : MissedAtLast mid
   pub one_refusal : refusals said ≡ record { number = line; pages = n; class = k } ∷ []
   one_refusal = ap refusals t.log ∙ ap (λ (l : List Refusal). let r : Refusal = record { number = line; pages = n; class = k } in r ∷ l) no_refusal_before
 
-  pub one_missed : many Rattle.span_laws.specs.Calls.is_missing said ≡ 1
-  one_missed = ap (many Rattle.span_laws.specs.Calls.is_missing) t.log ∙ (let z = t.takes_none.unmissed in omega arith)
+  pub one_missed : many is_missing said ≡ 1
+  one_missed = ap (many is_missing) t.log ∙ (let z = t.takes_none.unmissed in omega arith)
 
   pub missed_takes : many is_taking said ≡ 0
   missed_takes = ap (many is_taking) t.log ∙ (let z = t.takes_none.untaken in omega arith)
 
-module _ (mid : Hand) (n : ℕ) (b : Body) (said : List Entry) (t : TookAtLast mid n b said) where
-  pub took_misses : many Rattle.span_laws.specs.Calls.is_missing said ≡ 0
-  took_misses = ap (many Rattle.span_laws.specs.Calls.is_missing) t.log ∙ (let z = t.takes_none.unmissed in omega arith)
+making_misses : (g : ℕ) (b : Body) (x : Entry) → IsMaking g b x → is_missing x ≡ false
+making_misses g b x (inl e) = ap is_missing e
+making_misses g b x (inr e) = ap is_missing e
 
-  pub took_one : many is_taking said ≡ 1
-  took_one = ap (many is_taking) t.log ∙ (let z = t.takes_none.untaken in omega arith)
+making_takes : (g : ℕ) (b : Body) (x : Entry) → IsMaking g b x → is_taking x ≡ true
+making_takes g b x (inl e) = ap is_taking e
+making_takes g b x (inr e) = ap is_taking e
+
+module _ (mid : Hand) (n : ℕ) (b : Body) (said : List Entry) (t : MadeAtLast mid n b said) where
+  pub made_misses : many is_missing said ≡ 0
+  made_misses = ap (many is_missing) t.log ∙ (let z = t.takes_none.unmissed in let x = ap one_if (making_misses mid.worker.view.generation b t.making t.makes) in omega arith)
+
+  pub made_one : many is_taking said ≡ 1
+  made_one = ap (many is_taking) t.log ∙ (let z = t.takes_none.untaken in let x = ap one_if (making_takes mid.worker.view.generation b t.making t.makes) in omega arith)
 
 -- a refusal behind a log without any
 pub refusal_behind : (r : Refusal) (later first : List Entry) → refusals later ≡ r ∷ [] → refusals first ≡ [] → refusals (later ++ first) ≡ r ∷ []
@@ -155,26 +171,27 @@ module _ (k : ℕ) (old mid : Hand) (low : k < 136) where
     pub then_refused : (n : ℕ) → n ≡ pages_of (k / 2) → (new : Hand) (e : Refused) → MakesSpan n k mid new (Err e) → Comes k old new (Err e)
     then_refused n same new (NoRun line) m = subst (λ (p : ℕ). WasNoRun old p line × ((said : List Entry) × Holds [] said old new × Sums 0 0 1 0 said
         × (refusals said ≡ record { number = line; pages = p; class = k } ∷ [])
-        × ((look : Look) × ((tried : ℕ) × Then (LookedFor old.worker.view.generation k look tried) (MissedAtLast old p k line) said)))) same
-        (let w = m.1 in let v = looked_holds.view in let i = idle_after c.1.said old mid looked_holds in (
-          no_run_from old mid v n line m.0,
+        × ((look : Look) × ((tried : ℕ) × Then (LookedFor old.worker.view.generation k look tried) (MissedAtLast old p k line) said)) × HasNoBlock new.worker)) same
+        (let w = m.1 in let v = looked_holds.view in let q = looked_holds.caching in let i = idle_after c.1.said old mid looked_holds in (
+          no_run_from old mid v q n line m.0,
           (
             w.said ++ c.1.said,
             holds-trans [] w.said c.1.said old mid new looked_holds (of_sweeper [] _ mid new i w),
             sums-append 0 0 0 0 0 0 1 0 w.said c.1.said looked_sums (sums_of [] _ mid new i w 0 1 (missed_takes mid n k line w.said w.did) (one_missed mid n k line w.said w.did)),
             refusal_behind _ w.said c.1.said (one_refusal mid n k line w.said w.did) looked_refuses,
-            (look, (tried, (w.said, c.1.said, refl, looked_for, missed_from old mid v n k line w.said w.did))),
+            (look, (tried, (w.said, c.1.said, refl, looked_for, missed_from old mid v q n k line w.said w.did))),
+            m.2,
           ),
         ))
     then_refused n same new WantsMemory w = let i = idle_after c.1.said old mid looked_holds in (
       w.said ++ c.1.said,
       holds-trans [] w.said c.1.said old mid new looked_holds (of_sweeper [] _ mid new i w),
       sums-append 0 0 0 0 0 0 0 0 w.said c.1.said looked_sums (sums_of [] _ mid new i w 0 0 w.did.0.untaken w.did.0.unmissed),
-      inr (w.said, c.1.said, refl, (look, (tried, looked_for)), making_from old mid looked_holds.view w.said (stops_making n k mid new w)),
+      inr (w.said, c.1.said, refl, (look, (tried, looked_for)), making_from old mid looked_holds.view looked_holds.caching w.said (stops_making n k mid new w)),
     )
 
     pub then_made : (n : ℕ) → n ≡ pages_of (k / 2) → (new : Hand) (b : Body) → MakesSpan n k mid new (Ok b) → Comes k old new (Ok (b, Fresh look tried))
-    then_made n same new b m = let h = m.0 in let w = m.1 in let v = looked_holds.view in let i = idle_after c.1.said old mid looked_holds in (
+    then_made n same new b m = let h = m.0 in let w = m.1 in let v = looked_holds.view in let q = looked_holds.caching in let i = idle_after c.1.said old mid looked_holds in (
       record {
         class = h.is_new.class;
         room = (0, b.some_object, h.is_new.empty 0);
@@ -186,8 +203,8 @@ module _ (k : ℕ) (old mid : Hand) (low : k < 136) where
       (
         w.said ++ c.1.said,
         holds-trans (b.page ∷ []) w.said c.1.said old mid new looked_holds (of_sweeper (b.page ∷ []) _ mid new i w),
-        sums-append 0 0 0 0 0 1 0 0 w.said c.1.said looked_sums (sums_of (b.page ∷ []) _ mid new i w 1 0 (took_one mid n b w.said w.did) (took_misses mid n b w.said w.did)),
-        (w.said, c.1.said, refl, looked_for, subst (λ (p : ℕ). TookAtLast old p b w.said) same (took_from old mid v n b w.said w.did)),
+        sums-append 0 0 0 0 0 1 0 0 w.said c.1.said looked_sums (sums_of (b.page ∷ []) _ mid new i w 1 0 (made_one mid n b w.said w.did) (made_misses mid n b w.said w.did)),
+        (w.said, c.1.said, refl, looked_for, subst (λ (p : ℕ). MadeAtLast old p b w.said) same (made_from old mid v q n b w.said w.did)),
       ),
     )
 
@@ -220,7 +237,7 @@ module _ (pages distance k : ℕ) (old mid : Hand) (first : List Entry) (x : Hol
       s ++ first,
       holds-trans (found.0.page ∷ []) s first old mid new x c.1.1,
       sums_behind found.1 s c.1.2,
-      (s, first, refl, paid, comes_from old mid x.view k found.0 found.1 s c.1.3),
+      (s, first, refl, paid, comes_from old mid x.view x.caching k found.0 found.1 s c.1.3),
     ),
   )
     where
@@ -229,18 +246,19 @@ module _ (pages distance k : ℕ) (old mid : Hand) (first : List Entry) (x : Hol
       sums_behind SweptHere s y = sums-append 0 0 0 0 0 0 0 0 s first sums y
       sums_behind (Fresh look tried) s y = sums-append 0 0 0 0 0 1 0 0 s first sums y
   finds new (Err (NoRun line)) c = let s = c.1.0 in let t = c.1.4.1.1 in (
-    no_run_from old mid x.view (pages_of (k / 2)) line c.0,
+    no_run_from old mid x.view x.caching (pages_of (k / 2)) line c.0,
     (
       s ++ first,
       holds-trans [] s first old mid new x c.1.1,
       sums-append 0 0 0 0 0 0 1 0 s first sums c.1.2,
       refusal_behind _ s first c.1.3 (no_refusals first sums.misses),
-      (s, first, refl, paid, (c.1.4.0, (c.1.4.1.0, (t.0, t.1, t.2, looked_from old mid x.view k c.1.4.0 c.1.4.1.0 t.1 t.3, missed_from old mid x.view (pages_of (k / 2)) k line t.0 t.4)))),
+      (s, first, refl, paid, (c.1.4.0, (c.1.4.1.0, (t.0, t.1, t.2, looked_from old mid x.view x.caching k c.1.4.0 c.1.4.1.0 t.1 t.3, missed_from old mid x.view x.caching (pages_of (k / 2)) k line t.0 t.4)))),
+      c.1.5,
     ),
   )
   finds new (Err WantsMemory) c = (
     c.0 ++ first,
     holds-trans [] c.0 first old mid new x c.1,
     sums-append 0 0 0 0 0 0 0 0 c.0 first sums c.2,
-    inr (c.0, first, refl, paid, taking_from old mid x.view k c.0 c.3),
+    inr (c.0, first, refl, paid, taking_from old mid x.view x.caching k c.0 c.3),
   )

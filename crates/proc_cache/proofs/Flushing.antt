@@ -68,6 +68,7 @@ module _ (old new : Hand) (idle : IsIdle old.worker.view.own) (s : Span) (g befo
       away = ap (λ (w : Seen). w.away) z;
       table = ap (λ (w : Seen). w.table) z;
       number = ap (λ (w : Seen). w.number) z;
+      caching = ap (λ (w : Seen). w.caching) z;
       view = subst (λ (w : Seen). w.view ≡ acts old.worker.view w.view.own) (sym z) refl;
       reset = ap (λ (w : Seen). w.view.own.reset) z;
       idle = record {
@@ -97,6 +98,7 @@ module _ (old new : Hand) (idle : IsIdle old.worker.view.own) (s : Span) (g befo
       away = ap (λ (w : Seen). w.away) z;
       table = ap (λ (w : Seen). w.table) z;
       number = ap (λ (w : Seen). w.number) z;
+      caching = ap (λ (w : Seen). w.caching) z;
       view = subst (λ (w : Seen). w.view ≡ acts old.worker.view w.view.own) (sym z) refl;
       reset = ap (λ (w : Seen). w.view.own.reset) z;
       idle = record {
@@ -289,6 +291,7 @@ reads_only c old w g test idle e none = record {
     away = ap (λ (s : Seen). s.away) e;
     table = ap (λ (s : Seen). s.table) e;
     number = ap (λ (s : Seen). s.number) e;
+    caching = ap (λ (s : Seen). s.caching) e;
     view = subst (λ (s : Seen). s.view ≡ acts old.worker.view s.view.own) (sym e) refl;
     reset = ap (λ (s : Seen). s.view.own.reset) e;
     idle = subst (λ (s : Seen). IsIdle s.view.own) (sym e) (record { sweeping = idle.sweeping; held = idle.held; popped = idle.popped; claimed = idle.claimed });

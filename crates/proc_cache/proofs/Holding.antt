@@ -43,6 +43,7 @@ module _ (more : List ℕ) (P : List Entry → Type 0) (old new : Hand) (idle : 
     away = s.away;
     table = s.table;
     number = s.number;
+    caching = s.caching;
     view = (keeps_of old.worker new.worker s (w.popped ∙ sym idle.popped)).view;
     reset = s.reset;
     sweeping = s.sweeping ∙ idle.sweeping;
@@ -78,6 +79,7 @@ module _ (class tried : ℕ) (more kept : ℕ → ℕ) (P : List Entry → Type 
     away = k.away;
     table = k.table;
     number = k.number;
+    caching = d.caching;
     view = k.view;
     reset = k.reset;
     sweeping = none_in _ (λ q. k.sweeping q ∙ ap (times q) idle.sweeping);
@@ -109,6 +111,7 @@ holds-then held pages later first a b d f x y = record {
   away = y.away ∙ x.away;
   table = y.table ∙ x.table;
   number = y.number ∙ x.number;
+  caching = y.caching ∙ x.caching;
   view = subst (λ (v : View). d.worker.view ≡ acts v d.worker.view.own) x.view y.view;
   reset = y.reset ∙ x.reset;
   sweeping = y.sweeping;
@@ -137,6 +140,7 @@ holds_nothing said a b x = record {
   away = x.away;
   table = x.table;
   number = x.number;
+  caching = x.caching;
   view = x.view;
   reset = x.reset;
   idle = record { sweeping = x.sweeping; held = x.held; popped = x.popped; claimed = x.claimed };

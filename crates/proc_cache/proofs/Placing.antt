@@ -82,6 +82,7 @@ module _ (k at : ℕ) (c d : Cache) (old : Hand) (w : Seen) (idle : IsIdle old.w
     away = ap (λ (s : Seen). s.away) e;
     table = ap (λ (s : Seen). s.table) e;
     number = ap (λ (s : Seen). s.number) e;
+    caching = ap (λ (s : Seen). s.caching) e;
     view = subst (λ (s : Seen). s.view ≡ acts old.worker.view s.view.own) (sym e) refl;
     reset = ap (λ (s : Seen). s.view.own.reset) e;
     idle = subst (λ (s : Seen). IsIdle s.view.own) (sym e) (record { sweeping = idle.sweeping; held = idle.held; popped = idle.popped; claimed = idle.claimed });
@@ -170,11 +171,11 @@ module _ (pages distance k : ℕ) (c d : Cache) (old mid : Hand) (stamp : c.flus
     ap (λ (z : Cache). slot_at z k) r.0 ∙ slot_gone c k,
     others_kept None r.0,
     r.1,
-    (s, r.2.1, r.2.2, no_placings s r.2.2.places, r.2.3, (s, [], sym (append-nil s), no_flush c old stamp, subst (λ (o : Option Span). HasMissed old pages distance k o line s) (sym (flushed_is old.worker.view.generation c k stamp)) r.2.4), r.2.5),
+    (s, r.2.1, r.2.2, no_placings s r.2.2.places, r.2.3, (s, [], sym (append-nil s), no_flush c old stamp, subst (λ (o : Option Span). HasMissed old pages distance k o line s) (sym (flushed_is old.worker.view.generation c k stamp)) r.2.4), r.2.5, r.2.6),
   )
   missed_refill WantsMemory r = let s = r.1.0 in let e = ap (λ (z : Cache). z.flushed) r.0 ∙ stamp in (
     inr (e, ap (λ (z : Cache). slot_at z k) r.0 ∙ slot_gone c k, others_kept None r.0),
-    (s, r.1.1, r.1.2, inr (e, (s, [], sym (append-nil s), no_flush c old stamp, subst (λ (o : Option Span). StopsFilling old.worker.view pages distance k o s) (sym (flushed_is old.worker.view.generation c k stamp)) r.1.3)), r.1.4),
+    (s, r.1.1, r.1.2, inr (e, (s, [], sym (append-nil s), no_flush c old stamp, subst (λ (o : Option Span). StopsFilling old.worker.caching old.worker.view pages distance k o s) (sym (flushed_is old.worker.view.generation c k stamp)) r.1.3)), r.1.4),
   )
 
   module _ (from : CacheFrom) (r : RefillsCache pages distance k c d old mid (Ok from)) (v : Serves mid.worker.view.generation mid.worker.view.own d) (at : ℕ) (e : Cache) (w : Seen) (h : HitsAt k at d e mid.worker w) where
@@ -358,16 +359,16 @@ module _ (pages distance k : ℕ) (c c1 : Cache) (old mid : Hand) where
     )
 
     filled_from : (o p : Option Span) → o ≡ p → (b : Body) (from : CacheFrom) (said : List Entry) → HasFilled mid pages distance k o b from said → HasFilled old pages distance k p b from said
-    filled_from o p e b from said t = let u = t.4 in let w = u.4 in let v = f.1.leaves.view in (
+    filled_from o p e b from said t = let u = t.4 in let w = u.4 in let v = f.1.leaves.view in let q = f.1.leaves.caching in (
       t.0,
       t.1,
       t.2,
       subst (λ (x : Option Span). HasLeft old.worker.view.generation k x t.1) e (subst (λ (n : ℕ). HasLeft n k o t.1) same_generation t.3),
-      (u.0, u.1, u.2, subst (λ (n : ℕ). HasPaidFor n pages distance (bytes_of k) 0 u.1) same_generation u.3, (w.0, w.1, w.2, comes_from old mid v k b from w.1 w.3, w.4)),
+      (u.0, u.1, u.2, subst (λ (n : ℕ). HasPaidFor n pages distance (bytes_of k) 0 u.1) same_generation u.3, (w.0, w.1, w.2, comes_from old mid v q k b from w.1 w.3, w.4)),
     )
 
     missed_by : (o p : Option Span) → o ≡ p → (line : ℕ) (said : List Entry) → HasMissed mid pages distance k o line said → HasMissed old pages distance k p line said
-    missed_by o p e line said t = let u = t.4 in let w = u.4 in let y = w.1.1 in let v = f.1.leaves.view in (
+    missed_by o p e line said t = let u = t.4 in let w = u.4 in let y = w.1.1 in let v = f.1.leaves.view in let q = f.1.leaves.caching in (
       t.0,
       t.1,
       t.2,
@@ -377,7 +378,7 @@ module _ (pages distance k : ℕ) (c c1 : Cache) (old mid : Hand) where
         u.1,
         u.2,
         subst (λ (n : ℕ). HasPaidFor n pages distance (bytes_of k) 0 u.1) same_generation u.3,
-        (w.0, (w.1.0, (y.0, y.1, y.2, looked_from old mid v k w.0 w.1.0 y.1 y.3, missed_from old mid v (pages_of (k / 2)) k line y.0 y.4))),
+        (w.0, (w.1.0, (y.0, y.1, y.2, looked_from old mid v q k w.0 w.1.0 y.1 y.3, missed_from old mid v q (pages_of (k / 2)) k line y.0 y.4))),
       ),
     )
 
@@ -406,15 +407,15 @@ module _ (pages distance k : ℕ) (c c1 : Cache) (old mid : Hand) where
       refused = refusals-append said f.1.said ∙ (λ i. p.refused i ++ no_refusals f.1.said u.misses i);
     }
 
-    filling_from : (said : List Entry) → StopsFilling mid.worker.view pages distance k (flushed_slot mid.worker.view.generation c1 k) said
-        → StopsFilling old.worker.view pages distance k (flushed_slot old.worker.view.generation c k) said
-    filling_from said t = subst (λ (o : Option Span). StopsFilling old.worker.view pages distance k o said) (slots_now k)
-        (subst (λ (v : View). StopsFilling v pages distance k (flushed_slot mid.worker.view.generation c1 k) said) f.1.leaves.view t)
+    filling_from : (said : List Entry) → StopsFilling mid.worker.caching mid.worker.view pages distance k (flushed_slot mid.worker.view.generation c1 k) said
+        → StopsFilling old.worker.caching old.worker.view pages distance k (flushed_slot old.worker.view.generation c k) said
+    filling_from said t = subst (λ (o : Option Span). StopsFilling old.worker.caching old.worker.view pages distance k o said) (slots_now k)
+        (subst (λ (z : Bool × View). StopsFilling z.0 z.1 pages distance k (flushed_slot mid.worker.view.generation c1 k) said) (λ i. (f.1.leaves.caching i, f.1.leaves.view i)) t)
 
     stops_now : (d : Cache) (said : List Entry) → StopsAllocating mid pages distance k c1 d said → StopsAllocating old pages distance k c d (said ++ f.1.said)
     stops_now d said (inl z) = absurd (true≢false (sym (eq-eqb c1.flushed mid.worker.view.generation flushed_now) ∙ z.1))
     stops_now d said (inr z) = let t = z.1 in
-        inr (z.0 ∙ same_generation, flush_first (StopsFilling old.worker.view pages distance k (flushed_slot old.worker.view.generation c k)) said (t.0, t.1, t.2, t.3, filling_from t.0 t.4))
+        inr (z.0 ∙ same_generation, flush_first (StopsFilling old.worker.caching old.worker.view pages distance k (flushed_slot old.worker.view.generation c k)) said (t.0, t.1, t.2, t.3, filling_from t.0 t.4))
 
     sets_now : (kept : ℕ → ℕ) (said : List Entry) (new : Hand) → FitsSets mid.worker.view.generation kept said mid.worker new.worker → FitsSets old.worker.view.generation kept (said ++ f.1.said) old.worker new.worker
     sets_now kept said new x = fits-both old.worker.view.generation no_page kept kept said f.1.said old.worker mid.worker new.worker (λ p l. absurd (omega arith)) (λ p l. l) f.1.sets
@@ -430,7 +431,7 @@ module _ (pages distance k : ℕ) (c c1 : Cache) (old mid : Hand) where
       a.0 ∙ same_generation,
       a.1,
       others_now d a.2,
-      no_run_from old mid f.1.leaves.view (pages_of (k / 2)) line a.3,
+      no_run_from old mid f.1.leaves.view f.1.leaves.caching (pages_of (k / 2)) line a.3,
       (
         s ++ f.1.said,
         leaves-trans s f.1.said old mid new f.1.leaves a.4.1,
@@ -440,6 +441,7 @@ module _ (pages distance k : ℕ) (c c1 : Cache) (old mid : Hand) where
         flush_first (HasMissed old pages distance k (flushed_slot old.worker.view.generation c k) line) s
             (t.0, t.1, t.2, t.3, missed_by (flushed_slot mid.worker.view.generation c1 k) (flushed_slot old.worker.view.generation c k) (slots_now k) line t.0 t.4),
         sets_now no_page s new a.4.6,
+        a.4.7,
       ),
     )
     flushed_then d new (Err WantsMemory) a = (

@@ -24,6 +24,7 @@ leaves_to said a b d x w n = record {
   away = ap (λ (s : Seen). s.away) w ∙ x.away;
   table = ap (λ (s : Seen). s.table) w ∙ x.table;
   number = ap (λ (s : Seen). s.number) w ∙ x.number;
+  caching = ap (λ (s : Seen). s.caching) w ∙ x.caching;
   view = subst (λ (s : Seen). s.view ≡ acts a.worker.view s.view.own) (sym w) x.view;
   reset = ap (λ (s : Seen). s.view.own.reset) w ∙ x.reset;
   idle = subst (λ (s : Seen). IsIdle s.view.own) (sym w) x.idle;

@@ -9,6 +9,7 @@ use Rattle.worker_log.specs.Logs.{placings, refusals}
 use Rattle.span_laws.specs.declared.answers.Refused.{Refused}
 use Rattle.span_laws.specs.declared.answers.Refused.TheVariants.{NoRun, NoMemory as WantsMemory}
 use Rattle.span_laws.specs.declared.view.Span.{Span}
+use Rattle.span_set.specs.Blocks.{HasNoBlock}
 use Rattle.span_set.specs.declared.hand.Hand.{Hand}
 use Rattle.span_set.specs.Fits.{FitsSets, no_page}
 use Rattle.central_lists.specs.Looks.{Then}
@@ -57,9 +58,10 @@ IsPartly g k c d = ((d.flushed ≡ c.flushed) × (is_flushed g c ≡ false) × (
 abbrev pub StopsAllocating : Hand → (pages distance : ℕ) → ℕ → Cache → Cache → List Entry → Type 0
 StopsAllocating old pages distance k c d said = ((d.flushed ≡ c.flushed) × (is_flushed old.worker.view.generation c ≡ false) × IsFlush old.worker.view.generation said)
     ⊎ ((d.flushed ≡ old.worker.view.generation)
-    × Then (IsWholeFlush c old) (StopsFilling old.worker.view pages distance k (flushed_slot old.worker.view.generation c k)) said)
+    × Then (IsWholeFlush c old) (StopsFilling old.worker.caching old.worker.view pages distance k (flushed_slot old.worker.view.generation c k)) said)
 
--- an object of class k was placed, and its address is that of the one placing of the call; or no run is free, as the line says; or memory ran out.
+-- an object of class k was placed, and its address is that of the one placing of the call; or no run is free, as the line says, and the worker has no
+-- block; or memory ran out.
 -- Each span of which a sweep kept some went to the set that it fits, but for the one that is cached
 abbrev pub AllocatesIn : (pages distance : ℕ) → ℕ → Cache → Cache → Hand → Hand → Result ℕ Refused → Type 0
 AllocatesIn pages distance k c d old new (Ok at) = (d.flushed ≡ old.worker.view.generation) × KeepsOthers old.worker.view.generation k c d
@@ -69,7 +71,7 @@ AllocatesIn pages distance k c d old new (Err (NoRun line)) = (d.flushed ≡ old
     × WasNoRun old (pages_of (k / 2)) line × ((said : List Entry) × Leaves said old new × Sums 0 0 1 0 said × (placings said ≡ [])
     × (refusals said ≡ record { number = line; pages = pages_of (k / 2); class = k } ∷ [])
     × Then (IsWholeFlush c old) (HasMissed old pages distance k (flushed_slot old.worker.view.generation c k) line) said
-    × FitsSets old.worker.view.generation no_page said old.worker new.worker)
+    × FitsSets old.worker.view.generation no_page said old.worker new.worker × HasNoBlock new.worker)
 AllocatesIn pages distance k c d old new (Err WantsMemory) = IsPartly old.worker.view.generation k c d
     × ((said : List Entry) × Leaves said old new × Sums 0 0 0 0 said × StopsAllocating old pages distance k c d said
     × FitsSets old.worker.view.generation no_page said old.worker new.worker)

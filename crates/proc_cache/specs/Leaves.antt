@@ -20,6 +20,7 @@ pub record Leaves (said : List Entry) (old new : Hand) : Type 0 where
   pub away : new.worker.away ≡ old.worker.away
   pub table : new.worker.table ≡ old.worker.table
   pub number : new.worker.number ≡ old.worker.number
+  pub caching : new.worker.caching ≡ old.worker.caching
   pub view : new.worker.view ≡ acts old.worker.view new.worker.view.own
   pub reset : new.worker.view.own.reset ≡ old.worker.view.own.reset
   pub idle : IsIdle new.worker.view.own
@@ -33,6 +34,7 @@ pub record Holds (pages : List ℕ) (said : List Entry) (old new : Hand) : Type 
   pub away : new.worker.away ≡ old.worker.away
   pub table : new.worker.table ≡ old.worker.table
   pub number : new.worker.number ≡ old.worker.number
+  pub caching : new.worker.caching ≡ old.worker.caching
   pub view : new.worker.view ≡ acts old.worker.view new.worker.view.own
   pub reset : new.worker.view.own.reset ≡ old.worker.view.own.reset
   pub sweeping : new.worker.view.own.sweeping ≡ []

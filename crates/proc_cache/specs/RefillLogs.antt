@@ -11,7 +11,7 @@ use Rattle.span_set.specs.declared.hand.Hand.{Hand}
 use Rattle.central_lists.specs.declared.answers.Look.{Look}
 use Rattle.central_lists.specs.Looks.{PoppedIt, Saw, SawNone, SweptIt, Then, TriedEnough}
 use Rattle.central_lists.specs.Works.{Says, just, nothing}
-use Rattle.sweeper.specs.NewSpans.{MissedAtLast, TookAtLast}
+use Rattle.sweeper.specs.NewSpans.{MadeAtLast, MissedAtLast}
 use Rattle.sweeper.specs.Pays.{HasPaid}
 use Rattle.sweeper.specs.Work.{IsPlain, OnlySweeps, SawAllEmpty}
 use Rattle.proc_cache.specs.declared.refills.CacheFrom.{CacheFrom}
@@ -41,14 +41,14 @@ pub record LookedFor (g k : ℕ) (look : Look) (tried : ℕ) (said : List Entry)
   pub few : tried ≤ 100
 
 -- where the span of the page comes from: it was popped from the swept partial set; or it was swept, after that set was seen without a span, and is
--- the one swept span that was not pushed to the swept full set; or the sets were looked into, and then a run was taken for it
+-- the one swept span that was not pushed to the swept full set; or the sets were looked into, and then a run was taken or cut for it
 abbrev pub ComesFrom : Hand → ℕ → Body → CacheFrom → List Entry → Type 0
 ComesFrom old k b SweptPartial said = PoppedIt old.worker.view.generation k b.page said × Says old.worker.view.generation k 0 nothing said
 ComesFrom old k b SweptHere said = Then (SawNone (swept_set old.worker.view.generation k 0)) (SweptIt b.page) said
     × ((tried : ℕ) × (tried ≤ 100) × Says old.worker.view.generation k tried (just b.page) said)
-ComesFrom old k b (Fresh look tried) said = Then (LookedFor old.worker.view.generation k look tried) (TookAtLast old (pages_of (k / 2)) b) said
+ComesFrom old k b (Fresh look tried) said = Then (LookedFor old.worker.view.generation k look tried) (MadeAtLast old (pages_of (k / 2)) b) said
 
--- how many runs are taken for it
+-- how many runs are taken or cut for it
 abbrev pub taken_for : CacheFrom → ℕ
 taken_for SweptPartial = 0
 taken_for SweptHere = 0

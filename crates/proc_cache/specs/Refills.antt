@@ -8,6 +8,7 @@ use Rattle.span_laws.specs.declared.answers.Refused.{Refused}
 use Rattle.span_laws.specs.declared.answers.Refused.TheVariants.{NoRun, NoMemory as WantsMemory}
 use Rattle.span_laws.specs.BodyAsks.{HasRoom}
 use Rattle.span_laws.specs.Views.{span_of}
+use Rattle.span_set.specs.Blocks.{HasNoBlock}
 use Rattle.span_set.specs.declared.hand.Hand.{Hand}
 use Rattle.span_set.specs.Fits.{FitsSets, no_page}
 use Rattle.proc_cache.specs.declared.refills.CacheFrom.{CacheFrom}
@@ -17,8 +18,8 @@ use Rattle.proc_cache.specs.RefillLogs.{bytes_of, HasLeft, taken_for, HasSpent, 
 use Rattle.proc_cache.specs.Findings.{WasNoRun}
 use Rattle.proc_cache.specs.Stops.{StopsFilling}
 
--- a span with a free index is cached in the slot of class k; or there is none, as the line says; or memory ran out, before a run was taken or
--- missed. The slot is empty after each refusal, and the others are as they were. Each span of which a sweep kept some went to the set that it fits,
+-- a span with a free index is cached in the slot of class k; or there is none, as the line says, and the worker has no block; or memory
+-- ran out, before a run was taken, cut or missed. The slot is empty after each refusal, and the others are as they were. Each span of which a sweep kept some went to the set that it fits,
 -- but for the one that is cached
 abbrev pub RefillsCache : (pages distance : ℕ) → ℕ → Cache → Cache → Hand → Hand → Result CacheFrom Refused → Type 0
 RefillsCache pages distance k c d old new (Ok from) = (b : Body) × (d ≡ with_slot k (Some (span_of b)) c) × (slot_at d k ≡ Some (span_of b)) × HasRoom b
@@ -26,9 +27,9 @@ RefillsCache pages distance k c d old new (Ok from) = (b : Body) × (d ≡ with_
     × FitsSets old.worker.view.generation (page_in (slot_at d k)) said old.worker new.worker)
 RefillsCache pages distance k c d old new (Err (NoRun line)) = (d ≡ with_slot k None c) × WasNoRun old (pages_of (k / 2)) line
     × ((said : List Entry) × Leaves said old new × Sums 0 0 1 0 said × (refusals said ≡ record { number = line; pages = pages_of (k / 2); class = k } ∷ [])
-    × HasMissed old pages distance k (slot_at c k) line said × FitsSets old.worker.view.generation no_page said old.worker new.worker)
+    × HasMissed old pages distance k (slot_at c k) line said × FitsSets old.worker.view.generation no_page said old.worker new.worker × HasNoBlock new.worker)
 RefillsCache pages distance k c d old new (Err WantsMemory) = (d ≡ with_slot k None c)
-    × ((said : List Entry) × Leaves said old new × Sums 0 0 0 0 said × StopsFilling old.worker.view pages distance k (slot_at c k) said
+    × ((said : List Entry) × Leaves said old new × Sums 0 0 0 0 said × StopsFilling old.worker.caching old.worker.view pages distance k (slot_at c k) said
     × FitsSets old.worker.view.generation no_page said old.worker new.worker)
 
 -- the full span of class k left, where there was one

@@ -219,10 +219,10 @@ look_grows class old new (Ok found) l = tt
 look_grows class old new (Err e) l = (l.2.said, l.2.log)
 
 -- a new processor on the driver of a new table; over variables, so that no list of parts is written out
-first_by : (table : TableId) (ring : RingId) (marks : MarkSet) (pages goal workers n : ℕ) (w : Seen) (h : Hand) (c : Cache) (t : Countdown) → ring.buckets ≡ 2 → marks.pairs ≡ [] → ((p : ℕ) → dead_of marks p ≡ []) → workers ≡ 70
-    → w ≡ record { table = table; number = 69; away = []; journal = None; view = first_view pages goal workers } → h.worker ≡ w → h.tally ≡ record { ring = ring; view = no_calls } → c ≡ record { number = n; flushed = 0; slots = copies 136 None; countdown = t }
+first_by : (table : TableId) (ring : RingId) (marks : MarkSet) (pages goal procs workers n : ℕ) (w : Seen) (h : Hand) (c : Cache) (t : Countdown) → ring.buckets ≡ 2 → marks.pairs ≡ [] → ((p : ℕ) → dead_of marks p ≡ []) → workers ≡ 70
+    → w ≡ record { table = table; number = 69; away = []; caching = false; journal = None; view = first_view pages goal procs workers } → h.worker ≡ w → h.tally ≡ record { ring = ring; view = no_calls } → c ≡ record { number = n; flushed = 0; slots = copies 136 None; countdown = t }
     → IsReady table ring marks h c
-first_by table ring marks pages goal workers n w h c t two none dead size at same tally made = let is = same ∙ at in record {
+first_by table ring marks pages goal procs workers n w h c t two none dead size at same tally made = let is = same ∙ at in record {
   served = record {
     works = (ap (λ (s : Seen). s.table) is, ap (λ (s : Seen). s.away) is);
     driver = ap (λ (s : Seen). s.number) is;
@@ -243,6 +243,6 @@ first_by table ring marks pages goal workers n w h c t two none dead size at sam
   two = two;
 }
 
-pub first_ready : (table : TableId) (ring : RingId) (marks : MarkSet) (w : Seen) (h : Hand) (c : Cache) (t : Countdown) → ring.buckets ≡ 2 → marks.pairs ≡ [] → ((p : ℕ) → dead_of marks p ≡ []) → w ≡ record { table = table; number = 69; away = []; journal = None; view = first_view 512 512 70 }
+pub first_ready : (table : TableId) (ring : RingId) (marks : MarkSet) (w : Seen) (h : Hand) (c : Cache) (t : Countdown) → ring.buckets ≡ 2 → marks.pairs ≡ [] → ((p : ℕ) → dead_of marks p ≡ []) → w ≡ record { table = table; number = 69; away = []; caching = false; journal = None; view = first_view 512 512 0 70 }
     → h.worker ≡ w → h.tally ≡ record { ring = ring; view = no_calls } → c ≡ record { number = 0; flushed = 0; slots = copies 136 None; countdown = t } → IsReady table ring marks h c
-first_ready table ring marks w h c t two none dead at same tally made = first_by table ring marks 512 512 70 0 w h c t two none dead refl at same tally made
+first_ready table ring marks w h c t two none dead at same tally made = first_by table ring marks 512 512 0 70 0 w h c t two none dead refl at same tally made

@@ -152,7 +152,7 @@ module _ (table : TableId) (c : Cache) (w w1 w2 w3 : Seen) (r : IsServed table w
     past = e3.0 ++ w2.view.before
 
     three_is : w3 ≡ quieted [] w2.view.own.reset (Some past) w2
-    three_is = e3.1
+    three_is = e3.2
 
     pub three_served : IsServed table w3 c
     three_served = subst (λ (x : Seen). IsServed table x c) (sym three_is) (quiet_served table w2 c [] w2.view.own.reset (Some past) (λ j p. refl) two_served)
@@ -163,7 +163,7 @@ module _ (table : TableId) (c : Cache) (w w1 w2 w3 : Seen) (r : IsServed table w
       reset = λ k l part. e2.unswept k l (ap (λ (x : Seen). is_swept_set x.view.generation k) (sym two_is) ∙ part);
       told = (past, refl);
       early = let z = generation_is in omega arith;
-      below = λ a i. e3.3.places.below w2.number a (subst (λ (l : List Entry). In a (placings l)) (sym (own_log_at table w2 c two_served)) i);
+      below = λ a i. e3.4.places.below w2.number a (subst (λ (l : List Entry). In a (placings l)) (sym (own_log_at table w2 c two_served)) i);
     })
 
     pub three_grows : Grows w w3

@@ -50,7 +50,7 @@ impl Scene {
         };
         let proc = Proc::new(alloc, 0, &header)?;
         let (ring, tally) = Ring::new(alloc, 2)?;
-        let (shared, driver) = Shared::new(alloc, 1, 512)?;
+        let (shared, driver) = Shared::new(alloc, 1, 512, 0)?;
         let marks = Marks::empty(alloc);
         let hand = Hand::new(alloc, driver, tally);
         let objects = Entries::new(alloc);

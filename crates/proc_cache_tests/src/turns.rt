@@ -211,7 +211,7 @@ pub(crate) fn settle(shop: &Shop, hand: &mut Hand, proc: &Proc) -> Result<(), No
         return Err(NoMemory);
     }
     reset(shop.shared, &mut hand.worker);
-    shop.shared.settle(&mut hand.worker);
+    shop.shared.end_cycle(&mut hand.worker);
     Ok(())
 }
 

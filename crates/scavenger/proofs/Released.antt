@@ -7,7 +7,7 @@ use Rattle.page_bitmap.specs.declared.line.Line.TheVariants.{Scav}
 use Rattle.page_bitmap.specs.declared.line.Run.{Run}
 use Rattle.page_alloc.specs.Owners.{backed, is_held, unscavenged, within}
 use Rattle.page_alloc.specs.FreeRuns.{IsScavengeRun}
-use Rattle.page_alloc.specs.Journal.{Legal}
+use Rattle.sound_run.specs.Run.{IsJournal}
 use Rattle.page_alloc.proofs.Keeping.{not-held}
 use Rattle.page_alloc.proofs.Lives.{within-false, within-true}
 use Rattle.cycle_history.specs.Sound.{IsScavenged}
@@ -38,7 +38,7 @@ backed-less region cycle page n past run =
     omega arith
 
 -- so many steps release a page each
-runs-backed : (region goal cycle : ℕ) (past : List Line) (runs : List Run) → Legal region goal (scav_lines cycle runs ++ past)
+runs-backed : (region goal cycle : ℕ) (past : List Line) (runs : List Run) → IsJournal region goal (scav_lines cycle runs ++ past)
     → length runs + backed region (scav_lines cycle runs ++ past) ≤ backed region past
 runs-backed region goal cycle past [] legal = omega arith
 runs-backed region goal cycle past (run ∷ runs) legal =
@@ -48,14 +48,14 @@ runs-backed region goal cycle past (run ∷ runs) legal =
     omega arith
 
 -- behind as many runs as the region has pages no page is backed
-all-released : (region goal cycle : ℕ) (past : List Line) (runs : List Run) → Legal region goal (scav_lines cycle runs ++ past) → length runs ≡ region
+all-released : (region goal cycle : ℕ) (past : List Line) (runs : List Run) → IsJournal region goal (scav_lines cycle runs ++ past) → length runs ≡ region
     → backed region (scav_lines cycle runs ++ past) ≤ goal
 all-released region goal cycle past runs legal all =
     let few = runs-backed region goal cycle past runs legal in
     let most : backed region past ≤ region = count_below-le region (λ p. is_held past p || unscavenged past p) in
     omega arith
 
-reasoned : (region goal cycle : ℕ) (past : List Line) (runs : List Run) (reason : Reason) → Legal region goal (scav_lines cycle runs ++ past)
+reasoned : (region goal cycle : ℕ) (past : List Line) (runs : List Run) (reason : Reason) → IsJournal region goal (scav_lines cycle runs ++ past)
     → StopsFor region goal (scav_lines cycle runs ++ past) (length runs) reason → IsScavenged region goal (scav_lines cycle runs ++ past)
 reasoned region goal cycle past runs AtGoal legal why = inl why.0
 reasoned region goal cycle past runs NoCandidate legal why = inr why.1

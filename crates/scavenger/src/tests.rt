@@ -17,7 +17,7 @@ use std::test::Fail;
 fn fresh(alloc: Global, goal: u32) -> Result<(Shared, Worker), Fail>
     ensures { IfOk result (λ made. IsAtWork made.0 made.1) }
 {
-    Ok(Shared::new(alloc, 1, goal)?)
+    Ok(Shared::new(alloc, 1, goal, 0)?)
 }
 
 /// Takes a span of so many pages, from 5 on.

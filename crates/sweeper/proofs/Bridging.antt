@@ -17,7 +17,7 @@ keeps_of old new s popped = record {
   away = s.away;
   table = s.table;
   number = s.number;
-  view = λ i. record { region = s.region i; goal = s.goal i; generation = s.generation i; marks = s.marks i; before = s.before i; carried = s.carried i; own = new.view.own; parts = s.parts i };
+  view = λ i. record { region = s.region i; goal = s.goal i; procs = s.procs i; generation = s.generation i; marks = s.marks i; before = s.before i; carried = s.carried i; own = new.view.own; parts = s.parts i };
   cached = s.cached;
   fresh = s.fresh;
   claimed = s.claimed;

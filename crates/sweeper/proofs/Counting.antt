@@ -10,8 +10,9 @@ use Rattle.worker_log.proofs.Logs.{many-append}
 use Rattle.span_laws.specs.Logs.{is_taking}
 use Rattle.span_laws.specs.Calls.{is_missing, is_placing, number_added, pages_swept}
 use Rattle.sweep_laws.specs.Counts.{total}
+use Rattle.span_set.specs.Blocks.{is_of_block}
 use Rattle.sweeper.specs.Entries.{is_added, is_emptying_of, is_giving_of, is_keeping_of, is_look_of, is_push_at, is_read}
-use Rattle.sweeper.specs.Work.{IsPlain, OnlySweeps, TakesNone, note_by, notes_of}
+use Rattle.sweeper.specs.Work.{IsPlain, MakesNone, OnlySweeps, TakesNone, note_by, notes_of}
 use Rattle.sweeper.specs.Tries.{SweepsNone}
 
 -- sums add up
@@ -76,7 +77,14 @@ pub takes-append : (xs ys : List Entry) → TakesNone xs → TakesNone ys → Ta
 takes-append xs ys a b = record { untaken = none-both is_taking xs ys a.untaken b.untaken; unmissed = none-both is_missing xs ys a.unmissed b.unmissed }
 
 pub plain-append : (xs ys : List Entry) → IsPlain xs → IsPlain ys → IsPlain (xs ++ ys)
-plain-append xs ys a b = record { takes_none = takes-append xs ys a.takes_none b.takes_none; unclaimed = none-both (is_added 4) xs ys a.unclaimed b.unclaimed; unread = λ i. none-both (is_read 4 i) xs ys (a.unread i) (b.unread i) }
+plain-append xs ys a b = record { takes_none = takes-append xs ys a.takes_none b.takes_none; unclaimed = none-both (is_added 4) xs ys a.unclaimed b.unclaimed; unread = λ i. none-both (is_read 4 i) xs ys (a.unread i) (b.unread i); keeps_block = none-both is_of_block xs ys a.keeps_block b.keeps_block }
+
+-- what makes no span, put together, makes none
+pub makes-append : (xs ys : List Entry) → MakesNone xs → MakesNone ys → MakesNone (xs ++ ys)
+makes-append xs ys a b = record { takes_none = takes-append xs ys a.takes_none b.takes_none; unclaimed = none-both (is_added 4) xs ys a.unclaimed b.unclaimed; unread = λ i. none-both (is_read 4 i) xs ys (a.unread i) (b.unread i) }
+
+pub plain-makes : (xs : List Entry) → IsPlain xs → MakesNone xs
+plain-makes xs a = record { takes_none = a.takes_none; unclaimed = a.unclaimed; unread = a.unread }
 
 pub none-append : (xs ys : List Entry) → SweepsNone xs → SweepsNone ys → SweepsNone (xs ++ ys)
 none-append xs ys a b = record { none = sweepings-append xs ys ∙ ap (λ (l : List Sweeping). l ++ sweepings ys) a.none ∙ b.none; plain = plain-append xs ys a.plain b.plain }
@@ -86,4 +94,4 @@ pub nothing-sweeps : (g : ℕ) → OnlySweeps g []
 nothing-sweeps g = record { unplaced = refl; unspent = refl; swept_pages = refl; given = λ p. refl; pushed = λ p. refl; unpopped = λ j p s. refl; unlooked = λ j s. refl; untouched = λ p. refl }
 
 pub nothing-none : SweepsNone []
-nothing-none = record { none = refl; plain = record { takes_none = record { untaken = refl; unmissed = refl }; unclaimed = refl; unread = λ i. refl } }
+nothing-none = record { none = refl; plain = record { takes_none = record { untaken = refl; unmissed = refl }; unclaimed = refl; unread = λ i. refl; keeps_block = refl } }

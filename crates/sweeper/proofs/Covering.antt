@@ -22,6 +22,7 @@ use Rattle.span_laws.specs.declared.said.Said.TheVariants.{Adds}
 use Rattle.span_laws.specs.Views.{Seen}
 use Rattle.span_laws.specs.OwnSteps.{after_said}
 use Rattle.span_set.specs.declared.hand.Hand.{Hand}
+use Rattle.span_set.specs.Blocks.{is_of_block}
 use Rattle.span_set.specs.Fits.{no_page}
 use Rattle.span_set.proofs.Fits.{fits-none}
 use Rattle.sweep_laws.specs.Counts.{total}
@@ -32,8 +33,8 @@ use Rattle.sweeper.specs.Entries.{is_added, is_read, pages_given}
 use Rattle.sweeper.specs.Reclaims.{HasPassed, HasReclaimed, Reclaims, SparesMarked, chunks_of}
 use Rattle.sweeper.specs.ReclaimSteps.{CoversChunks, CoversPage, CoversPages, ReclaimsChunk, ReclaimsNext, ReclaimsPage}
 use Rattle.sweeper.specs.Settles.{Settles}
-use Rattle.sweeper.specs.Work.{IsPlain, Stays, TakesNone, Works, notes_of}
-use Rattle.sweeper.proofs.Counting.{plain-append, some-old, takes-append, total-append}
+use Rattle.sweeper.specs.Work.{IsPlain, KeepsBlock, MakesNone, Stays, TakesNone, Works, notes_of}
+use Rattle.sweeper.proofs.Counting.{none-both, plain-append, some-old, takes-append, total-append}
 use Rattle.sweeper.proofs.Passing.{covers_passed, logs_works, passing_looks}
 use Rattle.sweeper.proofs.Paying.{plain-nothing, works-room}
 use Rattle.sweeper.proofs.Settling.{swings}
@@ -154,11 +155,12 @@ module _ (old : Hand) (region asked : ℕ) (size : region ≡ old.worker.view.re
     given_is = refl;
     spares = λ p l. absurd (omega arith);
     takes_none = record { untaken = refl; unmissed = refl };
+    keeps_block = refl;
   })
 
   module _ (claims given : ℕ) (now : Hand) (w : Works [] (CoversChunks old.worker.view.marks region claims given) old now) (few : claims ≤ chunks_of region) where
     answer : (said : List Entry) → CoversChunks old.worker.view.marks region claims given said → (asked ≤ given) ⊎ HasPassed region said
-        → (given ≡ min (total pages_given said) (2 ^ 32 - 1)) × TakesNone said × HasReclaimed old.worker.view.marks region asked said × SparesMarked old.worker.view.marks said
+        → (given ≡ min (total pages_given said) (2 ^ 32 - 1)) × TakesNone said × HasReclaimed old.worker.view.marks region asked said × SparesMarked old.worker.view.marks said × KeepsBlock said
     answer said c e = (
       c.given_is,
       c.takes_none,
@@ -168,10 +170,11 @@ module _ (old : Hand) (region asked : ℕ) (size : region ≡ old.worker.view.re
         whole = c.whole;
       },
       c.spares,
+      c.keeps_block,
     )
 
-    at_region : (n : ℕ) (new : Hand) → Works [] (λ said. (n ≡ min (total pages_given said) (2 ^ 32 - 1)) × TakesNone said × HasReclaimed old.worker.view.marks region asked said × SparesMarked old.worker.view.marks said) old new → Reclaims asked old new (Ok n)
-    at_region n new x = subst (λ (r : ℕ). Works [] (λ said. (n ≡ min (total pages_given said) (2 ^ 32 - 1)) × TakesNone said × HasReclaimed old.worker.view.marks r asked said × SparesMarked old.worker.view.marks said) old new) size x
+    at_region : (n : ℕ) (new : Hand) → Works [] (λ said. (n ≡ min (total pages_given said) (2 ^ 32 - 1)) × TakesNone said × HasReclaimed old.worker.view.marks region asked said × SparesMarked old.worker.view.marks said × KeepsBlock said) old new → Reclaims asked old new (Ok n)
+    at_region n new x = subst (λ (r : ℕ). Works [] (λ said. (n ≡ min (total pages_given said) (2 ^ 32 - 1)) × TakesNone said × HasReclaimed old.worker.view.marks r asked said × SparesMarked old.worker.view.marks said × KeepsBlock said) old new) size x
 
     -- as many pages were given back as asked
     pub reclaimed_enough : asked ≤ given → Reclaims asked old now (Ok given)
@@ -190,7 +193,7 @@ module _ (old : Hand) (region asked : ℕ) (size : region ≡ old.worker.view.re
             sweeps = record { unplaced = refl; unspent = refl; swept_pages = refl; given = λ p. refl; pushed = λ p. refl; unpopped = λ j p s. refl; unlooked = λ j s. refl; untouched = λ p. refl };
             sets = fits-none now.worker.view.generation no_page (Added 4 1 ∷ Read 4 i ∷ []) now.worker new [] refl (ap (λ (x : Seen). x.view.own.spans) e);
             held = ap (λ (x : Seen). x.view.own.held) e ∙ sym (append-nil now.worker.view.own.held);
-            stays = subst (Stays now.worker) (sym e) (record { away = refl; table = refl; number = refl; region = refl; goal = refl; generation = refl; marks = refl; before = refl; carried = refl; parts = refl; sweeping = refl; cached = refl; claimed = refl; fresh = refl; reset = refl; bodies = λ q h. refl });
+            stays = subst (Stays now.worker) (sym e) (record { away = refl; table = refl; number = refl; caching = refl; region = refl; goal = refl; procs = refl; generation = refl; marks = refl; before = refl; carried = refl; parts = refl; sweeping = refl; cached = refl; claimed = refl; fresh = refl; reset = refl; bodies = λ q h. refl });
           })
           refl refl (ap (λ (x : Seen). x.view.own.popped) e ∙ w.popped) refl
 
@@ -216,6 +219,7 @@ module _ (old : Hand) (region asked : ℕ) (size : region ≡ old.worker.view.re
         given_is = (let a = total-append pages_given ys (Added 4 1 ∷ Read 4 i ∷ xs) in let b = c.given_is in let f = d.given_is in omega arith);
         spares = spares-append old.worker.view.marks ys (Added 4 1 ∷ Read 4 i ∷ xs) d.spares (λ p l. c.spares p (omega arith));
         takes_none = takes-append ys (Added 4 1 ∷ Read 4 i ∷ xs) d.plain.takes_none (record { untaken = (let a = c.takes_none.untaken in omega arith); unmissed = (let a = c.takes_none.unmissed in omega arith) });
+        keeps_block = none-both is_of_block ys (Added 4 1 ∷ Read 4 i ∷ xs) d.plain.keeps_block (let a = c.keeps_block in omega arith);
       }
 
       -- it is past the last
@@ -223,8 +227,8 @@ module _ (old : Hand) (region asked : ℕ) (size : region ≡ old.worker.view.re
       reclaimed_past l less = at_region given (record now { worker = new }) (works-as Claimed _ [] old (record now { worker = new }) claimed_works (λ s c. past s c.0 c.1 c.2))
         where
           past : (said xs : List Entry) → said ≡ Added 4 1 ∷ Read 4 i ∷ xs → CoversChunks old.worker.view.marks region claims given xs
-              → (given ≡ min (total pages_given said) (2 ^ 32 - 1)) × TakesNone said × HasReclaimed old.worker.view.marks region asked said × SparesMarked old.worker.view.marks said
-          past said xs is c = subst (λ (s : List Entry). (given ≡ min (total pages_given s) (2 ^ 32 - 1)) × TakesNone s × HasReclaimed old.worker.view.marks region asked s × SparesMarked old.worker.view.marks s) (sym is) (
+              → (given ≡ min (total pages_given said) (2 ^ 32 - 1)) × TakesNone said × HasReclaimed old.worker.view.marks region asked said × SparesMarked old.worker.view.marks said × KeepsBlock said
+          past said xs is c = subst (λ (s : List Entry). (given ≡ min (total pages_given s) (2 ^ 32 - 1)) × TakesNone s × HasReclaimed old.worker.view.marks region asked s × SparesMarked old.worker.view.marks s × KeepsBlock s) (sym is) (
             (let b = c.given_is in omega arith),
             record { untaken = (let a = c.takes_none.untaken in omega arith); unmissed = (let a = c.takes_none.unmissed in omega arith) },
             record {
@@ -236,6 +240,7 @@ module _ (old : Hand) (region asked : ℕ) (size : region ≡ old.worker.view.re
                   (which j xs z);
             },
             (λ p z. c.spares p (omega arith)),
+            (let a = c.keeps_block in omega arith),
           )
 
       -- its pages were covered, or memory ran out
@@ -247,15 +252,16 @@ module _ (old : Hand) (region asked : ℕ) (size : region ≡ old.worker.view.re
             (more_claims more p.0 y p.2 (subst (λ (z : List (ℕ × ℕ) × ℕ). CoversPages z.0 (512 * i) (min (512 * i + 512) z.1) more y) (λ j. (claimed_works.does.stays.marks j, (claimed_works.does.stays.region ∙ sym size) j)) q))))
 
         pub reclaims_wants : (e : NoMemory) → claims < chunks_of region → ReclaimsChunk i (record now { worker = new }) next (Err e) → Reclaims asked old next (Err e)
-        reclaims_wants e less r = works-both Claimed (λ said. IsPlain said × SparesMarked new.view.marks said) (λ said. TakesNone said × (many (is_added 4) said ≤ chunks_of old.worker.view.region) × SparesMarked old.worker.view.marks said) [] old (record now { worker = new }) next claimed_works r
+        reclaims_wants e less r = works-both Claimed (λ said. IsPlain said × SparesMarked new.view.marks said) (λ said. TakesNone said × (many (is_added 4) said ≤ chunks_of old.worker.view.region) × SparesMarked old.worker.view.marks said × KeepsBlock said) [] old (record now { worker = new }) next claimed_works r
             (λ x y p q. wants x y p.0 p.1 p.2 q.0 (subst (λ (m : List (ℕ × ℕ)). SparesMarked m y) claimed_works.does.stays.marks q.1))
           where
             wants : (x y xs : List Entry) → x ≡ Added 4 1 ∷ Read 4 i ∷ xs → CoversChunks old.worker.view.marks region claims given xs → IsPlain y → SparesMarked old.worker.view.marks y
-                → TakesNone (y ++ x) × (many (is_added 4) (y ++ x) ≤ chunks_of old.worker.view.region) × SparesMarked old.worker.view.marks (y ++ x)
-            wants x y xs is c plain spares = subst (λ (s : List Entry). TakesNone (y ++ s) × (many (is_added 4) (y ++ s) ≤ chunks_of old.worker.view.region) × SparesMarked old.worker.view.marks (y ++ s)) (sym is) (
+                → TakesNone (y ++ x) × (many (is_added 4) (y ++ x) ≤ chunks_of old.worker.view.region) × SparesMarked old.worker.view.marks (y ++ x) × KeepsBlock (y ++ x)
+            wants x y xs is c plain spares = subst (λ (s : List Entry). TakesNone (y ++ s) × (many (is_added 4) (y ++ s) ≤ chunks_of old.worker.view.region) × SparesMarked old.worker.view.marks (y ++ s) × KeepsBlock (y ++ s)) (sym is) (
               takes-append y (Added 4 1 ∷ Read 4 i ∷ xs) plain.takes_none (record { untaken = (let a = c.takes_none.untaken in omega arith); unmissed = (let a = c.takes_none.unmissed in omega arith) }),
               subst (λ (r : ℕ). many (is_added 4) (y ++ (Added 4 1 ∷ Read 4 i ∷ xs)) ≤ chunks_of r) size (let a = many-append (is_added 4) y (Added 4 1 ∷ Read 4 i ∷ xs) in let b = plain.unclaimed in let d = c.claimed in omega arith),
               spares-append old.worker.view.marks y (Added 4 1 ∷ Read 4 i ∷ xs) spares (λ p l. c.spares p (omega arith)),
+              none-both is_of_block y (Added 4 1 ∷ Read 4 i ∷ xs) plain.keeps_block (let a = c.keeps_block in omega arith),
             )
 
 -- a quotient rounded up
@@ -263,7 +269,7 @@ pub rounded : (x : ℕ) → x / 512 + min 1 (x % 512) ≡ chunks_of x
 rounded x = omega arith
 
 -- what was reclaimed stays so behind what claims no chunk
-pub reclaimed-more : (marks : List (ℕ × ℕ)) (region n : ℕ) (xs ys : List Entry) → IsPlain xs → HasReclaimed marks region n ys → HasReclaimed marks region n (xs ++ ys)
+pub reclaimed-more : (marks : List (ℕ × ℕ)) (region n : ℕ) (xs ys : List Entry) → MakesNone xs → HasReclaimed marks region n ys → HasReclaimed marks region n (xs ++ ys)
 reclaimed-more marks region n xs ys plain r = record {
   enough = ⊎_elim (λ (l : n ≤ total pages_given ys). inl (let a = total-append pages_given xs ys in omega arith)) (λ (z : HasPassed region ys). inr (passed z)) r.enough;
   few = (let a = many-append (is_added 4) xs ys in let b = plain.unclaimed in let c = r.few in omega arith);

@@ -44,7 +44,7 @@ looks_more g e said a r = record {
 looks_found : (g page word : ℕ) → Looks g (Found page word ∷ [])
 looks_found g page word = record {
   sweeps = record { unplaced = refl; unspent = refl; swept_pages = refl; given = λ p. refl; pushed = λ p. refl; unpopped = λ j p s. refl; unlooked = λ j s. refl; untouched = λ p. refl };
-  none = record { none = refl; plain = record { takes_none = record { untaken = refl; unmissed = refl }; unclaimed = refl; unread = λ i. refl } };
+  none = record { none = refl; plain = record { takes_none = record { untaken = refl; unmissed = refl }; unclaimed = refl; unread = λ i. refl; keeps_block = refl } };
   given = refl;
   unswept = λ p. refl;
 }
@@ -111,6 +111,6 @@ logs_works old said new e sweeps none popped = works-step (λ s. s ≡ said) [] 
       sweeps = sweeps;
       sets = fits-none old.worker.view.generation no_page said old.worker new [] none (ap (λ (x : Seen). x.view.own.spans) e);
       held = ap (λ (x : Seen). x.view.own.held) e ∙ sym (append-nil old.worker.view.own.held);
-      stays = subst (Stays old.worker) (sym e) (record { away = refl; table = refl; number = refl; region = refl; goal = refl; generation = refl; marks = refl; before = refl; carried = refl; parts = refl; sweeping = refl; cached = refl; claimed = refl; fresh = refl; reset = refl; bodies = λ q h. refl });
+      stays = subst (Stays old.worker) (sym e) (record { away = refl; table = refl; number = refl; caching = refl; region = refl; goal = refl; procs = refl; generation = refl; marks = refl; before = refl; carried = refl; parts = refl; sweeping = refl; cached = refl; claimed = refl; fresh = refl; reset = refl; bodies = λ q h. refl });
     })
     (notes-none (cycle_at old.worker.view.generation) said none) refl (ap (λ (x : Seen). x.view.own.popped) e ∙ popped) refl

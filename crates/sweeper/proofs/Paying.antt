@@ -40,10 +40,10 @@ read_works word value a new other e none = works-step (λ said. IsPlain said × 
       sweeps = record { unplaced = refl; unspent = refl; swept_pages = refl; given = λ p. refl; pushed = λ p. refl; unpopped = λ j p s. refl; unlooked = λ j s. refl; untouched = λ p. refl };
       sets = fits-none a.worker.view.generation no_page (Read word value ∷ []) a.worker new [] refl (ap (λ (x : Seen). x.view.own.spans) e);
       held = ap (λ (x : Seen). x.view.own.held) e ∙ sym (append-nil a.worker.view.own.held);
-      stays = subst (Stays a.worker) (sym e) (record { away = refl; table = refl; number = refl; region = refl; goal = refl; generation = refl; marks = refl; before = refl; carried = refl; parts = refl; sweeping = refl; cached = refl; claimed = refl; fresh = refl; reset = refl; bodies = λ q h. refl });
+      stays = subst (Stays a.worker) (sym e) (record { away = refl; table = refl; number = refl; caching = refl; region = refl; goal = refl; procs = refl; generation = refl; marks = refl; before = refl; carried = refl; parts = refl; sweeping = refl; cached = refl; claimed = refl; fresh = refl; reset = refl; bodies = λ q h. refl });
     })
     refl refl (ap (λ (x : Seen). x.view.own.popped) e ∙ none)
-    (record { takes_none = record { untaken = refl; unmissed = refl }; unclaimed = refl; unread = λ i. rw other refl }, rw (eq-eqb word word refl, eq-eqb value value refl) (omega arith))
+    (record { takes_none = record { untaken = refl; unmissed = refl }; unclaimed = refl; unread = λ i. rw other refl; keeps_block = refl }, rw (eq-eqb word word refl, eq-eqb value value refl) (omega arith))
 
 -- room for notes tells nothing
 pub works-room : (P : List Entry → Type 0) (more : List ℕ) (a b b' : Hand) → b'.worker ≡ b.worker → b'.notes.items ≡ b.notes.items → Works more P a b → Works more P a b'

@@ -70,7 +70,7 @@ module _ (set : ℕ) where
   }
 
   pub one_none : (h t : ℕ) → SweepsNone (Looked set h t ∷ [])
-  one_none h t = record { none = refl; plain = record { takes_none = record { untaken = refl; unmissed = refl }; unclaimed = refl; unread = λ i. refl } }
+  one_none h t = record { none = refl; plain = record { takes_none = record { untaken = refl; unmissed = refl }; unclaimed = refl; unread = λ i. refl; keeps_block = refl } }
 
   read_quiet : (v g : ℕ) → OnlySweeps g (Read 1 v ∷ [])
   read_quiet v g = record { unplaced = refl; unspent = refl; swept_pages = refl; given = λ p. refl; pushed = λ p. refl; unpopped = λ j p s. refl; unlooked = λ j s. refl; untouched = λ p. refl }
@@ -81,7 +81,7 @@ module _ (set : ℕ) where
       sweeps-append g (e ∷ []) (said ++ Read 1 v ∷ []) (subst (λ (y : Entry). OnlySweeps g (y ∷ [])) (sym x.2) (one_quiet x.0 x.1 g off)) (looks_sweeps v g off said a.1)
 
   looks_none : (v : ℕ) (said : List Entry) → AllByRecursion (IsLookAt set) said → SweepsNone (said ++ Read 1 v ∷ [])
-  looks_none v [] a = record { none = refl; plain = record { takes_none = record { untaken = refl; unmissed = refl }; unclaimed = refl; unread = λ i. refl } }
+  looks_none v [] a = record { none = refl; plain = record { takes_none = record { untaken = refl; unmissed = refl }; unclaimed = refl; unread = λ i. refl; keeps_block = refl } }
   looks_none v (e ∷ said) a = let x = look_is e a.0 in
       none-append (e ∷ []) (said ++ Read 1 v ∷ []) (subst (λ (y : Entry). SweepsNone (y ∷ [])) (sym x.2) (one_none x.0 x.1)) (looks_none v said a.1)
 
@@ -107,7 +107,7 @@ module _ (set : ℕ) where
       sweeps = sweeps-append w.view.generation (Looked set head tail ∷ []) (l.said ++ Read 1 w.view.generation ∷ []) (one_quiet head tail w.view.generation off) (looks_sweeps w.view.generation w.view.generation off l.said l.looks);
       sets = fits-none w.view.generation no_page looks_said w now [] looks_are.none (ap (λ (x : Seen). x.view.own.spans) l.view);
       held = ap (λ (x : Seen). x.view.own.held) l.view ∙ sym (append-nil w.view.own.held);
-      stays = subst (Stays w) (sym l.view) (record { away = refl; table = refl; number = refl; region = refl; goal = refl; generation = refl; marks = refl; before = refl; carried = refl; parts = refl; sweeping = refl; cached = refl; claimed = refl; fresh = refl; reset = refl; bodies = λ q h. refl });
+      stays = subst (Stays w) (sym l.view) (record { away = refl; table = refl; number = refl; caching = refl; region = refl; goal = refl; procs = refl; generation = refl; marks = refl; before = refl; carried = refl; parts = refl; sweeping = refl; cached = refl; claimed = refl; fresh = refl; reset = refl; bodies = λ q h. refl });
     }
 
     pub looks_popped : now.view.own.popped ≡ w.view.own.popped
@@ -133,14 +133,14 @@ module _ (set : ℕ) where
         };
         sets = fits-none now.view.generation no_page (Popped set page ∷ []) now new [] refl (ap (λ (x : Seen). x.view.own.spans) e);
         held = ap (λ (x : Seen). x.view.own.held) e ∙ sym (append-nil now.view.own.held);
-        stays = subst (Stays now) (sym e) (record { away = refl; table = refl; number = refl; region = refl; goal = refl; generation = refl; marks = refl; before = refl; carried = refl; parts = refl; sweeping = refl; cached = refl; claimed = refl; fresh = refl; reset = refl; bodies = λ q h. refl });
+        stays = subst (Stays now) (sym e) (record { away = refl; table = refl; number = refl; caching = refl; region = refl; goal = refl; procs = refl; generation = refl; marks = refl; before = refl; carried = refl; parts = refl; sweeping = refl; cached = refl; claimed = refl; fresh = refl; reset = refl; bodies = λ q h. refl });
       }
 
       pub pop_does : Does [] pop_said w new
       pop_does = does-both w now new [] [] looks_said (Popped set page ∷ []) (looks_does unswept) pop_step
 
       pub pop_none : SweepsNone pop_said
-      pop_none = none-append (Popped set page ∷ []) looks_said (record { none = refl; plain = record { takes_none = record { untaken = refl; unmissed = refl }; unclaimed = refl; unread = λ i. refl } }) looks_are
+      pop_none = none-append (Popped set page ∷ []) looks_said (record { none = refl; plain = record { takes_none = record { untaken = refl; unmissed = refl }; unclaimed = refl; unread = λ i. refl; keeps_block = refl } }) looks_are
 
       pub pop_once : many (is_pop set) pop_said ≡ 1
       pop_once = let z = looks_unpopped set w.view.generation l.said l.looks in rw (eq-eqb set set refl) (omega arith)
@@ -202,10 +202,10 @@ module _ (set : ℕ) (h : Hand) (unswept : is_swept_set h.worker.view.generation
           sweeps = record { unplaced = refl; unspent = refl; swept_pages = refl; given = λ p. refl; pushed = λ p. refl; unpopped = λ j p s. refl; unlooked = λ j s. refl; untouched = λ p. refl };
           sets = fits-none mid.view.generation no_page (Found page word ∷ []) mid new [] refl (ap (λ (x : Seen). x.view.own.spans) a.1);
           held = ap (λ (x : Seen). x.view.own.held) a.1 ∙ sym (append-nil mid.view.own.held);
-          stays = subst (Stays mid) (sym a.1) (record { away = refl; table = refl; number = refl; region = refl; goal = refl; generation = refl; marks = refl; before = refl; carried = refl; parts = refl; sweeping = refl; cached = refl; claimed = refl; fresh = refl; reset = refl; bodies = λ q h. refl });
+          stays = subst (Stays mid) (sym a.1) (record { away = refl; table = refl; number = refl; caching = refl; region = refl; goal = refl; procs = refl; generation = refl; marks = refl; before = refl; carried = refl; parts = refl; sweeping = refl; cached = refl; claimed = refl; fresh = refl; reset = refl; bodies = λ q h. refl });
         } in
         let d = does-both h.worker mid new [] [] said₀ (Found page word ∷ []) does₀ step in
-        let n : SweepsNone (Found page word ∷ said₀) = none-append (Found page word ∷ []) said₀ (record { none = refl; plain = record { takes_none = record { untaken = refl; unmissed = refl }; unclaimed = refl; unread = λ i. refl } }) none₀ in
+        let n : SweepsNone (Found page word ∷ said₀) = none-append (Found page word ∷ []) said₀ (record { none = refl; plain = record { takes_none = record { untaken = refl; unmissed = refl }; unclaimed = refl; unread = λ i. refl; keeps_block = refl } }) none₀ in
         let one : many (is_pop set) (Found page word ∷ said₀) ≡ 1 = (let z = once₀ in omega arith) in (
           record {
             said = Found page word ∷ said₀;

@@ -127,10 +127,10 @@ module _ (w : Seen) (got b : Body) (before : ℕ) (same : b.page ≡ got.page) (
   held_back = erase_back b.page b.page w.view.own.held refl apart.held ∙ sym (append-nil w.view.own.held)
 
   given_stays : Stays w (given_after got b before w)
-  given_stays = record { away = refl; table = refl; number = refl; region = refl; goal = refl; generation = refl; marks = refl; before = refl; carried = refl; parts = refl; sweeping = swept_back; cached = refl; claimed = refl; fresh = refl; reset = refl; bodies = bodies_else }
+  given_stays = record { away = refl; table = refl; number = refl; caching = refl; region = refl; goal = refl; procs = refl; generation = refl; marks = refl; before = refl; carried = refl; parts = refl; sweeping = swept_back; cached = refl; claimed = refl; fresh = refl; reset = refl; bodies = bodies_else }
 
   pushed_stays : (set : ℕ) → w.view.own.claimed ≡ None → Stays w (pushed_after set got b before w)
-  pushed_stays set free = record { away = refl; table = refl; number = refl; region = refl; goal = refl; generation = refl; marks = refl; before = refl; carried = refl; parts = refl; sweeping = swept_back; cached = refl; claimed = sym free; fresh = refl; reset = refl; bodies = bodies_else }
+  pushed_stays set free = record { away = refl; table = refl; number = refl; caching = refl; region = refl; goal = refl; procs = refl; generation = refl; marks = refl; before = refl; carried = refl; parts = refl; sweeping = swept_back; cached = refl; claimed = sym free; fresh = refl; reset = refl; bodies = bodies_else }
 
 -- what the whole did to the worker, from before the acquire
 pub record Swings (w : Seen) (h1 h2 : Hand) (marks : MarkSet) (got : Body) (note : SweepNote) : Type 0 where
@@ -207,7 +207,7 @@ module _ (marks : MarkSet) (page : ℕ) (w : Seen) (got : Body) (h1 h2 : Hand) (
           page = refl;
           kept = counted;
           settled = inl (e, rw (eq-eqb b.page b.page refl) (omega arith));
-          plain = record { takes_none = record { untaken = refl; unmissed = refl }; unclaimed = refl; unread = λ i. refl };
+          plain = record { takes_none = record { untaken = refl; unmissed = refl }; unclaimed = refl; unread = λ i. refl; keeps_block = refl };
         };
         pops = λ k. refl;
         of_page = same;
@@ -241,7 +241,7 @@ module _ (marks : MarkSet) (page : ℕ) (w : Seen) (got : Body) (h1 h2 : Hand) (
           page = refl;
           kept = counted;
           settled = inr (by_full full is_full has_room);
-          plain = record { takes_none = record { untaken = refl; unmissed = refl }; unclaimed = refl; unread = λ i. refl };
+          plain = record { takes_none = record { untaken = refl; unmissed = refl }; unclaimed = refl; unread = λ i. refl; keeps_block = refl };
         };
         pops = λ k. refl;
         of_page = same;

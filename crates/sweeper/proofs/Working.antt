@@ -1,5 +1,5 @@
 -- What one part of a call did and then another, is what both did.
-use Rattle.std.proofs.Common.{◌≡◌, ℕ, ◌+◌, ◌<◌, List, [], ◌∷◌, ◌++◌, refl, ap, sym, ◌∙◌, subst, append_assoc, arith}
+use Rattle.std.proofs.Common.{◌≡◌, ℕ, ◌+◌, List, [], ◌∷◌, ◌++◌, refl, ap, sym, ◌∙◌, subst, append_assoc, arith}
 use Rattle.std.proofs.lemmas.List.{append-nil}
 use Rattle.span_state.specs.declared.sweep.SweepNote.{SweepNote}
 use Rattle.sweep_laws.specs.Counts.{times}
@@ -13,7 +13,7 @@ use Rattle.sweeper.specs.Work.{Does, OnlySweeps, Stays, Works, notes_of}
 use Rattle.sweeper.proofs.Counting.{notes-append, nothing-sweeps, sweeps-append}
 
 pub stays-same : (a : Seen) → Stays a a
-stays-same a = record { away = refl; table = refl; number = refl; region = refl; goal = refl; generation = refl; marks = refl; before = refl; carried = refl; parts = refl; sweeping = refl; cached = refl; claimed = refl; fresh = refl; reset = refl; bodies = λ q h. refl }
+stays-same a = record { away = refl; table = refl; number = refl; caching = refl; region = refl; goal = refl; procs = refl; generation = refl; marks = refl; before = refl; carried = refl; parts = refl; sweeping = refl; cached = refl; claimed = refl; fresh = refl; reset = refl; bodies = λ q h. refl }
 
 times_front : (q : ℕ) (xs ys : List ℕ) → times q (xs ++ ys) ≡ times q xs + times q ys
 times_front q [] ys = omega arith
@@ -25,8 +25,10 @@ module _ (a b d : Seen) (more also : List ℕ) (said then : List Entry) (x : Doe
     away = t.away ∙ s.away;
     table = t.table ∙ s.table;
     number = t.number ∙ s.number;
+    caching = t.caching ∙ s.caching;
     region = t.region ∙ s.region;
     goal = t.goal ∙ s.goal;
+    procs = t.procs ∙ s.procs;
     generation = t.generation ∙ s.generation;
     marks = t.marks ∙ s.marks;
     before = t.before ∙ s.before;

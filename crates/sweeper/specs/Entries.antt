@@ -1,7 +1,7 @@
 -- Tests of the entries of a log, besides those of worker_log and span_laws.
-use Rattle.std.specs.Prelude.{ℕ, ◌==◌, ◌&&◌, not, Bool, false}
+use Rattle.std.specs.Prelude.{ℕ, ◌==◌, ◌&&◌, not, Bool, true, false}
 use Rattle.worker_log.specs.declared.Entry.{Entry}
-use Rattle.worker_log.specs.declared.Entry.TheVariants.{Looked, LookedEmptyCell, Pushed, Swept, Gave, Read, Added}
+use Rattle.worker_log.specs.declared.Entry.TheVariants.{Looked, LookedEmptyCell, Pushed, Swept, Gave, Read, Added, NoPage, Cut, NoCut}
 
 -- the pages that an entry gives back
 abbrev pub pages_given : Entry → ℕ
@@ -43,3 +43,23 @@ is_emptying_of page _ = false
 abbrev pub is_keeping_of : ℕ → Entry → Bool
 is_keeping_of page (Swept s) = (s.page == page) && not (s.kept == 0)
 is_keeping_of page _ = false
+
+-- the entry cuts a span out of the worker's block
+abbrev pub is_cut : Entry → Bool
+is_cut (Cut page pages class) = true
+is_cut _ = false
+
+-- the entry cuts this span out of it: its first page, its pages and its span class
+abbrev pub is_cut_of : ℕ → ℕ → ℕ → Entry → Bool
+is_cut_of page pages class (Cut p n k) = (p == page) && ((n == pages) && (k == class))
+is_cut_of page pages class _ = false
+
+-- the entry found no run of n pages in the worker's block, which has pages left
+abbrev pub is_no_cut : ℕ → Entry → Bool
+is_no_cut n (NoCut pages left) = (pages == n) && not (left == 0)
+is_no_cut n _ = false
+
+-- the entry found no page to pull
+abbrev pub is_no_page : Entry → Bool
+is_no_page NoPage = true
+is_no_page _ = false

@@ -1,4 +1,5 @@
 pub mod Entries
+pub mod MakeSteps
 pub mod NewSpans
 pub mod PaySteps
 pub mod Pays

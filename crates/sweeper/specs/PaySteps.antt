@@ -1,5 +1,5 @@
 -- What is done to sweep as many pages as an allocation has to pay for.
-use Rattle.std.specs.Prelude.{◌≡◌, ℕ, ◌-◌, ◌^◌, ◌<◌, ◌≤◌, [], Option, Some, None, Result, Ok, Err}
+use Rattle.std.specs.Prelude.{◌≡◌, ℕ, ◌^◌, ◌<◌, ◌≤◌, [], Option, Some, None, Result, Ok, Err}
 use Rattle.fallible_list.specs.declared.list.NoMemory.{NoMemory}
 use Rattle.worker_log.specs.Entries.{is_pop, is_seen_empty, many}
 use Rattle.span_laws.specs.declared.said.Said.TheVariants.{Reads}

@@ -9,7 +9,7 @@ use Rattle.span_laws.specs.Logs.{is_finding_at}
 use Rattle.sweep_reads.specs.Waiting.{HasNoMark}
 use Rattle.sweeper.specs.Entries.{is_added, is_read, pages_given}
 use Rattle.sweeper.specs.Reclaims.{SparesMarked}
-use Rattle.sweeper.specs.Work.{IsPlain, TakesNone, Works}
+use Rattle.sweeper.specs.Work.{IsPlain, KeepsBlock, TakesNone, Works}
 
 -- of a page without a mark the span was swept, or its word seen to be another than that of a span that waits
 abbrev pub CoversPage : List (ℕ × ℕ) → ℕ → List Entry → Type 0
@@ -45,3 +45,4 @@ pub record CoversChunks (marks : List (ℕ × ℕ)) (region claims given : ℕ) 
   pub given_is : given ≡ min (total pages_given said) (2 ^ 32 - 1)
   pub spares : SparesMarked marks said
   pub takes_none : TakesNone said
+  pub keeps_block : KeepsBlock said

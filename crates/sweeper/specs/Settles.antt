@@ -1,5 +1,5 @@
 -- What becomes of a span in hand.
-use Rattle.std.specs.Prelude.{◌≡◌, ◌⊎◌, ℕ, ◌+◌, ◌-◌, ◌<◌, Bool, true, false, [], ◌∷◌, ◌++◌}
+use Rattle.std.specs.Prelude.{◌≡◌, ◌⊎◌, ℕ, ◌<◌, Bool, true, false, [], ◌∷◌, ◌++◌}
 use Rattle.page_bitmap.specs.Counts.{one_if}
 use Rattle.span_state.specs.MarkSet.{MarkSet}
 use Rattle.span_state.specs.declared.body.Body.{Body}

@@ -11,6 +11,7 @@ use Rattle.span_laws.specs.Asks.{mine}
 use Rattle.span_laws.specs.Logs.{is_taking}
 use Rattle.span_laws.specs.Views.{Seen, span_at}
 use Rattle.span_set.specs.declared.hand.Hand.{Hand}
+use Rattle.span_set.specs.Blocks.{is_of_block}
 use Rattle.span_set.specs.Fits.{FitsSets, no_page}
 use Rattle.span_laws.specs.Calls.{is_missing, is_placing, number_added, pages_swept}
 use Rattle.sweep_laws.specs.Counts.{total}
@@ -40,13 +41,15 @@ pub record OnlySweeps (g : ℕ) (said : List Entry) : Type 0 where
   pub unlooked : LooksAtNone g said
   pub untouched : (p : ℕ) → many (is_placing_in p) said ≡ 0
 
--- What a worker has stays: all that others agree on, what it has cached, sweeps and claims, and the bodies of the spans that it had.
+-- What a worker has stays: all that others agree on, whether it has a page cache, what it has cached, sweeps and claims, and the bodies of the spans that it had.
 pub record Stays (old new : Seen) : Type 0 where
   pub away : new.away ≡ old.away
   pub table : new.table ≡ old.table
   pub number : new.number ≡ old.number
+  pub caching : new.caching ≡ old.caching
   pub region : new.view.region ≡ old.view.region
   pub goal : new.view.goal ≡ old.view.goal
+  pub procs : new.view.procs ≡ old.view.procs
   pub generation : new.view.generation ≡ old.view.generation
   pub marks : new.view.marks ≡ old.view.marks
   pub before : new.view.before ≡ old.view.before
@@ -82,10 +85,21 @@ pub record TakesNone (said : List Entry) : Type 0 where
   pub unmissed : many is_missing said ≡ 0
 
 -- nor is a chunk claimed, or the index of one read
+pub record MakesNone (said : List Entry) : Type 0 where
+  pub takes_none : TakesNone said
+  pub unclaimed : many (is_added 4) said ≡ 0
+  pub unread : (i : ℕ) → many (is_read 4 i) said ≡ 0
+
+-- nothing is done to the block of the worker's page cache
+abbrev pub KeepsBlock : List Entry → Type 0
+KeepsBlock said = many is_of_block said ≡ 0
+
+-- neither is so
 pub record IsPlain (said : List Entry) : Type 0 where
   pub takes_none : TakesNone said
   pub unclaimed : many (is_added 4) said ≡ 0
   pub unread : (i : ℕ) → many (is_read 4 i) said ≡ 0
+  pub keeps_block : KeepsBlock said
 
 -- each unswept set was seen empty
 abbrev pub SawAllEmpty : ℕ → List Entry → Type 0

@@ -5,6 +5,7 @@
 #![tactic(auto)]
 
 mod answers;
+mod cuts;
 mod laws;
 mod payments;
 mod reclaimer;

@@ -2,8 +2,10 @@ ghost use Rattle.std.specs.Prelude.{◌≡◌, ◌<◌, ◌≤◌, [], true, Non
 ghost use Rattle.span_laws.specs.Asks.{IsAtWork};
 ghost use Rattle.page_alloc.specs.FreeRuns.{IsSpanSize};
 ghost use Rattle.span_set.specs.Tallies.{Frees, MayCount};
-ghost use Rattle.sweeper.specs.NewSpans.{MakesSpan, SweepsAndTakes};
+ghost use Rattle.sweeper.specs.MakeSteps.{SweepsAndTakes};
+ghost use Rattle.sweeper.specs.NewSpans.{MakesSpan};
 
+use crate::cuts::cut_or_take;
 use crate::payments::finish;
 use crate::reclaimer::reclaim;
 use fallible_list::NoMemory;
@@ -13,11 +15,14 @@ use span_table::Refused;
 use std::sync::Wait;
 
 /// Makes a span of n pages and this span class, which the worker then holds (`mheap.go`, `alloc` and `allocSpan`): it reclaims n
-/// pages and takes a run at first fit. Where no run fits, it sweeps all that is left in the unswept sets and takes again. n is the
-/// pages of the small class, or at least 5 for span class 0 or 1.
+/// pages. A worker with a page cache that wants fewer than 16 pages cuts the span out of its block; where that gives nothing and the
+/// block has no page left or isn't there, it settles, pulls another block and cuts again. Where it still has no span, it takes a run
+/// at first fit. Where no run fits, it sweeps all that is left in the unswept sets, settles its own block (ours) and takes
+/// again. n is the pages of the small class, or at least 5 for span class 0 or 1.
 ///
-/// NoRun where no run of n pages is free then, with the Miss line that says so. After NoMemory the sweeps and the claims of chunks
-/// before stand, and the worker holds no further span.
+/// NoRun where no run of n pages is free then, with the Miss line that says so: pages in the blocks of others count as taken, and
+/// the worker has no block then. After NoMemory the sweeps and the claims of chunks before stand, and so do the settling and pulling
+/// of the own block, and the worker holds no further span.
 pub fn new_span<R: Wait>(
     rt: &R,
     shop: &Shop,
@@ -39,14 +44,14 @@ pub fn new_span<R: Wait>(
     let Ok(_) = reclaim(rt, shop, hand, n) else {
         return Err(Refused::NoMemory);
     };
-    match shop.shared.try_span(rt, &mut hand.worker, n, class) {
+    match cut_or_take(rt, shop, hand, n, class) {
         Ok(Some(body)) => Ok(body),
         Ok(None) => sweep_and_take(rt, shop, hand, n, class),
         Err(NoMemory) => Err(Refused::NoMemory),
     }
 }
 
-// Sweeps all that is left, and then takes.
+// Sweeps all that is left, settles the own block, and then takes.
 fn sweep_and_take<R: Wait>(
     rt: &R,
     shop: &Shop,
@@ -68,5 +73,6 @@ fn sweep_and_take<R: Wait>(
     let Ok(()) = finish(rt, shop, hand) else {
         return Err(Refused::NoMemory);
     };
+    shop.shared.settle(rt, &mut hand.worker);
     shop.shared.take_span(rt, &mut hand.worker, n, class)
 }
