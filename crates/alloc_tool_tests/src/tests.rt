@@ -264,6 +264,28 @@ const WITH_HEADS: &[(&str, &str, &str)] = &[
     ),
 ];
 
+// The same of version 2, where processors have page caches: a block is pulled, cut and settled; so it is again behind a mark end; a span of
+// 16 pages is taken behind the block; and of a region that is taken whole nothing is left to pull.
+const ANSWERED_CACHING: &[(&str, &str)] = &[
+    (
+        "a 0 24 s 1\n",
+        "o 0 0xc000000000\nj 0 0 pull 0 0 64\nj 1 0 cut 0 0 1 6\nj 2 0 drop 0 0 63\nt 3 1 0\n",
+    ),
+    (
+        "a 0 24 s 1\ngc 1\na 0 24 s 1\n",
+        "o 0 0xc000000000\no 1 0xc000000000\nj 0 0 pull 0 0 64\nj 1 0 cut 0 0 1 6\nj 2 0 drop 0 0 63\nj 3 1 give 0 1\n\
+         j 4 1 pull 0 0 64\nj 5 1 cut 0 0 1 6\nj 6 1 drop 0 0 63\ns 1 0 0 1\nt 3 2 1\n",
+    ),
+    (
+        "a 0 122880 n 1\na 0 131072 n 1\n",
+        "o 0 0xc000000000\no 1 0xc000080000\nj 0 0 pull 0 0 64\nj 1 0 take 64 16 1\nj 2 0 cut 0 0 15 1\nj 3 0 drop 0 0 49\nt 0 2 0\n",
+    ),
+    (
+        "a 0 4194304 s 1\na 0 1 s 1\n",
+        "o 0 0xc000000000\no 1 miss 1\nj 0 0 take 0 512 0\nj 1 0 miss 1 2\nt 0 1 0\n",
+    ),
+];
+
 // Lines of events that are all sampled, the report of them without its profile and its last line, and the profile of the last mark end and
 // of each: an object of size 0; three objects of which one lives on; and the same with one object more, behind a second mark end.
 const SAMPLED: &[(&str, &str, &str, &str)] = &[
@@ -291,7 +313,20 @@ fn expect_report<R: Threads + Wait + Sync + AllocGlobal + Abort>(
     text: &str,
     profile: &str,
 ) -> Result<(), Fail> {
-    let input = format!(in rt.alloc(); "goheap 1\n{head}\n{lines}end\n")?;
+    expect_report_by(rt, words, "goheap 1", head, lines, text, profile)
+}
+
+// The same with this first line.
+fn expect_report_by<R: Threads + Wait + Sync + AllocGlobal + Abort>(
+    rt: &R,
+    words: &[&str],
+    version: &str,
+    head: &str,
+    lines: &str,
+    text: &str,
+    profile: &str,
+) -> Result<(), Fail> {
+    let input = format!(in rt.alloc(); "{version}\n{head}\n{lines}end\n")?;
     let report = format!(in rt.alloc(); "{text}{profile}end\n")?;
     let wanted = answered(report.as_str());
     expect(
@@ -312,8 +347,21 @@ fn expect_sound_run<R: Threads + Wait + Sync + AllocGlobal + Abort, G: Gate>(
     lines: &str,
     gate: &G,
 ) -> Result<(), Fail> {
+    sound_run(rt, words, "goheap 1", head, lines, gate)?;
+    Ok(())
+}
+
+// The same with this first line. It answers what was written.
+fn sound_run<R: Threads + Wait + Sync + AllocGlobal + Abort, G: Gate>(
+    rt: &R,
+    words: &[&str],
+    version: &str,
+    head: &str,
+    lines: &str,
+    gate: &G,
+) -> Result<MemorySink, Fail> {
     let alloc = rt.alloc();
-    let input = format!(in alloc; "goheap 1\n{head}\n{lines}end\n")?;
+    let input = format!(in alloc; "{version}\n{head}\n{lines}end\n")?;
     let words = words_of(alloc, words)?;
     let mut source = source_of(alloc, input.as_bytes(), failing(&[], &[]))?;
     let mut output = sink_of(alloc, u64::MAX, &[])?;
@@ -338,7 +386,8 @@ fn expect_sound_run<R: Threads + Wait + Sync + AllocGlobal + Abort, G: Gate>(
         pair.as_slice(),
         failing(&[], &[]),
         wanted,
-    )
+    )?;
+    Ok(output)
 }
 
 // The first with a background sweeper, the second without.
@@ -358,6 +407,50 @@ fn traces_are_answered(rt: HostRuntime) -> Result<(), Fail> {
     for &(head, lines) in SEVERAL {
         expect_sound_run(&rt, WORDS[0], head, lines, &OpenGate)?;
         expect_sound_run(&rt, WORDS[1], head, lines, &OpenGate)?;
+    }
+    Ok(())
+}
+
+// Where processors have page caches, too.
+#[test]
+fn caching_traces_are_answered(rt: HostRuntime) -> Result<(), Fail> {
+    let version = "goheap 2";
+    for &(lines, text) in ANSWERED_CACHING {
+        expect_report_by(&rt, WORDS[1], version, SMALL, lines, text, "")?;
+        sound_run(&rt, WORDS[0], version, SMALL, lines, &OpenGate)?;
+    }
+    for &(head, lines) in SEVERAL {
+        sound_run(&rt, WORDS[0], version, head, lines, &OpenGate)?;
+        sound_run(&rt, WORDS[1], version, head, lines, &OpenGate)?;
+    }
+    Ok(())
+}
+
+// Where two objects of two processors may stand: each is cut out of a block, which is the other's after it was dropped, or the next one.
+const CUT_APART: [&str; 4] = [
+    "o 0 0xc000000000\no 1 0xc000002000\n",
+    "o 0 0xc000000000\no 1 0xc000080000\n",
+    "o 0 0xc000002000\no 1 0xc000000000\n",
+    "o 0 0xc000080000\no 1 0xc000000000\n",
+];
+
+#[test]
+fn processors_cut_beside_each_other(rt: HostRuntime) -> Result<(), Fail> {
+    let head = "heap 1 procs 2 rate 0 seed 1 goal 512";
+    for words in WORDS {
+        let output = sound_run(
+            &rt,
+            words,
+            "goheap 2",
+            head,
+            "a 0 8 s 1\na 1 8 s 1\n",
+            &OpenGate,
+        )?;
+        let mut found = false;
+        for front in &CUT_APART {
+            found = found || output.held().starts_with(front.as_bytes());
+        }
+        assert!(rt; found);
     }
     Ok(())
 }

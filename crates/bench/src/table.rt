@@ -77,7 +77,7 @@ fn move_rounds(core: &mut Core, rounds: u64) -> Result<(), StepFault> {
 
 // So many calls that do the same.
 fn calls<R: Wait>(rt: &R, alloc: Global, rounds: u64) -> Result<u64, Stop> {
-    let (shared, mut worker) = Shared::new(alloc, 1, PAGES)?;
+    let (shared, mut worker) = Shared::new(alloc, 1, PAGES, 0)?;
     let Ok(body) = shared.take_span(rt, &mut worker, PAGES, 0) else {
         return Err(Stop::NoMemory);
     };

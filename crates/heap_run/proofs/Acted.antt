@@ -1,5 +1,5 @@
 -- What the turns of workers leave behind.
-use Rattle.std.proofs.Common.{◌≡◌, ◌≢◌, ℕ, suc, ◌+◌, ◌<◌, Bool, List, [], ◌∷◌, ◌++◌, map, reverse, take, length, get_or, Result, Ok, Err, OnOk, refl, sym, ◌∙◌, ap, arith, subst}
+use Rattle.std.proofs.Common.{◌≡◌, ◌≢◌, ℕ, suc, ◌+◌, ◌<◌, Bool, true, false, List, [], ◌∷◌, ◌++◌, map, reverse, take, length, get_or, Option, None, Result, Ok, Err, OnOk, refl, sym, ◌∙◌, ap, arith, inl, inr, subst}
 use Rattle.std.proofs.lemmas.List.{append_assoc, append-nil, reverse-append, take_more}
 use Rattle.page_alloc.specs.Lists.{In}
 use Rattle.span_state.specs.declared.sweep.SweepNote.{SweepNote}
@@ -18,7 +18,8 @@ use Rattle.span_laws.specs.TakeAnswers.{cycle_at}
 use Rattle.span_laws.specs.Asks.{IsIdle}
 use Rattle.span_laws.specs.Calls.{note_in, notes_of}
 use Rattle.span_laws.specs.Views.{Seen, acts}
-use Rattle.span_laws.specs.Handed.{handed, handed_out, handing, taking_in}
+use Rattle.page_cache.specs.Cache.{Cache as PageCache}
+use Rattle.span_laws.specs.Handed.{handed, handing, taking_in, with_cache}
 use Rattle.span_laws.specs.declared.view.Part.{Part}
 use Rattle.span_laws.specs.declared.view.View.{View}
 use Rattle.span_set.specs.declared.hand.Hand.{Hand}
@@ -31,7 +32,7 @@ use Rattle.profile_cycle.specs.Sampling.{Countdown}
 use Rattle.proc_cache.specs.Cache.{Cache}
 use Rattle.proc_cache.specs.Flushes.{Flushes, IsFlushing}
 use Rattle.heap_run.specs.Counts.{IsOut}
-use Rattle.heap_run.specs.Parts.{IsSameRun, part_at}
+use Rattle.heap_run.specs.Parts.{IsSameRun, goes_out, own_out, part_at}
 use Rattle.heap_run.specs.Served.{Tells}
 use Rattle.heap_run.specs.Swept.{note_at}
 use Rattle.heap_run.specs.Turns.{HasActed, IsCaching, SaysAnswers, SaysNone, TookTurn}
@@ -152,48 +153,59 @@ notes-append g (e ∷ later) first = ap (λ (l : List SweepNote). l ++ note_in g
 
 -- ---- answers behind answers
 
--- with more runs taken the log tells the same
-taken-more : (taken taken' : List Taking) (events : List Event) (answers : List Answer) (placed : List Placing) (refused : List Refusal) → ((x : Taking) → In x taken → In x taken')
-    → Tells taken events answers placed refused → Tells taken' events answers placed refused
-taken-more taken taken' [] [] [] [] more h = tt
-taken-more taken taken' [] [] [] (x ∷ refused) more h = absurd h
-taken-more taken taken' [] [] (a ∷ placed) refused more h = absurd h
-taken-more taken taken' [] (answer ∷ answers) placed refused more h = absurd h
-taken-more taken taken' (e ∷ events) [] placed refused more h = absurd h
-taken-more taken taken' (e ∷ events) (Zero ∷ answers) placed refused more h = (h.0, taken-more taken taken' events answers placed refused more h.1)
-taken-more taken taken' (e ∷ events) (Placed address ∷ answers) [] refused more h = absurd h
-taken-more taken taken' (e ∷ events) (Placed address ∷ answers) (a ∷ placed) refused more h = (
+-- A log has what another has.
+record HasAll (log log' : List Entry) : Type 0 where
+  entries : (x : Entry) → In x log → In x log'
+  taken : (x : Taking) → In x (takings log) → In x (takings log')
+
+-- with more entries the log tells the same
+told-more : (log log' : List Entry) (events : List Event) (answers : List Answer) (placed : List Placing) (refused : List Refusal) → HasAll log log' → Tells log events answers placed refused
+    → Tells log' events answers placed refused
+told-more log log' [] [] [] [] more h = tt
+told-more log log' [] [] [] (x ∷ refused) more h = absurd h
+told-more log log' [] [] (a ∷ placed) refused more h = absurd h
+told-more log log' [] (answer ∷ answers) placed refused more h = absurd h
+told-more log log' (e ∷ events) [] placed refused more h = absurd h
+told-more log log' (e ∷ events) (Zero ∷ answers) placed refused more h = (h.0, told-more log log' events answers placed refused more h.1)
+told-more log log' (e ∷ events) (Placed address ∷ answers) [] refused more h = absurd h
+told-more log log' (e ∷ events) (Placed address ∷ answers) (a ∷ placed) refused more h = (
   record {
     some = h.0.some;
     need = h.0.need;
     fits = h.0.fits;
     class = h.0.class;
     address_is = h.0.address_is;
-    large = λ low. (let t = h.0.large low in (t.0, t.1, t.2, more t.0 t.3, t.4, t.5));
+    large = λ low. elim (h.0.large low) [ inl t ↦ inl (t.0, t.1, t.2, more.taken t.0 t.3, t.4, t.5) | inr cut ↦ inr (more.entries _ cut) ];
   },
-  taken-more taken taken' events answers placed refused more h.1,
+  told-more log log' events answers placed refused more h.1,
 )
-taken-more taken taken' (e ∷ events) (Missed line ∷ answers) placed [] more h = absurd h
-taken-more taken taken' (e ∷ events) (Missed line ∷ answers) placed (x ∷ refused) more h = (h.0, taken-more taken taken' events answers placed refused more h.1)
+told-more log log' (e ∷ events) (Missed line ∷ answers) placed [] more h = absurd h
+told-more log log' (e ∷ events) (Missed line ∷ answers) placed (x ∷ refused) more h = (h.0, told-more log log' events answers placed refused more h.1)
 
-tells-append : (taken : List Taking) (es fs : List Event) (ans bs : List Answer) (ps qs : List Placing) (rs us : List Refusal) → Tells taken es ans ps rs → Tells taken fs bs qs us → Tells taken (es ++ fs) (ans ++ bs) (ps ++ qs) (rs ++ us)
-tells-append taken [] fs [] bs [] qs [] us h k = k
-tells-append taken [] fs [] bs [] qs (x ∷ rs) us h k = absurd h
-tells-append taken [] fs [] bs (a ∷ ps) qs rs us h k = absurd h
-tells-append taken [] fs (answer ∷ ans) bs ps qs rs us h k = absurd h
-tells-append taken (e ∷ es) fs [] bs ps qs rs us h k = absurd h
-tells-append taken (e ∷ es) fs (Zero ∷ ans) bs ps qs rs us h k = (h.0, tells-append taken es fs ans bs ps qs rs us h.1 k)
-tells-append taken (e ∷ es) fs (Placed address ∷ ans) bs [] qs rs us h k = absurd h
-tells-append taken (e ∷ es) fs (Placed address ∷ ans) bs (a ∷ ps) qs rs us h k = (h.0, tells-append taken es fs ans bs ps qs rs us h.1 k)
-tells-append taken (e ∷ es) fs (Missed line ∷ ans) bs ps qs [] us h k = absurd h
-tells-append taken (e ∷ es) fs (Missed line ∷ ans) bs ps qs (x ∷ rs) us h k = (h.0, tells-append taken es fs ans bs ps qs rs us h.1 k)
+tells-append : (log : List Entry) (es fs : List Event) (ans bs : List Answer) (ps qs : List Placing) (rs us : List Refusal) → Tells log es ans ps rs → Tells log fs bs qs us → Tells log (es ++ fs) (ans ++ bs) (ps ++ qs) (rs ++ us)
+tells-append log [] fs [] bs [] qs [] us h k = k
+tells-append log [] fs [] bs [] qs (x ∷ rs) us h k = absurd h
+tells-append log [] fs [] bs (a ∷ ps) qs rs us h k = absurd h
+tells-append log [] fs (answer ∷ ans) bs ps qs rs us h k = absurd h
+tells-append log (e ∷ es) fs [] bs ps qs rs us h k = absurd h
+tells-append log (e ∷ es) fs (Zero ∷ ans) bs ps qs rs us h k = (h.0, tells-append log es fs ans bs ps qs rs us h.1 k)
+tells-append log (e ∷ es) fs (Placed address ∷ ans) bs [] qs rs us h k = absurd h
+tells-append log (e ∷ es) fs (Placed address ∷ ans) bs (a ∷ ps) qs rs us h k = (h.0, tells-append log es fs ans bs ps qs rs us h.1 k)
+tells-append log (e ∷ es) fs (Missed line ∷ ans) bs ps qs [] us h k = absurd h
+tells-append log (e ∷ es) fs (Missed line ∷ ans) bs ps qs (x ∷ rs) us h k = (h.0, tells-append log es fs ans bs ps qs rs us h.1 k)
 
 -- what two logs tell, the later in front
 pub answers-then : (es fs : List Event) (ans bs : List Answer) (later first : List Entry) → SaysAnswers es ans later → SaysAnswers fs bs first → SaysAnswers (es ++ fs) (ans ++ bs) (later ++ first)
 answers-then es fs ans bs later first h k =
-    let a = taken-more (takings later) (takings later ++ takings first) es ans (placings later) (refusals later) (λ x i. in-left (takings later) (takings first) x i) h in
-    let b = taken-more (takings first) (takings later ++ takings first) fs bs (placings first) (refusals first) (λ x i. in-right (takings later) (takings first) x i) k in
-    rw (placings-append later first, refusals-append later first, takings-append later first) (tells-append (takings later ++ takings first) es fs ans bs (placings later) (placings first) (refusals later) (refusals first) a b)
+    let all = told-more later (later ++ first) es ans (placings later) (refusals later) (record {
+      entries = λ x i. in-left later first x i;
+      taken = λ x i. rw (takings-append later first) (in-left (takings later) (takings first) x i);
+    }) h in
+    let all_too = told-more first (later ++ first) fs bs (placings first) (refusals first) (record {
+      entries = λ x i. in-right later first x i;
+      taken = λ x i. rw (takings-append later first) (in-right (takings later) (takings first) x i);
+    }) k in
+    rw (placings-append later first, refusals-append later first) (tells-append (later ++ first) es fs ans bs (placings later) (placings first) (refusals later) (refusals first) all all_too)
 
 -- entries that answer no event are those with no answers
 pub none-answers : (said : List Entry) → SaysNone said → SaysAnswers [] [] said
@@ -202,7 +214,7 @@ none-answers said none = rw (none.0, none.1) tt
 pub answers-none : (said : List Entry) → SaysAnswers [] [] said → SaysNone said
 answers-none said h = go (placings said) (refusals said) h
   where
-    go : (ps : List Placing) (rs : List Refusal) → Tells (takings said) [] [] ps rs → (ps ≡ []) × (rs ≡ [])
+    go : (ps : List Placing) (rs : List Refusal) → Tells said [] [] ps rs → (ps ≡ []) × (rs ≡ [])
     go [] [] h = (refl, refl)
     go [] (x ∷ rs) h = absurd h
     go (a ∷ ps) rs h = absurd h
@@ -214,15 +226,15 @@ none-then later first h k = (
 )
 
 -- as many answers as events
-pub tells-length : (taken : List Taking) (events : List Event) (answers : List Answer) (placed : List Placing) (refused : List Refusal) → Tells taken events answers placed refused → length answers ≡ length events
-tells-length taken [] [] placed refused h = refl
-tells-length taken [] (answer ∷ answers) placed refused h = absurd h
-tells-length taken (e ∷ events) [] placed refused h = absurd h
-tells-length taken (e ∷ events) (Zero ∷ answers) placed refused h = ap suc (tells-length taken events answers placed refused h.1)
-tells-length taken (e ∷ events) (Placed address ∷ answers) [] refused h = absurd h
-tells-length taken (e ∷ events) (Placed address ∷ answers) (a ∷ placed) refused h = ap suc (tells-length taken events answers placed refused h.1)
-tells-length taken (e ∷ events) (Missed line ∷ answers) placed [] h = absurd h
-tells-length taken (e ∷ events) (Missed line ∷ answers) placed (x ∷ refused) h = ap suc (tells-length taken events answers placed refused h.1)
+pub tells-length : (log : List Entry) (events : List Event) (answers : List Answer) (placed : List Placing) (refused : List Refusal) → Tells log events answers placed refused → length answers ≡ length events
+tells-length log [] [] placed refused h = refl
+tells-length log [] (answer ∷ answers) placed refused h = absurd h
+tells-length log (e ∷ events) [] placed refused h = absurd h
+tells-length log (e ∷ events) (Zero ∷ answers) placed refused h = ap suc (tells-length log events answers placed refused h.1)
+tells-length log (e ∷ events) (Placed address ∷ answers) [] refused h = absurd h
+tells-length log (e ∷ events) (Placed address ∷ answers) (a ∷ placed) refused h = ap suc (tells-length log events answers placed refused h.1)
+tells-length log (e ∷ events) (Missed line ∷ answers) placed [] h = absurd h
+tells-length log (e ∷ events) (Missed line ∷ answers) placed (x ∷ refused) h = ap suc (tells-length log events answers placed refused h.1)
 
 -- ---- one call behind another
 
@@ -236,6 +248,7 @@ acted-then P Q R a b c ab bc both =
       away = bc.away ∙ ab.away;
       table = bc.table ∙ ab.table;
       number = bc.number ∙ ab.number;
+      caching = bc.caching ∙ ab.caching;
       view = bc.view ∙ ap (λ (v : View). acts v c.worker.view.own) ab.view;
       idle = bc.idle;
       notes =
@@ -253,21 +266,24 @@ acted-none P a idle p = record {
   away = refl;
   table = refl;
   number = refl;
+  caching = refl;
   view = refl;
   idle = idle;
   notes = sym (append-nil a.notes.items);
 }
 
 pub acted-as : (P Q : List Entry → Type 0) (a b : Hand) → HasActed P a b → ((said : List Entry) → P said → Q said) → HasActed Q a b
-acted-as P Q a b ab f = record { said = ab.said; did = f ab.said ab.did; log = ab.log; away = ab.away; table = ab.table; number = ab.number; view = ab.view; idle = ab.idle; notes = ab.notes }
+acted-as P Q a b ab f = record { said = ab.said; did = f ab.said ab.did; log = ab.log; away = ab.away; table = ab.table; number = ab.number; caching = ab.caching; view = ab.view; idle = ab.idle; notes = ab.notes }
 
 same-acted : (P : List Entry → Type 0) (a b : Hand) → HasActed P a b → IsSameRun a.worker b.worker
 same-acted P a b ab = record {
   away = ab.away;
   table = ab.table;
+  caching = ab.caching;
   parts = ap (λ (v : View). length v.parts) ab.view;
   region = ap (λ (v : View). v.region) ab.view;
   goal = ap (λ (v : View). v.goal) ab.view;
+  procs = ap (λ (v : View). v.procs) ab.view;
   generation = ap (λ (v : View). v.generation) ab.view;
   marks = ap (λ (v : View). v.marks) ab.view;
   before = ap (λ (v : View). v.before) ab.view;
@@ -325,6 +341,7 @@ flush-acted test c d old new f = record {
   away = f.leaves.away;
   table = f.leaves.table;
   number = f.leaves.number;
+  caching = f.leaves.caching;
   view = f.leaves.view;
   idle = f.leaves.idle;
   notes = f.leaves.notes;
@@ -359,12 +376,13 @@ notes-by c (s ∷ sweeps) =
     ∙ ap (λ (l : List SweepNote). l ++ note_at c s ∷ []) (notes-by c sweeps) ∙ sym (reverse-append (note_at c s ∷ []) (map (note_at c) sweeps))
 
 -- what all agree on stays, so that only the worker's own part changed
-view-stays : (u v : View) → v.region ≡ u.region → v.goal ≡ u.goal → v.generation ≡ u.generation → v.marks ≡ u.marks → v.before ≡ u.before → v.carried ≡ u.carried → v.parts ≡ u.parts → v ≡ acts u v.own
-view-stays u v region goal generation marks before carried parts =
+view-stays : (u v : View) → v.region ≡ u.region → v.goal ≡ u.goal → v.procs ≡ u.procs → v.generation ≡ u.generation → v.marks ≡ u.marks → v.before ≡ u.before → v.carried ≡ u.carried → v.parts ≡ u.parts → v ≡ acts u v.own
+view-stays u v region goal procs generation marks before carried parts =
     ap (λ (x : ℕ). record v { region = x }) region
     ∙ ap (λ (x : ℕ). record v { region = u.region; goal = x }) goal
-    ∙ ap (λ (x : ℕ). record v { region = u.region; goal = u.goal; generation = x }) generation
-    ∙ ap (λ (x : List (ℕ × ℕ)). record v { region = u.region; goal = u.goal; generation = u.generation; marks = x }) marks
+    ∙ ap (λ (x : ℕ). record v { region = u.region; goal = u.goal; procs = x }) procs
+    ∙ ap (λ (x : ℕ). record v { region = u.region; goal = u.goal; procs = u.procs; generation = x }) generation
+    ∙ ap (λ (x : List (ℕ × ℕ)). record v { region = u.region; goal = u.goal; procs = u.procs; generation = u.generation; marks = x }) marks
     ∙ ap (λ (x : List Line). record u { marks = u.marks; before = x; carried = v.carried; own = v.own; parts = v.parts }) before
     ∙ ap (λ (x : List (ℕ × ℕ)). record u { carried = x; own = v.own; parts = v.parts }) carried
     ∙ ap (λ (x : List Part). record u { own = v.own; parts = x }) parts
@@ -377,7 +395,8 @@ works-acted P old new w no_miss idle = record {
   away = w.does.stays.away;
   table = w.does.stays.table;
   number = w.does.stays.number;
-  view = (let k = w.does.stays in view-stays old.worker.view new.worker.view k.region k.goal k.generation k.marks k.before k.carried k.parts);
+  caching = w.does.stays.caching;
+  view = (let k = w.does.stays in view-stays old.worker.view new.worker.view k.region k.goal k.procs k.generation k.marks k.before k.carried k.parts);
   idle = record {
     sweeping = w.does.stays.sweeping ∙ idle.sweeping;
     held = w.does.held ∙ append-nil old.worker.view.own.held ∙ idle.held;
@@ -394,22 +413,45 @@ pub record HandsOut (i : ℕ) (old start : Hand) : Type 0 where
   pub number : old.worker.number ≡ 69
   pub parts : length old.worker.view.parts ≡ 70
   pub low : i < 69
-  pub out : start.worker ≡ handed_out i old.worker
+  pub out : start.worker ≡ goes_out start.worker.caching i old.worker
   pub none : start.notes.items ≡ []
 
-out-part : (i : ℕ) (old start : Hand) → HandsOut i old start → start.worker.view.own ≡ part_at old.worker i
-out-part i old start o = ap (λ (w : Seen). w.view.own) o.out ∙ part-out old.worker i o.number
+-- its part but for the page cache
+out-own : (caching : Bool) (i : ℕ) (h : Part) → own_out caching i h ≡ with_cache (own_out caching i h).cache h
+out-own true i h = refl
+out-own false i h = refl
+
+out-part : (i : ℕ) (old start : Hand) → HandsOut i old start → start.worker.view.own ≡ with_cache start.worker.view.own.cache (part_at old.worker i)
+out-part i old start o =
+    let own : start.worker.view.own ≡ own_out start.worker.caching i (part_at old.worker i) = ap (λ (w : Seen). w.view.own) o.out ∙ ap (own_out start.worker.caching i) (part-out old.worker i o.number) in
+    own ∙ out-own start.worker.caching i (part_at old.worker i) ∙ ap (λ (h : Part). with_cache h.cache (part_at old.worker i)) (sym own)
+
+-- a page cache changes nothing of a worker's spans
+idle-with : (k : Option PageCache) (h : Part) → IsIdle h → IsIdle (with_cache k h)
+idle-with k h idle = record { sweeping = idle.sweeping; held = idle.held; popped = idle.popped; claimed = idle.claimed }
+
+caching-with : (g : ℕ) (k : Option PageCache) (h : Part) (c : Cache) → IsCaching g h c → IsCaching g (with_cache k h) c
+caching-with g k h c are = record {
+  serves = record {
+    slots = λ j s at. (let one = are.serves.slots j s at in record { cached = one.cached; lent = one.lent; class = one.class; unpopped = one.unpopped });
+    all = are.serves.all;
+    once = are.serves.once;
+    fresh = are.serves.fresh;
+    early = are.serves.early;
+  };
+  used = are.used;
+}
 
 out-generation : (i : ℕ) (old start : Hand) → HandsOut i old start → start.worker.view.generation ≡ old.worker.view.generation
 out-generation i old start o = ap (λ (w : Seen). w.view.generation) o.out
 
 pub out-idle : (i : ℕ) (old start : Hand) → HandsOut i old start → IsIdle (part_at old.worker i) → IsIdle start.worker.view.own
-out-idle i old start o idle = subst IsIdle (sym (out-part i old start o)) idle
+out-idle i old start o idle = subst IsIdle (sym (out-part i old start o)) (idle-with start.worker.view.own.cache (part_at old.worker i) idle)
 
 pub out-caching : (i : ℕ) (old start : Hand) (c : Cache) → HandsOut i old start → IsCaching old.worker.view.generation (part_at old.worker i) c → IsCaching start.worker.view.generation start.worker.view.own c
 out-caching i old start c o caching =
     subst (λ (g : ℕ). IsCaching g start.worker.view.own c) (sym (out-generation i old start o))
-    (subst (λ (h : Part). IsCaching old.worker.view.generation h c) (sym (out-part i old start o)) caching)
+    (subst (λ (h : Part). IsCaching old.worker.view.generation h c) (sym (out-part i old start o)) (caching-with old.worker.view.generation start.worker.view.own.cache (part_at old.worker i) c caching))
 
 pub out-marks : (i : ℕ) (old start : Hand) → HandsOut i old start → start.worker.view.marks ≡ old.worker.view.marks
 out-marks i old start o = ap (λ (w : Seen). w.view.marks) o.out
@@ -423,10 +465,10 @@ end-number P i old start end o acted = acted.number ∙ ap (λ (w : Seen). w.num
 pub out-stays : (P : List Entry → Type 0) (i : ℕ) (old start end : Hand) → HandsOut i old start → HasActed P start end → end.worker.view ≡ acts (handed 69 i old.worker.view) end.worker.view.own
 out-stays P i old start end o acted = acted.view ∙ ap (λ (w : Seen). acts w.view end.worker.view.own) o.out
 
-back-part : (P : List Entry → Type 0) (i : ℕ) (old start end new : Hand) → HandsOut i old start → HasActed P start end → new.worker ≡ taking_in end.worker (handing i old.worker) → part_at new.worker i ≡ end.worker.view.own
+back-part : (P : List Entry → Type 0) (i : ℕ) (old start end new : Hand) → HandsOut i old start → HasActed P start end → new.worker ≡ taking_in end.worker (handing i old.worker) → part_at new.worker i ≡ with_cache None end.worker.view.own
 back-part P i old start end new o acted back =
     let en = end-number P i old start end o acted in
-    let at : part_at (taking_in end.worker (handing i old.worker)) end.worker.number ≡ end.worker.view.own =
+    let at : part_at (taking_in end.worker (handing i old.worker)) end.worker.number ≡ with_cache None end.worker.view.own =
     part-back (handing i old.worker) end.worker (λ e. (let n = o.number in let l = o.low in omega arith)) (let p = o.parts in let l = o.low in omega arith) in
     ap (λ (w : Seen). part_at w i) back ∙ ap (λ (k : ℕ). part_at (taking_in end.worker (handing i old.worker)) k) (sym en) ∙ at
 
@@ -441,7 +483,7 @@ turn-back P i old start end new o acted back notes =
       log = ap (λ (h : Part). h.log) now ∙ acted.log ∙ ap (λ (h : Part). acted.said ++ h.log) (out-part i old start o);
       number = ap (λ (w : Seen). w.number) back;
       same = subst (λ (w : Seen). IsSameRun old.worker w) (sym back) (same-back old.worker end.worker i en);
-      idle = subst IsIdle (sym now) acted.idle;
+      idle = subst IsIdle (sym now) (idle-with None end.worker.view.own acted.idle);
       others = λ j other. ap (λ (w : Seen). part_at w j) back
           ∙ others-back (handing i old.worker) end.worker j (λ e. apart (e ∙ o.number)) (let n = o.number in let p = o.parts in omega arith) (λ e. other (e ∙ en));
       notes = notes ∙ ap (λ (l : List SweepNote). old.notes.items ++ l) (acted.notes ∙ ap (λ (l : List SweepNote). l ++ notes_of start.worker.view.generation acted.said) o.none)
@@ -452,7 +494,7 @@ pub back-caching : (P : List Entry → Type 0) (i : ℕ) (old start end new : Ha
     → IsCaching start.worker.view.generation end.worker.view.own c → IsCaching old.worker.view.generation (part_at new.worker i) c
 back-caching P i old start end new c o acted back caching =
     subst (λ (h : Part). IsCaching old.worker.view.generation h c) (sym (back-part P i old start end new o acted back))
-    (subst (λ (g : ℕ). IsCaching g end.worker.view.own c) (out-generation i old start o) caching)
+    (caching-with old.worker.view.generation None end.worker.view.own c (subst (λ (g : ℕ). IsCaching g end.worker.view.own c) (out-generation i old start o) caching))
 
 -- what was cached stays cached where the calls left it so
 pub back-cached : (P : List Entry → Type 0) (i : ℕ) (old start end new : Hand) → HandsOut i old start → HasActed P start end → new.worker ≡ taking_in end.worker (handing i old.worker) → end.worker.view.own.cached ≡ start.worker.view.own.cached
@@ -475,7 +517,7 @@ ok-map (Err e) P Q f h = h
 
 -- a worker that is out by its number
 pub hands-out : (i n : ℕ) (old start : Hand) → old.worker.number ≡ 69 → length old.worker.view.parts ≡ 70 → i < 69 → n ≡ i → IsOut n old start → HandsOut i old start
-hands-out i n old start number parts low same out = record { number = number; parts = parts; low = low; out = out.worker ∙ ap (λ (k : ℕ). handed_out k old.worker) same; none = out.notes }
+hands-out i n old start number parts low same out = record { number = number; parts = parts; low = low; out = out.worker ∙ ap (λ (k : ℕ). goes_out start.worker.caching k old.worker) same; none = out.notes }
 
 -- the driver that takes a worker in is the one that handed it out by its number
 pub brought-back : (i n : ℕ) (old left end new : Seen) → n ≡ i → left ≡ handing n old → new ≡ taking_in end left → new ≡ taking_in end (handing i old)
@@ -490,6 +532,7 @@ acted-alike P a b c h worker notes = record {
   away = ap (λ (w : Seen). w.away) worker ∙ h.away;
   table = ap (λ (w : Seen). w.table) worker ∙ h.table;
   number = ap (λ (w : Seen). w.number) worker ∙ h.number;
+  caching = ap (λ (w : Seen). w.caching) worker ∙ h.caching;
   view = ap (λ (w : Seen). w.view) worker ∙ h.view ∙ ap (λ (w : Seen). acts a.worker.view w.view.own) (sym worker);
   idle = subst (λ (w : Seen). IsIdle w.view.own) (sym worker) h.idle;
   notes = notes ∙ h.notes;

@@ -9,7 +9,6 @@ use Rattle.trace_reader.specs.declared.trace.Trace.{Trace}
 use Rattle.trace_reader.specs.declared.trace.Cycle.{Cycle}
 use Rattle.trace_reader.specs.declared.trace.Event.{Event}
 use Rattle.profile_cycle.specs.declared.buckets.Bucket.{Bucket}
-use Rattle.profile_cycle.specs.declared.counts.Count.{Count}
 use Rattle.cycle_history.specs.declared.Answer.{Answer}
 use Rattle.cycle_history.specs.declared.Answer.TheVariants.{Zero}
 use Rattle.cycle_history.specs.Before.{AreObjectsBefore, requests_before}

@@ -1,5 +1,7 @@
 -- The answer to one event.
-use Rattle.std.proofs.Common.{◌≡◌, ℕ, ◌+◌, ◌*◌, ◌/◌, ◌%◌, ◌<◌, ◌≤◌, Bool, true, false, List, [], ◌∷◌, ◌++◌, refl, sym, ◌∙◌, ap, arith, inl, subst, eq-eqb}
+use Rattle.std.proofs.Common.{◌≡◌, ℕ, ◌+◌, ◌*◌, ◌/◌, ◌%◌, ◌<◌, ◌≤◌, Bool, true, false, ◌&&◌, eqb, List, [], ◌∷◌, ◌++◌, refl, sym, ◌∙◌, ap, arith, inl, inr, subst, eq-eqb}
+use Rattle.std.proofs.lemmas.Bool.{and_parts, cases_Bool, eqb-true}
+use Rattle.page_bitmap.specs.Counts.{one_if}
 use Rattle.page_alloc.specs.Lists.{In}
 use Rattle.size_classes.specs.Classes.{IsLeastClass, objects_of, pages_of, slot_of, span_class_of}
 use Rattle.sweep_laws.specs.Lists.{has}
@@ -9,6 +11,8 @@ use Rattle.cycle_history.specs.declared.Answer.{Answer}
 use Rattle.cycle_history.specs.declared.Answer.TheVariants.{Placed, Missed}
 use Rattle.cycle_history.specs.Needs.{IsNeed, Need}
 use Rattle.worker_log.specs.declared.Entry.{Entry}
+use Rattle.worker_log.specs.declared.Entry.TheVariants.{Looked, LookedEmptyCell, Popped, Pushed, Swept, Took, Missed as MissedEntry, Gave, Allocated, Found, Read, Added, Pulled, NoPage, Cut, NoCut, Settled}
+use Rattle.worker_log.specs.declared.Placing.{Placing}
 use Rattle.worker_log.specs.Logs.{Refusal, Taking, placings, refusals, takings}
 use Rattle.worker_log.specs.SetNumbers.{is_full_set, swept_set}
 use Rattle.worker_log.specs.Entries.{is_placing_in, is_pop_of, many}
@@ -21,8 +25,9 @@ use Rattle.proc_cache.specs.Flushes.{Flushes}
 use Rattle.proc_cache.specs.Leaves.{Holds, Leaves}
 use Rattle.proc_cache.specs.Serves.{IsUsedCache, Serves}
 use Rattle.proc_cache.proofs.Serving.{serves_through}
-use Rattle.large_objects.specs.Larges.{PlacesLarge}
-use Rattle.heap_run.specs.Served.{IsPlacedBy, IsRefusedBy}
+use Rattle.large_objects.specs.Larges.{IsMadeFor as LargeMadeFor, PlacesLarge}
+use Rattle.sweeper.specs.Entries.{is_cut_of}
+use Rattle.heap_run.specs.Served.{IsMadeFor, IsPlacedBy, IsRefusedBy}
 use Rattle.heap_run.specs.Turns.{HasActed, IsCaching, SaysAnswers, SaysNone}
 use Rattle.heap_run.proofs.Acted.{acted-then, answers-then, flush-acted, none-answers}
 
@@ -58,7 +63,7 @@ large-fits size n k scan high pages class = record {
 
 pub small-placed : (e : Event) (class at : ℕ) (said : List Entry) → 1 ≤ e.size → e.size ≤ 32768 → IsLeastClass e.size class → PlacesOne (span_class_of class e.scan) at said → SaysAnswers (e ∷ []) (Placed at ∷ []) said
 small-placed e class at said some low least p =
-    let by : IsPlacedBy e at (takings said) p.placing = record {
+    let by : IsPlacedBy e at said p.placing = record {
       some = some;
       need = small-need class e.scan;
       fits = small-fits e.size class e.scan low least;
@@ -90,15 +95,49 @@ at-first b s i z = rw z (omega arith)
 taken-one : (x : Taking) (xs : List Taking) → xs ≡ x ∷ [] → In x xs
 taken-one x xs is = rw is (inl refl)
 
+-- the entry of a cut is among those of the log
+cut-there : (page pages class : ℕ) (x : Entry) → is_cut_of page pages class x ≡ true → x ≡ Cut page pages class
+cut-there page pages class (Cut p n k) on =
+    let both = and_parts (eqb p page) (eqb n pages && eqb k class) on in
+    let rest = and_parts (eqb n pages) (eqb k class) both.1 in
+    ap (λ (q : ℕ). Cut q n k) (eqb-true p page both.0) ∙ ap (λ (q : ℕ). Cut page q k) (eqb-true n pages rest.0) ∙ ap (λ (q : ℕ). Cut page pages q) (eqb-true k class rest.1)
+cut-there page pages class (Looked a b c) on = absurd (let no : ⊥ = cc in no)
+cut-there page pages class (LookedEmptyCell a b) on = absurd (let no : ⊥ = cc in no)
+cut-there page pages class (Popped a b) on = absurd (let no : ⊥ = cc in no)
+cut-there page pages class (Pushed a b) on = absurd (let no : ⊥ = cc in no)
+cut-there page pages class (Swept s) on = absurd (let no : ⊥ = cc in no)
+cut-there page pages class (Took n line) on = absurd (let no : ⊥ = cc in no)
+cut-there page pages class (MissedEntry n line) on = absurd (let no : ⊥ = cc in no)
+cut-there page pages class (Gave a b) on = absurd (let no : ⊥ = cc in no)
+cut-there page pages class (Allocated a) on = absurd (let no : ⊥ = cc in no)
+cut-there page pages class (Found a b) on = absurd (let no : ⊥ = cc in no)
+cut-there page pages class (Read a b) on = absurd (let no : ⊥ = cc in no)
+cut-there page pages class (Added a b) on = absurd (let no : ⊥ = cc in no)
+cut-there page pages class (Pulled n line) on = absurd (let no : ⊥ = cc in no)
+cut-there page pages class NoPage on = absurd (let no : ⊥ = cc in no)
+cut-there page pages class (NoCut n left) on = absurd (let no : ⊥ = cc in no)
+cut-there page pages class (Settled n) on = absurd (let no : ⊥ = cc in no)
+
+cut-in : (page pages class : ℕ) (log : List Entry) → 0 < many (is_cut_of page pages class) log → In (Cut page pages class) log
+cut-in page pages class [] some = absurd (omega arith)
+cut-in page pages class (x ∷ log) some = elim (cases_Bool (is_cut_of page pages class x)) [
+  | inl on ↦ inl (cut-there page pages class x on)
+  | inr off ↦ inr (cut-in page pages class log (let none : one_if (is_cut_of page pages class x) ≡ 0 = ap one_if off in omega arith))
+]
+
+made-for : (n k g : ℕ) (a : Placing) (said : List Entry) → LargeMadeFor n k g a said → IsMadeFor said a (large-need n k)
+made-for n k g a said (inl taken) = inl (_, _, a.page, taken-one _ (takings said) taken, refl, refl)
+made-for n k g a said (inr cut) = inr (cut-in a.page n k said cut.1)
+
 pub large-placed : (e : Event) (n k at g : ℕ) (said : List Entry) → 32768 < e.size → n ≡ (e.size + 8191) / 8192 → k ≡ span_class_of 0 e.scan → PlacesLarge n k at g said → SaysAnswers (e ∷ []) (Placed at ∷ []) said
 large-placed e n k at g said high pages class p =
-    let by : IsPlacedBy e at (takings said) p.placing = record {
+    let by : IsPlacedBy e at said p.placing = record {
       some = omega arith;
       need = large-need n k;
       fits = large-fits e.size n k e.scan high pages class;
       class = sym p.class;
       address_is = p.address ∙ at-first (0xc000000000 + 8192 * p.placing.page) (8192 * n) p.placing.index p.index;
-      large = λ h. (_, _, p.placing.page, taken-one _ (takings said) p.taken, refl, refl);
+      large = λ h. made-for n k g p.placing said p.made;
     } in
     rw (p.only, p.refused) (by, tt)
 
@@ -126,6 +165,7 @@ leaves-acted P said old new l p = record {
   away = l.away;
   table = l.table;
   number = l.number;
+  caching = l.caching;
   view = l.view;
   idle = l.idle;
   notes = l.notes;
@@ -139,6 +179,7 @@ holds-acted P said old new l p = record {
   away = l.away;
   table = l.table;
   number = l.number;
+  caching = l.caching;
   view = l.view;
   idle = record { sweeping = l.sweeping; held = l.held; popped = l.popped; claimed = l.claimed };
   notes = l.notes;

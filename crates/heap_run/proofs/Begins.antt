@@ -3,6 +3,7 @@ use Rattle.std.proofs.Common.{◌≡◌, ℕ, zero, suc, ◌<◌, ◌≤◌, Boo
 use Rattle.std.specs.List.{range_with_len}
 use Rattle.std.proofs.lemmas.List.FromFn.{length-map-range_with_len}
 use Rattle.std.proofs.lemmas.Option.{slice_get_within}
+use Rattle.atomic_table.specs.Seated.{TableId}
 use Rattle.page_bitmap.specs.declared.line.Line.{Line}
 use Rattle.span_state.specs.MarkSet.{has_pair}
 use Rattle.span_state.specs.declared.sweep.SweepNote.{SweepNote}
@@ -12,7 +13,7 @@ use Rattle.cycle_history.specs.declared.Answer.{Answer}
 use Rattle.cycle_history.specs.declared.places.Place.{Place}
 use Rattle.cycle_history.specs.Found.{AreFound}
 use Rattle.cycle_history.specs.Before.{AreObjectsBefore}
-use Rattle.cycle_history.specs.Requests.{marked_by, region_of}
+use Rattle.cycle_history.specs.Requests.{caching_procs, marked_by, region_of}
 use Rattle.cycle_history.proofs.Kept.{no-marks}
 use Rattle.run_laws.specs.Reached.{Began}
 use Rattle.run_laws.proofs.Ends.{began-first}
@@ -49,9 +50,13 @@ set-same a [] i = refl
 set-same a (x ∷ xs) zero = refl
 set-same a (x ∷ xs) (suc i) = ap (λ (l : List _). a ∷ l) (set-same a xs i)
 
+-- The first worker, before anything was done.
+abbrev pub first_seen : TableId → ℕ → ℕ → ℕ → ℕ → Seen
+first_seen table region goal procs workers = record { table = table; number = 69; away = []; caching = false; journal = None; view = first_view region goal procs workers }
+
 -- The first worker, and nothing else yet.
 pub record HasStarted (t : Trace) (workers slots : ℕ) (run : Run) : Type 0 where
-  pub worker : run.driver.worker ≡ record { table = run.shared; number = 69; away = []; journal = None; view = first_view (region_of t) t.header.goal workers }
+  pub worker : run.driver.worker ≡ first_seen run.shared (region_of t) t.header.goal (caching_procs t) workers
   pub notes : run.driver.notes.items ≡ []
   pub procs : length run.procs.items ≡ t.header.procs
   pub empty : (i : ℕ) → i < t.header.procs → get_or run.procs.items i no_cache ≡ record { number = i; flushed = 0; slots = copies slots None; countdown = countdown t.header.rate t.header.seed i [] }
@@ -72,8 +77,8 @@ pub record HasStarted (t : Trace) (workers slots : ℕ) (run : Run) : Type 0 whe
   pub before : run.profile.before.items ≡ map (λ (n : ℕ). record { allocs = 0; frees = 0 }) run.profile.order
   pub lines : run.profile.lines ≡ []
 
-first-part : (region goal workers i : ℕ) → get_or (parts_of 69 (first_view region goal workers)) i no_part ≡ no_part
-first-part region goal workers i =
+first-part : (region goal procs workers i : ℕ) → get_or (parts_of 69 (first_view region goal procs workers)) i no_part ≡ no_part
+first-part region goal procs workers i =
     ap (λ (ps : List Part). get_or ps i no_part) (set-same no_part (range_with_len 0 workers) 69) ∙ get-same no_part (range_with_len 0 workers) i
 
 caching-none : (i slots : ℕ) (c : Countdown) → IsCaching 4 no_part (record { number = i; flushed = 0; slots = copies slots None; countdown = c })
@@ -104,7 +109,7 @@ told-none t x known order = record {
 pub begun-first : (t : Trace) (workers slots : ℕ) (run : Run) → workers ≡ 70 → HasStarted t workers slots run → HasBegun t 0 run
 begun-first t workers slots run many s =
     let w = run.driver.worker in
-    let part : (i : ℕ) → part_at w i ≡ no_part = λ i. ap (λ (x : Seen). part_at x i) s.worker ∙ first-part (region_of t) t.header.goal workers i in
+    let part : (i : ℕ) → part_at w i ≡ no_part = λ i. ap (λ (x : Seen). part_at x i) s.worker ∙ first-part (region_of t) t.header.goal (caching_procs t) workers i in
     let before : w.view.before ≡ [] = ap (λ (x : Seen). x.view.before) s.worker in
     let generation : w.view.generation ≡ 4 = ap (λ (x : Seen). x.view.generation) s.worker in
     let long : length (copies workers no_part) ≡ workers = length-map-range_with_len (λ _. no_part) 0 workers in
@@ -114,6 +119,7 @@ begun-first t workers slots run many s =
         parts = ap (λ (x : Seen). length x.view.parts) s.worker ∙ long ∙ many;
         region = ap (λ (x : Seen). x.view.region) s.worker;
         goal = ap (λ (x : Seen). x.view.goal) s.worker;
+        caching = ap (λ (x : Seen). x.view.procs) s.worker;
         generation = generation;
         driving = record {
           number = ap (λ (x : Seen). x.number) s.worker;

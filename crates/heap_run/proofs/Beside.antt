@@ -79,9 +79,11 @@ sent-taken table ring m s queues numbers is procs given d starts sent lists none
           (driving-as start.worker old start (at_home start d) starts.driving (ap (λ (w : Seen). w.number) worker ∙ starts.driving.number) (record {
             away = refl;
             table = ap (λ (w : Seen). w.table) worker;
+            caching = ap (λ (w : Seen). w.caching) worker;
             parts = ap (λ (w : Seen). length w.view.parts) worker;
             region = ap (λ (w : Seen). w.view.region) worker;
             goal = ap (λ (w : Seen). w.view.goal) worker;
+            procs = ap (λ (w : Seen). w.view.procs) worker;
             generation = ap (λ (w : Seen). w.view.generation) worker;
             marks = ap (λ (w : Seen). w.view.marks) worker;
             before = ap (λ (w : Seen). w.view.before) worker;
@@ -110,9 +112,11 @@ end-driving table ring m s queues numbers procs given d were outs =
     driving-as start.worker procs (at_home start d) d home home.number (record {
       away = outs.away;
       table = home.same.table;
+      caching = home.same.caching;
       parts = home.same.parts;
       region = home.same.region;
       goal = home.same.goal;
+      procs = home.same.procs;
       generation = home.same.generation;
       marks = home.same.marks;
       before = home.same.before;

@@ -149,7 +149,7 @@ placed-caching start procs d e c c' p driving lt is caching =
     subst (λ (g : ℕ). IsCaching g (part_at e.worker p) c') driving.same.generation placed
 
 pub same-refl : (w : Seen) → IsSameRun w w
-same-refl w = record { away = refl; table = refl; parts = refl; region = refl; goal = refl; generation = refl; marks = refl; before = refl; carried = refl }
+same-refl w = record { away = refl; table = refl; caching = refl; parts = refl; region = refl; goal = refl; procs = refl; generation = refl; marks = refl; before = refl; carried = refl }
 
 -- those below a number have flushed, and one more
 pub flushed-more : (procs : List Cache) (g p : ℕ) (c : Cache) → p < length procs → ((i : ℕ) → i < p → (get_or procs i no_cache).flushed ≡ g) → c.flushed ≡ g → (i : ℕ) → i < p + 1 → (get_or (set procs p c) i no_cache).flushed ≡ g

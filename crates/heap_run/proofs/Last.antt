@@ -5,7 +5,7 @@ use Rattle.std.proofs.lemmas.Bool.{cases_Bool, eq-eqb, ne_eqb}
 use Rattle.std.proofs.lemmas.List.{get_or_default}
 use Rattle.page_bitmap.specs.declared.line.Line.{Line}
 use Rattle.page_alloc.specs.Lists.{In}
-use Rattle.page_alloc.specs.Lives.{open_lives}
+use Rattle.page_alloc.specs.Lives.{Life, open_lives}
 use Rattle.span_state.specs.declared.sweep.SweepNote.{SweepNote}
 use Rattle.trace_reader.specs.declared.trace.Trace.{Trace}
 use Rattle.trace_reader.specs.declared.trace.Cycle.{Cycle}
@@ -15,8 +15,10 @@ use Rattle.cycle_history.specs.Before.{objects_before}
 use Rattle.cycle_history.specs.Profile.{passing}
 use Rattle.sound_run.proofs.Notes.{from-reverse, in-reverse}
 use Rattle.worker_log.specs.declared.Entry.{Entry}
+use Rattle.worker_log.specs.declared.Placing.{Placing}
 use Rattle.worker_log.specs.Logs.{placings}
 use Rattle.run_laws.specs.CycleSoFar.{CycleSoFar, past_after}
+use Rattle.run_laws.specs.Known.{known_number}
 use Rattle.run_laws.specs.PlacingFacts.{Places}
 use Rattle.span_laws.specs.Views.{Seen}
 use Rattle.heap_run.specs.Last.{ArePlacedIn, TellsLast, events_in, no_cycle}
@@ -72,11 +74,18 @@ tells-last t c d queues given old more now earlier sorted notes sweeps ended new
     }
 
 -- objects are placed in lives of the journal as the cycle ends
-pub placed-in : (past : List Line) (e : CycleSoFar) (log : List Entry) (w : ℕ) → Places e → past_after e ≡ past → e.logs w ≡ log → ArePlacedIn past log
-placed-in past e log w places whole same a h =
+pub placed-in : (past : List Line) (e : CycleSoFar) (log : List Entry) (w : ℕ) → Places e (open_lives (past_after e))
+    → ((a : Placing) (life : Life) → In a (placings (e.logs w)) → In life (open_lives (past_after e)) → life.page ≡ a.page → a.number ≡ known_number (past_after e) life.number) → past_after e ≡ past
+    → e.logs w ≡ log → ArePlacedIn past log
+placed-in past e log w places numbers whole same a h =
     let there : In a (placings (e.logs w)) = subst (λ (l : List Entry). In a (placings l)) (sym same) h in
-    let here = places.here w a there in
-    (places.below w a there, here.0, subst (λ (l : List Line). In here.0 (open_lives l)) whole here.1, here.2)
+    let here = places.here w a there in (
+      places.below w a there,
+      here.0,
+      subst (λ (l : List Line). In here.0 (open_lives l)) whole here.1,
+      here.2,
+      subst (λ (l : List Line). a.number ≡ known_number l here.0.number) whole (numbers a here.0 there here.1 here.2.page),
+    )
 
 -- and of the journal that the driver is told
 pub placed-told : (past now : List Line) (d : Seen) → d.journal ≡ Some past → d.journal ≡ Some now → ((w : ℕ) → ArePlacedIn past (part_at d w).log) → (w : ℕ) → ArePlacedIn now (part_at d w).log

@@ -1,5 +1,7 @@
 pub mod Needs
 pub mod Served
+pub mod KnownTakes
+pub mod CutLives
 pub mod Swept
 pub mod Sorted
 pub mod Ended
@@ -19,6 +21,7 @@ pub mod Running
 pub mod MarkEnds
 pub mod Begins
 pub mod Answering
+pub mod OwnBlocks
 pub mod Firsts
 pub mod Counting
 pub mod Sampling

@@ -59,6 +59,7 @@ reset-acted old new r notes idle =
       away = ap (λ (w : Seen). w.away) r.view;
       table = ap (λ (w : Seen). w.table) r.view;
       number = ap (λ (w : Seen). w.number) r.view;
+      caching = ap (λ (w : Seen). w.caching) r.view;
       view = ap (λ (w : Seen). w.view) r.view ∙ ap (λ (h : Part). acts old.worker.view h) (sym is_own);
       idle = record {
         sweeping = ap (λ (h : Part). h.sweeping) is_own ∙ idle.sweeping;
@@ -126,7 +127,7 @@ pub may-mark : (t : Trace) (c : ℕ) (run : Run) (e : Hand) (sampled : List Bool
     → HasReset run.procs.items run.driver e → AreMarksOf t (suc c) run.answers sampled buckets marks → pairs ≡ marks.pairs → MayMark e.worker pairs
 may-mark t c run e sampled buckets marks pairs early few ran r found same =
     let long : length e.worker.view.parts ≡ 70 = r.driving.same.parts ∙ ran.set.parts in
-    let next : CycleSoFar = record { cycle = suc c; before = ran.past; lines = []; carried = λ p k. false; marks = has_pair pairs; bits = λ p k. false; logs = λ w. []; news = []; notes = [] } in
+    let next : CycleSoFar = record { cycle = suc c; before = ran.past; lines = []; known = []; carried = λ p k. false; marks = has_pair pairs; bits = λ p k. false; logs = λ w. []; news = []; notes = [] } in
     let are = next-marks t c run ran.past ran.objects sampled buckets marks pairs next ran.reached.run ran.asked found same refl refl refl in
     let allocated = marks-allocated (marked_by t) (region_of t) t.header.goal c ran.past ran.objects (reverse run.sweeps) (has_pair (allocated_pairs run.driver.worker.number run.driver.worker.view)) next ran.reached refl refl are in
     record {
@@ -212,6 +213,7 @@ mark-begins t c old new e marks pairs ran m =
         parts = ap (λ (w : Seen). length w.view.parts) m.worker ∙ length-map e.worker.view.parts rested ∙ r.driving.same.parts ∙ s.parts;
         region = ap (λ (w : Seen). w.view.region) m.worker ∙ r.driving.same.region ∙ s.region;
         goal = ap (λ (w : Seen). w.view.goal) m.worker ∙ r.driving.same.goal ∙ s.goal;
+        caching = ap (λ (w : Seen). w.view.procs) m.worker ∙ r.driving.same.procs ∙ s.caching;
         generation = (let a = ap (λ (w : Seen). w.view.generation) m.worker in let b = r.driving.same.generation in let g = s.generation in omega arith);
         driving = rw m.procs (next-driving old.driver.worker old.procs.items e new.driver pairs r.driving m.worker);
         procs = rw m.procs s.procs;

@@ -1,5 +1,5 @@
 -- What each worker has, as workers go out and come back.
-use Rattle.std.proofs.Common.{◌≡◌, ◌≢◌, ℕ, zero, suc, ◌<◌, List, [], ◌∷◌, map, set, length, get_or, refl, sym, ◌∙◌, ap, arith, inl, inr}
+use Rattle.std.proofs.Common.{◌≡◌, ◌≢◌, ℕ, zero, suc, ◌<◌, List, [], ◌∷◌, map, set, length, get_or, None, refl, sym, ◌∙◌, ap, arith, inl, inr}
 use Rattle.std.proofs.lemmas.Bool.{cases_eq, eq-eqb}
 use Rattle.std.proofs.lemmas.List.{get_or-set_same, get_or-set_other, length-set}
 use mathlib.Core.Option.{some, some-injective, some-ne-none}
@@ -10,7 +10,7 @@ use Rattle.swept_set_laws.specs.Entered.{log_of}
 use Rattle.span_laws.specs.declared.view.Part.{Part}
 use Rattle.span_laws.specs.Rule.{logs_of}
 use Rattle.span_laws.specs.Views.{Seen, no_part, parts_of}
-use Rattle.span_laws.specs.Handed.{handed_out, handing, taking_in}
+use Rattle.span_laws.specs.Handed.{handed, handing, taking_in, with_cache}
 use Rattle.heap_run.specs.Parts.{part_at, IsSameRun}
 
 -- ---- lists
@@ -39,27 +39,27 @@ others-stay old new i number parts other =
     b ∙ ap (λ (ps : List Part). get_or ps i no_part) parts ∙ sym a
 
 -- the worker that goes out has its part
-pub part-out : (d : Seen) (m : ℕ) → d.number ≡ 69 → (handed_out m d).view.own ≡ part_at d m
+pub part-out : (d : Seen) (m : ℕ) → d.number ≡ 69 → (handed 69 m d.view).own ≡ part_at d m
 part-out d m number = ap (λ (k : ℕ). get_or (parts_of k d.view) m no_part) (sym number)
 
--- of the worker that was taken in the driver has the part
-pub part-back : (d x : Seen) → x.number ≢ d.number → x.number < length d.view.parts → part_at (taking_in x d) x.number ≡ x.view.own
+-- of the worker that was taken in the driver has the part, without the page cache
+pub part-back : (d x : Seen) → x.number ≢ d.number → x.number < length d.view.parts → part_at (taking_in x d) x.number ≡ with_cache None x.view.own
 part-back d x other lt =
-    get_or-set_other (set d.view.parts x.number x.view.own) d.number x.number d.view.own no_part other
-    ∙ get_or-set_same d.view.parts x.number x.view.own no_part lt
+    get_or-set_other (set d.view.parts x.number (with_cache None x.view.own)) d.number x.number d.view.own no_part other
+    ∙ get_or-set_same d.view.parts x.number (with_cache None x.view.own) no_part lt
 
 -- and of each other one what it had
 pub others-back : (d x : Seen) (i : ℕ) → x.number ≢ d.number → d.number < length d.view.parts → i ≢ x.number → part_at (taking_in x d) i ≡ part_at d i
 others-back d x i other lt apart =
     elim (cases_eq i d.number) [
       | inl same ↦ (
-          let a : get_or (set (set d.view.parts x.number x.view.own) d.number d.view.own) d.number no_part ≡ d.view.own =
-          get_or-set_same (set d.view.parts x.number x.view.own) d.number d.view.own no_part (let l = length-set d.view.parts x.number x.view.own in omega arith) in
+          let a : get_or (set (set d.view.parts x.number (with_cache None x.view.own)) d.number d.view.own) d.number no_part ≡ d.view.own =
+          get_or-set_same (set d.view.parts x.number (with_cache None x.view.own)) d.number d.view.own no_part (let l = length-set d.view.parts x.number (with_cache None x.view.own) in omega arith) in
           let b : get_or (set d.view.parts d.number d.view.own) d.number no_part ≡ d.view.own = get_or-set_same d.view.parts d.number d.view.own no_part lt in
           rw same (a ∙ sym b))
       | inr else ↦ (
-          get_or-set_other (set d.view.parts x.number x.view.own) d.number i d.view.own no_part else
-          ∙ get_or-set_other d.view.parts x.number i x.view.own no_part apart
+          get_or-set_other (set d.view.parts x.number (with_cache None x.view.own)) d.number i d.view.own no_part else
+          ∙ get_or-set_other d.view.parts x.number i (with_cache None x.view.own) no_part apart
           ∙ sym (get_or-set_other d.view.parts d.number i d.view.own no_part else))
     ]
 
@@ -72,9 +72,11 @@ pub same-back : (d x : Seen) (m : ℕ) → x.number ≡ m → IsSameRun d (takin
 same-back d x m number = record {
   away = ap (λ (k : ℕ). erase k (m ∷ d.away)) number ∙ erase-front m d.away;
   table = refl;
-  parts = length-set d.view.parts x.number x.view.own;
+  caching = refl;
+  parts = length-set d.view.parts x.number (with_cache None x.view.own);
   region = refl;
   goal = refl;
+  procs = refl;
   generation = refl;
   marks = refl;
   before = refl;
@@ -85,9 +87,11 @@ pub same-trans : (a b c : Seen) → IsSameRun a b → IsSameRun b c → IsSameRu
 same-trans a b c ab bc = record {
   away = bc.away ∙ ab.away;
   table = bc.table ∙ ab.table;
+  caching = bc.caching ∙ ab.caching;
   parts = bc.parts ∙ ab.parts;
   region = bc.region ∙ ab.region;
   goal = bc.goal ∙ ab.goal;
+  procs = bc.procs ∙ ab.procs;
   generation = bc.generation ∙ ab.generation;
   marks = bc.marks ∙ ab.marks;
   before = bc.before ∙ ab.before;

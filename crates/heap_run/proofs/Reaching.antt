@@ -4,7 +4,10 @@ use Rattle.std.specs.List.Sorted.{IsNonDecreasingBy, IsPermutation}
 use Rattle.std.proofs.lemmas.List.{length-reverse, length-take-le, map-append, reverse-append, take-append-drop, take_more}
 use lib.Seq.{drop-cons}
 use Rattle.page_bitmap.specs.declared.line.Line.{Line}
+use Rattle.page_alloc.specs.Blocks.{open_blocks}
+use Rattle.page_alloc.specs.Journal.{AreAllowed}
 use Rattle.page_alloc.specs.Lists.{AllApart, In}
+use Rattle.page_alloc.specs.Lives.{Life, open_lives}
 use Rattle.span_state.specs.MarkSet.{has_pair}
 use Rattle.span_state.specs.declared.sweep.SweepNote.{SweepNote}
 use Rattle.trace_reader.specs.declared.trace.Trace.{Trace}
@@ -17,12 +20,14 @@ use Rattle.cycle_history.specs.Objects.{Object}
 use Rattle.cycle_history.specs.Before.{AreObjectsBefore, requests_before}
 use Rattle.cycle_history.proofs.Plain.{request_in}
 use Rattle.worker_log.specs.declared.Entry.{Entry}
+use Rattle.worker_log.specs.declared.Placing.{Placing}
 use Rattle.worker_log.specs.declared.Sweeping.{Sweeping}
 use Rattle.cycle_history.specs.Sound.{IsScavenged}
 use Rattle.cycle_history.specs.Rules.{AreAnswered}
-use Rattle.worker_log.specs.Logs.{placings, refusals, sweepings, takings}
+use Rattle.worker_log.specs.Logs.{placings, refusals, sweepings}
 use Rattle.run_laws.specs.Asked.{AreAnsweredFrom}
 use Rattle.run_laws.specs.CycleSoFar.{CycleSoFar, past_after, with_objects}
+use Rattle.run_laws.specs.Known.{known_number}
 use Rattle.run_laws.specs.SweepFacts.{Notes}
 use Rattle.run_laws.specs.Facts.{Facts, Marks}
 use Rattle.run_laws.specs.Reached.{Began, Reached}
@@ -37,7 +42,7 @@ use Rattle.heap_run.specs.Served.{Tells, answers_by, events_by}
 use Rattle.heap_run.specs.Settled.{HasSettled}
 use Rattle.heap_run.specs.Swept.{AreCollected}
 use Rattle.heap_run.specs.Turns.{HaveAnswered, SaysAnswers}
-use Rattle.heap_run.proofs.Ended.{ended-facts}
+use Rattle.heap_run.proofs.Ended.{ended-facts, seated}
 use Rattle.run_lists.proofs.Queued.{answers-reverse, events-reverse}
 use Rattle.heap_run.proofs.Served.{AreObjects, objects-of}
 use Rattle.heap_run.proofs.Sorted.{notes-sorted}
@@ -51,10 +56,13 @@ ends-with region goal e news notes h = record {
   once = h.once;
   one_sweeper = h.one_sweeper;
   places = record { here = h.places.here; below = h.places.below; unmarked = h.places.unmarked; apart = h.places.apart; one_log = h.places.one_log };
+  numbers = h.numbers;
+  settled = h.settled;
   holdings = record { from = h.holdings.from; marked = h.holdings.marked; placed = h.holdings.placed; some = h.holdings.some };
   fills = h.fills;
   misses = record { named = h.misses.named; apart = h.misses.apart; one_log = h.misses.one_log };
   took = h.took;
+  cut = h.cut;
   marks_open = h.marks_open;
 }
 
@@ -66,7 +74,7 @@ map-reverse f (x ∷ xs) =
 -- the logs tell of the answers as they were merged
 logs-tell : (events : List Event) (queues : List (List Event)) (given : List (List Answer)) (more : List Answer) (d : Seen) (log : ℕ → List Entry) → HaveAnswered queues given d → ((w : ℕ) → get_or queues w [] ≡ events_by w events)
     → length more ≡ length events → ((w : ℕ) → answers_by w events more ≡ get_or given w []) → ((w : ℕ) → log w ≡ (part_at d w).log)
-    → (w : ℕ) → Tells (takings (log w)) (events_by w (reverse events)) (answers_by w (reverse events) (reverse more)) (placings (log w)) (refusals (log w))
+    → (w : ℕ) → Tells (log w) (events_by w (reverse events)) (answers_by w (reverse events) (reverse more)) (placings (log w)) (refusals (log w))
 logs-tell events queues given more d log answered queue long merged logs w =
     let es : events_by w (reverse events) ≡ reverse (get_or queues w []) = events-reverse w events ∙ ap (λ (l : List Event). reverse l) (sym (queue w)) in
     let ans : answers_by w (reverse events) (reverse more) ≡ reverse (get_or given w []) = answers-reverse w events more long ∙ ap (λ (l : List Answer). reverse l) (merged w) in
@@ -111,7 +119,10 @@ pub record Goes (t : Trace) (c : ℕ) (d : Cycle) (objects : List Object) (answe
   pub journal : driver.journal ≡ Some past
   pub answered : AreAnsweredFrom (length (requests_before t c)) (map (request_in c) (reverse (get_or t.cycles c d).events)) news
   pub printed : map (λ (o : Object). o.answer) news ≡ reverse more
+  pub allowed : AreAllowed driver.view.procs past
+  pub settled : open_blocks past ≡ []
   pub e : CycleSoFar
+  pub numbers : (w : ℕ) (a : Placing) (life : Life) → In a (placings (e.logs w)) → In life (open_lives (past_after e)) → life.page ≡ a.page → a.number ≡ known_number (past_after e) life.number
   pub cycle : e.cycle ≡ c
   pub before : e.before ≡ driver.view.before
   pub whole : past_after e ≡ past
@@ -135,13 +146,14 @@ goes-on t c d objects answers more queues given sweeps collected sorted driver h
     let e_cycle : e0.cycle ≡ c = s.cycle ∙ h.now in
     let long : length (reverse more) ≡ length (reverse events) = (let a = length-reverse more in let b = length-reverse events in let l = h.long in omega arith) in
     let tell = logs-tell events queues given more driver e0.logs h.answered h.queued h.long h.merged s.logs in
-    let made = objects-of c (length older) (reverse events) (reverse more) (λ w. takings (e0.logs w)) (λ w. placings (e0.logs w)) (λ w. refusals (e0.logs w)) long tell in
+    let seat = seated (open_lives (past_after e0)) in
+    let made = objects-of seat c (length older) (reverse events) (reverse more) e0.logs (λ w. placings (e0.logs w)) (λ w. refusals (e0.logs w)) long tell in
     let news = made.0 in
-    let are : AreObjects c (length older) (reverse events) (reverse more) (λ w. takings (e0.logs w)) (λ w. placings (e0.logs w)) (λ w. refusals (e0.logs w)) news = made.1 in
+    let are : AreObjects seat c (length older) (reverse events) (reverse more) e0.logs (λ w. placings (e0.logs w)) (λ w. refusals (e0.logs w)) news = made.1 in
     let e : CycleSoFar = with_objects e0 news (reverse sorted) in
     let ends : EndsCycle (region_of t) t.header.goal e = ends-with (region_of t) t.header.goal e0 news (reverse sorted) (subst (λ (n : ℕ). EndsCycle n t.header.goal e0) h.region (subst (λ (n : ℕ). EndsCycle driver.view.region n e0) h.goal s.ends)) in
-    let are' : AreObjects e.cycle (length older) (reverse events) (reverse more) (λ w. takings (e.logs w)) (λ w. placings (e.logs w)) (λ w. refusals (e.logs w)) e.news =
-    subst (λ (n : ℕ). AreObjects n (length older) (reverse events) (reverse more) (λ w. takings (e0.logs w)) (λ w. placings (e0.logs w)) (λ w. refusals (e0.logs w)) news) (sym e_cycle) are in
+    let are' : AreObjects seat e.cycle (length older) (reverse events) (reverse more) e.logs (λ w. placings (e.logs w)) (λ w. refusals (e.logs w)) e.news =
+    subst (λ (n : ℕ). AreObjects seat n (length older) (reverse events) (reverse more) e0.logs (λ w. placings (e0.logs w)) (λ w. refusals (e0.logs w)) news) (sym e_cycle) are in
     let turned : AreAnsweredFrom (length older) (reverse (map (request_in c) events)) news = subst (λ (l : List Request). AreAnsweredFrom (length older) l news) (map-reverse (request_in c) events) are.asked in
     let turned' : AreAnsweredFrom (length (reverse (requests_from 0 done))) (reverse (map (request_in (length done)) events)) news =
     subst (λ (n : ℕ). AreAnsweredFrom (length (reverse (requests_from 0 done))) (reverse (map (request_in n) events)) news) (sym few) turned in
@@ -178,7 +190,10 @@ goes-on t c d objects answers more queues given sweeps collected sorted driver h
       journal = s.journal;
       answered = are.asked;
       printed = are.printed;
+      allowed = s.allowed;
+      settled = s.ends.settled;
       e = e;
+      numbers = s.ends.numbers;
       cycle = e_cycle;
       before = s.before;
       whole = refl;

@@ -9,12 +9,14 @@ use lib.ListN.{get_elem?}
 use mathlib.Core.Option.{some}
 use Rattle.page_bitmap.specs.Counts.{one_if}
 use Rattle.page_bitmap.specs.declared.line.Line.{Line}
+use Rattle.page_alloc.specs.Blocks.{open_blocks}
+use Rattle.page_alloc.specs.Journal.{AreAllowed}
 use Rattle.page_alloc.specs.Lists.{In}
 use Rattle.span_state.specs.MarkSet.{MarkSet, has_pair}
 use Rattle.worker_log.specs.declared.Entry.{Entry}
 use Rattle.worker_log.specs.declared.Entry.TheVariants.{Looked, LookedEmptyCell, Popped, Pushed, Swept, Took, Missed as MissedEntry, Gave, Allocated, Found, Read, Added, Pulled, NoPage, Cut as CutEntry, NoCut, Settled}
 use Rattle.worker_log.specs.declared.Placing.{Placing}
-use Rattle.worker_log.specs.Logs.{placings, refusals, sweepings, takings}
+use Rattle.worker_log.specs.Logs.{placings, refusals, sweepings}
 use Rattle.worker_log.specs.Entries.{many}
 use Rattle.span_laws.specs.TakeAnswers.{cycle_at}
 use Rattle.span_laws.specs.Asks.{IsIdle}
@@ -37,7 +39,7 @@ use Rattle.cycle_history.specs.Found.{AreFound}
 use Rattle.cycle_history.specs.Marked.{ArePlacesOf}
 use Rattle.cycle_history.specs.Before.{AreClear, AreObjectsBefore, IsLimited}
 use Rattle.cycle_history.specs.Objects.{Object}
-use Rattle.cycle_history.specs.Requests.{last_cycle, marked_by, region_of}
+use Rattle.cycle_history.specs.Requests.{caching_procs, last_cycle, marked_by, region_of}
 use Rattle.cycle_history.specs.Sound.{HasAnswers, HasForm, IsSoundAndUsed, past_in}
 use Rattle.cycle_history.specs.Sweeps.{AreTotals}
 use Rattle.cycle_history.proofs.Firsts.{before-le}
@@ -182,7 +184,7 @@ sizes-by procs w events queue is fits k e lt =
 pub given-sizes : (queues : List (List Event)) (given : List (List Answer)) (events : List Event) (d : Seen) → HaveAnswered queues given d → ((w : ℕ) → get_or queues w [] ≡ events_by w events)
     → (w : ℕ) → length (get_or given w []) ≡ length (events_by w events)
 given-sizes queues given events d answered queue w =
-    let a = tells-length (takings (part_at d w).log) (reverse (get_or queues w [])) (reverse (get_or given w [])) (placings (part_at d w).log) (refusals (part_at d w).log) (answered w) in
+    let a = tells-length (part_at d w).log (reverse (get_or queues w [])) (reverse (get_or given w [])) (placings (part_at d w).log) (refusals (part_at d w).log) (answered w) in
     let b = length-reverse (get_or given w []) in
     let e = length-reverse (get_or queues w []) in
     let f = ap (λ (l : List Event). length l) (queue w) in
@@ -286,6 +288,7 @@ cycle-run t c d old new queues given ended limits begun ran =
         parts = ap (λ (x : Seen). length x.view.parts) ran.worker ∙ same.parts ∙ s.parts;
         region = ap (λ (x : Seen). x.view.region) ran.worker ∙ same.region ∙ s.region;
         goal = ap (λ (x : Seen). x.view.goal) ran.worker ∙ same.goal ∙ s.goal;
+        caching = ap (λ (x : Seen). x.view.procs) ran.worker ∙ same.procs ∙ s.caching;
         generation = ap (λ (x : Seen). x.view.generation) ran.worker ∙ gen;
         driving = drives-on old.driver.worker new.procs.items ended new.driver ran.worker w.driving;
         procs = ran.procs ∙ s.procs;
@@ -303,11 +306,13 @@ cycle-run t c d old new queues given ended limits begun ran =
       asked = subst (λ (l : List Answer). AreObjectsBefore t (suc c) l (goes.news ++ begun.objects)) (sym ran.grown) goes.asked;
       reached = subst (λ (l : List SweepNote). Reached (marked_by t) (region_of t) t.header.goal c goes.past (goes.news ++ begun.objects) (reverse l) (has_pair (allocated_pairs new.driver.worker.number new.driver.worker.view))) (sym ran.filed)
           (subst (λ (x : Seen). Reached (marked_by t) (region_of t) t.header.goal c goes.past (goes.news ++ begun.objects) (reverse (old.sweeps ++ ran.sorted)) (has_pair (allocated_pairs x.number x.view))) (sym ran.worker) goes.reached);
+      allowed = subst (λ (n : ℕ). AreAllowed n goes.past) (same.procs ∙ s.caching) goes.allowed;
+      settled = goes.settled;
       journal = ap (λ (x : Seen). x.journal) ran.worker ∙ goes.journal;
       flushed = subst (λ (x : Seen). HasFlushed new.procs.items x) (sym ran.worker) w.flushed;
       last = tells-last t c d queues given old.answers ran.more new.answers old.sweeps ran.sorted ended.notes.items new.sweeps v new.driver.worker ran.inside before ran.grown ran.filed ran.worker w.answered ran.queued ran.merged
           (subst (λ (k : ℕ). AreCollected k (λ i. (part_at v i).log) ended.notes.items) now w.collecting) ran.permutation begun.began.notes_older;
-      placed = λ i. placed-in goes.past goes.e (part_at new.driver.worker i).log i goes.facts.places goes.whole (goes.logs i ∙ ap (λ (x : Seen). (part_at x i).log) (sym ran.worker));
+      placed = λ i. placed-in goes.past goes.e (part_at new.driver.worker i).log i goes.facts.places (goes.numbers i) goes.whole (goes.logs i ∙ ap (λ (x : Seen). (part_at x i).log) (sym ran.worker));
       profiled = profiled-next t c d old new queues given ran.more ran.sorted ended ran.inside begun ran.queued ran.long ran.merged ran.procs ran.permutation ran.grown same.before ran.tallied goes;
       counted = counted-next t c d old new queues given ran.more ran.sorted ended ran.inside begun ran.queued ran.long ran.merged ran.procs ran.permutation ran.grown same.before ran.tallied goes;
       told = told-next t c d old new queues given ran.more ran.sorted ended ran.inside begun ran.queued ran.long ran.merged ran.procs ran.permutation ran.grown same.before ran.tallied goes;
@@ -335,9 +340,12 @@ report-sound t run report past limits ran told journal printed sweeps totals lin
     let same : ran.past ≡ past = cc in
     let reached : Reached (marked_by t) (region_of t) t.header.goal (last_cycle t) (past_in report) ran.objects (reverse run.sweeps) (has_pair (allocated_pairs run.driver.worker.number run.driver.worker.view)) =
     subst (λ (l : List Line). Reached (marked_by t) (region_of t) t.header.goal (last_cycle t) l ran.objects (reverse run.sweeps) (has_pair (allocated_pairs run.driver.worker.number run.driver.worker.view))) (same ∙ sym journal) ran.reached in
+    let whole : ran.past ≡ past_in report = same ∙ sym journal in
+    let allowed = subst (λ (l : List Line). AreAllowed (caching_procs t) l) whole ran.allowed in
+    let settled = subst (λ (l : List Line). open_blocks l ≡ []) whole ran.settled in
     let answers : HasAnswers t report ran.objects = record { asked = all.asked; printed = all.printed ∙ ap (λ (l : List Answer). reverse l) (sym printed) } in
     let profile = profile-in t run report ran.objects ran.asked ran.profiled ran.counted ran.told lines in (
-      reached-sound t report ran.objects (reverse run.sweeps) (has_pair (allocated_pairs run.driver.worker.number run.driver.worker.view)) reached answers (sweeps ∙ sym (reverse-reverse run.sweeps)) (totals ran.objects all)
+      reached-sound t report ran.objects (reverse run.sweeps) (has_pair (allocated_pairs run.driver.worker.number run.driver.worker.view)) reached allowed settled answers (sweeps ∙ sym (reverse-reverse run.sweeps)) (totals ran.objects all)
           (run.profile.each, profile),
       (ran.objects, answers, profile),
     )

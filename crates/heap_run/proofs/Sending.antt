@@ -10,7 +10,7 @@ use Rattle.cycle_history.specs.declared.Answer.{Answer}
 use Rattle.profile_cycle.specs.History.{RingId, Standing, lent, split_off}
 use Rattle.sweep_laws.specs.Lists.{has}
 use Rattle.span_laws.specs.Asks.{IsAtWork}
-use Rattle.span_laws.specs.Handed.{handed_out, handing}
+use Rattle.span_laws.specs.Handed.{handing}
 use Rattle.span_laws.specs.Views.{Seen}
 use Rattle.span_set.specs.Tallies.{MayCount}
 use Rattle.span_set.specs.declared.hand.Hand.{Hand}
@@ -18,7 +18,7 @@ use Rattle.proc_cache.specs.Cache.{Cache}
 use Rattle.heap_run.specs.Counts.{AreNumbered, IsOut}
 use Rattle.heap_run.specs.Lanes.{IsReady, MayDo}
 use Rattle.heap_run.specs.Out.{AreAsked, AreOf, AreSent, HasLent, HasSent, IsSent, IsTaskOf, MayStart, RisesFrom, busy, helpers, resting, rising}
-use Rattle.heap_run.specs.Parts.{part_at}
+use Rattle.heap_run.specs.Parts.{goes_out, part_at}
 use Rattle.heap_run.specs.Turns.{IsCaching, IsCollecting, IsDriving, SaysNone, no_cache}
 use Rattle.heap_run.specs.declared.cycle.Given.{Given}
 use Rattle.heap_run.specs.declared.lanes.Lane.{Lane}
@@ -55,7 +55,7 @@ sent-more start d e is i were worker notes tally =
 -- who goes out of the driver's hands now goes as at the start
 pub sent-out : (start d h : Hand) (is : List ℕ) (i : ℕ) → HasSent start is d → IsOut i d h → IsOut i start h
 sent-out start d h is i were out = record {
-  worker = out.worker ∙ ap (λ (w : Seen). handed_out i w) were.worker;
+  worker = out.worker ∙ ap (λ (w : Seen). goes_out h.worker.caching i w) were.worker;
   notes = out.notes;
   tally = out.tally ∙ ap (λ (s : Standing). record s { view = split_off s.view }) were.tally;
 }
@@ -74,6 +74,9 @@ sent-number start d is were = ap (λ (w : Seen). w.number) were.worker
 
 pub sent-parts : (start d : Hand) (is : List ℕ) → HasSent start is d → length d.worker.view.parts ≡ length start.worker.view.parts
 sent-parts start d is were = ap (λ (w : Seen). length w.view.parts) were.worker
+
+pub sent-procs : (start d : Hand) (is : List ℕ) → HasSent start is d → d.worker.view.procs ≡ start.worker.view.procs
+sent-procs start d is were = ap (λ (w : Seen). w.view.procs) were.worker
 
 pub sent-ring : (start d : Hand) (is : List ℕ) → HasSent start is d → d.tally.ring ≡ start.tally.ring
 sent-ring start d is were = ap (λ (s : Standing). s.ring) were.tally
@@ -190,6 +193,7 @@ goes-one s queues background p q lanes lanes' stay procs procs' given given' d e
     let mine : IsSent s p (record { hand = h; task = Allocate t; refused = false }) = record {
       low = omega arith;
       out = sent-out start d h was p were.sent out;
+      bare = tt;
       task = (low, ap (λ (x : Turn). x.proc) turn ∙ last.1, ap (λ (x : Turn). x.answers) turn ∙ were.early p (omega arith), ap (λ (x : Turn). x.sampled) turn ∙ were.early_too p (omega arith));
     } in
     record {

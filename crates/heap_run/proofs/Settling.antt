@@ -45,6 +45,7 @@ known-acted a b is notes idle = record {
   away = ap (λ (w : Seen). w.away) is;
   table = ap (λ (w : Seen). w.table) is;
   number = ap (λ (w : Seen). w.number) is;
+  caching = ap (λ (w : Seen). w.caching) is;
   view = ap (λ (w : Seen). w.view) is ∙ ap (λ (w : Seen). acts a.worker.view w.view.own) (sym is);
   idle = subst (λ (w : Seen). IsIdle w.view.own) (sym is) idle;
   notes = ap (λ r. r.items) notes ∙ sym (append-nil a.notes.items);
@@ -113,10 +114,10 @@ pub settled : (old new : Seen) → EndsScavenged old → SettlesCycle old new �
 settled old new scavenged settles =
     let lines = settles.0 in
     let past = lines ++ old.view.before in
-    let same : past ≡ scavenged.0 = settles.2 scavenged.0 scavenged.1 in
+    let same : past ≡ scavenged.0 = settles.3 scavenged.0 scavenged.1 in
     let now : HasSettled (knows past old) = record {
-      e = cycle_ended old.number old.view lines;
-      ends = settles.3;
+      e = cycle_ended old.number old.view lines settles.1;
+      ends = settles.4;
       cycle = refl;
       before = refl;
       carried = refl;
@@ -124,9 +125,10 @@ settled old new scavenged settles =
       bits = refl;
       logs = λ w. log-at old w;
       journal = refl;
+      allowed = settles.5;
       scavenged = subst (λ (l : List Line). IsScavenged old.view.region old.view.goal l) (sym same) scavenged.2;
     } in
-    subst HasSettled (sym settles.1) now
+    subst HasSettled (sym settles.2) now
 
 -- ---- from step to step
 
@@ -164,9 +166,11 @@ told-same : (d e : Hand) → IsToldIn d e → IsSameRun d.worker e.worker
 told-same d e t = subst (λ (w : Seen). IsSameRun d.worker w) (sym t.worker) (record {
   away = refl;
   table = refl;
+  caching = refl;
   parts = refl;
   region = refl;
   goal = refl;
+  procs = refl;
   generation = refl;
   marks = refl;
   before = refl;

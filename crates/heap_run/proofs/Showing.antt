@@ -1,5 +1,5 @@
 -- What a run has published, as it goes on, and what watchers saw of it.
-use Rattle.std.proofs.Common.{◌≡◌, ℕ, zero, suc, ◌+◌, ◌-◌, ◌*◌, ◌^◌, ◌<◌, ◌≤◌, Bool, true, false, ◌&&◌, not, List, [], ◌∷◌, ◌++◌, map, reverse, take, length, get_or, replicate, Option, Some, None, refl, sym, ◌∙◌, ap, subst, arith, inl, inr}
+use Rattle.std.proofs.Common.{◌≡◌, ℕ, zero, suc, ◌+◌, ◌-◌, ◌*◌, ◌<◌, ◌≤◌, Bool, true, false, ◌&&◌, not, List, [], ◌∷◌, ◌++◌, map, reverse, take, length, get_or, replicate, Option, Some, None, refl, sym, ◌∙◌, ap, subst, arith, inl, inr}
 use Rattle.std.proofs.Math.Dec.{ltb}
 use Rattle.std.specs.List.{sum_by}
 use Rattle.std.proofs.lemmas.Bool.{le-ltb, and_right}
@@ -18,7 +18,6 @@ use Rattle.cycle_history.specs.Before.{AreObjectsBefore, requests_before}
 use Rattle.cycle_history.specs.Objects.{Object}
 use Rattle.cycle_history.specs.Profile.{Samples, allocs_at, frees_at, is_sample, samples_in}
 use Rattle.cycle_history.specs.Requests.{Marking, last_cycle, marked_by}
-use Rattle.cycle_history.specs.Sound.{HasAnswers}
 use Rattle.cycle_history.proofs.Plain.{same_length}
 use Rattle.run_laws.proofs.Profile.{count-none}
 use Rattle.sample_laws.specs.Counted.{Flags}
@@ -31,7 +30,7 @@ use Rattle.profile_readers.specs.Sights.{AreSights, IsSight, RiseTo, allocs_of a
 use Rattle.profile_readers.specs.declared.viewer.Sight.{Sight}
 use Rattle.heap_run.specs.Last.{no_cycle}
 use Rattle.heap_run.specs.Runs.{HasBegun, HasRun}
-use Rattle.heap_run.specs.Watched.{AreSightsOf, IsSightAt, IsWatched}
+use Rattle.heap_run.specs.Watched.{IsSightAt, IsWatched}
 use Rattle.heap_run.specs.Watching.{AreSeen, AreShownFrom, GoesOn, HasPublished, HasShown}
 use Rattle.heap_run.specs.declared.run.Run.{Run}
 use Rattle.heap_run.proofs.Alike.{objects-less, published-stays, same-published}

@@ -17,7 +17,7 @@ use Rattle.proc_cache.specs.Cache.{Cache}
 use Rattle.heap_run.specs.Counts.{Counts, HaveSampledTo, no_counts}
 use Rattle.heap_run.specs.Gains.{HasKept, behind, gains}
 use Rattle.heap_run.specs.Lanes.{AnswersTurn, DoesTask, Helps}
-use Rattle.heap_run.specs.Out.{AreOf, AreStillOut, HasOut, HasTaken, IsBack, IsTakenIn, IsTaskOf, MayJoin, MayStart, at_home, busy, helpers, resting}
+use Rattle.heap_run.specs.Out.{AreOf, AreStillOut, HasOut, HasTaken, IsBack, IsBare, IsTakenIn, IsTaskOf, MayJoin, MayStart, at_home, busy, helpers, resting}
 use Rattle.heap_run.specs.Parts.{part_at}
 use Rattle.heap_run.specs.Turns.{HaveAnsweredTo, IsCaching, IsDriving, SaysAnswers, SaysNone, TookTurn, no_cache}
 use Rattle.heap_run.specs.declared.cycle.Given.{Given}
@@ -355,12 +355,12 @@ back-task s m queues numbers p l back low held = go back.before.task back.sent.t
 pub back-joins : (table : TableId) (ring : RingId) (m : MarkSet) (s : Start) (queues : List (List Event)) (numbers : List (List ℕ)) (p i : ℕ) (procs : List Cache) (given : Given) (l : Lane) (d : Hand) → MayStart table ring m s → HasTaken s m queues numbers p procs given d
     → IsBack s m queues numbers i l → l.refused ≡ false → MayJoin table ring d l.hand
 back-joins table ring m s queues numbers p i procs given l d starts were back held =
-    go back.before.task (back.ran held)
+    go back.before.task back.sent.bare (back.ran held)
   where
-    go : (task : Task) → DoesTask m queues numbers back.before.hand l.hand task l.task → MayJoin table ring d l.hand
-    go (Allocate t) did = (let a = did.2 in may-join _ table ring m _ s.driver.value d back.before.hand l.hand i starts.works.0 starts.counts.ring (ap (λ (x : Standing). x.view.cycle) were.counts.tally) back.sent.out a.acted a.counts)
-    go (Sweep n) did = may-join _ table ring m _ s.driver.value d back.before.hand l.hand i starts.works.0 starts.counts.ring (ap (λ (x : Standing). x.view.cycle) were.counts.tally) back.sent.out did.acted did.counts
-    go Scavenge did = may-join _ table ring m _ s.driver.value d back.before.hand l.hand i starts.works.0 starts.counts.ring (ap (λ (x : Standing). x.view.cycle) were.counts.tally) back.sent.out did.acted did.counts
+    go : (task : Task) → IsBare task back.before.hand.worker.caching → DoesTask m queues numbers back.before.hand l.hand task l.task → MayJoin table ring d l.hand
+    go (Allocate t) bare did = (let a = did.2 in may-join _ table ring m _ s.driver.value d back.before.hand l.hand i starts.works.0 starts.counts.ring (ap (λ (x : Standing). x.view.cycle) were.counts.tally) back.sent.out a.acted a.counts a.settled)
+    go (Sweep n) bare did = may-join _ table ring m _ s.driver.value d back.before.hand l.hand i starts.works.0 starts.counts.ring (ap (λ (x : Standing). x.view.cycle) were.counts.tally) back.sent.out did.acted did.counts (inl (did.acted.caching ∙ bare))
+    go Scavenge bare did = may-join _ table ring m _ s.driver.value d back.before.hand l.hand i starts.works.0 starts.counts.ring (ap (λ (x : Standing). x.view.cycle) were.counts.tally) back.sent.out did.acted did.counts (inl (did.acted.caching ∙ bare))
 
 -- there is one to be taken from either list
 pub some-rest : (m : MarkSet) (s : Start) (queues : List (List Event)) (numbers : List (List ℕ)) (background p : ℕ) (lanes : List Lane) (stay procs : List Cache) (given : Given) (d : Hand)

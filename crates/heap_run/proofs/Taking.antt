@@ -6,14 +6,14 @@ use Rattle.worker_log.specs.declared.Entry.{Entry}
 use Rattle.profile_cycle.specs.History.{RingId, Standing, joined, lent, split_off}
 use Rattle.sweep_laws.specs.Lists.{erase}
 use Rattle.span_laws.specs.Calls.{notes_of}
-use Rattle.span_laws.specs.Handed.{handed, handed_out, handing, taking_in}
+use Rattle.span_laws.specs.Handed.{handed, handing, taking_in, with_cache}
 use Rattle.span_laws.specs.Views.{Seen, acts}
 use Rattle.span_laws.specs.declared.view.Part.{Part}
 use Rattle.span_set.specs.declared.hand.Hand.{Hand}
 use Rattle.proc_cache.specs.Cache.{Cache}
 use Rattle.heap_run.specs.Counts.{Counts, IsOut}
 use Rattle.heap_run.specs.Out.{HasOut, IsTakenIn, MayJoin, at_home}
-use Rattle.heap_run.specs.Parts.{part_at}
+use Rattle.heap_run.specs.Parts.{IsSettled, goes_out, own_out, part_at}
 use Rattle.heap_run.specs.Turns.{HasActed, IsCaching, TookTurn}
 use Rattle.heap_run.proofs.Acted.{HandsOut, back-cached, back-caching, turn-back}
 use Rattle.heap_run.proofs.Counting.{counts-as, counts-turn}
@@ -34,14 +34,14 @@ pub record IsAlike (start old : Hand) (i : ℕ) : Type 0 where
 
 -- as it would go out now, and come back
 abbrev out_now : ℕ → Hand → Hand → Hand
-out_now i old begin = record { worker = handed_out i old.worker; notes = begin.notes; tally = record old.tally { view = split_off old.tally.view } }
+out_now i old begin = record { worker = goes_out begin.worker.caching i old.worker; notes = begin.notes; tally = record old.tally { view = split_off old.tally.view } }
 
 abbrev run_now : ℕ → Hand → Hand → Hand
-run_now i old end = record { worker = record (handed_out i old.worker) { view = acts (handed 69 i old.worker.view) end.worker.view.own }; notes = end.notes; tally = end.tally }
+run_now i old end = record { worker = record (goes_out end.worker.caching i old.worker) { view = acts (handed 69 i old.worker.view) end.worker.view.own }; notes = end.notes; tally = end.tally }
 
-own-now : (start old begin : Hand) (i : ℕ) → IsAlike start old i → IsOut i start begin → begin.worker.view.own ≡ (handed_out i old.worker).view.own
+own-now : (start old begin : Hand) (i : ℕ) → IsAlike start old i → IsOut i start begin → begin.worker.view.own ≡ (goes_out begin.worker.caching i old.worker).view.own
 own-now start old begin i alike out =
-    ap (λ (w : Seen). w.view.own) out.worker ∙ part-out start.worker i alike.was ∙ sym alike.part ∙ sym (part-out old.worker i alike.number)
+    ap (λ (w : Seen). w.view.own) out.worker ∙ ap (own_out begin.worker.caching i) (part-out start.worker i alike.was ∙ sym alike.part ∙ sym (part-out old.worker i alike.number))
 
 generation-now : (start old begin : Hand) (i : ℕ) → IsAlike start old i → IsOut i start begin → begin.worker.view.generation ≡ old.worker.view.generation
 generation-now start old begin i alike out = ap (λ (w : Seen). w.view.generation) out.worker ∙ sym alike.generation
@@ -57,6 +57,7 @@ acted-now P start old begin end i alike out acted = record {
   away = refl;
   table = refl;
   number = refl;
+  caching = acted.caching;
   view = refl;
   idle = acted.idle;
   notes = acted.notes ∙ ap (λ (g : ℕ). begin.notes.items ++ notes_of g acted.said) (generation-now start old begin i alike out);
@@ -71,8 +72,8 @@ acted-number P start begin end i out acted = acted.number ∙ ap (λ (w : Seen).
 home-back : (start d e begin end : Hand) (i : ℕ) → end.worker.number ≡ i → IsTakenIn end d e → (at_home start e).worker ≡ taking_in (run_now i (at_home start d) end).worker (handing i (at_home start d).worker)
 home-back start d e begin end i number taken =
     ap (λ (w : Seen). record w { away = start.worker.away; journal = None }) taken.worker
-    ∙ ap (λ (k : ℕ). record d.worker { away = start.worker.away; journal = None; view = record d.worker.view { parts = set d.worker.view.parts k end.worker.view.own } }) number
-    ∙ ap (λ (l : List ℕ). record d.worker { away = l; journal = None; view = record d.worker.view { parts = set d.worker.view.parts i end.worker.view.own } }) (sym (erase-front i start.worker.away))
+    ∙ ap (λ (k : ℕ). record d.worker { away = start.worker.away; journal = None; view = record d.worker.view { parts = set d.worker.view.parts k (with_cache None end.worker.view.own) } }) number
+    ∙ ap (λ (l : List ℕ). record d.worker { away = l; journal = None; view = record d.worker.view { parts = set d.worker.view.parts i (with_cache None end.worker.view.own) } }) (sym (erase-front i start.worker.away))
 
 pub home-turn : (P : List Entry → Type 0) (start d e begin end : Hand) (i : ℕ) → IsAlike start (at_home start d) i → IsOut i start begin → HasActed P begin end → IsTakenIn end d e → TookTurn i P (at_home start d) (at_home start e)
 home-turn P start d e begin end i alike out acted taken =
@@ -125,11 +126,12 @@ out-less P start d e begin end i is outs alike out acted taken =
           (λ j other was. turn.others j other ∙ was);
     }
 
--- a worker that is out may be taken in
+-- a worker that is out and has no block out may be taken in
 pub may-join : (P : List Entry → Type 0) (table : TableId) (ring : RingId) (m : MarkSet) (f : ℕ → ℕ) (start d begin end : Hand) (i : ℕ) → start.worker.table ≡ table → start.tally.ring ≡ ring → d.tally.view.cycle ≡ start.tally.view.cycle
-    → IsOut i start begin → HasActed P begin end → Counts m f begin end → MayJoin table ring d end
-may-join P table ring m f start d begin end i of_table of_ring cycle out acted counts = record {
+    → IsOut i start begin → HasActed P begin end → Counts m f begin end → IsSettled end.worker → MayJoin table ring d end
+may-join P table ring m f start d begin end i of_table of_ring cycle out acted counts settled = record {
   out = acted.table ∙ ap (λ (w : Seen). w.table) out.worker ∙ of_table;
+  settled = settled;
   of_ring = ap (λ (s : Standing). s.ring) counts.tally ∙ ap (λ (s : Standing). s.ring) out.tally ∙ of_ring;
   split = ap (λ (s : Standing). s.view.drives) counts.tally ∙ ap (λ (s : Standing). s.view.drives) out.tally;
   cycle = ap (λ (s : Standing). s.view.cycle) counts.tally ∙ ap (λ (s : Standing). s.view.cycle) out.tally ∙ sym cycle;

@@ -11,9 +11,9 @@ use Rattle.profile_cycle.specs.Sampling.{Countdown}
 use Rattle.profile_lines.specs.Counted.{AreMadeIn}
 use Rattle.run_laws.specs.CycleCalls.{dead_in, sum_of}
 use Rattle.sample_laws.specs.Countdowns.{flags, spent}
-use Rattle.span_laws.specs.Handed.{handed_out}
 use Rattle.span_set.specs.declared.hand.Hand.{Hand}
 use Rattle.proc_cache.specs.Cache.{Cache}
+use Rattle.heap_run.specs.Parts.{goes_out}
 use Rattle.heap_run.specs.Turns.{no_cache}
 
 -- ---- one hand
@@ -41,9 +41,9 @@ pub record Counts (m : MarkSet) (allocs : ℕ → ℕ) (old new : Hand) : Type 0
 abbrev pub no_counts : ℕ → ℕ
 no_counts bucket = 0
 
--- A worker is handed out with this number, with no notes, and a tally that was split off.
+-- A worker is handed out with this number, with a page cache or without one, with no notes, and a tally that was split off.
 pub record IsOut (number : ℕ) (driver hand : Hand) : Type 0 where
-  pub worker : hand.worker ≡ handed_out number driver.worker
+  pub worker : hand.worker ≡ goes_out hand.worker.caching number driver.worker
   pub notes : hand.notes.items ≡ []
   pub tally : hand.tally ≡ record driver.tally { view = split_off driver.tally.view }
 

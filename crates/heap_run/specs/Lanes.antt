@@ -13,6 +13,7 @@ use Rattle.span_set.specs.declared.hand.Hand.{Hand}
 use Rattle.heap_run.specs.Counts.{Counts, no_counts}
 use Rattle.heap_run.specs.Firsts.{FlushesFor}
 use Rattle.heap_run.specs.Gains.{HasKept, behind}
+use Rattle.heap_run.specs.Parts.{IsSettled}
 use Rattle.heap_run.specs.Turns.{HasActed, IsCaching, SaysAnswers, SaysNone}
 use Rattle.heap_run.specs.declared.lanes.Lane.{Lane}
 use Rattle.heap_run.specs.declared.lanes.Task.{Task}
@@ -46,7 +47,7 @@ pub record IsReady (table : TableId) (ring : RingId) (m : MarkSet) (queues : Lis
 
 -- ---- what a worker does
 
--- A processor answered its events, with the numbers of their buckets, behind the flush of its cache.
+-- A processor answered its events, with the numbers of their buckets, behind the flush of its cache, and has no block out.
 pub record AnswersTurn (m : MarkSet) (events : List Event) (numbers : List ℕ) (old new : Hand) (t t' : Turn) : Type 0 where
   pub acted : HasActed (SaysAnswers (reverse events) (reverse (behind t.answers t'.answers))) old new
   pub caching : IsCaching old.worker.view.generation new.worker.view.own t'.proc
@@ -55,6 +56,7 @@ pub record AnswersTurn (m : MarkSet) (events : List Event) (numbers : List ℕ) 
   pub spent_is : t'.proc.countdown ≡ spent t.proc.countdown (reverse events) (reverse (behind t.answers t'.answers))
   pub counts : Counts m (sampled_counts (behind t.sampled t'.sampled) numbers) old new
   pub flushed : FlushesFor events t.proc t'.proc old new
+  pub settled : IsSettled new.worker
   pub kept : HasKept t.answers t'.answers
   pub kept_too : HasKept t.sampled t'.sampled
 

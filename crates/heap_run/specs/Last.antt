@@ -18,6 +18,7 @@ use Rattle.worker_log.specs.declared.Entry.{Entry}
 use Rattle.worker_log.specs.declared.Placing.{Placing}
 use Rattle.worker_log.specs.Logs.{placings}
 use Rattle.run_laws.specs.PlacingFacts.{IsIn}
+use Rattle.run_laws.specs.Known.{known_number}
 use Rattle.span_laws.specs.Asks.{IsAtWork}
 use Rattle.span_laws.specs.Views.{Seen}
 use Rattle.heap_run.specs.declared.run.Ran.{Ran}
@@ -42,10 +43,10 @@ pub record TellsLast (t : Trace) (c : ℕ) (answers : List Answer) (sweeps : Lis
   pub swept : AreCollected c (λ w. (part_at d w).log) notes
   pub filed : IsPermutation notes (passing (λ (n : SweepNote). n.cycle == c) sweeps)
 
--- Each object that a log places is in a life that is open behind the journal, which has the number, the first page and the span class that are told, and
--- at an index below the number of its objects.
+-- Each object that a log places is in a life that is open behind the journal, which has the first page and the span class that are told, and is known
+-- by the number that is told; and at an index below the number of its objects.
 abbrev pub ArePlacedIn : List Line → List Entry → Type 0
-ArePlacedIn past log = (a : Placing) → In a (placings log) → (a.index < count_for a.class) × (life : Life) × In life (open_lives past) × IsIn a life
+ArePlacedIn past log = (a : Placing) → In a (placings log) → (a.index < count_for a.class) × (life : Life) × In life (open_lives past) × IsIn a life × (a.number ≡ known_number past life.number)
 
 -- What a run leaves is as its report says: the worker is the driver's, with no other out, and knows the report's journal as the whole journal; its logs tell
 -- of the last cycle, and place objects in lives of that journal.

@@ -1,5 +1,5 @@
 -- Who is out in a cycle, and what the driver has meanwhile.
-use Rattle.std.specs.Prelude.{◌≡◌, ℕ, zero, suc, ◌+◌, ◌-◌, ◌^◌, ◌≤◌, ◌<◌, ◌==◌, true, false, if◌then◌else◌, All, List, [], ◌∷◌, ◌++◌, drop, length, slice_index_or, take, None}
+use Rattle.std.specs.Prelude.{◌≡◌, ℕ, zero, suc, ◌+◌, ◌-◌, ◌^◌, ◌≤◌, ◌<◌, ◌==◌, Bool, true, false, if◌then◌else◌, All, List, [], ◌∷◌, ◌++◌, drop, length, slice_index_or, take, None}
 use Rattle.std.specs.List.{AllByRecursion}
 use Rattle.atomic_table.specs.Seated.{TableId}
 use Rattle.span_state.specs.MarkSet.{MarkSet}
@@ -14,7 +14,7 @@ use Rattle.proc_cache.specs.Cache.{Cache}
 use Rattle.heap_run.specs.Counts.{AreNumbered, Counts, HaveSampledTo, IsOut}
 use Rattle.heap_run.specs.Gains.{HasKept, gains}
 use Rattle.heap_run.specs.Lanes.{HasDone}
-use Rattle.heap_run.specs.Parts.{part_at}
+use Rattle.heap_run.specs.Parts.{IsSettled, part_at}
 use Rattle.heap_run.specs.Turns.{HaveAnsweredTo, IsCollecting, IsDriving, SaysNone, no_cache}
 use Rattle.heap_run.specs.declared.cycle.Given.{Given}
 use Rattle.heap_run.specs.declared.lanes.Lane.{Lane}
@@ -92,10 +92,17 @@ IsTaskOf s i (Allocate t) = (i < length s.procs.value.items) × (t.proc ≡ slic
 IsTaskOf s i (Sweep n) = length s.procs.value.items ≤ i
 IsTaskOf s i Scavenge = length s.procs.value.items ≤ i
 
+-- Only a processor goes out with a page cache.
+abbrev pub IsBare : Task → Bool → Type 0
+IsBare (Allocate t) caching = Unit {0}
+IsBare (Sweep n) caching = caching ≡ false
+IsBare Scavenge caching = caching ≡ false
+
 -- The worker of this number was sent out from the start with its task.
 pub record IsSent (s : Start) (i : ℕ) (l : Lane) : Type 0 where
   pub low : i < 69
   pub out : IsOut i s.driver.value l.hand
+  pub bare : IsBare l.task l.hand.worker.caching
   pub task : IsTaskOf s i l.task
 
 -- Each list is as it was at the start where its processor has no event.
@@ -123,9 +130,10 @@ pub record IsBack (s : Start) (m : MarkSet) (queues : List (List Event)) (number
   pub sent : IsSent s i before
   pub ran : HasDone m queues numbers before l
 
--- A worker that is out may be taken in by the driver: it is of this table, and its tally is one of the ring's that was split off in the driver's cycle.
+-- A worker that is out may be taken in by the driver: it is of this table and has no block out, and its tally is one of the ring's that was split off in the driver's cycle.
 pub record MayJoin (table : TableId) (ring : RingId) (d h : Hand) : Type 0 where
   pub out : h.worker.table ≡ table
+  pub settled : IsSettled h.worker
   pub of_ring : h.tally.ring ≡ ring
   pub split : h.tally.view.drives ≡ false
   pub cycle : h.tally.view.cycle ≡ d.tally.view.cycle

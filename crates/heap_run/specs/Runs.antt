@@ -1,9 +1,11 @@
 -- How far a run of a trace has come.
 use Rattle.std.specs.Prelude.{◌≡◌, ℕ, suc, ◌+◌, ◌*◌, List, [], length, reverse, Some}
 use Rattle.page_bitmap.specs.declared.line.Line.{Line}
+use Rattle.page_alloc.specs.Blocks.{open_blocks}
+use Rattle.page_alloc.specs.Journal.{AreAllowed}
 use Rattle.span_state.specs.MarkSet.{has_pair}
 use Rattle.trace_reader.specs.declared.trace.Trace.{Trace}
-use Rattle.cycle_history.specs.Requests.{marked_by, region_of}
+use Rattle.cycle_history.specs.Requests.{caching_procs, marked_by, region_of}
 use Rattle.cycle_history.specs.Objects.{Object}
 use Rattle.cycle_history.specs.Marked.{ArePlacesOf}
 use Rattle.cycle_history.specs.Before.{AreClear, AreObjectsBefore, objects_before}
@@ -28,6 +30,7 @@ pub record IsSet (t : Trace) (c : ℕ) (run : Run) : Type 0 where
   pub parts : length run.driver.worker.view.parts ≡ 70
   pub region : run.driver.worker.view.region ≡ region_of t
   pub goal : run.driver.worker.view.goal ≡ t.header.goal
+  pub caching : run.driver.worker.view.procs ≡ caching_procs t
   pub generation : run.driver.worker.view.generation ≡ 2 * c + 4
   pub driving : IsDriving run.driver.worker run.procs.items run.driver
   pub procs : length run.procs.items ≡ t.header.procs
@@ -54,13 +57,15 @@ pub record HasBegun (t : Trace) (c : ℕ) (run : Run) : Type 0 where
   pub counting : IsCountingIn t c objects run
   pub told : IsToldIn t c objects run
 
--- Cycle c of the trace has ended: the run is sound so far, and the driver knows the whole journal.
+-- Cycle c of the trace has ended: the run is sound so far, no block is out, and the driver knows the whole journal.
 pub record HasRun (t : Trace) (c : ℕ) (run : Run) : Type 0 where
   pub set : IsSet t c run
   pub objects : List Object
   pub past : List Line
   pub asked : AreObjectsBefore t (suc c) run.answers objects
   pub reached : Reached (marked_by t) (region_of t) t.header.goal c past objects (reverse run.sweeps) (has_pair (allocated_pairs run.driver.worker.number run.driver.worker.view))
+  pub allowed : AreAllowed (caching_procs t) past
+  pub settled : open_blocks past ≡ []
   pub journal : run.driver.worker.journal ≡ Some past
   pub flushed : HasFlushed run.procs.items run.driver.worker
   pub profiled : IsProfiled t (suc c) objects run

@@ -3,6 +3,7 @@ use Rattle.std.specs.Prelude.{◌≡◌, ℕ, ◌<◌, false, List, length, slic
 use Rattle.span_state.specs.MarkSet.{has_pair}
 use Rattle.sweep_laws.specs.Reading.{is_swept_set}
 use Rattle.worker_log.specs.Entries.{is_seen_empty, many}
+use Rattle.page_alloc.specs.Journal.{AreAllowed}
 use Rattle.cycle_history.specs.Sound.{IsScavenged}
 use Rattle.run_laws.specs.CycleSoFar.{CycleSoFar, past_after}
 use Rattle.span_laws.specs.TakeAnswers.{cycle_at}
@@ -21,7 +22,8 @@ pub record HasFlushed (procs : List Cache) (d : Seen) : Type 0 where
   pub flushed : (i : ℕ) → i < length procs → (slice_index_or procs i no_cache).flushed ≡ d.view.generation
   pub empty : (k : ℕ) → k < 544 → is_swept_set d.view.generation k ≡ false → 0 < many (is_seen_empty k) (part_at d 69).log
 
--- The driver was told the whole journal of a cycle that has ended, and what is so of it; the pages are scavenged to the goal.
+-- The driver was told the whole journal of a cycle that has ended, and what is so of it; its page caches are those of processors that may have
+-- one, and the pages are scavenged to the goal.
 pub record HasSettled (d : Seen) : Type 0 where
   pub e : CycleSoFar
   pub ends : EndsCycle d.view.region d.view.goal e
@@ -32,6 +34,7 @@ pub record HasSettled (d : Seen) : Type 0 where
   pub bits : e.bits ≡ has_pair (allocated_pairs d.number d.view)
   pub logs : (w : ℕ) → e.logs w ≡ (part_at d w).log
   pub journal : d.journal ≡ Some (past_after e)
+  pub allowed : AreAllowed d.view.procs (past_after e)
   pub scavenged : IsScavenged d.view.region d.view.goal (past_after e)
 
 -- All workers had their turns, the processors gave these answers to their events, and the cycle ended.

@@ -25,6 +25,7 @@ pub record HasActed (P : List Entry → Type 0) (old new : Hand) : Type 0 where
   pub away : new.worker.away ≡ old.worker.away
   pub table : new.worker.table ≡ old.worker.table
   pub number : new.worker.number ≡ old.worker.number
+  pub caching : new.worker.caching ≡ old.worker.caching
   pub view : new.worker.view ≡ acts old.worker.view new.worker.view.own
   pub idle : IsIdle new.worker.view.own
   pub notes : new.notes.items ≡ old.notes.items ++ notes_of old.worker.view.generation said

@@ -34,8 +34,8 @@ pub(crate) struct Given {
     pub sampled: Vec<List<bool>>,
 }
 
-/// The processors with an event, the background sweepers, the scavenger and the viewers run beside each other, and the driver takes all
-/// workers in.
+/// The processors with an event, with page caches if they have one, the background sweepers, the scavenger and the viewers run beside each
+/// other, and the driver takes all workers in.
 /// What the processors' events come to is put behind what is in their lists. Without memory the processors and their lists may be
 /// lost.
 pub(crate) fn run_beside<B: Board + Send + Sync, R: Threads + Wait + Sync, G: Gate>(
@@ -46,6 +46,7 @@ pub(crate) fn run_beside<B: Board + Send + Sync, R: Threads + Wait + Sync, G: Ga
     procs: &mut Vec<Proc>,
     queues: &Queues,
     background: u32,
+    caching: bool,
     gate: &G,
     given: &mut Given,
     viewers: &mut [Viewer<B>],
@@ -60,6 +61,7 @@ pub(crate) fn run_beside<B: Board + Send + Sync, R: Threads + Wait + Sync, G: Ga
     requires numbered { AreNumbered shop.now.ring.now.buckets queues.now.events queues.now.buckets }
     requires few { vec_len procs.old ≤ 64 }
     requires background { background ≤ 4 }
+    requires caching { caching ≡ true → vec_len procs.old ≤ driver.old.worker.view.procs }
     requires sizes { (w : ℕ) → All (λ e. e.size ≤ 2 ^ 40) (slice_index_or queues.now.events w []) }
     requires driving { IsDriving driver.old.worker procs.old.items driver.old }
     requires collecting { IsCollecting driver.old }
@@ -81,7 +83,7 @@ pub(crate) fn run_beside<B: Board + Send + Sync, R: Threads + Wait + Sync, G: Ga
         given: Snapshot::of(&*given),
     };
     let mut out = send_all(
-        alloc, shop, driver, procs, queues, background, given, &start,
+        alloc, shop, driver, procs, queues, background, caching, given, &start,
     )?;
     run_all(
         rt,
@@ -275,7 +277,7 @@ pub(crate) fn end_cycle<R: Wait>(
     finish(rt, shop, driver)?;
     flush_processors(rt, alloc, shop, driver, procs)?;
     scavenge_to(rt, shop.shared, &mut driver.worker)?;
-    shop.shared.settle(&mut driver.worker);
+    shop.shared.end_cycle(&mut driver.worker);
     Ok(())
 }
 
@@ -289,6 +291,7 @@ pub(crate) fn run_workers<B: Board + Send + Sync, R: Threads + Wait + Sync, G: G
     procs: &mut Vec<Proc>,
     queues: Queues,
     background: u32,
+    caching: bool,
     gate: &G,
     given: &mut Given,
     viewers: &mut [Viewer<B>],
@@ -303,6 +306,7 @@ pub(crate) fn run_workers<B: Board + Send + Sync, R: Threads + Wait + Sync, G: G
     requires numbered { AreNumbered shop.now.ring.now.buckets queues.events queues.buckets }
     requires few { vec_len procs.old ≤ 64 }
     requires background { background ≤ 4 }
+    requires caching { caching ≡ true → vec_len procs.old ≤ driver.old.worker.view.procs }
     requires sizes { (w : ℕ) → All (λ e. e.size ≤ 2 ^ 40) (slice_index_or queues.events w []) }
     requires driving { IsDriving driver.old.worker procs.old.items driver.old }
     requires collecting { IsCollecting driver.old }
@@ -317,7 +321,7 @@ pub(crate) fn run_workers<B: Board + Send + Sync, R: Threads + Wait + Sync, G: G
     ensures kept { OnOk result (HaveKept given.old.answers.items given.new.answers.items × HaveKept given.old.sampled.items given.new.sampled.items) }
 {
     run_beside(
-        rt, alloc, shop, driver, procs, &queues, background, gate, given, viewers,
+        rt, alloc, shop, driver, procs, &queues, background, caching, gate, given, viewers,
     )?;
     end_cycle(rt, alloc, shop, driver, procs)?;
     Ok(())

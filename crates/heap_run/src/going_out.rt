@@ -37,7 +37,8 @@ pub(crate) struct Out {
     pub(crate) resting: Vec<Proc>,
 }
 
-/// The scavenger, the background sweepers and each processor with an event go out. Without memory the processors and their lists may
+/// The scavenger, the background sweepers and each processor with an event go out, the processors with page caches if they have
+/// one. Without memory the processors and their lists may
 /// be lost.
 pub(crate) fn send_all(
     alloc: Global,
@@ -46,12 +47,14 @@ pub(crate) fn send_all(
     procs: &mut Vec<Proc>,
     queues: &Queues,
     background: u32,
+    caching: bool,
     given: &mut Given,
     start: &Start,
 ) -> Result<Out, NoMemory>
     requires starts { MayStart shop.now.shared.now shop.now.ring.now shop.now.marks.now start.now }
     requires asked { AreAsked shop.now.ring.now.buckets queues.now.events queues.now.buckets start.now }
     requires few { background ≤ 4 }
+    requires caching { caching ≡ true → length start.now.procs.value.items ≤ start.now.driver.value.worker.view.procs }
     requires driver { driver.old ≡ start.now.driver.value }
     requires procs { procs.old ≡ start.now.procs.value }
     requires given { given.old ≡ start.now.given.value }
@@ -67,7 +70,7 @@ pub(crate) fn send_all(
     for sent in 0..count {
         let number = count - 1 - sent;
         send_processor(
-            alloc, shop, driver, procs, queues, background, given, &mut out, number, start,
+            alloc, shop, driver, procs, queues, background, caching, given, &mut out, number, start,
         )?;
     }
     Ok(out)
@@ -89,15 +92,23 @@ fn send_helpers(
     ensures sent { OnOk result (HasSent start.now.driver.value (helpers background) driver.new) }
     ensures lanes { OnOk result (AreOf (IsSent start.now) (helpers background) lanes.new.items) }
 {
-    send(alloc, shop, driver, SCAVENGER, Task::Scavenge, lanes)?;
+    send(alloc, shop, driver, SCAVENGER, false, Task::Scavenge, lanes)?;
     for sent in 0..background {
         let number = SWEEPERS + background - 1 - sent;
-        send(alloc, shop, driver, number, Task::Sweep(number), lanes)?;
+        send(
+            alloc,
+            shop,
+            driver,
+            number,
+            false,
+            Task::Sweep(number),
+            lanes,
+        )?;
     }
     Ok(())
 }
 
-// The last of the processors goes out, or stays for want of an event.
+// The last of the processors goes out, with a page cache where processors have one, or stays for want of an event.
 fn send_processor(
     alloc: Global,
     shop: &Shop,
@@ -105,6 +116,7 @@ fn send_processor(
     procs: &mut Vec<Proc>,
     queues: &Queues,
     background: u32,
+    caching: bool,
     given: &mut Given,
     out: &mut Out,
     number: usize,
@@ -113,6 +125,7 @@ fn send_processor(
     requires starts { MayStart shop.now.shared.now shop.now.ring.now shop.now.marks.now start.now }
     requires asked { AreAsked shop.now.ring.now.buckets queues.now.events queues.now.buckets start.now }
     requires few { background ≤ 4 }
+    requires caching { caching ≡ true → length start.now.procs.value.items ≤ start.now.driver.value.worker.view.procs }
     requires number { number < length start.now.procs.value.items }
     requires sent { AreSent start.now queues.now.events background (number + 1) out.old.lanes.items out.old.resting.items procs.old.items given.old driver.old }
     ensures sent { OnOk result (AreSent start.now queues.now.events background number out.new.lanes.items out.new.resting.items procs.new.items given.new driver.new) }
@@ -131,6 +144,7 @@ fn send_processor(
         shop,
         driver,
         number as u32,
+        caching,
         Task::Allocate(turn),
         lanes,
     )?;
@@ -152,12 +166,13 @@ fn lend_lists(alloc: Global, proc: Proc, number: usize, given: &mut Given) -> Tu
     }
 }
 
-// The worker of a number goes out with its task.
+// The worker of a number goes out with its task, and with a page cache or without one.
 fn send(
     alloc: Global,
     shop: &Shop,
     driver: &mut Hand,
     number: u32,
+    caching: bool,
     task: Task,
     lanes: &mut Vec<Lane>,
 ) -> Result<(), NoMemory>
@@ -166,14 +181,15 @@ fn send(
     requires driver { driver.old.worker.number ≡ 69 }
     requires home { has number driver.old.worker.away ≡ false }
     requires part { number < length driver.old.worker.view.parts }
+    requires caching { caching ≡ true → (number < 64) × (number < driver.old.worker.view.procs) }
     requires ring { driver.old.tally.ring ≡ shop.now.ring.now }
     requires drives { driver.old.tally.view.drives ≡ true }
-    ensures lane { OnOk result ((hand : Held) × IsOut number driver.old hand × (lanes.new.items ≡ lanes.old.items ++ record { hand = hand; task = task; refused = false } ∷ [])) }
+    ensures lane { OnOk result ((hand : Held) × IsOut number driver.old hand × (hand.worker.caching ≡ caching) × (lanes.new.items ≡ lanes.old.items ++ record { hand = hand; task = task; refused = false } ∷ [])) }
     ensures away { OnOk result (driver.new.worker ≡ handing number driver.old.worker) }
     ensures notes { OnOk result (driver.new.notes ≡ driver.old.notes) }
     ensures tally { OnOk result (driver.new.tally ≡ record driver.old.tally { view = lent driver.old.tally.view }) }
 {
-    let hand = send_out(alloc, shop, driver, number)?;
+    let hand = send_out(alloc, shop, driver, number, caching)?;
     lanes.push(Lane {
         hand,
         task,

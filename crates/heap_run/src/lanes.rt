@@ -4,6 +4,9 @@ ghost use Rattle.std.specs.Prelude.{◌≡◌, ℕ, ◌^◌, ◌<◌, ◌≤◌,
 ghost use Rattle.std.specs.Thread.{IsSync};
 ghost use Rattle.span_laws.specs.Asks.{IsAtWork, IsIdle};
 ghost use Rattle.span_set.specs.Tallies.{MayCount};
+ghost use Rattle.proc_cache.specs.Cache.{Cache};
+ghost use Rattle.heap_run.specs.Parts.{IsSettled};
+ghost use Rattle.heap_run.specs.Turns.{HasActed, IsCaching, SaysNone};
 ghost use Rattle.heap_run.specs.Lanes.{AnswersTurn, HasDone, Helps, IsReady, MayAnswer};
 
 use crate::audience::watch_all;
@@ -133,7 +136,7 @@ impl Lane {
 }
 
 impl Turn {
-    // Answers the events.
+    // Answers the events, and settles the block behind the last of them.
     fn run<R: Wait, G: Gate>(
         &mut self,
         rt: &R,
@@ -162,8 +165,24 @@ impl Turn {
         answer_all(
             rt, alloc, shop, proc, hand, events, buckets, gate, answers, sampled,
         )?;
+        settle(rt, shop, hand);
         Ok(())
     }
+}
+
+// A worker with a page cache settles its block.
+fn settle<R: Wait>(rt: &R, shop: &Shop, hand: &mut Hand)
+    requires table { hand.old.worker.table ≡ shop.now.shared.now }
+    requires idle { IsIdle hand.old.worker.view.own }
+    ensures acted { HasActed SaysNone hand.old hand.new }
+    ensures caching { (g : ℕ) (c : Cache) → IsCaching g hand.old.worker.view.own c → IsCaching g hand.new.worker.view.own c }
+    ensures settled { IsSettled hand.new.worker }
+    ensures same { (hand.new.notes ≡ hand.old.notes) × (hand.new.tally ≡ hand.old.tally) }
+{
+    let Some(_) = hand.worker.cached_pages() else {
+        return;
+    };
+    shop.shared.settle(rt, &mut hand.worker);
 }
 
 // A background sweeper sweeps until nothing is left, behind the gate.

@@ -1,8 +1,8 @@
 //! The run of a whole trace.
 
-ghost use Rattle.std.specs.Prelude.{◌≡◌, ℕ, suc, ◌+◌, ◌-◌, ◌^◌, ◌<◌, ◌≤◌, [], length, slice_index_or, vec_len, is_some, None, Some, IfOk, OnOk};
+ghost use Rattle.std.specs.Prelude.{◌≡◌, ℕ, suc, ◌+◌, ◌-◌, ◌^◌, ◌<◌, ◌≤◌, if◌then◌else◌, [], length, slice_index_or, vec_len, is_some, None, Some, IfOk, OnOk};
 ghost use Rattle.trace_reader.specs.Limits.{WithinLimits, events_of};
-ghost use Rattle.cycle_history.specs.Requests.{last_cycle};
+ghost use Rattle.cycle_history.specs.Requests.{caching_procs, last_cycle};
 ghost use Rattle.cycle_history.specs.Sound.{HasForm, IsSoundAndUsed};
 ghost use Rattle.heap_run.specs.Last.{IsLeft};
 ghost use Rattle.heap_run.specs.Paces.{pace};
@@ -35,6 +35,9 @@ const MARKING: u64 = 1048576;
 // The least distance by which sweeping is paced, a page.
 const LEAST: u64 = PAGE_SIZE;
 
+// From this version of traces on processors have page caches.
+const CACHING_VERSION: u8 = 2;
+
 /// What is asked of a run besides its trace.
 #[derive(Clone, Copy, Debug, PartialEq, Eq)]
 pub struct Options {
@@ -57,7 +60,8 @@ pub struct Ran {
 
 /// Runs a trace within its limits: each processor's events by its own worker, in the order of the trace. Before
 /// each event a processor passes the gate with its number and the event's place among its own of the cycle, and before their
-/// first steps in a cycle the background sweepers (64 to 67) and the scavenger (68) pass it with turn 0.
+/// first steps in a cycle the background sweepers (64 to 67) and the scavenger (68) pass it with turn 0. In a trace of version 2 or more
+/// each processor has a page cache, and settles its block behind its last event of a cycle.
 pub fn run_trace<R: Threads + Wait + Sync, G: Gate>(
     rt: &R,
     alloc: Global,
@@ -115,7 +119,8 @@ impl Run {
         let buckets = List::with_room(alloc, objects)?;
         let places = List::with_room(alloc, objects)?;
         let procs = processors(alloc, &trace.header)?;
-        let (shared, driver) = Shared::new(alloc, trace.header.chunks, trace.header.goal)?;
+        let Header { chunks, goal, .. } = trace.header;
+        let (shared, driver) = Shared::new(alloc, chunks, goal, procs_of(trace))?;
         let (profile, tally) = Profile::new(alloc, trace, each)?;
         Ok(Run {
             shared,
@@ -258,6 +263,7 @@ impl Run {
             &mut self.procs,
             queues,
             background,
+            is_caching(trace),
             gate,
             &mut given,
             viewers,
@@ -342,6 +348,24 @@ impl Run {
             shared,
             driver,
         })
+    }
+}
+
+// Whether processors have page caches.
+fn is_caching(trace: &Trace) -> bool
+    ensures procs { caching_procs trace.now ≡ (if result then trace.now.header.procs else 0) }
+{
+    trace.header.version >= CACHING_VERSION
+}
+
+// How many processors may have page caches.
+fn procs_of(trace: &Trace) -> u32
+    ensures { result ≡ caching_procs trace.now }
+{
+    if is_caching(trace) {
+        trace.header.procs
+    } else {
+        0
     }
 }
 

@@ -5,7 +5,7 @@ ghost use Rattle.sweep_laws.specs.Lists.{has};
 ghost use Rattle.span_laws.specs.Asks.{IsAtWork, IsIdle};
 ghost use Rattle.span_laws.specs.Handed.{handing, taking_in};
 ghost use Rattle.span_state.specs.declared.sweep.SweepNote.{SweepNote};
-ghost use Rattle.heap_run.specs.Parts.{part_at};
+ghost use Rattle.heap_run.specs.Parts.{IsSettled, part_at};
 ghost use Rattle.profile_cycle.specs.History.{joined, lent};
 ghost use Rattle.span_set.specs.Tallies.{MayCount};
 ghost use Rattle.heap_run.specs.Counts.{Counts, IsOut, no_counts};
@@ -44,32 +44,39 @@ pub(crate) fn flush_processor<R: Wait>(
     ensures countdown { OnOk result (proc.new.countdown ≡ proc.old.countdown) }
     ensures counts { OnOk result (Counts shop.now.marks.now no_counts driver.old driver.new) }
 {
-    let mut hand = send_out(alloc, shop, driver, proc.number())?;
+    let mut hand = send_out(alloc, shop, driver, proc.number(), false)?;
     flush(rt, proc, shop, &mut hand)?;
     bring_back(shop, driver, hand)
 }
 
-/// Hands the worker of a number out, with a tally of its own. Others may be out.
+/// Hands the worker of a number out, with a tally of its own, and with a page cache or without one. Others may be out.
 pub(crate) fn send_out(
     alloc: Global,
     shop: &Shop,
     driver: &mut Hand,
     number: u32,
+    caching: bool,
 ) -> Result<Hand, NoMemory>
     requires table { driver.old.worker.table ≡ shop.now.shared.now }
     requires number { number < 69 }
     requires driver { driver.old.worker.number ≡ 69 }
     requires home { has number driver.old.worker.away ≡ false }
     requires part { number < length driver.old.worker.view.parts }
+    requires caching { caching ≡ true → (number < 64) × (number < driver.old.worker.view.procs) }
     requires ring { driver.old.tally.ring ≡ shop.now.ring.now }
     requires drives { driver.old.tally.view.drives ≡ true }
     ensures hand { IfOk result (λ hand. IsOut number driver.old hand) }
+    ensures caching { IfOk result (λ hand. hand.worker.caching ≡ caching) }
     ensures away { OnOk result (driver.new.worker ≡ handing number driver.old.worker) }
     ensures notes { OnOk result (driver.new.notes ≡ driver.old.notes) }
     ensures tally { OnOk result (driver.new.tally ≡ record driver.old.tally { view = lent driver.old.tally.view }) }
 {
     let tally = shop.ring.split(&mut driver.tally)?;
-    let worker = shop.shared.hand_out(&mut driver.worker, number);
+    let worker = if caching {
+        shop.shared.hand_out_for(&mut driver.worker, number)
+    } else {
+        shop.shared.hand_out(&mut driver.worker, number)
+    };
     Ok(Hand::new(alloc, worker, tally))
 }
 
@@ -78,6 +85,7 @@ pub(crate) fn bring_back(shop: &Shop, driver: &mut Hand, hand: Hand) -> Result<(
     requires table { driver.old.worker.table ≡ shop.now.shared.now }
     requires driver { driver.old.worker.number ≡ 69 }
     requires out { hand.worker.table ≡ shop.now.shared.now }
+    requires settled { IsSettled hand.worker }
     requires ring { driver.old.tally.ring ≡ shop.now.ring.now }
     requires drives { driver.old.tally.view.drives ≡ true }
     requires of_ring { hand.tally.ring ≡ shop.now.ring.now }

@@ -17,6 +17,7 @@ use std::test::Fail;
 use std::thread::Threads;
 use trace_reader::{Trace, read_trace};
 
+mod caching;
 mod watched;
 
 // A trace with its report: the trace's second line and the lines behind it, the report's lines before its profile, and the profile in its
@@ -165,10 +166,18 @@ const ROWS: [Row; 16] = [
     },
 ];
 
+// A trace of version 1.
 fn trace_of(alloc: Global, head: &str, lines: &str) -> Result<Trace, Fail>
     ensures { IfOk result WithinLimits }
 {
-    let text = format!(in alloc; "goheap 1\n{head}\n{lines}end\n")?;
+    trace_by(alloc, "goheap 1", head, lines)
+}
+
+// A trace with this first line.
+fn trace_by(alloc: Global, version: &str, head: &str, lines: &str) -> Result<Trace, Fail>
+    ensures { IfOk result WithinLimits }
+{
+    let text = format!(in alloc; "{version}\n{head}\n{lines}end\n")?;
     let bytes = List::from_vec(text.as_bytes().to_vec(alloc)?);
     let mut source = MemorySource::new(bytes, List::new(alloc));
     let mut lines = Lines::new(&mut source, 67_108_864);

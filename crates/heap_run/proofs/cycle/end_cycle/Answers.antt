@@ -24,8 +24,8 @@ flush_processors-requires-clause-collecting g c =
     let all = swept-all c.args.driver.now.worker c.args.procs.now.items c.args.driver.now c.finish.new.driver c.requires.parts few c.requires.driving c.requires.collecting c.in_ok-finish.ensures.did in
     all.collecting
 
-pub settle-requires-clause-may : goal.settle-requires-clause-may
-settle-requires-clause-may g c =
+pub end_cycle-requires-clause-may : goal.end_cycle-requires-clause-may
+end_cycle-requires-clause-may g c =
     let few : length c.args.procs.now.items ≤ 64 = (let f = c.requires.few in omega (arith, c.args.procs.now.ok.0)) in
     let d1 = c.finish.new.driver in
     let d2 = c.flush_processors.new.driver in
@@ -67,8 +67,8 @@ returns g c =
     let told : IsToldIn d2 d3 = record { worker = c.scavenge_to.ensures.same; notes = refl } in
     let ends3 = told-ends c.args.driver.now.worker procs c.args.driver.now d2 d3 ends2 told in
     let room3 = ends-room c.args.driver.now.worker procs c.args.driver.now d3 c.requires.parts ends3 in
-    let d4 : Hand = record { worker = c.settle.new.driver; notes = d2.notes; tally = d2.tally } in
-    let told4 : IsToldIn d3 d4 = record { worker = c.settle.ensures.1 ∙ ap (λ (w : Seen). record d3.worker { journal = w.journal }) (sym c.settle.ensures.1); notes = refl } in
+    let d4 : Hand = record { worker = c.end_cycle.new.driver; notes = d2.notes; tally = d2.tally } in
+    let told4 : IsToldIn d3 d4 = record { worker = c.end_cycle.ensures.2 ∙ ap (λ (w : Seen). record d3.worker { journal = w.journal }) (sym c.end_cycle.ensures.2); notes = refl } in
     let ends4 = told-ends c.args.driver.now.worker procs c.args.driver.now d3 d4 ends3 told4 in
     let counts1 : Counts c.args.shop.now.marks.now no_counts c.args.driver.now d1 = frees-counts c.args.shop.now.marks.now c.args.driver.now d1 c.in_ok-finish.ensures.tally in
     let counts2 : Counts c.args.shop.now.marks.now no_counts c.args.driver.now d2 = counts-then c.args.shop.now.marks.now no_counts no_counts no_counts c.args.driver.now d1 d2 counts1 f.counts (λ k. refl) in
@@ -80,7 +80,7 @@ returns g c =
       flushed = ends4.flushed;
       countdowns = f.countdowns;
       counts = counts-as c.args.shop.now.marks.now no_counts c.args.driver.now d2 c.args.driver.now d4 counts2 refl refl refl refl;
-      settled = settled c.scavenge_to.new.w c.settle.new.driver (c.in_ok-scavenge_to.ensures.scavenged (drives-driver d2.worker ends2.driving.number)) c.settle.ensures;
+      settled = settled c.scavenge_to.new.w c.end_cycle.new.driver (c.in_ok-scavenge_to.ensures.scavenged (drives-driver d2.worker ends2.driving.number)) c.end_cycle.ensures;
     }
 
 pub flush_processors-requires-clause-counts : goal.flush_processors-requires-clause-counts

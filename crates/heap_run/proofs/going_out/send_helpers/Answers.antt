@@ -31,7 +31,7 @@ loop-sent-init c =
     record {
       sent = sent-more start c.args.driver.now c.send.new.driver [] 68 first c.in_ok-send.ensures.away c.in_ok-send.ensures.notes c.in_ok-send.ensures.tally;
       lanes = of-push (IsSent c.args.start.now) 68 [] c.args.lanes.now.items c.send.new.lanes.items _ c.requires.none
-          (record { low = omega arith; out = sent-out start c.args.driver.now lane.0 [] 68 first lane.1; task = (let f = c.requires.starts.few in omega arith) }) lane.2;
+          (record { low = omega arith; out = sent-out start c.args.driver.now lane.0 [] 68 first lane.1; bare = lane.2; task = (let f = c.requires.starts.few in omega arith) }) lane.3;
     }
 
 pub send-requires-in-loop-sent-clause-home : goal.send-requires-in-loop-sent-clause-home
@@ -59,7 +59,7 @@ loop-sent-preserved c =
     record {
       sent = subst (λ (l : List ℕ). HasSent start l c.send-in-loop-sent.new.driver) next (sent-more start c.loop-sent.driver c.send-in-loop-sent.new.driver is p i.sent c.in_ok-send-2.ensures.away c.in_ok-send-2.ensures.notes c.in_ok-send-2.ensures.tally);
       lanes = subst (λ (l : List ℕ). AreOf (IsSent c.args.start.now) l c.send-in-loop-sent.new.lanes.items) next (of-push (IsSent c.args.start.now) p is c.loop-sent.lanes.items c.send-in-loop-sent.new.lanes.items _ i.lanes
-          (record { low = omega arith; out = sent-out start c.loop-sent.driver lane.0 is p i.sent lane.1; task = (let w = c.requires.starts.few in omega arith) }) lane.2);
+          (record { low = omega arith; out = sent-out start c.loop-sent.driver lane.0 is p i.sent lane.1; bare = lane.2; task = (let w = c.requires.starts.few in omega arith) }) lane.3);
     }
 
 pub returns-clause-sent : goal.returns-clause-sent

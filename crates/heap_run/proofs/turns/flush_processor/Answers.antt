@@ -1,4 +1,4 @@
-use Rattle.std.proofs.Common.{◌∙◌, ◌++◌, ap}
+use Rattle.std.proofs.Common.{◌∙◌, ◌++◌, ap, inl}
 use Rattle.span_laws.specs.declared.view.View.{View}
 use Rattle.proc_cache.specs.Serves.{Serves}
 use Rattle.heap_run.specs.Turns.{HasActed, IsCaching, SaysNone}
@@ -36,6 +36,9 @@ bring_back-requires-clause-split g c = out-split c.args.shop.now.marks.now _ _ c
 
 pub bring_back-requires-clause-cycle : goal.bring_back-requires-clause-cycle
 bring_back-requires-clause-cycle g c = out-cycle c.args.shop.now.marks.now _ _ c.args.driver.now c.send_out.new.driver c.in_ok-hand.hand c.flush.new.hand c.in_ok-hand.ensures.hand c.in_ok-hand.ensures.tally (frees-counts c.args.shop.now.marks.now c.in_ok-hand.hand c.flush.new.hand c.in_ok-flush.ensures.tally)
+
+pub bring_back-requires-clause-settled : goal.bring_back-requires-clause-settled
+bring_back-requires-clause-settled g c = inl (c.in_ok-flush.ensures.flushes.1.leaves.caching ∙ c.in_ok-hand.ensures.caching)
 
 pub returns-clause-turn : goal.returns-clause-turn
 returns-clause-turn g c =

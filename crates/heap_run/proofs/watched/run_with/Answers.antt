@@ -1,4 +1,4 @@
-use Rattle.std.proofs.Common.{◌≡◌, ℕ, ◌<◌, Bool, List, [], length, Option, Some, sym, ◌∙◌, subst, arith}
+use Rattle.std.proofs.Common.{◌<◌, Bool, List, length, Option, sym, ◌∙◌, subst, arith}
 use Rattle.profile_cycle.specs.declared.counts.Count.{Count}
 use Rattle.cycle_history.specs.Sound.{HasForm}
 use Rattle.heap_run.specs.Watching.{HasShown}

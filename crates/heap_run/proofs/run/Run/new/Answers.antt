@@ -1,11 +1,11 @@
-use Rattle.std.proofs.Common.{refl, ap, ◌∙◌, arith}
-use Rattle.heap_run.proofs.Begins.{begun-first}
+use Rattle.std.proofs.Common.{ℕ, refl, ap, ◌∙◌, ◌*◌, arith}
+use Rattle.heap_run.proofs.Begins.{begun-first, first_seen}
 use Rattle.heap_run.proofs.run.Run.new.Goals as goal
 
 pub returns-clause-begun : goal.returns-clause-begun
 returns-clause-begun c =
     begun-first c.args.trace.now 70 136 _ refl (record {
-      worker = c.new-3.ensures.worker ∙ c.in_ok-shared.ensures;
+      worker = c.new-3.ensures.worker ∙ c.in_ok-shared.ensures ∙ ap (λ (k : ℕ). first_seen c.in_ok-shared.shared (512 * c.args.trace.now.header.chunks) c.args.trace.now.header.goal k 70) c.procs_of.ensures;
       notes = ap (λ n. n.items) c.new-3.ensures.notes;
       procs = (let a = c.in_ok-procs.ensures.length in omega (arith, c.in_ok-procs.procs.ok.0));
       empty = c.in_ok-procs.ensures.empty;

@@ -1,4 +1,4 @@
-use Rattle.std.proofs.Common.{ℕ, ◌-◌, ◌<◌, length, arith}
+use Rattle.std.proofs.Common.{◌-◌, ◌<◌, length, arith}
 use Rattle.heap_run.proofs.Running.{some-cycle}
 use Rattle.heap_run.proofs.Showing.{shown-on}
 use Rattle.heap_run.proofs.run.Run.run_and_show.Goals as goal
