@@ -13,6 +13,7 @@ from traces import made_trace  # noqa: E402
 
 PROGRAM = os.path.join(HERE, "..", "crates", "goheap", "out", "goheap")
 PROCS = (2, 3, 4, 8, 16, 64)
+VERSIONS = (1, 2)
 SECONDS = 60
 
 
@@ -95,7 +96,7 @@ def watched(runs, rng, places, everywhere):
     """Runs traces of many mark ends before 1 to 4 watchers. Whether all is as it should be."""
     sights = early = 0
     for number in range(runs):
-        trace = made_trace(rng, (1, 1, 2), PROCS, ends=rng.choice([1, 20, 100])).encode()
+        trace = made_trace(rng, (1, 1, 2), PROCS, ends=rng.choice([1, 20, 100]), version=rng.choice(VERSIONS)).encode()
         readers = 1 + number % 4
         found = ran(["watch", str(readers)], trace, places[number % 3])
         wrong = wrong_with(found)
@@ -119,12 +120,12 @@ def main():
     everywhere = sorted(os.sched_getaffinity(0))
     places = [everywhere[:1], everywhere[:2], everywhere]
     counts = {"o": 0, "j": 0, "s": 0}
-    misses = several = traces = 0
+    misses = several = traces = cuts = 0
     trace, words, before = b"", [], b""
     for number in range(runs):
         # Each trace is run twice, so that its reports can be compared.
         if number % 2 == 0:
-            trace = made_trace(rng, (1, 1, 2), PROCS).encode()
+            trace = made_trace(rng, (1, 1, 2), PROCS, version=rng.choice(VERSIONS)).encode()
             words = ["run", f"--background={rng.randrange(5)}"] + rng.choice([[], ["--each"]])
             traces += 1
         found = ran(words, trace, places[number // 2 % 3])
@@ -141,10 +142,11 @@ def main():
             if kind in counts:
                 counts[kind] += 1
             misses += line.startswith(b"o ") and b" miss " in line
+            cuts += line.startswith(b"j ") and b" cut " in line
         several += number % 2 == 1 and found.stdout != before
         before = found.stdout
     print(f"{runs} runs of {traces} traces, a third each on 1, on {min(2, len(everywhere))} and on {len(everywhere)} processors:")
-    print(f"{counts['o']} objects, {misses} of them missed, {counts['j']} lines of the journal, {counts['s']} sweeps")
+    print(f"{counts['o']} objects, {misses} of them missed, {counts['j']} lines of the journal, {cuts} of them cuts, {counts['s']} sweeps")
     print(f"each report is sound, no run hung or ended by a signal; {several} of the traces gave two reports in two runs")
     return 0 if watched(runs // 10, rng, places, everywhere) else 1
 

@@ -1,5 +1,5 @@
 #!/usr/bin/env bash
-# Runs goheap on made-up traces of 2 to 64 processors over mark ends, goals, rates and 0 to 4 background sweepers, in small regions, so
+# Runs goheap on made-up traces of both versions and of 2 to 64 processors over mark ends, goals, rates and 0 to 4 background sweepers, in small regions, so
 # that spans, sets and the heap lock are fought over; a third of the runs each on one, on two and on all processors of the machine. Each
 # report must be judged sound, and each run must end by itself within a minute. It prints how many runs there were, how many objects,
 # misses and lines of the journal, and on how many traces two runs gave two reports. A tenth as many runs more, on traces of up to 100 mark

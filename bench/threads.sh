@@ -7,6 +7,10 @@
 # answered and take nothing; what is left of a run without them is told too, and so are the instructions of a run, where `perf` counts
 # them or valgrind is there.
 #
+# Last, what page caches bring: on a trace of eight processors that need a new span of one page for each object, in version 2, where
+# processors have page caches, beside version 1: how often the heap lock is taken to write to the journal (a block is settled by one
+# holding, with all its cuts), and the time on all processors of the machine.
+#
 # OTHER names a second program to compare with, as one built before a change.
 set -eu
 
@@ -33,7 +37,25 @@ trace() {
   }'
 }
 
+# pages VERSION BYTES: eight processors, 400,000 objects of so many bytes, and four mark ends at which all of them die. Each object of 8192 bytes
+# has a span of its own, of one page.
+pages() {
+  awk -v version="$1" -v bytes="$2" 'BEGIN {
+    print "goheap " version
+    print "heap 256 procs 8 rate 0 seed 1 goal 131072"
+    for (i = 0; i < 400000; i++) {
+      if (i && i % 80000 == 0) print "gc 4194304"
+      print "a " i % 8 " " bytes " n 1"
+    }
+    print "end"
+  }'
+}
+
 trace 0 8 0 512 128 >"$folder/empty"
+for version in 1 2; do
+  pages $version 8192 >"$folder/pages.$version"
+done
+pages 1 0 >"$folder/pages.nothing"
 trace 1000000 8 10 512 128 >"$folder/eight"
 trace 1000000 8 10 0 128 >"$folder/eight.nothing"
 trace 40000 8 10000 512 1 >"$folder/cycles"
@@ -50,12 +72,18 @@ commands="one all${OTHER:+ other}"
 
 run_all empty # once, before anything is timed
 for ((round = 0; round < rounds; round++)); do
-  for kind in empty eight eight.nothing cycles cycles.nothing gofmt gofmt.nothing; do
+  for kind in empty eight eight.nothing cycles cycles.nothing gofmt gofmt.nothing pages.1 pages.2 pages.nothing; do
     for command in $commands; do
       time_of "$command" "$kind"
     done
   done
 done
+
+# writes KIND: how often a run takes the heap lock to write to the journal.
+writes() {
+  run_all "$1"
+  grep '^j ' "$folder/report" | grep -cv ' cut '
+}
 
 # The instructions of a run, or 0 where nothing counts them.
 instructions() {
@@ -84,6 +112,10 @@ for kind in eight gofmt cycles; do
       printf "%s: %d processors take %.2f of the time of one, %.2f without reading and writing\n", kind, all, many / one, (many - many0) / (one - one0)
     }'
 done
+awk -v plain="$(writes pages.1)" -v cached="$(writes pages.2)" -v one="$(seconds all pages.1)" -v two="$(seconds all pages.2)" -v none="$(seconds all pages.nothing)" 'BEGIN {
+  printf "a span of a page for each object: the lock is taken %d times in version 1 and %d times in version 2, %.3f as often\n", plain, cached, cached / plain
+  printf "version 1 takes %.3f s and version 2 %.3f s, %.2f of that, and %.2f without reading and writing\n", one, two, two / one, (two - none) / (one - none)
+}'
 for name in program OTHER; do
   [ -n "${!name-}" ] || continue
   awk -v name=$name -v eight="$(instructions eight "${!name}")" -v empty="$(instructions empty "${!name}")" 'BEGIN {

@@ -26,16 +26,16 @@ def mark_lines(marked):
     return [f"m {low} {high}" for low, high in lines]
 
 
-def made_trace(rng, chunk_counts=(1, 1, 1, 2, 3), proc_counts=(1, 1, 2, 3, 4, 64), alone=False, ends=None):
+def made_trace(rng, chunk_counts=(1, 1, 1, 2, 3), proc_counts=(1, 1, 2, 3, 4, 64), alone=False, ends=None, version=1):
     """A trace with a number of chunks and of processors out of these, and with so many mark ends, or 1 to 7. Where each is to work
-    alone, the events of a cycle are of one processor, and the goal is the whole region."""
+    alone, the events of a cycle are of one processor, and the goal is the whole region. In version 2 processors have page caches."""
     chunks = rng.choice(chunk_counts)
     procs = rng.choice(proc_counts)
     goal = rng.choice([512 * chunks, 512 * chunks, 0, rng.randrange(512 * chunks + 1)])
     if alone:
         goal = 512 * chunks
     rate, seed = rng.choice(RATES), rng.choice([0, 1, rng.randrange(2**64)])
-    lines = ["goheap 1", f"heap {chunks} procs {procs} rate {rate} seed {seed} goal {goal}"]
+    lines = [f"goheap {version}", f"heap {chunks} procs {procs} rate {rate} seed {seed} goal {goal}"]
     common = [rng.choice(SIZES) for _ in range(rng.randrange(1, 4))]
     count, alive = 0, set()
     for _ in range(rng.randrange(1, 8) if ends is None else ends):
