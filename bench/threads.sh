@@ -37,14 +37,14 @@ trace() {
   }'
 }
 
-# pages VERSION BYTES: eight processors, 400,000 objects of so many bytes, and four mark ends at which all of them die. Each object of 8192 bytes
+# pages VERSION BYTES: eight processors, 400,000 objects of so many bytes, and a mark end behind each 30,000, at which all of them die. Each object of 8192 bytes
 # has a span of its own, of one page.
 pages() {
   awk -v version="$1" -v bytes="$2" 'BEGIN {
     print "goheap " version
-    print "heap 256 procs 8 rate 0 seed 1 goal 131072"
+    print "heap 128 procs 8 rate 0 seed 1 goal 65536"
     for (i = 0; i < 400000; i++) {
-      if (i && i % 80000 == 0) print "gc 4194304"
+      if (i && i % 30000 == 0) print "gc 4194304"
       print "a " i % 8 " " bytes " n 1"
     }
     print "end"
