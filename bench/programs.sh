@@ -1,7 +1,7 @@
 #!/usr/bin/env bash
-# What the README and docs/recording.md say of goheap beside real Go programs. It builds gofmt from Go's own sources, records a run over go/printer on
-# one processor and one on four, and prints what recorder/compare counts: objects, those in the very slot, and at each mark end the spans of the program
-# and of the model. And it records examples/programs/import, and prints its last words on its heap, what `go tool pprof` finds live, and what
+# What the README and docs/recording.md say of goheap beside real Go programs. It builds gofmt from Go's own sources, logs a run over go/printer on
+# one processor and one on four, makes traces of the versions 1 to 3 of each log, and one more of version 3 in which tiny objects have their own sizes,
+# and prints what recorder/compare counts: objects, those in the very slot, and at each mark end the spans of the program and of the model. And it records examples/programs/import, and prints its last words on its heap, what `go tool pprof` finds live, and what
 # recorder/pins says of its spans and of the function that pins most. On four processors, and of free pages, the figures differ from run to run. Needs a Go of
 # 1.19 to 1.21 (GO names it; default: go).
 set -eu
@@ -17,12 +17,17 @@ trap 'rm -rf "$folder"' EXIT
 (cd "$sources/cmd/gofmt" && "$go" build -o "$folder/gofmt" .)
 for processors in 1 4; do
   GOMAXPROCS=$processors GOGC=20 GODEBUG=allocfreetrace=1 "$folder/gofmt" -l "$sources/go/printer" 2>"$folder/log" >/dev/null
-  recorder/record "$folder/log" --program "$folder/gofmt" --stacks "$folder/stacks" --trim "$sources/" --output "$folder/trace"
-  ./goheap run <"$folder/trace" >"$folder/report"
-  recorder/compare "$folder/log" "$folder/trace" "$folder/report" | awk -v name="gofmt on $processors processor(s)" '
-    $1 == "objects" || /^same slot/ { what = $0; sub(/ +[0-9]+ .*/, "", what); value = substr($0, length(what) + 1); sub(/^ +/, "", value); print name ", " what ": " value }
-    ends && NF == 6 { print name ", mark end " $1 ", spans of the program / of the model / slot sizes with as many / of: " $2 " / " $3 " / " $4 " / " $6 }
-    $1 == "mark" { ends = 1 }'
+  for form in "1" "2" "3" "3 --no-tiny-blocks"; do
+    # shellcheck disable=SC2086 # the words are several
+    recorder/record "$folder/log" --version $form --program "$folder/gofmt" --stacks "$folder/stacks" --trim "$sources/" --output "$folder/trace"
+    ./goheap run <"$folder/trace" >"$folder/report"
+    recorder/compare "$folder/log" "$folder/trace" "$folder/report" | awk -v name="gofmt on $processors processor(s), version $form" '
+      $1 == "objects" || /^same slot/ || /^tiny, in/ {
+        what = $0; sub(/ +[0-9]+ .*/, "", what); value = substr($0, length(what) + 1); sub(/^ +/, "", value); print name ", " what ": " value
+      }
+      ends && NF == 6 { print name ", mark end " $1 ", spans of the program / of the model / slot sizes with as many / of: " $2 " / " $3 " / " $4 " / " $6 }
+      $1 == "mark" { ends = 1 }'
+  done
 done
 
 own=$top/examples/programs/import

@@ -8,12 +8,13 @@ import tempfile
 HERE = os.path.dirname(os.path.abspath(__file__))
 sys.path.insert(0, os.path.join(HERE, "..", "model"))
 
-from run import CLASSES, Sampler, profile_at  # noqa: E402
+from run import CLASSES, TINY, Sampler, Tiny, profile_at  # noqa: E402
 from traces import made_trace  # noqa: E402
 
 PROGRAM = os.path.join(HERE, "..", "crates", "goheap", "out", "goheap")
 PROCS = (2, 3, 4, 8, 16, 64)
-VERSIONS = (1, 2)
+VERSIONS = (1, 2, 3)
+SHARING = 3  # the first version in which tiny objects share blocks
 SECONDS = 60
 
 
@@ -51,31 +52,57 @@ def slot_of(size):
     return next((slot for slot, _ in CLASSES[1:] if size <= slot), -(-size // 8192) * 8192)
 
 
-def sums_of(trace, answers):
-    """The allocations and the frees of all buckets as of each mark end, from number 0 on, where nothing is published yet: by the trace and
-    the printed answers alone."""
-    lines = trace.decode().split("\n")
-    head = lines[1].split()
-    samplers = [Sampler(int(head[5]), int(head[7]), proc) for proc in range(int(head[3]))]
-    sampled, cycles, marked = {}, [], [set()]
-    for line in lines[2:]:
-        words = line.split()
-        if words[:1] == ["a"]:
-            proc, size, stack = int(words[1]), int(words[2]), int(words[4])
-            if answers[len(cycles)].startswith(b"0x") and samplers[proc].sample(slot_of(size)):
-                sampled[len(cycles)] = (stack, slot_of(size))
-            cycles.append(len(marked) - 1)
-        elif words[:1] == ["gc"]:
-            marked.append(set())
-        elif words[:1] == ["m"]:
-            marked[-1].update(range(int(words[1]), int(words[2]) + 1))
-    profiles = [profile_at(m, sampled, cycles, ids).values() for m, ids in enumerate(marked)]
-    return [(sum(a for a, _ in profile), sum(f for _, f in profile)) for profile in profiles]
+class Run:
+    """What a trace and the printed answers tell: the objects that are sampled, the cycle of each object, and whom each mark end marks. In
+    version 3 a tiny object that rides in the block of another counts as that one."""
+
+    def __init__(self, trace, answers):
+        lines = trace.decode().split("\n")
+        head = lines[1].split()
+        self.is_sharing = int(lines[0].split()[1]) >= SHARING
+        self.samplers = [Sampler(int(head[5]), int(head[7]), proc) for proc in range(int(head[3]))]
+        self.tiny = [Tiny() for _ in self.samplers]
+        self.leads, self.sampled, self.cycles, self.marked = [], {}, [], [set()]
+        for line in lines[2:]:
+            words = line.split()
+            if words[:1] == ["a"]:
+                self.take(int(words[1]), int(words[2]), words[3] == "s", int(words[4]), answers[len(self.leads)])
+            elif words[:1] == ["gc"]:
+                self.marked.append(set())
+                self.tiny = [Tiny() for _ in self.samplers]
+            elif words[:1] == ["m"]:
+                self.marked[-1].update(self.leads[one] for one in range(int(words[1]), int(words[2]) + 1))
+
+    def take(self, proc, size, has_pointers, stack, answer):
+        one, tiny = len(self.leads), self.tiny[proc]
+        is_tiny = self.is_sharing and 0 < size < TINY and not has_pointers
+        is_rider = is_tiny and tiny.ride(size) is not None
+        self.leads.append(tiny.lead if is_rider else one)
+        self.cycles.append(len(self.marked) - 1)
+        if is_rider or not answer.startswith(b"0x"):
+            return
+        if is_tiny:
+            tiny.led(one, int(answer, 16), size)
+        slot = slot_of(TINY if is_tiny else size)
+        if self.samplers[proc].sample(slot):
+            self.sampled[one] = (stack, slot)
+
+    def sums(self):
+        """The allocations and the frees of all buckets as of each mark end, from number 0 on, where nothing is published yet."""
+        profiles = [profile_at(m, self.sampled, self.cycles, ids).values() for m, ids in enumerate(self.marked)]
+        return [(sum(a for a, _ in profile), sum(f for _, f in profile)) for profile in profiles]
+
+    def riders(self):
+        return sum(one != lead for one, lead in enumerate(self.leads))
+
+
+def run_of(trace, report):
+    return Run(trace, [line.split()[2] for line in report.split(b"\n") if line.startswith(b"o ")])
 
 
 def wrong_lines(trace, report, lines, readers):
     """What is wrong with the lines of what watchers saw, if anything is."""
-    sums = sums_of(trace, [line.split()[2] for line in report.split(b"\n") if line.startswith(b"o ")])
+    sums = run_of(trace, report).sums()
     seen = [[] for _ in range(readers)]
     last = 0
     for line in lines.decode().split("\n")[:-1]:
@@ -120,7 +147,7 @@ def main():
     everywhere = sorted(os.sched_getaffinity(0))
     places = [everywhere[:1], everywhere[:2], everywhere]
     counts = {"o": 0, "j": 0, "s": 0}
-    misses = several = traces = cuts = 0
+    misses = several = traces = cuts = riders = 0
     trace, words, before = b"", [], b""
     for number in range(runs):
         # Each trace is run twice, so that its reports can be compared.
@@ -143,10 +170,11 @@ def main():
                 counts[kind] += 1
             misses += line.startswith(b"o ") and b" miss " in line
             cuts += line.startswith(b"j ") and b" cut " in line
+        riders += run_of(trace, found.stdout).riders()
         several += number % 2 == 1 and found.stdout != before
         before = found.stdout
     print(f"{runs} runs of {traces} traces, a third each on 1, on {min(2, len(everywhere))} and on {len(everywhere)} processors:")
-    print(f"{counts['o']} objects, {misses} of them missed, {counts['j']} lines of the journal, {cuts} of them cuts, {counts['s']} sweeps")
+    print(f"{counts['o']} objects, {misses} of them missed and {riders} in the blocks of others, {counts['j']} lines of the journal, {cuts} of them cuts, {counts['s']} sweeps")
     print(f"each report is sound, no run hung or ended by a signal; {several} of the traces gave two reports in two runs")
     return 0 if watched(runs // 10, rng, places, everywhere) else 1
 

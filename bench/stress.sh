@@ -1,10 +1,10 @@
 #!/usr/bin/env bash
-# Runs goheap on made-up traces of both versions and of 2 to 64 processors over mark ends, goals, rates and 0 to 4 background sweepers, in small regions, so
-# that spans, sets and the heap lock are fought over; a third of the runs each on one, on two and on all processors of the machine. Each
-# report must be judged sound, and each run must end by itself within a minute. It prints how many runs there were, how many objects,
-# misses and lines of the journal, and on how many traces two runs gave two reports. A tenth as many runs more, on traces of up to 100 mark
-# ends, stand before 1 to 4 watchers: each line of what they saw must have the sums that the trace and the printed answers have as of its mark
-# end, counted apart, and each watcher's lines must rise to the last mark end.
+# Runs goheap on made-up traces of the versions 1 to 3 and of 2 to 64 processors over mark ends, goals, rates and 0 to 4 background sweepers, many of
+# them with many tiny objects, in small regions, so that spans, sets and the heap lock are fought over; a third of the runs each on one, on two and on
+# all processors of the machine. Each report must be judged sound, and each run must end by itself within a minute. It prints how many runs there were,
+# how many objects, how many of them were missed or stand in the blocks of others, how many lines of the journal, and on how many traces two runs gave
+# two reports. A tenth as many runs more, on traces of up to 100 mark ends, stand before 1 to 4 watchers: each line of what they saw must have the sums
+# that the trace and the printed answers have as of its mark end, counted apart, and each watcher's lines must rise to the last mark end.
 #
 # Then a run whose address space is limited, in steps of 3 MB, must end with status 0 or 7 wherever the program starts at all, and so
 # must one whose user may start no thread.

@@ -3,7 +3,7 @@
 # sweepers it compares the two, where one worker has each cycle to itself, so that every schedule gives the same report; with `--each`
 # it compares with the report that ends in `.each`, where there is one. A report that ends in `.cached` is one of a heap with page caches:
 # it must be sound, whole and in pieces, and refused where the trace is of version 1. A report with exchanged addresses must be refused,
-# and so must three that are no sound report of the smallest trace. Words that read nothing print the file of their name that ends in `.lines`, the
+# and so must three that are no sound report of the smallest trace, and two of objects that share blocks. Words that read nothing print the file of their name that ends in `.lines`, the
 # same at each run and within a minute. Each line of what a watcher sees must be one of the file that ends in `.watched`, and the last one its last:
 # which others there are is up to who comes first. Of the recorded trace of a real program it compares the totals.
 set -u
@@ -86,6 +86,9 @@ refused() {
 refused one-object.trace $'j 0 0 take 0 1 6\no 0 0xc000000000\nt 3 1 0\nend\n' 'report line 2: malformed'
 refused one-object.trace '' 'report line 1: ends early'
 refused one-object.trace $'o 0 0xc000000000\nj 0 0 take 0 1 6\nend\n' 'report line 3: rule 8'
+# What shares a block keeps it, and stands apart in it.
+refused shared-blocks.trace "$(sed 's/^s 1 0 2 1$/s 1 0 0 3/' shared-blocks.report)"$'\n' 'report line 12: rule 7'
+refused shared-blocks.trace "$(sed 's/^o 1 .*/o 1 0xc000000000/' shared-blocks.report)"$'\n' 'report line 2: rule 10'
 unpacked() { python3 -c 'import lzma, shutil, sys; shutil.copyfileobj(lzma.open(sys.argv[1]), sys.stdout.buffer)' "$1"; }
 for packed in real/*.trace.xz; do
   if ! diff <(unpacked "$packed" | ../goheap run | grep '^t ') "${packed%.trace.xz}.totals" >/dev/null; then

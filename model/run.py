@@ -2,8 +2,9 @@
 """A plain model of `goheap run`, with its workers one after another: the processors, the background sweepers, the scavenger, the driver.
 Its options are those of `goheap run` that are one word: `--each` and `--background=N` (1 if it is not said).
 
-It follows the rules that docs/addresses.md, docs/run.md, docs/central-lists.md, docs/sweeping.md, docs/pages.md and docs/profile.md
-state, and shares no code with the program. It reads a trace from standard input and writes its report. It checks nothing of the trace,
+It runs traces of the versions 1, 2 (with page caches) and 3 (with tiny objects too). It follows the rules that docs/addresses.md,
+docs/run.md, docs/central-lists.md, docs/sweeping.md, docs/pages.md, docs/tiny-objects.md and docs/profile.md state, and shares no code
+with the program. It reads a trace from standard input and writes its report. It checks nothing of the trace,
 searches pages one by one, and is meant to be read beside the rules and to be compared with the program (`model/test`), not to be used.
 
 The lines of the profile are those of a ring, as the program has one; that they are also what the trace and the sampled objects say as of
@@ -13,6 +14,10 @@ import sys
 from collections import Counter, deque
 
 BASE, PAGE, CHUNK = 0xC000000000, 8192, 512
+# The pages of a block of a page cache, and those that a span has at least that is cut out of none.
+BLOCK, UNCUT = 64, 16
+# The bytes that tiny objects share.
+TINY = 16
 
 
 def load_classes():
@@ -94,12 +99,50 @@ class Ring:
         return {b: (n, self.published_frees[b]) for b, n in self.published_allocs.items()}
 
 
+class Block:
+    """What is out of the free pages for one processor: its first page, the pages that are left, and the spans that were cut."""
+
+    def __init__(self, page, left):
+        self.page, self.left, self.cuts = page, left, []
+
+    def find(self, n):
+        """The first run of so many pages that are left."""
+        return next((p for p in self.left if all(p + i in self.left for i in range(n))), None)
+
+
+class Tiny:
+    """The block of 16 bytes that the next tiny objects of one processor may share: its lead, its address and the bytes that are used."""
+
+    def __init__(self):
+        self.lead = self.start = self.offset = None
+
+    def ride(self, size):
+        """The address of a rider of this size, where there is room."""
+        if self.lead is None:
+            return None
+        step = next(step for step in (8, 4, 2, 1) if size % step == 0)
+        offset = -(-self.offset // step) * step
+        if offset + size > TINY:
+            return None
+        self.offset = offset + size
+        return self.start + offset
+
+    def led(self, lead, start, size):
+        """A lead of this size was placed there."""
+        if self.lead is None or size < self.offset:
+            self.lead, self.start, self.offset = lead, start, size
+
+
 class Span:
     __slots__ = ("page", "pages", "cls", "slot", "count", "bits", "next", "word", "samples")
 
 
 class Heap:
-    def __init__(self, chunks, goal, procs, rate, seed):
+    def __init__(self, version, chunks, goal, procs, rate, seed):
+        self.has_page_caches = version > 1
+        # the block that is out: the processors work one after another, so there is one at most
+        self.block = None
+        self.tiny = [Tiny() for _ in range(procs)] if version > 2 else None
         self.pages, self.goal = chunks * CHUNK, goal
         self.owner = [None] * self.pages
         self.unscav = [False] * self.pages
@@ -135,6 +178,10 @@ class Heap:
             at = self.find(n)
         if at is None:
             return None
+        self.lines.append((self.cycle, f"take {at} {n} {cls}"))
+        return self.made(at, n, cls)
+
+    def made(self, at, n, cls):
         s = Span()
         s.page, s.pages, s.cls, s.next, s.word = at, n, cls, 0, "held"
         if cls < 2:
@@ -145,14 +192,17 @@ class Heap:
         s.bits = [False] * s.count
         # the bucket of each sampled object, by its index
         s.samples = {}
-        for p in range(at, at + n):
-            self.owner[p] = s
+        self.own(range(at, at + n), s)
+        self.spans[at] = s
+        return s
+
+    def own(self, pages, owner):
+        """These pages are not free any more, and backed."""
+        for p in pages:
+            self.owner[p] = owner
             if not self.unscav[p]:
                 self.unscav[p] = True
                 self.backed += 1
-        self.spans[at] = s
-        self.lines.append((self.cycle, f"take {at} {n} {cls}"))
-        return s
 
     def give(self, s):
         for p in range(s.page, s.page + s.pages):
@@ -173,6 +223,43 @@ class Heap:
                 self.unscav[p] = False
             self.backed -= top - low + 1
             self.lines.append((self.cycle, f"scav {low} {top - low + 1}"))
+
+    # -- page caches
+    def pull(self, proc):
+        """The free pages of the block of the least free page go to the processor."""
+        at = self.find(1)
+        if at is None:
+            return
+        first = at // BLOCK * BLOCK
+        left = [p for p in range(first, first + BLOCK) if self.owner[p] is None]
+        self.block = Block(first, left)
+        self.own(left, self.block)
+        self.lines.append((self.cycle, f"pull {proc} {first} {len(left)}"))
+
+    def cut(self, proc, n, cls):
+        """A span out of the processor's block, which is pulled where there is none, or nothing is left of it."""
+        if n >= UNCUT or proc is None:
+            return None
+        if self.block is None or not self.block.left:
+            self.drop(proc)
+            self.pull(proc)
+        at = self.block and self.block.find(n)
+        if at is None:
+            return None
+        self.block.left = [p for p in self.block.left if not at <= p < at + n]
+        self.block.cuts.append((at, n, cls))
+        return self.made(at, n, cls)
+
+    def drop(self, proc):
+        """What is left of the block goes back, behind the lines of its cuts."""
+        if self.block is None:
+            return
+        for at, n, cls in self.block.cuts:
+            self.lines.append((self.cycle, f"cut {proc} {at} {n} {cls}"))
+        for p in self.block.left:
+            self.owner[p] = None
+        self.lines.append((self.cycle, f"drop {proc} {self.block.page} {len(self.block.left)}"))
+        self.block = None
 
     # -- sets
     def push(self, s, full):
@@ -234,11 +321,13 @@ class Heap:
                 if s and s.word == "unswept" and not self.marks.get(p):
                     given += self.settle(s)
 
-    def new_span(self, n, cls):
+    def new_span(self, p, n, cls):
+        proc = p if self.has_page_caches else None
         self.reclaim(n)
-        s = self.take(n, cls)
+        s = self.cut(proc, n, cls) or self.take(n, cls)
         if s is None:
             self.sweep_all()
+            self.drop(proc)
             s = self.take(n, cls)
         if s is None:
             self.lines.append((self.cycle, f"miss {n} {cls}"))
@@ -292,6 +381,19 @@ class Heap:
         self.ring.allocated((stack, s.slot))
         return True
 
+    def answer(self, i, p, size, scan):
+        """What becomes of object i; of a rider the lead and the address."""
+        tiny = self.tiny[p] if self.tiny and 0 < size < TINY and not scan else None
+        if not tiny:
+            return self.alloc(p, size, scan)
+        at = tiny.ride(size)
+        if at is not None:
+            return ("rides", tiny.lead, None, at)
+        got = self.alloc(p, TINY, scan)
+        if got[0] == "at":
+            tiny.led(i, got[3], size)
+        return got
+
     def alloc(self, p, size, scan):
         if size == 0:
             return ("zero",)
@@ -300,7 +402,7 @@ class Heap:
             n = -(-size // PAGE)
             cls = 0 if scan else 1
             self.pay(n * PAGE, n)
-            s = self.new_span(n, cls)
+            s = self.new_span(p, n, cls)
             if isinstance(s, int):
                 return ("miss", s)
             self.spent += n * PAGE
@@ -320,7 +422,7 @@ class Heap:
         self.pay(n * PAGE, 0)
         s = self.cache_span(cls)
         if s is None:
-            s = self.new_span(n, cls)
+            s = self.new_span(p, n, cls)
             if isinstance(s, int):
                 return ("miss", s)
         self.spent += n * PAGE
@@ -348,6 +450,7 @@ class Heap:
         for s in self.spans.values():
             s.word = "stale" if s.word == "cached" else "unswept"
         self.flushed = [False] * len(self.cache)
+        self.tiny = self.tiny and [Tiny() for _ in self.tiny]
         self.swept_pages = self.spent = self.chunk = 0
         self.cycle += 1
         self.ring.next_cycle()
@@ -385,7 +488,7 @@ def main():
     lines = sys.stdin.read().split("\n")
     head = lines[1].split()
     chunks, procs, rate, seed, goal = (int(head[i]) for i in (1, 3, 5, 7, 9))
-    heap = Heap(chunks, goal, procs, rate, seed)
+    heap = Heap(int(lines[0].split()[1]), chunks, goal, procs, rate, seed)
     live = set()
     # the bucket of each sampled object, the objects that each mark end marks, and the profile as of each
     sampled, marked_by, profiles = {}, [], []
@@ -398,10 +501,11 @@ def main():
     def run_cycle():
         for p in range(procs):
             for (i, size, scan, stack) in queues[p]:
-                out[i] = heap.alloc(p, size, scan)
+                out[i] = heap.answer(i, p, size, scan)
                 if out[i][0] == "at" and heap.sample(p, stack, out[i]):
                     sampled[i] = (stack, out[i][1].slot)
             queues[p].clear()
+            heap.drop(p)
         heap.end_cycle(background)
 
     while True:
@@ -420,7 +524,8 @@ def main():
             marked, marks = set(), {}
             while lines[at].startswith("m "):
                 _, lo, hi = lines[at].split()
-                marked.update(range(int(lo), int(hi) + 1))
+                # what rides keeps its lead
+                marked.update(out[i][1] if out[i][0] == "rides" else i for i in range(int(lo), int(hi) + 1))
                 at += 1
             live = {i for i in marked if out[i][0] == "at"}
             for i in live:
@@ -441,6 +546,8 @@ def main():
             w(f"o {i} miss {a[1]}\n")
         else:
             w(f"o {i} {a[3]:#x}\n")
+            if a[0] == "rides":
+                continue
             t = totals.setdefault(a[1].cls // 2, [0, 0])
             t[0] += 1
             if cyc[i] != heap.cycle and i not in live:

@@ -4,6 +4,18 @@ SIZES = [8, 16, 24, 48, 512, 1024, 2048, 3072, 4096, 9000, 30000, 32768]
 LARGE = [32769, 40000, 100000, 1000000, 5000000]
 DISTANCES = [1, 1048577, 1100000, 2000000, 10000000, 1 << 40]
 RATES = [0, 1, 100, 4096, 524288]
+# How many of a trace's objects have at most 16 bytes, most of them without pointers: less than that many are tiny.
+SHARES = [0.0, 0.3, 0.9]
+TINY = 16
+# How many tiny objects come where a page is left for them.
+TIGHT = 700
+
+
+def object_of(rng, common, tiny):
+    """The size of an object, and whether it has pointers."""
+    if rng.random() < tiny:
+        return rng.randrange(1, TINY + 1), rng.choice("nnns")
+    return size_of(rng, common), rng.choice("sn")
 
 
 def size_of(rng, common):
@@ -28,7 +40,8 @@ def mark_lines(marked):
 
 def made_trace(rng, chunk_counts=(1, 1, 1, 2, 3), proc_counts=(1, 1, 2, 3, 4, 64), alone=False, ends=None, version=1):
     """A trace with a number of chunks and of processors out of these, and with so many mark ends, or 1 to 7. Where each is to work
-    alone, the events of a cycle are of one processor, and the goal is the whole region. In version 2 processors have page caches."""
+    alone, the events of a cycle are of one processor, and the goal is the whole region. In version 2 processors have page caches, and in
+    version 3 tiny objects share blocks too."""
     chunks = rng.choice(chunk_counts)
     procs = rng.choice(proc_counts)
     goal = rng.choice([512 * chunks, 512 * chunks, 0, rng.randrange(512 * chunks + 1)])
@@ -37,26 +50,38 @@ def made_trace(rng, chunk_counts=(1, 1, 1, 2, 3), proc_counts=(1, 1, 2, 3, 4, 64
     rate, seed = rng.choice(RATES), rng.choice([0, 1, rng.randrange(2**64)])
     lines = [f"goheap {version}", f"heap {chunks} procs {procs} rate {rate} seed {seed} goal {goal}"]
     common = [rng.choice(SIZES) for _ in range(rng.randrange(1, 4))]
+    tiny = rng.choice(SHARES)
     count, alive = 0, set()
-    for _ in range(rng.randrange(1, 8) if ends is None else ends):
+    for at in range(rng.randrange(1, 8) if ends is None else ends):
         fresh = rng.choice([0, 1, 5, 40, 300])
-        lines += events(rng, procs, common, fresh, alone)
+        fresh_lines = events(rng, procs, common, tiny, fresh, alone)
+        if at == 0 and rng.random() < 0.1:
+            # one page is left, and no room on it for so many tiny objects
+            fresh, fresh_lines = TIGHT, tight(rng, procs, 512 * chunks - 1, alone)
+        lines += fresh_lines
         share = rng.choice([0.0, 0.2, 0.5, 0.9, 1.0])
         alive = {one for one in alive | set(range(count, count + fresh)) if rng.random() < share}
         count += fresh
         lines.append(f"gc {rng.choice(DISTANCES)}")
         lines += mark_lines(alive)
-    lines += events(rng, procs, common, rng.choice([0, 3, 100]), alone)
+    lines += events(rng, procs, common, tiny, rng.choice([0, 3, 100]), alone)
     return "\n".join(lines + ["end", ""])
 
 
-def events(rng, procs, common, count, alone):
+def events(rng, procs, common, tiny, count, alone):
     """The `a` lines of a cycle: of one processor, or of any."""
+    one, lines = rng.randrange(procs), []
+    for _ in range(count):
+        size, kind = object_of(rng, common, tiny)
+        lines.append(f"a {one if alone else rng.randrange(procs)} {size} {kind} {rng.randrange(10)}")
+    return lines
+
+
+def tight(rng, procs, pages, alone):
+    """A large object of so many pages and behind it objects of 9 to 16 bytes without pointers, few of which share a block."""
     one = rng.randrange(procs)
-    return [
-        f"a {one if alone else rng.randrange(procs)} {size_of(rng, common)} {rng.choice('sn')} {rng.randrange(10)}"
-        for _ in range(count)
-    ]
+    rest = [f"a {one if alone else rng.randrange(procs)} {rng.randrange(9, 17)} n {rng.randrange(10)}" for _ in range(TIGHT - 2)]
+    return [f"a {one} {8192 * pages} n 0", *rest, f"a {one} 1 n 0"]
 
 
 def is_of_one_worker(trace, background):

@@ -7,13 +7,13 @@ from typing import NamedTuple
 
 from classes import PAGE, PAGES, SLOTS
 from frames import shown_frames
-from report import Give, Miss, Scav, Take
+from report import BLOCK, BLOCK_LINES, MAKING_LINES, Give, Miss, Pull, Scav, Sweep, end_of
 from tool import Unusable
 
 BASE = 0xC000000000
 
 # What a page can be, with its colour and what the legend says.
-UNTOUCHED, FREE, RELEASED, SMALL, SMALL_PLAIN, LARGE, LARGE_PLAIN = range(7)
+UNTOUCHED, FREE, RELEASED, SMALL, SMALL_PLAIN, LARGE, LARGE_PLAIN, CACHED = range(8)
 KINDS = {
     UNTOUCHED: ("#ffffff", "never used"),
     FREE: ("#c9c9c9", "free, backed"),
@@ -22,7 +22,10 @@ KINDS = {
     SMALL_PLAIN: ("#7fb3e6", "span of small objects without pointers"),
     LARGE: ("#b3541e", "large object with pointers"),
     LARGE_PLAIN: ("#f0b070", "large object without pointers"),
+    CACHED: ("#e6d36a", "in a page cache"),
 }
+# Those of pages that no span and no page cache has.
+NOBODYS = (UNTOUCHED, FREE, RELEASED)
 RGB = [bytes.fromhex(KINDS[kind][0][1:]) for kind in sorted(KINDS)]
 MOST_PAGES, MOST_CYCLES = 2097152, 10000
 
@@ -86,16 +89,24 @@ class Pages:
             self.backed += pages
 
     def go_on(self, line):
-        if isinstance(line, Take):
+        if isinstance(line, MAKING_LINES):
             self.fill(line.page, line.pages, kind_of(line.span_class))
             self.spans[line.page] = line.pages, line.span_class
             self.in_spans += line.pages
+        elif isinstance(line, BLOCK_LINES):
+            self.move(line.page, *((NOBODYS, CACHED) if isinstance(line, Pull) else ((CACHED,), FREE)))
         elif isinstance(line, Give):
             self.fill(line.page, line.pages, FREE)
             if self.spans.pop(line.page, None):
                 self.in_spans -= line.pages
         elif isinstance(line, Scav):
             self.fill(line.page, line.pages, RELEASED)
+
+    def move(self, first, old, new):
+        """The pages of a block that are of one of these kinds are of another now."""
+        for page in range(first, first + BLOCK):
+            if self.kinds[page] in old:
+                self.fill(page, 1, new)
 
     def slot(self, page):
         """The bytes of an object of the span that begins at this page."""
@@ -108,7 +119,7 @@ def check(report):
     for line in itertools.chain(report.journal, report.sweeps):
         if line.cycle > MOST_CYCLES:
             raise Unusable(f"a report has at most {MOST_CYCLES} cycles, not {line.cycle}")
-        if not isinstance(line, Miss) and line.page + getattr(line, "pages", 1) > MOST_PAGES:
+        if not isinstance(line, Miss) and (line.page + 1 if isinstance(line, Sweep) else end_of(line)) > MOST_PAGES:
             raise Unusable(f"a region has {MOST_PAGES} pages at most, and no page {line.page}")
         if getattr(line, "span_class", 0) >= 2 * len(SLOTS):
             raise Unusable(f"there is no span class {line.span_class}")
@@ -118,7 +129,7 @@ def check(report):
 
 def top_page(journal):
     """The number of pages that the journal speaks of."""
-    return max((line.page + line.pages for line in journal if not isinstance(line, Miss)), default=1)
+    return max((end_of(line) for line in journal if not isinstance(line, Miss)), default=1)
 
 
 class Shades:
@@ -172,7 +183,7 @@ class Course:
 
     def live(self, line, column):
         """Spans begin and end in this column."""
-        if isinstance(line, Take):
+        if isinstance(line, MAKING_LINES):
             self.open[line.page] = line.page, line.pages, line.span_class, line.cycle, column
         elif isinstance(line, Give) and line.page in self.open:
             self.lives.append(Life(*self.open.pop(line.page), column))
@@ -210,7 +221,7 @@ class Course:
         for number in range(columns):
             begin, end = number * count // columns, (number + 1) * count // columns
             part = self.found_kinds[begin:end]
-            in_spans = len(part) - sum(part.count(kind) for kind in (UNTOUCHED, FREE, RELEASED))
+            in_spans = len(part) - sum(part.count(kind) for kind in (*NOBODYS, CACHED))
             yield in_spans / len(part), part.count(FREE) / len(part), sum(kept[begin:end]) / len(part)
 
 

@@ -1,9 +1,11 @@
 """A trace and a report of it, with what the rules ask about: needs, lives, seats, and the numbers of lines. `rules.py` has the rules."""
 
+from collections import defaultdict
 from typing import NamedTuple, Optional
 
 from classes import LARGEST, PAGE, PAGES, SLOTS
-from report import Give, Miss, Take
+from report import Cut, Drop, Give, Miss, Pull, Scav, Take
+from tiny import BLOCK, is_tiny, riders_of, size_in
 
 BASE = 0xC000000000
 
@@ -18,7 +20,7 @@ class Need(NamedTuple):
 
 
 class Life(NamedTuple):
-    """A span from its Take to its Give, by their journal lines."""
+    """A span from its Take or Cut to its Give, by their journal lines."""
 
     number: int
     page: int
@@ -49,13 +51,12 @@ def class_name(span_class):
     return f"objects of {SLOTS[span_class // 2]} bytes {pointers} (span class {span_class})" if span_class < 2 * len(SLOTS) else f"span class {span_class}, which there is not"
 
 
+WORDS = {Take: "take", Miss: "miss", Give: "give", Scav: "scav", Pull: "pull", Cut: "cut", Drop: "drop"}
+
+
 def line_text(line):
     """A journal line's words behind its number and cycle."""
-    if isinstance(line, Take):
-        return f"take {line.page} {line.pages} {line.span_class}"
-    if isinstance(line, Miss):
-        return f"miss {line.pages} {line.span_class}"
-    return f"{'give' if isinstance(line, Give) else 'scav'} {line.page} {line.pages}"
+    return " ".join([WORDS[type(line)], *map(str, line[1:])])
 
 
 def journal_text(number, line):
@@ -74,9 +75,18 @@ class Judged:
             for low, high in ranges:
                 for one in range(low, min(high + 1, len(self.lasts))):
                     self.lasts[one] = mark_end
-        self.lives = []  # in the order of their Take lines
+        self.take_riders()
+        self.lives = []  # in the order of their Take or Cut lines
         self.seats = []  # of each object: its life and index, or nothing
         self.places()
+
+    def take_riders(self):
+        """Takes in who rides, where each object has an answer. A lead lives as long as its block, in which something lives."""
+        self.own_lasts, self.riding = self.lasts[:], defaultdict(list)
+        self.riders = riders_of(self.trace, self.report.addresses) if len(self.report.addresses) == len(self.lasts) else {}
+        for one, rider in self.riders.items():
+            self.riding[rider.lead].append(one)
+            self.lasts[rider.lead] = max(self.lasts[rider.lead], self.lasts[one])
 
     # The numbers of lines.
 
@@ -99,31 +109,47 @@ class Judged:
 
     def need(self, one):
         event = self.trace.events[one]
-        key = event.size, event.has_pointers
+        key = size_in(self.trace.version, event.size, event.has_pointers), event.has_pointers
         if key not in self.needs:
             self.needs[key] = need_of(*key)
         return self.needs[key]
 
     def is_placed(self, one):
-        return bool(self.report.addresses[one])
+        """Whether the object has a slot of its own, which what rides has not."""
+        return bool(self.report.addresses[one]) and one not in self.riders
+
+    def is_lead(self, one):
+        event = self.trace.events[one]
+        return is_tiny(self.trace.version, event.size, event.has_pointers) and one not in self.riders
 
     def object_text(self, one):
         """What an object is, with where it came from."""
         event = self.trace.events[one]
         frames = self.frames.get(event.stack)
         stack = f"stack {event.stack}" + (f", {frames[0]}" if frames else "")
-        return f"Object {one} ({event.size} bytes {'with' if event.has_pointers else 'without'} pointers, of processor {event.proc}, {stack}) was allocated in cycle {event.cycle}"
+        lead = f", the lead of a block of {BLOCK} bytes" if self.is_lead(one) else ""
+        return f"Object {one} ({event.size} bytes {'with' if event.has_pointers else 'without'} pointers{lead}, of processor {event.proc}, {stack}) was allocated in cycle {event.cycle}"
 
     def address_text(self, one):
         return f"{self.report.addresses[one]:#x}"
 
     def life_text(self, life):
         given = "" if life.given is None else f" and given back in cycle {life.end} by {self.journal(life.given)}"
-        return f"the span at {pages_text(life.page, life.pages)}, for {class_name(life.span_class)}, taken in cycle {life.cycle} by {self.journal(life.number)}{given}"
+        made = "cut" if isinstance(self.report.journal[life.number], Cut) else "taken"
+        return f"the span at {pages_text(life.page, life.pages)}, for {class_name(life.span_class)}, {made} in cycle {life.cycle} by {self.journal(life.number)}{given}"
 
     def lifetime(self, one):
         begin, end = self.trace.events[one].cycle, self.lasts[one]
-        return f"lives in cycle {begin}" if begin == end else f"lives in the cycles {begin} to {end}"
+        lives = f"lives in cycle {begin}" if begin == end else f"lives in the cycles {begin} to {end}"
+        return lives if end == self.own_lasts[one] else f"{lives} for object {self.keeper(one, end)}, which rides in its block"
+
+    def keeper(self, lead, mark_end):
+        """An object in the lead's block that this mark end marks."""
+        return next(one for one in self.riding[lead] if self.own_lasts[one] >= mark_end)
+
+    def kept_text(self, one, mark_end):
+        """An object that a mark end keeps, with for whom where it does not mark it."""
+        return f"{one}" if self.own_lasts[one] >= mark_end else f"{one} for {self.keeper(one, mark_end)}"
 
     def seat_address(self, life, index):
         return BASE + life.page * PAGE + index * self.slot(life)

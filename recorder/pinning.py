@@ -1,206 +1,28 @@
 """Counts, at a mark end of a trace with its report, which spans are alive, how full they are and whose objects keep them.
 
-docs/recording.md says what each number is ("Why memory did not come back"). Both texts are read once, in blocks, into arrays: of an
-object its size, stack and address are kept, and nothing is made for each object alone.
+docs/recording.md says what each number is ("Why memory did not come back").
 """
 
-import contextlib
 import heapq
 import itertools
-import re
-import sys
 from array import array
 from collections import Counter
 
 import companions
 import tool
 from classes import PAGE, SLOTS, slot_of
+from columns import BASE, MISSED, Report, Trace
 from frames import name_of, shown_frames
+from report import BLOCK
 from tool import Unusable
 
-BASE = 0xC000000000  # the address of page 0
-BLOCK = 1 << 17  # bytes read at a time
 SOME = 1 << 14  # objects counted at a time
 MOST_PAGES = 2097152  # of the largest region
 STEPS = 8  # of the histogram of how full spans are
-NOWHERE, ZERO, MISSED = -1, 0, 1  # no span; in the place of an address: of size 0; not placed
+NOWHERE = -1  # no span
 
-# What a page can be: free with no memory behind it, free and backed, in a span.
-UNBACKED, FREE, TAKEN = b"-", b"f", b"x"
-
-# The form of a run of lines by its first letter, within the limits of the formats.
-TRACE_FORMS = {
-    "a": rb"(?:a [0-9]{1,2} [0-9]{1,13} [sn] [0-9]{1,6}\n)+",
-    "g": rb"gc [0-9]{1,13}\n",
-    "m": rb"(?:m [0-9]{1,6} [0-9]{1,6}\n)+",
-    "e": rb"end\n",
-}
-REPORT_FORMS = {
-    "o": rb"(?:o [0-9]{1,20} (?:0x[0-9a-f]{1,16}|zero|miss [0-9]{1,20})\n)+",
-    "j": rb"(?:j [0-9]{1,20} [0-9]{1,9} (?:take [0-9]{1,9} [0-9]{1,9} [0-9]{1,3}|(?:give|scav|miss) [0-9]{1,9} [0-9]{1,9})\n)+",
-    "s": rb"(?:s [0-9]{1,9} [0-9]{1,9} [0-9]{1,9} [0-9]{1,9}\n)+",
-    "t": rb"(?:t [0-9]{1,3} [0-9]{1,20} [0-9]{1,20}\n)+",
-    "p": rb"(?:p [0-9]{1,9} [0-9]{1,9} [0-9]{1,20} [0-9]{1,20} [0-9]{1,20}\n)+",
-    "e": rb"end\n",
-}
-HEADER = re.compile(rb"heap [0-9]{1,3} procs [0-9]{1,2} rate [0-9]{1,20} seed [0-9]{1,20} goal [0-9]{1,20}\n")
-MISS = re.compile(rb"miss [0-9]+")
-
-
-def is_kind(name, front, kind):
-    """Refuses a text that begins as one of another kind does."""
-    found = tool.kind_of(front.decode("latin-1"))
-    if found not in (None, kind):
-        raise Unusable(f"{name}: this is {found}, and no {kind[2:]}")
-
-
-def opened(path):
-    """The bytes of the file; - is standard input."""
-    return contextlib.nullcontext(tool.stream(sys.stdin, "standard input").buffer) if path == "-" else open(path, "rb")
-
-
-def blocks(file):
-    """What is left of the file in blocks of whole lines; the last may lack its line feed."""
-    rest = b""
-    while data := file.read(BLOCK):
-        cut = data.rfind(b"\n") + 1
-        if cut or len(rest) > BLOCK:
-            yield rest + data[:cut]
-            rest = b""
-        rest += data[cut:]
-    if rest:
-        yield rest
-
-
-def runs(file, name, line, kind, forms):
-    """The rest of a text up to its line `end` as runs of lines with one first letter: the letter, the lines, the first one's number."""
-    forms = {ord(letter): (letter, re.compile(form)) for letter, form in forms.items()}
-    ended = False
-    for block in blocks(file):
-        at = 0
-        while at < len(block):
-            if ended:
-                raise Unusable(f"{name}: line {line}: there are lines behind the end")
-            letter, form = forms.get(block[at], ("", None))
-            found = form and form.match(block, at)
-            if not found:
-                is_kind(name, block[:100] if line == 1 else b"", f"a {kind}")
-                tool.refuse_page_caches(name, line, block[at : at + 100].decode("latin-1"))
-                raise Unusable(f"{name}: line {line}: no line of a {kind}")
-            run = found.group()
-            yield letter, run, line
-            ended = letter == "e"
-            line += run.count(b"\n")
-            at = found.end()
-    if not ended:
-        raise Unusable(f"{name}: the {kind} has no end")
-
-
-class Trace:
-    """Of each object its size and stack; of each mark end how many objects stand before it and the ranges of those that it marks."""
-
-    def __init__(self, path):
-        self.name = tool.named(path)
-        self.sizes, self.stacks = array("Q"), array("I")
-        self.lows, self.highs = array("I"), array("I")
-        self.born, self.starts = array("I"), array("I")
-        with opened(path) as file:
-            front = file.readline(100)
-            is_kind(self.name, front, "a trace")
-            if front.decode("latin-1") not in [f"{line}\n" for line in tool.FIRST_LINES]:
-                raise Unusable(f"{self.name}: no trace: its first line is neither `{'` nor `'.join(tool.FIRST_LINES)}`")
-            if not HEADER.fullmatch(file.readline(200)):
-                raise Unusable(f"{self.name}: line 2: no second line of a trace")
-            for letter, run, line in runs(file, self.name, 3, "trace", TRACE_FORMS):
-                self.take(letter, run, line)
-        self.starts.append(len(self.lows))
-
-    def take(self, letter, run, line):
-        words = run.split()
-        if letter == "a":
-            self.sizes.extend(map(int, words[2::5]))
-            self.stacks.extend(map(int, words[4::5]))
-        elif letter == "g":
-            self.born.append(len(self.sizes))
-            self.starts.append(len(self.lows))
-        elif letter == "m":
-            if not self.born:
-                raise Unusable(f"{self.name}: line {line}: marks before the first mark end")
-            self.lows.extend(map(int, words[1::3]))
-            self.highs.extend(map(int, words[2::3]))
-
-    def mark_ends(self):
-        return len(self.born)
-
-    def marked(self, mark_end):
-        """The objects that this mark end marks, in rising order."""
-        some = slice(self.starts[mark_end - 1], self.starts[mark_end])
-        lows, highs = self.lows[some], self.highs[some]
-        last = -1
-        for low, high in zip(lows, highs):
-            if not last < low <= high < self.born[mark_end - 1]:
-                raise Unusable(f"{self.name}: mark end {mark_end} cannot mark the objects {low} to {high}")
-            last = high
-        return itertools.chain.from_iterable(map(range, lows, (high + 1 for high in highs)))
-
-
-class Report:
-    """The address of each object, the journal in columns, and the objects that `choose(report)`, a mark end, kept of each span."""
-
-    LETTERS = "ojstpe"
-
-    def __init__(self, path, choose):
-        self.name = tool.named(path)
-        self.addresses = array("Q")
-        self.cycles, self.what, self.pages, self.counts, self.classes = array("I"), bytearray(), array("I"), array("I"), array("H")
-        self.kept = {}  # by the span's first page
-        self.mark_end = None
-        before = 0
-        with opened(path) as file:
-            for letter, run, line in runs(file, self.name, 1, "report", REPORT_FORMS):
-                place = self.LETTERS.index(letter)
-                if place < before:
-                    raise Unusable(f"{self.name}: line {line}: no line of a report may stand here")
-                if before < 2 <= place:
-                    self.mark_end = choose(self)
-                before = place
-                self.take(letter, run, line)
-
-    def take(self, letter, run, line):
-        if letter == "o":
-            self.take_objects(run, line)
-        elif letter == "j":
-            self.take_journal(run, line)
-        elif letter == "s":
-            words = run.split()
-            cycles, wanted = words[1::5], b"%d" % self.mark_end
-            count = cycles.count(wanted)
-            if count:
-                at = cycles.index(wanted)
-                some = slice(at, at + count)
-                self.kept.update(zip(map(int, words[2::5][some]), map(int, words[3::5][some])))
-
-    def take_objects(self, run, line):
-        if b"m" in run or b"z" in run:
-            run = MISS.sub(b"%#x" % MISSED, run.replace(b"zero", b"%#x" % ZERO))
-        words = run.split()
-        numbers, first = list(map(int, words[1::3])), len(self.addresses)
-        if numbers != list(range(first, first + len(numbers))):
-            at = next(at for at, number in enumerate(numbers) if number != first + at)
-            raise Unusable(f"{self.name}: line {line + at}: this is not the line of object {first + at}")
-        self.addresses.extend(map(int, words[2::3], itertools.repeat(16)))
-
-    def take_journal(self, run, line):
-        for at, text in enumerate(run.splitlines()):
-            words = text.split()
-            if int(words[1]) != len(self.cycles):
-                raise Unusable(f"{self.name}: line {line + at}: this is not line {len(self.cycles)} of the journal")
-            self.cycles.append(int(words[2]))
-            self.what.append(words[3][0])
-            self.pages.append(int(words[4]))
-            self.counts.append(int(words[5]))
-            self.classes.append(int(words[6]) if len(words) > 6 else 0)
-
+# What a page can be: free with no memory behind it, free and backed, in a span, in a page cache.
+UNBACKED, FREE, TAKEN, CACHED = b"-", b"f", b"x", b"c"
 
 class Region:
     """The pages as the journal's lines come."""
@@ -218,18 +40,23 @@ class Region:
         while self.line < len(report.cycles) and report.cycles[self.line] < cycle:
             self.take(report.what[self.line], report.pages[self.line], report.counts[self.line])
             self.line += 1
+        if CACHED in self.pages:
+            self.refuse("a block of a page cache is out as a cycle ends")
 
     def take(self, what, page, count):
-        end = page + count
         if what == ord("m"):
             return
+        end = page + (BLOCK if what in b"pd" else count)
         if end > MOST_PAGES:
             self.refuse(f"a region has {MOST_PAGES} pages at most")
         if end > len(self.pages):
             self.pages.extend(UNBACKED * (end - len(self.pages)))
         part = self.pages[page:end]
-        if what == ord("t"):
-            if TAKEN in part or not count or self.report.classes[self.line] >= 2 * len(SLOTS):
+        if what in b"pd":
+            self.move(page, count, part, what == ord("p"))
+            return
+        if what in b"tc":
+            if TAKEN in part or part.count(CACHED) != (count if what == ord("c") else 0) or not count or self.report.classes[self.line] >= 2 * len(SLOTS):
                 self.refuse("no such span can be made here")
             self.backed += part.count(UNBACKED)
             self.spans[page] = self.line
@@ -241,7 +68,17 @@ class Region:
             if part.count(FREE) != count:
                 self.refuse("these pages are not free and backed")
             self.backed -= count
-        self.pages[page:end] = {ord("t"): TAKEN, ord("g"): FREE, ord("s"): UNBACKED}[what] * count
+        self.pages[page:end] = {ord("t"): TAKEN, ord("c"): TAKEN, ord("g"): FREE, ord("s"): UNBACKED}[what] * count
+
+    def move(self, page, count, part, is_pull):
+        """The free pages of a block go to a page cache, or those of it that are left there go back."""
+        if (len(part) - part.count(TAKEN) - part.count(CACHED) if is_pull else part.count(CACHED)) != count:
+            self.refuse("the block has not so many such pages")
+        if is_pull:
+            self.backed += part.count(UNBACKED)
+            self.pages[page : page + len(part)] = part.replace(UNBACKED, CACHED).replace(FREE, CACHED)
+        else:
+            self.pages[page : page + len(part)] = part.replace(CACHED, FREE)
 
     def refuse(self, why):
         raise Unusable(f"{self.report.name}: line {len(self.report.addresses) + self.line + 1}: {why}")
@@ -266,10 +103,25 @@ class Class:
         self.steps = [0] * STEPS
 
 
+class Filled:
+    """How many slots live objects fill in each span, where some share one."""
+
+    def __init__(self, leads, spans):
+        self.leads, self.seen = leads, bytearray(len(leads))
+        self.used = [0] * spans
+
+    def count(self, objects, spans):
+        for one, span in zip(objects, spans):
+            lead = self.leads[one]
+            if not self.seen[lead]:
+                self.seen[lead] = 1
+                self.used[span] += 1
+
+
 class Pins:
     """The heap at a mark end: behind the journal's lines of the cycles before it, and behind its sweep, which gives back each span of
     which nothing is marked. Of the spans that are kept, by rising page: first page, pages, span class, slots, bytes of a slot, live objects,
-    their bytes as asked for, and the stacks of the objects, sorted by span."""
+    slots that they fill (from version 3 on tiny ones share some), their bytes as asked for, and the stacks of the objects, sorted by span."""
 
     def __init__(self, trace, report, mark_end):
         self.mark_end, self.mark_ends = mark_end, trace.mark_ends()
@@ -294,7 +146,7 @@ class Pins:
         self.span_class = [report.classes[line] for line in lines]
         self.slot = [SLOTS[one // 2] or pages * PAGE for one, pages in zip(self.span_class, self.pages)]
         self.slots = [pages * PAGE // slot for pages, slot in zip(self.pages, self.slot)]
-        self.used = [0] * len(lines)
+        self.held = [0] * len(lines)
         self.asked = [0] * len(lines)
 
     def owners(self):
@@ -307,6 +159,8 @@ class Pins:
     def seat(self, trace, report):
         """Counts each marked object in its span. Returns the span and the stack of each."""
         addresses, owners = report.addresses, self.owners()
+        leads = trace.leads(addresses)
+        filled = Filled(leads, len(self.first)) if leads else None
         top = BASE + len(self.region) * PAGE
         spans_of, stacks_of = array("I"), array("I")
         marked = trace.marked(self.mark_end)
@@ -325,8 +179,11 @@ class Pins:
                 raise Unusable(f"{report.name}: object {one} lives at mark end {self.mark_end}, but in no span: it is no report of this trace")
             stacks = [trace.stacks[one] for one in some]
             self.count(spans, stacks, [trace.sizes[one] for one in some])
+            if filled:
+                filled.count(some, spans)
             spans_of.extend(spans)
             stacks_of.extend(stacks)
+        self.used = filled.used if filled else self.held[:]
         return spans_of, stacks_of
 
     def placed(self, some, addresses, sizes):
@@ -338,9 +195,9 @@ class Pins:
 
     def count(self, spans, stacks, sizes):
         """Counts objects by their spans and stacks."""
-        used, asked, own, live = self.used, self.asked, self.own, self.live
+        held, asked, own, live = self.held, self.asked, self.own, self.live
         for span, size in zip(spans, sizes):
-            used[span] += 1
+            held[span] += 1
             asked[span] += size
         for stack, size in zip(stacks, sizes):
             own[stack] += size
@@ -348,7 +205,7 @@ class Pins:
 
     def sort_stacks(self, spans_of, stacks_of):
         """Puts the stacks of a span's objects side by side."""
-        self.begins = [0, *itertools.accumulate(self.used)]
+        self.begins = [0, *itertools.accumulate(self.held)]
         places = self.begins[:]
         self.sorted = array("I", bytes(4 * len(stacks_of)))
         for span, stack in zip(spans_of, stacks_of):
@@ -374,7 +231,7 @@ class Pins:
             self.region[page : page + count] = FREE * count
         kept = [number for number, used in enumerate(self.used) if used]
         self.begins = [self.begins[number] for number in kept] + self.begins[-1:]
-        for name in ("first", "pages", "span_class", "slot", "slots", "asked", "used"):
+        for name in ("first", "pages", "span_class", "slot", "slots", "asked", "held", "used"):
             column = getattr(self, name)
             setattr(self, name, [column[number] for number in kept])
 
@@ -403,11 +260,11 @@ class Pins:
     def classes(self):
         """What the spans of each size class come to, 0 for large objects."""
         rows = {}
-        for span_class, pages, slots, slot, used, asked in zip(self.span_class, self.pages, self.slots, self.slot, self.used, self.asked):
+        for span_class, pages, slots, slot, held, used, asked in zip(self.span_class, self.pages, self.slots, self.slot, self.held, self.used, self.asked):
             row = rows.setdefault(span_class // 2, Class())
             row.spans += 1
             row.pages += pages
-            row.objects += used
+            row.objects += held
             row.steps[(used * STEPS - 1) // slots] += 1
             row.live += asked
             row.free += (slots - used) * slot

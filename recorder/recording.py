@@ -14,9 +14,15 @@ MOST_MARK_ENDS = 10_000
 MOST_MARKS = 20_000_000
 MOST_STACKS = 1_000_000
 MOST_PROCS = 64
-# Chunks of a region: what is taken where less would do, and the most that a trace may have.
-USUAL_CHUNKS, MOST_CHUNKS = 128, 128
-CHUNK = 512 * PAGE
+# Pages of a chunk, and its bytes.
+CHUNK_PAGES = 512
+CHUNK = CHUNK_PAGES * PAGE
+# Chunks of a region: what is taken where less would do, and by version the most that a trace may have.
+USUAL_CHUNKS = 128
+MOST_CHUNKS = {1: 128, 2: 4096, 3: 4096}
+# The goal in pages where none is asked for, which is never passed; a larger region has as many as its pages.
+USUAL_GOAL = 65536
+VERSIONS = tuple(MOST_CHUNKS)
 # Lines of a trace that are kept as one piece.
 PIECE = 4096
 
@@ -31,8 +37,8 @@ class Full(Exception):
 class Trace:
     """A trace as its lines come, within the limits. What does not fit is left out. The second line is made at the end."""
 
-    def __init__(self, header):
-        self.header = header  # gives the first two lines
+    def __init__(self, header, spare=0):
+        self.header, self.spare = header, spare  # gives the first two lines, which may have so many bytes more at the end
         self.parts, self.lines = [], []
         self.bytes = None
         self.sizes = Counter()  # how many objects have the size that is spelled so
@@ -40,7 +46,7 @@ class Trace:
 
     def put(self, text):
         if self.bytes is None:
-            self.bytes = len(self.header()) + len("end\n")
+            self.bytes = len(self.header()) + self.spare + len("end\n")
         if self.bytes + len(text) > MOST_BYTES:
             raise Full("bytes")
         self.bytes += len(text)
@@ -92,7 +98,9 @@ class Recorder:
 
     def __init__(self, options, program, say):
         self.options, self.program, self.say = options, program, say
-        self.trace = Trace(self.header)
+        self.most_chunks = MOST_CHUNKS[options.version]
+        # The numbers of a region that grows have more digits.
+        self.trace = Trace(self.header, len(str(self.most_chunks)) + len(str(self.most_chunks * CHUNK_PAGES)) - len(f"{USUAL_CHUNKS}{USUAL_GOAL}"))
         self.live = {}  # the object at each address, in rising order of objects
         self.old = None  # those of them that the last mark end may have found; None before the first
         self.spool = None  # the allocations since the last mark end
@@ -120,11 +128,12 @@ class Recorder:
 
     def chunks(self):
         """The region: as asked for, or twice what was live at most, from the usual one up to the largest."""
-        return self.options.chunks or min(MOST_CHUNKS, max(USUAL_CHUNKS, -(-2 * self.peak // CHUNK)))
+        return self.options.chunks or min(self.most_chunks, max(USUAL_CHUNKS, -(-2 * self.peak // CHUNK)))
 
     def header(self):
         options = self.options
-        return f"goheap 1\nheap {self.chunks()} procs {self.procs or 1} rate {options.rate} seed {options.seed} goal {options.goal}\n"
+        goal = max(USUAL_GOAL, self.chunks() * CHUNK_PAGES) if options.goal is None else options.goal
+        return f"goheap {options.version}\nheap {self.chunks()} procs {self.procs or 1} rate {options.rate} seed {options.seed} goal {goal}\n"
 
     # One object.
 
@@ -202,14 +211,16 @@ class Recorder:
     def grow(self):
         """More is live than ever before: says once where it passes the region."""
         self.peak = self.live_bytes
-        region = (self.options.chunks or MOST_CHUNKS) * CHUNK
+        region = (self.options.chunks or self.most_chunks) * CHUNK
         if self.peak <= region or self.is_told:
             return
         self.is_told = True
-        if (self.options.chunks or MOST_CHUNKS) < MOST_CHUNKS:
-            what = f"leave --chunks {self.options.chunks} out, or give more, up to {MOST_CHUNKS}"
+        if (self.options.chunks or self.most_chunks) < self.most_chunks:
+            what = f"leave --chunks {self.options.chunks} out, or give more, up to {self.most_chunks}"
+        elif self.most_chunks < MOST_CHUNKS[VERSIONS[-1]]:
+            what = f"--chunks {self.most_chunks} is the most that a trace of version {self.options.version} may have: take --version 2, or run the program with a lower GOGC or less to do"
         else:
-            what = f"--chunks {MOST_CHUNKS} is the most that a trace may have, so run the program with a lower GOGC or less to do"
+            what = f"--chunks {self.most_chunks} is the most that a trace may have, so run the program with a lower GOGC or less to do"
         self.say(f"the objects in use pass the region of {region >> 20} MiB at line {self.lines:,} of the log: some will find no room, and `leaks` counts without them; {what}")
 
     def forget(self, address):

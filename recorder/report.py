@@ -2,7 +2,7 @@
 
 from typing import Dict, List, NamedTuple, Optional, Tuple
 
-from tool import Unusable, kind_of, named, reading, refuse_page_caches, whole
+from tool import Unusable, kind_of, named, reading, whole
 
 
 class Take(NamedTuple):
@@ -30,6 +30,45 @@ class Scav(NamedTuple):
     pages: int
 
 
+class Pull(NamedTuple):
+    """The free pages of a block go to the page cache of a processor."""
+
+    cycle: int
+    proc: int
+    page: int  # the first of the block
+    pages: int
+
+
+class Cut(NamedTuple):
+    """A span is made out of a page cache."""
+
+    cycle: int
+    proc: int
+    page: int
+    pages: int
+    span_class: int
+
+
+class Drop(NamedTuple):
+    """What is left of a processor's block goes back."""
+
+    cycle: int
+    proc: int
+    page: int  # the first of the block
+    pages: int
+
+
+# The pages of a block of a page cache.
+BLOCK = 64
+# The lines that make a span, and those of a whole block.
+MAKING_LINES, BLOCK_LINES = (Take, Cut), (Pull, Drop)
+
+
+def end_of(line):
+    """The page behind those that the journal line speaks of."""
+    return line.page + (BLOCK if isinstance(line, BLOCK_LINES) else line.pages)
+
+
 class Sweep(NamedTuple):
     cycle: int
     page: int
@@ -48,7 +87,7 @@ class Bucket(NamedTuple):
 # How a report is made of another text.
 MAKING = {"a trace": " (goheap run --each < trace > report)", "a log": " (record makes a trace of it)"}
 
-JOURNAL = {"take": Take, "miss": Miss, "give": Give, "scav": Scav}
+JOURNAL = {"take": Take, "miss": Miss, "give": Give, "scav": Scav, "pull": Pull, "cut": Cut, "drop": Drop}
 
 
 class Report(NamedTuple):
@@ -72,7 +111,6 @@ def read_report(lines, name="report"):
         try:
             ended = take_line(report, words)
         except (KeyError, ValueError, IndexError, TypeError):
-            refuse_page_caches(name, number, line)
             raise Unusable(f"{name}: line {number}: no line of a report") from None
     if not ended:
         raise Unusable(f"{name}: the report has no end")

@@ -1,4 +1,6 @@
-"""The nine rules of `docs/sound-report.md`, plainly: which one a report breaks first, at which of its lines, and why, in sentences.
+"""The nine rules of `docs/sound-report.md`, plainly: which one a report breaks first, at which of its lines, and why, in sentences. Of a
+trace of version 3 they are those of its base, in which a lead has 16 bytes and what rides has none, and a tenth rule is of what rides
+(`docs/tiny-objects.md`).
 
 A report's lines are numbered from 1: the answers, the journal, the sweeps, the totals, the profile, and `end`. The rules are tried in
 their order, and of a rule the first line that breaks it is told. `docs/judge.md` has which line breaks which rule.
@@ -11,9 +13,14 @@ from typing import List, NamedTuple
 from classes import PAGE, SLOTS
 from judged import BASE, Judged, Life, class_name, journal_text, line_text
 from region import CHUNK, Region
-from report import Give, Miss, Take
+from report import MAKING_LINES, Give, Miss
+from tiny import BLOCK
 
-NAMES = {1: "answers", 2: "journal", 3: "misses", 4: "places", 5: "apart", 6: "filling", 7: "sweeps", 8: "totals", 9: "profile"}
+NAMES = {1: "answers", 2: "journal", 3: "misses", 4: "places", 5: "apart", 6: "filling", 7: "sweeps", 8: "totals", 9: "profile", 10: "riders"}
+
+
+# The first version in which processors have page caches.
+CACHING = 2
 
 
 class Fault(NamedTuple):
@@ -47,8 +54,9 @@ def answers(judged):
 
 
 def journal(judged):
-    """The journal is one that the pages can have, and no line is of a cycle behind the last."""
-    region = Region(judged.trace.header["chunks"], judged.trace.header["goal"])
+    """The journal is one that the pages and page caches can have, no line is of a cycle behind the last, and each block is dropped."""
+    header = judged.trace.header
+    region = Region(header["chunks"], header["goal"], header["procs"] if judged.trace.version >= CACHING else 0)
     cycle, taken = 0, {}
     for number, line in enumerate(judged.report.journal):
         sentences = None
@@ -62,12 +70,14 @@ def journal(judged):
             return Fault(2, judged.journal_line(number), [f"With {journal_text(number, line)} the journal is none that the pages can have.", *sentences])
         region.go_on(line)
         cycle = line.cycle
-        if isinstance(line, Take):
+        if isinstance(line, MAKING_LINES):
             taken[line.page] = len(judged.lives)
-            judged.lives.append(Life(number, *line[1:], line.cycle, None, float("inf")))
+            judged.lives.append(Life(number, line.page, line.pages, line.span_class, line.cycle, None, float("inf")))
         elif isinstance(line, Give):
             at = taken.pop(line.page)
             judged.lives[at] = judged.lives[at]._replace(given=number, end=line.cycle)
+    for proc, block in sorted(region.blocks.items()):
+        return Fault(2, judged.end, [f"The block at page {block.page}, which processor {proc} pulled, is never dropped: `drop {proc} {block.page} {len(block.left)}` should stand in the journal."])
     return None
 
 
@@ -78,7 +88,7 @@ def misses(judged):
     """A missed object names a Miss line of its pages, span class and cycle, and no two name one line."""
     lines, named = judged.report.journal, {}
     for one, address in enumerate(judged.report.addresses):
-        if address is not None:
+        if address is not None or one in judged.riders:
             continue
         number, need, cycle = judged.report.misses[one], judged.need(one), judged.trace.events[one].cycle
         asked = Miss(cycle, need.pages, need.span_class)
@@ -136,7 +146,7 @@ def owners(judged):
     for cycle in range(judged.last + 1):
         while at < len(judged.report.journal) and judged.report.journal[at].cycle <= cycle:
             line = judged.report.journal[at]
-            if isinstance(line, Take):
+            if isinstance(line, MAKING_LINES):
                 owner.update((page, lives[at]) for page in range(line.page, line.page + line.pages))
             elif isinstance(line, Give):
                 for page in range(line.page, line.page + line.pages):
@@ -259,7 +269,8 @@ def objects_of(judged, life, mark_end, is_kept):
     last = (lambda one: judged.lasts[one] >= mark_end) if is_kept else (lambda one: judged.lasts[one] == mark_end - 1)
     found = [one for one, where in enumerate(judged.seats) if where and where[0].number == life.number and judged.trace.events[one].cycle < mark_end and last(one)]
     more = f" and {len(found) - 3} more" if len(found) > 3 else ""
-    return f" (object{'s' if len(found) > 1 else ''} {', '.join(map(str, found[:3]))}{more})" if found else ""
+    names = [judged.kept_text(one, mark_end) if is_kept else str(one) for one in found[:3]]
+    return f" (object{'s' if len(found) > 1 else ''} {', '.join(names)}{more})" if found else ""
 
 
 def give_fault(judged):
@@ -456,11 +467,24 @@ def profile(judged):
     return None
 
 
-RULES = (answers, journal, misses, places, apart, filling, sweeps, totals, profile)
+# Rule 10, riders.
+
+
+def riders(judged):
+    """What rides stands in the block of its lead, at its offset."""
+    for one, (lead, offset) in judged.riders.items():
+        should = judged.report.addresses[lead] + offset
+        if judged.report.addresses[one] != should:
+            return Fault(10, one + 1, [f"{judged.object_text(one)}. It rides in the block of object {lead} (line {lead + 1}), which stands at {judged.address_text(lead)} and had room behind {offset}"
+                                       f" of its {BLOCK} bytes: `o {one} {should:#x}` should stand there."])  # fmt: skip
+    return None
+
+
+RULES = (answers, journal, misses, places, apart, filling, sweeps, totals, profile, riders)
 
 
 def first_fault(trace, report, frames=None):
-    """The first rule that the report breaks, with its line and why; nothing where it meets all nine."""
+    """The first rule that the report breaks, with its line and why; nothing where it meets all."""
     judged = Judged(trace, report, frames)
     for rule in RULES:
         if fault := rule(judged):

@@ -50,18 +50,13 @@ class Rules(unittest.TestCase):
             told = {"sound": "check ok", "order": f"goheap: report line {line}: malformed"}.get(kind, f"goheap: report line {line}: {kind}")
             self.assertEqual(ran.stdout + ran.stderr, told + "\n", trace + text)
 
-    def test_page_caches_are_not_read(self):
-        trace, cached = (os.path.join(EXAMPLES, f"page-caches.{kind}") for kind in ("trace", "cached"))
-        said = f"{cached}: line 8: this is a line of a page cache, which is not read here (goheap check judges it)\n"
-        self.assertEqual(run("explain", trace, cached), (2, "", "explain: " + said))
-        self.assertEqual(run("pins", trace, cached), (2, "", "pins: " + said))
-        self.assertEqual(run("leaks", cached), (2, "", "leaks: " + said))
-
     def test_the_examples_are_sound(self):
         for name in sorted(os.listdir(EXAMPLES)):
             if name.endswith(".trace"):
                 path = os.path.join(EXAMPLES, name)
-                self.assertEqual(run("explain", path, path[: -len("trace")] + "report"), (0, "The report meets all nine rules: it is sound.\n", ""))
+                with open(path) as file:
+                    rules_of_it = "ten" if file.readline() == "goheap 3\n" else "nine"
+                self.assertEqual(run("explain", path, path[: -len("trace")] + "report"), (0, f"The report meets all {rules_of_it} rules: it is sound.\n", ""))
 
 
 class Sentences(Folder):

@@ -33,7 +33,7 @@ class Faults(Folder):
             (["leaks", "-", "--stacks", report_of], end, f"{report_of}: this is a report, and no stacks file"),
             (["leaks", "-", "--stacks", odd], end, f"{odd}: line 1: no stack's number"),
             (["leaks", "--trace", report_of], "", f"{report_of}: this is a report, and no trace"),
-            (["leaks", "--trace", odd], "", f"{odd}: no trace: its first line is neither `goheap 1` nor `goheap 2`"),
+            (["leaks", "--trace", odd], "", f"{odd}: no trace: its first line is none of `goheap 1`, `goheap 2` and `goheap 3`"),
             (["leaks", "--trace", cut], "", f"{cut}: line 4: no line of a trace"),
             (["leaks", report_of, "--trace", trace], "", f"{report_of} has 3 objects, and {trace} has 6: it is no report of this trace"),
             (["picture", "no such report"], "", "no such report: No such file or directory"),

@@ -30,28 +30,38 @@ class Slow:
 
     def __init__(self, trace, report_of, mark_end):
         self.trace, self.report, self.mark_end = trace, report_of, mark_end
-        self.page = {}  # of each page that was ever in a span: "free" or "scavenged", or the number of the line that took it
+        self.page = {}  # of each page that was ever in a span or a page cache: "free", "scavenged" or "cached", or the number of the line that made its span
         for number, line in enumerate(report_of.journal):
             if line.cycle >= mark_end or isinstance(line, report.Miss):
                 continue
-            state = {report.Take: number, report.Give: "free", report.Scav: "scavenged"}[type(line)]
-            for page in range(line.page, line.page + line.pages):
+            state = {report.Take: number, report.Cut: number, report.Give: "free", report.Scav: "scavenged", report.Pull: "cached", report.Drop: "free"}[type(line)]
+            for page in range(line.page, report.end_of(line)):
+                if isinstance(line, report.Pull) and isinstance(self.page.get(page), int) or isinstance(line, report.Drop) and self.page[page] != "cached":
+                    continue
                 self.page[page] = state
+        assert "cached" not in self.page.values()
         self.backed = sum(state != "scavenged" for state in self.page.values())
         self.marked = [one for low, high in trace.marks[mark_end - 1] for one in range(low, high + 1)]
-        self.seats = {}  # the object at each place: the line that took its span, and the index
+        self.seats = {}  # the objects at each place, of which tiny ones may share one: the line that made the span, and the index
         self.missed = [one for one in self.marked if report_of.addresses[one] is None]
         for one in self.marked:
             if report_of.addresses[one]:
-                place = self.place(report_of.addresses[one])
-                assert place not in self.seats
-                self.seats[place] = one
+                place = self.place(one, report_of.addresses[one])
+                assert place not in self.seats or self.is_tiny(one)
+                self.seats.setdefault(place, []).append(one)
 
-    def place(self, address):
+    def is_tiny(self, one):
+        return self.trace.version == 3 and self.trace.events[one].size < 16 and not self.trace.events[one].has_pointers
+
+    def place(self, one, address):
         line = self.page[(address - BASE) // PAGE]
         index, rest = divmod(address - BASE - self.report.journal[line].page * PAGE, self.slot(line))
-        assert rest == 0 and index < self.slots(line)
+        assert (rest == 0 or self.is_tiny(one)) and index < self.slots(line)
         return line, index
+
+    def size(self, seat):
+        """The bytes of the live objects at a place."""
+        return sum(self.trace.events[one].size for one in self.seats[seat])
 
     def slot(self, line):
         taken = self.report.journal[line]
@@ -65,7 +75,7 @@ class Slow:
 
     def kept(self, gone=()):
         """The spans that are kept where the objects of these stacks are gone."""
-        return {line for (line, _), one in self.seats.items() if self.trace.events[one].stack not in gone}
+        return {line for (line, _), objects in self.seats.items() if any(self.trace.events[one].stack not in gone for one in objects)}
 
     def free(self, gone=()):
         """The pages in no kept span, up to the highest that was ever in one."""
@@ -78,7 +88,7 @@ class Slow:
         for line in kept:
             for index in range(self.slots(line)):
                 if (line, index) in self.seats:
-                    size = self.trace.events[self.seats[line, index]].size
+                    size = self.size((line, index))
                     parts["live objects"] += size
                     parts["rounding"] += self.slot(line) - size
                 else:
@@ -93,15 +103,16 @@ class Slow:
             taken, used = self.report.journal[line], sum((line, index) in self.seats for index in range(self.slots(line)))
             row = found.setdefault(SLOTS[taken.span_class // 2] or "large", [0, 0, 0, *[0] * 8, 0, 0, 0, 0])
             eighth = next(eighth for eighth in range(1, 9) if used / self.slots(line) <= eighth / 8)
-            live = sum(self.trace.events[self.seats[line, index]].size for index in range(self.slots(line)) if (line, index) in self.seats)
-            more = [1, taken.pages, used, *(int(step == eighth) for step in range(1, 9)), live, (self.slots(line) - used) * self.slot(line),
+            filled = [(line, index) for index in range(self.slots(line)) if (line, index) in self.seats]
+            live = sum(map(self.size, filled))
+            more = [1, taken.pages, sum(len(self.seats[seat]) for seat in filled), *(int(step == eighth) for step in range(1, 9)), live, (self.slots(line) - used) * self.slot(line),
                     used * self.slot(line) - live, taken.pages * PAGE - self.slots(line) * self.slot(line)]  # fmt: skip
             found[SLOTS[taken.span_class // 2] or "large"] = [a + b for a, b in zip(row, more)]
         return found
 
     def live(self, stacks):
         """The live objects of these stacks."""
-        return [one for one in self.seats.values() if self.trace.events[one].stack in stacks]
+        return [one for objects in self.seats.values() for one in objects if self.trace.events[one].stack in stacks]
 
     def own(self, stacks):
         return sum(self.trace.events[one].size for one in self.live(stacks))
@@ -119,7 +130,7 @@ class Slow:
         return self.kept(others) & self.kept(stacks)
 
     def live_stacks(self):
-        return {self.trace.events[one].stack for one in self.seats.values()}
+        return {self.trace.events[one].stack for objects in self.seats.values() for one in objects}
 
     def run(self, gone, with_back=False):
         """The longest run of free pages where the objects of these stacks are gone; the longest with a page that is not free now."""
@@ -135,11 +146,11 @@ class Slow:
         return longest
 
 
-def made(seed):
+def made(seed, version=1):
     """A trace of many kinds of objects, that die young or live on in runs and one by one; one region in two runs full."""
     some = random.Random(seed)
     chunks, procs = some.choice((1, 1, 3)), some.choice((1, 1, 2, 4))
-    lines = ["goheap 1", f"heap {chunks} procs {procs} rate 0 seed 1 goal {some.choice((64, 200, 512 * chunks))}"]
+    lines = [f"goheap {version}", f"heap {chunks} procs {procs} rate 0 seed 1 goal {some.choice((64, 200, 512 * chunks))}"]
     sizes = [some.choice((0, 1, 7, 8, 24, 40, 100, 500, 1000, 1500, 5000, 9000, 20000, 32768, 32769, 60000, 300000)) for _ in range(6)]
     live, count = [], 0
     for _ in range(some.randint(1, 5)):
@@ -261,9 +272,9 @@ class PinsCounted(Folder):
 
     def test_made_heaps(self):
         seen = {"missed": 0, "spans": 0, "scavenged": 0, "shared": 0, "emptied": 0, "peak": 0}
-        for seed in range(8):
-            trace = made(seed)
-            slows = self.compare(self.put("trace", trace), self.put("report", modelled(trace, "--background=" + str(seed % 3))))
+        for seed in range(12):
+            trace = made(seed, seed % 3 + 1)
+            slows = self.compare(self.put("trace", trace), self.put("report", modelled(trace, "--background=" + str(seed // 3 % 3))))
             seen["missed"] += sum(len(slow.missed) for slow in slows)
             seen["spans"] += sum(len(slow.kept()) for slow in slows)
             seen["scavenged"] += sum(state == "scavenged" for slow in slows for state in slow.page.values())
@@ -502,7 +513,7 @@ class PinsFaults(Folder):
         ):
             self.assertEqual(run("pins", *words), (2, "", f"pins: {said}\n"))
         for text, why in (
-            ("", "no trace: its first line is neither `goheap 1` nor `goheap 2`"),
+            ("", "no trace: its first line is none of `goheap 1`, `goheap 2` and `goheap 3`"),
             ("goheap 1\n", "line 2: no second line of a trace"),
             (head, "the trace has no end"),
             (head + "a 0 8 n 1\n", "the trace has no end"),

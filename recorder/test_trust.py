@@ -117,7 +117,7 @@ class Misses(Folder):
             self.assertIn(what or "", said)
         record, told = module("record"), []
         record.say = told.append
-        with unittest.mock.patch.object(recording, "MOST_CHUNKS", 1):
+        with unittest.mock.patch.object(recording, "MOST_CHUNKS", {1: 1, 3: 1}):
             record.main([self.put("log", log), "--output", os.devnull])
         self.assertIn("--chunks 1 is the most that a trace may have", "\n".join(told))
 
@@ -127,7 +127,7 @@ class Misses(Folder):
         record = module("record")
         record.say = lambda _: None
         out = os.path.join(self.folder.name, "trace")
-        with unittest.mock.patch.multiple(recording, USUAL_CHUNKS=2, MOST_CHUNKS=100):
+        with unittest.mock.patch.multiple(recording, USUAL_CHUNKS=2, MOST_CHUNKS={1: 100}):
             record.main([self.put("log", log), "--output", out])
         self.assertEqual(text_of(out).splitlines()[1], "heap 20 procs 1 rate 1 seed 1 goal 65536")
 

@@ -70,16 +70,14 @@ def kind_of(line):
     return next((kind for front, kind in KINDS if line.startswith(front)), None)
 
 
-# The first lines of the traces that are read here. A report of either may have no line of a page cache.
-FIRST_LINES = ("goheap 1", "goheap 2")
-OF_PAGE_CACHES = ("pull", "cut", "drop")
+# The first lines of the traces that are read here, by version.
+FIRST_LINES = {"goheap 1": 1, "goheap 2": 2, "goheap 3": 3}
 
 
-def refuse_page_caches(name, number, line):
-    """Refuses a line of a page cache, which the tools don't read: `goheap run` writes none."""
-    words = line.split()
-    if words[:1] == ["j"] and words[3:4] and words[3] in OF_PAGE_CACHES:
-        raise Unusable(f"{name}: line {number}: this is a line of a page cache, which is not read here (goheap check judges it)")
+def no_trace(name):
+    """Why a text is no trace whose first line is none of these."""
+    *some, last = (f"`{line}`" for line in FIRST_LINES)
+    return Unusable(f"{name}: no trace: its first line is none of {', '.join(some)} and {last}")
 
 
 def size_text(size):

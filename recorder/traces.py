@@ -2,7 +2,7 @@
 
 from typing import List, NamedTuple, Tuple
 
-from tool import FIRST_LINES, Unusable, kind_of, named, reading, whole
+from tool import FIRST_LINES, Unusable, kind_of, named, no_trace, reading, whole
 
 
 class Event(NamedTuple):
@@ -17,6 +17,7 @@ class Trace(NamedTuple):
     header: dict
     events: List[Event]
     marks: List[List[Tuple[int, int]]]  # of each mark end, the ranges of objects that it found alive
+    version: int = 1
 
 
 HEADER = ["heap", "procs", "rate", "seed", "goal"]
@@ -27,12 +28,13 @@ def read_trace(lines, name="trace"):
     first = next(lines, (1, ""))[1]
     if kind_of(first) not in (None, "a trace"):
         raise Unusable(f"{name}: this is {kind_of(first)}, and no trace")
-    if " ".join(first.split()) not in FIRST_LINES:
-        raise Unusable(f"{name}: no trace: its first line is neither `{'` nor `'.join(FIRST_LINES)}`")
+    version = FIRST_LINES.get(" ".join(first.split()))
+    if version is None:
+        raise no_trace(name)
     words = next(lines, (2, ""))[1].split()
     if words[::2] != HEADER or not all(word.isdecimal() for word in words[1::2]):
         raise Unusable(f"{name}: line 2: no second line of a trace")
-    trace = Trace(dict(zip(["chunks", *HEADER[1:]], map(int, words[1::2]))), [], [])
+    trace = Trace(dict(zip(["chunks", *HEADER[1:]], map(int, words[1::2]))), [], [], version)
     for number, line in lines:
         try:
             if take_line(trace, *line.split()):

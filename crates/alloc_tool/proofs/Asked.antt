@@ -4,7 +4,7 @@ use Rattle.std.specs.declared.alloc.Global.{Global}
 use Rattle.trace_reader.proofs.Digits.{decimal_injective_wide}
 use Rattle.commands.specs.Pieces.{AsksPieces}
 use Rattle.commands.specs.Watchers.{AsksWatchers}
-use Rattle.alloc_tool.specs.Words.{IsCheck, IsDemo, IsHeap, IsRun, IsSeeded}
+use Rattle.alloc_tool.specs.Words.{IsCheck, IsDemo, IsHeap, IsRun, AsksForMade}
 
 heads : (a b : List ℕ) (xs ys : List (List ℕ)) → a ∷ xs ≡ b ∷ ys → a ≡ b
 heads a b xs ys e = cc
@@ -23,17 +23,17 @@ run_or_heap words run heap = (let e : codes "run" ≡ codes "heap" = heads _ _ _
 one_or_three : (a x y z : List ℕ) → a ∷ [] ≡ x ∷ y ∷ z ∷ [] → ⊥
 one_or_three a x y z e = cc
 
-pub check_or_seeded : (word : List ℕ) (words : List (String Global)) (seed objects : ℕ) → IsCheck words → IsSeeded word words seed objects → ⊥
+pub check_or_seeded : (word : List ℕ) (words : List (String Global)) (seed objects : ℕ) → IsCheck words → AsksForMade word words seed objects → ⊥
 check_or_seeded word words seed objects check seeded = one_or_three _ _ _ _ (sym check ∙ seeded.spelled)
 
-pub heap_or_seeded : (word : List ℕ) (words : List (String Global)) (seed objects : ℕ) → IsHeap words → IsSeeded word words seed objects → ⊥
+pub heap_or_seeded : (word : List ℕ) (words : List (String Global)) (seed objects : ℕ) → IsHeap words → AsksForMade word words seed objects → ⊥
 heap_or_seeded word words seed objects heap seeded = one_or_three _ _ _ _ (sym heap ∙ seeded.spelled)
 
 last_two : (a b c x y : List ℕ) → a ∷ b ∷ c ∷ [] ≡ a ∷ x ∷ y ∷ [] → (b ≡ x) × (c ≡ y)
 last_two a b c x y e = (cc, cc)
 
 -- a seed and a number of objects are spelled in one way
-pub one_seeded : (word : List ℕ) (words : List (String Global)) (s o s' o' : ℕ) → IsSeeded word words s o → IsSeeded word words s' o' → (s ≡ s') × (o ≡ o')
+pub one_seeded : (word : List ℕ) (words : List (String Global)) (s o s' o' : ℕ) → AsksForMade word words s o → AsksForMade word words s' o' → (s ≡ s') × (o ≡ o')
 one_seeded word words s o s' o' a b =
     let both = last_two word _ _ _ _ (sym a.spelled ∙ b.spelled) in
     let sa = a.seed_limit in
@@ -55,7 +55,7 @@ two_or_three a b x y z e = cc
 pub check_or_pieces : (words : List (String Global)) (n : ℕ) → IsCheck words → AsksPieces words n → ⊥
 check_or_pieces words n check pieces = one_or_two _ _ _ (sym check ∙ pieces.spelled)
 
-pub pieces_or_seeded : (word : List ℕ) (words : List (String Global)) (n seed objects : ℕ) → AsksPieces words n → IsSeeded word words seed objects → ⊥
+pub pieces_or_seeded : (word : List ℕ) (words : List (String Global)) (n seed objects : ℕ) → AsksPieces words n → AsksForMade word words seed objects → ⊥
 pieces_or_seeded word words n seed objects pieces seeded = two_or_three _ _ _ _ _ (sym pieces.spelled ∙ seeded.spelled)
 
 pub heap_or_pieces : (words : List (String Global)) (n : ℕ) → IsHeap words → AsksPieces words n → ⊥
@@ -83,7 +83,7 @@ check_or_watch words n check watch = one_or_two _ _ _ (sym check ∙ watch.spell
 pub heap_or_watch : (words : List (String Global)) (n : ℕ) → IsHeap words → AsksWatchers words n → ⊥
 heap_or_watch words n heap watch = one_or_two _ _ _ (sym heap ∙ watch.spelled)
 
-pub watch_or_seeded : (word : List ℕ) (words : List (String Global)) (n seed objects : ℕ) → AsksWatchers words n → IsSeeded word words seed objects → ⊥
+pub watch_or_seeded : (word : List ℕ) (words : List (String Global)) (n seed objects : ℕ) → AsksWatchers words n → AsksForMade word words seed objects → ⊥
 watch_or_seeded word words n seed objects watch seeded = two_or_three _ _ _ _ _ (sym watch.spelled ∙ seeded.spelled)
 
 seconds : (a b c : List ℕ) → a ∷ b ∷ [] ≡ a ∷ c ∷ [] → b ≡ c

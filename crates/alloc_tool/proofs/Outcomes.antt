@@ -1,5 +1,6 @@
 -- Each way in which a call of the program ends.
-use Rattle.std.proofs.Common.{◌≡◌, ◌≢◌, ℕ, Bool, true, false, List, Option, sym, ap, ◌∙◌, subst, refl}
+use Rattle.std.proofs.Common.{◌≡◌, ◌≢◌, ℕ, Bool, true, false, List, length, Option, sym, ap, ◌∙◌, subst, refl, inl, inr}
+use Rattle.std.proofs.lemmas.Bool.{cases_lt}
 use Rattle.std.specs.Io.KnownBytes.{Appends}
 use Rattle.edge_io.specs.Causes.{Rose}
 use Rattle.edge_io.specs.Front.{AppendsFront}
@@ -10,7 +11,12 @@ use Rattle.trace_reader.specs.Told.{IsOfTrace}
 use Rattle.cycle_history.specs.declared.Report.{Report}
 use Rattle.cycle_history.specs.Objects.{Object}
 use Rattle.cycle_history.specs.Orders.{AreRisingProfile}
-use Rattle.cycle_history.specs.Sound.{HasProfileIn, IsSoundAndUsed}
+use Rattle.cycle_history.specs.declared.versions.TheConstants.{TINY_VERSION}
+use Rattle.cycle_history.specs.Sound.{HasProfileIn}
+use Rattle.profile_readers.specs.declared.viewer.Sight.{Sight}
+use Rattle.tiny_alloc.specs.Sound.{based_report}
+use Rattle.tiny_alloc.specs.Versions.{IsSoundByVersion}
+use Rattle.heap_run.specs.Versions.{IsWatchedByVersion}
 use Rattle.commands.specs.Texts.{fault_status, fault_text, status_text, write_fault}
 use Rattle.commands.specs.Told.{Tells}
 use Rattle.trace_reader.specs.BrokenOff.{BreaksOff}
@@ -24,8 +30,18 @@ rises true t r objects has = has.lines.order
 rises false t r objects has = has.lines.order
 
 -- the lines of a sound report's profile stand in their order
-pub profile_rises : (t : Trace) (r : Report) → IsSoundAndUsed t r → AreRisingProfile r.profile
-profile_rises t r sound = rises sound.1.profile.0 t r sound.0 sound.1.profile.1
+pub profile_rises : (t : Trace) (r : Report) → IsSoundByVersion t r → AreRisingProfile r.profile
+profile_rises t r sound = elim (cases_lt t.header.version TINY_VERSION) [
+  | inl plain ↦ (let s = sound.plain plain in rises s.1.profile.0 t r s.0 s.1.profile.1)
+  | inr tiny ↦ (let s = sound.tiny tiny in rises s.sound.sound.profile.0 s.based.trace (based_report r s.based) s.objects s.sound.sound.profile.1)
+]
+
+-- there is a list of sights for each watcher
+pub seen_count : (t : Trace) (readers : ℕ) (r : Report) (seen : List (List Sight)) → IsWatchedByVersion t readers r seen → length seen ≡ readers
+seen_count t readers r seen watched = elim (cases_lt t.header.version TINY_VERSION) [
+  | inl plain ↦ (watched.plain plain).count
+  | inr tiny ↦ (watched.tiny tiny).2.count
+]
 
 -- a fault has no status of a call that writes
 no_writing : (fault : TraceFault) → (fault_status fault ≢ 0) × (fault_status fault ≢ 6)

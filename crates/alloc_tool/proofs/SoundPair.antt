@@ -16,12 +16,12 @@ use Rattle.report_text.specs.declared.fault.ReportFault.{ReportFault}
 use Rattle.report_text.specs.Read.{IsText}
 use Rattle.report_text.proofs.Refused.{not_refused_law}
 use Rattle.report_text.proofs.Unique.{one_report}
-use Rattle.report_check.specs.Fault.{BreaksRules, MeetsChecked}
+use Rattle.tiny_check.proofs.Judged.{version-unbroken}
+use Rattle.tiny_check.specs.Fault.{BreaksVersion, MeetsVersion}
 use Rattle.commands.specs.Pair.{ArePair, IsReportFault}
 use Rattle.commands.specs.Heaped.{Heaped}
 use Rattle.alloc_tool.specs.Checked.{BreaksAt, Checked}
 use Rattle.alloc_tool.specs.Top.{IsUndisturbed}
-use Rattle.alloc_tool.proofs.Unbroken.{sound_unbroken}
 
 -- the bytes that were taken to the end are those that the source told
 all_taken : (left left' : Option (List ℕ)) (bytes taken : List ℕ) → left ≡ Some bytes → Consumes left left' taken → IsAtEnd left' → bytes ≡ taken
@@ -65,17 +65,17 @@ one_pair bytes t t' r r' pair other =
     let same = one_split bytes pair.front pair.rest other.front other.rest t t' pair.split other.split pair.spelled other.spelled in
     (same.0, one_report r r' pair.text.fits other.text.fits (sym pair.text.text ∙ same.1 ∙ other.text.text))
 
-not_broken : (left left' : Option (List ℕ)) (bytes : List ℕ) (t : Trace) (r : Report) (rule line : ℕ) → left ≡ Some bytes → ArePair bytes t r → MeetsChecked t r → BreaksAt left left' rule line → ⊥
+not_broken : (left left' : Option (List ℕ)) (bytes : List ℕ) (t : Trace) (r : Report) (rule line : ℕ) → left ≡ Some bytes → ArePair bytes t r → MeetsVersion t r → BreaksAt left left' rule line → ⊥
 not_broken left left' bytes t r rule line told pair meets breaks =
     let read = breaks.2 in
     let all = all_taken left left' bytes read.0 told read.1 read.2 in
     let other = subst (λ (x : List ℕ). ArePair x breaks.0 breaks.1) (sym all) read.3 in
     let same = one_pair bytes t breaks.0 r breaks.1 pair other in
-    sound_unbroken t r rule line meets (subst (λ (u : Trace). BreaksRules u r rule line) (sym same.0) (subst (λ (x : Report). BreaksRules breaks.0 x rule line) (sym same.1) breaks.3))
+    version-unbroken t r rule line meets (subst (λ (u : Trace). BreaksVersion u r rule line) (sym same.0) (subst (λ (x : Report). BreaksVersion breaks.0 x rule line) (sym same.1) breaks.3))
 
 pub sound_pair : {S K E : Type 0} (left : S → Option (List ℕ)) (reads : S → ℕ) (held : K → Option (List ℕ)) (writes : K → ℕ) (shown : E → Option (List ℕ)) (tells : E → ℕ) (input input' : S) (output output' : K) (errors errors' : E) (status : ℕ)
     → Checked left reads held writes shown tells input input' output output' errors errors' status → (bytes : List ℕ) (t : Trace) (r : Report)
-    → IsUndisturbed left reads writes input input' output output' bytes → ArePair bytes t r → MeetsChecked t r → (status ≡ 0) ⊎ (status ≡ 7)
+    → IsUndisturbed left reads writes input input' output output' bytes → ArePair bytes t r → MeetsVersion t r → (status ≡ 0) ⊎ (status ≡ 7)
 sound_pair left reads held writes shown tells input input' output output' errors errors' status checked bytes t r undisturbed pair meets =
     elim (checked.complete undisturbed.read undisturbed.written) [
       | inl zero ↦ inl zero
@@ -90,7 +90,7 @@ sound_pair left reads held writes shown tells input input' output output' errors
 -- the same of `heap`
 pub sound_heap : {S K E : Type 0} (left : S → Option (List ℕ)) (reads : S → ℕ) (held : K → Option (List ℕ)) (writes : K → ℕ) (shown : E → Option (List ℕ)) (tells : E → ℕ) (input input' : S) (output output' : K) (errors errors' : E) (status : ℕ)
     → Heaped left reads held writes shown tells input input' output output' errors errors' status → (bytes : List ℕ) (t : Trace) (r : Report)
-    → IsUndisturbed left reads writes input input' output output' bytes → ArePair bytes t r → MeetsChecked t r → (status ≡ 0) ⊎ (status ≡ 7)
+    → IsUndisturbed left reads writes input input' output output' bytes → ArePair bytes t r → MeetsVersion t r → (status ≡ 0) ⊎ (status ≡ 7)
 sound_heap left reads held writes shown tells input input' output output' errors errors' status heaped bytes t r undisturbed pair meets =
     elim (heaped.complete undisturbed.read undisturbed.written) [
       | inl zero ↦ inl zero

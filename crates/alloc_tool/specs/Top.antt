@@ -6,14 +6,14 @@ use Rattle.edge_io.specs.Front.{AppendsFront}
 use Rattle.trace_reader.specs.declared.trace.Trace.{Trace}
 use Rattle.trace_reader.specs.Limits.{Spells}
 use Rattle.cycle_history.specs.declared.Report.{Report}
-use Rattle.cycle_history.specs.Sound.{HasForm, IsSoundAndUsed}
+use Rattle.tiny_alloc.specs.Versions.{HasFormByVersion, IsSoundByVersion}
 use Rattle.cycle_history.specs.Text.{report_text}
 use Rattle.trace_reader.specs.WholeInput.{ReadsAll}
 
--- a sound report of the trace that uses what it takes, with the profile of each mark end or that of the last
+-- a sound report of the trace that uses what it takes, by the rules of the trace's version, with the profile of each mark end or that of the last
 pub record IsAnswer (each : Bool) (trace : Trace) (report : Report) : Type 0 where
-  pub sound : IsSoundAndUsed trace report
-  pub form : HasForm trace report each
+  pub sound : IsSoundByVersion trace report
+  pub form : HasFormByVersion trace report each
 
 -- the text of such a report
 abbrev pub IsReportText : Bool → Trace → List ℕ → Type 0

@@ -20,7 +20,7 @@ abbrev pub IsClasses : List (String Global) → Type 0
 IsClasses words = IsWord (codes "classes") words
 
 -- a word, a seed below 2^64 and a number of objects from 1 to 1000000, in decimal digits
-pub record IsSeeded (word : List ℕ) (words : List (String Global)) (seed objects : ℕ) : Type 0 where
+pub record AsksForMade (word : List ℕ) (words : List (String Global)) (seed objects : ℕ) : Type 0 where
   pub spelled : map string_bytes words ≡ word ∷ decimal seed ∷ decimal objects ∷ []
   pub seed_limit : seed < 2 ^ 64
   pub some : 1 ≤ objects
@@ -28,11 +28,11 @@ pub record IsSeeded (word : List ℕ) (words : List (String Global)) (seed objec
 
 -- `gen` with a seed and a number of objects
 abbrev pub IsGen : List (String Global) → ℕ → ℕ → Type 0
-IsGen words seed objects = IsSeeded (codes "gen") words seed objects
+IsGen words seed objects = AsksForMade (codes "gen") words seed objects
 
 -- `demo` with a seed and a number of objects
 abbrev pub IsDemo : List (String Global) → ℕ → ℕ → Type 0
-IsDemo words seed objects = IsSeeded (codes "demo") words seed objects
+IsDemo words seed objects = AsksForMade (codes "demo") words seed objects
 
 -- the one word `check`
 abbrev pub IsCheck : List (String Global) → Type 0

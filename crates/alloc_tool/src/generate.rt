@@ -3,7 +3,7 @@
 ghost use Rattle.std.specs.Prelude.{ℕ, MatchOption};
 ghost use Rattle.commands.specs.Asks.{made_text};
 ghost use Rattle.alloc_tool.specs.Plain.{Writes};
-ghost use Rattle.alloc_tool.specs.Words.{IsSeeded};
+ghost use Rattle.alloc_tool.specs.Words.{AsksForMade};
 
 use commands::{MadeFault, Wanted, read_words, refuse_trace, stop_writing, write_made};
 use edge_io::Sink;
@@ -12,7 +12,7 @@ use trace_reader::TraceFault;
 
 /// The made trace that the words ask for, if they are this word, `SEED` and `OBJECTS`.
 pub(crate) fn wanted_by(words: &[String], word: &str) -> Option<Wanted>
-    ensures { MatchOption result ((seed objects : ℕ) → ¬ IsSeeded word.now words.now seed objects) (λ wanted. IsSeeded word.now words.now wanted.seed wanted.objects) }
+    ensures { MatchOption result ((seed objects : ℕ) → ¬ AsksForMade word.now words.now seed objects) (λ wanted. AsksForMade word.now words.now wanted.seed wanted.objects) }
 {
     if words.len() != 3 || words[0].as_str() != word {
         return None;

@@ -6,12 +6,12 @@ ghost use Rattle.edge_io.specs.Causes.{Rose};
 ghost use Rattle.edge_io.specs.Front.{AppendsFront};
 ghost use Rattle.commands.specs.Judged.{IsSound, Stops};
 ghost use Rattle.commands.specs.Pair.{BreaksOff, HasReadCause, IsReadFault};
-ghost use Rattle.report_check.specs.Fault.{BreaksRules, MeetsChecked};
+ghost use Rattle.tiny_check.specs.Fault.{BreaksVersion, MeetsVersion};
 ghost use Rattle.alloc_tool.specs.Checked.{Checked, check_text};
 ghost use Rattle.commands.specs.Texts.{status_text};
 ghost use Rattle.commands.specs.Told.{Tells};
 
-use check_parallel::check_parallel;
+use check_parallel::check_version_parallel;
 use commands::{Judge, Stop, Verdict, check_input, read_pair, refuse_pair, stop_writing};
 use cycle_history::Report;
 use edge_io::{Sink, Source, write_all};
@@ -20,16 +20,16 @@ use std::alloc::Global;
 use std::thread::Threads;
 use trace_reader::Trace;
 
-/// The rules of a sound report.
+/// The rules of a sound report, by the trace's version.
 struct Rules;
 
 impl Judge for Rules {
-    ghost Sound = { MeetsChecked };
+    ghost Sound = { MeetsVersion };
 
-    ghost Broken = { BreaksRules };
+    ghost Broken = { BreaksVersion };
 
     fn judge(&self, alloc: Global, trace: &Trace, report: &Report) -> Result<(), Verdict> {
-        match report_check::check(alloc, trace, report) {
+        match tiny_check::check(alloc, trace, report) {
             Ok(()) => Ok(()),
             Err(CheckFault::Broken { rule, line }) => Err(Verdict::Broken { rule, line }),
             Err(CheckFault::NoMemory) => Err(Verdict::NoMemory),
@@ -80,13 +80,13 @@ fn check_in_pieces<R: Threads + Sync, S: Source>(
 ) -> Result<(), Stop>
     requires some { 1 ≤ pieces }
     requires few { pieces ≤ 64 }
-    ensures sound { OnOk result (IsSound MeetsChecked (S.left input.old) (S.left input.new)) }
-    ensures stopped { IfErr result (Stops BreaksRules (S.left input.old) (S.left input.new)) }
+    ensures sound { OnOk result (IsSound MeetsVersion (S.left input.old) (S.left input.new)) }
+    ensures stopped { IfErr result (Stops BreaksVersion (S.left input.old) (S.left input.new)) }
     ensures broken_off { IfErr result (λ stop. IsReadFault stop → BreaksOff (S.left input.old) (S.left input.new)) }
     ensures cause { HasReadCause (S.faults input.old) (S.faults input.new) result }
 {
     let (trace, report) = read_pair(alloc, input)?;
-    match check_parallel(rt, alloc, &trace, &report, pieces) {
+    match check_version_parallel(rt, alloc, &trace, &report, pieces) {
         Ok(()) => Ok(()),
         Err(CheckFault::Broken { rule, line }) => Err(Stop::Verdict(Verdict::Broken {
             rule,

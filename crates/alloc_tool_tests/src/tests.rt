@@ -15,6 +15,7 @@ mod faults;
 mod judged;
 mod pieces;
 mod streams;
+mod tiny;
 mod watched;
 
 // The second line of most traces.

@@ -1,8 +1,7 @@
 -- The pieces of the objects, and one pass over a piece's objects.
-use Rattle.std.proofs.Common.{◌≡◌, ℕ, zero, suc, ◌/◌, ◌%◌, ◌≤◌, true, List, [], ◌∷◌, length, get_or, Some, refl, sym, ◌∙◌, ap, arith}
+use Rattle.std.proofs.Common.{◌≡◌, ℕ, zero, suc, ◌/◌, ◌%◌, ◌≤◌, true, List, [], ◌∷◌, length, get_or, Some, refl, ◌∙◌, ap}
 use Rattle.std.specs.List.{AllZip, slice_get}
 use Rattle.std.proofs.lemmas.Bool.{eqb-true}
-use Rattle.std.proofs.lemmas.Option.{get_or_from_slice_get}
 use Rattle.cycle_history.specs.declared.Answer.{Answer}
 use Rattle.cycle_history.specs.declared.Answer.TheVariants.{Missed, Placed, Zero}
 use Rattle.cycle_history.specs.Objects.{is_placed}

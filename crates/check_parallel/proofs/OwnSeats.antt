@@ -1,12 +1,11 @@
 -- Objects that get their seats in parts, and rule 4 by them.
-use Rattle.std.proofs.Common.{◌≡◌, ◌≢◌, ◌↔◌, ℕ, zero, suc, ◌+◌, ◌-◌, ◌^◌, ◌<◌, ◌≤◌, true, false, List, [], ◌∷◌, ◌++◌, take, drop, set, map, length, get_or, Option, Some, refl, sym, ◌∙◌, ap, subst, arith, length-append, inl, inr}
+use Rattle.std.proofs.Common.{◌≡◌, ◌≢◌, ℕ, zero, suc, ◌+◌, ◌-◌, ◌^◌, ◌<◌, ◌≤◌, true, false, List, [], ◌∷◌, ◌++◌, take, drop, set, map, length, get_or, Option, Some, refl, sym, ◌∙◌, ap, subst, arith, inl, inr}
 use Rattle.std.specs.List.{slice_get}
 use Rattle.std.specs.Option.{option_map}
 use Rattle.std.proofs.lemmas.Bool.{cases_eq, cases_lt}
-use Rattle.std.proofs.lemmas.List.{length-set, length-take-le, length-map, take_more, take_all}
+use Rattle.std.proofs.lemmas.List.{length-take-le, take_more, take_all}
 use Rattle.std.proofs.lemmas.Option.{slice_get-get_or, slice_get_within, slice_get-map, get_or_from_slice_get}
 use Rattle.size_classes.specs.declared.TheConstants.{MAX_CHUNKS}
-use Rattle.page_alloc.specs.Lives.{Life}
 use Rattle.page_alloc.specs.Journal.{at_end}
 use Rattle.page_bitmap.specs.declared.line.Line.{Line}
 use Rattle.trace_reader.specs.declared.span.Span.{Span}
@@ -15,7 +14,7 @@ use Rattle.trace_reader.specs.declared.trace.Trace.{Trace}
 use Rattle.cycle_history.specs.declared.Answer.{Answer}
 use Rattle.cycle_history.specs.declared.Answer.TheVariants.{Zero}
 use Rattle.cycle_history.specs.declared.Report.{Report}
-use Rattle.cycle_history.specs.Requests.{Request, is_within, marked_by, region_of, requests_from}
+use Rattle.cycle_history.specs.Requests.{Request, marked_by, region_of, requests_from}
 use Rattle.cycle_history.specs.Objects.{is_placed}
 use Rattle.cycle_history.specs.Rules.{AreSeated}
 use Rattle.cycle_history.specs.Before.{IsLimited, marks_at, objects_before}
@@ -25,8 +24,8 @@ use Rattle.report_check.specs.declared.asked.Asked.{Asked}
 use Rattle.report_check.specs.declared.cycle_lives.Opened.{Opened}
 use Rattle.report_check.specs.declared.items.Item.{Item}
 use Rattle.report_check.specs.declared.lives.OpenLife.{OpenLife}
-use Rattle.report_check.specs.Items.{AreRequests, IsItem, object_of, objects_of, request_of}
-use Rattle.report_check.specs.Lives.{AreLives, IsOne}
+use Rattle.report_check.specs.Items.{AreRequests, IsItem, objects_of, request_of}
+use Rattle.report_check.specs.Lives.{AreLives}
 use Rattle.report_check.specs.Ledgers.{IsOpenTo}
 use Rattle.report_check.specs.Seats.{AllKept, AreSeatedIn, HasOne, IsFirstLost}
 use Rattle.report_check.proofs.Answered.{AreDone, done-all, done-more, done-none, size-at}
@@ -34,7 +33,7 @@ use Rattle.report_check.proofs.Lasting.{cycles-rise}
 use Rattle.report_check.proofs.Ledgers.{open-later}
 use Rattle.report_check.proofs.Lost.{Of}
 use Rattle.report_check.proofs.Settled.{AreSettled, IsAsked, asked-at, at-cycle, settled-all, settled-more, settled-none}
-use Rattle.check_parallel.specs.Seating.{ArePartSeated, AreSeatedItems, AreSeatedTo, HasOwnSeat, HaveOwnSeats, IsItemsPart, IsSeatedAs, KeepsAt, KeepsIn}
+use Rattle.check_parallel.specs.Seating.{ArePartSeated, AreSeatedTo, HaveOwnSeats, IsItemsPart, IsSeatedAs, KeepsAt, KeepsIn}
 
 -- ---- lists
 

@@ -6,6 +6,8 @@
 //! and 4. Where one of these is broken, or the third, the judges of the whole say which and at which line. Then it judges beside each
 //! other: the third rule; the overlaps and the filling in pieces of the size classes (`pieces`, by the bytes of `homes`), whose answers
 //! are joined by the least line (`least`); and what is left of the sweeps, the totals and the profile (`closing`).
+//!
+//! `check_version_parallel` (`versions`) answers so what `check` of `tiny_check` answers of a trace of any version.
 #![tactic(auto)]
 
 mod closing;
@@ -16,5 +18,7 @@ mod marking;
 mod pieces;
 mod seating;
 mod settled;
+mod versions;
 
 pub use judge::check_parallel;
+pub use versions::check_version_parallel;

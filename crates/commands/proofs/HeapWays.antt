@@ -7,7 +7,7 @@ use Rattle.trace_reader.specs.declared.fault.TraceFault.{TraceFault}
 use Rattle.trace_reader.specs.declared.fault.TraceFault.TheVariants.{ReadFault, Malformed, Truncated, Limit, BadMark, NoMemory}
 use Rattle.report_text.specs.declared.fault.ReportFault.{ReportFault}
 use Rattle.report_text.specs.declared.fault.ReportFault.TheVariants.{ReadFault as Unread, Malformed as OddLine, Truncated as EndsEarly, Limit as TooLong, NoMemory as OutOfMemory}
-use Rattle.report_check.specs.Fault.{BreaksRules}
+use Rattle.tiny_check.specs.Fault.{BreaksVersion}
 use Rattle.commands.specs.declared.stop.Stop.{Stop}
 use Rattle.commands.specs.declared.stop.Stop.TheVariants.{Trace as OfTrace, Report as OfReport, Verdict as OfVerdict}
 use Rattle.commands.specs.declared.stop.Verdict.TheVariants.{Broken, NoMemory as NoRoom}
@@ -49,7 +49,7 @@ heaped_ok left reads held writes shown tells input input' output output' errors 
 -- a fault of the trace or of the report, a broken rule, a read fault or want of memory
 abbrev Way : {S K E : Type 0} (left : S → Option (List ℕ)) (reads : S → ℕ) (held : K → Option (List ℕ)) (writes : K → ℕ) (shown : E → Option (List ℕ)) (tells : E → ℕ) (input input' : S) (output : K) (errors errors' : E) (stop : Stop) (status : ℕ) → Type 0
 Way left reads held writes shown tells input input' output errors errors' stop status =
-    Stops BreaksRules (left input) (left input') stop → (stop ≡ OfTrace ReadFault → Rose (reads input) (reads input')) → (stop ≡ OfReport Unread → Rose (reads input) (reads input')) → (IsReadFault stop → BreaksOff (left input) (left input')) → status ≡ stop_status stop → Tells shown tells errors errors' (stop_text stop)
+    Stops BreaksVersion (left input) (left input') stop → (stop ≡ OfTrace ReadFault → Rose (reads input) (reads input')) → (stop ≡ OfReport Unread → Rose (reads input) (reads input')) → (IsReadFault stop → BreaksOff (left input) (left input')) → status ≡ stop_status stop → Tells shown tells errors errors' (stop_text stop)
     → Heaped left reads held writes shown tells input input' output output errors errors' status
 
 three_way : {S K E : Type 0} (left : S → Option (List ℕ)) (reads : S → ℕ) (held : K → Option (List ℕ)) (writes : K → ℕ) (shown : E → Option (List ℕ)) (tells : E → ℕ) (input input' : S) (output : K) (errors errors' : E) (fault : TraceFault) (status : ℕ) → stop_status (OfTrace fault) ≡ 3

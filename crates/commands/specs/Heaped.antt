@@ -1,5 +1,5 @@
 -- How a call of `heap` ends, by its status.
-use Rattle.std.specs.Prelude.{◌≡◌, ◌≢◌, ℕ, List, Option, ◌⊎◌}
+use Rattle.std.specs.Prelude.{◌≡◌, ◌≢◌, ℕ, ◌<◌, ◌≤◌, List, Option, ◌⊎◌}
 use Rattle.std.specs.Io.KnownBytes.{Appends}
 use Rattle.edge_io.specs.Causes.{Rose}
 use Rattle.edge_io.specs.Front.{AppendsFront}
@@ -9,7 +9,11 @@ use Rattle.trace_reader.specs.Told.{IsOfTrace}
 use Rattle.cycle_history.specs.declared.Report.{Report}
 use Rattle.report_text.specs.declared.fault.ReportFault.{ReportFault}
 use Rattle.report_text.specs.Read.{IsOfReport}
-use Rattle.report_check.specs.Fault.{BreaksRules, MeetsChecked}
+use Rattle.cycle_history.specs.declared.Answer.{Answer}
+use Rattle.tiny_alloc.specs.declared.base.Based.{Based}
+use Rattle.tiny_alloc.specs.Base.{IsBase}
+use Rattle.cycle_history.specs.declared.versions.TheConstants.{TINY_VERSION}
+use Rattle.tiny_check.specs.Fault.{BreaksVersion, MeetsVersion}
 use Rattle.commands.specs.declared.stop.Stop.TheVariants.{Trace as OfTrace, Report as OfReport}
 use Rattle.commands.specs.Pair.{BreaksOff, ReadsPair, Refuses}
 use Rattle.heap_text.specs.declared.text.HeapText.{HeapText}
@@ -18,15 +22,20 @@ use Rattle.heap_text.specs.Text.{heap_text}
 use Rattle.commands.specs.Texts.{fault_text, report_fault_text, rule_text, status_text}
 use Rattle.commands.specs.Told.{Tells}
 
+-- The heap profile is that of a trace and its answers, by the trace's version: of a trace with tiny objects it is that of the base.
+pub record IsHeapOfVersion (t : Trace) (answers : List Answer) (heap : HeapText) : Type 0 where
+  pub plain : t.header.version < TINY_VERSION → IsHeapOf t answers heap
+  pub tiny : TINY_VERSION ≤ t.header.version → (based : Based) × IsBase t answers based × IsHeapOf based.trace based.answers heap
+
 -- A trace was read, and behind it the text of a sound report to the end of the input, and the heap profile is that of the trace and the
 -- printed answers.
 abbrev pub MakesHeap : (left left' : Option (List ℕ)) → HeapText → Type 0
-MakesHeap left left' heap = (trace : Trace) × (report : Report) × ReadsPair left left' trace report × MeetsChecked trace report × IsHeapOf trace report.answers heap
+MakesHeap left left' heap = (trace : Trace) × (report : Report) × ReadsPair left left' trace report × MeetsVersion trace report × IsHeapOfVersion trace report.answers heap
 
--- A trace was read, and behind it the text of a report to the end of the input, and the report breaks this rule first, at
--- this line.
+-- A trace was read, and behind it the text of a report to the end of the input, and the report breaks this rule first, of those of
+-- the trace's version, at this line.
 abbrev pub BreaksAt : (left left' : Option (List ℕ)) → ℕ → ℕ → Type 0
-BreaksAt left left' rule line = (trace : Trace) × (report : Report) × ReadsPair left left' trace report × BreaksRules trace report rule line
+BreaksAt left left' rule line = (trace : Trace) × (report : Report) × ReadsPair left left' trace report × BreaksVersion trace report rule line
 
 -- What each status says of the input, of the output and of what is told on the errors. `left`, `held` and `shown` give
 -- the bytes of the three streams where they tell them, and `reads`, `writes` and `tells` count their faults.

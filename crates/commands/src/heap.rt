@@ -4,22 +4,27 @@ ghost use Rattle.std.specs.Prelude.{◌≡◌, ◌⊎◌, IfErr, IfOk};
 ghost use Rattle.std.specs.Io.KnownBytes.{Appends};
 ghost use Rattle.edge_io.specs.Causes.{Rose};
 ghost use Rattle.edge_io.specs.Front.{AppendsFront};
-ghost use Rattle.report_check.specs.Fault.{BreaksRules};
+ghost use Rattle.cycle_history.specs.Before.{IsLimited};
+ghost use Rattle.tiny_check.specs.Fault.{BreaksVersion, MeetsVersion};
 ghost use Rattle.commands.specs.Judged.{Stops};
 ghost use Rattle.commands.specs.Pair.{BreaksOff, HasReadCause, IsReadFault};
 ghost use Rattle.heap_text.specs.Lawful.{IsLawful};
 ghost use Rattle.heap_text.specs.Text.{heap_text};
 ghost use Rattle.commands.specs.Texts.{status_text};
 ghost use Rattle.commands.specs.Told.{Tells};
-ghost use Rattle.commands.specs.Heaped.{Heaped, MakesHeap};
+ghost use Rattle.commands.specs.Heaped.{Heaped, IsHeapOfVersion, MakesHeap};
 
 use crate::pair::read_pair;
 use crate::refusals::{refuse_pair, stop_writing};
 use crate::stop::{Stop, Verdict};
+use cycle_history::{Report, TINY_VERSION};
 use edge_io::{NoMemory, Sink, Source};
 use heap_text::{HeapText, heap_of, write_heap};
-use report_check::{CheckFault, check};
+use report_check::CheckFault;
 use std::alloc::Global;
+use tiny_alloc::base_of;
+use tiny_check::check;
+use trace_reader::Trace;
 
 /// Reads a trace, and behind it a report, judges the report, and where it is sound writes the heap profile as of the last mark end.
 /// Answers the exit status.
@@ -41,7 +46,7 @@ pub fn show_heap<S: Source, K: Sink, E: Sink>(
 fn heap_in<S: Source>(alloc: Global, input: &mut S) -> Result<HeapText, Stop>
     ensures makes { IfOk result (λ heap. MakesHeap (S.left input.old) (S.left input.new) heap) }
     ensures lawful { IfOk result (λ heap. IsLawful heap) }
-    ensures stopped { IfErr result (Stops BreaksRules (S.left input.old) (S.left input.new)) }
+    ensures stopped { IfErr result (Stops BreaksVersion (S.left input.old) (S.left input.new)) }
     ensures broken_off { IfErr result (λ stop. IsReadFault stop → BreaksOff (S.left input.old) (S.left input.new)) }
     ensures cause { HasReadCause (S.faults input.old) (S.faults input.new) result }
 {
@@ -53,10 +58,24 @@ fn heap_in<S: Source>(alloc: Global, input: &mut S) -> Result<HeapText, Stop>
         }
         Err(CheckFault::NoMemory) => return Err(Stop::Verdict(Verdict::NoMemory)),
     }
-    match heap_of(alloc, &trace, &report.answers) {
+    match heap_by_version(alloc, &trace, &report) {
         Ok(heap) => Ok(heap),
         Err(NoMemory) => Err(Stop::Verdict(Verdict::NoMemory)),
     }
+}
+
+// The heap profile of a sound report: of a trace with tiny objects it is that of the base.
+fn heap_by_version(alloc: Global, trace: &Trace, report: &Report) -> Result<HeapText, NoMemory>
+    requires limited { IsLimited trace.now }
+    requires sound { MeetsVersion trace.now report.now }
+    ensures heap { IfOk result (IsHeapOfVersion trace.now report.now.answers) }
+    ensures lawful { IfOk result (λ heap. IsLawful heap) }
+{
+    if trace.header.version < TINY_VERSION {
+        return heap_of(alloc, trace, &report.answers);
+    }
+    let base = base_of(alloc, trace, &report.answers)?;
+    heap_of(alloc, &base.trace, &base.answers)
 }
 
 // Writes the profile's text.

@@ -100,7 +100,7 @@ found-more t answers places item old one i found at =
 
 -- ---- more answers
 
-get-front : {X : Type 0} (xs ys : List X) (i : ℕ) → i < length xs → slice_get (xs ++ ys) i ≡ slice_get xs i
+pub get-front : {X : Type 0} (xs ys : List X) (i : ℕ) → i < length xs → slice_get (xs ++ ys) i ≡ slice_get xs i
 get-front [] ys i lt = absurd (omega arith)
 get-front (x ∷ xs) ys zero lt = refl
 get-front (x ∷ xs) ys (suc i) lt = get-front xs ys i (omega arith)

@@ -16,3 +16,4 @@ pub mod Counted
 pub mod Sampling
 pub mod Making
 pub mod PlainJournals
+pub mod Alike

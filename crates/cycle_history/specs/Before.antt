@@ -45,3 +45,8 @@ requests_before t m = reverse (requests_from 0 (take m t.cycles))
 pub record AreObjectsBefore (t : Trace) (m : ℕ) (answers : List Answer) (objects : List Object) : Type 0 where
   pub asked : AreAnswered (requests_before t m) objects
   pub printed : map (λ (o : Object). o.answer) objects ≡ reverse answers
+
+-- Two traces have the same header, and the same cycles before mark end m.
+pub record AreAlike (m : ℕ) (t u : Trace) : Type 0 where
+  pub header : t.header ≡ u.header
+  pub cycles : take m t.cycles ≡ take m u.cycles

@@ -14,6 +14,7 @@ mod lookups;
 mod marks;
 mod places;
 mod totals;
+mod versions;
 
 use edge_io::List;
 pub use laws::{
@@ -26,6 +27,7 @@ use page_bitmap::Line;
 pub use places::{PackedPlace, Place};
 use span_state::SweepNote;
 pub use totals::totals_of;
+pub use versions::{CACHING_VERSION, TINY_VERSION, caching_procs};
 
 /// What an allocation answers.
 #[derive(Clone, Copy, Debug, PartialEq, Eq)]

@@ -1,6 +1,6 @@
 -- What the turns of workers leave behind.
-use Rattle.std.proofs.Common.{◌≡◌, ◌≢◌, ℕ, suc, ◌+◌, ◌<◌, Bool, true, false, List, [], ◌∷◌, ◌++◌, map, reverse, take, length, get_or, Option, None, Result, Ok, Err, OnOk, refl, sym, ◌∙◌, ap, arith, inl, inr, subst}
-use Rattle.std.proofs.lemmas.List.{append_assoc, append-nil, reverse-append, take_more}
+use Rattle.std.proofs.Common.{◌≡◌, ◌≢◌, ℕ, suc, ◌<◌, Bool, true, false, List, [], ◌∷◌, ◌++◌, map, reverse, length, Option, None, Result, Ok, Err, OnOk, refl, sym, ◌∙◌, ap, arith, inl, inr, subst}
+use Rattle.std.proofs.lemmas.List.{append_assoc, append-nil, reverse-append}
 use Rattle.page_alloc.specs.Lists.{In}
 use Rattle.span_state.specs.declared.sweep.SweepNote.{SweepNote}
 use Rattle.trace_reader.specs.declared.trace.Event.{Event}
@@ -501,15 +501,6 @@ pub back-cached : (P : List Entry → Type 0) (i : ℕ) (old start end new : Han
     → (part_at new.worker i).cached ≡ (part_at old.worker i).cached
 back-cached P i old start end new o acted back same =
     ap (λ (h : Part). h.cached) (back-part P i old start end new o acted back) ∙ same ∙ ap (λ (h : Part). h.cached) (out-part i old start o)
-
--- ---- one event after another
-
-pub answers-more : (events : List Event) (answers : List Answer) (t : ℕ) (d : Event) (a : Answer) (first later : List Entry) → t < length events → SaysAnswers (reverse (take t events)) (reverse answers) first
-    → SaysAnswers (get_or events t d ∷ []) (a ∷ []) later → SaysAnswers (reverse (take (t + 1) events)) (reverse (answers ++ a ∷ [])) (later ++ first)
-answers-more events answers t d a first later lt was now =
-    let es : reverse (take (t + 1) events) ≡ get_or events t d ∷ reverse (take t events) = ap (λ (l : List Event). reverse l) (take_more events t d lt) ∙ reverse-append (take t events) (get_or events t d ∷ []) in
-    let turned : reverse (answers ++ a ∷ []) ≡ a ∷ reverse answers = reverse-append answers (a ∷ []) in
-    rw (es, turned) (answers-then (get_or events t d ∷ []) (reverse (take t events)) (a ∷ []) (reverse answers) later first now was)
 
 pub ok-map : {T E : Type 0} (result : Result T E) (P Q : Type 0) → (P → Q) → OnOk result P → OnOk result Q
 ok-map (Ok x) P Q f h = f h

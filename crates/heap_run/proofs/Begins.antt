@@ -9,6 +9,7 @@ use Rattle.span_state.specs.MarkSet.{has_pair}
 use Rattle.span_state.specs.declared.sweep.SweepNote.{SweepNote}
 use Rattle.sweep_laws.specs.Start.{copies}
 use Rattle.trace_reader.specs.declared.trace.Trace.{Trace}
+use Rattle.trace_reader.specs.declared.trace.Header.{Header}
 use Rattle.cycle_history.specs.declared.Answer.{Answer}
 use Rattle.cycle_history.specs.declared.places.Place.{Place}
 use Rattle.cycle_history.specs.Found.{AreFound}
@@ -33,7 +34,7 @@ use Rattle.profile_cycle.specs.Sampling.{Countdown, countdown}
 use Rattle.profile_lines.specs.Counted.{IsCounting}
 use Rattle.profile_lines.specs.Read.{AreDifferent, IsOrder}
 use Rattle.profile_lines.specs.Told.{HasTold}
-use Rattle.run_profile.specs.Naming.{KnowsBuckets}
+use Rattle.heap_run.specs.Naming.{KnowsBuckets}
 use Rattle.heap_run.specs.Parts.{part_at}
 use Rattle.heap_run.specs.Runs.{HasBegun}
 use Rattle.heap_run.specs.Turns.{IsCaching, no_cache}
@@ -76,6 +77,31 @@ pub record HasStarted (t : Trace) (workers slots : ℕ) (run : Run) : Type 0 whe
   pub order : IsOrder run.profile.known run.profile.order
   pub before : run.profile.before.items ≡ map (λ (n : ℕ). record { allocs = 0; frees = 0 }) run.profile.order
   pub lines : run.profile.lines ≡ []
+
+-- what has started with the header of one trace has started with that of each that has the same
+pub started-as : (own t : Trace) (workers slots : ℕ) (run : Run) → t.header ≡ own.header → KnowsBuckets t run.profile.known → HasStarted own workers slots run → HasStarted t workers slots run
+started-as own t workers slots run same named s = subst (λ (h : Header). HasStarted (record t { header = h }) workers slots run) (sym same) (record {
+  worker = s.worker;
+  notes = s.notes;
+  procs = s.procs;
+  empty = s.empty;
+  marks = s.marks;
+  answers = s.answers;
+  sweeps = s.sweeps;
+  sampled = s.sampled;
+  buckets = s.buckets;
+  places = s.places;
+  clear = s.clear;
+  dead = s.dead;
+  tally = s.tally;
+  some = s.some;
+  room = s.room;
+  different = s.different;
+  named = subst (λ (h : Header). KnowsBuckets (record t { header = h }) run.profile.known) same named;
+  order = s.order;
+  before = s.before;
+  lines = s.lines;
+})
 
 first-part : (region goal procs workers i : ℕ) → get_or (parts_of 69 (first_view region goal procs workers)) i no_part ≡ no_part
 first-part region goal procs workers i =

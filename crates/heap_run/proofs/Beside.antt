@@ -1,5 +1,5 @@
 -- The driver as the first worker has gone out, and as the last one is back.
-use Rattle.std.proofs.Common.{◌≡◌, ℕ, ◌+◌, ◌-◌, ◌<◌, ◌≤◌, List, [], ◌++◌, drop, map, reverse, take, length, get_or, refl, sym, ◌∙◌, ap, arith, inl, inr, subst}
+use Rattle.std.proofs.Common.{◌≡◌, ℕ, ◌+◌, ◌-◌, ◌<◌, ◌≤◌, Bool, List, [], ◌++◌, drop, map, reverse, take, length, get_or, refl, sym, ◌∙◌, ap, arith, inl, inr, subst}
 use Rattle.std.proofs.lemmas.Bool.{cases_lt}
 use Rattle.std.proofs.lemmas.List.{get_or_past}
 use Rattle.atomic_table.specs.Seated.{TableId}
@@ -21,13 +21,15 @@ use Rattle.heap_run.specs.Out.{AreOf, AreSent, AreStillOut, HasLent, HasOut, Has
 use Rattle.heap_run.specs.Lanes.{HasDone}
 use Rattle.heap_run.specs.Parts.{IsSameRun, part_at}
 use Rattle.heap_run.specs.Swept.{Made, note_at}
+use Rattle.heap_run.specs.Riding.{HaveRidden}
 use Rattle.heap_run.specs.Turns.{HaveAnswered, IsCaching, IsCollecting, IsDriving, SaysNone, no_cache}
-use Rattle.heap_run.specs.declared.cycle.Given.{Given}
+use Rattle.heap_run.specs.declared.cycle.LentLists.{LentLists}
 use Rattle.heap_run.specs.declared.lanes.Lane.{Lane}
 use Rattle.heap_run.specs.declared.going_out.Start.{Start}
 use Rattle.heap_run.proofs.Counting.{counts-as, counts-none, counts-same}
 use Rattle.heap_run.proofs.Driving.{answered-all, answered-none}
 use Rattle.heap_run.proofs.Gains.{gains-all, kept-none}
+use Rattle.heap_run.proofs.Riding.{ridden-all}
 use Rattle.heap_run.proofs.Sampling.{sampled-all, sampled-none}
 use Rattle.heap_run.proofs.Stacks.{all-these, of-each, rises-busy, rises-helpers, rises-low}
 use Rattle.heap_run.proofs.Taken.{whole-end}
@@ -64,9 +66,9 @@ sent-outs start d is sent rises = record {
   parts = all-these (λ (i : ℕ). part_at d.worker i ≡ part_at start.worker i) is (sent-part start d is sent);
 }
 
-pub sent-taken : (table : TableId) (ring : RingId) (m : MarkSet) (s : Start) (queues : List (List Event)) (numbers : List (List ℕ)) (is : List ℕ) (procs : List Cache) (given : Given) (d : Hand)
-    → MayStart table ring m s → HasSent s.driver.value is d → HasLent s queues given → procs ≡ [] → HasTaken s m queues numbers 0 procs given d
-sent-taken table ring m s queues numbers is procs given d starts sent lists none =
+pub sent-taken : (riding : Bool) (table : TableId) (ring : RingId) (m : MarkSet) (s : Start) (queues : List (List Event)) (numbers : List (List ℕ)) (is : List ℕ) (procs : List Cache) (given : LentLists) (d : Hand)
+    → MayStart table ring m s → HasSent s.driver.value is d → HasLent s queues given → procs ≡ [] → HasTaken riding s m queues numbers 0 procs given d
+sent-taken riding table ring m s queues numbers is procs given d starts sent lists none =
     let start = s.driver.value in
     let parts = sent-part start d is sent in
     let worker = sent.worker in
@@ -96,16 +98,17 @@ sent-taken table ring m s queues numbers is procs given d starts sent lists none
       rest_too = λ w high. lists.rest_too w;
       kept = λ w low. absurd (omega arith);
       kept_too = λ w low. absurd (omega arith);
-      answered = answered-none queues (at_home start d).worker (λ w. subst (λ (h : Part). SaysNone h.log) (sym (parts w)) (starts.quiet w));
-      sampled_are = subst (λ (l : List Cache). HaveSampledTo queues 0 [] [] old l) all (sampled-none queues old);
+      answered = answered-none riding queues (at_home start d).worker (λ w. subst (λ (h : Part). SaysNone h.log) (sym (parts w)) (starts.quiet w));
+      riders = λ w low. absurd (omega arith);
+      sampled_are = subst (λ (l : List Cache). HaveSampledTo riding queues 0 [] [] old l) all (sampled-none riding queues old);
       counts = counts-same m _ _ start (at_home start d) (counts-none m start (at_home start d) sent.notes tally) (λ b. refl);
     }
 
 -- ---- all are back
 
-pub end-driving : (table : TableId) (ring : RingId) (m : MarkSet) (s : Start) (queues : List (List Event)) (numbers : List (List ℕ)) (procs : List Cache) (given : Given) (d : Hand)
-    → HasTaken s m queues numbers (length s.procs.value.items) procs given d → HasOut s.driver.value [] d → IsDriving s.driver.value.worker procs d
-end-driving table ring m s queues numbers procs given d were outs =
+pub end-driving : (riding : Bool) (table : TableId) (ring : RingId) (m : MarkSet) (s : Start) (queues : List (List Event)) (numbers : List (List ℕ)) (procs : List Cache) (given : LentLists) (d : Hand)
+    → HasTaken riding s m queues numbers (length s.procs.value.items) procs given d → HasOut s.driver.value [] d → IsDriving s.driver.value.worker procs d
+end-driving riding table ring m s queues numbers procs given d were outs =
     let start = s.driver.value in
     let old = s.procs.value.items in
     let home = subst (λ (l : List Cache). IsDriving start.worker l (at_home start d)) (whole-end procs old (length old) (omega arith)) were.driving in
@@ -123,27 +126,34 @@ end-driving table ring m s queues numbers procs given d were outs =
       carried = home.same.carried;
     }) (λ i. refl)
 
-pub end-answered : (s : Start) (m : MarkSet) (queues : List (List Event)) (numbers : List (List ℕ)) (procs : List Cache) (given : Given) (d : Hand) → length queues ≡ length s.procs.value.items → length s.given.value.answers.items ≡ length s.procs.value.items
-    → HasTaken s m queues numbers (length s.procs.value.items) procs given d → HaveAnswered queues (gains s.given.value.answers.items given.answers.items) d.worker
-end-answered s m queues numbers procs given d count lists were =
+pub end-answered : (riding : Bool) (s : Start) (m : MarkSet) (queues : List (List Event)) (numbers : List (List ℕ)) (procs : List Cache) (given : LentLists) (d : Hand) → length queues ≡ length s.procs.value.items → length s.given.value.answers.items ≡ length s.procs.value.items
+    → HasTaken riding s m queues numbers (length s.procs.value.items) procs given d → HaveAnswered riding queues (gains s.given.value.answers.items given.answers.items) d.worker
+end-answered riding s m queues numbers procs given d count lists were =
     let n = length s.procs.value.items in
     let all = gains-all s.given.value.answers.items given.answers.items n (omega arith) were.lists in
-    subst (λ (l : List (List Answer)). HaveAnswered queues l d.worker) all (answered-all queues n (take n (gains s.given.value.answers.items given.answers.items)) (at_home s.driver.value d).worker (omega arith) were.answered)
+    subst (λ (l : List (List Answer)). HaveAnswered riding queues l d.worker) all (answered-all riding queues n (take n (gains s.given.value.answers.items given.answers.items)) (at_home s.driver.value d).worker (omega arith) were.answered)
 
-pub end-sampled : (s : Start) (m : MarkSet) (queues : List (List Event)) (numbers : List (List ℕ)) (procs : List Cache) (given : Given) (d : Hand) → length s.given.value.answers.items ≡ length s.procs.value.items → length s.given.value.sampled.items ≡ length s.procs.value.items
-    → HasTaken s m queues numbers (length s.procs.value.items) procs given d
-    → HaveSampled queues (gains s.given.value.answers.items given.answers.items) (gains s.given.value.sampled.items given.sampled.items) s.procs.value.items procs
-end-sampled s m queues numbers procs given d lists lists_too were =
+pub end-riders : (riding : Bool) (s : Start) (m : MarkSet) (queues : List (List Event)) (numbers : List (List ℕ)) (procs : List Cache) (given : LentLists) (d : Hand) → length queues ≡ length s.procs.value.items → length s.given.value.answers.items ≡ length s.procs.value.items
+    → HasTaken riding s m queues numbers (length s.procs.value.items) procs given d → HaveRidden riding queues (gains s.given.value.answers.items given.answers.items)
+end-riders riding s m queues numbers procs given d count lists were =
+    let n = length s.procs.value.items in
+    let all = gains-all s.given.value.answers.items given.answers.items n (omega arith) were.lists in
+    subst (λ (l : List (List Answer)). HaveRidden riding queues l) all (ridden-all riding queues n (take n (gains s.given.value.answers.items given.answers.items)) (omega arith) (let a = were.answered.size in omega arith) were.riders)
+
+pub end-sampled : (riding : Bool) (s : Start) (m : MarkSet) (queues : List (List Event)) (numbers : List (List ℕ)) (procs : List Cache) (given : LentLists) (d : Hand) → length s.given.value.answers.items ≡ length s.procs.value.items → length s.given.value.sampled.items ≡ length s.procs.value.items
+    → HasTaken riding s m queues numbers (length s.procs.value.items) procs given d
+    → HaveSampled riding queues (gains s.given.value.answers.items given.answers.items) (gains s.given.value.sampled.items given.sampled.items) s.procs.value.items procs
+end-sampled riding s m queues numbers procs given d lists lists_too were =
     let old = s.procs.value.items in
     let n = length old in
     let all = gains-all s.given.value.answers.items given.answers.items n (omega arith) were.lists in
     let all_too = gains-all s.given.value.sampled.items given.sampled.items n (omega arith) were.lists_too in
-    let ended = subst (λ (l : List Cache). HaveSampledTo queues n (take n (gains s.given.value.answers.items given.answers.items)) (take n (gains s.given.value.sampled.items given.sampled.items)) old l) (whole-end procs old n (omega arith)) were.sampled_are in
-    rw (all, all_too) at (sampled-all queues n (take n (gains s.given.value.answers.items given.answers.items)) (take n (gains s.given.value.sampled.items given.sampled.items)) old procs (omega arith) ended)
+    let ended = subst (λ (l : List Cache). HaveSampledTo riding queues n (take n (gains s.given.value.answers.items given.answers.items)) (take n (gains s.given.value.sampled.items given.sampled.items)) old l) (whole-end procs old n (omega arith)) were.sampled_are in
+    rw (all, all_too) at (sampled-all riding queues n (take n (gains s.given.value.answers.items given.answers.items)) (take n (gains s.given.value.sampled.items given.sampled.items)) old procs (omega arith) ended)
 
-pub end-counts : (s : Start) (m : MarkSet) (queues : List (List Event)) (numbers : List (List ℕ)) (procs : List Cache) (given : Given) (d : Hand) → length s.given.value.sampled.items ≡ length s.procs.value.items → HasTaken s m queues numbers (length s.procs.value.items) procs given d → HasOut s.driver.value [] d
+pub end-counts : (riding : Bool) (s : Start) (m : MarkSet) (queues : List (List Event)) (numbers : List (List ℕ)) (procs : List Cache) (given : LentLists) (d : Hand) → length s.given.value.sampled.items ≡ length s.procs.value.items → HasTaken riding s m queues numbers (length s.procs.value.items) procs given d → HasOut s.driver.value [] d
     → Counts m (all_counts (length s.procs.value.items) (gains s.given.value.sampled.items given.sampled.items) numbers) s.driver.value d
-end-counts s m queues numbers procs given d lists_too were outs =
+end-counts riding s m queues numbers procs given d lists_too were outs =
     let start = s.driver.value in
     let n = length s.procs.value.items in
     let all_too = gains-all s.given.value.sampled.items given.sampled.items n (omega arith) were.lists_too in
@@ -163,26 +173,26 @@ end-kept n was now long same kept w = elim (cases_lt w n) [
 
 -- ---- from those that are out to those that are back
 
-pub still-all : (table : TableId) (ring : RingId) (m : MarkSet) (s : Start) (queues : List (List Event)) (numbers : List (List ℕ)) (background : ℕ) (lanes lanes' : List Lane) (stay procs : List Cache) (given : Given) (d : Hand)
-    → MayStart table ring m s → background ≤ 4 → AreSent s queues background 0 lanes stay procs given d → length lanes' ≡ length lanes → ((k : ℕ) (x : Lane) → k < length lanes → HasDone m queues numbers (get_or lanes k x) (get_or lanes' k x))
-    → AreStillOut s m queues numbers background 0 lanes' stay procs given d
-still-all table ring m s queues numbers background lanes lanes' stay procs given d starts few sent same each =
+pub still-all : (riding : Bool) (table : TableId) (ring : RingId) (m : MarkSet) (s : Start) (queues : List (List Event)) (numbers : List (List ℕ)) (background : ℕ) (lanes lanes' : List Lane) (stay procs : List Cache) (given : LentLists) (d : Hand)
+    → MayStart table ring m s → background ≤ 4 → AreSent s queues background 0 lanes stay procs given d → length lanes' ≡ length lanes → ((k : ℕ) (x : Lane) → k < length lanes → HasDone riding m queues numbers (get_or lanes k x) (get_or lanes' k x))
+    → AreStillOut riding s m queues numbers background 0 lanes' stay procs given d
+still-all riding table ring m s queues numbers background lanes lanes' stay procs given d starts few sent same each =
     let n = length s.procs.value.items in
     let is = busy queues (n - 0) 0 ++ helpers background in
     let most = starts.few in
     let high : RisesFrom (0 + (n - 0)) (helpers background) = rises-low (0 + (n - 0)) 64 (helpers background) (omega arith) (rises-helpers background few) in
     record {
       outs = sent-outs s.driver.value d is sent.sent (rises-busy queues (n - 0) 0 (helpers background) high);
-      back = of-each (IsSent s) (IsBack s m queues numbers) (HasDone m queues numbers) is lanes lanes' sent.went same each (λ i l l' out ran. record { before = l; sent = out; ran = ran });
+      back = of-each (IsSent s) (IsBack riding s m queues numbers) (HasDone riding m queues numbers) is lanes lanes' sent.went same each (λ i l l' out ran. record { before = l; sent = out; ran = ran });
       stays = sent.stays;
-      taken = sent-taken table ring m s queues numbers is procs given d starts sent.sent sent.lent sent.long;
+      taken = sent-taken riding table ring m s queues numbers is procs given d starts sent.sent sent.lent sent.long;
     }
 
-pub end-outs : (m : MarkSet) (s : Start) (queues : List (List Event)) (numbers : List (List ℕ)) (background : ℕ) (lanes : List Lane) (stay procs : List Cache) (given : Given) (d : Hand)
-    → AreStillOut s m queues numbers background (length s.procs.value.items) lanes stay procs given d → HasOut s.driver.value (helpers background) d × AreOf (IsBack s m queues numbers) (helpers background) lanes
-end-outs m s queues numbers background lanes stay procs given d were =
+pub end-outs : (riding : Bool) (m : MarkSet) (s : Start) (queues : List (List Event)) (numbers : List (List ℕ)) (background : ℕ) (lanes : List Lane) (stay procs : List Cache) (given : LentLists) (d : Hand)
+    → AreStillOut riding s m queues numbers background (length s.procs.value.items) lanes stay procs given d → HasOut s.driver.value (helpers background) d × AreOf (IsBack riding s m queues numbers) (helpers background) lanes
+end-outs riding m s queues numbers background lanes stay procs given d were =
     let n = length s.procs.value.items in
     let none : busy queues (n - n) n ++ helpers background ≡ helpers background = ap (λ (k : ℕ). busy queues k n ++ helpers background) (let z : n - n ≡ 0 = omega arith in z) in (
       subst (λ (is : List ℕ). HasOut s.driver.value is d) none were.outs,
-      subst (λ (is : List ℕ). AreOf (IsBack s m queues numbers) is lanes) none were.back,
+      subst (λ (is : List ℕ). AreOf (IsBack riding s m queues numbers) is lanes) none were.back,
     )

@@ -1,5 +1,5 @@
 -- What the driver has from turn to turn.
-use Rattle.std.proofs.Common.{◌≡◌, ◌≢◌, ℕ, ◌+◌, ◌<◌, ◌≤◌, List, [], ◌∷◌, ◌++◌, map, reverse, set, length, get_or, refl, sym, ◌∙◌, ap, arith, inl, inr, subst}
+use Rattle.std.proofs.Common.{◌≡◌, ◌≢◌, ℕ, ◌+◌, ◌<◌, ◌≤◌, Bool, List, [], ◌∷◌, ◌++◌, map, reverse, set, length, get_or, refl, sym, ◌∙◌, ap, arith, inl, inr, subst}
 use Rattle.std.proofs.lemmas.Bool.{cases_eq, cases_lt}
 use Rattle.std.proofs.lemmas.List.{get_or_past, get_or_push, get_or_append_left, get_or-set_same, get_or-set_other, length-append, length-set, append-nil}
 use Rattle.span_state.specs.declared.sweep.SweepNote.{SweepNote}
@@ -15,8 +15,10 @@ use Rattle.span_set.specs.declared.hand.Hand.{Hand}
 use Rattle.proc_cache.specs.Cache.{Cache}
 use Rattle.heap_run.specs.Parts.{IsSameRun, part_at}
 use Rattle.heap_run.specs.Swept.{note_at}
+use Rattle.heap_run.specs.Riding.{asked_at, asked_of, given_at, given_of}
 use Rattle.heap_run.specs.Turns.{HaveAnswered, HaveAnsweredTo, IsCaching, IsCollecting, IsDriving, KeepsAnswers, SaysAnswers, SaysNone, TookTurn, no_cache}
 use Rattle.heap_run.proofs.Parts.{same-trans}
+use Rattle.heap_run.proofs.Riding.{none-asked}
 use Rattle.heap_run.proofs.Swept.{collected-more}
 use Rattle.heap_run.proofs.Acted.{answers-then, none-answers, notes-told, sweepings-append}
 
@@ -90,39 +92,41 @@ keeps-trans a b c ab bc w events answers was = bc w events answers (ab w events 
 
 -- ---- the processors' answers, one processor after another
 
-pub answered-none : (queues : List (List Event)) (d : Seen) → ((w : ℕ) → SaysNone (part_at d w).log) → HaveAnsweredTo queues 0 [] d
-answered-none queues d none = record { size = refl; answered = λ w low. absurd (omega arith); others = λ w high. none w }
+pub answered-none : (riding : Bool) (queues : List (List Event)) (d : Seen) → ((w : ℕ) → SaysNone (part_at d w).log) → HaveAnsweredTo riding queues 0 [] d
+answered-none riding queues d none = record { size = refl; answered = λ w low. absurd (omega arith); others = λ w high. none w }
 
-pub answered-turn : (queues : List (List Event)) (k : ℕ) (given : List (List Answer)) (answers : List Answer) (events : List Event) (d e : Hand) → HaveAnsweredTo queues k given d.worker → events ≡ get_or queues k []
-    → TookTurn k (SaysAnswers (reverse events) (reverse answers)) d e → HaveAnsweredTo queues (k + 1) (given ++ answers ∷ []) e.worker
-answered-turn queues k given answers events d e was queue turn = record {
+pub answered-turn : (riding : Bool) (queues : List (List Event)) (k : ℕ) (given : List (List Answer)) (answers : List Answer) (events : List Event) (d e : Hand) → HaveAnsweredTo riding queues k given d.worker → events ≡ get_or queues k []
+    → TookTurn k (SaysAnswers (asked_of riding (reverse events) (reverse answers)) (given_of riding (reverse events) (reverse answers))) d e → HaveAnsweredTo riding queues (k + 1) (given ++ answers ∷ []) e.worker
+answered-turn riding queues k given answers events d e was queue turn = record {
   size = (let l = length-append given (answers ∷ []) in let s = was.size in omega arith);
   answered = λ w low. elim (cases_eq w k) [
     | inl same ↦ (
         let here : get_or (given ++ answers ∷ []) k [] ≡ answers = get_or_push given answers [] k was.size in
         let old : SaysAnswers [] [] (part_at d.worker k).log = none-answers (part_at d.worker k).log (was.others k (omega arith)) in
-        let now : SaysAnswers (reverse events) (reverse answers) (turn.said ++ (part_at d.worker k).log) = (
-        let both = answers-then (reverse events) [] (reverse answers) [] turn.said (part_at d.worker k).log turn.did old in
-        rw (append-nil (reverse events), append-nil (reverse answers)) at both) in
-        let there : SaysAnswers (reverse (get_or queues k [])) (reverse (get_or (given ++ answers ∷ []) k [])) (part_at e.worker k).log = rw (here, sym queue, turn.log) now in
+        let asked = asked_of riding (reverse events) (reverse answers) in
+        let told = given_of riding (reverse events) (reverse answers) in
+        let now : SaysAnswers asked told (turn.said ++ (part_at d.worker k).log) = (
+        let both = answers-then asked [] told [] turn.said (part_at d.worker k).log turn.did old in
+        rw (append-nil asked, append-nil told) at both) in
+        let there : SaysAnswers (asked_at riding queues (given ++ answers ∷ []) k) (given_at riding queues (given ++ answers ∷ []) k) (part_at e.worker k).log = rw (here, sym queue, turn.log) now in
         rw same there)
     | inr other ↦ (
         let below : w < k = omega arith in
         let here : get_or (given ++ answers ∷ []) w [] ≡ get_or given w [] = get_or_append_left given (answers ∷ []) [] w (let s = was.size in omega arith) in
-        subst (λ (l : List Entry). SaysAnswers (reverse (get_or queues w [])) (reverse (get_or (given ++ answers ∷ []) w [])) l) (sym (ap (λ (h : Part). h.log) (turn.others w other))) (rw here (was.answered w below)))
+        subst (λ (l : List Entry). SaysAnswers (asked_at riding queues (given ++ answers ∷ []) w) (given_at riding queues (given ++ answers ∷ []) w) l) (sym (ap (λ (h : Part). h.log) (turn.others w other))) (rw here (was.answered w below)))
   ];
   others = λ w high. (let other : w ≢ k = λ q. omega arith in subst (λ (l : List Entry). SaysNone l) (sym (ap (λ (h : Part). h.log) (turn.others w other))) (was.others w (omega arith)));
 }
 
 -- all have
-pub answered-all : (queues : List (List Event)) (k : ℕ) (given : List (List Answer)) (d : Seen) → length queues ≤ k → HaveAnsweredTo queues k given d → HaveAnswered queues given d
-answered-all queues k given d long was w =
+pub answered-all : (riding : Bool) (queues : List (List Event)) (k : ℕ) (given : List (List Answer)) (d : Seen) → length queues ≤ k → HaveAnsweredTo riding queues k given d → HaveAnswered riding queues given d
+answered-all riding queues k given d long was w =
     elim (cases_lt w k) [
       | inl low ↦ was.answered w low
       | inr high ↦ (
           let q : get_or queues w [] ≡ [] = get_or_past queues w [] (omega arith) in
           let a : get_or given w [] ≡ [] = get_or_past given w [] (let s = was.size in omega arith) in
-          rw (q, a) (none-answers (part_at d w).log (was.others w high)))
+          rw (q, a) (none-asked riding (part_at d w).log (was.others w high)))
     ]
 
 -- ---- the processor of a number

@@ -5,7 +5,6 @@ use Rattle.std.proofs.lemmas.List.{append_assoc}
 use Rattle.page_alloc.specs.Lists.{In}
 use Rattle.trace_reader.specs.declared.trace.Event.{Event}
 use Rattle.worker_log.specs.declared.Entry.{Entry}
-use Rattle.run_laws.proofs.Lists.{in-cases}
 use Rattle.span_laws.specs.declared.answers.Refused.TheVariants.{NoRun}
 use Rattle.span_set.specs.declared.hand.Hand.{Hand}
 use Rattle.proc_cache.specs.Allocs.{AllocatesIn, IsPlaced}
@@ -76,21 +75,20 @@ first-still c d x old mid new same f h =
     }
 
 pub flushed-next : (events : List Event) (e : Event) (c d x : Cache) (old mid new : Hand) → mid.worker.view.generation ≡ old.worker.view.generation → FlushedSoFar events c d old mid
-    → (e.size ≡ 0 → (x ≡ d) × (new ≡ mid)) → FlushesFor (e ∷ []) d x mid new → FlushedSoFar (events ++ e ∷ []) c x old new
+    → (e.size ≡ 0 → (x ≡ d) × (new ≡ mid)) → FlushesFor (e ∷ []) d x mid new → FlushedSoFar (e ∷ events) c x old new
 flushed-next events e c d x old mid new same before still now = by (cases_lt 0 e.size) before
   where
     here : 0 < e.size → FlushesFirst d x mid new
     here some = now e (inl refl) (omega arith)
 
-    sizeless : ((b : Event) → In b events → b.size ≡ 0) → e.size ≡ 0 → (b : Event) → In b events ⊎ In b (e ∷ []) → b.size ≡ 0
-    sizeless was zero b (inl there) = was b there
-    sizeless was zero b (inr (inl is)) = subst (λ (y : Event). y.size ≡ 0) is zero
-    sizeless was zero b (inr (inr never)) = absurd never
+    sizeless : ((b : Event) → In b events → b.size ≡ 0) → e.size ≡ 0 → (b : Event) → In b (e ∷ events) → b.size ≡ 0
+    sizeless was zero b (inl is) = subst (λ (y : Event). y.size ≡ 0) is zero
+    sizeless was zero b (inr there) = was b there
 
-    by : (0 < e.size) ⊎ (e.size ≤ 0) → FlushedSoFar events c d old mid → FlushedSoFar (events ++ e ∷ []) c x old new
+    by : (0 < e.size) ⊎ (e.size ≤ 0) → FlushedSoFar events c d old mid → FlushedSoFar (e ∷ events) c x old new
     by (inl some) (inl was) = inr (subst (λ (y : Cache). FlushesFirst y x old new) was.1 (subst (λ (h : Hand). FlushesFirst d x h new) was.2 (here some)))
     by (inl some) (inr first) = inr (first-still c d x old mid new same first (here some))
-    by (inr none) (inl was) = (let kept = still (omega arith) in inl ((λ b h. sizeless was.0 (omega arith) b (in-cases events (e ∷ []) b h)), kept.0 ∙ was.1, kept.1 ∙ was.2))
+    by (inr none) (inl was) = (let kept = still (omega arith) in inl ((λ b h. sizeless was.0 (omega arith) b h), kept.0 ∙ was.1, kept.1 ∙ was.2))
     by (inr none) (inr first) = (let kept = still (omega arith) in inr (subst (λ (h : Hand). FlushesFirst c x old h) (sym kept.1) (subst (λ (y : Cache). FlushesFirst c y old mid) (sym kept.0) first)))
 
 pub flushed-for : (events : List Event) (c d : Cache) (old new : Hand) → FlushedSoFar events c d old new → FlushesFor events c d old new

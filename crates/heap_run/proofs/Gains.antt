@@ -5,7 +5,7 @@ use Rattle.std.proofs.lemmas.List.{append-nil, append_assoc, drop-append-le, dro
 use Rattle.trace_reader.specs.declared.trace.Event.{Event}
 use Rattle.heap_run.specs.Gains.{HasKept, HaveKept, behind, gains}
 use Rattle.heap_run.specs.Served.{answers_by, events_by}
-use Rattle.run_lists.proofs.Queued.{merged-one}
+use Rattle.heap_run.proofs.Queued.{merged-one}
 
 -- ---- one list
 

@@ -49,7 +49,7 @@ cycle-noted c [] note h = absurd h
 cycle-noted c (x ∷ made) note h = elim h [ inl here ↦ ap (λ (n : SweepNote). n.cycle) (sym here) | inr there ↦ cycle-noted c made note there ]
 
 pub tells-last : (t : Trace) (c : ℕ) (d : Cycle) (queues : List (List Event)) (given : List (List Answer)) (old more now : List Answer) (earlier sorted notes sweeps : List SweepNote) (ended new : Seen) → c < length t.cycles
-    → length old ≡ objects_before t c → now ≡ old ++ more → sweeps ≡ earlier ++ sorted → new ≡ ended → HaveAnswered queues given ended → ((w : ℕ) → get_or queues w [] ≡ events_by w (get_or t.cycles c d).events)
+    → length old ≡ objects_before t c → now ≡ old ++ more → sweeps ≡ earlier ++ sorted → new ≡ ended → HaveAnswered false queues given ended → ((w : ℕ) → get_or queues w [] ≡ events_by w (get_or t.cycles c d).events)
     → ((w : ℕ) → answers_by w (get_or t.cycles c d).events more ≡ get_or given w []) → AreCollected c (λ w. (part_at ended w).log) notes → IsPermutation notes sorted
     → ((note : SweepNote) → In note (reverse earlier) → note.cycle < c) → TellsLast t c now sweeps new
 tells-last t c d queues given old more now earlier sorted notes sweeps ended new inside long grown filed same answered queued merged collected permutation older =

@@ -1,3 +1,9 @@
+pub mod Results
+pub mod Queued
+pub mod Riding
+pub mod Based
+pub mod Naming
+pub mod Published
 pub mod Needs
 pub mod Served
 pub mod KnownTakes
@@ -18,6 +24,11 @@ pub mod Beside
 pub mod Reaching
 pub mod Settling
 pub mod Running
+pub mod Allocating
+pub mod OnCourse
+pub mod RidingOn
+pub mod GoingOn
+pub mod Ending
 pub mod MarkEnds
 pub mod Begins
 pub mod Answering

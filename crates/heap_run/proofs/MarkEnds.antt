@@ -34,7 +34,7 @@ use Rattle.span_set.specs.Resets.{Resets}
 use Rattle.span_set.specs.declared.hand.Hand.{Hand}
 use Rattle.proc_cache.specs.Cache.{Cache}
 use Rattle.heap_run.specs.Parts.{part_at}
-use Rattle.heap_run.specs.Runs.{HasBegun, HasRun}
+use Rattle.heap_run.specs.Runs.{HasBegun, HasCompleted}
 use Rattle.heap_run.specs.Settled.{HasFlushed}
 use Rattle.heap_run.specs.Turns.{HasActed, IsCaching, IsDriving, SaysNone, TookTurn, no_cache}
 use Rattle.heap_run.specs.declared.run.Run.{Run}
@@ -123,7 +123,7 @@ next-marks t c run past objects sampled buckets marks pairs e is asked found sam
     (λ page k. ap (λ (f : ℕ → ℕ → Bool). f page k) marked ∙ ap (λ (l : List (ℕ × ℕ)). has_pair l page k) same)
     (subst (λ (l : List Line). IsRun (marked_by t) (region_of t) t.header.goal c l objects) (sym before) is) asked found
 
-pub may-mark : (t : Trace) (c : ℕ) (run : Run) (e : Hand) (sampled : List Bool) (buckets : List ℕ) (marks : MarkSet) (pairs : List (ℕ × ℕ)) → c < 10001 → length run.procs.items ≤ 64 → HasRun t c run
+pub may-mark : (t : Trace) (c : ℕ) (run : Run) (e : Hand) (sampled : List Bool) (buckets : List ℕ) (marks : MarkSet) (pairs : List (ℕ × ℕ)) → c < 10001 → length run.procs.items ≤ 64 → HasCompleted t c run
     → HasReset run.procs.items run.driver e → AreMarksOf t (suc c) run.answers sampled buckets marks → pairs ≡ marks.pairs → MayMark e.worker pairs
 may-mark t c run e sampled buckets marks pairs early few ran r found same =
     let long : length e.worker.view.parts ≡ 70 = r.driving.same.parts ∙ ran.set.parts in
@@ -192,7 +192,7 @@ pub record MarkRan (t : Trace) (c : ℕ) (old new : Run) (e : Hand) (marks : Mar
   pub places : AreFound t new.answers new.places
   pub clear : AreClear new.sampled new.clear
 
-pub mark-begins : (t : Trace) (c : ℕ) (old new : Run) (e : Hand) (marks : MarkSet) (pairs : List (ℕ × ℕ)) → HasRun t c old → MarkRan t c old new e marks pairs → HasBegun t (suc c) new
+pub mark-begins : (t : Trace) (c : ℕ) (old new : Run) (e : Hand) (marks : MarkSet) (pairs : List (ℕ × ℕ)) → HasCompleted t c old → MarkRan t c old new e marks pairs → HasBegun t (suc c) new
 mark-begins t c old new e marks pairs ran m =
     let r = m.reset in
     let s = ran.set in

@@ -55,7 +55,7 @@ use Rattle.heap_run.specs.Counts.{Counts, HaveSampled, countdown_at, dead_at}
 use Rattle.heap_run.specs.Profiled.{HasCountedIn, IsProfiled, IsToldIn}
 use Rattle.heap_run.specs.Runs.{HasBegun}
 use Rattle.heap_run.specs.declared.run.Run.{Run}
-use Rattle.run_lists.proofs.Queued.{answers-reverse, events-reverse}
+use Rattle.heap_run.proofs.Queued.{answers-reverse, events-reverse}
 use Rattle.heap_run.proofs.Reaching.{Goes, map-reverse}
 use Rattle.heap_run.proofs.Unsampled.{none-sample}
 
@@ -121,7 +121,7 @@ pub record HasTallied (t : Trace) (c : ℕ) (d : Cycle) (old new : Run) (queues 
   pub flags_grown : new.sampled ≡ old.sampled ++ given_flags
   pub flags_long : length given_flags ≡ length (get_or t.cycles c d).events
   pub flags_merged : (w : ℕ) → answers_by w (get_or t.cycles c d).events given_flags ≡ get_or flag_parts w []
-  pub sampled : HaveSampled queues given flag_parts old.procs.items new.procs.items
+  pub sampled : HaveSampled false queues given flag_parts old.procs.items new.procs.items
   pub counts : Counts old.marks (all_counts (length old.procs.items) flag_parts number_parts) old.driver ended
   pub first : c ≡ 0 → new.driver.tally ≡ ended.tally
   pub later : 1 ≤ c → new.driver.tally ≡ calls ended.tally AfterSweep

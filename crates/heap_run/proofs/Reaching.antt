@@ -1,5 +1,5 @@
 -- A cycle that has ended, with its answers and its notes, goes on with the run.
-use Rattle.std.proofs.Common.{◌≡◌, ◌≢◌, ℕ, suc, ◌+◌, ◌<◌, Bool, List, [], ◌∷◌, ◌++◌, map, reverse, take, drop, length, get_or, Some, refl, sym, ◌∙◌, ap, arith, inl, inr, subst}
+use Rattle.std.proofs.Common.{◌≡◌, ◌≢◌, ℕ, suc, ◌+◌, ◌<◌, Bool, false, List, [], ◌∷◌, ◌++◌, map, reverse, take, drop, length, get_or, Some, refl, sym, ◌∙◌, ap, arith, inl, inr, subst}
 use Rattle.std.specs.List.Sorted.{IsNonDecreasingBy, IsPermutation}
 use Rattle.std.proofs.lemmas.List.{length-reverse, length-take-le, map-append, reverse-append, take-append-drop, take_more}
 use lib.Seq.{drop-cons}
@@ -43,7 +43,7 @@ use Rattle.heap_run.specs.Settled.{HasSettled}
 use Rattle.heap_run.specs.Swept.{AreCollected}
 use Rattle.heap_run.specs.Turns.{HaveAnswered, SaysAnswers}
 use Rattle.heap_run.proofs.Ended.{ended-facts, seated}
-use Rattle.run_lists.proofs.Queued.{answers-reverse, events-reverse}
+use Rattle.heap_run.proofs.Queued.{answers-reverse, events-reverse}
 use Rattle.heap_run.proofs.Served.{AreObjects, objects-of}
 use Rattle.heap_run.proofs.Sorted.{notes-sorted}
 
@@ -72,7 +72,7 @@ map-reverse f (x ∷ xs) =
     ap (λ (l : List _). map f l) (reverse-append (x ∷ []) xs) ∙ map-append f (reverse xs) (x ∷ []) ∙ ap (λ (l : List _). l ++ f x ∷ []) (map-reverse f xs) ∙ sym (reverse-append (f x ∷ []) (map f xs))
 
 -- the logs tell of the answers as they were merged
-logs-tell : (events : List Event) (queues : List (List Event)) (given : List (List Answer)) (more : List Answer) (d : Seen) (log : ℕ → List Entry) → HaveAnswered queues given d → ((w : ℕ) → get_or queues w [] ≡ events_by w events)
+logs-tell : (events : List Event) (queues : List (List Event)) (given : List (List Answer)) (more : List Answer) (d : Seen) (log : ℕ → List Entry) → HaveAnswered false queues given d → ((w : ℕ) → get_or queues w [] ≡ events_by w events)
     → length more ≡ length events → ((w : ℕ) → answers_by w events more ≡ get_or given w []) → ((w : ℕ) → log w ≡ (part_at d w).log)
     → (w : ℕ) → Tells (log w) (events_by w (reverse events)) (answers_by w (reverse events) (reverse more)) (placings (log w)) (refusals (log w))
 logs-tell events queues given more d log answered queue long merged logs w =
@@ -102,7 +102,7 @@ pub record Ends (t : Trace) (c : ℕ) (d : Cycle) (objects : List Object) (answe
   pub began : Began (marked_by t) (region_of t) t.header.goal c driver.view.before objects (reverse sweeps) (has_pair driver.view.carried)
   pub marks : (e : CycleSoFar) → e.cycle ≡ c → e.before ≡ driver.view.before → e.marks ≡ has_pair driver.view.marks → Marks (marked_by t) objects e
   pub queued : (w : ℕ) → get_or queues w [] ≡ events_by w (get_or t.cycles c d).events
-  pub answered : HaveAnswered queues given driver
+  pub answered : HaveAnswered false queues given driver
   pub long : length more ≡ length (get_or t.cycles c d).events
   pub merged : (w : ℕ) → answers_by w (get_or t.cycles c d).events more ≡ get_or given w []
   pub collected_are : AreCollected c (λ w. (part_at driver w).log) collected

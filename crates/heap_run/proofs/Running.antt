@@ -51,13 +51,15 @@ use Rattle.run_laws.proofs.Ends.{reached-sound}
 use Rattle.span_set.specs.declared.hand.Hand.{Hand}
 use Rattle.proc_cache.specs.Cache.{Cache}
 use Rattle.heap_run.specs.Parts.{part_at}
-use Rattle.heap_run.specs.Runs.{HasBegun, HasRun}
+use Rattle.heap_run.specs.Runs.{HasBegun, HasCompleted}
 use Rattle.heap_run.specs.Served.{answers_by, events_by}
 use Rattle.heap_run.specs.Settled.{HasFlushed, HasWorked}
 use Rattle.heap_run.specs.Swept.{AreCollected}
 use Rattle.heap_run.specs.Turns.{HaveAnswered, IsCaching, IsCollecting, IsDriving, SaysNone, no_cache}
 use Rattle.heap_run.specs.declared.run.Run.{Run}
+use Rattle.heap_run.specs.Riding.{asked_of, given_of}
 use Rattle.heap_run.proofs.Acted.{tells-length}
+use Rattle.heap_run.proofs.Riding.{asked-many, given-many}
 use Rattle.heap_run.proofs.Driving.{same-refl}
 use Rattle.heap_run.proofs.Profiling.{HasTallied, counted-next, profiled-next, told-next}
 use Rattle.heap_run.proofs.Telling.{objects-few, profile-in}
@@ -161,7 +163,7 @@ pub some-cycle : (first : ℕ) (live : ℕ → Type 0) (cycles : List Cycle) →
 some-cycle first live [] are = absurd are
 some-cycle first live (c ∷ cycles) are = omega arith
 
-pub cycle-fits : (t : Trace) (c : ℕ) (d : Cycle) → WithinLimits t → c < length t.cycles → AllByRecursion (EventFits t.header.procs) (get_or t.cycles c d).events
+pub cycle-fits : (t : Trace) (c : ℕ) (d : Cycle) → IsLimited t → c < length t.cycles → AllByRecursion (EventFits t.header.procs) (get_or t.cycles c d).events
 cycle-fits t c d limits lt = all-cycle (EventFits t.header.procs) t.cycles c d lt limits.events
 
 pub procs-below : (procs n : ℕ) (events : List Event) → n ≡ procs → AllByRecursion (EventFits procs) events → All (λ (e : Event). e.proc < n) events
@@ -181,10 +183,14 @@ sizes-by procs w events queue is fits k e lt =
     (at-place (EventFits procs) queue k e lt all).size
 
 -- as many answers as events, of each processor
-pub given-sizes : (queues : List (List Event)) (given : List (List Answer)) (events : List Event) (d : Seen) → HaveAnswered queues given d → ((w : ℕ) → get_or queues w [] ≡ events_by w events)
+pub given-sizes : (riding : Bool) (queues : List (List Event)) (given : List (List Answer)) (events : List Event) (d : Seen) → HaveAnswered riding queues given d → ((w : ℕ) → get_or queues w [] ≡ events_by w events)
     → (w : ℕ) → length (get_or given w []) ≡ length (events_by w events)
-given-sizes queues given events d answered queue w =
-    let a = tells-length (part_at d w).log (reverse (get_or queues w [])) (reverse (get_or given w [])) (placings (part_at d w).log) (refusals (part_at d w).log) (answered w) in
+given-sizes riding queues given events d answered queue w =
+    let es = reverse (get_or queues w []) in
+    let ans = reverse (get_or given w []) in
+    let a = tells-length (part_at d w).log (asked_of riding es ans) (given_of riding es ans) (placings (part_at d w).log) (refusals (part_at d w).log) (answered w) in
+    let m = asked-many riding es ans in
+    let n = given-many riding es ans in
     let b = length-reverse (get_or given w []) in
     let e = length-reverse (get_or queues w []) in
     let f = ap (λ (l : List Event). length l) (queue w) in
@@ -231,7 +237,7 @@ limited t limits = record { header = limits.header; events = limits.events; cycl
 pub record CycleRan (t : Trace) (c : ℕ) (d : Cycle) (old new : Run) (queues : List (List Event)) (given : List (List Answer)) (ended : Hand) : Type 0 where
   pub inside : c < length t.cycles
   pub queued : (w : ℕ) → get_or queues w [] ≡ events_by w (get_or t.cycles c d).events
-  pub worked : HasWorked queues given old.driver new.procs.items ended
+  pub worked : HasWorked false queues given old.driver new.procs.items ended
   pub procs : length new.procs.items ≡ length old.procs.items
   pub more : List Answer
   pub grown : new.answers ≡ old.answers ++ more
@@ -249,7 +255,7 @@ pub record CycleRan (t : Trace) (c : ℕ) (d : Cycle) (old new : Run) (queues : 
   pub marks : new.marks ≡ old.marks
   pub tallied : HasTallied t c d old new queues given more ended
 
-pub cycle-run : (t : Trace) (c : ℕ) (d : Cycle) (old new : Run) (queues : List (List Event)) (given : List (List Answer)) (ended : Hand) → WithinLimits t → HasBegun t c old → CycleRan t c d old new queues given ended → HasRun t c new
+pub cycle-run : (t : Trace) (c : ℕ) (d : Cycle) (old new : Run) (queues : List (List Event)) (given : List (List Answer)) (ended : Hand) → IsLimited t → HasBegun t c old → CycleRan t c d old new queues given ended → HasCompleted t c new
 cycle-run t c d old new queues given ended limits begun ran =
     let s = begun.set in
     let w = ran.worked in
@@ -299,7 +305,7 @@ cycle-run t c d old new queues given ended limits begun ran =
         clear = subst (λ (n : ℕ). AreClear new.sampled n) (sym ran.clear) (subst (λ (l : List Bool). AreClear l old.clear) (sym ran.tallied.flags_grown)
             (clear-more old.sampled ran.tallied.given_flags old.clear s.clear));
         placed = subst (λ (l : List Answer). ArePlacesOf t c l new.marks) (sym ran.grown) (subst (λ (m : MarkSet). ArePlacesOf t c (old.answers ++ ran.more) m) (sym ran.marks)
-            (marks-grow t c old.answers ran.more old.marks (limited t limits) before s.placed));
+            (marks-grow t c old.answers ran.more old.marks limits before s.placed));
       };
       objects = goes.news ++ begun.objects;
       past = goes.past;
@@ -330,7 +336,7 @@ all-answers t answers objects least asked =
     let all : take (suc (last_cycle t)) t.cycles ≡ t.cycles = take_all (suc (last_cycle t)) t.cycles (omega arith) in
     answers-before t (suc (last_cycle t)) answers objects asked ∙ ap (λ (cs : List Cycle). length (flat_map (λ (x : Cycle). x.events) cs)) all
 
-pub report-sound : (t : Trace) (run : Run) (report : Report) (past : List Line) → WithinLimits t → HasRun t (last_cycle t) run → run.driver.worker.journal ≡ Some past → past_in report ≡ past → report.answers ≡ run.answers → report.sweeps ≡ run.sweeps
+pub report-sound : (t : Trace) (run : Run) (report : Report) (past : List Line) → IsLimited t → HasCompleted t (last_cycle t) run → run.driver.worker.journal ≡ Some past → past_in report ≡ past → report.answers ≡ run.answers → report.sweeps ≡ run.sweeps
     → ((objects : List Object) → AreObjectsOf t run.answers objects → AreTotals (marked_by t) (last_cycle t) objects report.totals)
     → report.profile ≡ run.profile.lines ++ all_lines run.profile.known run.driver.tally.view.calls (last_cycle t) run.profile.order → IsSoundAndUsed t report × HasForm t report run.profile.each
 report-sound t run report past limits ran told journal printed sweeps totals lines =
@@ -351,7 +357,7 @@ report-sound t run report past limits ran told journal printed sweeps totals lin
     )
 
 -- the objects of a run are few
-pub few-answers : (t : Trace) (c : ℕ) (run : Run) → WithinLimits t → c < length t.cycles → HasRun t c run → (objects : List Object) → AreObjectsBefore t (suc c) run.answers objects → length objects < 2 ^ 64
+pub few-answers : (t : Trace) (c : ℕ) (run : Run) → IsLimited t → c < length t.cycles → HasCompleted t c run → (objects : List Object) → AreObjectsBefore t (suc c) run.answers objects → length objects < 2 ^ 64
 few-answers t c run limits inside ran objects asked =
     let all = answers-before t (suc c) run.answers objects asked in
     let most = before-le t (suc c) in

@@ -10,16 +10,19 @@ use Rattle.sample_laws.specs.Countdowns.{flag, flags, spent}
 use Rattle.sample_laws.proofs.Parted.{counts-append, sum-same}
 use Rattle.proc_cache.specs.Cache.{Cache}
 use Rattle.heap_run.specs.Counts.{HaveSampled, HaveSampledTo, countdown_at}
+use Rattle.heap_run.specs.Riding.{asked_at, asked_of, given_at, given_of}
 use Rattle.heap_run.specs.Turns.{no_cache}
+use Rattle.heap_run.proofs.Riding.{asked-long, given-long}
 
-pub sampled-none : (queues : List (List Event)) (procs : List Cache) → HaveSampledTo queues 0 [] [] procs procs
-sampled-none queues procs = record { size = refl; flags_are = λ w low. absurd (omega arith); spent_are = λ w low. absurd (omega arith); others = λ w high. refl }
+pub sampled-none : (riding : Bool) (queues : List (List Event)) (procs : List Cache) → HaveSampledTo riding queues 0 [] [] procs procs
+sampled-none riding queues procs = record { size = refl; flags_are = λ w low. absurd (omega arith); spent_are = λ w low. absurd (omega arith); others = λ w high. refl }
 
-pub sampled-turn : (queues : List (List Event)) (k : ℕ) (answers : List (List Answer)) (sampled : List (List Bool)) (old now : List Cache) (c c' : Cache) (events : List Event) (ans : List Answer) (given : List Bool)
-    → HaveSampledTo queues k answers sampled old now → length answers ≡ k → k < length now → c ≡ get_or now k no_cache → events ≡ get_or queues k []
-    → reverse given ≡ flags c.countdown (reverse events) (reverse ans) → c'.countdown ≡ spent c.countdown (reverse events) (reverse ans)
-    → HaveSampledTo queues (k + 1) (answers ++ ans ∷ []) (sampled ++ given ∷ []) old (set now k c')
-sampled-turn queues k answers sampled old now c c' events ans given was long lt is queue flagged spends_it =
+pub sampled-turn : (riding : Bool) (queues : List (List Event)) (k : ℕ) (answers : List (List Answer)) (sampled : List (List Bool)) (old now : List Cache) (c c' : Cache) (events : List Event) (ans : List Answer) (given : List Bool)
+    → HaveSampledTo riding queues k answers sampled old now → length answers ≡ k → k < length now → c ≡ get_or now k no_cache → events ≡ get_or queues k []
+    → reverse given ≡ flags c.countdown (asked_of riding (reverse events) (reverse ans)) (given_of riding (reverse events) (reverse ans))
+    → c'.countdown ≡ spent c.countdown (asked_of riding (reverse events) (reverse ans)) (given_of riding (reverse events) (reverse ans))
+    → HaveSampledTo riding queues (k + 1) (answers ++ ans ∷ []) (sampled ++ given ∷ []) old (set now k c')
+sampled-turn riding queues k answers sampled old now c c' events ans given was long lt is queue flagged spends_it =
     let mine : c.countdown ≡ countdown_at old k = ap (λ (x : Cache). x.countdown) is ∙ was.others k (omega arith) in
     let a_here : get_or (answers ++ ans ∷ []) k [] ≡ ans = get_or_push answers ans [] k long in
     let s_here : get_or (sampled ++ given ∷ []) k [] ≡ given = get_or_push sampled given [] k was.size in
@@ -29,14 +32,14 @@ sampled-turn queues k answers sampled old now c c' events ans given was long lt 
       size = (let l = length-append sampled (given ∷ []) in let s = was.size in omega arith);
       flags_are = λ w low. elim (cases_eq w k) [
         | inl same ↦ (
-            let there : reverse (get_or (sampled ++ given ∷ []) k []) ≡ flags (countdown_at old k) (reverse (get_or queues k [])) (reverse (get_or (answers ++ ans ∷ []) k [])) = rw (s_here, a_here, sym queue, sym mine) flagged in
+            let there : reverse (get_or (sampled ++ given ∷ []) k []) ≡ flags (countdown_at old k) (asked_at riding queues (answers ++ ans ∷ []) k) (given_at riding queues (answers ++ ans ∷ []) k) = rw (s_here, a_here, sym queue, sym mine) flagged in
             rw same there)
         | inr other ↦ (let below : w < k = omega arith in rw (s_old w below, a_old w below) (was.flags_are w below))
       ];
       spent_are = λ w low. elim (cases_eq w k) [
         | inl same ↦ (
             let now_at : countdown_at (set now k c') k ≡ c'.countdown = ap (λ (x : Cache). x.countdown) (get_or-set_same now k c' no_cache lt) in
-            let there : countdown_at (set now k c') k ≡ spent (countdown_at old k) (reverse (get_or queues k [])) (reverse (get_or (answers ++ ans ∷ []) k [])) = rw (a_here, sym queue, sym mine) (now_at ∙ spends_it) in
+            let there : countdown_at (set now k c') k ≡ spent (countdown_at old k) (asked_at riding queues (answers ++ ans ∷ []) k) (given_at riding queues (answers ++ ans ∷ []) k) = rw (a_here, sym queue, sym mine) (now_at ∙ spends_it) in
             rw same there)
         | inr other ↦ (
             let below : w < k = omega arith in
@@ -47,13 +50,13 @@ sampled-turn queues k answers sampled old now c c' events ans given was long lt 
     }
 
 -- all have
-pub sampled-all : (queues : List (List Event)) (k : ℕ) (answers : List (List Answer)) (sampled : List (List Bool)) (old new : List Cache) → length old ≤ k → HaveSampledTo queues k answers sampled old new → HaveSampled queues answers sampled old new
-sampled-all queues k answers sampled old new long was = record { flags_are = λ w low. was.flags_are w (omega arith); spent_are = λ w low. was.spent_are w (omega arith) }
+pub sampled-all : (riding : Bool) (queues : List (List Event)) (k : ℕ) (answers : List (List Answer)) (sampled : List (List Bool)) (old new : List Cache) → length old ≤ k → HaveSampledTo riding queues k answers sampled old new → HaveSampled riding queues answers sampled old new
+sampled-all riding queues k answers sampled old new long was = record { flags_are = λ w low. was.flags_are w (omega arith); spent_are = λ w low. was.spent_are w (omega arith) }
 
 -- caches with the same countdowns
-pub sampled-keeps : (queues : List (List Event)) (answers : List (List Answer)) (sampled : List (List Bool)) (old mid new : List Cache) → HaveSampled queues answers sampled old mid → length mid ≡ length old
-    → ((w : ℕ) → w < length mid → countdown_at new w ≡ countdown_at mid w) → HaveSampled queues answers sampled old new
-sampled-keeps queues answers sampled old mid new was long keeps = record { flags_are = was.flags_are; spent_are = λ w low. keeps w (omega arith) ∙ was.spent_are w low }
+pub sampled-keeps : (riding : Bool) (queues : List (List Event)) (answers : List (List Answer)) (sampled : List (List Bool)) (old mid new : List Cache) → HaveSampled riding queues answers sampled old mid → length mid ≡ length old
+    → ((w : ℕ) → w < length mid → countdown_at new w ≡ countdown_at mid w) → HaveSampled riding queues answers sampled old new
+sampled-keeps riding queues answers sampled old mid new was long keeps = record { flags_are = was.flags_are; spent_are = λ w low. keeps w (omega arith) ∙ was.spent_are w low }
 
 -- one cache more with the same countdown
 pub keeps-more : (old now : List Cache) (k : ℕ) (c c' : Cache) → k < length now → c ≡ get_or now k no_cache → c'.countdown ≡ c.countdown → ((w : ℕ) → countdown_at now w ≡ countdown_at old w)
@@ -82,8 +85,8 @@ counts-more k sampled given numbers b long =
 -- ---- one event more
 
 -- the flags and the countdown behind one event more
-pub flags-more : (c : Countdown) (events : List Event) (answers : List Answer) (given : List Bool) (e : Event) (a : Answer) (f : Bool) → reverse given ≡ flags c (reverse events) (reverse answers) → f ≡ flag (spent c (reverse events) (reverse answers)) e a
-    → f ∷ reverse given ≡ flags c (e ∷ reverse events) (a ∷ reverse answers)
+pub flags-more : (c : Countdown) (events : List Event) (answers : List Answer) (given : List Bool) (e : Event) (a : Answer) (f : Bool) → reverse given ≡ flags c events answers → f ≡ flag (spent c events answers) e a
+    → f ∷ reverse given ≡ flags c (e ∷ events) (a ∷ answers)
 flags-more c events answers given e a f was is = rw (was, is) refl
 
 -- as many flags as events
@@ -92,9 +95,9 @@ flags-length c [] answers long = refl
 flags-length c (e ∷ events) [] long = absurd (omega arith)
 flags-length c (e ∷ events) (a ∷ answers) long = ap suc (flags-length c events answers (omega arith))
 
-pub sampled-sizes : (queues : List (List Event)) (answers : List (List Answer)) (sampled : List (List Bool)) (old new : List Cache) → HaveSampled queues answers sampled old new → length sampled ≡ length old → length queues ≡ length old
+pub sampled-sizes : (riding : Bool) (queues : List (List Event)) (answers : List (List Answer)) (sampled : List (List Bool)) (old new : List Cache) → HaveSampled riding queues answers sampled old new → length sampled ≡ length old → length queues ≡ length old
     → ((w : ℕ) → length (get_or answers w []) ≡ length (get_or queues w [])) → (w : ℕ) → length (get_or sampled w []) ≡ length (get_or queues w [])
-sampled-sizes queues answers sampled old new h long longer sizes w =
+sampled-sizes riding queues answers sampled old new h long longer sizes w =
     elim (cases_lt w (length old)) [
       | inl low ↦ (
           let a = length-reverse (get_or sampled w []) in
@@ -102,7 +105,11 @@ sampled-sizes queues answers sampled old new h long longer sizes w =
           let e = length-reverse (get_or queues w []) in
           let f = length-reverse (get_or answers w []) in
           let s = sizes w in
-          let g = flags-length (countdown_at old w) (reverse (get_or queues w [])) (reverse (get_or answers w [])) (omega arith) in
+          let es = reverse (get_or queues w []) in
+          let ans = reverse (get_or answers w []) in
+          let k = asked-long riding es ans (omega arith) in
+          let l = given-long riding es ans (omega arith) in
+          let g = flags-length (countdown_at old w) (asked_of riding es ans) (given_of riding es ans) (omega arith) in
           omega arith)
       | inr high ↦ (
           let a = ap (λ (l : List Bool). length l) (get_or_past sampled w [] (omega arith)) in

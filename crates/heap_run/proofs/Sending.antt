@@ -15,12 +15,12 @@ use Rattle.span_laws.specs.Views.{Seen}
 use Rattle.span_set.specs.Tallies.{MayCount}
 use Rattle.span_set.specs.declared.hand.Hand.{Hand}
 use Rattle.proc_cache.specs.Cache.{Cache}
-use Rattle.heap_run.specs.Counts.{AreNumbered, IsOut}
+use Rattle.heap_run.specs.Counts.{HaveBuckets, IsOut}
 use Rattle.heap_run.specs.Lanes.{IsReady, MayDo}
 use Rattle.heap_run.specs.Out.{AreAsked, AreOf, AreSent, HasLent, HasSent, IsSent, IsTaskOf, MayStart, RisesFrom, busy, helpers, resting, rising}
 use Rattle.heap_run.specs.Parts.{goes_out, part_at}
 use Rattle.heap_run.specs.Turns.{IsCaching, IsCollecting, IsDriving, SaysNone, no_cache}
-use Rattle.heap_run.specs.declared.cycle.Given.{Given}
+use Rattle.heap_run.specs.declared.cycle.LentLists.{LentLists}
 use Rattle.heap_run.specs.declared.lanes.Lane.{Lane}
 use Rattle.heap_run.specs.declared.lanes.Task.{Task}
 use Rattle.heap_run.specs.declared.lanes.Task.TheVariants.{Allocate, Sweep, Scavenge}
@@ -90,7 +90,7 @@ pub lent-none : (s : Start) (queues : List (List Event)) → HasLent s queues s.
 lent-none s queues = record { lists = refl; lists_too = refl; rest = λ w none. refl; rest_too = λ w none. refl }
 
 -- a processor with an event takes its lists along
-pub lent-more : (s : Start) (queues : List (List Event)) (old new : Given) (p : ℕ) → HasLent s queues old → (get_or queues p [] ≡ [] → ⊥) → new.answers.items ≡ set old.answers.items p [] → new.sampled.items ≡ set old.sampled.items p [] → HasLent s queues new
+pub lent-more : (s : Start) (queues : List (List Event)) (old new : LentLists) (p : ℕ) → HasLent s queues old → (get_or queues p [] ≡ [] → ⊥) → new.answers.items ≡ set old.answers.items p [] → new.sampled.items ≡ set old.sampled.items p [] → HasLent s queues new
 lent-more s queues old new p were some answers sampled = record {
   lists = ap (λ (l : List (List _)). length l) answers ∙ length-set old.answers.items p [] ∙ were.lists;
   lists_too = ap (λ (l : List (List Bool)). length l) sampled ∙ length-set old.sampled.items p [] ∙ were.lists_too;
@@ -138,7 +138,7 @@ sent-ready table ring m queues numbers s i l starts asked sent =
 -- ---- the processors
 
 -- none of them went out yet
-pub sent-all : (s : Start) (queues : List (List Event)) (background p : ℕ) (procs : List Cache) (given : Given) (d : Hand) (lanes : List Lane) (stay : List Cache) → stay ≡ [] → procs ≡ s.procs.value.items → given ≡ s.given.value → p ≡ length s.procs.value.items
+pub sent-all : (s : Start) (queues : List (List Event)) (background p : ℕ) (procs : List Cache) (given : LentLists) (d : Hand) (lanes : List Lane) (stay : List Cache) → stay ≡ [] → procs ≡ s.procs.value.items → given ≡ s.given.value → p ≡ length s.procs.value.items
     → HasSent s.driver.value (helpers background) d → AreOf (IsSent s) (helpers background) lanes → AreSent s queues background p lanes stay procs given d
 sent-all s queues background p procs given d lanes stay empty is lists all sent went =
     let none : length s.procs.value.items - p ≡ 0 = omega arith in
@@ -147,13 +147,13 @@ sent-all s queues background p procs given d lanes stay empty is lists all sent 
       sent = rw none sent;
       went = rw none went;
       stays = rw none empty;
-      lent = subst (λ (g : Given). HasLent s queues g) (sym lists) (lent-none s queues);
-      early = λ w low. ap (λ (g : Given). get_or g.answers.items w []) lists;
-      early_too = λ w low. ap (λ (g : Given). get_or g.sampled.items w []) lists;
+      lent = subst (λ (g : LentLists). HasLent s queues g) (sym lists) (lent-none s queues);
+      early = λ w low. ap (λ (g : LentLists). get_or g.answers.items w []) lists;
+      early_too = λ w low. ap (λ (g : LentLists). get_or g.sampled.items w []) lists;
     }
 
 -- one of them stays for want of an event
-pub stays-one : (s : Start) (queues : List (List Event)) (background p q : ℕ) (lanes : List Lane) (stay stay' procs procs' : List Cache) (given : Given) (d : Hand) (c : Cache) → AreSent s queues background q lanes stay procs given d → p + 1 ≡ q → p < length s.procs.value.items
+pub stays-one : (s : Start) (queues : List (List Event)) (background p q : ℕ) (lanes : List Lane) (stay stay' procs procs' : List Cache) (given : LentLists) (d : Hand) (c : Cache) → AreSent s queues background q lanes stay procs given d → p + 1 ≡ q → p < length s.procs.value.items
     → procs ≡ procs' ++ c ∷ [] → (length (get_or queues p []) == 0) ≡ true → stay' ≡ stay ++ c ∷ [] → AreSent s queues background p lanes stay' procs' given d
 stays-one s queues background p q lanes stay stay' procs procs' given d c were next low split none grown =
     let olds = s.procs.value.items in
@@ -174,7 +174,7 @@ stays-one s queues background p q lanes stay stay' procs procs' given d c were n
     }
 
 -- one of them goes out
-pub goes-one : (s : Start) (queues : List (List Event)) (background p q : ℕ) (lanes lanes' : List Lane) (stay procs procs' : List Cache) (given given' : Given) (d e h : Hand) (c : Cache) (t : Turn) → AreSent s queues background q lanes stay procs given d → p + 1 ≡ q → p < length s.procs.value.items
+pub goes-one : (s : Start) (queues : List (List Event)) (background p q : ℕ) (lanes lanes' : List Lane) (stay procs procs' : List Cache) (given given' : LentLists) (d e h : Hand) (c : Cache) (t : Turn) → AreSent s queues background q lanes stay procs given d → p + 1 ≡ q → p < length s.procs.value.items
     → length s.procs.value.items ≤ 64 → procs ≡ procs' ++ c ∷ [] → (length (get_or queues p []) == 0) ≡ false
     → t ≡ record { proc = c; answers = get_or given.answers.items p []; sampled = get_or given.sampled.items p [] } → given'.answers.items ≡ set given.answers.items p [] → given'.sampled.items ≡ set given.sampled.items p []
     → IsOut p d h → lanes' ≡ lanes ++ record { hand = h; task = Allocate t; refused = false } ∷ [] → e.worker ≡ handing p d.worker → e.notes ≡ d.notes → e.tally ≡ record d.tally { view = lent d.tally.view }
@@ -208,7 +208,7 @@ goes-one s queues background p q lanes lanes' stay procs procs' given given' d e
 
 -- ---- the start
 
-pub may-start : (table : TableId) (ring : RingId) (m : MarkSet) (s : Start) (d : Hand) (procs : List Cache) (given : Given) → s.driver.value ≡ d → s.procs.value.items ≡ procs → s.given.value ≡ given → IsAtWork table d.worker → m.pairs ≡ d.worker.view.marks
+pub may-start : (table : TableId) (ring : RingId) (m : MarkSet) (s : Start) (d : Hand) (procs : List Cache) (given : LentLists) → s.driver.value ≡ d → s.procs.value.items ≡ procs → s.given.value ≡ given → IsAtWork table d.worker → m.pairs ≡ d.worker.view.marks
     → length d.worker.view.parts ≡ 70 → length procs ≤ 64 → length given.answers.items ≡ length procs → length given.sampled.items ≡ length procs → IsDriving d.worker procs d → IsCollecting d → MayCount ring m d.tally → d.tally.view.drives ≡ true
     → ((w : ℕ) → SaysNone (part_at d.worker w).log) → MayStart table ring m s
 may-start table ring m s d procs given is_d is_p is_g works marks parts few answers sampled driving collecting counts drives quiet = record {
@@ -225,12 +225,12 @@ may-start table ring m s d procs given is_d is_p is_g works marks parts few answ
   quiet = rw is_d quiet;
 }
 
-pub are-asked : (bound : ℕ) (queues : List (List Event)) (numbers : List (List ℕ)) (s : Start) (procs : List Cache) → s.procs.value.items ≡ procs → length queues ≡ length procs → length numbers ≡ length procs → AreNumbered bound queues numbers
+pub are-asked : (bound : ℕ) (queues : List (List Event)) (numbers : List (List ℕ)) (s : Start) (procs : List Cache) → s.procs.value.items ≡ procs → length queues ≡ length procs → length numbers ≡ length procs → HaveBuckets bound queues numbers
     → ((w : ℕ) → All (λ (e : Event). e.size ≤ 2 ^ 40) (get_or queues w [])) → AreAsked bound queues numbers s
 are-asked bound queues numbers s procs is count buckets numbered sizes = record { count = rw is count; buckets = rw is buckets; numbered = numbered; sizes = sizes }
 
 -- somebody is out
-pub some-sent : (s : Start) (queues : List (List Event)) (background p : ℕ) (lanes : List Lane) (stay procs : List Cache) (given : Given) (d : Hand) → AreSent s queues background p lanes stay procs given d → 0 < length lanes
+pub some-sent : (s : Start) (queues : List (List Event)) (background p : ℕ) (lanes : List Lane) (stay procs : List Cache) (given : LentLists) (d : Hand) → AreSent s queues background p lanes stay procs given d → 0 < length lanes
 some-sent s queues background p lanes stay procs given d were =
     let is = busy queues (length s.procs.value.items - p) p in
     let a = of-length (IsSent s) (is ++ helpers background) lanes were.went in
@@ -238,7 +238,7 @@ some-sent s queues background p lanes stay procs given d were =
     let c = length-append (rising background 64) (68 ∷ []) in
     omega arith
 
-pub all-ready : (table : TableId) (ring : RingId) (m : MarkSet) (queues : List (List Event)) (numbers : List (List ℕ)) (s : Start) (background p : ℕ) (lanes : List Lane) (stay procs : List Cache) (given : Given) (d : Hand) → MayStart table ring m s → AreAsked ring.buckets queues numbers s
+pub all-ready : (table : TableId) (ring : RingId) (m : MarkSet) (queues : List (List Event)) (numbers : List (List ℕ)) (s : Start) (background p : ℕ) (lanes : List Lane) (stay procs : List Cache) (given : LentLists) (d : Hand) → MayStart table ring m s → AreAsked ring.buckets queues numbers s
     → AreSent s queues background p lanes stay procs given d → All (IsReady table ring m queues numbers) lanes
 all-ready table ring m queues numbers s background p lanes stay procs given d starts asked were =
     of-all (IsSent s) (IsReady table ring m queues numbers) (busy queues (length s.procs.value.items - p) p ++ helpers background) lanes were.went (λ i l sent. sent-ready table ring m queues numbers s i l starts asked sent)

@@ -7,7 +7,7 @@ use Rattle.std.proofs.lemmas.List.{length-append, length-map, length-reverse}
 use Rattle.std.proofs.lemmas.List.Sums.{sum_by-cons}
 use Rattle.page_alloc.specs.Lists.{In, count, one_if}
 use Rattle.trace_reader.specs.declared.trace.Trace.{Trace}
-use Rattle.trace_reader.specs.Limits.{WithinLimits}
+use Rattle.cycle_history.specs.Before.{IsLimited}
 use Rattle.profile_cycle.specs.declared.buckets.Bucket.{Bucket}
 use Rattle.profile_cycle.specs.declared.calls.Call.{Call}
 use Rattle.profile_cycle.specs.declared.counts.Count.{Count}
@@ -24,12 +24,12 @@ use Rattle.sample_laws.specs.Counted.{Flags}
 use Rattle.profile_lines.specs.Read.{bucket_at, count_of, no_bucket}
 use Rattle.profile_lines.specs.Counted.{ShowsMarkEnd}
 use Rattle.profile_lines.specs.Told.{count_at}
-use Rattle.run_profile.specs.Counts.{counts_from}
+use Rattle.heap_run.specs.Published.{counts_from}
 use Rattle.profile_readers.specs.History.{last_of, none_counted, profile_after}
 use Rattle.profile_readers.specs.Sights.{AreSights, IsSight, RiseTo, allocs_of as count_allocs, frees_of as count_frees}
 use Rattle.profile_readers.specs.declared.viewer.Sight.{Sight}
 use Rattle.heap_run.specs.Last.{no_cycle}
-use Rattle.heap_run.specs.Runs.{HasBegun, HasRun}
+use Rattle.heap_run.specs.Runs.{HasBegun, HasCompleted}
 use Rattle.heap_run.specs.Watched.{IsSightAt, IsWatched}
 use Rattle.heap_run.specs.Watching.{AreSeen, AreShownFrom, GoesOn, HasPublished, HasShown}
 use Rattle.heap_run.specs.declared.run.Run.{Run}
@@ -130,7 +130,7 @@ published-kept t n k old new ps answers sampled known was = record {
 }
 
 -- as the profile behind a full sweep is published
-pub published-next : (t : Trace) (c : ℕ) (run : Run) (ps : Profiles) (p : List Count) → 1 ≤ c → HasRun t c run → p ≡ counts_from run.driver.tally.view.calls 0 run.profile.known → HasPublished t (suc c) (c - 1) run ps
+pub published-next : (t : Trace) (c : ℕ) (run : Run) (ps : Profiles) (p : List Count) → 1 ≤ c → HasCompleted t c run → p ≡ counts_from run.driver.tally.view.calls 0 run.profile.known → HasPublished t (suc c) (c - 1) run ps
     → HasPublished t (suc c) c run (ps ++ p ∷ [])
 published-next t c run ps p some ran is was = record {
   number = (let l = length-append ps (p ∷ []) in let n = was.number in omega arith);
@@ -216,7 +216,7 @@ sight-sums marked s objects bs ps x few many shown is =
     record { allocs = is.allocs (omega arith) ∙ allocs; frees = is.frees (omega arith) ∙ frees }
 
 -- what the watchers of a run saw, which has ended
-pub watched-all : (t : Trace) (run : Run) (report : Report) (buckets : ℕ) (publisher : Option Profiles) (seen : List (List Sight)) (readers : ℕ) → WithinLimits t → HasRun t (last_cycle t) run → buckets < 4294967296
+pub watched-all : (t : Trace) (run : Run) (report : Report) (buckets : ℕ) (publisher : Option Profiles) (seen : List (List Sight)) (readers : ℕ) → IsLimited t → HasCompleted t (last_cycle t) run → buckets < 4294967296
     → HasShown buckets t (suc (last_cycle t)) (last_cycle t) run publisher → AreSeen buckets publisher seen → report.answers ≡ run.answers → length seen ≡ readers → IsWatched t readers report seen
 watched-all t run report buckets None seen readers limits ran few shown saw answers count = absurd saw
 watched-all t run report buckets (Some ps) seen readers limits ran few shown saw answers count =

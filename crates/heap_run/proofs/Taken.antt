@@ -19,8 +19,9 @@ use Rattle.heap_run.specs.Gains.{HasKept, behind, gains}
 use Rattle.heap_run.specs.Lanes.{AnswersTurn, DoesTask, Helps}
 use Rattle.heap_run.specs.Out.{AreOf, AreStillOut, HasOut, HasTaken, IsBack, IsBare, IsTakenIn, IsTaskOf, MayJoin, MayStart, at_home, busy, helpers, resting}
 use Rattle.heap_run.specs.Parts.{part_at}
+use Rattle.heap_run.specs.Riding.{RidersStand, asked_at, asked_of, given_at, given_of}
 use Rattle.heap_run.specs.Turns.{HaveAnsweredTo, IsCaching, IsDriving, SaysAnswers, SaysNone, TookTurn, no_cache}
-use Rattle.heap_run.specs.declared.cycle.Given.{Given}
+use Rattle.heap_run.specs.declared.cycle.LentLists.{LentLists}
 use Rattle.heap_run.specs.declared.lanes.Lane.{Lane}
 use Rattle.heap_run.specs.declared.lanes.Task.{Task}
 use Rattle.heap_run.specs.declared.lanes.Task.TheVariants.{Allocate, Sweep, Scavenge}
@@ -30,6 +31,7 @@ use Rattle.heap_run.proofs.Acted.{none-then}
 use Rattle.heap_run.proofs.Counting.{counts-none, counts-same, counts-then}
 use Rattle.heap_run.proofs.Driving.{answered-turn, collecting-turn, driving-other, driving-turn, same-refl}
 use Rattle.heap_run.proofs.Gains.{behind-none, gains-turn, kept-none}
+use Rattle.heap_run.proofs.Riding.{none-flagged, none-spent, none-stand, ridden-turn, turn-none}
 use Rattle.heap_run.proofs.Sampling.{counts-more, sampled-turn}
 use Rattle.heap_run.proofs.Stacks.{busy-none, busy-some, no-length, of-pop, of-some}
 use Rattle.heap_run.proofs.Taking.{IsAlike, home-cached, home-caching, home-counts, home-turn, may-join, out-less}
@@ -57,16 +59,17 @@ whole-end procs olds p le = ap (λ (l : List Cache). procs ++ l) (drop_all p old
 -- ---- one processor more
 
 -- A processor's turn t came to t', as the driver knows it with all others home.
-pub record TakesTurn (s : Start) (m : MarkSet) (queues : List (List Event)) (numbers : List (List ℕ)) (p : ℕ) (t t' : Turn) (d e : Hand) : Type 0 where
+pub record TakesTurn (riding : Bool) (s : Start) (m : MarkSet) (queues : List (List Event)) (numbers : List (List ℕ)) (p : ℕ) (t t' : Turn) (d e : Hand) : Type 0 where
   pub low : p < length s.procs.value.items
   pub proc : t.proc ≡ get_or s.procs.value.items p no_cache
   pub answers : t.answers ≡ get_or s.given.value.answers.items p []
   pub flagged : t.sampled ≡ get_or s.given.value.sampled.items p []
-  pub turn : TookTurn p (SaysAnswers (reverse (get_or queues p [])) (reverse (behind t.answers t'.answers))) (at_home s.driver.value d) (at_home s.driver.value e)
+  pub turn : TookTurn p (SaysAnswers (asked_of riding (reverse (get_or queues p [])) (reverse (behind t.answers t'.answers))) (given_of riding (reverse (get_or queues p [])) (reverse (behind t.answers t'.answers)))) (at_home s.driver.value d) (at_home s.driver.value e)
   pub caching : IsCaching s.driver.value.worker.view.generation (part_at (at_home s.driver.value e).worker p) t'.proc
   pub number : t'.proc.number ≡ p
-  pub sampled : reverse (behind t.sampled t'.sampled) ≡ flags t.proc.countdown (reverse (get_or queues p [])) (reverse (behind t.answers t'.answers))
-  pub spends : t'.proc.countdown ≡ spent t.proc.countdown (reverse (get_or queues p [])) (reverse (behind t.answers t'.answers))
+  pub riders : RidersStand riding (reverse (get_or queues p [])) (reverse (behind t.answers t'.answers))
+  pub sampled : reverse (behind t.sampled t'.sampled) ≡ flags t.proc.countdown (asked_of riding (reverse (get_or queues p [])) (reverse (behind t.answers t'.answers))) (given_of riding (reverse (get_or queues p [])) (reverse (behind t.answers t'.answers)))
+  pub spends : t'.proc.countdown ≡ spent t.proc.countdown (asked_of riding (reverse (get_or queues p [])) (reverse (behind t.answers t'.answers))) (given_of riding (reverse (get_or queues p [])) (reverse (behind t.answers t'.answers)))
   pub counts : Counts m (sampled_counts (behind t.sampled t'.sampled) (get_or numbers p [])) (at_home s.driver.value d) (at_home s.driver.value e)
   pub kept : HasKept t.answers t'.answers
   pub kept_too : HasKept t.sampled t'.sampled
@@ -87,10 +90,10 @@ kept-more was now p list grown lt is kept were w low = elim (cases_eq w p) [
   | inr other ↦ rw (get_or-set_other now p w grown [] other) (were w (omega arith))
 ]
 
-pub taken-next : (s : Start) (m : MarkSet) (queues : List (List Event)) (numbers : List (List ℕ)) (p : ℕ) (procs procs' : List Cache) (given given' : Given) (t t' : Turn) (d e : Hand) → HasTaken s m queues numbers p procs given d
-    → length s.given.value.answers.items ≡ length s.procs.value.items → length s.given.value.sampled.items ≡ length s.procs.value.items → TakesTurn s m queues numbers p t t' d e
-    → procs' ≡ procs ++ t'.proc ∷ [] → given'.answers.items ≡ set given.answers.items p t'.answers → given'.sampled.items ≡ set given.sampled.items p t'.sampled → HasTaken s m queues numbers (p + 1) procs' given' e
-taken-next s m queues numbers p procs procs' given given' t t' d e were as_many as_many_too took grown answers sampled =
+pub taken-next : (riding : Bool) (s : Start) (m : MarkSet) (queues : List (List Event)) (numbers : List (List ℕ)) (p : ℕ) (procs procs' : List Cache) (given given' : LentLists) (t t' : Turn) (d e : Hand) → HasTaken riding s m queues numbers p procs given d
+    → length s.given.value.answers.items ≡ length s.procs.value.items → length s.given.value.sampled.items ≡ length s.procs.value.items → TakesTurn riding s m queues numbers p t t' d e
+    → procs' ≡ procs ++ t'.proc ∷ [] → given'.answers.items ≡ set given.answers.items p t'.answers → given'.sampled.items ≡ set given.sampled.items p t'.sampled → HasTaken riding s m queues numbers (p + 1) procs' given' e
+taken-next riding s m queues numbers p procs procs' given given' t t' d e were as_many as_many_too took grown answers sampled =
     let start = s.driver.value in
     let olds = s.procs.value.items in
     let was = s.given.value.answers.items in
@@ -119,9 +122,10 @@ taken-next s m queues numbers p procs procs' given given' t t' d e were as_many 
           (kept-more was now p t.answers t'.answers (let l = were.lists in omega arith) took.answers took.kept were.kept);
       kept_too = subst (λ (l : List (List Bool)). (w : ℕ) → w < p + 1 → HasKept (get_or was_too w []) (get_or l w [])) (sym sampled)
           (kept-more was_too now_too p t.sampled t'.sampled (let l = were.lists_too in omega arith) took.flagged took.kept_too were.kept_too);
-      answered = rw more (answered-turn queues p (take p (gains was now)) (behind t.answers t'.answers) (get_or queues p []) (at_home start d) (at_home start e) were.answered refl took.turn);
-      sampled_are = rw (more, more_too) (subst (λ (l : List Cache). HaveSampledTo queues (p + 1) (take p (gains was now) ++ behind t.answers t'.answers ∷ []) (take p (gains was_too now_too) ++ behind t.sampled t'.sampled ∷ []) olds l) next
-          (sampled-turn queues p (take p (gains was now)) (take p (gains was_too now_too)) olds (procs ++ drop p olds) t.proc t'.proc (get_or queues p []) (behind t.answers t'.answers) (behind t.sampled t'.sampled)
+      answered = rw more (answered-turn riding queues p (take p (gains was now)) (behind t.answers t'.answers) (get_or queues p []) (at_home start d) (at_home start e) were.answered refl took.turn);
+      riders = rw more (ridden-turn riding queues p (take p (gains was now)) (behind t.answers t'.answers) were.answered.size were.riders took.riders);
+      sampled_are = rw (more, more_too) (subst (λ (l : List Cache). HaveSampledTo riding queues (p + 1) (take p (gains was now) ++ behind t.answers t'.answers ∷ []) (take p (gains was_too now_too) ++ behind t.sampled t'.sampled ∷ []) olds l) next
+          (sampled-turn riding queues p (take p (gains was now)) (take p (gains was_too now_too)) olds (procs ++ drop p olds) t.proc t'.proc (get_or queues p []) (behind t.answers t'.answers) (behind t.sampled t'.sampled)
           were.sampled_are were.answered.size (let l = took.low in omega arith) is refl took.sampled took.spends));
       counts = rw more_too (counts-same m _ _ start (at_home start e)
           (counts-then m (all_counts p (take p (gains was_too now_too)) numbers) (sampled_counts (behind t.sampled t'.sampled) (get_or numbers p []))
@@ -137,19 +141,19 @@ turn_of (Sweep n) u = u
 turn_of Scavenge u = u
 
 -- a processor's task was to answer
-did-answer : (s : Start) (m : MarkSet) (queues : List (List Event)) (numbers : List (List ℕ)) (i : ℕ) (old new : Hand) (task : Task) (t' : Turn) → IsTaskOf s i task → i < length s.procs.value.items → DoesTask m queues numbers old new task (Allocate t')
+did-answer : (riding : Bool) (s : Start) (m : MarkSet) (queues : List (List Event)) (numbers : List (List ℕ)) (i : ℕ) (old new : Hand) (task : Task) (t' : Turn) → IsTaskOf s i task → i < length s.procs.value.items → DoesTask riding m queues numbers old new task (Allocate t')
     → (t : Turn) × (t.proc ≡ get_or s.procs.value.items i no_cache) × (t.answers ≡ get_or s.given.value.answers.items i []) × (t.sampled ≡ get_or s.given.value.sampled.items i [])
-    × AnswersTurn m (get_or queues t.proc.number []) (get_or numbers t.proc.number []) old new t t'
-did-answer s m queues numbers i old new (Sweep n) t' is low did = absurd (omega arith)
-did-answer s m queues numbers i old new Scavenge t' is low did = absurd (omega arith)
-did-answer s m queues numbers i old new (Allocate t) t' is low did =
+    × AnswersTurn riding m (get_or queues t.proc.number []) (get_or numbers t.proc.number []) old new t t'
+did-answer riding s m queues numbers i old new (Sweep n) t' is low did = absurd (omega arith)
+did-answer riding s m queues numbers i old new Scavenge t' is low did = absurd (omega arith)
+did-answer riding s m queues numbers i old new (Allocate t) t' is low did =
     let same : did.0 ≡ t' = ap (λ (task : Task). turn_of task t') (sym did.1) in
-    (t, is.1, is.2, is.3, subst (λ (u : Turn). AnswersTurn m (get_or queues t.proc.number []) (get_or numbers t.proc.number []) old new t u) same did.2)
+    (t, is.1, is.2, is.3, subst (λ (u : Turn). AnswersTurn riding m (get_or queues t.proc.number []) (get_or numbers t.proc.number []) old new t u) same did.2)
 
 -- the driver knows of a worker that is out what it knew at the start
-pub alike : (table : TableId) (ring : RingId) (m : MarkSet) (s : Start) (queues : List (List Event)) (numbers : List (List ℕ)) (p i : ℕ) (procs : List Cache) (given : Given) (d : Hand) → MayStart table ring m s → HasTaken s m queues numbers p procs given d
+pub alike : (riding : Bool) (table : TableId) (ring : RingId) (m : MarkSet) (s : Start) (queues : List (List Event)) (numbers : List (List ℕ)) (p i : ℕ) (procs : List Cache) (given : LentLists) (d : Hand) → MayStart table ring m s → HasTaken riding s m queues numbers p procs given d
     → i < 69 → part_at d.worker i ≡ part_at s.driver.value.worker i → IsAlike s.driver.value (at_home s.driver.value d) i
-alike table ring m s queues numbers p i procs given d starts were low part = record {
+alike riding table ring m s queues numbers p i procs given d starts were low part = record {
   was = starts.driving.number;
   number = were.driving.number;
   parts = were.driving.same.parts ∙ starts.parts;
@@ -160,21 +164,21 @@ alike table ring m s queues numbers p i procs given d starts were low part = rec
 }
 
 -- it is taken in
-pub taken-back : (table : TableId) (ring : RingId) (m : MarkSet) (s : Start) (queues : List (List Event)) (numbers : List (List ℕ)) (p : ℕ) (is : List ℕ) (procs procs' : List Cache) (given given' : Given) (l : Lane) (t' : Turn) (d e : Hand)
-    → MayStart table ring m s → HasTaken s m queues numbers p procs given d → HasOut s.driver.value (p ∷ is) d → p < length s.procs.value.items → IsBack s m queues numbers p l → l.refused ≡ false → l.task ≡ Allocate t' → IsTakenIn l.hand d e
+pub taken-back : (riding : Bool) (table : TableId) (ring : RingId) (m : MarkSet) (s : Start) (queues : List (List Event)) (numbers : List (List ℕ)) (p : ℕ) (is : List ℕ) (procs procs' : List Cache) (given given' : LentLists) (l : Lane) (t' : Turn) (d e : Hand)
+    → MayStart table ring m s → HasTaken riding s m queues numbers p procs given d → HasOut s.driver.value (p ∷ is) d → p < length s.procs.value.items → IsBack riding s m queues numbers p l → l.refused ≡ false → l.task ≡ Allocate t' → IsTakenIn l.hand d e
     → procs' ≡ procs ++ t'.proc ∷ [] → given'.answers.items ≡ set given.answers.items p t'.answers → given'.sampled.items ≡ set given.sampled.items p t'.sampled
-    → HasTaken s m queues numbers (p + 1) procs' given' e × HasOut s.driver.value is e
-taken-back table ring m s queues numbers p is procs procs' given given' l t' d e starts were outs low back held task taken grown answers sampled =
+    → HasTaken riding s m queues numbers (p + 1) procs' given' e × HasOut s.driver.value is e
+taken-back riding table ring m s queues numbers p is procs procs' given given' l t' d e starts were outs low back held task taken grown answers sampled =
     let start = s.driver.value in
     let b = back.before in
-    let did : DoesTask m queues numbers b.hand l.hand b.task (Allocate t') = subst (λ (k : Task). DoesTask m queues numbers b.hand l.hand b.task k) task (back.ran held) in
-    let a = did-answer s m queues numbers p b.hand l.hand b.task t' back.sent.task low did in
+    let did : DoesTask riding m queues numbers b.hand l.hand b.task (Allocate t') = subst (λ (k : Task). DoesTask riding m queues numbers b.hand l.hand b.task k) task (back.ran held) in
+    let a = did-answer riding s m queues numbers p b.hand l.hand b.task t' back.sent.task low did in
     let t : Turn = a.0 in
     let number : t.proc.number ≡ p = ap (λ (c : Cache). c.number) a.1 ∙ starts.driving.numbers p low in
-    let ran : AnswersTurn m (get_or queues p []) (get_or numbers p []) b.hand l.hand t t' = subst (λ (k : ℕ). AnswersTurn m (get_or queues k []) (get_or numbers k []) b.hand l.hand t t') number a.4 in
-    let same = alike table ring m s queues numbers p p procs given d starts were back.sent.low outs.parts.0 in
-    let P = SaysAnswers (reverse (get_or queues p [])) (reverse (behind t.answers t'.answers)) in
-    let took : TakesTurn s m queues numbers p t t' d e = record {
+    let ran : AnswersTurn riding m (get_or queues p []) (get_or numbers p []) b.hand l.hand t t' = subst (λ (k : ℕ). AnswersTurn riding m (get_or queues k []) (get_or numbers k []) b.hand l.hand t t') number a.4 in
+    let same = alike riding table ring m s queues numbers p p procs given d starts were back.sent.low outs.parts.0 in
+    let P = SaysAnswers (asked_of riding (reverse (get_or queues p [])) (reverse (behind t.answers t'.answers))) (given_of riding (reverse (get_or queues p [])) (reverse (behind t.answers t'.answers))) in
+    let took : TakesTurn riding s m queues numbers p t t' d e = record {
       low = low;
       proc = a.1;
       answers = a.2;
@@ -182,22 +186,23 @@ taken-back table ring m s queues numbers p is procs procs' given given' l t' d e
       turn = home-turn P start d e b.hand l.hand p same back.sent.out ran.acted taken;
       caching = home-caching P start d e b.hand l.hand p t'.proc same back.sent.out ran.acted taken ran.caching;
       number = ran.number ∙ number;
+      riders = ran.riders;
       sampled = ran.sampled;
       spends = ran.spent_is;
       counts = home-counts P m _ start d e b.hand l.hand p same back.sent.out ran.acted taken ran.counts;
       kept = ran.kept;
       kept_too = ran.kept_too;
     } in (
-      taken-next s m queues numbers p procs procs' given given' t t' d e were starts.answers starts.sampled took grown answers sampled,
+      taken-next riding s m queues numbers p procs procs' given given' t t' d e were starts.answers starts.sampled took grown answers sampled,
       out-less P start d e b.hand l.hand p is outs same back.sent.out ran.acted taken,
     )
 
 -- ---- a processor without an event
 
-pub taken-rest : (table : TableId) (ring : RingId) (m : MarkSet) (s : Start) (queues : List (List Event)) (numbers : List (List ℕ)) (p : ℕ) (procs procs' : List Cache) (given : Given) (c : Cache) (d : Hand)
-    → MayStart table ring m s → HasTaken s m queues numbers p procs given d → p < length s.procs.value.items → get_or queues p [] ≡ [] → c ≡ get_or s.procs.value.items p no_cache → procs' ≡ procs ++ c ∷ []
-    → HasTaken s m queues numbers (p + 1) procs' given d
-taken-rest table ring m s queues numbers p procs procs' given c d starts were low none is grown =
+pub taken-rest : (riding : Bool) (table : TableId) (ring : RingId) (m : MarkSet) (s : Start) (queues : List (List Event)) (numbers : List (List ℕ)) (p : ℕ) (procs procs' : List Cache) (given : LentLists) (c : Cache) (d : Hand)
+    → MayStart table ring m s → HasTaken riding s m queues numbers p procs given d → p < length s.procs.value.items → get_or queues p [] ≡ [] → c ≡ get_or s.procs.value.items p no_cache → procs' ≡ procs ++ c ∷ []
+    → HasTaken riding s m queues numbers (p + 1) procs' given d
+taken-rest riding table ring m s queues numbers p procs procs' given c d starts were low none is grown =
     let start = s.driver.value in
     let olds = s.procs.value.items in
     let was = s.given.value.answers.items in
@@ -218,41 +223,42 @@ taken-rest table ring m s queues numbers p procs procs' given c d starts were lo
       others = λ j other. refl;
       notes = sym (append-nil d.notes.items);
     } in
-    let took : TakesTurn s m queues numbers p t t d d = record {
+    let took : TakesTurn riding s m queues numbers p t t d d = record {
       low = low;
       proc = is;
       answers = refl;
       flagged = refl;
-      turn = rw (none, nothing) still;
+      turn = rw (none, nothing) (turn-none riding p (at_home start d) (at_home start d) still);
       caching = own;
       number = ap (λ (x : Cache). x.number) is ∙ starts.driving.numbers p low;
-      sampled = rw (nothing_too, none) refl;
-      spends = rw none refl;
+      riders = rw (none, nothing) (none-stand riding);
+      sampled = rw (nothing_too, none, nothing) (none-flagged riding c.countdown);
+      spends = rw (none, nothing) (none-spent riding c.countdown);
       counts = counts-same m no_counts _ (at_home start d) (at_home start d) (counts-none m (at_home start d) (at_home start d) refl refl) (λ b. rw nothing_too refl);
       kept = kept-none t.answers t.answers refl;
       kept_too = kept-none t.sampled t.sampled refl;
     } in
     let stays : given.answers.items ≡ set given.answers.items p (get_or was p []) = sym (ap (λ (x : List Answer). set given.answers.items p x) (sym (were.rest p (omega arith) none)) ∙ set-get_or given.answers.items p []) in
     let stays_too : given.sampled.items ≡ set given.sampled.items p (get_or was_too p []) = sym (ap (λ (x : List Bool). set given.sampled.items p x) (sym (were.rest_too p (omega arith) none)) ∙ set-get_or given.sampled.items p []) in
-    taken-next s m queues numbers p procs procs' given given t t d d were starts.answers starts.sampled took grown stays stays_too
+    taken-next riding s m queues numbers p procs procs' given given t t d d were starts.answers starts.sampled took grown stays stays_too
 
 -- ---- another worker
 
-answered-other : (queues : List (List Event)) (k i : ℕ) (given : List (List Answer)) (d e : Hand) → HaveAnsweredTo queues k given d.worker → k ≤ i → TookTurn i SaysNone d e → HaveAnsweredTo queues k given e.worker
-answered-other queues k i given d e were high turn = record {
+answered-other : (riding : Bool) (queues : List (List Event)) (k i : ℕ) (given : List (List Answer)) (d e : Hand) → HaveAnsweredTo riding queues k given d.worker → k ≤ i → TookTurn i SaysNone d e → HaveAnsweredTo riding queues k given e.worker
+answered-other riding queues k i given d e were high turn = record {
   size = were.size;
   answered = λ w low. (let other : w ≢ i = λ q. omega arith in
-      subst (λ (l : List Entry). SaysAnswers (reverse (get_or queues w [])) (reverse (get_or given w [])) l) (sym (ap (λ (h : Part). h.log) (turn.others w other))) (were.answered w low));
+      subst (λ (l : List Entry). SaysAnswers (asked_at riding queues given w) (given_at riding queues given w) l) (sym (ap (λ (h : Part). h.log) (turn.others w other))) (were.answered w low));
   others = λ w past. elim (cases_eq w i) [
     | inl same ↦ subst (λ (n : ℕ). SaysNone (part_at e.worker n).log) (sym same) (subst (λ (l : List Entry). SaysNone l) (sym turn.log) (none-then turn.said (part_at d.worker i).log turn.did (were.others i high)))
     | inr other ↦ subst (λ (l : List Entry). SaysNone l) (sym (ap (λ (h : Part). h.log) (turn.others w other))) (were.others w past)
   ];
 }
 
-taken-other : (s : Start) (m : MarkSet) (queues : List (List Event)) (numbers : List (List ℕ)) (p i : ℕ) (procs : List Cache) (given : Given) (d e : Hand) → HasTaken s m queues numbers p procs given d → p ≡ length s.procs.value.items → p ≤ i
+taken-other : (riding : Bool) (s : Start) (m : MarkSet) (queues : List (List Event)) (numbers : List (List ℕ)) (p i : ℕ) (procs : List Cache) (given : LentLists) (d e : Hand) → HasTaken riding s m queues numbers p procs given d → p ≡ length s.procs.value.items → p ≤ i
     → TookTurn i SaysNone (at_home s.driver.value d) (at_home s.driver.value e) → (part_at (at_home s.driver.value e).worker i).cached ≡ (part_at (at_home s.driver.value d).worker i).cached
-    → Counts m no_counts (at_home s.driver.value d) (at_home s.driver.value e) → HasTaken s m queues numbers p procs given e
-taken-other s m queues numbers p i procs given d e were all high turn cached counts =
+    → Counts m no_counts (at_home s.driver.value d) (at_home s.driver.value e) → HasTaken riding s m queues numbers p procs given e
+taken-other riding s m queues numbers p i procs given d e were all high turn cached counts =
     let start = s.driver.value in
     let olds = s.procs.value.items in
     record {
@@ -265,36 +271,37 @@ taken-other s m queues numbers p i procs given d e were all high turn cached cou
       rest_too = were.rest_too;
       kept = were.kept;
       kept_too = were.kept_too;
-      answered = answered-other queues p i _ (at_home start d) (at_home start e) were.answered high turn;
+      answered = answered-other riding queues p i _ (at_home start d) (at_home start e) were.answered high turn;
+      riders = were.riders;
       sampled_are = were.sampled_are;
       counts = counts-then m _ no_counts _ start (at_home start d) (at_home start e) were.counts counts (λ b. sym (add-zero _));
     }
 
 -- what a helper did
-did-help : (s : Start) (m : MarkSet) (queues : List (List Event)) (numbers : List (List ℕ)) (i : ℕ) (old new : Hand) (task task' : Task) → IsTaskOf s i task → length s.procs.value.items ≤ i → DoesTask m queues numbers old new task task' → Helps m old new
-did-help s m queues numbers i old new (Allocate t) task' is high did = (let low = is.0 in absurd (omega arith))
-did-help s m queues numbers i old new (Sweep n) task' is high did = did
-did-help s m queues numbers i old new Scavenge task' is high did = did
+did-help : (riding : Bool) (s : Start) (m : MarkSet) (queues : List (List Event)) (numbers : List (List ℕ)) (i : ℕ) (old new : Hand) (task task' : Task) → IsTaskOf s i task → length s.procs.value.items ≤ i → DoesTask riding m queues numbers old new task task' → Helps m old new
+did-help riding s m queues numbers i old new (Allocate t) task' is high did = (let low = is.0 in absurd (omega arith))
+did-help riding s m queues numbers i old new (Sweep n) task' is high did = did
+did-help riding s m queues numbers i old new Scavenge task' is high did = did
 
-pub taken-help : (table : TableId) (ring : RingId) (m : MarkSet) (s : Start) (queues : List (List Event)) (numbers : List (List ℕ)) (p i : ℕ) (is : List ℕ) (procs : List Cache) (given : Given) (l : Lane) (d e : Hand)
-    → MayStart table ring m s → HasTaken s m queues numbers p procs given d → HasOut s.driver.value (i ∷ is) d → p ≡ length s.procs.value.items → p ≤ i → IsBack s m queues numbers i l → l.refused ≡ false → IsTakenIn l.hand d e
-    → HasTaken s m queues numbers p procs given e × HasOut s.driver.value is e
-taken-help table ring m s queues numbers p i is procs given l d e starts were outs all high back held taken =
+pub taken-help : (riding : Bool) (table : TableId) (ring : RingId) (m : MarkSet) (s : Start) (queues : List (List Event)) (numbers : List (List ℕ)) (p i : ℕ) (is : List ℕ) (procs : List Cache) (given : LentLists) (l : Lane) (d e : Hand)
+    → MayStart table ring m s → HasTaken riding s m queues numbers p procs given d → HasOut s.driver.value (i ∷ is) d → p ≡ length s.procs.value.items → p ≤ i → IsBack riding s m queues numbers i l → l.refused ≡ false → IsTakenIn l.hand d e
+    → HasTaken riding s m queues numbers p procs given e × HasOut s.driver.value is e
+taken-help riding table ring m s queues numbers p i is procs given l d e starts were outs all high back held taken =
     let start = s.driver.value in
     let b = back.before in
-    let ran : Helps m b.hand l.hand = did-help s m queues numbers i b.hand l.hand b.task l.task back.sent.task (omega arith) (back.ran held) in
-    let same = alike table ring m s queues numbers p i procs given d starts were back.sent.low outs.parts.0 in (
-      taken-other s m queues numbers p i procs given d e were all high (home-turn SaysNone start d e b.hand l.hand i same back.sent.out ran.acted taken)
+    let ran : Helps m b.hand l.hand = did-help riding s m queues numbers i b.hand l.hand b.task l.task back.sent.task (omega arith) (back.ran held) in
+    let same = alike riding table ring m s queues numbers p i procs given d starts were back.sent.low outs.parts.0 in (
+      taken-other riding s m queues numbers p i procs given d e were all high (home-turn SaysNone start d e b.hand l.hand i same back.sent.out ran.acted taken)
           (home-cached SaysNone start d e b.hand l.hand i same back.sent.out ran.acted taken ran.cached) (home-counts SaysNone m no_counts start d e b.hand l.hand i same back.sent.out ran.acted taken ran.counts),
       out-less SaysNone start d e b.hand l.hand i is outs same back.sent.out ran.acted taken,
     )
 
 -- ---- the next processor
 
-pub back-rest : (table : TableId) (ring : RingId) (m : MarkSet) (s : Start) (queues : List (List Event)) (numbers : List (List ℕ)) (background p : ℕ) (lanes : List Lane) (stay stay' procs procs' : List Cache) (given : Given) (c : Cache) (d : Hand)
-    → MayStart table ring m s → AreStillOut s m queues numbers background p lanes stay procs given d → p < length s.procs.value.items → (length (get_or queues p []) == 0) ≡ true → stay ≡ stay' ++ c ∷ [] → procs' ≡ procs ++ c ∷ []
-    → AreStillOut s m queues numbers background (p + 1) lanes stay' procs' given d
-back-rest table ring m s queues numbers background p lanes stay stay' procs procs' given c d starts were low none split grown =
+pub back-rest : (riding : Bool) (table : TableId) (ring : RingId) (m : MarkSet) (s : Start) (queues : List (List Event)) (numbers : List (List ℕ)) (background p : ℕ) (lanes : List Lane) (stay stay' procs procs' : List Cache) (given : LentLists) (c : Cache) (d : Hand)
+    → MayStart table ring m s → AreStillOut riding s m queues numbers background p lanes stay procs given d → p < length s.procs.value.items → (length (get_or queues p []) == 0) ≡ true → stay ≡ stay' ++ c ∷ [] → procs' ≡ procs ++ c ∷ []
+    → AreStillOut riding s m queues numbers background (p + 1) lanes stay' procs' given d
+back-rest riding table ring m s queues numbers background p lanes stay stay' procs procs' given c d starts were low none split grown =
     let olds = s.procs.value.items in
     let k = length olds - (p + 1) in
     let e : length olds - p ≡ suc k = omega arith in
@@ -307,34 +314,34 @@ back-rest table ring m s queues numbers background p lanes stay stay' procs proc
       outs = rw busy_is at were.outs;
       back = rw busy_is at were.back;
       stays = popped.1;
-      taken = taken-rest table ring m s queues numbers p procs procs' given c d starts were.taken low (no-length (get_or queues p []) none) popped.0 grown;
+      taken = taken-rest riding table ring m s queues numbers p procs procs' given c d starts were.taken low (no-length (get_or queues p []) none) popped.0 grown;
     }
 
 -- the last lane is that of the next processor
-pub next-back : (m : MarkSet) (s : Start) (queues : List (List Event)) (numbers : List (List ℕ)) (background p : ℕ) (lanes lanes' : List Lane) (stay procs : List Cache) (given : Given) (l : Lane) (d : Hand)
-    → AreStillOut s m queues numbers background p lanes stay procs given d → p < length s.procs.value.items → (length (get_or queues p []) == 0) ≡ false → lanes ≡ lanes' ++ l ∷ []
-    → IsBack s m queues numbers p l × AreOf (IsBack s m queues numbers) (busy queues (length s.procs.value.items - (p + 1)) (p + 1) ++ helpers background) lanes'
-next-back m s queues numbers background p lanes lanes' stay procs given l d were low some split =
+pub next-back : (riding : Bool) (m : MarkSet) (s : Start) (queues : List (List Event)) (numbers : List (List ℕ)) (background p : ℕ) (lanes lanes' : List Lane) (stay procs : List Cache) (given : LentLists) (l : Lane) (d : Hand)
+    → AreStillOut riding s m queues numbers background p lanes stay procs given d → p < length s.procs.value.items → (length (get_or queues p []) == 0) ≡ false → lanes ≡ lanes' ++ l ∷ []
+    → IsBack riding s m queues numbers p l × AreOf (IsBack riding s m queues numbers) (busy queues (length s.procs.value.items - (p + 1)) (p + 1) ++ helpers background) lanes'
+next-back riding m s queues numbers background p lanes lanes' stay procs given l d were low some split =
     let olds = s.procs.value.items in
     let k = length olds - (p + 1) in
     let e : length olds - p ≡ suc k = omega arith in
     let is = busy-some queues k p some in
     let busy_is : busy queues (length olds - p) p ++ helpers background ≡ p ∷ (busy queues k (p + 1) ++ helpers background) = ap (λ (n : ℕ). busy queues n p ++ helpers background) e ∙ ap (λ (x : List ℕ). x ++ helpers background) is.0 in
-    of-pop (IsBack s m queues numbers) p (busy queues k (p + 1) ++ helpers background) lanes lanes' l (subst (λ (x : List ℕ). AreOf (IsBack s m queues numbers) x lanes) busy_is were.back) split
+    of-pop (IsBack riding s m queues numbers) p (busy queues k (p + 1) ++ helpers background) lanes lanes' l (subst (λ (x : List ℕ). AreOf (IsBack riding s m queues numbers) x lanes) busy_is were.back) split
 
-pub back-next : (table : TableId) (ring : RingId) (m : MarkSet) (s : Start) (queues : List (List Event)) (numbers : List (List ℕ)) (background p : ℕ) (lanes lanes' : List Lane) (stay procs procs' : List Cache) (given given' : Given) (l : Lane) (t' : Turn) (d e : Hand)
-    → MayStart table ring m s → AreStillOut s m queues numbers background p lanes stay procs given d → p < length s.procs.value.items → (length (get_or queues p []) == 0) ≡ false → lanes ≡ lanes' ++ l ∷ []
+pub back-next : (riding : Bool) (table : TableId) (ring : RingId) (m : MarkSet) (s : Start) (queues : List (List Event)) (numbers : List (List ℕ)) (background p : ℕ) (lanes lanes' : List Lane) (stay procs procs' : List Cache) (given given' : LentLists) (l : Lane) (t' : Turn) (d e : Hand)
+    → MayStart table ring m s → AreStillOut riding s m queues numbers background p lanes stay procs given d → p < length s.procs.value.items → (length (get_or queues p []) == 0) ≡ false → lanes ≡ lanes' ++ l ∷ []
     → l.refused ≡ false → l.task ≡ Allocate t' → IsTakenIn l.hand d e → procs' ≡ procs ++ t'.proc ∷ [] → given'.answers.items ≡ set given.answers.items p t'.answers → given'.sampled.items ≡ set given.sampled.items p t'.sampled
-    → AreStillOut s m queues numbers background (p + 1) lanes' stay procs' given' e
-back-next table ring m s queues numbers background p lanes lanes' stay procs procs' given given' l t' d e starts were low some split held task taken grown answers sampled =
+    → AreStillOut riding s m queues numbers background (p + 1) lanes' stay procs' given' e
+back-next riding table ring m s queues numbers background p lanes lanes' stay procs procs' given given' l t' d e starts were low some split held task taken grown answers sampled =
     let olds = s.procs.value.items in
     let k = length olds - (p + 1) in
     let n : length olds - p ≡ suc k = omega arith in
     let is = busy-some queues k p some in
-    let next = next-back m s queues numbers background p lanes lanes' stay procs given l d were low some split in
+    let next = next-back riding m s queues numbers background p lanes lanes' stay procs given l d were low some split in
     let busy_is : busy queues (length olds - p) p ++ helpers background ≡ p ∷ (busy queues k (p + 1) ++ helpers background) = ap (λ (x : ℕ). busy queues x p ++ helpers background) n ∙ ap (λ (x : List ℕ). x ++ helpers background) is.0 in
     let outs : HasOut s.driver.value (p ∷ (busy queues k (p + 1) ++ helpers background)) d = subst (λ (x : List ℕ). HasOut s.driver.value x d) busy_is were.outs in
-    let both = taken-back table ring m s queues numbers p (busy queues k (p + 1) ++ helpers background) procs procs' given given' l t' d e starts were.taken outs low next.0 held task taken grown answers sampled in
+    let both = taken-back riding table ring m s queues numbers p (busy queues k (p + 1) ++ helpers background) procs procs' given given' l t' d e starts were.taken outs low next.0 held task taken grown answers sampled in
     record {
       outs = both.1;
       back = next.1;
@@ -343,29 +350,29 @@ back-next table ring m s queues numbers background p lanes lanes' stay procs pro
     }
 
 -- what was done by a processor's task is a processor's
-pub back-task : (s : Start) (m : MarkSet) (queues : List (List Event)) (numbers : List (List ℕ)) (p : ℕ) (l : Lane) → IsBack s m queues numbers p l → p < length s.procs.value.items → l.refused ≡ false → (t' : Turn) × (l.task ≡ Allocate t')
-back-task s m queues numbers p l back low held = go back.before.task back.sent.task (back.ran held)
+pub back-task : (riding : Bool) (s : Start) (m : MarkSet) (queues : List (List Event)) (numbers : List (List ℕ)) (p : ℕ) (l : Lane) → IsBack riding s m queues numbers p l → p < length s.procs.value.items → l.refused ≡ false → (t' : Turn) × (l.task ≡ Allocate t')
+back-task riding s m queues numbers p l back low held = go back.before.task back.sent.task (back.ran held)
   where
-    go : (task : Task) → IsTaskOf s p task → DoesTask m queues numbers back.before.hand l.hand task l.task → (t' : Turn) × (l.task ≡ Allocate t')
+    go : (task : Task) → IsTaskOf s p task → DoesTask riding m queues numbers back.before.hand l.hand task l.task → (t' : Turn) × (l.task ≡ Allocate t')
     go (Allocate t) is did = (did.0, did.1)
     go (Sweep n) is did = absurd (omega arith)
     go Scavenge is did = absurd (omega arith)
 
 -- and may be taken in
-pub back-joins : (table : TableId) (ring : RingId) (m : MarkSet) (s : Start) (queues : List (List Event)) (numbers : List (List ℕ)) (p i : ℕ) (procs : List Cache) (given : Given) (l : Lane) (d : Hand) → MayStart table ring m s → HasTaken s m queues numbers p procs given d
-    → IsBack s m queues numbers i l → l.refused ≡ false → MayJoin table ring d l.hand
-back-joins table ring m s queues numbers p i procs given l d starts were back held =
+pub back-joins : (riding : Bool) (table : TableId) (ring : RingId) (m : MarkSet) (s : Start) (queues : List (List Event)) (numbers : List (List ℕ)) (p i : ℕ) (procs : List Cache) (given : LentLists) (l : Lane) (d : Hand) → MayStart table ring m s → HasTaken riding s m queues numbers p procs given d
+    → IsBack riding s m queues numbers i l → l.refused ≡ false → MayJoin table ring d l.hand
+back-joins riding table ring m s queues numbers p i procs given l d starts were back held =
     go back.before.task back.sent.bare (back.ran held)
   where
-    go : (task : Task) → IsBare task back.before.hand.worker.caching → DoesTask m queues numbers back.before.hand l.hand task l.task → MayJoin table ring d l.hand
+    go : (task : Task) → IsBare task back.before.hand.worker.caching → DoesTask riding m queues numbers back.before.hand l.hand task l.task → MayJoin table ring d l.hand
     go (Allocate t) bare did = (let a = did.2 in may-join _ table ring m _ s.driver.value d back.before.hand l.hand i starts.works.0 starts.counts.ring (ap (λ (x : Standing). x.view.cycle) were.counts.tally) back.sent.out a.acted a.counts a.settled)
     go (Sweep n) bare did = may-join _ table ring m _ s.driver.value d back.before.hand l.hand i starts.works.0 starts.counts.ring (ap (λ (x : Standing). x.view.cycle) were.counts.tally) back.sent.out did.acted did.counts (inl (did.acted.caching ∙ bare))
     go Scavenge bare did = may-join _ table ring m _ s.driver.value d back.before.hand l.hand i starts.works.0 starts.counts.ring (ap (λ (x : Standing). x.view.cycle) were.counts.tally) back.sent.out did.acted did.counts (inl (did.acted.caching ∙ bare))
 
 -- there is one to be taken from either list
-pub some-rest : (m : MarkSet) (s : Start) (queues : List (List Event)) (numbers : List (List ℕ)) (background p : ℕ) (lanes : List Lane) (stay procs : List Cache) (given : Given) (d : Hand)
-    → AreStillOut s m queues numbers background p lanes stay procs given d → p < length s.procs.value.items → (length (get_or queues p []) == 0) ≡ true → 0 < length stay
-some-rest m s queues numbers background p lanes stay procs given d were low none =
+pub some-rest : (riding : Bool) (m : MarkSet) (s : Start) (queues : List (List Event)) (numbers : List (List ℕ)) (background p : ℕ) (lanes : List Lane) (stay procs : List Cache) (given : LentLists) (d : Hand)
+    → AreStillOut riding s m queues numbers background p lanes stay procs given d → p < length s.procs.value.items → (length (get_or queues p []) == 0) ≡ true → 0 < length stay
+some-rest riding m s queues numbers background p lanes stay procs given d were low none =
     let olds = s.procs.value.items in
     let k = length olds - (p + 1) in
     let e : length olds - p ≡ suc k = omega arith in
@@ -373,12 +380,12 @@ some-rest m s queues numbers background p lanes stay procs given d were low none
     let Q : ℕ → Cache → Type 0 = λ (i : ℕ) (x : Cache). x ≡ get_or olds i no_cache in
     of-some Q p (resting queues k (p + 1)) stay (subst (λ (l : List ℕ). AreOf Q l stay) rest_is were.stays)
 
-pub some-back : (m : MarkSet) (s : Start) (queues : List (List Event)) (numbers : List (List ℕ)) (background p : ℕ) (lanes : List Lane) (stay procs : List Cache) (given : Given) (d : Hand)
-    → AreStillOut s m queues numbers background p lanes stay procs given d → p < length s.procs.value.items → (length (get_or queues p []) == 0) ≡ false → 0 < length lanes
-some-back m s queues numbers background p lanes stay procs given d were low some =
+pub some-back : (riding : Bool) (m : MarkSet) (s : Start) (queues : List (List Event)) (numbers : List (List ℕ)) (background p : ℕ) (lanes : List Lane) (stay procs : List Cache) (given : LentLists) (d : Hand)
+    → AreStillOut riding s m queues numbers background p lanes stay procs given d → p < length s.procs.value.items → (length (get_or queues p []) == 0) ≡ false → 0 < length lanes
+some-back riding m s queues numbers background p lanes stay procs given d were low some =
     let olds = s.procs.value.items in
     let k = length olds - (p + 1) in
     let e : length olds - p ≡ suc k = omega arith in
     let busy_is : busy queues (length olds - p) p ++ helpers background ≡ p ∷ (busy queues k (p + 1) ++ helpers background) =
     ap (λ (n : ℕ). busy queues n p ++ helpers background) e ∙ ap (λ (x : List ℕ). x ++ helpers background) (busy-some queues k p some).0 in
-    of-some (IsBack s m queues numbers) p (busy queues k (p + 1) ++ helpers background) lanes (subst (λ (x : List ℕ). AreOf (IsBack s m queues numbers) x lanes) busy_is were.back)
+    of-some (IsBack riding s m queues numbers) p (busy queues k (p + 1) ++ helpers background) lanes (subst (λ (x : List ℕ). AreOf (IsBack riding s m queues numbers) x lanes) busy_is were.back)

@@ -13,7 +13,8 @@ use Rattle.span_set.specs.declared.hand.Hand.{Hand}
 use Rattle.proc_cache.specs.Cache.{Cache}
 use Rattle.heap_run.specs.Counts.{Counts, IsOut}
 use Rattle.heap_run.specs.Out.{HasOut, IsTakenIn, MayJoin, at_home}
-use Rattle.heap_run.specs.Parts.{IsSettled, goes_out, own_out, part_at}
+use Rattle.span_laws.specs.CacheAnswers.{IsSettled}
+use Rattle.heap_run.specs.Parts.{goes_out, own_out, part_at}
 use Rattle.heap_run.specs.Turns.{HasActed, IsCaching, TookTurn}
 use Rattle.heap_run.proofs.Acted.{HandsOut, back-cached, back-caching, turn-back}
 use Rattle.heap_run.proofs.Counting.{counts-as, counts-turn}

@@ -14,6 +14,7 @@ use Rattle.sample_laws.specs.Countdowns.{flags, spent}
 use Rattle.span_set.specs.declared.hand.Hand.{Hand}
 use Rattle.proc_cache.specs.Cache.{Cache}
 use Rattle.heap_run.specs.Parts.{goes_out}
+use Rattle.heap_run.specs.Riding.{asked_at, given_at}
 use Rattle.heap_run.specs.Turns.{no_cache}
 
 -- ---- one hand
@@ -50,7 +51,7 @@ pub record IsOut (number : ℕ) (driver hand : Hand) : Type 0 where
 -- ---- all processors
 
 -- Each event of each processor has a number, and each number is below the bound.
-pub record AreNumbered (bound : ℕ) (queues : List (List Event)) (numbers : List (List ℕ)) : Type 0 where
+pub record HaveBuckets (bound : ℕ) (queues : List (List Event)) (numbers : List (List ℕ)) : Type 0 where
   pub sizes : (w : ℕ) → length (slice_index_or numbers w []) ≡ length (slice_index_or queues w [])
   pub below : (w : ℕ) → All (λ b. b < bound) (slice_index_or numbers w [])
 
@@ -62,14 +63,14 @@ countdown_at procs w = (slice_index_or procs w no_cache).countdown
 abbrev pub KeepCountdowns : List Cache → List Cache → Type 0
 KeepCountdowns old new = (w : ℕ) → w < length old → countdown_at new w ≡ countdown_at old w
 
--- Each processor's objects are sampled by its countdown, and have spent it.
-pub record HaveSampled (queues : List (List Event)) (answers : List (List Answer)) (sampled : List (List Bool)) (old new : List Cache) : Type 0 where
-  pub flags_are : (w : ℕ) → w < length old → reverse (slice_index_or sampled w []) ≡ flags (countdown_at old w) (reverse (slice_index_or queues w [])) (reverse (slice_index_or answers w []))
-  pub spent_are : (w : ℕ) → w < length old → countdown_at new w ≡ spent (countdown_at old w) (reverse (slice_index_or queues w [])) (reverse (slice_index_or answers w []))
+-- What each processor asked for is sampled by its countdown where it was placed, and has spent it. A rider was not.
+pub record HaveSampled (riding : Bool) (queues : List (List Event)) (answers : List (List Answer)) (sampled : List (List Bool)) (old new : List Cache) : Type 0 where
+  pub flags_are : (w : ℕ) → w < length old → reverse (slice_index_or sampled w []) ≡ flags (countdown_at old w) (asked_at riding queues answers w) (given_at riding queues answers w)
+  pub spent_are : (w : ℕ) → w < length old → countdown_at new w ≡ spent (countdown_at old w) (asked_at riding queues answers w) (given_at riding queues answers w)
 
 -- The first k processors have sampled their objects, and no other has spent its countdown.
-pub record HaveSampledTo (queues : List (List Event)) (k : ℕ) (answers : List (List Answer)) (sampled : List (List Bool)) (old new : List Cache) : Type 0 where
+pub record HaveSampledTo (riding : Bool) (queues : List (List Event)) (k : ℕ) (answers : List (List Answer)) (sampled : List (List Bool)) (old new : List Cache) : Type 0 where
   pub size : length sampled ≡ k
-  pub flags_are : (w : ℕ) → w < k → reverse (slice_index_or sampled w []) ≡ flags (countdown_at old w) (reverse (slice_index_or queues w [])) (reverse (slice_index_or answers w []))
-  pub spent_are : (w : ℕ) → w < k → countdown_at new w ≡ spent (countdown_at old w) (reverse (slice_index_or queues w [])) (reverse (slice_index_or answers w []))
+  pub flags_are : (w : ℕ) → w < k → reverse (slice_index_or sampled w []) ≡ flags (countdown_at old w) (asked_at riding queues answers w) (given_at riding queues answers w)
+  pub spent_are : (w : ℕ) → w < k → countdown_at new w ≡ spent (countdown_at old w) (asked_at riding queues answers w) (given_at riding queues answers w)
   pub others : (w : ℕ) → k ≤ w → countdown_at new w ≡ countdown_at old w

@@ -1,5 +1,5 @@
 -- The workers of a cycle, which are out beside each other: what each is given, and what it does.
-use Rattle.std.specs.Prelude.{◌≡◌, ℕ, ◌^◌, ◌<◌, ◌≤◌, false, All, List, [], length, reverse, slice_index_or}
+use Rattle.std.specs.Prelude.{◌≡◌, ℕ, ◌^◌, ◌<◌, ◌≤◌, Bool, false, All, List, [], length, reverse, slice_index_or}
 use Rattle.atomic_table.specs.Seated.{TableId}
 use Rattle.span_state.specs.MarkSet.{MarkSet}
 use Rattle.trace_reader.specs.declared.trace.Event.{Event}
@@ -13,7 +13,8 @@ use Rattle.span_set.specs.declared.hand.Hand.{Hand}
 use Rattle.heap_run.specs.Counts.{Counts, no_counts}
 use Rattle.heap_run.specs.Firsts.{FlushesFor}
 use Rattle.heap_run.specs.Gains.{HasKept, behind}
-use Rattle.heap_run.specs.Parts.{IsSettled}
+use Rattle.span_laws.specs.CacheAnswers.{IsSettled}
+use Rattle.heap_run.specs.Riding.{RidersStand, asked_of, given_of}
 use Rattle.heap_run.specs.Turns.{HasActed, IsCaching, SaysAnswers, SaysNone}
 use Rattle.heap_run.specs.declared.lanes.Lane.{Lane}
 use Rattle.heap_run.specs.declared.lanes.Task.{Task}
@@ -48,14 +49,15 @@ pub record IsReady (table : TableId) (ring : RingId) (m : MarkSet) (queues : Lis
 -- ---- what a worker does
 
 -- A processor answered its events, with the numbers of their buckets, behind the flush of its cache, and has no block out.
-pub record AnswersTurn (m : MarkSet) (events : List Event) (numbers : List ℕ) (old new : Hand) (t t' : Turn) : Type 0 where
-  pub acted : HasActed (SaysAnswers (reverse events) (reverse (behind t.answers t'.answers))) old new
+pub record AnswersTurn (riding : Bool) (m : MarkSet) (events : List Event) (numbers : List ℕ) (old new : Hand) (t t' : Turn) : Type 0 where
+  pub acted : HasActed (SaysAnswers (asked_of riding (reverse events) (reverse (behind t.answers t'.answers))) (given_of riding (reverse events) (reverse (behind t.answers t'.answers)))) old new
+  pub riders : RidersStand riding (reverse events) (reverse (behind t.answers t'.answers))
   pub caching : IsCaching old.worker.view.generation new.worker.view.own t'.proc
   pub number : t'.proc.number ≡ t.proc.number
-  pub sampled : reverse (behind t.sampled t'.sampled) ≡ flags t.proc.countdown (reverse events) (reverse (behind t.answers t'.answers))
-  pub spent_is : t'.proc.countdown ≡ spent t.proc.countdown (reverse events) (reverse (behind t.answers t'.answers))
+  pub sampled : reverse (behind t.sampled t'.sampled) ≡ flags t.proc.countdown (asked_of riding (reverse events) (reverse (behind t.answers t'.answers))) (given_of riding (reverse events) (reverse (behind t.answers t'.answers)))
+  pub spent_is : t'.proc.countdown ≡ spent t.proc.countdown (asked_of riding (reverse events) (reverse (behind t.answers t'.answers))) (given_of riding (reverse events) (reverse (behind t.answers t'.answers)))
   pub counts : Counts m (sampled_counts (behind t.sampled t'.sampled) numbers) old new
-  pub flushed : FlushesFor events t.proc t'.proc old new
+  pub flushed : FlushesFor (asked_of riding (reverse events) (reverse (behind t.answers t'.answers))) t.proc t'.proc old new
   pub settled : IsSettled new.worker
   pub kept : HasKept t.answers t'.answers
   pub kept_too : HasKept t.sampled t'.sampled
@@ -67,11 +69,11 @@ pub record Helps (m : MarkSet) (old new : Hand) : Type 0 where
   pub counts : Counts m no_counts old new
 
 -- The task was done.
-abbrev pub DoesTask : MarkSet → List (List Event) → List (List ℕ) → Hand → Hand → Task → Task → Type 0
-DoesTask m queues numbers old new (Allocate t) task = (t' : Turn) × (task ≡ Allocate t') × AnswersTurn m (slice_index_or queues t.proc.number []) (slice_index_or numbers t.proc.number []) old new t t'
-DoesTask m queues numbers old new (Sweep n) task = Helps m old new
-DoesTask m queues numbers old new Scavenge task = Helps m old new
+abbrev pub DoesTask : Bool → MarkSet → List (List Event) → List (List ℕ) → Hand → Hand → Task → Task → Type 0
+DoesTask riding m queues numbers old new (Allocate t) task = (t' : Turn) × (task ≡ Allocate t') × AnswersTurn riding m (slice_index_or queues t.proc.number []) (slice_index_or numbers t.proc.number []) old new t t'
+DoesTask riding m queues numbers old new (Sweep n) task = Helps m old new
+DoesTask riding m queues numbers old new Scavenge task = Helps m old new
 
 -- It was, where memory was found for it.
-abbrev pub HasDone : MarkSet → List (List Event) → List (List ℕ) → Lane → Lane → Type 0
-HasDone m queues numbers old new = new.refused ≡ false → DoesTask m queues numbers old.hand new.hand old.task new.task
+abbrev pub HasDone : Bool → MarkSet → List (List Event) → List (List ℕ) → Lane → Lane → Type 0
+HasDone riding m queues numbers old new = new.refused ≡ false → DoesTask riding m queues numbers old.hand new.hand old.task new.task

@@ -2,6 +2,7 @@ pub mod Parts
 pub mod Gains
 pub mod Served
 pub mod Swept
+pub mod Riding
 pub mod Turns
 pub mod Firsts
 pub mod Lanes
@@ -10,7 +11,12 @@ pub mod Out
 pub mod Settled
 pub mod Last
 pub mod Paces
+pub mod Naming
+pub mod Published
 pub mod Profiled
+pub mod Allocated
+pub mod Courses
 pub mod Runs
 pub mod Watching
 pub mod Watched
+pub mod Versions

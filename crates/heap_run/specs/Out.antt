@@ -11,12 +11,14 @@ use Rattle.span_laws.specs.Handed.{taking_in}
 use Rattle.span_set.specs.Tallies.{MayCount}
 use Rattle.span_set.specs.declared.hand.Hand.{Hand}
 use Rattle.proc_cache.specs.Cache.{Cache}
-use Rattle.heap_run.specs.Counts.{AreNumbered, Counts, HaveSampledTo, IsOut}
+use Rattle.heap_run.specs.Counts.{HaveBuckets, Counts, HaveSampledTo, IsOut}
 use Rattle.heap_run.specs.Gains.{HasKept, gains}
 use Rattle.heap_run.specs.Lanes.{HasDone}
-use Rattle.heap_run.specs.Parts.{IsSettled, part_at}
+use Rattle.span_laws.specs.CacheAnswers.{IsSettled}
+use Rattle.heap_run.specs.Parts.{part_at}
+use Rattle.heap_run.specs.Riding.{HaveRiddenTo}
 use Rattle.heap_run.specs.Turns.{HaveAnsweredTo, IsCollecting, IsDriving, SaysNone, no_cache}
-use Rattle.heap_run.specs.declared.cycle.Given.{Given}
+use Rattle.heap_run.specs.declared.cycle.LentLists.{LentLists}
 use Rattle.heap_run.specs.declared.lanes.Lane.{Lane}
 use Rattle.heap_run.specs.declared.lanes.Task.{Task}
 use Rattle.heap_run.specs.declared.lanes.Task.TheVariants.{Allocate, Sweep, Scavenge}
@@ -74,7 +76,7 @@ pub record MayStart (table : TableId) (ring : RingId) (m : MarkSet) (s : Start) 
 pub record AreAsked (bound : ℕ) (queues : List (List Event)) (numbers : List (List ℕ)) (s : Start) : Type 0 where
   pub count : length queues ≡ length s.procs.value.items
   pub buckets : length numbers ≡ length s.procs.value.items
-  pub numbered : AreNumbered bound queues numbers
+  pub numbered : HaveBuckets bound queues numbers
   pub sizes : (w : ℕ) → All (λ (e : Event). e.size ≤ 2 ^ 40) (slice_index_or queues w [])
 
 -- ---- as they go out
@@ -106,14 +108,14 @@ pub record IsSent (s : Start) (i : ℕ) (l : Lane) : Type 0 where
   pub task : IsTaskOf s i l.task
 
 -- Each list is as it was at the start where its processor has no event.
-pub record HasLent (s : Start) (queues : List (List Event)) (given : Given) : Type 0 where
+pub record HasLent (s : Start) (queues : List (List Event)) (given : LentLists) : Type 0 where
   pub lists : length given.answers.items ≡ length s.given.value.answers.items
   pub lists_too : length given.sampled.items ≡ length s.given.value.sampled.items
   pub rest : (w : ℕ) → slice_index_or queues w [] ≡ [] → slice_index_or given.answers.items w [] ≡ slice_index_or s.given.value.answers.items w []
   pub rest_too : (w : ℕ) → slice_index_or queues w [] ≡ [] → slice_index_or given.sampled.items w [] ≡ slice_index_or s.given.value.sampled.items w []
 
 -- Of the processors those from p on have gone out, where they have an event, behind the scavenger and the sweepers; the others are still in the list.
-pub record AreSent (s : Start) (queues : List (List Event)) (background p : ℕ) (lanes : List Lane) (stay procs : List Cache) (given : Given) (d : Hand) : Type 0 where
+pub record AreSent (s : Start) (queues : List (List Event)) (background p : ℕ) (lanes : List Lane) (stay procs : List Cache) (given : LentLists) (d : Hand) : Type 0 where
   pub long : procs ≡ take p s.procs.value.items
   pub sent : HasSent s.driver.value (busy queues (length s.procs.value.items - p) p ++ helpers background) d
   pub went : AreOf (IsSent s) (busy queues (length s.procs.value.items - p) p ++ helpers background) lanes
@@ -125,10 +127,10 @@ pub record AreSent (s : Start) (queues : List (List Event)) (background p : ℕ)
 -- ---- as they come back
 
 -- The worker of this number was sent out, and has run.
-pub record IsBack (s : Start) (m : MarkSet) (queues : List (List Event)) (numbers : List (List ℕ)) (i : ℕ) (l : Lane) : Type 0 where
+pub record IsBack (riding : Bool) (s : Start) (m : MarkSet) (queues : List (List Event)) (numbers : List (List ℕ)) (i : ℕ) (l : Lane) : Type 0 where
   pub before : Lane
   pub sent : IsSent s i before
-  pub ran : HasDone m queues numbers before l
+  pub ran : HasDone riding m queues numbers before l
 
 -- A worker that is out may be taken in by the driver: it is of this table and has no block out, and its tally is one of the ring's that was split off in the driver's cycle.
 pub record MayJoin (table : TableId) (ring : RingId) (d h : Hand) : Type 0 where
@@ -161,7 +163,7 @@ pub record HasOut (start : Hand) (is : List ℕ) (d : Hand) : Type 0 where
 
 -- Of the processors those below p are back: they have answered their events, and what they came to is in their lists; each other is as it was at the
 -- start.
-pub record HasTaken (s : Start) (m : MarkSet) (queues : List (List Event)) (numbers : List (List ℕ)) (p : ℕ) (procs : List Cache) (given : Given) (d : Hand) : Type 0 where
+pub record HasTaken (riding : Bool) (s : Start) (m : MarkSet) (queues : List (List Event)) (numbers : List (List ℕ)) (p : ℕ) (procs : List Cache) (given : LentLists) (d : Hand) : Type 0 where
   pub long : length procs ≡ p
   pub driving : IsDriving s.driver.value.worker (procs ++ drop p s.procs.value.items) (at_home s.driver.value d)
   pub collecting : IsCollecting (at_home s.driver.value d)
@@ -171,13 +173,14 @@ pub record HasTaken (s : Start) (m : MarkSet) (queues : List (List Event)) (numb
   pub rest_too : (w : ℕ) → p ≤ w → slice_index_or queues w [] ≡ [] → slice_index_or given.sampled.items w [] ≡ slice_index_or s.given.value.sampled.items w []
   pub kept : (w : ℕ) → w < p → HasKept (slice_index_or s.given.value.answers.items w []) (slice_index_or given.answers.items w [])
   pub kept_too : (w : ℕ) → w < p → HasKept (slice_index_or s.given.value.sampled.items w []) (slice_index_or given.sampled.items w [])
-  pub answered : HaveAnsweredTo queues p (take p (gains s.given.value.answers.items given.answers.items)) (at_home s.driver.value d).worker
-  pub sampled_are : HaveSampledTo queues p (take p (gains s.given.value.answers.items given.answers.items)) (take p (gains s.given.value.sampled.items given.sampled.items)) s.procs.value.items (procs ++ drop p s.procs.value.items)
+  pub answered : HaveAnsweredTo riding queues p (take p (gains s.given.value.answers.items given.answers.items)) (at_home s.driver.value d).worker
+  pub riders : HaveRiddenTo riding queues p (take p (gains s.given.value.answers.items given.answers.items))
+  pub sampled_are : HaveSampledTo riding queues p (take p (gains s.given.value.answers.items given.answers.items)) (take p (gains s.given.value.sampled.items given.sampled.items)) s.procs.value.items (procs ++ drop p s.procs.value.items)
   pub counts : Counts m (all_counts p (take p (gains s.given.value.sampled.items given.sampled.items)) numbers) s.driver.value (at_home s.driver.value d)
 
 -- Of the processors those from p on are still to be taken in, and the sweepers and the scavenger behind them.
-pub record AreStillOut (s : Start) (m : MarkSet) (queues : List (List Event)) (numbers : List (List ℕ)) (background p : ℕ) (lanes : List Lane) (stay procs : List Cache) (given : Given) (d : Hand) : Type 0 where
+pub record AreStillOut (riding : Bool) (s : Start) (m : MarkSet) (queues : List (List Event)) (numbers : List (List ℕ)) (background p : ℕ) (lanes : List Lane) (stay procs : List Cache) (given : LentLists) (d : Hand) : Type 0 where
   pub outs : HasOut s.driver.value (busy queues (length s.procs.value.items - p) p ++ helpers background) d
-  pub back : AreOf (IsBack s m queues numbers) (busy queues (length s.procs.value.items - p) p ++ helpers background) lanes
+  pub back : AreOf (IsBack riding s m queues numbers) (busy queues (length s.procs.value.items - p) p ++ helpers background) lanes
   pub stays : AreOf (λ (i : ℕ) c. c ≡ slice_index_or s.procs.value.items i no_cache) (resting queues (length s.procs.value.items - p) p) stay
-  pub taken : HasTaken s m queues numbers p procs given d
+  pub taken : HasTaken riding s m queues numbers p procs given d

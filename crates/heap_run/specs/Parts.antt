@@ -1,8 +1,7 @@
 -- What each worker has, as the driver knows it.
-use Rattle.std.specs.Prelude.{◌≡◌, ◌⊎◌, ℕ, Bool, true, false, [], length, slice_index_or, Some, None}
+use Rattle.std.specs.Prelude.{◌≡◌, ℕ, Bool, true, false, [], length, slice_index_or, Some, None}
 use Rattle.page_cache.specs.Cache.{only}
 use Rattle.span_laws.specs.declared.view.Part.{Part}
-use Rattle.span_laws.specs.CacheAnswers.{IsEmptyCache}
 use Rattle.span_laws.specs.Views.{Seen, no_part, parts_of}
 use Rattle.span_laws.specs.Handed.{handed, with_cache}
 
@@ -32,7 +31,3 @@ own_out false m h = with_cache None h
 -- The worker that goes out as number m, with a page cache or without one.
 abbrev pub goes_out : Bool → ℕ → Seen → Seen
 goes_out caching m w = record { table = w.table; number = m; away = []; caching = caching; journal = None; view = record (handed 69 m w.view) { own = own_out caching m (handed 69 m w.view).own } }
-
--- The worker has no block out: it has no page cache, or an empty one.
-abbrev pub IsSettled : Seen → Type 0
-IsSettled w = (w.caching ≡ false) ⊎ IsEmptyCache w.view.own.cache

@@ -17,7 +17,7 @@ use Rattle.profile_lines.specs.Read.{AreDifferent, IsOrder}
 use Rattle.profile_lines.specs.Counted.{HasCounted, IsCounting, ShowsMarkEnd}
 use Rattle.profile_lines.specs.Told.{HasTold}
 use Rattle.heap_run.specs.Counts.{countdown_at}
-use Rattle.run_profile.specs.Naming.{KnowsBuckets}
+use Rattle.heap_run.specs.Naming.{KnowsBuckets}
 use Rattle.heap_run.specs.declared.run.Run.{Run}
 
 -- The profile of a run with these objects, which are those of the first n cycles: the lists say which of them are sampled and which

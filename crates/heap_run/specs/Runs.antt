@@ -58,7 +58,7 @@ pub record HasBegun (t : Trace) (c : ℕ) (run : Run) : Type 0 where
   pub told : IsToldIn t c objects run
 
 -- Cycle c of the trace has ended: the run is sound so far, no block is out, and the driver knows the whole journal.
-pub record HasRun (t : Trace) (c : ℕ) (run : Run) : Type 0 where
+pub record HasCompleted (t : Trace) (c : ℕ) (run : Run) : Type 0 where
   pub set : IsSet t c run
   pub objects : List Object
   pub past : List Line

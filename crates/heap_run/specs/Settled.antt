@@ -1,5 +1,5 @@
 -- What the driver knows as a cycle has ended.
-use Rattle.std.specs.Prelude.{◌≡◌, ℕ, ◌<◌, false, List, length, slice_index_or, Some}
+use Rattle.std.specs.Prelude.{◌≡◌, ℕ, ◌<◌, Bool, false, List, length, slice_index_or, Some}
 use Rattle.span_state.specs.MarkSet.{has_pair}
 use Rattle.sweep_laws.specs.Reading.{is_swept_set}
 use Rattle.worker_log.specs.Entries.{is_seen_empty, many}
@@ -12,6 +12,7 @@ use Rattle.span_laws.specs.Views.{Seen}
 use Rattle.span_laws.specs.MarkEnds.{allocated_pairs}
 use Rattle.proc_cache.specs.Cache.{Cache}
 use Rattle.heap_run.specs.Parts.{part_at}
+use Rattle.heap_run.specs.Riding.{HaveRidden}
 use Rattle.trace_reader.specs.declared.trace.Event.{Event}
 use Rattle.cycle_history.specs.declared.Answer.{Answer}
 use Rattle.span_set.specs.declared.hand.Hand.{Hand}
@@ -38,9 +39,10 @@ pub record HasSettled (d : Seen) : Type 0 where
   pub scavenged : IsScavenged d.view.region d.view.goal (past_after e)
 
 -- All workers had their turns, the processors gave these answers to their events, and the cycle ended.
-pub record HasWorked (queues : List (List Event)) (given : List (List Answer)) (start : Hand) (procs : List Cache) (d : Hand) : Type 0 where
+pub record HasWorked (riding : Bool) (queues : List (List Event)) (given : List (List Answer)) (start : Hand) (procs : List Cache) (d : Hand) : Type 0 where
   pub driving : IsDriving start.worker procs d
   pub collecting : IsCollecting d
-  pub answered : HaveAnswered queues given d.worker
+  pub answered : HaveAnswered riding queues given d.worker
+  pub riders : HaveRidden riding queues given
   pub flushed : HasFlushed procs d.worker
   pub settled : HasSettled d.worker

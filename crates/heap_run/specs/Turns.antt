@@ -1,5 +1,5 @@
 -- What a worker did while it was out, and what the driver has when it took all of them in.
-use Rattle.std.specs.Prelude.{◌≡◌, ◌≢◌, ℕ, ◌<◌, ◌≤◌, List, [], ◌++◌, length, reverse, slice_index_or}
+use Rattle.std.specs.Prelude.{◌≡◌, ◌≢◌, ℕ, ◌<◌, ◌≤◌, Bool, List, [], ◌++◌, length, slice_index_or}
 use Rattle.trace_reader.specs.declared.trace.Event.{Event}
 use Rattle.cycle_history.specs.declared.Answer.{Answer}
 use Rattle.worker_log.specs.declared.Entry.{Entry}
@@ -14,6 +14,7 @@ use Rattle.profile_cycle.specs.Sampling.{countdown}
 use Rattle.proc_cache.specs.Cache.{Cache}
 use Rattle.proc_cache.specs.Serves.{IsUsedCache, Serves}
 use Rattle.heap_run.specs.Parts.{IsSameRun, part_at}
+use Rattle.heap_run.specs.Riding.{asked_at, given_at}
 use Rattle.heap_run.specs.Served.{LogTells}
 use Rattle.heap_run.specs.Swept.{AreCollected}
 
@@ -80,12 +81,12 @@ IsCollecting d = AreCollected (cycle_at d.worker.view.generation) (λ w. (part_a
 abbrev pub KeepsAnswers : Seen → Seen → Type 0
 KeepsAnswers old new = (w : ℕ) (events : List Event) (answers : List Answer) → SaysAnswers events answers (part_at old w).log → SaysAnswers events answers (part_at new w).log
 
--- The logs tell of the answers that each processor gave to its events, and of no others; all are in the order of time.
-abbrev pub HaveAnswered : List (List Event) → List (List Answer) → Seen → Type 0
-HaveAnswered queues given d = (w : ℕ) → SaysAnswers (reverse (slice_index_or queues w [])) (reverse (slice_index_or given w [])) (part_at d w).log
+-- The logs tell of the heap's answers to what each processor asked for its events, and of no others; all are in the order of time.
+abbrev pub HaveAnswered : Bool → List (List Event) → List (List Answer) → Seen → Type 0
+HaveAnswered riding queues given d = (w : ℕ) → SaysAnswers (asked_at riding queues given w) (given_at riding queues given w) (part_at d w).log
 
 -- The first k processors have answered their events, and nobody else has answered any.
-pub record HaveAnsweredTo (queues : List (List Event)) (k : ℕ) (given : List (List Answer)) (d : Seen) : Type 0 where
+pub record HaveAnsweredTo (riding : Bool) (queues : List (List Event)) (k : ℕ) (given : List (List Answer)) (d : Seen) : Type 0 where
   pub size : length given ≡ k
-  pub answered : (w : ℕ) → w < k → SaysAnswers (reverse (slice_index_or queues w [])) (reverse (slice_index_or given w [])) (part_at d w).log
+  pub answered : (w : ℕ) → w < k → SaysAnswers (asked_at riding queues given w) (given_at riding queues given w) (part_at d w).log
   pub others : (w : ℕ) → k ≤ w → SaysNone (part_at d w).log

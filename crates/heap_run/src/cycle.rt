@@ -3,22 +3,23 @@
 ghost use Rattle.std.specs.Prelude.{◌≡◌, ℕ, ◌^◌, ◌<◌, ◌≤◌, ◌+◌, [], All, length, slice_index_or, vec_len, false, true, IfOk, OnOk};
 ghost use Rattle.span_laws.specs.Asks.{IsAtWork};
 ghost use Rattle.heap_run.specs.Parts.{part_at};
+ghost use Rattle.heap_run.specs.Riding.{HaveRidden};
 ghost use Rattle.heap_run.specs.Settled.{HasFlushed, HasSettled, HasWorked};
 ghost use Rattle.span_set.specs.Tallies.{MayCount};
 ghost use Rattle.sample_laws.specs.Counted.{all_counts};
-ghost use Rattle.heap_run.specs.Counts.{AreNumbered, Counts, HaveSampled, KeepCountdowns, no_counts};
+ghost use Rattle.heap_run.specs.Counts.{HaveBuckets, Counts, HaveSampled, KeepCountdowns, no_counts};
 ghost use Rattle.heap_run.specs.Gains.{HaveKept, gains};
 ghost use Rattle.heap_run.specs.Out.{AreAsked, AreOf, AreStillOut, HasOut, HasTaken, IsBack, IsTakenIn, MayJoin, MayStart, helpers};
 ghost use Rattle.heap_run.specs.Turns.{HaveAnswered, IsCollecting, IsDriving, KeepsAnswers, SaysNone, no_cache};
 
 use crate::going_out::{Out, Start, send_all};
 use crate::lanes::{Lane, Task, run_all};
+use crate::queues::Queues;
 use crate::turns::{bring_back, flush_processor};
 use cycle_history::Answer;
 use edge_io::{Gate, List, NoMemory};
 use proc_cache::Proc;
 use profile_readers::{Board, Viewer};
-use run_lists::Queues;
 use scavenger::scavenge_to;
 use span_set::{Hand, Shop};
 use std::alloc::Global;
@@ -29,7 +30,7 @@ use sweeper::finish;
 
 /// The lists in which each processor puts what its events come to: the answers, and which of the objects are sampled.
 #[derive(Drop)]
-pub(crate) struct Given {
+pub(crate) struct LentLists {
     pub answers: Vec<List<Answer>>,
     pub sampled: Vec<List<bool>>,
 }
@@ -48,7 +49,7 @@ pub(crate) fn run_beside<B: Board + Send + Sync, R: Threads + Wait + Sync, G: Ga
     background: u32,
     caching: bool,
     gate: &G,
-    given: &mut Given,
+    given: &mut LentLists,
     viewers: &mut [Viewer<B>],
 ) -> Result<(), NoMemory>
     requires works { IsAtWork shop.now.shared.now driver.old.worker }
@@ -58,7 +59,7 @@ pub(crate) fn run_beside<B: Board + Send + Sync, R: Threads + Wait + Sync, G: Ga
     requires count { length queues.now.events ≡ vec_len procs.old }
     requires buckets { length queues.now.buckets ≡ vec_len procs.old }
     requires lists { (vec_len given.old.answers ≡ vec_len procs.old) × (vec_len given.old.sampled ≡ vec_len procs.old) }
-    requires numbered { AreNumbered shop.now.ring.now.buckets queues.now.events queues.now.buckets }
+    requires numbered { HaveBuckets shop.now.ring.now.buckets queues.now.events queues.now.buckets }
     requires few { vec_len procs.old ≤ 64 }
     requires background { background ≤ 4 }
     requires caching { caching ≡ true → vec_len procs.old ≤ driver.old.worker.view.procs }
@@ -71,9 +72,10 @@ pub(crate) fn run_beside<B: Board + Send + Sync, R: Threads + Wait + Sync, G: Ga
     ensures driving { OnOk result (IsDriving driver.old.worker procs.new.items driver.new) }
     ensures procs { OnOk result (vec_len procs.new ≡ vec_len procs.old) }
     ensures collecting { OnOk result (IsCollecting driver.new) }
-    ensures answered { OnOk result (HaveAnswered queues.now.events (gains given.old.answers.items given.new.answers.items) driver.new.worker) }
+    ensures answered { OnOk result (HaveAnswered queues.now.riding queues.now.events (gains given.old.answers.items given.new.answers.items) driver.new.worker) }
+    ensures riders { OnOk result (HaveRidden queues.now.riding queues.now.events (gains given.old.answers.items given.new.answers.items)) }
     ensures size { OnOk result ((vec_len given.new.answers ≡ vec_len procs.old) × (vec_len given.new.sampled ≡ vec_len procs.old)) }
-    ensures sampled { OnOk result (HaveSampled queues.now.events (gains given.old.answers.items given.new.answers.items) (gains given.old.sampled.items given.new.sampled.items) procs.old.items procs.new.items) }
+    ensures sampled { OnOk result (HaveSampled queues.now.riding queues.now.events (gains given.old.answers.items given.new.answers.items) (gains given.old.sampled.items given.new.sampled.items) procs.old.items procs.new.items) }
     ensures counts { OnOk result (Counts shop.now.marks.now (all_counts (vec_len procs.old) (gains given.old.sampled.items given.new.sampled.items) queues.now.buckets) driver.old driver.new) }
     ensures kept { OnOk result (HaveKept given.old.answers.items given.new.answers.items × HaveKept given.old.sampled.items given.new.sampled.items) }
 {
@@ -110,14 +112,14 @@ fn take_processors(
     procs: &mut Vec<Proc>,
     queues: &Queues,
     background: u32,
-    given: &mut Given,
+    given: &mut LentLists,
     out: &mut Out,
     start: &Start,
 ) -> Result<(), NoMemory>
     requires starts { MayStart shop.now.shared.now shop.now.ring.now shop.now.marks.now start.now }
     requires asked { AreAsked shop.now.ring.now.buckets queues.now.events queues.now.buckets start.now }
-    requires out { AreStillOut start.now shop.now.marks.now queues.now.events queues.now.buckets background 0 out.old.lanes.items out.old.resting.items procs.old.items given.old driver.old }
-    ensures out { OnOk result (AreStillOut start.now shop.now.marks.now queues.now.events queues.now.buckets background (length start.now.procs.value.items) out.new.lanes.items out.new.resting.items procs.new.items given.new driver.new) }
+    requires out { AreStillOut queues.now.riding start.now shop.now.marks.now queues.now.events queues.now.buckets background 0 out.old.lanes.items out.old.resting.items procs.old.items given.old driver.old }
+    ensures out { OnOk result (AreStillOut queues.now.riding start.now shop.now.marks.now queues.now.events queues.now.buckets background (length start.now.procs.value.items) out.new.lanes.items out.new.resting.items procs.new.items given.new driver.new) }
 {
     for number in 0..given.answers.len() {
         take_processor(
@@ -134,7 +136,7 @@ fn take_processor(
     procs: &mut Vec<Proc>,
     queues: &Queues,
     background: u32,
-    given: &mut Given,
+    given: &mut LentLists,
     out: &mut Out,
     number: usize,
     start: &Start,
@@ -142,8 +144,8 @@ fn take_processor(
     requires starts { MayStart shop.now.shared.now shop.now.ring.now shop.now.marks.now start.now }
     requires asked { AreAsked shop.now.ring.now.buckets queues.now.events queues.now.buckets start.now }
     requires number { number < length start.now.procs.value.items }
-    requires out { AreStillOut start.now shop.now.marks.now queues.now.events queues.now.buckets background number out.old.lanes.items out.old.resting.items procs.old.items given.old driver.old }
-    ensures out { OnOk result (AreStillOut start.now shop.now.marks.now queues.now.events queues.now.buckets background (number + 1) out.new.lanes.items out.new.resting.items procs.new.items given.new driver.new) }
+    requires out { AreStillOut queues.now.riding start.now shop.now.marks.now queues.now.events queues.now.buckets background number out.old.lanes.items out.old.resting.items procs.old.items given.old driver.old }
+    ensures out { OnOk result (AreStillOut queues.now.riding start.now shop.now.marks.now queues.now.events queues.now.buckets background (number + 1) out.new.lanes.items out.new.resting.items procs.new.items given.new driver.new) }
 {
     if queues.events.of(number).is_empty() {
         let Some(proc) = out.resting.pop() else {
@@ -172,17 +174,17 @@ fn take_helpers(
     procs: &Vec<Proc>,
     queues: &Queues,
     background: u32,
-    given: &Given,
+    given: &LentLists,
     mut lanes: Vec<Lane>,
     start: &Start,
 ) -> Result<(), NoMemory>
     requires starts { MayStart shop.now.shared.now shop.now.ring.now shop.now.marks.now start.now }
     requires few { background ≤ 4 }
     requires out { HasOut start.now.driver.value (helpers background) driver.old }
-    requires lanes { AreOf (IsBack start.now shop.now.marks.now queues.now.events queues.now.buckets) (helpers background) lanes.items }
-    requires taken { HasTaken start.now shop.now.marks.now queues.now.events queues.now.buckets (length start.now.procs.value.items) procs.now.items given.now driver.old }
+    requires lanes { AreOf (IsBack queues.now.riding start.now shop.now.marks.now queues.now.events queues.now.buckets) (helpers background) lanes.items }
+    requires taken { HasTaken queues.now.riding start.now shop.now.marks.now queues.now.events queues.now.buckets (length start.now.procs.value.items) procs.now.items given.now driver.old }
     ensures out { OnOk result (HasOut start.now.driver.value [] driver.new) }
-    ensures taken { OnOk result (HasTaken start.now shop.now.marks.now queues.now.events queues.now.buckets (length start.now.procs.value.items) procs.now.items given.now driver.new) }
+    ensures taken { OnOk result (HasTaken queues.now.riding start.now shop.now.marks.now queues.now.events queues.now.buckets (length start.now.procs.value.items) procs.now.items given.now driver.new) }
 {
     for _back in 0..lanes.len() {
         let Some(lane) = lanes.pop() else {
@@ -293,7 +295,7 @@ pub(crate) fn run_workers<B: Board + Send + Sync, R: Threads + Wait + Sync, G: G
     background: u32,
     caching: bool,
     gate: &G,
-    given: &mut Given,
+    given: &mut LentLists,
     viewers: &mut [Viewer<B>],
 ) -> Result<(), NoMemory>
     requires works { IsAtWork shop.now.shared.now driver.old.worker }
@@ -303,7 +305,7 @@ pub(crate) fn run_workers<B: Board + Send + Sync, R: Threads + Wait + Sync, G: G
     requires count { length queues.events ≡ vec_len procs.old }
     requires buckets { length queues.buckets ≡ vec_len procs.old }
     requires lists { (vec_len given.old.answers ≡ vec_len procs.old) × (vec_len given.old.sampled ≡ vec_len procs.old) }
-    requires numbered { AreNumbered shop.now.ring.now.buckets queues.events queues.buckets }
+    requires numbered { HaveBuckets shop.now.ring.now.buckets queues.events queues.buckets }
     requires few { vec_len procs.old ≤ 64 }
     requires background { background ≤ 4 }
     requires caching { caching ≡ true → vec_len procs.old ≤ driver.old.worker.view.procs }
@@ -313,10 +315,10 @@ pub(crate) fn run_workers<B: Board + Send + Sync, R: Threads + Wait + Sync, G: G
     requires counts { MayCount shop.now.ring.now shop.now.marks.now driver.old.tally }
     requires drives { driver.old.tally.view.drives ≡ true }
     requires quiet { (w : ℕ) → SaysNone (part_at driver.old.worker w).log }
-    ensures ran { OnOk result (HasWorked queues.entry.events (gains given.old.answers.items given.new.answers.items) driver.old procs.new.items driver.new) }
+    ensures ran { OnOk result (HasWorked queues.entry.riding queues.entry.events (gains given.old.answers.items given.new.answers.items) driver.old procs.new.items driver.new) }
     ensures procs { OnOk result (vec_len procs.new ≡ vec_len procs.old) }
     ensures size { OnOk result ((vec_len given.new.answers ≡ vec_len procs.old) × (vec_len given.new.sampled ≡ vec_len procs.old)) }
-    ensures sampled { OnOk result (HaveSampled queues.entry.events (gains given.old.answers.items given.new.answers.items) (gains given.old.sampled.items given.new.sampled.items) procs.old.items procs.new.items) }
+    ensures sampled { OnOk result (HaveSampled queues.entry.riding queues.entry.events (gains given.old.answers.items given.new.answers.items) (gains given.old.sampled.items given.new.sampled.items) procs.old.items procs.new.items) }
     ensures counts { OnOk result (Counts shop.now.marks.now (all_counts (vec_len procs.old) (gains given.old.sampled.items given.new.sampled.items) queues.entry.buckets) driver.old driver.new) }
     ensures kept { OnOk result (HaveKept given.old.answers.items given.new.answers.items × HaveKept given.old.sampled.items given.new.sampled.items) }
 {

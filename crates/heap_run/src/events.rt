@@ -1,6 +1,6 @@
-//! The events of a processor in a cycle.
+//! The events of a processor in a cycle, of which the tiny objects may ride in blocks (`docs/tiny-objects.md`).
 
-ghost use Rattle.std.specs.Prelude.{◌≡◌, ◌^◌, ◌<◌, ◌≤◌, [], ◌∷◌, All, length, reverse, false, IfOk, OnOk};
+ghost use Rattle.std.specs.Prelude.{◌≡◌, ◌-◌, ◌^◌, ◌<◌, ◌≤◌, [], ◌∷◌, All, length, reverse, false, IfOk, OnOk};
 ghost use Rattle.span_laws.specs.Asks.{IsAtWork, IsIdle};
 ghost use Rattle.span_set.specs.Tallies.{MayCount};
 ghost use Rattle.sample_laws.specs.Counted.{one_count, sampled_counts};
@@ -8,7 +8,10 @@ ghost use Rattle.sample_laws.specs.Countdowns.{flag, flags, spends, spent};
 ghost use Rattle.heap_run.specs.Counts.{Counts};
 ghost use Rattle.heap_run.specs.Firsts.{FlushesFor};
 ghost use Rattle.heap_run.specs.Gains.{HasKept, behind};
+ghost use Rattle.heap_run.specs.Riding.{RidersStand, StandsWith, asked_of, block_with, given_of, part_with};
 ghost use Rattle.heap_run.specs.Turns.{HasActed, IsCaching, SaysAnswers};
+ghost use Rattle.tiny_alloc.specs.Base.{based_answer, based_event};
+ghost use Rattle.tiny_alloc.specs.Rides.{start_in};
 
 use cycle_history::Answer;
 use edge_io::{Gate, List, NoMemory};
@@ -19,11 +22,13 @@ use span_set::{Hand, Shop};
 use std::alloc::Global;
 use std::mem::replace;
 use std::sync::Wait;
+use tiny_alloc::{BLOCK, Tiny, is_tiny};
 use trace_reader::Event;
 
 /// Answers the events of a processor in a cycle, in their order, which have buckets with these numbers, and puts the answers, and
-/// which of the objects are sampled, behind those before. Before each event it passes the gate, with the processor's number and
-/// the event's place among these. Without memory both lists may be lost.
+/// which of the objects are sampled, behind those before. Tiny objects ride in blocks, or not; the processor begins with no block.
+/// What is said of the heap is said of what was asked of it: a whole block for a lead, and nothing for a rider. Before each event it
+/// passes the gate, with the processor's number and the event's place among these. Without memory both lists may be lost.
 // It stands alone, so that its loop has the registers.
 #[inline(never)]
 pub(crate) fn answer_all<R: Wait, G: Gate>(
@@ -34,6 +39,7 @@ pub(crate) fn answer_all<R: Wait, G: Gate>(
     hand: &mut Hand,
     events: &[Event],
     buckets: &[u32],
+    riding: bool,
     gate: &G,
     answers: &mut List<Answer>,
     sampled: &mut List<bool>,
@@ -47,22 +53,33 @@ pub(crate) fn answer_all<R: Wait, G: Gate>(
     requires counts { MayCount shop.now.ring.now shop.now.marks.now hand.old.tally }
     requires buckets { length buckets.now ≡ length events.now }
     requires known { All (λ b. b < shop.now.ring.now.buckets) buckets.now }
-    ensures acted { OnOk result (HasActed (SaysAnswers (reverse events.now) (reverse (behind answers.old answers.new))) hand.old hand.new) }
+    ensures acted { OnOk result (HasActed (SaysAnswers (asked_of riding (reverse events.now) (reverse (behind answers.old answers.new))) (given_of riding (reverse events.now) (reverse (behind answers.old answers.new)))) hand.old hand.new) }
+    ensures riders { OnOk result (RidersStand riding (reverse events.now) (reverse (behind answers.old answers.new))) }
     ensures caching { OnOk result (IsCaching hand.old.worker.view.generation hand.new.worker.view.own proc.new) }
     ensures number { OnOk result (proc.new.number ≡ proc.old.number) }
-    ensures sampled { OnOk result (reverse (behind sampled.old sampled.new) ≡ flags proc.old.countdown (reverse events.now) (reverse (behind answers.old answers.new))) }
-    ensures spent { OnOk result (proc.new.countdown ≡ spent proc.old.countdown (reverse events.now) (reverse (behind answers.old answers.new))) }
+    ensures sampled { OnOk result (reverse (behind sampled.old sampled.new) ≡ flags proc.old.countdown (asked_of riding (reverse events.now) (reverse (behind answers.old answers.new))) (given_of riding (reverse events.now) (reverse (behind answers.old answers.new)))) }
+    ensures spent { OnOk result (proc.new.countdown ≡ spent proc.old.countdown (asked_of riding (reverse events.now) (reverse (behind answers.old answers.new))) (given_of riding (reverse events.now) (reverse (behind answers.old answers.new)))) }
     ensures counts { OnOk result (Counts shop.now.marks.now (sampled_counts (behind sampled.old sampled.new) buckets.now) hand.old hand.new) }
-    ensures flushed { OnOk result (FlushesFor events.now proc.old proc.new hand.old hand.new) }
+    ensures flushed { OnOk result (FlushesFor (asked_of riding (reverse events.now) (reverse (behind answers.old answers.new))) proc.old proc.new hand.old hand.new) }
     ensures kept { OnOk result (HasKept answers.old answers.new × HasKept sampled.old sampled.new) }
 {
     let mut given = replace(answers, List::new(alloc)).into_vec();
     let mut flags = replace(sampled, List::new(alloc)).into_vec();
     given.reserve(events.len())?;
     flags.reserve(events.len())?;
+    let mut tiny = Tiny::new();
     for (turn, event) in events.iter().enumerate() {
         gate.before(proc.number(), turn as u64);
-        let (answer, flag) = answer(rt, shop, proc, hand, event, buckets[turn])?;
+        let (answer, flag) = answer(
+            rt,
+            shop,
+            proc,
+            hand,
+            event,
+            buckets[turn],
+            riding,
+            &mut tiny,
+        )?;
         given.push_reserved(answer);
         flags.push_reserved(flag);
     }
@@ -71,8 +88,57 @@ pub(crate) fn answer_all<R: Wait, G: Gate>(
     Ok(())
 }
 
-// Answers one event, which has a bucket of this number, and says whether its object is sampled.
+// Answers one event, which has a bucket of this number, and says whether its object is sampled. Where tiny objects ride, one takes
+// its place in the block, or else a block is allocated for it, which may become the current one.
 fn answer<R: Wait>(
+    rt: &R,
+    shop: &Shop,
+    proc: &mut Proc,
+    hand: &mut Hand,
+    event: &Event,
+    bucket: u32,
+    riding: bool,
+    tiny: &mut Tiny,
+) -> Result<(Answer, bool), NoMemory>
+    requires works { IsAtWork shop.now.shared.now hand.old.worker }
+    requires distance { 8192 ≤ shop.now.distance }
+    requires marks { shop.now.marks.now.pairs ≡ hand.old.worker.view.marks }
+    requires idle { IsIdle hand.old.worker.view.own }
+    requires caching { IsCaching hand.old.worker.view.generation hand.old.worker.view.own proc.old }
+    requires size { event.now.size ≤ 2 ^ 40 }
+    requires counts { MayCount shop.now.ring.now shop.now.marks.now hand.old.tally }
+    requires bucket { bucket < shop.now.ring.now.buckets }
+    ensures acted { IfOk result (λ o. HasActed (SaysAnswers (based_event (part_with riding tiny.old event.now o.0) event.now ∷ []) (based_answer (part_with riding tiny.old event.now o.0) o.0 ∷ [])) hand.old hand.new) }
+    ensures rides { IfOk result (λ o. StandsWith riding tiny.old event.now o.0) }
+    ensures block { IfOk result (λ o. tiny.new ≡ block_with riding tiny.old event.now o.0) }
+    ensures caching { OnOk result (IsCaching hand.old.worker.view.generation hand.new.worker.view.own proc.new) }
+    ensures number { OnOk result (proc.new.number ≡ proc.old.number) }
+    ensures sampled { IfOk result (λ o. o.1 ≡ flag proc.old.countdown (based_event (part_with riding tiny.old event.now o.0) event.now) (based_answer (part_with riding tiny.old event.now o.0) o.0)) }
+    ensures spent { IfOk result (λ o. proc.new.countdown ≡ spends proc.old.countdown (based_event (part_with riding tiny.old event.now o.0) event.now) (based_answer (part_with riding tiny.old event.now o.0) o.0)) }
+    ensures counts { IfOk result (λ o. Counts shop.now.marks.now (one_count o.1 bucket) hand.old hand.new) }
+    ensures flushed { IfOk result (λ o. FlushesFor (based_event (part_with riding tiny.old event.now o.0) event.now ∷ []) proc.old proc.new hand.old hand.new) }
+    ensures sizeless { IfOk result (λ o. (based_event (part_with riding tiny.old event.now o.0) event.now).size ≡ 0 → (proc.new ≡ proc.old) × (hand.new ≡ hand.old)) }
+{
+    if !riding || !is_tiny(*event) {
+        return serve(rt, shop, proc, hand, event, bucket);
+    }
+    let size = event.size as u32;
+    if let Some(addr) = tiny.ride(size) {
+        return Ok((Answer::Placed(addr), false));
+    }
+    let whole = Event {
+        size: u64::from(BLOCK),
+        ..*event
+    };
+    let (answer, sampled) = serve(rt, shop, proc, hand, &whole, bucket)?;
+    if let Answer::Placed(addr) = answer {
+        tiny.lead(size, addr);
+    }
+    Ok((answer, sampled))
+}
+
+// Asks the heap for an event's object, which has a bucket of this number, and says whether it is sampled.
+fn serve<R: Wait>(
     rt: &R,
     shop: &Shop,
     proc: &mut Proc,
@@ -89,6 +155,7 @@ fn answer<R: Wait>(
     requires counts { MayCount shop.now.ring.now shop.now.marks.now hand.old.tally }
     requires bucket { bucket < shop.now.ring.now.buckets }
     ensures acted { IfOk result (λ o. HasActed (SaysAnswers (event.now ∷ []) (o.0 ∷ [])) hand.old hand.new) }
+    ensures low { IfOk result (λ o. event.now.size ≤ 32768 → start_in o.0 ≤ 2 ^ 64 - 17) }
     ensures caching { OnOk result (IsCaching hand.old.worker.view.generation hand.new.worker.view.own proc.new) }
     ensures number { OnOk result (proc.new.number ≡ proc.old.number) }
     ensures sampled { IfOk result (λ o. o.1 ≡ flag proc.old.countdown event.now o.0) }

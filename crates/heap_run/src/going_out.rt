@@ -8,12 +8,12 @@ ghost use Rattle.span_set.specs.declared.hand.Hand.{Hand as Held};
 ghost use Rattle.heap_run.specs.Counts.{IsOut};
 ghost use Rattle.heap_run.specs.Out.{AreAsked, AreOf, AreSent, HasSent, IsSent, MayStart, helpers};
 
-use crate::cycle::Given;
+use crate::cycle::LentLists;
 use crate::lanes::{Lane, SCAVENGER, Task, Turn};
+use crate::queues::Queues;
 use crate::turns::send_out;
 use edge_io::{List, NoMemory};
 use proc_cache::Proc;
-use run_lists::Queues;
 use span_set::{Hand, Shop};
 use std::alloc::Global;
 use std::mem::replace;
@@ -27,7 +27,7 @@ const SWEEPERS: u32 = 64;
 pub(crate) struct Start {
     pub(crate) driver: Snapshot<Hand>,
     pub(crate) procs: Snapshot<Vec<Proc>>,
-    pub(crate) given: Snapshot<Given>,
+    pub(crate) given: Snapshot<LentLists>,
 }
 
 /// Who is out, and the processors that stay for want of an event. Of each the last is the first to be taken back.
@@ -48,7 +48,7 @@ pub(crate) fn send_all(
     queues: &Queues,
     background: u32,
     caching: bool,
-    given: &mut Given,
+    given: &mut LentLists,
     start: &Start,
 ) -> Result<Out, NoMemory>
     requires starts { MayStart shop.now.shared.now shop.now.ring.now shop.now.marks.now start.now }
@@ -117,7 +117,7 @@ fn send_processor(
     queues: &Queues,
     background: u32,
     caching: bool,
-    given: &mut Given,
+    given: &mut LentLists,
     out: &mut Out,
     number: usize,
     start: &Start,
@@ -152,7 +152,7 @@ fn send_processor(
 }
 
 // A processor with its lists, which leave empty ones.
-fn lend_lists(alloc: Global, proc: Proc, number: usize, given: &mut Given) -> Turn
+fn lend_lists(alloc: Global, proc: Proc, number: usize, given: &mut LentLists) -> Turn
     requires answers { number < length given.old.answers.items }
     requires sampled { number < length given.old.sampled.items }
     ensures turn { result ≡ record { proc = proc; answers = slice_index_or given.old.answers.items number []; sampled = slice_index_or given.old.sampled.items number [] } }

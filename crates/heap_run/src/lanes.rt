@@ -5,17 +5,17 @@ ghost use Rattle.std.specs.Thread.{IsSync};
 ghost use Rattle.span_laws.specs.Asks.{IsAtWork, IsIdle};
 ghost use Rattle.span_set.specs.Tallies.{MayCount};
 ghost use Rattle.proc_cache.specs.Cache.{Cache};
-ghost use Rattle.heap_run.specs.Parts.{IsSettled};
+ghost use Rattle.span_laws.specs.CacheAnswers.{IsSettled};
 ghost use Rattle.heap_run.specs.Turns.{HasActed, IsCaching, SaysNone};
 ghost use Rattle.heap_run.specs.Lanes.{AnswersTurn, HasDone, Helps, IsReady, MayAnswer};
 
 use crate::audience::watch_all;
 use crate::events::answer_all;
+use crate::queues::Queues;
 use cycle_history::Answer;
 use edge_io::{Gate, List, NoMemory};
 use proc_cache::Proc;
 use profile_readers::{Board, Viewer};
-use run_lists::Queues;
 use scavenger::scavenge_to;
 use span_set::{Hand, Shop};
 use std::alloc::Global;
@@ -67,7 +67,7 @@ pub(crate) fn run_all<B: Board + Send + Sync, R: Threads + Wait + Sync, G: Gate>
     requires distance { 8192 ≤ shop.now.distance }
     requires some { 0 < length lanes.old }
     requires ready { All (IsReady shop.now.shared.now shop.now.ring.now shop.now.marks.now queues.now.events queues.now.buckets) lanes.old }
-    ensures ran { (i : ℕ) (d : _) → i < length lanes.old → HasDone shop.now.marks.now queues.now.events queues.now.buckets (slice_index_or lanes.old i d) (slice_index_or lanes.new i d) }
+    ensures ran { (i : ℕ) (d : _) → i < length lanes.old → HasDone queues.now.riding shop.now.marks.now queues.now.events queues.now.buckets (slice_index_or lanes.old i d) (slice_index_or lanes.new i d) }
 {
     if viewers.is_empty() {
         run_lanes(rt, alloc, shop, queues, gate, lanes);
@@ -77,7 +77,7 @@ pub(crate) fn run_all<B: Board + Send + Sync, R: Threads + Wait + Sync, G: Gate>
         rt,
         &mut ||
             requires { IsSync R.row × (8192 ≤ shop.now.distance) × (0 < length lanes.now) × All (IsReady shop.now.shared.now shop.now.ring.now shop.now.marks.now queues.now.events queues.now.buckets) lanes.now }
-            ensures { (i : ℕ) (d : _) → i < length lanes.entry.now → HasDone shop.entry.now.marks.now queues.entry.now.events queues.entry.now.buckets (slice_index_or lanes.entry.now i d) (slice_index_or lanes.exit.now i d) }
+            ensures { (i : ℕ) (d : _) → i < length lanes.entry.now → HasDone queues.entry.now.riding shop.entry.now.marks.now queues.entry.now.events queues.entry.now.buckets (slice_index_or lanes.entry.now i d) (slice_index_or lanes.exit.now i d) }
         { run_lanes(rt, alloc, shop, queues, gate, lanes) },
         &mut ||
             requires { IsSync R.row × (0 < length viewers.now) }
@@ -97,11 +97,11 @@ fn run_lanes<R: Threads + Wait + Sync, G: Gate>(
     requires distance { 8192 ≤ shop.now.distance }
     requires some { 0 < length lanes.old }
     requires ready { All (IsReady shop.now.shared.now shop.now.ring.now shop.now.marks.now queues.now.events queues.now.buckets) lanes.old }
-    ensures ran { (i : ℕ) (d : _) → i < length lanes.old → HasDone shop.now.marks.now queues.now.events queues.now.buckets (slice_index_or lanes.old i d) (slice_index_or lanes.new i d) }
+    ensures ran { (i : ℕ) (d : _) → i < length lanes.old → HasDone queues.now.riding shop.now.marks.now queues.now.events queues.now.buckets (slice_index_or lanes.old i d) (slice_index_or lanes.new i d) }
 {
     let run = |_: usize, lane: &mut Lane|
         requires { (8192 ≤ shop.now.distance) × IsReady shop.now.shared.now shop.now.ring.now shop.now.marks.now queues.now.events queues.now.buckets lane.now }
-        ensures { HasDone shop.entry.now.marks.now queues.entry.now.events queues.entry.now.buckets lane.entry.now lane.exit.now }
+        ensures { HasDone queues.entry.now.riding shop.entry.now.marks.now queues.entry.now.events queues.entry.now.buckets lane.entry.now lane.exit.now }
     { lane.run(rt, alloc, shop, queues, gate) };
     let threads = lanes.len();
     for_each_mut(rt, lanes, threads, &run);
@@ -119,7 +119,7 @@ impl Lane {
     )
         requires distance { 8192 ≤ shop.now.distance }
         requires ready { IsReady shop.now.shared.now shop.now.ring.now shop.now.marks.now queues.now.events queues.now.buckets self.old }
-        ensures ran { HasDone shop.now.marks.now queues.now.events queues.now.buckets self.old self.new }
+        ensures ran { HasDone queues.now.riding shop.now.marks.now queues.now.events queues.now.buckets self.old self.new }
     {
         let Lane {
             hand,
@@ -152,7 +152,7 @@ impl Turn {
         requires idle { IsIdle hand.old.worker.view.own }
         requires counts { MayCount shop.now.ring.now shop.now.marks.now hand.old.tally }
         requires may { MayAnswer hand.old.worker.view.generation hand.old.worker.view.own shop.now.ring.now.buckets queues.now.events queues.now.buckets self.old }
-        ensures { OnOk result (AnswersTurn shop.now.marks.now (slice_index_or queues.now.events self.old.proc.number []) (slice_index_or queues.now.buckets self.old.proc.number []) hand.old hand.new self.old self.new) }
+        ensures { OnOk result (AnswersTurn queues.now.riding shop.now.marks.now (slice_index_or queues.now.events self.old.proc.number []) (slice_index_or queues.now.buckets self.old.proc.number []) hand.old hand.new self.old self.new) }
     {
         let number = self.proc.number() as usize;
         let events = queues.events.of(number);
@@ -163,7 +163,17 @@ impl Turn {
             sampled,
         } = self;
         answer_all(
-            rt, alloc, shop, proc, hand, events, buckets, gate, answers, sampled,
+            rt,
+            alloc,
+            shop,
+            proc,
+            hand,
+            events,
+            buckets,
+            queues.riding,
+            gate,
+            answers,
+            sampled,
         )?;
         settle(rt, shop, hand);
         Ok(())

@@ -5,17 +5,25 @@
 //! workers: the driver publishes it as each cycle ends.
 //!
 //! `specs/Turns.antt` has what a worker's turn leaves behind, `specs/Served.antt` what the logs tell of the answers,
+//! `specs/Riding.antt` what a worker asks of the heap where tiny objects ride in blocks,
 //! `specs/Swept.antt` what the collected notes tell of the sweeps, `specs/Gains.antt` what lists got behind what they had,
 //! and `specs/Settled.antt`, `specs/Profiled.antt` and `specs/Runs.antt` what the run keeps from cycle to cycle. `specs/Watching.antt` has
 //! what is published meanwhile, and `specs/Watched.antt` what watchers saw of it.
 #![tactic(auto)]
 
 mod audience;
+mod course;
 mod cycle;
 mod events;
 mod going_out;
 mod lanes;
+mod lists;
+mod merge;
+mod profile;
+mod queues;
+mod rest;
 mod run;
+mod sorting;
 mod turns;
 mod watched;
 

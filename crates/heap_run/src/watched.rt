@@ -2,12 +2,13 @@
 
 ghost use Rattle.std.specs.Prelude.{◌≡◌, ◌≤◌, [], false, length, vec_len, Some, IfOk};
 ghost use Rattle.trace_reader.specs.Limits.{WithinLimits};
-ghost use Rattle.cycle_history.specs.Sound.{HasForm, IsSoundAndUsed};
-ghost use Rattle.heap_run.specs.Last.{IsLeft};
-ghost use Rattle.heap_run.specs.Runs.{HasBegun};
-ghost use Rattle.heap_run.specs.Watched.{IsWatched};
+ghost use Rattle.cycle_history.specs.Before.{IsLimited};
+ghost use Rattle.tiny_alloc.specs.Versions.{HasFormByVersion, IsSoundByVersion};
+ghost use Rattle.heap_run.specs.Courses.{HasBegunAll, IsOnCourse, base_of, trace_of};
+ghost use Rattle.heap_run.specs.Versions.{IsLeftByVersion, IsWatchedByVersion};
 
 use crate::audience::Audience;
+use crate::course::Course;
 use crate::run::{Ran, Run};
 use edge_io::{Gate, List, NoMemory};
 use profile_readers::{Board, Opened, Sight, Watcher, board};
@@ -41,40 +42,42 @@ pub fn run_watched<R: Threads + Wait + Sync, G: Gate>(
 ) -> Result<Watched, NoMemory>
     requires limits { WithinLimits trace.now }
     requires readers { (1 ≤ readers) × (readers ≤ 4) }
-    ensures sound { IfOk result (λ w. IsSoundAndUsed trace.now w.ran.report) }
-    ensures form { IfOk result (λ w. HasForm trace.now w.ran.report false) }
-    ensures left { IfOk result (λ w. IsLeft trace.now w.ran) }
-    ensures seen { IfOk result (λ w. IsWatched trace.now readers w.ran.report w.seen) }
+    ensures sound { IfOk result (λ w. IsSoundByVersion trace.now w.ran.report) }
+    ensures form { IfOk result (λ w. HasFormByVersion trace.now w.ran.report false) }
+    ensures left { IfOk result (λ w. IsLeftByVersion trace.now w.ran) }
+    ensures seen { IfOk result (λ w. IsWatchedByVersion trace.now readers w.ran.report w.seen) }
 {
-    let run = Run::new(alloc, trace, false)?;
-    run_before::<Brand, R, G>(rt, alloc, trace, run, Opened::new(), readers, gate)
+    let course = Course::new(alloc, trace)?;
+    let run = Run::start(alloc, &course, false)?;
+    run_before::<Brand, R, G>(rt, alloc, course, run, Opened::new(), readers, gate)
 }
 
 // Runs it before the watchers of a board that was just opened.
 fn run_before<B: Board + Send + Sync, R: Threads + Wait + Sync, G: Gate>(
     rt: &R,
     alloc: Global,
-    trace: &Trace,
+    course: Course,
     run: Run,
     opened: Opened,
     readers: u32,
     gate: &G,
 ) -> Result<Watched, NoMemory>
-    requires limits { WithinLimits trace.now }
+    requires limits { IsLimited (trace_of course) }
     requires readers { (1 ≤ readers) × (readers ≤ 4) }
     requires name { opened ≡ B.book }
     requires buckets { length run.profile.known ≡ B.buckets }
-    requires begun { HasBegun trace.now 0 run }
+    requires on { IsOnCourse 0 0 course run }
+    requires begun { HasBegunAll 0 (base_of course) run }
     requires each { run.profile.each ≡ false }
-    ensures sound { IfOk result (λ w. IsSoundAndUsed trace.now w.ran.report) }
-    ensures form { IfOk result (λ w. HasForm trace.now w.ran.report false) }
-    ensures left { IfOk result (λ w. IsLeft trace.now w.ran) }
-    ensures seen { IfOk result (λ w. IsWatched trace.now readers w.ran.report w.seen) }
+    ensures sound { IfOk result (λ w. IsSoundByVersion (trace_of course.entry) w.ran.report) }
+    ensures form { IfOk result (λ w. HasFormByVersion (trace_of course.entry) w.ran.report false) }
+    ensures left { IfOk result (λ w. IsLeftByVersion (trace_of course.entry) w.ran) }
+    ensures seen { IfOk result (λ w. IsWatchedByVersion (trace_of course.entry) readers w.ran.report w.seen) }
 {
     let buckets = run.profile.known.len();
     let (publisher, watchers) = board::<B, R>(alloc, rt, opened, buckets, readers)?;
     let mut audience = Audience::of(alloc, publisher);
-    let watched = run_with(rt, alloc, trace, run, watchers, gate, &mut audience);
+    let watched = run_with(rt, alloc, course, run, watchers, gate, &mut audience);
     audience.close(rt);
     watched
 }
@@ -83,27 +86,29 @@ fn run_before<B: Board + Send + Sync, R: Threads + Wait + Sync, G: Gate>(
 fn run_with<B: Board + Send + Sync, R: Threads + Wait + Sync, G: Gate>(
     rt: &R,
     alloc: Global,
-    trace: &Trace,
+    mut course: Course,
     mut run: Run,
     watchers: List<Watcher<B>>,
     gate: &G,
     audience: &mut Audience<B>,
 ) -> Result<Watched, NoMemory>
-    requires limits { WithinLimits trace.now }
+    requires limits { IsLimited (trace_of course) }
     requires buckets { length run.profile.known ≡ B.buckets }
-    requires begun { HasBegun trace.now 0 run }
+    requires on { IsOnCourse 0 0 course run }
+    requires begun { HasBegunAll 0 (base_of course) run }
     requires each { run.profile.each ≡ false }
     requires none { vec_len audience.old.viewers ≡ 0 }
     requires unshown { audience.old.publisher ≡ Some [] }
-    ensures sound { IfOk result (λ w. IsSoundAndUsed trace.now w.ran.report) }
-    ensures form { IfOk result (λ w. HasForm trace.now w.ran.report false) }
-    ensures left { IfOk result (λ w. IsLeft trace.now w.ran) }
-    ensures seen { IfOk result (λ w. IsWatched trace.now (length watchers) w.ran.report w.seen) }
+    ensures sound { IfOk result (λ w. IsSoundByVersion (trace_of course.entry) w.ran.report) }
+    ensures form { IfOk result (λ w. HasFormByVersion (trace_of course.entry) w.ran.report false) }
+    ensures left { IfOk result (λ w. IsLeftByVersion (trace_of course.entry) w.ran) }
+    ensures seen { IfOk result (λ w. IsWatchedByVersion (trace_of course.entry) (length watchers) w.ran.report w.seen) }
 {
     let buckets = run.profile.known.len();
-    audience.seat(alloc, watchers, buckets, trace.cycles.len())?;
-    run.run_cycles(rt, alloc, trace, SWEEPERS, gate, audience)?;
+    let cycles = course.last() as usize + 1;
+    audience.seat(alloc, watchers, buckets, cycles)?;
+    run.run_cycles(rt, alloc, &mut course, SWEEPERS, gate, audience)?;
     let seen = audience.finish(alloc)?;
-    let ran = run.into_ran(alloc, trace)?;
+    let ran = run.into_ran(alloc, course)?;
     Ok(Watched { ran, seen })
 }

@@ -7,7 +7,6 @@ ghost use Rattle.trace_reader.specs.Limits.{WithinLimits};
 use cycle_history::Report;
 use edge_io::{Gate, HoldGate, Lines, List, MemorySource, OpenGate};
 use heap_run::{Options, run_trace};
-use report_check::check;
 use report_text::read_report;
 use std::alloc::Global;
 use std::process::Abort;
@@ -15,9 +14,11 @@ use std::sync::Wait;
 use std::sync::atomic::{AtomicBool, AtomicU64, Ordering};
 use std::test::Fail;
 use std::thread::Threads;
+use tiny_check::check;
 use trace_reader::{Trace, read_trace};
 
 mod caching;
+mod tiny;
 mod watched;
 
 // A trace with its report: the trace's second line and the lines behind it, the report's lines before its profile, and the profile in its

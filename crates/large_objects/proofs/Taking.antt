@@ -97,7 +97,7 @@ module _ (pages distance n k : ℕ) (old m1 : Hand) (first : List Entry) (x : Ho
     w.said ++ first,
     holds-trans [] w.said first old m1 new x (of_sweeper [] _ m1 new idle w),
     sums-append 0 0 0 0 0 0 0 0 w.said first sums (sums_of [] _ m1 new idle w 0 0 w.did.0.untaken w.did.0.unmissed),
-    inr (w.said, first, refl, paid, making_from old m1 x.view x.caching w.said (stops_making n k m1 new w)),
+    inr (w.said, first, refl, paid, making_from old m1 x.view x.caching n w.said (stops_making n k m1 new w)),
   )
 
   -- a span was made

@@ -19,7 +19,7 @@ use Rattle.span_laws.specs.BodyAsks.{IsEmptyBody}
 use Rattle.span_laws.specs.Asks.{HasBody, IsUntouched}
 use Rattle.span_laws.specs.Views.{Seen, span_of}
 use Rattle.span_laws.specs.OwnSteps.{after_of, after_said}
-use Rattle.span_set.specs.Blocks.{HasNoBlock}
+use Rattle.span_set.specs.Blocks.{HasNoOwnBlock}
 use Rattle.span_set.specs.declared.hand.Hand.{Hand}
 use Rattle.central_lists.specs.Looks.{Then}
 use Rattle.sweeper.specs.Entries.{is_cut_of}
@@ -56,7 +56,7 @@ AllocatesLarge pages distance n k old new (Ok at) = (b : Body) × ((said : List 
     × Then (HasPaidFor old.worker.view.generation pages distance (8192 * n) n) (Then (MadeAtLast old n b) (Then (HasSpent (8192 * n)) (HasPut old.worker.view.generation k b))) said)
 AllocatesLarge pages distance n k old new (Err (NoRun line)) = WasNoRun old n line × ((said : List Entry) × Holds [] said old new × Sums 0 0 1 0 said × (placings said ≡ [])
     × (refusals said ≡ record { number = line; pages = n; class = k } ∷ [])
-    × Then (HasPaidFor old.worker.view.generation pages distance (8192 * n) n) (MissedAtLast old n k line) said × HasNoBlock new.worker)
+    × Then (HasPaidFor old.worker.view.generation pages distance (8192 * n) n) (MissedAtLast old n k line) said × HasNoOwnBlock new.worker)
 AllocatesLarge pages distance n k old new (Err WantsMemory) = (said : List Entry) × Holds [] said old new × Sums 0 0 0 0 said × StopsLarge old.worker.caching old.worker.view pages distance n said
 
 -- the object was placed in a span that the worker holds, which went to the swept full set

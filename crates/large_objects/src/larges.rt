@@ -15,7 +15,8 @@ use sweeper::{Refused, new_span, pay};
 /// span goes to the swept full set. Answers the address. The cached spans stay as they are, whatever the call answers. Whether the object
 /// is sampled is the processor's to say (`proc_cache`, `count_placed`).
 ///
-/// NoRun comes with the Miss line of this call, only after each unswept set was seen empty.
+/// NoRun comes with the Miss line of this call, only after each unswept set was seen empty, and the worker has no block then: its page cache, if
+/// it has one, is settled.
 pub fn alloc_large<R: Wait>(
     rt: &R,
     shop: &Shop,

@@ -5,7 +5,7 @@ use Rattle.page_alloc.specs.FreeRuns.{HasNoRun}
 use Rattle.page_bitmap.specs.Counts.{one_if}
 use Rattle.page_bitmap.specs.declared.line.Line.TheVariants.{Miss as MissLine}
 use Rattle.size_classes.specs.Classes.{pages_of}
-use Rattle.sound_run.specs.Run.{IsJournal}
+use Rattle.page_alloc.specs.Journal.{LegalFor}
 use Rattle.span_state.specs.declared.body.Body.{Body}
 use Rattle.sweep_laws.specs.Lists.{has}
 use Rattle.worker_log.specs.declared.Entry.{Entry}
@@ -22,7 +22,7 @@ use Rattle.span_laws.specs.Calls.{is_missing}
 use Rattle.span_laws.specs.Logs.{is_taking}
 use Rattle.span_laws.specs.Views.{acts}
 use Rattle.span_laws.proofs.Parts.{has_none}
-use Rattle.span_set.specs.Blocks.{HasNoBlock}
+use Rattle.span_set.specs.Blocks.{HasNoOwnBlock}
 use Rattle.span_set.specs.declared.hand.Hand.{Hand}
 use Rattle.span_set.proofs.Numbers.{full_is, swept_is, swept_low}
 use Rattle.fallible_list.specs.declared.list.NoMemory.{NoMemory}
@@ -50,7 +50,7 @@ use Rattle.proc_cache.proofs.Logging.{no_refusals, refusals-append, sums-append}
 
 module _ (old mid : Hand) (v : mid.worker.view ≡ acts old.worker.view mid.worker.view.own) (q : mid.worker.caching ≡ old.worker.caching) where
   pub no_run_from : (n line : ℕ) → WasNoRun mid n line → WasNoRun old n line
-  no_run_from n line w = (w.0, w.1, subst (λ (z : View). IsJournal z.region z.goal w.0 × HasNoRun z.region w.0 n) v w.2)
+  no_run_from n line w = (w.0, w.1, subst (λ (z : View). LegalFor z.procs z.region z.goal w.0 × HasNoRun z.region w.0 n) v w.2)
 
   pub made_from : (n : ℕ) (b : Body) (said : List Entry) → MadeAtLast mid n b said → MadeAtLast old n b said
   made_from n b said t = record {
@@ -62,6 +62,7 @@ module _ (old mid : Hand) (v : mid.worker.view ≡ acts old.worker.view mid.work
     sweeps = subst (λ (z : View). OnlySweeps z.generation t.before) v t.sweeps;
     reclaimed = subst (λ (z : View). HasReclaimed z.marks z.region n t.before) v t.reclaimed;
     cuts_first = λ on few took. t.cuts_first (q ∙ on) few took;
+    pulls = t.pulls;
     uncached = λ off. t.uncached (q ∙ off);
   }
 
@@ -73,6 +74,7 @@ module _ (old mid : Hand) (v : mid.worker.view ≡ acts old.worker.view mid.work
     sweeps = subst (λ (z : View). OnlySweeps z.generation t.before) v t.sweeps;
     reclaimed = subst (λ (z : View). HasReclaimed z.marks z.region n t.before) v t.reclaimed;
     saw_empty = subst (λ (z : View). SawAllEmpty z.generation t.before) v t.saw_empty;
+    pulls = t.pulls;
     uncached = λ off. t.uncached (q ∙ off);
   }
 
@@ -90,12 +92,12 @@ module _ (old mid : Hand) (v : mid.worker.view ≡ acts old.worker.view mid.work
   pub taking_from : (k : ℕ) (said : List Entry) → StopsTaking mid.worker.caching mid.worker.view k said → StopsTaking old.worker.caching old.worker.view k said
   taking_from k said x = subst (λ (z : Bool × View). StopsTaking z.0 z.1 k said) (λ i. (q i, v i)) x
 
-  pub making_from : (said : List Entry) → StopsMaking mid.worker.caching mid.worker.view.generation mid.worker.view.region said → StopsMaking old.worker.caching old.worker.view.generation old.worker.view.region said
-  making_from said x = subst (λ (z : Bool × View). StopsMaking z.0 z.1.generation z.1.region said) (λ i. (q i, v i)) x
+  pub making_from : (n : ℕ) (said : List Entry) → StopsMaking mid.worker.caching mid.worker.view.generation mid.worker.view.region n said → StopsMaking old.worker.caching old.worker.view.generation old.worker.view.region n said
+  making_from n said x = subst (λ (z : Bool × View). StopsMaking z.0 z.1.generation z.1.region n said) (λ i. (q i, v i)) x
 
 -- the making of a span that memory stopped
-pub stops_making : (n k : ℕ) (mid new : Hand) (w : MakesSpan n k mid new (Err WantsMemory)) → StopsMaking mid.worker.caching mid.worker.view.generation mid.worker.view.region w.said
-stops_making n k mid new w = record { sweeps = w.does.sweeps; takes_none = w.did.0; few = w.did.1; uncached = w.did.2 }
+pub stops_making : (n k : ℕ) (mid new : Hand) (w : MakesSpan n k mid new (Err WantsMemory)) → StopsMaking mid.worker.caching mid.worker.view.generation mid.worker.view.region n w.said
+stops_making n k mid new w = record { sweeps = w.does.sweeps; takes_none = w.did.0; few = w.did.1; uncached = w.did.2; pulls = w.did.3 }
 
 -- ---- refusals
 
@@ -171,7 +173,7 @@ module _ (k : ℕ) (old mid : Hand) (low : k < 136) where
     pub then_refused : (n : ℕ) → n ≡ pages_of (k / 2) → (new : Hand) (e : Refused) → MakesSpan n k mid new (Err e) → Comes k old new (Err e)
     then_refused n same new (NoRun line) m = subst (λ (p : ℕ). WasNoRun old p line × ((said : List Entry) × Holds [] said old new × Sums 0 0 1 0 said
         × (refusals said ≡ record { number = line; pages = p; class = k } ∷ [])
-        × ((look : Look) × ((tried : ℕ) × Then (LookedFor old.worker.view.generation k look tried) (MissedAtLast old p k line) said)) × HasNoBlock new.worker)) same
+        × ((look : Look) × ((tried : ℕ) × Then (LookedFor old.worker.view.generation k look tried) (MissedAtLast old p k line) said)) × HasNoOwnBlock new.worker)) same
         (let w = m.1 in let v = looked_holds.view in let q = looked_holds.caching in let i = idle_after c.1.said old mid looked_holds in (
           no_run_from old mid v q n line m.0,
           (
@@ -187,7 +189,7 @@ module _ (k : ℕ) (old mid : Hand) (low : k < 136) where
       w.said ++ c.1.said,
       holds-trans [] w.said c.1.said old mid new looked_holds (of_sweeper [] _ mid new i w),
       sums-append 0 0 0 0 0 0 0 0 w.said c.1.said looked_sums (sums_of [] _ mid new i w 0 0 w.did.0.untaken w.did.0.unmissed),
-      inr (w.said, c.1.said, refl, (look, (tried, looked_for)), making_from old mid looked_holds.view looked_holds.caching w.said (stops_making n k mid new w)),
+      inr (w.said, c.1.said, refl, (look, (tried, looked_for)), making_from old mid looked_holds.view looked_holds.caching (pages_of (k / 2)) w.said (subst (λ (p : ℕ). StopsMaking mid.worker.caching mid.worker.view.generation mid.worker.view.region p w.said) same (stops_making n k mid new w))),
     )
 
     pub then_made : (n : ℕ) → n ≡ pages_of (k / 2) → (new : Hand) (b : Body) → MakesSpan n k mid new (Ok b) → Comes k old new (Ok (b, Fresh look tried))

@@ -9,7 +9,7 @@ use Rattle.worker_log.specs.Logs.{placings, refusals}
 use Rattle.span_laws.specs.declared.answers.Refused.{Refused}
 use Rattle.span_laws.specs.declared.answers.Refused.TheVariants.{NoRun, NoMemory as WantsMemory}
 use Rattle.span_laws.specs.declared.view.Span.{Span}
-use Rattle.span_set.specs.Blocks.{HasNoBlock}
+use Rattle.span_set.specs.Blocks.{HasNoOwnBlock}
 use Rattle.span_set.specs.declared.hand.Hand.{Hand}
 use Rattle.span_set.specs.Fits.{FitsSets, no_page}
 use Rattle.central_lists.specs.Looks.{Then}
@@ -71,7 +71,7 @@ AllocatesIn pages distance k c d old new (Err (NoRun line)) = (d.flushed ≡ old
     × WasNoRun old (pages_of (k / 2)) line × ((said : List Entry) × Leaves said old new × Sums 0 0 1 0 said × (placings said ≡ [])
     × (refusals said ≡ record { number = line; pages = pages_of (k / 2); class = k } ∷ [])
     × Then (IsWholeFlush c old) (HasMissed old pages distance k (flushed_slot old.worker.view.generation c k) line) said
-    × FitsSets old.worker.view.generation no_page said old.worker new.worker × HasNoBlock new.worker)
+    × FitsSets old.worker.view.generation no_page said old.worker new.worker × HasNoOwnBlock new.worker)
 AllocatesIn pages distance k c d old new (Err WantsMemory) = IsPartly old.worker.view.generation k c d
     × ((said : List Entry) × Leaves said old new × Sums 0 0 0 0 said × StopsAllocating old pages distance k c d said
     × FitsSets old.worker.view.generation no_page said old.worker new.worker)

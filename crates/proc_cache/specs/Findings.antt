@@ -14,7 +14,7 @@ use Rattle.span_laws.specs.TakeAnswers.{NoRunFree}
 use Rattle.sweep_laws.specs.Lists.{has}
 use Rattle.span_laws.specs.BodyAsks.{HasRoom}
 use Rattle.span_laws.specs.Asks.{HasBody}
-use Rattle.span_set.specs.Blocks.{HasNoBlock}
+use Rattle.span_set.specs.Blocks.{HasNoOwnBlock}
 use Rattle.span_set.specs.declared.hand.Hand.{Hand}
 use Rattle.central_lists.specs.declared.answers.Look.{Look}
 use Rattle.central_lists.specs.Looks.{Then}
@@ -42,7 +42,7 @@ abbrev pub Comes : ℕ → Hand → Hand → Result (Body × CacheFrom) Refused 
 Comes k old new (Ok found) = IsFor k found.0 old new × ((said : List Entry) × Holds (found.0.page ∷ []) said old new × Sums 0 (taken_for found.1) 0 0 said × ComesFrom old k found.0 found.1 said)
 Comes k old new (Err (NoRun line)) = WasNoRun old (pages_of (k / 2)) line × ((said : List Entry) × Holds [] said old new × Sums 0 0 1 0 said
     × (refusals said ≡ record { number = line; pages = pages_of (k / 2); class = k } ∷ [])
-    × ((look : Look) × ((tried : ℕ) × Then (LookedFor old.worker.view.generation k look tried) (MissedAtLast old (pages_of (k / 2)) k line) said)) × HasNoBlock new.worker)
+    × ((look : Look) × ((tried : ℕ) × Then (LookedFor old.worker.view.generation k look tried) (MissedAtLast old (pages_of (k / 2)) k line) said)) × HasNoOwnBlock new.worker)
 Comes k old new (Err WantsMemory) = (said : List Entry) × Holds [] said old new × Sums 0 0 0 0 said × StopsTaking old.worker.caching old.worker.view k said
 
 -- it is paid for before
@@ -52,7 +52,7 @@ FindsSpan pages distance k old new (Ok found) = IsFor k found.0 old new × ((sai
 FindsSpan pages distance k old new (Err (NoRun line)) = WasNoRun old (pages_of (k / 2)) line × ((said : List Entry) × Holds [] said old new × Sums 0 0 1 0 said
     × (refusals said ≡ record { number = line; pages = pages_of (k / 2); class = k } ∷ [])
     × Then (HasPaidFor old.worker.view.generation pages distance (bytes_of k) 0)
-    (λ rest. (look : Look) × ((tried : ℕ) × Then (LookedFor old.worker.view.generation k look tried) (MissedAtLast old (pages_of (k / 2)) k line) rest)) said × HasNoBlock new.worker)
+    (λ rest. (look : Look) × ((tried : ℕ) × Then (LookedFor old.worker.view.generation k look tried) (MissedAtLast old (pages_of (k / 2)) k line) rest)) said × HasNoOwnBlock new.worker)
 FindsSpan pages distance k old new (Err WantsMemory) = (said : List Entry) × Holds [] said old new × Sums 0 0 0 0 said × StopsFinding old.worker.caching old.worker.view pages distance k said
 
 -- the worker holds just one page

@@ -1,5 +1,5 @@
 -- What an allocation from the cache did, by its answer.
-use Rattle.std.specs.Prelude.{◌≡◌, ◌⊎◌, ℕ, ◌+◌, ◌/◌, Some, None}
+use Rattle.std.specs.Prelude.{◌≡◌, ◌⊎◌, ℕ, ◌+◌, ◌/◌, ◌^◌, ◌<◌, Some, None}
 use Rattle.size_classes.specs.Classes.{slot_of}
 use Rattle.span_state.specs.Bits.{HasFree, IsFull, bit_of, with_bit}
 use Rattle.span_laws.specs.declared.said.SaidOf.TheVariants.{Places}
@@ -36,6 +36,11 @@ pub record HitsAt (k at : ℕ) (c d : Cache) (old new : Seen) : Type 0 where
 -- no span of class k is cached, or the one that is has no free index
 abbrev pub IsMissing : Cache → ℕ → Type 0
 IsMissing c k = (slot_at c k ≡ None) ⊎ ((s : Span) × (slot_at c k ≡ Some s) × IsFull s.count (bit_of s.bits))
+
+-- an address is below 2 ^ 48
+abbrev pub HitsLow : Hit → Type 0
+HitsLow (At address) = address < 2 ^ 48
+HitsLow Miss = Unit {0}
 
 -- the object has a place; or there is none in the cache, and nothing changed
 abbrev pub HitsCache : ℕ → Cache → Cache → Seen → Seen → Hit → Type 0

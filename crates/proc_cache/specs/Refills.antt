@@ -8,7 +8,7 @@ use Rattle.span_laws.specs.declared.answers.Refused.{Refused}
 use Rattle.span_laws.specs.declared.answers.Refused.TheVariants.{NoRun, NoMemory as WantsMemory}
 use Rattle.span_laws.specs.BodyAsks.{HasRoom}
 use Rattle.span_laws.specs.Views.{span_of}
-use Rattle.span_set.specs.Blocks.{HasNoBlock}
+use Rattle.span_set.specs.Blocks.{HasNoOwnBlock}
 use Rattle.span_set.specs.declared.hand.Hand.{Hand}
 use Rattle.span_set.specs.Fits.{FitsSets, no_page}
 use Rattle.proc_cache.specs.declared.refills.CacheFrom.{CacheFrom}
@@ -27,7 +27,7 @@ RefillsCache pages distance k c d old new (Ok from) = (b : Body) × (d ≡ with_
     × FitsSets old.worker.view.generation (page_in (slot_at d k)) said old.worker new.worker)
 RefillsCache pages distance k c d old new (Err (NoRun line)) = (d ≡ with_slot k None c) × WasNoRun old (pages_of (k / 2)) line
     × ((said : List Entry) × Leaves said old new × Sums 0 0 1 0 said × (refusals said ≡ record { number = line; pages = pages_of (k / 2); class = k } ∷ [])
-    × HasMissed old pages distance k (slot_at c k) line said × FitsSets old.worker.view.generation no_page said old.worker new.worker × HasNoBlock new.worker)
+    × HasMissed old pages distance k (slot_at c k) line said × FitsSets old.worker.view.generation no_page said old.worker new.worker × HasNoOwnBlock new.worker)
 RefillsCache pages distance k c d old new (Err WantsMemory) = (d ≡ with_slot k None c)
     × ((said : List Entry) × Leaves said old new × Sums 0 0 0 0 said × StopsFilling old.worker.caching old.worker.view pages distance k (slot_at c k) said
     × FitsSets old.worker.view.generation no_page said old.worker new.worker)

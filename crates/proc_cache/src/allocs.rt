@@ -1,4 +1,4 @@
-ghost use Rattle.std.specs.Prelude.{◌≡◌, ◌<◌, ◌≤◌, IfOk, OnOk, OnErr};
+ghost use Rattle.std.specs.Prelude.{◌≡◌, ◌^◌, ◌<◌, ◌≤◌, IfOk, OnOk, OnErr};
 ghost use Rattle.size_classes.specs.Classes.{IsLeastClass, span_class_of};
 ghost use Rattle.profile_cycle.specs.Naming.{slot_for};
 ghost use Rattle.profile_cycle.specs.Sampling.{behind, is_sample};
@@ -23,7 +23,7 @@ use trace_reader::Event;
 /// A small object that was placed.
 #[derive(Clone, Copy, Debug, PartialEq, Eq)]
 pub struct Placed {
-    /// Its address.
+    /// Its address, below 2^48.
     pub addr: u64,
     /// Whether it is sampled.
     pub sampled: bool,
@@ -34,8 +34,9 @@ pub struct Placed {
 /// where there is none. Where the processor's countdown samples the placed object, the hand's tally counts one allocation of the bucket,
 /// which is the number of the event's stack and slot.
 ///
-/// After a refusal the countdown is as it was, and no allocation is counted. NoRun comes with the Miss line of this call, as `refill` says. After NoMemory a cached span that was not flushed or pushed yet stays
-/// cached.
+/// After a refusal the countdown is as it was, and no allocation is counted. NoRun comes with the Miss line of this call, as `refill` says, and
+/// the worker has no block then: its page cache, if it has one, is settled. After NoMemory a cached span that was not flushed or pushed yet
+/// stays cached.
 pub fn alloc<R: Wait>(
     rt: &R,
     proc: &mut Proc,
@@ -54,6 +55,7 @@ pub fn alloc<R: Wait>(
     requires idle { IsIdle hand.old.worker.view.own }
     requires serves { Serves hand.old.worker.view.generation hand.old.worker.view.own proc.old }
     requires used { IsUsedCache hand.old.worker.view.own }
+    ensures low { IfOk result (λ placed. placed.addr < 2 ^ 48) }
     ensures allocates { (class : Rattle.std.specs.Prelude.ℕ) × IsLeastClass event.size class × AllocatesIn shop.now.pages shop.now.distance (span_class_of class event.scan) proc.old proc.new hand.old hand.new (addr_of result) }
     ensures number { proc.new.number ≡ proc.old.number }
     ensures sampled { IfOk result (λ placed. placed.sampled ≡ is_sample proc.old.countdown (slot_for event.size)) }
@@ -90,6 +92,7 @@ fn alloc_in<R: Wait>(
     requires idle { IsIdle hand.old.worker.view.own }
     requires serves { Serves hand.old.worker.view.generation hand.old.worker.view.own proc.old }
     requires used { IsUsedCache hand.old.worker.view.own }
+    ensures low { IfOk result (λ at. at < 2 ^ 48) }
     ensures allocates { AllocatesIn shop.now.pages shop.now.distance class proc.old proc.new hand.old hand.new result }
     ensures number { proc.new.number ≡ proc.old.number }
     ensures serves { Serves hand.new.worker.view.generation hand.new.worker.view.own proc.new }
@@ -125,6 +128,7 @@ fn alloc_missed<R: Wait>(
     requires flushed { proc.old.flushed ≡ hand.old.worker.view.generation }
     requires used { IsUsedCache hand.old.worker.view.own }
     requires missing { IsMissing proc.old class }
+    ensures low { IfOk result (λ at. at < 2 ^ 48) }
     ensures allocates { AllocatesIn shop.now.pages shop.now.distance class proc.old proc.new hand.old hand.new result }
     ensures number { proc.new.number ≡ proc.old.number }
     ensures serves { Serves hand.new.worker.view.generation hand.new.worker.view.own proc.new }

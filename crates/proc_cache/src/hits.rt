@@ -1,7 +1,7 @@
-ghost use Rattle.std.specs.Prelude.{◌≡◌, ◌+◌, ◌*◌, ◌/◌, ◌<◌, ◌≤◌, []};
+ghost use Rattle.std.specs.Prelude.{◌≡◌, ◌+◌, ◌*◌, ◌/◌, ◌^◌, ◌<◌, ◌≤◌, []};
 ghost use Rattle.span_laws.specs.Asks.{IsAtWork};
 ghost use Rattle.proc_cache.specs.Cache.{address_of};
-ghost use Rattle.proc_cache.specs.Hits.{HitsCache};
+ghost use Rattle.proc_cache.specs.Hits.{HitsCache, HitsLow};
 ghost use Rattle.proc_cache.specs.Serves.{Serves};
 
 use crate::proc::Proc;
@@ -18,10 +18,11 @@ pub enum Hit {
     Miss,
 }
 
-// The address of an object of at most 32768 bytes.
+// The address of an object of at most 32768 bytes. It is below 2^48 by the ranges of its parts.
 fn address(page: u32, slot: u32, index: u32) -> u64
     requires { slot ≤ 32768 }
-    ensures { result ≡ address_of page slot index }
+    ensures address { result ≡ address_of page slot index }
+    ensures low { result < 2 ^ 48 }
 {
     REGION_START + PAGE_SIZE * u64::from(page) + u64::from(slot) * u64::from(index)
 }
@@ -36,6 +37,7 @@ pub fn alloc_hit(proc: &mut Proc, shared: &Shared, w: &mut Worker, class: u8) ->
     requires held { w.old.view.own.held ≡ [] }
     requires serves { Serves w.old.view.generation w.old.view.own proc.old }
     requires flushed { proc.old.flushed ≡ w.old.view.generation }
+    ensures low { HitsLow result }
     ensures hits { HitsCache class proc.old proc.new w.old w.new result }
     ensures serves { Serves w.new.view.generation w.new.view.own proc.new }
     ensures countdown { proc.new.countdown ≡ proc.old.countdown }

@@ -45,7 +45,7 @@ pub enum CacheFrom {
 /// cycle, and the cached span of the class is absent or full.
 ///
 /// After each refusal the slot of the class is empty, and the other classes are as they were. NoRun comes with the Miss line of
-/// this call, only after each unswept set was seen empty.
+/// this call, only after each unswept set was seen empty, and the worker has no block then: its page cache, if it has one, is settled.
 pub fn refill<R: Wait>(
     rt: &R,
     proc: &mut Proc,

@@ -2,20 +2,16 @@
 
 ghost use Rattle.std.specs.Prelude.{◌≡◌, IfErr, OnOk};
 ghost use Rattle.cycle_history.specs.Before.{IsLimited};
-ghost use Rattle.cycle_history.specs.Requests.{caching_procs};
 ghost use Rattle.cycle_history.specs.Sound.{HasJournal};
 ghost use Rattle.report_rules.specs.Answers.{BreaksJournal};
 ghost use Rattle.report_check.specs.Fault.{IsFaultOf};
 
 use crate::CheckFault;
 use crate::lines::end_of;
-use cycle_history::Report;
+use cycle_history::{Report, caching_procs};
 use page_replay::{Replay, cycle_of};
 use std::alloc::Global;
 use trace_reader::Trace;
-
-/// The first version of the format whose traces have page caches.
-const CACHING_VERSION: u8 = 2;
 
 /// Whether the report's journal is one that pages of the trace's region and goal can have, with a page cache for each processor where the
 /// trace is of version 2 or more: rule 2. A line that may not stand breaks it, and `end` does where a block is never dropped.
@@ -27,7 +23,7 @@ pub fn judge_journal(alloc: Global, trace: &Trace, report: &Report) -> Result<()
     let last = trace.cycles.len() as u32 - 1;
     let answers = report.answers.as_slice().len() as u64;
     let header = trace.header;
-    let mut replay = Replay::new(alloc, header.chunks, procs_of(trace), header.goal)?;
+    let mut replay = Replay::new(alloc, header.chunks, caching_procs(trace), header.goal)?;
     let mut number = 0;
     for line in report.journal.as_slice() {
         number += 1;
@@ -46,15 +42,4 @@ pub fn judge_journal(alloc: Global, trace: &Trace, report: &Report) -> Result<()
         });
     }
     Ok(())
-}
-
-// How many processors have page caches.
-fn procs_of(trace: &Trace) -> u32
-    ensures { result ≡ caching_procs trace.now }
-{
-    if trace.header.version >= CACHING_VERSION {
-        trace.header.procs
-    } else {
-        0
-    }
 }

@@ -102,10 +102,7 @@ fn push_journal(text: &mut TextLine, line: Line)
             page,
             pages,
             class,
-        } => {
-            push_run(text, cycle, b" take ", page, pages);
-            push_field(text, u64::from(class));
-        }
+        } => push_take(text, cycle, page, pages, class),
         Line::Miss {
             cycle,
             pages,
@@ -125,10 +122,7 @@ fn push_journal(text: &mut TextLine, line: Line)
             page,
             pages,
             class,
-        } => {
-            push_block(text, cycle, b" cut ", proc, page, pages);
-            push_field(text, u64::from(class));
-        }
+        } => push_cut(text, cycle, proc, page, pages, class),
         Line::Drop {
             cycle,
             proc,
@@ -136,6 +130,26 @@ fn push_journal(text: &mut TextLine, line: Line)
             pages,
         } => push_block(text, cycle, b" drop ", proc, page, pages),
     }
+}
+
+// The same of a Take line.
+fn push_take(text: &mut TextLine, cycle: u32, page: u32, pages: u32, class: u8)
+    requires { length text.old ≤ 24 }
+    ensures text { text.new ≡ text.old ++ journal_text (Line.Take cycle page pages class) }
+    ensures short { length text.new ≤ 112 }
+{
+    push_run(text, cycle, b" take ", page, pages);
+    push_field(text, u64::from(class));
+}
+
+// The same of a Cut line.
+fn push_cut(text: &mut TextLine, cycle: u32, proc: u32, page: u32, pages: u32, class: u8)
+    requires { length text.old ≤ 24 }
+    ensures text { text.new ≡ text.old ++ journal_text (Line.Cut cycle proc page pages class) }
+    ensures short { length text.new ≤ 112 }
+{
+    push_block(text, cycle, b" cut ", proc, page, pages);
+    push_field(text, u64::from(class));
 }
 
 // Appends a cycle, a word and two numbers.

@@ -44,7 +44,7 @@ use Rattle.run_laws.proofs.BlockLogs.{SameBlocks, same_block, same_put, put_own,
 use Rattle.run_laws.proofs.BlocksKept.{SameSpan, same_span, marked_span, marked_begins, dropped_life, owner_of_life, pulled_stay, cut_as, life_as, cut_at_as, newer_cut, newer_life, newer_here, newer_each, placed, within_of}
 
 -- a list without the first places of a run of numbers that it has
-erase_shorter : (x : ℕ) (xs : List ℕ) → 0 < times x xs → length (erase x xs) + 1 ≡ length xs
+pub erase_shorter : (x : ℕ) (xs : List ℕ) → 0 < times x xs → length (erase x xs) + 1 ≡ length xs
 erase_shorter x [] h = absurd (omega arith)
 erase_shorter x (y ∷ xs) h = elim (cases_eq y x) [
   | inl here ↦ rw (eq-eqb y x here) (omega arith)

@@ -150,7 +150,7 @@ module _ (c : CoreState) (e : CycleSoFar) (now : ShowsBlocks c e) (o : Owned c) 
   ]
 
   -- a page is free in the state exactly where neither a span nor a page cache has it by the journal
-  free_unheld : (q : ℕ) → q < length c.words → is_free_page c q ≡ true → IsUnheld (past_after e) q
+  pub free_unheld : (q : ℕ) → q < length c.words → is_free_page c q ≡ true → IsUnheld (past_after e) q
   free_unheld q low on = record { owner = sym (now.owned q low (uncut q low f.0)) ∙ f.0; cached = none_cached (cached (past_after e) q) refl }
     where
       f : (get_or c.owners q None ≡ None) × (pullers q c.hands ≡ 0)
@@ -163,7 +163,7 @@ module _ (c : CoreState) (e : CycleSoFar) (now : ShowsBlocks c e) (o : Owned c) 
           let y : one_if (is_number v (cached (past_after e) q)) ≡ 1 = ap (λ (z : Option ℕ). one_if (is_number v z)) is ∙ ap one_if (eq-eqb v v refl) in
           absurd (omega arith)
 
-  unheld_free : (q : ℕ) → q < length c.words → IsUnheld (past_after e) q → is_free_page c q ≡ true
+  pub unheld_free : (q : ℕ) → q < length c.words → IsUnheld (past_after e) q → is_free_page c q ≡ true
   unheld_free q low u = page_free c.owners c.hands q (now.owned q low (λ v. let s = share v in omega arith) ∙ u.owner)
       (total_none (λ (h : HandState). times q h.pulled) c.hands (λ n h at. let s = share n in
       let is : hand_of c n ≡ h = some-injective (hand_of c n) h (sym (at_low c.hands n no_hand (inside_at c.hands n h at)) ∙ at) in let z = ap (λ (y : HandState). times q y.pulled) is in omega arith))

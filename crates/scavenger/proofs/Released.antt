@@ -7,7 +7,7 @@ use Rattle.page_bitmap.specs.declared.line.Line.TheVariants.{Scav}
 use Rattle.page_bitmap.specs.declared.line.Run.{Run}
 use Rattle.page_alloc.specs.Owners.{backed, is_held, unscavenged, within}
 use Rattle.page_alloc.specs.FreeRuns.{IsScavengeRun}
-use Rattle.sound_run.specs.Run.{IsJournal}
+use Rattle.page_alloc.specs.Journal.{LegalFor}
 use Rattle.page_alloc.proofs.Keeping.{not-held}
 use Rattle.page_alloc.proofs.Lives.{within-false, within-true}
 use Rattle.cycle_history.specs.Sound.{IsScavenged}
@@ -38,32 +38,32 @@ backed-less region cycle page n past run =
     omega arith
 
 -- so many steps release a page each
-runs-backed : (region goal cycle : ℕ) (past : List Line) (runs : List Run) → IsJournal region goal (scav_lines cycle runs ++ past)
+runs-backed : (procs region goal cycle : ℕ) (past : List Line) (runs : List Run) → LegalFor procs region goal (scav_lines cycle runs ++ past)
     → length runs + backed region (scav_lines cycle runs ++ past) ≤ backed region past
-runs-backed region goal cycle past [] legal = omega arith
-runs-backed region goal cycle past (run ∷ runs) legal =
-    let more = runs-backed region goal cycle past runs legal.2 in
+runs-backed procs region goal cycle past [] legal = omega arith
+runs-backed procs region goal cycle past (run ∷ runs) legal =
+    let more = runs-backed procs region goal cycle past runs legal.2 in
     let less = backed-less region cycle run.page run.pages (scav_lines cycle runs ++ past) legal.0.1 in
     let some = legal.0.1.some in
     omega arith
 
 -- behind as many runs as the region has pages no page is backed
-all-released : (region goal cycle : ℕ) (past : List Line) (runs : List Run) → IsJournal region goal (scav_lines cycle runs ++ past) → length runs ≡ region
+all-released : (procs region goal cycle : ℕ) (past : List Line) (runs : List Run) → LegalFor procs region goal (scav_lines cycle runs ++ past) → length runs ≡ region
     → backed region (scav_lines cycle runs ++ past) ≤ goal
-all-released region goal cycle past runs legal all =
-    let few = runs-backed region goal cycle past runs legal in
+all-released procs region goal cycle past runs legal all =
+    let few = runs-backed procs region goal cycle past runs legal in
     let most : backed region past ≤ region = count_below-le region (λ p. is_held past p || unscavenged past p) in
     omega arith
 
-reasoned : (region goal cycle : ℕ) (past : List Line) (runs : List Run) (reason : Reason) → IsJournal region goal (scav_lines cycle runs ++ past)
+reasoned : (procs region goal cycle : ℕ) (past : List Line) (runs : List Run) (reason : Reason) → LegalFor procs region goal (scav_lines cycle runs ++ past)
     → StopsFor region goal (scav_lines cycle runs ++ past) (length runs) reason → IsScavenged region goal (scav_lines cycle runs ++ past)
-reasoned region goal cycle past runs AtGoal legal why = inl why.0
-reasoned region goal cycle past runs NoCandidate legal why = inr why.1
-reasoned region goal cycle past runs TurnsSpent legal why = inl (all-released region goal cycle past runs legal why)
+reasoned procs region goal cycle past runs AtGoal legal why = inl why.0
+reasoned procs region goal cycle past runs NoCandidate legal why = inr why.1
+reasoned procs region goal cycle past runs TurnsSpent legal why = inl (all-released procs region goal cycle past runs legal why)
 
 -- whatever it stopped for, the pages are scavenged to the goal
 pub scavenged : (old new : Seen) (s : Stopped) → Scavenges old new (Ok s) → EndsScavenged new
 scavenged old new s done =
     let all : List Line = behind old done.0 done.1 in
     let P : Seen → Type 0 = λ w. EndsScavenged w in
-    subst P (sym done.2.view) (all, refl, reasoned old.view.region old.view.goal _ done.0 done.1 s.reason done.2.legal done.4)
+    subst P (sym done.2.view) (all, refl, reasoned old.view.procs old.view.region old.view.goal _ done.0 done.1 s.reason done.2.legal done.4)

@@ -3,7 +3,7 @@ use Rattle.std.proofs.Common.{◌≡◌, ◌⊎◌, ℕ, Bool, ◌+◌, ◌<◌,
 use Rattle.std.specs.List.{AllByRecursion}
 use Rattle.page_alloc.specs.Owners.{backed}
 use Rattle.page_alloc.specs.FreeRuns.{IsLoose}
-use Rattle.sound_run.specs.Run.{IsJournal}
+use Rattle.page_alloc.specs.Journal.{LegalFor}
 use Rattle.page_bitmap.specs.declared.line.Line.{Line}
 use Rattle.page_bitmap.specs.declared.line.Line.TheVariants.{Scav}
 use Rattle.page_bitmap.specs.declared.line.Run.{Run}
@@ -28,7 +28,7 @@ some-of (Some run) h = (run, refl)
 
 -- a step of the driver, which is told of it
 abbrev pub StepsTold : Seen → Seen → Step → Type 0
-StepsTold old new step = (past : List Line) × IsJournal old.view.region old.view.goal (past_scavenged (cycle_at old.view.generation) past step.run) × IsToldOf old past
+StepsTold old new step = (past : List Line) × LegalFor old.view.procs old.view.region old.view.goal (past_scavenged (cycle_at old.view.generation) past step.run) × IsToldOf old past
     × Released (cycle_at old.view.generation) old.view.region old.view.goal past step.backed step.run × (new ≡ knows (past_scavenged (cycle_at old.view.generation) past step.run) old)
 
 told-step : (old new : Seen) (step : Step) → drives old ≡ true → StepsOnce old new (Ok step) → StepsTold old new step
@@ -49,16 +49,16 @@ Turned n old new count = ((n ≡ 0) × (new ≡ old))
 first-turn : (old new : Seen) (step : Step) (run : Run) → step.run ≡ Some run → StepsTold old new step → Turned 1 old new step.backed
 first-turn old new step run is made =
     let R : Option Run → Type 0 = λ o. Released (cycle_at old.view.generation) old.view.region old.view.goal made.0 step.backed o in
-    let L : Option Run → Type 0 = λ o. IsJournal old.view.region old.view.goal (past_scavenged (cycle_at old.view.generation) made.0 o) in
+    let L : Option Run → Type 0 = λ o. LegalFor old.view.procs old.view.region old.view.goal (past_scavenged (cycle_at old.view.generation) made.0 o) in
     let N : Option Run → Type 0 = λ o. new ≡ knows (past_scavenged (cycle_at old.view.generation) made.0 o) old in
     inr (made.0, run ∷ [], record { told = made.2; legal = subst L is made.1; view = subst N is made.4 }, refl, (subst R is made.3).1)
 
 -- a further one
-next-turn : (past : List Line) (runs : List Run) (old new : Seen) (step : Step) (run : Run) → IsJournal old.view.region old.view.goal (behind old past runs) → IsToldOf old past
+next-turn : (past : List Line) (runs : List Run) (old new : Seen) (step : Step) (run : Run) → LegalFor old.view.procs old.view.region old.view.goal (behind old past runs) → IsToldOf old past
     → step.run ≡ Some run → StepsTold (knows (behind old past runs) old) new step → Turned (length runs + 1) old new step.backed
 next-turn past runs old new step run legal told is made =
     let R : Option Run → Type 0 = λ o. Released (cycle_at old.view.generation) old.view.region old.view.goal made.0 step.backed o in
-    let L : Option Run → Type 0 = λ o. IsJournal old.view.region old.view.goal (past_scavenged (cycle_at old.view.generation) made.0 o) in
+    let L : Option Run → Type 0 = λ o. LegalFor old.view.procs old.view.region old.view.goal (past_scavenged (cycle_at old.view.generation) made.0 o) in
     let N : Option Run → Type 0 = λ o. new ≡ knows (past_scavenged (cycle_at old.view.generation) made.0 o) old in
     let here : made.0 ≡ behind old past runs = made.2 (behind old past runs) refl in
     let line : Line = Scav (cycle_at old.view.generation) run.page run.pages in
@@ -67,7 +67,7 @@ next-turn past runs old new step run legal told is made =
       run ∷ runs,
       record {
         told = told;
-        legal = (let P : List Line → Type 0 = λ l. IsJournal old.view.region old.view.goal (line ∷ l) in subst P here (subst L is made.1));
+        legal = (let P : List Line → Type 0 = λ l. LegalFor old.view.procs old.view.region old.view.goal (line ∷ l) in subst P here (subst L is made.1));
         view = subst N is made.4 ∙ ap (λ (l : List Line). knows (line ∷ l) old) here;
       },
       omega arith,
@@ -96,7 +96,7 @@ stops region goal past b n TurnsSpent few why is cause = absurd why
 
 -- a step that released nothing, behind all the others
 last-turn : (past : List Line) (runs : List Run) (old new : Seen) (step : Step) (reason : Reason) → length runs < old.view.region → IsReason step.backed old.view.goal reason
-    → IsToldOf old past → IsJournal old.view.region old.view.goal (behind old past runs)
+    → IsToldOf old past → LegalFor old.view.procs old.view.region old.view.goal (behind old past runs)
     → Released (cycle_at old.view.generation) old.view.region old.view.goal (behind old past runs) step.backed None → new ≡ knows (behind old past runs) old
     → Scavenges old new (Ok (record { backed = step.backed; reason = reason }))
 last-turn past runs old new step reason few why told legal released view =
@@ -110,7 +110,7 @@ stopped n count old mid new step reason d turned few is made why =
           let M : Seen → Type 0 = λ s. StepsOnce s new (Ok step) in
           let made : StepsTold old new step = told-step old new step d (subst M none.1 made) in
           let R : Option Run → Type 0 = λ o. Released (cycle_at old.view.generation) old.view.region old.view.goal made.0 step.backed o in
-          let L : Option Run → Type 0 = λ o. IsJournal old.view.region old.view.goal (past_scavenged (cycle_at old.view.generation) made.0 o) in
+          let L : Option Run → Type 0 = λ o. LegalFor old.view.procs old.view.region old.view.goal (past_scavenged (cycle_at old.view.generation) made.0 o) in
           let N : Option Run → Type 0 = λ o. new ≡ knows (past_scavenged (cycle_at old.view.generation) made.0 o) old in
           last-turn made.0 [] old new step reason (omega arith) why made.2 (subst L is made.1) (subst R is made.3) (subst N is made.4))
       | inr some ↦ (
@@ -142,7 +142,7 @@ TurnedApart n old new count = ((n ≡ 0) × (new ≡ old))
 
 -- a step of a worker that was told of no journal
 abbrev StepsApart : Seen → Seen → Step → Type 0
-StepsApart old new step = (past : List Line) × IsJournal old.view.region old.view.goal (past_scavenged (cycle_at old.view.generation) past step.run)
+StepsApart old new step = (past : List Line) × LegalFor old.view.procs old.view.region old.view.goal (past_scavenged (cycle_at old.view.generation) past step.run)
     × Released (cycle_at old.view.generation) old.view.region old.view.goal past step.backed step.run × (new ≡ record old { journal = None })
 
 step-apart : (old new : Seen) (step : Step) → drives old ≡ false → StepsOnce old new (Ok step) → StepsApart old new step
@@ -156,8 +156,8 @@ step-apart old new step d made = (
 more-apart : (runs : List Run) (old new : Seen) (step : Step) (run : Run) → AllByRecursion (IsReleased old) runs → step.run ≡ Some run → StepsApart old new step → TurnedApart (length runs + 1) old new step.backed
 more-apart runs old new step run each is made =
     let R : Option Run → Type 0 = λ o. Released (cycle_at old.view.generation) old.view.region old.view.goal made.0 step.backed o in
-    let L : Option Run → Type 0 = λ o. IsJournal old.view.region old.view.goal (past_scavenged (cycle_at old.view.generation) made.0 o) in
-    let legal : IsJournal old.view.region old.view.goal (Scav (cycle_at old.view.generation) run.page run.pages ∷ made.0) = subst L is made.1 in
+    let L : Option Run → Type 0 = λ o. LegalFor old.view.procs old.view.region old.view.goal (past_scavenged (cycle_at old.view.generation) made.0 o) in
+    let legal : LegalFor old.view.procs old.view.region old.view.goal (Scav (cycle_at old.view.generation) run.page run.pages ∷ made.0) = subst L is made.1 in
     inr (Scav (cycle_at old.view.generation) run.page run.pages ∷ made.0, run ∷ runs, record { each = ((made.0, legal), each); legal = legal; view = made.3 }, omega arith, (subst R is made.2).1)
 
 pub turns-apart : (n count : ℕ) (old mid new : Seen) (step : Step) (run : Run) → drives old ≡ false → TurnedApart n old mid count → step.run ≡ Some run → StepsOnce mid new (Ok step) → TurnedApart (n + 1) old new step.backed
@@ -177,7 +177,7 @@ last-apart : (runs : List Run) (old new : Seen) (step : Step) (reason : Reason) 
     → step.run ≡ None → StepsApart old new step → ScavengesApart old new (Ok (record { backed = step.backed; reason = reason }))
 last-apart runs old new step reason each few why is made =
     let R : Option Run → Type 0 = λ o. Released (cycle_at old.view.generation) old.view.region old.view.goal made.0 step.backed o in
-    let L : Option Run → Type 0 = λ o. IsJournal old.view.region old.view.goal (past_scavenged (cycle_at old.view.generation) made.0 o) in
+    let L : Option Run → Type 0 = λ o. LegalFor old.view.procs old.view.region old.view.goal (past_scavenged (cycle_at old.view.generation) made.0 o) in
     let released : Released (cycle_at old.view.generation) old.view.region old.view.goal made.0 step.backed None = subst R is made.2 in
     (made.0, runs, record { each = each; legal = subst L is made.1; view = made.3 }, released.0, stops old.view.region old.view.goal made.0 step.backed (length runs) reason few why released.0 released.1)
 

@@ -5,7 +5,7 @@ use Rattle.fallible_list.specs.declared.list.NoMemory.{NoMemory}
 use Rattle.cycle_history.specs.Sound.{IsScavenged}
 use Rattle.page_alloc.specs.Owners.{backed}
 use Rattle.page_alloc.specs.FreeRuns.{IsLoose}
-use Rattle.sound_run.specs.Run.{IsJournal}
+use Rattle.page_alloc.specs.Journal.{LegalFor}
 use Rattle.page_bitmap.specs.declared.line.Line.{Line}
 use Rattle.page_bitmap.specs.declared.line.Line.TheVariants.{Scav}
 use Rattle.page_bitmap.specs.declared.line.Run.{Run}
@@ -29,18 +29,18 @@ behind w past runs = scav_lines (cycle_at w.view.generation) runs ++ past
 -- line that the rules let stand; the driver knows the whole journal then, and nothing else changed
 pub record Releases (past : List Line) (runs : List Run) (old new : Seen) : Type 0 where
   pub told : IsToldOf old past
-  pub legal : IsJournal old.view.region old.view.goal (behind old past runs)
+  pub legal : LegalFor old.view.procs old.view.region old.view.goal (behind old past runs)
   pub view : new ≡ knows (behind old past runs) old
 
 -- the run was released by a line that the rules let stand behind some journal
 abbrev pub IsReleased : Seen → Run → Type 0
-IsReleased w run = (past : List Line) × IsJournal w.view.region w.view.goal (Scav (cycle_at w.view.generation) run.page run.pages ∷ past)
+IsReleased w run = (past : List Line) × LegalFor w.view.procs w.view.region w.view.goal (Scav (cycle_at w.view.generation) run.page run.pages ∷ past)
 
 -- so was each of these runs, by a worker that is not the driver; the journal behind its last step is this one, which is legal. It knows no
 -- journal then, and nothing else changed
 pub record ReleasesEach (past : List Line) (runs : List Run) (old new : Seen) : Type 0 where
   pub each : AllByRecursion (IsReleased old) runs
-  pub legal : IsJournal old.view.region old.view.goal past
+  pub legal : LegalFor old.view.procs old.view.region old.view.goal past
   pub view : new ≡ record old { journal = None }
 
 -- why no further step was made behind a journal, after n runs: backed pages were at most the goal; or more were, and no free page was

@@ -1,16 +1,14 @@
 -- Page caches and the journal: which pages are free in both, what pulling a block takes, and what settling one asks and writes.
-use Rattle.std.proofs.Common.{◌≡◌, ℕ, zero, suc, ◌+◌, ◌-◌, ◌*◌, ◌/◌, ◌<◌, ◌≤◌, inl, inr, Bool, true, false, true≢false, cond, ◌&&◌, ◌||◌, not, eq-eqb, ne_eqb, List, [], ◌∷◌, ◌++◌, map, length, get_or, sym, refl, ap, ◌∙◌, subst, arith}
+use Rattle.std.proofs.Common.{◌≡◌, ℕ, zero, suc, ◌+◌, ◌-◌, ◌*◌, ◌/◌, ◌<◌, ◌≤◌, inl, inr, Bool, true, false, true≢false, cond, ◌&&◌, ◌||◌, not, List, [], ◌∷◌, ◌++◌, map, length, get_or, sym, refl, ap, ◌∙◌, subst, arith}
 use Rattle.std.specs.Prelude.{Option, Some, None, IfSome}
 use Rattle.std.specs.Option.{is_some}
 use Rattle.std.specs.List.{filter, find, range_with_len}
-use Rattle.std.proofs.lemmas.Bool.{cases_eq, cases_lt, cases_Bool}
-use Rattle.std.proofs.lemmas.List.{get_or_past, length-append, length-map}
+use Rattle.std.proofs.lemmas.Bool.{cases_eq, cases_Bool}
+use Rattle.std.proofs.lemmas.List.{length-append, length-map}
 use Rattle.std.proofs.Math.Nat.{min-eq_left}
-use mathlib.Core.Option.{some-injective}
 use Rattle.page_bitmap.specs.declared.line.Line.{Line}
 use Rattle.page_bitmap.specs.declared.line.Line.TheVariants.{Drop}
-use Rattle.page_alloc.specs.Lists.{In}
-use Rattle.page_alloc.specs.Owners.{IsUnheld, cached, is_held, is_number, owner, within}
+use Rattle.page_alloc.specs.Owners.{IsUnheld, cached, is_held, owner, within}
 use Rattle.page_alloc.specs.Blocks.{AreOfCycle, HasNoBlock, IsLeastBlock}
 use Rattle.page_alloc.specs.Cuts.{IsCutFrom, Settles, behind_cuts, cache_of}
 use Rattle.page_alloc.specs.Heap.{PageHeap}
@@ -23,23 +21,23 @@ use Rattle.page_cache.specs.Blocks.{has_page, page_count}
 use Rattle.page_cache.specs.Cache.{Cache, in_block}
 use Rattle.page_cache.specs.Counts.{count_below, one_if as page_one}
 use Rattle.page_cache.proofs.Sums.{count_below-same}
-use Rattle.sweep_laws.specs.State.{HandState, CoreState}
+use Rattle.sweep_laws.specs.State.{CoreState}
 use Rattle.sweep_laws.specs.Counts.{one_if, times}
 use Rattle.sweep_laws.specs.Lists.{erase}
-use Rattle.sweep_laws.specs.Named.{is_covered, pullers}
+use Rattle.sweep_laws.specs.Named.{pullers}
 use Rattle.sweep_laws.specs.Owned.{Owned}
-use Rattle.sweep_laws.specs.Reading.{block_length, block_start, free_block, free_with, hand_of, is_free_page, least_free, life_in, no_hand}
-use Rattle.sweep_laws.proofs.Forms.{kept_of}
-use Rattle.sweep_laws.proofs.LivesChange.{is_in, life_page}
-use Rattle.sweep_laws.proofs.Naming.{at_low, times_erase, times_erase_else}
+use Rattle.sweep_laws.specs.Reading.{block_length, block_start, free_block, free_with, hand_of, is_free_page, least_free}
+use Rattle.sweep_laws.proofs.Naming.{times_erase, times_erase_else}
 use Rattle.sweep_laws.proofs.NeedsMet.{some_none}
 use Rattle.sweep_laws.proofs.PulledPages.{free_page, page_free}
-use Rattle.sweep_laws.proofs.Totals.{inside_at, other_one, part_le, same_one, total_none}
+use Rattle.sweep_laws.proofs.Totals.{other_one, same_one}
 use Rattle.run_laws.specs.Blocks.{CutOut, OutBlock, cut_line, cut_times, cuts_in, cuts_of, out_of, pages_cut, settled_lines}
 use Rattle.run_laws.specs.CycleSoFar.{CycleSoFar, past_after}
 use Rattle.run_laws.specs.Known.{KnowsBlocks}
 use Rattle.run_laws.specs.ShowsBlocks.{ShowsBlocks}
-use Rattle.run_laws.proofs.BlocksKept.{owner_of_life, within_in, within_of}
+use Rattle.run_laws.proofs.BlockMoves.{erase_shorter}
+use Rattle.run_laws.proofs.BlockPulls.{free_unheld, unheld_free}
+use Rattle.run_laws.proofs.BlocksKept.{within_in}
 use Rattle.span_laws.specs.declared.view.Part.{Part}
 use Rattle.span_laws.specs.Caches.{CacheTells, HasBlockOut, IsCacheOf, noted}
 use Rattle.span_laws.specs.OwnSteps.{pages_of}
@@ -65,14 +63,6 @@ filter_same t u a (suc n) same =
     let rest = filter_same t u (a + 1) n (λ q l h. same q (omega arith) (omega arith)) in
     λ i. cond (here i) (a ∷ rest i) (rest i)
 
--- a page that cuts cover is covered by one
-cut_there : (q : ℕ) (cuts : List CutOut) → 0 < cut_times q cuts → (x : CutOut) × In x cuts × (within q x.page x.pages ≡ true)
-cut_there q [] h = absurd (omega arith)
-cut_there q (x ∷ cuts) h = elim (cases_Bool (within q x.page x.pages)) [
-  | inl on ↦ (x, inl refl, on)
-  | inr off ↦ (let o = ap one_if off in let r = cut_there q cuts (omega arith) in (r.0, inr r.1, r.2))
-]
-
 -- whether a span or a page cache has a page
 unheld-not : (past : List Line) (q : ℕ) → IsUnheld past q → is_held past q ≡ false
 unheld-not past q u = λ i. is_some (u.owner i) || is_some (u.cached i)
@@ -89,90 +79,47 @@ not-held past q off = record { owner = none_of (owner past q) (cached past q) of
     none_too None (Some n) f = absurd (true≢false f)
     none_too (Some n) y f = absurd (true≢false f)
 
-module _ (c : CoreState) (e : CycleSoFar) (now : ShowsBlocks c e) where
+module _ (c : CoreState) (e : CycleSoFar) (now : ShowsBlocks c e) (o : Owned c) where
   -- a page that nobody has by the journal is free in the core
   pub free_in_core : (p : ℕ) → p < length c.words → IsUnheld (past_after e) p → (get_or c.owners p None ≡ None) × (pullers p c.hands ≡ 0)
-  free_in_core p low u = (
-    now.owned p low (λ v. let s = share v in omega arith) ∙ u.owner,
-    total_none (λ (h : HandState). times p h.pulled) c.hands (λ n h at. (
-        let s = share n in
-        let is : hand_of c n ≡ h = some-injective (hand_of c n) h (sym (at_low c.hands n no_hand (inside_at c.hands n h at)) ∙ at) in
-        let z = ap (λ (y : HandState). times p y.pulled) is in omega arith)),
-  )
-    where
-      share : (v : ℕ) → times p (hand_of c v).pulled + cut_times p (cuts_of (e.logs v)) ≡ 0
-      share v = sym (now.pulled v p) ∙ ap (λ (z : Option ℕ). one_if (is_number v z)) u.cached
+  free_in_core p low u = free_page c.owners c.hands p (unheld_free c e now o p low u)
 
-  module _ (o : Owned c) where
-    -- a page that is free in the core nobody has by the journal
-    pub held_in_core : (p : ℕ) → p < length c.words → get_or c.owners p None ≡ None → pullers p c.hands ≡ 0 → IsUnheld (past_after e) p
-    held_in_core p low free none = record { owner = sym (now.owned p low uncut) ∙ free; cached = none_cached (cached (past_after e) p) refl }
-      where
-        uncut : (v : ℕ) → cut_times p (cuts_of (e.logs v)) ≡ 0
-        uncut v = elim (cases_lt 0 (cut_times p (cuts_of (e.logs v)))) [
-          | inl some_cut ↦ (
-              let x = cut_there p (cuts_of (e.logs v)) some_cut in
-              let k = now.cuts v x.0 x.1 in
-              let page = life_page x.0.page c.lives k.begin in
-              let pages = k.pages in
-              let run = within_of p x.0.page x.0.pages x.2 in
-              let on : is_covered p (life_in x.0.page c.lives) ≡ true = is_in p (life_in x.0.page c.lives) (let y = run.0 in omega arith) (let y = run.1 in omega arith) in
-              absurd (some_none (life_in x.0.page c.lives).page (sym (owner_of_life x.0.page p c.lives k.begin on ((kept_of c o).lives_fit.apart p)) ∙ sym ((kept_of c o).lives_fit.owner_is p low) ∙ free)))
-          | inr isnt ↦ omega arith
-        ]
+  -- a page that is free in the core nobody has by the journal
+  pub held_in_core : (p : ℕ) → p < length c.words → get_or c.owners p None ≡ None → pullers p c.hands ≡ 0 → IsUnheld (past_after e) p
+  held_in_core p low free none = free_unheld c e now o p low (page_free c.owners c.hands p free none)
 
-        unlisted : (v : ℕ) → times p (hand_of c v).pulled ≡ 0
-        unlisted v = elim (cases_lt v (length c.hands)) [
-          | inl there ↦ (let s = part_le (λ (h : HandState). times p h.pulled) c.hands v (hand_of c v) (at_low c.hands v no_hand there) in omega arith)
-          | inr far ↦ ap (λ (h : HandState). times p h.pulled) (get_or_past c.hands v no_hand far)
-        ]
-
-        none_cached : (x : Option ℕ) → cached (past_after e) p ≡ x → cached (past_after e) p ≡ None
-        none_cached None is = is
-        none_cached (Some v) is =
-            let r = now.pulled v p in let a = unlisted v in let b = uncut v in
-            let y : one_if (is_number v (cached (past_after e) p)) ≡ 1 = ap (λ (z : Option ℕ). one_if (is_number v z)) is ∙ same_one v in
-            absurd (omega arith)
-
-    -- a page is free in the core exactly where nobody has it by the journal
-    pub free_as_held : (p : ℕ) → p < length c.words → is_free_page c p ≡ not (is_held (past_after e) p)
-    free_as_held p low = elim (cases_Bool (is_free_page c p)) [
-      | inl on ↦ (
-          let f : (get_or c.owners p None ≡ None) × (pullers p c.hands ≡ 0) = free_page c.owners c.hands p on in
-          on ∙ sym (ap not (unheld-not (past_after e) p (held_in_core p low f.0 f.1))))
-      | inr off ↦ elim (cases_Bool (is_held (past_after e) p)) [
-        | inl held ↦ off ∙ sym (ap not held)
-        | inr unheld ↦ (
-            let f = free_in_core p low (not-held (past_after e) p unheld) in
-            absurd (true≢false (sym (page_free c.owners c.hands p f.0 f.1) ∙ off)))
-      ]
+  -- a page is free in the core exactly where nobody has it by the journal
+  pub free_as_held : (p : ℕ) → p < length c.words → is_free_page c p ≡ not (is_held (past_after e) p)
+  free_as_held p low = elim (cases_Bool (is_free_page c p)) [
+    | inl on ↦ on ∙ sym (ap not (unheld-not (past_after e) p (free_unheld c e now o p low on)))
+    | inr off ↦ elim (cases_Bool (is_held (past_after e) p)) [
+      | inl held ↦ off ∙ sym (ap not held)
+      | inr unheld ↦ absurd (true≢false (sym (unheld_free c e now o p low (not-held (past_after e) p unheld)) ∙ off))
     ]
+  ]
 
-    -- the least free page of the journal is that of the core
-    pub least-is : (page : ℕ) → IsFirstFit (length c.words) (past_after e) page 1 → least_free c ≡ Some page
-    least-is page fit =
-        let inside = fit.here.inside in
-        let f = free_in_core page (omega arith) (fit.here.free page (omega arith) (omega arith)) in
-        first_in_range (is_free_page c) 0 (length c.words) page (omega arith) (omega arith) (page_free c.owners c.hands page f.0 f.1)
-        (λ p l u. elim (cases_Bool (is_free_page c p)) [
-          | inr off ↦ off
-          | inl on ↦ (
-              let g : (get_or c.owners p None ≡ None) × (pullers p c.hands ≡ 0) = free_page c.owners c.hands p on in
-              absurd (fit.least p u (record {
-                inside = omega arith;
-                free = λ q a b. subst (λ (y : ℕ). IsUnheld (past_after e) y) (let z : p ≡ q = omega arith in z) (held_in_core p (omega arith) g.0 g.1);
-              })))
-        ])
+  -- the least free page of the journal is that of the core
+  pub least-is : (page : ℕ) → IsFirstFit (length c.words) (past_after e) page 1 → least_free c ≡ Some page
+  least-is page fit =
+      let inside = fit.here.inside in
+      first_in_range (is_free_page c) 0 (length c.words) page (omega arith) (omega arith) (unheld_free c e now o page (omega arith) (fit.here.free page (omega arith) (omega arith)))
+      (λ p l u. elim (cases_Bool (is_free_page c p)) [
+        | inr off ↦ off
+        | inl on ↦ absurd (fit.least p u (record {
+          inside = omega arith;
+          free = λ q a b. subst (λ (y : ℕ). IsUnheld (past_after e) y) (let z : p ≡ q = omega arith in z) (free_unheld c e now o p (omega arith) on);
+        }))
+      ])
 
-    -- a block of all free pages of the block to pull has those that the core pulls
-    pub block-pages : (block : Block) → IsLeastBlock (length c.words) (past_after e) block.page (page_count block) → ((p : ℕ) → has_page block p ≡ (within p block.page 64 && not (is_held (past_after e) p)))
-        → pages_of block ≡ free_block c
-    block-pages block least pages =
-        let inside = least.inside in let first = least.first in
-        let start : block_start least.least ≡ block.page = omega arith in
-        let long : block_length (length c.words) least.least ≡ 64 = min-eq_left (let z : 64 ≤ length c.words - least.least / 64 * 64 = omega arith in z) in
-        filter_same (has_page block) (is_free_page c) block.page 64 (λ q l h. pages q ∙ ap (λ (b : Bool). b && not (is_held (past_after e) q)) (within_in q block.page 64 l h) ∙ sym (free_as_held q (omega arith)))
-        ∙ sym (ap (free_with c) (least-is least.least least.free) ∙ (λ i. filter (is_free_page c) (range_with_len (start i) (long i))))
+  -- a block of all free pages of the block to pull has those that the core pulls
+  pub block-pages : (block : Block) → IsLeastBlock (length c.words) (past_after e) block.page (page_count block) → ((p : ℕ) → has_page block p ≡ (within p block.page 64 && not (is_held (past_after e) p)))
+      → pages_of block ≡ free_block c
+  block-pages block least pages =
+      let inside = least.inside in let first = least.first in
+      let start : block_start least.least ≡ block.page = omega arith in
+      let long : block_length (length c.words) least.least ≡ 64 = min-eq_left (let z : 64 ≤ length c.words - least.least / 64 * 64 = omega arith in z) in
+      filter_same (has_page block) (is_free_page c) block.page 64 (λ q l h. pages q ∙ ap (λ (b : Bool). b && not (is_held (past_after e) q)) (within_in q block.page 64 l h) ∙ sym (free_as_held q (omega arith)))
+      ∙ sym (ap (free_with c) (least-is least.least least.free) ∙ (λ i. filter (is_free_page c) (range_with_len (start i) (long i))))
 
 -- ---- how many pages a block has
 
@@ -197,13 +144,6 @@ range_count test a (suc n) =
     go false = omega arith
 
 -- lists that name each number as often are as long
-erase_shorter : (x : ℕ) (xs : List ℕ) → 0 < times x xs → length (erase x xs) + 1 ≡ length xs
-erase_shorter x [] h = absurd (omega arith)
-erase_shorter x (y ∷ xs) h = elim (cases_eq y x) [
-  | inl here ↦ rw (eq-eqb y x here) (omega arith)
-  | inr there ↦ (let o = other_one y x there in let t = erase_shorter x xs (omega arith) in rw (ne_eqb y x there) (omega (arith, t)))
-]
-
 same_length : (xs ys : List ℕ) → ((p : ℕ) → times p xs ≡ times p ys) → length xs ≡ length ys
 same_length [] [] same = refl
 same_length [] (y ∷ ys) same = let a = same y in let b = same_one y in absurd (omega arith)

@@ -40,7 +40,7 @@ module _ (c : CoreState) (heap : PageHeap) (homes : List (Option Body)) (n : ℕ
 
   -- a page is free in the core exactly where nobody has it by the journal
   pub unheld_free : (p : ℕ) → p < length c.words → IsUnheld heap.past p → (get_or c.owners p None ≡ None) × (pullers p c.hands ≡ 0)
-  unheld_free p low u = free_in_core c seen y.blocks p low (subst (λ (l : List Line). IsUnheld l p) y.since u)
+  unheld_free p low u = free_in_core c seen y.blocks k.owned p low (subst (λ (l : List Line). IsUnheld l p) y.since u)
 
   pub free_unheld : (p : ℕ) → p < length c.words → get_or c.owners p None ≡ None → pullers p c.hands ≡ 0 → IsUnheld heap.past p
   free_unheld p low free none = subst (λ (l : List Line). IsUnheld l p) (sym y.since) (held_in_core c seen y.blocks k.owned p low free none)

@@ -1,14 +1,14 @@
 -- What the calls on a worker's page cache did, by their answers.
-use Rattle.std.specs.Prelude.{◌≡◌, ℕ, ◌&&◌, not, List, length, Option, Some, None, Result, Ok, Err}
+use Rattle.std.specs.Prelude.{◌≡◌, ◌⊎◌, ℕ, ◌&&◌, false, not, List, length, Option, Some, None, Result, Ok, Err}
 use Rattle.fallible_list.specs.declared.list.NoMemory.{NoMemory}
 use Rattle.page_alloc.specs.Blocks.{IsLeastBlock}
+use Rattle.page_alloc.specs.Journal.{LegalFor}
 use Rattle.page_alloc.specs.Owners.{is_held, within}
 use Rattle.page_bitmap.specs.declared.line.Line.{Line}
 use Rattle.page_cache.specs.declared.block.Block.{Block}
 use Rattle.page_cache.specs.Blocks.{has_page, page_count}
 use Rattle.page_cache.specs.Cache.{Cache, in_block, pages_left}
 use Rattle.page_cache.specs.Runs.{HasNoRun, IsFirstRun, LosesRun}
-use Rattle.sound_run.specs.Run.{IsJournal}
 use Rattle.span_state.specs.declared.body.Body.{Body}
 use Rattle.run_laws.specs.Blocks.{OutBlock, out_of}
 use Rattle.span_laws.specs.declared.answers.Pulled.{Pulled}
@@ -24,10 +24,14 @@ use Rattle.span_laws.specs.Views.{Seen, span_of}
 abbrev pub IsEmptyCache : Option Cache → Type 0
 IsEmptyCache cache = (k : Cache) × (cache ≡ Some k) × (k.block ≡ None)
 
+-- the worker has no block out: it has no page cache, or an empty one
+abbrev pub IsSettled : Seen → Type 0
+IsSettled w = (w.caching ≡ false) ⊎ IsEmptyCache w.view.own.cache
+
 -- a block was pulled behind a journal: all free pages of the block to pull, as a line of this number says
 pub record IsBlockOf (s : Seen) (past : List Line) (line : ℕ) (block : Block) : Type 0 where
   pub told : IsToldOf s past
-  pub journal : IsJournal s.view.region s.view.goal past
+  pub journal : LegalFor s.view.procs s.view.region s.view.goal past
   pub number : length past ≡ line
   pub least : IsLeastBlock s.view.region past block.page (page_count block)
   pub pages : (p : ℕ) → has_page block p ≡ (within p block.page 64 && not (is_held past p))

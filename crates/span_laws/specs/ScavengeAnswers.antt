@@ -2,8 +2,7 @@
 use Rattle.std.specs.Prelude.{◌≡◌, ◌⊎◌, ℕ, ◌<◌, ◌≤◌, Bool, true, false, List, ◌∷◌, Option, Some, None, Result, Ok, Err}
 use Rattle.page_alloc.specs.Owners.{backed}
 use Rattle.page_alloc.specs.FreeRuns.{IsLoose}
-use Rattle.page_alloc.specs.Journal.{MayFollow}
-use Rattle.sound_run.specs.Run.{IsJournal}
+use Rattle.page_alloc.specs.Journal.{LegalFor, MayFollow}
 use Rattle.page_bitmap.specs.declared.line.Line.{Line}
 use Rattle.page_bitmap.specs.declared.line.Line.TheVariants.{Scav}
 use Rattle.page_bitmap.specs.declared.line.Run.{Run}
@@ -30,7 +29,7 @@ told_if false past = None
 
 -- so it did behind a journal, which is legal with the new line, and of which the driver is told with it; or memory ran out
 abbrev pub StepsOnce : Seen → Seen → Result Step NoMemory → Type 0
-StepsOnce old new (Ok step) = (past : List Line) × IsJournal old.view.region old.view.goal (past_scavenged (cycle_at old.view.generation) past step.run) × IsToldOf old past
+StepsOnce old new (Ok step) = (past : List Line) × LegalFor old.view.procs old.view.region old.view.goal (past_scavenged (cycle_at old.view.generation) past step.run) × IsToldOf old past
     × Released (cycle_at old.view.generation) old.view.region old.view.goal past step.backed step.run
     × (new ≡ record old { journal = told_if (drives old) (past_scavenged (cycle_at old.view.generation) past step.run) })
 StepsOnce old new (Err none) = new ≡ old

@@ -2,7 +2,7 @@
 use Rattle.std.specs.Prelude.{◌≡◌, ℕ, ◌*◌, ◌-◌, ◌/◌, ◌<◌, ◌≤◌, List, length, Option, Some, None, Result, Ok, Err}
 use Rattle.size_classes.specs.Classes.{objects_of, slot_of}
 use Rattle.page_alloc.specs.FreeRuns.{HasNoRun}
-use Rattle.sound_run.specs.Run.{IsJournal}
+use Rattle.page_alloc.specs.Journal.{LegalFor}
 use Rattle.page_bitmap.specs.declared.line.Line.{Line}
 use Rattle.fallible_list.specs.declared.list.NoMemory.{NoMemory}
 use Rattle.span_state.specs.declared.body.Body.{Body}
@@ -39,9 +39,9 @@ pub record TakesNew (n k : ℕ) (old new : Seen) (b : Body) : Type 0 where
 abbrev pub IsToldOf : Seen → List Line → Type 0
 IsToldOf w past = (known : List Line) → w.journal ≡ Some known → past ≡ known
 
--- behind some legal journal no run of n pages is free
+-- behind a journal that is legal for the processors of the view no run of n pages is free
 abbrev pub NoRunFree : ℕ → Seen → List Line → Type 0
-NoRunFree n s past = IsJournal s.view.region s.view.goal past × HasNoRun s.view.region past n
+NoRunFree n s past = LegalFor s.view.procs s.view.region s.view.goal past × HasNoRun s.view.region past n
 
 -- it took a run, or no run was free after some journal, and the log has the line that says so; or memory ran out and nothing changed
 abbrev pub TakesSpan : ℕ → ℕ → Seen → Seen → Result Body Refused → Type 0

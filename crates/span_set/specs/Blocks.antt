@@ -15,5 +15,5 @@ is_of_block (Settled number) = true
 is_of_block _ = false
 
 -- the worker has no block: it has no page cache, or an empty one
-abbrev pub HasNoBlock : Seen → Type 0
-HasNoBlock w = (k : Cache) → w.view.own.cache ≡ Some k → k.block ≡ None
+abbrev pub HasNoOwnBlock : Seen → Type 0
+HasNoOwnBlock w = (k : Cache) → w.view.own.cache ≡ Some k → k.block ≡ None

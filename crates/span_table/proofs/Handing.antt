@@ -1,7 +1,7 @@
 -- Seats come and go: a worker is handed out, with a page cache or without, and taken in. The core does not change, and of the parts only page
 -- caches come and go.
 use Rattle.std.proofs.Common.{◌≡◌, ◌≢◌, ℕ, zero, suc, ◌+◌, ◌<◌, ◌≤◌, ◌⊎◌, inl, inr, ⊎_elim, Bool, ◌||◌, true, false, true≢false, eqb, eq-eqb, List, [], ◌∷◌, ◌++◌, length, get_or, set, refl, sym, ap, subst, ◌∙◌, arith}
-use Rattle.std.specs.Prelude.{None, Some}
+use Rattle.std.specs.Prelude.{None, Option, Some}
 use mathlib.Core.Logic.{dite}
 use mathlib.Core.Option.{some, some-injective, some-ne-none}
 use native.Mathlib.Decide.{dec_le, ℕ_discrete}
@@ -13,7 +13,7 @@ use Rattle.sweep_laws.specs.Counts.{times}
 use Rattle.sweep_laws.specs.Lists.{has}
 use Rattle.sweep_laws.proofs.Naming.{at_low, at_set, set_here, times_has}
 use Rattle.sweep_laws.proofs.Totals.{inside_at}
-use Rattle.page_cache.specs.Cache.{only}
+use Rattle.page_cache.specs.Cache.{Cache, only}
 use Rattle.run_laws.specs.Blocks.{out_of}
 use Rattle.span_laws.specs.CacheAnswers.{IsEmptyCache}
 use Rattle.span_laws.specs.Handed.{with_cache}
@@ -23,14 +23,14 @@ use Rattle.span_laws.specs.declared.view.View.{View}
 use Rattle.span_laws.proofs.Parts.{has_erase_else, set_else}
 use Rattle.span_table.specs.Turning.{Ruled}
 use Rattle.span_table.proofs.Ruling.{lift_join, lift_split}
-use Rattle.span_table.specs.Running.{JointState, Lawful, Present, Running, Seated, Seats, Traced}
-use Rattle.span_table.specs.Seats.{sent_out, sent_out_for, spent_seat_view, with_number, without_number}
+use Rattle.span_table.specs.Running.{JointState, Present, Running, Seated, Seats, Traced}
+use Rattle.span_table.specs.Seats.{sent_out, spent_seat_view, with_number, without_number}
 use Rattle.span_table.specs.declared.view.Item.{Item}
 use Rattle.span_table.specs.declared.view.SeatView.{SeatView}
 use Rattle.page_bitmap.specs.declared.line.Line.{Line}
 use Rattle.span_table.proofs.Adaptors.{none_some}
 use Rattle.span_table.proofs.Joined.{get_at, inside}
-use Rattle.span_table.proofs.PresentKept.{present_in, present_out, present_out_for}
+use Rattle.span_table.proofs.PresentKept.{present_in, present_out}
 use Rattle.span_table.proofs.StoredKept.{put, put_else, put_here}
 use Rattle.span_table.proofs.Recaching.{idle_part, recached, recached_counts, recached_lawful, recached_stored, tells_now}
 use Rattle.span_table.proofs.Tracing.{traced_in, traced_out}
@@ -54,24 +54,24 @@ or_right false b e = e
 abbrev pub goes : JointState → ℕ → ℕ → JointState
 goes g m i = record g { owner = put g.owner m i }
 
-goes_lawful : (g : JointState) (m i : ℕ) → Lawful g → Lawful (goes g m i)
-goes_lawful g m i k = record { kept = k.kept }
-
 -- a part that is the same in a list of parts goes out
 own_of : (parts : List Part) (n m : ℕ) (y x : Part) → m ≢ n → get_elem? parts m ≡ some x → get_or (set parts n y) m no_part ≡ x
 own_of parts n m y x d e = get_at (set parts n y) m x no_part (set_else parts n y m d ∙ e)
-
--- a part with no page cache
-bare_part : (h : Part) → h.cache ≡ None → h ≡ with_cache None h
-bare_part h none = λ i. with_cache (none i) h
 
 no_told : (past : List Line) → None ≡ Some past → ⊥
 no_told past e = cc
 
 module _ (R : ℕ) where
-  module _ (s : State Item SeatView) (r : Running R s) (id : ℕ) (w : SeatView) (at : get_elem? s.views id ≡ some w) (drives : w.drives ≡ true) (m : ℕ) (low : m < length w.view.parts) (home : has m w.away ≡ false) (other : m ≢ w.number) where
+  module _ (s : State Item SeatView) (r : Running R s) (id : ℕ) (w : SeatView) (at : get_elem? s.views id ≡ some w) (drives : w.drives ≡ true) (m : ℕ) (low : m < length w.view.parts) (home : has m w.away ≡ false) (other : m ≢ w.number)
+      (cache : Option Cache) (fits : (cache ≡ None) ⊎ (cache ≡ Some (only m None))) where
+    abbrev part : Part
+    part = get_or w.view.parts m no_part
+
+    abbrev cached_part : Part
+    cached_part = with_cache cache (get_or w.view.parts m no_part)
+
     abbrev now : JointState
-    now = goes r.joint m (length s.views)
+    now = recached (goes r.joint m (length s.views)) m (get_or w.view.parts m no_part) cache
 
     is_driver : id ≡ r.joint.driver
     is_driver = ((r.seats id w at).drives drives).0
@@ -82,26 +82,36 @@ module _ (R : ℕ) where
     from : (r.joint.owner m ≡ id) × (get_elem? r.joint.parts m ≡ get_elem? w.view.parts m) × ((p : ℕ) → r.joint.taker p ≢ m + 1) × (r.joint.lock ≢ m + 1) × ((h : Part) → get_elem? r.joint.parts m ≡ some h → h.cache ≡ None)
     from = (r.seats id w at).rest is_driver m (subst (λ (z : ℕ). m < z) ((r.seats id w at).wide is_driver) low) home other
 
+    low_part : m < length r.joint.parts
+    low_part = subst (λ (z : ℕ). m < z) ((r.seats id w at).wide is_driver) low
+
+    part_at : get_elem? r.joint.parts m ≡ some (get_or w.view.parts m no_part)
+    part_at = from.1 ∙ at_low w.view.parts m no_part low
+
+    idle_for : (out_of part.log ≡ None) × (part.pulled ≡ [])
+    idle_for = idle_part m part (tells_now r.joint m low_part part part_at r.lawful) (inl (from.4 part part_at))
+
     left_seat : Seated now id (without_number m w)
     left_seat = let t = r.seats id w at in record {
       agrees = t.agrees;
-      own_is = t.own_is;
+      own_is = λ o. set_else r.joint.parts m cached_part w.number (λ e. other (sym e)) ∙ t.own_is o;
       own_by = λ o. put_else r.joint.owner m (length s.views) w.number (λ e. other (sym e)) ∙ t.own_by o;
       lock_is = t.lock_is;
       holds = t.holds;
       told_is = λ o past e. absurd (no_told past e);
       slot_is = t.slot_is;
       drives = t.drives;
-      rest = λ d q l h n. let u = t.rest d q l (or_right (eqb m q) (has q w.away) h) n in
-          (put_else r.joint.owner m (length s.views) q (λ e. true≢false (sym (eq-eqb m q (sym e)) ∙ or_left (eqb m q) (has q w.away) h)) ∙ u.0, u.1, u.2, u.3, u.4);
-      wide = t.wide;
+      rest = λ d q l h n. let u = t.rest d q (subst (λ (z : ℕ). q < z) (length-set r.joint.parts m cached_part) l) (or_right (eqb m q) (has q w.away) h) n in
+          let q_else : q ≢ m = λ e. true≢false (sym (eq-eqb m q (sym e)) ∙ or_left (eqb m q) (has q w.away) h) in
+          (put_else r.joint.owner m (length s.views) q q_else ∙ u.0, set_else r.joint.parts m cached_part q q_else ∙ u.1, u.2, u.3, λ y z. u.4 y (sym (set_else r.joint.parts m cached_part q q_else) ∙ z));
+      wide = λ d. t.wide d ∙ sym (length-set r.joint.parts m cached_part);
     }
 
-    right_seat : Seated now (length s.views) (sent_out m w)
-    right_seat = let t = r.seats id w at in let out = (t.drives drives).1 in let part = get_or w.view.parts m no_part in
+    right_seat : Seated now (length s.views) (sent_out cache m w)
+    right_seat = let t = r.seats id w at in let out = (t.drives drives).1 in
         let there : get_elem? w.view.parts m ≡ some part = at_low w.view.parts m no_part low in record {
-          agrees = λ o. ap (λ (b : View). record b { own = with_cache None (get_or (parts_of w.number w.view) m no_part); parts = parts_of w.number w.view }) (t.agrees out);
-          own_is = λ o. from.1 ∙ there ∙ ap (λ (x : Part). some x) (bare_part part (from.4 part (from.1 ∙ there))) ∙ ap (λ (x : Part). some (with_cache None x)) (sym (own_of w.view.parts w.number m w.view.own part other there));
+          agrees = λ o. ap (λ (b : View). record b { own = with_cache cache (get_or (parts_of w.number w.view) m no_part); parts = parts_of w.number w.view }) (t.agrees out);
+          own_is = λ o. set_here r.joint.parts m cached_part low_part ∙ ap (λ (x : Part). some (with_cache cache x)) (sym (own_of w.view.parts w.number m w.view.own part other there));
           own_by = λ o. put_here r.joint.owner m (length s.views) m refl;
           lock_is = λ o h e. no_heap h e;
           holds = λ o e. absurd (from.3 e);
@@ -119,151 +129,52 @@ module _ (R : ℕ) where
         no_heap h e = absurd cc
 
     other_seat : (i : ℕ) (x : SeatView) → i ≢ id → get_elem? s.views i ≡ some x → Seated now i x
-    other_seat i x d e = let t = r.seats i x e in record {
+    other_seat i x d e = let t = r.seats i x e in let driver = r.seats id w at in let not_it : r.joint.owner x.number ≡ i → x.number ≢ m = λ by z. d (sym by ∙ ap r.joint.owner z ∙ from.0) in record {
       agrees = t.agrees;
-      own_is = t.own_is;
-      own_by = λ o. put_else r.joint.owner m (length s.views) x.number (λ z. d (sym (t.own_by o) ∙ ap r.joint.owner z ∙ from.0)) ∙ t.own_by o;
+      own_is = λ o. set_else r.joint.parts m cached_part x.number (not_it (t.own_by o)) ∙ t.own_is o;
+      own_by = λ o. put_else r.joint.owner m (length s.views) x.number (not_it (t.own_by o)) ∙ t.own_by o;
       lock_is = t.lock_is;
       holds = t.holds;
-      told_is = λ o past e. absurd (d (sym ((t.told_is o past e).1 w.number (inside r.joint id w (r.seats id w at) ((r.seats id w at).drives drives).1)) ∙ (r.seats id w at).own_by ((r.seats id w at).drives drives).1));
+      told_is = λ o past e. absurd (d (sym ((t.told_is o past e).1 w.number (inside r.joint id w driver (driver.drives drives).1)) ∙ driver.own_by (driver.drives drives).1));
       slot_is = t.slot_is;
       drives = t.drives;
       rest = λ z. absurd (d (z ∙ sym is_driver));
-      wide = t.wide;
+      wide = λ z. absurd (d (z ∙ sym is_driver));
     }
 
-    out_seats : Seats now (set s.views id (without_number m w) ++ sent_out m w ∷ [])
+    out_seats : Seats now (set s.views id (without_number m w) ++ sent_out cache m w ∷ [])
     out_seats i x e = ⊎_elim
         (λ (t : get_elem? (set s.views id (without_number m w)) i ≡ some x). ⊎_elim
         (λ (u : (i ≡ id) × (without_number m w ≡ x)). subst (λ (z : ℕ × SeatView). Seated now z.0 z.1) (λ j. (sym u.0 j, u.1 j)) left_seat)
         (λ (u : (i ≢ id) × (get_elem? s.views i ≡ some x)). other_seat i x u.0 u.1)
         (at_set s.views id i (without_number m w) x t))
-        (λ (t : (i ≡ length (set s.views id (without_number m w))) × (sent_out m w ≡ x)).
+        (λ (t : (i ≡ length (set s.views id (without_number m w))) × (sent_out cache m w ≡ x)).
         subst (λ (z : ℕ × SeatView). Seated now z.0 z.1) (λ j. (sym (t.0 ∙ length-set s.views id (without_number m w)) j, t.1 j)) right_seat)
-        (at_end (set s.views id (without_number m w)) (sent_out m w) x i e)
+        (at_end (set s.views id (without_number m w)) (sent_out cache m w) x i e)
 
-    handed_out : Running R record { words = s.words; homes = s.homes; views = set s.views id (without_number m w) ++ sent_out m w ∷ [] }
+    handed_out : Running R record { words = s.words; homes = s.homes; views = set s.views id (without_number m w) ++ sent_out cache m w ∷ [] }
     handed_out = record {
       joint = now;
-      lawful = goes_lawful r.joint m (length s.views) r.lawful;
-      locked = r.locked;
-      blocks = r.blocks;
-      words = record { size = r.words.size; many = r.words.many; whole = r.words.whole; blocked = r.words.blocked; shows = r.words.shows };
-      seats = out_seats;
-      stored = record { deep = r.stored.deep; heap_home = r.stored.heap_home; at_home = r.stored.at_home; body_home = r.stored.body_home; taker_lent = r.stored.taker_lent };
-      counted = record { sums = r.counted.sums; each = r.counted.each };
-      present = present_out r.joint.owner r.joint.driver (length r.joint.parts) s.views r.present id w at m is_driver home none_away;
-      traced = traced_out r.joint.owner (length r.joint.parts) r.blocks s.views r.traced id w at ((r.seats id w at).drives drives).1 m (sent_out m w) refl refl from.0
-          (λ q below e. let p = r.present.seat q below in let l = inside_at s.views (r.joint.owner q) p.0 p.1 in omega arith) (λ i x there e. let l = inside_at s.views i x there in omega arith)
-          (λ i x there. ⊎_elim (λ (t : get_elem? (set s.views id (without_number m w)) i ≡ some x). inl t) (λ (t : (i ≡ length (set s.views id (without_number m w))) × (sent_out m w ≡ x)). inr (t.0 ∙ length-set s.views id (without_number m w), t.1))
-          (at_end (set s.views id (without_number m w)) (sent_out m w) x i there));
-    }
-
-  -- the driver hands out the worker of a number that it has
-  pub hands_out : (id : ℕ) (w : SeatView) (m : ℕ) → w.out ≡ true → w.drives ≡ true → m < length w.view.parts → has m w.away ≡ false → m ≢ w.number → Splits (Ruled R) id w (without_number m w) (sent_out m w)
-  hands_out id w m out drives low home other = lift_split R id w (without_number m w) (sent_out m w) out (λ s r at. handed_out s r id w at drives m low home other)
-
-  -- the same with a page cache
-  module _ (s : State Item SeatView) (r : Running R s) (id : ℕ) (w : SeatView) (at : get_elem? s.views id ≡ some w) (drives : w.drives ≡ true) (m : ℕ) (low : m < length w.view.parts) (home : has m w.away ≡ false) (other : m ≢ w.number) where
-    abbrev part_for : Part
-    part_for = get_or w.view.parts m no_part
-
-    abbrev now_for : JointState
-    now_for = recached (goes r.joint m (length s.views)) m (get_or w.view.parts m no_part) (Some (only m None))
-
-    abbrev cached_part : Part
-    cached_part = with_cache (Some (only m None)) (get_or w.view.parts m no_part)
-
-    taken_from : (r.joint.owner m ≡ id) × (get_elem? r.joint.parts m ≡ get_elem? w.view.parts m) × ((p : ℕ) → r.joint.taker p ≢ m + 1) × (r.joint.lock ≢ m + 1) × ((h : Part) → get_elem? r.joint.parts m ≡ some h → h.cache ≡ None)
-    taken_from = from s r id w at drives m low home other
-
-    below_for : m < length r.joint.parts
-    below_for = subst (λ (z : ℕ). m < z) ((r.seats id w at).wide (is_driver s r id w at drives m low home other)) low
-
-    part_at : get_elem? r.joint.parts m ≡ some (get_or w.view.parts m no_part)
-    part_at = taken_from.1 ∙ at_low w.view.parts m no_part low
-
-    idle_for : (out_of part_for.log ≡ None) × (part_for.pulled ≡ [])
-    idle_for = idle_part m part_for (tells_now r.joint m below_for part_for part_at r.lawful) (inl (taken_from.4 part_for part_at))
-
-    left_for : Seated now_for id (without_number m w)
-    left_for = let t = left_seat s r id w at drives m low home other in record {
-      agrees = t.agrees;
-      own_is = λ o. set_else r.joint.parts m cached_part w.number (λ e. other (sym e)) ∙ t.own_is o;
-      own_by = t.own_by;
-      lock_is = t.lock_is;
-      holds = t.holds;
-      told_is = λ o past e. absurd (no_told past e);
-      slot_is = t.slot_is;
-      drives = t.drives;
-      rest = λ d q l h n. let u = t.rest d q (subst (λ (z : ℕ). q < z) (length-set r.joint.parts m cached_part) l) h n in
-          let q_else : q ≢ m = λ e. true≢false (sym (eq-eqb m q (sym e)) ∙ or_left (eqb m q) (has q w.away) h) in
-          (u.0, set_else r.joint.parts m cached_part q q_else ∙ u.1, u.2, u.3, λ y z. u.4 y (sym (set_else r.joint.parts m cached_part q q_else) ∙ z));
-      wide = λ d. t.wide d ∙ sym (length-set r.joint.parts m cached_part);
-    }
-
-    right_for : Seated now_for (length s.views) (sent_out_for m w)
-    right_for = let t = right_seat s r id w at drives m low home other in let out = ((r.seats id w at).drives drives).1 in let there : get_elem? w.view.parts m ≡ some part_for = at_low w.view.parts m no_part low in record {
-      agrees = λ o. ap (λ (b : View). record b { own = with_cache (Some (only m None)) (get_or (parts_of w.number w.view) m no_part); parts = parts_of w.number w.view }) ((r.seats id w at).agrees out);
-      own_is = λ o. set_here r.joint.parts m cached_part below_for ∙ ap (λ (x : Part). some (with_cache (Some (only m None)) x)) (sym (own_of w.view.parts w.number m w.view.own part_for other there));
-      own_by = λ o. t.own_by refl;
-      lock_is = λ o. t.lock_is refl;
-      holds = λ o. t.holds refl;
-      told_is = λ o past e. absurd (no_told past e);
-      slot_is = λ o. t.slot_is refl;
-      drives = λ e. absurd (true≢false (sym e));
-      rest = λ d. absurd (old_for (d ∙ sym (is_driver s r id w at drives m low home other)));
-      wide = λ d. absurd (old_for (d ∙ sym (is_driver s r id w at drives m low home other)));
-    }
-      where
-        old_for : length s.views ≡ id → ⊥
-        old_for e = let l = inside_at s.views id w at in omega arith
-
-    other_for : (i : ℕ) (x : SeatView) → i ≢ id → get_elem? s.views i ≡ some x → Seated now_for i x
-    other_for i x d e = let t = other_seat s r id w at drives m low home other i x d e in let was = r.seats i x e in record {
-      agrees = t.agrees;
-      own_is = λ o. set_else r.joint.parts m cached_part x.number (λ z. d (sym (was.own_by o) ∙ ap r.joint.owner z ∙ taken_from.0)) ∙ t.own_is o;
-      own_by = t.own_by;
-      lock_is = t.lock_is;
-      holds = t.holds;
-      told_is = λ o past z. let u = t.told_is o past z in (u.0, λ q l. u.1 q (subst (λ (k : ℕ). q < k) (length-set r.joint.parts m cached_part) l));
-      slot_is = t.slot_is;
-      drives = t.drives;
-      rest = λ z. absurd (d (z ∙ sym (is_driver s r id w at drives m low home other)));
-      wide = λ z. absurd (d (z ∙ sym (is_driver s r id w at drives m low home other)));
-    }
-
-    out_seats_for : Seats now_for (set s.views id (without_number m w) ++ sent_out_for m w ∷ [])
-    out_seats_for i x e = ⊎_elim
-        (λ (t : get_elem? (set s.views id (without_number m w)) i ≡ some x). ⊎_elim
-        (λ (u : (i ≡ id) × (without_number m w ≡ x)). subst (λ (z : ℕ × SeatView). Seated now_for z.0 z.1) (λ j. (sym u.0 j, u.1 j)) left_for)
-        (λ (u : (i ≢ id) × (get_elem? s.views i ≡ some x)). other_for i x u.0 u.1)
-        (at_set s.views id i (without_number m w) x t))
-        (λ (t : (i ≡ length (set s.views id (without_number m w))) × (sent_out_for m w ≡ x)).
-        subst (λ (z : ℕ × SeatView). Seated now_for z.0 z.1) (λ j. (sym (t.0 ∙ length-set s.views id (without_number m w)) j, t.1 j)) right_for)
-        (at_end (set s.views id (without_number m w)) (sent_out_for m w) x i e)
-
-    handed_for : Running R record { words = s.words; homes = s.homes; views = set s.views id (without_number m w) ++ sent_out_for m w ∷ [] }
-    handed_for = record {
-      joint = now_for;
-      lawful = record { kept = (recached_lawful r.joint m below_for part_for part_at r.lawful (Some (only m None)) idle_for (inr refl)).kept };
+      lawful = record { kept = (recached_lawful r.joint m low_part part part_at r.lawful cache idle_for fits).kept };
       locked = subst (λ (z : ℕ). r.joint.lock ≤ z) (sym (length-set r.joint.parts m cached_part)) r.locked;
       blocks = r.blocks;
       words = record { size = r.words.size; many = r.words.many; whole = r.words.whole; blocked = r.words.blocked; shows = r.words.shows };
-      seats = out_seats_for;
-      stored = (let t = recached_stored r.joint m below_for part_for part_at r.lawful (Some (only m None)) idle_for (inr refl) R s.homes r.stored in record { deep = t.deep; heap_home = t.heap_home; at_home = t.at_home; body_home = t.body_home; taker_lent = t.taker_lent });
-      counted = (let t = recached_counts r.joint m below_for part_for part_at r.lawful (Some (only m None)) idle_for (inr refl) s.words r.counted in record { sums = t.sums; each = t.each });
-      present = subst (λ (many : ℕ). Present (put r.joint.owner m (length s.views)) r.joint.driver many (set s.views id (without_number m w) ++ sent_out_for m w ∷ [])) (sym (length-set r.joint.parts m cached_part))
-          (present_out_for r.joint.owner r.joint.driver (length r.joint.parts) s.views r.present id w at m (is_driver s r id w at drives m low home other) home (none_away s r id w at drives m low home other));
-      traced = subst (λ (many : ℕ). Traced (put r.joint.owner m (length s.views)) many r.blocks (set s.views id (without_number m w) ++ sent_out_for m w ∷ [])) (sym (length-set r.joint.parts m cached_part))
-          (traced_out r.joint.owner (length r.joint.parts) r.blocks s.views r.traced id w at ((r.seats id w at).drives drives).1 m (sent_out_for m w) refl refl taken_from.0
-          (λ q below e. let p = r.present.seat q below in let l = inside_at s.views (r.joint.owner q) p.0 p.1 in omega arith) (λ i x there e. let l = inside_at s.views i x there in omega arith)
-          (λ i x there. ⊎_elim (λ (t : get_elem? (set s.views id (without_number m w)) i ≡ some x). inl t) (λ (t : (i ≡ length (set s.views id (without_number m w))) × (sent_out_for m w ≡ x)). inr (t.0 ∙ length-set s.views id (without_number m w), t.1))
-          (at_end (set s.views id (without_number m w)) (sent_out_for m w) x i there)));
+      seats = out_seats;
+      stored = (let t = recached_stored r.joint m low_part part part_at r.lawful cache idle_for fits R s.homes r.stored in record { deep = t.deep; heap_home = t.heap_home; at_home = t.at_home; body_home = t.body_home; taker_lent = t.taker_lent });
+      counted = (let t = recached_counts r.joint m low_part part part_at r.lawful cache idle_for fits s.words r.counted in record { sums = t.sums; each = t.each });
+      present = subst (λ (many : ℕ). Present (put r.joint.owner m (length s.views)) r.joint.driver many (set s.views id (without_number m w) ++ sent_out cache m w ∷ [])) (sym (length-set r.joint.parts m cached_part))
+          (present_out r.joint.owner r.joint.driver (length r.joint.parts) s.views r.present id w at cache m is_driver home none_away);
+      traced = subst (λ (many : ℕ). Traced (put r.joint.owner m (length s.views)) many r.blocks (set s.views id (without_number m w) ++ sent_out cache m w ∷ [])) (sym (length-set r.joint.parts m cached_part))
+          (traced_out r.joint.owner (length r.joint.parts) r.blocks s.views r.traced id w at ((r.seats id w at).drives drives).1 m (sent_out cache m w) refl refl from.0
+          (λ q deep e. let p = r.present.seat q deep in let l = inside_at s.views (r.joint.owner q) p.0 p.1 in omega arith) (λ i x there e. let l = inside_at s.views i x there in omega arith)
+          (λ i x there. ⊎_elim (λ (t : get_elem? (set s.views id (without_number m w)) i ≡ some x). inl t) (λ (t : (i ≡ length (set s.views id (without_number m w))) × (sent_out cache m w ≡ x)). inr (t.0 ∙ length-set s.views id (without_number m w), t.1))
+          (at_end (set s.views id (without_number m w)) (sent_out cache m w) x i there)));
     }
 
-  pub hands_out_for : (id : ℕ) (w : SeatView) (m : ℕ) → w.out ≡ true → w.drives ≡ true → m < length w.view.parts → has m w.away ≡ false → m ≢ w.number → Splits (Ruled R) id w (without_number m w) (sent_out_for m w)
-  hands_out_for id w m out drives low home other = lift_split R id w (without_number m w) (sent_out_for m w) out (λ s r at. handed_for s r id w at drives m low home other)
+  -- the driver hands out the worker of a number that it has, with a page cache or without
+  pub hands_out : (id : ℕ) (w : SeatView) (m : ℕ) (cache : Option Cache) → w.out ≡ true → w.drives ≡ true → m < length w.view.parts → has m w.away ≡ false → m ≢ w.number → (cache ≡ None) ⊎ (cache ≡ Some (only m None))
+      → Splits (Ruled R) id w (without_number m w) (sent_out cache m w)
+  hands_out id w m cache out drives low home other fits = lift_split R id w (without_number m w) (sent_out cache m w) out (λ s r at. handed_out s r id w at drives m low home other cache fits)
 
   module _ (s : State Item SeatView) (r : Running R s) (id : ℕ) (w : SeatView) (at : get_elem? s.views id ≡ some w) (j : ℕ) (x : SeatView) (apart : j ≢ id) (there : get_elem? s.views j ≡ some x) (drives : w.drives ≡ true) (out : x.out ≡ true) (empty : x.slot_out ≡ 0) (unlocked : x.heap ≡ None) (settled : (x.view.own.cache ≡ None) ⊎ IsEmptyCache x.view.own.cache) where
     abbrev back : JointState

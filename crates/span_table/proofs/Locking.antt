@@ -5,6 +5,7 @@ use mathlib.Core.Option.{none, some}
 use prog.Atomic.{either}
 use Rattle.atomic_table.specs.Table.{carried_after, gives, keeps, takes, step, Allows}
 use Rattle.page_alloc.specs.Heap.{AddsLine, HasMoreRoom, PageHeap}
+use Rattle.page_alloc.proofs.BlocksOut.{legal-for}
 use Rattle.page_alloc.proofs.Lives.{span_pages}
 use Rattle.page_alloc.specs.Journal.{IsBy}
 use Rattle.page_bitmap.specs.declared.line.Line.TheVariants.{Miss as MissLine, Take as TakeLine}
@@ -66,7 +67,7 @@ module _ (R : ℕ) where
             (set s.words 0 (n + 1)) (set s.homes 0 none)
             (words_lock R g.core r.blocks g.lock s.words r.words (n + 1)) (still_counts R s r id w at out w.view.own (λ z. omega arith) refl (0) (n + 1) (λ y a l e. omega arith))
             (stored_locks R g s.homes r.stored n w.view.own own w.view.own g.core g.heap (n + 1) none (λ e. absurd (omega arith)) (λ p. omega arith)),
-        subst (λ (won : Bool). LocksBy won me (locks g.heap w, (0, Heap g.heap) ∷ me.1)) (sym (eq-eqb (get_or s.words 0 0) 0 hit)) (g.heap, refl, (let k = (own_kept R s r id w at out).rule in record { region = k.heap_region ∙ sym k.region; goal = sym k.goal; legal = k.legal; cycle = subst (λ (y : ℕ). IsBy (cycle_at y) g.heap.past) (sym k.generation) k.cycle; told = λ past is. ((r.seats id w at).told_is out past is).0; blocks = heap_blocks R s r id w at out; none_out = heap_none_out R s r id w at out; cut = heap_cut R s r id w at out; runs = has_runs R s r id w at out })),
+        subst (λ (won : Bool). LocksBy won me (locks g.heap w, (0, Heap g.heap) ∷ me.1)) (sym (eq-eqb (get_or s.words 0 0) 0 hit)) (g.heap, refl, (let k = (own_kept R s r id w at out).rule in record { region = k.heap_region ∙ sym k.region; goal = sym k.goal; legal = legal-for 64 w.view.procs g.heap.region g.heap.goal g.heap.past k.allowed k.legal; cycle = subst (λ (y : ℕ). IsBy (cycle_at y) g.heap.past) (sym k.generation) k.cycle; told = λ past is. ((r.seats id w at).told_is out past is).0; blocks = heap_blocks R s r id w at out; none_out = heap_none_out R s r id w at out; cut = heap_cut R s r id w at out; runs = has_runs R s r id w at out })),
       ))
       (λ s r _ at _ miss. (
         me.0,

@@ -1,18 +1,20 @@
 -- Each number's part is in one of the views, where one seat steps, is handed out or is taken in.
 use Rattle.std.proofs.Common.{◌≡◌, ◌≢◌, inl, inr, ⊎_elim, ℕ, ◌≤◌, ◌||◌, Bool, true, false, ne_eqb, List, [], ◌∷◌, ◌++◌, length, set, refl, sym, ap, subst, ◌∙◌, arith}
+use Rattle.std.specs.Prelude.{Option}
 use mathlib.Core.Logic.{dite}
 use mathlib.Core.Option.{some, some-injective}
 use native.Mathlib.Decide.{dec_le, ℕ_discrete}
 use lib.ListN.{get_elem?}
 use Rattle.std.proofs.Math.ListN.{length-set}
 use Rattle.atomic_table.proofs.Lists.{at_last, at_longer}
+use Rattle.page_cache.specs.Cache.{Cache}
 use Rattle.sweep_laws.specs.Counts.{times}
 use Rattle.sweep_laws.specs.Lists.{erase, has}
 use Rattle.sweep_laws.proofs.Naming.{set_here, times_erase, times_erase_else, times_erase_le}
 use Rattle.sweep_laws.proofs.Totals.{inside_at, other_one}
 use Rattle.span_laws.proofs.Parts.{has_erase_else, has_none, set_else}
 use Rattle.span_table.specs.Running.{HasPart, Present}
-use Rattle.span_table.specs.Seats.{sent_out, sent_out_for, spent_seat_view, with_number, without_number}
+use Rattle.span_table.specs.Seats.{sent_out, spent_seat_view, with_number, without_number}
 use Rattle.span_table.specs.declared.view.SeatView.{SeatView}
 use Rattle.span_table.proofs.StoredKept.{put, put_else, put_here}
 
@@ -73,11 +75,8 @@ module _ (owner : ℕ → ℕ) (driver many : ℕ) (vs : List SeatView) (k : Pre
         (s.0, ap (get_elem? (set vs id (without_number m w) ++ z ∷ [])) (put_else owner m (length vs) q e) ∙ at_longer (set vs id (without_number m w)) (z ∷ []) (owner q) s.0 (set_else vs id (without_number m w) (owner q) f ∙ s.1), s.2) in r));
   }
 
-  pub present_out : (m : ℕ) → id ≡ driver → has m w.away ≡ false → times m w.away ≡ 0 → Present (put owner m (length vs)) driver many (set vs id (without_number m w) ++ sent_out m w ∷ [])
-  present_out m = present_new m (sent_out m w) refl refl
-
-  pub present_out_for : (m : ℕ) → id ≡ driver → has m w.away ≡ false → times m w.away ≡ 0 → Present (put owner m (length vs)) driver many (set vs id (without_number m w) ++ sent_out_for m w ∷ [])
-  present_out_for m = present_new m (sent_out_for m w) refl refl
+  pub present_out : (cache : Option Cache) (m : ℕ) → id ≡ driver → has m w.away ≡ false → times m w.away ≡ 0 → Present (put owner m (length vs)) driver many (set vs id (without_number m w) ++ sent_out cache m w ∷ [])
+  present_out cache m = present_new m (sent_out cache m w) refl refl
 
   -- and takes one in, whose seat is the other one
   pub present_in : (j : ℕ) (x : SeatView) → id ≡ driver → j ≢ id → get_elem? vs j ≡ some x → w.out ≡ true → w.drives ≡ true → (x.drives ≡ true → ⊥) → Present (put owner x.number id) driver many (set (set vs id (with_number w x)) j spent_seat_view)

@@ -25,7 +25,7 @@ use Rattle.page_cache.specs.declared.block.Block.{Block}
 use Rattle.span_laws.specs.CacheAnswers.{block_of}
 use Rattle.run_laws.specs.Blocks.{OutBlock, out_of}
 use Rattle.span_table.specs.Known.{IsLineOf, Rests, known}
-use Rattle.span_table.specs.Seats.{SeatState, says, says_of, sent_out, sent_out_for}
+use Rattle.span_table.specs.Seats.{SeatState, says, says_of, sent_out}
 use Rattle.span_table.specs.declared.view.Item.{Item}
 
 module _ (n g y : ℕ) (l : List ℕ) (k : Option Cache) (line : ℕ) (t t' : TableId) (m m' : SeatState) (r : Rests n g y l k line t m) (same : t' ≡ t) where
@@ -87,7 +87,7 @@ rests_turned n g y l k line t t' m m' marks r none same e early = subst (λ (z :
 
 -- a seat that was handed out by one that rests, with a page cache or without
 module _ (n g y : ℕ) (l : List ℕ) (k : Option Cache) (line : ℕ) (t t' : TableId) (m m' : SeatState) (r : Rests n g y l k line t m) (same : t' ≡ t) (q : ℕ) where
-  pub rests_sent : q < 69 → m' ≡ (sent_out q m.0, []) → Rests q g y l None 0 t' m'
+  pub rests_sent : q < 69 → m' ≡ (sent_out None q m.0, []) → Rests q g y l None 0 t' m'
   rests_sent low e = subst (λ (z : TableId × SeatState). Rests q g y l None 0 z.0 z.1) (λ i. (sym same i, sym e i))
       (record {
         number_is = refl;
@@ -111,8 +111,8 @@ module _ (n g y : ℕ) (l : List ℕ) (k : Option Cache) (line : ℕ) (t t' : Ta
         driven = λ _. refl;
       })
 
-  pub rests_sent_for : q < 64 → q < m.0.view.procs → (x : Cache) → x ≡ only q None → m' ≡ (sent_out_for q m.0, []) → Rests q g y l (Some x) 0 t' m'
-  rests_sent_for low procs x is e = subst (λ (z : TableId × SeatState × Cache). Rests q g y l (Some z.2) 0 z.0 z.1) (λ i. (sym same i, sym e i, sym is i))
+  pub rests_sent_for : q < 64 → q < m.0.view.procs → (x : Cache) → x ≡ only q None → m' ≡ (sent_out (Some x) q m.0, []) → Rests q g y l (Some x) 0 t' m'
+  rests_sent_for low procs x is e = subst (λ (z : TableId × SeatState × Cache). Rests q g y l (Some z.2) 0 z.0 z.1) (λ i. (sym same i, sym (e ∙ ap (λ (y : Cache). let z : SeatState = (sent_out (Some y) q m.0, []) in z) is) i, sym is i))
       (record {
         number_is = refl;
         generation_is = r.generation_is;

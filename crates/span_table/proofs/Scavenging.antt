@@ -5,7 +5,7 @@ use mathlib.Core.Option.{none, some}
 use Rattle.atomic_table.specs.Table.{gives, step, Allows}
 use Rattle.page_alloc.specs.FreeRuns.{IsLoose}
 use Rattle.page_alloc.specs.Heap.{AddsLine, HasMoreRoom, PageHeap}
-use Rattle.sound_run.specs.Run.{IsJournal}
+use Rattle.page_alloc.specs.Journal.{LegalFor}
 use Rattle.page_alloc.specs.Owners.{backed}
 use Rattle.page_bitmap.specs.declared.line.Line.{Line}
 use Rattle.page_bitmap.specs.declared.line.Line.TheVariants.{Scav}
@@ -44,9 +44,9 @@ pub past_is : (heap heap' : PageHeap) (cycle : ℕ) (o : Option Run) → IfSome 
 past_is heap heap' cycle (Some run) a s = a.past
 past_is heap heap' cycle None a s = s.past
 
-pub legal_behind : (heap heap' : PageHeap) (cycle : ℕ) (o : Option Run) → IfSome o (λ run. AddsLine heap heap' (Scav cycle run.page run.pages)) → IfNone o (HasMoreRoom heap heap') → IsJournal heap.region heap.goal heap.past → IsJournal heap.region heap.goal heap'.past
-legal_behind heap heap' cycle (Some run) a s l = subst (λ (z : ℕ × ℕ). IsJournal z.0 z.1 heap'.past) (λ i. (a.region i, a.goal i)) (a.legal 64 l)
-legal_behind heap heap' cycle None a s l = subst (IsJournal heap.region heap.goal) (sym s.past) l
+pub legal_behind : (procs : ℕ) (heap heap' : PageHeap) (cycle : ℕ) (o : Option Run) → IfSome o (λ run. AddsLine heap heap' (Scav cycle run.page run.pages)) → IfNone o (HasMoreRoom heap heap') → LegalFor procs heap.region heap.goal heap.past → LegalFor procs heap.region heap.goal heap'.past
+legal_behind procs heap heap' cycle (Some run) a s l = subst (λ (z : ℕ × ℕ). LegalFor procs z.0 z.1 heap'.past) (λ i. (a.region i, a.goal i)) (a.legal procs l)
+legal_behind procs heap heap' cycle None a s l = subst (LegalFor procs heap.region heap.goal) (sym s.past) l
 
 module _ (R : ℕ) where
   scavenge_known : (slots id : ℕ) (w : SeatView) (h heap₁ h' : PageHeap) (o : Option Run) (more : List (ℕ × Item)) → w.out ≡ true → (w.drives ≡ true → w.away ≡ []) → w.heap ≡ Some h → HasMoreRoom h heap₁

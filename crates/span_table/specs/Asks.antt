@@ -5,11 +5,10 @@ use Rattle.page_alloc.specs.Heap.{AddsLine, HasMoreRoom, PageHeap}
 use Rattle.page_alloc.specs.Blocks.{AreOfCycle, HasNoBlock}
 use Rattle.page_alloc.specs.Cuts.{IsCutFrom, Pulls, Settles}
 use Rattle.page_alloc.specs.FreeRuns.{IsSpanSize}
-use Rattle.page_alloc.specs.Journal.{AreAllowed, IsBy}
+use Rattle.page_alloc.specs.Journal.{AreAllowed, IsBy, LegalFor}
 use Rattle.page_cache.specs.declared.block.Block.{Block}
 use Rattle.page_cache.specs.Cache.{Cache, only}
 use Rattle.run_laws.specs.Blocks.{OutBlock, out_of}
-use Rattle.sound_run.specs.Run.{IsJournal}
 use Rattle.page_alloc.specs.Lists.{In}
 use Rattle.page_alloc.specs.Lives.{Life, open_lives}
 use Rattle.page_alloc.specs.Owners.{owner}
@@ -56,7 +55,7 @@ pub record HasRun (h : PageHeap) (b : Body) : Type 0 where
 pub record HeapSeen (h : PageHeap) (w : SeatView) : Type 0 where
   pub region : h.region ≡ w.view.region
   pub goal : h.goal ≡ w.view.goal
-  pub legal : IsJournal h.region h.goal h.past
+  pub legal : LegalFor w.view.procs h.region h.goal h.past
   pub cycle : IsBy (cycle_at w.view.generation) h.past
   pub told : IsOwnJournal h w.journal
   pub blocks : AreOfCycle (cycle_at w.view.generation) h.past

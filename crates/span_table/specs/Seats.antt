@@ -1,9 +1,10 @@
 -- How the view of a seat changes.
 use Rattle.std.specs.Prelude.{ℕ, zero, suc, ◌+◌, true, false, List, [], ◌∷◌, slice_index, slice_set, Option, Some, None}
+use Rattle.std.specs.Option.{is_some}
 use Rattle.atomic_table.specs.Table.{Me}
 use Rattle.page_alloc.specs.Heap.{PageHeap}
 use Rattle.page_bitmap.specs.declared.line.Line.{Line}
-use Rattle.page_cache.specs.Cache.{only}
+use Rattle.page_cache.specs.Cache.{Cache}
 use Rattle.page_cache.specs.declared.block.Block.{Block as BlockSeen}
 use Rattle.sweep_laws.specs.Lists.{erase}
 use Rattle.span_laws.specs.Handed.{handed, with_cache, with_own_cache}
@@ -57,16 +58,12 @@ with_found f w = record w { found = f }
 abbrev pub with_spare : ℕ → SeatView → SeatView
 with_spare x w = record w { spares = slice_set w.spares w.number x }
 
--- a worker is handed out, and comes back with its part
+-- a worker is handed out, with a page cache or without, and comes back with its part
 abbrev pub without_number : ℕ → SeatView → SeatView
 without_number m w = record w { away = m ∷ w.away; journal = None }
 
-abbrev pub sent_out : ℕ → SeatView → SeatView
-sent_out m w = record { number = m; out = true; drives = false; caching = false; away = []; slot_out = 0; heap = None; journal = None; spares = w.spares; found = None; view = with_own_cache None (handed w.number m w.view); emptying = no_emptying }
-
--- the same with a page cache
-abbrev pub sent_out_for : ℕ → SeatView → SeatView
-sent_out_for m w = record (sent_out m w) { caching = true; view = with_own_cache (Some (only m None)) (handed w.number m w.view) }
+abbrev pub sent_out : Option Cache → ℕ → SeatView → SeatView
+sent_out cache m w = record { number = m; out = true; drives = false; caching = is_some cache; away = []; slot_out = 0; heap = None; journal = None; spares = w.spares; found = None; view = with_own_cache cache (handed w.number m w.view); emptying = no_emptying }
 
 abbrev pub with_number : SeatView → SeatView → SeatView
 with_number w x = record w { away = erase x.number w.away; spares = slice_set w.spares x.number (slice_index x.spares x.number); view = record w.view { parts = slice_set w.view.parts x.number (with_cache None x.view.own) } }

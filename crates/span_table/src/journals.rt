@@ -1,8 +1,7 @@
 //! The journal and the counts of pages, under the heap lock.
 ghost use Rattle.std.specs.Prelude.{◌≡◌, true, [], Some, List, IfOk};
-ghost use Rattle.page_alloc.specs.Journal.{past_of};
+ghost use Rattle.page_alloc.specs.Journal.{LegalFor, past_of};
 ghost use Rattle.page_alloc.specs.Owners.{taken};
-ghost use Rattle.sound_run.specs.Run.{IsJournal};
 ghost use Rattle.page_bitmap.specs.declared.line.Line.{Line};
 ghost use Rattle.span_laws.specs.Asks.{IsAtWork, KnowsJournal};
 ghost use Rattle.span_laws.specs.Handed.{knows};
@@ -35,7 +34,7 @@ impl Shared {
     pub fn pages_taken<R: Wait>(&self, rt: &R, w: &mut Worker) -> u32
         requires table { w.old.table ≡ self.now }
         ensures same { w.new ≡ w.old }
-        ensures taken { (past : List Line) × IsJournal w.old.view.region w.old.view.goal past × IsToldOf w.old past × (result ≡ taken w.old.view.region past) }
+        ensures taken { (past : List Line) × LegalFor w.old.view.procs w.old.view.region w.old.view.goal past × IsToldOf w.old past × (result ≡ taken w.old.view.region past) }
     {
         let heap = lock(rt, self, &mut w.seat, w.number);
         let taken = heap.taken();
@@ -66,7 +65,7 @@ impl Shared {
     pub fn learn_journal(&self, driver: &mut Worker)
         requires works { IsAtWork self.now driver.old }
         requires drives { drives driver.old ≡ true }
-        ensures { (past : List Line) × IsJournal driver.old.view.region driver.old.view.goal past × IsToldOf driver.old past × (driver.new ≡ knows past driver.old) }
+        ensures { (past : List Line) × LegalFor driver.old.view.procs driver.old.view.region driver.old.view.goal past × IsToldOf driver.old past × (driver.new ≡ knows past driver.old) }
     {
         let heap = lock_alone(self, &mut driver.seat, driver.number);
         unlock_told(self, &mut driver.seat, heap, None);
@@ -90,7 +89,7 @@ impl Shared {
         requires drives { drives driver.old ≡ true }
         requires told { KnowsJournal driver.old }
         ensures same { driver.new ≡ driver.old }
-        ensures legal { IfOk result (λ lines. IsJournal driver.old.view.region driver.old.view.goal (past_of lines)) }
+        ensures legal { IfOk result (λ lines. LegalFor driver.old.view.procs driver.old.view.region driver.old.view.goal (past_of lines)) }
         ensures journal { IfOk result (λ lines. driver.old.journal ≡ Some (past_of lines)) }
     {
         let heap = lock_alone(self, &mut driver.seat, driver.number);

@@ -98,7 +98,7 @@ impl<J: OfRun> Play<Item, SeatView> for Give<J> {
     ghost then = { Gave J.span J.heap };
 }
 
-/// The number of a worker that is handed out, or of a page, which a call of the program picks.
+/// The number of a page, which a call of the program picks.
 pub trait Numbered {
     ghost use Rattle.std.specs.Prelude.{ℕ};
 
@@ -109,28 +109,34 @@ impl Numbered for Brand {
     ghost number = { 0 };
 }
 
-pub(crate) struct HandOut<J> {
-    number: PhantomData<J>,
+/// The number of a worker that is handed out, and its page cache, if it gets one, which a call of the program picks.
+pub trait Leaving {
+    ghost use Rattle.std.specs.Prelude.{ℕ, Option};
+    ghost use Rattle.page_cache.specs.Cache.{Cache};
+
+    ghost number: { ℕ };
+
+    ghost cache: { Option Cache };
 }
 
-impl<J: Numbered> Split<SeatView> for HandOut<J> {
+impl Leaving for Brand {
+    ghost use Rattle.std.specs.Prelude.{None};
+
+    ghost number = { 0 };
+
+    ghost cache = { None };
+}
+
+pub(crate) struct HandOut<J> {
+    leaving: PhantomData<J>,
+}
+
+impl<J: Leaving> Split<SeatView> for HandOut<J> {
     ghost use Rattle.span_table.specs.Seats.{sent_out, without_number};
 
     ghost left = { without_number J.number };
 
-    ghost right = { sent_out J.number };
-}
-
-pub(crate) struct HandOutFor<J> {
-    number: PhantomData<J>,
-}
-
-impl<J: Numbered> Split<SeatView> for HandOutFor<J> {
-    ghost use Rattle.span_table.specs.Seats.{sent_out_for, without_number};
-
-    ghost left = { without_number J.number };
-
-    ghost right = { sent_out_for J.number };
+    ghost right = { sent_out J.cache J.number };
 }
 
 pub(crate) struct TakeIn;

@@ -1,5 +1,5 @@
 //! The table, and the workers' seats.
-ghost use Rattle.std.specs.Prelude.{◌≡◌, ◌≢◌, ◌⊎◌, ℕ, ◌+◌, ◌*◌, ◌<◌, ◌≤◌, true, false, None, [], IfOk, IfSome, length, slice_index};
+ghost use Rattle.std.specs.Prelude.{◌≡◌, ◌≢◌, ◌⊎◌, ℕ, ◌+◌, ◌*◌, ◌<◌, ◌≤◌, true, false, Some, None, [], IfOk, IfSome, length, slice_index};
 ghost use mathlib.Core.Option.{some};
 ghost use lib.ListN.{get_elem?};
 ghost use Rattle.sweep_laws.specs.Lists.{has};
@@ -7,10 +7,11 @@ ghost use Rattle.span_laws.specs.Views.{first_view};
 ghost use Rattle.table_words.specs.Names.{word_count};
 ghost use Rattle.span_laws.specs.Views.{Seen, drives};
 ghost use Rattle.span_table.specs.Known.{known};
-ghost use Rattle.span_laws.specs.CacheAnswers.{IsEmptyCache};
-ghost use Rattle.span_table.specs.Seats.{without_number, sent_out, sent_out_for, with_number};
+ghost use Rattle.page_cache.specs.Cache.{only};
+ghost use Rattle.span_laws.specs.CacheAnswers.{IsSettled};
+ghost use Rattle.span_table.specs.Seats.{without_number, sent_out, with_number};
 
-use crate::plays::{HandOut, HandOutFor, Numbered, TakeIn};
+use crate::plays::{HandOut, Leaving, TakeIn};
 use crate::rule::OneState;
 use crate::view::{Item, SeatView, Size};
 use crate::words::count_words;
@@ -94,10 +95,11 @@ fn first_items(alloc: Global, heap: Pages, pages: u32) -> Result<Vec<Item>, NoMe
     Ok(items)
 }
 
-fn hand_out_as<J: Numbered>(
+fn hand_out_as<J: Leaving>(
     shared: &Shared,
     seat: &mut Seat<Item, SeatView>,
     _number: u32,
+    _cache: &Option<PageCache>,
 ) -> Seat<Item, SeatView>
     requires table { seat.old.table_id ≡ shared.now }
     requires out { seat.old.me.0.out ≡ true }
@@ -105,19 +107,21 @@ fn hand_out_as<J: Numbered>(
     requires number { J.number < length seat.old.me.0.view.parts }
     requires home { has J.number seat.old.me.0.away ≡ false }
     requires other { J.number ≢ seat.old.me.0.number }
+    requires cache { (J.cache ≡ None) ⊎ (J.cache ≡ Some (only J.number None)) }
     ensures tables { (seat.new.table_id ≡ seat.old.table_id) × (result.table_id ≡ seat.old.table_id) }
     ensures driver { seat.new.me ≡ (without_number J.number seat.old.me.0, seat.old.me.1) }
-    ensures worker { result.me ≡ (sent_out J.number seat.old.me.0, []) }
+    ensures worker { result.me ≡ (sent_out J.cache J.number seat.old.me.0, []) }
 {
     let table = &shared.table;
     table.shared.split_seat::<HandOut<J>>(seat)
 }
 
-// The seat of a number goes out.
+// The seat of a number goes out, with a page cache or without.
 fn hand_out_seat(
     shared: &Shared,
     seat: &mut Seat<Item, SeatView>,
     number: u32,
+    cache: &Option<PageCache>,
 ) -> Seat<Item, SeatView>
     requires table { seat.old.table_id ≡ shared.now }
     requires out { seat.old.me.0.out ≡ true }
@@ -125,49 +129,12 @@ fn hand_out_seat(
     requires number { number < length seat.old.me.0.view.parts }
     requires home { has number seat.old.me.0.away ≡ false }
     requires other { number ≢ seat.old.me.0.number }
+    requires cache { (cache.now ≡ None) ⊎ (cache.now ≡ Some (only number None)) }
     ensures tables { (seat.new.table_id ≡ seat.old.table_id) × (result.table_id ≡ seat.old.table_id) }
     ensures driver { seat.new.me ≡ (without_number number seat.old.me.0, seat.old.me.1) }
-    ensures worker { result.me ≡ (sent_out number seat.old.me.0, []) }
+    ensures worker { result.me ≡ (sent_out cache.now number seat.old.me.0, []) }
 {
-    hand_out_as::<Brand>(shared, seat, number)
-}
-
-fn hand_out_for_as<J: Numbered>(
-    shared: &Shared,
-    seat: &mut Seat<Item, SeatView>,
-    _number: u32,
-) -> Seat<Item, SeatView>
-    requires table { seat.old.table_id ≡ shared.now }
-    requires out { seat.old.me.0.out ≡ true }
-    requires drives { seat.old.me.0.drives ≡ true }
-    requires number { J.number < length seat.old.me.0.view.parts }
-    requires home { has J.number seat.old.me.0.away ≡ false }
-    requires other { J.number ≢ seat.old.me.0.number }
-    ensures tables { (seat.new.table_id ≡ seat.old.table_id) × (result.table_id ≡ seat.old.table_id) }
-    ensures driver { seat.new.me ≡ (without_number J.number seat.old.me.0, seat.old.me.1) }
-    ensures worker { result.me ≡ (sent_out_for J.number seat.old.me.0, []) }
-{
-    let table = &shared.table;
-    table.shared.split_seat::<HandOutFor<J>>(seat)
-}
-
-// The same with a page cache.
-fn hand_out_seat_for(
-    shared: &Shared,
-    seat: &mut Seat<Item, SeatView>,
-    number: u32,
-) -> Seat<Item, SeatView>
-    requires table { seat.old.table_id ≡ shared.now }
-    requires out { seat.old.me.0.out ≡ true }
-    requires drives { seat.old.me.0.drives ≡ true }
-    requires number { number < length seat.old.me.0.view.parts }
-    requires home { has number seat.old.me.0.away ≡ false }
-    requires other { number ≢ seat.old.me.0.number }
-    ensures tables { (seat.new.table_id ≡ seat.old.table_id) × (result.table_id ≡ seat.old.table_id) }
-    ensures driver { seat.new.me ≡ (without_number number seat.old.me.0, seat.old.me.1) }
-    ensures worker { result.me ≡ (sent_out_for number seat.old.me.0, []) }
-{
-    hand_out_for_as::<Brand>(shared, seat, number)
+    hand_out_as::<Brand>(shared, seat, number, cache)
 }
 
 impl Shared {
@@ -220,13 +187,14 @@ impl Shared {
         ensures driver { driver.new ≡ handing number driver.old }
         ensures worker { result ≡ handed_out number driver.old }
     {
-        let seat = hand_out_seat(self, &mut driver.seat, number);
+        let cache = None;
+        let seat = hand_out_seat(self, &mut driver.seat, number, &cache);
         Worker {
             number,
             generation: driver.generation,
             goal: driver.goal,
             spares: driver.spares,
-            cache: None,
+            cache,
             line: 0,
             seat,
         }
@@ -243,13 +211,14 @@ impl Shared {
         ensures driver { driver.new ≡ handing proc driver.old }
         ensures worker { result ≡ handed_out_for proc driver.old }
     {
-        let seat = hand_out_seat_for(self, &mut driver.seat, proc);
+        let cache = Some(PageCache::new(proc));
+        let seat = hand_out_seat(self, &mut driver.seat, proc, &cache);
         Worker {
             number: proc,
             generation: driver.generation,
             goal: driver.goal,
             spares: driver.spares,
-            cache: Some(PageCache::new(proc)),
+            cache,
             line: 0,
             seat,
         }
@@ -260,7 +229,7 @@ impl Shared {
         requires table { driver.old.table ≡ self.now }
         requires drives { drives driver.old ≡ true }
         requires out { worker.table ≡ self.now }
-        requires settled { (worker.caching ≡ false) ⊎ IsEmptyCache worker.view.own.cache }
+        requires settled { IsSettled worker }
         ensures { driver.new ≡ taking_in worker driver.old }
     {
         let Worker {

@@ -4,6 +4,8 @@
 #![tactic(auto)]
 
 #[cfg(test)]
+mod caches;
+#[cfg(test)]
 mod helpers;
 #[cfg(test)]
 mod next_cycle;

@@ -16,7 +16,9 @@ use Rattle.page_cache.specs.Cache.{Cache, pages_left}
 use Rattle.span_state.specs.declared.body.Body.{Body}
 use Rattle.worker_log.specs.declared.Entry.{Entry}
 use Rattle.worker_log.specs.declared.Entry.TheVariants.{Pulled as PulledEntry, NoPage as NoPageEntry, NoCut, Settled}
+use Rattle.worker_log.specs.Entries.{many}
 use Rattle.worker_log.specs.Logs.{sweepings}
+use Rattle.worker_log.proofs.Logs.{many-append}
 use Rattle.worker_log.specs.declared.Sweeping.{Sweeping}
 use Rattle.span_laws.specs.CacheAnswers.{CutsSpan, IsBlockOf, IsEmptyCache, PullsBlock, SettlesBlock, block_of, left_in}
 use Rattle.span_laws.specs.TakeAnswers.{cycle_at}
@@ -24,13 +26,15 @@ use Rattle.span_laws.specs.declared.answers.Pulled.TheVariants.{Got, NoPage}
 use Rattle.span_laws.specs.declared.said.Said.TheVariants.{FindsNoCut, FindsNoPage, Pulls, Settles}
 use Rattle.span_laws.specs.OwnSteps.{after_said, with_block}
 use Rattle.span_laws.specs.Views.{Seen}
-use Rattle.span_set.specs.Blocks.{HasNoBlock}
+use Rattle.span_set.specs.Blocks.{HasNoOwnBlock}
 use Rattle.span_set.specs.Fits.{no_page}
 use Rattle.span_set.proofs.Fits.{fits-none}
 use Rattle.sweeper.specs.MakeSteps.{CutsOrPulls, Readies}
 use Rattle.sweeper.specs.NewSpans.{FoundNoCut}
-use Rattle.sweeper.specs.Work.{Stays}
+use Rattle.sweeper.specs.Entries.{is_bare_cut, is_pulling}
+use Rattle.sweeper.specs.Work.{PullsBehind, Stays}
 use Rattle.sweeper.proofs.Counting.{makes-append, nothing-none, plain-makes, sweepings-append}
+use Rattle.sweeper.proofs.Pulling.{behind-both, behind-none}
 use Rattle.sweeper.proofs.Working.{does-both, does-nothing}
 
 pub readies-nothing : (a : Seen) → Readies [] a a
@@ -111,20 +115,20 @@ settled_block old new on line e = record {
   uncached = λ off. absurd (true≢false (sym on ∙ off));
 }
 
--- the own block is settled, if there is one
-pub settled : (old new : Seen) (out : Option Block) → SettlesBlock old new out → (old.caching ≡ false → new ≡ old) → (said : List Entry) × Readies said old new
+-- the own block is settled, if there is one, and none is pulled
+pub settled : (old new : Seen) (out : Option Block) → SettlesBlock old new out → (old.caching ≡ false → new ≡ old) → (said : List Entry) × Readies said old new × (many is_pulling said ≡ 0)
 settled old new out s bare = go old.caching refl out s
   where
-    same : new ≡ old → (said : List Entry) × Readies said old new
-    same e = ([], subst (Readies [] old) (sym e) (readies-nothing old))
+    same : new ≡ old → (said : List Entry) × Readies said old new × (many is_pulling said ≡ 0)
+    same e = ([], subst (Readies [] old) (sym e) (readies-nothing old), refl)
 
-    go : (b : Bool) → old.caching ≡ b → (o : Option Block) → SettlesBlock old new o → (said : List Entry) × Readies said old new
+    go : (b : Bool) → old.caching ≡ b → (o : Option Block) → SettlesBlock old new o → (said : List Entry) × Readies said old new × (many is_pulling said ≡ 0)
     go false off o z = same (bare off)
     go true on None z = same z
-    go true on (Some b) z = (Settled z.0 ∷ [], settled_block old new on z.0 z.1)
+    go true on (Some b) z = (Settled z.0 ∷ [], settled_block old new on z.0 z.1, refl)
 
 -- and then it has none
-pub none_after : (old new : Seen) → SettlesBlock old new (block_of old.view.own.cache) → HasNoBlock new
+pub none_after : (old new : Seen) → SettlesBlock old new (block_of old.view.own.cache) → HasNoOwnBlock new
 none_after old new s k at = ap block_of (sym at) ∙ go old.view.own.cache refl s
   where
     by_block : (j : Cache) (b : Option Block) → old.view.own.cache ≡ Some j → j.block ≡ b → SettlesBlock old new b → block_of new.view.own.cache ≡ None
@@ -148,6 +152,10 @@ has_cache (Some k) left e = (k, refl)
 -- a find with pages left
 pub left_some : (n left : ℕ) → 0 < left → FoundNoCut n (NoCut n left ∷ [])
 left_some n left l = rw (eq-eqb n n refl, ne_eqb left 0 (λ e. omega arith)) (omega arith)
+
+-- a find without
+left_none : (n left : ℕ) → left ≡ 0 → 0 < many (is_bare_cut n) (NoCut n left ∷ [])
+left_none n left e = rw (eq-eqb n n refl, eq-eqb left 0 e) (omega arith)
 
 -- ---- a block that was pulled has pages
 
@@ -176,10 +184,11 @@ module _ (n class : ℕ) (old w1 : Seen) (left : ℕ) (on : old.caching ≡ true
 
   -- its block has pages left
   pub some_left : 0 < left → CutsOrPulls n class old w1 (Ok None)
-  some_left l = (NoCut n (left_in old.view.own.cache) ∷ [], first, λ _. left_some n (left_in old.view.own.cache) (let e = no_pages old.view.own.cache left pages in omega arith))
+  some_left l = (NoCut n (left_in old.view.own.cache) ∷ [], first, λ _. left_some n (left_in old.view.own.cache) (let e = no_pages old.view.own.cache left pages in omega arith), (omega arith, tt))
 
-  module _ (w2 : Seen) (settles : SettlesBlock w1 w2 (block_of w1.view.own.cache)) (bare : w1.caching ≡ false → w2 ≡ w1) where
-    abbrev set : (said : List Entry) × Readies said w1 w2
+  -- it has none left, and is settled
+  module _ (none : left ≡ 0) (w2 : Seen) (settles : SettlesBlock w1 w2 (block_of w1.view.own.cache)) (bare : w1.caching ≡ false → w2 ≡ w1) where
+    abbrev set : (said : List Entry) × Readies said w1 w2 × (many is_pulling said ≡ 0)
     set = settled w1 w2 (block_of w1.view.own.cache) settles bare
 
     there : (j : Cache) × (w2.view.own.cache ≡ Some j)
@@ -194,14 +203,23 @@ module _ (n class : ℕ) (old w1 : Seen) (left : ℕ) (on : old.caching ≡ true
     second : Readies said2 old w2
     second = readies-both old w1 w2 (NoCut n (left_in old.view.own.cache) ∷ []) set.0 first set.1
 
+    unpulled : many is_pulling said2 ≡ 0
+    unpulled = let a = many-append is_pulling set.0 (NoCut n (left_in old.view.own.cache) ∷ []) in let z = set.2 in omega arith
+
+    bare_cut : 0 < many (is_bare_cut n) said2
+    bare_cut = let a = many-append (is_bare_cut n) set.0 (NoCut n (left_in old.view.own.cache) ∷ []) in let z = left_none n (left_in old.view.own.cache) (no_pages old.view.own.cache left pages ∙ none) in omega arith
+
+    behind2 : PullsBehind n said2
+    behind2 = behind-none n said2 unpulled
+
     on2 : w2.caching ≡ true
     on2 = second.does.stays.caching ∙ on
 
     pub pull_wants : (w3 : Seen) (e : NoMemory) → PullsBlock w2 w3 (Err e) → CutsOrPulls n class old w3 (Err e)
-    pull_wants w3 e p = (said2, subst (Readies said2 old) (sym p) second)
+    pull_wants w3 e p = (said2, subst (Readies said2 old) (sym p) second, behind2)
 
     pub pull_none : (w3 : Seen) → PullsBlock w2 w3 (Ok NoPage) → CutsOrPulls n class old w3 (Ok None)
-    pull_none w3 p = (NoPageEntry ∷ said2, readies-both old w2 w3 said2 (NoPageEntry ∷ []) second (found_no_page w2 w3 on2 p.0), λ _. omega arith)
+    pull_none w3 p = (NoPageEntry ∷ said2, readies-both old w2 w3 said2 (NoPageEntry ∷ []) second (found_no_page w2 w3 on2 p.0), (λ _. omega arith), (omega (arith, unpulled, bare_cut), behind2))
 
     module _ (w3 : Seen) (more : ℕ) (p : PullsBlock w2 w3 (Ok (Got more))) where
       abbrev pull : Entry
@@ -210,13 +228,17 @@ module _ (n class : ℕ) (old w1 : Seen) (left : ℕ) (on : old.caching ≡ true
       third : Readies (pull ∷ said2) old w3
       third = readies-both old w2 w3 said2 (pull ∷ []) second (pulled_block w2 w3 on2 p.1 (cycle_at w2.view.generation) w2.number p.2 p.5)
 
+      behind3 : PullsBehind n (pull ∷ said2)
+      behind3 = (omega (arith, unpulled, bare_cut), behind2)
+
       has_pages : 0 < left_in w3.view.own.cache
       has_pages = subst (λ (k : Option Cache). 0 < left_in k) (sym (ap (λ (w : Seen). w.view.own.cache) p.5 ∙ ap (option_map (with_block (Some p.2))) there.1)) (block_pages w2 p.0 p.1 p.2 p.4)
 
       pub pull_cuts : (w4 : Seen) (a : Option Body) → CutsSpan n class w3 w4 a → CutsOrPulls n class old w4 (Ok a)
-      pull_cuts w4 (Some b) d = (w3, pull ∷ said2, third, on, d)
+      pull_cuts w4 (Some b) d = (w3, pull ∷ said2, third, on, d, behind3)
       pull_cuts w4 None d = (
         NoCut n (left_in w3.view.own.cache) ∷ pull ∷ said2,
         readies-both old w3 w4 (pull ∷ said2) (NoCut n (left_in w3.view.own.cache) ∷ []) third (found_no_cut w3 w4 (third.does.stays.caching ∙ on) n (left_in w3.view.own.cache) d.1),
-        λ _. (let z = left_some n (left_in w3.view.own.cache) has_pages in omega arith),
+        (λ _. (let z = left_some n (left_in w3.view.own.cache) has_pages in omega arith)),
+        (omega (arith, unpulled, bare_cut), behind3),
       )

@@ -7,6 +7,7 @@ pub mod Sweeping
 pub mod Searching
 pub mod Paying
 pub mod Covering
+pub mod Pulling
 pub mod Cutting
 pub mod Making
 pub mod Bridging

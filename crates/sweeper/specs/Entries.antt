@@ -1,7 +1,7 @@
 -- Tests of the entries of a log, besides those of worker_log and span_laws.
 use Rattle.std.specs.Prelude.{ℕ, ◌==◌, ◌&&◌, not, Bool, true, false}
 use Rattle.worker_log.specs.declared.Entry.{Entry}
-use Rattle.worker_log.specs.declared.Entry.TheVariants.{Looked, LookedEmptyCell, Pushed, Swept, Gave, Read, Added, NoPage, Cut, NoCut}
+use Rattle.worker_log.specs.declared.Entry.TheVariants.{Looked, LookedEmptyCell, Pushed, Swept, Gave, Read, Added, Pulled, NoPage, Cut, NoCut}
 
 -- the pages that an entry gives back
 abbrev pub pages_given : Entry → ℕ
@@ -63,3 +63,14 @@ is_no_cut n _ = false
 abbrev pub is_no_page : Entry → Bool
 is_no_page NoPage = true
 is_no_page _ = false
+
+-- the entry pulls a block, or found no page to pull
+abbrev pub is_pulling : Entry → Bool
+is_pulling (Pulled number line) = true
+is_pulling NoPage = true
+is_pulling _ = false
+
+-- the entry found no page left in the worker's block for a cut of n pages
+abbrev pub is_bare_cut : ℕ → Entry → Bool
+is_bare_cut n (NoCut pages left) = (pages == n) && (left == 0)
+is_bare_cut n _ = false

@@ -1,5 +1,5 @@
 -- What the calls of this crate leave of a hand, and what the log of such a call has.
-use Rattle.std.specs.Prelude.{◌≡◌, ℕ, ◌<◌, true, false, List, [], ◌++◌, map, reverse}
+use Rattle.std.specs.Prelude.{◌≡◌, ℕ, ◌<◌, ◌≤◌, true, false, List, [], ◌∷◌, ◌++◌, map, reverse}
 use Rattle.span_state.specs.declared.sweep.SweepNote.{SweepNote}
 use Rattle.sweep_laws.specs.Reading.{is_swept_set}
 use Rattle.worker_log.specs.declared.Entry.{Entry}
@@ -15,7 +15,7 @@ use Rattle.span_set.specs.Blocks.{is_of_block}
 use Rattle.span_set.specs.Fits.{FitsSets, no_page}
 use Rattle.span_laws.specs.Calls.{is_missing, is_placing, number_added, pages_swept}
 use Rattle.sweep_laws.specs.Counts.{total}
-use Rattle.sweeper.specs.Entries.{is_added, is_emptying_of, is_giving_of, is_keeping_of, is_look_of, is_push_at, is_read}
+use Rattle.sweeper.specs.Entries.{is_added, is_bare_cut, is_emptying_of, is_giving_of, is_keeping_of, is_look_of, is_pulling, is_push_at, is_read}
 
 -- the note of a sweep in a cycle
 abbrev pub note_by : ℕ → Sweeping → SweepNote
@@ -93,6 +93,12 @@ pub record MakesNone (said : List Entry) : Type 0 where
 -- nothing is done to the block of the worker's page cache
 abbrev pub KeepsBlock : List Entry → Type 0
 KeepsBlock said = many is_of_block said ≡ 0
+
+-- each pull, also one that finds no page, comes behind a cut of n pages that found no page left in the worker's block: at no moment were there more
+-- pulls than such cuts
+abbrev pub PullsBehind : ℕ → List Entry → Type 0
+PullsBehind n [] = Unit {0}
+PullsBehind n (x ∷ said) = (many is_pulling (x ∷ said) ≤ many (is_bare_cut n) (x ∷ said)) × PullsBehind n said
 
 -- neither is so
 pub record IsPlain (said : List Entry) : Type 0 where

@@ -17,6 +17,7 @@ use Rattle.span_state.specs.declared.sweep.SweepNote.{SweepNote}
 use Rattle.span_laws.specs.declared.answers.Refused.{Refused}
 use Rattle.span_laws.specs.declared.answers.Refused.TheVariants.{NoRun, NoMemory as WantsMemory}
 use Rattle.span_laws.specs.declared.said.Said.TheVariants.{Adds}
+use Rattle.span_laws.specs.Asks.{IsAtWork, IsIdle}
 use Rattle.span_laws.specs.Logs.{is_placing_at}
 use Rattle.span_laws.specs.Views.{Seen, acts}
 use Rattle.span_laws.specs.OwnSteps.{after_said}
@@ -160,15 +161,19 @@ module _ (table : TableId) (m : MarkSet) (w w' : Seen) (page : ℕ) (s : IsStage
         | inr off ↦ new p k (rw off at h)
       ]
 
--- a hand is made for the driver
-pub ready_start : (table : TableId) (ring : RingId) (m : MarkSet) (h : Hand) (w : Seen) → IsIdleDriver table w → w.view.marks ≡ m.pairs → ((page : ℕ) → dead_of m page ≡ []) → h.worker ≡ w → h.tally ≡ record { ring = ring; view = first_view } → ring.buckets ≡ 2 → IsReady table ring m h
-ready_start table ring m h w free marks dead worker tally two = record {
-  works = (ap (λ (x : Seen). x.table) worker ∙ free.works.0, ap (λ (x : Seen). x.away) worker ∙ free.works.1);
-  unclaimed = ap (λ (x : Seen). x.view.own.claimed) worker ∙ (own_of table w free).claimed;
-  unpopped = ap (λ (x : Seen). x.view.own.popped) worker ∙ (own_of table w free).popped;
+-- a hand is made for a worker that has nothing
+pub ready_hand : (table : TableId) (ring : RingId) (m : MarkSet) (h : Hand) (w : Seen) → IsAtWork table w → IsIdle w.view.own → w.view.marks ≡ m.pairs → ((page : ℕ) → dead_of m page ≡ []) → h.worker ≡ w → h.tally ≡ record { ring = ring; view = first_view } → ring.buckets ≡ 2 → IsReady table ring m h
+ready_hand table ring m h w works idle marks dead worker tally two = record {
+  works = (ap (λ (x : Seen). x.table) worker ∙ works.0, ap (λ (x : Seen). x.away) worker ∙ works.1);
+  unclaimed = ap (λ (x : Seen). x.view.own.claimed) worker ∙ idle.claimed;
+  unpopped = ap (λ (x : Seen). x.view.own.popped) worker ∙ idle.popped;
   marked = sym marks ∙ ap (λ (x : Seen). x.view.marks) (sym worker);
   counts = record { ring = ap (λ (t : Standing). t.ring) tally; dead = λ q k d l. absurd (let e = ap (λ (xs : List ℕ). length xs) (dead q) in omega arith) };
   drives = ap (λ (t : Standing). t.view.drives) tally;
   alone = ap (λ (t : Standing). t.view.out) tally;
   two = two;
 }
+
+-- a hand is made for the driver
+pub ready_start : (table : TableId) (ring : RingId) (m : MarkSet) (h : Hand) (w : Seen) → IsIdleDriver table w → w.view.marks ≡ m.pairs → ((page : ℕ) → dead_of m page ≡ []) → h.worker ≡ w → h.tally ≡ record { ring = ring; view = first_view } → ring.buckets ≡ 2 → IsReady table ring m h
+ready_start table ring m h w free marks dead worker tally two = ready_hand table ring m h w free.works (own_of table w free) marks dead worker tally two

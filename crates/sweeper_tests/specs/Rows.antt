@@ -9,7 +9,7 @@ use Rattle.span_table_tests.specs.Rows.{ArePlaced, IsFreeDriver}
 use Rattle.span_set.specs.Tallies.{MayCount}
 use Rattle.span_set.specs.declared.hand.Hand.{Hand}
 
--- The driver's worker is one of this table, has nobody out, and has claimed and popped nothing, the marks are those of the last mark end, and its tally,
+-- The hand's worker is one of this table, has nobody out, and has claimed and popped nothing, the marks are those of the last mark end, and its tally,
 -- which is the driver's of a ring of two buckets, may count their dead.
 pub record IsReady (table : TableId) (ring : RingId) (m : MarkSet) (h : Hand) : Type 0 where
   pub works : IsAtWork table h.worker

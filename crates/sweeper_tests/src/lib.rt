@@ -4,6 +4,8 @@
 //! `Scene` has what a hand works on, in such a state that each call may be made.
 #![tactic(auto)]
 
+#[cfg(test)]
+mod cached;
 mod meet;
 mod scene;
 #[cfg(test)]

@@ -6,7 +6,7 @@ ghost use Rattle.sweeper_tests.specs.Rows.{IsReady, IsStage};
 use crate::meet::{Met, meet_entry, meet_page};
 use fallible_list::NoMemory;
 use profile_cycle::{Count, Ring};
-use size_classes::MAX_CHUNKS;
+use size_classes::{MAX_CHUNKS, span_pages};
 use span_set::{Hand, Shop};
 use span_state::Marks;
 use span_table::{Shared, Step, Worker};
@@ -18,7 +18,7 @@ use sweeper::{One, Paid, Refused, finish, new_span, pay, reclaim, sweep_one};
 // The goal for backed pages.
 const GOAL: u32 = 8;
 
-/// What the driver's hand works on between its calls, with a ring of two buckets.
+/// What a hand works on between its calls, with a ring of two buckets. The hand is the driver's, or that of a worker with a page cache.
 #[derive(Drop)]
 pub struct Scene {
     shared: Shared,
@@ -100,6 +100,21 @@ impl Scene {
     pub fn first(alloc: Global) -> Result<Scene, NoMemory> {
         let (ring, tally) = Ring::new(alloc, 2)?;
         let (shared, w) = start(alloc, 1, GOAL)?;
+        let marks = Marks::empty(alloc);
+        let hand = Hand::new(alloc, w, tally);
+        Ok(Scene {
+            shared,
+            marks,
+            ring,
+            hand,
+        })
+    }
+
+    /// The same for the worker of processor 0, who has a page cache.
+    pub fn cached(alloc: Global) -> Result<Scene, NoMemory> {
+        let (ring, tally) = Ring::new(alloc, 2)?;
+        let (shared, mut driver) = Shared::new(alloc, 1, GOAL, 1)?;
+        let w = shared.hand_out_for(&mut driver, 0);
         let marks = Marks::empty(alloc);
         let hand = Hand::new(alloc, w, tally);
         Ok(Scene {
@@ -245,6 +260,33 @@ impl Scene {
             Ok(body) => Ok(body.page),
             Err(refused) => Err(refused),
         }
+    }
+
+    /// The page of a new span of a size class from 1 to 67.
+    pub fn make_small<R: Wait>(&mut self, rt: &R, class: u8) -> Result<u32, Refused> {
+        let Scene {
+            shared,
+            marks,
+            ring,
+            hand,
+        } = self;
+        let shop = Shop {
+            shared,
+            marks,
+            ring,
+            distance: 8192,
+            pages: 0,
+        };
+        let class = class.max(1).min(67);
+        match new_span(rt, &shop, hand, span_pages(class), class * 2) {
+            Ok(body) => Ok(body.page),
+            Err(refused) => Err(refused),
+        }
+    }
+
+    /// How many pages the block of the worker's page cache has left: None for the driver, who has no page cache.
+    pub fn pages_left(&self) -> Option<u32> {
+        self.hand.worker.cached_pages()
     }
 
     /// Sweeps the span of a page of the region, where it waits, by its word. NoMemory for other pages.

@@ -1,9 +1,7 @@
 -- Tiny objects of a sound report lie in their leads' blocks, apart from one another.
-use Rattle.std.proofs.Common.{◌≡◌, ◌≢◌, ℕ, zero, suc, ◌+◌, ◌<◌, ◌≤◌, Bool, true, false, ◌&&◌, ◌||◌, eqb, ltb, not, cond, lit≤, slice_index, List, map, reverse, Option, Some, None, refl, sym, ◌∙◌, ap, subst, arith, ◌⊎◌, inl, inr}
+use Rattle.std.proofs.Common.{◌≡◌, ◌≢◌, ℕ, zero, suc, ◌+◌, ◌<◌, ◌≤◌, Bool, true, false, ◌&&◌, ◌||◌, eqb, ltb, not, cond, lit≤, slice_index, List, Option, Some, None, refl, sym, ◌∙◌, ap, subst, arith, ◌⊎◌, inl, inr}
 use Rattle.std.specs.List.{slice_get}
 use Rattle.std.proofs.lemmas.Bool.{and_from, and_parts, ltb-true, eq-eqb, cases_order}
-use Rattle.std.proofs.lemmas.Option.{same_Some}
-use Rattle.std.proofs.lemmas.List.{reverse-reverse}
 use Rattle.size_classes.specs.Table.{slot_sizes}
 use Rattle.size_classes.specs.Classes.{IsLeastClass, slot_of}
 use Rattle.page_alloc.specs.Lists.{In}
@@ -12,9 +10,9 @@ use Rattle.cycle_history.specs.declared.Answer.{Answer}
 use Rattle.cycle_history.specs.declared.Answer.TheVariants.{Placed}
 use Rattle.cycle_history.specs.declared.Report.{Report}
 use Rattle.cycle_history.specs.Needs.{Need, IsNeed}
-use Rattle.cycle_history.specs.Requests.{Request, requests_from, requests_of, marked_by}
+use Rattle.cycle_history.specs.Requests.{Request, requests_from, marked_by}
 use Rattle.cycle_history.specs.Objects.{Object, is_placed, live}
-use Rattle.cycle_history.proofs.OfObjects.{number-get, get-number, object-of, request-of}
+use Rattle.cycle_history.specs.Rules.{IsObject}
 use Rattle.tiny_alloc.specs.declared.base.Based.{Based}
 use Rattle.tiny_alloc.specs.declared.block.Seat.{Seat}
 use Rattle.tiny_alloc.specs.declared.part.Part.{Part}
@@ -24,7 +22,7 @@ use Rattle.tiny_alloc.specs.Riders.{Tried, tried, object_at, block_before, part_
 use Rattle.tiny_alloc.specs.Base.{based_answer}
 use Rattle.tiny_alloc.specs.Sound.{AreRiding, IsSoundTiny, Occupies, lead_of, LiesIn}
 use Rattle.tiny_alloc.proofs.Leaders.{Stands, rider-block, rider-leader, one-block}
-use Rattle.tiny_alloc.proofs.OfBase.{answer-at, request-at, based_request, marks-at}
+use Rattle.tiny_alloc.proofs.OfBase.{based_request, marks-at, object-at}
 
 -- ---- an object of the trace by its request and its answer
 
@@ -161,36 +159,17 @@ need-16 scan need fits =
     let small = fits.small (let e : 16 ≤ 32768 = omega arith in e) in
     small.2.slot ∙ slot-16 small.0 small.1
 
-some-same : (a b : Request) → Some a ≡ Some b → a ≡ b
-some-same a b h = same_Some a b h
-
 -- the object of a lead in the base, which lives where the lead or its rider does
 in-base : (t : Trace) (report : Report) (based : Based) (objects : List Object) → IsSoundTiny t report based objects → (c i address size : ℕ)
     → (has : Occupies t report.answers c i address size) → (home : HasLead t report.answers i address size has.request.cycle)
     → (o : Object) × In o objects × (o.id ≡ home.lead) × (o.answer ≡ Placed home.start) × (o.need.slot ≡ 16) × (live (marked_by based.trace) c o ≡ true)
 in-base t report based objects sound c i address size has home =
-    let part = part_at t report.answers in
-    let base = sound.base in
-    let of = sound.sound.answers in
-    let answered : slice_get based.answers home.lead ≡ Some (Placed home.start) =
-    ap (λ (xs : List Answer). slice_get xs home.lead) base.printed ∙ answer-at part 0 report.answers home.lead home.lead (Placed home.start) (omega arith) home.answered
-    ∙ ap (λ (x : Part). Some (based_answer x (Placed home.start))) home.part in
-    let printed : reverse (map (λ (x : Object). x.answer) objects) ≡ based.answers = ap (λ (xs : List Answer). reverse xs) of.printed ∙ reverse-reverse based.answers in
-    let number = get-number home.lead (Placed home.start) (map (λ (x : Object). x.answer) objects) (ap (λ (xs : List Answer). slice_get xs home.lead) printed ∙ answered) in
-    let found = object-of (requests_of based.trace) objects home.lead (Placed home.start) of.asked number in
-    let request = request-of (requests_of based.trace) objects found.0 of.asked found.1 in
-    let seen : slice_get (requests_from 0 based.trace.cycles) found.0.id ≡ Some request.request =
-    sym (ap (λ (rs : List Request). slice_get rs found.0.id) (reverse-reverse (requests_from 0 based.trace.cycles))) ∙ number-get found.0.id request.request (requests_of based.trace) request.asked in
-    let should : slice_get (requests_from 0 based.trace.cycles) home.lead ≡ Some (based_request Lead home.request) =
-    request-at part 0 0 t.cycles based.trace.cycles base.cycles home.lead home.lead home.request (omega arith) home.asked
-    ∙ ap (λ (x : Part). Some (based_request x home.request)) home.part in
-    let same : request.request ≡ based_request Lead home.request = some-same _ _ (sym seen ∙ ap (λ (k : ℕ). slice_get (requests_from 0 based.trace.cycles) k) found.2 ∙ should) in
-    let answers = request.answers in
-    let size-16 : request.request.event.size ≡ 16 = ap (λ (r : Request). r.event.size) same in
-    let some : 1 ≤ request.request.event.size = omega arith in
-    let need : IsNeed 16 request.request.event.scan found.0.need = subst (λ (s : ℕ). IsNeed s request.request.event.scan found.0.need) size-16 (answers.need some) in
-    let cycle : found.0.cycle ≡ has.request.cycle = answers.cycle ∙ ap (λ (r : Request). r.cycle) same ∙ home.own in
-    (found.0, found.1, found.2, found.3, need-16 request.request.event.scan found.0.need need, lives found.0 found.2 found.3 cycle)
+    let found = object-at (part_at t report.answers) t report based objects sound.base sound.sound.answers home.lead home.request (Placed home.start) home.asked home.answered in
+    let o = found.0 in
+    let answer : o.answer ≡ Placed home.start = found.3 ∙ ap (λ (x : Part). based_answer x (Placed home.start)) home.part in
+    let is : IsObject (based_request Lead home.request) o.id o = subst (λ (x : Part). IsObject (based_request x home.request) o.id o) home.part found.4 in
+    let need : IsNeed 16 home.request.event.scan o.need = is.need (let some : 1 ≤ 16 = omega arith in some) in
+    (o, found.1, found.2, answer, need-16 home.request.event.scan o.need need, lives o found.2 answer (is.cycle ∙ home.own))
   where
     or-left : (x y : Bool) → x ≡ true → (x || y) ≡ true
     or-left x y e = rw e refl

@@ -9,3 +9,11 @@ pub mod Parted
 pub mod Listed
 pub mod Limited
 pub mod Leading
+pub mod Rides
+pub mod Alone
+pub mod Grown
+pub mod Underway
+pub mod Sizes
+pub mod Needs
+pub mod Made
+pub mod Whole

@@ -51,11 +51,11 @@ event-fits procs Other e h = h
 event-fits procs Lead e h = record { proc = h.proc; size = omega arith; stack = h.stack }
 event-fits procs (Ride lead offset) e h = record { proc = h.proc; size = omega arith; stack = h.stack }
 
-all-split : (P : Event → Type 0) (xs ys : List Event) → AllByRecursion P (xs ++ ys) → AllByRecursion P xs × AllByRecursion P ys
+pub all-split : (P : Event → Type 0) (xs ys : List Event) → AllByRecursion P (xs ++ ys) → AllByRecursion P xs × AllByRecursion P ys
 all-split P [] ys h = (tt, h)
 all-split P (x ∷ xs) ys h = let rest = all-split P xs ys h.1 in ((h.0, rest.0), rest.1)
 
-all-append : (P : Event → Type 0) (xs ys : List Event) → AllByRecursion P xs → AllByRecursion P ys → AllByRecursion P (xs ++ ys)
+pub all-append : (P : Event → Type 0) (xs ys : List Event) → AllByRecursion P xs → AllByRecursion P ys → AllByRecursion P (xs ++ ys)
 all-append P [] ys a b = b
 all-append P (x ∷ xs) ys a b = (a.0, all-append P xs ys a.1 b)
 
@@ -63,7 +63,7 @@ based-fit : (procs : ℕ) (part : ℕ → Part) (n : ℕ) (es : List Event) → 
 based-fit procs part n [] h = tt
 based-fit procs part n (e ∷ es) h = (event-fits procs (part n) e h.0, based-fit procs part (n + 1) es h.1)
 
-abbrev all_events : List Cycle → List Event
+abbrev pub all_events : List Cycle → List Event
 all_events cs = flat_map (λ (c : Cycle). c.events) cs
 
 events-fit : (procs : ℕ) (part : ℕ → Part) (n : ℕ) (cs ds : List Cycle) → AreBased part n cs ds → AllByRecursion (EventFits procs) (all_events cs) → AllByRecursion (EventFits procs) (all_events ds)
@@ -88,7 +88,7 @@ events-many part n (c ∷ cs) (d ∷ ds) are =
     let b = length-append d.events (all_events ds) in
     omega arith
 
-cycles-many : (part : ℕ → Part) (n : ℕ) (cs ds : List Cycle) → AreBased part n cs ds → length ds ≡ length cs
+pub cycles-many : (part : ℕ → Part) (n : ℕ) (cs ds : List Cycle) → AreBased part n cs ds → length ds ≡ length cs
 cycles-many part n [] [] are = refl
 cycles-many part n [] (d ∷ ds) are = absurd are
 cycles-many part n (c ∷ cs) [] are = absurd are
@@ -97,7 +97,7 @@ cycles-many part n (c ∷ cs) (d ∷ ds) are = ap suc (cycles-many part (n + len
 -- ---- mark ends
 
 -- a lead and its rider stand on the same side of each mark end
-abbrev Near : (ℕ → Part) → ℕ → List Cycle → Type 0
+abbrev pub Near : (ℕ → Part) → ℕ → List Cycle → Type 0
 Near part first cs = (r lead offset k : ℕ) → part r ≡ Ride lead offset → (lead < r) × (first + before cs k ≤ r → first + before cs k ≤ lead)
 
 near-next : (part : ℕ → Part) (first : ℕ) (c : Cycle) (cs : List Cycle) → Near part first (c ∷ cs) → Near part (first + length c.events) cs
@@ -117,7 +117,7 @@ kept-carries part marks based are i = (
   (λ r offset is on. marked-within based i ((are.each i).1 (inr (r, offset, is, within-marked marks r on)))),
 )
 
-abbrev Ends : ℕ → (ℕ → Type 0) → Cycle → List Cycle → MarkEnd → Type 0
+abbrev pub Ends : ℕ → (ℕ → Type 0) → Cycle → List Cycle → MarkEnd → Type 0
 Ends first live c cs m = (1 ≤ m.distance) × (m.distance ≤ 2 ^ 40) × AreSpans 0 m.marks
     × ((i : ℕ) → IsMarked m.marks i → live i ⊎ ((first ≤ i) × (i < first + length c.events)))
     × AreCycles (first + length c.events) (IsMarked m.marks) cs
@@ -174,7 +174,7 @@ cycles-in part first live based (c ∷ x ∷ cs) (d ∷ y ∷ ds) are near carri
 
 -- ---- all limits
 
-rider-near : (t : Trace) (answers : List Answer) → Near (part_at t answers) 0 t.cycles
+pub rider-near : (t : Trace) (answers : List Answer) → Near (part_at t answers) 0 t.cycles
 rider-near t answers r lead offset k is =
     let known = rider-leader (object_at t answers) r lead offset is in
     let own = rider (object_at t answers) r lead offset is in
@@ -182,18 +182,33 @@ rider-near t answers r lead offset k is =
     let b = asked-is t answers lead known.1.tiny in
     (known.0, λ le. (let got = same-side t k r lead a.request b.request a.asked b.asked (sym a.cycle ∙ sym known.1.cycle ∙ b.cycle) (omega arith) in omega arith))
 
-pub base-limited : (t : Trace) (answers : List Answer) (based : Based) → IsLimited (as_version_2 t) → IsBase t answers based → IsLimited based.trace
-base-limited t answers based limited base =
-    let part = part_at t answers in
-    let procs : based.trace.header.procs ≡ t.header.procs = ap (λ (h : Header). h.procs) base.header in
-    let many = events-many part 0 t.cycles based.trace.cycles base.cycles in
-    let cycles = cycles-many part 0 t.cycles based.trace.cycles base.cycles in
+-- a trace of based cycles is within the limits, whatever the parts are, where each rider is near its lead
+pub based-limited : (part : ℕ → Part) (t u : Trace) → IsLimited (as_version_2 t) → u.header ≡ (as_version_2 t).header → AreBased part 0 t.cycles u.cycles → Near part 0 t.cycles → IsLimited u
+based-limited part t u limited header are near =
+    let procs : u.header.procs ≡ t.header.procs = ap (λ (h : Header). h.procs) header in
+    let many = events-many part 0 t.cycles u.cycles are in
+    let cycles = cycles-many part 0 t.cycles u.cycles are in
     let objects = limited.objects in
     let ends = limited.mark_ends in
     record {
-      header = subst HeaderFits (sym base.header) limited.header;
-      events = subst (λ (p : ℕ). AllByRecursion (EventFits p) (events_of based.trace)) (sym procs) (events-fit t.header.procs part 0 t.cycles based.trace.cycles base.cycles limited.events);
-      cycles = cycles-in part 0 (λ _. ⊥) (λ _. ⊥) t.cycles based.trace.cycles base.cycles (rider-near t answers) (λ i. ((λ none. none), (λ r offset is none. none))) limited.cycles;
+      header = subst HeaderFits (sym header) limited.header;
+      events = subst (λ (p : ℕ). AllByRecursion (EventFits p) (events_of u)) (sym procs) (events-fit t.header.procs part 0 t.cycles u.cycles are limited.events);
+      cycles = cycles-in part 0 (λ _. ⊥) (λ _. ⊥) t.cycles u.cycles are near (λ i. ((λ none. none), (λ r offset is none. none))) limited.cycles;
       objects = omega arith;
       mark_ends = omega arith;
+    }
+
+pub base-limited : (t : Trace) (answers : List Answer) (based : Based) → IsLimited (as_version_2 t) → IsBase t answers based → IsLimited based.trace
+base-limited t answers based limited base = based-limited (part_at t answers) t based.trace limited base.header base.cycles (rider-near t answers)
+
+-- a trace within the limits of traces is so as one of version 2, too
+pub as-limited : (t : Trace) → IsLimited t → IsLimited (as_version_2 t)
+as-limited t limited =
+    let h = limited.header in
+    record {
+      header = record { version = (omega arith, omega arith); chunks = h.chunks; procs = h.procs; rate = h.rate; seed = h.seed; goal = h.goal };
+      events = limited.events;
+      cycles = limited.cycles;
+      objects = limited.objects;
+      mark_ends = limited.mark_ends;
     }

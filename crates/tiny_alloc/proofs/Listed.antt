@@ -1,7 +1,7 @@
 -- The lists of a base, one item more at a time.
 use Rattle.std.proofs.Common.{◌≡◌, ℕ, zero, suc, ◌+◌, ◌<◌, ◌≤◌, List, [], ◌∷◌, ◌++◌, length, take, get_or, Option, Some, None, MatchOption, refl, sym, ◌∙◌, ap, subst, arith, ◌⊎◌, inl, inr, length-append}
 use Rattle.std.specs.List.{AllByRecursion, flat_map}
-use Rattle.std.proofs.lemmas.List.{append-nil, get_or_default, length-take-le, take_more}
+use Rattle.std.proofs.lemmas.List.{append_assoc, append-nil, get_or_default, length-take-le, take_more}
 use Rattle.trace_reader.specs.declared.span.Span.{Span}
 use Rattle.trace_reader.specs.declared.trace.Trace.{Trace}
 use Rattle.trace_reader.specs.declared.trace.Cycle.{Cycle}
@@ -77,6 +77,15 @@ answers-next parts n k number answers based new d x p lt inside old at item more
     more ∙ ap (λ (xs : List Answer). xs ++ x ∷ []) old ∙ ap (λ (y : Answer). based_answers part n (take k answers) ++ y ∷ []) own
     ∙ sym (answers-more part n (take k answers) (get_or answers k d)) ∙ ap (λ (ys : List Answer). based_answers part n ys) (sym (take_more answers k d lt))
 
+-- one more, behind others
+pub answers-onto : (parts : List Part) (n k number : ℕ) (answers old based new : List Answer) (d x : Answer) (p : Part) → k < length answers → number < length parts
+    → based ≡ old ++ based_answers (part_by parts) n (take k answers) → number ≡ n + k → x ≡ based_answer (get_or parts number p) (get_or answers k d) → new ≡ based ++ x ∷ []
+    → new ≡ old ++ based_answers (part_by parts) n (take (k + 1) answers)
+answers-onto parts n k number answers old based new d x p lt inside before at item more =
+    let own = based_answers (part_by parts) n (take k answers) in
+    more ∙ ap (λ (xs : List Answer). xs ++ x ∷ []) before ∙ append_assoc old own (x ∷ [])
+    ∙ ap (λ (xs : List Answer). old ++ xs) (answers-next parts n k number answers own (own ++ x ∷ []) d x p lt inside refl at item refl)
+
 -- ---- riders
 
 pub riders-more : (part : ℕ → Part) (n lead offset : ℕ) (riders new : List Rider) → riders ≡ riders_below part n → part n ≡ Ride lead offset
@@ -146,7 +155,7 @@ events-by : (f g : ℕ → Part) (n : ℕ) (es : List Event) → Agree f g → b
 events-by f g n [] same = refl
 events-by f g n (e ∷ es) same = ap (λ (x : Part). based_event x e ∷ based_events f (n + 1) es) (same n) ∙ ap (λ (xs : List Event). based_event (g n) e ∷ xs) (events-by f g (n + 1) es same)
 
-answers-by : (f g : ℕ → Part) (n : ℕ) (answers : List Answer) → Agree f g → based_answers f n answers ≡ based_answers g n answers
+pub answers-by : (f g : ℕ → Part) (n : ℕ) (answers : List Answer) → Agree f g → based_answers f n answers ≡ based_answers g n answers
 answers-by f g n [] same = refl
 answers-by f g n (a ∷ answers) same =
     ap (λ (x : Part). based_answer x a ∷ based_answers f (n + 1) answers) (same n) ∙ ap (λ (xs : List Answer). based_answer (g n) a ∷ xs) (answers-by f g (n + 1) answers same)
@@ -170,7 +179,7 @@ end-by f g (Some a) (Some b) same h = (
   },
 )
 
-cycles-by : (f g : ℕ → Part) (n : ℕ) (cs ds : List Cycle) → Agree f g → AreBased f n cs ds → AreBased g n cs ds
+pub cycles-by : (f g : ℕ → Part) (n : ℕ) (cs ds : List Cycle) → Agree f g → AreBased f n cs ds → AreBased g n cs ds
 cycles-by f g n [] [] same h = tt
 cycles-by f g n [] (d ∷ ds) same h = absurd h
 cycles-by f g n (c ∷ cs) [] same h = absurd h

@@ -1,14 +1,25 @@
 -- What the base of a trace has at each object.
-use Rattle.std.proofs.Common.{◌≡◌, ℕ, zero, suc, ◌+◌, true, List, [], ◌∷◌, ◌++◌, map, length, Option, Some, None, ◌∙◌, ap, arith, inl, inr, ◌↔◌}
+use Rattle.std.proofs.Common.{◌≡◌, ℕ, zero, suc, ◌+◌, true, List, [], ◌∷◌, ◌++◌, map, reverse, length, Option, Some, None, sym, ◌∙◌, ap, subst, arith, inl, inr, ◌↔◌}
 use Rattle.std.specs.List.{slice_get}
+use Rattle.std.proofs.lemmas.List.{reverse-reverse}
+use Rattle.std.proofs.lemmas.Option.{same_Some}
+use Rattle.page_alloc.specs.Lists.{In}
+use Rattle.trace_reader.specs.declared.trace.Trace.{Trace}
 use Rattle.trace_reader.specs.declared.trace.Cycle.{Cycle}
 use Rattle.trace_reader.specs.declared.trace.Event.{Event}
 use Rattle.trace_reader.specs.declared.trace.MarkEnd.{MarkEnd}
 use Rattle.cycle_history.specs.declared.Answer.{Answer}
-use Rattle.cycle_history.specs.Requests.{Request, requests_from, is_within, spans_of, spans_after}
+use Rattle.cycle_history.specs.declared.Report.{Report}
+use Rattle.cycle_history.specs.Requests.{Request, requests_from, requests_of, is_within, spans_of, spans_after}
+use Rattle.cycle_history.specs.Objects.{Object}
+use Rattle.cycle_history.specs.Rules.{IsObject}
+use Rattle.cycle_history.specs.Sound.{HasAnswers}
+use Rattle.cycle_history.proofs.OfObjects.{number-get, get-number, object-of, request-of}
 use Rattle.cycle_history.proofs.Plain.{request_in}
+use Rattle.tiny_alloc.specs.declared.base.Based.{Based}
 use Rattle.tiny_alloc.specs.declared.part.Part.{Part}
-use Rattle.tiny_alloc.specs.Base.{based_event, based_events, based_answer, based_answers, IsKept, IsBasedEnd, AreBased}
+use Rattle.tiny_alloc.specs.Base.{based_event, based_events, based_answer, based_answers, IsKept, IsBasedEnd, AreBased, IsBaseBy}
+use Rattle.tiny_alloc.specs.Sound.{based_report}
 
 -- ---- answers
 
@@ -65,3 +76,23 @@ marks-at part n [] (d ∷ ds) are c i = absurd are
 marks-at part n (x ∷ cs) [] are c i = absurd are
 marks-at part n (x ∷ cs) (d ∷ ds) are zero i = end-at part x.mark d.mark are.1 i
 marks-at part n (x ∷ cs) (d ∷ ds) are (suc c) i = marks-at part (n + length x.events) cs ds are.2 c i
+
+-- ---- objects
+
+-- the object of a request and its answer
+pub object-at : (part : ℕ → Part) (t : Trace) (report : Report) (based : Based) (objects : List Object) → IsBaseBy part t report.answers based
+    → HasAnswers based.trace (based_report report based) objects → (i : ℕ) (r : Request) (a : Answer) → slice_get (requests_from 0 t.cycles) i ≡ Some r → slice_get report.answers i ≡ Some a
+    → (o : Object) × In o objects × (o.id ≡ i) × (o.answer ≡ based_answer (part i) a) × IsObject (based_request (part i) r) o.id o
+object-at part t report based objects base of i r a asked answered =
+    let own = based_answer (part i) a in
+    let requests = requests_from 0 based.trace.cycles in
+    let at : slice_get based.answers i ≡ Some own = ap (λ (xs : List Answer). slice_get xs i) base.printed ∙ answer-at part 0 report.answers i i a (omega arith) answered in
+    let printed : reverse (map (λ (x : Object). x.answer) objects) ≡ based.answers = ap (λ (xs : List Answer). reverse xs) of.printed ∙ reverse-reverse based.answers in
+    let number = get-number i own (map (λ (x : Object). x.answer) objects) (ap (λ (xs : List Answer). slice_get xs i) printed ∙ at) in
+    let found = object-of (requests_of based.trace) objects i own of.asked number in
+    let request = request-of (requests_of based.trace) objects found.0 of.asked found.1 in
+    let seen : slice_get requests found.0.id ≡ Some request.request =
+    sym (ap (λ (rs : List Request). slice_get rs found.0.id) (reverse-reverse requests)) ∙ number-get found.0.id request.request (requests_of based.trace) request.asked in
+    let should : slice_get requests i ≡ Some (based_request (part i) r) = request-at part 0 0 t.cycles based.trace.cycles base.cycles i i r (omega arith) asked in
+    let same : request.request ≡ based_request (part i) r = same_Some _ _ (sym seen ∙ ap (λ (k : ℕ). slice_get requests k) found.2 ∙ should) in
+    (found.0, found.1, found.2, found.3, subst (λ (q : Request). IsObject q found.0.id found.0) same request.answers)

@@ -63,7 +63,7 @@ behind-any None block c n e placed = refl
 behind-any (Some seat) block c n e placed = refl
 
 -- the block of its processor
-block-own : (object : ℕ → Tried) (c n : ℕ) (e : Event) (placed : Bool) (block : Option Block) → object n ≡ tried_of c e placed → block_before object e.proc c n ≡ block
+pub block-own : (object : ℕ → Tried) (c n : ℕ) (e : Event) (placed : Bool) (block : Option Block) → object n ≡ tried_of c e placed → block_before object e.proc c n ≡ block
     → block_before object e.proc c (suc n) ≡ next_block block n (tried_of 0 e placed)
 block-own object c n e placed block is before = elim (cases_Bool (is_tiny e)) [
   | inl tiny ↦ (
@@ -77,13 +77,13 @@ block-own object c n e placed block is before = elim (cases_Bool (is_tiny e)) [
 ]
 
 -- the block of another
-block-other : (object : ℕ → Tried) (p c n : ℕ) → (object n).proc ≢ p → block_before object p c (suc n) ≡ block_before object p c n
+pub block-other : (object : ℕ → Tried) (p c n : ℕ) → (object n).proc ≢ p → block_before object p c (suc n) ≡ block_before object p c n
 block-other object p c n differ = elim (cases_Bool (is_of p c (object n))) [
   | inl on ↦ absurd (differ (of-is p c (object n) on).proc)
   | inr off ↦ cond-false (is_of p c (object n)) (behind_object (seat_in (block_before object p c n) (object n).size) (block_before object p c n) n (object n)) (block_before object p c n) off
 ]
 
-part-next : (object : ℕ → Tried) (c n : ℕ) (e : Event) (placed : Bool) (block : Option Block) → object n ≡ tried_of c e placed → block_before object e.proc c n ≡ block
+pub part-next : (object : ℕ → Tried) (c n : ℕ) (e : Event) (placed : Bool) (block : Option Block) → object n ≡ tried_of c e placed → block_before object e.proc c n ≡ block
     → part_of object n ≡ next_part block (tried_of 0 e placed)
 part-next object c n e placed block is before =
     ap (λ (o : Tried). cond o.tiny (part_in (seat_in (block_before object o.proc o.cycle n) o.size)) Other) is
@@ -182,13 +182,17 @@ never-tiny None a e = refl
 never-tiny (Some r) None e = refl
 never-tiny (Some r) (Some a) e = absurd cc
 
+-- what has no answer is no tiny object
+pub part-past : (t : Trace) (answers : List Answer) (i : ℕ) → length answers ≤ i → part_at t answers i ≡ Other
+part-past t answers i past =
+    let gone : slice_get answers i ≡ None = slice_get_past answers i past in
+    let off : (object_at t answers i).tiny ≡ false = never-tiny (slice_get (requests_from 0 t.cycles) i) (slice_get answers i) gone in
+    none-part (object_at t answers i) (block_before (object_at t answers) (object_at t answers i).proc (object_at t answers i).cycle i) off
+
 pub parts-all : (t : Trace) (answers : List Answer) (parts : List Part) → AreParts t answers parts → length parts ≡ length answers → AreAllParts t answers parts
 parts-all t answers parts are size i = elim (cases_lt i (length parts)) [
   | inl lt ↦ are i lt
-  | inr past ↦ (
-      let gone : slice_get answers i ≡ None = slice_get_past answers i (omega arith) in
-      let off : (object_at t answers i).tiny ≡ false = never-tiny (slice_get (requests_from 0 t.cycles) i) (slice_get answers i) gone in
-      get_or_past parts i Other past ∙ sym (none-part (object_at t answers i) (block_before (object_at t answers) (object_at t answers i).proc (object_at t answers i).cycle i) off))
+  | inr past ↦ get_or_past parts i Other past ∙ sym (part-past t answers i (omega arith))
 ]
 
 -- each lead has a number below a million

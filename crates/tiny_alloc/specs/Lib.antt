@@ -4,3 +4,6 @@ pub mod Base
 pub mod Parts
 pub mod Marks
 pub mod Sound
+pub mod Rides
+pub mod Growing
+pub mod Versions

@@ -1,6 +1,6 @@
 //! The base of a trace: the trace by which all is judged but the riders.
 
-ghost use Rattle.std.specs.Prelude.{◌≡◌, ◌+◌, ◌≤◌, length, IfOk};
+ghost use Rattle.std.specs.Prelude.{◌≡◌, ◌+◌, ◌≤◌, ◌++◌, length, IfOk, OnOk};
 ghost use Rattle.trace_reader.specs.Limits.{events_of};
 ghost use Rattle.cycle_history.specs.Before.{IsLimited};
 ghost use Rattle.cycle_history.specs.Requests.{spans_of};
@@ -29,7 +29,7 @@ use std::alloc::Global;
 use trace_reader::{Cycle, Event, MarkEnd, Trace};
 
 /// The version of a base.
-const BASE_VERSION: u8 = 2;
+pub(crate) const BASE_VERSION: u8 = 2;
 
 /// The base of a trace with its answers.
 #[derive(Debug, Drop)]
@@ -70,18 +70,24 @@ fn based_by(
 {
     let mut header = trace.header;
     header.version = BASE_VERSION;
+    let mut printed = List::new(alloc);
+    add_answers(answers, 0, parts, &mut printed)?;
     Ok(Based {
         trace: Trace {
             header,
             cycles: based_cycles(alloc, trace, parts)?,
         },
-        answers: based_answers(alloc, answers, parts)?,
+        answers: printed,
         riders: riders_of(alloc, parts)?,
     })
 }
 
 // Its cycles.
-fn based_cycles(alloc: Global, trace: &Trace, parts: &[Part]) -> Result<List<Cycle>, NoMemory>
+pub(crate) fn based_cycles(
+    alloc: Global,
+    trace: &Trace,
+    parts: &[Part],
+) -> Result<List<Cycle>, NoMemory>
     requires limited { IsLimited (as_version_2 trace.now) }
     requires parts { length parts.now ≡ length (events_of trace.now) }
     requires leads { HaveLeads (part_by parts.now) }
@@ -110,19 +116,33 @@ fn based_cycle(
     ensures events { IfOk result (λ based. based.events ≡ events_by (part_by parts.now) first cycle.now.events) }
     ensures mark { IfOk result (λ based. IsBasedEnd (part_by parts.now) cycle.now.mark based.mark) }
 {
-    let events = based_events(alloc, cycle.events.as_slice(), first, parts)?;
-    let mark = match &cycle.mark {
-        Some(end) => Some(MarkEnd {
-            distance: end.distance,
-            marks: based_marks(alloc, end.marks.as_slice(), parts)?,
-        }),
-        None => None,
+    Ok(Cycle {
+        events: based_events(alloc, cycle.events.as_slice(), first, parts)?,
+        mark: based_end(alloc, &cycle.mark, parts)?,
+    })
+}
+
+// The mark end of the base where the trace has this one.
+pub(crate) fn based_end(
+    alloc: Global,
+    mark: &Option<MarkEnd>,
+    parts: &[Part],
+) -> Result<Option<MarkEnd>, NoMemory>
+    requires marks { AreFair (spans_of mark.now) }
+    requires leads { HaveLeads (part_by parts.now) }
+    ensures { IfOk result (IsBasedEnd (part_by parts.now) mark.now) }
+{
+    let Some(end) = mark else {
+        return Ok(None);
     };
-    Ok(Cycle { events, mark })
+    Ok(Some(MarkEnd {
+        distance: end.distance,
+        marks: based_marks(alloc, end.marks.as_slice(), parts)?,
+    }))
 }
 
 // The events of such a cycle.
-fn based_events(
+pub(crate) fn based_events(
     alloc: Global,
     events: &[Event],
     first: usize,
@@ -141,7 +161,7 @@ fn based_events(
 }
 
 // The event of an object: a lead asks for its whole block, and a rider for nothing.
-fn based_event(part: Part, mut event: Event) -> Event
+pub(crate) fn based_event(part: Part, mut event: Event) -> Event
     ensures { result ≡ event_by part event }
 {
     match part {
@@ -152,22 +172,21 @@ fn based_event(part: Part, mut event: Event) -> Event
     event
 }
 
-// The answers of the base.
-fn based_answers(
-    alloc: Global,
+// Adds the answers of the base for objects with these, from number `first` on.
+pub(crate) fn add_answers(
     answers: &[Answer],
+    first: usize,
     parts: &[Part],
-) -> Result<List<Answer>, NoMemory>
-    requires one { length answers.now ≡ length parts.now }
+    based: &mut List<Answer>,
+) -> Result<(), NoMemory>
+    requires inside { first + length answers.now ≤ length parts.now }
     requires few { length parts.now ≤ 1000000 }
-    ensures { IfOk result (λ based. based ≡ answers_by (part_by parts.now) 0 answers.now) }
+    ensures { OnOk result (based.new ≡ based.old ++ answers_by (part_by parts.now) first answers.now) }
 {
-    let mut based = List::new(alloc);
-    for answer in answers {
-        let number = based.len();
-        based.push(based_answer(parts[number], *answer))?;
+    for place in 0..answers.len() {
+        based.push(based_answer(parts[first + place], answers[place]))?;
     }
-    Ok(based)
+    Ok(())
 }
 
 // The answer of an object: a rider has none of its own.

@@ -1,6 +1,6 @@
 //! The part of each object of a trace.
 
-ghost use Rattle.std.specs.Prelude.{◌≡◌, ℕ, ◌+◌, ◌^◌, ◌<◌, length, slice_index_or, None, IfOk, OnOk, IfSome};
+ghost use Rattle.std.specs.Prelude.{◌≡◌, ℕ, ◌+◌, ◌^◌, ◌<◌, ◌≤◌, length, slice_index_or, None, IfOk, OnOk, IfSome};
 ghost use Rattle.trace_reader.specs.Limits.{events_of};
 ghost use Rattle.cycle_history.specs.Before.{IsLimited, objects_before};
 ghost use Rattle.cycle_history.specs.Objects.{is_placed as is_placed_at};
@@ -36,7 +36,7 @@ pub(crate) fn parts_of(
 }
 
 // A tiny allocator for each of so many processors.
-fn blocks_of(alloc: Global, procs: u32) -> Result<Vec<Tiny>, NoMemory>
+pub(crate) fn blocks_of(alloc: Global, procs: u32) -> Result<Vec<Tiny>, NoMemory>
     ensures { IfOk result (λ blocks. length blocks.items ≡ procs) }
 {
     let mut blocks = Vec::new(alloc);
@@ -47,7 +47,7 @@ fn blocks_of(alloc: Global, procs: u32) -> Result<Vec<Tiny>, NoMemory>
 }
 
 // Adds the parts of the objects of a cycle, at whose begin the processors have no blocks.
-fn add_parts(
+pub(crate) fn add_parts(
     trace: &Trace,
     cycle: usize,
     answers: &[Answer],
@@ -56,7 +56,7 @@ fn add_parts(
 ) -> Result<(), NoMemory>
     requires limited { IsLimited (as_version_2 trace.now) }
     requires cycle { cycle < length trace.now.cycles }
-    requires answers { length answers.now ≡ length (events_of trace.now) }
+    requires answers { objects_before trace.now (cycle + 1) ≤ length answers.now }
     requires blocks { length blocks.old ≡ trace.now.header.procs }
     requires done { length parts.old.items ≡ objects_before trace.now cycle }
     requires parts { AreParts trace.now answers.now parts.old.items }
@@ -105,8 +105,8 @@ fn next_part(tiny: &mut Tiny, number: u32, event: Event, placed: bool) -> Part
     Part::Lead
 }
 
-// Whether an object is tiny: of 1 to 15 bytes, and without pointers.
-fn is_tiny(event: Event) -> bool
+/// Whether an event's object is tiny: of 1 to 15 bytes, and without pointers.
+pub fn is_tiny(event: Event) -> bool
     ensures { result ≡ is_tiny_event event }
 {
     0 < event.size && event.size < u64::from(BLOCK) && !event.scan

@@ -1,5 +1,5 @@
 -- Rule 1 of a trace, one answer more at a time.
-use Rattle.std.proofs.Common.{◌≡◌, ℕ, ◌+◌, ◌<◌, ◌≤◌, false, List, length, get_or, Some, refl, sym, ◌∙◌, ap, subst, arith, ◌↔◌}
+use Rattle.std.proofs.Common.{◌≡◌, ℕ, ◌+◌, ◌<◌, ◌≤◌, false, List, length, get_or, Some, sym, ◌∙◌, ap, subst, arith, ◌↔◌}
 use Rattle.std.specs.List.{slice_get}
 use Rattle.std.proofs.lemmas.Option.{slice_get_within, slice_get-get_or}
 use Rattle.trace_reader.specs.declared.trace.Trace.{Trace}
@@ -12,7 +12,7 @@ use Rattle.cycle_history.specs.declared.Report.{Report}
 use Rattle.cycle_history.specs.Before.{objects_before}
 use Rattle.cycle_history.proofs.Found.{cycle-event}
 use Rattle.report_rules.specs.Lines.{end_of, IsLeast}
-use Rattle.report_rules.specs.Answers.{BreaksAnswers, IsRightAnswer}
+use Rattle.report_rules.specs.Answers.{BreaksAnswers}
 use Rattle.report_check.proofs.Answered.{AreRight, right-more, wrong-first, wrong-behind, missing-last}
 use Rattle.tiny_check.specs.Answered.{AreAnsweredTo, IsAnswered}
 

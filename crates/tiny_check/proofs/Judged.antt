@@ -1,11 +1,10 @@
 -- The answers of the judge of traces with tiny objects.
 use Rattle.std.specs.Prelude.{OnOk}
-use Rattle.std.proofs.Common.{◌≡◌, ◌≢◌, ℕ, ◌+◌, ◌-◌, ◌<◌, ◌≤◌, List, length, Result, Ok, Err, refl, sym, ◌∙◌, ap, subst, arith, inl, inr}
+use Rattle.std.proofs.Common.{◌≡◌, ◌≢◌, ℕ, ◌≤◌, List, length, Result, Ok, Err, refl, sym, ◌∙◌, ap, subst, arith, inl, inr}
 use Rattle.std.proofs.lemmas.Bool.{cases_lt}
 use Rattle.trace_reader.specs.declared.trace.Trace.{Trace}
 use Rattle.cycle_history.specs.declared.Answer.{Answer}
 use Rattle.cycle_history.specs.declared.Report.{Report}
-use Rattle.cycle_history.specs.Before.{IsLimited}
 use Rattle.report_rules.specs.Answers.{BreaksAnswers}
 use Rattle.report_rules.specs.Broken.{IsBroken}
 use Rattle.report_rules.proofs.Exact.{first-broken}
@@ -18,14 +17,16 @@ use Rattle.report_check.proofs.Sounding.{never-refused, sound-meets}
 use Rattle.tiny_alloc.specs.declared.base.Based.{Based}
 use Rattle.tiny_alloc.specs.declared.part.Rider.{Rider}
 use Rattle.tiny_alloc.specs.Riders.{part_at}
-use Rattle.tiny_alloc.specs.Base.{as_version_2, IsBase, riders_below}
-use Rattle.tiny_alloc.specs.Sound.{AreRiding, based_report, IsSoundTiny}
-use Rattle.tiny_check.specs.Answered.{having_answers, IsAnswered}
-use Rattle.tiny_check.specs.Fault.{BreaksRiding, IsBrokenTiny, IsFault, IsFaultTiny, IsKnownVersion, MeetsTiny, MeetsVersion}
-use Rattle.tiny_check.proofs.Made.{meets-answers}
+use Rattle.tiny_alloc.specs.Base.{IsBase, riders_below}
+use Rattle.tiny_alloc.specs.Sound.{AreRiding, based_report}
+use Rattle.tiny_check.specs.declared.based.BaseReport.{BaseReport}
+use Rattle.cycle_history.specs.declared.versions.TheConstants.{TINY_VERSION}
+use Rattle.tiny_check.specs.Answered.{IsAnswered}
+use Rattle.tiny_check.specs.Based.{IsBaseReport}
+use Rattle.tiny_check.specs.Fault.{BreaksRiding, BreaksVersion, IsBrokenTiny, IsFault, IsFaultTiny, MeetsTiny, MeetsVersion}
 use Rattle.tiny_check.proofs.OneBase.{base-one}
 use Rattle.tiny_check.proofs.Riding.{riding-unbroken}
-use Rattle.tiny_check.proofs.RuleOne.{base-answered}
+use Rattle.tiny_check.proofs.RuleOne.{base-answered, meets-answers}
 
 -- ---- refusals
 
@@ -62,6 +63,11 @@ pub tiny-sound : (t : Trace) (report : Report) (based : Based) → IsAnswered t 
 tiny-sound t report based is base sound riding =
     (based, sound.0, record { answers = meets-answers t report is; base = base; sound = sound.1; riding = riding })
 
+-- the base of a sound report is sound
+pub base-meets : (t : Trace) (report : Report) (based : Based) → MeetsTiny t report → IsBase t report.answers based → MeetsChecked based.trace (based_report report based)
+base-meets t report based met base =
+    subst (λ (b : Based). MeetsChecked b.trace (based_report report b)) (base-one t report.answers met.0 based met.2.base base) (met.1, met.2.sound)
+
 -- a sound report is broken at no line of no rule
 unbroken : (t : Trace) (report : Report) (rule line : ℕ) → MeetsTiny t report → ¬ IsBrokenTiny t report rule line
 unbroken t report rule line met broken =
@@ -70,43 +76,33 @@ unbroken t report rule line met broken =
       | inl one ↦ (first-broken t report 1 line one.1).broken is.answers
       | inr more ↦ elim more [
         | inl base ↦ (
-            let same = base-one t report.answers met.0 base.based is.base base.base in
-            let sound : MeetsChecked base.based.trace (based_report report base.based) = subst (λ (b : Based). MeetsChecked b.trace (based_report report b)) same (met.1, is.sound) in
+            let sound = base-meets t report base.based met base.base in
             (first-broken base.based.trace (based_report report base.based) rule line base.broken).broken (sound.0, sound-meets rule base.based.trace (based_report report base.based) sound.0 sound.1))
         | inr ten ↦ riding-unbroken t report.answers line is.riding ten.1.first.here
       ]
     ]
 
-pub tiny-unrefused : (t : Trace) (report : Report) (fault : CheckFault) → IsFaultTiny t report fault → MeetsTiny t report → fault ≡ NoMemory
-tiny-unrefused t report (Broken rule line) is met = absurd (unbroken t report rule line met is)
-tiny-unrefused t report NoMemory is met = refl
-
 -- ---- the report that is judged by the base
 
--- the trace itself has its answers, and the report that is judged is that of the base
-pub record IsJudged (t : Trace) (report : Report) (based : Based) (judged : Report) : Type 0 where
-  pub answered : IsAnswered t report
-  pub is : IsBase t report.answers based
-  pub having : judged ≡ having_answers report based.answers
+its-sound : (t : Trace) (report : Report) (base : BaseReport) (is : IsBaseReport t report base) → MeetsChecked base.trace base.report → MeetsChecked is.based.trace (based_report report is.based)
+its-sound t report base is met = subst (λ (u : Trace). MeetsChecked u (based_report report is.based)) is.trace (subst (λ (r : Report). MeetsChecked base.trace r) is.report_is met)
 
-its-sound : (t : Trace) (report : Report) (based : Based) (judged : Report) → IsJudged t report based judged → MeetsChecked based.trace judged → MeetsChecked based.trace (based_report report based)
-its-sound t report based judged is met = subst (λ (r : Report). MeetsChecked based.trace r) is.having met
+pub base-sound : (t : Trace) (report : Report) (base : BaseReport) → IsBaseReport t report base → MeetsChecked base.trace base.report → AreRiding t report.answers → MeetsTiny t report
+base-sound t report base is met riding = tiny-sound t report is.based is.answered is.is (its-sound t report base is met) riding
 
-pub judged-sound : (t : Trace) (report : Report) (based : Based) (judged : Report) → IsJudged t report based judged → MeetsChecked based.trace judged → AreRiding t report.answers → MeetsTiny t report
-judged-sound t report based judged is met riding = tiny-sound t report based is.answered is.is (its-sound t report based judged is met) riding
+pub base-broken : (t : Trace) (report : Report) (base : BaseReport) (fault : CheckFault) → IsBaseReport t report base → nine.IsFault base.trace base.report fault → IsFaultTiny t report fault
+base-broken t report base fault is broken = tiny-base t report is.based fault is.answered is.is
+    (subst (λ (u : Trace). nine.IsFault u (based_report report is.based) fault) is.trace (subst (λ (r : Report). nine.IsFault base.trace r fault) is.report_is broken))
 
-pub judged-broken : (t : Trace) (report : Report) (based : Based) (judged : Report) (fault : CheckFault) → IsJudged t report based judged → nine.IsFault based.trace judged fault → IsFaultTiny t report fault
-judged-broken t report based judged fault is broken = tiny-base t report based fault is.answered is.is (subst (λ (r : Report). nine.IsFault based.trace r fault) is.having broken)
-
-pub judged-riding : (t : Trace) (report : Report) (based : Based) (judged : Report) (fault : CheckFault) → IsJudged t report based judged → MeetsChecked based.trace judged
+pub base-riding : (t : Trace) (report : Report) (base : BaseReport) (fault : CheckFault) → IsBaseReport t report base → MeetsChecked base.trace base.report
     → IsFaultOf 10 (BreaksRiding t report.answers) fault → IsFaultTiny t report fault
-judged-riding t report based judged fault is met broken = tiny-10 t report based fault is.answered is.is (its-sound t report based judged is met) broken
+base-riding t report base fault is met broken = tiny-10 t report is.based fault is.answered is.is (its-sound t report base is met) broken
 
 -- the riders that code has
-pub those-riders : (t : Trace) (answers printed : List Answer) (based : Based) (shown : List Rider) → IsBase t answers based → printed ≡ answers → shown ≡ based.riders
+pub those-riders : (t : Trace) (report : Report) (base : BaseReport) (printed : List Answer) (shown : List Rider) → IsBaseReport t report base → printed ≡ report.answers → shown ≡ base.riders
     → shown ≡ riders_below (part_at t printed) (length printed)
-those-riders t answers printed based shown is same shown-is =
-    shown-is ∙ is.riders ∙ ap (λ (xs : List Answer). riders_below (part_at t xs) (length xs)) (sym same)
+those-riders t report base printed shown is same shown-is =
+    shown-is ∙ is.riders ∙ is.is.riders ∙ ap (λ (xs : List Answer). riders_below (part_at t xs) (length xs)) (sym same)
 
 pub on-map : {T : Type 0} {P Q : Type 0} (r : Result T CheckFault) → (P → Q) → OnOk r P → OnOk r Q
 on-map (Ok x) to h = to h
@@ -114,20 +110,15 @@ on-map (Err e) to h = tt
 
 -- ---- traces of all versions
 
-pub plain-limited : (t : Trace) → IsLimited (as_version_2 t) → IsKnownVersion t → t.header.version < 3 → IsLimited t
-plain-limited t limited known lt =
-    let some = known.some in
-    let h = limited.header in
-    record {
-      header = record { version = (some, omega arith); chunks = h.chunks; procs = h.procs; rate = h.rate; seed = h.seed; goal = h.goal };
-      events = limited.events;
-      cycles = limited.cycles;
-      objects = limited.objects;
-      mark_ends = limited.mark_ends;
-    }
+-- a report that meets the rules of its trace's version breaks none of them
+pub version-unbroken : (t : Trace) (report : Report) (rule line : ℕ) → MeetsVersion t report → ¬ BreaksVersion t report rule line
+version-unbroken t report rule line met broken = elim (cases_lt t.header.version TINY_VERSION) [
+  | inl lt ↦ told rule line (never-refused t report (Broken rule line) (broken.plain lt) (met.plain lt))
+  | inr le ↦ unbroken t report rule line (met.tiny le) (broken.tiny le)
+] where
+  told : (a b : ℕ) → Broken a b ≡ NoMemory → ⊥
+  told a b e = cc
 
 pub never-told : (t : Trace) (report : Report) (fault : CheckFault) → IsFault t report fault → MeetsVersion t report → fault ≡ NoMemory
-never-told t report fault is met = elim (cases_lt t.header.version 3) [
-  | inl plain ↦ never-refused t report fault (is.plain plain) (met.plain plain)
-  | inr tiny ↦ tiny-unrefused t report fault (is.tiny tiny) (met.tiny tiny)
-]
+never-told t report (Broken rule line) is met = absurd (version-unbroken t report rule line met is)
+never-told t report NoMemory is met = refl

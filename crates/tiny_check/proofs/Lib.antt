@@ -1,5 +1,3 @@
-pub mod Needs
-pub mod Made
 pub mod RuleOne
 pub mod OneBase
 pub mod Answering

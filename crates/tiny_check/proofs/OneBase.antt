@@ -1,6 +1,6 @@
 -- A trace with its answers has one base.
-use Rattle.std.proofs.Common.{◌≡◌, ℕ, ◌+◌, ◌<◌, ◌≤◌, true, false, ◌&&◌, leb, List, [], ◌∷◌, length, Option, Some, None, refl, sym, ◌∙◌, ap, subst, arith, ◌⊎◌, inl, inr, ◌↔◌}
-use Rattle.std.proofs.lemmas.Bool.{cases_lt, cases_order, or_cases, or_left, or_right}
+use Rattle.std.proofs.Common.{◌≡◌, ℕ, ◌+◌, ◌≤◌, true, ◌&&◌, leb, List, [], ◌∷◌, length, Option, Some, None, refl, sym, ◌∙◌, ap, arith, inl, inr}
+use Rattle.std.proofs.lemmas.Bool.{cases_lt, or_cases, or_left, or_right}
 use Rattle.trace_reader.specs.declared.span.Span.{Span}
 use Rattle.trace_reader.specs.declared.trace.Trace.{Trace}
 use Rattle.trace_reader.specs.declared.trace.Header.{Header}
@@ -14,7 +14,7 @@ use Rattle.tiny_alloc.specs.declared.part.Part.{Part}
 use Rattle.tiny_alloc.specs.declared.part.Rider.{Rider}
 use Rattle.tiny_alloc.specs.Riders.{part_at}
 use Rattle.tiny_alloc.specs.Base.{AreBased, AreSpaced, IsBase, IsBasedEnd}
-use Rattle.tiny_alloc.proofs.Spans.{Covers, covers-is, is-covers}
+use Rattle.tiny_alloc.proofs.Spans.{covers-is, is-covers}
 
 -- ---- spans in their one spelling
 

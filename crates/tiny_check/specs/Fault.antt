@@ -12,7 +12,7 @@ use Rattle.report_rules.specs.Broken.{IsBroken}
 use Rattle.report_check.specs.declared.fault.CheckFault.{CheckFault}
 use Rattle.report_check.specs.declared.fault.CheckFault.TheVariants.{Broken, NoMemory}
 use Rattle.report_check.specs.Fault.{MeetsChecked}
-use Rattle.report_check.specs.Fault as nine
+use Rattle.cycle_history.specs.declared.versions.TheConstants.{TINY_VERSION}
 use Rattle.tiny_alloc.specs.declared.base.Based.{Based}
 use Rattle.tiny_alloc.specs.declared.part.Part.TheVariants.{Ride}
 use Rattle.tiny_alloc.specs.Riders.{part_at}
@@ -76,17 +76,17 @@ IsFaultTiny t report NoMemory = Unit {0}
 abbrev pub MeetsTiny : Trace → Report → Type 0
 MeetsTiny t report = (based : Based) × (objects : List Object) × IsSoundTiny t report based objects
 
--- The version of a trace is one that is known.
-pub record IsKnownVersion (t : Trace) : Type 0 where
-  pub some : 1 ≤ t.header.version
-  pub known : t.header.version ≤ 3
-
 -- A report meets the rules of its trace's version: a trace has tiny objects from version 3 on.
 pub record MeetsVersion (t : Trace) (report : Report) : Type 0 where
-  pub plain : t.header.version < 3 → MeetsChecked t report
-  pub tiny : 3 ≤ t.header.version → MeetsTiny t report
+  pub plain : t.header.version < TINY_VERSION → MeetsChecked t report
+  pub tiny : TINY_VERSION ≤ t.header.version → MeetsTiny t report
 
--- A refusal by the rules of its trace's version.
-pub record IsFault (t : Trace) (report : Report) (fault : CheckFault) : Type 0 where
-  pub plain : t.header.version < 3 → nine.IsFault t report fault
-  pub tiny : 3 ≤ t.header.version → IsFaultTiny t report fault
+-- The first rule of its trace's version that a report breaks, and the first line that breaks it.
+pub record BreaksVersion (t : Trace) (report : Report) (rule line : ℕ) : Type 0 where
+  pub plain : t.header.version < TINY_VERSION → IsBroken t report rule line
+  pub tiny : TINY_VERSION ≤ t.header.version → IsBrokenTiny t report rule line
+
+-- A refusal by the rules of its trace's version names that rule and that line, or says that memory ran out.
+abbrev pub IsFault : Trace → Report → CheckFault → Type 0
+IsFault t report (Broken rule line) = BreaksVersion t report rule line
+IsFault t report NoMemory = Unit {0}

@@ -1,2 +1,3 @@
 pub mod Answered
+pub mod Based
 pub mod Fault

@@ -2,18 +2,29 @@
 
 ghost use Rattle.std.specs.Prelude.{◌≡◌, length, IfErr, MatchBool, OnOk};
 ghost use Rattle.report_check.specs.Fault.{IsFaultOf};
+ghost use Rattle.report_check.specs.Fault.{MeetsChecked};
 ghost use Rattle.trace_reader.specs.declared.trace.Trace.{Trace as ATrace};
 ghost use Rattle.tiny_alloc.specs.Base.{riders_below};
 ghost use Rattle.tiny_alloc.specs.Riders.{part_at};
 ghost use Rattle.tiny_alloc.specs.Sound.{AreRiding};
-ghost use Rattle.tiny_check.specs.Fault.{BreaksRiding, IsRidingAt, placed_at};
+ghost use Rattle.tiny_check.specs.Based.{IsBaseReport};
+ghost use Rattle.tiny_check.specs.Fault.{BreaksRiding, IsFaultTiny, IsRidingAt, MeetsTiny, placed_at};
 
-use cycle_history::Answer;
+use crate::based::BaseReport;
+use cycle_history::{Answer, Report};
 use report_check::CheckFault;
 use tiny_alloc::Rider;
 
-/// Whether each of these riders, which are those of a trace with the answers, stands in its lead's block where it rides.
-pub(crate) fn judge_riders(answers: &[Answer], riders: &[Rider]) -> Result<(), CheckFault>
+/// Tries rule 10, the last one, where the base meets the other rules.
+pub fn judge_riders(report: &Report, base: &BaseReport) -> Result<(), CheckFault>
+    ensures met { (t : ATrace) → IsBaseReport t report.now base.now → MeetsChecked base.now.trace base.now.report → OnOk result (MeetsTiny t report.now) }
+    ensures broken { (t : ATrace) → IsBaseReport t report.now base.now → MeetsChecked base.now.trace base.now.report → IfErr result (IsFaultTiny t report.now) }
+{
+    judge_riding(report.answers.as_slice(), base.riders.as_slice())
+}
+
+// Whether each of these riders, which are those of a trace with the answers, stands in its lead's block where it rides.
+fn judge_riding(answers: &[Answer], riders: &[Rider]) -> Result<(), CheckFault>
     ensures riding { (t : ATrace) → riders.now ≡ riders_below (part_at t answers.now) (length answers.now) → OnOk result (AreRiding t answers.now) }
     ensures fault { (t : ATrace) → riders.now ≡ riders_below (part_at t answers.now) (length answers.now) → IfErr result (IsFaultOf 10 (BreaksRiding t answers.now)) }
 {

@@ -1,15 +1,39 @@
 //! Reports of traces with tiny objects, each with the rule and the line that it breaks first.
 
+ghost use Rattle.std.specs.Prelude.{◌≤◌};
+ghost use Rattle.cycle_history.specs.Before.{IsLimited};
+
 use crate::read::{report_of, trace_of};
+use check_parallel::check_version_parallel;
+use cycle_history::Report;
 use report_check::CheckFault;
 use std::process::Abort;
 use std::test::Fail;
+use std::thread::Threads;
 use tiny_check::check;
+use trace_reader::Trace;
 
 /// The lines of a trace, a report of it without its last line, and the rule and the line that it breaks first.
 type Row = (&'static str, &'static str, Option<(u8, u64)>);
 
-fn judge<R: Abort + AllocGlobal>(
+// Wants that the judge in so many pieces answers what the judge of the whole answers.
+fn agree_in<R: Abort + AllocGlobal + Threads + Sync>(
+    rt: &R,
+    trace: &Trace,
+    report: &Report,
+    whole: Result<(), CheckFault>,
+    pieces: u32,
+) -> Result<(), Fail>
+    requires limited { IsLimited trace.now }
+    requires some { 1 ≤ pieces }
+    requires few { pieces ≤ 64 }
+{
+    let found = check_version_parallel(rt, rt.alloc(), trace, report, pieces);
+    assert_eq!(rt; found, whole, "{pieces} pieces");
+    Ok(())
+}
+
+fn judge<R: Abort + AllocGlobal + Threads + Sync>(
     rt: &R,
     procs: u32,
     rate: u32,
@@ -20,7 +44,8 @@ fn judge<R: Abort + AllocGlobal>(
     let alloc = rt.alloc();
     let trace = trace_of(alloc, procs, rate, lines)?;
     let report = report_of(alloc, printed)?;
-    let found = match check(alloc, &trace, &report) {
+    let whole = check(alloc, &trace, &report);
+    let found = match whole {
         Ok(()) => None,
         Err(CheckFault::Broken { rule, line }) => Some((rule, line)),
         Err(CheckFault::NoMemory) => return Err("no memory".into()),
@@ -30,7 +55,10 @@ fn judge<R: Abort + AllocGlobal>(
         broken,
         "{procs} processors, rate {rate}: row {number}"
     );
-    Ok(())
+    agree_in(rt, &trace, &report, whole, 1)?;
+    agree_in(rt, &trace, &report, whole, 2)?;
+    agree_in(rt, &trace, &report, whole, 3)?;
+    agree_in(rt, &trace, &report, whole, 64)
 }
 
 #[test]

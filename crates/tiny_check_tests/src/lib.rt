@@ -1,7 +1,7 @@
-//! Traces of version 3 made in memory: their bases, and reports of them, typed by hand.
+//! Traces of version 3: their bases, and reports of them, typed by hand.
 //!
-//! `bases` has what the base of a trace with its answers is, and `judged` which rule a report breaks first, and at which line.
-//! `read` makes a trace of version 3 from one of version 2, since no reader takes version 3 yet.
+//! `bases` has what the base of a trace with its answers is, and `judged` which rule a report breaks first, and at which line, whole
+//! and in pieces. `read` reads both from their texts.
 #![tactic(auto)]
 
 #[cfg(test)]

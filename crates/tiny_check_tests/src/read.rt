@@ -14,18 +14,15 @@ use trace_reader::{Trace, read_trace};
 
 /// A trace of version 3, of one chunk, with this sampling rate and these lines.
 pub(crate) fn trace_of(alloc: Global, procs: u32, rate: u32, lines: &str) -> Result<Trace, Fail>
-    ensures limited { IfOk result (λ trace. IsLimited (as_version_2 trace)) }
-    ensures version { IfOk result (λ trace. trace.header.version ≡ 3) }
+    ensures { IfOk result IsLimited }
 {
     let text = format!(in alloc;
-        "goheap 2\nheap 1 procs {procs} rate {rate} seed 1 goal 512\n{lines}end\n"
+        "goheap 3\nheap 1 procs {procs} rate {rate} seed 1 goal 512\n{lines}end\n"
     )?;
     let bytes = List::from_vec(text.as_bytes().to_vec(alloc)?);
     let mut source = MemorySource::new(bytes, List::new(alloc));
     let mut lines = Lines::new(&mut source, 67_108_864);
-    let mut trace = read_trace(alloc, &mut lines)?;
-    trace.header.version = 3;
-    Ok(trace)
+    Ok(read_trace(alloc, &mut lines)?)
 }
 
 /// The report with these lines before its last one.

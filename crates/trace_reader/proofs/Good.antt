@@ -15,6 +15,7 @@ use Rattle.trace_reader.specs.declared.trace.Header.{Header}
 use Rattle.trace_reader.specs.declared.trace.Event.{Event}
 use Rattle.trace_reader.specs.Words.{IsDigit}
 use Rattle.trace_reader.specs.Spelling.{alloc_of, heap_of, kind, line_for}
+use Rattle.trace_reader.specs.declared.limits.TheConstants.{LATEST_VERSION}
 use Rattle.trace_reader.specs.Limits.{EventFits, HeaderFits, IsVersion, RegionFits, max_chunks, max_pages}
 use Rattle.trace_reader.specs.Checks.{bad_mark, counts_within, may_follow, numbers_within, passed, within}
 use Rattle.trace_reader.specs.Refusal.{fault_if, first_of, statement_fault}
@@ -125,7 +126,7 @@ title_good version fits = (
     is_line = title_is_line version fits;
     says = said_line (Title version) (omega arith, tt);
     not_end = refl;
-    no_fault = fault_none [] (Title version) (within_true 1 2 version fits.0 fits.1) refl refl refl;
+    no_fault = fault_none [] (Title version) (within_true 1 LATEST_VERSION version fits.0 fits.1) refl refl refl;
   },
   tt,
 )

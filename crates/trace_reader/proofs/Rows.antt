@@ -73,7 +73,7 @@ unfolding digits said lines_fault max_chunks max_pages
 limits_of_bytes = refl
 
 -- forms of the first two lines
-forms_of_header : map refusal (text (codes "goheap 3" ∷ []) ∷ text (codes "goheap  1" ∷ []) ∷ text (codes "goheap 1 " ∷ []) ∷ text (codes "Goheap 1" ∷ []) ∷ text ([] ∷ []) ∷ text (codes "end" ∷ [])
+forms_of_header : map refusal (text (codes "goheap 4" ∷ []) ∷ text (codes "goheap  1" ∷ []) ∷ text (codes "goheap 1 " ∷ []) ∷ text (codes "Goheap 1" ∷ []) ∷ text ([] ∷ []) ∷ text (codes "end" ∷ [])
     ∷ map with_header (codes "heap 01 procs 1 rate 0 seed 1 goal 512" ∷ codes "heap 1 procs 1 rate 0 seed 1 goal 512 " ∷ codes "heap 1 procs 1 rate 0 seed 1" ∷ codes "heap  1 procs 1 rate 0 seed 1 goal 512"
     ∷ codes "heap 1 procs +1 rate 0 seed 1 goal 512" ∷ codes "heap 1 procs 1 rate -1 seed 1 goal 512" ∷ codes "heap 1 procs 1 rate 0 seed x goal 512" ∷ codes "heap 1 procs 1 rate 0 seed 1 goal" ∷ codes "heap 1 procs 1 rate 0 goal 512 seed 1"
     ∷ codes "heap 1 procs 1 rate 0 seed 100000000000000000000 goal 512" ∷ codes "goheap 1" ∷ codes "a 0 24 s 1" ∷ codes "end" ∷ []))
@@ -88,7 +88,7 @@ later lines = text (codes "goheap 2" ∷ lines)
 -- the versions: the lines behind the first one are the same in both, and the limits of regions differ
 versions : map refusal (later (codes "heap 1 procs 1 rate 0 seed 1 goal 512" ∷ codes "a 0 24 s 1" ∷ codes "end" ∷ []) ∷ later (codes "heap 4096 procs 64 rate 1 seed 1 goal 2097152" ∷ codes "gc 1" ∷ codes "end" ∷ [])
     ∷ codes "goheap 2" ∷ later [] ∷ later (codes "goheap 2" ∷ []) ∷ later (codes "heap 4097 procs 1 rate 0 seed 1 goal 512" ∷ []) ∷ later (codes "heap 1 procs 1 rate 0 seed 1 goal 2097153" ∷ []) ∷ later (codes "heap 1 procs 1 rate 0 seed 1 goal 512" ∷ codes "goheap 2" ∷ [])
-    ∷ map (λ title. text (title ∷ codes "heap 1 procs 1 rate 0 seed 1 goal 512" ∷ codes "end" ∷ [])) (codes "goheap 0" ∷ codes "goheap 3" ∷ codes "goheap 02" ∷ codes "goheap 12" ∷ codes "goheap 20" ∷ codes "goheap" ∷ codes "goheap " ∷ codes "goheap 2 "
+    ∷ map (λ title. text (title ∷ codes "heap 1 procs 1 rate 0 seed 1 goal 512" ∷ codes "end" ∷ [])) (codes "goheap 0" ∷ codes "goheap 4" ∷ codes "goheap 02" ∷ codes "goheap 12" ∷ codes "goheap 20" ∷ codes "goheap" ∷ codes "goheap " ∷ codes "goheap 2 "
     ∷ codes "goheap -2" ∷ codes "goheap 99999999999999999999" ∷ codes "goheap 100000000000000000002" ∷ []))
     ≡ None ∷ None ∷ Some (Truncated 1) ∷ Some (Truncated 2) ∷ Some (Malformed 2) ∷ Some (Limit 2 Chunks) ∷ Some (Limit 2 Goal) ∷ Some (Malformed 3) ∷ replicate 11 (Some (Malformed 1))
 unfolding digits said lines_fault max_chunks max_pages

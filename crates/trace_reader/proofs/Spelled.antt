@@ -6,7 +6,7 @@ use Rattle.std.proofs.lemmas.Bool.{cases_Bool}
 use Rattle.std.proofs.lemmas.Bool.Decides.{nat_tests}
 use Rattle.edge_io.specs.Line.{HasNoFeed, IsLine}
 use Rattle.size_classes.specs.declared.TheConstants.{MAX_CHUNKS, MAX_PAGES}
-use Rattle.trace_reader.specs.declared.limits.TheConstants.{FIRST_MAX_CHUNKS, FIRST_MAX_PAGES}
+use Rattle.trace_reader.specs.declared.limits.TheConstants.{FIRST_MAX_CHUNKS, FIRST_MAX_PAGES, LATEST_VERSION}
 use Rattle.trace_reader.specs.declared.fault.Which.{Which}
 use Rattle.trace_reader.specs.declared.fault.Which.TheVariants.{Bytes, Chunks, Procs, Rate, Seed, Goal}
 use Rattle.trace_reader.specs.declared.fault.TraceFault.{TraceFault}
@@ -307,7 +307,7 @@ header_fits version h is e =
     let p5 = passes Goal (nat_le h.goal (max_pages version)) [] p4.1 in
     let chunks = and_parts (nat_le 1 h.chunks) (nat_le h.chunks (max_chunks version)) p1.0 in
     let procs = and_parts (nat_le 1 h.procs) (nat_le h.procs 64) p2.0 in
-    let version_is = and_parts (nat_le 1 version) (nat_le version 2) is in
+    let version_is = and_parts (nat_le 1 version) (nat_le version LATEST_VERSION) is in
     let most_chunks = le_of _ _ chunks.1 in
     let most_pages = le_of _ _ p5.0 in (
       record {

@@ -8,6 +8,7 @@ use Rattle.trace_reader.specs.declared.statement.Statement.TheVariants.{Title, H
 use Rattle.trace_reader.specs.declared.statement.HeapForm.{HeapForm}
 use Rattle.trace_reader.specs.declared.statement.AllocForm.{AllocForm}
 use Rattle.trace_reader.specs.Past.{before_mark_end, is_live, mark_ends_of, marks_of, objects_of, procs_of, version_of}
+use Rattle.trace_reader.specs.declared.limits.TheConstants.{LATEST_VERSION}
 use Rattle.trace_reader.specs.Limits.{max_chunks, max_pages}
 
 abbrev pub within : ℕ → ℕ → ℕ → Bool
@@ -15,7 +16,7 @@ within least most n = nat_le least n && nat_le n most
 
 -- a trace begins with its version
 abbrev pub is_version : ℕ → Bool
-is_version version = within 1 2 version
+is_version version = within 1 LATEST_VERSION version
 
 -- marks stand directly behind a mark end, and rise
 abbrev pub may_begin : Statement → ℕ → Bool

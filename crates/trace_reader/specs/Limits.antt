@@ -2,7 +2,7 @@
 use Rattle.std.specs.Prelude.{◌≡◌, ◌==◌, if◌then◌else◌, ℕ, ◌+◌, ◌-◌, ◌^◌, ◌<◌, ◌≤◌, ◌⊎◌, List, [], ◌∷◌, length, sum_by, Option, Some, None, MatchOption}
 use Rattle.std.specs.List.{AllByRecursion, flat_map}
 use Rattle.size_classes.specs.declared.TheConstants.{MAX_CHUNKS, MAX_PAGES}
-use Rattle.trace_reader.specs.declared.limits.TheConstants.{FIRST_MAX_CHUNKS, FIRST_MAX_PAGES}
+use Rattle.trace_reader.specs.declared.limits.TheConstants.{FIRST_MAX_CHUNKS, FIRST_MAX_PAGES, LATEST_VERSION}
 use Rattle.trace_reader.specs.declared.trace.Trace.{Trace}
 use Rattle.trace_reader.specs.declared.trace.Header.{Header}
 use Rattle.trace_reader.specs.declared.trace.Cycle.{Cycle}
@@ -13,9 +13,9 @@ use Rattle.trace_reader.specs.Rising.{AreSpans}
 use Rattle.edge_io.specs.Text.{text}
 use Rattle.trace_reader.specs.Spelling.{lines_of}
 
--- there are two versions of the format
+-- there are three versions of the format
 abbrev pub IsVersion : ℕ → Type 0
-IsVersion version = (1 ≤ version) × (version ≤ 2)
+IsVersion version = (1 ≤ version) × (version ≤ LATEST_VERSION)
 
 -- how many chunks the region of a trace of this version may have
 unfoldable pub max_chunks : ℕ → ℕ

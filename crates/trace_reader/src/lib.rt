@@ -19,7 +19,7 @@ pub use laws::{
     a_trace_has_one_spelling, bytes_spell_one_trace, what_is_not_refused_is_spelled,
     what_is_refused_spells_no_trace, what_is_spelled_is_not_refused,
 };
-pub use limits::{FIRST_MAX_CHUNKS, FIRST_MAX_PAGES};
+pub use limits::{FIRST_MAX_CHUNKS, FIRST_MAX_PAGES, LATEST_VERSION};
 pub use reader::{expect_end, read_trace};
 pub use span::Span;
 pub use trace::{Cycle, Event, Header, MarkEnd, Trace};

@@ -19,7 +19,7 @@ use crate::trace::{Event, Header};
 use size_classes::{MAX_CHUNKS, MAX_PAGES};
 
 /// The latest version of the format. The first is 1.
-const LATEST_VERSION: u128 = 2;
+pub const LATEST_VERSION: u8 = 3;
 
 /// The chunks of the largest region of a trace of version 1.
 pub const FIRST_MAX_CHUNKS: u32 = 128;
@@ -61,7 +61,7 @@ pub(crate) fn version_of(line: &[u8], number: u64) -> Result<u8, TraceFault>
     let Some(Statement::Title(version)) = statement_of(line) else {
         return Err(TraceFault::Malformed(number));
     };
-    if version < 1 || version > LATEST_VERSION {
+    if version < 1 || version > u128::from(LATEST_VERSION) {
         return Err(TraceFault::Malformed(number));
     }
     Ok(version as u8)

@@ -12,7 +12,7 @@ pub struct Trace {
 /// The numbers of the first two lines.
 #[derive(Clone, Copy, Debug, PartialEq, Eq)]
 pub struct Header {
-    /// The version of the format, 1 or 2. A report of a trace of version 2 may have lines of page caches.
+    /// The version of the format, from 1 to 3. From version 2 on processors have page caches, and in version 3 tiny objects share blocks.
     pub version: u8,
     /// The chunks of the region, of 512 pages each, from 1 to 4096, and in version 1 to 128.
     pub chunks: u32,

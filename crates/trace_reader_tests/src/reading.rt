@@ -234,7 +234,17 @@ const VERSIONS: &[(&str, &str, Option<TraceFault>)] = &[
         Some(Limit(2, Which::Goal)),
     ),
     ("goheap 0\n", "heap 1 procs 1\n", Some(Malformed(1))),
-    ("goheap 3\n", "heap 1 procs 1\n", Some(Malformed(1))),
+    (
+        "goheap 3\n",
+        "heap 1 procs 1 rate 0 seed 1 goal 512\nend\n",
+        None,
+    ),
+    (
+        "goheap 3\n",
+        "heap 4097 procs 1 rate 0 seed 1 goal 512\nend\n",
+        Some(Limit(2, Which::Chunks)),
+    ),
+    ("goheap 4\n", "heap 1 procs 1\n", Some(Malformed(1))),
     ("goheap 02\n", "heap 1 procs 1\n", Some(Malformed(1))),
     ("goheap 22\n", "heap 1 procs 1\n", Some(Malformed(1))),
     ("goheap 2 \n", "heap 1 procs 1\n", Some(Malformed(1))),

@@ -16,7 +16,8 @@ goheap  1/|1: malformed
 goheap\t1/|1: malformed
 Goheap 1/|1: malformed
 goheap 01/|1: malformed
-goheap 3/|1: malformed
+goheap 3/|2: ends early
+goheap 4/|1: malformed
 goheap 2/|2: ends early
 goheap 2/heap 4097 procs 1 rate 0 seed 1 goal 2097152/a 0 1 n 1/end/|2: limit chunks
 goheap 2/heap 4096 procs 1 rate 0 seed 1 goal 2097153/a 0 1 n 1/end/|2: limit goal

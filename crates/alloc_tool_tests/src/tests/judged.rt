@@ -3,7 +3,7 @@
 use super::*;
 
 /// The lines of a trace, a report behind it, the status of `check` and what it tells.
-type Row = (&'static str, &'static str, u8, &'static str);
+pub(super) type Row = (&'static str, &'static str, u8, &'static str);
 
 const APART: &str = "a 0 24 s 1\na 0 24 n 1\n";
 
@@ -152,7 +152,7 @@ const CACHED: &[(&str, Row)] = &[
 ];
 
 // Wants this of these words on the trace of these lines with this report behind it.
-fn expect_said<R: Threads + Wait + Sync + AllocGlobal + Abort>(
+pub(super) fn expect_said<R: Threads + Wait + Sync + AllocGlobal + Abort>(
     rt: &R,
     head: &str,
     words: &[&str],
@@ -182,7 +182,7 @@ fn expect_judged<R: Threads + Wait + Sync + AllocGlobal + Abort>(
 }
 
 // What `check` says of this row, whole and in pieces, where the trace begins so.
-fn expect_row<R: Threads + Wait + Sync + AllocGlobal + Abort>(
+pub(super) fn expect_row<R: Threads + Wait + Sync + AllocGlobal + Abort>(
     rt: &R,
     head: &str,
     row: Row,
@@ -196,6 +196,7 @@ fn expect_row<R: Threads + Wait + Sync + AllocGlobal + Abort>(
     expect_said(rt, head, &["check"], lines, report, wanted)?;
     expect_said(rt, head, &["check", "--pieces=1"], lines, report, wanted)?;
     expect_said(rt, head, &["check", "--pieces=2"], lines, report, wanted)?;
+    expect_said(rt, head, &["check", "--pieces=3"], lines, report, wanted)?;
     expect_said(rt, head, &["check", "--pieces=64"], lines, report, wanted)
 }
 

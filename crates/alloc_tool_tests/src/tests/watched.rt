@@ -56,13 +56,13 @@ fn lines_of_watchers_stand_behind_the_report(rt: HostRuntime) -> Result<(), Fail
     Ok(())
 }
 
-// A trace of version 3 is refused, as `run` refuses it, and so is one that breaks off; a write that fails in the lines is a write fault behind a front.
+// A trace of version 4 is refused, as `run` refuses it, and so is one that breaks off; a write that fails in the lines is a write fault behind a front.
 #[test]
 fn watching_stops_as_running_does(rt: HostRuntime) -> Result<(), Fail> {
     let script = failing(&[], &[]);
     for input in [
-        "goheap 3\nheap 1 procs 1 rate 0 seed 1 goal 512\nend\n",
-        "goheap 4\n",
+        "goheap 4\nheap 1 procs 1 rate 0 seed 1 goal 512\nend\n",
+        "goheap 0\n",
     ] {
         let wanted = refused(3, "goheap: trace line 1: malformed\n");
         expect(&rt, "", &["watch", "1"], input.as_bytes(), script, wanted)?;

@@ -3,8 +3,8 @@
 use super::{Row, compare, judge, ran, trace_by};
 use cycle_history::Answer;
 use edge_io::OpenGate;
-use report_check::check;
 use std::test::Fail;
+use tiny_check::check;
 
 // The first line of a trace of version 2.
 const VERSION: &str = "goheap 2";

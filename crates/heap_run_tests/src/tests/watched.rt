@@ -6,11 +6,11 @@ ghost use Rattle.trace_reader.specs.Limits.{WithinLimits};
 use super::trace_of;
 use edge_io::{List, OpenGate};
 use heap_run::{Sight, Watched, run_watched};
-use report_check::check;
 use std::process::Abort;
 use std::sync::Wait;
 use std::test::Fail;
 use std::thread::Threads;
+use tiny_check::check;
 use trace_reader::Trace;
 
 // A trace with the sums of its profiles: the allocations and the frees as of each mark end, from number 0 on.

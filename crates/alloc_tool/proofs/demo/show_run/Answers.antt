@@ -2,7 +2,7 @@ use Rattle.std.proofs.Common.{Err, ap, subst}
 use Rattle.trace_reader.specs.declared.trace.Trace.{Trace}
 use Rattle.alloc_tool.specs.Demo.{Demos}
 use Rattle.alloc_tool.proofs.Demos.{failed_demo, shown_demo, spent_after, spent_demo}
-use Rattle.alloc_tool.proofs.Unbroken.{used_unbroken}
+use Rattle.alloc_tool.proofs.Unbroken.{made_plain, used_unbroken}
 use Rattle.alloc_tool.proofs.demo.show_run.Goals as goal
 
 pub returns-in_default : goal.returns-in_default
@@ -33,4 +33,4 @@ returns-in-Err-NoMemory g c =
     (c.in-Err-NoMemory.ensures.unwritten (λ e. absurd (let h = c.in-Err-NoMemory.field-0-is in cc))) c.refuse_trace-in-Err-NoMemory.ensures.status c.refuse_trace-in-Err-NoMemory.ensures.told
 
 pub returns : goal.returns
-returns g c = absurd (used_unbroken c.in-Ok.trace c.in-Ok-run_trace.ran.report c.in-Err-Broken.rule c.in-Err-Broken.line c.in-Ok-run_trace.ensures.sound (rw c.in-Err-Broken.field-0-is at c.in-Err-Broken.ensures.broken))
+returns g c = absurd (used_unbroken c.in-Ok.trace c.in-Ok-run_trace.ran.report c.in-Err-Broken.rule c.in-Err-Broken.line (c.in-Ok-run_trace.ensures.sound.plain (made_plain c.in-Ok.trace c.args.wanted.seed c.args.wanted.objects c.in-Ok.ensures)) (rw c.in-Err-Broken.field-0-is at c.in-Err-Broken.ensures.broken))

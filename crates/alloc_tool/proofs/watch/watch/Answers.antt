@@ -5,7 +5,7 @@ use Rattle.sight_text.specs.Text.{seen_text}
 use Rattle.commands.specs.Texts.{fault_status}
 use Rattle.alloc_tool.specs.Watch.{IsWatchText}
 use Rattle.alloc_tool.proofs.Faults.{is_of_trace}
-use Rattle.alloc_tool.proofs.Outcomes.{answered_outcome, profile_rises, refused_outcome, written_outcome}
+use Rattle.alloc_tool.proofs.Outcomes.{answered_outcome, profile_rises, refused_outcome, seen_count, written_outcome}
 use Rattle.alloc_tool.proofs.watch.watch.Goals as goal
 
 pub write_seen-requires-clause-profile : goal.write_seen-requires-clause-profile
@@ -28,7 +28,7 @@ returns-in-Err-clause-complete g c = λ bytes t told spells three.
 
 pub write_seen-requires-clause-few : goal.write_seen-requires-clause-few
 write_seen-requires-clause-few g c =
-    let count = c.in-Ok-run_watched.ensures.seen.count in
+    let count = seen_count c.in-Ok.trace c.args.readers c.in-Ok-run_watched.watched.ran.report c.in-Ok-run_watched.watched.seen c.in-Ok-run_watched.ensures.seen in
     let few = c.requires.few in
     let same = ap length c.as_slice.ensures in
     omega arith

@@ -1,4 +1,3 @@
-use Rattle.std.proofs.Common.{◌≡◌, ◌≤◌}
 use Rattle.report_check.specs.Ledgers.{IsOpenTo}
 use Rattle.check_parallel.specs.Seating.{KeepsIn}
 use Rattle.check_parallel.proofs.marking.keep_lives_in.Given as goal

@@ -1,4 +1,4 @@
-use Rattle.std.proofs.Common.{◌+◌, false, refl, ◌∙◌, arith}
+use Rattle.std.proofs.Common.{false, refl, ◌∙◌, arith}
 use Rattle.std.proofs.lemmas.List.{length-set}
 use Rattle.std.proofs.lemmas.Option.{slice_get-get_or}
 use Rattle.report_check.specs.declared.asked.Asked.{Asked}

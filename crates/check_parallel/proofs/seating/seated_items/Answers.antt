@@ -1,6 +1,5 @@
-use Rattle.std.proofs.Common.{◌≡◌, List, length, sym, ◌∙◌, ap, subst, arith}
+use Rattle.std.proofs.Common.{List, length, ap, arith}
 use Rattle.cycle_history.specs.declared.Answer.{Answer}
-use Rattle.report_check.specs.declared.asked.Asked.{Asked}
 use Rattle.check_parallel.specs.Seating.{IsItemsPart}
 use Rattle.check_parallel.proofs.Answering.{ok-done}
 use Rattle.check_parallel.proofs.OwnSeats.{answers-by, own-seats, part-whole, places-by}

@@ -32,13 +32,14 @@ returns-clause-ran g c =
       driving = driving-from c.args.driver.now.worker c.run_beside.new.driver.worker c.end_cycle.new.procs.items c.end_cycle.new.driver mid.driving.same e.driving;
       collecting = e.collecting;
       answered = λ w. e.keeps w _ _ (mid.answered w);
+      riders = mid.riders;
       flushed = e.flushed;
       settled = e.settled;
     }
 
 pub returns-clause-sampled : goal.returns-clause-sampled
 returns-clause-sampled g c =
-    sampled-keeps c.args.queues.events (gains c.args.given.now.answers.items c.run_beside.new.given.answers.items) (gains c.args.given.now.sampled.items c.run_beside.new.given.sampled.items) c.args.procs.now.items c.run_beside.new.procs.items c.end_cycle.new.procs.items
+    sampled-keeps c.args.queues.riding c.args.queues.events (gains c.args.given.now.answers.items c.run_beside.new.given.answers.items) (gains c.args.given.now.sampled.items c.run_beside.new.given.sampled.items) c.args.procs.now.items c.run_beside.new.procs.items c.end_cycle.new.procs.items
     c.in_ok-run_beside.ensures.sampled (let n = c.in_ok-run_beside.ensures.procs in omega (arith, c.args.procs.now.ok.0, c.run_beside.new.procs.ok.0)) c.in_ok-end_cycle.ensures.countdowns
 
 pub returns-clause-counts : goal.returns-clause-counts

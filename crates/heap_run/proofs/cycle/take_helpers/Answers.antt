@@ -28,7 +28,7 @@ take_in-requires-clause-back c held =
     let s = c.args.start.now in
     let i = c.loop-back.invariant in
     let split = of-split _ i.is c.loop-back.lanes.items c.pop.new.self.items c.in-Some.lane i.still c.in-Some.ensures.items in
-    back-joins c.args.shop.now.shared.now c.args.shop.now.ring.now c.args.shop.now.marks.now s c.args.queues.now.events c.args.queues.now.buckets (length s.procs.value.items) split.0 c.args.procs.now.items c.args.given.now c.in-Some.lane c.loop-back.driver c.requires.starts i.taken split.3 held
+    back-joins c.args.queues.now.riding c.args.shop.now.shared.now c.args.shop.now.ring.now c.args.shop.now.marks.now s c.args.queues.now.events c.args.queues.now.buckets (length s.procs.value.items) split.0 c.args.procs.now.items c.args.given.now c.in-Some.lane c.loop-back.driver c.requires.starts i.taken split.3 held
 
 pub loop-back-preserved : goal.loop-back-preserved
 loop-back-preserved c =
@@ -39,7 +39,7 @@ loop-back-preserved c =
     let rest = split.1 in
     let high : RisesFrom 64 (n ∷ rest) = subst (λ (l : List ℕ). RisesFrom 64 l) split.2 i.high in
     let outs : HasOut s.driver.value (n ∷ rest) c.loop-back.driver = subst (λ (l : List ℕ). HasOut s.driver.value l c.loop-back.driver) split.2 i.outs in
-    let both = taken-help c.args.shop.now.shared.now c.args.shop.now.ring.now c.args.shop.now.marks.now s c.args.queues.now.events c.args.queues.now.buckets (length s.procs.value.items) n rest c.args.procs.now.items c.args.given.now c.in-Some.lane c.loop-back.driver c.take_in.new.driver
+    let both = taken-help c.args.queues.now.riding c.args.shop.now.shared.now c.args.shop.now.ring.now c.args.shop.now.marks.now s c.args.queues.now.events c.args.queues.now.buckets (length s.procs.value.items) n rest c.args.procs.now.items c.args.given.now c.in-Some.lane c.loop-back.driver c.take_in.new.driver
     c.requires.starts i.taken outs refl (let f = c.requires.starts.few in let h = high.0 in omega arith) split.3 c.in_ok-take_in.ensures.ran c.in_ok-take_in.ensures.taken in
     record {
       many = (let m = i.many in let l = ap (λ (l : List _). length l) c.in-Some.ensures.items in let k = length_push c.pop.new.self.items c.in-Some.lane in omega arith);

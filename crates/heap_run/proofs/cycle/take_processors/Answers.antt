@@ -16,4 +16,4 @@ returns c =
     let l = c.requires.out.taken.lists in
     let a = c.requires.starts.answers in
     let all : c.loop-number.number ≡ length c.args.start.now.procs.value.items = omega (arith, c.args.given.now.answers.ok.0) in
-    record { out = subst (λ (n : ℕ). AreStillOut c.args.start.now c.args.shop.now.marks.now c.args.queues.now.events c.args.queues.now.buckets c.args.background n c.loop-number.out.lanes.items c.loop-number.out.resting.items c.loop-number.procs.items c.loop-number.given c.loop-number.driver) all c.loop-number.invariant }
+    record { out = subst (λ (n : ℕ). AreStillOut c.args.queues.now.riding c.args.start.now c.args.shop.now.marks.now c.args.queues.now.events c.args.queues.now.buckets c.args.background n c.loop-number.out.lanes.items c.loop-number.out.resting.items c.loop-number.procs.items c.loop-number.given c.loop-number.driver) all c.loop-number.invariant }

@@ -1,7 +1,7 @@
 use Rattle.std.proofs.Common.{◌∙◌, ap}
 use Rattle.span_state.specs.declared.sweep.SweepNote.{SweepNote}
 use Rattle.sweep_lists.specs.Room.{Roomy}
-use Rattle.run_lists.proofs.Queued.{push-more}
+use Rattle.heap_run.proofs.Queued.{push-more}
 use Rattle.heap_run.proofs.turns.collect.Goals as goal
 
 pub loop-note-preserved : goal.loop-note-preserved

@@ -46,7 +46,7 @@ returns-clause-hits c =
       cached = slot_is i.number i.flushed i.slots.items i.sampler c.args.proc.now c.proc.view_is k (Some b) e;
       lowest = c.in-Some-next_free.ensures;
       placed = let s = c.note_alloc.ensures.same in record { page = s.page; pages = s.pages; slot = s.slot; count = s.count; class = s.class; life = s.life; next = c.note_alloc.ensures.next; bits = c.note_alloc.ensures.body };
-      address = c.address.ensures ∙ ap (λ (z : ℕ). address_of d.page z x) c.slot_size.ensures.size;
+      address = c.address.ensures.address ∙ ap (λ (z : ℕ). address_of d.page z x) c.slot_size.ensures.size;
       cache = slot_written i.number i.flushed i.slots.items i.sampler c.args.proc.now c.proc.view_is k (Some d);
       worker = c.note_alloc.ensures.view;
     }

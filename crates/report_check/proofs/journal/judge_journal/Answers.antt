@@ -7,7 +7,7 @@ use Rattle.report_check.proofs.journal.judge_journal.Goals as goal
 pub loop-line-init : goal.loop-line-init
 loop-line-init c = record {
   number = refl;
-  lines = replayed-none c.args.trace.now c.args.report.now c.as_slice-line-items.result.now c.in_ok-replay.replay _ _ _ c.in_ok-replay.ensures c.procs_of.ensures refl refl;
+  lines = replayed-none c.args.trace.now c.args.report.now c.as_slice-line-items.result.now c.in_ok-replay.replay _ _ _ c.in_ok-replay.ensures c.caching_procs.ensures refl refl;
 }
 
 pub returns-then-last-cycle-clause-fault : goal.returns-then-last-cycle-clause-fault

@@ -1,6 +1,6 @@
 use Rattle.span_set.proofs.Tallies.{frees-both, frees-none, may-still}
 use Rattle.std.proofs.Common.{ap}
-use Rattle.sweeper.proofs.Making.{made, made_then, wanted}
+use Rattle.sweeper.proofs.Making.{made, made_then, reclaim_wanted, wanted}
 use Rattle.sweeper.proofs.spans.new_span.Goals as goal
 
 pub returns-in-Ok-Some-clause-did : goal.returns-in-Ok-Some-clause-did
@@ -19,3 +19,6 @@ sweep_and_take-requires-clause-counts g c = let m = c.args.shop.now.marks.now in
 pub returns-in-Ok-None-clause-tally : goal.returns-in-Ok-None-clause-tally
 returns-in-Ok-None-clause-tally g c = let m = c.args.shop.now.marks.now in let h = c.args.hand.now in let e = c.cut_or_take.ensures in let d = c.cut_or_take.new.hand in
     frees-both m h d c.sweep_and_take.new.hand (frees-both m h c.reclaim.new.hand d c.reclaim.ensures.tally (frees-none m c.reclaim.new.hand d (ap (λ r. r.items) e.notes) e.tally)) c.sweep_and_take.ensures.tally
+
+pub returns-in_default-clause-did : goal.returns-in_default-clause-did
+returns-in_default-clause-did g c = reclaim_wanted c.args.n c.args.class c.args.hand.now c.reclaim.new.hand _ c.in_default.ensures.did

@@ -31,7 +31,8 @@ bounds-answers-number c =
     let number = c.len-number.ensures in
     let ok = c.loop-event.parts.ok.0 in
     let answers = c.requires.answers in
-    let inside = few.1 in
+    let inside = few.0 in
+    let most = few.1 in
     let all = few.2 in
     omega arith
 
@@ -47,7 +48,8 @@ offset_bounds-answers-number c =
     let number = c.len-number.ensures in
     let ok = c.loop-event.parts.ok.0 in
     let answers = c.requires.answers in
-    let inside = few.1 in
+    let inside = few.0 in
+    let most = few.1 in
     let all = few.2 in
     omega arith
 
@@ -63,7 +65,8 @@ overflow_cast-number c =
     let number = c.len-number.ensures in
     let ok = c.loop-event.parts.ok.0 in
     let answers = c.requires.answers in
-    let inside = few.1 in
+    let inside = few.0 in
+    let most = few.1 in
     let all = few.2 in
     omega arith
 
@@ -90,7 +93,8 @@ next_part-requires c =
     let number = c.len-number.ensures in
     let ok = c.loop-event.parts.ok.0 in
     let answers = c.requires.answers in
-    let inside = few.1 in
+    let inside = few.0 in
+    let most = few.1 in
     let all = few.2 in
     let proc = (event-fits t c.args.cycle c.loop-event.event-index events no_event c.requires.limited c.requires.cycle are lt).proc in
     let from = c.from.ensures in
@@ -111,7 +115,8 @@ loop-event-preserved c =
     let number = c.len-number.ensures in
     let ok = c.loop-event.parts.ok.0 in
     let answers = c.requires.answers in
-    let inside = few.1 in
+    let inside = few.0 in
+    let most = few.1 in
     let all = few.2 in
     let k = c.loop-event.event-index in
     let e = get_or events k no_event in

@@ -1,5 +1,5 @@
-use Rattle.std.proofs.Common.{arith}
-use Rattle.cycle_history.proofs.Firsts.{before-all}
+use Rattle.std.proofs.Common.{◌+◌, arith}
+use Rattle.cycle_history.proofs.Firsts.{before-all, before-le}
 use Rattle.tiny_alloc.proofs.Parted.{parts-all}
 use Rattle.tiny_alloc.proofs.parts.parts_of.Goals as goal
 
@@ -12,3 +12,9 @@ returns-clause-parts c =
     let done = c.loop-cycle.invariant.done in
     let answers = c.requires.answers in
     parts-all t c.args.answers.now c.loop-cycle.parts.items c.loop-cycle.invariant.parts (omega arith)
+
+pub add_parts-requires-clause-answers : goal.add_parts-requires-clause-answers
+add_parts-requires-clause-answers c =
+    let answers = c.requires.answers in
+    let le = before-le c.args.trace.now (c.loop-cycle.cycle + 1) in
+    omega arith

@@ -1,4 +1,4 @@
-use Rattle.std.proofs.Common.{◌≡◌, ℕ, ◌+◌, ◌<◌, ◌≤◌, List, length, refl, sym, ◌∙◌, ap, subst, arith}
+use Rattle.std.proofs.Common.{◌≡◌, ℕ, ◌+◌, ◌<◌, List, length, refl, sym, ◌∙◌, ap, subst, arith}
 use Rattle.trace_reader.specs.declared.trace.Cycle.{Cycle}
 use Rattle.cycle_history.specs.Before.{objects_before}
 use Rattle.cycle_history.proofs.Firsts.{before-all}

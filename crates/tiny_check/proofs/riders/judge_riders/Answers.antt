@@ -1,19 +1,21 @@
-use Rattle.std.proofs.Common.{ℕ, ◌+◌, refl, ap}
-use Rattle.tiny_check.proofs.Riding.{riding-all, riding-first, riding-more, riding-none}
+use Rattle.std.proofs.Common.{List, subst}
+use Rattle.cycle_history.specs.declared.Answer.{Answer}
+use Rattle.report_check.specs.declared.fault.CheckFault.{CheckFault}
+use Rattle.report_check.specs.Fault.{IsFaultOf}
+use Rattle.report_check.proofs.Faults.{err-map}
+use Rattle.tiny_alloc.specs.Sound.{AreRiding}
+use Rattle.tiny_check.specs.Fault.{BreaksRiding, IsFaultTiny}
+use Rattle.tiny_check.proofs.Judged.{base-riding, base-sound, on-map, those-riders}
 use Rattle.tiny_check.proofs.riders.judge_riders.Goals as goal
 
-pub loop-rider-init : goal.loop-rider-init
-loop-rider-init c = riding-none c.args.answers.now c.args.riders.now
+pub returns-clause-met : goal.returns-clause-met
+returns-clause-met c = λ t is met.
+    on-map c.judge_riding.result
+    (λ (riding : AreRiding t c.as_slice.result.now). base-sound t c.args.report.now c.args.base.now is met (subst (λ (xs : List Answer). AreRiding t xs) c.as_slice.ensures riding))
+    (c.judge_riding.ensures.riding t (those-riders t c.args.report.now c.args.base.now c.as_slice.result.now c.as_slice-2.result.now is c.as_slice.ensures c.as_slice-2.ensures))
 
-pub loop-rider-preserved : goal.loop-rider-preserved
-loop-rider-preserved c =
-    riding-more c.args.answers.now c.args.riders.now c.loop-rider.rider-index _ c.loop-rider-test.true c.loop-rider.invariant c.if-not-is_riding.ensures
-
-pub returns-clause-riding : goal.returns-clause-riding
-returns-clause-riding c = λ t those. riding-all t c.args.answers.now c.args.riders.now c.loop-rider.rider-index c.loop-rider.invariant c.loop-rider-test.false those
-
-pub returns-then-not-is_riding-clause-fault : goal.returns-then-not-is_riding-clause-fault
-returns-then-not-is_riding-clause-fault c = λ t those. (
-  refl,
-  riding-first t c.args.answers.now c.args.riders.now c.loop-rider.rider-index _ _ c.loop-rider.invariant c.loop-rider-test.true c.if-not-is_riding.ensures (ap (λ (k : ℕ). k + 1) c.from.ensures) those,
-)
+pub returns-clause-broken : goal.returns-clause-broken
+returns-clause-broken c = λ t is met.
+    err-map c.judge_riding.result (IsFaultOf 10 (BreaksRiding t c.as_slice.result.now)) (IsFaultTiny t c.args.report.now)
+    (λ (fault : CheckFault) broken. base-riding t c.args.report.now c.args.base.now fault is met (subst (λ (xs : List Answer). IsFaultOf 10 (BreaksRiding t xs) fault) c.as_slice.ensures broken))
+    (c.judge_riding.ensures.fault t (those-riders t c.args.report.now c.args.base.now c.as_slice.result.now c.as_slice-2.result.now is c.as_slice.ensures c.as_slice-2.ensures))

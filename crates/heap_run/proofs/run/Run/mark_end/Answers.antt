@@ -1,8 +1,9 @@
-use Rattle.std.proofs.Common.{◌≡◌, ℕ, suc, ◌+◌, ◌-◌, ◌<◌, ◌≤◌, List, length, reverse, refl, ◌∙◌, ap, arith}
+use Rattle.std.proofs.Common.{◌≡◌, ℕ, suc, ◌+◌, ◌-◌, ◌<◌, ◌≤◌, List, length, reverse, refl, sym, ◌∙◌, ap, arith, subst}
 use Rattle.std.proofs.lemmas.List.{length-map}
 use Rattle.cycle_history.proofs.OfObjects.{answers-before}
 use Rattle.cycle_history.specs.Marked.{AreMarksOf}
-use Rattle.cycle_history.specs.Before.{objects_before}
+use Rattle.cycle_history.specs.Before.{AreAlike, objects_before}
+use Rattle.cycle_history.proofs.Alike.{Both, found-alike, marks-alike}
 use Rattle.cycle_history.specs.Requests.{region_of}
 use Rattle.sound_run.proofs.OfObjects.{run-places}
 use Rattle.run_laws.proofs.MarksOf.{live-apart}
@@ -95,15 +96,20 @@ next_cycle-requires-clause-few c =
     (few-answers c.args.trace.now c.args.cycle old c.requires.limits inside ran ran.objects ran.asked)
 
 pub returns-clause-begun : goal.returns-clause-begun
-returns-clause-begun c =
-    let t = c.args.trace.now in
-    let ran = c.requires.ran in
+returns-clause-begun c t limits more alike ran =
+    let b = c.args.trace.now in
+    let own = c.requires.ran in
     let old : Run = c.args.self.now in
     let n : c.args.cycle + 1 ≡ suc c.args.cycle = omega arith in
     let e : Hand = record { worker = c.reset.new.driver; notes = old.driver.notes; tally = old.driver.tally } in
-    let few : length old.procs.items ≤ 64 = (let p = ran.set.procs in let h = c.requires.limits.header.procs.1 in omega arith) in
+    let few : length old.procs.items ≤ 64 = (let p = ran.set.procs in let h = limits.header.procs.1 in omega arith) in
     let r = has-reset old.procs.items old.driver e ran.set.parts few ran.set.driving ran.flushed c.reset.ensures refl in
-    let found : AreMarksOf t (suc c.args.cycle) old.answers old.sampled old.buckets c.marks_of.new.marks = rw n at c.in_ok-marks_of.ensures.marks in
+    let like : AreAlike (suc c.args.cycle) b t = subst (λ (m : ℕ). AreAlike m b t) n alike in
+    let here = answers-before b (suc c.args.cycle) old.answers own.objects own.asked in
+    let there = answers-before t (suc c.args.cycle) old.answers ran.objects ran.asked in
+    let both : Both (suc c.args.cycle) b t old.answers = record { alike = like; inside = omega arith } in
+    let found : AreMarksOf t (suc c.args.cycle) old.answers old.sampled old.buckets c.marks_of.new.marks =
+    marks-alike (suc c.args.cycle) b t old.answers old.sampled old.buckets c.marks_of.new.marks both (subst (λ (m : ℕ). AreMarksOf b m old.answers old.sampled old.buckets c.marks_of.new.marks) n c.in_ok-marks_of.ensures.marks) in
     let new : Run = record {
       shared = old.shared;
       driver = record { worker = c.next_generation.new.driver; notes = old.driver.notes; tally = c.next_cycle.new.tally };
@@ -117,9 +123,8 @@ returns-clause-begun c =
       places = c.marks_of.new.places;
       clear = c.marks_of.new.clear;
     } in
-    let kept : length c.marks_of.new.places ≡ objects_before t (suc c.args.cycle) = rw n at c.in_ok-marks_of.ensures.kept in
-    let least = some-cycle 0 (λ _. ⊥) t.cycles c.requires.limits.cycles in
-    let inside : c.args.cycle < length t.cycles = (let b = c.requires.before in omega arith) in
+    let kept : length c.marks_of.new.places ≡ objects_before t (suc c.args.cycle) = subst (λ (m : ℕ). length c.marks_of.new.places ≡ objects_before b m) n c.in_ok-marks_of.ensures.kept ∙ sym here ∙ there in
+    let inside : c.args.cycle < length t.cycles = omega arith in
     let begun : HasBegun t (suc c.args.cycle) new = mark-begins t c.args.cycle old new e c.marks_of.new.marks c.marks_of.new.marks.pairs ran (record {
       reset = r;
       same = refl;
@@ -145,7 +150,7 @@ returns-clause-begun c =
         read = c.in_ok-next_cycle.ensures.read;
       };
       kept = kept;
-      places = c.in_ok-marks_of.ensures.found;
+      places = found-alike (suc c.args.cycle) b t old.answers c.marks_of.new.places both c.in_ok-marks_of.ensures.found;
       clear = c.in_ok-marks_of.ensures.clear;
     }) in
-    rw n begun
+    subst (λ (m : ℕ). HasBegun t m new) (sym n) begun

@@ -1,11 +1,11 @@
 use Rattle.std.proofs.Common.{ℕ, refl, ap, ◌∙◌, ◌*◌, arith}
-use Rattle.heap_run.proofs.Begins.{begun-first, first_seen}
+use Rattle.heap_run.proofs.Begins.{begun-first, first_seen, started-as}
 use Rattle.heap_run.proofs.run.Run.new.Goals as goal
 
 pub returns-clause-begun : goal.returns-clause-begun
-returns-clause-begun c =
-    begun-first c.args.trace.now 70 136 _ refl (record {
-      worker = c.new-3.ensures.worker ∙ c.in_ok-shared.ensures ∙ ap (λ (k : ℕ). first_seen c.in_ok-shared.shared (512 * c.args.trace.now.header.chunks) c.args.trace.now.header.goal k 70) c.procs_of.ensures;
+returns-clause-begun c t header named =
+    begun-first t 70 136 _ refl (started-as c.args.trace.now t 70 136 _ header named (record {
+      worker = c.new-3.ensures.worker ∙ c.in_ok-shared.ensures ∙ ap (λ (k : ℕ). first_seen c.in_ok-shared.shared (512 * c.args.trace.now.header.chunks) c.args.trace.now.header.goal k 70) c.caching_procs.ensures;
       notes = ap (λ n. n.items) c.new-3.ensures.notes;
       procs = (let a = c.in_ok-procs.ensures.length in omega (arith, c.in_ok-procs.procs.ok.0));
       empty = c.in_ok-procs.ensures.empty;
@@ -25,4 +25,4 @@ returns-clause-begun c =
       order = c.in_ok-profile.ensures.order;
       before = c.in_ok-profile.ensures.before;
       lines = c.in_ok-profile.ensures.lines;
-    })
+    }))

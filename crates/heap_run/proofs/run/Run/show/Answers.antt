@@ -1,15 +1,11 @@
-use Rattle.std.proofs.Common.{suc, ◌-◌, ◌<◌, ◌≤◌, List, length, Option, Some, Result, Ok, Err, sym, ◌∙◌, ap, subst, arith}
-use Rattle.std.specs.Prelude.{OnOk}
+use Rattle.std.proofs.Common.{suc, ◌-◌, ◌<◌, ◌≤◌, List, length, Option, Some, sym, ◌∙◌, ap, subst, arith}
 use Rattle.profile_cycle.specs.declared.counts.Count.{Count}
 use Rattle.heap_run.specs.Watching.{HasShown}
 use Rattle.heap_run.proofs.Running.{few-answers, some-cycle}
 use Rattle.heap_run.proofs.Showing.{counts-long, published-next}
 use Rattle.heap_run.proofs.Telling.{few-objects}
+use Rattle.heap_run.proofs.Results.{on-ok}
 use Rattle.heap_run.proofs.run.Run.show.Goals as goal
-
-on-ok : {A E P Q : Type 0} (r : Result A E) → (P → Q) → OnOk r P → OnOk r Q
-on-ok (Ok x) f h = f h
-on-ok (Err e) f h = tt
 
 pub counts-requires-clause-few : goal.counts-requires-clause-few
 counts-requires-clause-few g c =
@@ -30,11 +26,11 @@ publish-requires-clause-buckets g c =
 pub returns-clause-shown : goal.returns-clause-shown
 returns-clause-shown g c =
     let b = g.B.Board.buckets in
-    let t = c.args._trace.now in
     let run = c.args.self.now in
     let k = c.args.cycle in
     let p = c.in-Some.publisher in
-    let was = subst (λ (p : Option (List (List Count))). HasShown b t (suc k) (k - 1) run p) c.in-Some.is c.requires.before in
     let some : 1 ≤ k = (let no = c.if-cycle-eq0.false in omega arith) in
-    on-ok c.publish.result (λ more. subst (λ (ps : List (List Count)). HasShown b t (suc k) k run (Some ps)) (sym more)
-    (was.0, published-next t k run p c.in_ok-counts.counts some c.requires.ran c.in_ok-counts.ensures.counts was.1)) c.publish.ensures.ok
+    on-ok c.publish.result (λ more t ran before. (
+    let was = subst (λ (p : Option (List (List Count))). HasShown b t (suc k) (k - 1) run p) c.in-Some.is before in
+    subst (λ (ps : List (List Count)). HasShown b t (suc k) k run (Some ps)) (sym more)
+    (was.0, published-next t k run p c.in_ok-counts.counts some ran c.in_ok-counts.ensures.counts was.1))) c.publish.ensures.ok

@@ -5,7 +5,7 @@ use Rattle.page_alloc.specs.Blocks.{HasNoBlock, IsLeastBlock}
 use Rattle.page_cache.specs.Blocks.{page_count}
 use Rattle.page_alloc.specs.FreeRuns.{HasNoRun}
 use Rattle.page_bitmap.specs.declared.line.Line.{Line}
-use Rattle.sound_run.specs.Run.{IsJournal}
+use Rattle.page_alloc.specs.Journal.{LegalFor}
 use Rattle.span_laws.specs.CacheAnswers.{IsEmptyCache}
 use Rattle.span_laws.specs.OwnSteps.{after_said}
 use Rattle.span_laws.specs.TakeAnswers.{cycle_at}
@@ -31,13 +31,13 @@ returns-in_default-pull g c =
     let viewed : c.unlock_barren.new.seat.me.0 ≡ unlocks (says FindsNoPage (locks h s)) = ap (λ (z : SeatState). z.0) c.unlock_barren.ensures.view ∙ ap (λ w. unlocks (says FindsNoPage w)) locked in
     let now : known c.unlock_barren.new.seat.table_id c.unlock_barren.new.seat.me.0 ≡ after_said FindsNoPage c.args.w.now =
     (λ i. known ((c.unlock_barren.ensures.table ∙ c.lock-heap.ensures.table) i) (viewed i)) ∙ ap (after_said FindsNoPage) c.w.view_is in
-    let region = more.region ∙ seen.region ∙ ap (λ (k : Seen). k.view.region) c.w.view_is in let goal = more.goal ∙ seen.goal ∙ ap (λ (k : Seen). k.view.goal) c.w.view_is in (
+    let region = more.region ∙ seen.region ∙ ap (λ (k : Seen). k.view.region) c.w.view_is in let goal = more.goal ∙ seen.goal ∙ ap (λ (k : Seen). k.view.goal) c.w.view_is in let procs = ap (λ (k : Seen). k.view.procs) c.w.view_is in (
       now,
       (
         c.reserve_pull.new.self.past,
         (λ past is. more.past ∙ seen.told past (ap (λ (k : Seen). k.journal) c.w.view_is ∙ is)),
         (
-          subst (λ (z : ℕ × ℕ × List Line). IsJournal z.0 z.1 z.2) (λ j. ((sym more.region ∙ region) j, (sym more.goal ∙ goal) j, sym more.past j)) seen.legal,
+          subst (λ (z : ℕ × ℕ × ℕ × List Line). LegalFor z.0 z.1 z.2 z.3) (λ j. (procs j, (sym more.region ∙ region) j, (sym more.goal ∙ goal) j, sym more.past j)) seen.legal,
           subst (λ (r : ℕ). HasNoRun r c.reserve_pull.new.self.past 1) region c.in_default-pull.ensures.none,
         ),
       ),
@@ -57,14 +57,14 @@ returns g c =
     let viewed : c.unlock-2.new.seat.me.0 ≡ unlocks (locks c.pull.new.self (says (Pulls line (cycle_at s.view.generation) s.number block) (locks h s))) = ap (λ (z : SeatState). z.0) c.unlock-2.ensures.view ∙ ap unlocks pulled in
     let now : known c.unlock-2.new.seat.table_id c.unlock-2.new.seat.me.0 ≡ after_said (Pulls line (cycle_at c.args.w.now.view.generation) c.args.w.now.number block) c.args.w.now =
     (λ i. known ((c.unlock-2.ensures.table ∙ c.pull_block.ensures.table ∙ c.lock-heap.ensures.table) i) (viewed i)) ∙ ap (λ (k : Seen). after_said (Pulls line (cycle_at k.view.generation) k.number block) k) c.w.view_is in
-    let region = more.region ∙ seen.region ∙ ap (λ (k : Seen). k.view.region) c.w.view_is in let goal = more.goal ∙ seen.goal ∙ ap (λ (k : Seen). k.view.goal) c.w.view_is in (
+    let region = more.region ∙ seen.region ∙ ap (λ (k : Seen). k.view.region) c.w.view_is in let goal = more.goal ∙ seen.goal ∙ ap (λ (k : Seen). k.view.goal) c.w.view_is in let procs = ap (λ (k : Seen). k.view.procs) c.w.view_is in (
       c.reserve_pull.new.self.past,
       line,
       block,
       sym c.count.ensures,
       record {
         told = λ past is. more.past ∙ seen.told past (ap (λ (k : Seen). k.journal) c.w.view_is ∙ is);
-        journal = subst (λ (z : ℕ × ℕ × List Line). IsJournal z.0 z.1 z.2) (λ j. ((sym more.region ∙ region) j, (sym more.goal ∙ goal) j, sym more.past j)) seen.legal;
+        journal = subst (λ (z : ℕ × ℕ × ℕ × List Line). LegalFor z.0 z.1 z.2 z.3) (λ j. (procs j, (sym more.region ∙ region) j, (sym more.goal ∙ goal) j, sym more.past j)) seen.legal;
         number = sym (ap (λ (l : List Line). length l) c.journal.ensures.lines) ∙ length-reverse c.journal.result.now;
         least = subst (λ (r : ℕ). IsLeastBlock r c.reserve_pull.new.self.past block.page (page_count block)) region how.least;
         pages = how.pages;

@@ -1,6 +1,6 @@
 use Rattle.std.proofs.Common.{◌≡◌, ℕ, List, sym, ap, ◌∙◌, subst, arith}
 use Rattle.page_alloc.specs.FreeRuns.{HasNoRun}
-use Rattle.sound_run.specs.Run.{IsJournal}
+use Rattle.page_alloc.specs.Journal.{LegalFor}
 use Rattle.page_alloc.proofs.Lives.{span_pages}
 use Rattle.page_bitmap.specs.declared.line.Line.{Line}
 use Rattle.span_laws.specs.TakeAnswers.{cycle_at}
@@ -26,13 +26,13 @@ returns-in-Err g c =
     ap (λ (z : SeatState). z.0) c.unlock_missed.ensures.view ∙ (λ i. unlocks (says (Misses c.in-Err.none.line (cycle_at (locked i).view.generation) c.args.n c.args.class) (locked i))) in
     let now : known c.unlock_missed.new.seat.table_id c.unlock_missed.new.seat.me.0 ≡ after_said (Misses c.in-Err.none.line (cycle_at c.args.w.now.view.generation) c.args.n c.args.class) c.args.w.now =
     (λ i. known ((c.unlock_missed.ensures.table ∙ c.lock-heap.ensures.table) i) (viewed i)) ∙ ap (λ (k : Seen). after_said (Misses c.in-Err.none.line (cycle_at k.view.generation) c.args.n c.args.class) k) c.w.view_is in
-    let region = more.region ∙ seen.region ∙ ap (λ (k : Seen). k.view.region) c.w.view_is in let goal = more.goal ∙ seen.goal ∙ ap (λ (k : Seen). k.view.goal) c.w.view_is in (
+    let region = more.region ∙ seen.region ∙ ap (λ (k : Seen). k.view.region) c.w.view_is in let goal = more.goal ∙ seen.goal ∙ ap (λ (k : Seen). k.view.goal) c.w.view_is in let procs = ap (λ (k : Seen). k.view.procs) c.w.view_is in (
       now,
       (
         c.reserve_line.new.self.past,
         sym c.in-Err.ensures.line,
         (
-          subst (λ (z : ℕ × ℕ × List Line). IsJournal z.0 z.1 z.2) (λ j. ((sym more.region ∙ region) j, (sym more.goal ∙ goal) j, sym more.past j)) seen.legal,
+          subst (λ (z : ℕ × ℕ × ℕ × List Line). LegalFor z.0 z.1 z.2 z.3) (λ j. (procs j, (sym more.region ∙ region) j, (sym more.goal ∙ goal) j, sym more.past j)) seen.legal,
           subst (λ (r : ℕ). HasNoRun r c.reserve_line.new.self.past c.args.n) region c.in-Err.ensures.missed.may_follow.1,
         ),
       ),

@@ -2,7 +2,7 @@ use Rattle.std.proofs.Common.{arith, ◌≡◌, ℕ, true, false, true≢false, 
 use Rattle.std.specs.Prelude.{None, Some, Option, IfNone, IfSome}
 use Rattle.std.specs.Option.{is_some}
 use Rattle.page_alloc.specs.FreeRuns.{HasNoRun, IsFirstFit, IsFree}
-use Rattle.sound_run.specs.Run.{IsJournal}
+use Rattle.page_alloc.specs.Journal.{LegalFor}
 use Rattle.page_alloc.proofs.Lives.{span_pages}
 use Rattle.page_bitmap.specs.declared.line.Line.{Line}
 use Rattle.span_laws.specs.Views.{Seen}
@@ -39,7 +39,7 @@ returns-then-is_none g c =
         h.past,
         (λ known is. seen.told known (ap (λ (k : Seen). k.journal) c.w.view_is ∙ is)),
         (
-          subst (λ (z : Seen). IsJournal z.view.region z.view.goal h.past) c.w.view_is (subst (λ (z : ℕ × ℕ). IsJournal z.0 z.1 h.past) (λ i. (seen.region i, seen.goal i)) seen.legal),
+          subst (λ (z : Seen). LegalFor z.view.procs z.view.region z.view.goal h.past) c.w.view_is (subst (λ (z : ℕ × ℕ). LegalFor c.w.inside.seat.me.0.view.procs z.0 z.1 h.past) (λ i. (seen.region i, seen.goal i)) seen.legal),
           subst (λ (z : Seen). HasNoRun z.view.region h.past c.args.n) c.w.view_is (subst (λ (z : ℕ). HasNoRun z h.past c.args.n) seen.region none),
         ),
       ),

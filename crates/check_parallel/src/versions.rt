@@ -1,0 +1,75 @@
+//! The rules of a trace of any version.
+
+ghost use Rattle.std.specs.Prelude.{◌≡◌, ◌≤◌, IfErr, OnOk};
+ghost use Rattle.cycle_history.specs.Before.{IsLimited};
+ghost use Rattle.report_check.specs.declared.fault.CheckFault.TheVariants.{NoMemory as OutOfMemory};
+ghost use Rattle.tiny_check.specs.Fault.{IsFault, IsFaultTiny, MeetsTiny, MeetsVersion};
+
+use crate::judge::check_parallel;
+use cycle_history::{Report, TINY_VERSION};
+use report_check::CheckFault;
+use std::alloc::Global;
+use std::thread::Threads;
+use tiny_check::{base_report, judge_riders};
+use trace_reader::Trace;
+
+/// Tries the rules of a sound report of a trace of any version, as `check` of `tiny_check` does, with the objects in so many pieces:
+/// the first that the report breaks, with the first of its lines that breaks it. A sound report is refused for want of memory alone.
+///
+/// Of a trace with tiny objects the base is made once, and judged in pieces. Rule 1 of the trace itself and rule 10 are judged whole.
+pub fn check_version_parallel<R: Threads + Sync>(
+    rt: &R,
+    alloc: Global,
+    trace: &Trace,
+    report: &Report,
+    pieces: u32,
+) -> Result<(), CheckFault>
+    requires limited { IsLimited trace.now }
+    requires some { 1 ≤ pieces }
+    requires few { pieces ≤ 64 }
+    ensures met { OnOk result (MeetsVersion trace.now report.now) }
+    ensures broken { IfErr result (IsFault trace.now report.now) }
+    ensures sound { MeetsVersion trace.now report.now → IfErr result (λ fault. fault ≡ OutOfMemory) }
+{
+    judge_version(rt, alloc, trace, report, pieces)
+}
+
+// The rules of the trace's version.
+fn judge_version<R: Threads + Sync>(
+    rt: &R,
+    alloc: Global,
+    trace: &Trace,
+    report: &Report,
+    pieces: u32,
+) -> Result<(), CheckFault>
+    requires limited { IsLimited trace.now }
+    requires some { 1 ≤ pieces }
+    requires few { pieces ≤ 64 }
+    ensures met { OnOk result (MeetsVersion trace.now report.now) }
+    ensures broken { IfErr result (IsFault trace.now report.now) }
+{
+    if trace.header.version < TINY_VERSION {
+        check_parallel(rt, alloc, trace, report, pieces)
+    } else {
+        judge_tiny(rt, alloc, trace, report, pieces)
+    }
+}
+
+// The ten rules.
+fn judge_tiny<R: Threads + Sync>(
+    rt: &R,
+    alloc: Global,
+    trace: &Trace,
+    report: &Report,
+    pieces: u32,
+) -> Result<(), CheckFault>
+    requires limited { IsLimited trace.now }
+    requires some { 1 ≤ pieces }
+    requires few { pieces ≤ 64 }
+    ensures met { OnOk result (MeetsTiny trace.now report.now) }
+    ensures broken { IfErr result (IsFaultTiny trace.now report.now) }
+{
+    let base = base_report(alloc, trace, report)?;
+    check_parallel(rt, alloc, &base.trace, &base.report, pieces)?;
+    judge_riders(report, &base)
+}
