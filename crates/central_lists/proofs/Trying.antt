@@ -40,8 +40,8 @@ use Rattle.span_set.specs.declared.answers.PopBase.TheVariants.{Popped as Popped
 use Rattle.span_set.specs.Pops.{LooksLast, PopsUnswept}
 use Rattle.span_set.specs.Sweeps.{note_of}
 use Rattle.span_set.proofs.Numbers.{swept_is, swept_low, unswept_is}
-use Rattle.central_lists.specs.Looks.{SawEmpty, SweptIt, Whatever}
-use Rattle.central_lists.specs.Works.{Does, Says, just, nothing}
+use Rattle.central_lists.specs.Looks.{SawEmpty, SweptIt, AnyLog}
+use Rattle.central_lists.specs.Works.{HandSearches, Says, just, nothing}
 use Rattle.central_lists.specs.Tries.{Sweeping, SweepsOut}
 use Rattle.central_lists.proofs.Saying.{class_here, found, last_look, looks_note, looks_sweep, pushed, says-trans, swept, tried}
 
@@ -112,7 +112,7 @@ module _ (g class full : ℕ) where
   }
 
   -- a set was looked at
-  pub looked_at : (set : ℕ) (a d : Hand) (head tail : ℕ) → LooksLast set head tail a.worker d.worker → d.notes.items ≡ a.notes.items → Does g class 0 nothing nothing Whatever a d
+  pub looked_at : (set : ℕ) (a d : Hand) (head tail : ℕ) → LooksLast set head tail a.worker d.worker → d.notes.items ≡ a.notes.items → HandSearches g class 0 nothing nothing AnyLog a d
   looked_at set a d head tail l notes = let value = a.worker.view.generation in let said = Looked set head tail ∷ (l.said ++ Read 1 value ∷ []) in
       let h : Part = record a.worker.view.own { log = Looked set head tail ∷ (l.said ++ Read 1 value ∷ a.worker.view.own.log); read = l.cells ++ a.worker.view.own.read } in record {
         said = said;
@@ -128,7 +128,7 @@ module _ (g class full : ℕ) where
 
   -- it was seen empty
   pub none_left : (a d : Hand) (head tail : ℕ) → PopsUnswept (unswept_set g class full) a.worker d.worker (EmptyBase head tail) → d.notes.items ≡ a.notes.items
-      → Does g class 0 nothing nothing (SawEmpty (unswept_set g class full)) a d
+      → HandSearches g class 0 nothing nothing (SawEmpty (unswept_set g class full)) a d
   unfolding looked_at
   none_left a d head tail pops notes = let set = unswept_set g class full in let x = looked_at set a d head tail pops.1 notes in record {
     said = x.said;
@@ -144,7 +144,7 @@ module _ (g class full : ℕ) where
 
   module _ (small : full < 2) (page : ℕ) (a : Hand) (w : Seen) (pop : Popping page a.worker w) (same_g : a.worker.view.generation ≡ g) where
     -- the entry is dropped, since its page has another word
-    pub dropped : (word : ℕ) (d : Hand) → d.worker ≡ after_said (Finds page word) w → d.notes.items ≡ a.notes.items → Does g class 1 nothing nothing Whatever a d
+    pub dropped : (word : ℕ) (d : Hand) → d.worker ≡ after_said (Finds page word) w → d.notes.items ≡ a.notes.items → HandSearches g class 1 nothing nothing AnyLog a d
     dropped word d e notes = let all = e ∙ ap (after_said (Finds page word)) pop.view in
         let h : Part = (after_said (Finds page word) (popped_by page pop.said pop.cells a.worker)).view.own in record {
           said = Found page word ∷ pop.said;
@@ -246,7 +246,7 @@ module _ (g class full : ℕ) where
       class_is = s.body.same.class ∙ class_before b₀ c.worker got
 
       -- it is kept
-      pub kept : HasRoom b → marks.pairs ≡ a.worker.view.marks → SweepsOut g class b a mid × Does g class 1 (just b.page) (just b.page) (SweptIt b.page) a mid
+      pub kept : HasRoom b → marks.pairs ≡ a.worker.view.marks → SweepsOut g class b a mid × HandSearches g class 1 (just b.page) (just b.page) (SweptIt b.page) a mid
       kept room same = (
         record {
           hands_out = record {
@@ -275,7 +275,7 @@ module _ (g class full : ℕ) where
 
       -- it is pushed to the full set
       pub gone : (d : Hand) → IsFullBody b → a.worker.view.own.claimed ≡ None → d.worker ≡ after_said (Fills (swept_set c.worker.view.generation class 1) b.page) (after_said (Reads 1 c.worker.view.generation) mid.worker) → d.notes.items ≡ mid.notes.items
-          → Does g class 1 nothing nothing Whatever a d
+          → HandSearches g class 1 nothing nothing AnyLog a d
       gone d full free e notes = let set = swept_set g class 1 in let value = c.worker.view.generation in
           let push = (λ (x : Seen). after_said (Fills set b.page) (after_said (Reads 1 value) x)) in
           let e' : d.worker ≡ push mid.worker = e ∙ ap (λ (z : ℕ). after_said (Fills (swept_set z class 1) b.page) (after_said (Reads 1 value) mid.worker)) generation_is in

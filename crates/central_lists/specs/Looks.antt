@@ -40,5 +40,5 @@ abbrev pub SweptIt : ℕ → List Entry → Type 0
 SweptIt page said = 0 < many (is_sweep_of page) said
 
 -- anything
-abbrev pub Whatever : List Entry → Type 0
-Whatever said = Unit {0}
+abbrev pub AnyLog : List Entry → Type 0
+AnyLog said = Unit {0}

@@ -11,14 +11,12 @@ use Rattle.span_laws.specs.Asks.{IsUntouched}
 use Rattle.span_laws.specs.OwnSteps.{after_said}
 use Rattle.span_set.specs.declared.hand.Hand.{Hand}
 use Rattle.span_set.specs.Sweeps.{SweepsBody, SweepsInHand, note_of}
-use Rattle.central_lists.specs.declared.answers.One.{One}
-use Rattle.central_lists.specs.declared.answers.One.TheVariants.{NoneLeft, Gone, Kept}
-use Rattle.central_lists.specs.declared.answers.Through.{Through}
-use Rattle.central_lists.specs.declared.answers.Through.TheVariants.{AllTried, Enough, OneKept}
 use Rattle.central_lists.specs.declared.answers.Search.{Search}
-use Rattle.central_lists.specs.declared.answers.Search.TheVariants.{Gave, Tried}
-use Rattle.central_lists.specs.Looks.{SawEmpty, SweptIt, TriedEnough, Whatever}
-use Rattle.central_lists.specs.Works.{Does, just, nothing}
+use Rattle.central_lists.specs.declared.answers.Search.TheVariants.{Found, NotFound}
+use Rattle.central_lists.specs.declared.answers.Tried.{Tried}
+use Rattle.central_lists.specs.declared.answers.Tried.TheVariants.{Empty, Gone, Kept}
+use Rattle.central_lists.specs.Looks.{SawEmpty, SweptIt, TriedEnough, AnyLog}
+use Rattle.central_lists.specs.Works.{HandSearches, just, nothing}
 use Rattle.central_lists.specs.Lists.{HandsOut}
 
 -- the sweep of a span, and the hand behind it
@@ -41,41 +39,34 @@ pub record SweepsOut (g class : ℕ) (b : Body) (old new : Hand) : Type 0 where
   pub untouched : IsUntouched g new.worker.view.own b.page
 
 -- one try: the set was seen empty; or an entry was popped, and its span was dropped or pushed to the full set, or is handed out
-abbrev pub TriesOne : ℕ → ℕ → ℕ → Hand → Hand → Result One NoMemory → Type 0
-TriesOne g class full old new (Ok NoneLeft) = Does g class 0 nothing nothing (SawEmpty (unswept_set g class full)) old new
-TriesOne g class full old new (Ok Gone) = Does g class 1 nothing nothing Whatever old new
-TriesOne g class full old new (Ok (Kept b)) = SweepsOut g class b old new × Does g class 1 (just b.page) (just b.page) (SweptIt b.page) old new
-TriesOne g class full old new (Err _) = Does g class 0 nothing nothing Whatever old new
+abbrev pub TriesOne : ℕ → ℕ → ℕ → Hand → Hand → Result Tried NoMemory → Type 0
+TriesOne g class full old new (Ok Empty) = HandSearches g class 0 nothing nothing (SawEmpty (unswept_set g class full)) old new
+TriesOne g class full old new (Ok Gone) = HandSearches g class 1 nothing nothing AnyLog old new
+TriesOne g class full old new (Ok (Kept b)) = SweepsOut g class b old new × HandSearches g class 1 (just b.page) (just b.page) (SweptIt b.page) old new
+TriesOne g class full old new (Err _) = HandSearches g class 0 nothing nothing AnyLog old new
 
 -- what so many tries did, after those before
 pub record TriedSome (g class before tried : ℕ) (old new : Hand) : Type 0 where
   pub least : before ≤ tried
   pub most : tried ≤ 100
-  pub does : Does g class (tried - before) nothing nothing Whatever old new
+  pub does : HandSearches g class (tried - before) nothing nothing AnyLog old new
 
 -- a span is handed out after so many tries at most
 abbrev pub GivesOne : ℕ → ℕ → ℕ → Body → Hand → Hand → Type 0
-GivesOne g class most b old new = SweepsOut g class b old new × ((tried : ℕ) × (tried ≤ most) × Does g class tried (just b.page) (just b.page) (SweptIt b.page) old new)
+GivesOne g class most b old new = SweepsOut g class b old new × ((tried : ℕ) × (tried ≤ most) × HandSearches g class tried (just b.page) (just b.page) (SweptIt b.page) old new)
 
 -- memory ran out after so many tries at most
 abbrev pub GivesUp : ℕ → ℕ → ℕ → Hand → Hand → Type 0
-GivesUp g class most old new = (tried : ℕ) × (tried ≤ most) × Does g class tried nothing nothing Whatever old new
+GivesUp g class most old new = (tried : ℕ) × (tried ≤ most) × HandSearches g class tried nothing nothing AnyLog old new
 
--- the tries of one unswept set, after those before: none was left, a hundred were made in all, or a span is handed out
-abbrev pub TriesAll : ℕ → ℕ → ℕ → ℕ → Hand → Hand → Result Through NoMemory → Type 0
-TriesAll g class full before old new (Ok (AllTried tried)) = (before ≤ tried) × (tried ≤ 100) × Does g class (tried - before) nothing nothing (SawEmpty (unswept_set g class full)) old new
-TriesAll g class full before old new (Ok Enough) = Does g class (100 - before) nothing nothing Whatever old new
-TriesAll g class full before old new (Ok (OneKept b)) = GivesOne g class (100 - before) b old new
+-- the tries of one unswept set, after those before: a span is handed out; or a hundred were made in all, or the set was seen empty
+abbrev pub TriesAll : ℕ → ℕ → ℕ → ℕ → Hand → Hand → Result Search NoMemory → Type 0
+TriesAll g class full before old new (Ok (Found b)) = GivesOne g class (100 - before) b old new
+TriesAll g class full before old new (Ok (NotFound tried)) = (before ≤ tried) × (tried ≤ 100) × HandSearches g class (tried - before) nothing nothing (λ said. (tried ≡ 100) ⊎ SawEmpty (unswept_set g class full) said) old new
 TriesAll g class full before old new (Err _) = GivesUp g class (100 - before) old new
-
--- the tries of the unswept full set
-abbrev pub SearchesFull : ℕ → ℕ → ℕ → Hand → Hand → Result Search NoMemory → Type 0
-SearchesFull g class before old new (Ok (Gave b)) = GivesOne g class (100 - before) b old new
-SearchesFull g class before old new (Ok (Tried tried)) = (before ≤ tried) × (tried ≤ 100) × Does g class (tried - before) nothing nothing (λ said. (tried ≡ 100) ⊎ SawEmpty (unswept_set g class 1) said) old new
-SearchesFull g class before old new (Err _) = GivesUp g class (100 - before) old new
 
 -- the tries of both unswept sets
 abbrev pub Searches : ℕ → ℕ → Hand → Hand → Result Search NoMemory → Type 0
-Searches g class old new (Ok (Gave b)) = GivesOne g class 100 b old new
-Searches g class old new (Ok (Tried tried)) = (tried ≤ 100) × Does g class tried nothing nothing (TriedEnough g class tried) old new
+Searches g class old new (Ok (Found b)) = GivesOne g class 100 b old new
+Searches g class old new (Ok (NotFound tried)) = (tried ≤ 100) × HandSearches g class tried nothing nothing (TriedEnough g class tried) old new
 Searches g class old new (Err _) = GivesUp g class 100 old new

@@ -40,7 +40,7 @@ pub record Says (g class tried : ℕ) (kept : ℕ → ℕ) (said : List Entry) :
 
 -- what some work did: the log grew by what it says, which has a property besides; each span of which a sweep kept some went to the set that it fits, but
 -- for those that are kept; the worker holds so many pages more, and else has what it had; and each sweep has just its note
-pub record Does (g class tried : ℕ) (more kept : ℕ → ℕ) (P : List Entry → Type 0) (old new : Hand) : Type 0 where
+pub record HandSearches (g class tried : ℕ) (more kept : ℕ → ℕ) (P : List Entry → Type 0) (old new : Hand) : Type 0 where
   pub said : List Entry
   pub log : new.worker.view.own.log ≡ said ++ old.worker.view.own.log
   pub says : Says g class tried kept said

@@ -25,33 +25,22 @@ pub enum FromSets {
     },
 }
 
-/// What one try of an unswept set gave.
+/// What one try of an unswept set came to.
 #[derive(Debug, Drop)]
-pub enum One {
+pub enum Tried {
     /// The set was empty.
-    NoneLeft,
+    Empty,
     /// One entry was popped, and its span is not for the cache.
     Gone,
     /// The span of the popped entry has a free index.
     Kept(Body),
 }
 
-/// What the tries of one unswept set gave.
-#[derive(Debug, Drop)]
-pub enum Through {
-    /// The set is empty, after so many tries in all.
-    AllTried(u32),
-    /// There were a hundred tries in all.
-    Enough,
-    /// A span that has a free index.
-    OneKept(Body),
-}
-
-/// What the tries of both unswept sets gave.
+/// What the tries of unswept sets came to.
 #[derive(Debug, Drop)]
 pub enum Search {
     /// A span that has a free index.
-    Gave(Body),
-    /// None, after so many tries.
-    Tried(u32),
+    Found(Body),
+    /// None, after so many tries in all: a hundred, or as many as there were entries.
+    NotFound(u32),
 }

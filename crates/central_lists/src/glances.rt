@@ -7,8 +7,8 @@ ghost use Rattle.page_bitmap.specs.Counts.{one_if};
 ghost use Rattle.worker_log.specs.SetNumbers.{swept_set, unswept_set};
 ghost use Rattle.span_set.specs.Tallies.{Frees};
 ghost use Rattle.central_lists.specs.Lists.{Caches};
-ghost use Rattle.central_lists.specs.Looks.{Saw, SawEmpty, Whatever};
-ghost use Rattle.central_lists.specs.Works.{Does, nothing};
+ghost use Rattle.central_lists.specs.Looks.{Saw, SawEmpty, AnyLog};
+ghost use Rattle.central_lists.specs.Works.{HandSearches, nothing};
 ghost use Rattle.central_lists.specs.declared.answers.FromSets.TheVariants.{NeedFresh};
 ghost use Rattle.central_lists.specs.declared.answers.Look.TheVariants.{Empty};
 
@@ -18,8 +18,8 @@ use span_set::{Hand, SetId, Shop, swept_number, unswept_number};
 pub(crate) fn sees_empty(shop: &Shop, hand: &mut Hand, class: u8, full: bool) -> bool
     requires works { IsAtWork shop.now.shared.now hand.old.worker }
     requires class { class < 136 }
-    ensures empty { result ≡ true → Does hand.old.worker.view.generation class 0 nothing nothing (SawEmpty (unswept_set hand.old.worker.view.generation class (one_if full))) hand.old hand.new }
-    ensures looked { Does hand.old.worker.view.generation class 0 nothing nothing Whatever hand.old hand.new }
+    ensures empty { result ≡ true → HandSearches hand.old.worker.view.generation class 0 nothing nothing (SawEmpty (unswept_set hand.old.worker.view.generation class (one_if full))) hand.old hand.new }
+    ensures looked { HandSearches hand.old.worker.view.generation class 0 nothing nothing AnyLog hand.old hand.new }
     ensures tally { Frees shop.now.marks.now hand.old hand.new }
 {
     let generation = shop.shared.generation(&mut hand.worker);
@@ -32,8 +32,8 @@ pub(crate) fn sees_empty(shop: &Shop, hand: &mut Hand, class: u8, full: bool) ->
 pub(crate) fn sees_no_swept(shop: &Shop, hand: &mut Hand, class: u8) -> Option<u32>
     requires works { IsAtWork shop.now.shared.now hand.old.worker }
     requires class { class < 136 }
-    ensures saw { IfSome result (λ at. Does hand.old.worker.view.generation class 0 nothing nothing (Saw (swept_set hand.old.worker.view.generation class 0) (Empty at)) hand.old hand.new) }
-    ensures looked { Does hand.old.worker.view.generation class 0 nothing nothing Whatever hand.old hand.new }
+    ensures saw { IfSome result (λ at. HandSearches hand.old.worker.view.generation class 0 nothing nothing (Saw (swept_set hand.old.worker.view.generation class 0) (Empty at)) hand.old hand.new) }
+    ensures looked { HandSearches hand.old.worker.view.generation class 0 nothing nothing AnyLog hand.old hand.new }
     ensures tally { Frees shop.now.marks.now hand.old hand.new }
 {
     let generation = shop.shared.generation(&mut hand.worker);
@@ -47,7 +47,7 @@ pub(crate) fn sees_none(shop: &Shop, hand: &mut Hand, class: u8) -> Option<u32>
     requires works { IsAtWork shop.now.shared.now hand.old.worker }
     requires class { class < 136 }
     ensures none { MatchOption result
-        (Does hand.old.worker.view.generation class 0 nothing nothing Whatever hand.old hand.new)
+        (HandSearches hand.old.worker.view.generation class 0 nothing nothing AnyLog hand.old hand.new)
         (λ at. Caches hand.old.worker.view.generation class hand.old hand.new (Ok (NeedFresh (Empty at) 0))) }
     ensures table { hand.new.worker.table ≡ hand.old.worker.table }
     ensures tally { Frees shop.now.marks.now hand.old hand.new }

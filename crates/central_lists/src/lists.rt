@@ -3,12 +3,13 @@ ghost use Rattle.span_laws.specs.Asks.{IsAtWork};
 ghost use Rattle.page_bitmap.specs.Counts.{one_if};
 ghost use Rattle.worker_log.specs.SetNumbers.{swept_set};
 ghost use Rattle.worker_log.specs.Entries.{is_pop_of, many};
+ghost use Rattle.span_set.specs.Asks.{WorksIn};
 ghost use Rattle.span_set.specs.Sweeps.{MaySweep};
 ghost use Rattle.span_set.specs.Tallies.{Frees, MayCount};
 ghost use Rattle.central_lists.specs.Lists.{Caches, LooksFirst};
-ghost use Rattle.central_lists.specs.Tries.{Searches, SearchesFull, SweepsOne, TriesAll, TriesOne};
+ghost use Rattle.central_lists.specs.Tries.{Searches, SweepsOne, TriesAll, TriesOne};
 
-use crate::answers::{FromSets, Look, One, Search, Through};
+use crate::answers::{FromSets, Look, Search, Tried};
 use crate::glances::{sees_empty, sees_none};
 use fallible_list::NoMemory;
 use span_laws::Acquired;
@@ -27,12 +28,9 @@ const TRIES: u32 = 100;
 /// 100. `NoMemory` comes only where a note of a sweep found no memory: what was swept and pushed before stands, and the worker holds
 /// no span more.
 pub fn cache_span(shop: &Shop, hand: &mut Hand, class: u8) -> Result<FromSets, NoMemory>
-    requires works { IsAtWork shop.now.shared.now hand.old.worker }
-    requires distance { 8192 ≤ shop.now.distance }
-    requires counts { MayCount shop.now.ring.now shop.now.marks.now hand.old.tally }
-    requires marks { shop.now.marks.now.pairs ≡ hand.old.worker.view.marks }
-    requires class { class < 136 }
+    requires works { WorksIn shop.now hand.old }
     requires unclaimed { hand.old.worker.view.own.claimed ≡ None }
+    requires class { class < 136 }
     ensures caches { Caches hand.old.worker.view.generation class hand.old hand.new result }
     ensures tally { Frees shop.now.marks.now hand.old hand.new }
 {
@@ -48,20 +46,17 @@ pub fn cache_span(shop: &Shop, hand: &mut Hand, class: u8) -> Result<FromSets, N
 // The same where a set was not seen empty. It stands alone, so that a call that finds them all empty has no place for a body.
 #[inline(never)]
 fn search_sets(shop: &Shop, hand: &mut Hand, class: u8) -> Result<FromSets, NoMemory>
-    requires works { IsAtWork shop.now.shared.now hand.old.worker }
-    requires distance { 8192 ≤ shop.now.distance }
-    requires counts { MayCount shop.now.ring.now shop.now.marks.now hand.old.tally }
-    requires marks { shop.now.marks.now.pairs ≡ hand.old.worker.view.marks }
-    requires class { class < 136 }
+    requires works { WorksIn shop.now hand.old }
     requires unclaimed { hand.old.worker.view.own.claimed ≡ None }
+    requires class { class < 136 }
     ensures caches { Caches hand.old.worker.view.generation class hand.old hand.new result }
     ensures tally { Frees shop.now.marks.now hand.old hand.new }
 {
     match look_first(shop, hand, class) {
         Ok(body) => Ok(FromSets::SweptPartial(body)),
         Err(swept) => match search_unswept(shop, hand, class) {
-            Ok(Search::Gave(body)) => Ok(FromSets::SweptHere(body)),
-            Ok(Search::Tried(tried)) => Ok(FromSets::NeedFresh { swept, tried }),
+            Ok(Search::Found(body)) => Ok(FromSets::SweptHere(body)),
+            Ok(Search::NotFound(tried)) => Ok(FromSets::NeedFresh { swept, tried }),
             Err(NoMemory) => Err(NoMemory),
         },
     }
@@ -81,42 +76,19 @@ fn look_first(shop: &Shop, hand: &mut Hand, class: u8) -> Result<Body, Look>
     }
 }
 
-// Goes through the unswept sets of the class.
+// Goes through the unswept sets of the class, the partial one first.
 fn search_unswept(shop: &Shop, hand: &mut Hand, class: u8) -> Result<Search, NoMemory>
-    requires works { IsAtWork shop.now.shared.now hand.old.worker }
-    requires distance { 8192 ≤ shop.now.distance }
-    requires counts { MayCount shop.now.ring.now shop.now.marks.now hand.old.tally }
-    requires marks { shop.now.marks.now.pairs ≡ hand.old.worker.view.marks }
-    requires class { class < 136 }
+    requires works { WorksIn shop.now hand.old }
     requires unclaimed { hand.old.worker.view.own.claimed ≡ None }
+    requires class { class < 136 }
     ensures searches { Searches hand.old.worker.view.generation class hand.old hand.new result }
     ensures tally { Frees shop.now.marks.now hand.old hand.new }
 {
     match look_through(shop, hand, class, false, 0) {
-        Ok(Through::AllTried(tried)) => search_full(shop, hand, class, tried),
-        Ok(Through::Enough) => Ok(Search::Tried(TRIES)),
-        Ok(Through::OneKept(body)) => Ok(Search::Gave(body)),
-        Err(NoMemory) => Err(NoMemory),
-    }
-}
-
-// Goes through the unswept full set, after so many tries of the partial one.
-fn search_full(shop: &Shop, hand: &mut Hand, class: u8, before: u32) -> Result<Search, NoMemory>
-    requires works { IsAtWork shop.now.shared.now hand.old.worker }
-    requires distance { 8192 ≤ shop.now.distance }
-    requires counts { MayCount shop.now.ring.now shop.now.marks.now hand.old.tally }
-    requires marks { shop.now.marks.now.pairs ≡ hand.old.worker.view.marks }
-    requires class { class < 136 }
-    requires unclaimed { hand.old.worker.view.own.claimed ≡ None }
-    requires before { before ≤ 100 }
-    ensures searches { SearchesFull hand.old.worker.view.generation class before hand.old hand.new result }
-    ensures tally { Frees shop.now.marks.now hand.old hand.new }
-{
-    match look_through(shop, hand, class, true, before) {
-        Ok(Through::AllTried(tried)) => Ok(Search::Tried(tried)),
-        Ok(Through::Enough) => Ok(Search::Tried(TRIES)),
-        Ok(Through::OneKept(body)) => Ok(Search::Gave(body)),
-        Err(NoMemory) => Err(NoMemory),
+        Ok(Search::NotFound(tried)) if tried < TRIES => {
+            look_through(shop, hand, class, true, tried)
+        }
+        found => found,
     }
 }
 
@@ -128,19 +100,16 @@ fn look_through(
     class: u8,
     full: bool,
     before: u32,
-) -> Result<Through, NoMemory>
-    requires works { IsAtWork shop.now.shared.now hand.old.worker }
-    requires distance { 8192 ≤ shop.now.distance }
-    requires counts { MayCount shop.now.ring.now shop.now.marks.now hand.old.tally }
-    requires marks { shop.now.marks.now.pairs ≡ hand.old.worker.view.marks }
-    requires class { class < 136 }
+) -> Result<Search, NoMemory>
+    requires works { WorksIn shop.now hand.old }
     requires unclaimed { hand.old.worker.view.own.claimed ≡ None }
+    requires class { class < 136 }
     requires before { before ≤ 100 }
     ensures tries { TriesAll hand.old.worker.view.generation class (one_if full) before hand.old hand.new result }
     ensures tally { Frees shop.now.marks.now hand.old hand.new }
 {
     if sees_empty(shop, hand, class, full) {
-        return Ok(Through::AllTried(before));
+        return Ok(Search::NotFound(before));
     }
     try_all(shop, hand, class, full, before)
 }
@@ -153,13 +122,10 @@ fn try_all(
     class: u8,
     full: bool,
     before: u32,
-) -> Result<Through, NoMemory>
-    requires works { IsAtWork shop.now.shared.now hand.old.worker }
-    requires distance { 8192 ≤ shop.now.distance }
-    requires counts { MayCount shop.now.ring.now shop.now.marks.now hand.old.tally }
-    requires marks { shop.now.marks.now.pairs ≡ hand.old.worker.view.marks }
-    requires class { class < 136 }
+) -> Result<Search, NoMemory>
+    requires works { WorksIn shop.now hand.old }
     requires unclaimed { hand.old.worker.view.own.claimed ≡ None }
+    requires class { class < 136 }
     requires before { before ≤ 100 }
     ensures tries { TriesAll hand.old.worker.view.generation class (one_if full) before hand.old hand.new result }
     ensures tally { Frees shop.now.marks.now hand.old hand.new }
@@ -167,33 +133,30 @@ fn try_all(
     let mut tried = before;
     while tried < TRIES {
         match try_one(shop, hand, class, full)? {
-            One::NoneLeft => return Ok(Through::AllTried(tried)),
-            One::Gone => tried += 1,
-            One::Kept(body) => return Ok(Through::OneKept(body)),
+            Tried::Empty => return Ok(Search::NotFound(tried)),
+            Tried::Gone => tried += 1,
+            Tried::Kept(body) => return Ok(Search::Found(body)),
         }
     }
-    Ok(Through::Enough)
+    Ok(Search::NotFound(TRIES))
 }
 
 // Pops one entry of an unswept set, and sweeps its span where that waits for its sweep.
-fn try_one(shop: &Shop, hand: &mut Hand, class: u8, full: bool) -> Result<One, NoMemory>
-    requires works { IsAtWork shop.now.shared.now hand.old.worker }
-    requires distance { 8192 ≤ shop.now.distance }
-    requires counts { MayCount shop.now.ring.now shop.now.marks.now hand.old.tally }
-    requires marks { shop.now.marks.now.pairs ≡ hand.old.worker.view.marks }
-    requires class { class < 136 }
+fn try_one(shop: &Shop, hand: &mut Hand, class: u8, full: bool) -> Result<Tried, NoMemory>
+    requires works { WorksIn shop.now hand.old }
     requires unclaimed { hand.old.worker.view.own.claimed ≡ None }
+    requires class { class < 136 }
     ensures tries { TriesOne hand.old.worker.view.generation class (one_if full) hand.old hand.new result }
     ensures tally { Frees shop.now.marks.now hand.old hand.new }
 {
     hand.reserve_note()?;
     match pop_unswept(shop.shared, &mut hand.worker, SetId { class, full }) {
-        PopBase::Empty { .. } => Ok(One::NoneLeft),
+        PopBase::Empty { .. } => Ok(Tried::Empty),
         PopBase::Popped(page) => match shop.shared.acquire(&mut hand.worker, page) {
-            Acquired::Other(_) => Ok(One::Gone),
+            Acquired::Other(_) => Ok(Tried::Gone),
             Acquired::Got(body) => match sweep_one(shop, hand, class, body) {
-                Some(body) => Ok(One::Kept(body)),
-                None => Ok(One::Gone),
+                Some(body) => Ok(Tried::Kept(body)),
+                None => Ok(Tried::Gone),
             },
         },
     }
@@ -201,15 +164,19 @@ fn try_one(shop: &Shop, hand: &mut Hand, class: u8, full: bool) -> Result<One, N
 
 // Sweeps a span of the class that the worker acquired: it is kept where it has a free index, else it goes to the full set.
 fn sweep_one(shop: &Shop, hand: &mut Hand, class: u8, body: Body) -> Option<Body>
+    // the hand works in the shop, and has room
     requires works { IsAtWork shop.now.shared.now hand.old.worker }
-    requires distance { 8192 ≤ shop.now.distance }
     requires counts { MayCount shop.now.ring.now shop.now.marks.now hand.old.tally }
+    requires unclaimed { hand.old.worker.view.own.claimed ≡ None }
     requires room { length hand.old.notes.items < hand.old.notes.space }
+
+    // the span
     requires may { MaySweep shop.now.marks.now body hand.old.worker }
     requires class { class < 136 }
     requires of_class { body.class ≡ class }
-    requires unclaimed { hand.old.worker.view.own.claimed ≡ None }
     requires unpopped { many (is_pop_of (swept_set hand.old.worker.view.generation class 1) body.page) hand.old.worker.view.own.log ≡ 0 }
+
+    // what was done
     ensures sweeps { SweepsOne shop.now.marks.now class body hand.old hand.new result }
     ensures tally { Frees shop.now.marks.now hand.old hand.new }
 {

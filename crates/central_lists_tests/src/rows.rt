@@ -7,7 +7,7 @@ use std::alloc::Global;
 use std::process::Abort;
 use std::sync::Wait;
 use std::test::Fail;
-use sweeper::One;
+use sweeper::SweptOne;
 
 // Objects of 4096 bytes with pointers are of span class 88, two on a page.
 const SIZE: u64 = 4096;
@@ -111,8 +111,8 @@ fn make<R: Wait>(
         }
         Call::Reclaim => Ok(Answer::Pages(scene.reclaim(rt, 1)?)),
         Call::Sweep => match scene.sweep(rt)? {
-            One::Swept(note) => Ok(Answer::Swept(note.page, note.kept, note.freed)),
-            One::NothingLeft => Ok(Answer::NothingLeft),
+            SweptOne::Swept(note) => Ok(Answer::Swept(note.page, note.kept, note.freed)),
+            SweptOne::NothingLeft => Ok(Answer::NothingLeft),
         },
     }
 }

@@ -1,10 +1,11 @@
 ghost use Rattle.std.specs.Prelude.{◌<◌, ◌≤◌, IfOk};
-ghost use Rattle.central_lists_tests.specs.Rows.{IsReady};
+ghost use Rattle.span_set.specs.Asks.{MaySearch};
 
 use central_lists::{FromSets, Look, cache_span};
 use fallible_list::NoMemory;
 use profile_cycle::Ring;
-use span_set::{Hand, Shop};
+use size_classes::PAGE_SIZE;
+use span_set::{Distance, Hand, Shop};
 use span_state::Marks;
 use span_table::Shared;
 use std::alloc::Global;
@@ -22,7 +23,7 @@ struct Scene {
 
 // A region of one chunk without spans, and a ring of one bucket.
 fn start(alloc: Global) -> Result<Scene, NoMemory>
-    ensures { IfOk result (λ s. IsReady s.shared s.ring s.marks s.hand) }
+    ensures { IfOk result (λ s. MaySearch s.shared s.ring s.marks s.hand) }
 {
     let (ring, tally) = Ring::new(alloc, 1)?;
     let (shared, driver) = Shared::new(alloc, 1, 512, 0)?;
@@ -36,10 +37,9 @@ fn start(alloc: Global) -> Result<Scene, NoMemory>
 
 // The call sees all sets of the class empty from their start on, and pops nothing.
 fn finds_none(rt: &impl Abort, shop: &Shop, hand: &mut Hand, class: u8) -> Result<(), NoMemory>
-    requires ready { IsReady shop.now.shared.now shop.now.ring.now shop.now.marks.now hand.old }
-    requires distance { 8192 ≤ shop.now.distance }
+    requires ready { MaySearch shop.now.shared.now shop.now.ring.now shop.now.marks.now hand.old }
     requires class { class < 136 }
-    ensures { IfOk result (λ _. IsReady shop.now.shared.now shop.now.ring.now shop.now.marks.now hand.new) }
+    ensures { IfOk result (λ _. MaySearch shop.now.shared.now shop.now.ring.now shop.now.marks.now hand.new) }
 {
     let FromSets::NeedFresh { swept, tried } = cache_span(shop, hand, class)? else {
         panic!(rt; "class {class} has a span");
@@ -51,8 +51,7 @@ fn finds_none(rt: &impl Abort, shop: &Shop, hand: &mut Hand, class: u8) -> Resul
 
 // No class has a span.
 fn all_find_none(rt: &impl Abort, shop: &Shop, hand: &mut Hand) -> Result<(), NoMemory>
-    requires ready { IsReady shop.now.shared.now shop.now.ring.now shop.now.marks.now hand.old }
-    requires distance { 8192 ≤ shop.now.distance }
+    requires ready { MaySearch shop.now.shared.now shop.now.ring.now shop.now.marks.now hand.old }
 {
     for class in 0..136 {
         finds_none(rt, shop, hand, class)?;
@@ -73,7 +72,7 @@ fn new_table_has_no_span(rt: HostRuntime) -> Result<(), Fail> {
         shared: &shared,
         marks: &marks,
         ring: &ring,
-        distance: 8192,
+        distance: Distance::of(PAGE_SIZE),
         pages: 0,
     };
     all_find_none(&rt, &shop, &mut hand)?;

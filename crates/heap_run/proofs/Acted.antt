@@ -27,7 +27,7 @@ use Rattle.std.specs.List.{AllByRecursion}
 use Rattle.std.proofs.lemmas.List.{map-append}
 use Rattle.worker_log.specs.Entries.{many}
 use Rattle.span_laws.specs.Calls.{is_missing, is_placing}
-use Rattle.sweeper.specs.Work.{Works, note_by}
+use Rattle.sweeper.specs.Work.{HandSweeps, note_by}
 use Rattle.profile_cycle.specs.Sampling.{Countdown}
 use Rattle.proc_cache.specs.Cache.{Cache}
 use Rattle.proc_cache.specs.Flushes.{Flushes, IsFlushing}
@@ -387,7 +387,7 @@ view-stays u v region goal procs generation marks before carried parts =
     ∙ ap (λ (x : List (ℕ × ℕ)). record u { carried = x; own = v.own; parts = v.parts }) carried
     ∙ ap (λ (x : List Part). record u { own = v.own; parts = x }) parts
 
-pub works-acted : (P : List Entry → Type 0) (old new : Hand) → Works [] P old new → ((said : List Entry) → P said → many is_missing said ≡ 0) → IsIdle old.worker.view.own → HasActed (λ said. SaysNone said × P said) old new
+pub works-acted : (P : List Entry → Type 0) (old new : Hand) → HandSweeps [] P old new → ((said : List Entry) → P said → many is_missing said ≡ 0) → IsIdle old.worker.view.own → HasActed (λ said. SaysNone said × P said) old new
 works-acted P old new w no_miss idle = record {
   said = w.said;
   did = (few-none w.said w.does.sweeps.unplaced (no_miss w.said w.did), w.did);

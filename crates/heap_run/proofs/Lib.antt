@@ -35,6 +35,7 @@ pub mod Answering
 pub mod OwnBlocks
 pub mod Firsts
 pub mod Counting
+pub mod Working
 pub mod Sampling
 pub mod Profiling
 pub mod Telling

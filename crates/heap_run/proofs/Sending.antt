@@ -9,10 +9,9 @@ use Rattle.trace_reader.specs.declared.trace.Event.{Event}
 use Rattle.cycle_history.specs.declared.Answer.{Answer}
 use Rattle.profile_cycle.specs.History.{RingId, Standing, lent, split_off}
 use Rattle.sweep_laws.specs.Lists.{has}
-use Rattle.span_laws.specs.Asks.{IsAtWork}
+use Rattle.span_set.specs.Asks.{WorksBy}
 use Rattle.span_laws.specs.Handed.{handing}
 use Rattle.span_laws.specs.Views.{Seen}
-use Rattle.span_set.specs.Tallies.{MayCount}
 use Rattle.span_set.specs.declared.hand.Hand.{Hand}
 use Rattle.proc_cache.specs.Cache.{Cache}
 use Rattle.heap_run.specs.Counts.{HaveBuckets, IsOut}
@@ -26,8 +25,8 @@ use Rattle.heap_run.specs.declared.lanes.Task.{Task}
 use Rattle.heap_run.specs.declared.lanes.Task.TheVariants.{Allocate, Sweep, Scavenge}
 use Rattle.heap_run.specs.declared.lanes.Turn.{Turn}
 use Rattle.heap_run.specs.declared.going_out.Start.{Start}
-use Rattle.heap_run.proofs.Acted.{HandsOut, out-caching, out-idle, out-marks}
-use Rattle.heap_run.proofs.Counting.{out-may}
+use Rattle.heap_run.proofs.Acted.{HandsOut, out-caching, out-idle}
+use Rattle.heap_run.proofs.Working.{out-works}
 use Rattle.heap_run.proofs.Stacks.{busy-none, busy-some, last-taken, of-all, of-length, of-push, rises-not}
 
 -- ---- the driver
@@ -111,10 +110,8 @@ pub sent-ready : (table : TableId) (ring : RingId) (m : MarkSet) (queues : List 
 sent-ready table ring m queues numbers s i l starts asked sent =
     let o = sent-hands table ring m s i l starts sent in
     record {
-      works = (ap (λ (w : Seen). w.table) sent.out.worker ∙ starts.works.0, ap (λ (w : Seen). w.away) sent.out.worker);
-      marks = starts.marks ∙ sym (out-marks i s.driver.value l.hand o);
+      works = out-works table ring m i _ s.driver.value l.hand o sent.out starts.works;
       idle = out-idle i s.driver.value l.hand o (starts.driving.idle i);
-      counts = out-may ring m i s.driver.value l.hand starts.counts sent.out;
       may = may l.task sent.task;
     }
   where
@@ -208,19 +205,17 @@ goes-one s queues background p q lanes lanes' stay procs procs' given given' d e
 
 -- ---- the start
 
-pub may-start : (table : TableId) (ring : RingId) (m : MarkSet) (s : Start) (d : Hand) (procs : List Cache) (given : LentLists) → s.driver.value ≡ d → s.procs.value.items ≡ procs → s.given.value ≡ given → IsAtWork table d.worker → m.pairs ≡ d.worker.view.marks
-    → length d.worker.view.parts ≡ 70 → length procs ≤ 64 → length given.answers.items ≡ length procs → length given.sampled.items ≡ length procs → IsDriving d.worker procs d → IsCollecting d → MayCount ring m d.tally → d.tally.view.drives ≡ true
+pub may-start : (table : TableId) (ring : RingId) (m : MarkSet) (s : Start) (d : Hand) (procs : List Cache) (given : LentLists) → s.driver.value ≡ d → s.procs.value.items ≡ procs → s.given.value ≡ given → WorksBy table ring m d
+    → length d.worker.view.parts ≡ 70 → length procs ≤ 64 → length given.answers.items ≡ length procs → length given.sampled.items ≡ length procs → IsDriving d.worker procs d → IsCollecting d → d.tally.view.drives ≡ true
     → ((w : ℕ) → SaysNone (part_at d.worker w).log) → MayStart table ring m s
-may-start table ring m s d procs given is_d is_p is_g works marks parts few answers sampled driving collecting counts drives quiet = record {
+may-start table ring m s d procs given is_d is_p is_g works parts few answers sampled driving collecting drives quiet = record {
   works = rw is_d works;
-  marks = rw is_d marks;
   parts = rw is_d parts;
   few = rw is_p few;
   answers = rw (is_g, is_p) answers;
   sampled = rw (is_g, is_p) sampled;
   driving = rw (is_d, is_p) driving;
   collecting = rw is_d collecting;
-  counts = rw is_d counts;
   drives = rw is_d drives;
   quiet = rw is_d quiet;
 }

@@ -24,7 +24,7 @@ use Rattle.span_laws.specs.declared.view.Part.{Part}
 use Rattle.span_state.specs.declared.sweep.SweepNote.{SweepNote}
 use Rattle.sweep_lists.specs.Room.{Roomy}
 use Rattle.span_set.specs.declared.hand.Hand.{Hand}
-use Rattle.sweeper.specs.Work.{IsPlain, SawAllEmpty, Works}
+use Rattle.sweeper.specs.Work.{IsPlain, SawAllEmpty, HandSweeps}
 use Rattle.heap_run.specs.Swept.{Made, note_at}
 use Rattle.proc_cache.specs.Cache.{Cache}
 use Rattle.scavenger.specs.Scavenges.{EndsScavenged}
@@ -227,7 +227,7 @@ pub driver-idle : (start : Seen) (procs : List Cache) (d : Hand) → length d.wo
 driver-idle start procs d long driving = own-idle d driving.number long (driving.idle 69)
 
 pub swept-all : (start : Seen) (procs : List Cache) (d e : Hand) → length d.worker.view.parts ≡ 70 → length procs ≤ 64 → IsDriving start procs d → IsCollecting d
-    → Works [] (λ said. IsPlain said × SawAllEmpty d.worker.view.generation said) d e → HasSweptAll start procs d e
+    → HandSweeps [] (λ said. IsPlain said × SawAllEmpty d.worker.view.generation said) d e → HasSweptAll start procs d e
 swept-all start procs d e long few driving collecting works =
     let idle = driver-idle start procs d long driving in
     let acted = works-acted (λ said. IsPlain said × SawAllEmpty d.worker.view.generation said) d e works (λ said p. p.0.takes_none.unmissed) idle in

@@ -365,9 +365,9 @@ back-joins riding table ring m s queues numbers p i procs given l d starts were 
     go back.before.task back.sent.bare (back.ran held)
   where
     go : (task : Task) → IsBare task back.before.hand.worker.caching → DoesTask riding m queues numbers back.before.hand l.hand task l.task → MayJoin table ring d l.hand
-    go (Allocate t) bare did = (let a = did.2 in may-join _ table ring m _ s.driver.value d back.before.hand l.hand i starts.works.0 starts.counts.ring (ap (λ (x : Standing). x.view.cycle) were.counts.tally) back.sent.out a.acted a.counts a.settled)
-    go (Sweep n) bare did = may-join _ table ring m _ s.driver.value d back.before.hand l.hand i starts.works.0 starts.counts.ring (ap (λ (x : Standing). x.view.cycle) were.counts.tally) back.sent.out did.acted did.counts (inl (did.acted.caching ∙ bare))
-    go Scavenge bare did = may-join _ table ring m _ s.driver.value d back.before.hand l.hand i starts.works.0 starts.counts.ring (ap (λ (x : Standing). x.view.cycle) were.counts.tally) back.sent.out did.acted did.counts (inl (did.acted.caching ∙ bare))
+    go (Allocate t) bare did = (let a = did.2 in may-join _ table ring m _ s.driver.value d back.before.hand l.hand i starts.works.works.0 starts.works.counts.ring (ap (λ (x : Standing). x.view.cycle) were.counts.tally) back.sent.out a.acted a.counts a.settled)
+    go (Sweep n) bare did = may-join _ table ring m _ s.driver.value d back.before.hand l.hand i starts.works.works.0 starts.works.counts.ring (ap (λ (x : Standing). x.view.cycle) were.counts.tally) back.sent.out did.acted did.counts (inl (did.acted.caching ∙ bare))
+    go Scavenge bare did = may-join _ table ring m _ s.driver.value d back.before.hand l.hand i starts.works.works.0 starts.works.counts.ring (ap (λ (x : Standing). x.view.cycle) were.counts.tally) back.sent.out did.acted did.counts (inl (did.acted.caching ∙ bare))
 
 -- there is one to be taken from either list
 pub some-rest : (riding : Bool) (m : MarkSet) (s : Start) (queues : List (List Event)) (numbers : List (List ℕ)) (background p : ℕ) (lanes : List Lane) (stay procs : List Cache) (given : LentLists) (d : Hand)

@@ -6,9 +6,9 @@ use Rattle.trace_reader.specs.declared.trace.Event.{Event}
 use Rattle.profile_cycle.specs.History.{RingId}
 use Rattle.sample_laws.specs.Counted.{sampled_counts}
 use Rattle.sample_laws.specs.Countdowns.{flags, spent}
-use Rattle.span_laws.specs.Asks.{IsAtWork, IsIdle}
+use Rattle.span_laws.specs.Asks.{IsIdle}
 use Rattle.span_laws.specs.declared.view.Part.{Part}
-use Rattle.span_set.specs.Tallies.{MayCount}
+use Rattle.span_set.specs.Asks.{WorksBy}
 use Rattle.span_set.specs.declared.hand.Hand.{Hand}
 use Rattle.heap_run.specs.Counts.{Counts, no_counts}
 use Rattle.heap_run.specs.Firsts.{FlushesFor}
@@ -38,12 +38,10 @@ MayDo g h bound queues numbers (Allocate t) = MayAnswer g h bound queues numbers
 MayDo g h bound queues numbers (Sweep n) = Unit {0}
 MayDo g h bound queues numbers Scavenge = Unit {0}
 
--- A worker of this table is out and idle, with the cycle's marks and a tally of the ring, and may do its task.
+-- A worker of this table is out and idle, works by the cycle's marks with a tally of the ring, and may do its task.
 pub record IsReady (table : TableId) (ring : RingId) (m : MarkSet) (queues : List (List Event)) (numbers : List (List ℕ)) (l : Lane) : Type 0 where
-  pub works : IsAtWork table l.hand.worker
-  pub marks : m.pairs ≡ l.hand.worker.view.marks
+  pub works : WorksBy table ring m l.hand
   pub idle : IsIdle l.hand.worker.view.own
-  pub counts : MayCount ring m l.hand.tally
   pub may : MayDo l.hand.worker.view.generation l.hand.worker.view.own ring.buckets queues numbers l.task
 
 -- ---- what a worker does

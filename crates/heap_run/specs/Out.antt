@@ -6,9 +6,8 @@ use Rattle.span_state.specs.MarkSet.{MarkSet}
 use Rattle.trace_reader.specs.declared.trace.Event.{Event}
 use Rattle.profile_cycle.specs.History.{RingId, joined}
 use Rattle.sample_laws.specs.Counted.{all_counts}
-use Rattle.span_laws.specs.Asks.{IsAtWork}
+use Rattle.span_set.specs.Asks.{WorksBy}
 use Rattle.span_laws.specs.Handed.{taking_in}
-use Rattle.span_set.specs.Tallies.{MayCount}
 use Rattle.span_set.specs.declared.hand.Hand.{Hand}
 use Rattle.proc_cache.specs.Cache.{Cache}
 use Rattle.heap_run.specs.Counts.{HaveBuckets, Counts, HaveSampledTo, IsOut}
@@ -60,15 +59,13 @@ AreOf P (i ∷ is) xs = (rest : List _) × (x : _) × (xs ≡ rest ++ x ∷ []) 
 -- The driver may hand out workers: it is at work on this table with the cycle's marks, its tally is the ring's, its processors are idle, and
 -- nothing was answered yet.
 pub record MayStart (table : TableId) (ring : RingId) (m : MarkSet) (s : Start) : Type 0 where
-  pub works : IsAtWork table s.driver.value.worker
-  pub marks : m.pairs ≡ s.driver.value.worker.view.marks
+  pub works : WorksBy table ring m s.driver.value
   pub parts : length s.driver.value.worker.view.parts ≡ 70
   pub few : length s.procs.value.items ≤ 64
   pub answers : length s.given.value.answers.items ≡ length s.procs.value.items
   pub sampled : length s.given.value.sampled.items ≡ length s.procs.value.items
   pub driving : IsDriving s.driver.value.worker s.procs.value.items s.driver.value
   pub collecting : IsCollecting s.driver.value
-  pub counts : MayCount ring m s.driver.value.tally
   pub drives : s.driver.value.tally.view.drives ≡ true
   pub quiet : (w : ℕ) → SaysNone (part_at s.driver.value.worker w).log
 

@@ -1,11 +1,10 @@
 //! One cycle of a run: the turns of all workers, and its end.
 
 ghost use Rattle.std.specs.Prelude.{◌≡◌, ℕ, ◌^◌, ◌<◌, ◌≤◌, ◌+◌, [], All, length, slice_index_or, vec_len, false, true, IfOk, OnOk};
-ghost use Rattle.span_laws.specs.Asks.{IsAtWork};
 ghost use Rattle.heap_run.specs.Parts.{part_at};
 ghost use Rattle.heap_run.specs.Riding.{HaveRidden};
 ghost use Rattle.heap_run.specs.Settled.{HasFlushed, HasSettled, HasWorked};
-ghost use Rattle.span_set.specs.Tallies.{MayCount};
+ghost use Rattle.span_set.specs.Asks.{WorksIn};
 ghost use Rattle.sample_laws.specs.Counted.{all_counts};
 ghost use Rattle.heap_run.specs.Counts.{HaveBuckets, Counts, HaveSampled, KeepCountdowns, no_counts};
 ghost use Rattle.heap_run.specs.Gains.{HaveKept, gains};
@@ -52,32 +51,40 @@ pub(crate) fn run_beside<B: Board + Send + Sync, R: Threads + Wait + Sync, G: Ga
     given: &mut LentLists,
     viewers: &mut [Viewer<B>],
 ) -> Result<(), NoMemory>
-    requires works { IsAtWork shop.now.shared.now driver.old.worker }
-    requires distance { 8192 ≤ shop.now.distance }
-    requires marks { shop.now.marks.now.pairs ≡ driver.old.worker.view.marks }
+    // the driver works in the shop, and all are at home
+    requires works { WorksIn shop.now driver.old }
     requires parts { length driver.old.worker.view.parts ≡ 70 }
+    requires drives { driver.old.tally.view.drives ≡ true }
+    requires driving { IsDriving driver.old.worker procs.old.items driver.old }
+    requires collecting { IsCollecting driver.old }
+    requires quiet { (w : ℕ) → SaysNone (part_at driver.old.worker w).log }
+
+    // the processors, with their queues and lists
+    requires few { vec_len procs.old ≤ 64 }
+    requires caching { caching ≡ true → vec_len procs.old ≤ driver.old.worker.view.procs }
     requires count { length queues.now.events ≡ vec_len procs.old }
     requires buckets { length queues.now.buckets ≡ vec_len procs.old }
     requires lists { (vec_len given.old.answers ≡ vec_len procs.old) × (vec_len given.old.sampled ≡ vec_len procs.old) }
     requires numbered { HaveBuckets shop.now.ring.now.buckets queues.now.events queues.now.buckets }
-    requires few { vec_len procs.old ≤ 64 }
-    requires background { background ≤ 4 }
-    requires caching { caching ≡ true → vec_len procs.old ≤ driver.old.worker.view.procs }
     requires sizes { (w : ℕ) → All (λ e. e.size ≤ 2 ^ 40) (slice_index_or queues.now.events w []) }
-    requires driving { IsDriving driver.old.worker procs.old.items driver.old }
-    requires collecting { IsCollecting driver.old }
-    requires counts { MayCount shop.now.ring.now shop.now.marks.now driver.old.tally }
-    requires drives { driver.old.tally.view.drives ≡ true }
-    requires quiet { (w : ℕ) → SaysNone (part_at driver.old.worker w).log }
+
+    // the helpers
+    requires background { background ≤ 4 }
+
+    // the driver has all again
     ensures driving { OnOk result (IsDriving driver.old.worker procs.new.items driver.new) }
     ensures procs { OnOk result (vec_len procs.new ≡ vec_len procs.old) }
     ensures collecting { OnOk result (IsCollecting driver.new) }
+
+    // what the processors answered
     ensures answered { OnOk result (HaveAnswered queues.now.riding queues.now.events (gains given.old.answers.items given.new.answers.items) driver.new.worker) }
     ensures riders { OnOk result (HaveRidden queues.now.riding queues.now.events (gains given.old.answers.items given.new.answers.items)) }
     ensures size { OnOk result ((vec_len given.new.answers ≡ vec_len procs.old) × (vec_len given.new.sampled ≡ vec_len procs.old)) }
     ensures sampled { OnOk result (HaveSampled queues.now.riding queues.now.events (gains given.old.answers.items given.new.answers.items) (gains given.old.sampled.items given.new.sampled.items) procs.old.items procs.new.items) }
-    ensures counts { OnOk result (Counts shop.now.marks.now (all_counts (vec_len procs.old) (gains given.old.sampled.items given.new.sampled.items) queues.now.buckets) driver.old driver.new) }
     ensures kept { OnOk result (HaveKept given.old.answers.items given.new.answers.items × HaveKept given.old.sampled.items given.new.sampled.items) }
+
+    // what is counted
+    ensures counts { OnOk result (Counts shop.now.marks.now (all_counts (vec_len procs.old) (gains given.old.sampled.items given.new.sampled.items) queues.now.buckets) driver.old driver.new) }
 {
     let start = Start {
         driver: Snapshot::of(&*driver),
@@ -178,11 +185,16 @@ fn take_helpers(
     mut lanes: Vec<Lane>,
     start: &Start,
 ) -> Result<(), NoMemory>
+    // how the workers started
     requires starts { MayStart shop.now.shared.now shop.now.ring.now shop.now.marks.now start.now }
     requires few { background ≤ 4 }
+
+    // who is out, and what was taken in
     requires out { HasOut start.now.driver.value (helpers background) driver.old }
     requires lanes { AreOf (IsBack queues.now.riding start.now shop.now.marks.now queues.now.events queues.now.buckets) (helpers background) lanes.items }
     requires taken { HasTaken queues.now.riding start.now shop.now.marks.now queues.now.events queues.now.buckets (length start.now.procs.value.items) procs.now.items given.now driver.old }
+
+    // the same behind it
     ensures out { OnOk result (HasOut start.now.driver.value [] driver.new) }
     ensures taken { OnOk result (HasTaken queues.now.riding start.now shop.now.marks.now queues.now.events queues.now.buckets (length start.now.procs.value.items) procs.now.items given.now driver.new) }
 {
@@ -197,11 +209,16 @@ fn take_helpers(
 
 // Takes in a worker that has run, with its notes and its tally, and says what it did. Where it found no memory, that is the answer.
 fn take_in(shop: &Shop, driver: &mut Hand, lane: Lane) -> Result<Task, NoMemory>
+    // the driver
     requires table { driver.old.worker.table ≡ shop.now.shared.now }
     requires driver { driver.old.worker.number ≡ 69 }
     requires ring { driver.old.tally.ring ≡ shop.now.ring.now }
     requires drives { driver.old.tally.view.drives ≡ true }
+
+    // the worker that comes back
     requires back { lane.refused ≡ false → MayJoin shop.now.shared.now shop.now.ring.now driver.old lane.hand }
+
+    // what was done
     ensures ran { OnOk result (lane.refused ≡ false) }
     ensures task { IfOk result (λ task. task ≡ lane.task) }
     ensures taken { OnOk result (IsTakenIn lane.hand driver.old driver.new) }
@@ -226,23 +243,29 @@ pub(crate) fn flush_processors<R: Wait>(
     driver: &mut Hand,
     procs: &mut Vec<Proc>,
 ) -> Result<(), NoMemory>
-    requires works { IsAtWork shop.now.shared.now driver.old.worker }
-    requires distance { 8192 ≤ shop.now.distance }
-    requires marks { shop.now.marks.now.pairs ≡ driver.old.worker.view.marks }
+    // the driver works in the shop, and all are at home
+    requires works { WorksIn shop.now driver.old }
     requires parts { length driver.old.worker.view.parts ≡ 70 }
-    requires few { vec_len procs.old ≤ 64 }
+    requires drives { driver.old.tally.view.drives ≡ true }
     requires driving { IsDriving driver.old.worker procs.old.items driver.old }
     requires collecting { IsCollecting driver.old }
-    requires counts { MayCount shop.now.ring.now shop.now.marks.now driver.old.tally }
-    requires drives { driver.old.tally.view.drives ≡ true }
+
+    // the processors
+    requires few { vec_len procs.old ≤ 64 }
+
+    // the driver has all again
     ensures driving { OnOk result (IsDriving driver.old.worker procs.new.items driver.new) }
     ensures procs { OnOk result (vec_len procs.new ≡ vec_len procs.old) }
     ensures collecting { OnOk result (IsCollecting driver.new) }
+    ensures own { OnOk result (part_at driver.new.worker 69 ≡ part_at driver.old.worker 69) }
+
+    // the processors behind it
     ensures keeps { OnOk result (KeepsAnswers driver.old.worker driver.new.worker) }
     ensures flushed { OnOk result ((i : ℕ) → i < vec_len procs.new → (slice_index_or procs.new.items i no_cache).flushed ≡ driver.old.worker.view.generation) }
     ensures countdowns { OnOk result (KeepCountdowns procs.old.items procs.new.items) }
+
+    // what is counted
     ensures counts { OnOk result (Counts shop.now.marks.now no_counts driver.old driver.new) }
-    ensures own { OnOk result (part_at driver.new.worker 69 ≡ part_at driver.old.worker 69) }
 {
     for p in 0..procs.len() {
         flush_processor(rt, alloc, shop, driver, &mut procs[p])?;
@@ -258,23 +281,29 @@ pub(crate) fn end_cycle<R: Wait>(
     driver: &mut Hand,
     procs: &mut Vec<Proc>,
 ) -> Result<(), NoMemory>
-    requires works { IsAtWork shop.now.shared.now driver.old.worker }
-    requires distance { 8192 ≤ shop.now.distance }
-    requires marks { shop.now.marks.now.pairs ≡ driver.old.worker.view.marks }
+    // the driver works in the shop, and all are at home
+    requires works { WorksIn shop.now driver.old }
     requires parts { length driver.old.worker.view.parts ≡ 70 }
-    requires few { vec_len procs.old ≤ 64 }
+    requires drives { driver.old.tally.view.drives ≡ true }
     requires driving { IsDriving driver.old.worker procs.old.items driver.old }
     requires collecting { IsCollecting driver.old }
-    requires counts { MayCount shop.now.ring.now shop.now.marks.now driver.old.tally }
-    requires drives { driver.old.tally.view.drives ≡ true }
+
+    // the processors
+    requires few { vec_len procs.old ≤ 64 }
+
+    // the driver has all again, and the cycle ended
     ensures driving { OnOk result (IsDriving driver.old.worker procs.new.items driver.new) }
     ensures procs { OnOk result (vec_len procs.new ≡ vec_len procs.old) }
     ensures collecting { OnOk result (IsCollecting driver.new) }
+    ensures settled { OnOk result (HasSettled driver.new.worker) }
+
+    // the processors behind it
     ensures keeps { OnOk result (KeepsAnswers driver.old.worker driver.new.worker) }
     ensures flushed { OnOk result (HasFlushed procs.new.items driver.new.worker) }
     ensures countdowns { OnOk result (KeepCountdowns procs.old.items procs.new.items) }
+
+    // what is counted
     ensures counts { OnOk result (Counts shop.now.marks.now no_counts driver.old driver.new) }
-    ensures settled { OnOk result (HasSettled driver.new.worker) }
 {
     finish(rt, shop, driver)?;
     flush_processors(rt, alloc, shop, driver, procs)?;
@@ -298,29 +327,37 @@ pub(crate) fn run_workers<B: Board + Send + Sync, R: Threads + Wait + Sync, G: G
     given: &mut LentLists,
     viewers: &mut [Viewer<B>],
 ) -> Result<(), NoMemory>
-    requires works { IsAtWork shop.now.shared.now driver.old.worker }
-    requires distance { 8192 ≤ shop.now.distance }
-    requires marks { shop.now.marks.now.pairs ≡ driver.old.worker.view.marks }
+    // the driver works in the shop, and all are at home
+    requires works { WorksIn shop.now driver.old }
     requires parts { length driver.old.worker.view.parts ≡ 70 }
+    requires drives { driver.old.tally.view.drives ≡ true }
+    requires driving { IsDriving driver.old.worker procs.old.items driver.old }
+    requires collecting { IsCollecting driver.old }
+    requires quiet { (w : ℕ) → SaysNone (part_at driver.old.worker w).log }
+
+    // the processors, with their queues and lists
+    requires few { vec_len procs.old ≤ 64 }
+    requires caching { caching ≡ true → vec_len procs.old ≤ driver.old.worker.view.procs }
     requires count { length queues.events ≡ vec_len procs.old }
     requires buckets { length queues.buckets ≡ vec_len procs.old }
     requires lists { (vec_len given.old.answers ≡ vec_len procs.old) × (vec_len given.old.sampled ≡ vec_len procs.old) }
     requires numbered { HaveBuckets shop.now.ring.now.buckets queues.events queues.buckets }
-    requires few { vec_len procs.old ≤ 64 }
-    requires background { background ≤ 4 }
-    requires caching { caching ≡ true → vec_len procs.old ≤ driver.old.worker.view.procs }
     requires sizes { (w : ℕ) → All (λ e. e.size ≤ 2 ^ 40) (slice_index_or queues.events w []) }
-    requires driving { IsDriving driver.old.worker procs.old.items driver.old }
-    requires collecting { IsCollecting driver.old }
-    requires counts { MayCount shop.now.ring.now shop.now.marks.now driver.old.tally }
-    requires drives { driver.old.tally.view.drives ≡ true }
-    requires quiet { (w : ℕ) → SaysNone (part_at driver.old.worker w).log }
+
+    // the helpers
+    requires background { background ≤ 4 }
+
+    // what the workers did
     ensures ran { OnOk result (HasWorked queues.entry.riding queues.entry.events (gains given.old.answers.items given.new.answers.items) driver.old procs.new.items driver.new) }
     ensures procs { OnOk result (vec_len procs.new ≡ vec_len procs.old) }
+
+    // what the processors answered
     ensures size { OnOk result ((vec_len given.new.answers ≡ vec_len procs.old) × (vec_len given.new.sampled ≡ vec_len procs.old)) }
     ensures sampled { OnOk result (HaveSampled queues.entry.riding queues.entry.events (gains given.old.answers.items given.new.answers.items) (gains given.old.sampled.items given.new.sampled.items) procs.old.items procs.new.items) }
-    ensures counts { OnOk result (Counts shop.now.marks.now (all_counts (vec_len procs.old) (gains given.old.sampled.items given.new.sampled.items) queues.entry.buckets) driver.old driver.new) }
     ensures kept { OnOk result (HaveKept given.old.answers.items given.new.answers.items × HaveKept given.old.sampled.items given.new.sampled.items) }
+
+    // what is counted
+    ensures counts { OnOk result (Counts shop.now.marks.now (all_counts (vec_len procs.old) (gains given.old.sampled.items given.new.sampled.items) queues.entry.buckets) driver.old driver.new) }
 {
     run_beside(
         rt, alloc, shop, driver, procs, &queues, background, caching, gate, given, viewers,

@@ -1,8 +1,8 @@
 //! The events of a processor in a cycle, of which the tiny objects may ride in blocks (`docs/tiny-objects.md`).
 
 ghost use Rattle.std.specs.Prelude.{◌≡◌, ◌-◌, ◌^◌, ◌<◌, ◌≤◌, [], ◌∷◌, All, length, reverse, false, IfOk, OnOk};
-ghost use Rattle.span_laws.specs.Asks.{IsAtWork, IsIdle};
-ghost use Rattle.span_set.specs.Tallies.{MayCount};
+ghost use Rattle.span_laws.specs.Asks.{IsIdle};
+ghost use Rattle.span_set.specs.Asks.{WorksIn};
 ghost use Rattle.sample_laws.specs.Counted.{one_count, sampled_counts};
 ghost use Rattle.sample_laws.specs.Countdowns.{flag, flags, spends, spent};
 ghost use Rattle.heap_run.specs.Counts.{Counts};
@@ -44,24 +44,32 @@ pub(crate) fn answer_all<R: Wait, G: Gate>(
     answers: &mut List<Answer>,
     sampled: &mut List<bool>,
 ) -> Result<(), NoMemory>
-    requires works { IsAtWork shop.now.shared.now hand.old.worker }
-    requires distance { 8192 ≤ shop.now.distance }
-    requires marks { shop.now.marks.now.pairs ≡ hand.old.worker.view.marks }
+    // the hand works in the shop
+    requires works { WorksIn shop.now hand.old }
     requires idle { IsIdle hand.old.worker.view.own }
+
+    // the processor serves its worker
     requires caching { IsCaching hand.old.worker.view.generation hand.old.worker.view.own proc.old }
+
+    // the events, with their buckets
     requires sizes { All (λ e. e.size ≤ 2 ^ 40) events.now }
-    requires counts { MayCount shop.now.ring.now shop.now.marks.now hand.old.tally }
     requires buckets { length buckets.now ≡ length events.now }
     requires known { All (λ b. b < shop.now.ring.now.buckets) buckets.now }
+
+    // what was answered
     ensures acted { OnOk result (HasActed (SaysAnswers (asked_of riding (reverse events.now) (reverse (behind answers.old answers.new))) (given_of riding (reverse events.now) (reverse (behind answers.old answers.new)))) hand.old hand.new) }
     ensures riders { OnOk result (RidersStand riding (reverse events.now) (reverse (behind answers.old answers.new))) }
-    ensures caching { OnOk result (IsCaching hand.old.worker.view.generation hand.new.worker.view.own proc.new) }
-    ensures number { OnOk result (proc.new.number ≡ proc.old.number) }
+    ensures flushed { OnOk result (FlushesFor (asked_of riding (reverse events.now) (reverse (behind answers.old answers.new))) proc.old proc.new hand.old hand.new) }
+    ensures kept { OnOk result (HasKept answers.old answers.new × HasKept sampled.old sampled.new) }
+
+    // what is counted
     ensures sampled { OnOk result (reverse (behind sampled.old sampled.new) ≡ flags proc.old.countdown (asked_of riding (reverse events.now) (reverse (behind answers.old answers.new))) (given_of riding (reverse events.now) (reverse (behind answers.old answers.new)))) }
     ensures spent { OnOk result (proc.new.countdown ≡ spent proc.old.countdown (asked_of riding (reverse events.now) (reverse (behind answers.old answers.new))) (given_of riding (reverse events.now) (reverse (behind answers.old answers.new)))) }
     ensures counts { OnOk result (Counts shop.now.marks.now (sampled_counts (behind sampled.old sampled.new) buckets.now) hand.old hand.new) }
-    ensures flushed { OnOk result (FlushesFor (asked_of riding (reverse events.now) (reverse (behind answers.old answers.new))) proc.old proc.new hand.old hand.new) }
-    ensures kept { OnOk result (HasKept answers.old answers.new × HasKept sampled.old sampled.new) }
+
+    // the processor serves it still
+    ensures caching { OnOk result (IsCaching hand.old.worker.view.generation hand.new.worker.view.own proc.new) }
+    ensures number { OnOk result (proc.new.number ≡ proc.old.number) }
 {
     let mut given = replace(answers, List::new(alloc)).into_vec();
     let mut flags = replace(sampled, List::new(alloc)).into_vec();
@@ -100,24 +108,32 @@ fn answer<R: Wait>(
     riding: bool,
     tiny: &mut Tiny,
 ) -> Result<(Answer, bool), NoMemory>
-    requires works { IsAtWork shop.now.shared.now hand.old.worker }
-    requires distance { 8192 ≤ shop.now.distance }
-    requires marks { shop.now.marks.now.pairs ≡ hand.old.worker.view.marks }
+    // the hand works in the shop
+    requires works { WorksIn shop.now hand.old }
     requires idle { IsIdle hand.old.worker.view.own }
+
+    // the processor serves its worker
     requires caching { IsCaching hand.old.worker.view.generation hand.old.worker.view.own proc.old }
+
+    // the event, with its bucket
     requires size { event.now.size ≤ 2 ^ 40 }
-    requires counts { MayCount shop.now.ring.now shop.now.marks.now hand.old.tally }
     requires bucket { bucket < shop.now.ring.now.buckets }
+
+    // what was answered
     ensures acted { IfOk result (λ o. HasActed (SaysAnswers (based_event (part_with riding tiny.old event.now o.0) event.now ∷ []) (based_answer (part_with riding tiny.old event.now o.0) o.0 ∷ [])) hand.old hand.new) }
     ensures rides { IfOk result (λ o. StandsWith riding tiny.old event.now o.0) }
     ensures block { IfOk result (λ o. tiny.new ≡ block_with riding tiny.old event.now o.0) }
-    ensures caching { OnOk result (IsCaching hand.old.worker.view.generation hand.new.worker.view.own proc.new) }
-    ensures number { OnOk result (proc.new.number ≡ proc.old.number) }
+    ensures flushed { IfOk result (λ o. FlushesFor (based_event (part_with riding tiny.old event.now o.0) event.now ∷ []) proc.old proc.new hand.old hand.new) }
+    ensures sizeless { IfOk result (λ o. (based_event (part_with riding tiny.old event.now o.0) event.now).size ≡ 0 → (proc.new ≡ proc.old) × (hand.new ≡ hand.old)) }
+
+    // what is counted
     ensures sampled { IfOk result (λ o. o.1 ≡ flag proc.old.countdown (based_event (part_with riding tiny.old event.now o.0) event.now) (based_answer (part_with riding tiny.old event.now o.0) o.0)) }
     ensures spent { IfOk result (λ o. proc.new.countdown ≡ spends proc.old.countdown (based_event (part_with riding tiny.old event.now o.0) event.now) (based_answer (part_with riding tiny.old event.now o.0) o.0)) }
     ensures counts { IfOk result (λ o. Counts shop.now.marks.now (one_count o.1 bucket) hand.old hand.new) }
-    ensures flushed { IfOk result (λ o. FlushesFor (based_event (part_with riding tiny.old event.now o.0) event.now ∷ []) proc.old proc.new hand.old hand.new) }
-    ensures sizeless { IfOk result (λ o. (based_event (part_with riding tiny.old event.now o.0) event.now).size ≡ 0 → (proc.new ≡ proc.old) × (hand.new ≡ hand.old)) }
+
+    // the processor serves it still
+    ensures caching { OnOk result (IsCaching hand.old.worker.view.generation hand.new.worker.view.own proc.new) }
+    ensures number { OnOk result (proc.new.number ≡ proc.old.number) }
 {
     if !riding || !is_tiny(*event) {
         return serve(rt, shop, proc, hand, event, bucket);
@@ -146,23 +162,31 @@ fn serve<R: Wait>(
     event: &Event,
     bucket: u32,
 ) -> Result<(Answer, bool), NoMemory>
-    requires works { IsAtWork shop.now.shared.now hand.old.worker }
-    requires distance { 8192 ≤ shop.now.distance }
-    requires marks { shop.now.marks.now.pairs ≡ hand.old.worker.view.marks }
+    // the hand works in the shop
+    requires works { WorksIn shop.now hand.old }
     requires idle { IsIdle hand.old.worker.view.own }
+
+    // the processor serves its worker
     requires caching { IsCaching hand.old.worker.view.generation hand.old.worker.view.own proc.old }
+
+    // the event, with its bucket
     requires size { event.now.size ≤ 2 ^ 40 }
-    requires counts { MayCount shop.now.ring.now shop.now.marks.now hand.old.tally }
     requires bucket { bucket < shop.now.ring.now.buckets }
+
+    // what was answered
     ensures acted { IfOk result (λ o. HasActed (SaysAnswers (event.now ∷ []) (o.0 ∷ [])) hand.old hand.new) }
     ensures low { IfOk result (λ o. event.now.size ≤ 32768 → start_in o.0 ≤ 2 ^ 64 - 17) }
-    ensures caching { OnOk result (IsCaching hand.old.worker.view.generation hand.new.worker.view.own proc.new) }
-    ensures number { OnOk result (proc.new.number ≡ proc.old.number) }
+    ensures flushed { OnOk result (FlushesFor (event.now ∷ []) proc.old proc.new hand.old hand.new) }
+    ensures sizeless { OnOk result (event.now.size ≡ 0 → (proc.new ≡ proc.old) × (hand.new ≡ hand.old)) }
+
+    // what is counted
     ensures sampled { IfOk result (λ o. o.1 ≡ flag proc.old.countdown event.now o.0) }
     ensures spent { IfOk result (λ o. proc.new.countdown ≡ spends proc.old.countdown event.now o.0) }
     ensures counts { IfOk result (λ o. Counts shop.now.marks.now (one_count o.1 bucket) hand.old hand.new) }
-    ensures flushed { OnOk result (FlushesFor (event.now ∷ []) proc.old proc.new hand.old hand.new) }
-    ensures sizeless { OnOk result (event.now.size ≡ 0 → (proc.new ≡ proc.old) × (hand.new ≡ hand.old)) }
+
+    // the processor serves it still
+    ensures caching { OnOk result (IsCaching hand.old.worker.view.generation hand.new.worker.view.own proc.new) }
+    ensures number { OnOk result (proc.new.number ≡ proc.old.number) }
 {
     match class_of(event.size) {
         Kind::Zero => Ok((Answer::Zero, false)),

@@ -51,13 +51,18 @@ pub(crate) fn send_all(
     given: &mut LentLists,
     start: &Start,
 ) -> Result<Out, NoMemory>
+    // how the workers start
     requires starts { MayStart shop.now.shared.now shop.now.ring.now shop.now.marks.now start.now }
     requires asked { AreAsked shop.now.ring.now.buckets queues.now.events queues.now.buckets start.now }
     requires few { background ≤ 4 }
     requires caching { caching ≡ true → length start.now.procs.value.items ≤ start.now.driver.value.worker.view.procs }
+
+    // what the driver has
     requires driver { driver.old ≡ start.now.driver.value }
     requires procs { procs.old ≡ start.now.procs.value }
     requires given { given.old ≡ start.now.given.value }
+
+    // who is out
     ensures sent { IfOk result (λ out. AreSent start.now queues.now.events background 0 out.lanes.items out.resting.items procs.new.items given.new driver.new) }
 {
     let mut lanes = Vec::new(alloc);
@@ -122,12 +127,17 @@ fn send_processor(
     number: usize,
     start: &Start,
 ) -> Result<(), NoMemory>
+    // how the workers start
     requires starts { MayStart shop.now.shared.now shop.now.ring.now shop.now.marks.now start.now }
     requires asked { AreAsked shop.now.ring.now.buckets queues.now.events queues.now.buckets start.now }
     requires few { background ≤ 4 }
     requires caching { caching ≡ true → length start.now.procs.value.items ≤ start.now.driver.value.worker.view.procs }
+
+    // who is out, and who goes
     requires number { number < length start.now.procs.value.items }
     requires sent { AreSent start.now queues.now.events background (number + 1) out.old.lanes.items out.old.resting.items procs.old.items given.old driver.old }
+
+    // the same behind it
     ensures sent { OnOk result (AreSent start.now queues.now.events background number out.new.lanes.items out.new.resting.items procs.new.items given.new driver.new) }
 {
     let Some(proc) = procs.pop() else {
@@ -176,15 +186,22 @@ fn send(
     task: Task,
     lanes: &mut Vec<Lane>,
 ) -> Result<(), NoMemory>
+    // the driver
     requires table { driver.old.worker.table ≡ shop.now.shared.now }
-    requires number { number < 69 }
     requires driver { driver.old.worker.number ≡ 69 }
+    requires ring { driver.old.tally.ring ≡ shop.now.ring.now }
+    requires drives { driver.old.tally.view.drives ≡ true }
+
+    // the worker that goes
+    requires number { number < 69 }
     requires home { has number driver.old.worker.away ≡ false }
     requires part { number < length driver.old.worker.view.parts }
     requires caching { caching ≡ true → (number < 64) × (number < driver.old.worker.view.procs) }
-    requires ring { driver.old.tally.ring ≡ shop.now.ring.now }
-    requires drives { driver.old.tally.view.drives ≡ true }
+
+    // it is out
     ensures lane { OnOk result ((hand : Held) × IsOut number driver.old hand × (hand.worker.caching ≡ caching) × (lanes.new.items ≡ lanes.old.items ++ record { hand = hand; task = task; refused = false } ∷ [])) }
+
+    // the driver behind it
     ensures away { OnOk result (driver.new.worker ≡ handing number driver.old.worker) }
     ensures notes { OnOk result (driver.new.notes ≡ driver.old.notes) }
     ensures tally { OnOk result (driver.new.tally ≡ record driver.old.tally { view = lent driver.old.tally.view }) }

@@ -3,7 +3,7 @@
 ghost use Rattle.std.specs.Prelude.{◌≡◌, ℕ, ◌^◌, ◌<◌, ◌≤◌, [], All, length, slice_index_or, OnOk};
 ghost use Rattle.std.specs.Thread.{IsSync};
 ghost use Rattle.span_laws.specs.Asks.{IsAtWork, IsIdle};
-ghost use Rattle.span_set.specs.Tallies.{MayCount};
+ghost use Rattle.span_set.specs.Asks.{WorksIn};
 ghost use Rattle.proc_cache.specs.Cache.{Cache};
 ghost use Rattle.span_laws.specs.CacheAnswers.{IsSettled};
 ghost use Rattle.heap_run.specs.Turns.{HasActed, IsCaching, SaysNone};
@@ -64,7 +64,6 @@ pub(crate) fn run_all<B: Board + Send + Sync, R: Threads + Wait + Sync, G: Gate>
     lanes: &mut [Lane],
     viewers: &mut [Viewer<B>],
 )
-    requires distance { 8192 ≤ shop.now.distance }
     requires some { 0 < length lanes.old }
     requires ready { All (IsReady shop.now.shared.now shop.now.ring.now shop.now.marks.now queues.now.events queues.now.buckets) lanes.old }
     ensures ran { (i : ℕ) (d : _) → i < length lanes.old → HasDone queues.now.riding shop.now.marks.now queues.now.events queues.now.buckets (slice_index_or lanes.old i d) (slice_index_or lanes.new i d) }
@@ -76,7 +75,7 @@ pub(crate) fn run_all<B: Board + Send + Sync, R: Threads + Wait + Sync, G: Gate>
     join_mut(
         rt,
         &mut ||
-            requires { IsSync R.row × (8192 ≤ shop.now.distance) × (0 < length lanes.now) × All (IsReady shop.now.shared.now shop.now.ring.now shop.now.marks.now queues.now.events queues.now.buckets) lanes.now }
+            requires { IsSync R.row × (0 < length lanes.now) × All (IsReady shop.now.shared.now shop.now.ring.now shop.now.marks.now queues.now.events queues.now.buckets) lanes.now }
             ensures { (i : ℕ) (d : _) → i < length lanes.entry.now → HasDone queues.entry.now.riding shop.entry.now.marks.now queues.entry.now.events queues.entry.now.buckets (slice_index_or lanes.entry.now i d) (slice_index_or lanes.exit.now i d) }
         { run_lanes(rt, alloc, shop, queues, gate, lanes) },
         &mut ||
@@ -94,13 +93,12 @@ fn run_lanes<R: Threads + Wait + Sync, G: Gate>(
     gate: &G,
     lanes: &mut [Lane],
 )
-    requires distance { 8192 ≤ shop.now.distance }
     requires some { 0 < length lanes.old }
     requires ready { All (IsReady shop.now.shared.now shop.now.ring.now shop.now.marks.now queues.now.events queues.now.buckets) lanes.old }
     ensures ran { (i : ℕ) (d : _) → i < length lanes.old → HasDone queues.now.riding shop.now.marks.now queues.now.events queues.now.buckets (slice_index_or lanes.old i d) (slice_index_or lanes.new i d) }
 {
     let run = |_: usize, lane: &mut Lane|
-        requires { (8192 ≤ shop.now.distance) × IsReady shop.now.shared.now shop.now.ring.now shop.now.marks.now queues.now.events queues.now.buckets lane.now }
+        requires { IsReady shop.now.shared.now shop.now.ring.now shop.now.marks.now queues.now.events queues.now.buckets lane.now }
         ensures { HasDone queues.entry.now.riding shop.entry.now.marks.now queues.entry.now.events queues.entry.now.buckets lane.entry.now lane.exit.now }
     { lane.run(rt, alloc, shop, queues, gate) };
     let threads = lanes.len();
@@ -117,7 +115,6 @@ impl Lane {
         queues: &Queues,
         gate: &G,
     )
-        requires distance { 8192 ≤ shop.now.distance }
         requires ready { IsReady shop.now.shared.now shop.now.ring.now shop.now.marks.now queues.now.events queues.now.buckets self.old }
         ensures ran { HasDone queues.now.riding shop.now.marks.now queues.now.events queues.now.buckets self.old self.new }
     {
@@ -146,11 +143,8 @@ impl Turn {
         queues: &Queues,
         gate: &G,
     ) -> Result<(), NoMemory>
-        requires works { IsAtWork shop.now.shared.now hand.old.worker }
-        requires distance { 8192 ≤ shop.now.distance }
-        requires marks { shop.now.marks.now.pairs ≡ hand.old.worker.view.marks }
+        requires works { WorksIn shop.now hand.old }
         requires idle { IsIdle hand.old.worker.view.own }
-        requires counts { MayCount shop.now.ring.now shop.now.marks.now hand.old.tally }
         requires may { MayAnswer hand.old.worker.view.generation hand.old.worker.view.own shop.now.ring.now.buckets queues.now.events queues.now.buckets self.old }
         ensures { OnOk result (AnswersTurn queues.now.riding shop.now.marks.now (slice_index_or queues.now.events self.old.proc.number []) (slice_index_or queues.now.buckets self.old.proc.number []) hand.old hand.new self.old self.new) }
     {
@@ -203,11 +197,8 @@ fn sweep<R: Wait, G: Gate>(
     number: u32,
     gate: &G,
 ) -> Result<(), NoMemory>
-    requires works { IsAtWork shop.now.shared.now hand.old.worker }
-    requires distance { 8192 ≤ shop.now.distance }
-    requires marks { shop.now.marks.now.pairs ≡ hand.old.worker.view.marks }
+    requires works { WorksIn shop.now hand.old }
     requires idle { IsIdle hand.old.worker.view.own }
-    requires counts { MayCount shop.now.ring.now shop.now.marks.now hand.old.tally }
     ensures { OnOk result (Helps shop.now.marks.now hand.old hand.new) }
 {
     gate.before(number, 0);

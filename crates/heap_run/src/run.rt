@@ -24,7 +24,7 @@ use edge_io::{Gate, List, NoMemory};
 use proc_cache::Proc;
 use profile_readers::{Board, Publisher, Viewer};
 use size_classes::PAGE_SIZE;
-use span_set::{Hand, Shop, reset};
+use span_set::{Distance, Hand, Shop, reset};
 use span_state::{Marks, SweepNote};
 use span_table::{Shared, Worker};
 use std::alloc::Global;
@@ -561,16 +561,15 @@ fn objects_of(trace: &Trace) -> usize
 }
 
 // By how many bytes sweeping is paced in a cycle: by the distance of the mark end before it.
-fn distance_before(trace: &Trace, cycle: u32) -> u64
+fn distance_before(trace: &Trace, cycle: u32) -> Distance
     requires { cycle < length trace.now.cycles }
     ensures pace { result ≡ pace trace.now cycle }
-    ensures least { 8192 ≤ result }
 {
     if cycle == 0 {
-        return LEAST;
+        return Distance::of(LEAST);
     }
     match &trace.cycles.as_slice()[cycle as usize - 1].mark {
-        Some(end) => end.distance.saturating_sub(MARKING).max(LEAST),
-        None => LEAST,
+        Some(end) => Distance::of(end.distance.saturating_sub(MARKING)),
+        None => Distance::of(LEAST),
     }
 }

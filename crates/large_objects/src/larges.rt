@@ -1,6 +1,7 @@
 ghost use Rattle.std.specs.Prelude.{◌≡◌, ◌<◌, ◌≤◌, true};
 ghost use Rattle.span_laws.specs.Asks.{IsAtWork, IsIdle};
-ghost use Rattle.span_set.specs.Tallies.{Frees, MayCount};
+ghost use Rattle.span_set.specs.Asks.{WorksIn};
+ghost use Rattle.span_set.specs.Tallies.{Frees};
 ghost use Rattle.large_objects.specs.Larges.{AllocatesLarge, IsForOne, PutsObject};
 ghost use Rattle.proc_cache.specs.Findings.{IsHolding};
 
@@ -24,10 +25,7 @@ pub fn alloc_large<R: Wait>(
     pages: u32,
     class: u8,
 ) -> Result<u64, Refused>
-    requires works { IsAtWork shop.now.shared.now hand.old.worker }
-    requires distance { 8192 ≤ shop.now.distance }
-    requires counts { MayCount shop.now.ring.now shop.now.marks.now hand.old.tally }
-    requires marks { shop.now.marks.now.pairs ≡ hand.old.worker.view.marks }
+    requires works { WorksIn shop.now hand.old }
     requires large { class < 2 }
     requires pages { 5 ≤ pages }
     requires idle { IsIdle hand.old.worker.view.own }

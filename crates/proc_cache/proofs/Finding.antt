@@ -36,7 +36,7 @@ use Rattle.sweeper.specs.declared.answers.Paid.TheVariants.{Reached, NothingLeft
 use Rattle.sweeper.specs.NewSpans.{IsMaking, MadeAtLast, MakesSpan, MissedAtLast}
 use Rattle.sweeper.specs.Pays.{Pays}
 use Rattle.sweeper.specs.Reclaims.{HasReclaimed}
-use Rattle.sweeper.specs.Work.{IsPlain, OnlySweeps, SawAllEmpty, Works}
+use Rattle.sweeper.specs.Work.{IsPlain, OnlySweeps, SawAllEmpty, HandSweeps}
 use Rattle.proc_cache.specs.declared.refills.CacheFrom.{CacheFrom}
 use Rattle.proc_cache.specs.declared.refills.CacheFrom.TheVariants.{SweptPartial, SweptHere, Fresh}
 use Rattle.proc_cache.specs.Leaves.{Holds, Sums}
@@ -214,7 +214,7 @@ module _ (k : ℕ) (old mid : Hand) (low : k < 136) where
 
 module _ (pages distance bytes credit : ℕ) (old mid : Hand) (idle : IsIdle old.worker.view.own) where
   -- what a payment leaves, and what its log has
-  pub paid_nothing : Works [] IsPlain old mid → (said : List Entry) × Holds [] said old mid × Sums 0 0 0 0 said × StopsPaying old.worker.view.generation said
+  pub paid_nothing : HandSweeps [] IsPlain old mid → (said : List Entry) × Holds [] said old mid × Sums 0 0 0 0 said × StopsPaying old.worker.view.generation said
   paid_nothing w = (w.said, of_sweeper [] _ old mid idle w, sums_of [] _ old mid idle w 0 0 w.did.takes_none.untaken w.did.takes_none.unmissed, record { sweeps = w.does.sweeps; plain = w.did })
 
   pub paid : (p : Paid) → Pays pages distance bytes credit old mid (Ok p) → (said : List Entry) × Holds [] said old mid × Sums 0 0 0 0 said × HasPaidFor old.worker.view.generation pages distance bytes credit said

@@ -36,7 +36,7 @@ one_in p (x ∷ xs) e = dite (ℕ_discrete p x)
     (λ d. absurd (let z = e x in let o = same_one x in let n = other_one p x d in omega arith))
 
 -- a hand that holds nothing, after a call of the sweeper
-module _ (more : List ℕ) (P : List Entry → Type 0) (old new : Hand) (idle : IsIdle old.worker.view.own) (w : work.Works more P old new) where
+module _ (more : List ℕ) (P : List Entry → Type 0) (old new : Hand) (idle : IsIdle old.worker.view.own) (w : work.HandSweeps more P old new) where
   pub of_sweeper : Holds more w.said old new
   of_sweeper = let s = w.does.stays in let o = w.does.sweeps in record {
     log = w.does.log;
@@ -69,7 +69,7 @@ module _ (more : List ℕ) (P : List Entry → Type 0) (old new : Hand) (idle : 
   }
 
 -- and after a call for a cached span
-module _ (class tried : ℕ) (more kept : ℕ → ℕ) (P : List Entry → Type 0) (old new : Hand) (idle : IsIdle old.worker.view.own) (d : lists.Does old.worker.view.generation class tried more kept P old new) where
+module _ (class tried : ℕ) (more kept : ℕ → ℕ) (P : List Entry → Type 0) (old new : Hand) (idle : IsIdle old.worker.view.own) (d : lists.HandSearches old.worker.view.generation class tried more kept P old new) where
   counted : (q : ℕ) → times q new.worker.view.own.held ≡ more q
   counted q = let h = d.held q in let z = ap (times q) idle.held in omega arith
 

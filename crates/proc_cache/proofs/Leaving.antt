@@ -2,13 +2,20 @@
 use Rattle.std.proofs.Common.{◌≡◌, ℕ, ◌+◌, List, [], ◌∷◌, ◌++◌, refl, ap, sym, subst, ◌∙◌, arith, append_assoc}
 use Rattle.std.specs.List.{AllByRecursion}
 use Rattle.std.proofs.lemmas.List.{append-nil}
+use Rattle.atomic_table.specs.Seated.{TableId}
+use Rattle.profile_cycle.specs.History.{RingId}
+use Rattle.span_state.specs.MarkSet.{MarkSet}
 use Rattle.span_state.specs.declared.sweep.SweepNote.{SweepNote}
 use Rattle.sweep_laws.specs.Counts.{total}
 use Rattle.worker_log.specs.declared.Entry.{Entry}
 use Rattle.span_laws.specs.Asks.{IsIdle}
 use Rattle.span_laws.specs.Calls.{note_in, notes_of, number_added, pages_swept}
 use Rattle.span_laws.specs.Views.{Seen, acts}
+use Rattle.span_laws.specs.declared.view.View.{View}
+use Rattle.span_set.specs.Asks.{WorksBy}
+use Rattle.span_set.specs.Tallies.{Frees}
 use Rattle.span_set.specs.declared.hand.Hand.{Hand}
+use Rattle.span_set.proofs.Asks.{works_still}
 use Rattle.proc_cache.specs.Leaves.{Leaves}
 
 pub total-append : {A : Type 0} (f : A → ℕ) (xs ys : List A) → total f (xs ++ ys) ≡ total f xs + total f ys
@@ -66,3 +73,7 @@ leaves_nothing a b idle w n = record {
   pages = refl;
   notes = n ∙ sym (append-nil a.notes.items);
 }
+
+-- a hand still works by the same behind a call
+pub leaves_works : (t : TableId) (r : RingId) (m : MarkSet) (old new : Hand) (said : List Entry) → Leaves said old new → Frees m old new → WorksBy t r m old → WorksBy t r m new
+leaves_works t r m old new said x f works = works_still t r m old new x.table x.away (ap (λ (v : View). v.marks) x.view) f works

@@ -2,8 +2,9 @@ ghost use Rattle.std.specs.Prelude.{◌≡◌, ◌^◌, ◌<◌, ◌≤◌, IfOk
 ghost use Rattle.size_classes.specs.Classes.{IsLeastClass, span_class_of};
 ghost use Rattle.profile_cycle.specs.Naming.{slot_for};
 ghost use Rattle.profile_cycle.specs.Sampling.{behind, is_sample};
-ghost use Rattle.span_laws.specs.Asks.{IsAtWork, IsIdle};
-ghost use Rattle.span_set.specs.Tallies.{Frees, MayCount};
+ghost use Rattle.span_laws.specs.Asks.{IsIdle};
+ghost use Rattle.span_set.specs.Asks.{WorksIn};
+ghost use Rattle.span_set.specs.Tallies.{Frees};
 ghost use Rattle.proc_cache.specs.Allocs.{AllocatesIn, addr_of};
 ghost use Rattle.proc_cache.specs.Hits.{IsMissing};
 ghost use Rattle.proc_cache.specs.Samples.{CountsOne};
@@ -45,24 +46,32 @@ pub fn alloc<R: Wait>(
     event: Event,
     bucket: u32,
 ) -> Result<Placed, Refused>
-    requires works { IsAtWork shop.now.shared.now hand.old.worker }
-    requires distance { 8192 ≤ shop.now.distance }
-    requires counts { MayCount shop.now.ring.now shop.now.marks.now hand.old.tally }
-    requires bucket { bucket < shop.now.ring.now.buckets }
-    requires marks { shop.now.marks.now.pairs ≡ hand.old.worker.view.marks }
-    requires some { 1 ≤ event.size }
-    requires small { event.size ≤ 32768 }
+    // the hand works in the shop
+    requires works { WorksIn shop.now hand.old }
     requires idle { IsIdle hand.old.worker.view.own }
+
+    // the processor serves its worker
     requires serves { Serves hand.old.worker.view.generation hand.old.worker.view.own proc.old }
     requires used { IsUsedCache hand.old.worker.view.own }
+
+    // the object
+    requires some { 1 ≤ event.size }
+    requires small { event.size ≤ 32768 }
+    requires bucket { bucket < shop.now.ring.now.buckets }
+
+    // where it is
     ensures low { IfOk result (λ placed. placed.addr < 2 ^ 48) }
     ensures allocates { (class : Rattle.std.specs.Prelude.ℕ) × IsLeastClass event.size class × AllocatesIn shop.now.pages shop.now.distance (span_class_of class event.scan) proc.old proc.new hand.old hand.new (addr_of result) }
-    ensures number { proc.new.number ≡ proc.old.number }
+
+    // whether it is sampled, and what is counted
     ensures sampled { IfOk result (λ placed. placed.sampled ≡ is_sample proc.old.countdown (slot_for event.size)) }
     ensures countdown { OnOk result (proc.new.countdown ≡ behind proc.old.countdown (slot_for event.size)) }
     ensures untouched { OnErr result (proc.new.countdown ≡ proc.old.countdown) }
     ensures counted { IfOk result (λ placed. CountsOne shop.now.marks.now bucket placed.sampled hand.old hand.new) }
     ensures frees { OnErr result (Frees shop.now.marks.now hand.old hand.new) }
+
+    // the processor serves it still
+    ensures number { proc.new.number ≡ proc.old.number }
     ensures serves { Serves hand.new.worker.view.generation hand.new.worker.view.own proc.new }
     ensures used { IsUsedCache hand.new.worker.view.own }
 {
@@ -83,21 +92,29 @@ fn alloc_in<R: Wait>(
     hand: &mut Hand,
     class: u8,
 ) -> Result<u64, Refused>
-    requires works { IsAtWork shop.now.shared.now hand.old.worker }
-    requires distance { 8192 ≤ shop.now.distance }
-    requires counts { MayCount shop.now.ring.now shop.now.marks.now hand.old.tally }
-    requires marks { shop.now.marks.now.pairs ≡ hand.old.worker.view.marks }
-    requires small { 2 ≤ class }
-    requires class { class < 136 }
+    // the hand works in the shop
+    requires works { WorksIn shop.now hand.old }
     requires idle { IsIdle hand.old.worker.view.own }
+
+    // the processor serves its worker
     requires serves { Serves hand.old.worker.view.generation hand.old.worker.view.own proc.old }
     requires used { IsUsedCache hand.old.worker.view.own }
+
+    // the span class
+    requires small { 2 ≤ class }
+    requires class { class < 136 }
+
+    // where the object is
     ensures low { IfOk result (λ at. at < 2 ^ 48) }
     ensures allocates { AllocatesIn shop.now.pages shop.now.distance class proc.old proc.new hand.old hand.new result }
-    ensures number { proc.new.number ≡ proc.old.number }
-    ensures serves { Serves hand.new.worker.view.generation hand.new.worker.view.own proc.new }
+
+    // what is counted
     ensures countdown { proc.new.countdown ≡ proc.old.countdown }
     ensures tally { Frees shop.now.marks.now hand.old hand.new }
+
+    // the processor serves it still
+    ensures number { proc.new.number ≡ proc.old.number }
+    ensures serves { Serves hand.new.worker.view.generation hand.new.worker.view.own proc.new }
     ensures used { IsUsedCache hand.new.worker.view.own }
 {
     let Ok(()) = flush(rt, proc, shop, hand) else {
@@ -117,23 +134,31 @@ fn alloc_missed<R: Wait>(
     hand: &mut Hand,
     class: u8,
 ) -> Result<u64, Refused>
-    requires works { IsAtWork shop.now.shared.now hand.old.worker }
-    requires distance { 8192 ≤ shop.now.distance }
-    requires counts { MayCount shop.now.ring.now shop.now.marks.now hand.old.tally }
-    requires marks { shop.now.marks.now.pairs ≡ hand.old.worker.view.marks }
+    // the hand works in the shop
+    requires works { WorksIn shop.now hand.old }
+    requires idle { IsIdle hand.old.worker.view.own }
+
+    // the processor serves its worker
+    requires serves { Serves hand.old.worker.view.generation hand.old.worker.view.own proc.old }
+    requires used { IsUsedCache hand.old.worker.view.own }
+    requires flushed { proc.old.flushed ≡ hand.old.worker.view.generation }
+    requires missing { IsMissing proc.old class }
+
+    // the span class
     requires small { 2 ≤ class }
     requires class { class < 136 }
-    requires idle { IsIdle hand.old.worker.view.own }
-    requires serves { Serves hand.old.worker.view.generation hand.old.worker.view.own proc.old }
-    requires flushed { proc.old.flushed ≡ hand.old.worker.view.generation }
-    requires used { IsUsedCache hand.old.worker.view.own }
-    requires missing { IsMissing proc.old class }
+
+    // where the object is
     ensures low { IfOk result (λ at. at < 2 ^ 48) }
     ensures allocates { AllocatesIn shop.now.pages shop.now.distance class proc.old proc.new hand.old hand.new result }
-    ensures number { proc.new.number ≡ proc.old.number }
-    ensures serves { Serves hand.new.worker.view.generation hand.new.worker.view.own proc.new }
+
+    // what is counted
     ensures countdown { proc.new.countdown ≡ proc.old.countdown }
     ensures tally { Frees shop.now.marks.now hand.old hand.new }
+
+    // the processor serves it still
+    ensures number { proc.new.number ≡ proc.old.number }
+    ensures serves { Serves hand.new.worker.view.generation hand.new.worker.view.own proc.new }
     ensures used { IsUsedCache hand.new.worker.view.own }
 {
     refill(rt, proc, shop, hand, class)?;

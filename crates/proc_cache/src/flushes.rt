@@ -1,7 +1,8 @@
 ghost use Rattle.std.specs.Prelude.{◌≡◌, ◌<◌, ◌≤◌, true, false, length};
 ghost use Rattle.sweep_laws.specs.Lists.{has};
-ghost use Rattle.span_laws.specs.Asks.{HasBody, IsAtWork, IsIdle};
-ghost use Rattle.span_set.specs.Tallies.{Frees, MayCount};
+ghost use Rattle.span_laws.specs.Asks.{HasBody, IsIdle};
+ghost use Rattle.span_set.specs.Asks.{WorksIn};
+ghost use Rattle.span_set.specs.Tallies.{Frees};
 ghost use Rattle.proc_cache.specs.Flushes.{FlushesCache, FlushesClass, FlushesSpan};
 ghost use Rattle.proc_cache.specs.Serves.{IsUsedCache, Serves, is_flushed};
 
@@ -20,16 +21,22 @@ const CLASSES: u8 = 136;
 /// classes in rising order, each span that was cached before is swept and put where it belongs, an emptied one goes back
 /// to the heap. After NoMemory the classes flushed so far are flushed, and the rest is cached.
 pub fn flush<R: Wait>(rt: &R, proc: &mut Proc, shop: &Shop, hand: &mut Hand) -> Result<(), NoMemory>
-    requires works { IsAtWork shop.now.shared.now hand.old.worker }
-    requires distance { 8192 ≤ shop.now.distance }
-    requires counts { MayCount shop.now.ring.now shop.now.marks.now hand.old.tally }
-    requires marks { shop.now.marks.now.pairs ≡ hand.old.worker.view.marks }
+    // the hand works in the shop
+    requires works { WorksIn shop.now hand.old }
     requires idle { IsIdle hand.old.worker.view.own }
+
+    // the processor serves its worker
     requires serves { Serves hand.old.worker.view.generation hand.old.worker.view.own proc.old }
+
+    // what was done
     ensures flushes { FlushesCache proc.old proc.new hand.old hand.new result }
-    ensures serves { Serves hand.new.worker.view.generation hand.new.worker.view.own proc.new }
+
+    // what is counted
     ensures countdown { proc.new.countdown ≡ proc.old.countdown }
     ensures tally { Frees shop.now.marks.now hand.old hand.new }
+
+    // the processor serves it still
+    ensures serves { Serves hand.new.worker.view.generation hand.new.worker.view.own proc.new }
     ensures used { IsUsedCache hand.old.worker.view.own → IsUsedCache hand.new.worker.view.own }
 {
     let generation = shop.shared.generation(&mut hand.worker);
@@ -49,18 +56,24 @@ fn flush_all<R: Wait>(
     hand: &mut Hand,
     generation: u64,
 ) -> Result<(), NoMemory>
-    requires works { IsAtWork shop.now.shared.now hand.old.worker }
-    requires distance { 8192 ≤ shop.now.distance }
-    requires counts { MayCount shop.now.ring.now shop.now.marks.now hand.old.tally }
-    requires marks { shop.now.marks.now.pairs ≡ hand.old.worker.view.marks }
+    // the hand works in the shop
+    requires works { WorksIn shop.now hand.old }
     requires idle { IsIdle hand.old.worker.view.own }
+
+    // the processor serves its worker, and has not flushed
     requires serves { Serves hand.old.worker.view.generation hand.old.worker.view.own proc.old }
     requires stale { is_flushed hand.old.worker.view.generation proc.old ≡ false }
     requires generation { generation ≡ hand.old.worker.view.generation }
+
+    // what was done
     ensures flushes { FlushesCache proc.old proc.new hand.old hand.new result }
-    ensures serves { Serves hand.new.worker.view.generation hand.new.worker.view.own proc.new }
+
+    // what is counted
     ensures countdown { proc.new.countdown ≡ proc.old.countdown }
     ensures tally { Frees shop.now.marks.now hand.old hand.new }
+
+    // the processor serves it still
+    ensures serves { Serves hand.new.worker.view.generation hand.new.worker.view.own proc.new }
     ensures used { IsUsedCache hand.old.worker.view.own → IsUsedCache hand.new.worker.view.own }
 {
     for class in 0..CLASSES {
@@ -78,18 +91,26 @@ fn flush_class<R: Wait>(
     hand: &mut Hand,
     class: u8,
 ) -> Result<(), NoMemory>
-    requires works { IsAtWork shop.now.shared.now hand.old.worker }
-    requires distance { 8192 ≤ shop.now.distance }
-    requires counts { MayCount shop.now.ring.now shop.now.marks.now hand.old.tally }
-    requires marks { shop.now.marks.now.pairs ≡ hand.old.worker.view.marks }
-    requires class { class < 136 }
+    // the hand works in the shop
+    requires works { WorksIn shop.now hand.old }
     requires idle { IsIdle hand.old.worker.view.own }
+
+    // the processor serves its worker, and has not flushed
     requires serves { Serves hand.old.worker.view.generation hand.old.worker.view.own proc.old }
     requires stale { is_flushed hand.old.worker.view.generation proc.old ≡ false }
+
+    // the span class
+    requires class { class < 136 }
+
+    // what was done
     ensures flushes { FlushesClass class proc.old proc.new hand.old hand.new result }
-    ensures serves { Serves hand.new.worker.view.generation hand.new.worker.view.own proc.new }
+
+    // what is counted
     ensures countdown { proc.new.countdown ≡ proc.old.countdown }
     ensures tally { Frees shop.now.marks.now hand.old hand.new }
+
+    // the processor serves it still
+    ensures serves { Serves hand.new.worker.view.generation hand.new.worker.view.own proc.new }
 {
     if proc.slots[class as usize].is_none() {
         return Ok(());
@@ -104,16 +125,18 @@ fn flush_class<R: Wait>(
 
 // Takes a stale span out of the cache, sweeps it, and puts it where it belongs.
 fn flush_span<R: Wait>(rt: &R, shop: &Shop, hand: &mut Hand, body: Body)
-    requires works { IsAtWork shop.now.shared.now hand.old.worker }
-    requires distance { 8192 ≤ shop.now.distance }
-    requires counts { MayCount shop.now.ring.now shop.now.marks.now hand.old.tally }
-    requires marks { shop.now.marks.now.pairs ≡ hand.old.worker.view.marks }
-    requires room { length hand.old.notes.items < hand.old.notes.space }
-    requires class { body.class < 136 }
+    // the hand works in the shop, and has room
+    requires works { WorksIn shop.now hand.old }
     requires idle { IsIdle hand.old.worker.view.own }
+    requires room { length hand.old.notes.items < hand.old.notes.space }
+
+    // the span
+    requires class { body.class < 136 }
     requires cached { has body.page hand.old.worker.view.own.cached ≡ true }
     requires stale { has body.page hand.old.worker.view.own.fresh ≡ false }
     requires lent { HasBody hand.old.worker.view.own body }
+
+    // what was done
     ensures flushes { FlushesSpan body.page hand.old hand.new }
     ensures tally { Frees shop.now.marks.now hand.old hand.new }
 {

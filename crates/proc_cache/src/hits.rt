@@ -31,14 +31,23 @@ fn address(page: u32, slot: u32, index: u32) -> u64
 /// processor has flushed in this cycle, and the worker holds no span. Miss exactly where no span is cached or the cached one has no free index; then nothing
 /// changes. Takes no memory, and waits for nobody.
 pub fn alloc_hit(proc: &mut Proc, shared: &Shared, w: &mut Worker, class: u8) -> Hit
+    // the worker
     requires works { IsAtWork shared.now w.old }
-    requires small { 2 ≤ class }
-    requires class { class < 136 }
     requires held { w.old.view.own.held ≡ [] }
+
+    // the processor serves it
     requires serves { Serves w.old.view.generation w.old.view.own proc.old }
     requires flushed { proc.old.flushed ≡ w.old.view.generation }
+
+    // the span class
+    requires small { 2 ≤ class }
+    requires class { class < 136 }
+
+    // what was done
     ensures low { HitsLow result }
     ensures hits { HitsCache class proc.old proc.new w.old w.new result }
+
+    // the processor serves it still
     ensures serves { Serves w.new.view.generation w.new.view.own proc.new }
     ensures countdown { proc.new.countdown ≡ proc.old.countdown }
 {

@@ -6,7 +6,8 @@ ghost use Rattle.span_laws.specs.BodyAsks.{IsFullBody};
 ghost use Rattle.span_laws.specs.Asks.{IsAtWork, IsIdle};
 ghost use Rattle.span_laws.specs.Views.{span_of};
 ghost use Rattle.span_laws.specs.OwnSteps.{after_said};
-ghost use Rattle.span_set.specs.Tallies.{Frees, MayCount};
+ghost use Rattle.span_set.specs.Asks.{WorksIn};
+ghost use Rattle.span_set.specs.Tallies.{Frees};
 ghost use Rattle.proc_cache.specs.Hits.{IsMissing};
 ghost use Rattle.proc_cache.specs.Cache.{slot_at};
 ghost use Rattle.proc_cache.specs.RefillLogs.{bytes_of};
@@ -53,21 +54,29 @@ pub fn refill<R: Wait>(
     hand: &mut Hand,
     class: u8,
 ) -> Result<CacheFrom, Refused>
-    requires works { IsAtWork shop.now.shared.now hand.old.worker }
-    requires distance { 8192 ≤ shop.now.distance }
-    requires counts { MayCount shop.now.ring.now shop.now.marks.now hand.old.tally }
-    requires marks { shop.now.marks.now.pairs ≡ hand.old.worker.view.marks }
+    // the hand works in the shop
+    requires works { WorksIn shop.now hand.old }
+    requires idle { IsIdle hand.old.worker.view.own }
+
+    // the processor serves its worker
+    requires serves { Serves hand.old.worker.view.generation hand.old.worker.view.own proc.old }
+    requires used { IsUsedCache hand.old.worker.view.own }
+    requires flushed { proc.old.flushed ≡ hand.old.worker.view.generation }
+    requires missing { IsMissing proc.old class }
+
+    // the span class
     requires small { 2 ≤ class }
     requires class { class < 136 }
-    requires idle { IsIdle hand.old.worker.view.own }
-    requires serves { Serves hand.old.worker.view.generation hand.old.worker.view.own proc.old }
-    requires flushed { proc.old.flushed ≡ hand.old.worker.view.generation }
-    requires used { IsUsedCache hand.old.worker.view.own }
-    requires missing { IsMissing proc.old class }
+
+    // what was done
     ensures refills { RefillsCache shop.now.pages shop.now.distance class proc.old proc.new hand.old hand.new result }
-    ensures serves { Serves hand.new.worker.view.generation hand.new.worker.view.own proc.new }
+
+    // what is counted
     ensures countdown { proc.new.countdown ≡ proc.old.countdown }
     ensures tally { Frees shop.now.marks.now hand.old hand.new }
+
+    // the processor serves it still
+    ensures serves { Serves hand.new.worker.view.generation hand.new.worker.view.own proc.new }
     ensures used { IsUsedBut class hand.new.worker.view.own proc.new }
 {
     leave_full(proc, shop, hand, class);
@@ -82,17 +91,28 @@ pub fn refill<R: Wait>(
 
 // Lets the full span of a class, if there is one, go to the swept full set. Takes no memory.
 fn leave_full(proc: &mut Proc, shop: &Shop, hand: &mut Hand, class: u8)
+    // the worker
     requires works { IsAtWork shop.now.shared.now hand.old.worker }
-    requires class { class < 136 }
     requires idle { IsIdle hand.old.worker.view.own }
+
+    // the processor serves it
     requires serves { Serves hand.old.worker.view.generation hand.old.worker.view.own proc.old }
-    requires flushed { proc.old.flushed ≡ hand.old.worker.view.generation }
     requires used { IsUsedCache hand.old.worker.view.own }
+    requires flushed { proc.old.flushed ≡ hand.old.worker.view.generation }
     requires missing { IsMissing proc.old class }
+
+    // the span class
+    requires class { class < 136 }
+
+    // what was done
     ensures leaves { LeavesFull class proc.old proc.new hand.old hand.new }
-    ensures serves { Serves hand.new.worker.view.generation hand.new.worker.view.own proc.new }
+
+    // what is counted
     ensures countdown { proc.new.countdown ≡ proc.old.countdown }
     ensures counted { hand.new.tally ≡ hand.old.tally }
+
+    // the processor serves it still
+    ensures serves { Serves hand.new.worker.view.generation hand.new.worker.view.own proc.new }
     ensures used { IsUsedCache hand.new.worker.view.own }
 {
     if proc.slots[class as usize].is_some() {
@@ -103,17 +123,28 @@ fn leave_full(proc: &mut Proc, shop: &Shop, hand: &mut Hand, class: u8)
 // The same of a slot with a span. It stands alone, so that an empty slot has no place for a body.
 #[inline(never)]
 fn leave_span(proc: &mut Proc, shop: &Shop, hand: &mut Hand, class: u8)
+    // the worker
     requires works { IsAtWork shop.now.shared.now hand.old.worker }
-    requires class { class < 136 }
     requires idle { IsIdle hand.old.worker.view.own }
+
+    // the processor serves it
     requires serves { Serves hand.old.worker.view.generation hand.old.worker.view.own proc.old }
-    requires flushed { proc.old.flushed ≡ hand.old.worker.view.generation }
     requires used { IsUsedCache hand.old.worker.view.own }
+    requires flushed { proc.old.flushed ≡ hand.old.worker.view.generation }
     requires missing { IsMissing proc.old class }
+
+    // the span class
+    requires class { class < 136 }
+
+    // what was done
     ensures leaves { LeavesFull class proc.old proc.new hand.old hand.new }
-    ensures serves { Serves hand.new.worker.view.generation hand.new.worker.view.own proc.new }
+
+    // what is counted
     ensures countdown { proc.new.countdown ≡ proc.old.countdown }
     ensures counted { hand.new.tally ≡ hand.old.tally }
+
+    // the processor serves it still
+    ensures serves { Serves hand.new.worker.view.generation hand.new.worker.view.own proc.new }
     ensures used { IsUsedCache hand.new.worker.view.own }
 {
     let Some(body) = proc.slots[class as usize].take() else {
@@ -124,14 +155,21 @@ fn leave_span(proc: &mut Proc, shop: &Shop, hand: &mut Hand, class: u8)
 
 // Takes a full span out of the cache, in which it is since this cycle, and pushes it.
 fn push_full(shop: &Shop, hand: &mut Hand, class: u8, body: Body)
+    // the worker
     requires works { IsAtWork shop.now.shared.now hand.old.worker }
-    requires class { class < 136 }
     requires idle { IsIdle hand.old.worker.view.own }
+
+    // the span
+    requires class { class < 136 }
     requires cached { IsCachedAt hand.old.worker.view.generation hand.old.worker.view.own class (span_of body) }
     requires fresh { has body.page hand.old.worker.view.own.fresh ≡ true }
     requires full { IsFullBody body }
+
+    // the worker behind it
     ensures view { hand.new.worker ≡ after_said (Said.Fills (swept_set hand.old.worker.view.generation class 1) body.page)
         (after_said (Said.Reads 1 hand.old.worker.view.generation) (after_said (Said.Uncaches body.page) hand.old.worker)) }
+
+    // the rest of the hand
     ensures notes { hand.new.notes ≡ hand.old.notes }
     ensures counted { hand.new.tally ≡ hand.old.tally }
 {
@@ -153,13 +191,15 @@ fn find_span<R: Wait>(
     hand: &mut Hand,
     class: u8,
 ) -> Result<(Body, CacheFrom), Refused>
-    requires works { IsAtWork shop.now.shared.now hand.old.worker }
-    requires distance { 8192 ≤ shop.now.distance }
-    requires counts { MayCount shop.now.ring.now shop.now.marks.now hand.old.tally }
-    requires marks { shop.now.marks.now.pairs ≡ hand.old.worker.view.marks }
+    // the hand works in the shop
+    requires works { WorksIn shop.now hand.old }
+    requires idle { IsIdle hand.old.worker.view.own }
+
+    // the span class
     requires small { 2 ≤ class }
     requires class { class < 136 }
-    requires idle { IsIdle hand.old.worker.view.own }
+
+    // what was done
     ensures finds { FindsSpan shop.now.pages shop.now.distance class hand.old hand.new result }
     ensures tally { Frees shop.now.marks.now hand.old hand.new }
 {
@@ -178,14 +218,16 @@ fn take_span<R: Wait>(
     class: u8,
     pages: u32,
 ) -> Result<(Body, CacheFrom), Refused>
-    requires works { IsAtWork shop.now.shared.now hand.old.worker }
-    requires distance { 8192 ≤ shop.now.distance }
-    requires counts { MayCount shop.now.ring.now shop.now.marks.now hand.old.tally }
-    requires marks { shop.now.marks.now.pairs ≡ hand.old.worker.view.marks }
+    // the hand works in the shop
+    requires works { WorksIn shop.now hand.old }
+    requires idle { IsIdle hand.old.worker.view.own }
+
+    // the span class
     requires small { 2 ≤ class }
     requires class { class < 136 }
     requires pages { pages ≡ pages_of (class / 2) }
-    requires idle { IsIdle hand.old.worker.view.own }
+
+    // what was done
     ensures comes { Comes class hand.old hand.new result }
     ensures tally { Frees shop.now.marks.now hand.old hand.new }
 {
@@ -202,19 +244,30 @@ fn take_span<R: Wait>(
 
 // Caches a span that the worker holds, in the empty slot of its class, and adds its bytes to the spent ones. Takes no memory.
 fn keep_span(proc: &mut Proc, shop: &Shop, hand: &mut Hand, class: u8, body: Body)
+    // the worker
     requires works { IsAtWork shop.now.shared.now hand.old.worker }
+    requires holds { IsHolding hand.old.worker.view.own body.page }
+
+    // the span
     requires small { 2 ≤ class }
     requires class { class < 136 }
-    requires holds { IsHolding hand.old.worker.view.own body.page }
     requires body { IsFor class body hand.old hand.old }
+
+    // the processor serves the worker
     requires serves { Serves hand.old.worker.view.generation hand.old.worker.view.own proc.old }
     requires flushed { proc.old.flushed ≡ hand.old.worker.view.generation }
     requires empty { slot_at proc.old class ≡ None }
+
+    // what was done
     ensures keeps { KeepsSpan class (bytes_of class) body proc.old proc.new hand.old hand.new }
-    ensures serves { Serves hand.new.worker.view.generation hand.new.worker.view.own proc.new }
+    ensures notes { hand.new.notes ≡ hand.old.notes }
+
+    // what is counted
     ensures countdown { proc.new.countdown ≡ proc.old.countdown }
     ensures counted { hand.new.tally ≡ hand.old.tally }
-    ensures notes { hand.new.notes ≡ hand.old.notes }
+
+    // the processor serves it still
+    ensures serves { Serves hand.new.worker.view.generation hand.new.worker.view.own proc.new }
     ensures used { IsUsedCache hand.old.worker.view.own → IsUsedBut class hand.new.worker.view.own proc.new }
 {
     let bytes = u64::from(span_pages(class / 2)) * PAGE_SIZE;

@@ -31,13 +31,13 @@ use Rattle.span_set.specs.Tallies.{Frees, MayCount, frees_all, freeing}
 use Rattle.span_set.proofs.Tallies.{freeing-ring, may-still}
 use Rattle.span_set.specs.declared.hand.Hand.{Hand}
 use Rattle.central_lists.specs.Lists.{Caches}
-use Rattle.central_lists.specs.Looks.{Whatever}
+use Rattle.central_lists.specs.Looks.{AnyLog}
 use Rattle.central_lists.specs.Works.{nothing}
 use Rattle.central_lists.specs.declared.answers.FromSets.{FromSets}
 use Rattle.sweeper.specs.Reclaims.{Reclaims}
 use Rattle.sweeper.specs.Sweeps.{Finishes, SweepsOne}
-use Rattle.sweeper.specs.declared.answers.One.{One}
-use Rattle.sweeper.specs.declared.answers.One.TheVariants.{Swept, NothingLeft}
+use Rattle.sweeper.specs.declared.answers.SweptOne.{SweptOne}
+use Rattle.sweeper.specs.declared.answers.SweptOne.TheVariants.{Swept, NothingLeft}
 use Rattle.proc_cache.specs.declared.allocs.Placed.{Placed}
 use Rattle.proc_cache.specs.Allocs.{AllocatesIn, addr_of}
 use Rattle.proc_cache.specs.Cache.{Cache, address_of}
@@ -87,21 +87,20 @@ module _ (table : TableId) (ring : RingId) (marks : MarkSet) where
       serves = v;
       used = u;
     });
-    same_marks = r.same_marks ∙ sym (ap (λ (z : View). z.marks) l.view);
-    counts = counts;
+    works = record { works = (l.table ∙ r.works.works.0, l.away ∙ r.works.works.1); marks = r.works.marks ∙ sym (ap (λ (z : View). z.marks) l.view); counts = counts };
     publishes = publishes;
     two = r.two;
   }
 
   frees_ready : (old new : Hand) (c d : Cache) (said : List Entry) → IsReady table ring marks old c → Leaves said old new → Serves new.worker.view.generation new.worker.view.own d → IsUsedCache new.worker.view.own
       → Frees marks old new → IsReady table ring marks new d
-  frees_ready old new c d said r l v u f = leaves_ready old new c d said r l v u (may-still marks ring old new r.counts f)
+  frees_ready old new c d said r l v u f = leaves_ready old new c d said r l v u (may-still marks ring old new r.works.counts f)
       (subst (MayPublish ring) (sym f.tally) (freeing_publish ring marks f.more old.tally r.publishes))
 
   pub small_ready : (pages distance k bucket : ℕ) (old new : Hand) (c d : Cache) (r : Result Placed Refused) → IsReady table ring marks old c → AllocatesIn pages distance k c d old new (addr_of r) → Serves new.worker.view.generation new.worker.view.own d
       → IsUsedCache new.worker.view.own → IfOk r (λ p. CountsOne marks bucket p.sampled old new) → OnErr r (Frees marks old new) → IsReady table ring marks new d
   small_ready pages distance k bucket old new c d (Ok p) r a v u one none = leaves_ready old new c d a.2.0 r a.2.1 v u
-      (subst (MayCount ring marks) (sym one.tally) (counted_may ring marks p.sampled bucket (freeing marks one.more old.tally) (record { ring = freeing-ring marks one.more old.tally ∙ r.counts.ring; dead = r.counts.dead })))
+      (subst (MayCount ring marks) (sym one.tally) (counted_may ring marks p.sampled bucket (freeing marks one.more old.tally) (record { ring = freeing-ring marks one.more old.tally ∙ r.works.counts.ring; dead = r.works.counts.dead })))
       (subst (MayPublish ring) (sym one.tally) (counted_publish ring p.sampled bucket (freeing marks one.more old.tally) (freeing_publish ring marks one.more old.tally r.publishes)))
   small_ready pages distance k bucket old new c d (Err (NoRun line)) r a v u one none = frees_ready old new c d a.4.0 r a.4.1 v u none
   small_ready pages distance k bucket old new c d (Err WantsMemory) r a v u one none = frees_ready old new c d a.1.0 r a.1.1 v u none
@@ -127,8 +126,11 @@ module _ (table : TableId) (ring : RingId) (marks : MarkSet) where
       serves = serves_to c d t old.worker new.worker e w s.serves;
       used = subst (λ (x : Seen). IsUsedCache x.view.own) (sym w) s.used;
     });
-    same_marks = r.same_marks ∙ sym (ap (λ (x : Seen). x.view.marks) w);
-    counts = subst (MayCount ring marks) (sym n) (counted_may ring marks sampled bucket old.tally r.counts);
+    works = record {
+      works = (ap (λ (x : Seen). x.table) w ∙ r.works.works.0, ap (λ (x : Seen). x.away) w ∙ r.works.works.1);
+      marks = r.works.marks ∙ sym (ap (λ (x : Seen). x.view.marks) w);
+      counts = subst (MayCount ring marks) (sym n) (counted_may ring marks sampled bucket old.tally r.works.counts);
+    };
     publishes = subst (MayPublish ring) (sym n) (counted_publish ring sampled bucket old.tally r.publishes);
     two = r.two;
   }
@@ -153,7 +155,7 @@ module _ (table : TableId) (ring : RingId) (marks : MarkSet) where
   reclaim_ready asked old new c (Ok n) r w f = holds_ready old new c w.said r (of_sweeper _ _ old new r.served.idle w) f
   reclaim_ready asked old new c (Err e) r w f = holds_ready old new c w.said r (of_sweeper _ _ old new r.served.idle w) f
 
-  pub sweep_ready : (old new : Hand) (c : Cache) (r : Result One NoMemory) → IsReady table ring marks old c → SweepsOne old new r → Frees marks old new → IsReady table ring marks new c
+  pub sweep_ready : (old new : Hand) (c : Cache) (r : Result SweptOne NoMemory) → IsReady table ring marks old c → SweepsOne old new r → Frees marks old new → IsReady table ring marks new c
   sweep_ready old new c (Ok (Swept note)) r w f = holds_ready old new c w.2.said r (of_sweeper _ _ old new r.served.idle w.2) f
   sweep_ready old new c (Ok NothingLeft) r w f = holds_ready old new c w.said r (of_sweeper _ _ old new r.served.idle w) f
   sweep_ready old new c (Err e) r same f = subst (λ (h : Hand). IsReady table ring marks h c) (sym same) r
@@ -161,7 +163,7 @@ module _ (table : TableId) (ring : RingId) (marks : MarkSet) where
   -- or found no memory in a look for one
   pub look_ready : (class : ℕ) (old new : Hand) (c : Cache) (r : Result FromSets NoMemory) → IsReady table ring marks old c → Caches old.worker.view.generation class old new r → Frees marks old new → OnErr r (IsReady table ring marks new c)
   look_ready class old new c (Ok found) r l f = tt
-  look_ready class old new c (Err e) r l f = holds_ready old new c l.2.said r (holds_none class l.0 nothing nothing Whatever old new r.served.idle l.2 (λ q. refl) (λ q. refl)) f
+  look_ready class old new c (Err e) r l f = holds_ready old new c l.2.said r (holds_none class l.0 nothing nothing AnyLog old new r.served.idle l.2 (λ q. refl) (λ q. refl)) f
 
   pub finish_swept : (old new : Hand) (c : Cache) (r : Result (Unit {0}) NoMemory) → c.flushed ≡ old.worker.view.generation → Finishes old new r → OnOk r (HasSwept new.worker c)
   finish_swept old new c (Ok done) stamp w = record {
@@ -209,7 +211,7 @@ pub reclaim_grows : (asked : ℕ) (old new : Hand) (r : Result ℕ NoMemory) →
 reclaim_grows asked old new (Ok n) w = (w.said, w.does.log)
 reclaim_grows asked old new (Err e) w = (w.said, w.does.log)
 
-pub sweep_grows : (old new : Hand) (r : Result One NoMemory) → SweepsOne old new r → Grows old.worker new.worker
+pub sweep_grows : (old new : Hand) (r : Result SweptOne NoMemory) → SweepsOne old new r → Grows old.worker new.worker
 sweep_grows old new (Ok (Swept note)) w = (w.2.said, w.2.does.log)
 sweep_grows old new (Ok NothingLeft) w = (w.said, w.does.log)
 sweep_grows old new (Err e) same = grows-same old.worker new.worker (ap (λ (h : Hand). h.worker) same)
@@ -237,8 +239,11 @@ first_by table ring marks pages goal procs workers n w h c t two none dead size 
     serves = subst (Serves h.worker.view.generation h.worker.view.own) (sym made) (serves_start h.worker.view.generation n 136 t h.worker.view.own (ap (λ (s : Seen). s.view.own.cached) is));
     used = used_start h.worker.view.own (ap (λ (s : Seen). s.view.own.cached) is);
   };
-  same_marks = none ∙ sym (ap (λ (s : Seen). s.view.marks) is);
-  counts = record { ring = ap (λ (s : Standing). s.ring) tally; dead = λ p. subst (All (λ b. b < ring.buckets)) (sym (dead p)) (All-nil (λ b. b < ring.buckets)) };
+  works = record {
+    works = (ap (λ (s : Seen). s.table) is, ap (λ (s : Seen). s.away) is);
+    marks = none ∙ sym (ap (λ (s : Seen). s.view.marks) is);
+    counts = record { ring = ap (λ (s : Standing). s.ring) tally; dead = λ p. subst (All (λ b. b < ring.buckets)) (sym (dead p)) (All-nil (λ b. b < ring.buckets)) };
+  };
   publishes = record { ring = ap (λ (s : Standing). s.ring) tally; drives = ap (λ (s : Standing). s.view.drives) tally; alone = ap (λ (s : Standing). s.view.out) tally };
   two = two;
 }

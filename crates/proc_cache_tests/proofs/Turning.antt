@@ -73,8 +73,7 @@ module _ (table : TableId) (w : Seen) (c : Cache) (said : List Entry) (sets : Li
 pub ready_by : (table : TableId) (ring : RingId) (marks : MarkSet) (old new : Hand) (c : Cache) → IsReady table ring marks old c → IsServed table new.worker c → new.worker.view.marks ≡ old.worker.view.marks → new.tally ≡ old.tally → IsReady table ring marks new c
 ready_by table ring marks old new c r served same tally = record {
   served = served;
-  same_marks = r.same_marks ∙ sym same;
-  counts = subst (MayCount ring marks) (sym tally) r.counts;
+  works = record { works = served.works; marks = r.works.marks ∙ sym same; counts = subst (MayCount ring marks) (sym tally) r.works.counts };
   publishes = subst (MayPublish ring) (sym tally) r.publishes;
   two = r.two;
 }
@@ -193,8 +192,11 @@ pub next_ready : (table : TableId) (ring ring' : RingId) (marks m : MarkSet) (ol
 next_ready table ring ring' marks m old new c same_ring r w n dead =
     subst (λ (q : RingId). IsReady table q m new c) (sym same_ring) (record {
       served = subst (λ (x : Seen). IsServed table x c) (sym w) (next_served table old.worker c m.pairs r.served);
-      same_marks = sym (ap (λ (x : Seen). x.view.marks) w);
-      counts = record { ring = ap (λ (t : Standing). t.ring) n ∙ r.counts.ring; dead = λ page. subst (λ (b : ℕ). All (λ x. x < b) (dead_of m page)) (sym r.two) (dead page) };
+      works = record {
+        works = (ap (λ (x : Seen). x.table) w ∙ r.works.works.0, ap (λ (x : Seen). x.away) w ∙ r.works.works.1);
+        marks = sym (ap (λ (x : Seen). x.view.marks) w);
+        counts = record { ring = ap (λ (t : Standing). t.ring) n ∙ r.works.counts.ring; dead = λ page. subst (λ (b : ℕ). All (λ x. x < b) (dead_of m page)) (sym r.two) (dead page) };
+      };
       publishes = record { ring = ap (λ (t : Standing). t.ring) n ∙ r.publishes.ring; drives = ap (λ (t : Standing). t.view.drives) n ∙ r.publishes.drives; alone = ap (λ (t : Standing). t.view.out) n ∙ r.publishes.alone };
       two = r.two;
     })
@@ -205,8 +207,7 @@ published_ready table ring ring' marks h c t t' same r e e' =
     subst (λ (q : RingId). IsReady table q marks (record h { tally = t' }) c) (sym same)
     (let n : t' ≡ calls h.tally AfterSweep = e' ∙ e in record {
       served = r.served;
-      same_marks = r.same_marks;
-      counts = record { ring = ap (λ (x : Standing). x.ring) n ∙ r.counts.ring; dead = r.counts.dead };
+      works = record { works = r.works.works; marks = r.works.marks; counts = record { ring = ap (λ (x : Standing). x.ring) n ∙ r.works.counts.ring; dead = r.works.counts.dead } };
       publishes = record { ring = ap (λ (x : Standing). x.ring) n ∙ r.publishes.ring; drives = ap (λ (x : Standing). x.view.drives) n ∙ r.publishes.drives; alone = ap (λ (x : Standing). x.view.out) n ∙ r.publishes.alone };
       two = r.two;
     })
@@ -216,13 +217,13 @@ pub dead_ready : (table : TableId) (ring : RingId) (m : MarkSet) (h : Hand) (c :
     → OnOk a ((q : ℕ) → q ≢ page → dead_of m' q ≡ dead_of m q) → m'.pairs ≡ m.pairs → OnErr a (m' ≡ m) → IsReady table ring m' h c
 dead_ready table ring m h c r page bucket m' (Err e) low here others pairs same = subst (λ (x : MarkSet). IsReady table ring x h c) (sym same) r
 dead_ready table ring m h c r page bucket m' (Ok done) low here others pairs same =
-    record { served = r.served; same_marks = pairs ∙ r.same_marks; counts = record { ring = r.counts.ring; dead = each }; publishes = r.publishes; two = r.two }
+    record { served = r.served; works = record { works = r.works.works; marks = pairs ∙ r.works.marks; counts = record { ring = r.works.counts.ring; dead = each } }; publishes = r.publishes; two = r.two }
   where
     each : (q : ℕ) → All (λ b. b < ring.buckets) (dead_of m' q)
     each q = dite (ℕ_discrete q page)
         (λ e. subst (λ (x : ℕ). All (λ b. b < ring.buckets) (dead_of m' x)) (sym e) (subst (λ (xs : List ℕ). All (λ b. b < ring.buckets) xs) (sym here)
-        (All-push (λ b. b < ring.buckets) (dead_of m page) bucket (r.counts.dead page) (let t = r.two in omega arith))))
-        (λ d. subst (λ (xs : List ℕ). All (λ b. b < ring.buckets) xs) (sym (others q d)) (r.counts.dead q))
+        (All-push (λ b. b < ring.buckets) (dead_of m page) bucket (r.works.counts.dead page) (let t = r.two in omega arith))))
+        (λ d. subst (λ (xs : List ℕ). All (λ b. b < ring.buckets) xs) (sym (others q d)) (r.works.counts.dead q))
 
 -- the marks of a mark end are made, where there was memory for them
 pub prepared : (table : TableId) (w : Seen) (c : Cache) (before : MarkSet) (objects : List Object) (made : Result MarkSet NoMemory) → IsServed table w c → HasSettled w c → before.pairs ≡ w.view.marks → AreObjects w.view.own.log objects

@@ -19,7 +19,7 @@ use Rattle.sound_run.specs.Run.{count_for}
 use Rattle.span_laws.specs.Asks.{IsAtWork, IsIdle, KnowsJournal}
 use Rattle.span_laws.specs.MarkEndAsks.{IsKnown}
 use Rattle.span_laws.specs.Views.{Seen, no_part}
-use Rattle.span_set.specs.Tallies.{MayCount}
+use Rattle.span_set.specs.Asks.{WorksBy}
 use Rattle.span_set.specs.declared.hand.Hand.{Hand}
 use Rattle.proc_cache.specs.Cache.{Cache, address_of}
 use Rattle.proc_cache.specs.Serves.{IsUsedCache, Serves}
@@ -41,11 +41,10 @@ pub record IsServed (table : TableId) (w : Seen) (c : Cache) : Type 0 where
   pub serves : Serves w.view.generation w.view.own c
   pub used : IsUsedCache w.view.own
 
--- so it is, by these marks; and its tally, of a ring of two buckets, may count and publish
+-- so it is, and its hand works by these marks and a ring of two buckets; and its tally may publish
 pub record IsReady (table : TableId) (ring : RingId) (marks : MarkSet) (h : Hand) (c : Cache) : Type 0 where
+  pub works : WorksBy table ring marks h
   pub served : IsServed table h.worker c
-  pub same_marks : marks.pairs ≡ h.worker.view.marks
-  pub counts : MayCount ring marks h.tally
   pub publishes : MayPublish ring h.tally
   pub two : ring.buckets ≡ 2
 

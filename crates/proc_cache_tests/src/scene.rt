@@ -4,14 +4,15 @@ use central_lists::FromSets;
 use fallible_list::NoMemory;
 use proc_cache::{Placed, Proc, Refused};
 use profile_cycle::{Count, Ring};
-use span_set::{Hand, Shop};
+use size_classes::PAGE_SIZE;
+use span_set::{Distance, Hand, Shop};
 use span_state::{Marks, SweepNote};
 use span_table::Shared;
 use std::alloc::Global;
 use std::marker::Model;
 use std::sync::Wait;
 use sweep_lists::Entries;
-use sweeper::One;
+use sweeper::SweptOne;
 use trace_reader::{Event, Header};
 
 /// A processor on the driver's hand, and what they work on: a region of one chunk, and a ring of two buckets.
@@ -86,7 +87,7 @@ impl Scene {
             shared: &self.shared,
             marks: &self.marks,
             ring: &self.ring,
-            distance: 8192,
+            distance: Distance::of(PAGE_SIZE),
             pages: self.pages,
         };
         let event = Event {
@@ -115,7 +116,7 @@ impl Scene {
             shared: &self.shared,
             marks: &self.marks,
             ring: &self.ring,
-            distance: 8192,
+            distance: Distance::of(PAGE_SIZE),
             pages: self.pages,
         };
         large(
@@ -143,7 +144,7 @@ impl Scene {
             shared: &self.shared,
             marks: &self.marks,
             ring: &self.ring,
-            distance: 8192,
+            distance: Distance::of(PAGE_SIZE),
             pages: 0,
         };
         let marks = prepare(
@@ -174,19 +175,19 @@ impl Scene {
             shared: &self.shared,
             marks: &self.marks,
             ring: &self.ring,
-            distance: 8192,
+            distance: Distance::of(PAGE_SIZE),
             pages: self.pages,
         };
         reclaim_pages(rt, &shop, &mut self.hand, &self.proc, pages)
     }
 
     /// Sweeps the next span of the unswept sets.
-    pub fn sweep<R: Wait>(&mut self, rt: &R) -> Result<One, NoMemory> {
+    pub fn sweep<R: Wait>(&mut self, rt: &R) -> Result<SweptOne, NoMemory> {
         let shop = Shop {
             shared: &self.shared,
             marks: &self.marks,
             ring: &self.ring,
-            distance: 8192,
+            distance: Distance::of(PAGE_SIZE),
             pages: self.pages,
         };
         sweep_next(rt, &shop, &mut self.hand, &self.proc)
@@ -208,7 +209,7 @@ impl Scene {
             shared: &shared,
             marks: &marks,
             ring: &ring,
-            distance: 8192,
+            distance: Distance::of(PAGE_SIZE),
             pages: 0,
         };
         match look(&shop, &mut hand, &proc, class.min(135)) {

@@ -16,7 +16,7 @@ use span_table::Shared;
 use std::alloc::Global;
 use std::sync::Wait;
 use sweep_lists::Entries;
-use sweeper::{One, finish, reclaim, sweep_one};
+use sweeper::{SweptOne, finish, reclaim, sweep_one};
 use trace_reader::Event;
 
 // A generation at which no mark end may come.
@@ -34,7 +34,6 @@ pub(crate) fn small<R: Wait>(
 ) -> Result<Placed, Refused>
     requires ready { IsReady shop.now.shared.now shop.now.ring.now shop.now.marks.now hand.old proc.old }
     requires objects { AreObjects hand.old.worker.view.own.log objects.old.items }
-    requires distance { 8192 ≤ shop.now.distance }
     requires some { 1 ≤ event.size }
     requires small { event.size ≤ 32768 }
     requires bucket { bucket < 2 }
@@ -65,7 +64,6 @@ fn place<R: Wait>(
     bucket: u32,
 ) -> Result<Placed, Refused>
     requires ready { IsReady shop.now.shared.now shop.now.ring.now shop.now.marks.now hand.old proc.old }
-    requires distance { 8192 ≤ shop.now.distance }
     requires some { 1 ≤ event.size }
     requires small { event.size ≤ 32768 }
     requires bucket { bucket < 2 }
@@ -86,7 +84,6 @@ pub(crate) fn large<R: Wait>(
     bucket: u32,
 ) -> Result<Placed, Refused>
     requires ready { IsReady shop.now.shared.now shop.now.ring.now shop.now.marks.now hand.old proc.old }
-    requires distance { 8192 ≤ shop.now.distance }
     requires pages { 5 ≤ pages }
     requires bucket { bucket < 2 }
     ensures ready { IsReady shop.now.shared.now shop.now.ring.now shop.now.marks.now hand.new proc.new }
@@ -108,7 +105,6 @@ fn put_large<R: Wait>(
     bucket: u32,
 ) -> Result<Placed, Refused>
     requires ready { IsReady shop.now.shared.now shop.now.ring.now shop.now.marks.now hand.old proc.old }
-    requires distance { 8192 ≤ shop.now.distance }
     requires pages { 5 ≤ pages }
     requires bucket { bucket < 2 }
     ensures ready { IsReady shop.now.shared.now shop.now.ring.now shop.now.marks.now hand.new proc.new }
@@ -123,7 +119,6 @@ fn put_large<R: Wait>(
 // The processor flushes, where it has not done so in this cycle.
 fn flush_now<R: Wait>(rt: &R, shop: &Shop, hand: &mut Hand, proc: &mut Proc) -> Result<(), NoMemory>
     requires ready { IsReady shop.now.shared.now shop.now.ring.now shop.now.marks.now hand.old proc.old }
-    requires distance { 8192 ≤ shop.now.distance }
     ensures ready { IsReady shop.now.shared.now shop.now.ring.now shop.now.marks.now hand.new proc.new }
     ensures grows { Grows hand.old.worker hand.new.worker }
     ensures flushed { OnOk result (proc.new.flushed ≡ hand.new.worker.view.generation) }
@@ -139,7 +134,6 @@ pub(crate) fn sweep_all<R: Wait>(
     proc: &mut Proc,
 ) -> Result<(), NoMemory>
     requires ready { IsReady shop.now.shared.now shop.now.ring.now shop.now.marks.now hand.old proc.old }
-    requires distance { 8192 ≤ shop.now.distance }
     ensures ready { IsReady shop.now.shared.now shop.now.ring.now shop.now.marks.now hand.new proc.new }
     ensures grows { Grows hand.old.worker hand.new.worker }
     ensures swept { OnOk result (HasSwept hand.new.worker proc.new) }
@@ -157,7 +151,6 @@ pub(crate) fn reclaim_pages<R: Wait>(
     pages: u32,
 ) -> Result<u32, NoMemory>
     requires ready { IsReady shop.now.shared.now shop.now.ring.now shop.now.marks.now hand.old proc.now }
-    requires distance { 8192 ≤ shop.now.distance }
     ensures ready { IsReady shop.now.shared.now shop.now.ring.now shop.now.marks.now hand.new proc.now }
     ensures grows { Grows hand.old.worker hand.new.worker }
 {
@@ -173,7 +166,6 @@ pub(crate) fn look(
     class: u8,
 ) -> Result<FromSets, NoMemory>
     requires ready { IsReady shop.now.shared.now shop.now.ring.now shop.now.marks.now hand.old proc.now }
-    requires distance { 8192 ≤ shop.now.distance }
     requires class { class < 136 }
     ensures ready { OnErr result (IsReady shop.now.shared.now shop.now.ring.now shop.now.marks.now hand.new proc.now) }
     ensures grows { OnErr result (Grows hand.old.worker hand.new.worker) }
@@ -188,9 +180,8 @@ pub(crate) fn sweep_next<R: Wait>(
     shop: &Shop,
     hand: &mut Hand,
     proc: &Proc,
-) -> Result<One, NoMemory>
+) -> Result<SweptOne, NoMemory>
     requires ready { IsReady shop.now.shared.now shop.now.ring.now shop.now.marks.now hand.old proc.now }
-    requires distance { 8192 ≤ shop.now.distance }
     ensures ready { IsReady shop.now.shared.now shop.now.ring.now shop.now.marks.now hand.new proc.now }
     ensures grows { Grows hand.old.worker hand.new.worker }
 {
@@ -227,7 +218,6 @@ pub(crate) fn prepare<R: Wait>(
 ) -> Result<Marks, NoMemory>
     requires ready { IsReady shop.now.shared.now shop.now.ring.now shop.now.marks.now hand.old proc.old }
     requires objects { AreObjects hand.old.worker.view.own.log objects.now.items }
-    requires distance { 8192 ≤ shop.now.distance }
     ensures ready { IsReady shop.now.shared.now shop.now.ring.now shop.now.marks.now hand.new proc.new }
     ensures grows { Grows hand.old.worker hand.new.worker }
     ensures prepared { IfOk result (λ marks. IsPrepared hand.new.worker proc.new marks) }

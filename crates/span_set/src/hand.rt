@@ -1,5 +1,6 @@
 ghost use Rattle.std.specs.Prelude.{◌≡◌, ◌<◌, ◌≤◌, [], length, OnOk, OnErr};
 
+use crate::pace::Distance;
 use fallible_list::NoMemory;
 use profile_cycle::{Ring, Tally};
 use span_state::{Marks, SweepNote};
@@ -16,8 +17,8 @@ pub struct Shop<'a> {
     pub marks: &'a Marks,
     /// The ring of the profile, whose tallies count the sampled objects that sweeps free.
     pub ring: &'a Ring,
-    /// The bytes from one payment for sweeping to the next, at least 8192.
-    pub distance: u64,
+    /// By how many allocated bytes sweeping is paced.
+    pub distance: Distance,
     /// The pages that were to be swept at the last mark end.
     pub pages: u32,
 }

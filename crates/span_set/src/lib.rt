@@ -7,6 +7,7 @@
 
 mod answers;
 mod hand;
+mod pace;
 mod pops;
 mod pushes;
 mod resets;
@@ -15,6 +16,7 @@ mod sweep;
 
 pub use answers::{Pop, PopBase};
 pub use hand::{Hand, Shop};
+pub use pace::Distance;
 pub use pops::{pop_swept, pop_unswept};
 pub use pushes::{claim, fill, push};
 pub use resets::reset;

@@ -13,14 +13,21 @@ use span_table::{Said, Shared, Worker};
 /// least, and the worker has not popped it from that set since the last mark end, nor placed an object in it for a
 /// partial set. The claim is to be filled (`mspanset.go`, `push`). Takes no memory.
 pub fn claim(shared: &Shared, w: &mut Worker, set: SetId, body: Body) -> Claim
+    // the worker
     requires works { IsAtWork shared.now w.old }
+    requires unclaimed { w.old.view.own.claimed ≡ None }
+
+    // the set, and the span that goes there
     requires class { set.class < 136 }
     requires held { has body.page w.old.view.own.held ≡ true }
-    requires unclaimed { w.old.view.own.claimed ≡ None }
     requires lent { HasBody w.old.view.own body }
     requires may { MayPush set body w.old }
+
+    // the claim
     ensures set { result.set ≡ swept_of w.old.view.generation set }
     ensures page { result.page ≡ body.page }
+
+    // the worker behind it
     ensures view { w.new ≡ after_said (Said.Claims result.set result.index result.page) (after_said (Said.Reads 1 w.old.view.generation) w.old) }
 {
     let generation = shared.generation(w);
@@ -46,12 +53,17 @@ pub fn fill(shared: &Shared, w: &mut Worker, claim: Claim)
 /// Pushes a span that the worker holds to the swept part of a set: `claim`, then `fill`, with what `claim` asks. Takes no
 /// memory.
 pub fn push(shared: &Shared, w: &mut Worker, set: SetId, body: Body)
+    // the worker
     requires works { IsAtWork shared.now w.old }
+    requires unclaimed { w.old.view.own.claimed ≡ None }
+
+    // the set, and the span that goes there
     requires class { set.class < 136 }
     requires held { has body.page w.old.view.own.held ≡ true }
-    requires unclaimed { w.old.view.own.claimed ≡ None }
     requires lent { HasBody w.old.view.own body }
     requires may { MayPush set body w.old }
+
+    // the worker behind it
     ensures { w.new ≡ after_said (Said.Fills (swept_of w.old.view.generation set) body.page) (after_said (Said.Reads 1 w.old.view.generation) w.old) }
 {
     let claimed = claim(shared, w, set, body);

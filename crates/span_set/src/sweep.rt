@@ -22,12 +22,18 @@ fn count_dead(ring: &Ring, tally: &mut Tally, dead: &[u32])
 /// the note, for which it has room, its tally counts a free for each dead sample of the page (`mprof.go`, `mProf_Free`), and the
 /// word becomes G, by which the worker holds the span (`mgcsweep.go`, `sweep`). Takes no memory.
 pub fn sweep_in_hand(shop: &Shop, hand: &mut Hand, body: &mut Body) -> Swept
+    // the hand works in the shop, and has room
     requires works { IsAtWork shop.now.shared.now hand.old.worker }
-    requires distance { 8192 ≤ shop.now.distance }
-    requires room { length hand.old.notes.items < hand.old.notes.space }
-    requires may { MaySweep shop.now.marks.now body.old hand.old.worker }
     requires counts { MayCount shop.now.ring.now shop.now.marks.now hand.old.tally }
+    requires room { length hand.old.notes.items < hand.old.notes.space }
+
+    // the span
+    requires may { MaySweep shop.now.marks.now body.old hand.old.worker }
+
+    // the sweep
     ensures body { SweepsBody shop.now.marks.now body.old body.new result }
+
+    // the hand behind it
     ensures worker { SweepsInHand body.new result hand.old.worker hand.new.worker }
     ensures notes { hand.new.notes ≡ record hand.old.notes { items = hand.old.notes.items ++ note_of hand.old.worker.view.generation body.new result ∷ [] } }
     ensures tally { Frees shop.now.marks.now hand.old hand.new }

@@ -33,7 +33,7 @@ use Rattle.sweeper.specs.Entries.{is_added, is_read, pages_given}
 use Rattle.sweeper.specs.Reclaims.{HasPassed, HasReclaimed, Reclaims, SparesMarked, chunks_of}
 use Rattle.sweeper.specs.ReclaimSteps.{CoversChunks, CoversPage, CoversPages, ReclaimsChunk, ReclaimsNext, ReclaimsPage}
 use Rattle.sweeper.specs.Settles.{Settles}
-use Rattle.sweeper.specs.Work.{IsPlain, KeepsBlock, MakesNone, Stays, TakesNone, Works, notes_of}
+use Rattle.sweeper.specs.Work.{IsPlain, KeepsBlock, MakesNone, Stays, TakesNone, HandSweeps, notes_of}
 use Rattle.sweeper.proofs.Counting.{none-both, plain-append, some-old, takes-append, total-append}
 use Rattle.sweeper.proofs.Passing.{covers_passed, logs_works, passing_looks}
 use Rattle.sweeper.proofs.Paying.{plain-nothing, works-room}
@@ -94,7 +94,7 @@ covers-append marks from to next given more xs ys a b = record {
 
 -- pages are passed over
 module _ (old : Hand) (none : old.worker.view.own.popped ≡ []) (from : ℕ) where
-  passed_works : (to : ℕ) (said : List Entry) (new : Seen) → PassesPages old.worker.view.generation old.worker.view.marks from to said → new ≡ logs said old.worker → Works [] (CoversPages old.worker.view.marks from to 0) old (record old { worker = new })
+  passed_works : (to : ℕ) (said : List Entry) (new : Seen) → PassesPages old.worker.view.generation old.worker.view.marks from to said → new ≡ logs said old.worker → HandSweeps [] (CoversPages old.worker.view.marks from to 0) old (record old { worker = new })
   passed_works to said new w e = let q = passing_looks old.worker.view.generation old.worker.view.generation from to said w.only in
       works-as (λ s. s ≡ said) (CoversPages old.worker.view.marks from to 0) [] old (record old { worker = new }) (logs_works old said new e q.sweeps q.none.none none)
       (λ s p. subst (CoversPages old.worker.view.marks from to 0) (sym p) (covers_passed old.worker.view.generation old.worker.view.generation old.worker.view.marks from to said w q))
@@ -106,14 +106,14 @@ module _ (old : Hand) (none : old.worker.view.own.popped ≡ []) (from : ℕ) wh
   -- up to one whose span was swept
   module _ (to : ℕ) (marks : MarkSet) (agree : marks.pairs ≡ old.worker.view.marks) (body : Body) (low : body.pages < 2 ^ 32) (got : Seen) (a : AcquiresUnmarked from to old.worker got (Some body))
       (free : old.worker.view.own.claimed ≡ None) (swept : Hand) (note : SweepNote) (t : Settles marks body (record old { worker = got }) swept note) (new : Hand) (worker : new.worker ≡ swept.worker) (notes : new.notes.items ≡ swept.notes.items) where
-    up_to : Works [] (CoversPages old.worker.view.marks from body.page 0) old (record old { worker = logs a.0 old.worker })
+    up_to : HandSweeps [] (CoversPages old.worker.view.marks from body.page 0) old (record old { worker = logs a.0 old.worker })
     up_to = passed_works body.page a.0 (logs a.0 old.worker) a.1 refl
 
-    pub got_works : Works [] (CoversPages old.worker.view.marks from (body.page + 1) body.pages) old new
+    pub got_works : HandSweeps [] (CoversPages old.worker.view.marks from (body.page + 1) body.pages) old new
     got_works = let mid : Hand = record old { worker = logs a.0 old.worker } in
         let one : ReclaimsPage body.page body.pages mid swept = page_swept mid none body.page mid refl refl marks body (record old { worker = got }) swept note refl a.5 t free agree (λ k. ap (λ (l : List (ℕ × ℕ)). has_pair l body.page k) agree ∙ a.4 k) low in
         works-room (CoversPages old.worker.view.marks from (body.page + 1) body.pages) [] old swept new worker notes
-        (subst (λ (x : ℕ). Works [] (CoversPages old.worker.view.marks from (body.page + 1) x) old swept) (omega arith)
+        (subst (λ (x : ℕ). HandSweeps [] (CoversPages old.worker.view.marks from (body.page + 1) x) old swept) (omega arith)
         (works-both (CoversPages old.worker.view.marks from body.page 0) (CoversPages old.worker.view.marks body.page (body.page + 1) body.pages) (CoversPages old.worker.view.marks from (body.page + 1) (min (0 + body.pages) (2 ^ 32 - 1))) [] old mid swept up_to one
         (λ x y p q. covers-append old.worker.view.marks from body.page (body.page + 1) 0 body.pages x y p q)))
 
@@ -125,20 +125,20 @@ module _ (old : Hand) (none : old.worker.view.own.popped ≡ []) (from : ℕ) wh
     next_wants e = works-as (CoversPages old.worker.view.marks from (body.page + 1) body.pages) (λ said. IsPlain said × SparesMarked old.worker.view.marks said) [] old new got_works (λ s p. (p.plain, p.spares))
 
 module _ (old : Hand) (from : ℕ) where
-  pub chunk_none : old.worker.view.own.popped ≡ [] → (new : Hand) → new.worker ≡ old.worker → new.notes.items ≡ old.notes.items → Works [] (CoversPages old.worker.view.marks from from 0) old new
+  pub chunk_none : old.worker.view.own.popped ≡ [] → (new : Hand) → new.worker ≡ old.worker → new.notes.items ≡ old.notes.items → HandSweeps [] (CoversPages old.worker.view.marks from from 0) old new
   chunk_none none new worker notes = works-nothing (CoversPages old.worker.view.marks from from 0) old new worker notes none (record { covers = λ p l m. absurd (omega arith); given_is = refl; spares = λ p l. absurd (omega arith); plain = plain-nothing })
 
   -- no room for a note
   pub chunk_stops : old.worker.view.own.popped ≡ [] → (new : Hand) (e : NoMemory) (chunk : ℕ) → new.worker ≡ old.worker → new.notes.items ≡ old.notes.items → ReclaimsChunk chunk old new (Err e)
   chunk_stops none new e chunk worker notes = works-nothing (λ said. IsPlain said × SparesMarked old.worker.view.marks said) old new worker notes none (plain-nothing, λ p l. absurd (omega arith))
 
-  module _ (to given : ℕ) (now new : Hand) (w : Works [] (CoversPages old.worker.view.marks from to given) old now) where
-    pub chunk_more : (next more sum : ℕ) → sum ≡ min (given + more) (2 ^ 32 - 1) → Works [] (CoversPages now.worker.view.marks to next more) now new → Works [] (CoversPages old.worker.view.marks from next sum) old new
-    chunk_more next more sum is r = subst (λ (x : ℕ). Works [] (CoversPages old.worker.view.marks from next x) old new) (sym is)
+  module _ (to given : ℕ) (now new : Hand) (w : HandSweeps [] (CoversPages old.worker.view.marks from to given) old now) where
+    pub chunk_more : (next more sum : ℕ) → sum ≡ min (given + more) (2 ^ 32 - 1) → HandSweeps [] (CoversPages now.worker.view.marks to next more) now new → HandSweeps [] (CoversPages old.worker.view.marks from next sum) old new
+    chunk_more next more sum is r = subst (λ (x : ℕ). HandSweeps [] (CoversPages old.worker.view.marks from next x) old new) (sym is)
         (works-both (CoversPages old.worker.view.marks from to given) (CoversPages now.worker.view.marks to next more) (CoversPages old.worker.view.marks from next (min (given + more) (2 ^ 32 - 1))) [] old now new w r
         (λ x y p q. covers-append old.worker.view.marks from to next given more x y p (subst (λ (m : List (ℕ × ℕ)). CoversPages m to next more y) w.does.stays.marks q)))
 
-    pub chunk_done : (end : ℕ) → ReclaimsNext to end now new (Ok None) → Works [] (CoversPages old.worker.view.marks from end given) old new
+    pub chunk_done : (end : ℕ) → ReclaimsNext to end now new (Ok None) → HandSweeps [] (CoversPages old.worker.view.marks from end given) old new
     chunk_done end r = chunk_more end 0 given (let g = w.did.given_is in omega arith) r
 
     pub chunk_wants : (e : NoMemory) (chunk end : ℕ) → ReclaimsNext to end now new (Err e) → ReclaimsChunk chunk old new (Err e)
@@ -148,7 +148,7 @@ module _ (old : Hand) (from : ℕ) where
 -- ---- chunks
 
 module _ (old : Hand) (region asked : ℕ) (size : region ≡ old.worker.view.region) where
-  pub chunks_none : old.worker.view.own.popped ≡ [] → Works [] (CoversChunks old.worker.view.marks region 0 0) old old
+  pub chunks_none : old.worker.view.own.popped ≡ [] → HandSweeps [] (CoversChunks old.worker.view.marks region 0 0) old old
   chunks_none none = works-nothing (CoversChunks old.worker.view.marks region 0 0) old old refl refl none (record {
     claimed = refl;
     whole = λ i p l. absurd (omega arith);
@@ -158,7 +158,7 @@ module _ (old : Hand) (region asked : ℕ) (size : region ≡ old.worker.view.re
     keeps_block = refl;
   })
 
-  module _ (claims given : ℕ) (now : Hand) (w : Works [] (CoversChunks old.worker.view.marks region claims given) old now) (few : claims ≤ chunks_of region) where
+  module _ (claims given : ℕ) (now : Hand) (w : HandSweeps [] (CoversChunks old.worker.view.marks region claims given) old now) (few : claims ≤ chunks_of region) where
     answer : (said : List Entry) → CoversChunks old.worker.view.marks region claims given said → (asked ≤ given) ⊎ HasPassed region said
         → (given ≡ min (total pages_given said) (2 ^ 32 - 1)) × TakesNone said × HasReclaimed old.worker.view.marks region asked said × SparesMarked old.worker.view.marks said × KeepsBlock said
     answer said c e = (
@@ -173,8 +173,8 @@ module _ (old : Hand) (region asked : ℕ) (size : region ≡ old.worker.view.re
       c.keeps_block,
     )
 
-    at_region : (n : ℕ) (new : Hand) → Works [] (λ said. (n ≡ min (total pages_given said) (2 ^ 32 - 1)) × TakesNone said × HasReclaimed old.worker.view.marks region asked said × SparesMarked old.worker.view.marks said × KeepsBlock said) old new → Reclaims asked old new (Ok n)
-    at_region n new x = subst (λ (r : ℕ). Works [] (λ said. (n ≡ min (total pages_given said) (2 ^ 32 - 1)) × TakesNone said × HasReclaimed old.worker.view.marks r asked said × SparesMarked old.worker.view.marks said × KeepsBlock said) old new) size x
+    at_region : (n : ℕ) (new : Hand) → HandSweeps [] (λ said. (n ≡ min (total pages_given said) (2 ^ 32 - 1)) × TakesNone said × HasReclaimed old.worker.view.marks region asked said × SparesMarked old.worker.view.marks said × KeepsBlock said) old new → Reclaims asked old new (Ok n)
+    at_region n new x = subst (λ (r : ℕ). HandSweeps [] (λ said. (n ≡ min (total pages_given said) (2 ^ 32 - 1)) × TakesNone said × HasReclaimed old.worker.view.marks r asked said × SparesMarked old.worker.view.marks said × KeepsBlock said) old new) size x
 
     -- as many pages were given back as asked
     pub reclaimed_enough : asked ≤ given → Reclaims asked old now (Ok given)
@@ -186,7 +186,7 @@ module _ (old : Hand) (region asked : ℕ) (size : region ≡ old.worker.view.re
 
     -- a chunk is claimed
     module _ (i : ℕ) (new : Seen) (e : new ≡ after_said (Adds 4 i 1) now.worker) where
-      claim_works : Works [] (λ said. said ≡ Added 4 1 ∷ Read 4 i ∷ []) now (record now { worker = new })
+      claim_works : HandSweeps [] (λ said. said ≡ Added 4 1 ∷ Read 4 i ∷ []) now (record now { worker = new })
       claim_works = works-step (λ said. said ≡ Added 4 1 ∷ Read 4 i ∷ []) [] (Added 4 1 ∷ Read 4 i ∷ []) now (record now { worker = new })
           (record {
             log = ap (λ (x : Seen). x.view.own.log) e;
@@ -200,7 +200,7 @@ module _ (old : Hand) (region asked : ℕ) (size : region ≡ old.worker.view.re
       abbrev Claimed : List Entry → Type 0
       Claimed said = (xs : List Entry) × (said ≡ Added 4 1 ∷ Read 4 i ∷ xs) × CoversChunks old.worker.view.marks region claims given xs
 
-      pub claimed_works : Works [] Claimed old (record now { worker = new })
+      pub claimed_works : HandSweeps [] Claimed old (record now { worker = new })
       claimed_works = works-both (CoversChunks old.worker.view.marks region claims given) (λ said. said ≡ Added 4 1 ∷ Read 4 i ∷ []) Claimed [] old now (record now { worker = new }) w claim_works
           (λ x y p q. (x, ap (λ (l : List Entry). l ++ x) q, p))
 
@@ -245,8 +245,8 @@ module _ (old : Hand) (region asked : ℕ) (size : region ≡ old.worker.view.re
 
       -- its pages were covered, or memory ran out
       module _ (next : Hand) where
-        pub reclaims_more : (more sum : ℕ) → sum ≡ min (given + more) (2 ^ 32 - 1) → ReclaimsChunk i (record now { worker = new }) next (Ok more) → Works [] (CoversChunks old.worker.view.marks region (claims + 1) sum) old next
-        reclaims_more more sum is r = subst (λ (x : ℕ). Works [] (CoversChunks old.worker.view.marks region (claims + 1) x) old next) (sym is)
+        pub reclaims_more : (more sum : ℕ) → sum ≡ min (given + more) (2 ^ 32 - 1) → ReclaimsChunk i (record now { worker = new }) next (Ok more) → HandSweeps [] (CoversChunks old.worker.view.marks region (claims + 1) sum) old next
+        reclaims_more more sum is r = subst (λ (x : ℕ). HandSweeps [] (CoversChunks old.worker.view.marks region (claims + 1) x) old next) (sym is)
             (works-both Claimed (CoversPages new.view.marks (512 * i) (min (512 * i + 512) new.view.region) more) (CoversChunks old.worker.view.marks region (claims + 1) (min (given + more) (2 ^ 32 - 1))) [] old (record now { worker = new }) next claimed_works r
             (λ x y p q. subst (λ (l : List Entry). CoversChunks old.worker.view.marks region (claims + 1) (min (given + more) (2 ^ 32 - 1)) (y ++ l)) (sym p.1)
             (more_claims more p.0 y p.2 (subst (λ (z : List (ℕ × ℕ) × ℕ). CoversPages z.0 (512 * i) (min (512 * i + 512) z.1) more y) (λ j. (claimed_works.does.stays.marks j, (claimed_works.does.stays.region ∙ sym size) j)) q))))

@@ -34,7 +34,7 @@ use Rattle.sweeper.specs.NewSpans.{FoundNoCut}
 use Rattle.sweeper.specs.Entries.{is_bare_cut, is_pulling}
 use Rattle.sweeper.specs.Work.{PullsBehind, Stays}
 use Rattle.sweeper.proofs.Counting.{makes-append, nothing-none, plain-makes, sweepings-append}
-use Rattle.sweeper.proofs.Pulling.{behind-both, behind-none}
+use Rattle.sweeper.proofs.Pulling.{behind-none}
 use Rattle.sweeper.proofs.Working.{does-both, does-nothing}
 
 pub readies-nothing : (a : Seen) → Readies [] a a

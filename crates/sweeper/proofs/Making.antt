@@ -30,7 +30,7 @@ use Rattle.sweeper.specs.MakeSteps.{CutsOrPulls, CutsOrTakes, MadeNone, MadeThen
 use Rattle.sweeper.specs.NewSpans.{FoundNoCut, HasNew, IsMaking, MadeAtLast, MakesSpan, MissedAtLast}
 use Rattle.sweeper.specs.Reclaims.{HasReclaimed, Reclaims, SparesMarked, chunks_of}
 use Rattle.sweeper.specs.Sweeps.{Finishes}
-use Rattle.sweeper.specs.Work.{Does, IsPlain, KeepsBlock, MakesNone, OnlySweeps, PullsBehind, SawAllEmpty, Stays, TakesNone, Works}
+use Rattle.sweeper.specs.Work.{WorkerSweeps, IsPlain, KeepsBlock, MakesNone, OnlySweeps, PullsBehind, SawAllEmpty, Stays, TakesNone, HandSweeps}
 use Rattle.sweeper.proofs.Counting.{makes-append, none-both, notes-none, plain-makes, some-new, sweeps-append, takes-append}
 use Rattle.sweeper.proofs.Covering.{reclaimed-more}
 use Rattle.sweeper.proofs.Cutting.{readies-nothing}
@@ -39,7 +39,7 @@ use Rattle.sweeper.proofs.Settling.{apart_else}
 use Rattle.sweeper.proofs.Working.{works-as, works-both, works-step, works-tidy}
 
 -- what the worker had nothing of, it had nothing of before
-nothing_before : (old mid : Seen) (said : List Entry) (page : ℕ) → Does [] said old mid → mine page mid.view.own ≡ 0 → mine page old.view.own ≡ 0
+nothing_before : (old mid : Seen) (said : List Entry) (page : ℕ) → WorkerSweeps [] said old mid → mine page mid.view.own ≡ 0 → mine page old.view.own ≡ 0
 nothing_before old mid said page d z = let s = ap (times page) d.stays.sweeping in let h = ap (times page) (d.held ∙ append-nil old.view.own.held) in let c = ap (times page) d.stays.cached in omega arith
 
 -- no find is lost
@@ -52,7 +52,7 @@ found_new n xs ys l = let a = many-append (is_no_cut n) xs ys in let b = many-ap
 -- one step, of this entry, by which a worker holds a new span, of which it had nothing
 pub record Gains (n class : ℕ) (x : Entry) (mid new : Seen) (b : Body) : Type 0 where
   pub is_new : IsNew n class b
-  pub does : Does (b.page ∷ []) (x ∷ []) mid new
+  pub does : WorkerSweeps (b.page ∷ []) (x ∷ []) mid new
   pub sweeps_none : sweepings (x ∷ []) ≡ []
   pub popped : new.view.own.popped ≡ mid.view.own.popped
   pub lent : span_at b.page new.view.own.spans ≡ Some (span_of b)
@@ -102,10 +102,10 @@ cut_gains n class mid new b t = record {
 }
 
 module _ (n class : ℕ) (x : Entry) (mid : Hand) (new : Seen) (b : Body) (t : Gains n class x mid.worker new b) (none : mid.worker.view.own.popped ≡ []) where
-  pub gain_works : Works (b.page ∷ []) (λ said. said ≡ x ∷ []) mid (record mid { worker = new })
+  pub gain_works : HandSweeps (b.page ∷ []) (λ said. said ≡ x ∷ []) mid (record mid { worker = new })
   gain_works = works-step (λ said. said ≡ x ∷ []) (b.page ∷ []) (x ∷ []) mid (record mid { worker = new }) t.does (notes-none (cycle_at mid.worker.view.generation) (x ∷ []) t.sweeps_none) refl (t.popped ∙ none) refl
 
-  pub has_new : (old : Hand) (said : List Entry) → Does [] said old.worker mid.worker → HasNew n class old (record mid { worker = new }) b
+  pub has_new : (old : Hand) (said : List Entry) → WorkerSweeps [] said old.worker mid.worker → HasNew n class old (record mid { worker = new }) b
   has_new old said d = record {
     is_new = t.is_new;
     lent = t.lent;
@@ -118,7 +118,7 @@ module _ (n class : ℕ) (x : Entry) (mid : Hand) (new : Seen) (b : Body) (t : G
 
 -- no run was free
 module _ (n class line : ℕ) (mid : Hand) (new : Seen) (m : TakesSpan n class mid.worker new (Err (NoRun line))) (none : mid.worker.view.own.popped ≡ []) where
-  pub miss_works : Works [] (λ said. said ≡ Missed line (MissLine (cycle_at mid.worker.view.generation) n class) ∷ []) mid (record mid { worker = new })
+  pub miss_works : HandSweeps [] (λ said. said ≡ Missed line (MissLine (cycle_at mid.worker.view.generation) n class) ∷ []) mid (record mid { worker = new })
   miss_works = works-step (λ said. said ≡ Missed line (MissLine (cycle_at mid.worker.view.generation) n class) ∷ []) [] (Missed line (MissLine (cycle_at mid.worker.view.generation) n class) ∷ []) mid (record mid { worker = new })
       (record {
         log = ap (λ (x : Seen). x.view.own.log) m.0;
@@ -141,7 +141,7 @@ keeps_none : (said : List Entry) → said ≡ [] → KeepsBlock said
 keeps_none said e = ap (many is_of_block) e
 
 -- a worker's steps on its block, as those of a hand
-ready_works : (P : List Entry → Type 0) (h : Hand) (w : Seen) (said : List Entry) → Readies said h.worker w → h.worker.view.own.popped ≡ [] → P said → Works [] P h (record h { worker = w })
+ready_works : (P : List Entry → Type 0) (h : Hand) (w : Seen) (said : List Entry) → Readies said h.worker w → h.worker.view.own.popped ≡ [] → P said → HandSweeps [] P h (record h { worker = w })
 ready_works P h w said r none p = works-step P [] said h (record h { worker = w }) r.does (notes-none (cycle_at h.worker.view.generation) said r.sweeps_none) refl (r.popped ∙ none) p
 
 module _ (n class : ℕ) (old : Hand) (none : old.worker.view.own.popped ≡ []) where
@@ -188,9 +188,9 @@ module _ (n class : ℕ) (old : Hand) (none : old.worker.view.own.popped ≡ [])
 
     pub then_tries : (new : Seen) (a : Result (Option Body) NoMemory) → TriesSpan n class mid new a → CutsOrTakes n class old (record old { worker = new }) a
     then_tries new (Ok (Some b)) t = tried_taken new b t
-    then_tries new (Ok None) t = subst (λ (w : Seen). Works [] (MadeNone old n) old (record old { worker = w })) (sym t.0)
+    then_tries new (Ok None) t = subst (λ (w : Seen). HandSweeps [] (MadeNone old n) old (record old { worker = w })) (sym t.0)
         (ready_works (MadeNone old n) old mid said r none (record { makes_none = r.makes_none; no_cut = found; pulls = pulls; uncached = λ off. keeps_none said (r.uncached off) }))
-    then_tries new (Err e) t = subst (λ (w : Seen). Works [] (WantsMore old n) old (record old { worker = w })) (sym t)
+    then_tries new (Err e) t = subst (λ (w : Seen). HandSweeps [] (WantsMore old n) old (record old { worker = w })) (sym t)
         (ready_works (WantsMore old n) old mid said r none (record { makes_none = r.makes_none; pulls = pulls; uncached = λ off. keeps_none said (r.uncached off) }))
 
 -- the same of a hand that is only known to be so
@@ -207,7 +207,7 @@ module _ (n class : ℕ) (old swept : Hand) (f : Finishes old swept (Ok tt)) (mi
   abbrev SweptAll : List Entry → Type 0
   SweptAll said = MakesNone said × SawAllEmpty old.worker.view.generation said × (old.worker.caching ≡ false → KeepsBlock said) × (many is_pulling said ≡ 0)
 
-  pub readied : Works [] SweptAll old (record swept { worker = mid })
+  pub readied : HandSweeps [] SweptAll old (record swept { worker = mid })
   readied = works-both (λ said. IsPlain said × SawAllEmpty old.worker.view.generation said) (λ s. s ≡ set.0) SweptAll [] old swept (record swept { worker = mid }) f (ready_works (λ s. s ≡ set.0) swept mid set.0 set.1 f.popped refl)
       (λ x y p q. (
         makes-append y x (subst MakesNone (sym q) set.1.makes_none) (plain-makes x p.0),
@@ -251,7 +251,7 @@ module _ (n class : ℕ) (old swept : Hand) (f : Finishes old swept (Ok tt)) (mi
   pub then_takes : (new : Seen) (r : Result Body Refused) → HasNoOwnBlock mid → TakesSpan n class mid new r → SweepsAndTakes n class old (record swept { worker = new }) r
   then_takes new (Ok b) bare t = then_took new b t
   then_takes new (Err (NoRun line)) bare t = then_missed new line bare t
-  then_takes new (Err WantsMemory) bare t = subst (λ (w : Seen). Works [] (WantsMore old n) old (record swept { worker = w })) (sym t)
+  then_takes new (Err WantsMemory) bare t = subst (λ (w : Seen). HandSweeps [] (WantsMore old n) old (record swept { worker = w })) (sym t)
       (works-as SweptAll (WantsMore old n) [] old (record swept { worker = mid }) readied (λ s p. record { makes_none = p.0; pulls = behind-none n s p.3; uncached = p.2 }))
 
 -- the full sweep wants memory
@@ -280,7 +280,7 @@ module _ (n class r : ℕ) (old mid : Hand) (w : Reclaims n old mid (Ok r)) wher
   tidy_both : (xs ys : List Entry) → OnlySweeps mid.worker.view.generation ys → OnlySweeps old.worker.view.generation xs → OnlySweeps old.worker.view.generation (ys ++ xs)
   tidy_both xs ys y x = sweeps-append old.worker.view.generation ys xs (subst (λ (g : ℕ). OnlySweeps g ys) gen y) x
 
-  wants_both : (new : Hand) → Works [] (WantsMore mid n) mid new → Works [] Wanting old new
+  wants_both : (new : Hand) → HandSweeps [] (WantsMore mid n) mid new → HandSweeps [] Wanting old new
   wants_both new x = works-both RP (WantsMore mid n) Wanting [] old mid new w x
       (λ s t p q. (takes-append t s q.makes_none.takes_none p.1, few_still old.worker.view.region s t q.makes_none p.2.few, λ off. none-both is_of_block t s (q.uncached (off_still off)) p.4, behind-both n t s q.pulls (behind-none n s (pulls-none s p.4))))
 
@@ -319,7 +319,7 @@ module _ (n class r : ℕ) (old mid : Hand) (w : Reclaims n old mid (Ok r)) wher
     abbrev Ready : List Entry → Type 0
     Ready said = TakesNone said × HasReclaimed old.worker.view.marks old.worker.view.region n said × (old.worker.caching ≡ true → n < 16 → FoundNoCut n said) × (old.worker.caching ≡ false → KeepsBlock said) × PullsBehind n said
 
-    ready : Works [] Ready old more
+    ready : HandSweeps [] Ready old more
     ready = works-both RP (MadeNone mid n) Ready [] old mid more w c
         (λ x y p q. (
           takes-append y x q.makes_none.takes_none p.1,

@@ -17,7 +17,7 @@ use Rattle.span_set.proofs.Fits.{fits-none}
 use Rattle.sweeper.specs.Entries.{pages_given}
 use Rattle.sweeper.specs.ReclaimSteps.{CoversPages}
 use Rattle.sweeper.specs.Tries.{SweepsNone}
-use Rattle.sweeper.specs.Work.{OnlySweeps, Stays, Works}
+use Rattle.sweeper.specs.Work.{OnlySweeps, Stays, HandSweeps}
 use Rattle.sweeper.proofs.Counting.{none-append, none-both, nothing-none, nothing-sweeps, notes-none, sweeps-append}
 use Rattle.sweeper.proofs.Popping.{one_none, one_quiet}
 use Rattle.sweeper.proofs.Working.{works-step}
@@ -104,7 +104,7 @@ empty_looks g (Added w x ∷ said) a = absurd a.0
 
 -- a step of the worker that only adds such entries
 pub logs_works : (old : Hand) (said : List Entry) (new : Seen) → new ≡ logs said old.worker → OnlySweeps old.worker.view.generation said → sweepings said ≡ [] → old.worker.view.own.popped ≡ []
-    → Works [] (λ s. s ≡ said) old (record old { worker = new })
+    → HandSweeps [] (λ s. s ≡ said) old (record old { worker = new })
 logs_works old said new e sweeps none popped = works-step (λ s. s ≡ said) [] said old (record old { worker = new })
     (record {
       log = ap (λ (x : Seen). x.view.own.log) e;

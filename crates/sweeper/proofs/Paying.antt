@@ -23,7 +23,7 @@ use Rattle.sweeper.specs.Pays.{HasPaid, Pays, target_of}
 use Rattle.sweeper.specs.PaySteps.{ReadsSwept, SweepsSet, SweepsSome, SweepsUntil}
 use Rattle.sweeper.specs.Tries.{SawSome, SweepsNext, SweepsNone}
 use Rattle.sweeper.specs.Sweeps.{Finishes, SweepsSpan}
-use Rattle.sweeper.specs.Work.{Does, IsPlain, SawAllEmpty, Stays, Works}
+use Rattle.sweeper.specs.Work.{WorkerSweeps, IsPlain, SawAllEmpty, Stays, HandSweeps}
 use Rattle.sweeper.specs.declared.answers.Paid.TheVariants.{Reached, NothingLeft}
 use Rattle.sweeper.proofs.Counting.{nothing-none, plain-append, some-new, some-old}
 use Rattle.sweeper.proofs.Searching.{looks_past, looks_to, many_below, saw_all, saw_more}
@@ -33,7 +33,7 @@ pub plain-nothing : IsPlain []
 plain-nothing = nothing-none.plain
 
 -- a word is read
-pub read_works : (word value : ℕ) (a : Hand) (new : Seen) → eqb word 4 ≡ false → new ≡ after_said (Reads word value) a.worker → a.worker.view.own.popped ≡ [] → Works [] (λ said. IsPlain said × (0 < many (is_read word value) said)) a (record a { worker = new })
+pub read_works : (word value : ℕ) (a : Hand) (new : Seen) → eqb word 4 ≡ false → new ≡ after_said (Reads word value) a.worker → a.worker.view.own.popped ≡ [] → HandSweeps [] (λ said. IsPlain said × (0 < many (is_read word value) said)) a (record a { worker = new })
 read_works word value a new other e none = works-step (λ said. IsPlain said × (0 < many (is_read word value) said)) [] (Read word value ∷ []) a (record a { worker = new })
     (record {
       log = ap (λ (x : Seen). x.view.own.log) e;
@@ -46,22 +46,22 @@ read_works word value a new other e none = works-step (λ said. IsPlain said × 
     (record { takes_none = record { untaken = refl; unmissed = refl }; unclaimed = refl; unread = λ i. rw other refl; keeps_block = refl }, rw (eq-eqb word word refl, eq-eqb value value refl) (omega arith))
 
 -- room for notes tells nothing
-pub works-room : (P : List Entry → Type 0) (more : List ℕ) (a b b' : Hand) → b'.worker ≡ b.worker → b'.notes.items ≡ b.notes.items → Works more P a b → Works more P a b'
+pub works-room : (P : List Entry → Type 0) (more : List ℕ) (a b b' : Hand) → b'.worker ≡ b.worker → b'.notes.items ≡ b.notes.items → HandSweeps more P a b → HandSweeps more P a b'
 works-room P more a b b' e m w = record {
   said = w.said;
   did = w.did;
-  does = subst (λ (x : Seen). Does more w.said a.worker x) (sym e) w.does;
+  does = subst (λ (x : Seen). WorkerSweeps more w.said a.worker x) (sym e) w.does;
   notes = m ∙ w.notes;
   popped = ap (λ (x : Seen). x.view.own.popped) e ∙ w.popped;
 }
 
 -- the swept pages are read
 module _ (target : ℕ) (old new : Hand) (none : old.worker.view.own.popped ≡ []) where
-  pub read_some : (seen : ℕ) → ReadsSwept target old new (Some seen) → Works [] (λ said. IsPlain said × (0 < many (is_read 2 seen) said)) old new
-  read_some seen r = subst (Works [] (λ said. IsPlain said × (0 < many (is_read 2 seen) said)) old) (sym r.2) (read_works 2 seen old (after_said (Reads 2 seen) old.worker) refl refl none)
+  pub read_some : (seen : ℕ) → ReadsSwept target old new (Some seen) → HandSweeps [] (λ said. IsPlain said × (0 < many (is_read 2 seen) said)) old new
+  read_some seen r = subst (HandSweeps [] (λ said. IsPlain said × (0 < many (is_read 2 seen) said)) old) (sym r.2) (read_works 2 seen old (after_said (Reads 2 seen) old.worker) refl refl none)
 
-  pub read_less : ReadsSwept target old new None → Works [] IsPlain old new
-  read_less r = subst (Works [] IsPlain old) (sym r.2)
+  pub read_less : ReadsSwept target old new None → HandSweeps [] IsPlain old new
+  read_less r = subst (HandSweeps [] IsPlain old) (sym r.2)
       (works-as (λ said. IsPlain said × (0 < many (is_read 2 r.0) said)) IsPlain [] old (record old { worker = after_said (Reads 2 r.0) old.worker }) (read_works 2 r.0 old (after_said (Reads 2 r.0) old.worker) refl refl none) (λ s p. p.0))
 
 -- which leaves the notes and the tally
@@ -85,10 +85,10 @@ module _ (k : ℕ) (old : Hand) where
   module _ (n : ℕ) (now : Hand) (d : SweepsSome k n old now) where
     -- room for a note is made
     module _ (mid : Hand) (worker : mid.worker ≡ now.worker) (notes : mid.notes.items ≡ now.notes.items) where
-      pub so_far : Works [] (λ said. IsPlain said × (n ≤ many (is_pop k) said)) old mid
+      pub so_far : HandSweeps [] (λ said. IsPlain said × (n ≤ many (is_pop k) said)) old mid
       so_far = works-room (Pops n) [] old now mid worker notes d.works
 
-      pub set_wants : Works [] IsPlain old mid
+      pub set_wants : HandSweeps [] IsPlain old mid
       set_wants = works-as (Pops n) IsPlain [] old mid so_far (λ s p. p.0)
 
       module _ (new : Hand) (k' : ℕ) (same : k' ≡ k) where
@@ -162,8 +162,8 @@ finished old new None target l u = works-as (λ said. IsPlain said × SawSome ol
 
 -- a payment
 module _ (pages distance bytes credit : ℕ) (old : Hand) (none : old.worker.view.own.popped ≡ []) (w1 w2 : Seen) (spent : ℕ) (g : ℕ) (first : w1 ≡ after_said (Reads 1 g) old.worker) (second : w2 ≡ after_said (Reads 3 spent) w1) (mid : Hand) (at : mid ≡ record old { worker = w2 }) where
-  both_read : Works [] (λ said. IsPlain said × (0 < many (is_read 3 spent) said)) old mid
-  both_read = subst (Works [] (λ said. IsPlain said × (0 < many (is_read 3 spent) said)) old) (sym at)
+  both_read : HandSweeps [] (λ said. IsPlain said × (0 < many (is_read 3 spent) said)) old mid
+  both_read = subst (HandSweeps [] (λ said. IsPlain said × (0 < many (is_read 3 spent) said)) old) (sym at)
       (let a = read_works 1 g old w1 refl first none in let b = read_works 3 spent (record old { worker = w1 }) w2 refl second a.popped in
       works-both (λ said. IsPlain said × (0 < many (is_read 1 g) said)) (λ said. IsPlain said × (0 < many (is_read 3 spent) said)) (λ said. IsPlain said × (0 < many (is_read 3 spent) said)) [] old (record old { worker = w1 }) (record old { worker = w2 }) a b
       (λ x y p q. (plain-append y x q.0 p.0, some-new (is_read 3 spent) y x q.1)))

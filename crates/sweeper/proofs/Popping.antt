@@ -29,7 +29,7 @@ use Rattle.span_set.proofs.Fits.{fits-none}
 use Rattle.sweeper.specs.Settles.{Settles}
 use Rattle.sweeper.specs.Tries.{SweepsNone, TriesEntry}
 use Rattle.sweeper.specs.Sweeps.{SweepsSpan}
-use Rattle.sweeper.specs.Work.{Does, OnlySweeps, Stays, note_by, notes_of}
+use Rattle.sweeper.specs.Work.{WorkerSweeps, OnlySweeps, Stays, note_by, notes_of}
 use Rattle.sweeper.specs.declared.sweep.Tried.TheVariants.{Swept as WasSwept, Gone, Empty}
 use Rattle.sweeper.proofs.Counting.{none-append, none-both, notes-append, notes-none, plain-append, some-new, sweepings-append, sweeps-append}
 use Rattle.sweeper.proofs.Working.{does-both}
@@ -101,7 +101,7 @@ module _ (set : ℕ) where
     pub looks_are : SweepsNone looks_said
     looks_are = none-append (Looked set head tail ∷ []) (l.said ++ Read 1 w.view.generation ∷ []) (one_none head tail) (looks_none w.view.generation l.said l.looks)
 
-    pub looks_does : is_swept_set w.view.generation set ≡ false → Does [] looks_said w now
+    pub looks_does : is_swept_set w.view.generation set ≡ false → WorkerSweeps [] looks_said w now
     looks_does off = record {
       log = looks_log;
       sweeps = sweeps-append w.view.generation (Looked set head tail ∷ []) (l.said ++ Read 1 w.view.generation ∷ []) (one_quiet head tail w.view.generation off) (looks_sweeps w.view.generation w.view.generation off l.said l.looks);
@@ -118,7 +118,7 @@ module _ (set : ℕ) where
       abbrev pub pop_said : List Entry
       pop_said = Popped set page ∷ looks_said
 
-      pop_step : Does [] (Popped set page ∷ []) now new
+      pop_step : WorkerSweeps [] (Popped set page ∷ []) now new
       pop_step = record {
         log = ap (λ (x : Seen). x.view.own.log) e;
         sweeps = record {
@@ -136,7 +136,7 @@ module _ (set : ℕ) where
         stays = subst (Stays now) (sym e) (record { away = refl; table = refl; number = refl; caching = refl; region = refl; goal = refl; procs = refl; generation = refl; marks = refl; before = refl; carried = refl; parts = refl; sweeping = refl; cached = refl; claimed = refl; fresh = refl; reset = refl; bodies = λ q h. refl });
       }
 
-      pub pop_does : Does [] pop_said w new
+      pub pop_does : WorkerSweeps [] pop_said w new
       pop_does = does-both w now new [] [] looks_said (Popped set page ∷ []) (looks_does unswept) pop_step
 
       pub pop_none : SweepsNone pop_said
@@ -161,7 +161,7 @@ swept_more g s xs ys x y = record {
 
 -- by the answer
 module _ (set : ℕ) (h : Hand) (unswept : is_swept_set h.worker.view.generation set ≡ false) (none : h.worker.view.own.popped ≡ []) where
-  few_pops : (more : List ℕ) (said : List Entry) (new : Seen) (head tail : ℕ) → Does more said h.worker new → many (is_pop set) said ≡ 1 → many (is_pop set) h.worker.view.own.log ≤ head → head < tail → tail < 2 ^ 32 → many (is_pop set) new.view.own.log ≤ 2 ^ 32
+  few_pops : (more : List ℕ) (said : List Entry) (new : Seen) (head tail : ℕ) → WorkerSweeps more said h.worker new → many (is_pop set) said ≡ 1 → many (is_pop set) h.worker.view.own.log ≤ head → head < tail → tail < 2 ^ 32 → many (is_pop set) new.view.own.log ≤ 2 ^ 32
   few_pops more said new head tail d one passed less low = let a = many-append (is_pop set) said h.worker.view.own.log in let b = ap (many (is_pop set)) d.log in omega arith
 
   erased : (page : ℕ) → erase page (page ∷ []) ≡ []
@@ -183,7 +183,7 @@ module _ (set : ℕ) (h : Hand) (unswept : is_swept_set h.worker.view.generation
     abbrev said₀ : List Entry
     said₀ = pop_said set r.0 r.1 h.worker r.2 r.3 page mid unswept r.5
 
-    does₀ : Does [] said₀ h.worker mid
+    does₀ : WorkerSweeps [] said₀ h.worker mid
     does₀ = pop_does set r.0 r.1 h.worker r.2 r.3 page mid unswept r.5
 
     mid_popped : mid.view.own.popped ≡ page ∷ []
@@ -197,7 +197,7 @@ module _ (set : ℕ) (h : Hand) (unswept : is_swept_set h.worker.view.generation
 
     pub tried_gone : (word : ℕ) (new : Seen) → AcquiresSpan page mid new (Other word) → TriesEntry set h (record h { worker = new }) Gone
     tried_gone word new a =
-        let step : Does [] (Found page word ∷ []) mid new = record {
+        let step : WorkerSweeps [] (Found page word ∷ []) mid new = record {
           log = ap (λ (x : Seen). x.view.own.log) a.1;
           sweeps = record { unplaced = refl; unspent = refl; swept_pages = refl; given = λ p. refl; pushed = λ p. refl; unpopped = λ j p s. refl; unlooked = λ j s. refl; untouched = λ p. refl };
           sets = fits-none mid.view.generation no_page (Found page word ∷ []) mid new [] refl (ap (λ (x : Seen). x.view.own.spans) a.1);

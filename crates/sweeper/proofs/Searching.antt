@@ -18,8 +18,8 @@ use Rattle.span_laws.specs.Views.{Seen}
 use Rattle.span_laws.proofs.Scans.{nth_unswept_off}
 use Rattle.sweeper.specs.Tries.{DropsSome, SawSome, SweepsNext, SweepsNone, TriesEntry}
 use Rattle.sweeper.specs.Sweeps.{SweepsOne, SweepsSpan}
-use Rattle.sweeper.specs.Work.{IsPlain, SawAllEmpty, Works, note_by}
-use Rattle.sweeper.specs.declared.answers.One.TheVariants.{Swept, NothingLeft}
+use Rattle.sweeper.specs.Work.{IsPlain, SawAllEmpty, HandSweeps, note_by}
+use Rattle.sweeper.specs.declared.answers.SweptOne.TheVariants.{Swept, NothingLeft}
 use Rattle.sweeper.specs.declared.sweep.Tried.TheVariants.{Swept as WasSwept, Gone, Empty}
 use Rattle.sweeper.proofs.Counting.{none-append, nothing-none, some-new, some-old}
 use Rattle.sweeper.proofs.Passing.{empty_looks, logs_works, looks_empty, looks_more}
@@ -27,7 +27,7 @@ use Rattle.sweeper.proofs.Popping.{swept_more}
 use Rattle.sweeper.proofs.Working.{works-as, works-both, works-nothing}
 
 -- a call of this crate leaves what the next one asks
-module _ (P : List Entry → Type 0) (a b : Hand) (w : Works [] P a b) where
+module _ (P : List Entry → Type 0) (a b : Hand) (w : HandSweeps [] P a b) where
   pub still_gen : b.worker.view.generation ≡ a.worker.view.generation
   still_gen = w.does.stays.generation
 
@@ -93,12 +93,12 @@ saw_on g n to xs ys s e i low = dite (dec_le n i)
     (λ l. some-old (is_seen_empty (nth_unswept g i)) xs ys (s i (omega arith)))
 
 -- what is kept by looks
-module _ (P : List Entry → Type 0) (grow : (xs ys : List Entry) → SweepsNone xs → P ys → P (xs ++ ys)) (old : Hand) (n : ℕ) (now : Hand) (d : Works [] (λ said. P said × SawSome old.worker.view.generation n said) old now) (w : Seen) where
+module _ (P : List Entry → Type 0) (grow : (xs ys : List Entry) → SweepsNone xs → P ys → P (xs ++ ys)) (old : Hand) (n : ℕ) (now : Hand) (d : HandSweeps [] (λ said. P said × SawSome old.worker.view.generation n said) old now) (w : Seen) where
   same_gen : now.worker.view.generation ≡ old.worker.view.generation
   same_gen = d.does.stays.generation
 
   -- all that were left are empty
-  pub looks_past : FindsUnswept n now.worker w None → Works [] (λ said. P said × SawSome old.worker.view.generation 272 said) old (record now { worker = w })
+  pub looks_past : FindsUnswept n now.worker w None → HandSweeps [] (λ said. P said × SawSome old.worker.view.generation 272 said) old (record now { worker = w })
   looks_past f = let g = now.worker.view.generation in let looks = empty_looks g f.0 f.1.only in
       works-both (λ said. P said × SawSome old.worker.view.generation n said) (λ s. s ≡ f.0) (λ said. P said × SawSome old.worker.view.generation 272 said) [] old now (record now { worker = w }) d
       (logs_works now f.0 w f.2 looks.sweeps looks.none.none d.popped)
@@ -106,7 +106,7 @@ module _ (P : List Entry → Type 0) (grow : (xs ys : List Entry) → SweepsNone
       (grow f.0 x looks.none p.0, saw_on old.worker.view.generation n 272 f.0 x p.1 (subst (λ (z : ℕ). SeesEmpty z n 272 f.0) same_gen f.1)))
 
   -- all up to one are empty
-  pub looks_to : (i : ℕ) → FindsUnswept n now.worker w (Some i) → Works [] (λ said. P said × SawSome old.worker.view.generation i said) old (record now { worker = w })
+  pub looks_to : (i : ℕ) → FindsUnswept n now.worker w (Some i) → HandSweeps [] (λ said. P said × SawSome old.worker.view.generation i said) old (record now { worker = w })
   looks_to i f = let g = now.worker.view.generation in let j = nth_unswept g i in let looks = empty_looks g f.0 f.1.only in let e = Looked j f.4.0 f.4.1 in let said = e ∷ f.0 in let all = looks_more g e f.0 (looks_empty g j f.4.0 f.4.1 (nth_unswept_off g i)) looks in
       works-both (λ said. P said × SawSome old.worker.view.generation n said) (λ s. s ≡ said) (λ said. P said × SawSome old.worker.view.generation i said) [] old now (record now { worker = w }) d
       (logs_works now said w f.4.3 all.sweeps all.none.none d.popped)
@@ -117,11 +117,11 @@ module _ (P : List Entry → Type 0) (grow : (xs ys : List Entry) → SweepsNone
       some-new-one k l x m = omega arith
 
 module _ (old : Hand) where
-  pub finds_none : (now : Hand) → now.worker ≡ old.worker → now.notes.items ≡ old.notes.items → old.worker.view.own.popped ≡ [] → Works [] (λ said. SweepsNone said × SawSome old.worker.view.generation 0 said) old now
+  pub finds_none : (now : Hand) → now.worker ≡ old.worker → now.notes.items ≡ old.notes.items → old.worker.view.own.popped ≡ [] → HandSweeps [] (λ said. SweepsNone said × SawSome old.worker.view.generation 0 said) old now
   finds_none now e m none = works-nothing (λ said. SweepsNone said × SawSome old.worker.view.generation 0 said) old now e m none (nothing-none, λ i l. absurd (omega arith))
 
-  module _ (n : ℕ) (now new : Hand) (d : Works [] (λ said. SweepsNone said × SawSome old.worker.view.generation n said) old now) (k : ℕ) (same : k ≡ nth_unswept old.worker.view.generation n) where
-    pub finds_more : SweepsNext k now new None → Works [] (λ said. SweepsNone said × SawSome old.worker.view.generation (n + 1) said) old new
+  module _ (n : ℕ) (now new : Hand) (d : HandSweeps [] (λ said. SweepsNone said × SawSome old.worker.view.generation n said) old now) (k : ℕ) (same : k ≡ nth_unswept old.worker.view.generation n) where
+    pub finds_more : SweepsNext k now new None → HandSweeps [] (λ said. SweepsNone said × SawSome old.worker.view.generation (n + 1) said) old new
     finds_more t = works-both (λ said. SweepsNone said × SawSome old.worker.view.generation n said) (λ said. SweepsNone said × (0 < many (is_seen_empty k) said)) (λ said. SweepsNone said × SawSome old.worker.view.generation (n + 1) said) [] old now new d t.0
         (λ x y p q. (none-append y x q.0 p.0, saw_more old.worker.view.generation n y x p.1 (subst (λ (z : ℕ). 0 < many (is_seen_empty z) y) same q.1)))
 
@@ -133,6 +133,6 @@ module _ (old : Hand) where
           (λ x y p q. swept_more g t.0 y x (subst (λ (m : ℕ). SweepsSpan m t.0 y) gen q.0) p.0),
     )
 
-  pub all_seen : (now : Hand) → Works [] (λ said. SweepsNone said × SawSome old.worker.view.generation 272 said) old now → SweepsOne old now (Ok NothingLeft)
+  pub all_seen : (now : Hand) → HandSweeps [] (λ said. SweepsNone said × SawSome old.worker.view.generation 272 said) old now → SweepsOne old now (Ok NothingLeft)
   all_seen now w = works-as (λ said. SweepsNone said × SawSome old.worker.view.generation 272 said) (λ said. (sweepings said ≡ []) × IsPlain said × SawAllEmpty old.worker.view.generation said) [] old now w
       (λ s p. (p.0.none, p.0.plain, saw_all old.worker.view.generation s p.1))

@@ -34,7 +34,7 @@ use Rattle.sweep_laws.specs.Counts.{total}
 use Rattle.sweeper.specs.Entries.{pages_given}
 use Rattle.sweeper.specs.Settles.{GoesHome, Settles}
 use Rattle.sweeper.specs.Sweeps.{SweepsSpan}
-use Rattle.sweeper.specs.Work.{Does, OnlySweeps, Stays, note_by, notes_of}
+use Rattle.sweeper.specs.Work.{WorkerSweeps, OnlySweeps, Stays, note_by, notes_of}
 
 -- a page that came last and was not there before goes without a trace
 pub erase_back : (p q : ℕ) (xs : List ℕ) → p ≡ q → has p xs ≡ false → erase p (xs ++ q ∷ []) ≡ xs
@@ -137,7 +137,7 @@ pub record Swings (w : Seen) (h1 h2 : Hand) (marks : MarkSet) (got : Body) (note
   pub s : Sweeping
   pub said : List Entry
   pub note_is : note ≡ note_by (cycle_at w.view.generation) s
-  pub does : Does [] said w h2.worker
+  pub does : WorkerSweeps [] said w h2.worker
   pub notes : h2.notes.items ≡ h1.notes.items ++ notes_of (cycle_at w.view.generation) said
   pub popped : h2.worker.view.own.popped ≡ []
   pub sweeps : SweepsSpan w.view.generation s said

@@ -9,7 +9,7 @@ use Rattle.span_laws.specs.Views.{Seen}
 use Rattle.span_set.specs.declared.hand.Hand.{Hand}
 use Rattle.span_set.specs.Fits.{FitsSets, no_page}
 use Rattle.span_set.proofs.Fits.{fits-both, fits-none}
-use Rattle.sweeper.specs.Work.{Does, OnlySweeps, Stays, Works, notes_of}
+use Rattle.sweeper.specs.Work.{WorkerSweeps, OnlySweeps, Stays, HandSweeps, notes_of}
 use Rattle.sweeper.proofs.Counting.{notes-append, nothing-sweeps, sweeps-append}
 
 pub stays-same : (a : Seen) → Stays a a
@@ -19,7 +19,7 @@ times_front : (q : ℕ) (xs ys : List ℕ) → times q (xs ++ ys) ≡ times q xs
 times_front q [] ys = omega arith
 times_front q (x ∷ xs) ys = let r = times_front q xs ys in omega arith
 
-module _ (a b d : Seen) (more also : List ℕ) (said then : List Entry) (x : Does more said a b) (y : Does also then b d) where
+module _ (a b d : Seen) (more also : List ℕ) (said then : List Entry) (x : WorkerSweeps more said a b) (y : WorkerSweeps also then b d) where
   stays-both : Stays a d
   stays-both = let s = x.stays in let t = y.stays in record {
     away = t.away ∙ s.away;
@@ -42,7 +42,7 @@ module _ (a b d : Seen) (more also : List ℕ) (said then : List Entry) (x : Doe
     bodies = λ q h. t.bodies q (let c = times_front q a.view.own.held more in let x₁ = ap (times q) x.held in let x₂ = ap (times q) s.sweeping in let x₃ = ap (times q) s.cached in omega arith) ∙ s.bodies q h;
   }
 
-  pub does-both : Does (more ++ also) (then ++ said) a d
+  pub does-both : WorkerSweeps (more ++ also) (then ++ said) a d
   does-both = record {
     log = y.log ∙ ap (λ (l : List Entry). then ++ l) x.log ∙ sym (append_assoc then said a.view.own.log);
     sweeps = sweeps-append a.view.generation then said (subst (λ (g : ℕ). OnlySweeps g then) x.stays.generation y.sweeps) x.sweeps;
@@ -51,14 +51,14 @@ module _ (a b d : Seen) (more also : List ℕ) (said then : List Entry) (x : Doe
     stays = stays-both;
   }
 
-pub does-nothing : (a : Seen) → Does [] [] a a
+pub does-nothing : (a : Seen) → WorkerSweeps [] [] a a
 does-nothing a = record { log = refl; sweeps = nothing-sweeps a.view.generation; sets = fits-none a.view.generation no_page [] a a [] refl refl; held = sym (append-nil a.view.own.held); stays = stays-same a }
 
 module _ (P Q : List Entry → Type 0) where
-  pub works-as : (more : List ℕ) (a b : Hand) → Works more P a b → ((s : List Entry) → P s → Q s) → Works more Q a b
+  pub works-as : (more : List ℕ) (a b : Hand) → HandSweeps more P a b → ((s : List Entry) → P s → Q s) → HandSweeps more Q a b
   works-as more a b w f = record { said = w.said; did = f w.said w.did; does = w.does; notes = w.notes; popped = w.popped }
 
-  pub works-both : (R : List Entry → Type 0) (more : List ℕ) (a b d : Hand) → Works [] P a b → Works more Q b d → ((s t : List Entry) → P s → Q t → R (t ++ s)) → Works more R a d
+  pub works-both : (R : List Entry → Type 0) (more : List ℕ) (a b d : Hand) → HandSweeps [] P a b → HandSweeps more Q b d → ((s t : List Entry) → P s → Q t → R (t ++ s)) → HandSweeps more R a d
   works-both R more a b d x y both = record {
     said = y.said ++ x.said;
     did = both x.said y.said x.did y.did;
@@ -70,21 +70,21 @@ module _ (P Q : List Entry → Type 0) where
   }
 
 -- what a call added to the log sweeps alone, too
-pub works-tidy : (P : List Entry → Type 0) (more : List ℕ) (a b : Hand) → Works more P a b → Works more (λ said. P said × OnlySweeps a.worker.view.generation said) a b
+pub works-tidy : (P : List Entry → Type 0) (more : List ℕ) (a b : Hand) → HandSweeps more P a b → HandSweeps more (λ said. P said × OnlySweeps a.worker.view.generation said) a b
 works-tidy P more a b w = record { said = w.said; did = (w.did, w.does.sweeps); does = w.does; notes = w.notes; popped = w.popped }
 
 -- a call that has not done anything yet
-pub works-nothing : (P : List Entry → Type 0) (a b : Hand) → b.worker ≡ a.worker → b.notes.items ≡ a.notes.items → a.worker.view.own.popped ≡ [] → P [] → Works [] P a b
+pub works-nothing : (P : List Entry → Type 0) (a b : Hand) → b.worker ≡ a.worker → b.notes.items ≡ a.notes.items → a.worker.view.own.popped ≡ [] → P [] → HandSweeps [] P a b
 works-nothing P a b same notes none p = record {
   said = [];
   did = p;
-  does = subst (λ (w : Seen). Does [] [] a.worker w) (sym same) (does-nothing a.worker);
+  does = subst (λ (w : Seen). WorkerSweeps [] [] a.worker w) (sym same) (does-nothing a.worker);
   notes = notes ∙ sym (append-nil a.notes.items);
   popped = ap (λ (w : Seen). w.view.own.popped) same ∙ none;
 }
 
 -- a step of the worker alone, without a sweep
-pub works-step : (P : List Entry → Type 0) (more : List ℕ) (said : List Entry) (a b : Hand) → Does more said a.worker b.worker → notes_of (cycle_at a.worker.view.generation) said ≡ [] → b.notes.items ≡ a.notes.items → b.worker.view.own.popped ≡ [] → P said → Works more P a b
+pub works-step : (P : List Entry → Type 0) (more : List ℕ) (said : List Entry) (a b : Hand) → WorkerSweeps more said a.worker b.worker → notes_of (cycle_at a.worker.view.generation) said ≡ [] → b.notes.items ≡ a.notes.items → b.worker.view.own.popped ≡ [] → P said → HandSweeps more P a b
 works-step P more said a b d none notes popped p = record {
   said = said;
   did = p;

@@ -17,11 +17,11 @@ use Rattle.span_set.specs.Blocks.{HasNoOwnBlock}
 use Rattle.span_set.specs.declared.hand.Hand.{Hand}
 use Rattle.sweeper.specs.Entries.{is_cut, is_pulling}
 use Rattle.sweeper.specs.NewSpans.{FoundNoCut, HasNew, IsMaking}
-use Rattle.sweeper.specs.Work.{Does, KeepsBlock, MakesNone, OnlySweeps, PullsBehind, SawAllEmpty, Works}
+use Rattle.sweeper.specs.Work.{WorkerSweeps, KeepsBlock, MakesNone, OnlySweeps, PullsBehind, SawAllEmpty, HandSweeps}
 
 -- a worker did nothing but look for a cut, settle its block and pull another; without a page cache it did nothing
 pub record Readies (said : List Entry) (old new : Seen) : Type 0 where
-  pub does : Does [] said old new
+  pub does : WorkerSweeps [] said old new
   pub makes_none : MakesNone said
   pub sweeps_none : sweepings said ≡ []
   pub popped : new.view.own.popped ≡ old.view.own.popped
@@ -60,9 +60,9 @@ pub record WantsMore (old : Hand) (n : ℕ) (said : List Entry) : Type 0 where
 
 -- a span was cut or taken; or there was none; or memory ran out
 abbrev pub CutsOrTakes : ℕ → ℕ → Hand → Hand → Result (Option Body) NoMemory → Type 0
-CutsOrTakes n class old new (Ok (Some b)) = HasNew n class old new b × Works (b.page ∷ []) (MadeThen old n b) old new
-CutsOrTakes n class old new (Ok None) = Works [] (MadeNone old n) old new
-CutsOrTakes n class old new (Err none) = Works [] (WantsMore old n) old new
+CutsOrTakes n class old new (Ok (Some b)) = HasNew n class old new b × HandSweeps (b.page ∷ []) (MadeThen old n b) old new
+CutsOrTakes n class old new (Ok None) = HandSweeps [] (MadeNone old n) old new
+CutsOrTakes n class old new (Err none) = HandSweeps [] (WantsMore old n) old new
 
 -- each unswept set was seen empty and the own block settled, no block pulled, and then a run was taken or missed
 pub record TookThen (old : Hand) (b : Body) (said : List Entry) : Type 0 where
@@ -83,6 +83,6 @@ pub record MissedThen (old : Hand) (n class line : ℕ) (said : List Entry) : Ty
   pub uncached : old.worker.caching ≡ false → KeepsBlock before
 
 abbrev pub SweepsAndTakes : ℕ → ℕ → Hand → Hand → Result Body Refused → Type 0
-SweepsAndTakes n class old new (Ok b) = HasNew n class old new b × Works (b.page ∷ []) (TookThen old b) old new
-SweepsAndTakes n class old new (Err (NoRun line)) = ((past : List Line) × (length past ≡ line) × NoRunFree n old.worker past) × Works [] (MissedThen old n class line) old new × HasNoOwnBlock new.worker
-SweepsAndTakes n class old new (Err WantsMemory) = Works [] (WantsMore old n) old new
+SweepsAndTakes n class old new (Ok b) = HasNew n class old new b × HandSweeps (b.page ∷ []) (TookThen old b) old new
+SweepsAndTakes n class old new (Err (NoRun line)) = ((past : List Line) × (length past ≡ line) × NoRunFree n old.worker past) × HandSweeps [] (MissedThen old n class line) old new × HasNoOwnBlock new.worker
+SweepsAndTakes n class old new (Err WantsMemory) = HandSweeps [] (WantsMore old n) old new

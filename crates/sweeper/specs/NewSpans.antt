@@ -14,7 +14,7 @@ use Rattle.span_set.specs.Blocks.{HasNoOwnBlock}
 use Rattle.span_set.specs.declared.hand.Hand.{Hand}
 use Rattle.sweeper.specs.Entries.{is_added, is_cut, is_no_cut, is_no_page}
 use Rattle.sweeper.specs.Reclaims.{HasReclaimed, chunks_of}
-use Rattle.sweeper.specs.Work.{KeepsBlock, OnlySweeps, PullsBehind, SawAllEmpty, TakesNone, Works}
+use Rattle.sweeper.specs.Work.{KeepsBlock, OnlySweeps, PullsBehind, SawAllEmpty, TakesNone, HandSweeps}
 
 -- the entry makes the span of a body: it has the line that took its run, or it cut the span out of the worker's block
 abbrev pub IsMaking : ℕ → Body → Entry → Type 0
@@ -61,6 +61,6 @@ pub record HasNew (n class : ℕ) (old new : Hand) (b : Body) : Type 0 where
 -- it made a span; or no run was free, as the line of this number says, and the worker has no block; or memory ran out, and the sweeps and claims before
 -- stand, and the settling and pulling of the own block, the latter only where it had no page left
 abbrev pub MakesSpan : ℕ → ℕ → Hand → Hand → Result Body Refused → Type 0
-MakesSpan n class old new (Ok b) = HasNew n class old new b × Works (b.page ∷ []) (MadeAtLast old n b) old new
-MakesSpan n class old new (Err (NoRun line)) = ((past : List Line) × (length past ≡ line) × NoRunFree n old.worker past) × Works [] (MissedAtLast old n class line) old new × HasNoOwnBlock new.worker
-MakesSpan n class old new (Err WantsMemory) = Works [] (λ said. TakesNone said × (many (is_added 4) said ≤ chunks_of old.worker.view.region) × (old.worker.caching ≡ false → KeepsBlock said) × PullsBehind n said) old new
+MakesSpan n class old new (Ok b) = HasNew n class old new b × HandSweeps (b.page ∷ []) (MadeAtLast old n b) old new
+MakesSpan n class old new (Err (NoRun line)) = ((past : List Line) × (length past ≡ line) × NoRunFree n old.worker past) × HandSweeps [] (MissedAtLast old n class line) old new × HasNoOwnBlock new.worker
+MakesSpan n class old new (Err WantsMemory) = HandSweeps [] (λ said. TakesNone said × (many (is_added 4) said ≤ chunks_of old.worker.view.region) × (old.worker.caching ≡ false → KeepsBlock said) × PullsBehind n said) old new

@@ -5,7 +5,7 @@ use Rattle.worker_log.specs.declared.Entry.{Entry}
 use Rattle.worker_log.specs.Entries.{many}
 use Rattle.span_set.specs.declared.hand.Hand.{Hand}
 use Rattle.sweeper.specs.Entries.{is_read}
-use Rattle.sweeper.specs.Work.{IsPlain, SawAllEmpty, Works}
+use Rattle.sweeper.specs.Work.{IsPlain, SawAllEmpty, HandSweeps}
 use Rattle.sweeper.specs.declared.answers.Paid.{Paid}
 use Rattle.sweeper.specs.declared.answers.Paid.TheVariants.{Reached, NothingLeft}
 
@@ -24,6 +24,6 @@ pub record HasPaid (generation pages distance bytes credit seen target : ℕ) (s
 
 -- it swept until the swept pages reached the target, or until each unswept set was seen empty; or memory ran out, and the sweeps before stand
 abbrev pub Pays : (pages distance bytes credit : ℕ) → Hand → Hand → Result Paid NoMemory → Type 0
-Pays pages distance bytes credit old new (Ok (Reached seen target)) = Works [] (λ said. IsPlain said × HasPaid old.worker.view.generation pages distance bytes credit seen target said) old new
-Pays pages distance bytes credit old new (Ok NothingLeft) = Works [] (λ said. IsPlain said × SawAllEmpty old.worker.view.generation said) old new
-Pays pages distance bytes credit old new (Err none) = Works [] IsPlain old new
+Pays pages distance bytes credit old new (Ok (Reached seen target)) = HandSweeps [] (λ said. IsPlain said × HasPaid old.worker.view.generation pages distance bytes credit seen target said) old new
+Pays pages distance bytes credit old new (Ok NothingLeft) = HandSweeps [] (λ said. IsPlain said × SawAllEmpty old.worker.view.generation said) old new
+Pays pages distance bytes credit old new (Err none) = HandSweeps [] IsPlain old new

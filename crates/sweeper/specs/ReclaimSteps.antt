@@ -9,7 +9,7 @@ use Rattle.span_laws.specs.Logs.{is_finding_at}
 use Rattle.sweep_reads.specs.Waiting.{HasNoMark}
 use Rattle.sweeper.specs.Entries.{is_added, is_read, pages_given}
 use Rattle.sweeper.specs.Reclaims.{SparesMarked}
-use Rattle.sweeper.specs.Work.{IsPlain, KeepsBlock, TakesNone, Works}
+use Rattle.sweeper.specs.Work.{IsPlain, KeepsBlock, TakesNone, HandSweeps}
 
 -- of a page without a mark the span was swept, or its word seen to be another than that of a span that waits
 abbrev pub CoversPage : List (ℕ × ℕ) → ℕ → List Entry → Type 0
@@ -24,19 +24,19 @@ pub record CoversPages (marks : List (ℕ × ℕ)) (from to given : ℕ) (said :
 
 -- the span of one page was swept
 abbrev pub ReclaimsPage : ℕ → ℕ → Hand → Hand → Type 0
-ReclaimsPage page given old new = Works [] (CoversPages old.worker.view.marks page (page + 1) given) old new
+ReclaimsPage page given old new = HandSweeps [] (CoversPages old.worker.view.marks page (page + 1) given) old new
 
 -- the pages from one to another, up to behind the first whose span was swept, with the pages given back; or all of them, where none was;
 -- or memory ran out
 abbrev pub ReclaimsNext : ℕ → ℕ → Hand → Hand → Result (Option (ℕ × ℕ)) NoMemory → Type 0
-ReclaimsNext from to old new (Ok (Some n)) = (from < n.0) × (n.0 ≤ to) × Works [] (CoversPages old.worker.view.marks from n.0 n.1) old new
-ReclaimsNext from to old new (Ok None) = Works [] (CoversPages old.worker.view.marks from to 0) old new
-ReclaimsNext from to old new (Err none) = Works [] (λ said. IsPlain said × SparesMarked old.worker.view.marks said) old new
+ReclaimsNext from to old new (Ok (Some n)) = (from < n.0) × (n.0 ≤ to) × HandSweeps [] (CoversPages old.worker.view.marks from n.0 n.1) old new
+ReclaimsNext from to old new (Ok None) = HandSweeps [] (CoversPages old.worker.view.marks from to 0) old new
+ReclaimsNext from to old new (Err none) = HandSweeps [] (λ said. IsPlain said × SparesMarked old.worker.view.marks said) old new
 
 -- the pages of a chunk that are in the region
 abbrev pub ReclaimsChunk : ℕ → Hand → Hand → Result ℕ NoMemory → Type 0
-ReclaimsChunk chunk old new (Ok given) = Works [] (CoversPages old.worker.view.marks (512 * chunk) (min (512 * chunk + 512) old.worker.view.region) given) old new
-ReclaimsChunk chunk old new (Err none) = Works [] (λ said. IsPlain said × SparesMarked old.worker.view.marks said) old new
+ReclaimsChunk chunk old new (Ok given) = HandSweeps [] (CoversPages old.worker.view.marks (512 * chunk) (min (512 * chunk + 512) old.worker.view.region) given) old new
+ReclaimsChunk chunk old new (Err none) = HandSweeps [] (λ said. IsPlain said × SparesMarked old.worker.view.marks said) old new
 
 -- so many chunks were claimed, all of the region, and covered
 pub record CoversChunks (marks : List (ℕ × ℕ)) (region claims given : ℕ) (said : List Entry) : Type 0 where

@@ -8,7 +8,7 @@ use Rattle.sweep_laws.specs.Counts.{total}
 use Rattle.span_laws.specs.Logs.{is_finding_at}
 use Rattle.sweep_reads.specs.Waiting.{HasNoMark}
 use Rattle.sweeper.specs.Entries.{is_added, is_read, pages_given}
-use Rattle.sweeper.specs.Work.{KeepsBlock, TakesNone, Works}
+use Rattle.sweeper.specs.Work.{KeepsBlock, TakesNone, HandSweeps}
 
 -- the chunks of 512 pages of a region
 abbrev pub chunks_of : ℕ → ℕ
@@ -31,6 +31,6 @@ SparesMarked marks said = (p : ℕ) → 0 < many (is_sweep_of p) said → HasNoM
 
 -- it gave so many pages back, or 2^32 - 1 where there are more, as its log tells; or memory ran out, and the sweeps before stand
 abbrev pub Reclaims : ℕ → Hand → Hand → Result ℕ NoMemory → Type 0
-Reclaims asked old new (Ok n) = Works [] (λ said. (n ≡ min (total pages_given said) (2 ^ 32 - 1)) × TakesNone said
+Reclaims asked old new (Ok n) = HandSweeps [] (λ said. (n ≡ min (total pages_given said) (2 ^ 32 - 1)) × TakesNone said
     × HasReclaimed old.worker.view.marks old.worker.view.region asked said × SparesMarked old.worker.view.marks said × KeepsBlock said) old new
-Reclaims asked old new (Err none) = Works [] (λ said. TakesNone said × (many (is_added 4) said ≤ chunks_of old.worker.view.region) × SparesMarked old.worker.view.marks said × KeepsBlock said) old new
+Reclaims asked old new (Err none) = HandSweeps [] (λ said. TakesNone said × (many (is_added 4) said ≤ chunks_of old.worker.view.region) × SparesMarked old.worker.view.marks said × KeepsBlock said) old new

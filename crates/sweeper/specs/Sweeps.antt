@@ -13,9 +13,9 @@ use Rattle.span_laws.specs.TakeAnswers.{cycle_at}
 use Rattle.span_laws.specs.BodyAsks.{HasRoom, IsFullBody}
 use Rattle.span_set.specs.declared.hand.Hand.{Hand}
 use Rattle.sweeper.specs.Entries.{is_giving_of}
-use Rattle.sweeper.specs.Work.{IsPlain, SawAllEmpty, Works, note_by}
-use Rattle.sweeper.specs.declared.answers.One.{One}
-use Rattle.sweeper.specs.declared.answers.One.TheVariants.{Swept, NothingLeft}
+use Rattle.sweeper.specs.Work.{IsPlain, SawAllEmpty, HandSweeps, note_by}
+use Rattle.sweeper.specs.declared.answers.SweptOne.{SweptOne}
+use Rattle.sweeper.specs.declared.answers.SweptOne.TheVariants.{Swept, NothingLeft}
 
 -- a swept span in which nothing was kept is given back; a full one is pushed to the swept full set of its class, and any other to the
 -- partial one
@@ -34,12 +34,12 @@ pub record SweepsSpan (g : ℕ) (s : Sweeping) (said : List Entry) : Type 0 wher
   pub plain : IsPlain said
 
 -- it swept the one span that the note tells; or each unswept set was seen empty, and nothing was swept; or memory ran out and nothing changed
-abbrev pub SweepsOne : Hand → Hand → Result One NoMemory → Type 0
-SweepsOne old new (Ok (Swept note)) = (s : Sweeping) × (note ≡ note_by (cycle_at old.worker.view.generation) s) × Works [] (SweepsSpan old.worker.view.generation s) old new
-SweepsOne old new (Ok NothingLeft) = Works [] (λ said. (sweepings said ≡ []) × IsPlain said × SawAllEmpty old.worker.view.generation said) old new
+abbrev pub SweepsOne : Hand → Hand → Result SweptOne NoMemory → Type 0
+SweepsOne old new (Ok (Swept note)) = (s : Sweeping) × (note ≡ note_by (cycle_at old.worker.view.generation) s) × HandSweeps [] (SweepsSpan old.worker.view.generation s) old new
+SweepsOne old new (Ok NothingLeft) = HandSweeps [] (λ said. (sweepings said ≡ []) × IsPlain said × SawAllEmpty old.worker.view.generation said) old new
 SweepsOne old new (Err none) = new ≡ old
 
 -- it swept until each unswept set was seen empty; or memory ran out, and the sweeps before stand
 abbrev pub Finishes : Hand → Hand → Result (Unit {0}) NoMemory → Type 0
-Finishes old new (Ok done) = Works [] (λ said. IsPlain said × SawAllEmpty old.worker.view.generation said) old new
-Finishes old new (Err none) = Works [] IsPlain old new
+Finishes old new (Ok done) = HandSweeps [] (λ said. IsPlain said × SawAllEmpty old.worker.view.generation said) old new
+Finishes old new (Err none) = HandSweeps [] IsPlain old new

@@ -63,7 +63,7 @@ pub record Stays (old new : Seen) : Type 0 where
   pub bodies : (q : ℕ) → 0 < mine q old.view.own → span_at q new.view.own.spans ≡ span_at q old.view.own.spans
 
 -- A worker's steps added these entries to the log, and it holds these pages more; each span of which a sweep kept some went to the set that it fits.
-pub record Does (more : List ℕ) (said : List Entry) (old new : Seen) : Type 0 where
+pub record WorkerSweeps (more : List ℕ) (said : List Entry) (old new : Seen) : Type 0 where
   pub log : new.view.own.log ≡ said ++ old.view.own.log
   pub sweeps : OnlySweeps old.view.generation said
   pub sets : FitsSets old.view.generation no_page said old new
@@ -72,10 +72,10 @@ pub record Does (more : List ℕ) (said : List Entry) (old new : Seen) : Type 0 
 
 -- What a call did that begins and ends without a popped entry: what it added to the log has the property P, the notes got just the notes of its
 -- sweeps, and the worker holds these pages more.
-pub record Works (more : List ℕ) (P : List Entry → Type 0) (old new : Hand) : Type 0 where
+pub record HandSweeps (more : List ℕ) (P : List Entry → Type 0) (old new : Hand) : Type 0 where
   pub said : List Entry
   pub did : P said
-  pub does : Does more said old.worker new.worker
+  pub does : WorkerSweeps more said old.worker new.worker
   pub notes : new.notes.items ≡ old.notes.items ++ notes_of (cycle_at old.worker.view.generation) said
   pub popped : new.worker.view.own.popped ≡ []
 

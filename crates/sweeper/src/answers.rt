@@ -2,7 +2,7 @@ use span_state::SweepNote;
 
 /// What a sweep of the next span that waits answers.
 #[derive(Clone, Copy, Debug, PartialEq, Eq)]
-pub enum One {
+pub enum SweptOne {
     /// The note of the one span that was swept.
     Swept(SweepNote),
     /// Each unswept set was seen empty.

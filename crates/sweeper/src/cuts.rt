@@ -53,11 +53,18 @@ pub(crate) fn cut_or_take<R: Wait>(
     n: u32,
     class: u8,
 ) -> Result<Option<Body>, NoMemory>
+    // the worker
     requires works { IsAtWork shop.now.shared.now hand.old.worker }
     requires unpopped { hand.old.worker.view.own.popped ≡ [] }
+
+    // the span
     requires size { IsSpanSize class n }
     requires class { class < 136 }
+
+    // what was done
     ensures did { CutsOrTakes n class hand.old hand.new result }
+
+    // the rest of the hand
     ensures notes { hand.new.notes ≡ hand.old.notes }
     ensures tally { hand.new.tally ≡ hand.old.tally }
 {

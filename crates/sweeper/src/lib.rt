@@ -13,7 +13,7 @@ mod settle;
 mod spans;
 mod sweep;
 
-pub use answers::{One, Paid};
+pub use answers::{Paid, SweptOne};
 pub use laws::a_refused_sweep_may_be_made_again;
 pub use payments::{finish, pay};
 pub use reclaimer::reclaim;

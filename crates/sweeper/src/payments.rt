@@ -1,7 +1,8 @@
 ghost use Rattle.std.specs.Prelude.{◌≡◌, ◌<◌, ◌≤◌, [], true, None};
 ghost use Rattle.span_laws.specs.Asks.{IsAtWork};
+ghost use Rattle.span_set.specs.Asks.{WorksIn};
 ghost use Rattle.span_set.specs.Sets.{unswept_of};
-ghost use Rattle.span_set.specs.Tallies.{Frees, MayCount};
+ghost use Rattle.span_set.specs.Tallies.{Frees};
 ghost use Rattle.sweeper.specs.Pays.{Pays, target_of};
 ghost use Rattle.sweeper.specs.PaySteps.{ReadsSwept, SweepsSet, SweepsUntil};
 ghost use Rattle.sweeper.specs.Sweeps.{Finishes};
@@ -51,13 +52,10 @@ fn sweep_entries<R: Wait>(
     set: SetId,
     target: u128,
 ) -> Result<Option<u64>, NoMemory>
-    requires works { IsAtWork shop.now.shared.now hand.old.worker }
-    requires distance { 8192 ≤ shop.now.distance }
-    requires marks { shop.now.marks.now.pairs ≡ hand.old.worker.view.marks }
+    requires works { WorksIn shop.now hand.old }
     requires unclaimed { hand.old.worker.view.own.claimed ≡ None }
     requires unpopped { hand.old.worker.view.own.popped ≡ [] }
     requires class { set.class < 136 }
-    requires counts { MayCount shop.now.ring.now shop.now.marks.now hand.old.tally }
     ensures did { SweepsSet (unswept_of hand.old.worker.view.generation set) target hand.old hand.new result }
     ensures tally { Frees shop.now.marks.now hand.old hand.new }
 {
@@ -80,12 +78,9 @@ fn sweep_until<R: Wait>(
     hand: &mut Hand,
     target: u128,
 ) -> Result<Option<u64>, NoMemory>
-    requires works { IsAtWork shop.now.shared.now hand.old.worker }
-    requires distance { 8192 ≤ shop.now.distance }
-    requires marks { shop.now.marks.now.pairs ≡ hand.old.worker.view.marks }
+    requires works { WorksIn shop.now hand.old }
     requires unclaimed { hand.old.worker.view.own.claimed ≡ None }
     requires unpopped { hand.old.worker.view.own.popped ≡ [] }
-    requires counts { MayCount shop.now.ring.now shop.now.marks.now hand.old.tally }
     ensures did { SweepsUntil 272 target hand.old hand.new result }
     ensures tally { Frees shop.now.marks.now hand.old hand.new }
 {
@@ -115,18 +110,16 @@ pub fn pay<R: Wait>(
     bytes: u64,
     credit: u32,
 ) -> Result<Paid, NoMemory>
-    requires works { IsAtWork shop.now.shared.now hand.old.worker }
-    requires distance { 8192 ≤ shop.now.distance }
-    requires marks { shop.now.marks.now.pairs ≡ hand.old.worker.view.marks }
+    requires works { WorksIn shop.now hand.old }
     requires unclaimed { hand.old.worker.view.own.claimed ≡ None }
     requires unpopped { hand.old.worker.view.own.popped ≡ [] }
-    requires counts { MayCount shop.now.ring.now shop.now.marks.now hand.old.tally }
     ensures did { Pays shop.now.pages shop.now.distance bytes credit hand.old hand.new result }
     ensures tally { Frees shop.now.marks.now hand.old hand.new }
 {
     let generation = shop.shared.generation(&mut hand.worker);
     let spent = shop.shared.spent(&mut hand.worker);
-    let target = target(generation, shop.pages, shop.distance, spent, bytes, credit);
+    let distance = shop.distance.bytes();
+    let target = target(generation, shop.pages, distance, spent, bytes, credit);
     match sweep_until(rt, shop, hand, target)? {
         Some(seen) => Ok(Paid::Reached {
             seen,
@@ -138,12 +131,9 @@ pub fn pay<R: Wait>(
 
 /// Sweeps until each unswept set was seen empty in this call. After NoMemory the sweeps before stand.
 pub fn finish<R: Wait>(rt: &R, shop: &Shop, driver: &mut Hand) -> Result<(), NoMemory>
-    requires works { IsAtWork shop.now.shared.now driver.old.worker }
-    requires distance { 8192 ≤ shop.now.distance }
-    requires marks { shop.now.marks.now.pairs ≡ driver.old.worker.view.marks }
+    requires works { WorksIn shop.now driver.old }
     requires unclaimed { driver.old.worker.view.own.claimed ≡ None }
     requires unpopped { driver.old.worker.view.own.popped ≡ [] }
-    requires counts { MayCount shop.now.ring.now shop.now.marks.now driver.old.tally }
     ensures did { Finishes driver.old driver.new result }
     ensures tally { Frees shop.now.marks.now driver.old driver.new }
 {

@@ -1,6 +1,6 @@
 ghost use Rattle.std.specs.Prelude.{◌≡◌, ◌*◌, ◌<◌, ◌≤◌, [], true, None, OnOk, length};
-ghost use Rattle.span_laws.specs.Asks.{IsAtWork};
-ghost use Rattle.span_set.specs.Tallies.{Frees, MayCount};
+ghost use Rattle.span_set.specs.Asks.{WorksIn};
+ghost use Rattle.span_set.specs.Tallies.{Frees};
 ghost use Rattle.sweeper.specs.Reclaims.{Reclaims};
 ghost use Rattle.sweeper.specs.ReclaimSteps.{ReclaimsChunk, ReclaimsNext};
 
@@ -27,15 +27,17 @@ fn reclaim_next<R: Wait>(
     from: u32,
     to: u32,
 ) -> Result<Option<(u32, u32)>, NoMemory>
-    requires works { IsAtWork shop.now.shared.now hand.old.worker }
-    requires distance { 8192 ≤ shop.now.distance }
-    requires marks { shop.now.marks.now.pairs ≡ hand.old.worker.view.marks }
-    requires room { length hand.old.notes.items < hand.old.notes.space }
+    // the hand works in the shop, and has room
+    requires works { WorksIn shop.now hand.old }
     requires unclaimed { hand.old.worker.view.own.claimed ≡ None }
     requires unpopped { hand.old.worker.view.own.popped ≡ [] }
+    requires room { length hand.old.notes.items < hand.old.notes.space }
+
+    // the pages
     requires order { from ≤ to }
     requires pages { to ≤ hand.old.worker.view.region }
-    requires counts { MayCount shop.now.ring.now shop.now.marks.now hand.old.tally }
+
+    // what was done
     ensures did { ReclaimsNext from to hand.old hand.new result }
     ensures room { OnOk result (length hand.new.notes.items < hand.new.notes.space) }
     ensures tally { Frees shop.now.marks.now hand.old hand.new }
@@ -61,15 +63,17 @@ fn reclaim_chunk<R: Wait>(
     chunk: u32,
     region: u32,
 ) -> Result<u32, NoMemory>
-    requires works { IsAtWork shop.now.shared.now hand.old.worker }
-    requires distance { 8192 ≤ shop.now.distance }
-    requires marks { shop.now.marks.now.pairs ≡ hand.old.worker.view.marks }
+    // the hand works in the shop
+    requires works { WorksIn shop.now hand.old }
     requires unclaimed { hand.old.worker.view.own.claimed ≡ None }
     requires unpopped { hand.old.worker.view.own.popped ≡ [] }
+
+    // the chunk
     requires region { region ≡ hand.old.worker.view.region }
     requires few { region ≤ MAX_PAGES }
     requires chunk { 512 * chunk < region }
-    requires counts { MayCount shop.now.ring.now shop.now.marks.now hand.old.tally }
+
+    // what was done
     ensures did { ReclaimsChunk chunk hand.old hand.new result }
     ensures tally { Frees shop.now.marks.now hand.old hand.new }
 {
@@ -91,12 +95,9 @@ fn reclaim_chunk<R: Wait>(
 ///
 /// Answers the pages given back, or 2^32 - 1 where there are more. After NoMemory the sweeps and the claims of chunks before stand.
 pub fn reclaim<R: Wait>(rt: &R, shop: &Shop, hand: &mut Hand, pages: u32) -> Result<u32, NoMemory>
-    requires works { IsAtWork shop.now.shared.now hand.old.worker }
-    requires distance { 8192 ≤ shop.now.distance }
-    requires marks { shop.now.marks.now.pairs ≡ hand.old.worker.view.marks }
+    requires works { WorksIn shop.now hand.old }
     requires unclaimed { hand.old.worker.view.own.claimed ≡ None }
     requires unpopped { hand.old.worker.view.own.popped ≡ [] }
-    requires counts { MayCount shop.now.ring.now shop.now.marks.now hand.old.tally }
     ensures did { Reclaims pages hand.old hand.new result }
     ensures tally { Frees shop.now.marks.now hand.old hand.new }
 {

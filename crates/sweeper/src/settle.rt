@@ -11,14 +11,18 @@ use std::sync::Wait;
 /// Sweeps a span in hand, and puts it where it belongs: an emptied one goes back to the heap, a full one to the swept full set of
 /// its class, and any other to the swept partial set (`mgcsweep.go`, `sweep`). Answers the note of the sweep.
 pub fn settle<R: Wait>(rt: &R, shop: &Shop, hand: &mut Hand, body: Body) -> SweepNote
+    // the hand works in the shop, and has room
     requires works { IsAtWork shop.now.shared.now hand.old.worker }
-    requires distance { 8192 ≤ shop.now.distance }
-    requires room { length hand.old.notes.items < hand.old.notes.space }
+    requires counts { MayCount shop.now.ring.now shop.now.marks.now hand.old.tally }
     requires unclaimed { hand.old.worker.view.own.claimed ≡ None }
+    requires room { length hand.old.notes.items < hand.old.notes.space }
+
+    // the span
     requires class { body.class < 136 }
     requires may { MaySweep shop.now.marks.now body hand.old.worker }
     requires untouched { IsUntouched hand.old.worker.view.generation hand.old.worker.view.own body.page }
-    requires counts { MayCount shop.now.ring.now shop.now.marks.now hand.old.tally }
+
+    // what was done
     ensures did { Settles shop.now.marks.now body hand.old hand.new result }
     ensures tally { Frees shop.now.marks.now hand.old hand.new }
 {

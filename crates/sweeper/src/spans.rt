@@ -1,7 +1,7 @@
 ghost use Rattle.std.specs.Prelude.{◌≡◌, ◌<◌, ◌≤◌, [], true, None};
-ghost use Rattle.span_laws.specs.Asks.{IsAtWork};
 ghost use Rattle.page_alloc.specs.FreeRuns.{IsSpanSize};
-ghost use Rattle.span_set.specs.Tallies.{Frees, MayCount};
+ghost use Rattle.span_set.specs.Asks.{WorksIn};
+ghost use Rattle.span_set.specs.Tallies.{Frees};
 ghost use Rattle.sweeper.specs.MakeSteps.{SweepsAndTakes};
 ghost use Rattle.sweeper.specs.NewSpans.{MakesSpan};
 
@@ -30,14 +30,11 @@ pub fn new_span<R: Wait>(
     n: u32,
     class: u8,
 ) -> Result<Body, Refused>
-    requires works { IsAtWork shop.now.shared.now hand.old.worker }
-    requires distance { 8192 ≤ shop.now.distance }
-    requires marks { shop.now.marks.now.pairs ≡ hand.old.worker.view.marks }
+    requires works { WorksIn shop.now hand.old }
     requires unclaimed { hand.old.worker.view.own.claimed ≡ None }
     requires unpopped { hand.old.worker.view.own.popped ≡ [] }
     requires size { IsSpanSize class n }
     requires class { class < 136 }
-    requires counts { MayCount shop.now.ring.now shop.now.marks.now hand.old.tally }
     ensures did { MakesSpan n class hand.old hand.new result }
     ensures tally { Frees shop.now.marks.now hand.old hand.new }
 {
@@ -59,14 +56,11 @@ fn sweep_and_take<R: Wait>(
     n: u32,
     class: u8,
 ) -> Result<Body, Refused>
-    requires works { IsAtWork shop.now.shared.now hand.old.worker }
-    requires distance { 8192 ≤ shop.now.distance }
-    requires marks { shop.now.marks.now.pairs ≡ hand.old.worker.view.marks }
+    requires works { WorksIn shop.now hand.old }
     requires unclaimed { hand.old.worker.view.own.claimed ≡ None }
     requires unpopped { hand.old.worker.view.own.popped ≡ [] }
     requires size { IsSpanSize class n }
     requires class { class < 136 }
-    requires counts { MayCount shop.now.ring.now shop.now.marks.now hand.old.tally }
     ensures did { SweepsAndTakes n class hand.old hand.new result }
     ensures tally { Frees shop.now.marks.now hand.old hand.new }
 {

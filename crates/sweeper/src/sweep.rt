@@ -1,12 +1,12 @@
 ghost use Rattle.std.specs.Prelude.{◌≡◌, ◌<◌, ◌≤◌, [], true, None, length};
+ghost use Rattle.span_set.specs.Asks.{WorksIn};
 ghost use Rattle.span_set.specs.Sets.{unswept_of};
-ghost use Rattle.span_set.specs.Tallies.{Frees, MayCount};
-ghost use Rattle.span_laws.specs.Asks.{IsAtWork};
+ghost use Rattle.span_set.specs.Tallies.{Frees};
 ghost use Rattle.span_laws.specs.Scans.{nth_unswept};
 ghost use Rattle.sweeper.specs.Tries.{SweepsNext, TriesEntry};
 ghost use Rattle.sweeper.specs.Sweeps.{SweepsOne};
 
-use crate::answers::One;
+use crate::answers::SweptOne;
 use crate::settle::settle;
 use fallible_list::NoMemory;
 use span_set::{Hand, PopBase, SetId, Shop, pop_unswept};
@@ -39,14 +39,11 @@ pub(crate) fn set_at(index: u32) -> SetId
 
 // Pops one entry of an unswept set, and sweeps its span where it waits; else the entry is dropped.
 fn try_entry<R: Wait>(rt: &R, shop: &Shop, hand: &mut Hand, set: SetId) -> Tried
-    requires works { IsAtWork shop.now.shared.now hand.old.worker }
-    requires distance { 8192 ≤ shop.now.distance }
-    requires marks { shop.now.marks.now.pairs ≡ hand.old.worker.view.marks }
-    requires room { length hand.old.notes.items < hand.old.notes.space }
+    requires works { WorksIn shop.now hand.old }
     requires unclaimed { hand.old.worker.view.own.claimed ≡ None }
+    requires room { length hand.old.notes.items < hand.old.notes.space }
     requires unpopped { hand.old.worker.view.own.popped ≡ [] }
     requires class { set.class < 136 }
-    requires counts { MayCount shop.now.ring.now shop.now.marks.now hand.old.tally }
     ensures did { TriesEntry (unswept_of hand.old.worker.view.generation set) hand.old hand.new result }
     ensures tally { Frees shop.now.marks.now hand.old hand.new }
 {
@@ -68,14 +65,11 @@ pub(crate) fn sweep_next<R: Wait>(
     hand: &mut Hand,
     set: SetId,
 ) -> Option<SweepNote>
-    requires works { IsAtWork shop.now.shared.now hand.old.worker }
-    requires distance { 8192 ≤ shop.now.distance }
-    requires marks { shop.now.marks.now.pairs ≡ hand.old.worker.view.marks }
-    requires room { length hand.old.notes.items < hand.old.notes.space }
+    requires works { WorksIn shop.now hand.old }
     requires unclaimed { hand.old.worker.view.own.claimed ≡ None }
+    requires room { length hand.old.notes.items < hand.old.notes.space }
     requires unpopped { hand.old.worker.view.own.popped ≡ [] }
     requires class { set.class < 136 }
-    requires counts { MayCount shop.now.ring.now shop.now.marks.now hand.old.tally }
     ensures did { SweepsNext (unswept_of hand.old.worker.view.generation set) hand.old hand.new result }
     ensures tally { Frees shop.now.marks.now hand.old hand.new }
 {
@@ -95,13 +89,10 @@ pub(crate) fn sweep_next<R: Wait>(
 ///
 /// `NothingLeft` only where each unswept set was seen empty in this call. NoMemory where there was no room for a note: nothing
 /// changes then.
-pub fn sweep_one<R: Wait>(rt: &R, shop: &Shop, hand: &mut Hand) -> Result<One, NoMemory>
-    requires works { IsAtWork shop.now.shared.now hand.old.worker }
-    requires distance { 8192 ≤ shop.now.distance }
-    requires marks { shop.now.marks.now.pairs ≡ hand.old.worker.view.marks }
+pub fn sweep_one<R: Wait>(rt: &R, shop: &Shop, hand: &mut Hand) -> Result<SweptOne, NoMemory>
+    requires works { WorksIn shop.now hand.old }
     requires unclaimed { hand.old.worker.view.own.claimed ≡ None }
     requires unpopped { hand.old.worker.view.own.popped ≡ [] }
-    requires counts { MayCount shop.now.ring.now shop.now.marks.now hand.old.tally }
     ensures did { SweepsOne hand.old hand.new result }
     ensures tally { Frees shop.now.marks.now hand.old hand.new }
 {
@@ -109,9 +100,9 @@ pub fn sweep_one<R: Wait>(rt: &R, shop: &Shop, hand: &mut Hand) -> Result<One, N
     let mut next: u32 = 0;
     while let Some(index) = shop.shared.next_unswept(&mut hand.worker, next) {
         if let Some(note) = sweep_next(rt, shop, hand, set_at(index)) {
-            return Ok(One::Swept(note));
+            return Ok(SweptOne::Swept(note));
         }
         next = index + 1;
     }
-    Ok(One::NothingLeft)
+    Ok(SweptOne::NothingLeft)
 }

@@ -37,7 +37,7 @@ module _ (table : TableId) (ring : RingId) (m : MarkSet) (h : Hand) (r : IsReady
   -- the worker's own part changed, has claimed nothing and has popped nothing
   pub ready_acts : (known : Option (List Line)) (part : Part) (w : Seen) → w ≡ record h.worker { journal = known; view = acts h.worker.view part } → part.claimed ≡ None → part.popped ≡ [] → IsReady table ring m (record h { worker = w })
   ready_acts known part w e free none = subst (λ (x : Seen). IsReady table ring m (record h { worker = x })) (sym e)
-      (record { works = r.works; unclaimed = free; unpopped = none; marked = r.marked; counts = r.counts; drives = r.drives; alone = r.alone; two = r.two })
+      (record { works = record { works = r.works.works; marks = r.works.marks; counts = r.works.counts }; unclaimed = free; unpopped = none; drives = r.drives; alone = r.alone; two = r.two })
 
   pub ready_got : (page : ℕ) (b : Body) (w : Seen) → AcquiresSpan page h.worker w (Got b) → IsReady table ring m (record h { worker = w })
   ready_got page b w a = ready_acts _ _ w a.1 r.unclaimed (ap (erase b.page) r.unpopped)

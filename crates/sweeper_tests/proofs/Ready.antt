@@ -27,14 +27,15 @@ use Rattle.span_table_tests.specs.Rows.{HasPlaced, IsFreeDriver, IsIdleDriver, K
 use Rattle.span_table_tests.proofs.Driving.{own_of}
 use Rattle.span_set.specs.Tallies.{Frees, frees_all, freeing}
 use Rattle.span_set.specs.declared.hand.Hand.{Hand}
-use Rattle.span_set.proofs.Tallies.{may-still}
+use Rattle.span_set.proofs.Asks.{works_still}
+use Rattle.sweeper.proofs.Again.{stays_works}
 use Rattle.sweeper.specs.NewSpans.{MakesSpan}
 use Rattle.sweeper.specs.Pays.{Pays}
 use Rattle.sweeper.specs.Reclaims.{Reclaims}
 use Rattle.sweeper.specs.Sweeps.{Finishes, SweepsOne}
-use Rattle.sweeper.specs.Work.{Works}
-use Rattle.sweeper.specs.declared.answers.One.{One}
-use Rattle.sweeper.specs.declared.answers.One.TheVariants.{Swept, NothingLeft}
+use Rattle.sweeper.specs.Work.{HandSweeps}
+use Rattle.sweeper.specs.declared.answers.SweptOne.{SweptOne}
+use Rattle.sweeper.specs.declared.answers.SweptOne.TheVariants.{Swept, NothingLeft}
 use Rattle.sweeper.specs.declared.answers.Paid.{Paid}
 use Rattle.sweeper.specs.declared.answers.Paid.TheVariants.{Reached, NothingLeft as NoneLeft}
 use Rattle.sweeper_tests.specs.Rows.{IsReady, IsStage}
@@ -50,13 +51,11 @@ module _ {X : Type 0} (of : Standing → X) (keeps : (t : Standing) (b : ℕ) �
   kept_freeing m (n ∷ notes) t = kept_freeing m notes (frees_all (dead_of m n.page) t) ∙ kept_all (dead_of m n.page) t
 
 module _ (table : TableId) (ring : RingId) (m : MarkSet) (old new : Hand) (f : Frees m old new) (r : IsReady table ring m old) where
-  ready_after : (more : List ℕ) (P : List Entry → Type 0) → Works more P old new → IsReady table ring m new
+  ready_after : (more : List ℕ) (P : List Entry → Type 0) → HandSweeps more P old new → IsReady table ring m new
   ready_after more P w = let s = w.does.stays in record {
-    works = (s.table ∙ r.works.0, s.away ∙ r.works.1);
+    works = stays_works table ring m old new s f r.works;
     unclaimed = s.claimed ∙ r.unclaimed;
     unpopped = w.popped;
-    marked = r.marked ∙ sym s.marks;
-    counts = may-still m ring old new r.counts f;
     drives = ap (λ (t : Standing). t.view.drives) f.tally ∙ kept_freeing (λ t. t.view.drives) (λ t b. refl) m f.more old.tally ∙ r.drives;
     alone = ap (λ (t : Standing). t.view.out) f.tally ∙ kept_freeing (λ t. t.view.out) (λ t b. refl) m f.more old.tally ∙ r.alone;
     two = r.two;
@@ -65,18 +64,16 @@ module _ (table : TableId) (ring : RingId) (m : MarkSet) (old new : Hand) (f : F
   -- the worker's own part changed, has claimed nothing and has popped nothing
   pub ready_stays : (known : Option (List Line)) (part : Part) → new.worker ≡ record old.worker { journal = known; view = acts old.worker.view part } → part.claimed ≡ None → part.popped ≡ [] → IsReady table ring m new
   ready_stays known part e free none = record {
-    works = (ap (λ (w : Seen). w.table) e ∙ r.works.0, ap (λ (w : Seen). w.away) e ∙ r.works.1);
+    works = works_still table ring m old new (ap (λ (w : Seen). w.table) e) (ap (λ (w : Seen). w.away) e) (ap (λ (w : Seen). w.view.marks) e) f r.works;
     unclaimed = ap (λ (w : Seen). w.view.own.claimed) e ∙ free;
     unpopped = ap (λ (w : Seen). w.view.own.popped) e ∙ none;
-    marked = r.marked ∙ sym (ap (λ (w : Seen). w.view.marks) e);
-    counts = may-still m ring old new r.counts f;
     drives = ap (λ (t : Standing). t.view.drives) f.tally ∙ kept_freeing (λ t. t.view.drives) (λ t b. refl) m f.more old.tally ∙ r.drives;
     alone = ap (λ (t : Standing). t.view.out) f.tally ∙ kept_freeing (λ t. t.view.out) (λ t b. refl) m f.more old.tally ∙ r.alone;
     two = r.two;
   }
 
   -- whatever the call answers
-  pub ready_swept : (a : Result One NoMemory) → SweepsOne old new a → IsReady table ring m new
+  pub ready_swept : (a : Result SweptOne NoMemory) → SweepsOne old new a → IsReady table ring m new
   ready_swept (Ok (Swept note)) w = ready_after _ _ w.2
   ready_swept (Ok NothingLeft) w = ready_after _ _ w
   ready_swept (Err e) same = subst (IsReady table ring m) (sym same) r
@@ -103,32 +100,32 @@ module _ (table : TableId) (ring : RingId) (m : MarkSet) (h : Hand) (r : IsReady
   -- bytes were spent
   pub ready_spent : (before bytes : ℕ) (w : Seen) → w ≡ after_said (Adds 3 before bytes) h.worker → IsReady table ring m (record h { worker = w })
   ready_spent before bytes w e = subst (λ (x : Seen). IsReady table ring m (record h { worker = x })) (sym e)
-      (record { works = r.works; unclaimed = r.unclaimed; unpopped = r.unpopped; marked = r.marked; counts = r.counts; drives = r.drives; alone = r.alone; two = r.two })
+      (record { works = record { works = r.works.works; marks = r.works.marks; counts = r.works.counts }; unclaimed = r.unclaimed; unpopped = r.unpopped; drives = r.drives; alone = r.alone; two = r.two })
 
   -- the driver's tally published, and was read
   module _ (ring' : RingId) (t t' : Standing) (same : ring' ≡ ring) (read : t' ≡ t) where
     published : (t0 : Standing) → t ≡ t0 → t0.ring ≡ ring → t0.view.drives ≡ true → t0.view.out ≡ 0 → IsReady table ring' m (record h { tally = t' })
     published t0 e of drives alone = subst (λ (x : RingId). IsReady table x m (record h { tally = t' })) (sym same)
         (subst (λ (x : Standing). IsReady table ring m (record h { tally = x })) (sym (read ∙ e))
-        (record { works = r.works; unclaimed = r.unclaimed; unpopped = r.unpopped; marked = r.marked; counts = record { ring = of; dead = r.counts.dead }; drives = drives; alone = alone; two = r.two }))
+        (record { works = record { works = r.works.works; marks = r.works.marks; counts = record { ring = of; dead = r.works.counts.dead } }; unclaimed = r.unclaimed; unpopped = r.unpopped; drives = drives; alone = alone; two = r.two }))
 
     pub ready_published : t ≡ calls h.tally AfterSweep → IsReady table ring' m (record h { tally = t' })
-    ready_published e = published (calls h.tally AfterSweep) e r.counts.ring r.drives r.alone
+    ready_published e = published (calls h.tally AfterSweep) e r.works.counts.ring r.drives r.alone
 
     pub ready_turned : t ≡ calls h.tally NextCycle → IsReady table ring' m (record h { tally = t' })
-    ready_turned e = published (calls h.tally NextCycle) e r.counts.ring r.drives r.alone
+    ready_turned e = published (calls h.tally NextCycle) e r.works.counts.ring r.drives r.alone
 
   -- a sampled object died
   pub ready_dead : (page bucket : ℕ) (m' : MarkSet) (a : Result (Unit {0}) NoMemory) → bucket < 2 → OnOk a (dead_of m' page ≡ dead_of m page ++ bucket ∷ []) → OnOk a ((q : ℕ) → q ≢ page → dead_of m' q ≡ dead_of m q) → m'.pairs ≡ m.pairs → OnErr a (m' ≡ m) → IsReady table ring m' h
   ready_dead page bucket m' (Err e) low here others pairs same = subst (λ (x : MarkSet). IsReady table ring x h) (sym same) r
   ready_dead page bucket m' (Ok done) low here others pairs same =
-      record { works = r.works; unclaimed = r.unclaimed; unpopped = r.unpopped; marked = pairs ∙ r.marked; counts = record { ring = r.counts.ring; dead = each }; drives = r.drives; alone = r.alone; two = r.two }
+      record { works = record { works = r.works.works; marks = pairs ∙ r.works.marks; counts = record { ring = r.works.counts.ring; dead = each } }; unclaimed = r.unclaimed; unpopped = r.unpopped; drives = r.drives; alone = r.alone; two = r.two }
     where
       each : (q : ℕ) → All (λ b. b < ring.buckets) (dead_of m' q)
       each q = dite (ℕ_discrete q page)
           (λ e. subst (λ (x : ℕ). All (λ b. b < ring.buckets) (dead_of m' x)) (sym e) (subst (λ (xs : List ℕ). All (λ b. b < ring.buckets) xs) (sym here)
-          (All-push (λ b. b < ring.buckets) (dead_of m page) bucket (r.counts.dead page) (let t = r.two in omega arith))))
-          (λ d. subst (λ (xs : List ℕ). All (λ b. b < ring.buckets) xs) (sym (others q d)) (r.counts.dead q))
+          (All-push (λ b. b < ring.buckets) (dead_of m page) bucket (r.works.counts.dead page) (let t = r.two in omega arith))))
+          (λ d. subst (λ (xs : List ℕ). All (λ b. b < ring.buckets) xs) (sym (others q d)) (r.works.counts.dead q))
 
 -- ---- before the first mark end
 
@@ -164,11 +161,13 @@ module _ (table : TableId) (m : MarkSet) (w w' : Seen) (page : ℕ) (s : IsStage
 -- a hand is made for a worker that has nothing
 pub ready_hand : (table : TableId) (ring : RingId) (m : MarkSet) (h : Hand) (w : Seen) → IsAtWork table w → IsIdle w.view.own → w.view.marks ≡ m.pairs → ((page : ℕ) → dead_of m page ≡ []) → h.worker ≡ w → h.tally ≡ record { ring = ring; view = first_view } → ring.buckets ≡ 2 → IsReady table ring m h
 ready_hand table ring m h w works idle marks dead worker tally two = record {
-  works = (ap (λ (x : Seen). x.table) worker ∙ works.0, ap (λ (x : Seen). x.away) worker ∙ works.1);
+  works = record {
+    works = (ap (λ (x : Seen). x.table) worker ∙ works.0, ap (λ (x : Seen). x.away) worker ∙ works.1);
+    marks = sym marks ∙ ap (λ (x : Seen). x.view.marks) (sym worker);
+    counts = record { ring = ap (λ (t : Standing). t.ring) tally; dead = λ q k d l. absurd (let e = ap (λ (xs : List ℕ). length xs) (dead q) in omega arith) };
+  };
   unclaimed = ap (λ (x : Seen). x.view.own.claimed) worker ∙ idle.claimed;
   unpopped = ap (λ (x : Seen). x.view.own.popped) worker ∙ idle.popped;
-  marked = sym marks ∙ ap (λ (x : Seen). x.view.marks) (sym worker);
-  counts = record { ring = ap (λ (t : Standing). t.ring) tally; dead = λ q k d l. absurd (let e = ap (λ (xs : List ℕ). length xs) (dead q) in omega arith) };
   drives = ap (λ (t : Standing). t.view.drives) tally;
   alone = ap (λ (t : Standing). t.view.out) tally;
   two = two;

@@ -3,20 +3,16 @@ use Rattle.std.specs.Prelude.{◌≡◌, ℕ, true, [], None}
 use Rattle.atomic_table.specs.Seated.{TableId}
 use Rattle.profile_cycle.specs.History.{RingId}
 use Rattle.span_state.specs.MarkSet.{MarkSet, dead_of}
-use Rattle.span_laws.specs.Asks.{IsAtWork}
 use Rattle.span_laws.specs.Views.{Seen}
 use Rattle.span_table_tests.specs.Rows.{ArePlaced, IsFreeDriver}
-use Rattle.span_set.specs.Tallies.{MayCount}
+use Rattle.span_set.specs.Asks.{WorksBy}
 use Rattle.span_set.specs.declared.hand.Hand.{Hand}
 
--- The hand's worker is one of this table, has nobody out, and has claimed and popped nothing, the marks are those of the last mark end, and its tally,
--- which is the driver's of a ring of two buckets, may count their dead.
+-- The hand works by this table, this ring of two buckets and these marks; its worker has claimed and popped nothing, and its tally is the driver's.
 pub record IsReady (table : TableId) (ring : RingId) (m : MarkSet) (h : Hand) : Type 0 where
-  pub works : IsAtWork table h.worker
+  pub works : WorksBy table ring m h
   pub unclaimed : h.worker.view.own.claimed ≡ None
   pub unpopped : h.worker.view.own.popped ≡ []
-  pub marked : m.pairs ≡ h.worker.view.marks
-  pub counts : MayCount ring m h.tally
   pub drives : h.tally.view.drives ≡ true
   pub alone : h.tally.view.out ≡ 0
   pub two : ring.buckets ≡ 2

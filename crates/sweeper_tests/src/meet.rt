@@ -21,7 +21,6 @@ pub enum Met {
 // Sweeps the span of a page, where it waits.
 pub(crate) fn meet_page<R: Wait>(rt: &R, shop: &Shop, hand: &mut Hand, page: u32) -> Met
     requires ready { IsReady shop.now.shared.now shop.now.ring.now shop.now.marks.now hand.old }
-    requires distance { 8192 ≤ shop.now.distance }
     requires room { length hand.old.notes.items < hand.old.notes.space }
     requires low { page < hand.old.worker.view.region }
     ensures { IsReady shop.now.shared.now shop.now.ring.now shop.now.marks.now hand.new }
@@ -35,7 +34,6 @@ pub(crate) fn meet_page<R: Wait>(rt: &R, shop: &Shop, hand: &mut Hand, page: u32
 // Pops an entry of an unswept set, and sweeps its span where it waits.
 pub(crate) fn meet_entry<R: Wait>(rt: &R, shop: &Shop, hand: &mut Hand, set: SetId) -> Met
     requires ready { IsReady shop.now.shared.now shop.now.ring.now shop.now.marks.now hand.old }
-    requires distance { 8192 ≤ shop.now.distance }
     requires room { length hand.old.notes.items < hand.old.notes.space }
     requires class { set.class < 136 }
     ensures { IsReady shop.now.shared.now shop.now.ring.now shop.now.marks.now hand.new }

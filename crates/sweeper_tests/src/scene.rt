@@ -6,14 +6,14 @@ ghost use Rattle.sweeper_tests.specs.Rows.{IsReady, IsStage};
 use crate::meet::{Met, meet_entry, meet_page};
 use fallible_list::NoMemory;
 use profile_cycle::{Count, Ring};
-use size_classes::{MAX_CHUNKS, span_pages};
-use span_set::{Hand, Shop};
+use size_classes::{MAX_CHUNKS, PAGE_SIZE, span_pages};
+use span_set::{Distance, Hand, Shop};
 use span_state::Marks;
 use span_table::{Shared, Step, Worker};
 use span_table_tests::turns::{LARGE, place, start, turn};
 use std::alloc::Global;
 use std::sync::Wait;
-use sweeper::{One, Paid, Refused, finish, new_span, pay, reclaim, sweep_one};
+use sweeper::{Paid, Refused, SweptOne, finish, new_span, pay, reclaim, sweep_one};
 
 // The goal for backed pages.
 const GOAL: u32 = 8;
@@ -163,7 +163,7 @@ impl Scene {
     }
 
     /// The next sweep.
-    pub fn sweep<R: Wait>(&mut self, rt: &R) -> Result<One, NoMemory> {
+    pub fn sweep<R: Wait>(&mut self, rt: &R) -> Result<SweptOne, NoMemory> {
         let Scene {
             shared,
             marks,
@@ -174,7 +174,7 @@ impl Scene {
             shared,
             marks,
             ring,
-            distance: 8192,
+            distance: Distance::of(PAGE_SIZE),
             pages: 0,
         };
         sweep_one(rt, &shop, hand)
@@ -192,13 +192,13 @@ impl Scene {
             shared,
             marks,
             ring,
-            distance: 8192,
+            distance: Distance::of(PAGE_SIZE),
             pages: 0,
         };
         finish(rt, &shop, hand)
     }
 
-    /// Pays for so many bytes with a credit, where so many pages were to be swept over a distance of at least 8192 bytes.
+    /// Pays for so many bytes with a credit, where so many pages were to be swept over a distance, which is a page where it is less.
     pub fn pay<R: Wait>(
         &mut self,
         rt: &R,
@@ -217,7 +217,7 @@ impl Scene {
             shared,
             marks,
             ring,
-            distance: distance.max(8192),
+            distance: Distance::of(distance),
             pages,
         };
         pay(rt, &shop, hand, bytes, credit)
@@ -235,7 +235,7 @@ impl Scene {
             shared,
             marks,
             ring,
-            distance: 8192,
+            distance: Distance::of(PAGE_SIZE),
             pages: 0,
         };
         reclaim(rt, &shop, hand, pages)
@@ -253,7 +253,7 @@ impl Scene {
             shared,
             marks,
             ring,
-            distance: 8192,
+            distance: Distance::of(PAGE_SIZE),
             pages: 0,
         };
         match new_span(rt, &shop, hand, pages.max(5), 1) {
@@ -274,7 +274,7 @@ impl Scene {
             shared,
             marks,
             ring,
-            distance: 8192,
+            distance: Distance::of(PAGE_SIZE),
             pages: 0,
         };
         let class = class.max(1).min(67);
@@ -305,7 +305,7 @@ impl Scene {
             shared,
             marks,
             ring,
-            distance: 8192,
+            distance: Distance::of(PAGE_SIZE),
             pages: 0,
         };
         Ok(meet_page(rt, &shop, hand, page))
@@ -324,7 +324,7 @@ impl Scene {
             shared,
             marks,
             ring,
-            distance: 8192,
+            distance: Distance::of(PAGE_SIZE),
             pages: 0,
         };
         Ok(meet_entry(rt, &shop, hand, LARGE))

@@ -5,7 +5,7 @@ use span_table::Step;
 use std::process::Abort;
 use std::sync::Wait;
 use std::test::Fail;
-use sweeper::{One, Paid, Refused};
+use sweeper::{Paid, Refused, SweptOne};
 
 // A call on a scene.
 #[derive(Clone, Copy)]
@@ -81,10 +81,10 @@ fn met(found: Result<Met, NoMemory>) -> Result<Answer, NoMemory> {
     }
 }
 
-fn one(found: Result<One, NoMemory>) -> Result<Answer, NoMemory> {
+fn one(found: Result<SweptOne, NoMemory>) -> Result<Answer, NoMemory> {
     match found? {
-        One::Swept(note) => Ok(Answer::Swept(note.page, note.kept, note.freed)),
-        One::NothingLeft => Ok(Answer::NothingLeft),
+        SweptOne::Swept(note) => Ok(Answer::Swept(note.page, note.kept, note.freed)),
+        SweptOne::NothingLeft => Ok(Answer::NothingLeft),
     }
 }
 

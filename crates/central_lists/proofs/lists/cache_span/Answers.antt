@@ -1,10 +1,11 @@
 use Rattle.central_lists.proofs.Glancing.{caches_at, looked_caches}
 use Rattle.central_lists.proofs.Joining.{same_generation}
-use Rattle.span_set.proofs.Tallies.{frees-both, may-still}
+use Rattle.span_set.proofs.Asks.{keeps_works}
+use Rattle.span_set.proofs.Tallies.{frees-both}
 use Rattle.central_lists.proofs.lists.cache_span.Goals as goal
 
-pub search_sets-requires-clause-counts : goal.search_sets-requires-clause-counts
-search_sets-requires-clause-counts c = may-still c.args.shop.now.marks.now c.args.shop.now.ring.now c.args.hand.now c.sees_none.new.hand c.requires.counts c.sees_none.ensures.tally
+pub search_sets-requires-clause-works : goal.search_sets-requires-clause-works
+search_sets-requires-clause-works c = keeps_works c.args.shop.now.shared.now c.args.shop.now.ring.now c.args.shop.now.marks.now c.args.hand.now c.sees_none.new.hand c.in-None.ensures.none.keeps c.sees_none.ensures.tally c.requires.works
 
 pub returns-in-None-clause-caches : goal.returns-in-None-clause-caches
 returns-in-None-clause-caches c = let a = c.args.hand.now in let b = c.sees_none.new.hand in let x = c.in-None.ensures.none in

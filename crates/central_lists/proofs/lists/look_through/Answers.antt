@@ -1,10 +1,11 @@
 use Rattle.page_bitmap.specs.Counts.{one_if}
-use Rattle.span_set.proofs.Tallies.{frees-both, may-still}
+use Rattle.span_set.proofs.Asks.{keeps_works}
+use Rattle.span_set.proofs.Tallies.{frees-both}
 use Rattle.central_lists.proofs.Joining.{all_at, looked_all, looked_then, same_generation}
 use Rattle.central_lists.proofs.lists.look_through.Goals as goal
 
-pub try_all-requires-clause-counts : goal.try_all-requires-clause-counts
-try_all-requires-clause-counts c = may-still c.args.shop.now.marks.now c.args.shop.now.ring.now c.args.hand.now c.sees_empty.new.hand c.requires.counts c.sees_empty.ensures.tally
+pub try_all-requires-clause-works : goal.try_all-requires-clause-works
+try_all-requires-clause-works c = keeps_works c.args.shop.now.shared.now c.args.shop.now.ring.now c.args.shop.now.marks.now c.args.hand.now c.sees_empty.new.hand c.sees_empty.ensures.looked.keeps c.sees_empty.ensures.tally c.requires.works
 
 pub returns-then-sees_empty-clause-tries : goal.returns-then-sees_empty-clause-tries
 returns-then-sees_empty-clause-tries c = looked_all c.args.hand.now.worker.view.generation c.args.class (one_if c.args.full) c.args.before c.args.hand.now c.sees_empty.new.hand c.requires.before (c.sees_empty.ensures.empty c.if-sees_empty.true)

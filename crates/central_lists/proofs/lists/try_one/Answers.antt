@@ -7,8 +7,8 @@ use Rattle.span_set.specs.declared.answers.PopBase.TheVariants.{Popped, Empty}
 use Rattle.span_set.specs.Pops.{PopsUnswept}
 use Rattle.span_set.specs.Sets.{unswept_of}
 use Rattle.span_set.proofs.Numbers.{few}
-use Rattle.central_lists.specs.Looks.{Whatever}
-use Rattle.central_lists.specs.Works.{Does, nothing}
+use Rattle.central_lists.specs.Looks.{AnyLog}
+use Rattle.central_lists.specs.Works.{HandSearches, nothing}
 use Rattle.central_lists.proofs.Joining.{does-nothing}
 use Rattle.central_lists.proofs.Trying.{class_before, dropped, gone, kept, none_left, popping, unpopped_before}
 use Rattle.span_set.proofs.Tallies.{frees-both, frees-none, may-still}
@@ -44,7 +44,7 @@ returns-in-Some-clause-tries c = let a = c.args.hand.now in let k = c.args.class
     let small : f < 2 = (let l = few c.args.full in omega arith) in
     let h : Hand = record c.reserve_note.new.self { worker = c.acquire.new.w } in
     kept g k f small c.in-Popped.page a c.pop_unswept.new.w (popping g k f small c.in-Popped.page a.worker c.pop_unswept.new.w e) refl h c.sweep_one.new.hand c.in-Got.body c.in-Some.body c.in-Got.ensures c.args.shop.now.marks.now
-    c.in-Some.ensures.sweeps.1 c.reserve_note.ensures.notes c.in-Some.ensures.sweeps.0 c.requires.marks
+    c.in-Some.ensures.sweeps.1 c.reserve_note.ensures.notes c.in-Some.ensures.sweeps.0 c.requires.works.marks
 
 pub returns-in-None-clause-tries : goal.returns-in-None-clause-tries
 returns-in-None-clause-tries c = let a = c.args.hand.now in let k = c.args.class in let f = one_if c.args.full in let g = a.worker.view.generation in
@@ -57,11 +57,11 @@ returns-in-None-clause-tries c = let a = c.args.hand.now in let k = c.args.class
 pub returns-in_err-reserve_note-clause-tries : goal.returns-in_err-reserve_note-clause-tries
 returns-in_err-reserve_note-clause-tries c = let a = c.args.hand.now in let g = a.worker.view.generation in
     let p = err_from_is_err_and c.from_residual.result c.from_residual.ensures.1 in
-    rw p.1 (subst (λ (h : Hand). Does g c.args.class 0 nothing nothing Whatever a h) (sym c.in_err-reserve_note.ensures.err) (does-nothing g c.args.class a))
+    rw p.1 (subst (λ (h : Hand). HandSearches g c.args.class 0 nothing nothing AnyLog a h) (sym c.in_err-reserve_note.ensures.err) (does-nothing g c.args.class a))
 
 pub sweep_one-requires-clause-counts : goal.sweep_one-requires-clause-counts
 sweep_one-requires-clause-counts c = let m = c.args.shop.now.marks.now in let a = c.args.hand.now in let h : Hand = record c.reserve_note.new.self { worker = c.acquire.new.w } in
-    may-still m c.args.shop.now.ring.now a h c.requires.counts (frees-none m a h c.reserve_note.ensures.notes c.reserve_note.ensures.tally)
+    may-still m c.args.shop.now.ring.now a h c.requires.works.counts (frees-none m a h c.reserve_note.ensures.notes c.reserve_note.ensures.tally)
 
 pub returns-in-Empty-clause-tally : goal.returns-in-Empty-clause-tally
 returns-in-Empty-clause-tally c = frees-none c.args.shop.now.marks.now c.args.hand.now (record c.reserve_note.new.self { worker = c.pop_unswept.new.w }) c.reserve_note.ensures.notes c.reserve_note.ensures.tally

@@ -1,6 +1,7 @@
 use Rattle.std.proofs.Common.{◌∙◌, ◌≤◌, ap, length, refl, sym, arith}
 use Rattle.span_laws.specs.Views.{Seen}
 use Rattle.span_set.specs.declared.hand.Hand.{Hand}
+use Rattle.sweeper.proofs.Again.{stays_works}
 use Rattle.heap_run.specs.Counts.{Counts, no_counts}
 use Rattle.heap_run.proofs.Counting.{counts-as, counts-drives, counts-may, counts-then, frees-counts}
 use Rattle.heap_run.proofs.Settling.{HasFlushedAll, IsToldIn, driver-idle, drives-driver, driving-now, ends-room, ends-swept, may-settle, settled, swept-all, told-ends}
@@ -83,8 +84,8 @@ returns g c =
       settled = settled c.scavenge_to.new.w c.end_cycle.new.driver (c.in_ok-scavenge_to.ensures.scavenged (drives-driver d2.worker ends2.driving.number)) c.end_cycle.ensures;
     }
 
-pub flush_processors-requires-clause-counts : goal.flush_processors-requires-clause-counts
-flush_processors-requires-clause-counts g c = counts-may c.args.shop.now.ring.now c.args.shop.now.marks.now no_counts c.args.driver.now c.finish.new.driver c.requires.counts (frees-counts c.args.shop.now.marks.now c.args.driver.now c.finish.new.driver c.in_ok-finish.ensures.tally)
+pub flush_processors-requires-clause-works : goal.flush_processors-requires-clause-works
+flush_processors-requires-clause-works g c = let e = c.in_ok-finish.ensures in stays_works c.args.shop.now.shared.now c.args.shop.now.ring.now c.args.shop.now.marks.now c.args.driver.now c.finish.new.driver e.did.does.stays e.tally c.requires.works
 
 pub flush_processors-requires-clause-drives : goal.flush_processors-requires-clause-drives
 flush_processors-requires-clause-drives g c = counts-drives c.args.shop.now.marks.now no_counts c.args.driver.now c.finish.new.driver (frees-counts c.args.shop.now.marks.now c.args.driver.now c.finish.new.driver c.in_ok-finish.ensures.tally) ∙ c.requires.drives

@@ -5,6 +5,7 @@ use Rattle.heap_run.specs.Turns.{SaysNone, TookTurn, no_cache}
 use Rattle.heap_run.proofs.Counting.{counts-drives, counts-may, counts-none, counts-then}
 use Rattle.heap_run.proofs.Sampling.{keeps-more}
 use Rattle.heap_run.proofs.Driving.{collecting-turn, driving-turn, flushed-more, keeps-trans, keeps-turn, placed-caching, placed-turn, proc-caching, proc-number}
+use Rattle.heap_run.proofs.Working.{same-works}
 use Rattle.heap_run.proofs.cycle.flush_processors.Goals as goal
 
 pub loop-p-init : goal.loop-p-init
@@ -19,8 +20,8 @@ loop-p-init g c = record {
   own = refl;
 }
 
-pub flush_processor-requires-clause-counts : goal.flush_processor-requires-clause-counts
-flush_processor-requires-clause-counts g c = counts-may c.args.shop.now.ring.now c.args.shop.now.marks.now no_counts c.args.driver.now c.loop-p.driver c.requires.counts c.loop-p.invariant.counts
+pub flush_processor-requires-clause-works : goal.flush_processor-requires-clause-works
+flush_processor-requires-clause-works g c = let i = c.loop-p.invariant in same-works c.args.shop.now.shared.now c.args.shop.now.ring.now c.args.shop.now.marks.now no_counts c.args.driver.now c.loop-p.driver i.driving.same i.counts c.requires.works
 
 pub flush_processor-requires-clause-drives : goal.flush_processor-requires-clause-drives
 flush_processor-requires-clause-drives g c = counts-drives c.args.shop.now.marks.now no_counts c.args.driver.now c.loop-p.driver c.loop-p.invariant.counts ∙ c.requires.drives

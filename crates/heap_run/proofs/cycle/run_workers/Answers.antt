@@ -4,22 +4,17 @@ use Rattle.heap_run.specs.Gains.{gains}
 use Rattle.heap_run.proofs.Counting.{counts-drives, counts-may, counts-then}
 use Rattle.heap_run.proofs.Sampling.{sampled-keeps}
 use Rattle.heap_run.proofs.Settling.{driving-from, driving-now}
+use Rattle.heap_run.proofs.Working.{same-works}
 use Rattle.heap_run.proofs.cycle.run_workers.Goals as goal
 
 pub end_cycle-requires-clause-works : goal.end_cycle-requires-clause-works
-end_cycle-requires-clause-works g c = (let mid = c.in_ok-run_beside.ensures.driving in (mid.same.table ∙ c.requires.works.0, mid.same.away ∙ c.requires.works.1))
-
-pub end_cycle-requires-clause-marks : goal.end_cycle-requires-clause-marks
-end_cycle-requires-clause-marks g c = c.requires.marks ∙ sym c.in_ok-run_beside.ensures.driving.same.marks
+end_cycle-requires-clause-works g c = let e = c.in_ok-run_beside.ensures in same-works c.args.shop.now.shared.now c.args.shop.now.ring.now c.args.shop.now.marks.now _ c.args.driver.now c.run_beside.new.driver e.driving.same e.counts c.requires.works
 
 pub end_cycle-requires-clause-parts : goal.end_cycle-requires-clause-parts
 end_cycle-requires-clause-parts g c = c.in_ok-run_beside.ensures.driving.same.parts ∙ c.requires.parts
 
 pub end_cycle-requires-clause-driving : goal.end_cycle-requires-clause-driving
 end_cycle-requires-clause-driving g c = driving-now c.args.driver.now.worker c.run_beside.new.procs.items c.run_beside.new.driver c.in_ok-run_beside.ensures.driving
-
-pub end_cycle-requires-clause-counts : goal.end_cycle-requires-clause-counts
-end_cycle-requires-clause-counts g c = counts-may c.args.shop.now.ring.now c.args.shop.now.marks.now _ c.args.driver.now c.run_beside.new.driver c.requires.counts c.in_ok-run_beside.ensures.counts
 
 pub end_cycle-requires-clause-drives : goal.end_cycle-requires-clause-drives
 end_cycle-requires-clause-drives g c = counts-drives c.args.shop.now.marks.now _ c.args.driver.now c.run_beside.new.driver c.in_ok-run_beside.ensures.counts ∙ c.requires.drives

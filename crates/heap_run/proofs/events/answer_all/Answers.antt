@@ -17,6 +17,7 @@ use Rattle.heap_run.specs.Turns.{SaysAnswers}
 use Rattle.heap_run.proofs.Firsts.{flushed-for, flushed-next}
 use Rattle.heap_run.proofs.Gains.{behind-none, behind-push, kept-none, kept-push}
 use Rattle.heap_run.proofs.Acted.{acted-none, acted-then, answers-then}
+use Rattle.heap_run.proofs.Working.{acted-works}
 use Rattle.heap_run.proofs.events.answer_all.Goals as goal
 
 pub loop-turn-init : goal.loop-turn-init
@@ -48,14 +49,8 @@ loop-turn-init g c =
       flushed = rw none (none-flushed c.args.riding c.args.proc.now c.args.hand.now);
     }
 
-pub answer-requires-clause-counts : goal.answer-requires-clause-counts
-answer-requires-clause-counts g c = counts-may c.args.shop.now.ring.now c.args.shop.now.marks.now _ c.args.hand.now c.loop-turn.hand c.requires.counts c.loop-turn.invariant.counts
-
 pub answer-requires-clause-works : goal.answer-requires-clause-works
-answer-requires-clause-works g c = let a = c.loop-turn.invariant.acted in (a.table ∙ c.requires.works.0, a.away ∙ c.requires.works.1)
-
-pub answer-requires-clause-marks : goal.answer-requires-clause-marks
-answer-requires-clause-marks g c = c.requires.marks ∙ sym (ap (λ (v : View). v.marks) c.loop-turn.invariant.acted.view)
+answer-requires-clause-works g c = let i = c.loop-turn.invariant in acted-works c.args.shop.now.shared.now c.args.shop.now.ring.now c.args.shop.now.marks.now _ _ c.args.hand.now c.loop-turn.hand i.acted i.counts c.requires.works
 
 pub answer-requires-clause-idle : goal.answer-requires-clause-idle
 answer-requires-clause-idle g c = c.loop-turn.invariant.acted.idle

@@ -14,6 +14,7 @@ use Rattle.profile_cycle.specs.Naming.{slot_for}
 use Rattle.profile_cycle.specs.Sampling.{Countdown, behind, is_sample}
 use Rattle.proc_cache.specs.Cache.{Cache}
 use Rattle.profile_cycle.proofs.Named.{slot-large}
+use Rattle.proc_cache.proofs.Leaving.{leaves_works}
 use Rattle.span_set.proofs.Tallies.{frees-both, may-still}
 use Rattle.heap_run.proofs.Acted.{acted-alike, caching-counted}
 use Rattle.heap_run.proofs.Counting.{counted-one, large-counts, ones-counts, refused-counts}
@@ -59,13 +60,14 @@ returns-in-Ok-alloc_large-clause-caching g c =
     (caching-of c.args.hand.now.worker.view.generation c.flush.new.hand.worker.view.generation c.flush.new.hand.worker.view.own c.flush.new.proc g c.in_ok-flush-in-Large.ensures.serves (c.in_ok-flush-in-Large.ensures.used c.requires.caching.used)) in
     caching-counted c.args.hand.now.worker.view.generation c.alloc_large.new.hand c.count_placed-sampled.new.hand c.flush.new.proc c.count_placed-sampled.new.proc _ c.count_placed-sampled.ensures.worker c.count_placed-sampled.ensures.cache placed
 
-pub alloc_large-requires-clause-counts : goal.alloc_large-requires-clause-counts
-alloc_large-requires-clause-counts g c = may-still c.args.shop.now.marks.now c.args.shop.now.ring.now c.args.hand.now c.flush.new.hand c.requires.counts c.in_ok-flush-in-Large.ensures.tally
+pub alloc_large-requires-clause-works : goal.alloc_large-requires-clause-works
+alloc_large-requires-clause-works g c = let f = c.in_ok-flush-in-Large.ensures in
+    leaves_works c.args.shop.now.shared.now c.args.shop.now.ring.now c.args.shop.now.marks.now c.args.hand.now c.flush.new.hand f.flushes.1.said f.flushes.1.leaves f.tally c.requires.works
 
 pub count_placed-sampled-requires-clause-ring : goal.count_placed-sampled-requires-clause-ring
 count_placed-sampled-requires-clause-ring g c =
     (may-still c.args.shop.now.marks.now c.args.shop.now.ring.now c.flush.new.hand c.alloc_large.new.hand
-    (may-still c.args.shop.now.marks.now c.args.shop.now.ring.now c.args.hand.now c.flush.new.hand c.requires.counts c.in_ok-flush-in-Large.ensures.tally) c.in-Ok-alloc_large.ensures.tally).ring
+    (may-still c.args.shop.now.marks.now c.args.shop.now.ring.now c.args.hand.now c.flush.new.hand c.requires.works.counts c.in_ok-flush-in-Large.ensures.tally) c.in-Ok-alloc_large.ensures.tally).ring
 
 pub returns-in-Ok-alloc_large-clause-sampled : goal.returns-in-Ok-alloc_large-clause-sampled
 returns-in-Ok-alloc_large-clause-sampled g c =

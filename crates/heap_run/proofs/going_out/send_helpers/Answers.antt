@@ -6,19 +6,19 @@ use Rattle.heap_run.proofs.Stacks.{of-push, rises-rising, rising-next}
 use Rattle.heap_run.proofs.going_out.send_helpers.Goals as goal
 
 pub send-requires-clause-table : goal.send-requires-clause-table
-send-requires-clause-table c = ap (λ (d : Hand). d.worker.table) c.requires.driver ∙ c.requires.starts.works.0
+send-requires-clause-table c = ap (λ (d : Hand). d.worker.table) c.requires.driver ∙ c.requires.starts.works.works.0
 
 pub send-requires-clause-driver : goal.send-requires-clause-driver
 send-requires-clause-driver c = ap (λ (d : Hand). d.worker.number) c.requires.driver ∙ c.requires.starts.driving.number
 
 pub send-requires-clause-home : goal.send-requires-clause-home
-send-requires-clause-home c = sent-home c.args.start.now.driver.value c.args.driver.now [] 68 69 (first-sent c.args.start.now c.args.driver.now c.requires.driver) c.requires.starts.works.1 (omega arith) tt
+send-requires-clause-home c = sent-home c.args.start.now.driver.value c.args.driver.now [] 68 69 (first-sent c.args.start.now c.args.driver.now c.requires.driver) c.requires.starts.works.works.1 (omega arith) tt
 
 pub send-requires-clause-part : goal.send-requires-clause-part
 send-requires-clause-part c = (let p = c.requires.starts.parts in let e = ap (λ (d : Hand). length d.worker.view.parts) c.requires.driver in omega arith)
 
 pub send-requires-clause-ring : goal.send-requires-clause-ring
-send-requires-clause-ring c = ap (λ (d : Hand). d.tally.ring) c.requires.driver ∙ c.requires.starts.counts.ring
+send-requires-clause-ring c = ap (λ (d : Hand). d.tally.ring) c.requires.driver ∙ c.requires.starts.works.counts.ring
 
 pub send-requires-clause-drives : goal.send-requires-clause-drives
 send-requires-clause-drives c = ap (λ (d : Hand). d.tally.view.drives) c.requires.driver ∙ c.requires.starts.drives
@@ -39,7 +39,7 @@ send-requires-in-loop-sent-clause-home c =
     let q : ℕ = 64 + c.args.background - c.loop-sent.sent in
     let t = c.loop-sent-test.true in
     let f = c.requires.few in
-    sent-home c.args.start.now.driver.value c.loop-sent.driver (rising c.loop-sent.sent q ++ 68 ∷ []) (64 + c.args.background - 1 - c.loop-sent.sent) q c.loop-sent.invariant.sent c.requires.starts.works.1 (omega arith) (rises-rising c.loop-sent.sent q (omega arith))
+    sent-home c.args.start.now.driver.value c.loop-sent.driver (rising c.loop-sent.sent q ++ 68 ∷ []) (64 + c.args.background - 1 - c.loop-sent.sent) q c.loop-sent.invariant.sent c.requires.starts.works.works.1 (omega arith) (rises-rising c.loop-sent.sent q (omega arith))
 
 pub loop-sent-preserved : goal.loop-sent-preserved
 loop-sent-preserved c =

@@ -13,7 +13,7 @@ send-requires-clause-home c =
     let few = c.requires.starts.few in
     let all : q + (n - q) ≡ n = omega arith in
     let high = rises-low n 64 (helpers c.args.background) (omega arith) (rises-helpers c.args.background c.requires.few) in
-    sent-home c.args.start.now.driver.value c.args.driver.now (busy c.args.queues.now.events (n - q) q ++ helpers c.args.background) c.args.number q c.requires.sent.sent c.requires.starts.works.1 (omega arith)
+    sent-home c.args.start.now.driver.value c.args.driver.now (busy c.args.queues.now.events (n - q) q ++ helpers c.args.background) c.args.number q c.requires.sent.sent c.requires.starts.works.works.1 (omega arith)
     (rises-busy c.args.queues.now.events (n - q) q (helpers c.args.background) (rw all high))
 
 pub send-requires-clause-caching : goal.send-requires-clause-caching

@@ -5,6 +5,7 @@ use Rattle.heap_run.specs.Turns.{HasActed, IsCaching, SaysNone}
 use Rattle.profile_cycle.specs.History.{Standing}
 use Rattle.heap_run.proofs.Counting.{counts-may, counts-turn, frees-counts, out-cycle, out-may, out-split}
 use Rattle.heap_run.proofs.Acted.{HandsOut, back-caching, brought-back, flush-acted, hands-out, ok-map, out-caching, out-idle, turn-back}
+use Rattle.heap_run.proofs.Working.{out-works}
 use Rattle.heap_run.proofs.turns.flush_processor.Goals as goal
 
 pub flush-requires-clause-idle : goal.flush-requires-clause-idle
@@ -17,11 +18,13 @@ flush-requires-clause-serves g c =
     let o : HandsOut c.args.proc.now.number c.args.driver.now c.in_ok-hand.hand = hands-out c.args.proc.now.number _ c.args.driver.now c.in_ok-hand.hand c.requires.driver c.requires.parts c.requires.number (c.number.ensures) c.in_ok-hand.ensures.hand in
     (out-caching c.args.proc.now.number c.args.driver.now c.in_ok-hand.hand c.args.proc.now o c.requires.caching).serves
 
-pub flush-requires-clause-counts : goal.flush-requires-clause-counts
-flush-requires-clause-counts g c = out-may c.args.shop.now.ring.now c.args.shop.now.marks.now _ c.args.driver.now c.in_ok-hand.hand c.requires.counts c.in_ok-hand.ensures.hand
+pub flush-requires-clause-works : goal.flush-requires-clause-works
+flush-requires-clause-works g c =
+    let o : HandsOut c.args.proc.now.number c.args.driver.now c.in_ok-hand.hand = hands-out c.args.proc.now.number _ c.args.driver.now c.in_ok-hand.hand c.requires.driver c.requires.parts c.requires.number (c.number.ensures) c.in_ok-hand.ensures.hand in
+    out-works c.args.shop.now.shared.now c.args.shop.now.ring.now c.args.shop.now.marks.now c.args.proc.now.number _ c.args.driver.now c.in_ok-hand.hand o c.in_ok-hand.ensures.hand c.requires.works
 
 pub bring_back-requires-clause-ring : goal.bring_back-requires-clause-ring
-bring_back-requires-clause-ring g c = ap (λ (s : Standing). s.ring) c.in_ok-hand.ensures.tally ∙ c.requires.counts.ring
+bring_back-requires-clause-ring g c = ap (λ (s : Standing). s.ring) c.in_ok-hand.ensures.tally ∙ c.requires.works.counts.ring
 
 pub bring_back-requires-clause-drives : goal.bring_back-requires-clause-drives
 bring_back-requires-clause-drives g c = ap (λ (s : Standing). s.view.drives) c.in_ok-hand.ensures.tally ∙ c.requires.drives
@@ -29,7 +32,7 @@ bring_back-requires-clause-drives g c = ap (λ (s : Standing). s.view.drives) c.
 pub bring_back-requires-clause-of_ring : goal.bring_back-requires-clause-of_ring
 bring_back-requires-clause-of_ring g c =
     (counts-may c.args.shop.now.ring.now c.args.shop.now.marks.now _ c.in_ok-hand.hand c.flush.new.hand
-    (out-may c.args.shop.now.ring.now c.args.shop.now.marks.now _ c.args.driver.now c.in_ok-hand.hand c.requires.counts c.in_ok-hand.ensures.hand) (frees-counts c.args.shop.now.marks.now c.in_ok-hand.hand c.flush.new.hand c.in_ok-flush.ensures.tally)).ring
+    (out-may c.args.shop.now.ring.now c.args.shop.now.marks.now _ c.args.driver.now c.in_ok-hand.hand c.requires.works.counts c.in_ok-hand.ensures.hand) (frees-counts c.args.shop.now.marks.now c.in_ok-hand.hand c.flush.new.hand c.in_ok-flush.ensures.tally)).ring
 
 pub bring_back-requires-clause-split : goal.bring_back-requires-clause-split
 bring_back-requires-clause-split g c = out-split c.args.shop.now.marks.now _ _ c.args.driver.now c.in_ok-hand.hand c.flush.new.hand c.in_ok-hand.ensures.hand (frees-counts c.args.shop.now.marks.now c.in_ok-hand.hand c.flush.new.hand c.in_ok-flush.ensures.tally)

@@ -5,9 +5,10 @@ use Rattle.span_laws.specs.declared.said.Said.TheVariants.{Adds}
 use Rattle.span_laws.specs.OwnSteps.{after_said}
 use Rattle.span_set.specs.declared.hand.Hand.{Hand}
 use Rattle.sweeper.specs.Pays.{Pays}
+use Rattle.sweeper.proofs.Again.{pays_stays, stays_works}
 use Rattle.proc_cache.proofs.Finding.{paid, paid_nothing}
 use Rattle.large_objects.proofs.Taking.{large_done, large_refused}
-use Rattle.span_set.proofs.Tallies.{frees-both, frees-none, may-still}
+use Rattle.span_set.proofs.Tallies.{frees-both, frees-none}
 use Rattle.large_objects.proofs.larges.alloc_large.Goals as goal
 
 pub returns-in_default-clause-did : goal.returns-in_default-clause-did
@@ -34,8 +35,10 @@ returns-clause-did g c =
     large_done c.args.shop.now.pages c.args.shop.now.distance n c.args.class c.args.hand.now c.pay.new.hand f.0 f.1 f.2 f.3 m2 c.in_ok-body.body c.in_ok-body.ensures.did c.add_spent.result c.put_object.result m3 c.put_object.new.hand
     (c.add_spent.ensures ∙ ap (λ (b : ℕ). after_said (Adds 3 c.add_spent.result b) m2.worker) e) refl c.put_object.ensures.puts
 
-pub new_span-requires-clause-counts : goal.new_span-requires-clause-counts
-new_span-requires-clause-counts g c = may-still c.args.shop.now.marks.now c.args.shop.now.ring.now c.args.hand.now c.pay.new.hand c.requires.counts c.pay.ensures.tally
+pub new_span-requires-clause-works : goal.new_span-requires-clause-works
+new_span-requires-clause-works g c =
+    stays_works c.args.shop.now.shared.now c.args.shop.now.ring.now c.args.shop.now.marks.now c.args.hand.now c.pay.new.hand
+    (pays_stays c.args.shop.now.pages c.args.shop.now.distance (c.from-bytes.result * 8192) c.args.pages c.args.hand.now c.pay.new.hand c.pay.result c.pay.ensures.did) c.pay.ensures.tally c.requires.works
 
 pub returns-in_err-body-clause-tally : goal.returns-in_err-body-clause-tally
 returns-in_err-body-clause-tally g c = frees-both c.args.shop.now.marks.now c.args.hand.now c.pay.new.hand c.new_span.new.hand c.pay.ensures.tally c.new_span.ensures.tally

@@ -12,7 +12,7 @@ use Rattle.proc_cache.proofs.Sampling.{allocates_to, counts_one, serves_to}
 use Rattle.proc_cache.proofs.allocs.alloc.Goals as goal
 
 pub count_placed-sampled-requires-clause-ring : goal.count_placed-sampled-requires-clause-ring
-count_placed-sampled-requires-clause-ring g c = (may-still c.args.shop.now.marks.now c.args.shop.now.ring.now c.args.hand.now c.alloc_in.new.hand c.requires.counts c.alloc_in.ensures.tally).ring
+count_placed-sampled-requires-clause-ring g c = (may-still c.args.shop.now.marks.now c.args.shop.now.ring.now c.args.hand.now c.alloc_in.new.hand c.requires.works.counts c.alloc_in.ensures.tally).ring
 
 pub returns-clause-allocates : goal.returns-clause-allocates
 returns-clause-allocates g c = let mid = c.alloc_in.new.hand in let e = c.count_placed-sampled.ensures in (

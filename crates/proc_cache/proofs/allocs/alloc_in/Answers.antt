@@ -3,8 +3,10 @@ use Rattle.span_laws.specs.Views.{Seen}
 use Rattle.span_set.specs.declared.hand.Hand.{Hand}
 use Rattle.proc_cache.specs.Allocs.{AllocatesIn}
 use Rattle.proc_cache.specs.Cache.{Cache}
+use Rattle.proc_cache.proofs.Leaving.{leaves_works}
 use Rattle.proc_cache.proofs.Placing.{flush_refused, flushed_hit, flushed_then}
-use Rattle.span_set.proofs.Tallies.{frees-both, frees-none, may-still}
+use Rattle.span_set.proofs.Asks.{moved_works}
+use Rattle.span_set.proofs.Tallies.{frees-both, frees-none}
 use Rattle.proc_cache.proofs.allocs.alloc_in.Goals as goal
 
 pub returns-in_default-clause-allocates : goal.returns-in_default-clause-allocates
@@ -23,8 +25,10 @@ returns-in-Miss-clause-allocates g c =
     let b = subst (λ (w : Seen). AllocatesIn pages distance k c.flush.new.proc d (record mid { worker = w }) new r) h.2 a in
     flushed_then pages distance k c.args.proc.now c.flush.new.proc c.args.hand.now mid c.in-Ok.ensures.flushes d new r b
 
-pub alloc_missed-requires-clause-counts : goal.alloc_missed-requires-clause-counts
-alloc_missed-requires-clause-counts g c = may-still c.args.shop.now.marks.now c.args.shop.now.ring.now c.args.hand.now (record c.flush.new.hand { worker = c.alloc_hit.new.w }) c.requires.counts (frees-both c.args.shop.now.marks.now c.args.hand.now c.flush.new.hand (record c.flush.new.hand { worker = c.alloc_hit.new.w }) c.flush.ensures.tally (frees-none c.args.shop.now.marks.now c.flush.new.hand (record c.flush.new.hand { worker = c.alloc_hit.new.w }) refl refl))
+pub alloc_missed-requires-clause-works : goal.alloc_missed-requires-clause-works
+alloc_missed-requires-clause-works g c = let f = c.in-Ok.ensures.flushes.1 in
+    moved_works c.args.shop.now.shared.now c.args.shop.now.ring.now c.args.shop.now.marks.now c.flush.new.hand c.alloc_hit.new.w c.flush.new.hand.worker c.in-Miss.ensures.hits.2 refl refl refl
+    (leaves_works c.args.shop.now.shared.now c.args.shop.now.ring.now c.args.shop.now.marks.now c.args.hand.now c.flush.new.hand f.said f.leaves c.flush.ensures.tally c.requires.works)
 
 pub returns-in-At-clause-countdown : goal.returns-in-At-clause-countdown
 returns-in-At-clause-countdown g c = c.alloc_hit.ensures.countdown ∙ c.flush.ensures.countdown

@@ -3,6 +3,7 @@ use Rattle.span_laws.specs.Views.{Seen}
 use Rattle.proc_cache.specs.Cache.{Cache}
 use Rattle.proc_cache.specs.Serves.{is_flushed}
 use Rattle.proc_cache.proofs.Flushing.{left_flushed, read_first, reads_idle, reads_only, reads_serves, reads_used}
+use Rattle.span_set.proofs.Asks.{moved_works}
 use Rattle.span_set.proofs.Tallies.{frees-as, frees-none}
 use Rattle.proc_cache.proofs.flushes.flush.Goals as goal
 
@@ -20,6 +21,10 @@ returns-then-proc-generation-clause-serves g c = reads_serves c.args.proc.now c.
 
 pub returns-then-proc-generation-clause-tally : goal.returns-then-proc-generation-clause-tally
 returns-then-proc-generation-clause-tally g c = frees-none c.args.shop.now.marks.now c.args.hand.now (record c.args.hand.now { worker = c.generation-generation.new.w }) refl refl
+
+pub flush_all-requires-clause-works : goal.flush_all-requires-clause-works
+flush_all-requires-clause-works g c = let r = c.generation-generation in
+    moved_works c.args.shop.now.shared.now c.args.shop.now.ring.now c.args.shop.now.marks.now c.args.hand.now r.new.w _ r.ensures.view refl refl refl c.requires.works
 
 pub flush_all-requires-clause-idle : goal.flush_all-requires-clause-idle
 flush_all-requires-clause-idle g c = reads_idle c.args.hand.now.worker c.generation-generation.new.w c.generation-generation.result c.generation-generation.ensures.view c.requires.idle

@@ -4,7 +4,8 @@ use Rattle.span_laws.specs.declared.view.View.{View}
 use Rattle.proc_cache.specs.Cache.{Cache, span_in, spans_of}
 use Rattle.proc_cache.specs.Serves.{is_flushed}
 use Rattle.proc_cache.proofs.Flushing.{FlushedSome, all_flushed, all_serves, all_uncached, flushes_by, left_stale, some_first, some_more}
-use Rattle.span_set.proofs.Tallies.{frees-both, frees-none, may-still}
+use Rattle.proc_cache.proofs.Leaving.{leaves_works}
+use Rattle.span_set.proofs.Tallies.{frees-both, frees-none}
 use Rattle.proc_cache.proofs.flushes.flush_all.Goals as goal
 
 pub loop-class-init : goal.loop-class-init
@@ -45,8 +46,9 @@ returns-clause-flushes g c =
       left_stale c.args.proc.now old new c.requires.stale (all_uncached c.args.proc.now old d e new x few (ap (λ (z : Cache). z.slots) c.proc.view_is) (ap (λ (z : Cache). z.number) c.proc.view_is)),
     )
 
-pub flush_class-requires-clause-counts : goal.flush_class-requires-clause-counts
-flush_class-requires-clause-counts g c = may-still c.args.shop.now.marks.now c.args.shop.now.ring.now c.args.hand.now c.loop-class.hand c.requires.counts c.loop-class.invariant.tally
+pub flush_class-requires-clause-works : goal.flush_class-requires-clause-works
+flush_class-requires-clause-works g c = let i = c.loop-class.invariant in
+    leaves_works c.args.shop.now.shared.now c.args.shop.now.ring.now c.args.shop.now.marks.now c.args.hand.now c.loop-class.hand i.some.flushes.said i.some.flushes.leaves i.tally c.requires.works
 
 pub returns-in_err-flush_class-clause-tally : goal.returns-in_err-flush_class-clause-tally
 returns-in_err-flush_class-clause-tally g c = frees-both c.args.shop.now.marks.now c.args.hand.now c.loop-class.hand c.flush_class.new.hand c.loop-class.invariant.tally c.flush_class.ensures.tally

@@ -7,7 +7,8 @@ use Rattle.span_laws.specs.Views.{Seen, span_of}
 use Rattle.proc_cache.specs.Cache.{Cache, spans_of}
 use Rattle.proc_cache.proofs.Slots.{none_is, other_default, slot_is, slot_written}
 use Rattle.proc_cache.proofs.Flushing.{class_empty, class_flushed, class_serves}
-use Rattle.span_set.proofs.Tallies.{frees-both, frees-none, may-still}
+use Rattle.span_set.proofs.Asks.{works_still}
+use Rattle.span_set.proofs.Tallies.{frees-both, frees-none}
 use Rattle.proc_cache.proofs.flushes.flush_class.Goals as goal
 
 pub flush_span-requires-clause-class : goal.flush_span-requires-clause-class
@@ -56,8 +57,11 @@ returns-clause-serves g c =
     ∙ slot_written i.number i.flushed i.slots.items i.sampler c.args.proc.now c.proc.view_is k None in
     class_serves k (span_of b) c.args.proc.now now old c.reserve_note.new.self new c.requires.serves at c.reserve_note.ensures.worker c.flush_span.ensures.flushes written
 
-pub flush_span-requires-clause-counts : goal.flush_span-requires-clause-counts
-flush_span-requires-clause-counts g c = may-still c.args.shop.now.marks.now c.args.shop.now.ring.now c.args.hand.now c.reserve_note.new.self c.requires.counts (frees-none c.args.shop.now.marks.now c.args.hand.now c.reserve_note.new.self c.reserve_note.ensures.notes c.reserve_note.ensures.tally)
+pub flush_span-requires-clause-works : goal.flush_span-requires-clause-works
+flush_span-requires-clause-works g c = let e = c.reserve_note.ensures in
+    works_still c.args.shop.now.shared.now c.args.shop.now.ring.now c.args.shop.now.marks.now c.args.hand.now c.reserve_note.new.self
+    (ap (λ (w : Seen). w.table) e.worker) (ap (λ (w : Seen). w.away) e.worker) (ap (λ (w : Seen). w.view.marks) e.worker)
+    (frees-none c.args.shop.now.marks.now c.args.hand.now c.reserve_note.new.self e.notes e.tally) c.requires.works
 
 pub returns-in_err-reserve_note-clause-tally : goal.returns-in_err-reserve_note-clause-tally
 returns-in_err-reserve_note-clause-tally g c = frees-none c.args.shop.now.marks.now c.args.hand.now c.reserve_note.new.self c.reserve_note.ensures.notes c.reserve_note.ensures.tally

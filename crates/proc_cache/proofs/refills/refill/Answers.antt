@@ -1,6 +1,7 @@
 use Rattle.std.proofs.Common.{◌∙◌, ap}
 use Rattle.proc_cache.proofs.Filling.{find_serves, find_used, refill_done, refill_refused, used_but}
-use Rattle.span_set.proofs.Tallies.{frees-both, frees-none, may-still}
+use Rattle.proc_cache.proofs.Leaving.{leaves_works}
+use Rattle.span_set.proofs.Tallies.{frees-both, frees-none}
 use Rattle.proc_cache.proofs.refills.refill.Goals as goal
 
 pub returns-in-Err-clause-refills : goal.returns-in-Err-clause-refills
@@ -24,8 +25,10 @@ returns-in-Ok-clause-refills g c = refill_done c.args.shop.now.pages c.args.shop
 pub returns-in-Ok-clause-used : goal.returns-in-Ok-clause-used
 returns-in-Ok-clause-used g c = c.keep_span.ensures.used (find_used c.args.shop.now.pages c.args.shop.now.distance c.args.class c.leave_full.new.hand c.find_span.new.hand c.find_span.result c.find_span.ensures.finds c.leave_full.ensures.used)
 
-pub find_span-requires-clause-counts : goal.find_span-requires-clause-counts
-find_span-requires-clause-counts g c = may-still c.args.shop.now.marks.now c.args.shop.now.ring.now c.args.hand.now c.leave_full.new.hand c.requires.counts (frees-none c.args.shop.now.marks.now c.args.hand.now c.leave_full.new.hand (ap (λ r. r.items) c.leave_full.ensures.leaves.1) c.leave_full.ensures.counted)
+pub find_span-requires-clause-works : goal.find_span-requires-clause-works
+find_span-requires-clause-works g c = let l = c.leave_full.ensures in
+    leaves_works c.args.shop.now.shared.now c.args.shop.now.ring.now c.args.shop.now.marks.now c.args.hand.now c.leave_full.new.hand l.leaves.2.0 l.leaves.2.1
+    (frees-none c.args.shop.now.marks.now c.args.hand.now c.leave_full.new.hand (ap (λ r. r.items) l.leaves.1) l.counted) c.requires.works
 
 pub returns-in-Err-clause-tally : goal.returns-in-Err-clause-tally
 returns-in-Err-clause-tally g c = frees-both c.args.shop.now.marks.now c.args.hand.now c.leave_full.new.hand c.find_span.new.hand (frees-none c.args.shop.now.marks.now c.args.hand.now c.leave_full.new.hand (ap (λ r. r.items) c.leave_full.ensures.leaves.1) c.leave_full.ensures.counted) c.find_span.ensures.tally

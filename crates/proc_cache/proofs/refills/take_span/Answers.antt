@@ -1,5 +1,6 @@
 use Rattle.proc_cache.proofs.Finding.{from_here, from_partial, looked_holds, no_memory, then_made, then_refused}
-use Rattle.span_set.proofs.Tallies.{frees-both, may-still}
+use Rattle.span_set.proofs.Asks.{keeps_works}
+use Rattle.span_set.proofs.Tallies.{frees-both}
 use Rattle.proc_cache.proofs.refills.take_span.Goals as goal
 
 pub new_span-requires-clause-unpopped : goal.new_span-requires-clause-unpopped
@@ -22,8 +23,9 @@ returns-in-Ok-clause-comes g c = then_made c.args.class c.args.hand.now c.cache_
 pub returns-in-Err-clause-comes : goal.returns-in-Err-clause-comes
 returns-in-Err-clause-comes g c = no_memory c.args.class c.args.hand.now c.cache_span.new.hand c.requires.class c.requires.idle _ c.in-Err.ensures.caches
 
-pub new_span-requires-clause-counts : goal.new_span-requires-clause-counts
-new_span-requires-clause-counts g c = may-still c.args.shop.now.marks.now c.args.shop.now.ring.now c.args.hand.now c.cache_span.new.hand c.requires.counts c.cache_span.ensures.tally
+pub new_span-requires-clause-works : goal.new_span-requires-clause-works
+new_span-requires-clause-works g c = let d = rw c.in-Ok-NeedFresh.field-0-is at c.in-Ok-NeedFresh.ensures.caches in
+    keeps_works c.args.shop.now.shared.now c.args.shop.now.ring.now c.args.shop.now.marks.now c.args.hand.now c.cache_span.new.hand d.1.keeps c.cache_span.ensures.tally c.requires.works
 
 pub returns-in-Err-new_span-clause-tally : goal.returns-in-Err-new_span-clause-tally
 returns-in-Err-new_span-clause-tally g c = frees-both c.args.shop.now.marks.now c.args.hand.now c.cache_span.new.hand c.new_span.new.hand c.cache_span.ensures.tally c.new_span.ensures.tally

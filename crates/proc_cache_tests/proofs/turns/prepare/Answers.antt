@@ -14,6 +14,6 @@ returns-clause-grows g c = grows-trans c.args.hand.now.worker c.sweep_all.new.ha
 
 pub returns-clause-prepared : goal.returns-clause-prepared
 returns-clause-prepared g c = let r = c.settle.ensures.ready in
-    prepared c.args.shop.now.shared.now c.settle.new.hand.worker c.sweep_all.new.proc c.args.shop.now.marks.now c.args.objects.now.items c.mark_all.result r.served c.in_ok-settle.ensures.settled r.same_marks
+    prepared c.args.shop.now.shared.now c.settle.new.hand.worker c.sweep_all.new.proc c.args.shop.now.marks.now c.args.objects.now.items c.mark_all.result r.served c.in_ok-settle.ensures.settled r.works.marks
     (objects-grow c.args.hand.now.worker c.settle.new.hand.worker c.args.objects.now.items (grows-trans c.args.hand.now.worker c.sweep_all.new.hand.worker c.settle.new.hand.worker c.sweep_all.ensures.grows c.settle.ensures.grows) c.requires.objects)
     (subst (λ (os : List Object). IfOk c.mark_all.result (AreLive c.args.shop.now.marks.now os)) c.as_slice.ensures c.mark_all.ensures)

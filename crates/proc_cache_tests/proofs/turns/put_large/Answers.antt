@@ -19,4 +19,4 @@ returns-clause-grows g c = grows-trans c.args.hand.now.worker c.alloc_large.new.
     (grows-same c.alloc_large.new.hand.worker c.count_placed-sampled.new.hand.worker c.count_placed-sampled.ensures.worker)
 
 pub count_placed-sampled-requires-clause-ring : goal.count_placed-sampled-requires-clause-ring
-count_placed-sampled-requires-clause-ring g c = (large_ready c.args.shop.now.shared.now c.args.shop.now.ring.now c.args.shop.now.marks.now c.args.shop.now.pages c.args.shop.now.distance c.args.pages 1 c.args.hand.now c.alloc_large.new.hand c.args.proc.now c.alloc_large.result c.requires.ready c.alloc_large.ensures.did c.alloc_large.ensures.tally).counts.ring
+count_placed-sampled-requires-clause-ring g c = (large_ready c.args.shop.now.shared.now c.args.shop.now.ring.now c.args.shop.now.marks.now c.args.shop.now.pages c.args.shop.now.distance c.args.pages 1 c.args.hand.now c.alloc_large.new.hand c.args.proc.now c.alloc_large.result c.requires.ready c.alloc_large.ensures.did c.alloc_large.ensures.tally).works.counts.ring

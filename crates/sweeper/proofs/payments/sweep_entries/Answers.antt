@@ -2,7 +2,8 @@ use Rattle.std.proofs.Common.{refl, ap, ℕ, ◌+◌, arith}
 use Rattle.std.specs.Prelude.{Some, None}
 use Rattle.std.proofs.lemmas.Result.{err_from_is_err_and}
 use Rattle.span_set.specs.Sets.{unswept_of}
-use Rattle.span_set.proofs.Tallies.{frees-both, frees-none, may-still}
+use Rattle.span_set.proofs.Tallies.{frees-both, frees-none}
+use Rattle.sweeper.proofs.Again.{stays_works}
 use Rattle.sweeper.proofs.Paying.{frees-swept, set_empty, set_less, set_more, set_reached, set_wants, so_far, sweeps_none}
 use Rattle.sweeper.proofs.payments.sweep_entries.Goals as goal
 
@@ -44,9 +45,11 @@ pub returns-in_default-clause-tally : goal.returns-in_default-clause-tally
 returns-in_default-clause-tally g c = let e = c.in_ok-reserve_note.ensures in let m = c.args.shop.now.marks.now in let h = c.args.hand.now in
     frees-both m h c.reserve_note.new.self c.sweep_next.new.hand (frees-both m h c.loop.hand c.reserve_note.new.self c.loop.invariant.tally (frees-none m c.loop.hand c.reserve_note.new.self e.notes e.tally)) c.sweep_next.ensures.tally
 
-pub sweep_next-requires-clause-counts : goal.sweep_next-requires-clause-counts
-sweep_next-requires-clause-counts g c = let h = c.args.hand.now in let m = c.args.shop.now.marks.now in let e = c.in_ok-reserve_note.ensures in
-    may-still m c.args.shop.now.ring.now h c.reserve_note.new.self c.requires.counts (frees-both m h c.loop.hand c.reserve_note.new.self c.loop.invariant.tally (frees-none m c.loop.hand c.reserve_note.new.self e.notes e.tally))
+pub sweep_next-requires-clause-works : goal.sweep_next-requires-clause-works
+sweep_next-requires-clause-works g c = let h = c.args.hand.now in let m = c.args.shop.now.marks.now in let e = c.in_ok-reserve_note.ensures in
+    let far = so_far (unswept_of h.worker.view.generation c.args.set) h c.loop.counter c.loop.hand c.loop.invariant.did c.reserve_note.new.self e.worker e.notes in
+    stays_works c.args.shop.now.shared.now c.args.shop.now.ring.now m h c.reserve_note.new.self far.does.stays
+    (frees-both m h c.loop.hand c.reserve_note.new.self c.loop.invariant.tally (frees-none m c.loop.hand c.reserve_note.new.self e.notes e.tally)) c.requires.works
 
 pub unreachable-requires : goal.unreachable-requires
 unreachable-requires g c = let a = c.loop.invariant.did.few in let e = c.loop-test.false in omega arith

@@ -2,8 +2,10 @@ use Rattle.std.proofs.Common.{refl, ap, ◌∙◌, ℕ, arith}
 use Rattle.std.specs.Prelude.{Ok, Some, None}
 use Rattle.std.proofs.lemmas.Result.{err_from_is_err_and}
 use Rattle.span_laws.specs.Scans.{nth_unswept}
-use Rattle.span_set.proofs.Tallies.{frees-as, frees-both, may-still}
+use Rattle.span_set.proofs.Asks.{moved_works}
+use Rattle.span_set.proofs.Tallies.{frees-as, frees-both}
 use Rattle.sweeper.specs.PaySteps.{SweepsUntil}
+use Rattle.sweeper.proofs.Again.{stays_works}
 use Rattle.sweeper.proofs.Paying.{read_frees, until_more, until_none, until_past, until_read, until_reached, until_to, until_wants}
 use Rattle.sweeper.proofs.payments.sweep_until.Goals as goal
 
@@ -20,8 +22,10 @@ loop-index-init g c = let h = c.args.hand.now in record {
   tally = read_frees c.args.shop.now.marks.now c.args.target h c.reached.new.hand None c.in_default.ensures.did;
 }
 
-pub sweep_entries-requires-clause-counts : goal.sweep_entries-requires-clause-counts
-sweep_entries-requires-clause-counts g c = may-still c.args.shop.now.marks.now c.args.shop.now.ring.now c.args.hand.now c.loop-index.hand c.requires.counts c.loop-index.invariant.tally
+pub sweep_entries-requires-clause-works : goal.sweep_entries-requires-clause-works
+sweep_entries-requires-clause-works g c = let l = c.loop-index in
+    moved_works c.args.shop.now.shared.now c.args.shop.now.ring.now c.args.shop.now.marks.now l.hand c.next_unswept.new.w _ c.in-Some-next_unswept.ensures.4.3 refl refl refl
+    (stays_works c.args.shop.now.shared.now c.args.shop.now.ring.now c.args.shop.now.marks.now c.args.hand.now l.hand l.invariant.did.does.stays l.invariant.tally c.requires.works)
 
 pub loop-index-preserved : goal.loop-index-preserved
 loop-index-preserved g c = let h = c.args.hand.now in let l = c.loop-index in let w = c.next_unswept.new.w in let i = c.in-Some-next_unswept.index in

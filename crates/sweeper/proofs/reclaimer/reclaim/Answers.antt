@@ -1,7 +1,9 @@
 use Rattle.std.proofs.Common.{refl, ◌≡◌, ◌∙◌, arith}
 use Rattle.std.proofs.lemmas.Result.{err_from_is_err_and}
-use Rattle.span_set.proofs.Tallies.{frees-as, frees-both, frees-none, may-still}
+use Rattle.span_set.proofs.Asks.{moved_works}
+use Rattle.span_set.proofs.Tallies.{frees-as, frees-both, frees-none}
 use Rattle.sweeper.specs.Reclaims.{chunks_of}
+use Rattle.sweeper.proofs.Again.{stays_works}
 use Rattle.sweeper.proofs.Covering.{chunks_none, reclaimed_all, reclaimed_enough, reclaimed_past, reclaims_more, reclaims_wants, rounded}
 use Rattle.sweeper.proofs.reclaimer.reclaim.Goals as goal
 
@@ -39,8 +41,10 @@ loop-preserved g c = record {
   tally = frees-both c.args.shop.now.marks.now c.args.hand.now c.loop.hand c.reclaim_chunk.new.hand c.loop.invariant.tally (frees-as c.args.shop.now.marks.now (record c.loop.hand { worker = c.claim_chunk-chunk.new.w }) c.reclaim_chunk.new.hand c.loop.hand c.reclaim_chunk.new.hand c.reclaim_chunk.ensures.tally refl refl refl refl);
 }
 
-pub reclaim_chunk-requires-clause-counts : goal.reclaim_chunk-requires-clause-counts
-reclaim_chunk-requires-clause-counts g c = may-still c.args.shop.now.marks.now c.args.shop.now.ring.now c.args.hand.now c.loop.hand c.requires.counts c.loop.invariant.tally
+pub reclaim_chunk-requires-clause-works : goal.reclaim_chunk-requires-clause-works
+reclaim_chunk-requires-clause-works g c = let l = c.loop in let m = c.claim_chunk-chunk in
+    moved_works c.args.shop.now.shared.now c.args.shop.now.ring.now c.args.shop.now.marks.now l.hand m.new.w _ m.ensures refl refl refl
+    (stays_works c.args.shop.now.shared.now c.args.shop.now.ring.now c.args.shop.now.marks.now c.args.hand.now l.hand l.invariant.did.does.stays l.invariant.tally c.requires.works)
 
 pub returns-in_err-reclaim_chunk-clause-tally : goal.returns-in_err-reclaim_chunk-clause-tally
 returns-in_err-reclaim_chunk-clause-tally g c = frees-both c.args.shop.now.marks.now c.args.hand.now c.loop.hand c.reclaim_chunk.new.hand c.loop.invariant.tally

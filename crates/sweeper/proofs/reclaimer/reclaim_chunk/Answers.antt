@@ -1,9 +1,10 @@
 use Rattle.std.proofs.Common.{[], ℕ, ◌*◌, subst, arith}
 use Rattle.std.proofs.lemmas.Result.{err_from_is_err_and}
-use Rattle.span_set.proofs.Tallies.{frees-both, frees-none, may-still}
+use Rattle.span_set.proofs.Tallies.{frees-both, frees-none}
 use Rattle.std.specs.Prelude.{Ok, Some}
 use Rattle.sweeper.specs.ReclaimSteps.{CoversPages, ReclaimsNext}
-use Rattle.sweeper.specs.Work.{Works}
+use Rattle.sweeper.specs.Work.{HandSweeps}
+use Rattle.sweeper.proofs.Again.{stays_works}
 use Rattle.sweeper.proofs.Covering.{chunk_done, chunk_more, chunk_none, chunk_stops, chunk_wants}
 use Rattle.sweeper.proofs.reclaimer.reclaim_chunk.Goals as goal
 
@@ -36,15 +37,15 @@ returns-in_err-behind-clause-did g c = let l = c.loop-behind in let f = c.from_r
 
 pub returns-clause-did : goal.returns-clause-did
 returns-clause-did g c = let l = c.loop-behind in let h = c.args.hand.now in
-    subst (λ (n : ℕ). Works [] (CoversPages h.worker.view.marks (512 * c.args.chunk) n l.given) h c.reclaim_next.new.hand)
+    subst (λ (n : ℕ). HandSweeps [] (CoversPages h.worker.view.marks (512 * c.args.chunk) n l.given) h c.reclaim_next.new.hand)
     (let m = c.min-end.ensures in let r = c.requires.region in omega arith)
     (chunk_done h (512 * c.args.chunk) l.next l.given l.hand c.reclaim_next.new.hand l.invariant.did c.min-end.result (rw c.in_default.is at c.in_ok-behind.ensures.did))
 
 pub returns-clause-tally : goal.returns-clause-tally
 returns-clause-tally g c = frees-both c.args.shop.now.marks.now c.args.hand.now c.loop-behind.hand c.reclaim_next.new.hand c.loop-behind.invariant.tally c.reclaim_next.ensures.tally
 
-pub reclaim_next-requires-clause-counts : goal.reclaim_next-requires-clause-counts
-reclaim_next-requires-clause-counts g c = may-still c.args.shop.now.marks.now c.args.shop.now.ring.now c.args.hand.now c.loop-behind.hand c.requires.counts c.loop-behind.invariant.tally
+pub reclaim_next-requires-clause-works : goal.reclaim_next-requires-clause-works
+reclaim_next-requires-clause-works g c = let i = c.loop-behind.invariant in stays_works c.args.shop.now.shared.now c.args.shop.now.ring.now c.args.shop.now.marks.now c.args.hand.now c.loop-behind.hand i.did.does.stays i.tally c.requires.works
 
 pub returns-in_err-behind-clause-tally : goal.returns-in_err-behind-clause-tally
 returns-in_err-behind-clause-tally g c = frees-both c.args.shop.now.marks.now c.args.hand.now c.loop-behind.hand c.reclaim_next.new.hand c.loop-behind.invariant.tally c.reclaim_next.ensures.tally

@@ -1,6 +1,7 @@
 use Rattle.std.proofs.Common.{refl, ap, sym, subst, ◌∙◌, ◌<◌, ℕ, length, arith}
 use Rattle.span_set.specs.Sets.{unswept_of}
-use Rattle.span_set.proofs.Tallies.{frees-both, frees-none, may-still}
+use Rattle.span_set.proofs.Tallies.{frees-both, frees-none}
+use Rattle.sweeper.proofs.Again.{stays_works}
 use Rattle.sweeper.proofs.Searching.{drops_more, drops_none, next_none, next_swept}
 use Rattle.sweeper.proofs.sweep.sweep_next.Goals as goal
 
@@ -11,10 +12,7 @@ loop-init g c = record {
 }
 
 pub try_entry-requires-clause-works : goal.try_entry-requires-clause-works
-try_entry-requires-clause-works g c = let s = c.loop.invariant.did.works.does.stays in (s.table ∙ c.requires.works.0, s.away ∙ c.requires.works.1)
-
-pub try_entry-requires-clause-marks : goal.try_entry-requires-clause-marks
-try_entry-requires-clause-marks g c = c.requires.marks ∙ sym c.loop.invariant.did.works.does.stays.marks
+try_entry-requires-clause-works g c = let i = c.loop.invariant in stays_works c.args.shop.now.shared.now c.args.shop.now.ring.now c.args.shop.now.marks.now c.args.hand.now c.loop.hand i.did.works.does.stays i.tally c.requires.works
 
 pub try_entry-requires-clause-room : goal.try_entry-requires-clause-room
 try_entry-requires-clause-room g c = subst (λ n. length n.items < n.space) (sym c.loop.invariant.did.notes) c.requires.room
@@ -42,6 +40,3 @@ loop-preserved g c = record {
 
 pub unreachable-requires : goal.unreachable-requires
 unreachable-requires g c = let a = c.loop.invariant.did.few in let e = c.loop-test.false in omega arith
-
-pub try_entry-requires-clause-counts : goal.try_entry-requires-clause-counts
-try_entry-requires-clause-counts g c = may-still c.args.shop.now.marks.now c.args.shop.now.ring.now c.args.hand.now c.loop.hand c.requires.counts c.loop.invariant.tally

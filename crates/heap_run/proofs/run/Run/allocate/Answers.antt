@@ -51,8 +51,12 @@ pub run_workers-requires-clause-sizes : goal.run_workers-requires-clause-sizes
 run_workers-requires-clause-sizes g c κs low w =
     sizes-by c.args.trace.now.header.procs w c.args.asked.now.events.now (get_or c.in_ok-queues.queues.events w []) (c.in_ok-queues.ensures.queues w) c.requires.asked.fit
 
-pub run_workers-requires-clause-counts : goal.run_workers-requires-clause-counts
-run_workers-requires-clause-counts g c κs low = record { ring = c.requires.may.ring; dead = c.requires.may.dead }
+pub run_workers-requires-clause-works : goal.run_workers-requires-clause-works
+run_workers-requires-clause-works g c κs low = let may = c.requires.may in let same = c.pages_taken-pages.ensures.same in record {
+  works = (ap (λ (w : Seen). w.table) same ∙ may.works.0, ap (λ (w : Seen). w.away) same ∙ may.works.1);
+  marks = may.marks ∙ sym (ap (λ (w : Seen). w.view.marks) same);
+  counts = record { ring = may.ring; dead = may.dead };
+}
 
 pub run_workers-requires-clause-drives : goal.run_workers-requires-clause-drives
 run_workers-requires-clause-drives g c κs low = c.requires.may.drives
