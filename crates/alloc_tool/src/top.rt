@@ -48,24 +48,33 @@ pub fn goheap<R: Threads + Wait + Sync, S: Source, K: Sink, E: Sink, G: Gate>(
     errors: &mut E,
     gate: &G,
 ) -> u8
+    // run
     ensures outcome { (background : ℕ) (each : Bool) → IsRunWith words.now background each
         → Outcome (IsReportText each) S.left S.faults K.held K.faults E.held E.faults input.old input.new output.old output.new errors.old errors.new result }
     ensures run_words { IsRun words.now → IsStatusOfRun result }
+    ensures complete { IsRun words.now → (bytes : List ℕ)
+        → IsUndisturbed S.left S.faults K.faults input.old input.new output.old output.new bytes → IsComplete bytes result }
+
+    // watch
     ensures watch { (n : ℕ) → AsksWatchers words.now n
         → Outcome (IsWatchText n) S.left S.faults K.held K.faults E.held E.faults input.old input.new output.old output.new errors.old errors.new result }
     ensures watch_words { (n : ℕ) → AsksWatchers words.now n → IsStatusOfRun result }
-    ensures demo { (seed objects : ℕ) → IsDemo words.now seed objects
-        → Demos (made_trace seed objects) K.held K.faults E.held E.faults output.old output.new errors.old errors.new result × (input.new ≡ input.old) }
-    ensures in_pieces { (n : ℕ) → AsksPieces words.now n
-        → Checked S.left S.faults K.held K.faults E.held E.faults input.old input.new output.old output.new errors.old errors.new result }
-    ensures other_words { (IsRun words.now → ⊥) → ((seed objects : ℕ) → IsDemo words.now seed objects → ⊥) → ((n : ℕ) → AsksPieces words.now n → ⊥) → ((n : ℕ) → AsksWatchers words.now n → ⊥) → Plain S.left S.faults K.held K.faults E.held E.faults words.now input.old input.new output.old output.new errors.old errors.new result }
-    ensures complete { IsRun words.now → (bytes : List ℕ)
-        → IsUndisturbed S.left S.faults K.faults input.old input.new output.old output.new bytes → IsComplete bytes result }
     ensures watch_complete { (n : ℕ) → AsksWatchers words.now n → (bytes : List ℕ)
         → IsUndisturbed S.left S.faults K.faults input.old input.new output.old output.new bytes → IsComplete bytes result }
-    ensures check { IsCheck words.now → (bytes : List ℕ)
-        → IsUndisturbed S.left S.faults K.faults input.old input.new output.old output.new bytes → AcceptsSound bytes result }
+
+    // demo
+    ensures demo { (seed objects : ℕ) → IsDemo words.now seed objects
+        → Demos (made_trace seed objects) K.held K.faults E.held E.faults output.old output.new errors.old errors.new result × (input.new ≡ input.old) }
+
+    // check, in pieces
+    ensures in_pieces { (n : ℕ) → AsksPieces words.now n
+        → Checked S.left S.faults K.held K.faults E.held E.faults input.old input.new output.old output.new errors.old errors.new result }
     ensures accepts_in_pieces { (n : ℕ) → AsksPieces words.now n → (bytes : List ℕ)
+        → IsUndisturbed S.left S.faults K.faults input.old input.new output.old output.new bytes → AcceptsSound bytes result }
+
+    // all other words
+    ensures other_words { (IsRun words.now → ⊥) → ((seed objects : ℕ) → IsDemo words.now seed objects → ⊥) → ((n : ℕ) → AsksPieces words.now n → ⊥) → ((n : ℕ) → AsksWatchers words.now n → ⊥) → Plain S.left S.faults K.held K.faults E.held E.faults words.now input.old input.new output.old output.new errors.old errors.new result }
+    ensures check { IsCheck words.now → (bytes : List ℕ)
         → IsUndisturbed S.left S.faults K.faults input.old input.new output.old output.new bytes → AcceptsSound bytes result }
     ensures heap { IsHeap words.now → (bytes : List ℕ)
         → IsUndisturbed S.left S.faults K.faults input.old input.new output.old output.new bytes → AcceptsSound bytes result }

@@ -56,10 +56,15 @@ pub(crate) fn watch<R: Threads + Wait + Sync, S: Source, K: Sink, E: Sink, G: Ga
 
 // Writes the report, and behind it the lines of what watchers saw.
 fn write_seen<K: Sink>(output: &mut K, report: &Report, seen: &[List<Sight>]) -> Result<(), Failed>
+    // the report
     requires sweeps { AreRisingSweeps report.now.sweeps }
     requires totals { AreRisingTotals report.now.totals }
     requires profile { AreRisingProfile report.now.profile }
+
+    // the watchers
     requires few { length seen.now ≤ 4 }
+
+    // what is written, and why not all of it
     ensures ok { OnOk result (Appends (K.held output.old) (K.held output.new) (report_text report.now ++ seen_text 0 seen.now)) }
     ensures front { AppendsFront (K.held output.old) (K.held output.new) (report_text report.now ++ seen_text 0 seen.now) }
     ensures cause { HasCause (K.faults output.old) (K.faults output.new) result }

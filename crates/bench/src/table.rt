@@ -97,10 +97,13 @@ fn call_rounds(shared: &Shared, w: &mut Worker, body: &Body, rounds: u64)
 }
 
 fn call_round(shared: &Shared, w: &mut Worker, body: &Body)
+    // the worker with the span
     requires works { IsAtWork shared.now w.old }
     requires held { has body.now.page w.old.view.own.held ≡ true }
     requires unclaimed { w.old.view.own.claimed ≡ None }
     requires lent { HasBody w.old.view.own body.now }
+
+    // the same behind it
     ensures works { IsAtWork shared.now w.new }
     ensures held { has body.now.page w.new.view.own.held ≡ true }
     ensures unclaimed { w.new.view.own.claimed ≡ None }

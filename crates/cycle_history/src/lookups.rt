@@ -36,11 +36,18 @@ impl Walk<'_> {
 
     /// Whether one of the spans has the number, and up to which number, the end at most, the answer stays the same.
     pub(crate) fn run(&mut self, number: usize, end: usize) -> (bool, usize)
+        // the walk
         requires rise { AreSpans 0 self.old.spans.now }
         requires behind { IsBehind self.old number }
+
+        // the numbers
         requires order { number < end }
+
+        // the answer
         ensures has { (i : ℕ) → number ≤ i → i < result.1 → is_within self.old.spans.now i ≡ result.0 }
         ensures order { (number < result.1) × (result.1 ≤ end) }
+
+        // the walk behind it
         ensures spans { self.new.spans.now ≡ self.old.spans.now }
         ensures behind { IsBehind self.new result.1 }
     {

@@ -42,19 +42,30 @@ pub fn marks_of(
     clear: &mut usize,
     marks: &mut Marks,
 ) -> Result<(), NoMemory>
+    // the trace, and the mark end
     requires limited { IsLimited trace.now }
     requires first { 1 ≤ mark }
     requires last { mark ≤ last_cycle trace.now }
+
+    // the lists of the objects
     requires answers { length answers.now ≡ objects_before trace.now mark }
     requires sampled { length sampled.now ≡ objects_before trace.now mark }
     requires buckets { length buckets.now ≡ objects_before trace.now mark }
+
+    // where the objects lie
     requires places { ArePlaces trace.now answers.now }
+    requires apart { LieApart trace.now mark answers.now }
+
+    // what was kept from the mark end before
     requires kept { length places.old ≡ objects_before trace.now (mark - 1) }
     requires found { AreFound trace.now answers.now places.old }
     requires clear { AreClear sampled.now clear.old }
     requires before { ArePlacesOf trace.now (mark - 1) answers.now marks.old }
-    requires apart { LieApart trace.now mark answers.now }
+
+    // the marks of this one
     ensures marks { OnOk result (AreMarksOf trace.now mark answers.now sampled.now buckets.now marks.new) }
+
+    // what is kept for the next
     ensures kept { OnOk result (length places.new ≡ objects_before trace.now mark) }
     ensures found { OnOk result (AreFound trace.now answers.now places.new) }
     ensures clear { OnOk result (AreClear sampled.now clear.new) }
@@ -113,15 +124,26 @@ impl Objects<'_> {
     // Unmarks the places of the objects from low up to high that this mark end doesn't mark. The mark end before marked them all.
     #[inline(always)]
     fn unmark(&self, marks: &mut Marks, marked: &mut Walk, low: usize, high: usize)
+        // what is known of the objects
         requires given { AreOf self.now }
+
+        // those from low up to high
         requires order { low ≤ high }
         requires high { high ≤ length self.now.answers.now }
         requires old { (i : ℕ) → low ≤ i → i < high → marked_by self.now.trace.now (self.now.mark - 1) i ≡ true }
+
+        // the walk
         requires spans { marked.old.spans.now ≡ marks_at self.now.trace.now self.now.mark }
         requires behind { IsBehind marked.old low }
+
+        // the marks
         requires kept { AreKept self.now.trace.now self.now.mark self.now.answers.now low marks.old }
+
+        // the walk behind it
         ensures spans { marked.new.spans.now ≡ marked.old.spans.now }
         ensures behind { IsBehind marked.new high }
+
+        // the marks behind it
         ensures kept { AreKept self.now.trace.now self.now.mark self.now.answers.now high marks.new }
     {
         let mut next = low;
@@ -137,12 +159,19 @@ impl Objects<'_> {
     // Unmarks the places of the objects from low up to high, all of which only the mark end before marked.
     #[inline(always)]
     fn unmark_run(&self, marks: &mut Marks, low: usize, high: usize)
+        // what is known of the objects
         requires given { AreOf self.now }
+
+        // those from low up to high
         requires order { low ≤ high }
         requires high { high ≤ length self.now.answers.now }
         requires old { (i : ℕ) → low ≤ i → i < high → marked_by self.now.trace.now (self.now.mark - 1) i ≡ true }
         requires unmarked { (i : ℕ) → low ≤ i → i < high → marked_by self.now.trace.now self.now.mark i ≡ false }
+
+        // the marks
         requires kept { AreKept self.now.trace.now self.now.mark self.now.answers.now low marks.old }
+
+        // the marks behind it
         ensures { AreKept self.now.trace.now self.now.mark self.now.answers.now high marks.new }
     {
         let places = self.places;
@@ -221,15 +250,26 @@ impl Objects<'_> {
         low: usize,
         high: usize,
     ) -> Result<(), NoMemory>
+        // what is known of the objects
         requires given { AreOf self.now }
+
+        // those from low up to high
         requires order { low ≤ high }
         requires high { high ≤ length self.now.answers.now }
         requires lived { (i : ℕ) → low ≤ i → i < high → LivedBefore self.now.trace.now self.now.mark i }
+
+        // the walk
         requires spans { marked.old.spans.now ≡ marks_at self.now.trace.now self.now.mark }
         requires behind { IsBehind marked.old low }
+
+        // the marks
         requires below { AreMarksBelow self.now.trace.now self.now.mark self.now.answers.now self.now.sampled.now self.now.buckets.now (length self.now.answers.now) low marks.old }
+
+        // the walk behind it
         ensures spans { marked.new.spans.now ≡ marked.old.spans.now }
         ensures behind { OnOk result (IsBehind marked.new high) }
+
+        // the marks behind it
         ensures below { OnOk result (AreMarksBelow self.now.trace.now self.now.mark self.now.answers.now self.now.sampled.now self.now.buckets.now (length self.now.answers.now) high marks.new) }
     {
         let mut next = low;
@@ -245,12 +285,19 @@ impl Objects<'_> {
 
     // Does so for the objects from low up to high, all of which died.
     fn bury_run(&self, marks: &mut Marks, low: usize, high: usize) -> Result<(), NoMemory>
+        // what is known of the objects
         requires given { AreOf self.now }
+
+        // those from low up to high
         requires order { low ≤ high }
         requires high { high ≤ length self.now.answers.now }
         requires lived { (i : ℕ) → low ≤ i → i < high → LivedBefore self.now.trace.now self.now.mark i }
         requires unmarked { (i : ℕ) → low ≤ i → i < high → marked_by self.now.trace.now self.now.mark i ≡ false }
+
+        // the marks
         requires below { AreMarksBelow self.now.trace.now self.now.mark self.now.answers.now self.now.sampled.now self.now.buckets.now (length self.now.answers.now) low marks.old }
+
+        // the marks behind it
         ensures { OnOk result (AreMarksBelow self.now.trace.now self.now.mark self.now.answers.now self.now.sampled.now self.now.buckets.now (length self.now.answers.now) high marks.new) }
     {
         let sampled = self.sampled;
@@ -264,12 +311,19 @@ impl Objects<'_> {
 
     // Counts an object that died, if it is placed, among the dead of its page.
     fn bury_one(&self, marks: &mut Marks, object: usize) -> Result<(), NoMemory>
+        // what is known of the objects
         requires given { AreOf self.now }
+
+        // the object
         requires inside { object < length self.now.answers.now }
         requires sampled { slice_get self.now.sampled.now object ≡ Some true }
         requires lived { LivedBefore self.now.trace.now self.now.mark object }
         requires unmarked { marked_by self.now.trace.now self.now.mark object ≡ false }
+
+        // the marks
         requires below { AreMarksBelow self.now.trace.now self.now.mark self.now.answers.now self.now.sampled.now self.now.buckets.now (length self.now.answers.now) object marks.old }
+
+        // the marks behind it
         ensures { OnOk result (AreMarksBelow self.now.trace.now self.now.mark self.now.answers.now self.now.sampled.now self.now.buckets.now (length self.now.answers.now) (object + 1) marks.new) }
     {
         match self.places[object].place() {

@@ -94,13 +94,20 @@ pub(crate) fn find_places(
     answers: &[Answer],
     places: &mut List<PackedPlace>,
 ) -> Result<(), NoMemory>
+    // the trace, and the cycle
     requires limited { IsLimited trace.now }
     requires inside { cycle < length trace.now.cycles }
     requires events { (d : Cycle) → events.now ≡ (slice_index_or trace.now.cycles cycle d).events }
+
+    // the answers
     requires answers { length answers.now ≡ objects_before trace.now (cycle + 1) }
     requires placed { ArePlaces trace.now answers.now }
+
+    // the places
     requires kept { length places.old ≡ objects_before trace.now cycle }
     requires found { AreFound trace.now answers.now places.old }
+
+    // the places behind it
     ensures kept { OnOk result (length places.new ≡ objects_before trace.now (cycle + 1)) }
     ensures found { OnOk result (AreFound trace.now answers.now places.new) }
 {
@@ -120,14 +127,21 @@ fn push_places(
     answers: &[Answer],
     places: &mut Vec<PackedPlace>,
 )
+    // the trace, and the cycle
     requires limited { IsLimited trace.now }
     requires inside { cycle < length trace.now.cycles }
     requires events { (d : Cycle) → events.now ≡ (slice_index_or trace.now.cycles cycle d).events }
+
+    // the answers
     requires answers { length answers.now ≡ objects_before trace.now (cycle + 1) }
     requires placed { ArePlaces trace.now answers.now }
+
+    // the places, and the room for more
     requires kept { length places.old.items ≡ objects_before trace.now cycle }
     requires found { AreFound trace.now answers.now places.old.items }
     requires room { vec_len places.old + length events.now ≤ vec_capacity places.old }
+
+    // the places behind it
     ensures kept { length places.new.items ≡ objects_before trace.now (cycle + 1) }
     ensures found { AreFound trace.now answers.now places.new.items }
 {

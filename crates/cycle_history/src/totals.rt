@@ -134,12 +134,19 @@ impl Asked<'_> {
     // so that its loop doesn't ask.
     #[inline(always)]
     fn count_run(&self, low: usize, high: usize, lives: bool, counts: &mut Counts)
+        // the objects of the cycle
         requires given { AreAsked self.now }
+
+        // those from low up to high
         requires low { self.now.first ≤ low }
         requires order { low ≤ high }
         requires high { high ≤ self.now.first + length self.now.events.now }
         requires lives { LiveAlike self.now.trace.now lives low high }
+
+        // the counts
         requires counted { AreCounts self.now.trace.now self.now.answers.now low counts.old }
+
+        // the counts behind it
         ensures { AreCounts self.now.trace.now self.now.answers.now high counts.new }
     {
         for object in low..high {
@@ -219,11 +226,18 @@ impl Living<'_> {
     // Whether an object is one of them, where it is placed, and up to which object, the end at most, the answer stays
     // the same.
     fn run(&mut self, object: usize, end: usize) -> (bool, usize)
+        // the walk
         requires rise { AreSpans 0 self.old.marked.spans.now }
         requires behind { IsBehind self.old.marked object }
+
+        // the objects
         requires order { object < end }
+
+        // the answer
         ensures lives { (i : ℕ) → object ≤ i → i < result.1 → (nat_le self.old.newest i || is_within self.old.marked.spans.now i) ≡ result.0 }
         ensures order { (object < result.1) × (result.1 ≤ end) }
+
+        // the walk behind it
         ensures same { (self.new.newest ≡ self.old.newest) × (self.new.marked.spans.now ≡ self.old.marked.spans.now) }
         ensures behind { IsBehind self.new.marked result.1 }
     {

@@ -40,14 +40,23 @@ impl Profile {
         trace: &Trace,
         each: bool,
     ) -> Result<(Profile, Tally), NoMemory>
+        // the trace
         requires events { AllByRecursion (EventFits trace.now.header.procs) (events_of trace.now) }
         requires objects { length (events_of trace.now) ≤ 1000000 }
+
+        // when it is read
         ensures each { IfOk result (λ p. p.0.each ≡ each) }
+
+        // the known buckets
         ensures different { IfOk result (λ p. AreDifferent p.0.known) }
         ensures named { IfOk result (λ p. KnowsBuckets trace.now p.0.known) }
+
+        // the ring, where nothing is counted yet
         ensures some { IfOk result (λ p. 1 ≤ p.0.ring.buckets) }
         ensures room { IfOk result (λ p. length p.0.known ≤ p.0.ring.buckets) }
         ensures tally { IfOk result (λ p. p.1 ≡ record { ring = p.0.ring; view = first_view }) }
+
+        // what is read, nothing yet
         ensures order { IfOk result (λ p. IsOrder p.0.known p.0.order) }
         ensures before { IfOk result (λ p. p.0.before.items ≡ map (λ _. record { allocs = 0; frees = 0 }) p.0.order) }
         ensures lines { IfOk result (λ p. p.0.lines ≡ []) }
@@ -88,18 +97,27 @@ impl Profile {
     /// Begins the next cycle, behind a mark end. Where each mark end is told, the lines of the mark end before are read, which has
     /// this number: of the buckets whose numbers changed.
     pub(crate) fn next_cycle(&mut self, tally: &mut Tally, mark: u32) -> Result<(), NoMemory>
+        // the driver's tally
         requires ring { tally.old.ring ≡ self.old.ring }
         requires drives { tally.old.view.drives ≡ true }
         requires alone { tally.old.view.out ≡ 0 }
+
+        // the known buckets and their counts
         requires room { length self.old.known ≤ self.old.ring.buckets }
         requires order { IsOrder self.old.known self.old.order }
         requires before { length self.old.before.items ≡ length self.old.order }
         requires few { AreFew (length self.old.known) (calls tally.old NextCycle).view.calls }
+
+        // the tally behind it
         ensures tally { OnOk result (tally.new ≡ calls tally.old NextCycle) }
+
+        // what stays
         ensures ring { OnOk result (self.new.ring ≡ self.old.ring) }
         ensures each { OnOk result (self.new.each ≡ self.old.each) }
         ensures known { OnOk result (self.new.known ≡ self.old.known) }
         ensures order { OnOk result (self.new.order ≡ self.old.order) }
+
+        // what is read
         ensures unread { OnOk result (self.old.each ≡ false → (self.new.lines ≡ self.old.lines) × (self.new.before.items ≡ self.old.before.items)) }
         ensures read { OnOk result (self.old.each ≡ true → (self.new.lines ≡ self.old.lines ++ changed_lines self.old.known (calls tally.old NextCycle).view.calls mark self.old.order self.old.before.items)
             × (self.new.before.items ≡ map (count_of (calls tally.old NextCycle).view.calls) self.old.order)) }
@@ -121,18 +139,25 @@ impl Profile {
 
     /// Reads the lines of the last mark end, of all buckets with allocations. Nothing else changes.
     pub(crate) fn read_last(&mut self, tally: &mut Tally, mark: u32) -> Result<(), NoMemory>
+        // the driver's tally
         requires ring { tally.old.ring ≡ self.old.ring }
         requires drives { tally.old.view.drives ≡ true }
         requires alone { tally.old.view.out ≡ 0 }
+
+        // the known buckets and their counts
         requires room { length self.old.known ≤ self.old.ring.buckets }
         requires order { IsOrder self.old.known self.old.order }
         requires few { AreFew (length self.old.known) tally.old.view.calls }
+
+        // what stays
         ensures tally { tally.new ≡ tally.old }
         ensures ring { self.new.ring ≡ self.old.ring }
         ensures each { self.new.each ≡ self.old.each }
         ensures known { self.new.known ≡ self.old.known }
         ensures order { self.new.order ≡ self.old.order }
         ensures before { self.new.before ≡ self.old.before }
+
+        // what is read
         ensures lines { OnOk result (self.new.lines ≡ self.old.lines ++ all_lines self.old.known tally.old.view.calls mark self.old.order) }
     {
         add_all(
@@ -147,12 +172,19 @@ impl Profile {
 
     /// What is published of each bucket, by its number. Nothing changes.
     pub(crate) fn counts(&self, alloc: Global, tally: &mut Tally) -> Result<List<Count>, NoMemory>
+        // the driver's tally
         requires ring { tally.old.ring ≡ self.now.ring }
         requires drives { tally.old.view.drives ≡ true }
         requires alone { tally.old.view.out ≡ 0 }
+
+        // the known buckets and their counts
         requires room { length self.now.known ≤ self.now.ring.buckets }
         requires few { AreFew (length self.now.known) tally.old.view.calls }
+
+        // what stays
         ensures tally { tally.new ≡ tally.old }
+
+        // what is answered
         ensures counts { IfOk result (λ counts. counts ≡ counts_from tally.old.view.calls 0 self.now.known) }
     {
         let buckets = self.known.len();

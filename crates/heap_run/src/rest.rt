@@ -32,20 +32,35 @@ pub(crate) fn read_rest(
     tally: &mut Tally,
     profile: &mut Profile,
 ) -> Result<(List<Line>, List<Total>), NoMemory>
+    // the trace
     requires limits { IsLimited trace.now }
+
+    // the driver's tally
     requires ring { tally.old.ring ≡ profile.old.ring }
     requires drives { tally.old.view.drives ≡ true }
     requires alone { tally.old.view.out ≡ 0 }
+
+    // the known buckets and their counts
     requires room { length profile.old.known ≤ profile.old.ring.buckets }
     requires order { IsOrder profile.old.known profile.old.order }
     requires few { AreFew (length profile.old.known) tally.old.view.calls }
+
+    // the driver, which knows the journal
     requires works { IsAtWork shared.now driver.old }
     requires driver { driver.old.number ≡ 69 }
     requires told { KnowsJournal driver.old }
+
+    // what the run answered
     requires answers { length answers.now ≡ length (events_of trace.now) }
     requires zeros { AreZeros trace.now answers.now }
+
+    // the profile with the lines
     ensures lines { OnOk result (profile.new.lines ≡ profile.old.lines ++ all_lines profile.old.known tally.old.view.calls (last_cycle trace.now) profile.old.order) }
+
+    // what stays
     ensures same { OnOk result (driver.new ≡ driver.old) }
+
+    // what is answered
     ensures journal { IfOk result (λ rest. driver.old.journal ≡ Some (past_of rest.0)) }
     ensures totals { IfOk result (λ rest. (objects : Items Object) → AreObjectsOf trace.now answers.now objects → AreTotals (marked_by trace.now) (last_cycle trace.now) objects rest.1) }
 {

@@ -192,15 +192,24 @@ impl Run {
         gate: &G,
         audience: &mut Audience<B>,
     ) -> Result<(), NoMemory>
+        // the trace
         requires limits { IsLimited (trace_of course.old) }
+
+        // the helpers
         requires background { background ≤ 4 }
+
+        // the run as it begins
         requires on { IsOnCourse 0 0 course.old self.old }
         requires begun { HasBegunAll 0 (base_of course.old) self.old }
         requires unshown { HasShownAll B.buckets 0 (base_of course.old) self.old audience.old.publisher }
+
+        // the run at its end
         ensures trace { trace_of course.new ≡ trace_of course.old }
         ensures on { OnOk result (IsOnCourse (last_cycle (trace_of course.old)) (last_cycle (trace_of course.old) + 1) course.new self.new) }
         ensures ran { OnOk result (HasCompletedAll (last_cycle (trace_of course.old)) (base_of course.new) self.new) }
         ensures each { OnOk result (self.new.profile.each ≡ self.old.profile.each) }
+
+        // the audience
         ensures publisher { is_some audience.new.publisher ≡ is_some audience.old.publisher }
         ensures viewers { vec_len audience.new.viewers ≡ vec_len audience.old.viewers }
         ensures shown { OnOk result (HasShownEnd B.buckets (last_cycle (trace_of course.old)) (base_of course.new) self.new audience.new.publisher) }
@@ -225,14 +234,23 @@ impl Run {
         gate: &G,
         audience: &mut Audience<B>,
     ) -> Result<(), NoMemory>
+        // the helpers
         requires background { background ≤ 4 }
+
+        // the run as the cycle begins
         requires on { IsOnCourse cycle cycle course.old self.old }
         requires begun { HasBegunAll cycle (base_of course.old) self.old }
+
+        // what was shown before
         requires before { HasShownAll B.buckets cycle (base_of course.old) self.old audience.old.publisher }
+
+        // the run as the cycle ends
         ensures trace { trace_of course.new ≡ trace_of course.old }
         ensures on { OnOk result (IsOnCourse cycle (cycle + 1) course.new self.new) }
         ensures ran { OnOk result (HasCompletedAll cycle (base_of course.new) self.new) }
         ensures each { OnOk result (self.new.profile.each ≡ self.old.profile.each) }
+
+        // the audience
         ensures publisher { is_some audience.new.publisher ≡ is_some audience.old.publisher }
         ensures viewers { vec_len audience.new.viewers ≡ vec_len audience.old.viewers }
         ensures shown { OnOk result (HasShownEnd B.buckets cycle (base_of course.new) self.new audience.new.publisher) }
@@ -251,12 +269,19 @@ impl Run {
         cycle: u32,
         publisher: &mut Option<Publisher<B>>,
     ) -> Result<(), NoMemory>
+        // the trace and the cycle
         requires limits { IsLimited _trace.now }
         requires inside { cycle ≤ last_cycle _trace.now }
+
+        // the run, and what was shown before
         requires ran { HasCompleted _trace.now cycle self.old }
         requires before { HasShown B.buckets _trace.now (suc cycle) (cycle - 1) self.old publisher.old }
+
+        // what stays
         ensures same { self.new ≡ self.old }
         ensures publisher { is_some publisher.new ≡ is_some publisher.old }
+
+        // what is shown
         ensures shown { OnOk result ((t : ATrace) → HasCompleted t cycle self.old → HasShown B.buckets t (suc cycle) (cycle - 1) self.old publisher.old
             → HasShown B.buckets t (suc cycle) cycle self.old publisher.new) }
     {
@@ -281,12 +306,19 @@ impl Run {
         gate: &G,
         viewers: &mut [Viewer<B>],
     ) -> Result<(), NoMemory>
+        // the helpers
         requires background { background ≤ 4 }
+
+        // the run as the cycle begins
         requires on { IsOnCourse cycle cycle course.old self.old }
         requires begun { HasBegunAll cycle (base_of course.old) self.old }
+
+        // the course goes on
         ensures trace { trace_of course.new ≡ trace_of course.old }
         ensures on { OnOk result (IsOnCourse cycle (cycle + 1) course.new self.new) }
         ensures alike { OnOk result (AreAlike cycle (base_of course.old) (base_of course.new)) }
+
+        // the run as the cycle ends
         ensures ran { OnOk result (HasCompletedAll cycle (base_of course.new) self.new) }
         ensures each { OnOk result (self.new.profile.each ≡ self.old.profile.each) }
         ensures follows { OnOk result (GoesOn self.old self.new) }
@@ -356,12 +388,19 @@ impl Run {
         gate: &G,
         viewers: &mut [Viewer<B>],
     ) -> Result<(), NoMemory>
+        // the helpers
         requires background { background ≤ 4 }
+
+        // the run as the cycle begins
         requires on { HasRidden cycle cycle rides.old self.old }
         requires begun { HasBegunAll cycle rides.old.growing.trace self.old }
+
+        // the rides go on
         ensures trace { rides.new.trace ≡ rides.old.trace }
         ensures on { OnOk result (HasRidden cycle (cycle + 1) rides.new self.new) }
         ensures alike { OnOk result (AreAlike cycle rides.old.growing.trace rides.new.growing.trace) }
+
+        // the run as the cycle ends
         ensures ran { OnOk result (HasCompletedAll cycle rides.new.growing.trace self.new) }
         ensures each { OnOk result (self.new.profile.each ≡ self.old.profile.each) }
         ensures follows { OnOk result (GoesOn self.old self.new) }
@@ -454,11 +493,18 @@ impl Run {
 
     // The mark end behind a cycle comes, and the next cycle begins. Where each mark end is told, the profile of the one before is read.
     fn mark_end(&mut self, alloc: Global, trace: &Trace, cycle: u32) -> Result<(), NoMemory>
+        // the trace and the cycle
         requires limits { IsLimited trace.now }
         requires before { cycle < last_cycle trace.now }
+
+        // the run as the cycle ended
         requires ran { HasCompleted trace.now cycle self.old }
+
+        // the next cycle
         ensures begun { OnOk result ((t : ATrace) → IsLimited t → cycle + 1 < length t.cycles → AreAlike (cycle + 1) trace.now t
             → HasCompleted t cycle self.old → HasBegun t (cycle + 1) self.new) }
+
+        // what stays
         ensures each { OnOk result (self.new.profile.each ≡ self.old.profile.each) }
         ensures kept { OnOk result ((self.new.answers ≡ self.old.answers) × (self.new.sampled ≡ self.old.sampled)) }
         ensures known { OnOk result (self.new.profile.known ≡ self.old.profile.known) }

@@ -62,16 +62,25 @@ fn run_before<B: Board + Send + Sync, R: Threads + Wait + Sync, G: Gate>(
     readers: u32,
     gate: &G,
 ) -> Result<Watched, NoMemory>
+    // the trace
     requires limits { IsLimited (trace_of course) }
+
+    // the readers and their board
     requires readers { (1 ≤ readers) × (readers ≤ 4) }
     requires name { opened ≡ B.book }
     requires buckets { length run.profile.known ≡ B.buckets }
+
+    // the run as it begins
     requires on { IsOnCourse 0 0 course run }
     requires begun { HasBegunAll 0 (base_of course) run }
     requires each { run.profile.each ≡ false }
+
+    // what the run came to
     ensures sound { IfOk result (λ w. IsSoundByVersion (trace_of course.entry) w.ran.report) }
     ensures form { IfOk result (λ w. HasFormByVersion (trace_of course.entry) w.ran.report false) }
     ensures left { IfOk result (λ w. IsLeftByVersion (trace_of course.entry) w.ran) }
+
+    // what the readers saw
     ensures seen { IfOk result (λ w. IsWatchedByVersion (trace_of course.entry) readers w.ran.report w.seen) }
 {
     let buckets = run.profile.known.len();
@@ -92,16 +101,25 @@ fn run_with<B: Board + Send + Sync, R: Threads + Wait + Sync, G: Gate>(
     gate: &G,
     audience: &mut Audience<B>,
 ) -> Result<Watched, NoMemory>
+    // the trace
     requires limits { IsLimited (trace_of course) }
-    requires buckets { length run.profile.known ≡ B.buckets }
+
+    // the run as it begins
     requires on { IsOnCourse 0 0 course run }
     requires begun { HasBegunAll 0 (base_of course) run }
     requires each { run.profile.each ≡ false }
+
+    // the audience, to whom nothing was shown yet
+    requires buckets { length run.profile.known ≡ B.buckets }
     requires none { vec_len audience.old.viewers ≡ 0 }
     requires unshown { audience.old.publisher ≡ Some [] }
+
+    // what the run came to
     ensures sound { IfOk result (λ w. IsSoundByVersion (trace_of course.entry) w.ran.report) }
     ensures form { IfOk result (λ w. HasFormByVersion (trace_of course.entry) w.ran.report false) }
     ensures left { IfOk result (λ w. IsLeftByVersion (trace_of course.entry) w.ran) }
+
+    // what the watchers saw
     ensures seen { IfOk result (λ w. IsWatchedByVersion (trace_of course.entry) (length watchers) w.ran.report w.seen) }
 {
     let buckets = run.profile.known.len();

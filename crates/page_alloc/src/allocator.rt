@@ -146,11 +146,16 @@ impl Pages {
     /// answer is its first page. Where no run of n pages is free, a Miss line says that. Takes no memory
     /// (`mheap.go`, `allocSpan`).
     pub fn take(&mut self, cycle: u32, n: u32, class: u8) -> Result<u32, NoRun>
+        // the journal
         requires cycle { IsBy cycle self.old.past }
         requires blocks { AreOfCycle cycle self.old.past }
         requires spare { owed self.old.past + 2 ≤ self.old.spare }
+
+        // the span
         requires some { 1 ≤ n }
         requires size { (page : ℕ) → IsFirstFit self.old.region self.old.past page n → IsSpanSize class n }
+
+        // the answer, and its line
         ensures taken { IfOk result (λ page. AddsLine self.old self.new (Line.Take cycle page n class)) }
         ensures missed { IfErr result (λ _. AddsLine self.old self.new (Line.Miss cycle n class)) }
         ensures line { IfErr result (λ none. none.line ≡ length self.old.past) }
@@ -264,11 +269,18 @@ impl Pages {
     /// The free pages of the block of 64 pages that has the least free page go to the page cache of a processor, and a Pull line
     /// says so. None exactly where no page is free. Takes no memory (`mpagecache.go`, `allocToCache`).
     pub fn pull(&mut self, cycle: u32, proc: u32) -> Option<Block>
+        // the journal
         requires cycle { IsBy cycle self.old.past }
         requires blocks { AreOfCycle cycle self.old.past }
         requires spare { owed self.old.past + 130 ≤ self.old.spare }
+
+        // the processor
         requires none_out { HasNoBlock self.old.past proc }
+
+        // what was done
         ensures pulled { IfSome result (λ block. Pulls self.old self.new cycle proc block) }
+
+        // where no page is free
         ensures none { IfNone result (HasNoRun self.old.region self.old.past 1) }
         ensures same { IfNone result (self.new ≡ self.old) }
     {
@@ -431,12 +443,19 @@ fn note_cuts(
     proc: u32,
     cuts: &[CutNote],
 )
+    // the journal
     requires room { vec_len journal.old + length cuts.now ≤ vec_capacity journal.old }
+
+    // the first pages and the page counts
     requires starts { AllByRecursion (λ (cut : CutNote). cut.page < 512 * length starts.old) cuts.now }
     requires lengths { AllByRecursion (λ (cut : CutNote). cut.page < length lengths.old) cuts.now }
+
+    // the journal behind it
     ensures past { past_of journal.new.items ≡ behind_cuts cycle proc cuts.now (past_of journal.old.items) }
     ensures len { vec_len journal.new ≡ vec_len journal.old + length cuts.now }
     ensures capacity { vec_capacity journal.old ≤ vec_capacity journal.new }
+
+    // the first pages and the page counts behind it
     ensures starts { (p : ℕ) → pages_in starts.new p ≡ with_firsts cuts.now (pages_in starts.old) p }
     ensures lengths { lengths.new ≡ with_lengths cuts.now lengths.old }
 {

@@ -91,13 +91,22 @@ impl Levels {
     /// the top, at eight of each other level and at eight words of a chunk at most, and raises the counter by one for each
     /// (`mpagealloc.go`, `find`).
     pub(crate) fn find(&self, chunks: &[Chunk], search: u32, n: u32, steps: &mut u64) -> Option<u32>
+        // the chunks, and the levels
         requires few { length chunks.now ≤ MAX_CHUNKS }
         requires levels { AreRight (free_in chunks.now) (length chunks.now) self.now }
+
+        // the run that is looked for
         requires taken { (p : ℕ) → p < search → free_in chunks.now p ≡ false }
         requires some { 1 ≤ n }
+
+        // the counter
         requires room { steps.old ≤ 2 ^ 63 }
+
+        // the answer
         ensures found { IfSome result (IsFirstRunIn (free_in chunks.now) (512 * length chunks.now) n) }
         ensures none { IfNone result (HasNoRunIn (free_in chunks.now) (512 * length chunks.now) n) }
+
+        // the counter behind it
         ensures steps { (steps.old < steps.new) × (steps.new ≤ steps.old + 41) }
     {
         *steps += 1;
@@ -134,14 +143,23 @@ impl Levels {
         n: u32,
         steps: &mut u64,
     ) -> Option<u32>
+        // the chunks, and the levels
         requires few { length chunks.now ≤ MAX_CHUNKS }
         requires levels { AreRight (free_in chunks.now) (length chunks.now) self.now }
+
+        // the run that is looked for
         requires taken { (p : ℕ) → p < search → free_in chunks.now p ≡ false }
         requires some { 1 ≤ n }
         requires placed { IsPlaced (free_in chunks.now) (2 ^ 21) (2 ^ 15) n place }
+
+        // the counter
         requires room { steps.old + 24 < 2 ^ 64 }
+
+        // the answer
         ensures found { IfSome result (IsFirstRunIn (free_in chunks.now) (512 * length chunks.now) n) }
         ensures none { IfNone result (HasNoRunIn (free_in chunks.now) (512 * length chunks.now) n) }
+
+        // the counter behind it
         ensures steps { (steps.old ≤ steps.new) × (steps.new ≤ steps.old + 24) }
     {
         let place = descend(
@@ -198,13 +216,22 @@ fn refresh(level: &mut [Sum], chunks: &[Chunk], first: usize, last: usize)
 /// The first run of `n` free pages that begins in the chunk with this number, which has one. It reads the chunk's words up
 /// to the run's end, and raises the counter by one for each.
 fn first_run(chunks: &[Chunk], index: u32, n: u32, steps: &mut u64) -> Option<u32>
-    requires some { 1 ≤ n }
+    // the chunk
     requires chunk { index < length chunks.now }
     requires few { length chunks.now ≤ MAX_CHUNKS }
+
+    // the run in it
+    requires some { 1 ≤ n }
     requires inside { IsInside (free_in chunks.now) (2 ^ 21) (512 * index) 512 n }
+
+    // the counter
     requires room { steps.old + 8 < 2 ^ 64 }
+
+    // the answer
     ensures found { IfSome result (IsFirstRunIn (free_in chunks.now) (2 ^ 21) n) }
     ensures some { IsSome result }
+
+    // the counter behind it
     ensures steps { (steps.old ≤ steps.new) × (steps.new ≤ steps.old + 8) }
 {
     let page = chunks[index as usize].find(n, 0)?;

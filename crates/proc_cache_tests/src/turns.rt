@@ -32,11 +32,16 @@ pub(crate) fn small<R: Wait>(
     event: Event,
     bucket: u32,
 ) -> Result<Placed, Refused>
+    // the hand with its processor, and the objects
     requires ready { IsReady shop.now.shared.now shop.now.ring.now shop.now.marks.now hand.old proc.old }
     requires objects { AreObjects hand.old.worker.view.own.log objects.old.items }
+
+    // the event and its bucket
     requires some { 1 ≤ event.size }
     requires small { event.size ≤ 32768 }
     requires bucket { bucket < 2 }
+
+    // the same behind it
     ensures ready { IsReady shop.now.shared.now shop.now.ring.now shop.now.marks.now hand.new proc.new }
     ensures objects { AreObjects hand.new.worker.view.own.log objects.new.items }
 {
@@ -63,12 +68,19 @@ fn place<R: Wait>(
     event: Event,
     bucket: u32,
 ) -> Result<Placed, Refused>
+    // the hand with its processor
     requires ready { IsReady shop.now.shared.now shop.now.ring.now shop.now.marks.now hand.old proc.old }
+
+    // the event and its bucket
     requires some { 1 ≤ event.size }
     requires small { event.size ≤ 32768 }
     requires bucket { bucket < 2 }
+
+    // the same behind it
     ensures ready { IsReady shop.now.shared.now shop.now.ring.now shop.now.marks.now hand.new proc.new }
     ensures grows { Grows hand.old.worker hand.new.worker }
+
+    // what is placed
     ensures placed { IfOk result (λ p. IsPlaced event.size p.addr hand.new.worker) }
 {
     alloc(rt, proc, shop, hand, event, bucket)

@@ -14,14 +14,21 @@ use atomic_table::Seat;
 
 // Moves what waits of a bucket's allocations, or of its frees.
 fn move_count(counts: &Counts, seat: &mut Seat<(), Sight>, kind: Kind, odd: bool, bucket: u32)
+    // the seat
     requires fits { Fits counts.now.table_id counts.now.key seat.old.table_id }
     requires alone { IsAlone seat.old.me.0 }
     requires publishing { IsPublishing seat.old.me.0 }
+
+    // the cycle, and the bucket
     requires next { odd ≡ not (is_odd seat.old.me.0.view.cycle) }
     requires bucket { bucket < counts.now.key }
+
+    // the seat behind it
     ensures table { seat.new.table_id ≡ seat.old.table_id }
     ensures slots { seat.new.me.1 ≡ seat.old.me.1 }
     ensures goes { GoesOn seat.old.me.0 seat.new.me.0 }
+
+    // what was moved
     ensures moved { IsMoved seat.new.me.0 kind bucket }
 {
     let waiting = Word::Waiting(kind, odd, bucket);
@@ -34,14 +41,21 @@ fn move_count(counts: &Counts, seat: &mut Seat<(), Sight>, kind: Kind, odd: bool
 
 // Moves what waits of a bucket.
 fn move_bucket(counts: &Counts, seat: &mut Seat<(), Sight>, odd: bool, bucket: u32)
+    // the seat
     requires fits { Fits counts.now.table_id counts.now.key seat.old.table_id }
     requires alone { IsAlone seat.old.me.0 }
     requires publishing { IsPublishing seat.old.me.0 }
+
+    // the cycle, and the bucket
     requires next { odd ≡ not (is_odd seat.old.me.0.view.cycle) }
     requires bucket { bucket < counts.now.key }
+
+    // the seat behind it
     ensures table { seat.new.table_id ≡ seat.old.table_id }
     ensures slots { seat.new.me.1 ≡ seat.old.me.1 }
     ensures goes { GoesOn seat.old.me.0 seat.new.me.0 }
+
+    // what was moved
     ensures moved { (k : KindSeen) → IsMoved seat.new.me.0 k bucket }
 {
     move_count(counts, seat, Kind::Allocs, odd, bucket);
@@ -50,14 +64,21 @@ fn move_bucket(counts: &Counts, seat: &mut Seat<(), Sight>, odd: bool, bucket: u
 
 // Moves what waits of any bucket.
 fn move_all(counts: &Counts, seat: &mut Seat<(), Sight>, odd: bool, buckets: u32)
+    // the seat
     requires fits { Fits counts.now.table_id counts.now.key seat.old.table_id }
     requires alone { IsAlone seat.old.me.0 }
     requires publishing { IsPublishing seat.old.me.0 }
+
+    // the cycle, and the buckets
     requires next { odd ≡ not (is_odd seat.old.me.0.view.cycle) }
     requires buckets { buckets ≡ counts.now.key }
+
+    // the seat behind it
     ensures table { seat.new.table_id ≡ seat.old.table_id }
     ensures slots { seat.new.me.1 ≡ seat.old.me.1 }
     ensures goes { GoesOn seat.old.me.0 seat.new.me.0 }
+
+    // what was moved
     ensures moved { (k : KindSeen) (b : ℕ) → b < buckets → IsMoved seat.new.me.0 k b }
 {
     for bucket in 0..buckets {
@@ -67,14 +88,21 @@ fn move_all(counts: &Counts, seat: &mut Seat<(), Sight>, odd: bool, buckets: u32
 
 // Moves what waits of the buckets of a list.
 fn move_listed(counts: &Counts, seat: &mut Seat<(), Sight>, odd: bool, listed: &[u32])
+    // the seat
     requires fits { Fits counts.now.table_id counts.now.key seat.old.table_id }
     requires alone { IsAlone seat.old.me.0 }
     requires publishing { IsPublishing seat.old.me.0 }
+
+    // the cycle, and the buckets of the list
     requires next { odd ≡ not (is_odd seat.old.me.0.view.cycle) }
     requires within { (k : ℕ) → k < length listed.now → slice_index listed.now k < counts.now.key }
+
+    // the seat behind it
     ensures table { seat.new.table_id ≡ seat.old.table_id }
     ensures slots { seat.new.me.1 ≡ seat.old.me.1 }
     ensures goes { GoesOn seat.old.me.0 seat.new.me.0 }
+
+    // what was moved
     ensures moved { (k : KindSeen) (j : ℕ) → j < length listed.now → IsMoved seat.new.me.0 k (slice_index listed.now j) }
 {
     for bucket in listed {
@@ -90,15 +118,22 @@ pub(crate) fn move_noted(
     listed: &Listed,
     buckets: u32,
 )
+    // the seat
     requires fits { Fits counts.now.table_id counts.now.key seat.old.table_id }
     requires alone { IsAlone seat.old.me.0 }
     requires publishing { IsPublishing seat.old.me.0 }
+
+    // the cycle, and the buckets that were noted
     requires next { odd ≡ not (is_odd seat.old.me.0.view.cycle) }
     requires buckets { buckets ≡ counts.now.key }
     requires lists { Lists buckets seat.old.me.0.due listed.now.all listed.now.buckets.items }
+
+    // the seat behind it
     ensures table { seat.new.table_id ≡ seat.old.table_id }
     ensures slots { seat.new.me.1 ≡ seat.old.me.1 }
     ensures goes { GoesOn seat.old.me.0 seat.new.me.0 }
+
+    // what was moved
     ensures moved { (k : KindSeen) (b : ℕ) → b < buckets → has b seat.old.me.0.due ≡ true → IsMoved seat.new.me.0 k b }
 {
     if listed.all {

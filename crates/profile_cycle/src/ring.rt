@@ -199,12 +199,19 @@ impl Ring {
 
     /// What is published of a bucket, modulo 2^64. All other tallies are joined.
     pub fn published(&self, t: &mut Tally, bucket: u32) -> Count
+        // the tally
         requires ring { t.old.ring ≡ self.now }
-        requires bucket { bucket < self.now.buckets }
         requires drives { t.old.view.drives ≡ true }
         requires alone { t.old.view.out ≡ 0 }
+
+        // the bucket
+        requires bucket { bucket < self.now.buckets }
+
+        // what is published
         ensures allocs { result.allocs ≡ published_allocs bucket t.old.view.calls % 2 ^ 64 }
         ensures frees { result.frees ≡ published_frees bucket t.old.view.calls % 2 ^ 64 }
+
+        // the tally, as it was
         ensures dated { AreDated t.old.view.calls }
         ensures same { t.new ≡ t.old }
     {

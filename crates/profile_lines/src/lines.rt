@@ -17,13 +17,20 @@ pub fn add_all(
     mark: u32,
     lines: &mut List<Prof>,
 ) -> Result<(), NoMemory>
+    // the tally
     requires ring { tally.old.ring ≡ ring.now }
-    requires buckets { length buckets.now ≤ ring.now.buckets }
     requires drives { tally.old.view.drives ≡ true }
     requires alone { tally.old.view.out ≡ 0 }
-    requires order { IsOrder buckets.now order.now }
     requires few { AreFew (length buckets.now) tally.old.view.calls }
+
+    // the buckets, and their order
+    requires buckets { length buckets.now ≤ ring.now.buckets }
+    requires order { IsOrder buckets.now order.now }
+
+    // the tally, as it was
     ensures tally { tally.new ≡ tally.old }
+
+    // the lines
     ensures lines { OnOk result (lines.new ≡ lines.old ++ all_lines buckets.now tally.old.view.calls mark order.now) }
 {
     for number in order {
@@ -44,14 +51,21 @@ pub fn add_changed(
     before: &mut [Count],
     lines: &mut List<Prof>,
 ) -> Result<(), NoMemory>
+    // the tally
     requires ring { tally.old.ring ≡ ring.now }
-    requires buckets { length buckets.now ≤ ring.now.buckets }
     requires drives { tally.old.view.drives ≡ true }
     requires alone { tally.old.view.out ≡ 0 }
+    requires few { AreFew (length buckets.now) tally.old.view.calls }
+
+    // the buckets, their order and the numbers before
+    requires buckets { length buckets.now ≤ ring.now.buckets }
     requires order { IsOrder buckets.now order.now }
     requires before { length before.old ≡ length order.now }
-    requires few { AreFew (length buckets.now) tally.old.view.calls }
+
+    // the tally, as it was
     ensures tally { tally.new ≡ tally.old }
+
+    // the numbers, and the lines
     ensures before { OnOk result (before.new ≡ map (count_of tally.old.view.calls) order.now) }
     ensures lines { OnOk result (lines.new ≡ lines.old ++ changed_lines buckets.now tally.old.view.calls mark order.now before.old) }
 {
@@ -71,13 +85,20 @@ fn add_if_any(
     mark: u32,
     lines: &mut List<Prof>,
 ) -> Result<(), NoMemory>
+    // the tally
     requires ring { tally.old.ring ≡ ring.now }
-    requires buckets { length buckets.now ≤ ring.now.buckets }
     requires drives { tally.old.view.drives ≡ true }
     requires alone { tally.old.view.out ≡ 0 }
-    requires number { number < length buckets.now }
     requires few { AreFew (length buckets.now) tally.old.view.calls }
+
+    // the bucket
+    requires buckets { length buckets.now ≤ ring.now.buckets }
+    requires number { number < length buckets.now }
+
+    // the tally, as it was
     ensures tally { tally.new ≡ tally.old }
+
+    // the lines
     ensures lines { OnOk result (lines.new ≡ lines.old ++ all_lines buckets.now tally.old.view.calls mark (number ∷ [])) }
 {
     let now = published(ring, tally, buckets, number);
@@ -97,13 +118,20 @@ fn add_if_changed(
     was: Count,
     lines: &mut List<Prof>,
 ) -> Result<Count, NoMemory>
+    // the tally
     requires ring { tally.old.ring ≡ ring.now }
-    requires buckets { length buckets.now ≤ ring.now.buckets }
     requires drives { tally.old.view.drives ≡ true }
     requires alone { tally.old.view.out ≡ 0 }
-    requires number { number < length buckets.now }
     requires few { AreFew (length buckets.now) tally.old.view.calls }
+
+    // the bucket
+    requires buckets { length buckets.now ≤ ring.now.buckets }
+    requires number { number < length buckets.now }
+
+    // the tally, as it was
     ensures tally { tally.new ≡ tally.old }
+
+    // the answer, and the lines
     ensures count { IfOk result (λ now. now ≡ count_of tally.old.view.calls number) }
     ensures lines { OnOk result (lines.new ≡ lines.old ++ changed_lines buckets.now tally.old.view.calls mark (number ∷ []) (was ∷ [])) }
 {
@@ -116,13 +144,20 @@ fn add_if_changed(
 
 // What is published of a bucket.
 fn published(ring: &Ring, tally: &mut Tally, buckets: &Buckets, number: u32) -> Count
+    // the tally
     requires ring { tally.old.ring ≡ ring.now }
-    requires buckets { length buckets.now ≤ ring.now.buckets }
     requires drives { tally.old.view.drives ≡ true }
     requires alone { tally.old.view.out ≡ 0 }
-    requires number { number < length buckets.now }
     requires few { AreFew (length buckets.now) tally.old.view.calls }
+
+    // the bucket
+    requires buckets { length buckets.now ≤ ring.now.buckets }
+    requires number { number < length buckets.now }
+
+    // the tally, as it was
     ensures tally { tally.new ≡ tally.old }
+
+    // the answer
     ensures count { result ≡ count_of tally.old.view.calls number }
 {
     ring.published(tally, number)

@@ -18,12 +18,19 @@ fn see_entry_as<J: OfCell>(
     set: u32,
     entry: u32,
 ) -> u64
+    // the seat
     requires table { seat.old.table_id ≡ shared.now }
     requires out { seat.old.me.0.out ≡ true }
+
+    // the entry
     requires entry { (set < 544) × (entry < chunks_at seat.old.table_id.slots) }
     requires picked { (J.set ≡ set) × (J.index ≡ entry) }
+
+    // the seat behind it
     ensures table { seat.new.table_id ≡ seat.old.table_id }
     ensures view { seat.new.me ≡ (with_found (found_in set entry result) seat.old.me.0, seat.old.me.1) }
+
+    // what was seen
     ensures low { result ≤ blocks_of (chunks_at seat.old.table_id.slots) }
 {
     let table = &shared.table;
@@ -45,14 +52,23 @@ fn see_entry(shared: &Shared, seat: &mut Seat<Item, SeatView>, set: u32, entry: 
 
 // A worker with a claim and no spare draws a block.
 fn draw(shared: &Shared, seat: &mut Seat<Item, SeatView>, set: u32, index: u32, page: u32) -> u64
+    // the seat
     requires table { seat.old.table_id ≡ shared.now }
     requires out { seat.old.me.0.out ≡ true }
     requires number { seat.old.me.0.number < 70 }
+
+    // its claim
     requires set { set < 544 }
     requires claimed { seat.old.me.0.view.own.claimed ≡ Some (record { set = set; index = index; page = page }) }
+
+    // it has no spare
     requires none { slice_index seat.old.me.0.spares seat.old.me.0.number ≡ 0 }
+
+    // the seat behind it
     ensures table { seat.new.table_id ≡ seat.old.table_id }
     ensures view { seat.new.me ≡ (with_spare (result + 1) seat.old.me.0, seat.old.me.1) }
+
+    // the block
     ensures low { result < blocks_of (chunks_at seat.old.table_id.slots) }
 {
     let (_index, _page) = (index, page);
@@ -70,14 +86,23 @@ fn spare_block(
     index: u32,
     page: u32,
 ) -> u32
+    // the seat
     requires table { seat.old.table_id ≡ shared.now }
     requires out { seat.old.me.0.out ≡ true }
     requires number { seat.old.me.0.number < 70 }
+
+    // its claim
     requires set { set < 544 }
     requires claimed { seat.old.me.0.view.own.claimed ≡ Some (record { set = set; index = index; page = page }) }
+
+    // its spare
     requires spare { slice_index seat.old.me.0.spares seat.old.me.0.number ≡ spare }
+
+    // the seat behind it
     ensures table { seat.new.table_id ≡ seat.old.table_id }
     ensures view { seat.new.me ≡ (with_spare result seat.old.me.0, seat.old.me.1) }
+
+    // the spare behind it
     ensures some { 0 < result }
 {
     let _chunks = shared.chunks;
@@ -95,15 +120,26 @@ fn put_as<J: OfCell>(
     page: u32,
     spare: u32,
 ) -> u64
+    // the seat
     requires table { seat.old.table_id ≡ shared.now }
     requires out { seat.old.me.0.out ≡ true }
+
+    // its claim
     requires cell { (set < 544) × (index + 1 < seat.old.table_id.slots) }
     requires claimed { seat.old.me.0.view.own.claimed ≡ Some (record { set = set; index = index; page = page }) }
+
+    // its spare
     requires spare { slice_index seat.old.me.0.spares seat.old.me.0.number ≡ spare }
     requires some { 0 < spare }
+
+    // the entry
     requires picked { (J.set ≡ set) × (J.index ≡ index / 512) }
+
+    // the seat behind it
     ensures table { seat.new.table_id ≡ seat.old.table_id }
     ensures view { PutsBy (result == 0) set (index / 512) spare result seat.old.me seat.new.me }
+
+    // the blocks
     ensures low { result ≤ blocks_of (chunks_at seat.old.table_id.slots) }
     ensures spare { spare ≤ blocks_of (chunks_at seat.old.table_id.slots) }
 {
@@ -124,14 +160,23 @@ fn put(
     page: u32,
     spare: u32,
 ) -> u64
+    // the seat
     requires table { seat.old.table_id ≡ shared.now }
     requires out { seat.old.me.0.out ≡ true }
+
+    // its claim
     requires cell { (set < 544) × (index + 1 < seat.old.table_id.slots) }
     requires claimed { seat.old.me.0.view.own.claimed ≡ Some (record { set = set; index = index; page = page }) }
+
+    // its spare
     requires spare { slice_index seat.old.me.0.spares seat.old.me.0.number ≡ spare }
     requires some { 0 < spare }
+
+    // the seat behind it
     ensures table { seat.new.table_id ≡ seat.old.table_id }
     ensures view { PutsBy (result == 0) set (index / 512) spare result seat.old.me seat.new.me }
+
+    // the blocks
     ensures low { result ≤ blocks_of (chunks_at seat.old.table_id.slots) }
     ensures spare { spare ≤ blocks_of (chunks_at seat.old.table_id.slots) }
 {
@@ -148,14 +193,23 @@ pub(crate) fn claimed_block(
     index: u32,
     page: u32,
 ) -> (u32, u32)
+    // the seat
     requires table { seat.old.table_id ≡ shared.now }
     requires out { seat.old.me.0.out ≡ true }
     requires number { (seat.old.me.0.number < 70) × (seat.old.me.0.number < length seat.old.me.0.spares) }
+
+    // its claim
     requires cell { (set < 544) × (index + 1 < seat.old.table_id.slots) }
     requires claimed { seat.old.me.0.view.own.claimed ≡ Some (record { set = set; index = index; page = page }) }
+
+    // its spare
     requires spare { slice_index seat.old.me.0.spares seat.old.me.0.number ≡ spare }
+
+    // the seat behind it
     ensures table { seat.new.table_id ≡ seat.old.table_id }
     ensures view { seat.new.me ≡ (with_spare result.1 (with_found (Some (record { set = set; entry = index / 512; block = result.0 })) seat.old.me.0), seat.old.me.1) }
+
+    // the block
     ensures low { result.0 < blocks_of (chunks_at seat.old.table_id.slots) }
 {
     let _chunks = shared.chunks;

@@ -38,14 +38,21 @@ fn release_as<J: OfSpan>(
     body: &Body,
     generation: u64,
 )
+    // the seat
     requires table { seat.old.table_id ≡ shared.now }
     requires out { seat.old.me.0.out ≡ true }
+
+    // the page and the generation
     requires region { IsOfRegion body.now.page seat.old.table_id seat.old.me.0 }
     requires generation { generation ≡ seat.old.me.0.view.generation }
+
+    // the span that is swept
     requires picked { J.span ≡ span_of body.now }
     requires sweeping { has body.now.page seat.old.me.0.view.own.sweeping ≡ true }
     requires lent { HasSpan seat.old.me.0.view.own body.now }
     requires marks { HasMarks seat.old.me.0.view.marks body.now }
+
+    // the seat behind it
     ensures table { seat.new.table_id ≡ seat.old.table_id }
     ensures view { seat.new.me ≡ (says_of SaidOf.Releases J.span seat.old.me.0, seat.old.me.1) }
 {
@@ -56,13 +63,20 @@ fn release_as<J: OfSpan>(
 
 // The store of G by the worker that sweeps the span.
 fn release(shared: &Shared, seat: &mut Seat<Item, SeatView>, body: &Body, generation: u64)
+    // the seat
     requires table { seat.old.table_id ≡ shared.now }
     requires out { seat.old.me.0.out ≡ true }
+
+    // the page and the generation
     requires region { IsOfRegion body.now.page seat.old.table_id seat.old.me.0 }
     requires generation { generation ≡ seat.old.me.0.view.generation }
+
+    // the span that is swept
     requires sweeping { has body.now.page seat.old.me.0.view.own.sweeping ≡ true }
     requires lent { HasSpan seat.old.me.0.view.own body.now }
     requires marks { HasMarks seat.old.me.0.view.marks body.now }
+
+    // the seat behind it
     ensures table { seat.new.table_id ≡ seat.old.table_id }
     ensures view { seat.new.me ≡ (says_of SaidOf.Releases (span_of body.now) seat.old.me.0, seat.old.me.1) }
 {
@@ -75,13 +89,20 @@ fn cache_as<J: Numbered>(
     page: u32,
     generation: u64,
 )
+    // the seat
     requires table { seat.old.table_id ≡ shared.now }
     requires out { seat.old.me.0.out ≡ true }
+
+    // the page and the generation
     requires region { IsOfRegion page seat.old.table_id seat.old.me.0 }
     requires generation { (generation ≡ seat.old.me.0.view.generation) × (generation < 8589934593) }
+
+    // the span that is held
     requires picked { J.number ≡ page }
     requires held { has page seat.old.me.0.view.own.held ≡ true }
     requires unclaimed { seat.old.me.0.view.own.claimed ≡ None }
+
+    // the seat behind it
     ensures table { seat.new.table_id ≡ seat.old.table_id }
     ensures view { seat.new.me ≡ (says (Said.Caches J.number) seat.old.me.0, seat.old.me.1) }
 {
@@ -92,12 +113,19 @@ fn cache_as<J: Numbered>(
 
 // The store of G+3 by the worker that holds the span.
 fn cache(shared: &Shared, seat: &mut Seat<Item, SeatView>, page: u32, generation: u64)
+    // the seat
     requires table { seat.old.table_id ≡ shared.now }
     requires out { seat.old.me.0.out ≡ true }
+
+    // the page and the generation
     requires region { IsOfRegion page seat.old.table_id seat.old.me.0 }
     requires generation { (generation ≡ seat.old.me.0.view.generation) × (generation < 8589934593) }
+
+    // the span that is held
     requires held { has page seat.old.me.0.view.own.held ≡ true }
     requires unclaimed { seat.old.me.0.view.own.claimed ≡ None }
+
+    // the seat behind it
     ensures table { seat.new.table_id ≡ seat.old.table_id }
     ensures view { seat.new.me ≡ (says (Said.Caches page) seat.old.me.0, seat.old.me.1) }
 {
@@ -106,12 +134,19 @@ fn cache(shared: &Shared, seat: &mut Seat<Item, SeatView>, page: u32, generation
 
 // The word of a page that the worker has cached.
 fn read_cached(shared: &Shared, seat: &mut Seat<Item, SeatView>, page: u32) -> u64
+    // the seat
     requires table { seat.old.table_id ≡ shared.now }
     requires out { seat.old.me.0.out ≡ true }
+
+    // the page
     requires region { IsOfRegion page seat.old.table_id seat.old.me.0 }
     requires cached { has page seat.old.me.0.view.own.cached ≡ true }
+
+    // the seat behind it
     ensures table { seat.new.table_id ≡ seat.old.table_id }
     ensures view { seat.new.me ≡ seat.old.me }
+
+    // what the word tells
     ensures fresh { has page seat.old.me.0.view.own.fresh ≡ (result == seat.old.me.0.view.generation + 3) }
 {
     let table = &shared.table;
@@ -125,13 +160,20 @@ fn uncache_as<J: Numbered>(
     page: u32,
     generation: u64,
 )
+    // the seat
     requires table { seat.old.table_id ≡ shared.now }
     requires out { seat.old.me.0.out ≡ true }
+
+    // the page and the generation
     requires region { IsOfRegion page seat.old.table_id seat.old.me.0 }
     requires generation { generation ≡ seat.old.me.0.view.generation }
+
+    // the span that is cached
     requires picked { J.number ≡ page }
     requires cached { has page seat.old.me.0.view.own.cached ≡ true }
     requires fresh { has page seat.old.me.0.view.own.fresh ≡ true }
+
+    // the seat behind it
     ensures table { seat.new.table_id ≡ seat.old.table_id }
     ensures view { seat.new.me ≡ (says (Said.Uncaches J.number) seat.old.me.0, seat.old.me.1) }
 {
@@ -142,12 +184,19 @@ fn uncache_as<J: Numbered>(
 
 // The store of G over G+3.
 fn uncache_fresh(shared: &Shared, seat: &mut Seat<Item, SeatView>, page: u32, generation: u64)
+    // the seat
     requires table { seat.old.table_id ≡ shared.now }
     requires out { seat.old.me.0.out ≡ true }
+
+    // the page and the generation
     requires region { IsOfRegion page seat.old.table_id seat.old.me.0 }
     requires generation { generation ≡ seat.old.me.0.view.generation }
+
+    // the span that is cached
     requires cached { has page seat.old.me.0.view.own.cached ≡ true }
     requires fresh { has page seat.old.me.0.view.own.fresh ≡ true }
+
+    // the seat behind it
     ensures table { seat.new.table_id ≡ seat.old.table_id }
     ensures view { seat.new.me ≡ (says (Said.Uncaches page) seat.old.me.0, seat.old.me.1) }
 {
@@ -160,16 +209,25 @@ fn uncache_stale_as<J: OfSpan>(
     body: &Body,
     generation: u64,
 )
+    // the seat
     requires table { seat.old.table_id ≡ shared.now }
     requires out { seat.old.me.0.out ≡ true }
+
+    // the page and the generation
     requires region { IsOfRegion body.now.page seat.old.table_id seat.old.me.0 }
     requires generation { (generation ≡ seat.old.me.0.view.generation) × (0 < generation) }
+
+    // the span that is cached
     requires picked { J.span ≡ span_of body.now }
     requires cached { has body.now.page seat.old.me.0.view.own.cached ≡ true }
     requires stale { has body.now.page seat.old.me.0.view.own.fresh ≡ false }
     requires lent { HasBody seat.old.me.0.view.own body.now }
+
+    // the seat behind it
     ensures table { seat.new.table_id ≡ seat.old.table_id }
     ensures view { seat.new.me ≡ (says (Said.UncachesStale J.span.page) seat.old.me.0, seat.old.me.1) }
+
+    // what is known of the span
     ensures marked { (k : ℕ) → has_pair seat.old.me.0.view.marks J.span.page k ≡ true → bit_of J.span.bits k ≡ true }
     ensures untouched { IsUntouched seat.old.me.0.view.generation seat.old.me.0.view.own J.span.page }
 {
@@ -182,15 +240,24 @@ fn uncache_stale_as<J: OfSpan>(
 
 // The store of G-1 over G+1.
 fn uncache_stale(shared: &Shared, seat: &mut Seat<Item, SeatView>, body: &Body, generation: u64)
+    // the seat
     requires table { seat.old.table_id ≡ shared.now }
     requires out { seat.old.me.0.out ≡ true }
+
+    // the page and the generation
     requires region { IsOfRegion body.now.page seat.old.table_id seat.old.me.0 }
     requires generation { (generation ≡ seat.old.me.0.view.generation) × (0 < generation) }
+
+    // the span that is cached
     requires cached { has body.now.page seat.old.me.0.view.own.cached ≡ true }
     requires stale { has body.now.page seat.old.me.0.view.own.fresh ≡ false }
     requires lent { HasBody seat.old.me.0.view.own body.now }
+
+    // the seat behind it
     ensures table { seat.new.table_id ≡ seat.old.table_id }
     ensures view { seat.new.me ≡ (says (Said.UncachesStale body.now.page) seat.old.me.0, seat.old.me.1) }
+
+    // what is known of the span
     ensures marked { HasMarked seat.old.me.0.view.marks body.now }
     ensures untouched { IsUntouched seat.old.me.0.view.generation seat.old.me.0.view.own body.now.page }
 {

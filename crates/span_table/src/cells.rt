@@ -59,12 +59,19 @@ fn look_spine_as<J: OfCell>(
     set: u32,
     index: u32,
 ) -> u64
+    // the seat
     requires table { seat.old.table_id ≡ shared.now }
     requires out { seat.old.me.0.out ≡ true }
+
+    // the cell
     requires cell { (set < 544) × (index + 1 < seat.old.table_id.slots) }
     requires picked { (J.set ≡ set) × (J.index ≡ index) }
+
+    // the seat behind it
     ensures table { seat.new.table_id ≡ seat.old.table_id }
     ensures view { SpineAt set index result seat.old.me seat.new.me }
+
+    // the entry
     ensures low { result ≤ blocks_of (chunks_at seat.old.table_id.slots) }
 {
     let table = &shared.table;
@@ -91,12 +98,17 @@ fn look_named_as<J: OfCell>(
     block: u32,
     index: u32,
 ) -> u64
+    // the seat
     requires table { seat.old.table_id ≡ shared.now }
     requires out { seat.old.me.0.out ≡ true }
+
+    // the cell and its block
     requires cell { (set < 544) × (index + 1 < seat.old.table_id.slots) }
     requires low { block < blocks_of (chunks_at seat.old.table_id.slots) }
     requires found { seat.old.me.0.found ≡ Some (record { set = set; entry = index / 512; block = block }) }
     requires picked { (J.set ≡ set) × (J.index ≡ index) }
+
+    // the seat behind it
     ensures table { seat.new.table_id ≡ seat.old.table_id }
     ensures view { CellAt set index result seat.old.me seat.new.me }
 {
@@ -113,11 +125,16 @@ fn look_named(
     block: u32,
     index: u32,
 ) -> u64
+    // the seat
     requires table { seat.old.table_id ≡ shared.now }
     requires out { seat.old.me.0.out ≡ true }
+
+    // the cell and its block
     requires cell { (set < 544) × (index + 1 < seat.old.table_id.slots) }
     requires low { block < blocks_of (chunks_at seat.old.table_id.slots) }
     requires found { seat.old.me.0.found ≡ Some (record { set = set; entry = index / 512; block = block }) }
+
+    // the seat behind it
     ensures table { seat.new.table_id ≡ seat.old.table_id }
     ensures view { CellAt set index result seat.old.me seat.new.me }
 {
@@ -149,12 +166,17 @@ fn fill(
     index: u32,
     page: u32,
 )
+    // the seat
     requires table { seat.old.table_id ≡ shared.now }
     requires out { seat.old.me.0.out ≡ true }
+
+    // the cell of its claim, and the block
     requires cell { (set < 544) × (index + 1 < seat.old.table_id.slots) }
     requires low { block < blocks_of (chunks_at seat.old.table_id.slots) }
     requires claimed { seat.old.me.0.view.own.claimed ≡ Some (record { set = set; index = index; page = page }) }
     requires found { seat.old.me.0.found ≡ Some (record { set = set; entry = index / 512; block = block }) }
+
+    // the seat behind it
     ensures table { seat.new.table_id ≡ seat.old.table_id }
     ensures view { seat.new.me ≡ (says (Said.Fills set page) seat.old.me.0, seat.old.me.1) }
 {
@@ -171,12 +193,19 @@ fn raise_entry_as<J: Numbered>(
     tail: u32,
     _page: u32,
 ) -> u64
+    // the seat
     requires table { seat.old.table_id ≡ shared.now }
     requires out { seat.old.me.0.out ≡ true }
+
+    // the set
     requires set { set < 544 }
     requires part { is_swept_set seat.old.me.0.view.generation set ≡ false }
+
+    // its head and its tail
     requires order { head < tail }
     requires read { has_cell set head J.number seat.old.me.0.view.own.read ≡ true }
+
+    // the seat behind it
     ensures table { seat.new.table_id ≡ seat.old.table_id }
     ensures view { RaisesEntryBy (result == head_tail head tail) set J.number result seat.old.me seat.new.me }
 {
@@ -197,12 +226,19 @@ fn raise_entry(
     tail: u32,
     page: u32,
 ) -> u64
+    // the seat
     requires table { seat.old.table_id ≡ shared.now }
     requires out { seat.old.me.0.out ≡ true }
+
+    // the set
     requires set { set < 544 }
     requires part { is_swept_set seat.old.me.0.view.generation set ≡ false }
+
+    // its head and its tail
     requires order { head < tail }
     requires read { has_cell set head page seat.old.me.0.view.own.read ≡ true }
+
+    // the seat behind it
     ensures table { seat.new.table_id ≡ seat.old.table_id }
     ensures view { RaisesEntryBy (result == head_tail head tail) set page result seat.old.me seat.new.me }
 {

@@ -20,11 +20,13 @@ ghost use Rattle.span_table.specs.declared.view.SeatView.{SeatView};
 /// The core of the rule has a free lock throughout, and the word of the lock stands apart. With the holder that the word shows, the
 /// exchange that wins the lock, each store under it and each other step is the core's own move.
 pub fn the_lock_stands_apart()
+    // the lock, and the stores under it
     ensures lock { (c : CoreState) (n : ℕ) → shown c (suc n) ≡ after (shown c 0) (Lock n) }
     ensures unlock { (c : CoreState) (n : ℕ) → shown c 0 ≡ after (shown c (suc n)) (Unlock n) }
     ensures take { (c : CoreState) (n page pages count class : ℕ) → shown (record (after_take c n page pages count class) { lock = None }) (suc n) ≡ after (shown c (suc n)) (Take n page pages count class) }
     ensures give { (c : CoreState) (n page : ℕ) → shown (record (after_give c n page) { lock = None }) (suc n) ≡ after (shown c (suc n)) (Give n page) }
 
+    // a worker's spans
     ensures acquire { (c : CoreState) (lock n page : ℕ) → shown (after c (Acquire n page)) lock ≡ after (shown c lock) (Acquire n page) }
     ensures release { (c : CoreState) (lock n page : ℕ) → shown (after c (Release n page)) lock ≡ after (shown c lock) (Release n page) }
     ensures cache { (c : CoreState) (lock n page : ℕ) → shown (after c (Cache n page)) lock ≡ after (shown c lock) (Cache n page) }
@@ -32,6 +34,7 @@ pub fn the_lock_stands_apart()
     ensures stale_uncache { (c : CoreState) (lock n page : ℕ) → shown (after c (StaleUncache n page)) lock ≡ after (shown c lock) (StaleUncache n page) }
     ensures allocate { (c : CoreState) (lock n page index : ℕ) → shown (after c (Allocate n page index)) lock ≡ after (shown c lock) (Allocate n page index) }
 
+    // the sets
     ensures claim { (c : CoreState) (lock n set page : ℕ) → shown (after c (Claim n set page)) lock ≡ after (shown c lock) (Claim n set page) }
     ensures fill { (c : CoreState) (lock n : ℕ) → shown (after c (Fill n)) lock ≡ after (shown c lock) (Fill n) }
     ensures pop_swept { (c : CoreState) (lock n set : ℕ) → shown (after c (PopSwept n set)) lock ≡ after (shown c lock) (PopSwept n set) }

@@ -60,12 +60,17 @@ pub(crate) fn lock<R: Wait>(
     seat: &mut Seat<Item, SeatView>,
     number: u32,
 ) -> Pages
+    // the seat
     requires table { seat.old.table_id ≡ shared.now }
     requires number { number ≡ seat.old.me.0.number }
     requires out { seat.old.me.0.out ≡ true }
     requires empty { seat.old.me.1 ≡ [] }
+
+    // the seat behind it
     ensures table { seat.new.table_id ≡ seat.old.table_id }
     ensures view { seat.new.me ≡ (locks result seat.old.me.0, (0, Item.Nothing) ∷ []) }
+
+    // the heap
     ensures heap { HeapSeen result seat.old.me.0 }
 {
     for _ in rt.forever() {
@@ -79,14 +84,21 @@ pub(crate) fn lock<R: Wait>(
 
 // Takes the heap lock, which is free while no worker is out, and the heap out.
 pub(crate) fn lock_alone(shared: &Shared, seat: &mut Seat<Item, SeatView>, number: u32) -> Pages
+    // the seat
     requires table { seat.old.table_id ≡ shared.now }
     requires number { number ≡ seat.old.me.0.number }
     requires out { seat.old.me.0.out ≡ true }
+
+    // the driver is alone, and has nothing out
     requires alone { (seat.old.me.0.drives ≡ true) × (seat.old.me.0.away ≡ []) }
     requires unlocked { seat.old.me.0.heap ≡ None }
     requires empty { seat.old.me.1 ≡ [] }
+
+    // the seat behind it
     ensures table { seat.new.table_id ≡ seat.old.table_id }
     ensures view { seat.new.me ≡ (locks result seat.old.me.0, (0, Item.Nothing) ∷ []) }
+
+    // the heap
     ensures heap { HeapSeen result seat.old.me.0 }
 {
     let table = &shared.table;
@@ -133,16 +145,25 @@ fn take_as<J: OfRun>(
     _heap: &Pages,
     generation: u64,
 )
+    // the seat
     requires table { seat.old.table_id ≡ shared.now }
     requires out { seat.old.me.0.out ≡ true }
+
+    // the page and the generation
     requires region { IsOfRegion body.now.page seat.old.table_id seat.old.me.0 }
     requires generation { generation ≡ seat.old.me.0.view.generation }
+
+    // the run and its body
     requires picked { (J.span ≡ span_of body.now) × (J.heap ≡ _heap.now) }
     requires run { TakesRun _heap.now body.now seat.old.me.0 }
     requires is_new { IsNew body.now.pages body.now.class body.now }
     requires class { body.now.class < 136 }
+
+    // the seat behind it
     ensures table { seat.new.table_id ≡ seat.old.table_id }
     ensures view { seat.new.me ≡ (locks J.heap (says_of (SaidOf.Takes (cycle_at seat.old.me.0.view.generation)) J.span seat.old.me.0), seat.old.me.1) }
+
+    // what is known of the page
     ensures untouched { IsUntouched seat.old.me.0.view.generation seat.old.me.0.view.own J.span.page }
     ensures nothing { mine J.span.page seat.old.me.0.view.own ≡ 0 }
 {
@@ -158,15 +179,24 @@ pub(crate) fn take(
     heap: &Pages,
     generation: u64,
 )
+    // the seat
     requires table { seat.old.table_id ≡ shared.now }
     requires out { seat.old.me.0.out ≡ true }
+
+    // the page and the generation
     requires region { IsOfRegion body.now.page seat.old.table_id seat.old.me.0 }
     requires generation { generation ≡ seat.old.me.0.view.generation }
+
+    // the run and its body
     requires run { TakesRun heap.now body.now seat.old.me.0 }
     requires is_new { IsNew body.now.pages body.now.class body.now }
     requires class { body.now.class < 136 }
+
+    // the seat behind it
     ensures table { seat.new.table_id ≡ seat.old.table_id }
     ensures view { seat.new.me ≡ (locks heap.now (says_of (SaidOf.Takes (cycle_at seat.old.me.0.view.generation)) (span_of body.now) seat.old.me.0), seat.old.me.1) }
+
+    // what is known of the page
     ensures untouched { IsUntouched seat.old.me.0.view.generation seat.old.me.0.view.own body.now.page }
     ensures nothing { mine body.now.page seat.old.me.0.view.own ≡ 0 }
 {
@@ -174,12 +204,17 @@ pub(crate) fn take(
 }
 
 fn give_as<J: OfRun>(shared: &Shared, seat: &mut Seat<Item, SeatView>, body: &Body, _heap: &Pages)
+    // the seat
     requires table { seat.old.table_id ≡ shared.now }
     requires out { (seat.old.me.0.out ≡ true) × (seat.old.me.0.slot_out ≡ 0) }
+
+    // the run that goes back
     requires region { IsOfRegion body.now.page seat.old.table_id seat.old.me.0 }
     requires picked { (J.span ≡ span_of body.now) × (J.heap ≡ _heap.now) }
     requires run { GivesRun _heap.now body.now seat.old.me.0 }
     requires may { MayGive body.now seat.old.me.0 }
+
+    // the seat behind it
     ensures table { seat.new.table_id ≡ seat.old.table_id }
     ensures view { seat.new.me ≡ (locks J.heap (says (Said.Gives J.span.page J.span.pages) seat.old.me.0), seat.old.me.1) }
 {
@@ -190,11 +225,16 @@ fn give_as<J: OfRun>(shared: &Shared, seat: &mut Seat<Item, SeatView>, body: &Bo
 
 // The store of 0, at the first page of the run that the journal's line gave back.
 pub(crate) fn give(shared: &Shared, seat: &mut Seat<Item, SeatView>, body: &Body, heap: &Pages)
+    // the seat
     requires table { seat.old.table_id ≡ shared.now }
     requires out { (seat.old.me.0.out ≡ true) × (seat.old.me.0.slot_out ≡ 0) }
+
+    // the run that goes back
     requires region { IsOfRegion body.now.page seat.old.table_id seat.old.me.0 }
     requires run { GivesRun heap.now body.now seat.old.me.0 }
     requires may { MayGive body.now seat.old.me.0 }
+
+    // the seat behind it
     ensures table { seat.new.table_id ≡ seat.old.table_id }
     ensures view { seat.new.me ≡ (locks heap.now (says (Said.Gives body.now.page body.now.pages) seat.old.me.0), seat.old.me.1) }
 {
@@ -247,12 +287,17 @@ fn unlock_told_as<J: Hearing>(
     heap: Pages,
     _run: Option<Run>,
 )
+    // the seat
     requires table { seat.old.table_id ≡ shared.now }
     requires out { seat.old.me.0.out ≡ true }
     requires alone { seat.old.me.0.drives ≡ true → seat.old.me.0.away ≡ [] }
+
+    // the journal, and the heap with its slot
     requires picked { J.journal ≡ told_if seat.old.me.0.drives heap.past }
     requires mine { ScavengesRun heap _run seat.old.me.0 }
     requires empty { seat.old.me.1 ≡ (0, Item.Nothing) ∷ [] }
+
+    // the seat behind it
     ensures table { seat.new.table_id ≡ seat.old.table_id }
     ensures view { seat.new.me ≡ (unlocks (hears J.journal seat.old.me.0), []) }
 {
@@ -270,11 +315,16 @@ pub(crate) fn unlock_told(
     heap: Pages,
     run: Option<Run>,
 )
+    // the seat
     requires table { seat.old.table_id ≡ shared.now }
     requires out { seat.old.me.0.out ≡ true }
     requires alone { seat.old.me.0.drives ≡ true → seat.old.me.0.away ≡ [] }
+
+    // the heap with its slot
     requires mine { ScavengesRun heap run seat.old.me.0 }
     requires empty { seat.old.me.1 ≡ (0, Item.Nothing) ∷ [] }
+
+    // the seat behind it
     ensures table { seat.new.table_id ≡ seat.old.table_id }
     ensures view { seat.new.me ≡ (unlocks (hears (told_if seat.old.me.0.drives heap.past) seat.old.me.0), []) }
 {
@@ -282,16 +332,25 @@ pub(crate) fn unlock_told(
 }
 
 fn unlock_settled_as<J: Hearing>(shared: &Shared, seat: &mut Seat<Item, SeatView>, heap: Pages)
+    // the seat
     requires table { seat.old.table_id ≡ shared.now }
     requires out { seat.old.me.0.out ≡ true }
+
+    // the cycle may end
     requires alone { (seat.old.me.0.drives ≡ true) × (seat.old.me.0.away ≡ []) }
     requires bare { seat.old.me.0.view.own.cache ≡ None }
     requires may { MaySettle (known seat.old.table_id seat.old.me.0) }
+
+    // the journal, and the heap with its slot
     requires picked { J.journal ≡ Some heap.past }
     requires mine { KeepsHeap heap seat.old.me.0 }
     requires empty { seat.old.me.1 ≡ (0, Item.Nothing) ∷ [] }
+
+    // the seat behind it
     ensures table { seat.new.table_id ≡ seat.old.table_id }
     ensures view { seat.new.me ≡ (unlocks (hears J.journal seat.old.me.0), []) }
+
+    // how the cycle ended
     ensures ended { HasEnded heap.past seat.old.me.0 }
 {
     let table = &shared.table;
@@ -302,15 +361,24 @@ fn unlock_settled_as<J: Hearing>(shared: &Shared, seat: &mut Seat<Item, SeatView
 
 // Gives the heap and the lock back, as a cycle ends, and the driver is told the journal.
 pub(crate) fn unlock_settled(shared: &Shared, seat: &mut Seat<Item, SeatView>, heap: Pages)
+    // the seat
     requires table { seat.old.table_id ≡ shared.now }
     requires out { seat.old.me.0.out ≡ true }
+
+    // the cycle may end
     requires alone { (seat.old.me.0.drives ≡ true) × (seat.old.me.0.away ≡ []) }
     requires bare { seat.old.me.0.view.own.cache ≡ None }
     requires may { MaySettle (known seat.old.table_id seat.old.me.0) }
+
+    // the heap with its slot
     requires mine { KeepsHeap heap seat.old.me.0 }
     requires empty { seat.old.me.1 ≡ (0, Item.Nothing) ∷ [] }
+
+    // the seat behind it
     ensures table { seat.new.table_id ≡ seat.old.table_id }
     ensures view { seat.new.me ≡ (unlocks (hears (Some heap.past) seat.old.me.0), []) }
+
+    // how the cycle ended
     ensures ended { HasEnded heap.past seat.old.me.0 }
 {
     unlock_settled_as::<Brand>(shared, seat, heap);
@@ -324,12 +392,17 @@ fn pull_block_as<J: OfPull>(
     _line: u64,
     _block: Block,
 )
+    // the seat and its number
     requires table { seat.old.table_id ≡ shared.now }
     requires out { seat.old.me.0.out ≡ true }
     requires number { number < 70 }
     requires own { number ≡ seat.old.me.0.number }
+
+    // the line and its block
     requires picked { (J.line ≡ _line) × (J.block ≡ _block) × (J.heap ≡ _heap.now) }
     requires run { PullsRun _heap.now _line _block seat.old.me.0 }
+
+    // the seat behind it
     ensures table { seat.new.table_id ≡ seat.old.table_id }
     ensures view { seat.new.me ≡ (locks J.heap (says (Said.Pulls J.line (cycle_at seat.old.me.0.view.generation) seat.old.me.0.number J.block) seat.old.me.0), seat.old.me.1) }
 {
@@ -347,11 +420,16 @@ pub(crate) fn pull_block(
     line: u64,
     block: Block,
 )
+    // the seat and its number
     requires table { seat.old.table_id ≡ shared.now }
     requires out { seat.old.me.0.out ≡ true }
     requires number { number < 70 }
     requires own { number ≡ seat.old.me.0.number }
+
+    // the line and its block
     requires run { PullsRun heap.now line block seat.old.me.0 }
+
+    // the seat behind it
     ensures table { seat.new.table_id ≡ seat.old.table_id }
     ensures view { seat.new.me ≡ (locks heap.now (says (Said.Pulls line (cycle_at seat.old.me.0.view.generation) seat.old.me.0.number block) seat.old.me.0), seat.old.me.1) }
 {
@@ -380,12 +458,17 @@ fn settle_block_as<J: OfPull>(
     _heap: &Pages,
     _line: u64,
 )
+    // the seat and its number
     requires table { seat.old.table_id ≡ shared.now }
     requires out { seat.old.me.0.out ≡ true }
     requires number { number < 70 }
     requires own { number ≡ seat.old.me.0.number }
+
+    // the line that settles
     requires picked { (J.line ≡ _line) × (J.heap ≡ _heap.now) }
     requires run { SettlesRun _heap.now _line seat.old.me.0 }
+
+    // the seat behind it
     ensures table { seat.new.table_id ≡ seat.old.table_id }
     ensures view { seat.new.me ≡ (locks J.heap (says (Said.Settles J.line) seat.old.me.0), seat.old.me.1) }
 {
@@ -402,11 +485,16 @@ pub(crate) fn settle_block(
     heap: &Pages,
     line: u64,
 )
+    // the seat and its number
     requires table { seat.old.table_id ≡ shared.now }
     requires out { seat.old.me.0.out ≡ true }
     requires number { number < 70 }
     requires own { number ≡ seat.old.me.0.number }
+
+    // the line that settles
     requires run { SettlesRun heap.now line seat.old.me.0 }
+
+    // the seat behind it
     ensures table { seat.new.table_id ≡ seat.old.table_id }
     ensures view { seat.new.me ≡ (locks heap.now (says (Said.Settles line) seat.old.me.0), seat.old.me.1) }
 {
@@ -420,16 +508,25 @@ fn cut_off_as<J: OfCut>(
     _left: Block,
     generation: u64,
 )
+    // the seat
     requires table { seat.old.table_id ≡ shared.now }
     requires out { seat.old.me.0.out ≡ true }
+
+    // the page and the generation
     requires region { IsOfRegion body.now.page seat.old.table_id seat.old.me.0 }
     requires generation { generation ≡ seat.old.me.0.view.generation }
+
+    // the run and its body
     requires picked { (J.span ≡ span_of body.now) × (J.left ≡ _left) }
     requires cut { CutsRun body.now _left seat.old.me.0 }
     requires is_new { IsNew body.now.pages body.now.class body.now }
     requires class { body.now.class < 136 }
+
+    // the seat behind it
     ensures table { seat.new.table_id ≡ seat.old.table_id }
     ensures view { seat.new.me ≡ (says_of (SaidOf.Cuts J.left) J.span seat.old.me.0, seat.old.me.1) }
+
+    // what is known of the page
     ensures untouched { IsUntouched seat.old.me.0.view.generation seat.old.me.0.view.own J.span.page }
     ensures nothing { mine J.span.page seat.old.me.0.view.own ≡ 0 }
 {
@@ -446,15 +543,24 @@ pub(crate) fn cut_off(
     left: Block,
     generation: u64,
 )
+    // the seat
     requires table { seat.old.table_id ≡ shared.now }
     requires out { seat.old.me.0.out ≡ true }
+
+    // the page and the generation
     requires region { IsOfRegion body.now.page seat.old.table_id seat.old.me.0 }
     requires generation { generation ≡ seat.old.me.0.view.generation }
+
+    // the run and its body
     requires cut { CutsRun body.now left seat.old.me.0 }
     requires is_new { IsNew body.now.pages body.now.class body.now }
     requires class { body.now.class < 136 }
+
+    // the seat behind it
     ensures table { seat.new.table_id ≡ seat.old.table_id }
     ensures view { seat.new.me ≡ (says_of (SaidOf.Cuts left) (span_of body.now) seat.old.me.0, seat.old.me.1) }
+
+    // what is known of the page
     ensures untouched { IsUntouched seat.old.me.0.view.generation seat.old.me.0.view.own body.now.page }
     ensures nothing { mine body.now.page seat.old.me.0.view.own ≡ 0 }
 {
@@ -468,11 +574,16 @@ fn find_no_cut_as<J: OfNumbers>(
     _pages: u32,
     _left: u32,
 )
+    // the seat and its number
     requires table { seat.old.table_id ≡ shared.now }
     requires out { seat.old.me.0.out ≡ true }
     requires number { number < 70 }
     requires own { number ≡ seat.old.me.0.number }
+
+    // the pages that were asked for, and those left
     requires picked { (J.first ≡ _pages) × (J.second ≡ _left) }
+
+    // the seat behind it
     ensures table { seat.new.table_id ≡ seat.old.table_id }
     ensures view { seat.new.me ≡ (says (Said.FindsNoCut J.first J.second) seat.old.me.0, seat.old.me.1) }
 {

@@ -54,12 +54,19 @@ fn begin(shared: &Shared, seat: &mut Seat<Item, SeatView>)
 
 // The tail of the next set that is to be emptied.
 fn measure(shared: &Shared, seat: &mut Seat<Item, SeatView>, set: u32) -> u32
+    // the seat
     requires table { seat.old.table_id ≡ shared.now }
     requires turning { IsTurning seat.old.me.0 }
+
+    // the next set
     requires set { IsUnswept seat.old.me.0.view.generation set }
     requires next { set / 2 ≡ seat.old.me.0.emptying.sets }
+
+    // the seat behind it
     ensures table { seat.new.table_id ≡ seat.old.table_id }
     ensures view { seat.new.me ≡ (goes_on (measures result) seat.old.me.0, seat.old.me.1) }
+
+    // the tail of the set
     ensures low { result ≤ seat.old.me.0.view.region }
 {
     let table = &shared.table;
@@ -77,17 +84,28 @@ fn find_block(
     index: u32,
     tail: u32,
 ) -> u32
+    // the seat
     requires table { seat.old.table_id ≡ shared.now }
     requires turning { IsTurning seat.old.me.0 }
+
+    // the next set
     requires set { IsUnswept seat.old.me.0.view.generation set }
     requires next { set / 2 ≡ seat.old.me.0.emptying.sets }
+
+    // its next cell, below its tail
     requires index { index ≡ seat.old.me.0.emptying.cells }
     requires tail { seat.old.me.0.emptying.tail ≡ Some tail }
     requires used { index < tail }
+
+    // its spine and the slots
     requires entries { seat.old.me.0.emptying.entries ≡ 0 }
     requires region { index + 1 < seat.old.table_id.slots }
+
+    // the seat behind it
     ensures table { seat.new.table_id ≡ seat.old.table_id }
     ensures view { seat.new.me ≡ (goes_on (finds_block (result + 1)) seat.old.me.0, seat.old.me.1) }
+
+    // the block
     ensures low { result < blocks_of (chunks_at seat.old.table_id.slots) }
 {
     let _tail = tail;
@@ -99,14 +117,23 @@ fn find_block(
 
 // The next cell of the next set becomes 0, in the block that was found.
 fn empty_cell(shared: &Shared, seat: &mut Seat<Item, SeatView>, set: u32, block: u32, index: u32)
+    // the seat
     requires table { seat.old.table_id ≡ shared.now }
     requires turning { IsTurning seat.old.me.0 }
+
+    // the next set
     requires set { IsUnswept seat.old.me.0.view.generation set }
     requires next { set / 2 ≡ seat.old.me.0.emptying.sets }
+
+    // its next cell
     requires index { index ≡ seat.old.me.0.emptying.cells }
     requires region { index + 1 < seat.old.table_id.slots }
+
+    // the block
     requires block { seat.old.me.0.emptying.block ≡ block + 1 }
     requires low { block < blocks_of (chunks_at seat.old.table_id.slots) }
+
+    // the seat behind it
     ensures table { seat.new.table_id ≡ seat.old.table_id }
     ensures view { seat.new.me ≡ (goes_on empties_cell seat.old.me.0, seat.old.me.1) }
 {
@@ -117,15 +144,24 @@ fn empty_cell(shared: &Shared, seat: &mut Seat<Item, SeatView>, set: u32, block:
 
 // The used cells of the next set become 0.
 fn empty_cells(shared: &Shared, seat: &mut Seat<Item, SeatView>, set: u32, tail: u32)
+    // the seat
     requires table { seat.old.table_id ≡ shared.now }
     requires turning { IsTurning seat.old.me.0 }
+
+    // the next set
     requires set { IsUnswept seat.old.me.0.view.generation set }
     requires next { set / 2 ≡ seat.old.me.0.emptying.sets }
+
+    // nothing of it is emptied yet
     requires cells { seat.old.me.0.emptying.cells ≡ 0 }
     requires block { seat.old.me.0.emptying.block ≡ 0 }
     requires entries { seat.old.me.0.emptying.entries ≡ 0 }
+
+    // its tail
     requires tail { seat.old.me.0.emptying.tail ≡ Some tail }
     requires region { tail < seat.old.table_id.slots }
+
+    // the seat behind it
     ensures table { seat.new.table_id ≡ seat.old.table_id }
     ensures view { seat.new.me ≡ (goes_on (has_cells tail) seat.old.me.0, seat.old.me.1) }
 {
@@ -137,12 +173,19 @@ fn empty_cells(shared: &Shared, seat: &mut Seat<Item, SeatView>, set: u32, tail:
 
 // The next entry of the next set's spine becomes 0.
 fn empty_entry(shared: &Shared, seat: &mut Seat<Item, SeatView>, set: u32, entry: u32)
+    // the seat
     requires table { seat.old.table_id ≡ shared.now }
     requires turning { IsTurning seat.old.me.0 }
+
+    // the next set
     requires set { IsUnswept seat.old.me.0.view.generation set }
     requires next { set / 2 ≡ seat.old.me.0.emptying.sets }
+
+    // its next entry
     requires entry { entry ≡ seat.old.me.0.emptying.entries }
     requires region { entry < chunks_at seat.old.table_id.slots }
+
+    // the seat behind it
     ensures table { seat.new.table_id ≡ seat.old.table_id }
     ensures view { seat.new.me ≡ (goes_on empties_entry seat.old.me.0, seat.old.me.1) }
 {
@@ -153,12 +196,19 @@ fn empty_entry(shared: &Shared, seat: &mut Seat<Item, SeatView>, set: u32, entry
 
 // The first entries of the next set's spine become 0.
 fn empty_entries(shared: &Shared, seat: &mut Seat<Item, SeatView>, set: u32, entries: u32)
+    // the seat
     requires table { seat.old.table_id ≡ shared.now }
     requires turning { IsTurning seat.old.me.0 }
+
+    // the next set
     requires set { IsUnswept seat.old.me.0.view.generation set }
     requires next { set / 2 ≡ seat.old.me.0.emptying.sets }
+
+    // its first entries
     requires none { seat.old.me.0.emptying.entries ≡ 0 }
     requires region { entries ≤ chunks_at seat.old.table_id.slots }
+
+    // the seat behind it
     ensures table { seat.new.table_id ≡ seat.old.table_id }
     ensures view { seat.new.me ≡ (goes_on (has_entries entries) seat.old.me.0, seat.old.me.1) }
 {
@@ -169,13 +219,20 @@ fn empty_entries(shared: &Shared, seat: &mut Seat<Item, SeatView>, set: u32, ent
 
 // The word of the next set becomes 0, all whose cells below its tail are, and the entries for them.
 fn empty_word(shared: &Shared, seat: &mut Seat<Item, SeatView>, set: u32, tail: u32)
+    // the seat
     requires table { seat.old.table_id ≡ shared.now }
     requires turning { IsTurning seat.old.me.0 }
+
+    // the next set
     requires set { IsUnswept seat.old.me.0.view.generation set }
     requires next { set / 2 ≡ seat.old.me.0.emptying.sets }
+
+    // its tail, and what is empty below it
     requires tail { seat.old.me.0.emptying.tail ≡ Some tail }
     requires cells { tail ≤ seat.old.me.0.emptying.cells }
     requires entries { tail ≤ 512 * seat.old.me.0.emptying.entries }
+
+    // the seat behind it
     ensures table { seat.new.table_id ≡ seat.old.table_id }
     ensures view { seat.new.me ≡ (goes_on empties_set seat.old.me.0, seat.old.me.1) }
 {
@@ -187,14 +244,23 @@ fn empty_word(shared: &Shared, seat: &mut Seat<Item, SeatView>, set: u32, tail: 
 
 // The next set is emptied: its cells, then its spine, and then its word.
 fn empty_set(shared: &Shared, seat: &mut Seat<Item, SeatView>, set: u32)
+    // the seat
     requires table { seat.old.table_id ≡ shared.now }
     requires turning { IsTurning seat.old.me.0 }
+
+    // the next set
     requires set { IsUnswept seat.old.me.0.view.generation set }
     requires next { set / 2 ≡ seat.old.me.0.emptying.sets }
+
+    // nothing of it is emptied yet
     requires cells { seat.old.me.0.emptying.cells ≡ 0 }
     requires block { seat.old.me.0.emptying.block ≡ 0 }
     requires entries { seat.old.me.0.emptying.entries ≡ 0 }
+
+    // the region
     requires region { seat.old.me.0.view.region + 1 ≡ seat.old.table_id.slots }
+
+    // the seat behind it
     ensures table { seat.new.table_id ≡ seat.old.table_id }
     ensures view { seat.new.me ≡ (goes_on empties_set seat.old.me.0, seat.old.me.1) }
 {
@@ -207,11 +273,18 @@ fn empty_set(shared: &Shared, seat: &mut Seat<Item, SeatView>, set: u32)
 
 // All unswept sets are emptied.
 fn empty_sets(shared: &Shared, seat: &mut Seat<Item, SeatView>, generation: u64)
+    // the seat and its generation
     requires table { seat.old.table_id ≡ shared.now }
     requires turning { IsTurning seat.old.me.0 }
     requires generation { generation ≡ seat.old.me.0.view.generation }
+
+    // nothing is emptied yet
     requires begun { seat.old.me.0.emptying ≡ no_emptying }
+
+    // the region
     requires region { seat.old.me.0.view.region + 1 ≡ seat.old.table_id.slots }
+
+    // the seat behind it
     ensures table { seat.new.table_id ≡ seat.old.table_id }
     ensures view { seat.new.me ≡ (with_sets 272 seat.old.me.0, seat.old.me.1) }
 {
@@ -253,17 +326,26 @@ fn turn_as<J: OfMarks>(
     generation: u64,
     _marks: &Marks,
 )
+    // the seat and the next generation
     requires table { seat.old.table_id ≡ shared.now }
     requires turning { IsTurning seat.old.me.0 }
     requires generation { generation ≡ seat.old.me.0.view.generation + 2 }
+
+    // the marks
     requires picked { J.marks ≡ _marks.now.pairs }
     requires rising { rises J.marks ≡ true }
     requires may { MayMark (known seat.old.table_id seat.old.me.0) J.marks }
+
+    // all is emptied
     requires sets { seat.old.me.0.emptying.sets ≡ 272 }
     requires counters { seat.old.me.0.emptying.counters ≡ 3 }
     requires undrawn { seat.old.me.0.emptying.undrawn ≡ true }
+
+    // the seat behind it
     ensures table { seat.new.table_id ≡ seat.old.table_id }
     ensures view { seat.new.me ≡ (turned_over J.marks seat.old.me.0, seat.old.me.1) }
+
+    // how high the generation is
     ensures early { generation ≤ 8589934592 }
 {
     let table = &shared.table;
@@ -274,16 +356,25 @@ fn turn_as<J: OfMarks>(
 
 // The new generation is stored.
 fn turn(shared: &Shared, seat: &mut Seat<Item, SeatView>, generation: u64, marks: &Marks)
+    // the seat and the next generation
     requires table { seat.old.table_id ≡ shared.now }
     requires turning { IsTurning seat.old.me.0 }
     requires generation { generation ≡ seat.old.me.0.view.generation + 2 }
+
+    // the marks
     requires rising { rises marks.now.pairs ≡ true }
     requires may { MayMark (known seat.old.table_id seat.old.me.0) marks.now.pairs }
+
+    // all is emptied
     requires sets { seat.old.me.0.emptying.sets ≡ 272 }
     requires counters { seat.old.me.0.emptying.counters ≡ 3 }
     requires undrawn { seat.old.me.0.emptying.undrawn ≡ true }
+
+    // the seat behind it
     ensures table { seat.new.table_id ≡ seat.old.table_id }
     ensures view { seat.new.me ≡ (turned_over marks.now.pairs seat.old.me.0, seat.old.me.1) }
+
+    // how high the generation is
     ensures early { generation ≤ 8589934592 }
 {
     turn_as::<Brand>(shared, seat, generation, marks);
@@ -291,15 +382,24 @@ fn turn(shared: &Shared, seat: &mut Seat<Item, SeatView>, generation: u64, marks
 
 // The whole mark end, on the driver's seat.
 fn end_marking(shared: &Shared, seat: &mut Seat<Item, SeatView>, generation: u64, marks: &Marks)
+    // the driver is alone
     requires table { seat.old.table_id ≡ shared.now }
     requires out { seat.old.me.0.out ≡ true }
     requires alone { IsAlone seat.old.me.0 }
+
+    // the generation and the region
     requires generation { (generation ≡ seat.old.me.0.view.generation) × (generation < 8589934592) }
     requires region { seat.old.me.0.view.region + 1 ≡ seat.old.table_id.slots }
+
+    // the marks
     requires rising { rises marks.now.pairs ≡ true }
     requires may { MayMark (known seat.old.table_id seat.old.me.0) marks.now.pairs }
+
+    // the seat behind it
     ensures table { seat.new.table_id ≡ seat.old.table_id }
     ensures view { seat.new.me ≡ (turned_over marks.now.pairs seat.old.me.0, seat.old.me.1) }
+
+    // how high the generation is
     ensures early { generation + 2 ≤ 8589934592 }
 {
     begin(shared, seat);

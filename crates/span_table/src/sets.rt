@@ -52,12 +52,19 @@ fn claim_as<J: Numbered>(
     set: u32,
     _page: u32,
 ) -> u64
+    // the seat
     requires table { seat.old.table_id ≡ shared.now }
     requires out { seat.old.me.0.out ≡ true }
+
+    // the set and its claim
     requires set { set < 544 }
     requires claim { (b : Body) × (b.page ≡ J.number) × MayClaim set b seat.old.me.0 × (seat.old.me.0.slot_out ≡ b.page + 1) × (seat.old.me.1 ≡ (b.page + 1, Item.Span b) ∷ []) }
+
+    // the seat behind it
     ensures table { seat.new.table_id ≡ seat.old.table_id }
     ensures view { seat.new.me ≡ (without_slot (says (Said.Claims set (tail_of result) J.number) seat.old.me.0), []) }
+
+    // the index
     ensures index { tail_of result + 1 < seat.old.table_id.slots }
 {
     let table = &shared.table;
@@ -67,12 +74,19 @@ fn claim_as<J: Numbered>(
 
 // Claims the next index of a set for a page, whose body is in the slot that the seat has out: it comes home with this step.
 fn claim(shared: &Shared, seat: &mut Seat<Item, SeatView>, set: u32, page: u32) -> u64
+    // the seat
     requires table { seat.old.table_id ≡ shared.now }
     requires out { seat.old.me.0.out ≡ true }
+
+    // the set and its claim
     requires set { set < 544 }
     requires claim { (b : Body) × (b.page ≡ page) × MayClaim set b seat.old.me.0 × (seat.old.me.0.slot_out ≡ b.page + 1) × (seat.old.me.1 ≡ (b.page + 1, Item.Span b) ∷ []) }
+
+    // the seat behind it
     ensures table { seat.new.table_id ≡ seat.old.table_id }
     ensures view { seat.new.me ≡ (without_slot (says (Said.Claims set (tail_of result) page) seat.old.me.0), []) }
+
+    // the index
     ensures index { tail_of result + 1 < seat.old.table_id.slots }
 {
     claim_as::<Brand>(shared, seat, set, page)
@@ -86,12 +100,19 @@ fn raise_as<J: Numbered>(
     tail: u32,
     _page: u32,
 ) -> u64
+    // the seat
     requires table { seat.old.table_id ≡ shared.now }
     requires out { (seat.old.me.0.out ≡ true) × (seat.old.me.0.slot_out ≡ 0) }
+
+    // the set
     requires set { set < 544 }
     requires part { is_swept_set seat.old.me.0.view.generation set ≡ true }
+
+    // its head and its tail
     requires order { head < tail }
     requires read { has_cell set head J.number seat.old.me.0.view.own.read ≡ true }
+
+    // the seat behind it
     ensures table { seat.new.table_id ≡ seat.old.table_id }
     ensures view { RaisesBy (result == head_tail head tail) set J.number result seat.old.me seat.new.me }
 {
@@ -112,12 +133,19 @@ fn raise(
     tail: u32,
     page: u32,
 ) -> u64
+    // the seat
     requires table { seat.old.table_id ≡ shared.now }
     requires out { (seat.old.me.0.out ≡ true) × (seat.old.me.0.slot_out ≡ 0) }
+
+    // the set
     requires set { set < 544 }
     requires part { is_swept_set seat.old.me.0.view.generation set ≡ true }
+
+    // its head and its tail
     requires order { head < tail }
     requires read { has_cell set head page seat.old.me.0.view.own.read ≡ true }
+
+    // the seat behind it
     ensures table { seat.new.table_id ≡ seat.old.table_id }
     ensures view { RaisesBy (result == head_tail head tail) set page result seat.old.me seat.new.me }
 {
@@ -127,15 +155,22 @@ fn raise(
 impl Shared {
     /// Claims the next index of a swept set of the body's class for a span that the worker holds, and brings the body home. Takes no memory.
     pub fn claim_index(&self, w: &mut Worker, set: u32, body: Body) -> u32
+        // the worker and the set
         requires table { w.old.table ≡ self.now }
         requires set { set < 544 }
         requires part { is_swept_set w.old.view.generation set ≡ true }
+
+        // the span that the worker holds
         requires held { has body.page w.old.view.own.held ≡ true }
         requires unclaimed { w.old.view.own.claimed ≡ None }
         requires lent { HasBody w.old.view.own body }
+
+        // the span may go into the set
         requires fits { IsOfSet set body }
         requires unpopped { many (is_pop_of set body.page) w.old.view.own.log ≡ 0 }
         requires unplaced { is_full_set set ≡ false → many (is_placing_in body.page) w.old.view.own.log ≡ 0 }
+
+        // what was done
         ensures { w.new ≡ after_said (Said.Claims set result body.page) w.old }
     {
         let page = body.page;

@@ -101,13 +101,20 @@ fn hand_out_as<J: Leaving>(
     _number: u32,
     _cache: &Option<PageCache>,
 ) -> Seat<Item, SeatView>
+    // the driver
     requires table { seat.old.table_id ≡ shared.now }
     requires out { seat.old.me.0.out ≡ true }
     requires drives { seat.old.me.0.drives ≡ true }
+
+    // who goes out
     requires number { J.number < length seat.old.me.0.view.parts }
     requires home { has J.number seat.old.me.0.away ≡ false }
     requires other { J.number ≢ seat.old.me.0.number }
+
+    // its page cache
     requires cache { (J.cache ≡ None) ⊎ (J.cache ≡ Some (only J.number None)) }
+
+    // the driver and the worker behind it
     ensures tables { (seat.new.table_id ≡ seat.old.table_id) × (result.table_id ≡ seat.old.table_id) }
     ensures driver { seat.new.me ≡ (without_number J.number seat.old.me.0, seat.old.me.1) }
     ensures worker { result.me ≡ (sent_out J.cache J.number seat.old.me.0, []) }
@@ -123,13 +130,20 @@ fn hand_out_seat(
     number: u32,
     cache: &Option<PageCache>,
 ) -> Seat<Item, SeatView>
+    // the driver
     requires table { seat.old.table_id ≡ shared.now }
     requires out { seat.old.me.0.out ≡ true }
     requires drives { seat.old.me.0.drives ≡ true }
+
+    // who goes out
     requires number { number < length seat.old.me.0.view.parts }
     requires home { has number seat.old.me.0.away ≡ false }
     requires other { number ≢ seat.old.me.0.number }
+
+    // its page cache
     requires cache { (cache.now ≡ None) ⊎ (cache.now ≡ Some (only number None)) }
+
+    // the driver and the worker behind it
     ensures tables { (seat.new.table_id ≡ seat.old.table_id) × (result.table_id ≡ seat.old.table_id) }
     ensures driver { seat.new.me ≡ (without_number number seat.old.me.0, seat.old.me.1) }
     ensures worker { result.me ≡ (sent_out cache.now number seat.old.me.0, []) }
@@ -179,11 +193,16 @@ impl Shared {
 
     /// Hands out the worker of a number that is not out, with the part of that number. Others may be out.
     pub fn hand_out(&self, driver: &mut Worker, number: u32) -> Worker
+        // the driver
         requires table { driver.old.table ≡ self.now }
         requires drives { drives driver.old ≡ true }
+
+        // who goes out
         requires home { has number driver.old.away ≡ false }
         requires number { number < 69 }
         requires part { number < length driver.old.view.parts }
+
+        // the driver and the worker behind it
         ensures driver { driver.new ≡ handing number driver.old }
         ensures worker { result ≡ handed_out number driver.old }
     {
@@ -202,12 +221,17 @@ impl Shared {
 
     /// The same with a page cache for the processor of that number: one that may have one, and below 64.
     pub fn hand_out_for(&self, driver: &mut Worker, proc: u32) -> Worker
+        // the driver
         requires table { driver.old.table ≡ self.now }
         requires drives { drives driver.old ≡ true }
+
+        // who goes out, and for which processor
         requires home { has proc driver.old.away ≡ false }
         requires number { proc < 64 }
         requires procs { proc < driver.old.view.procs }
         requires part { proc < length driver.old.view.parts }
+
+        // the driver and the worker behind it
         ensures driver { driver.new ≡ handing proc driver.old }
         ensures worker { result ≡ handed_out_for proc driver.old }
     {

@@ -129,13 +129,18 @@ impl Shared {
     /// allocated in it; the last sweep of its log is of this span with nothing kept, it took no run behind that, and it has not given
     /// back the span since. Takes no memory, and waits for the heap lock.
     pub fn give_span<R: Wait>(&self, rt: &R, w: &mut Worker, body: Body)
+        // the worker, and the span that it holds
         requires table { w.old.table ≡ self.now }
         requires held { has body.page w.old.view.own.held ≡ true }
         requires unclaimed { w.old.view.own.claimed ≡ None }
         requires lent { HasBody w.old.view.own body }
+
+        // the span is empty, and was swept last
         requires empty { IsEmptyBody body }
         requires swept { EndsSweptEmpty body.page w.old.view.own.log }
         requires last { is_swept_last body.page w.old.view.own.log ≡ true }
+
+        // what was done
         ensures { w.new ≡ after_said (Said.Gives body.page body.pages) w.old }
     {
         let mut heap = lock(rt, self, &mut w.seat, w.number);

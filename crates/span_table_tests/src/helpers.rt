@@ -32,12 +32,17 @@ pub(crate) fn large<R: Wait>(
 
 // Claims a cell of the full set for a large span.
 pub(crate) fn claim_large(shared: &Shared, w: &mut Worker, body: Body) -> Claim
+    // the worker with the span
     requires ready { IsReady shared.now w.old }
     requires body { HoldsLarge w.old body }
+
+    // what stays
     ensures table { w.new.table ≡ w.old.table }
     ensures number { w.new.number ≡ w.old.number }
     ensures away { w.new.away ≡ w.old.away }
     ensures generation { w.new.view.generation ≡ w.old.view.generation }
+
+    // what is claimed
     ensures claimed { w.new.view.own.claimed ≡ Some (record { set = result.set; index = result.index; page = result.page }) }
 {
     claim(shared, w, LARGE, body)

@@ -19,9 +19,14 @@ pub const LARGE: SetId = SetId {
 
 /// A region of so many chunks with this goal for backed pages, and the driver's worker.
 pub fn start(alloc: Global, chunks: u32, goal: u32) -> Result<(Shared, Worker), NoMemory>
+    // the chunks
     requires some { 1 ≤ chunks }
     requires few { chunks ≤ MAX_CHUNKS }
+
+    // the driver, which is free
     ensures free { IfOk result (λ made. IsFreeDriver made.0 made.1) }
+
+    // what the driver sees
     ensures generation { IfOk result (λ made. made.1.view.generation ≡ 4) }
     ensures region { IfOk result (λ made. made.1.view.region ≡ 512 * chunks) }
     ensures marks { IfOk result (λ made. made.1.view.marks ≡ []) }
@@ -33,11 +38,20 @@ pub fn start(alloc: Global, chunks: u32, goal: u32) -> Result<(Shared, Worker), 
 
 /// Takes a large span of so many pages, places its object and pushes it to the full set. Answers its page.
 pub fn place<R: Wait>(rt: &R, shared: &Shared, w: &mut Worker, pages: u32) -> Result<u32, NoMemory>
+    // the driver
     requires free { IsFreeDriver shared.now w.old }
+
+    // the span
     requires large { 5 ≤ pages }
+
+    // the driver behind it
     ensures free { OnOk result (IsFreeDriver shared.now w.new) }
+
+    // what is placed
     ensures placed { IfOk result (λ page. HasPlaced page w.new) }
     ensures others { OnOk result (KeepsPlaced w.old w.new) }
+
+    // what stays
     ensures generation { OnOk result (w.new.view.generation ≡ w.old.view.generation) }
     ensures region { OnOk result (w.new.view.region ≡ w.old.view.region) }
 {

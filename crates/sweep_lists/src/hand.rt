@@ -281,12 +281,17 @@ fn two_lists(alloc: Global, pages: u32) -> Result<(Numbers, Numbers), NoMemory>
 
 // A page leaves a list for another one. It fails only where there is no room.
 fn pass_on(source: &mut Numbers, target: &mut Numbers, page: u32) -> Result<(), NoMemory>
+    // the page
     ensures left { OnOk result (source.new.items ≡ erase page source.old.items) }
     ensures come { OnOk result (target.new.items ≡ target.old.items ++ page ∷ []) }
+
+    // the bounds and the room of the lists
     ensures source_reach { source.new.reach ≡ source.old.reach }
     ensures source_space { source.new.space ≡ source.old.space }
     ensures target_reach { target.new.reach ≡ target.old.reach }
     ensures grows { target.old.space ≤ target.new.space }
+
+    // where there is no room
     ensures full { OnErr result (target.old.space ≤ length target.old.items) }
     ensures source_err { OnErr result (source.new ≡ source.old) }
     ensures target_err { OnErr result (target.new ≡ target.old) }

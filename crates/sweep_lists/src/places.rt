@@ -132,15 +132,24 @@ pub(crate) fn make_place(
     starts: &mut Vec<Option<usize>>,
     space: usize,
 )
+    // the table
     requires tells { TellsPlaces starts.old.items (map place_view places.old.items) }
+
+    // the space
     requires space { length (there (map place_view places.old.items)) < space }
+
+    // the lives
     ensures lives { there (map place_view places.new.items) ≡ there (map place_view places.old.items) }
-    ensures capacity { vec_capacity places.new ≡ vec_capacity places.old }
-    ensures fits { vec_len places.new < space }
-    ensures tells { TellsPlaces starts.new.items (map place_view places.new.items) }
-    ensures reach { vec_len starts.new ≡ vec_len starts.old }
     ensures apart { AreApart (map place_view places.old.items) → AreApart (map place_view places.new.items) }
     ensures room { All PlaceRoom places.old.items → All PlaceRoom places.new.items }
+
+    // the places, with space for one more
+    ensures capacity { vec_capacity places.new ≡ vec_capacity places.old }
+    ensures fits { vec_len places.new < space }
+
+    // the table behind it
+    ensures tells { TellsPlaces starts.new.items (map place_view places.new.items) }
+    ensures reach { vec_len starts.new ≡ vec_len starts.old }
 {
     if space <= places.len() {
         close_up(places, starts);
@@ -149,14 +158,21 @@ pub(crate) fn make_place(
 
 // Empty places go, and the table tells where lives begin then.
 fn close_up(places: &mut Vec<Option<Life>>, starts: &mut Vec<Option<usize>>)
+    // the table
     requires tells { TellsPlaces starts.old.items (map place_view places.old.items) }
+
+    // the lives
     ensures lives { there (map place_view places.new.items) ≡ there (map place_view places.old.items) }
-    ensures capacity { vec_capacity places.new ≡ vec_capacity places.old }
-    ensures fits { vec_len places.new ≡ length (there (map place_view places.old.items)) }
-    ensures tells { TellsPlaces starts.new.items (map place_view places.new.items) }
-    ensures reach { vec_len starts.new ≡ vec_len starts.old }
     ensures apart { AreApart (map place_view places.old.items) → AreApart (map place_view places.new.items) }
     ensures room { All PlaceRoom places.old.items → All PlaceRoom places.new.items }
+
+    // the places
+    ensures capacity { vec_capacity places.new ≡ vec_capacity places.old }
+    ensures fits { vec_len places.new ≡ length (there (map place_view places.old.items)) }
+
+    // the table behind it
+    ensures tells { TellsPlaces starts.new.items (map place_view places.new.items) }
+    ensures reach { vec_len starts.new ≡ vec_len starts.old }
 {
     remove_empty(places);
     tell_places(starts, places);

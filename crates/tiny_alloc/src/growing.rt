@@ -88,11 +88,15 @@ impl Growing {
     /// It takes time in the marks of that mark end and in the objects of the next cycle; where riders are marked, a logarithm more
     /// in the spans and those riders.
     pub fn next_cycle(&mut self, alloc: Global, trace: &Trace) -> Result<(), NoMemory>
+        // the trace, which has a next cycle
         requires limited { IsLimited (as_version_2 trace.now) }
         requires next { last_cycle self.old.trace + 1 < length trace.now.cycles }
+
+        // the base so far
         requires growing { IsGrowing trace.now (last_cycle self.old.trace) self.old.parts.items self.old.trace }
         requires answered { length self.old.parts.items ≡ objects_before trace.now (last_cycle self.old.trace + 1) }
 
+        // the base behind it
         ensures growing { OnOk result (IsGrowing trace.now (last_cycle self.old.trace + 1) self.new.parts.items self.new.trace) }
         ensures parts { OnOk result (self.new.parts.items ≡ self.old.parts.items) }
         ensures done { OnOk result (take (last_cycle self.old.trace) self.new.trace.cycles ≡ take (last_cycle self.old.trace) self.old.trace.cycles) }

@@ -54,12 +54,19 @@ pub(crate) fn add_parts(
     blocks: &mut [Tiny],
     parts: &mut Vec<Part>,
 ) -> Result<(), NoMemory>
+    // the cycle, with its answers
     requires limited { IsLimited (as_version_2 trace.now) }
     requires cycle { cycle < length trace.now.cycles }
     requires answers { objects_before trace.now (cycle + 1) ≤ length answers.now }
+
+    // the processors' blocks
     requires blocks { length blocks.old ≡ trace.now.header.procs }
+
+    // the parts so far
     requires done { length parts.old.items ≡ objects_before trace.now cycle }
     requires parts { AreParts trace.now answers.now parts.old.items }
+
+    // the same behind it
     ensures blocks { length blocks.new ≡ length blocks.old }
     ensures done { OnOk result (length parts.new.items ≡ objects_before trace.now (cycle + 1)) }
     ensures parts { OnOk result (AreParts trace.now answers.now parts.new.items) }

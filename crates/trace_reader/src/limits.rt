@@ -69,11 +69,16 @@ pub(crate) fn version_of(line: &[u8], number: u64) -> Result<u8, TraceFault>
 
 /// The header that the second line has behind a first one of this version, or what is wrong with it.
 pub(crate) fn header_of(line: &[u8], number: u64, version: u8) -> Result<Header, TraceFault>
+    // what is known before
     requires { IsVersion version }
+
+    // what is read
     ensures says { IfOk result (λ h. said line.now ≡ Some (heap_of h)) }
     ensures version { IfOk result (λ h. h.version ≡ version) }
     ensures fits { IfOk result (λ h. HeaderFits h) }
     ensures region { IfOk result (λ h. RegionFits h) }
+
+    // why it is refused
     ensures no_read { NoReadFault result }
     ensures fault { IfErr result (λ fault. said_fault number (Title version ∷ []) (said line.now) ≡ Some fault) }
 {
@@ -85,11 +90,16 @@ pub(crate) fn header_of(line: &[u8], number: u64, version: u8) -> Result<Header,
 
 // The header of these numbers, or the first that is past its limit.
 fn limited_header(form: HeapForm, number: u64, version: u8) -> Result<Header, TraceFault>
+    // what is known before
     requires { IsVersion version }
+
+    // what is read
     ensures version { IfOk result (λ h. h.version ≡ version) }
     ensures header { IfOk result (λ h. heap_of h ≡ Heap form) }
     ensures fits { IfOk result (λ h. HeaderFits h) }
     ensures region { IfOk result (λ h. RegionFits h) }
+
+    // why it is refused
     ensures no_read { NoReadFault result }
     ensures fault { IfErr result (λ fault. option_map (λ which. Limit number which) (passed (header_numbers version form)) ≡ Some fault) }
 {

@@ -52,10 +52,15 @@ fn take_sized(
     n: u32,
     class: u8,
 ) -> Result<Option<u32>, NoMemory>
+    // the pages
     requires by { IsBy 0 pages.old.past }
     requires blocks { open_blocks pages.old.past ≡ [] }
+
+    // the span
     requires some { 1 ≤ n }
     requires size { IsSpanSize class n }
+
+    // the pages behind it
     ensures by { IsBy 0 pages.new.past }
     ensures blocks { open_blocks pages.new.past ≡ [] }
     ensures region { pages.new.region ≡ pages.old.region }
