@@ -41,5 +41,4 @@ pub mod PresentKept
 pub mod Unique
 pub mod Giving
 pub mod Settling
-pub mod Ready
 pub mod Scanning

@@ -8,5 +8,4 @@ pub mod Plays
 pub mod Shown
 pub mod Sweeping
 pub mod Same
-pub mod Rows
 pub mod Scanned

@@ -18,8 +18,6 @@ mod mark_end;
 mod page_caches;
 mod places;
 mod plays;
-#[cfg(test)]
-mod rows;
 mod rule;
 mod scans;
 mod sets;
@@ -27,8 +25,6 @@ mod shared;
 mod sizes;
 mod spans;
 mod steps;
-#[cfg(test)]
-mod tests;
 mod view;
 mod words;
 

@@ -6,9 +6,13 @@
 #[cfg(test)]
 mod caches;
 #[cfg(test)]
+mod first_cycle;
+#[cfg(test)]
 mod helpers;
 #[cfg(test)]
 mod next_cycle;
+#[cfg(test)]
+mod side_by_side;
 #[cfg(test)]
 mod table;
 #[cfg(test)]

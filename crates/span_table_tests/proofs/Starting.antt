@@ -6,7 +6,7 @@ use Rattle.sweep_laws.specs.Start.{copies}
 use Rattle.atomic_table.specs.Seated.{TableId}
 use Rattle.span_laws.specs.Views.{Seen, first_view, no_part}
 use Rattle.span_laws.specs.declared.view.Part.{Part}
-use Rattle.span_table.specs.Rows.{IsFirstDriver}
+use Rattle.span_table_tests.specs.FirstCycle.{IsFirstDriver}
 use Rattle.span_table.proofs.Starts.{get_copies}
 
 pub unclaimed_copy : (many n m : ℕ) (h : Part) → m ≢ n → (get_or (set (copies many no_part) n h) m no_part).claimed ≡ None

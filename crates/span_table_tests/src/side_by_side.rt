@@ -1,11 +1,12 @@
-ghost use Rattle.std.specs.Prelude.{◌≡◌, All, IfOk};
-ghost use Rattle.span_table.specs.Rows.{IsReady};
+//! Workers in threads of their own on one table, in the first cycle.
 
-use crate::rows::{LARGE, large, pop, push, start, through_cache, worker};
-use crate::{Shared, Worker};
+ghost use Rattle.std.specs.Prelude.{◌≡◌, All, IfOk};
+ghost use Rattle.span_table_tests.specs.FirstCycle.{IsUnclaimed};
+
+use crate::first_cycle::{LARGE_SET, large, pop, push, start, through_cache, worker};
 use page_bitmap::Line;
-use span_laws::{Acquired, Uncached};
 use span_state::Marks;
+use span_table::{Acquired, Shared, Uncached, Worker};
 use std::alloc::AllocError;
 use std::sync::Wait;
 use std::test::Fail;
@@ -14,8 +15,8 @@ use std::thread::{Threads, join, map_vec};
 // What a worker does in its thread, and how it comes back: it takes a large span, pushes it, counts its pages, pops a span if there is
 // one, its own or another's, and has it in its cache for a while.
 fn work<R: Wait>(rt: &R, shared: &Shared, mut w: Worker) -> Worker
-    requires { IsReady shared.now w }
-    ensures { IsReady shared.now result }
+    requires { IsUnclaimed shared.now w }
+    ensures { IsUnclaimed shared.now result }
 {
     if let Ok(body) = large(rt, shared, &mut w) {
         push(shared, &mut w, body);
@@ -33,8 +34,8 @@ fn run_all<R: Threads + Wait + Sync>(
     shared: &Shared,
     workers: Vec<Worker>,
 ) -> Result<Vec<Worker>, AllocError>
-    requires { All (λ w. IsReady shared.now w) workers.items }
-    ensures { IfOk result (λ ws. All (λ w. IsReady shared.now w) ws.items) }
+    requires { All (λ w. IsUnclaimed shared.now w) workers.items }
+    ensures { IfOk result (λ ws. All (λ w. IsUnclaimed shared.now w) ws.items) }
 {
     map_vec(rt, workers, &|w| work(rt, shared, w))
 }
@@ -71,7 +72,7 @@ fn workers_run_in_threads(rt: HostRuntime) -> Result<(), Fail> {
     workers.push(worker(&shared, &mut driver, 2))?;
     let workers = run_all(&rt, &shared, workers)?;
     assert!(rt; workers.len() == 3);
-    let (head, tail) = shared.look(&mut driver, LARGE);
+    let (head, tail) = shared.look(&mut driver, LARGE_SET);
     assert!(rt; head <= 3 && tail == 3);
     assert!(rt; shared.swept(&mut driver) == 15);
     assert!(rt; shared.pages_taken(&rt, &mut driver) == 15);
@@ -87,16 +88,16 @@ fn a_span_goes_through_sets_and_the_cache(rt: HostRuntime) -> Result<(), Fail> {
     };
     assert!(rt; body.page == 0 && body.pages == 5 && body.life == 0);
     assert!(rt; push(&shared, &mut w, body) == 0);
-    assert!(rt; shared.look(&mut w, LARGE) == (0, 1));
-    assert!(rt; shared.look_cell(&mut w, LARGE, 0) == 1);
+    assert!(rt; shared.look(&mut w, LARGE_SET) == (0, 1));
+    assert!(rt; shared.look_cell(&mut w, LARGE_SET, 0) == 1);
     assert!(rt;
-        shared.look_cell(&mut w, LARGE, 1) == 0 && shared.look_cell(&mut w, LARGE, 512) == 0
+        shared.look_cell(&mut w, LARGE_SET, 1) == 0 && shared.look_cell(&mut w, LARGE_SET, 512) == 0
     );
     let Some(body) = pop(&shared, &mut w) else {
         panic!(rt; "a span was pushed")
     };
     assert!(rt; body.page == 0);
-    assert!(rt; shared.look(&mut w, LARGE) == (1, 1));
+    assert!(rt; shared.look(&mut w, LARGE_SET) == (1, 1));
     assert!(rt; through_cache(&shared, &mut w, &body) == Uncached::Fresh);
     Ok(())
 }

@@ -2,9 +2,9 @@ use Rattle.std.proofs.Common.{◌≡◌, length, ap, ◌∙◌, arith}
 use Rattle.span_laws.specs.Handed.{handed}
 use Rattle.span_laws.specs.Views.{Seen, no_part}
 use Rattle.span_laws.specs.declared.view.View.{View}
-use Rattle.span_table.proofs.Ready.{unclaimed_copy}
+use Rattle.span_table_tests.proofs.Starting.{unclaimed_copy}
 use Rattle.span_table.proofs.Starts.{length_copies}
-use Rattle.span_table.proofs.rows.worker.Goals as goal
+use Rattle.span_table_tests.proofs.first_cycle.worker.Goals as goal
 
 pub hand_out-requires-clause-part : goal.hand_out-requires-clause-part
 hand_out-requires-clause-part c = let r = c.requires.first in let n = c.requires.number in let l : length c.args.driver.now.view.parts ≡ 70 = ap (λ (v : View). length v.parts) r.view ∙ length_copies 70 no_part in omega arith

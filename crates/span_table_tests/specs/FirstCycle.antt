@@ -9,7 +9,7 @@ use Rattle.worker_log.specs.Entries.{is_pop_of, many}
 use Rattle.span_laws.specs.Views.{Seen, first_view}
 
 -- The worker is of this table, has claimed nothing and has no page cache.
-pub record IsReady (t : TableId) (w : Seen) : Type 0 where
+pub record IsUnclaimed (t : TableId) (w : Seen) : Type 0 where
   pub table : w.table ≡ t
   pub first : w.view.generation ≡ 4
   pub unclaimed : w.view.own.claimed ≡ None
@@ -21,7 +21,7 @@ pub record Holds (w : Seen) (b : Body) : Type 0 where
   pub lent : HasBody w.view.own b
 
 -- It holds a large span with its object, and has not popped it from the full swept set of large spans, which is set 2.
-pub record HoldsLarge (w : Seen) (b : Body) : Type 0 where
+pub record HoldsPlaced (w : Seen) (b : Body) : Type 0 where
   pub class : b.class ≡ 0
   pub held : has b.page w.view.own.held ≡ true
   pub lent : HasBody w.view.own b
