@@ -1,4 +1,4 @@
-//! Reports of traces with tiny objects, judged and shown. The expected texts are found by hand from the rules of docs/.
+//! Traces with tiny objects, run, and their reports, judged and shown. The expected texts are found by hand from the rules of docs/.
 
 use super::judged::{Row, expect_row, expect_said};
 use super::*;
@@ -20,6 +20,35 @@ const RIDER_KEPT: &str = "a 0 8 n 1\na 0 8 n 1\ngc 1\nm 1 1\n";
 
 const OF_RIDER_KEPT: &str =
     "o 0 0xc000000000\no 1 0xc000000008\nj 0 0 pull 0 0 64\nj 1 0 cut 0 0 1 5\nj 2 0 drop 0 0 63\ns 1 0 1 0\nt 2 1 0\nend\n";
+
+// Traces, and the whole reports of their runs.
+const ANSWERED_TINY: &[(&str, &str)] = &[(FIVE, OF_FIVE), (RIDER_KEPT, OF_RIDER_KEPT)];
+
+// Wants this whole report of a run of the trace of these lines, where nobody sweeps beside the processor.
+fn expect_run<R: Threads + Wait + Sync + AllocGlobal + Abort>(
+    rt: &R,
+    lines: &str,
+    report: &str,
+) -> Result<(), Fail> {
+    let input = format!(in rt.alloc(); "{TINY}{lines}end\n")?;
+    expect(
+        rt,
+        lines,
+        WORDS[1],
+        input.as_bytes(),
+        failing(&[], &[]),
+        answered(report),
+    )
+}
+
+#[test]
+fn tiny_traces_are_answered(rt: HostRuntime) -> Result<(), Fail> {
+    for &(lines, report) in ANSWERED_TINY {
+        expect_run(&rt, lines, report)?;
+        sound_run(&rt, WORDS[0], "goheap 3", SMALL, lines, &OpenGate)?;
+    }
+    Ok(())
+}
 
 const ROWS: &[Row] = &[
     ("", "end\n", 0, ""),
