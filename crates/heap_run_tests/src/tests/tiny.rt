@@ -7,16 +7,23 @@ use std::test::Fail;
 // The first line of a trace of version 3.
 const VERSION: &str = "goheap 3";
 
-// Five objects of which the last begins a block; a block that is kept by its rider's mark alone, whose profile has its first object alone; a block
-// that is forgotten at the mark end that keeps it. Then offsets that are raised, and a block that replaces one with less room; one that
-// doesn't, since the block before it has more. A tiny object with pointers has a span of its own class, and one of size 0 nothing. In a region that
-// is full each tiny object is missed as a block of its own.
-const ROWS: [Row; 7] = [
+// Five objects of which the last begins a block; a block that is kept by its rider's mark alone; the same sampled, of two stacks, where the
+// profile has its first object alone; a block that is forgotten at the mark end that keeps it. Then offsets that are raised, and a block that
+// replaces one with less room; one that doesn't, since the block before it has more. A tiny object with pointers has a span of its own class, and
+// one of size 0 nothing. In a region that is full each tiny object is missed as a block of its own.
+const ROWS: [Row; 8] = [
     Row {
         head: "heap 1 procs 1 rate 0 seed 1 goal 512",
         lines: "a 0 8 n 1\na 0 4 n 1\na 0 2 n 1\na 0 1 n 1\na 0 2 n 1\n",
         report: "o 0 0xc000000000\no 1 0xc000000008\no 2 0xc00000000c\no 3 0xc00000000e\no 4 0xc000000010\n\
          j 0 0 pull 0 0 64\nj 1 0 cut 0 0 1 5\nj 2 0 drop 0 0 63\nt 2 2 0\n",
+        last: "",
+        each: "",
+    },
+    Row {
+        head: "heap 1 procs 1 rate 0 seed 1 goal 512",
+        lines: "a 0 8 n 1\na 0 8 n 1\ngc 1\nm 1 1\n",
+        report: "o 0 0xc000000000\no 1 0xc000000008\nj 0 0 pull 0 0 64\nj 1 0 cut 0 0 1 5\nj 2 0 drop 0 0 63\ns 1 0 1 0\nt 2 1 0\n",
         last: "",
         each: "",
     },
