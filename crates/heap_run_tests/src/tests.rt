@@ -250,17 +250,38 @@ fn compare<R: Abort + AllocGlobal + Threads + Wait + Sync>(
     Ok(())
 }
 
+// Runs of a row's trace, in both forms of the profile, without background sweepers and with four.
+fn run_forms<R: Abort + AllocGlobal + Threads + Wait + Sync>(
+    rt: &R,
+    trace: &Trace,
+    row: &Row,
+) -> Result<(), Fail>
+    requires limits { WithinLimits trace.now }
+{
+    for each in [false, true] {
+        if trace.header.procs == 1 {
+            compare(rt, trace, each, row)?;
+        }
+        judge(rt, trace, 0, each, &OpenGate)?;
+        judge(rt, trace, 4, each, &OpenGate)?;
+    }
+    Ok(())
+}
+
+// The same of the row's lines behind this first line.
+fn run_row<R: Abort + AllocGlobal + Threads + Wait + Sync>(
+    rt: &R,
+    version: &str,
+    row: &Row,
+) -> Result<(), Fail> {
+    let trace = trace_by(rt.alloc(), version, row.head, row.lines)?;
+    run_forms(rt, &trace, row)
+}
+
 #[test]
 fn traces_are_run(rt: HostRuntime) -> Result<(), Fail> {
     for row in &ROWS {
-        let trace = trace_of(rt.alloc(), row.head, row.lines)?;
-        for each in [false, true] {
-            if trace.header.procs == 1 {
-                compare(&rt, &trace, each, row)?;
-            }
-            judge(&rt, &trace, 0, each, &OpenGate)?;
-            judge(&rt, &trace, 4, each, &OpenGate)?;
-        }
+        run_row(&rt, "goheap 1", row)?;
     }
     Ok(())
 }

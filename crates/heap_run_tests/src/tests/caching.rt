@@ -1,6 +1,6 @@
 //! Runs of version 2, in which each processor has a page cache.
 
-use super::{Row, compare, judge, ran, trace_by};
+use super::{Row, judge, ran, run_row, trace_by};
 use cycle_history::Answer;
 use edge_io::OpenGate;
 use std::test::Fail;
@@ -63,12 +63,7 @@ const ROWS: [Row; 6] = [
 #[test]
 fn blocks_are_pulled_and_settled(rt: HostRuntime) -> Result<(), Fail> {
     for row in &ROWS {
-        let trace = trace_by(rt.alloc(), VERSION, row.head, row.lines)?;
-        for each in [false, true] {
-            compare(&rt, &trace, each, row)?;
-            judge(&rt, &trace, 0, each, &OpenGate)?;
-            judge(&rt, &trace, 4, each, &OpenGate)?;
-        }
+        run_row(&rt, VERSION, row)?;
     }
     Ok(())
 }

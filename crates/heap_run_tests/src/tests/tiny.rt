@@ -1,6 +1,6 @@
 //! Runs of version 3, in which tiny objects ride in blocks of 16 bytes.
 
-use super::{Row, compare, judge, trace_by};
+use super::{Row, judge, run_row, trace_by};
 use edge_io::OpenGate;
 use std::test::Fail;
 
@@ -75,12 +75,7 @@ const ROWS: [Row; 8] = [
 #[test]
 fn tiny_objects_ride(rt: HostRuntime) -> Result<(), Fail> {
     for row in &ROWS {
-        let trace = trace_by(rt.alloc(), VERSION, row.head, row.lines)?;
-        for each in [false, true] {
-            compare(&rt, &trace, each, row)?;
-            judge(&rt, &trace, 0, each, &OpenGate)?;
-            judge(&rt, &trace, 4, each, &OpenGate)?;
-        }
+        run_row(&rt, VERSION, row)?;
     }
     Ok(())
 }
