@@ -1,4 +1,4 @@
-use crate::Scene;
+use crate::scene::Scene;
 use fallible_list::NoMemory;
 use std::process::Abort;
 use std::sync::Wait;

@@ -9,7 +9,7 @@ use sweeper::settle_span;
 
 /// What a page or an entry of an unswept set leads to.
 #[derive(Clone, Copy)]
-pub enum Met {
+pub(crate) enum Met {
     /// Its span waited, and was swept, with this note.
     Swept(SweepNote),
     /// The word of this page was this one, and not that of a span that waits.

@@ -20,7 +20,7 @@ const GOAL: u32 = 8;
 
 /// What a hand works on between its calls, with a ring of two buckets. The hand is the driver's, or that of a worker with a page cache.
 #[derive(Drop)]
-pub struct Scene {
+pub(crate) struct Scene {
     shared: Shared,
     marks: Marks,
     ring: Ring,
@@ -97,7 +97,7 @@ fn pass_mark_end<R: Wait>(
 
 impl Scene {
     /// A region of one chunk in its first cycle, without spans.
-    pub fn first(alloc: Global) -> Result<Scene, NoMemory> {
+    pub(crate) fn first(alloc: Global) -> Result<Scene, NoMemory> {
         let (ring, tally) = Ring::new(alloc, 2)?;
         let (shared, w) = start(alloc, 1, GOAL)?;
         let marks = Marks::empty(alloc);
@@ -111,7 +111,7 @@ impl Scene {
     }
 
     /// The same for the worker of processor 0, who has a page cache.
-    pub fn cached(alloc: Global) -> Result<Scene, NoMemory> {
+    pub(crate) fn cached(alloc: Global) -> Result<Scene, NoMemory> {
         let (ring, tally) = Ring::new(alloc, 2)?;
         let (shared, mut driver) = Shared::new(alloc, 1, GOAL, 1)?;
         let w = shared.hand_out_for(&mut driver, 0);
@@ -127,7 +127,7 @@ impl Scene {
 
     /// A region of so many chunks, from 1 to 4096, behind its first mark end, with large spans of so many pages, at least five each,
     /// and whether their objects are marked. NoMemory for other numbers of chunks.
-    pub fn after_mark_end<R: Wait>(
+    pub(crate) fn after_mark_end<R: Wait>(
         rt: &R,
         alloc: Global,
         chunks: u32,
@@ -150,7 +150,7 @@ impl Scene {
     }
 
     /// A sampled object of the bucket, 0 or 1, died in the span of the page. NoMemory for other buckets.
-    pub fn die(&mut self, page: u32, bucket: u32) -> Result<(), NoMemory> {
+    pub(crate) fn die(&mut self, page: u32, bucket: u32) -> Result<(), NoMemory> {
         if bucket > 1 {
             return Err(NoMemory);
         }
@@ -158,12 +158,12 @@ impl Scene {
     }
 
     /// So many bytes were spent.
-    pub fn spend(&mut self, bytes: u64) {
+    pub(crate) fn spend(&mut self, bytes: u64) {
         self.shared.add_spent(&mut self.hand.worker, bytes);
     }
 
     /// The next sweep.
-    pub fn sweep<R: Wait>(&mut self, rt: &R) -> Result<SweptOne, NoMemory> {
+    pub(crate) fn sweep<R: Wait>(&mut self, rt: &R) -> Result<SweptOne, NoMemory> {
         let Scene {
             shared,
             marks,
@@ -181,7 +181,7 @@ impl Scene {
     }
 
     /// All sweeps that are left.
-    pub fn finish<R: Wait>(&mut self, rt: &R) -> Result<(), NoMemory> {
+    pub(crate) fn finish<R: Wait>(&mut self, rt: &R) -> Result<(), NoMemory> {
         let Scene {
             shared,
             marks,
@@ -199,7 +199,7 @@ impl Scene {
     }
 
     /// Pays for so many bytes with a credit, where so many pages were to be swept over a distance, which is a page where it is less.
-    pub fn pay<R: Wait>(
+    pub(crate) fn pay<R: Wait>(
         &mut self,
         rt: &R,
         pages: u32,
@@ -224,7 +224,7 @@ impl Scene {
     }
 
     /// Reclaims so many pages.
-    pub fn reclaim<R: Wait>(&mut self, rt: &R, pages: u32) -> Result<u32, NoMemory> {
+    pub(crate) fn reclaim<R: Wait>(&mut self, rt: &R, pages: u32) -> Result<u32, NoMemory> {
         let Scene {
             shared,
             marks,
@@ -242,7 +242,7 @@ impl Scene {
     }
 
     /// The page of a new large span of so many pages, at least five.
-    pub fn make<R: Wait>(&mut self, rt: &R, pages: u32) -> Result<u32, Refused> {
+    pub(crate) fn make<R: Wait>(&mut self, rt: &R, pages: u32) -> Result<u32, Refused> {
         let Scene {
             shared,
             marks,
@@ -263,7 +263,7 @@ impl Scene {
     }
 
     /// The page of a new span of a size class from 1 to 67.
-    pub fn make_small<R: Wait>(&mut self, rt: &R, class: u8) -> Result<u32, Refused> {
+    pub(crate) fn make_small<R: Wait>(&mut self, rt: &R, class: u8) -> Result<u32, Refused> {
         let Scene {
             shared,
             marks,
@@ -285,12 +285,12 @@ impl Scene {
     }
 
     /// How many pages the block of the worker's page cache has left: None for the driver, who has no page cache.
-    pub fn pages_left(&self) -> Option<u32> {
+    pub(crate) fn pages_left(&self) -> Option<u32> {
         self.hand.worker.cached_pages()
     }
 
     /// Sweeps the span of a page of the region, where it waits, by its word. NoMemory for other pages.
-    pub fn meet<R: Wait>(&mut self, rt: &R, page: u32) -> Result<Met, NoMemory> {
+    pub(crate) fn meet<R: Wait>(&mut self, rt: &R, page: u32) -> Result<Met, NoMemory> {
         let Scene {
             shared,
             marks,
@@ -312,7 +312,7 @@ impl Scene {
     }
 
     /// Pops an entry of the unswept full set of large spans, and sweeps its span where it waits.
-    pub fn pop<R: Wait>(&mut self, rt: &R) -> Result<Met, NoMemory> {
+    pub(crate) fn pop<R: Wait>(&mut self, rt: &R) -> Result<Met, NoMemory> {
         let Scene {
             shared,
             marks,
@@ -331,12 +331,12 @@ impl Scene {
     }
 
     /// The next scavenging step.
-    pub fn scavenge<R: Wait>(&mut self, rt: &R) -> Result<Step, NoMemory> {
+    pub(crate) fn scavenge<R: Wait>(&mut self, rt: &R) -> Result<Step, NoMemory> {
         self.shared.scavenge_step(rt, &mut self.hand.worker)
     }
 
     /// The generation, the swept pages and the spent bytes of this cycle.
-    pub fn counters(&mut self) -> (u64, u64, u64) {
+    pub(crate) fn counters(&mut self) -> (u64, u64, u64) {
         let Scene { shared, hand, .. } = self;
         let generation = shared.generation(&mut hand.worker);
         let swept = shared.swept(&mut hand.worker);
@@ -344,23 +344,23 @@ impl Scene {
     }
 
     /// How many pages spans have.
-    pub fn taken<R: Wait>(&mut self, rt: &R) -> u32 {
+    pub(crate) fn taken<R: Wait>(&mut self, rt: &R) -> u32 {
         self.shared.pages_taken(rt, &mut self.hand.worker)
     }
 
     /// How many notes the hand has.
-    pub fn notes(&self) -> usize {
+    pub(crate) fn notes(&self) -> usize {
         self.hand.notes.len()
     }
 
     /// What is published of a bucket, 0 or any other for 1, after a full sweep.
-    pub fn swept(&mut self, bucket: u32) -> Count {
+    pub(crate) fn swept(&mut self, bucket: u32) -> Count {
         self.ring.after_sweep(&mut self.hand.tally);
         self.ring.published(&mut self.hand.tally, bucket.min(1))
     }
 
     /// The same after a mark end.
-    pub fn marked(&mut self, bucket: u32) -> Count {
+    pub(crate) fn marked(&mut self, bucket: u32) -> Count {
         self.ring.next_cycle(&mut self.hand.tally);
         self.ring.published(&mut self.hand.tally, bucket.min(1))
     }

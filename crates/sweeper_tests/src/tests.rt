@@ -1,4 +1,5 @@
-use crate::{Met, Scene};
+use crate::meet::Met;
+use crate::scene::Scene;
 use fallible_list::NoMemory;
 use profile_cycle::Count;
 use span_table::Step;
