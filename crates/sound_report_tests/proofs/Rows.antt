@@ -8,8 +8,8 @@ use Rattle.cycle_history.specs.Broken.{MeetsRules}
 use Rattle.cycle_history.proofs.Meets.{meets-sound}
 use Rattle.sound_report_tests.specs.Words.{Row, UsedRow, IsJudged, AllAgree, IsUseJudged, AllUseAgree}
 use Rattle.sound_report_tests.specs.Rows.{sound_rows, answer_rows, journal_rows, miss_rows, place_rows, apart_rows, filling_rows, used_rows}
-use Rattle.sound_report_tests.specs.SweptRows.{marked_rows, sweep_generation_tests, give_rows, total_rows}
-use Rattle.sound_report_tests.specs.ProfileRows.{profile_cycle_tests, last_rows, each_rows}
+use Rattle.sound_report_tests.specs.SweptRows.{marked_rows, sweep_rows, give_rows, total_rows}
+use Rattle.sound_report_tests.specs.ProfileRows.{profile_rows, last_rows, each_rows}
 use Rattle.sound_report_tests.specs.CachedRows.{cached_rows, cached_used_rows}
 use Rattle.sound_report_tests.proofs.Tests.{all_in, Decides-then}
 use Rattle.sound_report_tests.proofs.Decided.{meets, Decides-meets}
@@ -72,9 +72,9 @@ pub sounds_agree : AllAgree sound_rows
 unfolding count_below slot_of pages_of objects_of sound_rows
 sounds_agree = all_agree sound_rows refl
 
-pub sweeps_agree : AllAgree sweep_generation_tests
-unfolding count_below slot_of pages_of objects_of sweep_generation_tests
-sweeps_agree = all_agree sweep_generation_tests refl
+pub sweeps_agree : AllAgree sweep_rows
+unfolding count_below slot_of pages_of objects_of sweep_rows
+sweeps_agree = all_agree sweep_rows refl
 
 pub gives_agree : AllAgree give_rows
 unfolding count_below slot_of pages_of objects_of give_rows
@@ -84,9 +84,9 @@ pub totals_agree : AllAgree total_rows
 unfolding count_below slot_of pages_of objects_of total_rows
 totals_agree = all_agree total_rows refl
 
-pub profiles_agree : AllAgree profile_cycle_tests
-unfolding count_below slot_of pages_of objects_of drawn words_of profile_cycle_tests
-profiles_agree = all_agree profile_cycle_tests refl
+pub profiles_agree : AllAgree profile_rows
+unfolding count_below slot_of pages_of objects_of drawn words_of profile_rows
+profiles_agree = all_agree profile_rows refl
 
 pub lasts_agree : AllAgree last_rows
 unfolding count_below slot_of pages_of objects_of drawn words_of last_rows

@@ -38,8 +38,8 @@ abbrev pub kept : List Prof → Report
 kept lines = printing lines (whole (at 0 ∷ []) (Take 0 0 1 6 ∷ []) (swept 1 0 1 0 ∷ []) (total 3 1 0 ∷ []))
 
 -- Profiles that are right.
-unfoldable pub profile_cycle_tests : List Row
-profile_cycle_tests =
+unfoldable pub profile_rows : List Row
+profile_rows =
     -- of the last mark end, and of each
     right (prof 3 1 24 2 1 ∷ prof 3 2 24 1 1 ∷ []) ∷
     right (prof 1 1 24 1 0 ∷ prof 1 2 24 1 1 ∷ prof 2 1 24 2 1 ∷ prof 3 1 24 2 1 ∷ prof 3 2 24 1 1 ∷ []) ∷

@@ -91,8 +91,8 @@ marked_rows =
 -- ---- sweeps
 
 -- Sweeps that are wrong, missing or too many.
-unfoldable pub sweep_generation_tests : List Row
-sweep_generation_tests =
+unfoldable pub sweep_rows : List Row
+sweep_rows =
     -- no line
     breaks 7 slot_trace (slot_again [] (total 3 3 1 ∷ [])) ∷
     -- another cycle, of the objects and behind the last, and another page

@@ -17,26 +17,37 @@ ghost use Rattle.sound_report_tests.specs.Rows.{
   used_rows,
 };
 ghost use Rattle.sound_report_tests.specs.CachedRows.{cached_rows, cached_used_rows};
-ghost use Rattle.sound_report_tests.specs.ProfileRows.{each_rows, last_rows, profile_cycle_tests};
-ghost use Rattle.sound_report_tests.specs.SweptRows.{give_rows, marked_rows, sweep_generation_tests, total_rows};
+ghost use Rattle.sound_report_tests.specs.ProfileRows.{each_rows, last_rows, profile_rows};
+ghost use Rattle.sound_report_tests.specs.SweptRows.{give_rows, marked_rows, sweep_rows, total_rows};
 
 /// The definitions agree with each row of the table.
 pub fn rows_agree()
+    // sound reports
     ensures sound { AllAgree sound_rows }
     ensures marked { AllAgree marked_rows }
+
+    // answers, journals and misses
     ensures answers { AllAgree answer_rows }
     ensures journals { AllAgree journal_rows }
     ensures cached { AllAgree cached_rows }
     ensures misses { AllAgree miss_rows }
+
+    // where objects lie
     ensures places { AllAgree place_rows }
     ensures apart { AllAgree apart_rows }
     ensures filling { AllAgree filling_rows }
-    ensures sweeps { AllAgree sweep_generation_tests }
+
+    // sweeps and totals
+    ensures sweeps { AllAgree sweep_rows }
     ensures gives { AllAgree give_rows }
     ensures totals { AllAgree total_rows }
-    ensures profiles { AllAgree profile_cycle_tests }
+
+    // the sampled profile
+    ensures profiles { AllAgree profile_rows }
     ensures lasts { AllAgree last_rows }
     ensures eaches { AllAgree each_rows }
+
+    // sound reports that are used, and some that aren't
     ensures used { AllUseAgree used_rows }
     ensures cached_used { AllUseAgree cached_used_rows }
 {}
