@@ -121,13 +121,20 @@ fn next_marks(
     sampled: &[bool; 8],
     kept: &mut Kept,
 ) -> Result<(), NoMemory>
+    // the trace, and the mark end
     requires trace { trace.now ≡ example }
     requires mark { ((mark ≡ 1) × (count ≡ 5)) ⊎ ((mark ≡ 2) × (count ≡ 8)) }
+
+    // what was kept from the mark end before
     requires kept { length kept.old.places ≡ objects_before example (mark - 1) }
     requires found { AreFound example (take count answers) kept.old.places }
     requires clear { AreClear (take count sampled.now) kept.old.clear }
     requires before { ArePlacesOf example (mark - 1) (take count answers) kept.old.marks }
+
+    // the marks of this one
     ensures marks { OnOk result (ArePlacesOf example mark (take count answers) kept.new.marks) }
+
+    // what is kept for the next
     ensures kept { OnOk result (length kept.new.places ≡ count) }
     ensures found { OnOk result (AreFound example (take count answers) kept.new.places) }
     ensures clear { OnOk result (AreClear (take count sampled.now) kept.new.clear) }

@@ -147,10 +147,15 @@ pub(crate) fn give_one(
     owners: &mut [Option<u32>],
     page: u32,
 ) -> Result<(), Fail>
+    // the region, in cycle 0 and without open blocks
     requires by { IsBy 0 pages.old.past }
     requires blocks { open_blocks pages.old.past ≡ [] }
     requires region { pages.old.region ≡ 1536 }
+
+    // the page
     requires page { page < 1536 }
+
+    // the region behind it
     ensures by { IsBy 0 pages.new.past }
     ensures blocks { open_blocks pages.new.past ≡ [] }
     ensures region { pages.new.region ≡ 1536 }

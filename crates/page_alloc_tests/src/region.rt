@@ -79,10 +79,15 @@ fn scavenge(pages: &mut Pages) -> Result<Option<Run>, Fail>
 }
 
 fn answer(rt: &impl Abort, pages: &mut Pages, chunks: u32, step: Step) -> Result<(), Fail>
+    // the region, in cycle 0 and without open blocks
     requires by { IsBy 0 pages.old.past }
     requires blocks { open_blocks pages.old.past ≡ [] }
+
+    // its chunks
     requires region { pages.old.region ≡ 512 * chunks }
     requires few { chunks ≤ MAX_CHUNKS }
+
+    // the region behind it
     ensures by { IsBy 0 pages.new.past }
     ensures blocks { open_blocks pages.new.past ≡ [] }
     ensures region { pages.new.region ≡ 512 * chunks }

@@ -27,12 +27,19 @@ fn run_all(core: &mut Core, moves: &[Move]) -> Result<(), StepFault>
 /// Memory does not run out where `step` says so of each move: a list has one Take at most that is provided for, since
 /// a Take uses up the prepared life.
 pub fn run_moves(core: &mut Core, moves: &List<Move>) -> Result<(), StepFault>
+    // what was done
     ensures exact { Runs core.old core.new moves.now result }
+
+    // what stays
     ensures owned { Owned core.old → Owned core.new }
     ensures tidy { Owned core.old → IsTidy core.old → IsTidy core.new }
     ensures room { core.new.room ≡ core.old.room }
+
+    // where the core has space
     ensures space { HasSpace core.old → AreProvided core.old moves.now → HasSpace core.new }
     ensures memory { Owned core.old → IsTidy core.old → HasSpace core.old → AreProvided core.old moves.now → result ≢ Err StepFault.NoMemory }
+
+    // each span is swept once
     ensures once { Owned core.old → result ≡ Ok tt → Once core.old moves.now }
 {
     run_all(core, moves.as_slice())

@@ -114,11 +114,18 @@ fn step_usual_met(core: &mut Core, mv: Move) -> Result<Reply, StepFault>
 /// most, and for a mark end, whose marks need not be looked through once more. For a caller that proves the needs.
 #[inline(always)]
 pub fn step_met(core: &mut Core, mv: Move) -> Result<Reply, StepFault>
+    // the needs are met
     requires met { refusal (needs_of core.old mv) ≡ None }
+
+    // what was done
     ensures exact { Steps core.old core.new mv result }
+
+    // what stays
     ensures owned { Owned core.old → Owned core.new }
     ensures tidy { Owned core.old → IsTidy core.old → IsTidy core.new }
     ensures room { core.new.room ≡ core.old.room }
+
+    // where the core has space
     ensures space { HasSpace core.old → IsProvided core.old mv → HasSpace core.new }
     ensures memory { Owned core.old → IsTidy core.old → HasSpace core.old → IsProvided core.old mv → result ≢ Err StepFault.NoMemory }
 {

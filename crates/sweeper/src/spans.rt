@@ -30,11 +30,16 @@ pub fn new_span<R: Wait>(
     n: u32,
     class: u8,
 ) -> Result<Body, Refused>
+    // the hand works in the shop
     requires works { WorksIn shop.now hand.old }
     requires unclaimed { hand.old.worker.view.own.claimed ≡ None }
     requires unpopped { hand.old.worker.view.own.popped ≡ [] }
+
+    // the span
     requires size { IsSpanSize class n }
     requires class { class < 136 }
+
+    // what was done
     ensures did { MakesSpan n class hand.old hand.new result }
     ensures tally { Frees shop.now.marks.now hand.old hand.new }
 {
@@ -56,11 +61,16 @@ fn sweep_and_take<R: Wait>(
     n: u32,
     class: u8,
 ) -> Result<Body, Refused>
+    // the hand works in the shop
     requires works { WorksIn shop.now hand.old }
     requires unclaimed { hand.old.worker.view.own.claimed ≡ None }
     requires unpopped { hand.old.worker.view.own.popped ≡ [] }
+
+    // the span
     requires size { IsSpanSize class n }
     requires class { class < 136 }
+
+    // what was done
     ensures did { SweepsAndTakes n class hand.old hand.new result }
     ensures tally { Frees shop.now.marks.now hand.old hand.new }
 {

@@ -39,11 +39,16 @@ pub(crate) fn set_at(index: u32) -> SetId
 
 // Pops one entry of an unswept set, and sweeps its span where it waits; else the entry is dropped.
 fn try_entry<R: Wait>(rt: &R, shop: &Shop, hand: &mut Hand, set: SetId) -> Tried
+    // the hand works in the shop, and has room
     requires works { WorksIn shop.now hand.old }
     requires unclaimed { hand.old.worker.view.own.claimed ≡ None }
     requires room { length hand.old.notes.items < hand.old.notes.space }
     requires unpopped { hand.old.worker.view.own.popped ≡ [] }
+
+    // the set
     requires class { set.class < 136 }
+
+    // what was done
     ensures did { TriesEntry (unswept_of hand.old.worker.view.generation set) hand.old hand.new result }
     ensures tally { Frees shop.now.marks.now hand.old hand.new }
 {
@@ -65,11 +70,16 @@ pub(crate) fn sweep_next<R: Wait>(
     hand: &mut Hand,
     set: SetId,
 ) -> Option<SweepNote>
+    // the hand works in the shop, and has room
     requires works { WorksIn shop.now hand.old }
     requires unclaimed { hand.old.worker.view.own.claimed ≡ None }
     requires room { length hand.old.notes.items < hand.old.notes.space }
     requires unpopped { hand.old.worker.view.own.popped ≡ [] }
+
+    // the set
     requires class { set.class < 136 }
+
+    // what was done
     ensures did { SweepsNext (unswept_of hand.old.worker.view.generation set) hand.old hand.new result }
     ensures tally { Frees shop.now.marks.now hand.old hand.new }
 {

@@ -63,10 +63,12 @@ impl Growing {
         answers: &[Answer],
         based: &mut List<Answer>,
     ) -> Result<(), NoMemory>
+        // the trace, its base so far, and the answers
         requires limited { IsLimited (as_version_2 trace.now) }
         requires growing { HasGrown trace.now answers.now (last_cycle self.old.trace) (last_cycle self.old.trace) self.old }
         requires answers { length answers.now ≡ objects_before trace.now (last_cycle self.old.trace + 1) }
 
+        // the base behind it, and its answers
         ensures growing { OnOk result (HasGrown trace.now answers.now (last_cycle self.old.trace) (last_cycle self.old.trace + 1) self.new) }
         ensures done { OnOk result (take (last_cycle self.old.trace) self.new.trace.cycles ≡ take (last_cycle self.old.trace) self.old.trace.cycles) }
         ensures based { OnOk result (based.new ≡ based.old ++ answers_by (part_at trace.now answers.now)
