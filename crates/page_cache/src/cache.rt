@@ -108,8 +108,10 @@ impl PageCache {
     /// None exactly where there are no such pages or there is no block, and then nothing changes (`pageCache.alloc` of
     /// `mpagecache.go`).
     pub fn cut(&mut self, n: u32, class: u8) -> Option<u32>
+        // the length of the run
         requires some { 1 ≤ n }
         requires few { n < 16 }
+
         // the run that is cut
         ensures first { IfSome result (λ page. IsFirstRun (in_block self.old.block) n page) }
         ensures taken { IfSome result (λ page. IsCut self.old self.new (record { page = page; pages = n; class = class })) }

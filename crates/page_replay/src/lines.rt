@@ -5,7 +5,7 @@ ghost use Rattle.page_alloc.specs.FreeRuns.{IsSpanSize};
 ghost use Rattle.page_alloc.specs.Journal.{IsCutOrDrop, cycle_of as cycle_in};
 
 use page_bitmap::Line;
-use size_classes::span_pages;
+use size_classes::{SPAN_CLASSES, span_pages};
 
 /// The cycle that a line was made in.
 pub fn cycle_of(line: Line) -> u32
@@ -43,7 +43,7 @@ pub(crate) fn is_span_size(n: u32, class: u8) -> bool
 {
     if class < 2 {
         n >= 5
-    } else if class < 136 {
+    } else if class < SPAN_CLASSES {
         span_pages(class / 2) == n
     } else {
         false

@@ -23,12 +23,19 @@ pub enum Place {
 /// Where the first run of `n` pages begins in a block of neighbouring entries of `pages` pages each; the first
 /// `skip` of them have no free page. It raises the counter by one for each entry that it looks at.
 fn scan(block: &[Sum], pages: u32, skip: usize, n: u32, steps: &mut u64) -> Place
+    // the run, and the entries that are looked at
     requires some { 1 ≤ n }
     requires skip { skip ≤ length block.now }
+
+    // the block
     requires few { length block.now ≤ 8 }
     requires pages { pages * length block.now ≤ 2 ^ 21 }
     requires fit { AllFit pages block.now }
+
+    // the counter
     requires room { steps.old + 8 < 2 ^ 64 }
+
+    // the place, and the entries counted
     ensures found { (map : ℕ → Bool) → AreSums map pages block.now → ((p : ℕ) → p < pages * skip → map p ≡ false) →
         IsPlaced map (pages * length block.now) pages n result }
     ensures within { IsWithin pages (length block.now) result }
@@ -54,12 +61,19 @@ fn scan(block: &[Sum], pages: u32, skip: usize, n: u32, steps: &mut u64) -> Plac
 /// the level above showed, whose entries have eight times as many. The entries below `from` have no free page. It
 /// looks at eight entries at most, and raises the counter by one for each (`mpagealloc.go`, `find`).
 pub fn descend(level: &[Sum], pages: u32, place: Place, from: u32, n: u32, steps: &mut u64) -> Place
+    // the run
     requires some { 1 ≤ n }
+
+    // the level, and the place that the level above showed
     requires few { length level.now ≤ MAX_ENTRIES }
     requires block { HasBlock (length level.now) place }
     requires pages { pages * length level.now ≤ 2 ^ 21 }
     requires fit { AllFit pages level.now }
+
+    // the counter
     requires room { steps.old + 8 < 2 ^ 64 }
+
+    // the place, and the entries counted
     ensures found { (map : ℕ → Bool) → AreSums map pages level.now → ((p : ℕ) → p < pages * from → map p ≡ false) →
         IsPlaced map (2 ^ 21) (8 * pages) n place → IsPlaced map (2 ^ 21) pages n result }
     ensures steps { (steps.old ≤ steps.new) × (steps.new ≤ steps.old + 8) }

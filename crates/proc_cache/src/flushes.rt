@@ -8,14 +8,12 @@ ghost use Rattle.proc_cache.specs.Serves.{IsUsedCache, Serves, is_flushed};
 
 use crate::proc::Proc;
 use fallible_list::NoMemory;
+use size_classes::SPAN_CLASSES;
 use span_set::{Hand, Shop};
 use span_state::Body;
 use span_table::Uncached;
 use std::sync::Wait;
 use sweeper::settle_span;
-
-// The span classes.
-const CLASSES: u8 = 136;
 
 /// Empties the processor's cache where it has not done so since the last mark end (`mcache.go`, `prepareForSweep`): through the span
 /// classes in rising order, each span that was cached before is swept and put where it belongs, an emptied one goes back
@@ -76,7 +74,7 @@ fn flush_all<R: Wait>(
     ensures serves { Serves hand.new.worker.view.generation hand.new.worker.view.own proc.new }
     ensures used { IsUsedCache hand.old.worker.view.own → IsUsedCache hand.new.worker.view.own }
 {
-    for class in 0..CLASSES {
+    for class in 0..SPAN_CLASSES {
         flush_class(rt, proc, shop, hand, class)?;
     }
     proc.flushed = generation;

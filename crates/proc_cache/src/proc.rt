@@ -4,13 +4,11 @@ ghost use Rattle.sweep_laws.specs.Start.{copies};
 
 use fallible_list::NoMemory;
 use profile_cycle::Sampler;
+use size_classes::SPAN_CLASSES;
 use span_state::Body;
 use std::alloc::Global;
 use std::marker::Model;
 use trace_reader::Header;
-
-// The span classes: two for each size class from 0 to 67.
-const CLASSES: u32 = 136;
 
 /// A processor with its cache, at most one span of each span class, and the countdown of its samples (`mcache.go`).
 #[derive(Drop)]
@@ -39,7 +37,7 @@ impl Model for Proc {
 fn no_slots(alloc: Global) -> Result<Vec<Option<Body>>, NoMemory>
     ensures { IfOk result (λ slots. slots.items ≡ copies 136 None) }
 {
-    let slots = (0..CLASSES).map(|_| None).collect(alloc)?;
+    let slots = (0..SPAN_CLASSES).map(|_| None).collect(alloc)?;
     Ok(slots)
 }
 

@@ -45,12 +45,17 @@ fn first_cell(chunks: u32) -> u64
 
 /// Where the parts of the table of a region of 1 to 4096 chunks begin, and how many words it has.
 pub fn layout(chunks: u32) -> Layout
+    // the region
     requires some { 1 ≤ chunks }
     requires most { chunks ≤ MAX_CHUNKS }
+
+    // where each part begins
     ensures set_words { result.set_words ≡ place chunks (SetWord 0) }
     ensures drawn { result.drawn ≡ place chunks (DrawnWord 0) }
     ensures spines { result.spines ≡ place chunks (EntryWord 0 0) }
     ensures cells { result.cells ≡ place chunks (CellWord 0 0 0) }
+
+    // the whole table
     ensures words { result.words ≡ word_count chunks }
 {
     let set_words = first_set(chunks);

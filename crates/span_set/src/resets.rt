@@ -4,7 +4,7 @@ ghost use Rattle.sweep_laws.specs.Reading.{is_swept_set};
 ghost use Rattle.worker_log.specs.Entries.{is_seen_empty, many};
 ghost use Rattle.span_set.specs.Resets.{Resets};
 
-use span_table::{Shared, Worker};
+use span_table::{SETS, Shared, Worker};
 
 /// Resets all unswept sets for the next mark end, where the driver saw each of them empty since the last one. Takes no memory.
 pub fn reset(shared: &Shared, driver: &mut Worker)
@@ -14,7 +14,7 @@ pub fn reset(shared: &Shared, driver: &mut Worker)
 {
     let generation = shared.generation(driver);
     let part = (generation / 2 % 2) as u32;
-    for set in 0..544 {
+    for set in 0..SETS {
         if set % 2 != part {
             shared.reset_set(driver, set);
         }

@@ -35,12 +35,16 @@ impl Body {
     /// A span with nothing allocated. `count` is from 1 to 1024.
     pub fn new(page: u32, pages: u32, slot: u64, count: u32, class: u8, life: u64) -> Self
         requires { (1 ≤ count) × (count ≤ 1024) }
+
+        // what it is made of
         ensures page { result.page ≡ page }
         ensures pages { result.pages ≡ pages }
         ensures slot { result.slot ≡ slot }
         ensures count { result.count ≡ count }
         ensures class { result.class ≡ class }
         ensures life { result.life ≡ life }
+
+        // nothing is allocated
         ensures next { result.next ≡ 0 }
         ensures allocated { (k : ℕ) → allocated result k ≡ false }
     {

@@ -255,7 +255,7 @@ impl Shared {
         ensures filled { is_swept_set w.old.view.generation set ≡ false → (h t : ℕ) → 0 < many (is_look set h t) w.old.view.own.log → index < t → 0 < result }
         ensures low { result ≤ MAX_PAGES }
     {
-        if index >= 512 * self.chunks {
+        if index >= BLOCK_CELLS * self.chunks {
             look_beyond(self, &mut w.seat, set, index);
             return 0;
         }

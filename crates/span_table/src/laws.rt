@@ -1,13 +1,13 @@
 //! Laws of the rule, each on a function with an empty body.
-ghost use Rattle.std.specs.Prelude.{◌≡◌, ℕ, ◌<◌, suc, true, None, length};
+ghost use Rattle.std.specs.Prelude.{◌≡◌, ℕ, ◌<◌, List, suc, true, None, length};
 ghost use lib.ListN.{get_elem?};
 ghost use mathlib.Core.Option.{some};
 ghost use Rattle.atomic_table.specs.Table.{State};
-ghost use Rattle.sweep_laws.specs.Changes.{after_give, after_take};
+ghost use Rattle.sweep_laws.specs.Changes.{after_drop, after_give, after_pull, after_take};
 ghost use Rattle.sweep_laws.specs.Counts.{times};
 ghost use Rattle.sweep_laws.specs.State.{CoreState};
 ghost use Rattle.sweep_laws.specs.Step.{after};
-ghost use Rattle.sweep_laws.specs.declared.moves.Move.TheVariants.{Lock, Unlock, Take, Give, Acquire, Release, Cache, Allocate, Uncache, StaleUncache, Claim, Fill, PopSwept, PopUnswept, DropPopped};
+ghost use Rattle.sweep_laws.specs.declared.moves.Move.TheVariants.{Lock, Unlock, Take, Give, Acquire, Release, Cache, Allocate, Uncache, StaleUncache, Claim, Fill, PopSwept, PopUnswept, DropPopped, Pull, Cut, Drop, Next};
 ghost use Rattle.span_laws.specs.declared.view.Part.{Part};
 ghost use Rattle.span_table.specs.Running.{Running};
 ghost use Rattle.span_table.specs.Same.{IsSameState};
@@ -25,8 +25,11 @@ pub fn the_lock_stands_apart()
     ensures unlock { (c : CoreState) (n : ℕ) → shown c 0 ≡ after (shown c (suc n)) (Unlock n) }
     ensures take { (c : CoreState) (n page pages count class : ℕ) → shown (record (after_take c n page pages count class) { lock = None }) (suc n) ≡ after (shown c (suc n)) (Take n page pages count class) }
     ensures give { (c : CoreState) (n page : ℕ) → shown (record (after_give c n page) { lock = None }) (suc n) ≡ after (shown c (suc n)) (Give n page) }
+    ensures pull { (c : CoreState) (n : ℕ) → shown (record (after_pull c n) { lock = None }) (suc n) ≡ after (shown c (suc n)) (Pull n) }
+    ensures drop { (c : CoreState) (n : ℕ) → shown (record (after_drop c n) { lock = None }) (suc n) ≡ after (shown c (suc n)) (Drop n) }
 
     // a worker's spans
+    ensures cut { (c : CoreState) (lock n page pages count class : ℕ) → shown (after c (Cut n page pages count class)) lock ≡ after (shown c lock) (Cut n page pages count class) }
     ensures acquire { (c : CoreState) (lock n page : ℕ) → shown (after c (Acquire n page)) lock ≡ after (shown c lock) (Acquire n page) }
     ensures release { (c : CoreState) (lock n page : ℕ) → shown (after c (Release n page)) lock ≡ after (shown c lock) (Release n page) }
     ensures cache { (c : CoreState) (lock n page : ℕ) → shown (after c (Cache n page)) lock ≡ after (shown c lock) (Cache n page) }
@@ -40,6 +43,9 @@ pub fn the_lock_stands_apart()
     ensures pop_swept { (c : CoreState) (lock n set : ℕ) → shown (after c (PopSwept n set)) lock ≡ after (shown c lock) (PopSwept n set) }
     ensures pop_unswept { (c : CoreState) (lock n set : ℕ) → shown (after c (PopUnswept n set)) lock ≡ after (shown c lock) (PopUnswept n set) }
     ensures drop_popped { (c : CoreState) (lock n page : ℕ) → shown (after c (DropPopped n page)) lock ≡ after (shown c lock) (DropPopped n page) }
+
+    // the mark end
+    ensures next { (c : CoreState) (lock : ℕ) (marks : List (ℕ × ℕ)) → shown (after c (Next marks)) lock ≡ after (shown c lock) (Next marks) }
 {}
 
 /// In each state of the table: whoever sweeps a span is alone with it and has its body, nobody sweeps a span that somebody has cached, and

@@ -34,4 +34,5 @@ pub use shared::{Shared, Worker};
 pub use span_laws::{
     Acquired, Cell, Entry, Part, Refused, Said, SaidOf, Span, Step, Uncached, View,
 };
+pub use table_words::SETS;
 pub use view::{Item, SeatView, Size};

@@ -18,6 +18,7 @@ use crate::plays::{
     Begin, EmptyCell, EmptyCounter, EmptyDrawn, EmptyEntry, EmptySet, FindBlock, Measure, Note,
     OfMarks, Turn,
 };
+use crate::scans::UNSWEPT_SETS;
 use crate::shared::{Shared, Worker};
 use crate::view::{Item, SeatView};
 use crate::words::{halves, word_of_cell, word_of_drawn, word_of_entry, word_of_set};
@@ -26,10 +27,7 @@ use set_blocks::{BLOCK_CELLS, PARTS};
 use span_laws::Said;
 use span_state::Marks;
 use std::marker::Brand;
-use table_words::{GENERATION, LOCK, NEXT_CHUNK, SPENT_BYTES, SWEPT_PAGES};
-
-// How many unswept sets there are: for each span class a full and a partial one.
-const UNSWEPT_SETS: u32 = 272;
+use table_words::{GENERATION, LOCK, NEXT_CHUNK, SPENT_BYTES, SWEPT_PAGES, WORKERS};
 
 // The unswept set of an index: every second set is unswept.
 fn unswept_set(index: u32, generation: u64) -> u32
@@ -438,6 +436,6 @@ impl Shared {
         let generation = driver.generation;
         end_marking(self, &mut driver.seat, generation, marks);
         driver.generation = generation + 2;
-        driver.spares = [0; 70];
+        driver.spares = [0; WORKERS as usize];
     }
 }

@@ -9,7 +9,7 @@ use span_laws::Acquired;
 use span_state::{Body, Marks};
 
 // How many unswept sets there are: for each span class a full and a partial one.
-const UNSWEPT_SETS: u32 = 272;
+pub(crate) const UNSWEPT_SETS: u32 = 272;
 
 // The number of the unswept set at a place in the order of sweeping.
 fn number_at(index: u32, generation: u64) -> u32

@@ -19,9 +19,13 @@ use atomic_table::{Seat, Table};
 use fallible_list::NoMemory;
 use page_alloc::Pages;
 use page_cache::PageCache;
-use size_classes::{MAX_CHUNKS, MAX_PAGES};
+use size_classes::{CHUNK_PAGES, MAX_CHUNKS, MAX_PAGES};
 use std::alloc::Global;
 use std::marker::{Brand, Model};
+use table_words::WORKERS;
+
+// The driver's number, the last of the workers.
+const DRIVER: u32 = 69;
 
 /// What all workers share.
 #[derive(Drop)]
@@ -52,7 +56,7 @@ pub struct Worker {
     pub(crate) goal: u32,
     // for each worker's number 1 plus the block that it drew and put nowhere yet, or 0; those of numbers that are not with the seat are of an
     // earlier time
-    pub(crate) spares: [u32; 70],
+    pub(crate) spares: [u32; WORKERS as usize],
     // its page cache, where it went out with one
     pub(crate) cache: Option<PageCache>,
     // the number of the journal line that pulled the block which is out
@@ -166,7 +170,7 @@ impl Shared {
         requires few { chunks ≤ MAX_CHUNKS }
         ensures { IfOk result (λ made. made.1 ≡ record { table = made.0; number = 69; away = []; caching = false; journal = None; view = first_view (512 * chunks) goal procs 70 }) }
     {
-        let pages = 512 * chunks;
+        let pages = CHUNK_PAGES * chunks;
         let heap = Pages::new(alloc, chunks, goal)?;
         let words = first_words(alloc, chunks)?;
         let items = first_items(alloc, heap, pages)?;
@@ -174,16 +178,16 @@ impl Shared {
             pages,
             goal,
             procs,
-            workers: 70,
+            workers: WORKERS,
         };
         let Ok((table, seat)) = Table::new(alloc, &words, items, &size) else {
             return Err(NoMemory);
         };
         let driver = Worker {
-            number: 69,
+            number: DRIVER,
             generation: 4,
             goal,
-            spares: [0; 70],
+            spares: [0; WORKERS as usize],
             cache: None,
             line: 0,
             seat,

@@ -2,7 +2,7 @@
 ghost use Rattle.std.specs.Prelude.{◌≡◌, ◌≤◌};
 
 use crate::shared::{Shared, Worker};
-use size_classes::MAX_PAGES;
+use size_classes::{CHUNK_PAGES, MAX_PAGES};
 
 impl Shared {
     /// The number of pages of the region: 512 to 2097152.
@@ -13,7 +13,7 @@ impl Shared {
         ensures most { result ≤ MAX_PAGES }
     {
         let _seat = &w.seat;
-        512 * self.chunks
+        CHUNK_PAGES * self.chunks
     }
 
     /// The goal for backed pages, in pages.

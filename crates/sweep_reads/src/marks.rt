@@ -75,10 +75,15 @@ fn end_of(marks: &[(u32, u32)], page: u32, start: usize) -> usize
 // How far whole strides go over the marks of a page, from `start` on. Where the last mark of a stride is of the page, those
 // between are too.
 fn strides_of(marks: &[(u32, u32)], page: u32, start: usize, stride: usize) -> usize
+    // the marks
     requires rising { rises marks.now ≡ true }
+
+    // the stride, and where it begins
     requires stride { 0 < stride }
     requires bound { start ≤ length marks.now }
     requires before { (k : ℕ) (d : ℕ × ℕ) → k < start → (slice_index_or marks.now k d).0 < page + 1 }
+
+    // where it ends
     ensures order { start ≤ result }
     ensures bound { result ≤ length marks.now }
     ensures before { (k : ℕ) (d : ℕ × ℕ) → k < result → (slice_index_or marks.now k d).0 < page + 1 }

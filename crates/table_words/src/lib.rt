@@ -19,7 +19,8 @@ ghost use Rattle.table_words.specs.Names.{
   tail_of as tail_in,
 };
 
-use set_blocks::MAX_CHUNKS;
+pub use set_blocks::SETS;
+use set_blocks::{CHUNK_PAGES, MAX_CHUNKS};
 
 #[cfg(test)]
 mod tests;
@@ -42,9 +43,6 @@ pub const NEXT_CHUNK: u64 = 4;
 /// The workers that a table has words for; the last is the driver.
 pub const WORKERS: u32 = 70;
 
-/// The sets of spans: four for each of the 136 span classes.
-pub const SETS: u32 = 544;
-
 // The first words of the blocks behind the five single words.
 const FIRST_EVENT: u64 = 5;
 
@@ -55,7 +53,7 @@ fn pages_of(chunks: u32) -> u64
     requires { chunks ≤ MAX_CHUNKS }
     ensures { result ≡ 512 * chunks }
 {
-    512 * u64::from(chunks)
+    CHUNK_PAGES * u64::from(chunks)
 }
 
 // The first word of the sets.

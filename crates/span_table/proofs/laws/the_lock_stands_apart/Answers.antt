@@ -46,3 +46,15 @@ returns-clause-fill f = fill_is_move
 
 pub returns-clause-give : goal.returns-clause-give
 returns-clause-give f = λ c n page. refl
+
+pub returns-clause-pull : goal.returns-clause-pull
+returns-clause-pull f = λ c n. refl
+
+pub returns-clause-drop : goal.returns-clause-drop
+returns-clause-drop f = λ c n. refl
+
+pub returns-clause-cut : goal.returns-clause-cut
+returns-clause-cut f = λ c lock n page pages count class. refl
+
+pub returns-clause-next : goal.returns-clause-next
+returns-clause-next f = λ c lock marks. refl
