@@ -9,8 +9,6 @@
 mod history;
 mod profile;
 mod publisher;
-#[cfg(test)]
-mod tests;
 mod viewer;
 mod watcher;
 

@@ -16,8 +16,6 @@ mod lone;
 mod marks;
 mod part;
 mod parts;
-#[cfg(test)]
-mod tests;
 mod tiny;
 
 pub use base::{Based, base_of};

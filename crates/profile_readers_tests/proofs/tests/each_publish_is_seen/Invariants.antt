@@ -1,4 +1,4 @@
-use Rattle.profile_readers.proofs.tests.each_publish_is_seen.Given as goal
+use Rattle.profile_readers_tests.proofs.tests.each_publish_is_seen.Given as goal
 
 -- the board that was just opened
 abbrev pub ghosts-saw_by_turns : goal.ghosts-saw_by_turns

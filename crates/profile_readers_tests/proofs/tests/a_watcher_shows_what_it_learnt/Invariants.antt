@@ -1,4 +1,4 @@
-use Rattle.profile_readers.proofs.tests.a_watcher_shows_what_it_learnt.Given as goal
+use Rattle.profile_readers_tests.proofs.tests.a_watcher_shows_what_it_learnt.Given as goal
 
 -- the board that was just opened
 abbrev pub ghosts-learnt_after_the_close : goal.ghosts-learnt_after_the_close

@@ -2,9 +2,9 @@
 
 ghost use Rattle.std.specs.Prelude.{◌≡◌, ◌+◌, ◌≤◌, [], length, IfOk};
 
-use crate::{Board, Opened, Publisher, Sight, Told, Viewer, Watcher, board};
 use edge_io::{List, NoMemory};
 use profile_cycle::Count;
+use profile_readers::{Board, Opened, Publisher, Sight, Told, Viewer, Watcher, board};
 use std::alloc::Global;
 use std::marker::Brand;
 use std::process::Abort;

@@ -1,4 +1,4 @@
-use crate::Tiny;
+use tiny_alloc::Tiny;
 
 // Five objects of 8, 4, 2, 1 and 2 bytes: the first begins a block at this address, three ride in it, and the last finds no room.
 #[test]

@@ -1,4 +1,4 @@
-use Rattle.profile_readers.proofs.tests.threads_see_whole_profiles_in_order.Given as goal
+use Rattle.profile_readers_tests.proofs.tests.threads_see_whole_profiles_in_order.Given as goal
 
 -- the board that was just opened
 abbrev pub ghosts-seen_in_threads : goal.ghosts-seen_in_threads

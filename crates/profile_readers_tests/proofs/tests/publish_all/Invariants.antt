@@ -1,5 +1,5 @@
 use Rattle.std.proofs.Common.{◌≡◌, length}
-use Rattle.profile_readers.proofs.tests.publish_all.Given as goal
+use Rattle.profile_readers_tests.proofs.tests.publish_all.Given as goal
 
 abbrev pub invariant-loop-number : goal.invariant-loop-number
 invariant-loop-number g l = length l.publisher ≡ l.number
