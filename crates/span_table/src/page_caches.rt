@@ -29,7 +29,8 @@ impl Worker {
 
 impl Shared {
     /// Pulls a block for a worker whose page cache has none: the free pages of the 64 aligned ones that have the least free page. NoPage
-    /// exactly where no page was free under the heap lock (`mpagecache.go`, `allocToCache`). Waits for the heap lock.
+    /// where no page was free under the heap lock (`mpagecache.go`, `allocToCache`): its clause tells of a journal without a free page, which
+    /// is the table's own as far as the worker was told of that one. Waits for the heap lock.
     pub fn pull<R: Wait>(&self, rt: &R, w: &mut Worker) -> Result<Pulled, NoMemory>
         requires table { w.old.table ≡ self.now }
         requires empty { IsEmptyCache w.old.view.own.cache }
