@@ -1,9 +1,10 @@
 #!/usr/bin/env bash
 # Processor minutes of the gate, crate by crate: of its proof, of the proof of its tests, and of the wrong bodies that must
-# be refused. It runs `rt ci` with the words that it is given and looks twice a second at what the provers below it have
-# used, so a figure is right to about half a second a process. Only what the run does counts: what an earlier run on this
-# machine has passed is kept and costs nothing, so the whole table comes from a new machine, or from `bench/gate.sh --anew`.
-# The log of the run goes to the file that LOG names (default: /dev/null). It ends with the status of `rt ci`.
+# be refused, as the table of docs/gate.md has them. It runs `rt ci` with the words that it is given and looks twice a second
+# at what the provers below it have used, so a figure is right to about half a second a process. Only what the run does
+# counts: what an earlier run on this machine has passed is kept and costs nothing, so the whole table comes from a new
+# machine, or from `bench/gate.sh --anew`. The log of the run goes to the file that LOG names (default: /dev/null). It ends
+# with the status of `rt ci`.
 set -u
 cd "$(dirname "$(readlink -f "$0")")/.."
 exec python3 - "${LOG:-/dev/null}" "$@" <<'PYTHON'
@@ -77,6 +78,12 @@ def watch(run):
     return used, roles
 
 
+def line(name, minutes, places):
+    """A line of the table; a dash where nothing ran."""
+    cells = [f"{it:.{places}f}" if it else "–" for it in [*minutes, sum(minutes)]]
+    return f"| {name} | {' | '.join(cells)} |"
+
+
 def main():
     began = time.monotonic()
     with open(log, "w") as out:
@@ -87,14 +94,11 @@ def main():
         crate, kind = roles[key]
         row = table.setdefault(crate, dict.fromkeys(KINDS, 0.0))
         row[kind] += spent / ticks / 60
-    kinds = list(KINDS)
-    line = "| {:<18} |" + " {:>7} |" * (len(kinds) + 1)
-    print(line.format("crate", *kinds, "all"))
-    print("|---|" + "---:|" * (len(kinds) + 1))
+    print("| crate | proof | tests | wrong bodies | all |")
+    print("|---|---:|---:|---:|---:|")
     for crate, row in sorted(table.items(), key=lambda it: -sum(it[1].values())):
-        print(line.format(crate, *(f"{row[kind]:.2f}" for kind in kinds), f"{sum(row.values()):.2f}"))
-    sums = [sum(row[kind] for row in table.values()) for kind in kinds]
-    print(line.format("the whole", *(f"{one:.1f}" for one in sums), f"{sum(sums):.1f}"))
+        print(line(f"`{crate}`", [row[kind] for kind in KINDS], 1))
+    print(line("together", [sum(row[kind] for row in table.values()) for kind in KINDS], 0))
     print(f"wall time: {(time.monotonic() - began) / 60:.1f} minutes on {len(os.sched_getaffinity(0))} processors; rt ci ended with {run.returncode}")
     return run.returncode
 
