@@ -8,6 +8,7 @@ use Rattle.tiny_alloc.specs.declared.part.Part.TheVariants.{Other, Ride}
 use Rattle.tiny_alloc.specs.Blocks.{Block}
 use Rattle.tiny_alloc.specs.Parts.{next_block, next_part}
 use Rattle.tiny_alloc.specs.Rides.{StandRiders, alone, block_of, ridden_answers, ridden_events, start_in, tried_by}
+use Rattle.heap_run.specs.Gains.{behind}
 
 -- ---- one event
 
@@ -46,6 +47,18 @@ given_of true events answers = ridden_answers alone events answers
 abbrev pub RidersStand : Bool → List Event → List Answer → Type 0
 RidersStand false events answers = Unit {0}
 RidersStand true events answers = (length answers ≡ length events) × StandRiders alone events answers
+
+-- What a call asked for these events, whose answers are those behind the ones before. These lists have the oldest first.
+abbrev pub asked_in : Bool → List Event → List Answer → List Answer → List Event
+asked_in riding events before given = asked_of riding (reverse events) (reverse (behind before given))
+
+-- What the heap answered in that call.
+abbrev pub given_in : Bool → List Event → List Answer → List Answer → List Answer
+given_in riding events before given = given_of riding (reverse events) (reverse (behind before given))
+
+-- The riders among these events stand in their blocks.
+abbrev pub RidersStandIn : Bool → List Event → List Answer → List Answer → Type 0
+RidersStandIn riding events before given = RidersStand riding (reverse events) (reverse (behind before given))
 
 -- ---- all processors
 

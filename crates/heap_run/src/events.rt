@@ -8,7 +8,7 @@ ghost use Rattle.sample_laws.specs.Countdowns.{flag, flags, spends, spent};
 ghost use Rattle.heap_run.specs.Counts.{Counts};
 ghost use Rattle.heap_run.specs.Firsts.{FlushesFor};
 ghost use Rattle.heap_run.specs.Gains.{HasKept, behind};
-ghost use Rattle.heap_run.specs.Riding.{RidersStand, StandsWith, asked_of, block_with, given_of, part_with};
+ghost use Rattle.heap_run.specs.Riding.{RidersStandIn, StandsWith, asked_in, block_with, given_in, part_with};
 ghost use Rattle.heap_run.specs.Turns.{HasActed, IsCaching, SaysAnswers};
 ghost use Rattle.tiny_alloc.specs.Base.{based_answer, based_event};
 ghost use Rattle.tiny_alloc.specs.Rides.{start_in};
@@ -57,14 +57,14 @@ pub(crate) fn answer_all<R: Wait, G: Gate>(
     requires known { All (λ b. b < shop.now.ring.now.buckets) buckets.now }
 
     // what was answered
-    ensures acted { OnOk result (HasActed (SaysAnswers (asked_of riding (reverse events.now) (reverse (behind answers.old answers.new))) (given_of riding (reverse events.now) (reverse (behind answers.old answers.new)))) hand.old hand.new) }
-    ensures riders { OnOk result (RidersStand riding (reverse events.now) (reverse (behind answers.old answers.new))) }
-    ensures flushed { OnOk result (FlushesFor (asked_of riding (reverse events.now) (reverse (behind answers.old answers.new))) proc.old proc.new hand.old hand.new) }
+    ensures acted { OnOk result (HasActed (SaysAnswers (asked_in riding events.now answers.old answers.new) (given_in riding events.now answers.old answers.new)) hand.old hand.new) }
+    ensures riders { OnOk result (RidersStandIn riding events.now answers.old answers.new) }
+    ensures flushed { OnOk result (FlushesFor (asked_in riding events.now answers.old answers.new) proc.old proc.new hand.old hand.new) }
     ensures kept { OnOk result (HasKept answers.old answers.new × HasKept sampled.old sampled.new) }
 
     // what is counted
-    ensures sampled { OnOk result (reverse (behind sampled.old sampled.new) ≡ flags proc.old.countdown (asked_of riding (reverse events.now) (reverse (behind answers.old answers.new))) (given_of riding (reverse events.now) (reverse (behind answers.old answers.new)))) }
-    ensures spent { OnOk result (proc.new.countdown ≡ spent proc.old.countdown (asked_of riding (reverse events.now) (reverse (behind answers.old answers.new))) (given_of riding (reverse events.now) (reverse (behind answers.old answers.new)))) }
+    ensures sampled { OnOk result (reverse (behind sampled.old sampled.new) ≡ flags proc.old.countdown (asked_in riding events.now answers.old answers.new) (given_in riding events.now answers.old answers.new)) }
+    ensures spent { OnOk result (proc.new.countdown ≡ spent proc.old.countdown (asked_in riding events.now answers.old answers.new) (given_in riding events.now answers.old answers.new)) }
     ensures counts { OnOk result (Counts shop.now.marks.now (sampled_counts (behind sampled.old sampled.new) buckets.now) hand.old hand.new) }
 
     // the processor serves it still
