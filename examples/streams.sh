@@ -1,6 +1,6 @@
 #!/usr/bin/env bash
 # Runs goheap on real streams: ones that fail, end early or come in pieces. Each run must end by itself with its status, never by
-# a signal, and what it says on standard error must be whole lines.
+# a signal, and what it says on standard error must be whole lines. Of a closed pipe the launcher says nothing there.
 set -u
 cd "$(dirname "$(readlink -f "$0")")"
 folder=$(mktemp -d)
@@ -56,7 +56,7 @@ longest() {
 trace 100000 >"$folder/large"
 
 "$goheap" run <"$folder/large" 2>"$folder/said" | true
-wants "a closed pipe" 6 "${PIPESTATUS[0]}" "goheap: write fault"
+wants "a closed pipe" 6 "${PIPESTATUS[0]}" ""
 
 "$goheap" run <one-object.trace >/dev/full 2>"$folder/said"
 wants "a full disk" 6 $? "goheap: write fault"
@@ -80,7 +80,7 @@ for words in classes "gen 1 100000" "demo 1 1000"; do
     "$goheap" $words 2>"$folder/said" | true
     status=${PIPESTATUS[0]}
     if [ "$words" = "gen 1 100000" ] || [ "$status" -ne 0 ]; then
-      wants "$words into a closed pipe" 6 "$status" "goheap: write fault"
+      wants "$words into a closed pipe" 6 "$status" ""
     fi
     "$goheap" $words >/dev/full 2>"$folder/said"
     wants "$words onto a full disk" 6 $? "goheap: write fault"

@@ -18,12 +18,20 @@ import sys
 import threading
 import time
 
+from terminal import Line, end_at_signals, started
+
 ROOT = os.path.dirname(os.path.dirname(os.path.abspath(__file__)))
 PROGRAM = f"{ROOT}/crates/goheap/out/goheap"
 # What a crate is proved from, and what the program is run on.
 PARTS = ("src", "specs", "proofs")
 # The memory that a check takes, in bytes, at most in nearly all cases.
 MEMORY = 4 << 30
+
+
+def cache_folder():
+    """The folder, below the user's one of caches, of what is kept for this checkout."""
+    caches = os.environ.get("XDG_CACHE_HOME") or os.path.expanduser("~/.cache")
+    return f"{caches}/goheap/{hashlib.sha256(ROOT.encode()).hexdigest()[:16]}"
 
 
 def lanes():
@@ -83,12 +91,14 @@ class Work:
 
 
 def show(work, ended):
-    """Says how far the work is: on one line of a terminal every second, otherwise once a minute."""
-    is_terminal = sys.stderr.isatty()
-    while not ended.wait(1 if is_terminal else 60):
-        print(f"\r{work.line()}\033[K" if is_terminal else work.line(), end="" if is_terminal else "\n", file=sys.stderr, flush=True)
-    if is_terminal:
-        print("\r\033[K", end="", file=sys.stderr, flush=True)
+    """Says how far the work is, at once and until it has ended: on one line of a terminal every second, otherwise once a minute."""
+    with Line() as line:
+        while True:
+            line.show(work.line())
+            if not line.is_shown:
+                print(work.line(), file=sys.stderr, flush=True)
+            if ended.wait(1 if line.is_shown else 60):
+                return
 
 
 def copy_crates(names, tree):
@@ -107,21 +117,15 @@ def copy_crates(names, tree):
     shutil.copyfile(f"{ROOT}/HANDLES", f"{tree}/HANDLES")
 
 
-def prove(names, tree):
+def prove(work, tree):
     """Proves the crates of the copy, lowest first and side by side, and returns whether all passed."""
-    work, ended, said = Work(names, lanes()), threading.Event(), []
-    telling = threading.Thread(target=show, args=(work, ended))
-    telling.start()
-    words = ["rt", "all", "check", "--jobs", str(lanes())]
-    try:
-        with subprocess.Popen(words, cwd=f"{tree}/crates", stdout=subprocess.PIPE, stderr=subprocess.STDOUT, stdin=subprocess.DEVNULL, text=True, errors="replace") as run:
-            for line in run.stdout:
-                said.append(line)
-                if line.startswith("== ") and line[3:].strip() in work.costs:
-                    work.done.add(line[3:].strip())
-    finally:
-        ended.set()
-        telling.join()
+    said, words = [], ["rt", "all", "check", "--jobs", str(work.lanes)]
+    how = {"stdout": subprocess.PIPE, "stderr": subprocess.STDOUT, "stdin": subprocess.DEVNULL, "text": True, "errors": "replace"}
+    with started(words, cwd=f"{tree}/crates", **how) as run:
+        for line in run.stdout:
+            said.append(line)
+            if line.startswith("== ") and line[3:].strip() in work.costs:
+                work.done.add(line[3:].strip())
     with open(f"{tree}/build.log", "w", encoding="utf-8") as file:
         file.writelines(said)
     if run.returncode:
@@ -129,28 +133,57 @@ def prove(names, tree):
     return not run.returncode
 
 
+def prove_and_tell(names, tree):
+    """Proves the crates, as this checkout has them, and tells meanwhile how far that is."""
+    work, ended = Work(names, lanes()), threading.Event()
+    telling = threading.Thread(target=show, args=(work, ended), daemon=True)
+    try:
+        telling.start()
+        copy_crates(names, tree)
+        return prove(work, tree)
+    finally:
+        ended.set()
+        if telling.ident:
+            telling.join()
+
+
+def link(tree):
+    """Builds the program of what is proved, and returns whether that went well. The build runs it once, on a stored trace."""
+    with open(f"{ROOT}/examples/one-object.trace", "rb") as trace, open(f"{tree}/build.log", "ab") as log:
+        with started(["rt", "run", "--", "run"], cwd=f"{tree}/crates/goheap", stdin=trace, stdout=log, stderr=log) as run:
+            run.wait()
+    if run.returncode:
+        print(f"goheap: the build failed; {tree}/build.log has what was said", file=sys.stderr)
+    return not run.returncode
+
+
+def place(tree, begun):
+    """Puts the program into the checkout. What was edited since the build began is newer than the program."""
+    os.makedirs(os.path.dirname(PROGRAM), exist_ok=True)
+    shutil.copy2(f"{tree}/crates/goheap/out/goheap", f"{PROGRAM}.new")
+    os.utime(f"{PROGRAM}.new", (begun, begun))
+    os.replace(f"{PROGRAM}.new", PROGRAM)
+
+
+def take_lock(lock):
+    """Waits for another build of this checkout to end."""
+    try:
+        fcntl.flock(lock, fcntl.LOCK_EX | fcntl.LOCK_NB)
+    except BlockingIOError:
+        print("goheap: another build of this checkout is at work; waiting for it", file=sys.stderr, flush=True)
+        fcntl.flock(lock, fcntl.LOCK_EX)
+
+
 def build(names):
     """Proves the crates, builds the program, and puts it into the checkout. Returns the status to end with."""
-    caches = os.environ.get("XDG_CACHE_HOME") or os.path.expanduser("~/.cache")
-    tree = f"{caches}/goheap/{hashlib.sha256(ROOT.encode()).hexdigest()[:16]}"
+    tree = cache_folder()
     os.makedirs(tree, exist_ok=True)
     with open(f"{tree}/lock", "w", encoding="utf-8") as lock:
-        fcntl.flock(lock, fcntl.LOCK_EX)
+        take_lock(lock)
         begun = time.time()
-        copy_crates(names, tree)
-        if not prove(names, tree):
+        if not prove_and_tell(names, tree) or not link(tree):
             return 1
-        # the build runs the program once, on a stored trace
-        with open(f"{ROOT}/examples/one-object.trace", "rb") as trace:
-            status = subprocess.run(["rt", "run", "--", "run"], cwd=f"{tree}/crates/goheap", stdin=trace, stdout=sys.stderr, check=False).returncode
-        if status:
-            print("goheap: the build failed", file=sys.stderr)
-            return 1
-        os.makedirs(os.path.dirname(PROGRAM), exist_ok=True)
-        shutil.copy2(f"{tree}/crates/goheap/out/goheap", f"{PROGRAM}.new")
-        # what was edited meanwhile is newer than the program
-        os.utime(f"{PROGRAM}.new", (begun, begun))
-        os.replace(f"{PROGRAM}.new", PROGRAM)
+        place(tree, begun)
     print(f"goheap: proved and built, in {(time.time() - begun) / 60:.1f} minutes", file=sys.stderr)
     return 0
 
@@ -169,10 +202,13 @@ def main(words):
 
 
 if __name__ == "__main__":
+    end_at_signals()
     try:
         sys.exit(main(sys.argv[1:]))
-    except KeyboardInterrupt:
-        sys.exit(130)
+    except SystemExit as ended:
+        if isinstance(ended.code, int) and ended.code > 128:
+            print("goheap: interrupted; what was proved is kept, and the next build goes on there", file=sys.stderr)
+        raise
     except OSError as error:
         print(f"goheap: cannot build: {error}", file=sys.stderr)
         sys.exit(1)
