@@ -1,0 +1,183 @@
+"""Says how often goheap's addresses agree with those of the program that a trace was recorded from, in what addresses can show.
+
+    recorder/compare log trace report
+
+For each object: whether its slot has the same size, and whether it is the same slot of its span. For each mark end and size
+class: how many spans hold an object that was found alive. Nothing is claimed of the whole; the figures are counts.
+"""
+
+import argparse
+import itertools
+import sys
+from collections import Counter, defaultdict
+
+from goheap_tools import tool
+from goheap_tools.formats import companions, golog
+from goheap_tools.formats.report import report_in, stack_file
+from goheap_tools.formats.traces import Event, trace_in
+from goheap_tools.heap.classes import LARGEST, PAGE, PAGES, SLOTS
+from goheap_tools.heap.tiny import BLOCK, riders_of, slot_in
+
+# Objects that are compared with the log before the trace is read whole.
+TRIED = 1000
+
+# What an object is counted as: with the block that it began in the program, of another size in the model or in the block of another there.
+OWN_SIZE, SHARING = "tiny, a block of its own in the model", "tiny, in another's block in the model"
+
+
+def seat(address, slot):
+    """The first page of the span and the index in it, or nothing where the address does not tell which of two spans it is."""
+    if slot > LARGEST:
+        return address // PAGE, 0
+    pages = PAGES[SLOTS.index(slot)]
+    page = address // PAGE
+    found = [(first, (address - first * PAGE) // slot) for first in range(page - pages + 1, page + 1) if (address - first * PAGE) % slot == 0]
+    found = [(first, index) for first, index in found if (index + 1) * slot <= pages * PAGE]
+    return found[0] if len(found) == 1 else None
+
+
+def is_tiny(event, slot):
+    """Whether the object began a block of tiny ones in the program, where the log has the block alone."""
+    return not event.has_pointers and event.size < BLOCK and slot == BLOCK
+
+
+class Agreement:
+    """Counts objects by what they agree in."""
+
+    def __init__(self):
+        self.counts = Counter()
+        self.by_class = defaultdict(Counter)
+
+    def take(self, event, slots, real, model_address, rides):
+        """Takes an object in, with the bytes of its slots in the program and in the model, and whether it has none of its own there."""
+        self.counts["objects"] += 1
+        if not model_address:
+            self.counts["refused by the model"] += 1
+            return
+        if rides:
+            self.counts[SHARING] += 1
+            return
+        real_slot, slot = slots
+        if slot != real_slot:
+            self.counts[OWN_SIZE if is_tiny(event, real_slot) else "another slot size"] += 1
+            return
+        self.counts["same slot size"] += 1
+        row = self.by_class[slot]
+        model = seat(model_address, slot)
+        if real is None or model is None:
+            row["unknown"] += 1
+        elif real[1] == model[1]:
+            row["same"] += 1
+        else:
+            row["other"] += 1
+
+    def lines(self):
+        count = self.counts["objects"] or 1
+        for name in ("objects", "same slot size", OWN_SIZE, SHARING, "another slot size", "refused by the model"):
+            if name == SHARING and not self.counts[name]:
+                continue
+            yield f"{name:<42} {self.counts[name]:>9} {100 * self.counts[name] / count:>6.1f}%"
+        same = sum(row["same"] for row in self.by_class.values())
+        known = same + sum(row["other"] for row in self.by_class.values())
+        yield f"{'same slot of the span, where both are known':<42} {same:>8} {100 * same / (known or 1):>6.1f}% of {known}"
+        yield ""
+        yield f"{'slot':>8} {'objects':>9} {'same slot':>10} {'other':>8} {'not known':>10}"
+        for slot in sorted(self.by_class):
+            row = self.by_class[slot]
+            yield f"{slot:>8} {sum(row.values()):>9} {row['same']:>10} {row['other']:>8} {row['unknown']:>10}"
+
+
+def spans_alive(trace, real, model, marks):
+    """The number of spans that hold an object which the mark end found alive, by slot size: the program's and the model's."""
+    counts = []
+    for seats in (real, model):
+        spans = defaultdict(set)
+        for low, high in marks:
+            for slot, page in filter(None, seats[low : high + 1]):
+                spans[slot].add(page)
+        counts.append({slot: len(pages) for slot, pages in spans.items()})
+    return counts
+
+
+def span_lines(trace, real, model):
+    yield f"{'mark end':>8} {'spans alive':>12} {'model':>8} {'sizes with as many':>20} {'within a tenth':>15} {'of':>4}"
+    for number, marks in enumerate(trace.marks, 1):
+        theirs, ours = spans_alive(trace, real, model, marks)
+        slots = set(theirs) | set(ours)
+        pairs = [(theirs.get(slot, 0), ours.get(slot, 0)) for slot in slots]
+        equal = sum(a == b for a, b in pairs)
+        near = sum(abs(a - b) * 10 <= max(a, b) for a, b in pairs)
+        yield f"{number:>8} {sum(theirs.values()):>12} {sum(ours.values()):>8} {equal:>20} {near:>15} {len(slots):>4}"
+
+
+def check(number, event, found):
+    """Refuses an object that is not the log's allocation of this number."""
+    if event.size not in (found.asked, found.slot):
+        raise tool.Unusable(f"object {number} of the trace has {event.size} bytes, in the log {found.asked or found.slot}: it was recorded from another log")
+
+
+def first_allocations(allocations, path):
+    """The log's first allocations, which must be of the trace's first objects. So a wrong log is told before the trace is read whole."""
+    with tool.reading(path) as file:
+        events = itertools.islice((line.split() for line in file if line.startswith("a ")), TRIED)
+        firsts = []
+        for number, (words, found) in enumerate(zip(events, allocations)):
+            firsts.append(found)
+            if len(words) == 5 and words[2].isdecimal():
+                check(number, Event(0, 0, int(words[2]), words[3] == "s", 0), found)
+    return firsts
+
+
+def compare(allocations, trace, report):
+    """The lines of both tables. A trace may end before its log."""
+    if len(trace.events) != len(report.addresses):
+        raise tool.Unusable(f"the trace has {len(trace.events)} objects and the report {len(report.addresses)}: it is no report of this trace")
+    agreement, riders = Agreement(), riders_of(trace, report.addresses)
+    real_seats, model_seats = [], []
+    for number, (event, address) in enumerate(zip(trace.events, report.addresses)):
+        found = next(allocations, None)
+        if found is None:
+            raise tool.Unusable(f"the log has {number} allocations and the trace {len(trace.events)} objects: it was recorded from another log")
+        check(number, event, found)
+        real = seat(found.address, found.slot)
+        slot = slot_in(trace, event) if event.size else 0
+        agreement.take(event, (found.slot, slot), real, address, number in riders)
+        # what rides stands in a slot of its lead's span
+        model = seat(address - riders[number].offset if number in riders else address, slot) if address and slot else None
+        real_seats.append((found.slot, real[0]) if real else None)
+        model_seats.append((slot, model[0]) if model else None)
+    yield from agreement.lines()
+    yield ""
+    yield from span_lines(trace, real_seats, model_seats)
+
+
+def check_stacks(options):
+    """Refuses a trace that is not the one of the stacks, or that begins behind its log."""
+    stacks = stack_file(options.stacks)
+    if companions.of_trace_file(stacks, options.trace) is False:
+        raise tool.Unusable(f"{options.trace} and {options.stacks} are of two recordings")
+    if stacks.number("from mark end"):
+        raise tool.Unusable(f"{options.trace} begins at mark end {stacks.number('from mark end')} of its log, and cannot be compared with it")
+
+
+def main(words):
+    parser = argparse.ArgumentParser(prog="compare", description=__doc__.split("\n\n")[0])
+    parser.add_argument("log", help="the log that the trace was recorded from")
+    parser.add_argument("trace")
+    parser.add_argument("report", help="what goheap printed of the trace")
+    parser.add_argument("--stacks", help="the stacks of the recording, by which another trace is told")
+    parser.add_argument("--output", "-o", default="-", help="a file for the tables (default: standard output)")
+    options = parser.parse_args(words)
+    with tool.Output(options.output) as out, tool.reading(options.log) as log:
+        if options.stacks:
+            check_stacks(options)
+        allocations = (event for event in golog.events(golog.pieces_of(log)) if isinstance(event, golog.Allocation))
+        firsts = first_allocations(allocations, options.trace)
+        trace, report = trace_in(options.trace), report_in(options.report)
+        for line in compare(itertools.chain(firsts, allocations), trace, report):
+            out.write(line + "\n")
+    return 0
+
+
+def command():
+    tool.end("compare", main, sys.argv[1:])

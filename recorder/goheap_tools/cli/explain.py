@@ -1,0 +1,120 @@
+"""Says what is wrong with a report of goheap: the rule that it breaks first and its first line that does, as `goheap check` tells them, with
+what the rule asks, which objects, spans and lines are meant, and what should stand there.
+
+    recorder/explain trace report
+
+The rules are those of docs/sound-report.md, tried here by themselves. A sound report is told so. A report whose text is none is told by its
+first line that is malformed.
+"""
+
+import argparse
+import re
+import sys
+
+from goheap_tools import tool
+from goheap_tools.formats import companions
+from goheap_tools.formats.frames import shown_frames
+from goheap_tools.formats.report import Stacks, read_report, stack_file
+from goheap_tools.formats.traces import trace_in
+from goheap_tools.heap import tiny
+from goheap_tools.heap.rules import NAMES, first_fault
+
+KINDS = ("o", "j", "s", "t", "p", "end")
+NUMBER = "(?:0|[1-9][0-9]{0,19})"
+FORMS = {
+    "o": rf"o {NUMBER} (?:zero|miss {NUMBER}|0x(?:0|[1-9a-f][0-9a-f]{{0,15}}))",
+    "j": rf"j {NUMBER} {NUMBER} (?:take {NUMBER} {NUMBER} {NUMBER}|miss {NUMBER} {NUMBER}|give {NUMBER} {NUMBER}|scav {NUMBER} {NUMBER}"
+    rf"|(?:pull|drop) {NUMBER} {NUMBER} {NUMBER}|cut {NUMBER} {NUMBER} {NUMBER} {NUMBER})",
+    "s": rf"s {NUMBER} {NUMBER} {NUMBER} {NUMBER}",
+    "t": rf"t {NUMBER} {NUMBER} {NUMBER}",
+    "p": rf"p {NUMBER} {NUMBER} {NUMBER} {NUMBER} {NUMBER}",
+    "end": "end",
+}
+FORMS = {kind: re.compile(form) for kind, form in FORMS.items()}
+# How many of a line's numbers are its place in the order of its kind.
+PLACES = {"s": 2, "t": 1, "p": 3}
+WHAT = {"o": "objects", "j": "the journal", "s": "sweeps", "t": "totals", "p": "the profile", "end": "the end"}
+ASKS = {
+    1: "There is one answer for each object, `zero` exactly for size 0.",
+    2: "The journal is one that the pages and page caches can have: first fit, spans of their class's size, whole spans given back, scavenging by its steps, blocks that are dropped, no later cycle than the last.",
+    3: "A missed object names a miss of its pages, span class and cycle, and no two name one line.",
+    4: "A placed object sits in exactly one span, a slot of its size, which is not given back while the object lives.",
+    5: "Objects that live in one cycle do not overlap.",
+    6: "In a cycle a small span has one processor, is filled from its lowest free slot, and is full before its processor goes on to another span of the class.",
+    7: "Each span that a mark end finds is swept once in the cycle behind it, with what was kept and freed, and given back where nothing is kept, unless it is used again.",
+    8: "Each size class with placed objects has one line: how many, and how many of them do not live in the last cycle.",
+    9: "A profile line tells how many objects of a stack and a slot size were sampled before a mark end, and how many of them it does not mark; none is left out.",
+    10: "A tiny object that rides in the block of another stands there, at its offset behind that one's address.",
+}
+
+
+def line_fault(line, before, count):
+    """Why the line may not stand behind the one before, or nothing. `count` is how many lines of its kind came."""
+    words = line.split(" ")
+    kind = words[0]
+    if kind not in FORMS:
+        return "it is no line of a report"
+    if not FORMS[kind].fullmatch(line):
+        return f"it is not the form of a line of {WHAT[kind]}"
+    if before and KINDS.index(kind) < KINDS.index(before[0]):
+        return f"a line of {WHAT[kind]} may not stand behind one of {WHAT[before[0]]}"
+    if kind in "oj" and int(words[1]) != count:
+        return f"the lines of {WHAT[kind]} are numbered from 0, so its number should be {count}"
+    places = PLACES.get(kind)
+    if places and before and before[0] == kind and list(map(int, words[1 : places + 1])) <= list(map(int, before[1 : places + 1])):
+        return f"the lines of {WHAT[kind]} rise in their order, and the line before is `{' '.join(before)}`"
+    return None
+
+
+def text_fault(lines):
+    """The first line that is malformed, with why, or nothing."""
+    before, counts = None, dict.fromkeys(KINDS, 0)
+    for number, line in enumerate(lines, 1):
+        if before == ["end"]:
+            return number, "nothing may stand behind `end`"
+        line, is_whole = line.rstrip("\n"), line.endswith("\n")
+        why = line_fault(line, before, counts.get(line.split(" ")[0], 0)) if is_whole else "the report ends within it"
+        if why:
+            return number, f"{why}: `{line[:120]}`"
+        before = line.split(" ")
+        counts[before[0]] += 1
+    return None if before == ["end"] else (len(lines) + 1, "the report ends without the line `end`")
+
+
+def explanation(trace, lines, frames, name):
+    """The sentences on the report."""
+    if fault := text_fault(lines):
+        yield f"report line {fault[0]} is malformed: {fault[1]}."
+        return
+    fault = first_fault(trace, read_report(lines, name), frames)
+    if fault is None:
+        yield f"The report meets all {'ten' if trace.version >= tiny.FIRST_VERSION else 'nine'} rules: it is sound."
+        return
+    yield f"report line {fault.line} breaks rule {fault.rule}, {NAMES[fault.rule]}: `{lines[fault.line - 1].rstrip()}`"
+    yield ASKS[fault.rule]
+    yield from fault.sentences
+
+
+def main(words):
+    parser = argparse.ArgumentParser(prog="explain", description=__doc__.split("\n\n")[0])
+    parser.add_argument("trace")
+    parser.add_argument("report", help="a report of the trace, whoever wrote it; - is standard input")
+    parser.add_argument("--stacks", help="the stacks that `record` wrote, for the names of functions")
+    parser.add_argument("--output", "-o", default="-", help="a file for the sentences (default: standard output)")
+    options = parser.parse_args(words)
+    with tool.Output(options.output) as out:
+        stacks = stack_file(options.stacks) if options.stacks else Stacks({}, {}, {})
+        trace = trace_in(options.trace)
+        companions.of_trace(stacks, trace, (options.stacks, tool.named(options.trace)))
+        with tool.reading(options.report) as file:
+            lines = file.readlines()
+        frames = {number: shown_frames(one) for number, one in stacks.frames.items()}
+        if lines and tool.kind_of(lines[0]) not in (None, "a report"):
+            raise tool.Unusable(f"{tool.named(options.report)}: this is {tool.kind_of(lines[0])}, and no report")
+        for sentence in explanation(trace, lines, frames, tool.named(options.report)):
+            out.write(sentence + "\n")
+    return 0
+
+
+def command():
+    tool.end("explain", main, sys.argv[1:])

@@ -1,0 +1,424 @@
+"""Prints which functions still have objects in use, by the profile of a goheap report, the most bytes first.
+
+    goheap run --each < trace > report
+    recorder/leaks report --stacks stacks
+
+The counts are those of the report: what was sampled, by stack and slot size; of all objects at rate 1. Where the rate is above that,
+they are what Go's tools estimate from it: the rate is told by the stacks, or by `--scale`. A report at rate 0 has no profile; with
+`--trace` the counts are those of all objects of a trace, as rate 1 would sample them. Where the counts of several mark ends are known,
+`since` has how the bytes in use grew, and `grew` at how many mark ends they did.
+"""
+
+import argparse
+import itertools
+import sys
+from collections import defaultdict
+
+from goheap_tools import tool
+from goheap_tools.formats import companions
+from goheap_tools.formats.frames import name_of, shown_frames, type_of
+from goheap_tools.formats.report import Bucket, Miss, Stacks, report_in, stack_file
+from goheap_tools.formats.traces import is_marked, trace_in
+from goheap_tools.heap.classes import PAGE, SLOTS
+from goheap_tools.heap.estimate import factor
+from goheap_tools.heap.tiny import riders_of, slot_in
+from goheap_tools.tool import size_text
+
+# Of the objects behind the last mark end, of which nothing tells whether they stay alive, a word is said where they are this part.
+MANY_BEHIND = 0.05
+NO_MARK_END = "run the program with GOGC=20, or call runtime.GC() in it, twice at the end, and record it again"
+
+
+def buckets_of_trace(trace, addresses=None):
+    """Each mark end with the buckets that changed since the one before, as a profile at rate 1 has them: of objects that share a block the
+    first one counts, as long as one of them lives."""
+    allocs, frees = defaultdict(int), defaultdict(int)
+    riders = riders_of(trace, addresses)
+    live, at = [], 0
+    for mark_end, ranges in enumerate(trace.marks, 1):
+        changed = set()
+        while at < len(trace.events) and trace.events[at].cycle < mark_end:
+            event = trace.events[at]
+            if event.size and (addresses is None or addresses[at]):
+                live.append(at)
+                if at not in riders:
+                    bucket = event.stack, slot_in(trace, event)
+                    allocs[bucket] += 1
+                    changed.add(bucket)
+            at += 1
+        found = list(is_marked(ranges, live))
+        for one in slots_of(live, riders) - slots_of(found, riders):
+            event = trace.events[one]
+            bucket = event.stack, slot_in(trace, event)
+            frees[bucket] += 1
+            changed.add(bucket)
+        live = found
+        yield mark_end, [Bucket(mark_end, *bucket, allocs[bucket], frees[bucket]) for bucket in changed]
+
+
+def slots_of(objects, riders):
+    """The objects that got the slots in which these stand."""
+    return {riders[one].lead if one in riders else one for one in objects}
+
+
+def buckets_of_report(report):
+    """Each mark end with its buckets in the report."""
+    in_order = sorted(report.buckets, key=lambda bucket: bucket.mark_end)
+    return itertools.groupby(in_order, key=lambda bucket: bucket.mark_end)
+
+
+class Row:
+    """The objects of a line of the table as of the last mark end so far."""
+
+    def __init__(self):
+        self.allocs = self.frees = self.allocated = self.used = 0
+        self.first = self.before = self.grew = 0
+
+    def add(self, slot, allocs, frees):
+        self.allocs += allocs
+        self.frees += frees
+        self.allocated += allocs * slot
+        self.used += (allocs - frees) * slot
+
+    def end_mark_end(self, is_first):
+        if is_first:
+            self.first = self.used
+        elif self.used > self.before + 0.5:
+            self.grew += 1
+        self.before = self.used
+
+    def growth(self):
+        return self.used - self.first
+
+
+class Profile:
+    """The rows of the table by their keys, over the mark ends."""
+
+    def __init__(self, mark_ends, key_of, rate):
+        self.rows = defaultdict(Row)
+        self.cum = defaultdict(int)  # bytes in use by stack
+        self.first = self.last = None
+        counts = {}
+        for mark_end, buckets in mark_ends:
+            self.first, self.last = self.first or mark_end, mark_end
+            touched = set()
+            for bucket in buckets:
+                name = bucket.stack, bucket.slot
+                allocs, frees = counts.get(name, (0, 0))
+                counts[name] = bucket.allocs, bucket.frees
+                times = factor(bucket.slot, rate)
+                change = (bucket.allocs - allocs) * times, (bucket.frees - frees) * times
+                key = key_of(bucket)
+                self.rows[key].add(bucket.slot, *change)
+                self.cum[bucket.stack] += (change[0] - change[1]) * bucket.slot
+                touched.add(key)
+            for key in touched:
+                self.rows[key].end_mark_end(mark_end == self.first)
+
+    def growth_titles(self):
+        return f" {f'since {self.first}':>10} {'grew':>6}" if self.last > self.first else ""
+
+    def growth(self, row):
+        """How a row grew, where the counts of several mark ends are known."""
+        return f" {size_text(row.growth()):>10} {f'{row.grew}/{self.last - self.first}':>6}" if self.last > self.first else ""
+
+
+def percent(part, total):
+    return f"{100 * part / total:.1f}%" if total else "0.0%"
+
+
+class Table:
+    """One of the tables: what its rows are, their order, and their lines."""
+
+    what = "functions"
+    has_cum = True
+
+    def __init__(self, profile, stacks, options):
+        self.profile, self.stacks, self.options = profile, stacks, options
+        self.cum = self.cum_of_names()
+
+    @staticmethod
+    def name(frame):
+        return name_of(frame)
+
+    @classmethod
+    def key(cls, stacks):
+        """What a bucket's row is called by."""
+        return lambda bucket: cls.name(shown_frames(stacks.frames.get(bucket.stack, []))[0])
+
+    def cum_of_names(self):
+        """What each has in use together with those that it calls."""
+        cum = defaultdict(int)
+        for stack, used in self.profile.cum.items():
+            for name in {self.name(frame) for frame in shown_frames(self.stacks.frames.get(stack, []))}:
+                cum[name] += used
+        return cum
+
+    def names(self):
+        """The rows with something in use, in their order."""
+        rows, cum = self.profile.rows, self.cum
+        firsts = {
+            "flat": lambda name: (-rows[name].used, -cum[name]),
+            "cum": lambda name: (-cum[name], -rows[name].used),
+            "allocated": lambda name: (-rows[name].allocated, -rows[name].used),
+            "grew": lambda name: (-rows[name].growth(), -rows[name].used),
+        }
+        first = firsts[self.options.sort]
+        return sorted(self.all(), key=lambda name: (*first(name), name))
+
+    def all(self):
+        """The rows with something in use; of what was allocated, where that is asked for."""
+        if self.options.sort == "allocated":
+            return [name for name, row in list(self.profile.rows.items()) if row.allocs]
+        return [name for name in self.cum if self.cum[name] > 0.5]
+
+    def lines(self):
+        profile, names = self.profile, self.names()
+        shown = names[: self.options.top]
+        total, so_far = sum(row.used for row in profile.rows.values()), 0
+        yield from heading(profile, names, shown, total, self.what, self.options)
+        yield f"{'flat':>10} {'flat%':>6} {'sum%':>6}{self.middle_titles()}{profile.growth_titles()}  {self.what_title()}"
+        for name in shown:
+            row = profile.rows[name]
+            so_far += row.used
+            yield f"{size_text(row.used):>10} {percent(row.used, total):>6} {percent(so_far, total):>6}{self.middle(name, row, total)}{profile.growth(row)}  {self.title(name)}"
+            yield from self.below(name)
+
+    def middle_titles(self):
+        return (f" {'cum':>10} {'cum%':>6}" if self.has_cum else "") + f" {'objects':>9} {'allocated':>10}"
+
+    def middle(self, name, row, total):
+        cum = f" {size_text(self.cum[name]):>10} {percent(self.cum[name], total):>6}" if self.has_cum else ""
+        return f"{cum} {row.allocs - row.frees:>9.0f} {size_text(row.allocated):>10}"
+
+    def what_title(self):
+        return self.what[:-1]
+
+    def title(self, name):
+        return name
+
+    def below(self, _):
+        return ()
+
+
+class Lines(Table):
+    """A row for each line of the program."""
+
+    what = "lines"
+
+    @staticmethod
+    def name(frame):
+        return frame
+
+
+class Types(Table):
+    """A row for each type."""
+
+    what = "types"
+    has_cum = False
+
+    @classmethod
+    def key(cls, stacks):
+        return lambda bucket: type_of(stacks.types.get(bucket.stack), stacks.frames.get(bucket.stack, []))
+
+    def cum_of_names(self):
+        return {name: row.used for name, row in self.profile.rows.items()}
+
+
+class Buckets(Table):
+    """A row for each stack and slot size."""
+
+    what = "buckets"
+    has_cum = False
+
+    @classmethod
+    def key(cls, stacks):
+        return lambda bucket: (bucket.stack, bucket.slot)
+
+    def cum_of_names(self):
+        return {name: row.used for name, row in self.profile.rows.items()}
+
+    def middle_titles(self):
+        return f" {'objects':>9} {'allocs':>9} {'frees':>9} {'slot':>8}"
+
+    def middle(self, name, row, total):
+        return f" {row.allocs - row.frees:>9.0f} {row.allocs:>9.0f} {row.frees:>9.0f} {name[1]:>8}"
+
+    def what_title(self):
+        return "stack"
+
+    def title(self, name):
+        return f"{name[0]} {self.frames(name)[0]}"
+
+    def frames(self, name):
+        return shown_frames(self.stacks.frames.get(name[0], []))
+
+    def below(self, name):
+        if self.options.frames:
+            for frame in self.frames(name)[1:]:
+                yield " " * (66 + len(self.profile.growth_titles())) + "    " + frame
+
+
+def heading(profile, names, shown, total, what, options):
+    """The two lines above the table."""
+    rows = profile.rows
+    part = sum(rows[name].used for name in shown)
+    if options.trace:
+        counted = "all objects of the trace"
+    elif options.scale > 1:
+        counted = f"estimated from the objects sampled at rate {options.scale}"
+    elif options.scale == 1 or options.rate_is_known:
+        counted = "all objects" if options.rate == 1 else f"the objects sampled at rate {options.rate}, as they are counted"
+    else:
+        counted = "the sampled objects as they are counted (all objects if the rate was 1; else see --scale)"
+    yield f"Mark end {profile.last}{options.place}: {size_text(total)} in use, {size_text(sum(row.allocated for row in rows.values()))} allocated; {counted}"
+    yield f"Showing {len(shown)} of {len(names)} {what} {'' if options.sort == 'allocated' else 'in use'}".rstrip() + f", accounting for {size_text(part)}, {percent(part, total)} of {size_text(total)} total"
+
+
+def options_of(words):
+    parser = argparse.ArgumentParser(prog="leaks", description=__doc__.split("\n\n")[0])
+    parser.add_argument("report", nargs="?", help="a report; - is standard input")
+    parser.add_argument("--stacks", help="the stacks that `record` wrote")
+    parser.add_argument("--trace", help="count the objects of this trace in place of a report's profile; with a report, its misses are left out")
+    parser.add_argument("--top", type=tool.number(1, 10**9), default=20, help="how many rows (default 20)")
+    kind = parser.add_mutually_exclusive_group()
+    for name, table, what in (("functions", Table, "function, with what those that it calls have in use (default)"), ("lines", Lines, "line of the program"),
+                              ("types", Types, "type"), ("buckets", Buckets, "stack and slot size (default without --stacks)")):  # fmt: skip
+        kind.add_argument(f"--{name}", action="store_const", const=table, dest="table", help=f"a row for each {what}")
+    parser.add_argument("--sort", choices=("flat", "cum", "allocated", "grew"), default="flat", help="which column's greatest rows come first (default flat)")
+    parser.add_argument("--frames", action="store_true", help="print each bucket's whole stack")
+    at = parser.add_mutually_exclusive_group()
+    at.add_argument("--at", type=tool.number(1, 10000), metavar="N", help="as of mark end N (default: the last one)")
+    at.add_argument("--peak", action="store_true", help="as of the mark end with the most bytes in use")
+    parser.add_argument("--scale", type=tool.number(0, 1 << 30), metavar="RATE", help="estimate the counts without sampling, from those sampled at this rate (default: the rate that the stacks tell; 0: don't)")
+    parser.add_argument("--output", "-o", default="-", help="a file for the table (default: standard output)")
+    options = parser.parse_args(words)
+    options.place = ""
+    if not (options.report or options.trace):
+        parser.error("neither a report nor a trace was given")
+    if options.table in (Table, Lines, Types) and not options.stacks:
+        parser.error("without --stacks there are no functions, lines and types")
+    if options.frames and options.table not in (None, Buckets):
+        parser.error("--frames is for --buckets")
+    if options.trace and options.scale:
+        parser.error("--trace counts all objects, so that --scale has nothing to estimate")
+    if options.table is None:
+        options.table = Table if options.stacks and not options.frames else Buckets
+    if options.sort == "cum" and not options.table.has_cum:
+        parser.error(f"{options.table.what} have no cum")
+    return options
+
+
+def say(text):
+    print(f"leaks: {text}", file=sys.stderr)
+
+
+def take_rate(stacks, options):
+    """The rate by which the counts are estimated: as given, or as the stacks tell."""
+    options.rate = stacks.number("rate")
+    options.rate_is_known = options.rate is not None
+    if options.trace:
+        options.scale = 0
+    elif options.scale is None:
+        options.scale = options.rate or 0
+    elif options.rate_is_known and options.scale > 1 and options.scale != options.rate:
+        say(f"{options.stacks} says that the rate was {options.rate}; it is taken as {options.scale}, as asked for")
+
+
+def up_to(mark_ends, options, rate):
+    """The mark ends up to the one that is to be shown."""
+    mark_ends = [(number, list(buckets)) for number, buckets in mark_ends]
+    if not mark_ends:
+        return mark_ends
+    last = mark_ends[-1][0]
+    at = peak_of(mark_ends, rate) if options.peak else options.at or last
+    if at > last:
+        raise tool.Unusable(f"there are mark ends 1 to {last}, and no {at}")
+    if len(mark_ends) == 1 and last > 1 and (options.peak or at < last):
+        raise tool.Unusable(f"the report has the profile of mark end {last} alone: make it with `goheap run --each`")
+    options.place = f" of {last}" if at < last or options.peak else ""
+    shown = [(number, buckets) for number, buckets in mark_ends if number <= at]
+    # Where no bucket changed the report has no line.
+    return shown if shown and shown[-1][0] == at else [*shown, (at, [])]
+
+
+def peak_of(mark_ends, rate):
+    """The mark end with the most bytes in use."""
+    counts, used, most, peak = {}, 0, -1, None
+    for number, buckets in mark_ends:
+        for bucket in buckets:
+            now = (bucket.allocs - bucket.frees) * bucket.slot * factor(bucket.slot, rate)
+            used += now - counts.get((bucket.stack, bucket.slot), 0)
+            counts[bucket.stack, bucket.slot] = now
+        if used > most + 0.5:
+            most, peak = used, number
+    return peak
+
+
+def tell_misses(report, trace):
+    """Says how many objects found no room: they are in no count."""
+    missed = [one for one, address in enumerate(report.addresses) if address is None]
+    if missed:
+        slots = (slot_in(trace, trace.events[one]) for one in missed) if trace else (SLOTS[line.span_class // 2] or line.pages * PAGE for line in report.journal if isinstance(line, Miss))
+        say(f"{len(missed)} of {len(report.addresses)} objects ({size_text(sum(slots))}) found no room in the region, and are counted nowhere: the table is too low"
+            " (--trace without a report counts them too)")  # fmt: skip
+
+
+def tell_behind(behind, objects):
+    """Says how many objects came behind the last mark end, of which nothing tells whether they stay alive."""
+    if behind and objects and behind > MANY_BEHIND * objects:
+        say(f"{100 * behind / objects:.0f} % of the objects ({behind} of {objects}) came behind the last mark end, and are in no count")
+
+
+def behind_of(stacks, trace):
+    """The objects behind the last mark end, and all objects, where the trace or the stacks tell them."""
+    if trace:
+        return sum(event.cycle == len(trace.marks) for event in trace.events) if trace.marks else None, len(trace.events)
+    return (stacks.number("behind") if stacks.number("mark ends") else None), stacks.number("objects")
+
+
+def no_profile(stacks, trace, options):
+    """Why there is no table, and what to do."""
+    mark_ends = len(trace.marks) if trace else stacks.number("mark ends")
+    if mark_ends == 0:
+        return f"{options.trace or options.report}: there was no mark end, so nothing tells what stays alive: {NO_MARK_END}"
+    if options.rate == 0:
+        return f"{options.report}: the rate is 0, so nothing was sampled: record with --rate 1, or count a trace's objects with --trace"
+    return f"{options.trace or options.report}: there is no profile: there was no mark end ({NO_MARK_END}), or the rate is 0 or nothing was sampled (see --trace)"
+
+
+def read_all(options):
+    """The stacks, the report and the trace, which must be of one recording."""
+    stacks = stack_file(options.stacks) if options.stacks else Stacks({}, {}, {})
+    report = report_in(options.report) if options.report else None
+    trace = trace_in(options.trace) if options.trace else None
+    if report and trace and len(report.addresses) != len(trace.events):
+        raise tool.Unusable(f"{options.report} has {len(report.addresses)} objects, and {options.trace} has {len(trace.events)}: it is no report of this trace")
+    if report:
+        companions.of_report(stacks, report, (options.stacks, tool.named(options.report)))
+    if trace:
+        companions.of_trace(stacks, trace, (options.stacks, tool.named(options.trace)))
+    return stacks, report, trace
+
+
+def main(words):
+    options = options_of(words)
+    with tool.Output(options.output) as out:
+        stacks, report, trace = read_all(options)
+        take_rate(stacks, options)
+        mark_ends = buckets_of_trace(trace, report and report.addresses) if trace else buckets_of_report(report)
+        mark_ends = up_to(mark_ends, options, options.scale)
+        profile = Profile(mark_ends, options.table.key(stacks), options.scale)
+        if not profile.rows:
+            raise tool.Unusable(no_profile(stacks, trace, options))
+        if report:
+            tell_misses(report, trace)
+        if not options.place:
+            tell_behind(*behind_of(stacks, trace))
+        for line in options.table(profile, stacks, options).lines():
+            out.write(line + "\n")
+    return 0
+
+
+def command():
+    tool.end("leaks", main, sys.argv[1:])

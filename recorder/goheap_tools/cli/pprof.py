@@ -1,0 +1,151 @@
+"""Makes of a heap text of goheap and a recording's stacks a profile that `go tool pprof` opens, with functions, files and lines.
+
+    cat trace report | goheap heap | recorder/pprof stacks > heap.pb.gz
+    go tool pprof -top heap.pb.gz
+
+The profile has the four sample types of Go's own heap profiles, alloc_objects, alloc_space, inuse_objects and inuse_space, and the rate
+as its period. The numbers are those of the heap text, to the byte: of the objects that were sampled, which at rate 1 are all. With
+`--scale` they are what Go's tools estimate of all objects.
+"""
+
+import argparse
+import gzip
+import sys
+
+from goheap_tools import tool
+from goheap_tools.formats.frames import name_of, place_of, shown_frames
+from goheap_tools.formats.heaptext import heap_in
+from goheap_tools.formats.report import stack_file
+from goheap_tools.heap.estimate import factor
+
+# The fields of a profile, by the public description of the form, profile.proto of github.com/google/pprof.
+SAMPLE_TYPE, SAMPLE, MAPPING, LOCATION, FUNCTION, STRING, PERIOD_TYPE, PERIOD, COMMENT, DEFAULT_TYPE = 1, 2, 3, 4, 5, 6, 11, 12, 13, 14
+TYPES = (("alloc_objects", "count"), ("alloc_space", "bytes"), ("inuse_objects", "count"), ("inuse_space", "bytes"))
+
+
+def varint(value):
+    """A number in groups of seven bits, the low ones first."""
+    out = bytearray()
+    while value > 0x7F:
+        out.append(value & 0x7F | 0x80)
+        value >>= 7
+    out.append(value)
+    return bytes(out)
+
+
+def number(field, value):
+    """A field that is a number; one of 0 is left out."""
+    return varint(field << 3) + varint(value) if value else b""
+
+
+def message(field, content):
+    """A field that has a length: a message, a text, or numbers that are packed."""
+    return varint(field << 3 | 2) + varint(len(content)) + content
+
+
+def packed(field, values):
+    return message(field, b"".join(map(varint, values)))
+
+
+class Table:
+    """Things that are named by their numbers, each of which is written once."""
+
+    def __init__(self, first):
+        self.numbers = {}
+        self.first = first
+
+    def number(self, thing):
+        return self.numbers.setdefault(thing, len(self.numbers) + self.first)
+
+
+class Profile:
+    """A profile that is put together."""
+
+    def __init__(self, stacks):
+        self.stacks = stacks
+        self.texts = Table(0)
+        self.texts.number("")
+        self.functions = Table(1)  # by name and file
+        self.locations = Table(1)  # by function and line
+        self.parts = []
+
+    def type_of(self, name, unit):
+        return number(1, self.texts.number(name)) + number(2, self.texts.number(unit))
+
+    def location(self, frame):
+        """The number of a frame's place."""
+        file, colon, line = place_of(frame).rpartition(":")
+        if not (colon and line.isascii() and line.isdigit()):
+            file, line = place_of(frame), "0"
+        return self.locations.number((self.functions.number((name_of(frame), file)), min(int(line), (1 << 63) - 1)))
+
+    def add(self, bucket, values):
+        """A sample: its places from the innermost frame on, its values, and its slot size."""
+        places = [self.location(frame) for frame in shown_frames(self.stacks.frames[bucket.stack])]
+        label = number(1, self.texts.number("bytes")) + number(3, bucket.slot)
+        self.parts.append(message(SAMPLE, packed(1, places) + packed(2, values) + message(3, label)))
+
+    def whole(self, rate, comment):
+        """All of it, the tables last, since the samples fill them."""
+        head = [message(SAMPLE_TYPE, self.type_of(*one)) for one in TYPES]
+        head.append(message(PERIOD_TYPE, self.type_of("space", "bytes")) + number(PERIOD, rate))
+        head.append(number(COMMENT, self.texts.number(comment)) + number(DEFAULT_TYPE, self.texts.number(TYPES[3][0])))
+        program = self.texts.number(self.stacks.header.get("program", ""))
+        # One mapping, which has all names, so that nobody looks for them in the program's file.
+        head.append(message(MAPPING, number(1, 1) + number(5, program) + b"".join(number(field, 1) for field in (7, 8, 9))))
+        places = []
+        for (function, line), one in self.locations.numbers.items():
+            places.append(message(LOCATION, number(1, one) + number(2, 1) + message(4, number(1, function) + number(2, line))))
+        functions = []
+        for (name, file), one in self.functions.numbers.items():
+            text = self.texts.number(name)
+            functions.append(message(FUNCTION, number(1, one) + number(2, text) + number(3, text) + number(4, self.texts.number(file))))
+        texts = [message(STRING, text.encode(errors="replace")) for text in self.texts.numbers]
+        return b"".join(head + self.parts + places + functions + texts)
+
+
+def values_of(bucket, times):
+    """The values of the four sample types."""
+    numbers = bucket.numbers
+    if times == 1:
+        return numbers.all_objects, numbers.all_bytes, numbers.objects, numbers.bytes
+    all_objects, objects = round(numbers.all_objects * times), round(numbers.objects * times)
+    return all_objects, all_objects * bucket.slot, objects, objects * bucket.slot
+
+
+def profile_of(heap, stacks, scale):
+    profile = Profile(stacks)
+    for line, bucket in enumerate(heap.buckets, 2):
+        if bucket.stack not in stacks.frames:
+            raise tool.Unusable(f"line {line} of the heap text is of stack {bucket.stack}, which the stacks do not have: they are of another recording")
+        profile.add(bucket, values_of(bucket, factor(bucket.slot, heap.rate) if scale else 1))
+    what = "estimated of all objects" if scale and heap.rate > 1 else "of the objects that were sampled"
+    return profile.whole(heap.rate, f"goheap: the heap as of the last mark end, {what} at rate {heap.rate}")
+
+
+def options_of(words):
+    parser = argparse.ArgumentParser(prog="pprof", description=__doc__.split("\n\n")[0])
+    parser.add_argument("stacks", help="the stacks that `record` wrote")
+    parser.add_argument("heap", nargs="?", default="-", help="the heap text that `goheap heap` wrote (default: standard input)")
+    parser.add_argument("--scale", action="store_true", help="estimate the numbers of all objects from those that were sampled, as Go's tools do")
+    parser.add_argument("--output", "-o", default="-", help="a file for the profile (default: standard output)")
+    return parser.parse_args(words)
+
+
+def main(words):
+    options = options_of(words)
+    if options.stacks == "-" == options.heap:
+        raise tool.Unusable("the stacks and the heap text cannot both be standard input")
+    stacks = stack_file(options.stacks)
+    heap = heap_in(options.heap)
+    rate = stacks.number("rate")
+    if rate is not None and rate != heap.rate:
+        raise tool.Unusable(f"the stacks are of a recording at rate {rate}, and the heap text of one at rate {heap.rate}")
+    data = gzip.compress(profile_of(heap, stacks, options.scale), mtime=0)
+    with tool.Output(options.output, binary=True) as out:
+        out.write(data)
+    return 0
+
+
+def command():
+    tool.end("pprof", main, sys.argv[1:])

@@ -1,0 +1,89 @@
+"""Whether a trace, a report or a heap profile belongs to a stacks file, by what the stacks file's first lines say of its recording.
+
+An older stacks file has no first lines; nothing is asked then.
+"""
+
+import hashlib
+from collections import Counter
+
+from goheap_tools.formats.report import Miss
+from goheap_tools.heap.classes import SLOTS, slot_of
+from goheap_tools.tool import Unusable
+
+
+def refuse(stacks, names, why):
+    program = stacks.header.get("program")
+    of = f", of {program}" if program else ""
+    raise Unusable(f"{names[1]} and {names[0]} are of two recordings: {why}{of}")
+
+
+def check_count(stacks, names, what, found):
+    """Refuses another number of something than the recording has."""
+    told = stacks.number(what)
+    if told is not None and told != found:
+        refuse(stacks, names, f"{found} {what}, and by the stacks {told}")
+
+
+def told_slots(stacks):
+    """The recording's objects by slot size, or nothing."""
+    told = stacks.header.get("slots")
+    return None if told is None else Counter({int(slot): int(count) for slot, count in (pair.split(":") for pair in told.split())})
+
+
+def slots_of_report(report):
+    """How many objects, placed or missed, a report has in small slots of each size; and how many large ones, under 0."""
+    found = Counter()
+    for size_class, mallocs, _ in report.totals:
+        found[SLOTS[size_class]] += mallocs
+    for line in report.journal:
+        if isinstance(line, Miss):
+            found[SLOTS[line.span_class // 2]] += 1
+    return found
+
+
+def of_report(stacks, report, names):
+    """Refuses a report that is not of the recording. `names` are those of the stacks file and of the report."""
+    check_count(stacks, names, "objects", len(report.addresses))
+    told = told_slots(stacks)
+    if told is None:
+        return
+    large = sum(count for slot, count in told.items() if slot not in SLOTS)
+    told = Counter({slot: count for slot, count in told.items() if slot in SLOTS}) + Counter({0: large})
+    found = +slots_of_report(report)
+    for slot in sorted(told | found):
+        if told[slot] != found[slot]:
+            size = f"of {slot} bytes" if slot else f"above {SLOTS[-1]} bytes"
+            refuse(stacks, names, f"{found[slot]} objects in slots {size}, and by the stacks {told[slot]}")
+
+
+def of_trace(stacks, trace, names):
+    """Refuses a trace that is not the recording's. `names` are those of the stacks file and of the trace."""
+    check_count(stacks, names, "objects", len(trace.events))
+    check_count(stacks, names, "mark ends", len(trace.marks))
+    told = told_slots(stacks)
+    found = Counter(slot_of(event.size) for event in trace.events if event.size)
+    if told is not None and told != found:
+        refuse(stacks, names, "the objects have other sizes")
+
+
+def of_trace_file(stacks, path):
+    """Whether the file's text is that of the recording's trace; nothing where the stacks do not tell."""
+    told = stacks.header.get("digest")
+    if told is None:
+        return None
+    digest = hashlib.sha1()
+    with open(path, "rb") as file:
+        while piece := file.read(1 << 20):
+            digest.update(piece)
+    return digest.hexdigest() == told
+
+
+def of_heap(stacks, rate, numbers, names):
+    """Refuses a heap profile that is not of the recording: another rate, or a stack that it does not have. `names` are those of the stacks
+    file and of the profile."""
+    told = stacks.number("rate")
+    if told is not None and told != rate:
+        refuse(stacks, names, f"rate {rate}, and by the stacks {told}")
+    strange = sorted(number for number in numbers if number not in stacks.frames)
+    if stacks.header and strange:
+        refuse(stacks, names, f"stack {strange[0]} is not among the stacks")

@@ -1,0 +1,159 @@
+"""A trace and a report of it, with what the rules ask about: needs, lives, seats, and the numbers of lines. `rules.py` has the rules."""
+
+from collections import defaultdict
+from typing import NamedTuple, Optional
+
+from goheap_tools.formats.report import Cut, Drop, Give, Miss, Pull, Scav, Take
+from goheap_tools.heap.classes import LARGEST, PAGE, PAGES, SLOTS
+from goheap_tools.heap.tiny import BLOCK, is_tiny, riders_of, size_in
+
+BASE = 0xC000000000
+
+
+class Need(NamedTuple):
+    """What an object asks of the span that it is placed in."""
+
+    span_class: int
+    pages: int
+    slot: int
+    count: int
+
+
+class Life(NamedTuple):
+    """A span from its Take or Cut to its Give, by their journal lines."""
+
+    number: int
+    page: int
+    pages: int
+    span_class: int
+    cycle: int
+    given: Optional[int]  # the Give's journal line
+    end: float  # the Give's cycle
+
+
+def need_of(size, has_pointers):
+    plain = 0 if has_pointers else 1
+    if size > LARGEST:
+        pages = -(-size // PAGE)
+        return Need(plain, pages, pages * PAGE, 1)
+    size_class = next(one for one in range(1, len(SLOTS)) if SLOTS[one] >= size)
+    return Need(2 * size_class + plain, PAGES[size_class], SLOTS[size_class], PAGES[size_class] * PAGE // SLOTS[size_class])
+
+
+def pages_text(page, pages):
+    return f"page {page}" if pages == 1 else f"pages {page} to {page + pages - 1}"
+
+
+def class_name(span_class):
+    pointers = "without pointers" if span_class % 2 else "with pointers"
+    if span_class < 2:
+        return f"one large object {pointers} (span class {span_class})"
+    return f"objects of {SLOTS[span_class // 2]} bytes {pointers} (span class {span_class})" if span_class < 2 * len(SLOTS) else f"span class {span_class}, which there is not"
+
+
+WORDS = {Take: "take", Miss: "miss", Give: "give", Scav: "scav", Pull: "pull", Cut: "cut", Drop: "drop"}
+
+
+def line_text(line):
+    """A journal line's words behind its number and cycle."""
+    return " ".join([WORDS[type(line)], *map(str, line[1:])])
+
+
+def journal_text(number, line):
+    return f"`j {number} {line.cycle} {line_text(line)}`"
+
+
+class Judged:
+    """A trace and a report of it, with what the rules ask about."""
+
+    def __init__(self, trace, report, frames=None):
+        self.trace, self.report, self.frames = trace, report, frames or {}
+        self.last = len(trace.marks)
+        self.needs = {}
+        self.lasts = [event.cycle for event in trace.events]
+        for mark_end, ranges in enumerate(trace.marks, 1):
+            for low, high in ranges:
+                for one in range(low, min(high + 1, len(self.lasts))):
+                    self.lasts[one] = mark_end
+        self.take_riders()
+        self.lives = []  # in the order of their Take or Cut lines
+        self.seats = []  # of each object: its life and index, or nothing
+        self.places()
+
+    def take_riders(self):
+        """Takes in who rides, where each object has an answer. A lead lives as long as its block, in which something lives."""
+        self.own_lasts, self.riding = self.lasts[:], defaultdict(list)
+        self.riders = riders_of(self.trace, self.report.addresses) if len(self.report.addresses) == len(self.lasts) else {}
+        for one, rider in self.riders.items():
+            self.riding[rider.lead].append(one)
+            self.lasts[rider.lead] = max(self.lasts[rider.lead], self.lasts[one])
+
+    # The numbers of lines.
+
+    def places(self):
+        report, at = self.report, 0
+        self.starts = []
+        for part in (report.addresses, report.journal, report.sweeps, report.totals, report.buckets):
+            self.starts.append(at + 1)
+            at += len(part)
+        self.end = at + 1
+
+    def journal_line(self, number):
+        return self.starts[1] + number
+
+    def journal(self, number):
+        """A journal line with where it stands."""
+        return f"{journal_text(number, self.report.journal[number])} (line {self.journal_line(number)})"
+
+    # Objects.
+
+    def need(self, one):
+        event = self.trace.events[one]
+        key = size_in(self.trace.version, event.size, event.has_pointers), event.has_pointers
+        if key not in self.needs:
+            self.needs[key] = need_of(*key)
+        return self.needs[key]
+
+    def is_placed(self, one):
+        """Whether the object has a slot of its own, which what rides has not."""
+        return bool(self.report.addresses[one]) and one not in self.riders
+
+    def is_lead(self, one):
+        event = self.trace.events[one]
+        return is_tiny(self.trace.version, event.size, event.has_pointers) and one not in self.riders
+
+    def object_text(self, one):
+        """What an object is, with where it came from."""
+        event = self.trace.events[one]
+        frames = self.frames.get(event.stack)
+        stack = f"stack {event.stack}" + (f", {frames[0]}" if frames else "")
+        lead = f", the lead of a block of {BLOCK} bytes" if self.is_lead(one) else ""
+        return f"Object {one} ({event.size} bytes {'with' if event.has_pointers else 'without'} pointers{lead}, of processor {event.proc}, {stack}) was allocated in cycle {event.cycle}"
+
+    def address_text(self, one):
+        return f"{self.report.addresses[one]:#x}"
+
+    def life_text(self, life):
+        given = "" if life.given is None else f" and given back in cycle {life.end} by {self.journal(life.given)}"
+        made = "cut" if isinstance(self.report.journal[life.number], Cut) else "taken"
+        return f"the span at {pages_text(life.page, life.pages)}, for {class_name(life.span_class)}, {made} in cycle {life.cycle} by {self.journal(life.number)}{given}"
+
+    def lifetime(self, one):
+        begin, end = self.trace.events[one].cycle, self.lasts[one]
+        lives = f"lives in cycle {begin}" if begin == end else f"lives in the cycles {begin} to {end}"
+        return lives if end == self.own_lasts[one] else f"{lives} for object {self.keeper(one, end)}, which rides in its block"
+
+    def keeper(self, lead, mark_end):
+        """An object in the lead's block that this mark end marks."""
+        return next(one for one in self.riding[lead] if self.own_lasts[one] >= mark_end)
+
+    def kept_text(self, one, mark_end):
+        """An object that a mark end keeps, with for whom where it does not mark it."""
+        return f"{one}" if self.own_lasts[one] >= mark_end else f"{one} for {self.keeper(one, mark_end)}"
+
+    def seat_address(self, life, index):
+        return BASE + life.page * PAGE + index * self.slot(life)
+
+    @staticmethod
+    def slot(life):
+        return SLOTS[life.span_class // 2] if life.span_class > 1 else life.pages * PAGE

@@ -1,0 +1,437 @@
+"""Counts, at a mark end of a trace with its report, which spans are alive, how full they are and whose objects keep them.
+
+docs/recording.md says what each number is ("Why memory did not come back").
+"""
+
+import heapq
+import itertools
+from array import array
+from collections import Counter
+
+from goheap_tools import tool
+from goheap_tools.formats import companions
+from goheap_tools.formats.columns import BASE, MISSED, Report, Trace
+from goheap_tools.formats.frames import name_of, shown_frames
+from goheap_tools.formats.report import BLOCK
+from goheap_tools.heap.classes import PAGE, SLOTS, slot_of
+from goheap_tools.tool import Unusable
+
+SOME = 1 << 14  # objects counted at a time
+MOST_PAGES = 2097152  # of the largest region
+STEPS = 8  # of the histogram of how full spans are
+NOWHERE = -1  # no span
+
+# What a page can be: free with no memory behind it, free and backed, in a span, in a page cache.
+UNBACKED, FREE, TAKEN, CACHED = b"-", b"f", b"x", b"c"
+
+class Region:
+    """The pages as the journal's lines come."""
+
+    def __init__(self, report):
+        self.report = report
+        self.pages = bytearray()
+        self.backed = 0
+        self.spans = {}  # the number of the Take line by the span's first page
+        self.line = 0
+
+    def go_on(self, cycle):
+        """Takes the lines of the cycles before this one."""
+        report = self.report
+        while self.line < len(report.cycles) and report.cycles[self.line] < cycle:
+            self.take(report.what[self.line], report.pages[self.line], report.counts[self.line])
+            self.line += 1
+        if CACHED in self.pages:
+            self.refuse("a block of a page cache is out as a cycle ends")
+
+    def take(self, what, page, count):
+        if what == ord("m"):
+            return
+        end = page + (BLOCK if what in b"pd" else count)
+        if end > MOST_PAGES:
+            self.refuse(f"a region has {MOST_PAGES} pages at most")
+        if end > len(self.pages):
+            self.pages.extend(UNBACKED * (end - len(self.pages)))
+        part = self.pages[page:end]
+        if what in b"pd":
+            self.move(page, count, part, what == ord("p"))
+            return
+        if what in b"tc":
+            if TAKEN in part or part.count(CACHED) != (count if what == ord("c") else 0) or not count or self.report.classes[self.line] >= 2 * len(SLOTS):
+                self.refuse("no such span can be made here")
+            self.backed += part.count(UNBACKED)
+            self.spans[page] = self.line
+        elif what == ord("g"):
+            taken = self.spans.pop(page, None)
+            if taken is None or self.report.counts[taken] != count:
+                self.refuse("no such span is there to give back")
+        else:
+            if part.count(FREE) != count:
+                self.refuse("these pages are not free and backed")
+            self.backed -= count
+        self.pages[page:end] = {ord("t"): TAKEN, ord("c"): TAKEN, ord("g"): FREE, ord("s"): UNBACKED}[what] * count
+
+    def move(self, page, count, part, is_pull):
+        """The free pages of a block go to a page cache, or those of it that are left there go back."""
+        if (len(part) - part.count(TAKEN) - part.count(CACHED) if is_pull else part.count(CACHED)) != count:
+            self.refuse("the block has not so many such pages")
+        if is_pull:
+            self.backed += part.count(UNBACKED)
+            self.pages[page : page + len(part)] = part.replace(UNBACKED, CACHED).replace(FREE, CACHED)
+        else:
+            self.pages[page : page + len(part)] = part.replace(CACHED, FREE)
+
+    def refuse(self, why):
+        raise Unusable(f"{self.report.name}: line {len(self.report.addresses) + self.line + 1}: {why}")
+
+
+def peak(report, mark_ends):
+    """The first of the mark ends at which the most pages are backed."""
+    region, most, found = Region(report), -1, 1
+    for mark_end in range(1, mark_ends + 1):
+        region.go_on(mark_end)
+        if region.backed > most:
+            most, found = region.backed, mark_end
+    return found
+
+
+class Class:
+    """What the spans of a size class come to. Step k of the eight, from 0, has the spans of which more than k eighths of the slots are live
+    objects, and at most k + 1."""
+
+    def __init__(self):
+        self.spans = self.pages = self.objects = self.live = self.free = self.rounding = self.tails = 0
+        self.steps = [0] * STEPS
+
+
+class Filled:
+    """How many slots live objects fill in each span, where some share one."""
+
+    def __init__(self, leads, spans):
+        self.leads, self.seen = leads, bytearray(len(leads))
+        self.used = [0] * spans
+
+    def count(self, objects, spans):
+        for one, span in zip(objects, spans):
+            lead = self.leads[one]
+            if not self.seen[lead]:
+                self.seen[lead] = 1
+                self.used[span] += 1
+
+
+class Pins:
+    """The heap at a mark end: behind the journal's lines of the cycles before it, and behind its sweep, which gives back each span of
+    which nothing is marked. Of the spans that are kept, by rising page: first page, pages, span class, slots, bytes of a slot, live objects,
+    slots that they fill (from version 3 on tiny ones share some), their bytes as asked for, and the stacks of the objects, sorted by span."""
+
+    def __init__(self, trace, report, mark_end):
+        self.mark_end, self.mark_ends = mark_end, trace.mark_ends()
+        self.objects, self.behind = trace.born[mark_end - 1], len(trace.sizes) - trace.born[mark_end - 1]
+        region = Region(report)
+        region.go_on(mark_end)
+        self.backed, self.region = region.backed, region.pages
+        self.set_spans(region)
+        self.missed = self.missed_bytes = 0
+        stacks = max(trace.stacks, default=-1) + 1
+        self.own, self.live = array("Q", bytes(8 * stacks)), array("I", bytes(4 * stacks))  # bytes and objects by stack
+        self.sort_stacks(*self.seat(trace, report))
+        self.live_stacks = array("I", (stack for stack, live in enumerate(self.live) if live))
+        self.compare(trace, report)
+        self.drop_emptied()
+
+    def set_spans(self, region):
+        report = region.report
+        self.first = sorted(region.spans)
+        lines = [region.spans[page] for page in self.first]
+        self.pages = [report.counts[line] for line in lines]
+        self.span_class = [report.classes[line] for line in lines]
+        self.slot = [SLOTS[one // 2] or pages * PAGE for one, pages in zip(self.span_class, self.pages)]
+        self.slots = [pages * PAGE // slot for pages, slot in zip(self.pages, self.slot)]
+        self.held = [0] * len(lines)
+        self.asked = [0] * len(lines)
+
+    def owners(self):
+        """The number of the span by page."""
+        owners = [NOWHERE] * (len(self.region) + 1)
+        for number, (page, count) in enumerate(zip(self.first, self.pages)):
+            owners[page : page + count] = [number] * count
+        return owners
+
+    def seat(self, trace, report):
+        """Counts each marked object in its span. Returns the span and the stack of each."""
+        addresses, owners = report.addresses, self.owners()
+        leads = trace.leads(addresses)
+        filled = Filled(leads, len(self.first)) if leads else None
+        top = BASE + len(self.region) * PAGE
+        spans_of, stacks_of = array("I"), array("I")
+        marked = trace.marked(self.mark_end)
+        while some := list(itertools.islice(marked, SOME)):
+            places = [addresses[one] for one in some]
+            if min(places) < BASE:
+                some = self.placed(some, addresses, trace.sizes)
+                places = [addresses[one] for one in some]
+            if not some:
+                continue
+            if max(places) >= top:
+                places = [min(place, top) for place in places]
+            spans = [owners[place - BASE >> 13] for place in places]
+            if min(spans) < 0:
+                one = some[spans.index(NOWHERE)]
+                raise Unusable(f"{report.name}: object {one} lives at mark end {self.mark_end}, but in no span: it is no report of this trace")
+            stacks = [trace.stacks[one] for one in some]
+            self.count(spans, stacks, [trace.sizes[one] for one in some])
+            if filled:
+                filled.count(some, spans)
+            spans_of.extend(spans)
+            stacks_of.extend(stacks)
+        self.used = filled.used if filled else self.held[:]
+        return spans_of, stacks_of
+
+    def placed(self, some, addresses, sizes):
+        """Those of the objects that have an address; counts those that found no room."""
+        missed = [one for one in some if addresses[one] == MISSED]
+        self.missed += len(missed)
+        self.missed_bytes += sum(sizes[one] for one in missed)
+        return [one for one in some if addresses[one] >= BASE]
+
+    def count(self, spans, stacks, sizes):
+        """Counts objects by their spans and stacks."""
+        held, asked, own, live = self.held, self.asked, self.own, self.live
+        for span, size in zip(spans, sizes):
+            held[span] += 1
+            asked[span] += size
+        for stack, size in zip(stacks, sizes):
+            own[stack] += size
+            live[stack] += 1
+
+    def sort_stacks(self, spans_of, stacks_of):
+        """Puts the stacks of a span's objects side by side."""
+        self.begins = [0, *itertools.accumulate(self.held)]
+        places = self.begins[:]
+        self.sorted = array("I", bytes(4 * len(stacks_of)))
+        for span, stack in zip(spans_of, stacks_of):
+            at = places[span]
+            places[span] = at + 1
+            self.sorted[at] = stack
+
+    def compare(self, trace, report):
+        """Refuses a report whose sweeps or spans say otherwise than the trace's marks."""
+        for page, used, asked, slot, slots in zip(self.first, self.used, self.asked, self.slot, self.slots):
+            if report.kept.get(page) != used:
+                said = report.kept[page] if page in report.kept else "no sweep"
+                raise Unusable(f"{report.name} says of the span at page {page} that mark end {self.mark_end} kept {said}, and by {trace.name} it kept {used}: it is no report of this trace")
+            if used > slots or asked > used * slot:
+                raise Unusable(f"{report.name}: the span at page {page} has no room for its {used} live objects of {asked} bytes: it is no report of this trace")
+        if len(report.kept) > len(self.first):
+            raise Unusable(f"{report.name}: mark end {self.mark_end} swept a span that is not there")
+
+    def drop_emptied(self):
+        """Gives back the spans of which nothing is marked."""
+        self.emptied = [(page, count) for page, count, used in zip(self.first, self.pages, self.used) if not used]
+        for page, count in self.emptied:
+            self.region[page : page + count] = FREE * count
+        kept = [number for number, used in enumerate(self.used) if used]
+        self.begins = [self.begins[number] for number in kept] + self.begins[-1:]
+        for name in ("first", "pages", "span_class", "slot", "slots", "asked", "held", "used"):
+            column = getattr(self, name)
+            setattr(self, name, [column[number] for number in kept])
+
+    def stacks_of(self, span):
+        """The stack of each live object of a span."""
+        return self.sorted[self.begins[span] : self.begins[span + 1]]
+
+    def holders(self):
+        """For each span the stacks with live objects in it."""
+        return (frozenset(self.stacks_of(span)) for span in range(len(self.first)))
+
+
+    def sums(self):
+        """The parts of the backed bytes."""
+        used = sum(used * slot for used, slot in zip(self.used, self.slot))
+        slots = sum(slots * slot for slots, slot in zip(self.slots, self.slot))
+        live, spans = sum(self.asked), sum(self.pages) * PAGE
+        return {
+            "live objects": live,
+            "free slots": slots - used,
+            "rounding": used - live,
+            "tails": spans - slots,
+            "free pages": self.region.count(FREE) * PAGE,
+        }
+
+    def classes(self):
+        """What the spans of each size class come to, 0 for large objects."""
+        rows = {}
+        for span_class, pages, slots, slot, held, used, asked in zip(self.span_class, self.pages, self.slots, self.slot, self.held, self.used, self.asked):
+            row = rows.setdefault(span_class // 2, Class())
+            row.spans += 1
+            row.pages += pages
+            row.objects += held
+            row.steps[(used * STEPS - 1) // slots] += 1
+            row.live += asked
+            row.free += (slots - used) * slot
+            row.rounding += used * slot - asked
+            row.tails += pages * PAGE - slots * slot
+        return sorted(rows.items())
+
+    def without(self, stacks):
+        """What comes back if all objects of these stacks are gone: the spans, their pages, the longest run of free pages before and after, and
+        the longest after in which a page of theirs is."""
+        back = [span for span, holders in enumerate(self.holders()) if holders <= stacks]
+        region = self.region[:]
+        before = longest(region.split(TAKEN))
+        for span in back:
+            region[self.first[span] : self.first[span] + self.pages[span]] = b"b" * self.pages[span]
+        free = region.split(TAKEN)
+        return len(back), sum(self.pages[span] for span in back), before, longest(free), longest(run for run in free if b"b" in run)
+
+
+def longest(some):
+    return max(map(len, some), default=0)
+
+
+class Names:
+    """The frames of the stacks, and by what they are put together."""
+
+    def __init__(self, frames):
+        self.frames, self.known = frames, {}
+
+    def shown(self, stack):
+        if stack not in self.known:
+            self.known[stack] = shown_frames(self.frames.get(stack, []))
+        return self.known[stack]
+
+    def same_frames(self, stack):
+        return tuple(self.frames.get(stack, ())) or stack
+
+    def stacks(self, pins):
+        """The live stacks, those of the same frames as one."""
+        return Groups(pins, self.frames and self.same_frames)
+
+    def function(self, stack):
+        return name_of(self.shown(stack)[0])
+
+    def functions(self, stack):
+        return frozenset(map(name_of, self.shown(stack)))
+
+    def stacks_of(self, words, count):
+        """Of the numbers below `count` those that the words name: each with the others of the same frames, or all that a function is in."""
+        keys, functions = set(), set()
+        for word in words:
+            if word.isdecimal():
+                keys.add(self.same_frames(int(word)))
+            elif any(word == name_of(frame) for frames in self.frames.values() for frame in frames):
+                functions.add(word)
+            else:
+                raise Unusable(f"{word!r} is no stack's number" + (", and no stack has a function of this name" if self.frames else "; functions need --stacks"))
+        return {
+            stack
+            for stack in range(count)
+            if self.same_frames(stack) in keys or not functions.isdisjoint(map(name_of, self.frames.get(stack, ())))
+        }
+
+
+class Groups:
+    """What the live stacks hold, in groups of those with one key, or each stack for itself; `keys` has the key of each group and `first` its
+    least stack. A group pins the spans that have no object of another group, and shares those that have some of both."""
+
+    def __init__(self, pins, key_of):
+        group_of = array("I", bytes(4 * len(pins.own)))
+        if key_of:
+            self.group(pins, key_of, group_of)
+        else:
+            self.keys = self.first = pins.live_stacks
+            self.own, self.live = (array("Q", map(column.__getitem__, self.first)) for column in (pins.own, pins.live))
+            for group, stack in enumerate(self.first):
+                group_of[stack] = group
+        self.pinned, self.spans, self.shared = (array("Q", bytes(8 * len(self.first))) for _ in range(3))
+        self.mixed = self.mixed_spans = 0
+        for pages, holders in zip(pins.pages, pins.holders()):
+            self.count(pages * PAGE, {group_of[stack] for stack in holders})
+
+    def group(self, pins, key_of, group_of):
+        """Puts stacks of one key into one group."""
+        known, self.first, self.own, self.live = {}, array("I"), array("Q"), array("Q")
+        for stack in pins.live_stacks:
+            group = group_of[stack] = known.setdefault(key_of(stack), len(known))
+            if group == len(self.first):
+                self.first.append(stack)
+                self.own.append(0)
+                self.live.append(0)
+            self.own[group] += pins.own[stack]
+            self.live[group] += pins.live[stack]
+        self.keys = list(known)
+
+    def count(self, size, groups):
+        """Counts a span of these bytes in which these groups have objects."""
+        if len(groups) > 1:
+            self.mixed += size
+            self.mixed_spans += 1
+            for group in groups:
+                self.shared[group] += size
+        else:
+            group = groups.pop()
+            self.pinned[group] += size
+            self.spans[group] += 1
+
+    def order(self, most):
+        """The groups, the most pinned bytes first, then the most bytes of their own; at most so many."""
+        found = range(len(self.first))
+        if most < len(found):
+            return heapq.nsmallest(most, found, key=lambda at: (-self.pinned[at], -self.own[at], at))
+        found = sorted(found, key=self.own.__getitem__, reverse=True)
+        found.sort(key=self.pinned.__getitem__, reverse=True)
+        return found
+
+
+def reach(pins, names_of):
+    """For each name the bytes of the live objects whose stack has it, and those of the spans all of whose objects are such."""
+    own, pinned, known = Counter(), Counter(), {}
+    for stack in pins.live_stacks:
+        for name in names_of(stack):
+            own[name] += pins.own[stack]
+    for pages, holders in zip(pins.pages, pins.holders()):
+        names = known.get(holders)
+        if names is None:
+            names = known[holders] = frozenset.intersection(*map(names_of, holders))
+        for name in names:
+            pinned[name] += pages * PAGE
+    return own, pinned
+
+
+def add_mark_end(parser):
+    """The options that name a mark end."""
+    parser.add_argument("--at", type=tool.number(1, 10_000), metavar="N", help="at mark end N (default: the last)")
+    parser.add_argument("--peak", action="store_true", help="at the mark end with the most backed bytes, the first of them")
+
+
+def check_stacks(trace, stacks, options):
+    """Refuses the stacks of another recording."""
+    names = options.stacks, trace.name
+    companions.check_count(stacks, names, "objects", len(trace.sizes))
+    companions.check_count(stacks, names, "mark ends", trace.mark_ends())
+    told, found = companions.told_slots(stacks), Counter()
+    for size, count in Counter(trace.sizes).items():
+        if size:
+            found[slot_of(size)] += count
+    if told is not None and told != found:
+        companions.refuse(stacks, names, "the objects have other sizes")
+
+
+def pins_of(trace_path, report_path, options, stacks):
+    """What a trace and its report come to at the mark end that the options name. `stacks` are those of the recording, or none."""
+    if options.peak and options.at:
+        raise Unusable("--at and --peak name two mark ends")
+    trace = Trace(trace_path)
+    check_stacks(trace, stacks, options)
+    count = trace.mark_ends()
+    if not count:
+        raise Unusable(f"{trace.name} has no mark end, at which it would be known who lives")
+    if (options.at or 0) > count:
+        raise Unusable(f"{trace.name} has {count} mark ends, and no mark end {options.at}")
+
+    def choose(report):
+        if len(report.addresses) != len(trace.sizes):
+            raise Unusable(f"{report.name} has {len(report.addresses)} objects, and {trace.name} has {len(trace.sizes)}: it is no report of this trace")
+        return peak(report, count) if options.peak else options.at or count
+
+    report = Report(report_path, choose)
+    return Pins(trace, report, report.mark_end)

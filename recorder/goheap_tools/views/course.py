@@ -1,0 +1,255 @@
+"""What a picture of a report shows: the pages as the journal goes on, the lives of spans, and the spans that the last mark end found."""
+
+import itertools
+from bisect import bisect_right
+from collections import Counter, defaultdict
+from typing import NamedTuple
+
+from goheap_tools.formats.frames import shown_frames
+from goheap_tools.formats.report import BLOCK, BLOCK_LINES, MAKING_LINES, Give, Miss, Pull, Scav, Sweep, end_of
+from goheap_tools.heap.classes import PAGE, PAGES, SLOTS
+from goheap_tools.tool import Unusable
+
+BASE = 0xC000000000
+
+# What a page can be, with its colour and what the legend says.
+UNTOUCHED, FREE, RELEASED, SMALL, SMALL_PLAIN, LARGE, LARGE_PLAIN, CACHED = range(8)
+KINDS = {
+    UNTOUCHED: ("#ffffff", "never used"),
+    FREE: ("#c9c9c9", "free, backed"),
+    RELEASED: ("#bfe3c6", "free, scavenged"),
+    SMALL: ("#1f5fa8", "span of small objects with pointers"),
+    SMALL_PLAIN: ("#7fb3e6", "span of small objects without pointers"),
+    LARGE: ("#b3541e", "large object with pointers"),
+    LARGE_PLAIN: ("#f0b070", "large object without pointers"),
+    CACHED: ("#e6d36a", "in a page cache"),
+}
+# Those of pages that no span and no page cache has.
+NOBODYS = (UNTOUCHED, FREE, RELEASED)
+RGB = [bytes.fromhex(KINDS[kind][0][1:]) for kind in sorted(KINDS)]
+MOST_PAGES, MOST_CYCLES = 2097152, 10000
+
+
+def kind_of(span_class):
+    plain = span_class % 2
+    return (LARGE, LARGE_PLAIN)[plain] if span_class < 2 else (SMALL, SMALL_PLAIN)[plain]
+
+
+def slot_and_room(span_class, pages):
+    """The bytes of an object of such a span, and how many there is room for."""
+    if span_class < 2:
+        return pages * PAGE, 1
+    slot = SLOTS[span_class // 2]
+    return slot, PAGES[span_class // 2] * PAGE // slot
+
+
+def class_text(span_class, pages):
+    """What a span of this class is for."""
+    pointers = "without pointers" if span_class % 2 else "with pointers"
+    if span_class < 2:
+        return f"one large object {pointers}, in {pages * PAGE:,} bytes"
+    slot, room = slot_and_room(span_class, pages)
+    return f"span class {span_class}: objects of up to {slot:,} bytes {pointers}, room for {room:,}"
+
+
+class Life(NamedTuple):
+    """A span from when it was taken to when it was given back, by columns of the map; `end` is nothing where it is there at the end."""
+
+    page: int
+    pages: int
+    span_class: int
+    cycle: int
+    begin: int
+    end: int
+
+
+class Found(NamedTuple):
+    """A span that a mark end found."""
+
+    page: int
+    pages: int
+    span_class: int
+    kept: int
+    freed: int
+
+
+class Pages:
+    """The pages as the journal goes on."""
+
+    def __init__(self, count):
+        self.kinds = bytearray(count)
+        self.backed = self.in_spans = 0
+        self.spans = {}  # pages and span class by first page
+
+    def fill(self, page, pages, kind):
+        part = self.kinds[page : page + pages]
+        self.backed -= pages - part.count(UNTOUCHED) - part.count(RELEASED)
+        self.kinds[page : page + pages] = bytes([kind]) * pages
+        if kind not in (UNTOUCHED, RELEASED):
+            self.backed += pages
+
+    def go_on(self, line):
+        if isinstance(line, MAKING_LINES):
+            self.fill(line.page, line.pages, kind_of(line.span_class))
+            self.spans[line.page] = line.pages, line.span_class
+            self.in_spans += line.pages
+        elif isinstance(line, BLOCK_LINES):
+            self.move(line.page, *((NOBODYS, CACHED) if isinstance(line, Pull) else ((CACHED,), FREE)))
+        elif isinstance(line, Give):
+            self.fill(line.page, line.pages, FREE)
+            if self.spans.pop(line.page, None):
+                self.in_spans -= line.pages
+        elif isinstance(line, Scav):
+            self.fill(line.page, line.pages, RELEASED)
+
+    def move(self, first, old, new):
+        """The pages of a block that are of one of these kinds are of another now."""
+        for page in range(first, first + BLOCK):
+            if self.kinds[page] in old:
+                self.fill(page, 1, new)
+
+    def slot(self, page):
+        """The bytes of an object of the span that begins at this page."""
+        pages, span_class = self.spans.get(page, (0, 0))
+        return slot_and_room(span_class, pages)[0]
+
+
+def check(report):
+    """Refuses numbers that no run of goheap can print, and that could not be drawn."""
+    for line in itertools.chain(report.journal, report.sweeps):
+        if line.cycle > MOST_CYCLES:
+            raise Unusable(f"a report has at most {MOST_CYCLES} cycles, not {line.cycle}")
+        if not isinstance(line, Miss) and (line.page + 1 if isinstance(line, Sweep) else end_of(line)) > MOST_PAGES:
+            raise Unusable(f"a region has {MOST_PAGES} pages at most, and no page {line.page}")
+        if getattr(line, "span_class", 0) >= 2 * len(SLOTS):
+            raise Unusable(f"there is no span class {line.span_class}")
+    if any(sweep.cycle == 0 for sweep in report.sweeps):
+        raise Unusable("nothing is swept in cycle 0")
+
+
+def top_page(journal):
+    """The number of pages that the journal speaks of."""
+    return max((end_of(line) for line in journal if not isinstance(line, Miss)), default=1)
+
+
+class Shades:
+    """The colour of a row of the map: the mean of its pages' colours, so that a row of several pages shows how many of them are used."""
+
+    def __init__(self):
+        self.known = {}
+
+    def of(self, part):
+        shade = self.known.get(part)
+        if shade is None:
+            counts = [part.count(kind) for kind in range(len(RGB))]
+            shade = bytes(sum(count * colour[at] for count, colour in zip(counts, RGB)) // len(part) for at in range(3))
+            self.known[part] = shade
+        return shade
+
+    def column(self, kinds, rows):
+        kinds = bytes(kinds)
+        count = len(kinds)
+        return [self.of(kinds[row * count // rows : (row + 1) * count // rows]) for row in range(rows)]
+
+
+class Course:
+    """What is drawn: the columns of the map, and for each its backed pages, pages in spans, live spans and cycle; the bytes that each
+    mark end kept; the columns of the misses; the lives of spans; and the spans and pages as the last mark end found them."""
+
+    def __init__(self, report, columns, rows):
+        self.map, self.backed, self.in_spans, self.spans, self.cycles, self.misses, self.kinds = [], [], [], [], [], [], set()
+        self.kept_bytes = defaultdict(int)
+        self.sweeps = defaultdict(list)
+        for sweep in report.sweeps:
+            self.sweeps[sweep.cycle].append(sweep)
+        self.last_mark_end = max(self.sweeps, default=0)
+        self.found, self.found_kinds = [], bytes(top_page(report.journal))
+        self.lives, self.open = [], {}
+        self.pages, self.cycle = Pages(top_page(report.journal)), 0
+        self.follow(report.journal, columns, rows)
+        for cycle in sorted(self.sweeps):
+            self.begin(cycle)
+        self.lives += [Life(*begun, None) for begun in self.open.values()]
+
+    def begin(self, cycle):
+        """A cycle begins: the spans of its sweeps are those that are alive now."""
+        self.cycle = max(self.cycle, cycle)
+        sweeps = self.sweeps.pop(cycle, ())
+        for sweep in sweeps:
+            self.kept_bytes[cycle] += sweep.kept * self.pages.slot(sweep.page)
+        if cycle == self.last_mark_end:
+            self.found = [Found(sweep.page, *self.pages.spans[sweep.page], sweep.kept, sweep.freed) for sweep in sweeps if sweep.page in self.pages.spans]
+            self.found_kinds = bytes(self.pages.kinds)
+
+    def live(self, line, column):
+        """Spans begin and end in this column."""
+        if isinstance(line, MAKING_LINES):
+            self.open[line.page] = line.page, line.pages, line.span_class, line.cycle, column
+        elif isinstance(line, Give) and line.page in self.open:
+            self.lives.append(Life(*self.open.pop(line.page), column))
+
+    def follow(self, journal, columns, rows):
+        shades = Shades()
+        for number in range(columns):
+            for line in journal[number * len(journal) // columns : (number + 1) * len(journal) // columns]:
+                for cycle in range(self.cycle + 1, line.cycle + 1):
+                    self.begin(cycle)
+                self.pages.go_on(line)
+                self.live(line, number)
+                if isinstance(line, Miss):
+                    self.misses.append(number)
+            self.map.append(shades.column(self.pages.kinds, rows))
+            self.backed.append(self.pages.backed)
+            self.in_spans.append(self.pages.in_spans)
+            self.spans.append(len(self.pages.spans))
+            self.cycles.append(self.cycle)
+        self.kinds = {kind for part in shades.known for kind in part}
+
+    def kept_pages(self):
+        """For each column the pages that the objects would fill which the mark end before it kept."""
+        return [self.kept_bytes[cycle] / PAGE for cycle in self.cycles]
+
+    def fills(self, columns):
+        """For each part of the pages at the last mark end: how much of it is in spans, how much is free and backed, and how much the objects
+        that it kept fill, from 0 to 1."""
+        count = len(self.found_kinds)
+        kept = [0.0] * count
+        for span in self.found:
+            slot, _ = slot_and_room(span.span_class, span.pages)
+            for page in range(span.page, span.page + span.pages):
+                kept[page] = span.kept * slot / (span.pages * PAGE)
+        for number in range(columns):
+            begin, end = number * count // columns, (number + 1) * count // columns
+            part = self.found_kinds[begin:end]
+            in_spans = len(part) - sum(part.count(kind) for kind in (*NOBODYS, CACHED))
+            yield in_spans / len(part), part.count(FREE) / len(part), sum(kept[begin:end]) / len(part)
+
+
+class Holders:
+    """Which stacks hold the spans that the last mark end found, by a trace and the stacks of its recording."""
+
+    def __init__(self, course, report, trace, stacks):
+        self.stacks = stacks
+        self.spans = sorted(span.page for span in course.found)
+        self.pages = {span.page: span.pages for span in course.found}
+        self.counts = defaultdict(Counter)
+        if trace and course.last_mark_end and course.last_mark_end <= len(trace.marks):
+            for low, high in trace.marks[course.last_mark_end - 1]:
+                for one in range(low, min(high + 1, len(report.addresses))):
+                    self.add(report.addresses[one], trace.events[one].stack)
+
+    def add(self, address, stack):
+        if address:
+            page = (address - BASE) // PAGE
+            at = bisect_right(self.spans, page) - 1
+            if at >= 0 and page < self.spans[at] + self.pages[self.spans[at]]:
+                self.counts[self.spans[at]][stack] += 1
+
+    def of(self, page):
+        """The stacks with the most objects in the span, each in a line."""
+        for stack, count in self.counts[page].most_common(3):
+            frames = self.stacks.get(stack)
+            yield f"{count} of {shown_frames(frames)[0] if frames else f'stack {stack}'}"
+        more = len(self.counts[page]) - 3
+        if more > 0:
+            yield f"and of {more} other stacks"
