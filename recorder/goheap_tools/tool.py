@@ -70,8 +70,11 @@ def kind_of(line):
     return next((kind for front, kind in KINDS if line.startswith(front)), None)
 
 
+# How a text is made of another that was given in its place.
+MAKING = {("a report", "a trace"): " (goheap run --each < trace > report)", ("a report", "a log"): " (record makes a trace of it)"}
+
 # The first lines of the traces that are read here, by version.
-FIRST_LINES = {"goheap 1": 1, "goheap 2": 2, "goheap 3": 3}
+FIRST_LINES = {"goheap 1": 1, "goheap 2": 2, "goheap 3": 3, "goheap 4": 4}
 
 
 def no_trace(name):

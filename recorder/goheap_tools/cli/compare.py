@@ -13,7 +13,8 @@ from collections import Counter, defaultdict
 
 from goheap_tools import tool
 from goheap_tools.formats import companions, golog
-from goheap_tools.formats.report import report_in, stack_file
+from goheap_tools.formats.report import MISSED, report_in
+from goheap_tools.formats.stacks import stack_file
 from goheap_tools.formats.traces import Event, trace_in
 from goheap_tools.heap.classes import LARGEST, PAGE, PAGES, SLOTS
 from goheap_tools.heap.tiny import BLOCK, riders_of, slot_in
@@ -87,22 +88,45 @@ class Agreement:
             yield f"{slot:>8} {sum(row.values()):>9} {row['same']:>10} {row['other']:>8} {row['unknown']:>10}"
 
 
-def spans_alive(trace, real, model, marks):
-    """The number of spans that hold an object which the mark end found alive, by slot size: the program's and the model's."""
-    counts = []
-    for seats in (real, model):
-        spans = defaultdict(set)
-        for low, high in marks:
-            for slot, page in filter(None, seats[low : high + 1]):
-                spans[slot].add(page)
-        counts.append({slot: len(pages) for slot, pages in spans.items()})
-    return counts
+class Alive:
+    """The number of spans that hold an object which the mark end so far found alive, by slot size."""
+
+    def __init__(self):
+        self.objects, self.spans = Counter(), Counter()
+
+    def add(self, seats):
+        """Objects of these spans are found alive from here on."""
+        for seat in seats:
+            self.objects[seat] += 1
+            if self.objects[seat] == 1:
+                self.spans[seat[0]] += 1
+
+    def drop(self, seats):
+        """Objects of these spans are not any more."""
+        for seat in seats:
+            self.objects[seat] -= 1
+            if not self.objects[seat]:
+                self.spans[seat[0]] -= 1
+
+
+def changes(trace, seats):
+    """For each mark end the spans of the objects that it is the first to mark, and of those that it is the first not to mark any more."""
+    new, gone = defaultdict(list), defaultdict(list)
+    for seat, cycle, last in zip(seats, trace.cycles(), trace.lasts()):
+        if seat and last > cycle:
+            new[cycle + 1].append(seat)
+            gone[last + 1].append(seat)
+    return new, gone
 
 
 def span_lines(trace, real, model):
     yield f"{'mark end':>8} {'spans alive':>12} {'model':>8} {'sizes with as many':>20} {'within a tenth':>15} {'of':>4}"
-    for number, marks in enumerate(trace.marks, 1):
-        theirs, ours = spans_alive(trace, real, model, marks)
+    sides = [(Alive(), *changes(trace, seats)) for seats in (real, model)]
+    for number in range(1, trace.mark_ends + 1):
+        for alive, new, gone in sides:
+            alive.drop(gone.pop(number, ()))
+            alive.add(new.pop(number, ()))
+        theirs, ours = (+alive.spans for alive, _, _ in sides)
         slots = set(theirs) | set(ours)
         pairs = [(theirs.get(slot, 0), ours.get(slot, 0)) for slot in slots]
         equal = sum(a == b for a, b in pairs)
@@ -130,20 +154,21 @@ def first_allocations(allocations, path):
 
 def compare(allocations, trace, report):
     """The lines of both tables. A trace may end before its log."""
-    if len(trace.events) != len(report.addresses):
-        raise tool.Unusable(f"the trace has {len(trace.events)} objects and the report {len(report.addresses)}: it is no report of this trace")
+    if len(trace.sizes) != len(report.addresses):
+        raise tool.Unusable(f"the trace has {len(trace.sizes)} objects and the report {len(report.addresses)}: it is no report of this trace")
     agreement, riders = Agreement(), riders_of(trace, report.addresses)
     real_seats, model_seats = [], []
     for number, (event, address) in enumerate(zip(trace.events, report.addresses)):
         found = next(allocations, None)
         if found is None:
-            raise tool.Unusable(f"the log has {number} allocations and the trace {len(trace.events)} objects: it was recorded from another log")
+            raise tool.Unusable(f"the log has {number} allocations and the trace {len(trace.sizes)} objects: it was recorded from another log")
         check(number, event, found)
         real = seat(found.address, found.slot)
-        slot = slot_in(trace, event) if event.size else 0
-        agreement.take(event, (found.slot, slot), real, address, number in riders)
+        slot = slot_in(trace, event.size, event.has_pointers) if event.size else 0
+        placed = address if address > MISSED else 0
+        agreement.take(event, (found.slot, slot), real, placed, number in riders)
         # what rides stands in a slot of its lead's span
-        model = seat(address - riders[number].offset if number in riders else address, slot) if address and slot else None
+        model = seat(placed - riders[number].offset if number in riders else placed, slot) if placed and slot else None
         real_seats.append((found.slot, real[0]) if real else None)
         model_seats.append((slot, model[0]) if model else None)
     yield from agreement.lines()

@@ -3,8 +3,8 @@ what the rule asks, which objects, spans and lines are meant, and what should st
 
     recorder/explain trace report
 
-The rules are those of docs/sound-report.md, tried here by themselves. A sound report is told so. A report whose text is none is told by its
-first line that is malformed.
+The rules are those of docs/sound-report.md, tried here by themselves. A sound report is told so, with status 0; of another one the status is 1. A
+report whose text is none is told by its first line that is malformed.
 """
 
 import argparse
@@ -14,8 +14,9 @@ import sys
 from goheap_tools import tool
 from goheap_tools.formats import companions
 from goheap_tools.formats.frames import shown_frames
-from goheap_tools.formats.report import Stacks, read_report, stack_file
-from goheap_tools.formats.traces import trace_in
+from goheap_tools.formats.report import read_report
+from goheap_tools.formats.stacks import Stacks, stack_file
+from goheap_tools.formats.traces import Trace, trace_in
 from goheap_tools.heap import tiny
 from goheap_tools.heap.rules import NAMES, first_fault
 
@@ -23,8 +24,8 @@ KINDS = ("o", "j", "s", "t", "p", "end")
 NUMBER = "(?:0|[1-9][0-9]{0,19})"
 FORMS = {
     "o": rf"o {NUMBER} (?:zero|miss {NUMBER}|0x(?:0|[1-9a-f][0-9a-f]{{0,15}}))",
-    "j": rf"j {NUMBER} {NUMBER} (?:take {NUMBER} {NUMBER} {NUMBER}|miss {NUMBER} {NUMBER}|give {NUMBER} {NUMBER}|scav {NUMBER} {NUMBER}"
-    rf"|(?:pull|drop) {NUMBER} {NUMBER} {NUMBER}|cut {NUMBER} {NUMBER} {NUMBER} {NUMBER})",
+    "j": rf"j {NUMBER} {NUMBER} (?:take {NUMBER} {NUMBER} {NUMBER}|(?:miss|give|scav|hold|free|lend) {NUMBER} {NUMBER}"
+    rf"|(?:pull|drop|keep) {NUMBER} {NUMBER} {NUMBER}|cut {NUMBER} {NUMBER} {NUMBER} {NUMBER})",
     "s": rf"s {NUMBER} {NUMBER} {NUMBER} {NUMBER}",
     "t": rf"t {NUMBER} {NUMBER} {NUMBER}",
     "p": rf"p {NUMBER} {NUMBER} {NUMBER} {NUMBER} {NUMBER}",
@@ -81,6 +82,11 @@ def text_fault(lines):
     return None if before == ["end"] else (len(lines) + 1, "the report ends without the line `end`")
 
 
+def sound(trace: Trace) -> str:
+    """What is said of a report that breaks no rule."""
+    return f"The report meets all {'ten' if trace.version >= tiny.FIRST_VERSION else 'nine'} rules: it is sound."
+
+
 def explanation(trace, lines, frames, name):
     """The sentences on the report."""
     if fault := text_fault(lines):
@@ -88,7 +94,7 @@ def explanation(trace, lines, frames, name):
         return
     fault = first_fault(trace, read_report(lines, name), frames)
     if fault is None:
-        yield f"The report meets all {'ten' if trace.version >= tiny.FIRST_VERSION else 'nine'} rules: it is sound."
+        yield sound(trace)
         return
     yield f"report line {fault.line} breaks rule {fault.rule}, {NAMES[fault.rule]}: `{lines[fault.line - 1].rstrip()}`"
     yield ASKS[fault.rule]
@@ -111,9 +117,10 @@ def main(words):
         frames = {number: shown_frames(one) for number, one in stacks.frames.items()}
         if lines and tool.kind_of(lines[0]) not in (None, "a report"):
             raise tool.Unusable(f"{tool.named(options.report)}: this is {tool.kind_of(lines[0])}, and no report")
-        for sentence in explanation(trace, lines, frames, tool.named(options.report)):
+        told = list(explanation(trace, lines, frames, tool.named(options.report)))
+        for sentence in told:
             out.write(sentence + "\n")
-    return 0
+    return int(told != [sound(trace)])
 
 
 def command():

@@ -12,13 +12,15 @@ they are what Go's tools estimate from it: the rate is told by the stacks, or by
 import argparse
 import itertools
 import sys
-from collections import defaultdict
+from collections import Counter, defaultdict
 
 from goheap_tools import tool
 from goheap_tools.formats import companions
 from goheap_tools.formats.frames import name_of, shown_frames, type_of
-from goheap_tools.formats.report import Bucket, Miss, Stacks, report_in, stack_file
-from goheap_tools.formats.traces import is_marked, trace_in
+from goheap_tools.formats.journal import Miss
+from goheap_tools.formats.report import MISSED, Bucket, report_in
+from goheap_tools.formats.stacks import Stacks, stack_file
+from goheap_tools.formats.traces import trace_in
 from goheap_tools.heap.classes import PAGE, SLOTS
 from goheap_tools.heap.estimate import factor
 from goheap_tools.heap.tiny import riders_of, slot_in
@@ -32,33 +34,28 @@ NO_MARK_END = "run the program with GOGC=20, or call runtime.GC() in it, twice a
 def buckets_of_trace(trace, addresses=None):
     """Each mark end with the buckets that changed since the one before, as a profile at rate 1 has them: of objects that share a block the
     first one counts, as long as one of them lives."""
-    allocs, frees = defaultdict(int), defaultdict(int)
+    lasts, riders = slot_lasts(trace, addresses)
+    new, gone = defaultdict(Counter), defaultdict(Counter)
+    for one, (cycle, last, size, stack) in enumerate(zip(trace.cycles(), lasts, trace.sizes, trace.stacks)):
+        if size and cycle < trace.mark_ends and one not in riders and (addresses is None or addresses[one] > MISSED):
+            bucket = stack, slot_in(trace, size, trace.pointers[one])
+            new[cycle + 1][bucket] += 1
+            gone[last + 1][bucket] += 1
+    allocs, frees = Counter(), Counter()
+    for mark_end in range(1, trace.mark_ends + 1):
+        allocs.update(new[mark_end])
+        frees.update(gone[mark_end])
+        yield mark_end, [Bucket(mark_end, *bucket, allocs[bucket], frees[bucket]) for bucket in {**new[mark_end], **gone[mark_end]}]
+
+
+def slot_lasts(trace, addresses):
+    """Of each object the last cycle in which something lives in the slot that it got; and the objects that got none, since they ride in the slot
+    of another."""
     riders = riders_of(trace, addresses)
-    live, at = [], 0
-    for mark_end, ranges in enumerate(trace.marks, 1):
-        changed = set()
-        while at < len(trace.events) and trace.events[at].cycle < mark_end:
-            event = trace.events[at]
-            if event.size and (addresses is None or addresses[at]):
-                live.append(at)
-                if at not in riders:
-                    bucket = event.stack, slot_in(trace, event)
-                    allocs[bucket] += 1
-                    changed.add(bucket)
-            at += 1
-        found = list(is_marked(ranges, live))
-        for one in slots_of(live, riders) - slots_of(found, riders):
-            event = trace.events[one]
-            bucket = event.stack, slot_in(trace, event)
-            frees[bucket] += 1
-            changed.add(bucket)
-        live = found
-        yield mark_end, [Bucket(mark_end, *bucket, allocs[bucket], frees[bucket]) for bucket in changed]
-
-
-def slots_of(objects, riders):
-    """The objects that got the slots in which these stand."""
-    return {riders[one].lead if one in riders else one for one in objects}
+    lasts = trace.lasts()[:] if riders else trace.lasts()
+    for one, rider in riders.items():
+        lasts[rider.lead] = max(lasts[rider.lead], lasts[one])
+    return lasts, riders
 
 
 def buckets_of_report(report):
@@ -288,7 +285,7 @@ def options_of(words):
     parser.add_argument("--sort", choices=("flat", "cum", "allocated", "grew"), default="flat", help="which column's greatest rows come first (default flat)")
     parser.add_argument("--frames", action="store_true", help="print each bucket's whole stack")
     at = parser.add_mutually_exclusive_group()
-    at.add_argument("--at", type=tool.number(1, 10000), metavar="N", help="as of mark end N (default: the last one)")
+    at.add_argument("--at", type=tool.number(1, 1_000_000), metavar="N", help="as of mark end N (default: the last one)")
     at.add_argument("--peak", action="store_true", help="as of the mark end with the most bytes in use")
     parser.add_argument("--scale", type=tool.number(0, 1 << 30), metavar="RATE", help="estimate the counts without sampling, from those sampled at this rate (default: the rate that the stacks tell; 0: don't)")
     parser.add_argument("--output", "-o", default="-", help="a file for the table (default: standard output)")
@@ -357,9 +354,9 @@ def peak_of(mark_ends, rate):
 
 def tell_misses(report, trace):
     """Says how many objects found no room: they are in no count."""
-    missed = [one for one, address in enumerate(report.addresses) if address is None]
+    missed = [one for one, address in enumerate(report.addresses) if address == MISSED]
     if missed:
-        slots = (slot_in(trace, trace.events[one]) for one in missed) if trace else (SLOTS[line.span_class // 2] or line.pages * PAGE for line in report.journal if isinstance(line, Miss))
+        slots = (slot_in(trace, trace.sizes[one], trace.pointers[one]) for one in missed) if trace else (SLOTS[line.span_class // 2] or line.pages * PAGE for line in report.journal if isinstance(line, Miss))
         say(f"{len(missed)} of {len(report.addresses)} objects ({size_text(sum(slots))}) found no room in the region, and are counted nowhere: the table is too low"
             " (--trace without a report counts them too)")  # fmt: skip
 
@@ -373,13 +370,13 @@ def tell_behind(behind, objects):
 def behind_of(stacks, trace):
     """The objects behind the last mark end, and all objects, where the trace or the stacks tell them."""
     if trace:
-        return sum(event.cycle == len(trace.marks) for event in trace.events) if trace.marks else None, len(trace.events)
+        return len(trace.sizes) - trace.born[-1] if trace.mark_ends else None, len(trace.sizes)
     return (stacks.number("behind") if stacks.number("mark ends") else None), stacks.number("objects")
 
 
 def no_profile(stacks, trace, options):
     """Why there is no table, and what to do."""
-    mark_ends = len(trace.marks) if trace else stacks.number("mark ends")
+    mark_ends = trace.mark_ends if trace else stacks.number("mark ends")
     if mark_ends == 0:
         return f"{options.trace or options.report}: there was no mark end, so nothing tells what stays alive: {NO_MARK_END}"
     if options.rate == 0:
@@ -392,8 +389,8 @@ def read_all(options):
     stacks = stack_file(options.stacks) if options.stacks else Stacks({}, {}, {})
     report = report_in(options.report) if options.report else None
     trace = trace_in(options.trace) if options.trace else None
-    if report and trace and len(report.addresses) != len(trace.events):
-        raise tool.Unusable(f"{options.report} has {len(report.addresses)} objects, and {options.trace} has {len(trace.events)}: it is no report of this trace")
+    if report and trace and len(report.addresses) != len(trace.sizes):
+        raise tool.Unusable(f"{options.report} has {len(report.addresses)} objects, and {options.trace} has {len(trace.sizes)}: it is no report of this trace")
     if report:
         companions.of_report(stacks, report, (options.stacks, tool.named(options.report)))
     if trace:

@@ -16,12 +16,14 @@ import zlib
 
 from goheap_tools import tool
 from goheap_tools.formats import companions
-from goheap_tools.formats.report import Stacks, report_in, stack_file
+from goheap_tools.formats.report import report_in
+from goheap_tools.formats.stacks import Stacks, stack_file
 from goheap_tools.formats.traces import trace_in
 from goheap_tools.heap import pinning
-from goheap_tools.heap.classes import PAGE
+from goheap_tools.heap.classes import BASE, PAGE
 from goheap_tools.views import pinmap
-from goheap_tools.views.course import BASE, FREE, KINDS, Course, Holders, check, class_text, slot_and_room, top_page
+from goheap_tools.heap.pages import FREE
+from goheap_tools.views.course import KINDS, Course, Holders, check, class_text, slot_and_room, top_page
 
 MISS, KEPT, FREED, IN_SPANS, LAST = "#d4002a", "#1f5fa8", "#c8dcf2", "#7fb3e6", "#8a2be2"
 LEFT, TOP, WIDTH, MAP_HEIGHT, CHART_HEIGHT, GAP, LEGEND = 76, 78, 900, 420, 100, 50, 280
@@ -301,7 +303,7 @@ def draw(report, title, trace=None, stacks=Stacks({}, {}, {})):
     journal = report.journal
     columns = min(max(len(journal), 1), WIDTH)
     rows = min(top_page(journal), MAP_HEIGHT)
-    course = Course(report, columns, rows)
+    course = Course(report, columns, rows, trace)
     course.found_at = {span.page: span for span in course.found}
     holders = Holders(course, report, trace, stacks.frames)
     last = max((line.cycle for line in itertools.chain(journal, report.sweeps)), default=0)
@@ -342,8 +344,8 @@ def main(words):
         trace = trace_in(options.trace) if options.trace else None
         check(report)
         companions.of_report(stacks, report, (options.stacks, tool.named(options.report)))
-        if trace and len(trace.events) != len(report.addresses):
-            raise tool.Unusable(f"{options.report} has {len(report.addresses)} objects, and {options.trace} has {len(trace.events)}: it is no report of this trace")
+        if trace and len(trace.sizes) != len(report.addresses):
+            raise tool.Unusable(f"{options.report} has {len(report.addresses)} objects, and {options.trace} has {len(trace.sizes)}: it is no report of this trace")
         for line in draw(report, escaped(options.title), trace, stacks):
             out.write(line + "\n")
     return 0

@@ -11,7 +11,7 @@ import csv
 import sys
 
 from goheap_tools import tool
-from goheap_tools.formats.report import Stacks, stack_file
+from goheap_tools.formats.stacks import Stacks, stack_file
 from goheap_tools.heap import pinning
 from goheap_tools.heap.classes import PAGE, SLOTS
 from goheap_tools.heap.pinning import Groups, Names

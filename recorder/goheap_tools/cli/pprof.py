@@ -15,7 +15,7 @@ import sys
 from goheap_tools import tool
 from goheap_tools.formats.frames import name_of, place_of, shown_frames
 from goheap_tools.formats.heaptext import heap_in
-from goheap_tools.formats.report import stack_file
+from goheap_tools.formats.stacks import stack_file
 from goheap_tools.heap.estimate import factor
 
 # The fields of a profile, by the public description of the form, profile.proto of github.com/google/pprof.

@@ -6,7 +6,7 @@ An older stacks file has no first lines; nothing is asked then.
 import hashlib
 from collections import Counter
 
-from goheap_tools.formats.report import Miss
+from goheap_tools.formats.journal import Miss
 from goheap_tools.heap.classes import SLOTS, slot_of
 from goheap_tools.tool import Unusable
 
@@ -58,10 +58,12 @@ def of_report(stacks, report, names):
 
 def of_trace(stacks, trace, names):
     """Refuses a trace that is not the recording's. `names` are those of the stacks file and of the trace."""
-    check_count(stacks, names, "objects", len(trace.events))
-    check_count(stacks, names, "mark ends", len(trace.marks))
-    told = told_slots(stacks)
-    found = Counter(slot_of(event.size) for event in trace.events if event.size)
+    check_count(stacks, names, "objects", len(trace.sizes))
+    check_count(stacks, names, "mark ends", trace.mark_ends)
+    told, found = told_slots(stacks), Counter()
+    for size, count in Counter(trace.sizes).items():
+        if size:
+            found[slot_of(size)] += count
     if told is not None and told != found:
         refuse(stacks, names, "the objects have other sizes")
 

@@ -1,82 +1,52 @@
-"""Reads a report of goheap, line by line. What the report must meet is for `goheap check` to say."""
+"""Reads a report of goheap into columns. What the report must meet is for `goheap check` to say."""
 
-from typing import Dict, List, NamedTuple, Optional, Tuple
+import itertools
+import re
+from array import array
+from collections.abc import Sequence
+from typing import Any, BinaryIO, Dict, Iterable, Iterator, List, NamedTuple, Tuple
 
-from goheap_tools.tool import Unusable, kind_of, named, reading, whole
+from goheap_tools import tool
+from goheap_tools.formats.journal import KINDS, Line
+from goheap_tools.formats.lines import joined, opened, runs
+from goheap_tools.tool import Unusable
 
+ZERO, MISSED = 0, 1  # in the place of an address: of size 0; not placed
 
-class Take(NamedTuple):
-    cycle: int
-    page: int
-    pages: int
-    span_class: int
-
-
-class Miss(NamedTuple):
-    cycle: int
-    pages: int
-    span_class: int
-
-
-class Give(NamedTuple):
-    cycle: int
-    page: int
-    pages: int
-
-
-class Scav(NamedTuple):
-    cycle: int
-    page: int
-    pages: int
-
-
-class Pull(NamedTuple):
-    """The free pages of a block go to the page cache of a processor."""
-
-    cycle: int
-    proc: int
-    page: int  # the first of the block
-    pages: int
-
-
-class Cut(NamedTuple):
-    """A span is made out of a page cache."""
-
-    cycle: int
-    proc: int
-    page: int
-    pages: int
-    span_class: int
-
-
-class Drop(NamedTuple):
-    """What is left of a processor's block goes back."""
-
-    cycle: int
-    proc: int
-    page: int  # the first of the block
-    pages: int
-
-
-# The pages of a block of a page cache.
-BLOCK = 64
-# The lines that make a span, and those of a whole block.
-MAKING_LINES, BLOCK_LINES = (Take, Cut), (Pull, Drop)
-
-
-def end_of(line):
-    """The page behind those that the journal line speaks of."""
-    return line.page + (BLOCK if isinstance(line, BLOCK_LINES) else line.pages)
+# The form of a run of lines by its first letter, within the limits of the formats.
+FORMS = {
+    "o": rb"(?:o [0-9]{1,20} (?:0x[0-9a-f]{1,16}|zero|miss [0-9]{1,20})\n)+",
+    "j": rb"(?:j [0-9]{1,20} [0-9]{1,10} (?:take [0-9]{1,10} [0-9]{1,10} [0-9]{1,3}|(?:give|scav|miss|hold|free|lend) [0-9]{1,10} [0-9]{1,10}"
+    rb"|(?:pull|drop|keep) [0-9]{1,10} [0-9]{1,10} [0-9]{1,10}|cut [0-9]{1,10} [0-9]{1,10} [0-9]{1,10} [0-9]{1,3})\n)+",
+    "s": rb"(?:s [0-9]{1,10} [0-9]{1,10} [0-9]{1,10} [0-9]{1,10}\n)+",
+    "t": rb"(?:t [0-9]{1,3} [0-9]{1,20} [0-9]{1,20}\n)+",
+    "p": rb"(?:p [0-9]{1,10} [0-9]{1,10} [0-9]{1,20} [0-9]{1,20} [0-9]{1,20}\n)+",
+    "e": rb"end\n",
+}
+ORDER = "ojstpe"
+MISS = re.compile(rb"miss [0-9]+")
 
 
 class Sweep(NamedTuple):
+    """What a mark end kept and freed of a span."""
+
     cycle: int
     page: int
     kept: int
     freed: int
 
 
+class Total(NamedTuple):
+    """The objects of a size class."""
+
+    size_class: int
+    mallocs: int
+    frees: int
+
+
 class Bucket(NamedTuple):
+    """The sampled objects of a stack and a slot size, as of a mark end."""
+
     mark_end: int
     stack: int
     slot: int
@@ -84,123 +54,97 @@ class Bucket(NamedTuple):
     frees: int
 
 
-# How a report is made of another text.
-MAKING = {"a trace": " (goheap run --each < trace > report)", "a log": " (record makes a trace of it)"}
+class Rows(Sequence):
+    """Lines of one kind, in columns."""
 
-JOURNAL = {"take": Take, "miss": Miss, "give": Give, "scav": Scav, "pull": Pull, "cut": Cut, "drop": Drop}
+    def __init__(self, kind: Any):
+        self.kind, self.columns = kind, [array("Q") for _ in kind._fields]
+
+    def __len__(self) -> int:
+        return len(self.columns[0])
+
+    def __getitem__(self, at):
+        if isinstance(at, slice):
+            return list(map(self.kind._make, zip(*(column[at] for column in self.columns))))
+        return self.kind._make(column[at] for column in self.columns)
+
+    def __iter__(self) -> Iterator[Any]:
+        return map(self.kind._make, zip(*self.columns))
+
+    def __eq__(self, other: object) -> bool:
+        return isinstance(other, Iterable) and list(self) == list(other)
+
+    def take(self, words: List[bytes]) -> None:
+        """Takes lines in, whose words these are."""
+        step = len(self.columns) + 1
+        for at, column in enumerate(self.columns, 1):
+            column.extend(map(int, words[at::step]))
 
 
-class Report(NamedTuple):
-    addresses: List[Optional[int]]  # of each object; None for a miss, 0 for an object of size 0
-    journal: List[Tuple]
-    sweeps: List[Sweep]
-    totals: List[Tuple[int, int, int]]  # size class, mallocs, frees
-    buckets: List[Bucket]
-    misses: Dict[int, int]  # of each missed object, the number of the journal line that it names
+class Report:
+    """The address of each object, or ZERO or MISSED; for each that was missed the number of the journal line that it names; the journal; the
+    sweeps, the totals and the buckets of the profile."""
+
+    def __init__(self, name: str = "report"):
+        self.name = name
+        self.addresses = array("Q")
+        self.misses: Dict[int, int] = {}
+        self.journal: List[Line] = []
+        self.sweeps, self.totals, self.buckets = Rows(Sweep), Rows(Total), Rows(Bucket)
+
+    def take(self, letter: str, run: bytes, line: int) -> None:
+        """Takes lines of one kind in."""
+        if letter == "o":
+            self.take_objects(run, line)
+        elif letter == "j":
+            self.take_journal(run, line)
+        elif letter != "e":
+            {"s": self.sweeps, "t": self.totals, "p": self.buckets}[letter].take(run.split())
+
+    def take_objects(self, run: bytes, line: int) -> None:
+        first = len(self.addresses)
+        if b"m" in run:
+            for words in map(bytes.split, run.splitlines()):
+                if words[2] == b"miss":
+                    self.misses[int(words[1])] = int(words[3])
+        if b"m" in run or b"z" in run:
+            run = MISS.sub(b"%#x" % MISSED, run.replace(b"zero", b"%#x" % ZERO))
+        words = run.split()
+        numbers = list(map(int, words[1::3]))
+        if numbers != list(range(first, first + len(numbers))):
+            at = next(at for at, number in enumerate(numbers) if number != first + at)
+            raise Unusable(f"{self.name}: line {line + at}: this is not the line of object {first + at}")
+        self.addresses.extend(map(int, words[2::3], itertools.repeat(16)))
+
+    def take_journal(self, run: bytes, line: int) -> None:
+        for at, text in enumerate(run.decode("ascii").splitlines()):
+            _, number, cycle, word, *numbers = text.split()
+            if int(number) != len(self.journal):
+                raise Unusable(f"{self.name}: line {line + at}: this is not line {len(self.journal)} of the journal")
+            self.journal.append(KINDS[word](int(cycle), *map(int, numbers)))
 
 
-def read_report(lines, name="report"):
-    report = Report([], [], [], [], [], {})
-    ended = False
-    for number, line in enumerate(lines, 1):
-        if number == 1 and kind_of(line) not in (None, "a report"):
-            raise Unusable(f"{name}: this is {kind_of(line)}, and no report{MAKING.get(kind_of(line), '')}")
-        if ended:
-            raise Unusable(f"{name}: line {number}: there are lines behind the end")
-        words = line.split()
+def read(file: BinaryIO, name: str) -> Report:
+    """The report of this text. `name` is what it is called where it is refused."""
+    report, before = Report(name), 0
+    for letter, run, line in runs(file, name, 1, "report", FORMS):
+        place = ORDER.index(letter)
+        if place < before:
+            raise Unusable(f"{name}: line {line}: no line of a report may stand here")
+        before = place
         try:
-            ended = take_line(report, words)
-        except (KeyError, ValueError, IndexError, TypeError):
-            raise Unusable(f"{name}: line {number}: no line of a report") from None
-    if not ended:
-        raise Unusable(f"{name}: the report has no end")
+            report.take(letter, run, line)
+        except OverflowError:
+            raise Unusable(f"{name}: line {line}: a number is beyond the limits of a report") from None
     return report
 
 
-def report_in(path):
+def read_report(lines: Iterable[str], name: str = "report") -> Report:
+    """The report that is spelled by these lines."""
+    return read(joined(lines), name)
+
+
+def report_in(path: str) -> Report:
     """The report in the file; - is standard input."""
-    with reading(path) as file:
-        return read_report(file, named(path))
-
-
-def take_line(report, words):
-    """Takes a line in. Returns whether it is the last one."""
-    kind, rest = words[0], words[1:]
-    if kind == "o":
-        if rest[1] == "miss":
-            report.misses[len(report.addresses)] = whole(rest[2])
-        report.addresses.append({"zero": lambda: 0, "miss": lambda: None}.get(rest[1], lambda: int(rest[1], 16))())
-    elif kind == "j":
-        report.journal.append(JOURNAL[rest[2]](whole(rest[1]), *map(whole, rest[3:])))
-    elif kind == "s":
-        report.sweeps.append(Sweep(*map(whole, rest)))
-    elif kind == "t":
-        size_class, mallocs, frees = map(whole, rest)
-        report.totals.append((size_class, mallocs, frees))
-    elif kind == "p":
-        report.buckets.append(Bucket(*map(whole, rest)))
-    elif words == ["end"]:
-        return True
-    else:
-        raise ValueError(kind)
-    return False
-
-
-class Stacks(NamedTuple):
-    """A stacks file: what it says of the recording, and the frames and the type of each stack by its number."""
-
-    header: Dict[str, str]
-    frames: Dict[int, List[str]]
-    types: Dict[int, str]
-
-    def number(self, name):
-        """The number that the header has under this name, or nothing."""
-        value = self.header.get(name, "")
-        return int(value) if value.isascii() and value.isdigit() else None
-
-
-FIRST = "# goheap stacks "
-
-
-def read_stack_file(lines, name="stacks"):
-    """A stacks file as `record` writes it. Older ones have no first lines, and no types."""
-    stacks = Stacks({}, {}, {})
-    has_types = False
-    for at, line in enumerate(lines, 1):
-        line = line.rstrip("\n")
-        if at == 1 and line.startswith(FIRST):
-            has_types = True
-            if line != FIRST + "2":
-                raise Unusable(f"{name}: line 1: the form of this stacks file is not read here")
-        elif at == 1 and kind_of(line):
-            raise Unusable(f"{name}: this is {kind_of(line)}, and no stacks file")
-        elif has_types and line.startswith("# ") and not stacks.frames:
-            key, _, value = line[2:].partition("\t")
-            stacks.header[key] = value
-        else:
-            take_stack(stacks, has_types, line.split("\t"), f"{name}: line {at}: no stack's number")
-    return stacks
-
-
-def take_stack(stacks, has_types, words, fault):
-    number, *rest = words
-    if not (number.isascii() and number.isdigit()):
-        raise Unusable(fault)
-    if has_types and rest:
-        stacks.types[int(number)] = rest.pop(0)
-    stacks.frames[int(number)] = rest
-
-
-def stack_file(path):
-    """The stacks file with what its first lines say."""
-    with reading(path) as file:
-        return read_stack_file(file, named(path))
-
-
-def read_stacks(lines, name="stacks"):
-    """The frames of each stack by its number."""
-    return read_stack_file(lines, name).frames
-
-
-def stacks_in(path):
-    return stack_file(path).frames
+    with opened(path) as file:
+        return read(file, tool.named(path))

@@ -1,4 +1,5 @@
-"""Go's size classes (`sizeclasses.go`): the bytes of a slot and the pages of a span, by class; class 0 is for large objects."""
+"""Go's size classes (`sizeclasses.go`): the bytes of a slot and the pages of a span, by class; class 0 is for large objects. And where the pages
+are."""
 
 SLOTS = [
     0, 8, 16, 24, 32, 48, 64, 80, 96, 112, 128, 144, 160, 176, 192, 208, 224, 240, 256, 288, 320, 352, 384, 416, 448, 480, 512, 576, 640, 704,
@@ -11,9 +12,10 @@ PAGES = [
 ]
 LARGEST = 32768
 PAGE = 8192
+BASE = 0xC000000000  # the address of page 0
 
 
-def slot_of(size):
+def slot_of(size: int) -> int:
     """The bytes that an object of this size takes: the slot of the least class that holds it, or whole pages."""
     if size > LARGEST:
         return -(-size // PAGE) * PAGE

@@ -3,11 +3,10 @@
 from collections import defaultdict
 from typing import NamedTuple, Optional
 
-from goheap_tools.formats.report import Cut, Drop, Give, Miss, Pull, Scav, Take
-from goheap_tools.heap.classes import LARGEST, PAGE, PAGES, SLOTS
+from goheap_tools.formats.journal import Cut, journal_text
+from goheap_tools.formats.report import MISSED
+from goheap_tools.heap.classes import BASE, LARGEST, PAGE, PAGES, SLOTS
 from goheap_tools.heap.tiny import BLOCK, is_tiny, riders_of, size_in
-
-BASE = 0xC000000000
 
 
 class Need(NamedTuple):
@@ -51,30 +50,14 @@ def class_name(span_class):
     return f"objects of {SLOTS[span_class // 2]} bytes {pointers} (span class {span_class})" if span_class < 2 * len(SLOTS) else f"span class {span_class}, which there is not"
 
 
-WORDS = {Take: "take", Miss: "miss", Give: "give", Scav: "scav", Pull: "pull", Cut: "cut", Drop: "drop"}
-
-
-def line_text(line):
-    """A journal line's words behind its number and cycle."""
-    return " ".join([WORDS[type(line)], *map(str, line[1:])])
-
-
-def journal_text(number, line):
-    return f"`j {number} {line.cycle} {line_text(line)}`"
-
-
 class Judged:
     """A trace and a report of it, with what the rules ask about."""
 
     def __init__(self, trace, report, frames=None):
         self.trace, self.report, self.frames = trace, report, frames or {}
-        self.last = len(trace.marks)
+        self.last, self.cycles = trace.mark_ends, trace.cycles()
         self.needs = {}
-        self.lasts = [event.cycle for event in trace.events]
-        for mark_end, ranges in enumerate(trace.marks, 1):
-            for low, high in ranges:
-                for one in range(low, min(high + 1, len(self.lasts))):
-                    self.lasts[one] = mark_end
+        self.lasts = trace.lasts()[:]
         self.take_riders()
         self.lives = []  # in the order of their Take or Cut lines
         self.seats = []  # of each object: its life and index, or nothing
@@ -108,15 +91,15 @@ class Judged:
     # Objects.
 
     def need(self, one):
-        event = self.trace.events[one]
-        key = size_in(self.trace.version, event.size, event.has_pointers), event.has_pointers
+        has_pointers = self.trace.pointers[one]
+        key = size_in(self.trace.version, self.trace.sizes[one], has_pointers), has_pointers
         if key not in self.needs:
             self.needs[key] = need_of(*key)
         return self.needs[key]
 
     def is_placed(self, one):
         """Whether the object has a slot of its own, which what rides has not."""
-        return bool(self.report.addresses[one]) and one not in self.riders
+        return self.report.addresses[one] > MISSED and one not in self.riders
 
     def is_lead(self, one):
         event = self.trace.events[one]
@@ -139,7 +122,7 @@ class Judged:
         return f"the span at {pages_text(life.page, life.pages)}, for {class_name(life.span_class)}, {made} in cycle {life.cycle} by {self.journal(life.number)}{given}"
 
     def lifetime(self, one):
-        begin, end = self.trace.events[one].cycle, self.lasts[one]
+        begin, end = self.cycles[one], self.lasts[one]
         lives = f"lives in cycle {begin}" if begin == end else f"lives in the cycles {begin} to {end}"
         return lives if end == self.own_lasts[one] else f"{lives} for object {self.keeper(one, end)}, which rides in its block"
 

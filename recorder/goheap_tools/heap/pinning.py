@@ -10,87 +10,53 @@ from collections import Counter
 
 from goheap_tools import tool
 from goheap_tools.formats import companions
-from goheap_tools.formats.columns import BASE, MISSED, Report, Trace
 from goheap_tools.formats.frames import name_of, shown_frames
-from goheap_tools.formats.report import BLOCK
-from goheap_tools.heap.classes import PAGE, SLOTS, slot_of
+from goheap_tools.formats.report import MISSED, report_in
+from goheap_tools.formats.traces import trace_in
+from goheap_tools.heap import pages, tiny
+from goheap_tools.heap.classes import BASE, PAGE, SLOTS, slot_of
 from goheap_tools.tool import Unusable
 
 SOME = 1 << 14  # objects counted at a time
-MOST_PAGES = 2097152  # of the largest region
 STEPS = 8  # of the histogram of how full spans are
 NOWHERE = -1  # no span
 
-# What a page can be: free with no memory behind it, free and backed, in a span, in a page cache.
-UNBACKED, FREE, TAKEN, CACHED = b"-", b"f", b"x", b"c"
+# What a page is here: free with no memory behind it, free and backed, or not free.
+UNBACKED, FREE, TAKEN = b"-", b"f", b"x"
+AS_FREE = bytes.maketrans(bytes(range(pages.LENT + 1)), b"".join({pages.FREE: FREE, pages.UNTOUCHED: UNBACKED, pages.RELEASED: UNBACKED}.get(kind, TAKEN) for kind in range(pages.LENT + 1)))
+# The backed pages that are in no span, and not free.
+OTHERS = {"stacks and other uses": pages.HELD, "page caches": pages.CACHED, "out to the scavenger": pages.LENT}
 
-class Region:
+
+class Replay:
     """The pages as the journal's lines come."""
 
-    def __init__(self, report):
-        self.report = report
-        self.pages = bytearray()
-        self.backed = 0
-        self.spans = {}  # the number of the Take line by the span's first page
-        self.line = 0
+    def __init__(self, report, version):
+        self.report, self.version = report, version
+        self.pages = pages.Pages(version=version)
 
     def go_on(self, cycle):
         """Takes the lines of the cycles before this one."""
-        report = self.report
-        while self.line < len(report.cycles) and report.cycles[self.line] < cycle:
-            self.take(report.what[self.line], report.pages[self.line], report.counts[self.line])
-            self.line += 1
-        if CACHED in self.pages:
+        journal, now = self.report.journal, self.pages
+        while now.lines < len(journal) and journal[now.lines].cycle < cycle:
+            line = journal[now.lines]
+            if why := now.misfit(line):
+                self.refuse(why)
+            now.go_on(line)
+        if now.blocks and self.version < pages.REAL:
             self.refuse("a block of a page cache is out as a cycle ends")
 
-    def take(self, what, page, count):
-        if what == ord("m"):
-            return
-        end = page + (BLOCK if what in b"pd" else count)
-        if end > MOST_PAGES:
-            self.refuse(f"a region has {MOST_PAGES} pages at most")
-        if end > len(self.pages):
-            self.pages.extend(UNBACKED * (end - len(self.pages)))
-        part = self.pages[page:end]
-        if what in b"pd":
-            self.move(page, count, part, what == ord("p"))
-            return
-        if what in b"tc":
-            if TAKEN in part or part.count(CACHED) != (count if what == ord("c") else 0) or not count or self.report.classes[self.line] >= 2 * len(SLOTS):
-                self.refuse("no such span can be made here")
-            self.backed += part.count(UNBACKED)
-            self.spans[page] = self.line
-        elif what == ord("g"):
-            taken = self.spans.pop(page, None)
-            if taken is None or self.report.counts[taken] != count:
-                self.refuse("no such span is there to give back")
-        else:
-            if part.count(FREE) != count:
-                self.refuse("these pages are not free and backed")
-            self.backed -= count
-        self.pages[page:end] = {ord("t"): TAKEN, ord("c"): TAKEN, ord("g"): FREE, ord("s"): UNBACKED}[what] * count
-
-    def move(self, page, count, part, is_pull):
-        """The free pages of a block go to a page cache, or those of it that are left there go back."""
-        if (len(part) - part.count(TAKEN) - part.count(CACHED) if is_pull else part.count(CACHED)) != count:
-            self.refuse("the block has not so many such pages")
-        if is_pull:
-            self.backed += part.count(UNBACKED)
-            self.pages[page : page + len(part)] = part.replace(UNBACKED, CACHED).replace(FREE, CACHED)
-        else:
-            self.pages[page : page + len(part)] = part.replace(CACHED, FREE)
-
     def refuse(self, why):
-        raise Unusable(f"{self.report.name}: line {len(self.report.addresses) + self.line + 1}: {why}")
+        raise Unusable(f"{self.report.name}: line {len(self.report.addresses) + self.pages.lines + 1}: {why}")
 
 
-def peak(report, mark_ends):
+def peak(report, trace):
     """The first of the mark ends at which the most pages are backed."""
-    region, most, found = Region(report), -1, 1
-    for mark_end in range(1, mark_ends + 1):
-        region.go_on(mark_end)
-        if region.backed > most:
-            most, found = region.backed, mark_end
+    replay, most, found = Replay(report, trace.version), -1, 1
+    for mark_end in range(1, trace.mark_ends + 1):
+        replay.go_on(mark_end)
+        if replay.pages.backed > most:
+            most, found = replay.pages.backed, mark_end
     return found
 
 
@@ -124,12 +90,14 @@ class Pins:
     slots that they fill (from version 3 on tiny ones share some), their bytes as asked for, and the stacks of the objects, sorted by span."""
 
     def __init__(self, trace, report, mark_end):
-        self.mark_end, self.mark_ends = mark_end, trace.mark_ends()
+        self.mark_end, self.mark_ends = mark_end, trace.mark_ends
         self.objects, self.behind = trace.born[mark_end - 1], len(trace.sizes) - trace.born[mark_end - 1]
-        region = Region(report)
-        region.go_on(mark_end)
-        self.backed, self.region = region.backed, region.pages
-        self.set_spans(region)
+        self.swept = {sweep.page: sweep.kept for sweep in report.sweeps if sweep.cycle == mark_end}
+        replay = Replay(report, trace.version)
+        replay.go_on(mark_end)
+        self.backed, self.region = replay.pages.backed, replay.pages.kinds.translate(AS_FREE)
+        self.set_spans(replay.pages)
+        self.set_others(replay.pages)
         self.missed = self.missed_bytes = 0
         stacks = max(trace.stacks, default=-1) + 1
         self.own, self.live = array("Q", bytes(8 * stacks)), array("I", bytes(4 * stacks))  # bytes and objects by stack
@@ -138,16 +106,20 @@ class Pins:
         self.compare(trace, report)
         self.drop_emptied()
 
-    def set_spans(self, region):
-        report = region.report
-        self.first = sorted(region.spans)
-        lines = [region.spans[page] for page in self.first]
-        self.pages = [report.counts[line] for line in lines]
-        self.span_class = [report.classes[line] for line in lines]
+    def set_spans(self, now):
+        self.first = sorted(now.spans)
+        spans = [now.spans[page] for page in self.first]
+        lines = [span.made for span in spans]
+        self.pages = [span.pages for span in spans]
+        self.span_class = [span.span_class for span in spans]
         self.slot = [SLOTS[one // 2] or pages * PAGE for one, pages in zip(self.span_class, self.pages)]
         self.slots = [pages * PAGE // slot for pages, slot in zip(self.pages, self.slot)]
         self.held = [0] * len(lines)
         self.asked = [0] * len(lines)
+
+    def set_others(self, now):
+        """The backed pages that are free to nobody and in no span, by what they are: in a real run there are some."""
+        self.others = {name: sum(kind == one and not bare for one, bare in zip(now.kinds, now.scavenged)) if kind in now.kinds else 0 for name, kind in OTHERS.items()}
 
     def owners(self):
         """The number of the span by page."""
@@ -159,7 +131,7 @@ class Pins:
     def seat(self, trace, report):
         """Counts each marked object in its span. Returns the span and the stack of each."""
         addresses, owners = report.addresses, self.owners()
-        leads = trace.leads(addresses)
+        leads = tiny.leads_of(trace, addresses)
         filled = Filled(leads, len(self.first)) if leads else None
         top = BASE + len(self.region) * PAGE
         spans_of, stacks_of = array("I"), array("I")
@@ -216,12 +188,12 @@ class Pins:
     def compare(self, trace, report):
         """Refuses a report whose sweeps or spans say otherwise than the trace's marks."""
         for page, used, asked, slot, slots in zip(self.first, self.used, self.asked, self.slot, self.slots):
-            if report.kept.get(page) != used:
-                said = report.kept[page] if page in report.kept else "no sweep"
+            if self.swept.get(page) != used:
+                said = self.swept.get(page, "no sweep")
                 raise Unusable(f"{report.name} says of the span at page {page} that mark end {self.mark_end} kept {said}, and by {trace.name} it kept {used}: it is no report of this trace")
             if used > slots or asked > used * slot:
                 raise Unusable(f"{report.name}: the span at page {page} has no room for its {used} live objects of {asked} bytes: it is no report of this trace")
-        if len(report.kept) > len(self.first):
+        if len(self.swept) > len(self.first):
             raise Unusable(f"{report.name}: mark end {self.mark_end} swept a span that is not there")
 
     def drop_emptied(self):
@@ -255,6 +227,7 @@ class Pins:
             "rounding": used - live,
             "tails": spans - slots,
             "free pages": self.region.count(FREE) * PAGE,
+            **{name: count * PAGE for name, count in self.others.items() if count},
         }
 
     def classes(self):
@@ -399,39 +372,23 @@ def reach(pins, names_of):
 
 def add_mark_end(parser):
     """The options that name a mark end."""
-    parser.add_argument("--at", type=tool.number(1, 10_000), metavar="N", help="at mark end N (default: the last)")
+    parser.add_argument("--at", type=tool.number(1, 1_000_000), metavar="N", help="at mark end N (default: the last)")
     parser.add_argument("--peak", action="store_true", help="at the mark end with the most backed bytes, the first of them")
-
-
-def check_stacks(trace, stacks, options):
-    """Refuses the stacks of another recording."""
-    names = options.stacks, trace.name
-    companions.check_count(stacks, names, "objects", len(trace.sizes))
-    companions.check_count(stacks, names, "mark ends", trace.mark_ends())
-    told, found = companions.told_slots(stacks), Counter()
-    for size, count in Counter(trace.sizes).items():
-        if size:
-            found[slot_of(size)] += count
-    if told is not None and told != found:
-        companions.refuse(stacks, names, "the objects have other sizes")
 
 
 def pins_of(trace_path, report_path, options, stacks):
     """What a trace and its report come to at the mark end that the options name. `stacks` are those of the recording, or none."""
     if options.peak and options.at:
         raise Unusable("--at and --peak name two mark ends")
-    trace = Trace(trace_path)
-    check_stacks(trace, stacks, options)
-    count = trace.mark_ends()
+    trace = trace_in(trace_path)
+    companions.of_trace(stacks, trace, (options.stacks, trace.name))
+    count = trace.mark_ends
     if not count:
         raise Unusable(f"{trace.name} has no mark end, at which it would be known who lives")
     if (options.at or 0) > count:
         raise Unusable(f"{trace.name} has {count} mark ends, and no mark end {options.at}")
 
-    def choose(report):
-        if len(report.addresses) != len(trace.sizes):
-            raise Unusable(f"{report.name} has {len(report.addresses)} objects, and {trace.name} has {len(trace.sizes)}: it is no report of this trace")
-        return peak(report, count) if options.peak else options.at or count
-
-    report = Report(report_path, choose)
-    return Pins(trace, report, report.mark_end)
+    report = report_in(report_path)
+    if len(report.addresses) != len(trace.sizes):
+        raise Unusable(f"{report.name} has {len(report.addresses)} objects, and {trace.name} has {len(trace.sizes)}: it is no report of this trace")
+    return Pins(trace, report, peak(report, trace) if options.peak else options.at or count)

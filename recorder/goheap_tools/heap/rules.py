@@ -6,21 +6,21 @@ A report's lines are numbered from 1: the answers, the journal, the sweeps, the 
 their order, and of a rule the first line that breaks it is told. `docs/judge.md` has which line breaks which rule.
 """
 
+from array import array
 from bisect import bisect_right
 from collections import Counter, defaultdict
-from typing import List, NamedTuple
+from typing import Dict, List, NamedTuple, Optional
 
-from goheap_tools.formats.report import MAKING_LINES, Give, Miss
-from goheap_tools.heap.classes import PAGE, SLOTS
-from goheap_tools.heap.judged import BASE, Judged, Life, class_name, journal_text, line_text
-from goheap_tools.heap.region import CHUNK, Region
+from goheap_tools.formats.journal import MAKING_LINES, Give, Miss, journal_text, line_text
+from goheap_tools.formats.report import MISSED, ZERO, Report
+from goheap_tools.formats.traces import Trace
+from goheap_tools.heap.classes import BASE, PAGE, SLOTS
+from goheap_tools.heap.judged import Judged, Life, class_name
+from goheap_tools.heap.pages import CHUNK, REAL
+from goheap_tools.heap.region import Region
 from goheap_tools.heap.tiny import BLOCK
 
 NAMES = {1: "answers", 2: "journal", 3: "misses", 4: "places", 5: "apart", 6: "filling", 7: "sweeps", 8: "totals", 9: "profile", 10: "riders"}
-
-
-# The first version in which processors have page caches.
-CACHING = 2
 
 
 class Fault(NamedTuple):
@@ -41,7 +41,7 @@ def answers(judged):
         if one >= len(events):
             return Fault(1, one + 1, [f"The trace has {len(events)} objects, 0 to {len(events) - 1}, so no object has the number {one}." if events else "The trace has no object.",
                                       "There is to be one `o` line for each `a` line of the trace."])  # fmt: skip
-        if (address == 0) != (events[one].size == 0):
+        if (address == ZERO) != (judged.trace.sizes[one] == 0):
             what = "has size 0, so `zero` should stand there" if events[one].size == 0 else f"has {events[one].size} bytes, so an address or a miss should stand there, and not `zero`"
             return Fault(1, one + 1, [f"{judged.object_text(one)}. It {what}."])
     if len(addresses) < len(events):
@@ -54,9 +54,9 @@ def answers(judged):
 
 
 def journal(judged):
-    """The journal is one that the pages and page caches can have, no line is of a cycle behind the last, and each block is dropped."""
-    header = judged.trace.header
-    region = Region(header["chunks"], header["goal"], header["procs"] if judged.trace.version >= CACHING else 0)
+    """The journal is one that the pages and page caches can have, no line is of a cycle behind the last, and before version 4 each block is
+    dropped."""
+    region = Region(judged.trace.header, judged.trace.version)
     cycle, taken = 0, {}
     for number, line in enumerate(judged.report.journal):
         sentences = None
@@ -76,8 +76,8 @@ def journal(judged):
         elif isinstance(line, Give):
             at = taken.pop(line.page)
             judged.lives[at] = judged.lives[at]._replace(given=number, end=line.cycle)
-    for proc, block in sorted(region.blocks.items()):
-        return Fault(2, judged.end, [f"The block at page {block.page}, which processor {proc} pulled, is never dropped: `drop {proc} {block.page} {len(block.left)}` should stand in the journal."])
+    for proc, block in [] if judged.trace.version >= REAL else sorted(region.blocks.items()):
+        return Fault(2, judged.end, [f"The block at page {block.page}, which processor {proc} pulled, is never dropped: `drop {proc} {block.page} {block.count()}` should stand in the journal."])
     return None
 
 
@@ -88,9 +88,9 @@ def misses(judged):
     """A missed object names a Miss line of its pages, span class and cycle, and no two name one line."""
     lines, named = judged.report.journal, {}
     for one, address in enumerate(judged.report.addresses):
-        if address is not None or one in judged.riders:
+        if address != MISSED or one in judged.riders:
             continue
-        number, need, cycle = judged.report.misses[one], judged.need(one), judged.trace.events[one].cycle
+        number, need, cycle = judged.report.misses.get(one, len(lines)), judged.need(one), judged.cycles[one]
         asked = Miss(cycle, need.pages, need.span_class)
         found = lines[number] if number < len(lines) else None
         said = [f"{judged.object_text(one)}, and found no room. It names journal line {number}."]
@@ -118,7 +118,7 @@ def why_no_seat(judged, one, life):
             return [f"Its address {address:#x} is not in the region, which goes from {BASE:#x} up to {BASE + pages * PAGE:#x}.", f"{wants}."]
         past = [other for other in judged.lives if other.page <= page < other.page + other.pages]
         there = f"There was {judged.life_text(past[0])}." if past else "No span was ever there."
-        return [f"Its address {address:#x} is in page {page}, which is in no span as cycle {judged.trace.events[one].cycle} ends. {there}", f"{wants}."]
+        return [f"Its address {address:#x} is in page {page}, which is in no span as cycle {judged.cycles[one]} ends. {there}", f"{wants}."]
     here = f"Its address {address:#x} is in {judged.life_text(life)}."
     if (life.span_class, life.pages) != (need.span_class, need.pages):
         return [here, f"{wants}."]
@@ -130,43 +130,58 @@ def why_no_seat(judged, one, life):
     return [here, f"The object {judged.lifetime(one)}, and its span is given back in cycle {life.end}."]
 
 
-def seat(judged, one, owner):
+class Owners:
+    """The lives by their pages, and the open ones by their first pages, as the cycles end."""
+
+    def __init__(self, judged):
+        self.judged, self.at = judged, 0
+        self.lives = {life.number: at for at, life in enumerate(judged.lives)}
+        self.owner = array("i", [-1]) * (judged.trace.header["chunks"] * CHUNK)
+        self.open = {}
+
+    def end_cycle(self, cycle):
+        """Takes the journal's lines of the cycles up to this one."""
+        journal, lives = self.judged.report.journal, self.judged.lives
+        while self.at < len(journal) and journal[self.at].cycle <= cycle:
+            line = journal[self.at]
+            if isinstance(line, MAKING_LINES):
+                number = self.lives[self.at]
+                self.owner[line.page : line.page + line.pages] = array("i", [number]) * line.pages
+                self.open[line.page] = lives[number]
+            elif isinstance(line, Give):
+                self.owner[line.page : line.page + line.pages] = array("i", [-1]) * line.pages
+                del self.open[line.page]
+            self.at += 1
+
+    def of(self, page):
+        """The life that has this page, or nothing."""
+        number = self.owner[page] if 0 <= page < len(self.owner) else -1
+        return None if number < 0 else self.judged.lives[number]
+
+
+def seat(judged, one, owners):
     """The life and the index of the object's seat, or nothing."""
     need, address = judged.need(one), judged.report.addresses[one]
-    life = owner.get((address - BASE) // PAGE)
+    life = owners.of((address - BASE) // PAGE)
     if life is None or (life.span_class, life.pages) != (need.span_class, need.pages):
         return life, None
     index, rest = divmod(address - BASE - life.page * PAGE, need.slot)
     return life, index if not rest and index < need.count and life.end > judged.lasts[one] else None
 
 
-def owners(judged):
-    """For each cycle the lives by their pages as it ends."""
-    owner, at, lives = {}, 0, {life.number: life for life in judged.lives}
-    for cycle in range(judged.last + 1):
-        while at < len(judged.report.journal) and judged.report.journal[at].cycle <= cycle:
-            line = judged.report.journal[at]
-            if isinstance(line, MAKING_LINES):
-                owner.update((page, lives[at]) for page in range(line.page, line.page + line.pages))
-            elif isinstance(line, Give):
-                for page in range(line.page, line.page + line.pages):
-                    del owner[page]
-            at += 1
-        yield cycle, owner
-
-
 def places(judged):
     """A placed object sits in exactly one life, which is not given back while the object lives."""
-    judged.seats = [None] * len(judged.trace.events)
-    one = 0
-    for cycle, owner in owners(judged):
-        while one < len(judged.trace.events) and judged.trace.events[one].cycle == cycle:
-            if judged.is_placed(one):
-                life, index = seat(judged, one, owner)
-                if index is None:
-                    return Fault(4, one + 1, [f"{judged.object_text(one)}, and sits in no span.", *why_no_seat(judged, one, life)])
-                judged.seats[one] = life, index
-            one += 1
+    judged.seats = [None] * len(judged.trace.sizes)
+    owners, before = Owners(judged), -1
+    for one, cycle in enumerate(judged.cycles):
+        if cycle != before:
+            owners.end_cycle(cycle)
+            before = cycle
+        if judged.is_placed(one):
+            life, index = seat(judged, one, owners)
+            if index is None:
+                return Fault(4, one + 1, [f"{judged.object_text(one)}, and sits in no span.", *why_no_seat(judged, one, life)])
+            judged.seats[one] = life, index
     return None
 
 
@@ -181,7 +196,7 @@ def apart(judged):
             continue
         life, index = where
         before = holder.get((life.number, index))
-        cycle = judged.trace.events[one].cycle
+        cycle = judged.cycles[one]
         if before is not None and judged.lasts[before] >= cycle:
             slot = judged.slot(life)
             return Fault(5, one + 1, [
@@ -201,11 +216,12 @@ class Filling:
 
     def __init__(self):
         self.until = {}  # by index, the last cycle of an object there
-        self.cycle, self.proc, self.low, self.first = None, None, 0, None
+        self.cycle, self.low = None, 0
+        self.proc = self.first = self.flushes = None  # whose it is, by which object, and how often the processor was flushed before that
 
     def begin(self, cycle):
         if self.cycle != cycle:
-            self.cycle, self.proc, self.low, self.first = cycle, None, 0, None
+            self.cycle, self.low, self.proc = cycle, 0, None
 
     def free(self, limit):
         """The lowest index below the limit that nobody holds, or nothing."""
@@ -214,35 +230,71 @@ class Filling:
         return self.low if self.low < limit else None
 
 
+class Caches:
+    """The spans that processors have as objects come, which a flush lets go."""
+
+    def __init__(self, trace):
+        self.flushes, self.at = trace.flushes, 0
+        self.counts = Counter()
+        self.current, self.cycle = defaultdict(dict), 0  # by processor and span class
+
+    def come(self, one, cycle):
+        """The object comes, behind the flushes before it."""
+        if cycle != self.cycle:
+            self.current.clear()
+            self.cycle = cycle
+        while self.at < len(self.flushes) and self.flushes[self.at].before <= one:
+            proc = self.flushes[self.at].proc
+            self.counts[proc] += 1
+            self.current.pop(proc, None)
+            self.at += 1
+
+
+def owner_fault(judged, one, state, caches):
+    """Why an object may not come into a life that another processor fills, or nothing."""
+    proc = judged.trace.procs[one]
+    if state.proc in (None, proc) or caches.counts[state.proc] > state.flushes:
+        return None
+    at = f"object {state.first} at {judged.address_text(state.first)} (line {state.first + 1})"
+    flush = ", and not flushed since" if judged.trace.version >= REAL else ""
+    return [f"In that cycle the span is filled by processor {state.proc}{flush}: {at} is there. A span has one processor in a cycle, and this object is of processor {proc}."]
+
+
+def gap_fault(judged, one, life, gap):
+    """That a lower slot is free."""
+    address = judged.seat_address(life, gap)
+    return [f"Slot {gap} of the span, at {address:#x}, is free as the object comes, and a span is filled from its lowest free slot: `o {one} {address:#x}` should stand there."]
+
+
+def left_fault(judged, one, left, gap):
+    """That the processor left a life that is not full."""
+    return [f"Its processor left {judged.life_text(left)}, in this cycle, while slot {gap} there is free: a span is full before its processor goes on"
+            f" to another. `o {one} {judged.seat_address(left, gap):#x}` should stand there."]  # fmt: skip
+
+
 def filling(judged):
-    """In a cycle a small life has one processor, is filled from its lowest free index, and is full before its processor goes on."""
-    lives, current = defaultdict(Filling), {}
+    """In a cycle a small life has one processor, is filled from its lowest free index, and is full before its processor goes on, unless the
+    processor is flushed."""
+    lives, caches = defaultdict(Filling), Caches(judged.trace)
     for one, where in enumerate(judged.seats):
         if where is None or where[0].span_class < 2:
             continue
         life, index = where
-        event, need = judged.trace.events[one], judged.need(one)
+        cycle, proc = judged.cycles[one], judged.trace.procs[one]
         state = lives[life.number]
-        state.begin(event.cycle)
-        said = [f"{judged.object_text(one)}, at {judged.address_text(one)}: slot {index} of {judged.life_text(life)}."]
-        if state.proc not in (None, event.proc):
-            other = judged.trace.events[state.first]
-            return Fault(6, one + 1, [*said, f"In that cycle the span is filled by processor {other.proc}: object {state.first} at {judged.address_text(state.first)} (line {state.first + 1})"
-                                      f" is there. A span has one processor in a cycle, and this object is of processor {event.proc}."])  # fmt: skip
-        gap = state.free(index)
-        if gap is not None:
-            return Fault(6, one + 1, [*said, f"Slot {gap} of the span, at {judged.seat_address(life, gap):#x}, is free as the object comes, and a span is filled from its lowest free slot:"
-                                      f" `o {one} {judged.seat_address(life, gap):#x}` should stand there."])  # fmt: skip
-        key = event.cycle, event.proc, need.span_class
-        left = current.get(key)
-        if left is not None and left.number != life.number:
-            gap = lives[left.number].free(need.count)
-            if gap is not None:
-                return Fault(6, one + 1, [*said, f"Its processor left {judged.life_text(left)}, in this cycle, while slot {gap} there is free: a span is full before its processor goes on"
-                                          f" to another. `o {one} {judged.seat_address(left, gap):#x}` should stand there."])  # fmt: skip
-        current[key] = life
-        if state.first is None:
-            state.proc, state.first = event.proc, one
+        state.begin(cycle)
+        caches.come(one, cycle)
+        sentences = owner_fault(judged, one, state, caches)
+        if sentences is None and (gap := state.free(index)) is not None:
+            sentences = gap_fault(judged, one, life, gap)
+        left = caches.current[proc].get(life.span_class)
+        if sentences is None and left is not None and left.number != life.number and (gap := lives[left.number].free(judged.need(one).count)) is not None:
+            sentences = left_fault(judged, one, left, gap)
+        if sentences:
+            return Fault(6, one + 1, [f"{judged.object_text(one)}, at {judged.address_text(one)}: slot {index} of {judged.life_text(life)}.", *sentences])
+        caches.current[proc][life.span_class] = life
+        if state.proc != proc or state.flushes != caches.counts[proc]:
+            state.proc, state.first, state.flushes = proc, one, caches.counts[proc]
         state.until[index] = max(state.until.get(index, -1), judged.lasts[one])
     return None
 
@@ -255,7 +307,7 @@ def counts_of_sweeps(judged):
     born, died = defaultdict(Counter), defaultdict(Counter)
     for one, where in enumerate(judged.seats):
         if where is not None:
-            born[judged.trace.events[one].cycle + 1][where[0].number] += 1
+            born[judged.cycles[one] + 1][where[0].number] += 1
             died[judged.lasts[one] + 1][where[0].number] += 1
     alive = Counter()
     for mark_end in range(1, judged.last + 1):
@@ -267,7 +319,7 @@ def counts_of_sweeps(judged):
 def objects_of(judged, life, mark_end, is_kept):
     """Some of a life's objects that the mark end keeps, or that it frees."""
     last = (lambda one: judged.lasts[one] >= mark_end) if is_kept else (lambda one: judged.lasts[one] == mark_end - 1)
-    found = [one for one, where in enumerate(judged.seats) if where and where[0].number == life.number and judged.trace.events[one].cycle < mark_end and last(one)]
+    found = [one for one, where in enumerate(judged.seats) if where and where[0].number == life.number and judged.cycles[one] < mark_end and last(one)]
     more = f" and {len(found) - 3} more" if len(found) > 3 else ""
     names = [judged.kept_text(one, mark_end) if is_kept else str(one) for one in found[:3]]
     return f" (object{'s' if len(found) > 1 else ''} {', '.join(names)}{more})" if found else ""
@@ -309,15 +361,14 @@ def sweeps(judged):
     """Each life that a mark end finds alive has one line of the cycle behind it, and is given back where nothing is kept."""
     if fault := give_fault(judged):
         return fault
-    used = {(where[0].number, judged.trace.events[one].cycle) for one, where in enumerate(judged.seats) if where}
+    used = {(where[0].number, cycle) for where, cycle in zip(judged.seats, judged.cycles) if where}
     notes, at = judged.report.sweeps, 0
     counted = counts_of_sweeps(judged)
-    missing = None
-    by_cycle = owners(judged)
+    missing, owners = None, Owners(judged)
     for mark_end in range(1, judged.last + 1):
-        _, owner = next(by_cycle)
+        owners.end_cycle(mark_end - 1)
         _, kept, freed = next(counted)
-        alive = {life.page: life for life in owner.values()}
+        alive = owners.open
         seen = set()
         while at < len(notes) and notes[at].cycle <= mark_end:
             sweep = notes[at]
@@ -327,9 +378,9 @@ def sweeps(judged):
                 return fault
             seen.add(sweep.page)
             at += 1
-        for page in sorted(alive):
-            if page not in seen and missing is None:
-                missing = mark_end, alive[page], kept[alive[page].number], freed[alive[page].number]
+        if missing is None and len(seen) < len(alive):
+            page = min(page for page in alive if page not in seen)
+            missing = mark_end, alive[page], kept[alive[page].number], freed[alive[page].number]
     if at < len(notes):
         return sweep_fault(judged, notes[at], judged.starts[2] + at, None, 0, 0, used)
     if missing:
@@ -344,7 +395,7 @@ def sweeps(judged):
 def totals(judged):
     """Each size class with placed objects has one line, with how many were placed and how many of them do not live in the last cycle."""
     mallocs, frees = Counter(), Counter()
-    for one in range(len(judged.trace.events)):
+    for one in range(len(judged.trace.sizes)):
         if judged.is_placed(one):
             size_class = judged.need(one).span_class // 2
             mallocs[size_class] += 1
@@ -386,13 +437,13 @@ def samples(judged):
     """The placed objects that their processors' countdowns sample."""
     rate, seed = judged.trace.header["rate"], judged.trace.header["seed"]
     countdowns = {}
-    for one, event in enumerate(judged.trace.events):
+    for one, proc in enumerate(judged.trace.procs):
         if not judged.is_placed(one) or not rate:
             continue
-        if event.proc not in countdowns:
-            words = Words(seed, event.proc)
-            countdowns[event.proc] = [1 + words.next() % (2 * rate - 1), words]
-        countdown, slot = countdowns[event.proc], judged.need(one).slot
+        if proc not in countdowns:
+            words = Words(seed, proc)
+            countdowns[proc] = [1 + words.next() % (2 * rate - 1), words]
+        countdown, slot = countdowns[proc], judged.need(one).slot
         if slot < countdown[0]:
             countdown[0] -= slot
         else:
@@ -406,8 +457,8 @@ class Histories:
     def __init__(self, judged):
         new, gone = defaultdict(Counter), defaultdict(Counter)
         for one in samples(judged):
-            bucket = judged.trace.events[one].stack, judged.need(one).slot
-            new[judged.trace.events[one].cycle + 1][bucket] += 1
+            bucket = judged.trace.stacks[one], judged.need(one).slot
+            new[judged.cycles[one] + 1][bucket] += 1
             gone[judged.lasts[one] + 1][bucket] += 1
         self.ends, self.counts, self.changed = defaultdict(list), defaultdict(list), {}
         allocs, frees = Counter(), Counter()
@@ -483,7 +534,7 @@ def riders(judged):
 RULES = (answers, journal, misses, places, apart, filling, sweeps, totals, profile, riders)
 
 
-def first_fault(trace, report, frames=None):
+def first_fault(trace: Trace, report: Report, frames: Optional[Dict[int, List[str]]] = None) -> Optional[Fault]:
     """The first rule that the report breaks, with its line and why; nothing where it meets all."""
     judged = Judged(trace, report, frames)
     for rule in RULES:

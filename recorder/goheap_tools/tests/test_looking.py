@@ -4,6 +4,7 @@ import unittest
 import xml.dom.minidom
 
 from goheap_tools.formats import frames, report, traces
+from goheap_tools.formats.journal import Give, Miss, Scav, Take
 from goheap_tools.heap import classes
 from goheap_tools.tests.testing import Folder, block, data, module, path_of, rows, run
 from goheap_tools.tool import Unusable
@@ -19,9 +20,9 @@ BUCKET_HEAD = "flat flat% sum% objects allocs frees slot"
 class Reading(unittest.TestCase):
     def test_each_kind_of_line(self):
         read = report.read_report(data("kinds.report").splitlines(True))
-        self.assertEqual(read.addresses, [0xC000000000, 0, None])
-        self.assertEqual(read.journal, [report.Take(0, 0, 1, 6), report.Give(1, 0, 1), report.Scav(1, 0, 1), report.Miss(1, 600, 1), report.Take(1, 0, 5, 0)])
-        self.assertEqual((read.sweeps, read.totals, len(read.buckets)), ([report.Sweep(1, 0, 0, 1)], [(3, 1, 1)], 4))
+        self.assertEqual((list(read.addresses), read.misses), ([0xC000000000, report.ZERO, report.MISSED], {2: 3}))
+        self.assertEqual(read.journal, [Take(0, 0, 1, 6), Give(1, 0, 1), Scav(1, 0, 1), Miss(1, 600, 1), Take(1, 0, 5, 0)])
+        self.assertEqual((list(read.sweeps), list(read.totals), len(read.buckets)), ([report.Sweep(1, 0, 0, 1)], [(3, 1, 1)], 4))
 
     def test_no_report(self):
         for text in ("", "o 0 0xc000000000\n", "end\nend\n", "j 0 0 taken 0 1 6\nend\n", "x\nend\n", "\nend\n"):
@@ -33,13 +34,16 @@ class Reading(unittest.TestCase):
         for text in ("", "goheap 2\n", "goheap 1\n", "goheap 1\nheap 1\nend\n", head, head + "a 0 8 n 1\n", head + "a 0 8 n\nend\n", head + "m 0 0\nend\n", head + "gc 1\nm 0\nend\n", head + "\nend\n"):
             with self.assertRaises(Unusable, msg=text):
                 traces.read_trace(text.splitlines(True))
-        self.assertEqual(traces.read_trace((head + "gc 1\nend\n").splitlines(True)).marks, [[]])
+        read = traces.read_trace((head + "gc 1\nend\n").splitlines(True))
+        self.assertEqual((read.mark_ends, read.ranges(1)), (1, []))
 
     def test_slots(self):
         self.assertEqual([classes.slot_of(size) for size in (1, 8, 9, 1024, 1025, 32768, 32769)], [8, 8, 16, 1024, 1152, 32768, 40960])
 
     def test_marked(self):
-        self.assertEqual(list(traces.is_marked([(1, 2), (5, 9)], [0, 1, 3, 5, 8, 10])), [1, 5, 8])
+        read = traces.read_trace(("goheap 1\nheap 1 procs 1 rate 0 seed 1 goal 512\n" + 11 * "a 0 8 n 1\n" + "gc 1\nm 1 2\nm 5 9\na 0 8 n 1\ngc 1\nm 2 2\nm 6 6\nm 11 11\nend\n").splitlines(True))
+        self.assertEqual([list(read.marked(mark_end)) for mark_end in (1, 2)], [[1, 2, 5, 6, 7, 8, 9], [2, 6, 11]])
+        self.assertEqual(list(read.lasts()), [0, 1, 2, 0, 0, 1, 2, 1, 1, 1, 0, 2])
 
 
 class Leaks(Folder):

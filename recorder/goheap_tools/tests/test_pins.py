@@ -10,9 +10,9 @@ import unittest
 import xml.dom.minidom
 
 from goheap_tools.formats import report, traces
+from goheap_tools.formats.journal import Cut, Drop, Give, Miss, Pull, Scav, Take, end_of
 from goheap_tools.formats.frames import name_of, shown_frames
-from goheap_tools.heap.classes import PAGE, SLOTS
-from goheap_tools.heap.pinning import BASE
+from goheap_tools.heap.classes import BASE, PAGE, SLOTS
 from goheap_tools.tests.test_program import go_command
 from goheap_tools.tests.testing import HERE, Folder, data, path_of, rows, run
 
@@ -31,20 +31,20 @@ class Slow:
         self.trace, self.report, self.mark_end = trace, report_of, mark_end
         self.page = {}  # of each page that was ever in a span or a page cache: "free", "scavenged" or "cached", or the number of the line that made its span
         for number, line in enumerate(report_of.journal):
-            if line.cycle >= mark_end or isinstance(line, report.Miss):
+            if line.cycle >= mark_end or isinstance(line, Miss):
                 continue
-            state = {report.Take: number, report.Cut: number, report.Give: "free", report.Scav: "scavenged", report.Pull: "cached", report.Drop: "free"}[type(line)]
-            for page in range(line.page, report.end_of(line)):
-                if isinstance(line, report.Pull) and isinstance(self.page.get(page), int) or isinstance(line, report.Drop) and self.page[page] != "cached":
+            state = {Take: number, Cut: number, Give: "free", Scav: "scavenged", Pull: "cached", Drop: "free"}[type(line)]
+            for page in range(line.page, end_of(line)):
+                if isinstance(line, Pull) and isinstance(self.page.get(page), int) or isinstance(line, Drop) and self.page[page] != "cached":
                     continue
                 self.page[page] = state
         assert "cached" not in self.page.values()
         self.backed = sum(state != "scavenged" for state in self.page.values())
-        self.marked = [one for low, high in trace.marks[mark_end - 1] for one in range(low, high + 1)]
+        self.marked = list(trace.marked(mark_end))
         self.seats = {}  # the objects at each place, of which tiny ones may share one: the line that made the span, and the index
-        self.missed = [one for one in self.marked if report_of.addresses[one] is None]
+        self.missed = [one for one in self.marked if report_of.addresses[one] == report.MISSED]
         for one in self.marked:
-            if report_of.addresses[one]:
+            if report_of.addresses[one] >= BASE:
                 place = self.place(one, report_of.addresses[one])
                 assert place not in self.seats or self.is_tiny(one)
                 self.seats.setdefault(place, []).append(one)
@@ -200,7 +200,7 @@ class PinsCounted(Folder):
 
     def compare(self, trace_path, report_path):
         trace, report_of = traces.trace_in(trace_path), report.report_in(report_path)
-        slows = [Slow(trace, report_of, mark_end) for mark_end in range(1, len(trace.marks) + 1)]
+        slows = [Slow(trace, report_of, mark_end) for mark_end in range(1, trace.mark_ends + 1)]
         for slow in slows:
             words = [trace_path, report_path, "--at", str(slow.mark_end)]
             tables = self.tables(*words)
@@ -265,7 +265,7 @@ class PinsCounted(Folder):
     def test_the_examples(self):
         seen = 0
         for path in sorted(glob.glob(os.path.join(EXAMPLES, "*.trace"))):
-            if traces.trace_in(path).marks:
+            if traces.trace_in(path).mark_ends:
                 seen += len(self.compare(path, path.replace(".trace", ".report")))
         self.assertGreater(seen, 10)
 
@@ -501,7 +501,7 @@ class PinsFaults(Folder):
             ([trace, "no such report"], "no such report: No such file or directory"),
             ([trace, report_of, "--stacks", report_of], f"{report_of}: this is a report, and no stacks file"),
             ([report_of, trace], f"{report_of}: this is a report, and no trace"),
-            ([trace, trace], f"{trace}: this is a trace, and no report"),
+            ([trace, trace], f"{trace}: this is a trace, and no report (goheap run --each < trace > report)"),
             ([trace, path_of("small.stacks")], f"{path_of('small.stacks')}: line 1: no line of a report"),
             ([trace, HERE], f"{HERE}: Is a directory"),
             ([without, report_of], f"{without} has no mark end, at which it would be known who lives"),
@@ -512,7 +512,7 @@ class PinsFaults(Folder):
         ):
             self.assertEqual(run("pins", *words), (2, "", f"pins: {said}\n"))
         for text, why in (
-            ("", "no trace: its first line is none of `goheap 1`, `goheap 2` and `goheap 3`"),
+            ("", "no trace: its first line is none of `goheap 1`, `goheap 2`, `goheap 3` and `goheap 4`"),
             ("goheap 1\n", "line 2: no second line of a trace"),
             (head, "the trace has no end"),
             (head + "a 0 8 n 1\n", "the trace has no end"),

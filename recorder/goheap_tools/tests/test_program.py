@@ -7,7 +7,8 @@ import shutil
 import subprocess
 import sys
 
-from goheap_tools.formats import report, traces
+from goheap_tools.formats import traces
+from goheap_tools.formats.stacks import stacks_in
 from goheap_tools.tests.testing import HERE, Folder, rows, run
 
 PROGRAM = """package main
@@ -65,17 +66,17 @@ class RealProgram(Folder):
         self.trace = self.put("trace", text)
 
     def test_a_small_program(self):
-        trace, frames = traces.trace_in(self.trace), report.stacks_in(self.stacks)
+        trace, frames = traces.trace_in(self.trace), stacks_in(self.stacks)
         by = lambda name: [one for one, event in enumerate(trace.events) if any(frame.startswith(f"main.{name} ") for frame in frames[event.stack])]
         leaked, wasted = by("leak"), by("waste")
         self.assertEqual([trace.events[one].size for one in leaked], [16] * 5)
         self.assertTrue(all(trace.events[one].has_pointers for one in leaked))
         self.assertEqual([trace.events[one].size for one in wasted], [1000 + i for i in range(5)])
         self.assertFalse(any(trace.events[one].has_pointers for one in wasted))
-        self.assertEqual(len(trace.marks), 5)
+        self.assertEqual(trace.mark_ends, 5)
         # Each mark end finds all nodes so far.
-        for mark_end, ranges in enumerate(trace.marks[:-1], 1):
-            self.assertEqual(list(traces.is_marked(ranges, leaked)), leaked[:mark_end])
+        for mark_end in range(1, trace.mark_ends):
+            self.assertEqual([one for one in trace.marked(mark_end) if one in leaked], leaked[:mark_end])
 
     def test_from_the_log_to_the_tables(self):
         """With the report of the plain model, which is that of the program."""

@@ -7,7 +7,7 @@ import subprocess
 import sys
 import time
 
-from goheap_tools.formats import report
+from goheap_tools.formats.stacks import stack_file
 from goheap_tools.tests.test_trust import GC, stack, start
 from goheap_tools.tests.testing import HERE, Folder, data, path_of, run, text_of
 
@@ -150,4 +150,4 @@ class Whole(Folder):
         os.symlink("trace", link)
         run("record", "--output", link, "--stacks", os.path.join(self.folder.name, "stacks"), given=data("small.allocfreetrace"))
         self.assertTrue(os.path.islink(link))
-        self.assertEqual(text_of(out).count("\na "), int(report.stack_file(os.path.join(self.folder.name, "stacks")).header["objects"]))
+        self.assertEqual(text_of(out).count("\na "), int(stack_file(os.path.join(self.folder.name, "stacks")).header["objects"]))

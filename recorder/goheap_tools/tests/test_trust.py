@@ -5,7 +5,8 @@ import unittest.mock
 import zlib
 
 from goheap_tools.cli import recording
-from goheap_tools.formats import golog, report
+from goheap_tools.formats import golog
+from goheap_tools.formats.stacks import stack_file, stacks_in
 from goheap_tools.tests.testing import Folder, block, body, data, module, path_of, rows, run, text_of
 
 GC = "tracegc()\n\ngoroutine 7 [garbage collection]:\nruntime.gcMarkDone()\n\t/go/mgc.go:1 pc=0x9\n\nend tracegc\n\n"
@@ -142,7 +143,7 @@ class FromAMarkEnd(Folder):
         # At mark end 2 main.a's object of 32 bytes and main.d's of 48 are alive; then come those of 64 and 80, of which mark end 3 keeps one.
         self.assertEqual([line.split()[:3] for line in trace.splitlines()[2:]],
                          [["a", "0", "32"], ["a", "0", "48"], ["gc", "4194304"], ["m", "0", "1"], ["a", "0", "64"], ["a", "0", "80"], ["gc", "4194304"], ["m", "0", "1"], ["m", "3", "3"], ["end"]])  # fmt: skip
-        read = report.stack_file(stacks)
+        read = stack_file(stacks)
         self.assertEqual(read.header["from mark end"], "2")
         numbers = [int(line.split()[4]) for line in trace.splitlines() if line.startswith("a ")]
         self.assertEqual([read.frames[number][1].split()[0] for number in numbers], ["main.a", "main.d", "main.e", "main.f"])
@@ -188,7 +189,7 @@ class Defaults(Folder):
         stacks = os.path.join(self.folder.name, "stacks")
         log = start() + stack(16, "main.a", type_name="main.node") + stack(32, "main.a", 40, type_name="[5]int") + GC + stack(80, "main.b") + GC
         trace = run("record", "--stacks", stacks, "--rate", "100", given=log)[1]
-        read = report.stack_file(stacks)
+        read = stack_file(stacks)
         told = {"rate": "100", "chunks": "128", "procs": "4", "objects": "4", "mark ends": "1", "behind": "1", "stacks": "4", "slots": "16:2 32:1 48:1"}
         self.assertEqual({name: read.header.get(name) for name in told}, told)
         self.assertEqual([read.types[number] for number in range(4)], ["*runtime.p", "main.node", "[5]int", ""])
@@ -196,10 +197,10 @@ class Defaults(Folder):
         self.assertEqual(len(trace.splitlines()), 9)
 
     def test_old_stacks_are_read(self):
-        read = report.stack_file(path_of("small.stacks"))
-        self.assertEqual((read.header, read.types, report.stacks_in(path_of("small.stacks"))), ({}, {}, read.frames))
+        read = stack_file(path_of("small.stacks"))
+        self.assertEqual((read.header, read.types, stacks_in(path_of("small.stacks"))), ({}, {}, read.frames))
         new = self.put("new", "# goheap stacks 2\n# rate\t1\n# strange\tx\n" + data("small.stacks").replace("\truntime.mallocgc", "\tmain.node\truntime.mallocgc"))
-        self.assertEqual(report.stacks_in(new), read.frames)
+        self.assertEqual(stacks_in(new), read.frames)
         self.assertEqual(body(text_of(new)), data("small.stacks"))
         self.assertIn("the form of this stacks file is not read here", run("leaks", "-", "--stacks", self.put("newer", "# goheap stacks 3\n"), given="end\n")[2])
 
@@ -257,7 +258,7 @@ class Words(Folder):
             stacks = os.path.join(self.folder.name, "stacks")
             said = run("record", "--program", path, "--stacks", stacks, given=block(16))[2]
             self.assertEqual("program was built with go1.22.3; logs of go1.19 to go1.21 are read, and others perhaps wrongly" in said, not is_read)
-            self.assertEqual(report.stack_file(stacks).header["go"], version.decode())
+            self.assertEqual(stack_file(stacks).header["go"], version.decode())
 
     def test_no_room_names_the_file(self):
         stacks = os.path.join(self.folder.name, "stacks")

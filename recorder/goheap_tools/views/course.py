@@ -6,14 +6,15 @@ from collections import Counter, defaultdict
 from typing import NamedTuple
 
 from goheap_tools.formats.frames import shown_frames
-from goheap_tools.formats.report import BLOCK, BLOCK_LINES, MAKING_LINES, Give, Miss, Pull, Scav, Sweep, end_of
-from goheap_tools.heap.classes import PAGE, PAGES, SLOTS
+from goheap_tools.formats.journal import MAKING_LINES, REAL_LINES, Give, Miss, end_of
+from goheap_tools.formats.report import Sweep
+from goheap_tools.heap.classes import BASE, PAGE, PAGES, SLOTS
+from goheap_tools.heap.pages import (
+    CACHED, FREE, HELD, LARGE, LARGE_PLAIN, LENT, MOST_PAGES, REAL, RELEASED, SMALL, SMALL_PLAIN, SPAN_KINDS, UNTOUCHED, Pages,
+)  # fmt: skip
 from goheap_tools.tool import Unusable
 
-BASE = 0xC000000000
-
-# What a page can be, with its colour and what the legend says.
-UNTOUCHED, FREE, RELEASED, SMALL, SMALL_PLAIN, LARGE, LARGE_PLAIN, CACHED = range(8)
+# What a page is shown as: its colour, and what the legend says.
 KINDS = {
     UNTOUCHED: ("#ffffff", "never used"),
     FREE: ("#c9c9c9", "free, backed"),
@@ -23,16 +24,11 @@ KINDS = {
     LARGE: ("#b3541e", "large object with pointers"),
     LARGE_PLAIN: ("#f0b070", "large object without pointers"),
     CACHED: ("#e6d36a", "in a page cache"),
+    HELD: ("#9c7bb8", "stacks, and other uses"),
+    LENT: ("#7fd1c7", "out to the scavenger"),
 }
-# Those of pages that no span and no page cache has.
-NOBODYS = (UNTOUCHED, FREE, RELEASED)
 RGB = [bytes.fromhex(KINDS[kind][0][1:]) for kind in sorted(KINDS)]
-MOST_PAGES, MOST_CYCLES = 2097152, 10000
-
-
-def kind_of(span_class):
-    plain = span_class % 2
-    return (LARGE, LARGE_PLAIN)[plain] if span_class < 2 else (SMALL, SMALL_PLAIN)[plain]
+MOST_CYCLES = 1_000_000
 
 
 def slot_and_room(span_class, pages):
@@ -73,45 +69,10 @@ class Found(NamedTuple):
     freed: int
 
 
-class Pages:
-    """The pages as the journal goes on."""
-
-    def __init__(self, count):
-        self.kinds = bytearray(count)
-        self.backed = self.in_spans = 0
-        self.spans = {}  # pages and span class by first page
-
-    def fill(self, page, pages, kind):
-        part = self.kinds[page : page + pages]
-        self.backed -= pages - part.count(UNTOUCHED) - part.count(RELEASED)
-        self.kinds[page : page + pages] = bytes([kind]) * pages
-        if kind not in (UNTOUCHED, RELEASED):
-            self.backed += pages
-
-    def go_on(self, line):
-        if isinstance(line, MAKING_LINES):
-            self.fill(line.page, line.pages, kind_of(line.span_class))
-            self.spans[line.page] = line.pages, line.span_class
-            self.in_spans += line.pages
-        elif isinstance(line, BLOCK_LINES):
-            self.move(line.page, *((NOBODYS, CACHED) if isinstance(line, Pull) else ((CACHED,), FREE)))
-        elif isinstance(line, Give):
-            self.fill(line.page, line.pages, FREE)
-            if self.spans.pop(line.page, None):
-                self.in_spans -= line.pages
-        elif isinstance(line, Scav):
-            self.fill(line.page, line.pages, RELEASED)
-
-    def move(self, first, old, new):
-        """The pages of a block that are of one of these kinds are of another now."""
-        for page in range(first, first + BLOCK):
-            if self.kinds[page] in old:
-                self.fill(page, 1, new)
-
-    def slot(self, page):
-        """The bytes of an object of the span that begins at this page."""
-        pages, span_class = self.spans.get(page, (0, 0))
-        return slot_and_room(span_class, pages)[0]
+def slot_at(pages, page):
+    """The bytes of an object of the span that begins at this page."""
+    span = pages.spans.get(page)
+    return slot_and_room(span.span_class, span.pages)[0] if span else 0
 
 
 def check(report):
@@ -127,9 +88,14 @@ def check(report):
         raise Unusable("nothing is swept in cycle 0")
 
 
+def version_of(journal, trace=None):
+    """The version of the trace, by which page caches go on; without one, whether the journal has lines of real runs."""
+    return trace.version if trace else REAL if any(isinstance(line, REAL_LINES) for line in journal) else REAL - 1
+
+
 def top_page(journal):
     """The number of pages that the journal speaks of."""
-    return max((end_of(line) for line in journal if not isinstance(line, Miss)), default=1)
+    return max(map(end_of, journal), default=0) or 1
 
 
 class Shades:
@@ -156,7 +122,7 @@ class Course:
     """What is drawn: the columns of the map, and for each its backed pages, pages in spans, live spans and cycle; the bytes that each
     mark end kept; the columns of the misses; the lives of spans; and the spans and pages as the last mark end found them."""
 
-    def __init__(self, report, columns, rows):
+    def __init__(self, report, columns, rows, trace=None):
         self.map, self.backed, self.in_spans, self.spans, self.cycles, self.misses, self.kinds = [], [], [], [], [], [], set()
         self.kept_bytes = defaultdict(int)
         self.sweeps = defaultdict(list)
@@ -165,7 +131,7 @@ class Course:
         self.last_mark_end = max(self.sweeps, default=0)
         self.found, self.found_kinds = [], bytes(top_page(report.journal))
         self.lives, self.open = [], {}
-        self.pages, self.cycle = Pages(top_page(report.journal)), 0
+        self.pages, self.cycle = Pages(top_page(report.journal), version_of(report.journal, trace)), 0
         self.follow(report.journal, columns, rows)
         for cycle in sorted(self.sweeps):
             self.begin(cycle)
@@ -176,9 +142,9 @@ class Course:
         self.cycle = max(self.cycle, cycle)
         sweeps = self.sweeps.pop(cycle, ())
         for sweep in sweeps:
-            self.kept_bytes[cycle] += sweep.kept * self.pages.slot(sweep.page)
+            self.kept_bytes[cycle] += sweep.kept * slot_at(self.pages, sweep.page)
         if cycle == self.last_mark_end:
-            self.found = [Found(sweep.page, *self.pages.spans[sweep.page], sweep.kept, sweep.freed) for sweep in sweeps if sweep.page in self.pages.spans]
+            self.found = [Found(sweep.page, *self.pages.spans[sweep.page][:2], sweep.kept, sweep.freed) for sweep in sweeps if sweep.page in self.pages.spans]
             self.found_kinds = bytes(self.pages.kinds)
 
     def live(self, line, column):
@@ -221,7 +187,7 @@ class Course:
         for number in range(columns):
             begin, end = number * count // columns, (number + 1) * count // columns
             part = self.found_kinds[begin:end]
-            in_spans = len(part) - sum(part.count(kind) for kind in (*NOBODYS, CACHED))
+            in_spans = sum(part.count(kind) for kind in SPAN_KINDS)
             yield in_spans / len(part), part.count(FREE) / len(part), sum(kept[begin:end]) / len(part)
 
 
@@ -233,13 +199,12 @@ class Holders:
         self.spans = sorted(span.page for span in course.found)
         self.pages = {span.page: span.pages for span in course.found}
         self.counts = defaultdict(Counter)
-        if trace and course.last_mark_end and course.last_mark_end <= len(trace.marks):
-            for low, high in trace.marks[course.last_mark_end - 1]:
-                for one in range(low, min(high + 1, len(report.addresses))):
-                    self.add(report.addresses[one], trace.events[one].stack)
+        if trace and course.last_mark_end and course.last_mark_end <= trace.mark_ends:
+            for one in trace.marked(course.last_mark_end):
+                self.add(report.addresses[one], trace.stacks[one])
 
     def add(self, address, stack):
-        if address:
+        if address >= BASE:
             page = (address - BASE) // PAGE
             at = bisect_right(self.spans, page) - 1
             if at >= 0 and page < self.spans[at] + self.pages[self.spans[at]]:

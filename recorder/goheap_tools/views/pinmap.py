@@ -3,8 +3,8 @@
 from collections import Counter
 from xml.sax.saxutils import escape
 
-from goheap_tools.heap.classes import PAGE, SLOTS
-from goheap_tools.heap.pinning import BASE, FREE, STEPS
+from goheap_tools.heap.classes import BASE, PAGE, SLOTS
+from goheap_tools.heap.pinning import FREE, STEPS
 
 # The shades of the steps, from the emptiest to the fullest.
 SHADES = ("#b2182b", "#d6604d", "#f4a582", "#fddbc7", "#d1e5f0", "#92c5de", "#4393c3", "#2166ac")
