@@ -8,33 +8,18 @@ report whose text is none is told by its first line that is malformed.
 """
 
 import argparse
-import re
 import sys
 
 from goheap_tools import tool
 from goheap_tools.formats import companions
 from goheap_tools.formats.frames import shown_frames
 from goheap_tools.formats.report import read_report
+from goheap_tools.formats.report_text import text_fault
 from goheap_tools.formats.stacks import Stacks, stack_file
-from goheap_tools.formats.traces import Trace, trace_in
+from goheap_tools.formats.traces import REAL, Trace, trace_in
 from goheap_tools.heap import tiny
 from goheap_tools.heap.rules import NAMES, first_fault
 
-KINDS = ("o", "j", "s", "t", "p", "end")
-NUMBER = "(?:0|[1-9][0-9]{0,19})"
-FORMS = {
-    "o": rf"o {NUMBER} (?:zero|miss {NUMBER}|0x(?:0|[1-9a-f][0-9a-f]{{0,15}}))",
-    "j": rf"j {NUMBER} {NUMBER} (?:take {NUMBER} {NUMBER} {NUMBER}|(?:miss|give|scav|hold|free|lend) {NUMBER} {NUMBER}"
-    rf"|(?:pull|drop|keep) {NUMBER} {NUMBER} {NUMBER}|cut {NUMBER} {NUMBER} {NUMBER} {NUMBER})",
-    "s": rf"s {NUMBER} {NUMBER} {NUMBER} {NUMBER}",
-    "t": rf"t {NUMBER} {NUMBER} {NUMBER}",
-    "p": rf"p {NUMBER} {NUMBER} {NUMBER} {NUMBER} {NUMBER}",
-    "end": "end",
-}
-FORMS = {kind: re.compile(form) for kind, form in FORMS.items()}
-# How many of a line's numbers are its place in the order of its kind.
-PLACES = {"s": 2, "t": 1, "p": 3}
-WHAT = {"o": "objects", "j": "the journal", "s": "sweeps", "t": "totals", "p": "the profile", "end": "the end"}
 ASKS = {
     1: "There is one answer for each object, `zero` exactly for size 0.",
     2: "The journal is one that the pages and page caches can have: first fit, spans of their class's size, whole spans given back, scavenging by its steps, blocks that are dropped, no later cycle than the last.",
@@ -47,39 +32,17 @@ ASKS = {
     9: "A profile line tells how many objects of a stack and a slot size were sampled before a mark end, and how many of them it does not mark; none is left out.",
     10: "A tiny object that rides in the block of another stands there, at its offset behind that one's address.",
 }
+# Those of a real run that differ.
+REAL_ASKS = {
+    2: "The journal is one that the pages and page caches can have: first fit over what is free to all, spans of their class's size, whole spans and whole runs given back, lent runs that are backed,"
+       " blocks that go back as they are left, no later cycle than the last.",
+    6: "In a cycle a small span has one processor up to the flush of that one, is filled from its lowest free slot, and is full before its processor goes on to another span of the class, if it is not flushed before.",
+}  # fmt: skip
 
 
-def line_fault(line, before, count):
-    """Why the line may not stand behind the one before, or nothing. `count` is how many lines of its kind came."""
-    words = line.split(" ")
-    kind = words[0]
-    if kind not in FORMS:
-        return "it is no line of a report"
-    if not FORMS[kind].fullmatch(line):
-        return f"it is not the form of a line of {WHAT[kind]}"
-    if before and KINDS.index(kind) < KINDS.index(before[0]):
-        return f"a line of {WHAT[kind]} may not stand behind one of {WHAT[before[0]]}"
-    if kind in "oj" and int(words[1]) != count:
-        return f"the lines of {WHAT[kind]} are numbered from 0, so its number should be {count}"
-    places = PLACES.get(kind)
-    if places and before and before[0] == kind and list(map(int, words[1 : places + 1])) <= list(map(int, before[1 : places + 1])):
-        return f"the lines of {WHAT[kind]} rise in their order, and the line before is `{' '.join(before)}`"
-    return None
-
-
-def text_fault(lines):
-    """The first line that is malformed, with why, or nothing."""
-    before, counts = None, dict.fromkeys(KINDS, 0)
-    for number, line in enumerate(lines, 1):
-        if before == ["end"]:
-            return number, "nothing may stand behind `end`"
-        line, is_whole = line.rstrip("\n"), line.endswith("\n")
-        why = line_fault(line, before, counts.get(line.split(" ")[0], 0)) if is_whole else "the report ends within it"
-        if why:
-            return number, f"{why}: `{line[:120]}`"
-        before = line.split(" ")
-        counts[before[0]] += 1
-    return None if before == ["end"] else (len(lines) + 1, "the report ends without the line `end`")
+def asked(trace: Trace, rule: int) -> str:
+    """What a rule asks."""
+    return REAL_ASKS.get(rule, ASKS[rule]) if trace.version >= REAL else ASKS[rule]
 
 
 def sound(trace: Trace) -> str:
@@ -97,7 +60,7 @@ def explanation(trace, lines, frames, name):
         yield sound(trace)
         return
     yield f"report line {fault.line} breaks rule {fault.rule}, {NAMES[fault.rule]}: `{lines[fault.line - 1].rstrip()}`"
-    yield ASKS[fault.rule]
+    yield asked(trace, fault.rule)
     yield from fault.sentences
 
 

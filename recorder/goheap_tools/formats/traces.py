@@ -11,7 +11,7 @@ from goheap_tools import tool
 from goheap_tools.formats.lines import is_kind, joined, opened, runs
 from goheap_tools.tool import Unusable
 
-# The first version with flushes, and with mark ends that name the dead.
+# The first version of real runs: with flushes, mark ends that name the dead, and journals in which others than objects have pages.
 REAL = 4
 
 HEADER = re.compile(rb"heap ([0-9]{1,4}) procs ([0-9]{1,2}) rate ([0-9]{1,20}) seed ([0-9]{1,20}) goal ([0-9]{1,20})\n")

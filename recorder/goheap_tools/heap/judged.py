@@ -15,7 +15,7 @@ class Need(NamedTuple):
     span_class: int
     pages: int
     slot: int
-    count: int
+    slots: int
 
 
 class Life(NamedTuple):

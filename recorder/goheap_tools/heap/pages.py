@@ -3,13 +3,12 @@
 from typing import Any, Callable, Dict, NamedTuple, Optional, Tuple, Type
 
 from goheap_tools.formats.journal import BLOCK, BLOCK_LINES, MAKING_LINES, Cut, Drop, Free, Give, Hold, Keep, Lend, Line, Miss, Pull, Scav, end_of
+from goheap_tools.formats.traces import REAL
 from goheap_tools.heap.classes import SLOTS
 
 CHUNK = 512  # pages
 MOST_PAGES = 2097152  # of the largest region
 MOST_SCAVENGED = 64  # pages that one step of the run's own scavenger releases at most
-# The first version in which a drop gives back which pages were scavenged when they were pulled.
-REAL = 4
 
 # What a page can be: free, where it was never used, has memory, or was scavenged; in a span, by what the span is for; in a page cache; a stack's or
 # another use's; out to the scavenger.

@@ -12,7 +12,7 @@ from goheap_tools import tool
 from goheap_tools.formats import companions
 from goheap_tools.formats.frames import name_of, shown_frames
 from goheap_tools.formats.report import MISSED, report_in
-from goheap_tools.formats.traces import trace_in
+from goheap_tools.formats.traces import REAL, trace_in
 from goheap_tools.heap import pages, tiny
 from goheap_tools.heap.classes import BASE, PAGE, SLOTS, slot_of
 from goheap_tools.tool import Unusable
@@ -43,7 +43,7 @@ class Replay:
             if why := now.misfit(line):
                 self.refuse(why)
             now.go_on(line)
-        if now.blocks and self.version < pages.REAL:
+        if now.blocks and self.version < REAL:
             self.refuse("a block of a page cache is out as a cycle ends")
 
     def refuse(self, why):

@@ -13,10 +13,10 @@ from typing import Dict, List, NamedTuple, Optional
 
 from goheap_tools.formats.journal import MAKING_LINES, Give, Miss, journal_text, line_text
 from goheap_tools.formats.report import MISSED, ZERO, Report
-from goheap_tools.formats.traces import Trace
+from goheap_tools.formats.traces import REAL, Trace
 from goheap_tools.heap.classes import BASE, PAGE, SLOTS
 from goheap_tools.heap.judged import Judged, Life, class_name
-from goheap_tools.heap.pages import CHUNK, REAL
+from goheap_tools.heap.pages import CHUNK
 from goheap_tools.heap.region import Region
 from goheap_tools.heap.tiny import BLOCK
 
@@ -125,8 +125,8 @@ def why_no_seat(judged, one, life):
     index, rest = divmod(address - BASE - life.page * PAGE, need.slot)
     if rest:
         return [here, f"That is {rest} bytes behind the beginning of slot {index}: {judged.seat_address(life, index):#x} should stand there, or another slot's beginning."]
-    if index >= need.count:
-        return [here, f"The span has {need.count} slots, 0 to {need.count - 1}, and this would be slot {index}."]
+    if index >= need.slots:
+        return [here, f"The span has {need.slots} slots, 0 to {need.slots - 1}, and this would be slot {index}."]
     return [here, f"The object {judged.lifetime(one)}, and its span is given back in cycle {life.end}."]
 
 
@@ -166,7 +166,7 @@ def seat(judged, one, owners):
     if life is None or (life.span_class, life.pages) != (need.span_class, need.pages):
         return life, None
     index, rest = divmod(address - BASE - life.page * PAGE, need.slot)
-    return life, index if not rest and index < need.count and life.end > judged.lasts[one] else None
+    return life, index if not rest and index < need.slots and life.end > judged.lasts[one] else None
 
 
 def places(judged):
@@ -288,7 +288,7 @@ def filling(judged):
         if sentences is None and (gap := state.free(index)) is not None:
             sentences = gap_fault(judged, one, life, gap)
         left = caches.current[proc].get(life.span_class)
-        if sentences is None and left is not None and left.number != life.number and (gap := lives[left.number].free(judged.need(one).count)) is not None:
+        if sentences is None and left is not None and left.number != life.number and (gap := lives[left.number].free(judged.need(one).slots)) is not None:
             sentences = left_fault(judged, one, left, gap)
         if sentences:
             return Fault(6, one + 1, [f"{judged.object_text(one)}, at {judged.address_text(one)}: slot {index} of {judged.life_text(life)}.", *sentences])

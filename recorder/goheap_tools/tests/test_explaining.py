@@ -7,6 +7,7 @@ import subprocess
 import unittest
 
 from goheap_tools.formats import report, traces
+from goheap_tools.formats.report_text import text_fault
 from goheap_tools.heap import rules
 from goheap_tools.tests.testing import HERE, Folder, data, module, run
 
@@ -25,7 +26,7 @@ def table():
 
 class Rules(unittest.TestCase):
     def found(self, trace, lines):
-        fault = module("explain").text_fault(lines)
+        fault = text_fault(lines)
         if fault:
             return "order", fault[0]
         fault = rules.first_fault(traces.read_trace(trace.splitlines(True)), report.read_report(lines))

@@ -8,9 +8,10 @@ from typing import NamedTuple
 from goheap_tools.formats.frames import shown_frames
 from goheap_tools.formats.journal import MAKING_LINES, REAL_LINES, Give, Miss, end_of
 from goheap_tools.formats.report import Sweep
+from goheap_tools.formats.traces import REAL
 from goheap_tools.heap.classes import BASE, PAGE, PAGES, SLOTS
 from goheap_tools.heap.pages import (
-    CACHED, FREE, HELD, LARGE, LARGE_PLAIN, LENT, MOST_PAGES, REAL, RELEASED, SMALL, SMALL_PLAIN, SPAN_KINDS, UNTOUCHED, Pages,
+    CACHED, FREE, HELD, LARGE, LARGE_PLAIN, LENT, MOST_PAGES, RELEASED, SMALL, SMALL_PLAIN, SPAN_KINDS, UNTOUCHED, Pages,
 )  # fmt: skip
 from goheap_tools.tool import Unusable
 
