@@ -4,16 +4,17 @@ import random
 import subprocess
 import sys
 import tempfile
+from typing import NamedTuple
 
 HERE = os.path.dirname(os.path.abspath(__file__))
 sys.path.insert(0, os.path.join(HERE, "..", "model"))
 
-from run import CLASSES, TINY, Sampler, Tiny, profile_at  # noqa: E402
+from run import CLASSES, TINY, Living, Sampler, Tiny, profiles_of  # noqa: E402
 from traces import made_trace  # noqa: E402
 
 PROGRAM = os.path.join(HERE, "..", "crates", "goheap", "out", "goheap")
 PROCS = (2, 3, 4, 8, 16, 64)
-VERSIONS = (1, 2, 3)
+VERSIONS = (1, 2, 3, 4)
 SHARING = 3  # the first version in which tiny objects share blocks
 SECONDS = 60
 
@@ -52,9 +53,15 @@ def slot_of(size):
     return next((slot for slot, _ in CLASSES[1:] if size <= slot), -(-size // 8192) * 8192)
 
 
+class Seat(NamedTuple):
+    """Where an object stands: here each in a place of its own."""
+
+    page: int
+
+
 class Run:
-    """What a trace and the printed answers tell: the objects that are sampled, the cycle of each object, and whom each mark end marks. In
-    version 3 a tiny object that rides in the block of another counts as that one."""
+    """What a trace and the printed answers tell: the objects that are sampled, the cycle of each object, and the last in which it lives. From
+    version 3 on a tiny object that rides in the block of another counts as that one."""
 
     def __init__(self, trace, answers):
         lines = trace.decode().split("\n")
@@ -62,25 +69,35 @@ class Run:
         self.is_sharing = int(lines[0].split()[1]) >= SHARING
         self.samplers = [Sampler(int(head[5]), int(head[7]), proc) for proc in range(int(head[3]))]
         self.tiny = [Tiny() for _ in self.samplers]
-        self.leads, self.sampled, self.cycles, self.marked = [], {}, [], [set()]
+        self.leads, self.sampled, self.cycles, self.seats, self.mark_ends = [], {}, [], {}, 0
+        living, is_of_dead, named = Living(self.seats, self.cycles), False, None
         for line in lines[2:]:
             words = line.split()
+            if named is not None and words[:1] not in (["m"], ["d"]):
+                living.mark_end(self.mark_ends, is_of_dead, named)
+                named = None
             if words[:1] == ["a"]:
                 self.take(int(words[1]), int(words[2]), words[3] == "s", int(words[4]), answers[len(self.leads)])
+            elif words[:1] == ["f"]:
+                self.tiny[int(words[1])] = Tiny()
             elif words[:1] == ["gc"]:
-                self.marked.append(set())
+                self.mark_ends, is_of_dead, named = self.mark_ends + 1, words[2:] == ["all"], []
                 self.tiny = [Tiny() for _ in self.samplers]
-            elif words[:1] == ["m"]:
-                self.marked[-1].update(self.leads[one] for one in range(int(words[1]), int(words[2]) + 1))
+            elif words[:1] in (["m"], ["d"]):
+                named += range(int(words[1]), int(words[2]) + 1)
+        living.end(self.mark_ends)
+        self.lasts = living.lasts
 
     def take(self, proc, size, has_pointers, stack, answer):
         one, tiny = len(self.leads), self.tiny[proc]
         is_tiny = self.is_sharing and 0 < size < TINY and not has_pointers
         is_rider = is_tiny and tiny.ride(size) is not None
         self.leads.append(tiny.lead if is_rider else one)
-        self.cycles.append(len(self.marked) - 1)
+        self.cycles.append(self.mark_ends)
         if is_rider or not answer.startswith(b"0x"):
+            self.seats[one] = ("rides", tiny.lead) if is_rider else ("none", None)
             return
+        self.seats[one] = "at", Seat(one), 0
         if is_tiny:
             tiny.led(one, int(answer, 16), size)
         slot = slot_of(TINY if is_tiny else size)
@@ -89,8 +106,8 @@ class Run:
 
     def sums(self):
         """The allocations and the frees of all buckets as of each mark end, from number 0 on, where nothing is published yet."""
-        profiles = [profile_at(m, self.sampled, self.cycles, ids).values() for m, ids in enumerate(self.marked)]
-        return [(sum(a for a, _ in profile), sum(f for _, f in profile)) for profile in profiles]
+        profiles = profiles_of(self.sampled, self.cycles, self.lasts, self.mark_ends)
+        return [(0, 0), *((sum(a for a, _ in profile.values()), sum(f for _, f in profile.values())) for profile in profiles)]
 
     def riders(self):
         return sum(one != lead for one, lead in enumerate(self.leads))

@@ -2,14 +2,16 @@
 """A plain model of `goheap run`, with its workers one after another: the processors, the background sweepers, the scavenger, the driver.
 Its options are those of `goheap run` that are one word: `--each` and `--background=N` (1 if it is not said).
 
-It runs traces of the versions 1, 2 (with page caches) and 3 (with tiny objects too). It follows the rules that docs/addresses.md,
-docs/run.md, docs/central-lists.md, docs/sweeping.md, docs/pages.md, docs/tiny-objects.md and docs/profile.md state, and shares no code
-with the program. It reads a trace from standard input and writes its report. It checks nothing of the trace,
-searches pages one by one, and is meant to be read beside the rules and to be compared with the program (`model/test`), not to be used.
+It runs traces of the versions 1, 2 (with page caches), 3 (with tiny objects too) and 4 (with flushes and the dead too). It follows the rules
+that docs/addresses.md, docs/run.md, docs/central-lists.md, docs/sweeping.md, docs/pages.md, docs/tiny-objects.md and docs/profile.md state, and
+shares no code with the program, nor with the readers and the judge under `recorder/`: so each of the three can be held against the others. It
+reads a trace from standard input and writes its report. It checks nothing of the trace, searches pages one by one, and is meant to be read
+beside the rules and to be compared with the program (`model/test`), not to be used.
 
 The lines of the profile are those of a ring, as the program has one; that they are also what the trace and the sampled objects say as of
 each mark end is asserted.
 """
+import itertools
 import sys
 from collections import Counter, deque
 
@@ -18,6 +20,8 @@ BASE, PAGE, CHUNK = 0xC000000000, 8192, 512
 BLOCK, UNCUT = 64, 16
 # The bytes that tiny objects share.
 TINY = 16
+# The first version in which a page that goes into a page cache without memory comes back without.
+REAL = 4
 
 
 def load_classes():
@@ -139,7 +143,7 @@ class Span:
 
 class Heap:
     def __init__(self, version, chunks, goal, procs, rate, seed):
-        self.has_page_caches = version > 1
+        self.has_page_caches, self.is_real = version > 1, version >= REAL
         # the block that is out: the processors work one after another, so there is one at most
         self.block = None
         self.tiny = [Tiny() for _ in range(procs)] if version > 2 else None
@@ -233,7 +237,11 @@ class Heap:
         first = at // BLOCK * BLOCK
         left = [p for p in range(first, first + BLOCK) if self.owner[p] is None]
         self.block = Block(first, left)
-        self.own(left, self.block)
+        if self.is_real:
+            for p in left:
+                self.owner[p] = self.block
+        else:
+            self.own(left, self.block)
         self.lines.append((self.cycle, f"pull {proc} {first} {len(left)}"))
 
     def cut(self, proc, n, cls):
@@ -341,6 +349,11 @@ class Heap:
         for cls in sorted(self.cache[p]):
             s = self.cache[p].pop(cls)
             self.settle(s)
+
+    def forget(self, p):
+        """The processor is flushed: its tiny block is no more the current one. It keeps the spans that it has."""
+        if self.tiny:
+            self.tiny[p] = Tiny()
 
     def cache_span(self, cls):
         q = self.swept.get((cls, False))
@@ -472,14 +485,75 @@ def profile_lines(profiles, each):
     return [f"p {m} {stack} {slot} {a} {f}\n" for m in sorted(shown) for (stack, slot), (a, f) in sorted(shown[m].items())]
 
 
-def profile_at(m, sampled, cycles, marked):
-    """The profile as of mark end m by the trace: the samples of the cycles before it, and those of them that it does not mark."""
-    allocs, frees = Counter(), Counter()
+def profiles_of(sampled, cycles, lasts, mark_ends):
+    """The profile as of each mark end by the trace: the samples of the cycles before it, and those of them that it does not mark any more.
+    `lasts` has the last cycle in which each object lives."""
+    new, gone = {}, {}
     for i, bucket in sampled.items():
-        if cycles[i] < m:
-            allocs[bucket] += 1
-            frees[bucket] += i not in marked
-    return {b: (n, frees[b]) for b, n in allocs.items()}
+        new.setdefault(cycles[i] + 1, []).append(bucket)
+        gone.setdefault(lasts[i] + 1, []).append(bucket)
+    allocs, frees = Counter(), Counter()
+    for m in range(1, mark_ends + 1):
+        allocs.update(new.get(m, ()))
+        frees.update(gone.get(m, ()))
+        yield {b: (n, frees[b]) for b, n in allocs.items()}
+
+
+class Living:
+    """Who lives, of the objects that have a slot: how many of its block do, and by pages the slots that are held. A mark end costs what its lines
+    name and what was allocated since the one before."""
+
+    def __init__(self, answers, cycles):
+        # what became of each object, and the cycle in which it was allocated
+        self.answers, self.cycles = answers, cycles
+        self.holders, self.marks, self.lasts = {}, {}, {}
+        self.at = 0
+
+    def root(self, i):
+        """The object whose slot this one is in, if it is in one."""
+        what, *rest = self.answers[i]
+        return i if what == "at" else rest[0] if what == "rides" else None
+
+    def hold(self, i):
+        """The object lives."""
+        root = self.root(i)
+        if root is not None:
+            self.holders[root] = self.holders.get(root, 0) + 1
+            self.marks.setdefault(self.answers[root][1].page, set()).add(self.answers[root][2])
+
+    def drop(self, i, m):
+        """The object is found dead by this mark end."""
+        root = self.root(i)
+        if root is None:
+            return
+        self.holders[root] -= 1
+        if not self.holders[root]:
+            del self.holders[root]
+            self.lasts[root] = m - 1
+            page = self.answers[root][1].page
+            self.marks[page].discard(self.answers[root][2])
+            if not self.marks[page]:
+                del self.marks[page]
+
+    def mark_end(self, m, is_of_dead, named):
+        """A mark end names the dead, or the marked."""
+        for i in range(self.at, len(self.cycles)):
+            self.hold(i)
+        self.at = len(self.cycles)
+        if is_of_dead:
+            for i in named:
+                self.drop(i, m)
+            return
+        before = self.holders
+        self.holders, self.marks = {}, {}
+        for i in named:
+            self.hold(i)
+        self.lasts.update((root, m - 1) for root in before if root not in self.holders)
+
+    def end(self, m):
+        """The trace ends with this mark end the last. What lives, and what came behind it, lives on."""
+        self.lasts.update(dict.fromkeys(self.holders, m))
+        self.lasts.update((i, m) for i in range(self.at, len(self.cycles)))
 
 
 def main():
@@ -489,18 +563,22 @@ def main():
     head = lines[1].split()
     chunks, procs, rate, seed, goal = (int(head[i]) for i in (1, 3, 5, 7, 9))
     heap = Heap(int(lines[0].split()[1]), chunks, goal, procs, rate, seed)
-    live = set()
-    # the bucket of each sampled object, the objects that each mark end marks, and the profile as of each
-    sampled, marked_by, profiles = {}, [], []
+    # the bucket of each sampled object, and the profile as of each mark end
+    sampled, profiles = {}, []
     queues = [[] for _ in range(procs)]
     at = 2
     ids = 0
     cyc = []
     out = {}
+    living = Living(out, cyc)
 
     def run_cycle():
         for p in range(procs):
-            for (i, size, scan, stack) in queues[p]:
+            for event in queues[p]:
+                if event is None:
+                    heap.forget(p)
+                    continue
+                i, size, scan, stack = event
                 out[i] = heap.answer(i, p, size, scan)
                 if out[i][0] == "at" and heap.sample(p, stack, out[i]):
                     sampled[i] = (stack, out[i][1].slot)
@@ -515,27 +593,26 @@ def main():
             queues[int(f[1])].append((ids, int(f[2]), f[3] == "s", int(f[4])))
             cyc.append(heap.cycle)
             ids += 1
+        elif f[0] == "f":
+            queues[int(f[1])].append(None)
         elif f[0] in ("gc", "end"):
             run_cycle()
             if f[0] == "end":
                 if heap.cycle:
                     profiles.append(heap.ring.profile())
                 break
-            marked, marks = set(), {}
-            while lines[at].startswith("m "):
+            named = []
+            while lines[at][:2] in ("m ", "d "):
                 _, lo, hi = lines[at].split()
-                # what rides keeps its lead
-                marked.update(out[i][1] if out[i][0] == "rides" else i for i in range(int(lo), int(hi) + 1))
+                named.append(range(int(lo), int(hi) + 1))
                 at += 1
-            live = {i for i in marked if out[i][0] == "at"}
-            for i in live:
-                marks.setdefault(out[i][1].page, set()).add(out[i][2])
-            marked_by.append(marked)
-            heap.mark_end(int(f[1]), marks)
+            living.mark_end(heap.cycle + 1, f[2:] == ["all"], itertools.chain.from_iterable(named))
+            heap.mark_end(int(f[1]), living.marks)
             if heap.cycle > 1:
                 profiles.append(heap.ring.profile())
-    for m, profile in enumerate(profiles, 1):
-        assert profile == profile_at(m, sampled, cyc, marked_by[m - 1]), f"the ring is wrong as of mark end {m}"
+    living.end(heap.cycle)
+    for m, (profile, told) in enumerate(zip(profiles, profiles_of(sampled, cyc, living.lasts, heap.cycle)), 1):
+        assert profile == told, f"the ring is wrong as of mark end {m}"
     w = sys.stdout.write
     totals = {}
     for i in range(ids):
@@ -550,8 +627,7 @@ def main():
                 continue
             t = totals.setdefault(a[1].cls // 2, [0, 0])
             t[0] += 1
-            if cyc[i] != heap.cycle and i not in live:
-                t[1] += 1
+            t[1] += living.lasts[i] < heap.cycle
     for n, (c, text) in enumerate(heap.lines):
         w(f"j {n} {c} {text}\n")
     for c, p, k, fr in sorted(heap.notes):

@@ -9,6 +9,8 @@ SHARES = [0.0, 0.3, 0.9]
 TINY = 16
 # How many tiny objects come where a page is left for them.
 TIGHT = 700
+# The first version with flushes and the dead.
+REAL = 4
 
 
 def object_of(rng, common, tiny):
@@ -27,21 +29,32 @@ def size_of(rng, common):
     return rng.choice(common) if kind < 0.85 else rng.randrange(1, 32769)
 
 
-def mark_lines(marked):
-    """The `m` lines of these ids, a line for each run of neighbours."""
-    lines, ids = [], sorted(marked)
+def range_lines(kind, named):
+    """The lines of this kind of these ids, a line for each run of neighbours."""
+    lines, ids = [], sorted(named)
     for at, one in enumerate(ids):
         if at and ids[at - 1] == one - 1:
             lines[-1][1] = one
         else:
             lines.append([one, one])
-    return [f"m {low} {high}" for low, high in lines]
+    return [f"{kind} {low} {high}" for low, high in lines]
+
+
+def flushed(rng, procs, lines):
+    """The lines of a cycle with flushes of any processors between them, few or many."""
+    share = rng.choice([0.0, 0.02, 0.3])
+    found = []
+    for line in lines:
+        if rng.random() < share:
+            found.append(f"f {rng.randrange(procs)}")
+        found.append(line)
+    return found
 
 
 def made_trace(rng, chunk_counts=(1, 1, 1, 2, 3), proc_counts=(1, 1, 2, 3, 4, 64), alone=False, ends=None, version=1):
     """A trace with a number of chunks and of processors out of these, and with so many mark ends, or 1 to 7. Where each is to work
-    alone, the events of a cycle are of one processor, and the goal is the whole region. In version 2 processors have page caches, and in
-    version 3 tiny objects share blocks too."""
+    alone, the events of a cycle are of one processor, and the goal is the whole region. In version 2 processors have page caches, in version 3
+    tiny objects share blocks too, and in version 4 processors are flushed and mark ends name the dead as well."""
     chunks = rng.choice(chunk_counts)
     procs = rng.choice(proc_counts)
     goal = rng.choice([512 * chunks, 512 * chunks, 0, rng.randrange(512 * chunks + 1)])
@@ -58,12 +71,14 @@ def made_trace(rng, chunk_counts=(1, 1, 1, 2, 3), proc_counts=(1, 1, 2, 3, 4, 64
         if at == 0 and rng.random() < 0.1:
             # one page is left, and no room on it for so many tiny objects
             fresh, fresh_lines = TIGHT, tight(rng, procs, 512 * chunks - 1, alone)
-        lines += fresh_lines
+        lines += flushed(rng, procs, fresh_lines) if version >= REAL else fresh_lines
         share = rng.choice([0.0, 0.2, 0.5, 0.9, 1.0])
-        alive = {one for one in alive | set(range(count, count + fresh)) if rng.random() < share}
+        before = alive | set(range(count, count + fresh))
+        alive = {one for one in before if rng.random() < share}
         count += fresh
-        lines.append(f"gc {rng.choice(DISTANCES)}")
-        lines += mark_lines(alive)
+        names_dead = version >= REAL and rng.random() < 0.6
+        lines.append(f"gc {rng.choice(DISTANCES)}{' all' if names_dead else ''}")
+        lines += range_lines("d", before - alive) if names_dead else range_lines("m", alive)
     lines += events(rng, procs, common, tiny, rng.choice([0, 3, 100]), alone)
     return "\n".join(lines + ["end", ""])
 

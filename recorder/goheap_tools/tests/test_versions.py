@@ -92,8 +92,8 @@ class RulesOfVersions(Folder):
 
     def test_reports_of_the_plain_model_are_sound(self):
         rng, made = random.Random(7), model("traces").made_trace
-        for number in range(12):
-            trace = made(rng, (1, 1, 2), (1, 2, 4), ends=2, version=1 + number % 3)
+        for number in range(16):
+            trace = made(rng, (1, 1, 2), (1, 2, 4), ends=2, version=1 + number % 4)
             self.assertIsNone(rules.first_fault(*read(trace, report_of(trace))), trace)
 
     def said(self, events, text, head=HEAD):
