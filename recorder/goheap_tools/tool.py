@@ -7,6 +7,7 @@ import signal
 import stat
 import sys
 import tempfile
+from typing import Any, Callable, IO, List, NoReturn, Optional
 
 
 class Unusable(Exception):
@@ -16,19 +17,19 @@ class Unusable(Exception):
 class Stopped(BaseException):
     """A signal asks the tool to end."""
 
-    def __init__(self, number):
+    def __init__(self, number: int) -> None:
         super().__init__(number)
         self.number = number
 
 
-def whole(text):
+def whole(text: str) -> int:
     """The number that decimal digits spell; ValueError where they are none."""
     if not (text.isascii() and text.isdigit()):
         raise ValueError(text)
     return int(text)
 
 
-def number(least, most):
+def number(least: int, most: int) -> Callable[[str], int]:
     """An argument's type: a number in decimal digits, from `least` to `most`."""
 
     def read(text):
@@ -43,7 +44,7 @@ def number(least, most):
     return read
 
 
-def stream(standard, name, errors="surrogateescape"):
+def stream(standard: Any, name: str, errors: str = "surrogateescape") -> Any:
     """Standard input or output, as UTF-8. Other bytes pass through as they are."""
     if standard is None:
         raise Unusable(f"{name} is closed")
@@ -51,12 +52,12 @@ def stream(standard, name, errors="surrogateescape"):
     return standard
 
 
-def reading(path):
+def reading(path: str) -> Any:
     """The text in the file; - is standard input."""
     return stream(sys.stdin, "standard input") if path == "-" else open(path, encoding="utf-8", errors="surrogateescape")
 
 
-def named(path):
+def named(path: str) -> str:
     """A file's name, as it is told."""
     return "standard input" if path == "-" else path
 
@@ -65,7 +66,7 @@ def named(path):
 KINDS = (("goheap ", "a trace"), ("o 0 ", "a report"), ("# goheap stacks ", "a stacks file"), ("tracealloc(", "a log"), ("heap profile: ", "a heap profile"))
 
 
-def kind_of(line):
+def kind_of(line: str) -> Optional[str]:
     """What a text is that begins with this line, or nothing."""
     return next((kind for front, kind in KINDS if line.startswith(front)), None)
 
@@ -77,13 +78,13 @@ MAKING = {("a report", "a trace"): " (goheap run --each < trace > report)", ("a 
 FIRST_LINES = {"goheap 1": 1, "goheap 2": 2, "goheap 3": 3, "goheap 4": 4}
 
 
-def no_trace(name):
+def no_trace(name: str) -> Unusable:
     """Why a text is no trace whose first line is none of these."""
     *some, last = (f"`{line}`" for line in FIRST_LINES)
     return Unusable(f"{name}: no trace: its first line is none of {', '.join(some)} and {last}")
 
 
-def size_text(size):
+def size_text(size: float) -> str:
     """So many bytes, as `go tool pprof` writes them."""
     for unit, name in ((1 << 30, "GB"), (1 << 20, "MB"), (1 << 10, "kB")):
         if abs(size) >= unit:
@@ -96,13 +97,14 @@ class Output:
     the `with` where nothing was raised, and goes away else. `-` is standard output, and what is no regular file (a terminal, a pipe) is
     written at the end alone. A fault names the file."""
 
-    def __init__(self, path, binary=False, errors="surrogateescape"):
+    def __init__(self, path: str, binary: bool = False, errors: str = "surrogateescape") -> None:
         self.path, self.binary, self.errors = path, binary, errors
         self.name = "standard output" if path == "-" else path
-        self.temporary = self.file = None
+        self.temporary: Any = None
+        self.file: Any = None
         self.settled = False
 
-    def __enter__(self):
+    def __enter__(self) -> "Output":
         try:
             self.open()
         except BaseException:
@@ -110,8 +112,8 @@ class Output:
             raise
         return self
 
-    def open(self):
-        form = {} if self.binary else {"encoding": "utf-8", "errors": self.errors}
+    def open(self) -> None:
+        form: Any = {} if self.binary else {"encoding": "utf-8", "errors": self.errors}
         mode = "w+b" if self.binary else "w+"
         if self.path == "-" and sys.stdout is None:
             raise Unusable("standard output is closed")
@@ -126,7 +128,7 @@ class Output:
         else:
             self.file = tempfile.TemporaryFile(mode, **form)
 
-    def is_special(self):
+    def is_special(self) -> bool:
         """Whether the path is there, and no regular file. Refuses what could not be written over."""
         if not os.path.exists(self.path):
             return False
@@ -136,14 +138,14 @@ class Output:
             raise PermissionError(13, "Permission denied", self.path)
         return not os.path.isfile(self.path)
 
-    def faults(self):
+    def faults(self) -> "Named":
         return Named(self.name)
 
-    def write(self, text):
+    def write(self, text: Any) -> None:
         with self.faults():
             self.file.write(text)
 
-    def settle(self):
+    def settle(self) -> None:
         """All that was written is in the file, or in the temporary one beside it; a fault comes now."""
         if self.settled:
             return
@@ -155,9 +157,9 @@ class Output:
             else:
                 self.pour()
 
-    def pour(self):
+    def pour(self) -> None:
         """What was written goes to where it belongs."""
-        form = {} if self.binary else {"encoding": "utf-8", "errors": self.errors}
+        form: Any = {} if self.binary else {"encoding": "utf-8", "errors": self.errors}
         self.file.seek(0)
         if self.path != "-":
             with open(self.path, "wb" if self.binary else "w", **form) as out:
@@ -165,12 +167,12 @@ class Output:
         else:
             self.copy(sys.stdout.buffer if self.binary else stream(sys.stdout, "standard output", self.errors))
 
-    def copy(self, out):
+    def copy(self, out: IO) -> None:
         while piece := self.file.read(1 << 20):
             out.write(piece)
         out.flush()
 
-    def __exit__(self, kind, fault, _):
+    def __exit__(self, kind: Any, fault: Any, _: Any) -> None:
         try:
             if kind is None:
                 self.settle()
@@ -181,7 +183,7 @@ class Output:
         finally:
             self.drop()
 
-    def drop(self):
+    def drop(self) -> None:
         """Nothing of what was not put in its place is left."""
         with contextlib.suppress(OSError, AttributeError):
             self.file.close()
@@ -194,18 +196,18 @@ class Output:
 class Named:
     """Gives a fault of the system the name of the file that it is of."""
 
-    def __init__(self, name):
+    def __init__(self, name: str) -> None:
         self.name = name
 
-    def __enter__(self):
+    def __enter__(self) -> "Named":
         return self
 
-    def __exit__(self, kind, fault, _):
+    def __exit__(self, kind: Any, fault: Any, _: Any) -> None:
         if isinstance(fault, OSError) and fault.errno:
             raise OSError(fault.errno, os.strerror(fault.errno), self.name) from None
 
 
-def told(error):
+def told(error: BaseException) -> str:
     if isinstance(error, MemoryError):
         return "memory ran out"
     if isinstance(error, OSError) and error.strerror:
@@ -213,17 +215,17 @@ def told(error):
     return str(error)
 
 
-def drop_output():
+def drop_output() -> None:
     """Standard output goes nowhere from here on: what is still to be written would fail again."""
     if sys.stdout is not None and not sys.stdout.closed:
         os.dup2(os.open(os.devnull, os.O_WRONLY), sys.stdout.fileno())
 
 
-def stop(number, _):
+def stop(number: int, _: Any) -> NoReturn:
     raise Stopped(number)
 
 
-def end_by(number):
+def end_by(number: int) -> int:
     """Ends the process as the signal does."""
     drop_output()
     signal.signal(number, signal.SIG_DFL)
@@ -231,7 +233,7 @@ def end_by(number):
     return 2
 
 
-def end(name, main, words):
+def end(name: str, main: Callable[[List[str]], int], words: List[str]) -> NoReturn:
     """Ends the process with the status that `main` answers, or with 2 and a line that says why there is none. A reader that closes its
     pipe, as `head` does, ends the tool without a word; so does an interrupt or SIGTERM, behind which no temporary file is left."""
     signal.signal(signal.SIGPIPE, signal.SIG_IGN)

@@ -10,15 +10,18 @@ import argparse
 import itertools
 import sys
 from collections import Counter, defaultdict
+from typing import Dict, Iterable, Iterator, List, Optional, Tuple
 
 from goheap_tools import tool
 from goheap_tools.formats import companions, golog
-from goheap_tools.formats.report import MISSED, report_in
+from goheap_tools.formats.report import MISSED, Report, report_in
 from goheap_tools.formats.stacks import stack_file
-from goheap_tools.formats.traces import Event, trace_in
+from goheap_tools.formats.traces import Event, Trace, trace_in
 from goheap_tools.heap.classes import LARGEST, PAGE, PAGES, SLOTS
 from goheap_tools.heap.tiny import BLOCK, riders_of, slot_in
 
+# The slot size of an object, and the first page of its span.
+Seat = Tuple[int, int]
 # Objects that are compared with the log before the trace is read whole.
 TRIED = 1000
 
@@ -26,7 +29,7 @@ TRIED = 1000
 OWN_SIZE, SHARING = "tiny, a block of its own in the model", "tiny, in another's block in the model"
 
 
-def seat(address, slot):
+def seat(address: int, slot: int) -> Optional[Tuple[int, int]]:
     """The first page of the span and the index in it, or nothing where the address does not tell which of two spans it is."""
     if slot > LARGEST:
         return address // PAGE, 0
@@ -37,7 +40,7 @@ def seat(address, slot):
     return found[0] if len(found) == 1 else None
 
 
-def is_tiny(event, slot):
+def is_tiny(event: Event, slot: int) -> bool:
     """Whether the object began a block of tiny ones in the program, where the log has the block alone."""
     return not event.has_pointers and event.size < BLOCK and slot == BLOCK
 
@@ -45,11 +48,11 @@ def is_tiny(event, slot):
 class Agreement:
     """Counts objects by what they agree in."""
 
-    def __init__(self):
+    def __init__(self) -> None:
         self.counts = Counter()
         self.by_class = defaultdict(Counter)
 
-    def take(self, event, slots, real, model_address, rides):
+    def take(self, event: Event, slots: Tuple[int, int], real: Optional[Tuple[int, int]], model_address: int, rides: bool) -> None:
         """Takes an object in, with the bytes of its slots in the program and in the model, and whether it has none of its own there."""
         self.counts["objects"] += 1
         if not model_address:
@@ -72,7 +75,7 @@ class Agreement:
         else:
             row["other"] += 1
 
-    def lines(self):
+    def lines(self) -> Iterator[str]:
         count = self.counts["objects"] or 1
         for name in ("objects", "same slot size", OWN_SIZE, SHARING, "another slot size", "refused by the model"):
             if name == SHARING and not self.counts[name]:
@@ -91,17 +94,17 @@ class Agreement:
 class Alive:
     """The number of spans that hold an object which the mark end so far found alive, by slot size."""
 
-    def __init__(self):
+    def __init__(self) -> None:
         self.objects, self.spans = Counter(), Counter()
 
-    def add(self, seats):
+    def add(self, seats: Iterable[Seat]) -> None:
         """Objects of these spans are found alive from here on."""
         for seat in seats:
             self.objects[seat] += 1
             if self.objects[seat] == 1:
                 self.spans[seat[0]] += 1
 
-    def drop(self, seats):
+    def drop(self, seats: Iterable[Seat]) -> None:
         """Objects of these spans are not any more."""
         for seat in seats:
             self.objects[seat] -= 1
@@ -109,7 +112,7 @@ class Alive:
                 self.spans[seat[0]] -= 1
 
 
-def changes(trace, seats):
+def changes(trace: Trace, seats: List[Optional[Seat]]) -> Tuple[Dict[int, List[Seat]], Dict[int, List[Seat]]]:
     """For each mark end the spans of the objects that it is the first to mark, and of those that it is the first not to mark any more."""
     new, gone = defaultdict(list), defaultdict(list)
     for seat, cycle, last in zip(seats, trace.cycles(), trace.lasts()):
@@ -119,7 +122,7 @@ def changes(trace, seats):
     return new, gone
 
 
-def span_lines(trace, real, model):
+def span_lines(trace: Trace, real: List[Optional[Seat]], model: List[Optional[Seat]]) -> Iterator[str]:
     yield f"{'mark end':>8} {'spans alive':>12} {'model':>8} {'sizes with as many':>20} {'within a tenth':>15} {'of':>4}"
     sides = [(Alive(), *changes(trace, seats)) for seats in (real, model)]
     for number in range(1, trace.mark_ends + 1):
@@ -134,13 +137,13 @@ def span_lines(trace, real, model):
         yield f"{number:>8} {sum(theirs.values()):>12} {sum(ours.values()):>8} {equal:>20} {near:>15} {len(slots):>4}"
 
 
-def check(number, event, found):
+def check(number: int, event: Event, found: golog.Allocation) -> None:
     """Refuses an object that is not the log's allocation of this number."""
     if event.size not in (found.asked, found.slot):
         raise tool.Unusable(f"object {number} of the trace has {event.size} bytes, in the log {found.asked or found.slot}: it was recorded from another log")
 
 
-def first_allocations(allocations, path):
+def first_allocations(allocations: Iterator[golog.Allocation], path: str) -> List[golog.Allocation]:
     """The log's first allocations, which must be of the trace's first objects. So a wrong log is told before the trace is read whole."""
     with tool.reading(path) as file:
         events = itertools.islice((line.split() for line in file if line.startswith("a ")), TRIED)
@@ -152,7 +155,7 @@ def first_allocations(allocations, path):
     return firsts
 
 
-def compare(allocations, trace, report):
+def compare(allocations: Iterator[golog.Allocation], trace: Trace, report: Report) -> Iterator[str]:
     """The lines of both tables. A trace may end before its log."""
     if len(trace.sizes) != len(report.addresses):
         raise tool.Unusable(f"the trace has {len(trace.sizes)} objects and the report {len(report.addresses)}: it is no report of this trace")
@@ -176,7 +179,7 @@ def compare(allocations, trace, report):
     yield from span_lines(trace, real_seats, model_seats)
 
 
-def check_stacks(options):
+def check_stacks(options: argparse.Namespace) -> None:
     """Refuses a trace that is not the one of the stacks, or that begins behind its log."""
     stacks = stack_file(options.stacks)
     if companions.of_trace_file(stacks, options.trace) is False:
@@ -185,7 +188,7 @@ def check_stacks(options):
         raise tool.Unusable(f"{options.trace} begins at mark end {stacks.number('from mark end')} of its log, and cannot be compared with it")
 
 
-def main(words):
+def main(words: List[str]) -> int:
     parser = argparse.ArgumentParser(prog="compare", description=__doc__.split("\n\n")[0])
     parser.add_argument("log", help="the log that the trace was recorded from")
     parser.add_argument("trace")
@@ -204,5 +207,5 @@ def main(words):
     return 0
 
 
-def command():
+def command() -> None:
     tool.end("compare", main, sys.argv[1:])

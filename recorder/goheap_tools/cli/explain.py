@@ -9,6 +9,7 @@ report whose text is none is told by its first line that is malformed.
 
 import argparse
 import sys
+from typing import Dict, Iterator, List
 
 from goheap_tools import tool
 from goheap_tools.formats import companions
@@ -50,10 +51,10 @@ def sound(trace: Trace) -> str:
     return f"The report meets all {'ten' if trace.version >= tiny.FIRST_VERSION else 'nine'} rules: it is sound."
 
 
-def explanation(trace, lines, frames, name):
+def explanation(trace: Trace, lines: List[str], frames: Dict[int, List[str]], name: str) -> Iterator[str]:
     """The sentences on the report."""
-    if fault := text_fault(lines):
-        yield f"report line {fault[0]} is malformed: {fault[1]}."
+    if malformed := text_fault(lines):
+        yield f"report line {malformed[0]} is malformed: {malformed[1]}."
         return
     fault = first_fault(trace, read_report(lines, name), frames)
     if fault is None:
@@ -64,7 +65,7 @@ def explanation(trace, lines, frames, name):
     yield from fault.sentences
 
 
-def main(words):
+def main(words: List[str]) -> int:
     parser = argparse.ArgumentParser(prog="explain", description=__doc__.split("\n\n")[0])
     parser.add_argument("trace")
     parser.add_argument("report", help="a report of the trace, whoever wrote it; - is standard input")
@@ -86,5 +87,5 @@ def main(words):
     return int(told != [sound(trace)])
 
 
-def command():
+def command() -> None:
     tool.end("explain", main, sys.argv[1:])

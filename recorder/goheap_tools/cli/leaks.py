@@ -13,42 +13,45 @@ import argparse
 import itertools
 import sys
 from collections import Counter, defaultdict
+from typing import Any, Callable, Dict, Iterable, Iterator, List, Optional, Sequence, Tuple
 
 from goheap_tools import tool
 from goheap_tools.formats import companions
 from goheap_tools.formats.frames import name_of, shown_frames, type_of
 from goheap_tools.formats.journal import Miss
-from goheap_tools.formats.report import MISSED, Bucket, report_in
+from goheap_tools.formats.report import MISSED, Bucket, Report, report_in
 from goheap_tools.formats.stacks import Stacks, stack_file
-from goheap_tools.formats.traces import trace_in
+from goheap_tools.formats.traces import Trace, trace_in
 from goheap_tools.heap.classes import PAGE, SLOTS
 from goheap_tools.heap.estimate import factor
-from goheap_tools.heap.tiny import riders_of, slot_in
+from goheap_tools.heap.tiny import Rider, riders_of, slot_in
 from goheap_tools.tool import size_text
 
 # Of the objects behind the last mark end, of which nothing tells whether they stay alive, a word is said where they are this part.
 MANY_BEHIND = 0.05
+# A mark end, with its buckets.
+MarkEnd = Tuple[int, Iterable[Bucket]]
 NO_MARK_END = "run the program with GOGC=20, or call runtime.GC() in it, twice at the end, and record it again"
 
 
-def buckets_of_trace(trace, addresses=None):
+def buckets_of_trace(trace: Trace, addresses: Optional[Sequence[int]] = None) -> Iterator[MarkEnd]:
     """Each mark end with the buckets that changed since the one before, as a profile at rate 1 has them: of objects that share a block the
     first one counts, as long as one of them lives."""
     lasts, riders = slot_lasts(trace, addresses)
     new, gone = defaultdict(Counter), defaultdict(Counter)
     for one, (cycle, last, size, stack) in enumerate(zip(trace.cycles(), lasts, trace.sizes, trace.stacks)):
         if size and cycle < trace.mark_ends and one not in riders and (addresses is None or addresses[one] > MISSED):
-            bucket = stack, slot_in(trace, size, trace.pointers[one])
+            bucket = stack, slot_in(trace, size, bool(trace.pointers[one]))
             new[cycle + 1][bucket] += 1
             gone[last + 1][bucket] += 1
     allocs, frees = Counter(), Counter()
     for mark_end in range(1, trace.mark_ends + 1):
         allocs.update(new[mark_end])
         frees.update(gone[mark_end])
-        yield mark_end, [Bucket(mark_end, *bucket, allocs[bucket], frees[bucket]) for bucket in {**new[mark_end], **gone[mark_end]}]
+        yield mark_end, [Bucket(mark_end, stack, slot, allocs[stack, slot], frees[stack, slot]) for stack, slot in {**new[mark_end], **gone[mark_end]}]
 
 
-def slot_lasts(trace, addresses):
+def slot_lasts(trace: Trace, addresses: Optional[Sequence[int]]) -> Tuple[Sequence[int], Dict[int, Rider]]:
     """Of each object the last cycle in which something lives in the slot that it got; and the objects that got none, since they ride in the slot
     of another."""
     riders = riders_of(trace, addresses)
@@ -58,7 +61,7 @@ def slot_lasts(trace, addresses):
     return lasts, riders
 
 
-def buckets_of_report(report):
+def buckets_of_report(report: Report) -> Iterator[MarkEnd]:
     """Each mark end with its buckets in the report."""
     in_order = sorted(report.buckets, key=lambda bucket: bucket.mark_end)
     return itertools.groupby(in_order, key=lambda bucket: bucket.mark_end)
@@ -67,34 +70,35 @@ def buckets_of_report(report):
 class Row:
     """The objects of a line of the table as of the last mark end so far."""
 
-    def __init__(self):
-        self.allocs = self.frees = self.allocated = self.used = 0
-        self.first = self.before = self.grew = 0
+    def __init__(self) -> None:
+        self.allocs = self.frees = self.allocated = self.used = 0.0
+        self.first = self.before = 0.0
+        self.grew = 0
 
-    def add(self, slot, allocs, frees):
+    def add(self, slot: int, allocs: float, frees: float) -> None:
         self.allocs += allocs
         self.frees += frees
         self.allocated += allocs * slot
         self.used += (allocs - frees) * slot
 
-    def end_mark_end(self, is_first):
+    def end_mark_end(self, is_first: bool) -> None:
         if is_first:
             self.first = self.used
         elif self.used > self.before + 0.5:
             self.grew += 1
         self.before = self.used
 
-    def growth(self):
+    def growth(self) -> float:
         return self.used - self.first
 
 
 class Profile:
     """The rows of the table by their keys, over the mark ends."""
 
-    def __init__(self, mark_ends, key_of, rate):
+    def __init__(self, mark_ends: Iterable[MarkEnd], key_of: Callable[[Bucket], Any], rate: int) -> None:
         self.rows = defaultdict(Row)
         self.cum = defaultdict(int)  # bytes in use by stack
-        self.first = self.last = None
+        self.first = self.last = 0
         counts = {}
         for mark_end, buckets in mark_ends:
             self.first, self.last = self.first or mark_end, mark_end
@@ -112,15 +116,15 @@ class Profile:
             for key in touched:
                 self.rows[key].end_mark_end(mark_end == self.first)
 
-    def growth_titles(self):
+    def growth_titles(self) -> str:
         return f" {f'since {self.first}':>10} {'grew':>6}" if self.last > self.first else ""
 
-    def growth(self, row):
+    def growth(self, row: Row) -> str:
         """How a row grew, where the counts of several mark ends are known."""
         return f" {size_text(row.growth()):>10} {f'{row.grew}/{self.last - self.first}':>6}" if self.last > self.first else ""
 
 
-def percent(part, total):
+def percent(part: float, total: float) -> str:
     return f"{100 * part / total:.1f}%" if total else "0.0%"
 
 
@@ -130,20 +134,20 @@ class Table:
     what = "functions"
     has_cum = True
 
-    def __init__(self, profile, stacks, options):
+    def __init__(self, profile: Profile, stacks: Stacks, options: argparse.Namespace) -> None:
         self.profile, self.stacks, self.options = profile, stacks, options
         self.cum = self.cum_of_names()
 
     @staticmethod
-    def name(frame):
+    def name(frame: str) -> str:
         return name_of(frame)
 
     @classmethod
-    def key(cls, stacks):
+    def key(cls, stacks: Stacks) -> Callable[[Bucket], Any]:
         """What a bucket's row is called by."""
         return lambda bucket: cls.name(shown_frames(stacks.frames.get(bucket.stack, []))[0])
 
-    def cum_of_names(self):
+    def cum_of_names(self) -> Dict[Any, float]:
         """What each has in use together with those that it calls."""
         cum = defaultdict(int)
         for stack, used in self.profile.cum.items():
@@ -151,7 +155,7 @@ class Table:
                 cum[name] += used
         return cum
 
-    def names(self):
+    def names(self) -> List[Any]:
         """The rows with something in use, in their order."""
         rows, cum = self.profile.rows, self.cum
         firsts = {
@@ -163,13 +167,13 @@ class Table:
         first = firsts[self.options.sort]
         return sorted(self.all(), key=lambda name: (*first(name), name))
 
-    def all(self):
+    def all(self) -> List[Any]:
         """The rows with something in use; of what was allocated, where that is asked for."""
         if self.options.sort == "allocated":
             return [name for name, row in list(self.profile.rows.items()) if row.allocs]
         return [name for name in self.cum if self.cum[name] > 0.5]
 
-    def lines(self):
+    def lines(self) -> Iterator[str]:
         profile, names = self.profile, self.names()
         shown = names[: self.options.top]
         total, so_far = sum(row.used for row in profile.rows.values()), 0
@@ -181,20 +185,20 @@ class Table:
             yield f"{size_text(row.used):>10} {percent(row.used, total):>6} {percent(so_far, total):>6}{self.middle(name, row, total)}{profile.growth(row)}  {self.title(name)}"
             yield from self.below(name)
 
-    def middle_titles(self):
+    def middle_titles(self) -> str:
         return (f" {'cum':>10} {'cum%':>6}" if self.has_cum else "") + f" {'objects':>9} {'allocated':>10}"
 
-    def middle(self, name, row, total):
+    def middle(self, name: Any, row: Row, total: float) -> str:
         cum = f" {size_text(self.cum[name]):>10} {percent(self.cum[name], total):>6}" if self.has_cum else ""
         return f"{cum} {row.allocs - row.frees:>9.0f} {size_text(row.allocated):>10}"
 
-    def what_title(self):
+    def what_title(self) -> str:
         return self.what[:-1]
 
-    def title(self, name):
+    def title(self, name: Any) -> str:
         return name
 
-    def below(self, _):
+    def below(self, _: Any) -> Iterable[str]:
         return ()
 
 
@@ -204,7 +208,7 @@ class Lines(Table):
     what = "lines"
 
     @staticmethod
-    def name(frame):
+    def name(frame: str) -> str:
         return frame
 
 
@@ -215,10 +219,10 @@ class Types(Table):
     has_cum = False
 
     @classmethod
-    def key(cls, stacks):
+    def key(cls, stacks: Stacks) -> Callable[[Bucket], Any]:
         return lambda bucket: type_of(stacks.types.get(bucket.stack), stacks.frames.get(bucket.stack, []))
 
-    def cum_of_names(self):
+    def cum_of_names(self) -> Dict[Any, float]:
         return {name: row.used for name, row in self.profile.rows.items()}
 
 
@@ -229,34 +233,34 @@ class Buckets(Table):
     has_cum = False
 
     @classmethod
-    def key(cls, stacks):
+    def key(cls, stacks: Stacks) -> Callable[[Bucket], Any]:
         return lambda bucket: (bucket.stack, bucket.slot)
 
-    def cum_of_names(self):
+    def cum_of_names(self) -> Dict[Any, float]:
         return {name: row.used for name, row in self.profile.rows.items()}
 
-    def middle_titles(self):
+    def middle_titles(self) -> str:
         return f" {'objects':>9} {'allocs':>9} {'frees':>9} {'slot':>8}"
 
-    def middle(self, name, row, total):
+    def middle(self, name: Any, row: Row, total: float) -> str:
         return f" {row.allocs - row.frees:>9.0f} {row.allocs:>9.0f} {row.frees:>9.0f} {name[1]:>8}"
 
-    def what_title(self):
+    def what_title(self) -> str:
         return "stack"
 
-    def title(self, name):
+    def title(self, name: Any) -> str:
         return f"{name[0]} {self.frames(name)[0]}"
 
-    def frames(self, name):
+    def frames(self, name: Any) -> List[str]:
         return shown_frames(self.stacks.frames.get(name[0], []))
 
-    def below(self, name):
+    def below(self, name: Any) -> Iterable[str]:
         if self.options.frames:
             for frame in self.frames(name)[1:]:
                 yield " " * (66 + len(self.profile.growth_titles())) + "    " + frame
 
 
-def heading(profile, names, shown, total, what, options):
+def heading(profile: Profile, names: List[Any], shown: List[Any], total: float, what: str, options: argparse.Namespace) -> Iterator[str]:
     """The two lines above the table."""
     rows = profile.rows
     part = sum(rows[name].used for name in shown)
@@ -272,7 +276,7 @@ def heading(profile, names, shown, total, what, options):
     yield f"Showing {len(shown)} of {len(names)} {what} {'' if options.sort == 'allocated' else 'in use'}".rstrip() + f", accounting for {size_text(part)}, {percent(part, total)} of {size_text(total)} total"
 
 
-def options_of(words):
+def options_of(words: List[str]) -> argparse.Namespace:
     parser = argparse.ArgumentParser(prog="leaks", description=__doc__.split("\n\n")[0])
     parser.add_argument("report", nargs="?", help="a report; - is standard input")
     parser.add_argument("--stacks", help="the stacks that `record` wrote")
@@ -306,11 +310,11 @@ def options_of(words):
     return options
 
 
-def say(text):
+def say(text: str) -> None:
     print(f"leaks: {text}", file=sys.stderr)
 
 
-def take_rate(stacks, options):
+def take_rate(stacks: Stacks, options: argparse.Namespace) -> None:
     """The rate by which the counts are estimated: as given, or as the stacks tell."""
     options.rate = stacks.number("rate")
     options.rate_is_known = options.rate is not None
@@ -322,7 +326,7 @@ def take_rate(stacks, options):
         say(f"{options.stacks} says that the rate was {options.rate}; it is taken as {options.scale}, as asked for")
 
 
-def up_to(mark_ends, options, rate):
+def up_to(mark_ends: Iterable[MarkEnd], options: argparse.Namespace, rate: int) -> List[MarkEnd]:
     """The mark ends up to the one that is to be shown."""
     mark_ends = [(number, list(buckets)) for number, buckets in mark_ends]
     if not mark_ends:
@@ -339,9 +343,9 @@ def up_to(mark_ends, options, rate):
     return shown if shown and shown[-1][0] == at else [*shown, (at, [])]
 
 
-def peak_of(mark_ends, rate):
+def peak_of(mark_ends: Iterable[MarkEnd], rate: int) -> int:
     """The mark end with the most bytes in use."""
-    counts, used, most, peak = {}, 0, -1, None
+    counts, used, most, peak = {}, 0.0, -1.0, 0
     for number, buckets in mark_ends:
         for bucket in buckets:
             now = (bucket.allocs - bucket.frees) * bucket.slot * factor(bucket.slot, rate)
@@ -352,29 +356,29 @@ def peak_of(mark_ends, rate):
     return peak
 
 
-def tell_misses(report, trace):
+def tell_misses(report: Report, trace: Optional[Trace]) -> None:
     """Says how many objects found no room: they are in no count."""
     missed = [one for one, address in enumerate(report.addresses) if address == MISSED]
     if missed:
-        slots = (slot_in(trace, trace.sizes[one], trace.pointers[one]) for one in missed) if trace else (SLOTS[line.span_class // 2] or line.pages * PAGE for line in report.journal if isinstance(line, Miss))
+        slots = (slot_in(trace, trace.sizes[one], bool(trace.pointers[one])) for one in missed) if trace else (SLOTS[line.span_class // 2] or line.pages * PAGE for line in report.journal if isinstance(line, Miss))
         say(f"{len(missed)} of {len(report.addresses)} objects ({size_text(sum(slots))}) found no room in the region, and are counted nowhere: the table is too low"
             " (--trace without a report counts them too)")  # fmt: skip
 
 
-def tell_behind(behind, objects):
+def tell_behind(behind: Optional[int], objects: Optional[int]) -> None:
     """Says how many objects came behind the last mark end, of which nothing tells whether they stay alive."""
     if behind and objects and behind > MANY_BEHIND * objects:
         say(f"{100 * behind / objects:.0f} % of the objects ({behind} of {objects}) came behind the last mark end, and are in no count")
 
 
-def behind_of(stacks, trace):
+def behind_of(stacks: Stacks, trace: Optional[Trace]) -> Tuple[Optional[int], Optional[int]]:
     """The objects behind the last mark end, and all objects, where the trace or the stacks tell them."""
     if trace:
         return len(trace.sizes) - trace.born[-1] if trace.mark_ends else None, len(trace.sizes)
     return (stacks.number("behind") if stacks.number("mark ends") else None), stacks.number("objects")
 
 
-def no_profile(stacks, trace, options):
+def no_profile(stacks: Stacks, trace: Optional[Trace], options: argparse.Namespace) -> str:
     """Why there is no table, and what to do."""
     mark_ends = trace.mark_ends if trace else stacks.number("mark ends")
     if mark_ends == 0:
@@ -384,7 +388,7 @@ def no_profile(stacks, trace, options):
     return f"{options.trace or options.report}: there is no profile: there was no mark end ({NO_MARK_END}), or the rate is 0 or nothing was sampled (see --trace)"
 
 
-def read_all(options):
+def read_all(options: argparse.Namespace) -> Tuple[Stacks, Optional[Report], Optional[Trace]]:
     """The stacks, the report and the trace, which must be of one recording."""
     stacks = stack_file(options.stacks) if options.stacks else Stacks({}, {}, {})
     report = report_in(options.report) if options.report else None
@@ -398,14 +402,13 @@ def read_all(options):
     return stacks, report, trace
 
 
-def main(words):
+def main(words: List[str]) -> int:
     options = options_of(words)
     with tool.Output(options.output) as out:
         stacks, report, trace = read_all(options)
         take_rate(stacks, options)
-        mark_ends = buckets_of_trace(trace, report and report.addresses) if trace else buckets_of_report(report)
-        mark_ends = up_to(mark_ends, options, options.scale)
-        profile = Profile(mark_ends, options.table.key(stacks), options.scale)
+        mark_ends = buckets_of_trace(trace, report.addresses if report else None) if trace else buckets_of_report(report or Report())
+        profile = Profile(up_to(mark_ends, options, options.scale), options.table.key(stacks), options.scale)
         if not profile.rows:
             raise tool.Unusable(no_profile(stacks, trace, options))
         if report:
@@ -417,5 +420,5 @@ def main(words):
     return 0
 
 
-def command():
+def command() -> None:
     tool.end("leaks", main, sys.argv[1:])

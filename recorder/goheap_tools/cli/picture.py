@@ -13,21 +13,25 @@ import itertools
 import struct
 import sys
 import zlib
+from typing import Iterable, Iterator, List, Optional, Sequence, Set, Tuple, Union
 
 from goheap_tools import tool
 from goheap_tools.formats import companions
-from goheap_tools.formats.report import report_in
+from goheap_tools.formats.journal import Line
+from goheap_tools.formats.report import Report, Sweep, report_in
 from goheap_tools.formats.stacks import Stacks, stack_file
-from goheap_tools.formats.traces import trace_in
+from goheap_tools.formats.traces import Trace, trace_in
 from goheap_tools.heap import pinning
 from goheap_tools.heap.classes import BASE, PAGE
 from goheap_tools.views import pinmap
 from goheap_tools.heap.pages import FREE
-from goheap_tools.views.course import KINDS, Course, Holders, check, class_text, slot_and_room, top_page
+from goheap_tools.views.course import KINDS, Course, Found, Holders, Life, check, class_text, slot_and_room, top_page
 
 MISS, KEPT, FREED, IN_SPANS, LAST = "#d4002a", "#1f5fa8", "#c8dcf2", "#7fb3e6", "#8a2be2"
 LEFT, TOP, WIDTH, MAP_HEIGHT, CHART_HEIGHT, GAP, LEGEND = 76, 78, 900, 420, 100, 50, 280
 CHARTS = 4
+# Where mark ends stand, with their numbers.
+Marks = List[Tuple[float, int]]
 # Spans of the map, and spans or parts of the last mark end's, that have a word of their own under the pointer: those of the largest area.
 MOST_TITLES = 400
 # What the legend says of the words of the picture.
@@ -42,7 +46,7 @@ WORDS = (
 )
 
 
-def png(drawn, rows):
+def png(drawn: List[List[bytes]], rows: int) -> bytes:
     """The map as a picture, the highest page in the topmost row."""
     raw = b"".join(b"\0" + b"".join(one[row] for one in drawn) for row in reversed(range(rows)))
 
@@ -53,41 +57,40 @@ def png(drawn, rows):
     return b"\x89PNG\r\n\x1a\n" + chunk(b"IHDR", head) + chunk(b"IDAT", zlib.compress(raw, 9)) + chunk(b"IEND", b"")
 
 
-def escaped(what):
+def escaped(what: str) -> str:
     """Text as XML has it; what cannot be printed becomes a question mark."""
     what = "".join(one if one.isprintable() or one == "\n" else "?" for one in what)
     return what.replace("&", "&amp;").replace("<", "&lt;").replace(">", "&gt;").encode("utf-8", "replace").decode()
 
 
-def pointed(x, y, width, height, words, colour="none"):
+def pointed(x: float, y: float, width: float, height: float, words: Iterable[str], colour: str = "none") -> str:
     """A place that says so many lines when it is pointed at."""
     return (f'<rect x="{x:.1f}" y="{y:.1f}" width="{max(width, 1):.1f}" height="{max(height, 1):.1f}" fill="{colour}" pointer-events="all">'
             f"<title>{escaped(chr(10).join(words))}</title></rect>")
 
 
-def text(x, y, what, anchor="start", size=12):
+def text(x: float, y: float, what: object, anchor: str = "start", size: int = 12) -> str:
     return f'<text x="{x:.1f}" y="{y:.1f}" font-size="{size}" text-anchor="{anchor}">{what}</text>'
 
 
-def box(x, y, colour):
+def box(x: float, y: float, colour: str) -> str:
     return f'<rect x="{x}" y="{y - 11}" width="14" height="14" fill="{colour}" stroke="#999"/>'
 
 
-def mebibytes(pages):
+def mebibytes(pages: float) -> str:
     size = pages * PAGE / (1 << 20)
     return f"{size:.2f} MiB" if size < 10 else f"{size:.0f} MiB"
 
 
-def steps(most, count):
+def steps(most: float, count: int) -> Iterable[int]:
     """Round numbers from 0 to `most`, at most `count` apart from 0."""
-    width = 1
-    for factor in itertools.cycle((2, 2.5, 2)):
-        if most <= width * count:
-            return range(0, int(most) + 1, int(width))
-        width *= factor
+    width, factors = 1.0, itertools.cycle((2, 2.5, 2))
+    while most > width * count:
+        width *= next(factors)
+    return range(0, int(most) + 1, int(width))
 
 
-def axis(y, height, most, count):
+def axis(y: float, height: float, most: float, count: int) -> Iterator[str]:
     """Numbers and thin lines on the left, from 0 at the bottom to `most` at the top."""
     for value in steps(most, count):
         at = y + height - height * value / most
@@ -95,7 +98,7 @@ def axis(y, height, most, count):
         yield text(LEFT - 7, at + 4, f"{value:,}", "end", 11)
 
 
-def area(y, values, most, colour):
+def area(y: float, values: Sequence[float], most: float, colour: str) -> str:
     """What lies under a step line."""
     width, path, before = WIDTH / len(values), [f"M{LEFT} {y + CHART_HEIGHT}"], None
     for number, value in enumerate(values):
@@ -106,7 +109,7 @@ def area(y, values, most, colour):
     return f'<path d="{"".join(path)}" fill="{colour}"/>'
 
 
-def frame(y, height, title, marks):
+def frame(y: float, height: float, title: str, marks: Marks) -> Iterator[str]:
     """The border of a chart over the journal, its title, and a dashed line at each mark end."""
     for x, _ in marks[:-1]:
         yield f'<line x1="{x:.1f}" y1="{y}" x2="{x:.1f}" y2="{y + height}" stroke="#000" stroke-opacity="0.3" stroke-dasharray="3 3"/>'
@@ -116,7 +119,7 @@ def frame(y, height, title, marks):
     yield text(LEFT, y - 7, title)
 
 
-def chart(y, title, layers, marks):
+def chart(y: float, title: str, layers: Sequence[Tuple[str, Sequence[float], str]], marks: Marks) -> Iterator[str]:
     """Areas over the journal, the later ones before the earlier ones."""
     most = max(max(values) for _, values, _ in layers) or 1
     yield f'<rect x="{LEFT}" y="{y}" width="{WIDTH}" height="{CHART_HEIGHT}" fill="#fafafa"/>'
@@ -128,7 +131,7 @@ def chart(y, title, layers, marks):
     yield from frame(y, CHART_HEIGHT, title, marks)
 
 
-def by_mark_end(sweeps):
+def by_mark_end(sweeps: Iterable[Sweep]) -> Tuple[int, List[Tuple[int, int, int]]]:
     """The objects kept and freed by each mark end; where there are too many mark ends to draw, by the last of so many."""
     cycles = max((sweep.cycle for sweep in sweeps), default=0)
     kept, freed = [0] * cycles, [0] * cycles
@@ -139,13 +142,13 @@ def by_mark_end(sweeps):
     return every, [(number + 1, kept[number], freed[number]) for number in range(cycles) if (number + 1) % every == 0 or number + 1 == cycles]
 
 
-def kept_title(every, bars):
+def kept_title(every: int, bars: List[Tuple[int, int, int]]) -> str:
     if not bars:
         return "no mark end"
     return "objects at each mark end" if every == 1 else f"objects at each mark end whose number {every} divides, and the last"
 
 
-def kept_chart(y, every, bars):
+def kept_chart(y: float, every: int, bars: List[Tuple[int, int, int]]) -> Iterator[str]:
     """Two bars for each mark end: the objects that its sweeps kept, and those that they freed, one upon the other."""
     yield f'<rect x="{LEFT}" y="{y}" width="{WIDTH}" height="{CHART_HEIGHT}" fill="#fafafa"/>'
     most = max((kept + freed for _, kept, freed in bars), default=0) or 1
@@ -170,7 +173,7 @@ def kept_chart(y, every, bars):
         yield box(LEFT + WIDTH + 20, y + 12 + 22 * at, colour) + text(LEFT + WIDTH + 40, y + 12 + 22 * at, name)
 
 
-def mark_places(journal, last):
+def mark_places(journal: Sequence[Line], last: int) -> Marks:
     """Where each mark end up to the last one stands among the journal's lines, with its number: at the first line of its cycle or of a later
     one, or at the end. Where there are too many to draw, the last one alone."""
     places, cycle = [], 0
@@ -182,9 +185,9 @@ def mark_places(journal, last):
     return places if len(places) <= 200 else places[-1:]
 
 
-def mark_names(marks):
+def mark_names(marks: Marks) -> Iterator[str]:
     """The numbers of the cycles under the map, those that have room."""
-    end = LEFT - 4
+    end: float = LEFT - 4
     if marks:
         yield text(LEFT - 7, TOP + MAP_HEIGHT + 17, "mark end", "end", 11)
     for x, cycle in marks:
@@ -194,7 +197,7 @@ def mark_names(marks):
             end = x + half
 
 
-def legend(misses, shown):
+def legend(misses: int, shown: Set[int]) -> Iterator[str]:
     x, y = LEFT + WIDTH + 20, TOP + 12
     for kind in sorted(KINDS, reverse=True):
         if kind in shown:
@@ -211,7 +214,7 @@ def legend(misses, shown):
         y += 15
 
 
-def summary(course, bars):
+def summary(course: Course, bars: List[Tuple[int, int, int]]) -> str:
     """What the picture comes to, in a line."""
     backed, in_spans, spans = course.backed[-1], course.in_spans[-1], course.spans[-1]
     told = f"At the end {backed:,} pages ({mebibytes(backed)}) are backed, {in_spans:,} of them in {spans:,} spans."
@@ -224,13 +227,13 @@ def summary(course, bars):
     return told
 
 
-def map_title(report, rows):
+def map_title(report: Report, rows: int) -> str:
     pages = top_page(report.journal)
     mixed = "" if pages == rows else f"; the colours of up to {-(-pages // rows)} pages in a row are mixed"
     return f"pages of 8 KiB by number, over the {len(report.journal):,} lines of the journal, from left to right{mixed}"
 
 
-def span_words(span, course, holders):
+def span_words(span: Union[Life, Found], course: Course, holders: Holders) -> Iterator[str]:
     """What a span says when it is pointed at."""
     run = f"page {span.page}" if span.pages == 1 else f"pages {span.page} to {span.page + span.pages - 1}"
     yield f"span at {run} ({BASE + span.page * PAGE:#x})"
@@ -242,7 +245,7 @@ def span_words(span, course, holders):
         yield from holders.of(span.page)
 
 
-def life_titles(course, holders, columns):
+def life_titles(course: Course, holders: Holders, columns: int) -> Iterator[str]:
     """The spans of the map under the pointer, the newer ones before the older ones."""
     height = MAP_HEIGHT / len(course.found_kinds)
     end_of = lambda life: columns if life.end is None else life.end
@@ -253,7 +256,7 @@ def life_titles(course, holders, columns):
         yield pointed(x, TOP + MAP_HEIGHT - (life.page + life.pages) * height, WIDTH * (end_of(life) - life.begin) / columns, life.pages * height, words)
 
 
-def fill_chart(y, course, holders):
+def fill_chart(y: float, course: Course, holders: Holders) -> Iterator[str]:
     """How full the spans are that the last mark end found, by their pages."""
     yield f'<rect x="{LEFT}" y="{y}" width="{WIDTH}" height="{CHART_HEIGHT}" fill="#fafafa"/>'
     count = len(course.found_kinds)
@@ -276,7 +279,7 @@ def fill_chart(y, course, holders):
     yield from frame(y, CHART_HEIGHT, title, [])
 
 
-def head(report, course, title, bars, height):
+def head(report: Report, course: Course, title: str, bars: List[Tuple[int, int, int]], height: float) -> Iterator[str]:
     yield (f'<svg xmlns="http://www.w3.org/2000/svg" viewBox="0 0 {LEFT + WIDTH + LEGEND} {height}" width="{LEFT + WIDTH + LEGEND}" height="{height}"'
            ' style="max-width:100%;height:auto" font-family="sans-serif">')
     yield '<rect width="100%" height="100%" fill="#fff"/>'
@@ -284,7 +287,7 @@ def head(report, course, title, bars, height):
     yield text(LEFT, 45, summary(course, bars))
 
 
-def page_map(report, course, holders, columns, rows, marks):
+def page_map(report: Report, course: Course, holders: Holders, columns: int, rows: int, marks: Marks) -> Iterator[str]:
     """The pages over the journal, with what their spans say under the pointer."""
     data = base64.b64encode(png(course.map, rows)).decode()
     yield (f'<image x="{LEFT}" y="{TOP}" width="{WIDTH}" height="{MAP_HEIGHT}" preserveAspectRatio="none"'
@@ -299,12 +302,11 @@ def page_map(report, course, holders, columns, rows, marks):
     yield from legend(len(course.misses), course.kinds)
 
 
-def draw(report, title, trace=None, stacks=Stacks({}, {}, {})):
+def draw(report: Report, title: str, trace: Optional[Trace] = None, stacks: Stacks = Stacks({}, {}, {})) -> Iterator[str]:
     journal = report.journal
     columns = min(max(len(journal), 1), WIDTH)
     rows = min(top_page(journal), MAP_HEIGHT)
     course = Course(report, columns, rows, trace)
-    course.found_at = {span.page: span for span in course.found}
     holders = Holders(course, report, trace, stacks.frames)
     last = max((line.cycle for line in itertools.chain(journal, report.sweeps)), default=0)
     (every, bars), marks = by_mark_end(report.sweeps), mark_places(journal, last)
@@ -319,7 +321,7 @@ def draw(report, title, trace=None, stacks=Stacks({}, {}, {})):
     yield "</svg>"
 
 
-def main(words):
+def main(words: List[str]) -> int:
     parser = argparse.ArgumentParser(prog="picture", description=__doc__.split("\n\n")[0])
     parser.add_argument("report", nargs="?", default="-", help="a report; - or nothing: standard input")
     parser.add_argument("--title", default="goheap report", help="the heading")
@@ -351,5 +353,5 @@ def main(words):
     return 0
 
 
-def command():
+def command() -> None:
     tool.end("picture", main, sys.argv[1:])

@@ -9,12 +9,16 @@ It counts at a mark end, the last one where none is named, over the spans that a
 import argparse
 import csv
 import sys
+from typing import Any, Iterator, List, Optional, Tuple
 
 from goheap_tools import tool
 from goheap_tools.formats.stacks import Stacks, stack_file
 from goheap_tools.heap import pinning
 from goheap_tools.heap.classes import PAGE, SLOTS
-from goheap_tools.heap.pinning import Groups, Names
+from goheap_tools.heap.pinning import Groups, Names, Pins
+
+# A row of a table, as CSV has it.
+Row = Tuple[Any, ...]
 
 PARTS = {
     "live objects": "live objects, as asked for",
@@ -25,19 +29,19 @@ PARTS = {
 }
 
 
-def percent(part, total):
+def percent(part: float, total: float) -> str:
     return f"{100 * part / total:.1f}%" if total else "0.0%"
 
 
-def ratio(pinned, own):
+def ratio(pinned: int, own: int) -> str:
     return f"{pinned / own:,.1f}" if own else "-"
 
 
-def counted(count, what):
+def counted(count: int, what: str) -> str:
     return f"{count:,} {what}{'' if count == 1 else 's'}"
 
 
-def sum_lines(pins):
+def sum_lines(pins: Pins) -> Iterator[str]:
     spans, backed = sum(pins.pages), pins.backed * PAGE
     came = f"; {counted(pins.behind, 'object')} came behind it" if pins.behind else ""
     yield f"Mark end {pins.mark_end} of {pins.mark_ends}: {counted(pins.backed, 'page')} backed, {spans:,} of them in {counted(len(pins.first), 'span')} kept{came}"
@@ -50,7 +54,7 @@ def sum_lines(pins):
     yield f"{backed:>13,} 100.0%  backed; in Go's words HeapInuse {spans * PAGE:,}, HeapIdle less HeapReleased {backed - spans * PAGE:,}"
 
 
-def sum_rows(pins):
+def sum_rows(pins: Pins) -> Iterator[Row]:
     yield "part", "bytes"
     yield from pins.sums().items()
     yield "backed", pins.backed * PAGE
@@ -60,22 +64,22 @@ def sum_rows(pins):
 class Without:
     """What would come back without the objects of some stacks."""
 
-    def __init__(self, pins, names, words):
+    def __init__(self, pins: Pins, names: Names, words: List[str]) -> None:
         self.words, stacks = " ".join(words), names.stacks_of(words, len(pins.own))
         self.objects, self.own = (sum(column[stack] for stack in stacks) for column in (pins.live, pins.own))
         self.spans, self.pages, self.before, self.after, self.joined = pins.without(stacks)
 
-    def lines(self):
+    def lines(self) -> Iterator[str]:
         yield f"Without {self.words} ({counted(self.objects, 'live object')} of {self.own:,} bytes):"
         yield f"  {counted(self.spans, 'span')} of {counted(self.pages, 'page')} ({self.pages * PAGE:,} bytes) would come back"
         yield f"  the longest run of free pages with one of them: {self.joined:,}; of all free pages: {self.after:,}, now {self.before:,}"
 
-    def rows(self):
+    def rows(self) -> Iterator[Row]:
         yield "stacks", "objects", "own", "spans", "pages", "longest run that comes back", "longest run then", "longest run now"
         yield self.words, self.objects, self.own, self.spans, self.pages, self.joined, self.after, self.before
 
 
-def class_lines(pins):
+def class_lines(pins: Pins) -> Iterator[str]:
     eighths = [f"{step}/{pinning.STEPS}" for step in range(1, pinning.STEPS + 1)]
     yield "By size class: how many spans are filled to an eighth, to two ..; bytes in free slots, of rounding, of tails"
     yield f"{'slot':>7} {'spans':>7} {'objects':>8} " + " ".join(f"{one:>5}" for one in eighths) + f" {'free slots':>12} {'rounding':>11} {'tails':>10}"
@@ -84,18 +88,18 @@ def class_lines(pins):
         yield f"{SLOTS[number] or 'large':>7} {row.spans:>7,} {row.objects:>8,} {steps} {row.free:>12,} {row.rounding:>11,} {row.tails:>10,}"
 
 
-def class_rows(pins):
+def class_rows(pins: Pins) -> Iterator[Row]:
     yield "slot", "spans", "pages", "objects", *(f"to {step} eighths" for step in range(1, pinning.STEPS + 1)), "live", "free slots", "rounding", "tails"
     for number, row in pins.classes():
         yield SLOTS[number] or "large", row.spans, row.pages, row.objects, *row.steps, row.live, row.free, row.rounding, row.tails
 
 
-def rest_line(shown, of, what, groups):
+def rest_line(shown: int, of: int, what: str, groups: Groups) -> str:
     several = f"; {counted(groups.mixed_spans, 'span')} of {groups.mixed:,} bytes have objects of several" if groups.mixed_spans else ""
     return f"By {what}, {shown:,} of {of:,}: what they pin is bytes of spans that have no other object{several}"
 
 
-def stack_lines(pins, names, options):
+def stack_lines(pins: Pins, names: Names, options: argparse.Namespace) -> Iterator[str]:
     groups = names.stacks(pins)
     order, backed, live = groups.order(options.top), pins.backed * PAGE, sum(groups.own)
     yield rest_line(len(order), len(groups.first), "stack", groups)
@@ -109,7 +113,7 @@ def stack_lines(pins, names, options):
             yield from (" " * 81 + frame for frame in frames[1:])
 
 
-def stack_rows(pins, names):
+def stack_rows(pins: Pins, names: Names) -> Iterator[Row]:
     groups = names.stacks(pins)
     yield "number", "own", "pinned", "spans", "shared", "objects", "frames"
     for at in groups.order(len(groups.first)):
@@ -120,7 +124,7 @@ def stack_rows(pins, names):
 class Functions:
     """The rows of functions: what the objects are that they allocated themselves (flat), and those that they and what they call did (cum)."""
 
-    def __init__(self, pins, names, by_cum):
+    def __init__(self, pins: Pins, names: Names, by_cum: bool) -> None:
         self.flat = Groups(pins, names.function)
         self.own, self.pinned = pinning.reach(pins, {stack: names.functions(stack) for stack in pins.live_stacks}.get)
         group = {name: at for at, name in enumerate(self.flat.keys)}
@@ -128,12 +132,12 @@ class Functions:
         first, second = (5, 2) if by_cum else (2, 5)
         self.rows = sorted(rows, key=lambda row: (-row[first], -row[second], -row[4], row[0]))
 
-    def of(self, at):
+    def of(self, at: Optional[int]) -> Tuple[int, int, int]:
         flat = self.flat
         return (flat.own[at], flat.pinned[at], flat.spans[at]) if at is not None else (0, 0, 0)
 
 
-def function_lines(pins, names, options):
+def function_lines(pins: Pins, names: Names, options: argparse.Namespace) -> Iterator[str]:
     functions, backed = Functions(pins, names, options.cum), pins.backed * PAGE
     shown = functions.rows[: options.top]
     yield rest_line(len(shown), len(functions.rows), "function", functions.flat)
@@ -143,12 +147,12 @@ def function_lines(pins, names, options):
                f" {percent(cum_pinned, backed):>6}  {name}")
 
 
-def function_rows(pins, names, options):
+def function_rows(pins: Pins, names: Names, options: argparse.Namespace) -> Iterator[Row]:
     yield "name", "own", "pinned", "spans", "cum own", "cum pinned"
     yield from Functions(pins, names, options.cum).rows
 
 
-def tables(pins, names, options):
+def tables(pins: Pins, names: Names, options: argparse.Namespace) -> List[Row]:
     """The tables as rows of plain numbers, each row led by its table's name, and each table by a row of its columns' names."""
     found = [("sum", sum_rows(pins))]
     if options.without:
@@ -158,7 +162,7 @@ def tables(pins, names, options):
     return [(name, *row) for name, rows in found for row in rows]
 
 
-def lines(pins, names, options):
+def lines(pins: Pins, names: Names, options: argparse.Namespace) -> Iterator[str]:
     yield from sum_lines(pins)
     yield ""
     if options.without:
@@ -169,7 +173,7 @@ def lines(pins, names, options):
     yield from (function_lines if options.functions else stack_lines)(pins, names, options)
 
 
-def options_of(words):
+def options_of(words: List[str]) -> argparse.Namespace:
     parser = argparse.ArgumentParser(prog="pins", description=__doc__.split("\n\n")[0])
     parser.add_argument("trace", help="a trace; - is standard input")
     parser.add_argument("report", help="what goheap printed of the trace; - is standard input")
@@ -192,7 +196,7 @@ def options_of(words):
     return options
 
 
-def main(words):
+def main(words: List[str]) -> int:
     options = options_of(words)
     with tool.Output(options.output) as out:
         stacks = stack_file(options.stacks) if options.stacks else Stacks({}, {}, {})
@@ -205,5 +209,5 @@ def main(words):
     return 0
 
 
-def command():
+def command() -> None:
     tool.end("pins", main, sys.argv[1:])

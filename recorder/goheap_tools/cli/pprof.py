@@ -11,11 +11,12 @@ as its period. The numbers are those of the heap text, to the byte: of the objec
 import argparse
 import gzip
 import sys
+from typing import Any, Iterable, List, Tuple
 
 from goheap_tools import tool
 from goheap_tools.formats.frames import name_of, place_of, shown_frames
-from goheap_tools.formats.heaptext import heap_in
-from goheap_tools.formats.stacks import stack_file
+from goheap_tools.formats.heaptext import Bucket, Heap, heap_in
+from goheap_tools.formats.stacks import Stacks, stack_file
 from goheap_tools.heap.estimate import factor
 
 # The fields of a profile, by the public description of the form, profile.proto of github.com/google/pprof.
@@ -23,7 +24,7 @@ SAMPLE_TYPE, SAMPLE, MAPPING, LOCATION, FUNCTION, STRING, PERIOD_TYPE, PERIOD, C
 TYPES = (("alloc_objects", "count"), ("alloc_space", "bytes"), ("inuse_objects", "count"), ("inuse_space", "bytes"))
 
 
-def varint(value):
+def varint(value: int) -> bytes:
     """A number in groups of seven bits, the low ones first."""
     out = bytearray()
     while value > 0x7F:
@@ -33,35 +34,35 @@ def varint(value):
     return bytes(out)
 
 
-def number(field, value):
+def number(field: int, value: int) -> bytes:
     """A field that is a number; one of 0 is left out."""
     return varint(field << 3) + varint(value) if value else b""
 
 
-def message(field, content):
+def message(field: int, content: bytes) -> bytes:
     """A field that has a length: a message, a text, or numbers that are packed."""
     return varint(field << 3 | 2) + varint(len(content)) + content
 
 
-def packed(field, values):
+def packed(field: int, values: Iterable[int]) -> bytes:
     return message(field, b"".join(map(varint, values)))
 
 
 class Table:
     """Things that are named by their numbers, each of which is written once."""
 
-    def __init__(self, first):
+    def __init__(self, first: int) -> None:
         self.numbers = {}
         self.first = first
 
-    def number(self, thing):
+    def number(self, thing: Any) -> int:
         return self.numbers.setdefault(thing, len(self.numbers) + self.first)
 
 
 class Profile:
     """A profile that is put together."""
 
-    def __init__(self, stacks):
+    def __init__(self, stacks: Stacks) -> None:
         self.stacks = stacks
         self.texts = Table(0)
         self.texts.number("")
@@ -69,23 +70,23 @@ class Profile:
         self.locations = Table(1)  # by function and line
         self.parts = []
 
-    def type_of(self, name, unit):
+    def type_of(self, name: str, unit: str) -> bytes:
         return number(1, self.texts.number(name)) + number(2, self.texts.number(unit))
 
-    def location(self, frame):
+    def location(self, frame: str) -> int:
         """The number of a frame's place."""
         file, colon, line = place_of(frame).rpartition(":")
         if not (colon and line.isascii() and line.isdigit()):
             file, line = place_of(frame), "0"
         return self.locations.number((self.functions.number((name_of(frame), file)), min(int(line), (1 << 63) - 1)))
 
-    def add(self, bucket, values):
+    def add(self, bucket: Bucket, values: Iterable[int]) -> None:
         """A sample: its places from the innermost frame on, its values, and its slot size."""
         places = [self.location(frame) for frame in shown_frames(self.stacks.frames[bucket.stack])]
         label = number(1, self.texts.number("bytes")) + number(3, bucket.slot)
         self.parts.append(message(SAMPLE, packed(1, places) + packed(2, values) + message(3, label)))
 
-    def whole(self, rate, comment):
+    def whole(self, rate: int, comment: str) -> bytes:
         """All of it, the tables last, since the samples fill them."""
         head = [message(SAMPLE_TYPE, self.type_of(*one)) for one in TYPES]
         head.append(message(PERIOD_TYPE, self.type_of("space", "bytes")) + number(PERIOD, rate))
@@ -104,7 +105,7 @@ class Profile:
         return b"".join(head + self.parts + places + functions + texts)
 
 
-def values_of(bucket, times):
+def values_of(bucket: Bucket, times: float) -> Tuple[int, int, int, int]:
     """The values of the four sample types."""
     numbers = bucket.numbers
     if times == 1:
@@ -113,7 +114,7 @@ def values_of(bucket, times):
     return all_objects, all_objects * bucket.slot, objects, objects * bucket.slot
 
 
-def profile_of(heap, stacks, scale):
+def profile_of(heap: Heap, stacks: Stacks, scale: bool) -> bytes:
     profile = Profile(stacks)
     for line, bucket in enumerate(heap.buckets, 2):
         if bucket.stack not in stacks.frames:
@@ -123,7 +124,7 @@ def profile_of(heap, stacks, scale):
     return profile.whole(heap.rate, f"goheap: the heap as of the last mark end, {what} at rate {heap.rate}")
 
 
-def options_of(words):
+def options_of(words: List[str]) -> argparse.Namespace:
     parser = argparse.ArgumentParser(prog="pprof", description=__doc__.split("\n\n")[0])
     parser.add_argument("stacks", help="the stacks that `record` wrote")
     parser.add_argument("heap", nargs="?", default="-", help="the heap text that `goheap heap` wrote (default: standard input)")
@@ -132,7 +133,7 @@ def options_of(words):
     return parser.parse_args(words)
 
 
-def main(words):
+def main(words: List[str]) -> int:
     options = options_of(words)
     if options.stacks == "-" == options.heap:
         raise tool.Unusable("the stacks and the heap text cannot both be standard input")
@@ -147,5 +148,5 @@ def main(words):
     return 0
 
 
-def command():
+def command() -> None:
     tool.end("pprof", main, sys.argv[1:])

@@ -15,6 +15,7 @@ import os
 import shutil
 import sys
 from collections import Counter
+from typing import Any, Iterator, List, Optional
 
 from goheap_tools import tool
 from goheap_tools.cli.recording import CHUNK_PAGES, MOST_CHUNKS, MOST_MARK_ENDS, MOST_PROCS, PIECE, USUAL_CHUNKS, VERSIONS, Recorder
@@ -29,7 +30,7 @@ from goheap_tools.tool import number, size_text
 RARE = 1000
 
 
-def options_of(words):
+def options_of(words: List[str]) -> argparse.Namespace:
     at = words.index("--") if "--" in words else len(words)
     parser = argparse.ArgumentParser(prog="record", description=__doc__.split("\n\n")[0], usage="%(prog)s [options] [log | -- program arguments]")
     parser.add_argument("log", nargs="?", help="the log; - or nothing: standard input")
@@ -68,15 +69,15 @@ def options_of(words):
     return options
 
 
-def say(text):
+def say(text: str) -> None:
     print(f"record: {text}", file=sys.stderr)
 
 
-def percent(part, total):
+def percent(part: float, total: float) -> str:
     return f"{100 * part / total:.1f} %" if total else "0 %"
 
 
-def tell_end(recorder, log):
+def tell_end(recorder: Recorder, log: Any) -> None:
     """Says where the trace ends before the log or the program does."""
     if log.interrupt.came:
         say("interrupted; the trace ends where the log was then, and is whole")
@@ -91,7 +92,7 @@ def tell_end(recorder, log):
         say(f"the program ended with {log.status()}")
 
 
-def tell_last(recorder):
+def tell_last(recorder: Recorder) -> None:
     """Says what of the last mark end is left out, and what to do for a trace without one."""
     trace = recorder.trace
     if recorder.left_out:
@@ -103,7 +104,7 @@ def tell_last(recorder):
         say("the trace has no mark end, so nothing tells what stays alive: run the program with GOGC=20, or call runtime.GC() in it, twice at the end")
 
 
-def tell_lost(recorder, log):
+def tell_lost(recorder: Recorder, log: Log) -> None:
     """Says what the trace leaves out or guesses, where it is more than a trifle."""
     shows = lambda count, of: count and (recorder.options.verbose or count * RARE > of)
     if shows(recorder.broken, recorder.allocations + recorder.frees):
@@ -121,7 +122,7 @@ def tell_lost(recorder, log):
         say(f"of {recorder.guessed} allocations the type's name alone says whether there are pointers" + ("" if recorder.program else " (see --program)"))
 
 
-def tell(recorder, log):
+def tell(recorder: Recorder, log: Any) -> None:
     if other := other_version(recorder.program):
         say(f"{other}, and others perhaps wrongly")
     tell_end(recorder, log)
@@ -134,7 +135,7 @@ def tell(recorder, log):
         say(f"written to {options.output} and {options.stacks}; for a table: leaks --trace {options.output} --stacks {options.stacks}")
 
 
-def apart(options):
+def apart(options: argparse.Namespace) -> None:
     """Refuses to write over what is read, and two files into one; and by names of its own over what is no text of goheap's."""
     names = [name for name in (options.log, options.program, *options.command[:1], options.output, options.stacks) if name and name != "-"]
     real = [os.path.realpath(name) for name in names]
@@ -148,7 +149,7 @@ def apart(options):
                     raise tool.Unusable(f"{name} is there, and is not {kind}: name another file")
 
 
-def program_of(options):
+def program_of(options: argparse.Namespace) -> Optional[Program]:
     """The program's file, where one is named or run."""
     if options.program:
         return Program(options.program)
@@ -159,7 +160,7 @@ def program_of(options):
         return None
 
 
-def slots_text(recorder):
+def slots_text(recorder: Recorder) -> Optional[str]:
     """How many objects of the trace have a slot of each size; nothing where tiny ones share some, so that the sizes do not tell."""
     if recorder.options.version >= tiny.FIRST_VERSION and not recorder.options.tiny_blocks:
         return None
@@ -169,7 +170,7 @@ def slots_text(recorder):
     return " ".join(f"{slot}:{count}" for slot, count in sorted(slots.items()) if slot)
 
 
-def stacks_header(recorder, digest):
+def stacks_header(recorder: Recorder, digest: str) -> Iterator[str]:
     """The first lines of the stacks file: what the other tools have to know of the recording."""
     trace, options, program = recorder.trace, recorder.options, recorder.program
     values = {
@@ -193,21 +194,21 @@ def stacks_header(recorder, digest):
             yield f"# {name}\t{value}\n"
 
 
-def other_version(program):
+def other_version(program: Optional[Program]) -> Optional[str]:
     """That another Go built the program than those whose log is read, where it is so."""
     if program and program.go_version and not program.is_read():
         return f"{program.name} was built with {program.go_version}; logs of {READ_VERSIONS} are read"
     return None
 
 
-def no_allocation(options, program):
+def no_allocation(options: argparse.Namespace, program: Optional[Program]) -> str:
     """What to say of a log without an allocation."""
     told = f"{tool.named(options.log) if options.log else options.command[0]}: no allocation was found: is this a log of GODEBUG=allocfreetrace=1?"
     other = other_version(program)
     return f"{told} {other}" if other else told
 
 
-def check_begun(recorder):
+def check_begun(recorder: Recorder) -> None:
     """Refuses a trace that did not begin."""
     asked, found = recorder.options.from_mark_end, recorder.log_mark_ends
     if recorder.early is not None and recorder.allocations:
@@ -216,7 +217,7 @@ def check_begun(recorder):
         raise tool.Unusable(f"mark end {asked} is the log's last, and nothing tells that it was swept whole: begin at an earlier one, or say --keep-last")
 
 
-def write(recorder, out, stacks):
+def write(recorder: Recorder, out: tool.Output, stacks: Optional[tool.Output]) -> None:
     """Writes both files, or nothing."""
     digest = hashlib.sha1()
     for piece in recorder.trace.pieces():
@@ -231,23 +232,24 @@ def write(recorder, out, stacks):
     out.settle()
 
 
-def log_of(options, interrupt):
+def log_of(options: argparse.Namespace, interrupt: Interrupt) -> Any:
     if options.command:
         return Run(options.command, interrupt, None if options.output != "-" else sys.stderr)
     return Log(tool.reading(options.log), interrupt)
 
 
-def pass_on(text):
+def pass_on(text: str) -> None:
     """A line of the program's own."""
     sys.stderr.write(text if text.endswith("\n") else text + "\n")
 
 
-def main(words):
+def main(words: List[str]) -> int:
     options = options_of(words)
     apart(options)
     program = program_of(options)
     interrupt = Interrupt()
-    with tool.Output(options.output) as out, tool.Output(options.stacks) if options.stacks else contextlib.nullcontext() as stacks:
+    stacks_output: Any = tool.Output(options.stacks) if options.stacks else contextlib.nullcontext()
+    with tool.Output(options.output) as out, stacks_output as stacks:
         log = log_of(options, interrupt)
         recorder = Recorder(options, program, lambda text: say(text))
         if log.is_run:
@@ -266,5 +268,5 @@ def main(words):
     return 0
 
 
-def command():
+def command() -> None:
     tool.end("record", main, sys.argv[1:])

@@ -1,10 +1,13 @@
 """Makes a trace of the events of a log: one cycle behind it, since who a mark end found alive is known at the next one."""
 
+import argparse
 import re
 from array import array
 from collections import Counter
+from typing import Any, Callable, Iterable, Iterator, Optional
 
 from goheap_tools.formats import golog
+from goheap_tools.formats.program import Program
 from goheap_tools.heap.classes import PAGE
 
 # The limits of traces (docs/trace-format.md).
@@ -37,14 +40,14 @@ class Full(Exception):
 class Trace:
     """A trace as its lines come, within the limits. What does not fit is left out. The second line is made at the end."""
 
-    def __init__(self, header, spare=0):
+    def __init__(self, header: Callable[[], str], spare: int = 0) -> None:
         self.header, self.spare = header, spare  # gives the first two lines, which may have so many bytes more at the end
         self.parts, self.lines = [], []
-        self.bytes = None
+        self.bytes: Any = None
         self.sizes = Counter()  # how many objects have the size that is spelled so
         self.objects = self.mark_ends = self.marks = self.behind = 0
 
-    def put(self, text):
+    def put(self, text: str) -> None:
         if self.bytes is None:
             self.bytes = len(self.header()) + self.spare + len("end\n")
         if self.bytes + len(text) > MOST_BYTES:
@@ -55,7 +58,7 @@ class Trace:
             self.parts.append("".join(self.lines))
             self.lines = []
 
-    def allocate(self, line):
+    def allocate(self, line: str) -> None:
         if self.objects == MOST_OBJECTS:
             raise Full("objects")
         self.put(line)
@@ -63,7 +66,7 @@ class Trace:
         self.objects += 1
         self.behind += 1
 
-    def collect(self, distance, ids):
+    def collect(self, distance: int, ids: Any) -> None:
         """A mark end that found these objects alive; ids rise."""
         if self.mark_ends == MOST_MARK_ENDS:
             raise Full("mark ends")
@@ -85,7 +88,7 @@ class Trace:
         self.marks += len(ids)
         self.behind = 0
 
-    def pieces(self):
+    def pieces(self) -> Iterator[str]:
         """The whole text."""
         yield self.header()
         yield from self.parts
@@ -96,16 +99,17 @@ class Trace:
 class Recorder:
     """Goes through a log, and makes the trace one cycle behind it: who a mark end found alive is known at the next one."""
 
-    def __init__(self, options, program, say):
+    def __init__(self, options: argparse.Namespace, program: Optional[Program], say: Callable[[str], Any]) -> None:
         self.options, self.program, self.say = options, program, say
         self.most_chunks = MOST_CHUNKS[options.version]
         # The numbers of a region that grows have more digits.
         self.trace = Trace(self.header, len(str(self.most_chunks)) + len(str(self.most_chunks * CHUNK_PAGES)) - len(f"{USUAL_CHUNKS}{USUAL_GOAL}"))
         self.live = {}  # the object at each address, in rising order of objects
-        self.old = None  # those of them that the last mark end may have found; None before the first
-        self.spool = None  # the allocations since the last mark end
+        self.old: Any = None  # those of them that the last mark end may have found; None before the first
+        self.spool: Any = None  # the allocations since the last mark end
         # Before the trace's first mark end: the objects that live, by number, and how many were allocated before it
-        self.early, self.base = {} if options.from_mark_end else None, None
+        self.early: Any = {} if options.from_mark_end else None
+        self.base: Any = None
         self.slots = array("Q")  # of each object
         self.next_object = self.log_mark_ends = 0
         self.stacks = {}  # numbers of the stacks, by their frames and type
@@ -116,28 +120,29 @@ class Recorder:
         self.waiting, self.swept = frozenset(), False
         self.allocations = self.frees = self.lines = 0
         self.guessed = self.sizes_guessed = self.unknown_frees = self.lost_frees = self.foreign = self.broken = 0
-        self.first_foreign = self.first_broken = None
+        self.first_foreign: Any = None
+        self.first_broken: Any = None
         self.started = self.has_run = False
-        self.other = None  # the line at which a second program starts
-        self.left_out = None  # objects and bytes that the mark end left out would count, and objects behind it
-        self.full = None
+        self.other: Any = None  # the line at which a second program starts
+        self.left_out: Any = None  # objects and bytes that the mark end left out would count, and objects behind it
+        self.full: Any = None
         self.ended = False
-        self.foreign_seen = None  # is given each line of no block
+        self.foreign_seen: Any = None  # is given each line of no block
 
     # What the trace's second line says.
 
-    def chunks(self):
+    def chunks(self) -> int:
         """The region: as asked for, or twice what was live at most, from the usual one up to the largest."""
         return self.options.chunks or min(self.most_chunks, max(USUAL_CHUNKS, -(-2 * self.peak // CHUNK)))
 
-    def header(self):
+    def header(self) -> str:
         options = self.options
         goal = max(USUAL_GOAL, self.chunks() * CHUNK_PAGES) if options.goal is None else options.goal
         return f"goheap {options.version}\nheap {self.chunks()} procs {self.procs or 1} rate {options.rate} seed {options.seed} goal {goal}\n"
 
     # One object.
 
-    def has_pointers(self, event):
+    def has_pointers(self, event: golog.Allocation) -> bool:
         if event.type_name is None:
             return False
         if self.program and event.type_address:
@@ -147,14 +152,14 @@ class Recorder:
         self.guessed += 1
         return not PLAIN.match(event.type_name)
 
-    def trimmed(self, place):
+    def trimmed(self, place: str) -> str:
         """The place without the first of the prefixes that it has."""
         for prefix in self.options.trim:
             if place.startswith(prefix):
                 return place[len(prefix) :]
         return place
 
-    def stack(self, places, functions, type_name):
+    def stack(self, places: Any, functions: Any, type_name: Any) -> int:
         number = self.stacks.get((places, functions, type_name))
         if number is None:
             number = len(self.stacks)
@@ -165,7 +170,7 @@ class Recorder:
             self.frames.append(f"{number}\t{type_name or ''}\t{frames}\n")
         return number
 
-    def allocate(self, event):
+    def allocate(self, event: golog.Allocation) -> None:
         if self.full:
             return
         self.allocations += 1
@@ -195,7 +200,7 @@ class Recorder:
             # `runtime.GC` returned to the program, which it does behind the sweep
             self.swept = True
 
-    def add(self, event, size, kind):
+    def add(self, event: golog.Allocation, size: int, kind: str) -> None:
         proc = event.goroutine % (self.procs or 1)
         if self.early is not None and self.base is None:
             self.early[self.next_object] = proc, size, kind, event.places, event.functions, event.type_name
@@ -208,7 +213,7 @@ class Recorder:
         else:
             self.spool.append(line)
 
-    def grow(self):
+    def grow(self) -> None:
         """More is live than ever before: says once where it passes the region."""
         self.peak = self.live_bytes
         region = (self.options.chunks or self.most_chunks) * CHUNK
@@ -223,7 +228,7 @@ class Recorder:
             what = f"--chunks {self.most_chunks} is the most that a trace may have, so run the program with a lower GOGC or less to do"
         self.say(f"the objects in use pass the region of {region >> 20} MiB at line {self.lines:,} of the log: some will find no room, and `leaks` counts without them; {what}")
 
-    def forget(self, address):
+    def forget(self, address: int) -> None:
         """The object at this address is dead."""
         one = self.live.pop(address, None)
         if one is None:
@@ -237,7 +242,7 @@ class Recorder:
 
     # Mark ends.
 
-    def write_cycle(self):
+    def write_cycle(self) -> None:
         """Writes the last mark end with whom it found alive, and the allocations since."""
         if self.early is not None:
             self.begin()
@@ -246,7 +251,7 @@ class Recorder:
             self.trace.allocate(line)
         self.spool = []
 
-    def begin(self):
+    def begin(self) -> None:
         """The trace begins with the objects that live at its first mark end; all objects get numbers in the trace."""
         numbers = {one: at for at, one in enumerate(self.early)}
         past = self.base - len(numbers)
@@ -258,7 +263,7 @@ class Recorder:
         for proc, size, kind, *stack in early.values():
             self.trace.allocate(f"a {proc} {size} {kind} {self.stack(*stack)}\n")
 
-    def collect(self, event):
+    def collect(self, event: golog.Collection) -> bool:
         """Returns whether the trace goes on."""
         self.log_mark_ends += 1
         if self.early is not None and self.base is None:
@@ -277,7 +282,7 @@ class Recorder:
         self.waiting, self.swept = event.waiting, False
         return True
 
-    def finish(self):
+    def finish(self) -> None:
         """The log ends. Its last mark end has no other behind it: who it found alive is known only where its sweep is known to be done."""
         if self.ended or self.old is None:
             return
@@ -289,7 +294,7 @@ class Recorder:
         except Full as full:
             self.full = self.full or str(full)
 
-    def is_other(self, event):
+    def is_other(self, event: golog.Allocation) -> bool:
         """Whether a second program starts here, whose objects nothing tells from those of the first. The runtime's start comes before all
         else of a program, and makes one list of processors."""
         if isinstance(event, golog.Allocation):
@@ -307,7 +312,7 @@ class Recorder:
             self.procs = min(event.procs, MOST_PROCS)
         return False
 
-    def pass_over(self, event):
+    def pass_over(self, event: Any) -> None:
         """Counts what is no whole block."""
         if isinstance(event, golog.Broken):
             self.broken += 1
@@ -318,7 +323,7 @@ class Recorder:
             if self.foreign_seen:
                 self.foreign_seen(event.text)
 
-    def run(self, events):
+    def run(self, events: Iterable[Any]) -> None:
         for event in events:
             self.lines = event.line
             if isinstance(event, golog.Allocation):

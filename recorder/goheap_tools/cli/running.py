@@ -6,6 +6,7 @@ import signal
 import subprocess
 import sys
 import time
+from typing import Any, Iterator, List, Optional, TextIO
 
 from goheap_tools import tool
 from goheap_tools.formats import golog
@@ -19,18 +20,18 @@ PATIENCE = 10
 class Interrupt:
     """Takes the first interrupt, or SIGTERM, as the log's end, so that the trace is whole. A second one ends the process."""
 
-    def __init__(self):
-        self.came = None
+    def __init__(self) -> None:
+        self.came: Optional[int] = None
         signal.signal(signal.SIGINT, self.take)
         signal.signal(signal.SIGTERM, self.take)
 
-    def take(self, number, _):
+    def take(self, number: int, _: Any) -> None:
         self.came = number
         signal.signal(signal.SIGINT, tool.stop)
         signal.signal(signal.SIGTERM, tool.stop)
 
 
-def ready(file, seconds):
+def ready(file: Any, seconds: float) -> bool:
     """Whether something can be read within so many seconds. A file that is none of the system's can always be read."""
     try:
         handle = file.fileno()
@@ -44,16 +45,16 @@ class Log:
 
     is_run = False
 
-    def __init__(self, file, interrupt):
+    def __init__(self, file: TextIO, interrupt: Interrupt) -> None:
         self.file, self.interrupt = file, interrupt
 
-    def wait(self):
+    def wait(self) -> bool:
         while not self.interrupt.came:
             if ready(self.file, 0.2):
                 return True
         return False
 
-    def end(self, early):
+    def end(self, early: bool) -> None:
         pass
 
 
@@ -62,16 +63,16 @@ class Run:
 
     is_run = True
 
-    def __init__(self, words, interrupt, out):
+    def __init__(self, words: List[str], interrupt: Interrupt, out: Optional[TextIO]) -> None:
         self.interrupt = interrupt
-        self.asked = None  # when the program was asked to end
+        self.asked: Optional[float] = None  # when the program was asked to end
         self.stopped = False
         debug = ",".join(filter(None, [os.environ.get("GODEBUG"), "allocfreetrace=1"]))
         with tool.Named(words[0]):
             self.process = subprocess.Popen(words, stderr=subprocess.PIPE, stdout=out, env={**os.environ, "GODEBUG": debug})
         self.file = self.process.stderr
 
-    def wait(self):
+    def wait(self) -> bool:
         """The program's children may hold its log open, so its end is the log's."""
         while True:
             if self.interrupt.came:
@@ -81,7 +82,7 @@ class Run:
             if self.process.poll() is not None:
                 return False
 
-    def urge(self):
+    def urge(self) -> None:
         """Asks the program to end, which a terminal's interrupt has done already, and in the end makes it."""
         now = time.monotonic()
         if self.asked is None:
@@ -91,7 +92,7 @@ class Run:
         elif now > self.asked + PATIENCE:
             self.process.kill()
 
-    def end(self, early):
+    def end(self, early: bool) -> None:
         """Waits for the program's end; where the trace ended early, ends it, since Go programs run on when nobody reads what they write."""
         if early and self.process.poll() is None:
             self.stopped = True
@@ -104,12 +105,12 @@ class Run:
                 time.sleep(0.01)
         self.file.close()
 
-    def status(self):
+    def status(self) -> str:
         status = self.process.returncode
         return f"signal {-status}" if status < 0 else f"status {status}"
 
 
-def told_pieces(log):
+def told_pieces(log: Log) -> Iterator[str]:
     """The log's text, as it comes. Where standard error is a terminal it tells there how far it is, but not while a program runs."""
     shown = sys.stderr is not None and sys.stderr.isatty() and not log.is_run
     lines = before = 0

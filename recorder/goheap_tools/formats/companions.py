@@ -5,32 +5,39 @@ An older stacks file has no first lines; nothing is asked then.
 
 import hashlib
 from collections import Counter
+from typing import Iterable, NoReturn, Optional, Tuple
 
 from goheap_tools.formats.journal import Miss
+from goheap_tools.formats.report import Report
+from goheap_tools.formats.stacks import Stacks
+from goheap_tools.formats.traces import Trace
 from goheap_tools.heap.classes import SLOTS, slot_of
 from goheap_tools.tool import Unusable
 
+# What a stacks file and what is held against it are called.
+Names = Tuple[str, str]
 
-def refuse(stacks, names, why):
+
+def refuse(stacks: Stacks, names: Names, why: str) -> NoReturn:
     program = stacks.header.get("program")
     of = f", of {program}" if program else ""
     raise Unusable(f"{names[1]} and {names[0]} are of two recordings: {why}{of}")
 
 
-def check_count(stacks, names, what, found):
+def check_count(stacks: Stacks, names: Names, what: str, found: int) -> None:
     """Refuses another number of something than the recording has."""
     told = stacks.number(what)
     if told is not None and told != found:
         refuse(stacks, names, f"{found} {what}, and by the stacks {told}")
 
 
-def told_slots(stacks):
+def told_slots(stacks: Stacks) -> Optional[Counter]:
     """The recording's objects by slot size, or nothing."""
     told = stacks.header.get("slots")
     return None if told is None else Counter({int(slot): int(count) for slot, count in (pair.split(":") for pair in told.split())})
 
 
-def slots_of_report(report):
+def slots_of_report(report: Report) -> Counter:
     """How many objects, placed or missed, a report has in small slots of each size; and how many large ones, under 0."""
     found = Counter()
     for size_class, mallocs, _ in report.totals:
@@ -41,7 +48,7 @@ def slots_of_report(report):
     return found
 
 
-def of_report(stacks, report, names):
+def of_report(stacks: Stacks, report: Report, names: Names) -> None:
     """Refuses a report that is not of the recording. `names` are those of the stacks file and of the report."""
     check_count(stacks, names, "objects", len(report.addresses))
     told = told_slots(stacks)
@@ -56,7 +63,7 @@ def of_report(stacks, report, names):
             refuse(stacks, names, f"{found[slot]} objects in slots {size}, and by the stacks {told[slot]}")
 
 
-def of_trace(stacks, trace, names):
+def of_trace(stacks: Stacks, trace: Trace, names: Names) -> None:
     """Refuses a trace that is not the recording's. `names` are those of the stacks file and of the trace."""
     check_count(stacks, names, "objects", len(trace.sizes))
     check_count(stacks, names, "mark ends", trace.mark_ends)
@@ -68,7 +75,7 @@ def of_trace(stacks, trace, names):
         refuse(stacks, names, "the objects have other sizes")
 
 
-def of_trace_file(stacks, path):
+def of_trace_file(stacks: Stacks, path: str) -> Optional[bool]:
     """Whether the file's text is that of the recording's trace; nothing where the stacks do not tell."""
     told = stacks.header.get("digest")
     if told is None:
@@ -80,7 +87,7 @@ def of_trace_file(stacks, path):
     return digest.hexdigest() == told
 
 
-def of_heap(stacks, rate, numbers, names):
+def of_heap(stacks: Stacks, rate: int, numbers: Iterable[int], names: Names) -> None:
     """Refuses a heap profile that is not of the recording: another rate, or a stack that it does not have. `names` are those of the stacks
     file and of the profile."""
     told = stacks.number("rate")

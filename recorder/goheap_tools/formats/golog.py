@@ -12,7 +12,7 @@ that was seen before is told by its place and its program counter. What is not w
 import codecs
 import io
 import re
-from typing import FrozenSet, NamedTuple, Optional, Tuple
+from typing import Any, FrozenSet, Iterable, Iterator, NamedTuple, Optional, TextIO, Tuple
 
 ALLOC = re.compile(r"tracealloc\((0x[0-9a-f]+), (0x[0-9a-f]+)(?:, (.*))?\)\s*$")
 FREE = re.compile(r"tracefree\((0x[0-9a-f]+), (0x[0-9a-f]+)\)\s*$")
@@ -83,11 +83,11 @@ class Foreign(NamedTuple):
 class Lines:
     """A log's lines with their numbers, from pieces of its text. The last line may be put back."""
 
-    def __init__(self, pieces):
+    def __init__(self, pieces: Iterable[str]) -> None:
         self.pieces = iter(pieces)
         self.text, self.at, self.number = "", 0, 0
 
-    def more(self):
+    def more(self) -> bool:
         """Takes one piece more. Returns whether there was one."""
         piece = next(self.pieces, None)
         if piece is None:
@@ -96,7 +96,7 @@ class Lines:
         self.at = 0
         return True
 
-    def next(self):
+    def next(self) -> Any:
         end = self.text.find("\n", self.at) + 1
         while not end and len(self.text) - self.at < MOST_LINE and self.more():
             end = self.text.find("\n", self.at) + 1
@@ -106,18 +106,18 @@ class Lines:
         self.number += bool(line)
         return line or None
 
-    def put_back(self, line):
+    def put_back(self, line: str) -> None:
         self.at -= len(line)
         self.number -= 1
 
-    def block_end(self):
+    def block_end(self) -> Any:
         """Where the blank line of the block stands that begins here, or -1 where none comes soon."""
         end = self.text.find("\n\n", self.at)
         while end < 0 and len(self.text) - self.at < MOST_LINE and self.more():
             end = self.text.find("\n\n", self.at)
         return end
 
-    def pass_block(self, end):
+    def pass_block(self, end: int) -> Any:
         """Goes on behind the blank line there. Returns the number of the block's first line."""
         number = self.number + 1
         self.number += self.text.count("\n", self.at, end + 2)
@@ -125,9 +125,9 @@ class Lines:
         return number
 
 
-def pieces_of(file, wait=lambda: True):
+def pieces_of(file: TextIO, wait: Any = lambda: True) -> Iterator[str]:
     """The text of a file in pieces, as they come. `wait` waits for the next one, and answers whether to read on."""
-    source = getattr(file, "buffer", file)
+    source: Any = getattr(file, "buffer", file)
     decoder = io.IncrementalNewlineDecoder(codecs.getincrementaldecoder("utf-8")("surrogateescape"), True)
     while wait():
         data = source.read1(PIECE)
@@ -138,21 +138,21 @@ def pieces_of(file, wait=lambda: True):
             return
 
 
-def function_of(line):
+def function_of(line: str) -> str:
     """The function of a frame's first line, without the arguments."""
     return line.rstrip("\n").rpartition("(")[0]
 
 
-def place_of(line):
+def place_of(line: str) -> Optional[str]:
     """FILE:LINE of a frame's second line, or nothing."""
     place = line[1:].split(" ", 1)[0].rstrip()
     if ":" in place:
         return place
     found = PLACE.match(line)
-    return found and found.group(1)
+    return found.group(1) if found else None
 
 
-def frame_of(name, place):
+def frame_of(name: str, place: str) -> Optional[Tuple[str, str]]:
     """The place and the function of a frame's two lines; nothing where they are none, or are of the runtime's start, which says more."""
     found = place_of(place) if place.startswith("\t") else None
     if not found or "(" not in name or name.startswith(("\t", "created by ", "runtime.procresize(", "runtime.schedinit(")):
@@ -160,7 +160,7 @@ def frame_of(name, place):
     return found, function_of(name)
 
 
-def rest_of_block(lines):
+def rest_of_block(lines: Any) -> Any:
     """The lines up to the blank one that ends the block, and whether it came."""
     rest = []
     while True:
@@ -178,13 +178,18 @@ def rest_of_block(lines):
 class Stack:
     """A stack as its lines come."""
 
-    def __init__(self):
-        self.goroutine = self.asked = self.type_address = self.name = self.procs = None
+    def __init__(self) -> None:
+        self.goroutine: Any = None
+        self.asked: Any = None
+        self.type_address: Any = None
+        self.name: Any = None
+        self.procs: Any = None
         self.starts = self.waits = False
         self.places, self.functions = [], []
-        self.foreign, self.line = [], None
+        self.foreign: Any = []
+        self.line: Any = None
 
-    def take(self, line):
+    def take(self, line: str) -> Any:
         if line.startswith("\t"):
             self.take_place(line)
         elif line.startswith("created by "):
@@ -194,7 +199,7 @@ class Stack:
         else:
             self.take_other(line)
 
-    def take_place(self, line):
+    def take_place(self, line: str) -> Any:
         place = place_of(line)
         if place and self.name is not None:
             self.places.append(place)
@@ -203,7 +208,7 @@ class Stack:
             self.foreign.append(line)
         self.name = None
 
-    def take_function(self, line):
+    def take_function(self, line: str) -> Any:
         if self.asked is None and not self.places:
             found = MALLOCGC.match(line)
             if found:
@@ -220,7 +225,7 @@ class Stack:
         self.starts = self.starts or self.name == "runtime.schedinit"
         self.waits = self.waits or self.name == "runtime.GC"
 
-    def take_other(self, line):
+    def take_other(self, line: str) -> Any:
         self.starts = self.starts or line.startswith("runtime.schedinit(")
         found = GOROUTINE.search(line)
         if found and self.goroutine is None:
@@ -228,12 +233,12 @@ class Stack:
         elif not ELIDED.match(line):
             self.foreign.append(line)
 
-    def frames(self):
+    def frames(self) -> Any:
         """Places, functions, and the processors that the runtime's start makes."""
         return tuple(self.places), tuple(self.functions), (self.procs or 1) if self.starts else None
 
 
-def allocation_of(number, header, stack):
+def allocation_of(number: int, header: Any, stack: Any) -> Any:
     """The allocation that a block says, or Broken."""
     if stack.goroutine is None:
         return Broken(number, "tracealloc without its goroutine", stack.starts)
@@ -249,12 +254,12 @@ def allocation_of(number, header, stack):
 class Reader:
     """Goes through a log. Remembers the stacks by their program counters."""
 
-    def __init__(self, pieces):
+    def __init__(self, pieces: Iterable[str]) -> None:
         self.lines = Lines(pieces)
         self.known = {}  # how many line feeds a stack has, and its frames, by its program counters
         self.seen = {}  # the place and the function of a frame
 
-    def events(self):
+    def events(self) -> Iterator[Any]:
         lines = self.lines
         while True:
             if lines.at == len(lines.text):
@@ -274,7 +279,7 @@ class Reader:
                 return
             yield from self.read_on(line, lines.number)
 
-    def read_on(self, line, number):
+    def read_on(self, line: str, number: int) -> Iterator[Any]:
         """The events of a block that is read line by line, or of a line of none."""
         if not HEADER.search(line):
             if not line.isspace():
@@ -288,7 +293,7 @@ class Reader:
         else:
             yield Broken(number, "a block's first line is not whole")
 
-    def whole_allocation(self):
+    def whole_allocation(self) -> Any:
         """The allocation of a whole block with nothing else in it, or nothing."""
         lines = self.lines
         end = lines.block_end()
@@ -308,7 +313,7 @@ class Reader:
         lines.at = end + 2
         return Allocation(number, int(address, 16), slot, asked, type_name, None if is_odd else int(type_address, 16), int(goroutine), *frames)
 
-    def frames_of(self, text, at, end, feeds):
+    def frames_of(self, text: str, at: int, end: int, feeds: int) -> Any:
         """The frames of a block with so many line feeds, which its program counters tell where they were seen before; or nothing."""
         counters = tuple(COUNTER.findall(text, at, end))
         known = self.known.get(counters)
@@ -321,7 +326,7 @@ class Reader:
                 self.known[counters] = known
         return known[1] if known[0] == feeds else None
 
-    def read_frames(self, lines):
+    def read_frames(self, lines: Any) -> Any:
         """The frames of a stack's lines, each two; a frame that was seen before is told by its place and its program counter. Nothing where a
         line is of no frame."""
         if len(lines) % 2 or len(lines) >= MOST_LINES:
@@ -342,7 +347,7 @@ class Reader:
             functions.append(frame[1])
         return tuple(places), tuple(functions), None
 
-    def allocation_events(self, number, header):
+    def allocation_events(self, number: int, header: Any) -> Iterator[Any]:
         rest, is_whole = rest_of_block(self.lines)
         stack = Stack()
         for line in rest:
@@ -354,7 +359,7 @@ class Reader:
         for line in stack.foreign:
             yield Foreign(number, line)
 
-    def whole_free(self):
+    def whole_free(self) -> Any:
         """The freed object of a whole block with nothing else in it, or nothing. Behind two lines a block has two of each frame."""
         lines = self.lines
         end = lines.block_end()
@@ -366,7 +371,7 @@ class Reader:
             return None
         return Free(lines.pass_block(end), int(header.group(1), 16), int(header.group(2), 16))
 
-    def free_events(self, number, header):
+    def free_events(self, number: int, header: Any) -> Iterator[Any]:
         yield Free(number, int(header.group(1), 16), int(header.group(2), 16))
         rest, is_whole = rest_of_block(self.lines)
         if not is_whole:
@@ -377,7 +382,7 @@ class Reader:
         for line in stack.foreign:
             yield Foreign(number, line)
 
-    def collection_events(self, number):
+    def collection_events(self, number: int) -> Iterator[Any]:
         """The block has a part for each goroutine, behind a blank line."""
         waiting, foreign, stack = set(), [], Stack()
         is_whole = False
@@ -403,6 +408,6 @@ class Reader:
             yield Foreign(number, line)
 
 
-def events(pieces):
+def events(pieces: Iterable[str]) -> Iterator[Any]:
     """The allocations, frees and collections of a log in order, and what else is in it. `pieces` gives its text, in lines or in any other pieces."""
     return Reader(pieces).events()

@@ -1,7 +1,7 @@
 """Reads a heap text of goheap, in the form that docs/profile.md has."""
 
 import re
-from typing import List, NamedTuple
+from typing import Iterable, List, Match, NamedTuple, Optional
 
 from goheap_tools.tool import Unusable, kind_of, named, reading
 
@@ -39,11 +39,11 @@ class Heap(NamedTuple):
     buckets: List[Bucket]
 
 
-def numbers_in(match):
+def numbers_in(match: Match[str]) -> Numbers:
     return Numbers(*map(int, match.groups()[:4]))
 
 
-def bucket_in(line):
+def bucket_in(line: str) -> Bucket:
     """The bucket of a line; ValueError where it is none."""
     match = LINE.fullmatch(line)
     if not match:
@@ -57,7 +57,7 @@ def bucket_in(line):
     return Bucket(numbers, slot, stack)
 
 
-def read_heap(lines, name="heap"):
+def read_heap(lines: Iterable[str], name: str = "heap") -> Heap:
     """The heap text. Unusable names the first line with which the lines are none."""
     top, buckets, sums, number = None, [], Numbers(0, 0, 0, 0), 0
     for number, line in enumerate(lines, 1):
@@ -83,7 +83,7 @@ def read_heap(lines, name="heap"):
     return Heap(int(top[5]) // 2, sums, buckets)
 
 
-def heap_in(path):
+def heap_in(path: str) -> Heap:
     """The heap text in the file; - is standard input."""
     with reading(path) as file:
         return read_heap(file, named(path))

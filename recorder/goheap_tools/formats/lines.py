@@ -28,7 +28,7 @@ def is_kind(name: str, front: bytes, kind: str) -> None:
     """Refuses a text that begins as one of another kind does."""
     found = tool.kind_of(front.decode("latin-1"))
     if found not in (None, kind):
-        how = tool.MAKING.get((kind, found), "")
+        how = tool.MAKING.get((kind, str(found)), "")
         raise Unusable(f"{name}: this is {found}, and no {kind[2:]}{how}")
 
 

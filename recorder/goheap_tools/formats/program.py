@@ -8,6 +8,7 @@ build information, behind the words `\\xff Go buildinf:` (`exe.go` of Go's `debu
 import os
 import re
 import struct
+from typing import Any, Optional
 
 from goheap_tools.tool import Unusable
 
@@ -20,7 +21,7 @@ BUILD_INFORMATION = b"\xff Go buildinf:"
 class Program:
     """The loaded parts of a 64-bit little-endian ELF program that was linked to a fixed address."""
 
-    def __init__(self, path):
+    def __init__(self, path: str) -> None:
         self.name = os.path.basename(path)
         with open(path, "rb") as file:
             self.bytes = file.read()
@@ -33,7 +34,7 @@ class Program:
         self.known = {}
         self.go_version = self.version()
 
-    def loaded(self):
+    def loaded(self) -> Any:
         """Where each loaded part stands when the program runs, where in the file, and how long it is there."""
         offset, = struct.unpack_from("<Q", self.bytes, 32)
         size, count = struct.unpack_from("<HH", self.bytes, 54)
@@ -42,7 +43,7 @@ class Program:
             if kind == 1:  # PT_LOAD
                 yield address, at, length
 
-    def version(self):
+    def version(self) -> Optional[str]:
         """Which Go built the program, as go1.19.8, or None. Since Go 1.18 its name stands 32 bytes behind the words, behind its length."""
         at = self.bytes.find(BUILD_INFORMATION)
         while at >= 0:
@@ -53,18 +54,18 @@ class Program:
             at = self.bytes.find(BUILD_INFORMATION, at + 1)
         return None
 
-    def is_read(self):
+    def is_read(self) -> bool:
         """Whether logs of this version are read."""
         found = re.match(r"go1\.(\d+)", self.go_version or "")
-        return bool(found) and int(found.group(1)) in READ
+        return found is not None and int(found.group(1)) in READ
 
-    def has_pointers(self, address):
+    def has_pointers(self, address: int) -> Optional[bool]:
         """Whether the type that is described there has pointers, or None where nothing is described there."""
         if address not in self.known:
             self.known[address] = self.look(address)
         return self.known[address]
 
-    def look(self, address):
+    def look(self, address: int) -> Optional[bool]:
         for begin, at, length in self.parts:
             if begin <= address and address + 16 <= begin + length and at + address - begin + 16 <= len(self.bytes):
                 size, pointers = struct.unpack_from("<QQ", self.bytes, at + address - begin)

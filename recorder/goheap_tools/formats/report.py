@@ -4,7 +4,7 @@ import itertools
 import re
 from array import array
 from collections.abc import Sequence
-from typing import Any, BinaryIO, Dict, Iterable, Iterator, List, NamedTuple, Tuple
+from typing import Any, BinaryIO, Dict, Iterable, Iterator, List, NamedTuple
 
 from goheap_tools import tool
 from goheap_tools.formats.journal import KINDS, Line
@@ -57,13 +57,13 @@ class Bucket(NamedTuple):
 class Rows(Sequence):
     """Lines of one kind, in columns."""
 
-    def __init__(self, kind: Any):
+    def __init__(self, kind: Any) -> None:
         self.kind, self.columns = kind, [array("Q") for _ in kind._fields]
 
     def __len__(self) -> int:
         return len(self.columns[0])
 
-    def __getitem__(self, at):
+    def __getitem__(self, at: Any) -> Any:
         if isinstance(at, slice):
             return list(map(self.kind._make, zip(*(column[at] for column in self.columns))))
         return self.kind._make(column[at] for column in self.columns)
@@ -85,7 +85,7 @@ class Report:
     """The address of each object, or ZERO or MISSED; for each that was missed the number of the journal line that it names; the journal; the
     sweeps, the totals and the buckets of the profile."""
 
-    def __init__(self, name: str = "report"):
+    def __init__(self, name: str = "report") -> None:
         self.name = name
         self.addresses = array("Q")
         self.misses: Dict[int, int] = {}

@@ -25,7 +25,7 @@ REAL_FORMS = {**FORMS, "gc": form("gc N(?: all)?"), "d": form("d N N"), "f": for
 class Limits:
     """The greatest numbers of a version."""
 
-    def __init__(self, version: int):
+    def __init__(self, version: int) -> None:
         is_real, has_large = version >= REAL, version >= 2
         self.header = (("chunks", 1, 4096 if has_large else 128), ("procs", 1, 64), ("rate", 0, 1 << 30), ("seed", 0, (1 << 64) - 1),
                        ("goal", 0, 2097152 if has_large else 65536))  # fmt: skip
@@ -39,7 +39,7 @@ class Limits:
 class Draft:
     """What the lines so far say, as far as faults of later ones hang on it."""
 
-    def __init__(self, version: int):
+    def __init__(self, version: int) -> None:
         self.version, self.limits = version, Limits(version)
         self.forms = REAL_FORMS if version >= REAL else FORMS
         self.procs = 0

@@ -5,7 +5,7 @@ import re
 from array import array
 from bisect import bisect_right
 from collections.abc import Sequence
-from typing import BinaryIO, Dict, Iterable, Iterator, List, NamedTuple, Optional, Tuple
+from typing import Any, BinaryIO, Dict, Iterable, Iterator, List, NamedTuple, Optional, Tuple
 
 from goheap_tools import tool
 from goheap_tools.formats.lines import is_kind, joined, opened, runs
@@ -55,13 +55,13 @@ class Flush(NamedTuple):
 class Events(Sequence):
     """The objects of a trace by their numbers."""
 
-    def __init__(self, trace: "Trace"):
+    def __init__(self, trace: 'Trace') -> None:
         self.trace = trace
 
     def __len__(self) -> int:
         return len(self.trace.sizes)
 
-    def __getitem__(self, one):
+    def __getitem__(self, one: Any) -> Any:
         trace = self.trace
         one = range(len(trace.sizes))[one]
         return Event(bisect_right(trace.born, one), trace.procs[one], trace.sizes[one], bool(trace.pointers[one]), trace.stacks[one])
@@ -75,7 +75,7 @@ class Trace:
     """Of each object its processor, size, stack and whether it has pointers; of each mark end how many objects stand before it, and the ranges
     that its lines name: the marked, or, where `names_dead`, those that live no more; and the flushes."""
 
-    def __init__(self, name: str = "trace", version: int = 1, header: Optional[Dict[str, int]] = None):
+    def __init__(self, name: str = "trace", version: int = 1, header: Optional[Dict[str, int]] = None) -> None:
         self.name, self.version, self.header = name, version, header or {}
         self.procs, self.sizes, self.pointers, self.stacks = array("B"), array("Q"), bytearray(), array("I")
         self.born, self.names_dead, self.starts = array("I"), bytearray(), array("I")

@@ -1,10 +1,11 @@
 """A trace and a report of it, with what the rules ask about: needs, lives, seats, and the numbers of lines. `rules.py` has the rules."""
 
 from collections import defaultdict
-from typing import NamedTuple, Optional
+from typing import Dict, List, NamedTuple, Optional, Sized, Tuple
 
 from goheap_tools.formats.journal import Cut, journal_text
-from goheap_tools.formats.report import MISSED
+from goheap_tools.formats.report import MISSED, Report
+from goheap_tools.formats.traces import Trace
 from goheap_tools.heap.classes import BASE, LARGEST, PAGE, PAGES, SLOTS
 from goheap_tools.heap.tiny import BLOCK, is_tiny, riders_of, size_in
 
@@ -30,7 +31,7 @@ class Life(NamedTuple):
     end: float  # the Give's cycle
 
 
-def need_of(size, has_pointers):
+def need_of(size: int, has_pointers: bool) -> Need:
     plain = 0 if has_pointers else 1
     if size > LARGEST:
         pages = -(-size // PAGE)
@@ -39,11 +40,11 @@ def need_of(size, has_pointers):
     return Need(2 * size_class + plain, PAGES[size_class], SLOTS[size_class], PAGES[size_class] * PAGE // SLOTS[size_class])
 
 
-def pages_text(page, pages):
+def pages_text(page: int, pages: int) -> str:
     return f"page {page}" if pages == 1 else f"pages {page} to {page + pages - 1}"
 
 
-def class_name(span_class):
+def class_name(span_class: int) -> str:
     pointers = "without pointers" if span_class % 2 else "with pointers"
     if span_class < 2:
         return f"one large object {pointers} (span class {span_class})"
@@ -53,7 +54,7 @@ def class_name(span_class):
 class Judged:
     """A trace and a report of it, with what the rules ask about."""
 
-    def __init__(self, trace, report, frames=None):
+    def __init__(self, trace: Trace, report: Report, frames: Optional[Dict[int, List[str]]] = None) -> None:
         self.trace, self.report, self.frames = trace, report, frames or {}
         self.last, self.cycles = trace.mark_ends, trace.cycles()
         self.needs = {}
@@ -63,7 +64,7 @@ class Judged:
         self.seats = []  # of each object: its life and index, or nothing
         self.places()
 
-    def take_riders(self):
+    def take_riders(self) -> None:
         """Takes in who rides, where each object has an answer. A lead lives as long as its block, in which something lives."""
         self.own_lasts, self.riding = self.lasts[:], defaultdict(list)
         self.riders = riders_of(self.trace, self.report.addresses) if len(self.report.addresses) == len(self.lasts) else {}
@@ -73,39 +74,40 @@ class Judged:
 
     # The numbers of lines.
 
-    def places(self):
+    def places(self) -> None:
         report, at = self.report, 0
         self.starts = []
-        for part in (report.addresses, report.journal, report.sweeps, report.totals, report.buckets):
+        parts: Tuple[Sized, ...] = (report.addresses, report.journal, report.sweeps, report.totals, report.buckets)
+        for part in parts:
             self.starts.append(at + 1)
             at += len(part)
         self.end = at + 1
 
-    def journal_line(self, number):
+    def journal_line(self, number: int) -> int:
         return self.starts[1] + number
 
-    def journal(self, number):
+    def journal(self, number: int) -> str:
         """A journal line with where it stands."""
         return f"{journal_text(number, self.report.journal[number])} (line {self.journal_line(number)})"
 
     # Objects.
 
-    def need(self, one):
-        has_pointers = self.trace.pointers[one]
+    def need(self, one: int) -> Need:
+        has_pointers = bool(self.trace.pointers[one])
         key = size_in(self.trace.version, self.trace.sizes[one], has_pointers), has_pointers
         if key not in self.needs:
             self.needs[key] = need_of(*key)
         return self.needs[key]
 
-    def is_placed(self, one):
+    def is_placed(self, one: int) -> bool:
         """Whether the object has a slot of its own, which what rides has not."""
         return self.report.addresses[one] > MISSED and one not in self.riders
 
-    def is_lead(self, one):
+    def is_lead(self, one: int) -> bool:
         event = self.trace.events[one]
         return is_tiny(self.trace.version, event.size, event.has_pointers) and one not in self.riders
 
-    def object_text(self, one):
+    def object_text(self, one: int) -> str:
         """What an object is, with where it came from."""
         event = self.trace.events[one]
         frames = self.frames.get(event.stack)
@@ -113,30 +115,30 @@ class Judged:
         lead = f", the lead of a block of {BLOCK} bytes" if self.is_lead(one) else ""
         return f"Object {one} ({event.size} bytes {'with' if event.has_pointers else 'without'} pointers{lead}, of processor {event.proc}, {stack}) was allocated in cycle {event.cycle}"
 
-    def address_text(self, one):
+    def address_text(self, one: int) -> str:
         return f"{self.report.addresses[one]:#x}"
 
-    def life_text(self, life):
+    def life_text(self, life: Life) -> str:
         given = "" if life.given is None else f" and given back in cycle {life.end} by {self.journal(life.given)}"
         made = "cut" if isinstance(self.report.journal[life.number], Cut) else "taken"
         return f"the span at {pages_text(life.page, life.pages)}, for {class_name(life.span_class)}, {made} in cycle {life.cycle} by {self.journal(life.number)}{given}"
 
-    def lifetime(self, one):
+    def lifetime(self, one: int) -> str:
         begin, end = self.cycles[one], self.lasts[one]
         lives = f"lives in cycle {begin}" if begin == end else f"lives in the cycles {begin} to {end}"
         return lives if end == self.own_lasts[one] else f"{lives} for object {self.keeper(one, end)}, which rides in its block"
 
-    def keeper(self, lead, mark_end):
+    def keeper(self, lead: int, mark_end: int) -> int:
         """An object in the lead's block that this mark end marks."""
         return next(one for one in self.riding[lead] if self.own_lasts[one] >= mark_end)
 
-    def kept_text(self, one, mark_end):
+    def kept_text(self, one: int, mark_end: int) -> str:
         """An object that a mark end keeps, with for whom where it does not mark it."""
         return f"{one}" if self.own_lasts[one] >= mark_end else f"{one} for {self.keeper(one, mark_end)}"
 
-    def seat_address(self, life, index):
+    def seat_address(self, life: Life, index: int) -> int:
         return BASE + life.page * PAGE + index * self.slot(life)
 
     @staticmethod
-    def slot(life):
+    def slot(life: Life) -> int:
         return SLOTS[life.span_class // 2] if life.span_class > 1 else life.pages * PAGE

@@ -37,7 +37,7 @@ class Span(NamedTuple):
 class Block:
     """The block that a processor pulled: its first page, the pages that are left as bits of a number, what they were, and the cycle of the pull."""
 
-    def __init__(self, page: int, left: int, were: bytes, cycle: int):
+    def __init__(self, page: int, left: int, were: bytes, cycle: int) -> None:
         self.page, self.left, self.were, self.cycle = page, left, were, cycle
 
     def count(self) -> int:
@@ -68,7 +68,7 @@ class Block:
 class Pages:
     """The pages as the journal goes on. A region of so many pages, which grows where a line speaks of a later one."""
 
-    def __init__(self, count: int = 0, version: int = 1):
+    def __init__(self, count: int = 0, version: int = 1) -> None:
         self.is_real = version >= REAL
         self.kinds, self.busy, self.scavenged = bytearray(count), bytearray(count), bytearray(b"\1") * count
         self.backed = self.in_spans = self.lines = 0
@@ -144,7 +144,7 @@ class Pages:
             self.others(line)
         self.lines += 1
 
-    def make(self, line) -> None:
+    def make(self, line: Any) -> None:
         """A span is made, at first fit or out of a block."""
         if isinstance(line, Cut) and line.proc in self.blocks:
             self.blocks[line.proc].cut(line.page, line.pages)
@@ -152,7 +152,7 @@ class Pages:
         self.spans[line.page] = Span(line.pages, line.span_class, self.lines)
         self.in_spans += line.pages
 
-    def others(self, line) -> None:
+    def others(self, line: Any) -> None:
         """What is no span's."""
         if isinstance(line, Keep) and line.proc in self.blocks:
             self.blocks[line.proc].cut(line.page, line.pages)
@@ -193,14 +193,14 @@ class Pages:
         misfit = MISFITS.get(type(line))
         return misfit(self, line) if misfit else None
 
-    def are(self, line, kind: int) -> bool:
+    def are(self, line: Any, kind: int) -> bool:
         """Whether the line's pages are all of this kind."""
         return self.kinds.count(kind, line.page, line.page + line.pages) == line.pages
 
-    def are_free(self, line) -> bool:
+    def are_free(self, line: Any) -> bool:
         return line.pages > 0 and not any(self.busy[line.page : line.page + line.pages])
 
-    def cannot_make(self, line) -> Optional[str]:
+    def cannot_make(self, line: Any) -> Optional[str]:
         is_there = line.pages > 0 and self.are(line, CACHED) if isinstance(line, Cut) else self.are_free(line)
         return None if is_there and line.span_class < 2 * len(SLOTS) else "no such span can be made here"
 
@@ -218,7 +218,7 @@ class Pages:
         block = self.blocks.get(line.proc)
         return None if block and block.page == line.page and block.count() == line.pages else "the block has not so many such pages"
 
-    def cannot_hold(self, line) -> Optional[str]:
+    def cannot_hold(self, line: Any) -> Optional[str]:
         is_there = line.pages > 0 and self.are(line, CACHED) if isinstance(line, Keep) else self.are_free(line)
         return None if is_there else "no such run can be held here"
 

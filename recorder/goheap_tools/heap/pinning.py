@@ -3,16 +3,19 @@
 docs/recording.md says what each number is ("Why memory did not come back").
 """
 
+import argparse
 import heapq
 import itertools
 from array import array
 from collections import Counter
+from typing import Any, Callable, Dict, FrozenSet, Hashable, Iterable, Iterator, List, NoReturn, Sequence, Set, Tuple
 
 from goheap_tools import tool
 from goheap_tools.formats import companions
 from goheap_tools.formats.frames import name_of, shown_frames
-from goheap_tools.formats.report import MISSED, report_in
-from goheap_tools.formats.traces import REAL, trace_in
+from goheap_tools.formats.report import MISSED, Report, report_in
+from goheap_tools.formats.stacks import Stacks
+from goheap_tools.formats.traces import REAL, Trace, trace_in
 from goheap_tools.heap import pages, tiny
 from goheap_tools.heap.classes import BASE, PAGE, SLOTS, slot_of
 from goheap_tools.tool import Unusable
@@ -31,11 +34,11 @@ OTHERS = {"stacks and other uses": pages.HELD, "page caches": pages.CACHED, "out
 class Replay:
     """The pages as the journal's lines come."""
 
-    def __init__(self, report, version):
+    def __init__(self, report: Report, version: int) -> None:
         self.report, self.version = report, version
         self.pages = pages.Pages(version=version)
 
-    def go_on(self, cycle):
+    def go_on(self, cycle: int) -> None:
         """Takes the lines of the cycles before this one."""
         journal, now = self.report.journal, self.pages
         while now.lines < len(journal) and journal[now.lines].cycle < cycle:
@@ -46,11 +49,11 @@ class Replay:
         if now.blocks and self.version < REAL:
             self.refuse("a block of a page cache is out as a cycle ends")
 
-    def refuse(self, why):
+    def refuse(self, why: str) -> NoReturn:
         raise Unusable(f"{self.report.name}: line {len(self.report.addresses) + self.pages.lines + 1}: {why}")
 
 
-def peak(report, trace):
+def peak(report: Report, trace: Trace) -> int:
     """The first of the mark ends at which the most pages are backed."""
     replay, most, found = Replay(report, trace.version), -1, 1
     for mark_end in range(1, trace.mark_ends + 1):
@@ -64,7 +67,7 @@ class Class:
     """What the spans of a size class come to. Step k of the eight, from 0, has the spans of which more than k eighths of the slots are live
     objects, and at most k + 1."""
 
-    def __init__(self):
+    def __init__(self) -> None:
         self.spans = self.pages = self.objects = self.live = self.free = self.rounding = self.tails = 0
         self.steps = [0] * STEPS
 
@@ -72,11 +75,11 @@ class Class:
 class Filled:
     """How many slots live objects fill in each span, where some share one."""
 
-    def __init__(self, leads, spans):
+    def __init__(self, leads: Sequence[int], spans: int) -> None:
         self.leads, self.seen = leads, bytearray(len(leads))
         self.used = [0] * spans
 
-    def count(self, objects, spans):
+    def count(self, objects: List[int], spans: List[int]) -> None:
         for one, span in zip(objects, spans):
             lead = self.leads[one]
             if not self.seen[lead]:
@@ -89,7 +92,7 @@ class Pins:
     which nothing is marked. Of the spans that are kept, by rising page: first page, pages, span class, slots, bytes of a slot, live objects,
     slots that they fill (from version 3 on tiny ones share some), their bytes as asked for, and the stacks of the objects, sorted by span."""
 
-    def __init__(self, trace, report, mark_end):
+    def __init__(self, trace: Trace, report: Report, mark_end: int) -> None:
         self.mark_end, self.mark_ends = mark_end, trace.mark_ends
         self.objects, self.behind = trace.born[mark_end - 1], len(trace.sizes) - trace.born[mark_end - 1]
         self.swept = {sweep.page: sweep.kept for sweep in report.sweeps if sweep.cycle == mark_end}
@@ -106,7 +109,7 @@ class Pins:
         self.compare(trace, report)
         self.drop_emptied()
 
-    def set_spans(self, now):
+    def set_spans(self, now: pages.Pages) -> None:
         self.first = sorted(now.spans)
         spans = [now.spans[page] for page in self.first]
         lines = [span.made for span in spans]
@@ -117,18 +120,18 @@ class Pins:
         self.held = [0] * len(lines)
         self.asked = [0] * len(lines)
 
-    def set_others(self, now):
+    def set_others(self, now: pages.Pages) -> None:
         """The backed pages that are free to nobody and in no span, by what they are: in a real run there are some."""
         self.others = {name: sum(kind == one and not bare for one, bare in zip(now.kinds, now.scavenged)) if kind in now.kinds else 0 for name, kind in OTHERS.items()}
 
-    def owners(self):
+    def owners(self) -> List[int]:
         """The number of the span by page."""
         owners = [NOWHERE] * (len(self.region) + 1)
         for number, (page, count) in enumerate(zip(self.first, self.pages)):
             owners[page : page + count] = [number] * count
         return owners
 
-    def seat(self, trace, report):
+    def seat(self, trace: Trace, report: Report) -> Tuple[array, array]:
         """Counts each marked object in its span. Returns the span and the stack of each."""
         addresses, owners = report.addresses, self.owners()
         leads = tiny.leads_of(trace, addresses)
@@ -158,14 +161,14 @@ class Pins:
         self.used = filled.used if filled else self.held[:]
         return spans_of, stacks_of
 
-    def placed(self, some, addresses, sizes):
+    def placed(self, some: List[int], addresses: Sequence[int], sizes: Sequence[int]) -> List[int]:
         """Those of the objects that have an address; counts those that found no room."""
         missed = [one for one in some if addresses[one] == MISSED]
         self.missed += len(missed)
         self.missed_bytes += sum(sizes[one] for one in missed)
         return [one for one in some if addresses[one] >= BASE]
 
-    def count(self, spans, stacks, sizes):
+    def count(self, spans: List[int], stacks: List[int], sizes: List[int]) -> None:
         """Counts objects by their spans and stacks."""
         held, asked, own, live = self.held, self.asked, self.own, self.live
         for span, size in zip(spans, sizes):
@@ -175,7 +178,7 @@ class Pins:
             own[stack] += size
             live[stack] += 1
 
-    def sort_stacks(self, spans_of, stacks_of):
+    def sort_stacks(self, spans_of: array, stacks_of: array) -> None:
         """Puts the stacks of a span's objects side by side."""
         self.begins = [0, *itertools.accumulate(self.held)]
         places = self.begins[:]
@@ -185,7 +188,7 @@ class Pins:
             places[span] = at + 1
             self.sorted[at] = stack
 
-    def compare(self, trace, report):
+    def compare(self, trace: Trace, report: Report) -> None:
         """Refuses a report whose sweeps or spans say otherwise than the trace's marks."""
         for page, used, asked, slot, slots in zip(self.first, self.used, self.asked, self.slot, self.slots):
             if self.swept.get(page) != used:
@@ -196,7 +199,7 @@ class Pins:
         if len(self.swept) > len(self.first):
             raise Unusable(f"{report.name}: mark end {self.mark_end} swept a span that is not there")
 
-    def drop_emptied(self):
+    def drop_emptied(self) -> None:
         """Gives back the spans of which nothing is marked."""
         self.emptied = [(page, count) for page, count, used in zip(self.first, self.pages, self.used) if not used]
         for page, count in self.emptied:
@@ -207,16 +210,16 @@ class Pins:
             column = getattr(self, name)
             setattr(self, name, [column[number] for number in kept])
 
-    def stacks_of(self, span):
+    def stacks_of(self, span: int) -> array:
         """The stack of each live object of a span."""
         return self.sorted[self.begins[span] : self.begins[span + 1]]
 
-    def holders(self):
+    def holders(self) -> Iterator[FrozenSet[int]]:
         """For each span the stacks with live objects in it."""
         return (frozenset(self.stacks_of(span)) for span in range(len(self.first)))
 
 
-    def sums(self):
+    def sums(self) -> Dict[str, int]:
         """The parts of the backed bytes."""
         used = sum(used * slot for used, slot in zip(self.used, self.slot))
         slots = sum(slots * slot for slots, slot in zip(self.slots, self.slot))
@@ -230,7 +233,7 @@ class Pins:
             **{name: count * PAGE for name, count in self.others.items() if count},
         }
 
-    def classes(self):
+    def classes(self) -> List[Tuple[int, Class]]:
         """What the spans of each size class come to, 0 for large objects."""
         rows = {}
         for span_class, pages, slots, slot, held, used, asked in zip(self.span_class, self.pages, self.slots, self.slot, self.held, self.used, self.asked):
@@ -245,7 +248,7 @@ class Pins:
             row.tails += pages * PAGE - slots * slot
         return sorted(rows.items())
 
-    def without(self, stacks):
+    def without(self, stacks: Set[int]) -> Tuple[int, int, int, int, int]:
         """What comes back if all objects of these stacks are gone: the spans, their pages, the longest run of free pages before and after, and
         the longest after in which a page of theirs is."""
         back = [span for span, holders in enumerate(self.holders()) if holders <= stacks]
@@ -257,35 +260,35 @@ class Pins:
         return len(back), sum(self.pages[span] for span in back), before, longest(free), longest(run for run in free if b"b" in run)
 
 
-def longest(some):
+def longest(some: Iterable[Any]) -> int:
     return max(map(len, some), default=0)
 
 
 class Names:
     """The frames of the stacks, and by what they are put together."""
 
-    def __init__(self, frames):
+    def __init__(self, frames: Dict[int, List[str]]) -> None:
         self.frames, self.known = frames, {}
 
-    def shown(self, stack):
+    def shown(self, stack: int) -> List[str]:
         if stack not in self.known:
             self.known[stack] = shown_frames(self.frames.get(stack, []))
         return self.known[stack]
 
-    def same_frames(self, stack):
+    def same_frames(self, stack: int) -> Hashable:
         return tuple(self.frames.get(stack, ())) or stack
 
-    def stacks(self, pins):
+    def stacks(self, pins: Pins) -> "Groups":
         """The live stacks, those of the same frames as one."""
         return Groups(pins, self.frames and self.same_frames)
 
-    def function(self, stack):
+    def function(self, stack: int) -> str:
         return name_of(self.shown(stack)[0])
 
-    def functions(self, stack):
+    def functions(self, stack: int) -> FrozenSet[str]:
         return frozenset(map(name_of, self.shown(stack)))
 
-    def stacks_of(self, words, count):
+    def stacks_of(self, words: Iterable[str], count: int) -> Set[int]:
         """Of the numbers below `count` those that the words name: each with the others of the same frames, or all that a function is in."""
         keys, functions = set(), set()
         for word in words:
@@ -306,12 +309,13 @@ class Groups:
     """What the live stacks hold, in groups of those with one key, or each stack for itself; `keys` has the key of each group and `first` its
     least stack. A group pins the spans that have no object of another group, and shares those that have some of both."""
 
-    def __init__(self, pins, key_of):
+    def __init__(self, pins: Pins, key_of: Any) -> None:
         group_of = array("I", bytes(4 * len(pins.own)))
         if key_of:
             self.group(pins, key_of, group_of)
         else:
-            self.keys = self.first = pins.live_stacks
+            self.first = pins.live_stacks
+            self.keys: Sequence[Any] = self.first
             self.own, self.live = (array("Q", map(column.__getitem__, self.first)) for column in (pins.own, pins.live))
             for group, stack in enumerate(self.first):
                 group_of[stack] = group
@@ -320,7 +324,7 @@ class Groups:
         for pages, holders in zip(pins.pages, pins.holders()):
             self.count(pages * PAGE, {group_of[stack] for stack in holders})
 
-    def group(self, pins, key_of, group_of):
+    def group(self, pins: Pins, key_of: Callable[[int], Hashable], group_of: array) -> None:
         """Puts stacks of one key into one group."""
         known, self.first, self.own, self.live = {}, array("I"), array("Q"), array("Q")
         for stack in pins.live_stacks:
@@ -333,7 +337,7 @@ class Groups:
             self.live[group] += pins.live[stack]
         self.keys = list(known)
 
-    def count(self, size, groups):
+    def count(self, size: int, groups: Set[int]) -> None:
         """Counts a span of these bytes in which these groups have objects."""
         if len(groups) > 1:
             self.mixed += size
@@ -345,17 +349,17 @@ class Groups:
             self.pinned[group] += size
             self.spans[group] += 1
 
-    def order(self, most):
+    def order(self, most: int) -> List[int]:
         """The groups, the most pinned bytes first, then the most bytes of their own; at most so many."""
-        found = range(len(self.first))
-        if most < len(found):
-            return heapq.nsmallest(most, found, key=lambda at: (-self.pinned[at], -self.own[at], at))
-        found = sorted(found, key=self.own.__getitem__, reverse=True)
+        groups = range(len(self.first))
+        if most < len(groups):
+            return heapq.nsmallest(most, groups, key=lambda at: (-self.pinned[at], -self.own[at], at))
+        found = sorted(groups, key=self.own.__getitem__, reverse=True)
         found.sort(key=self.pinned.__getitem__, reverse=True)
         return found
 
 
-def reach(pins, names_of):
+def reach(pins: Pins, names_of: Any) -> Tuple[Counter, Counter]:
     """For each name the bytes of the live objects whose stack has it, and those of the spans all of whose objects are such."""
     own, pinned, known = Counter(), Counter(), {}
     for stack in pins.live_stacks:
@@ -370,13 +374,13 @@ def reach(pins, names_of):
     return own, pinned
 
 
-def add_mark_end(parser):
+def add_mark_end(parser: argparse.ArgumentParser) -> None:
     """The options that name a mark end."""
     parser.add_argument("--at", type=tool.number(1, 1_000_000), metavar="N", help="at mark end N (default: the last)")
     parser.add_argument("--peak", action="store_true", help="at the mark end with the most backed bytes, the first of them")
 
 
-def pins_of(trace_path, report_path, options, stacks):
+def pins_of(trace_path: str, report_path: str, options: argparse.Namespace, stacks: Stacks) -> Pins:
     """What a trace and its report come to at the mark end that the options name. `stacks` are those of the recording, or none."""
     if options.peak and options.at:
         raise Unusable("--at and --peak name two mark ends")

@@ -18,7 +18,7 @@ Sentences = Optional[List[str]]
 class Region(Pages):
     """The pages of a trace's region as the journal goes on."""
 
-    def __init__(self, header: Dict[str, int], version: int):
+    def __init__(self, header: Dict[str, int], version: int) -> None:
         super().__init__(header["chunks"] * CHUNK, version)
         self.goal, self.procs = header["goal"], header["procs"] if version >= CACHING else 0
         self.cutting: Optional[int] = None  # the processor of the line before, where that is a Cut
@@ -45,7 +45,7 @@ class Region(Pages):
                 return [f"The block at page {block.page}, which processor {proc} pulled in cycle {block.cycle}, is out: each line up to its drop is of that cycle."]
         return None
 
-    def span_fault(self, line) -> Sentences:
+    def span_fault(self, line: Any) -> Sentences:
         """Why no span of this class has so many pages, or nothing."""
         size_class = line.span_class // 2
         if size_class >= len(SLOTS):
@@ -56,7 +56,7 @@ class Region(Pages):
             return [f"A span for one large object has at least {LEAST_LARGE} pages, since the largest small size fills 4, and not {line.pages}."]
         return None
 
-    def fit_fault(self, line, otherwise: str) -> Sentences:
+    def fit_fault(self, line: Any, otherwise: str) -> Sentences:
         """Why the line's run is not at first fit, or nothing. `otherwise` is said where there is no fit."""
         fit = self.first_fit(line.pages)
         if fit == line.page:
@@ -121,11 +121,11 @@ class Region(Pages):
         least = page + (left & -left).bit_length() - 1
         return None if line == should else [f"What is pulled is the block of the least free page, {least}, with all its free pages: `{line_text(should)}` should stand there."]
 
-    def no_block(self, line) -> Sentences:
+    def no_block(self, line: Any) -> Sentences:
         """That the line's processor has no block."""
         return [f"Processor {line.proc} has no block out."]
 
-    def run_fault(self, block: Block, line, what: str) -> Sentences:
+    def run_fault(self, block: Block, line: Any, what: str) -> Sentences:
         """Why this is not the first run of its pages that is left of the block, or nothing."""
         fit = block.first_run(line.pages)
         if fit is None:

@@ -9,10 +9,10 @@ their order, and of a rule the first line that breaks it is told. `docs/judge.md
 from array import array
 from bisect import bisect_right
 from collections import Counter, defaultdict
-from typing import Dict, List, NamedTuple, Optional
+from typing import Dict, Iterator, List, NamedTuple, Optional, Set, Tuple
 
 from goheap_tools.formats.journal import MAKING_LINES, Give, Miss, journal_text, line_text
-from goheap_tools.formats.report import MISSED, ZERO, Report
+from goheap_tools.formats.report import MISSED, ZERO, Bucket, Report, Sweep
 from goheap_tools.formats.traces import REAL, Trace
 from goheap_tools.heap.classes import BASE, PAGE, SLOTS
 from goheap_tools.heap.judged import Judged, Life, class_name
@@ -34,7 +34,7 @@ class Fault(NamedTuple):
 # Rule 1, answers.
 
 
-def answers(judged):
+def answers(judged: Judged) -> Optional[Fault]:
     """One answer for each object, `zero` exactly for size 0."""
     events, addresses = judged.trace.events, judged.report.addresses
     for one, address in enumerate(addresses):
@@ -53,7 +53,7 @@ def answers(judged):
 # Rule 2, journal.
 
 
-def journal(judged):
+def journal(judged: Judged) -> Optional[Fault]:
     """The journal is one that the pages and page caches can have, no line is of a cycle behind the last, and before version 4 each block is
     dropped."""
     region = Region(judged.trace.header, judged.trace.version)
@@ -84,7 +84,7 @@ def journal(judged):
 # Rule 3, misses.
 
 
-def misses(judged):
+def misses(judged: Judged) -> Optional[Fault]:
     """A missed object names a Miss line of its pages, span class and cycle, and no two name one line."""
     lines, named = judged.report.journal, {}
     for one, address in enumerate(judged.report.addresses):
@@ -108,7 +108,7 @@ def misses(judged):
 # Rule 4, places.
 
 
-def why_no_seat(judged, one, life):
+def why_no_seat(judged: Judged, one: int, life: Optional[Life]) -> List[str]:
     """Why the object does not sit in the life that its page is in as its cycle ends."""
     need, address = judged.need(one), judged.report.addresses[one]
     wants = f"It needs a slot of a span for {class_name(need.span_class)}, of {need.pages} pages"
@@ -133,13 +133,13 @@ def why_no_seat(judged, one, life):
 class Owners:
     """The lives by their pages, and the open ones by their first pages, as the cycles end."""
 
-    def __init__(self, judged):
+    def __init__(self, judged: Judged) -> None:
         self.judged, self.at = judged, 0
         self.lives = {life.number: at for at, life in enumerate(judged.lives)}
         self.owner = array("i", [-1]) * (judged.trace.header["chunks"] * CHUNK)
         self.open = {}
 
-    def end_cycle(self, cycle):
+    def end_cycle(self, cycle: int) -> None:
         """Takes the journal's lines of the cycles up to this one."""
         journal, lives = self.judged.report.journal, self.judged.lives
         while self.at < len(journal) and journal[self.at].cycle <= cycle:
@@ -153,13 +153,13 @@ class Owners:
                 del self.open[line.page]
             self.at += 1
 
-    def of(self, page):
+    def of(self, page: int) -> Optional[Life]:
         """The life that has this page, or nothing."""
         number = self.owner[page] if 0 <= page < len(self.owner) else -1
         return None if number < 0 else self.judged.lives[number]
 
 
-def seat(judged, one, owners):
+def seat(judged: Judged, one: int, owners: Owners) -> Tuple[Optional[Life], Optional[int]]:
     """The life and the index of the object's seat, or nothing."""
     need, address = judged.need(one), judged.report.addresses[one]
     life = owners.of((address - BASE) // PAGE)
@@ -169,7 +169,7 @@ def seat(judged, one, owners):
     return life, index if not rest and index < need.slots and life.end > judged.lasts[one] else None
 
 
-def places(judged):
+def places(judged: Judged) -> Optional[Fault]:
     """A placed object sits in exactly one life, which is not given back while the object lives."""
     judged.seats = [None] * len(judged.trace.sizes)
     owners, before = Owners(judged), -1
@@ -188,7 +188,7 @@ def places(judged):
 # Rule 5, apart.
 
 
-def apart(judged):
+def apart(judged: Judged) -> Optional[Fault]:
     """Objects that live in one cycle do not overlap. By rule 4 two overlap exactly where they have one seat."""
     holder = {}
     for one, where in enumerate(judged.seats):
@@ -214,16 +214,16 @@ def apart(judged):
 class Filling:
     """How a small life is filled in the cycle so far."""
 
-    def __init__(self):
+    def __init__(self) -> None:
         self.until = {}  # by index, the last cycle of an object there
-        self.cycle, self.low = None, 0
-        self.proc = self.first = self.flushes = None  # whose it is, by which object, and how often the processor was flushed before that
+        self.cycle = self.proc = -1
+        self.low = self.first = self.flushes = 0  # whose it is, by which object, and how often the processor was flushed before that
 
-    def begin(self, cycle):
+    def begin(self, cycle: int) -> None:
         if self.cycle != cycle:
-            self.cycle, self.low, self.proc = cycle, 0, None
+            self.cycle, self.low, self.proc = cycle, 0, -1
 
-    def free(self, limit):
+    def free(self, limit: int) -> Optional[int]:
         """The lowest index below the limit that nobody holds, or nothing."""
         while self.low < limit and self.until.get(self.low, -1) >= self.cycle:
             self.low += 1
@@ -233,12 +233,12 @@ class Filling:
 class Caches:
     """The spans that processors have as objects come, which a flush lets go."""
 
-    def __init__(self, trace):
+    def __init__(self, trace: Trace) -> None:
         self.flushes, self.at = trace.flushes, 0
         self.counts = Counter()
         self.current, self.cycle = defaultdict(dict), 0  # by processor and span class
 
-    def come(self, one, cycle):
+    def come(self, one: int, cycle: int) -> None:
         """The object comes, behind the flushes before it."""
         if cycle != self.cycle:
             self.current.clear()
@@ -250,29 +250,29 @@ class Caches:
             self.at += 1
 
 
-def owner_fault(judged, one, state, caches):
+def owner_fault(judged: Judged, one: int, state: Filling, caches: Caches) -> Optional[List[str]]:
     """Why an object may not come into a life that another processor fills, or nothing."""
     proc = judged.trace.procs[one]
-    if state.proc in (None, proc) or caches.counts[state.proc] > state.flushes:
+    if state.proc in (-1, proc) or caches.counts[state.proc] > state.flushes:
         return None
     at = f"object {state.first} at {judged.address_text(state.first)} (line {state.first + 1})"
     flush = ", and not flushed since" if judged.trace.version >= REAL else ""
     return [f"In that cycle the span is filled by processor {state.proc}{flush}: {at} is there. A span has one processor in a cycle, and this object is of processor {proc}."]
 
 
-def gap_fault(judged, one, life, gap):
+def gap_fault(judged: Judged, one: int, life: Life, gap: int) -> List[str]:
     """That a lower slot is free."""
     address = judged.seat_address(life, gap)
     return [f"Slot {gap} of the span, at {address:#x}, is free as the object comes, and a span is filled from its lowest free slot: `o {one} {address:#x}` should stand there."]
 
 
-def left_fault(judged, one, left, gap):
+def left_fault(judged: Judged, one: int, left: Life, gap: int) -> List[str]:
     """That the processor left a life that is not full."""
     return [f"Its processor left {judged.life_text(left)}, in this cycle, while slot {gap} there is free: a span is full before its processor goes on"
             f" to another. `o {one} {judged.seat_address(left, gap):#x}` should stand there."]  # fmt: skip
 
 
-def filling(judged):
+def filling(judged: Judged) -> Optional[Fault]:
     """In a cycle a small life has one processor, is filled from its lowest free index, and is full before its processor goes on, unless the
     processor is flushed."""
     lives, caches = defaultdict(Filling), Caches(judged.trace)
@@ -302,7 +302,7 @@ def filling(judged):
 # Rule 7, sweeps.
 
 
-def counts_of_sweeps(judged):
+def counts_of_sweeps(judged: Judged) -> Iterator[Tuple[int, Counter, Counter]]:
     """For each mark end, by lives: how many objects it marks, and how many that lived before it it does not."""
     born, died = defaultdict(Counter), defaultdict(Counter)
     for one, where in enumerate(judged.seats):
@@ -316,7 +316,7 @@ def counts_of_sweeps(judged):
         yield mark_end, alive, died[mark_end]
 
 
-def objects_of(judged, life, mark_end, is_kept):
+def objects_of(judged: Judged, life: Life, mark_end: int, is_kept: bool) -> str:
     """Some of a life's objects that the mark end keeps, or that it frees."""
     last = (lambda one: judged.lasts[one] >= mark_end) if is_kept else (lambda one: judged.lasts[one] == mark_end - 1)
     found = [one for one, where in enumerate(judged.seats) if where and where[0].number == life.number and judged.cycles[one] < mark_end and last(one)]
@@ -325,7 +325,7 @@ def objects_of(judged, life, mark_end, is_kept):
     return f" (object{'s' if len(found) > 1 else ''} {', '.join(names)}{more})" if found else ""
 
 
-def give_fault(judged):
+def give_fault(judged: Judged) -> Optional[Fault]:
     """The first Give of a life that its mark end did not find alive, or whose sweep does not print that nothing was kept."""
     printed = {(sweep.cycle, sweep.page): at for at, sweep in reversed(list(enumerate(judged.report.sweeps)))}
     empty = {(sweep.cycle, sweep.page) for sweep in judged.report.sweeps if sweep.kept == 0}
@@ -344,7 +344,7 @@ def give_fault(judged):
     return None
 
 
-def sweep_fault(judged, sweep, line, life, kept, freed, used):
+def sweep_fault(judged: Judged, sweep: Sweep, line: int, life: Optional[Life], kept: int, freed: int, used: Set[Tuple[int, int]]) -> Optional[Fault]:
     """Why a sweep is not right, or nothing."""
     if life is None:
         return Fault(7, line, [f"As mark end {sweep.cycle} came, no span began at page {sweep.page}, so there was none to sweep."])
@@ -357,7 +357,7 @@ def sweep_fault(judged, sweep, line, life, kept, freed, used):
     return None
 
 
-def sweeps(judged):
+def sweeps(judged: Judged) -> Optional[Fault]:
     """Each life that a mark end finds alive has one line of the cycle behind it, and is given back where nothing is kept."""
     if fault := give_fault(judged):
         return fault
@@ -384,15 +384,16 @@ def sweeps(judged):
     if at < len(notes):
         return sweep_fault(judged, notes[at], judged.starts[2] + at, None, 0, 0, used)
     if missing:
-        mark_end, life, kept, freed = missing
-        return Fault(7, judged.end, [f"Mark end {mark_end} found {judged.life_text(life)}.", f"It has no sweep: `s {mark_end} {life.page} {kept} {freed}` should stand among the `s` lines."])
+        mark_end, life, *counts = missing
+        should = f"s {mark_end} {life.page} {counts[0]} {counts[1]}"
+        return Fault(7, judged.end, [f"Mark end {mark_end} found {judged.life_text(life)}.", f"It has no sweep: `{should}` should stand among the `s` lines."])
     return None
 
 
 # Rule 8, totals.
 
 
-def totals(judged):
+def totals(judged: Judged) -> Optional[Fault]:
     """Each size class with placed objects has one line, with how many were placed and how many of them do not live in the last cycle."""
     mallocs, frees = Counter(), Counter()
     for one in range(len(judged.trace.sizes)):
@@ -418,43 +419,44 @@ def totals(judged):
 class Words:
     """The 32-bit words of PCG XSH RR 64/32 for a state and a stream, by which samples are drawn."""
 
-    def __init__(self, state, stream):
+    def __init__(self, state: int, stream: int) -> None:
         self.increment = stream * 2 + 1
         self.state = state + self.increment
         self.step()
 
-    def step(self):
+    def step(self) -> None:
         self.state = (self.state * 6364136223846793005 + self.increment) % 2**64
 
-    def next(self):
+    def next(self) -> int:
         old = self.state
         self.step()
         mixed, turn = (((old >> 18) ^ old) >> 27) % 2**32, old >> 59
         return (mixed >> turn | mixed << (-turn % 32)) % 2**32
 
 
-def samples(judged):
+def samples(judged: Judged) -> Iterator[int]:
     """The placed objects that their processors' countdowns sample."""
     rate, seed = judged.trace.header["rate"], judged.trace.header["seed"]
-    countdowns = {}
+    countdowns: Dict[int, Tuple[int, Words]] = {}
     for one, proc in enumerate(judged.trace.procs):
         if not judged.is_placed(one) or not rate:
             continue
         if proc not in countdowns:
             words = Words(seed, proc)
-            countdowns[proc] = [1 + words.next() % (2 * rate - 1), words]
-        countdown, slot = countdowns[proc], judged.need(one).slot
-        if slot < countdown[0]:
-            countdown[0] -= slot
+            countdowns[proc] = 1 + words.next() % (2 * rate - 1), words
+        left, words = countdowns[proc]
+        slot = judged.need(one).slot
+        if slot < left:
+            countdowns[proc] = left - slot, words
         else:
-            countdown[0] = 1 + countdown[1].next() % (2 * rate - 1)
+            countdowns[proc] = 1 + words.next() % (2 * rate - 1), words
             yield one
 
 
 class Histories:
     """The numbers of each bucket as of each mark end."""
 
-    def __init__(self, judged):
+    def __init__(self, judged: Judged) -> None:
         new, gone = defaultdict(Counter), defaultdict(Counter)
         for one in samples(judged):
             bucket = judged.trace.stacks[one], judged.need(one).slot
@@ -470,11 +472,11 @@ class Histories:
                 self.ends[bucket].append(mark_end)
                 self.counts[bucket].append((allocs[bucket], frees[bucket]))
 
-    def at(self, bucket, mark_end):
+    def at(self, bucket: Tuple[int, int], mark_end: int) -> Tuple[int, int]:
         place = bisect_right(self.ends.get(bucket, []), mark_end)
         return self.counts[bucket][place - 1] if place else (0, 0)
 
-    def due(self, each, last):
+    def due(self, each: bool, last: int) -> Iterator[Tuple[int, Tuple[int, int]]]:
         """The buckets that are to have a line, with their mark ends."""
         for mark_end in range(1, last) if each else ():
             for bucket in self.changed[mark_end]:
@@ -483,7 +485,7 @@ class Histories:
             yield last, bucket
 
 
-def profile_line_fault(judged, histories, at, line, each):
+def profile_line_fault(judged: Judged, histories: Histories, at: int, line: Bucket, each: bool) -> Optional[Fault]:
     """Why a line of the profile is not right, or nothing."""
     bucket, place = (line.stack, line.slot), judged.starts[4] + at
     what = f"stack {line.stack} and slots of {line.slot} bytes"
@@ -502,7 +504,7 @@ def profile_line_fault(judged, histories, at, line, each):
     return None
 
 
-def profile(judged):
+def profile(judged: Judged) -> Optional[Fault]:
     """Each line tells of a stack and a slot size how many objects were sampled before a mark end, and how many of them it does not mark."""
     histories, lines = Histories(judged), judged.report.buckets
     each = bool(lines) and lines[0].mark_end < judged.last
@@ -521,7 +523,7 @@ def profile(judged):
 # Rule 10, riders.
 
 
-def riders(judged):
+def riders(judged: Judged) -> Optional[Fault]:
     """What rides stands in the block of its lead, at its offset."""
     for one, (lead, offset) in judged.riders.items():
         should = judged.report.addresses[lead] + offset

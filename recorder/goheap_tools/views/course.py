@@ -3,12 +3,12 @@
 import itertools
 from bisect import bisect_right
 from collections import Counter, defaultdict
-from typing import NamedTuple
+from typing import Dict, Iterator, List, NamedTuple, Optional, Sequence, Tuple
 
 from goheap_tools.formats.frames import shown_frames
-from goheap_tools.formats.journal import MAKING_LINES, REAL_LINES, Give, Miss, end_of
-from goheap_tools.formats.report import Sweep
-from goheap_tools.formats.traces import REAL
+from goheap_tools.formats.journal import MAKING_LINES, REAL_LINES, Give, Line, Miss, end_of
+from goheap_tools.formats.report import Report, Sweep
+from goheap_tools.formats.traces import REAL, Trace
 from goheap_tools.heap.classes import BASE, PAGE, PAGES, SLOTS
 from goheap_tools.heap.pages import (
     CACHED, FREE, HELD, LARGE, LARGE_PLAIN, LENT, MOST_PAGES, RELEASED, SMALL, SMALL_PLAIN, SPAN_KINDS, UNTOUCHED, Pages,
@@ -32,7 +32,7 @@ RGB = [bytes.fromhex(KINDS[kind][0][1:]) for kind in sorted(KINDS)]
 MOST_CYCLES = 1_000_000
 
 
-def slot_and_room(span_class, pages):
+def slot_and_room(span_class: int, pages: int) -> Tuple[int, int]:
     """The bytes of an object of such a span, and how many there is room for."""
     if span_class < 2:
         return pages * PAGE, 1
@@ -40,7 +40,7 @@ def slot_and_room(span_class, pages):
     return slot, PAGES[span_class // 2] * PAGE // slot
 
 
-def class_text(span_class, pages):
+def class_text(span_class: int, pages: int) -> str:
     """What a span of this class is for."""
     pointers = "without pointers" if span_class % 2 else "with pointers"
     if span_class < 2:
@@ -57,7 +57,7 @@ class Life(NamedTuple):
     span_class: int
     cycle: int
     begin: int
-    end: int
+    end: Optional[int]
 
 
 class Found(NamedTuple):
@@ -70,13 +70,13 @@ class Found(NamedTuple):
     freed: int
 
 
-def slot_at(pages, page):
+def slot_at(pages: Pages, page: int) -> int:
     """The bytes of an object of the span that begins at this page."""
     span = pages.spans.get(page)
     return slot_and_room(span.span_class, span.pages)[0] if span else 0
 
 
-def check(report):
+def check(report: Report) -> None:
     """Refuses numbers that no run of goheap can print, and that could not be drawn."""
     for line in itertools.chain(report.journal, report.sweeps):
         if line.cycle > MOST_CYCLES:
@@ -89,12 +89,12 @@ def check(report):
         raise Unusable("nothing is swept in cycle 0")
 
 
-def version_of(journal, trace=None):
+def version_of(journal: Sequence[Line], trace: Optional[Trace] = None) -> int:
     """The version of the trace, by which page caches go on; without one, whether the journal has lines of real runs."""
     return trace.version if trace else REAL if any(isinstance(line, REAL_LINES) for line in journal) else REAL - 1
 
 
-def top_page(journal):
+def top_page(journal: Sequence[Line]) -> int:
     """The number of pages that the journal speaks of."""
     return max(map(end_of, journal), default=0) or 1
 
@@ -102,10 +102,10 @@ def top_page(journal):
 class Shades:
     """The colour of a row of the map: the mean of its pages' colours, so that a row of several pages shows how many of them are used."""
 
-    def __init__(self):
+    def __init__(self) -> None:
         self.known = {}
 
-    def of(self, part):
+    def of(self, part: bytes) -> bytes:
         shade = self.known.get(part)
         if shade is None:
             counts = [part.count(kind) for kind in range(len(RGB))]
@@ -113,7 +113,7 @@ class Shades:
             self.known[part] = shade
         return shade
 
-    def column(self, kinds, rows):
+    def column(self, kinds: bytes, rows: int) -> List[bytes]:
         kinds = bytes(kinds)
         count = len(kinds)
         return [self.of(kinds[row * count // rows : (row + 1) * count // rows]) for row in range(rows)]
@@ -123,7 +123,7 @@ class Course:
     """What is drawn: the columns of the map, and for each its backed pages, pages in spans, live spans and cycle; the bytes that each
     mark end kept; the columns of the misses; the lives of spans; and the spans and pages as the last mark end found them."""
 
-    def __init__(self, report, columns, rows, trace=None):
+    def __init__(self, report: Report, columns: int, rows: int, trace: Optional[Trace] = None) -> None:
         self.map, self.backed, self.in_spans, self.spans, self.cycles, self.misses, self.kinds = [], [], [], [], [], [], set()
         self.kept_bytes = defaultdict(int)
         self.sweeps = defaultdict(list)
@@ -136,9 +136,10 @@ class Course:
         self.follow(report.journal, columns, rows)
         for cycle in sorted(self.sweeps):
             self.begin(cycle)
-        self.lives += [Life(*begun, None) for begun in self.open.values()]
+        self.lives += self.open.values()
+        self.found_at = {span.page: span for span in self.found}
 
-    def begin(self, cycle):
+    def begin(self, cycle: int) -> None:
         """A cycle begins: the spans of its sweeps are those that are alive now."""
         self.cycle = max(self.cycle, cycle)
         sweeps = self.sweeps.pop(cycle, ())
@@ -148,14 +149,14 @@ class Course:
             self.found = [Found(sweep.page, *self.pages.spans[sweep.page][:2], sweep.kept, sweep.freed) for sweep in sweeps if sweep.page in self.pages.spans]
             self.found_kinds = bytes(self.pages.kinds)
 
-    def live(self, line, column):
+    def live(self, line: Line, column: int) -> None:
         """Spans begin and end in this column."""
         if isinstance(line, MAKING_LINES):
-            self.open[line.page] = line.page, line.pages, line.span_class, line.cycle, column
+            self.open[line.page] = Life(line.page, line.pages, line.span_class, line.cycle, column, None)
         elif isinstance(line, Give) and line.page in self.open:
-            self.lives.append(Life(*self.open.pop(line.page), column))
+            self.lives.append(self.open.pop(line.page)._replace(end=column))
 
-    def follow(self, journal, columns, rows):
+    def follow(self, journal: Sequence[Line], columns: int, rows: int) -> None:
         shades = Shades()
         for number in range(columns):
             for line in journal[number * len(journal) // columns : (number + 1) * len(journal) // columns]:
@@ -172,11 +173,11 @@ class Course:
             self.cycles.append(self.cycle)
         self.kinds = {kind for part in shades.known for kind in part}
 
-    def kept_pages(self):
+    def kept_pages(self) -> List[float]:
         """For each column the pages that the objects would fill which the mark end before it kept."""
         return [self.kept_bytes[cycle] / PAGE for cycle in self.cycles]
 
-    def fills(self, columns):
+    def fills(self, columns: int) -> Iterator[Tuple[float, float, float]]:
         """For each part of the pages at the last mark end: how much of it is in spans, how much is free and backed, and how much the objects
         that it kept fill, from 0 to 1."""
         count = len(self.found_kinds)
@@ -195,7 +196,7 @@ class Course:
 class Holders:
     """Which stacks hold the spans that the last mark end found, by a trace and the stacks of its recording."""
 
-    def __init__(self, course, report, trace, stacks):
+    def __init__(self, course: Course, report: Report, trace: Optional[Trace], stacks: Dict[int, List[str]]) -> None:
         self.stacks = stacks
         self.spans = sorted(span.page for span in course.found)
         self.pages = {span.page: span.pages for span in course.found}
@@ -204,14 +205,14 @@ class Holders:
             for one in trace.marked(course.last_mark_end):
                 self.add(report.addresses[one], trace.stacks[one])
 
-    def add(self, address, stack):
+    def add(self, address: int, stack: int) -> None:
         if address >= BASE:
             page = (address - BASE) // PAGE
             at = bisect_right(self.spans, page) - 1
             if at >= 0 and page < self.spans[at] + self.pages[self.spans[at]]:
                 self.counts[self.spans[at]][stack] += 1
 
-    def of(self, page):
+    def of(self, page: int) -> Iterator[str]:
         """The stacks with the most objects in the span, each in a line."""
         for stack, count in self.counts[page].most_common(3):
             frames = self.stacks.get(stack)

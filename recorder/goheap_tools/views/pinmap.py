@@ -2,9 +2,10 @@
 
 from collections import Counter
 from xml.sax.saxutils import escape
+from typing import Any, Dict, Iterator, List, Tuple
 
 from goheap_tools.heap.classes import BASE, PAGE, SLOTS
-from goheap_tools.heap.pinning import FREE, STEPS
+from goheap_tools.heap.pinning import FREE, STEPS, Groups, Names, Pins
 
 # The shades of the steps, from the emptiest to the fullest.
 SHADES = ("#b2182b", "#d6604d", "#f4a582", "#fddbc7", "#d1e5f0", "#92c5de", "#4393c3", "#2166ac")
@@ -15,25 +16,25 @@ MOST_STACKS = 12  # below the map
 MOST_HOLDERS = 4  # of a span, where the pointer stands
 
 
-def plain(text):
+def plain(text: str) -> str:
     """Text for XML, without characters that XML has not."""
     return escape("".join(one if one.isprintable() or one == "\n" else "?" for one in text))
 
 
-def text(x, y, what, anchor="start", size=12):
+def text(x: float, y: float, what: str, anchor: str = "start", size: int = 12) -> str:
     return f'<text x="{x:.1f}" y="{y:.1f}" font-size="{size}" text-anchor="{anchor}">{plain(what)}</text>'
 
 
 class Grid:
     """Where pages stand: in rows, from left to right and down."""
 
-    def __init__(self, pages):
+    def __init__(self, pages: int) -> None:
         self.columns = next((columns for columns in COLUMNS if pages <= columns * columns // 2), COLUMNS[-1])
         self.cell = WIDTH / self.columns
         self.rows = -(-pages // self.columns) or 1
         self.height = self.rows * self.cell
 
-    def path(self, page, pages):
+    def path(self, page: int, pages: int) -> str:
         """The outline of a run of pages, a box for each row."""
         parts, end = [], page + pages
         while page < end:
@@ -45,7 +46,7 @@ class Grid:
         return "".join(parts)
 
 
-def runs_of(region, kind):
+def runs_of(region: Any, kind: bytes) -> Iterator[Tuple[int, int]]:
     """The first page and the number of pages of each run of this kind."""
     at = region.find(kind)
     while at >= 0:
@@ -56,11 +57,11 @@ def runs_of(region, kind):
         at = region.find(kind, end)
 
 
-def shade_of(pins, span):
+def shade_of(pins: Pins, span: int) -> int:
     return (pins.used[span] * STEPS - 1) // pins.slots[span]
 
 
-def told(pins, names, span):
+def told(pins: Pins, names: Names, span: int) -> str:
     """What is said of a span: where it is, its class, its objects, the stacks that hold it."""
     page, pages, used = pins.first[span], pins.pages[span], pins.used[span]
     kind = "without pointers" if pins.span_class[span] % 2 else "with pointers"
@@ -79,7 +80,7 @@ def told(pins, names, span):
     return "\n".join(lines)
 
 
-def legend(pins, shades):
+def legend(pins: Pins, shades: List[int]) -> Iterator[str]:
     x, y = LEFT + WIDTH + 24, TOP + 12
     yield text(x, y, "kept spans, by live slots")
     counts = Counter(shades)
@@ -99,14 +100,14 @@ def legend(pins, shades):
         yield text(x, y, name) + text(x + 190, y, f"{size:,}", "end") + text(x + 245, y, f"{100 * size / (backed or 1):.1f} %", "end")
 
 
-def rows_of(grid):
+def rows_of(grid: Grid) -> Iterator[str]:
     """The number of the first page of some rows."""
     every = max(1, round(28 / grid.cell))
     for row in range(0, grid.rows, every):
         yield text(LEFT - 7, TOP + row * grid.cell + min(grid.cell, 12), f"{row * grid.columns:,}", "end", 11)
 
 
-def stack_rows(groups, order, names, y):
+def stack_rows(groups: Groups, order: List[int], names: Names, y: float) -> Iterator[str]:
     """The stacks that pin most; the pointer on one outlines its spans."""
     if not order:
         yield text(LEFT, y, "no stack alone pins a span")
@@ -121,14 +122,14 @@ def stack_rows(groups, order, names, y):
                + "".join(text(x, y, f"{count:,}", "end") for (x, _), count in cells) + text(LEFT + 340, y, f"{number} {names.shown(number)[0]}") + "</g>")
 
 
-def style(count):
+def style(count: int) -> Iterator[str]:
     yield "<style>#map path:hover{stroke:#000;stroke-width:2}"
     yield "".join(f"#s{step}{{fill:{colour}}}" for step, colour in enumerate(SHADES))
     yield "g[id^=k]:hover rect{fill:#ffffd0}"
     yield "".join(f"#k{place}:hover~#map .k{place}{{stroke:#000;stroke-width:2}}" for place in range(count)) + "</style>"
 
 
-def draw(pins, names, title):
+def draw(pins: Pins, names: Names, title: str) -> Iterator[str]:
     grid, groups = Grid(len(pins.region)), names.stacks(pins)
     order = [at for at in groups.order(MOST_STACKS) if groups.pinned[at]]
     places = {groups.first[at]: place for place, at in enumerate(order)}
@@ -159,8 +160,8 @@ def draw(pins, names, title):
     yield "</svg>"
 
 
-def drawn(pins, names, span, grid, places, lowest):
+def drawn(pins: Pins, names: Names, span: int, grid: Grid, places: Dict[int, int], lowest: Dict[Any, int]) -> str:
     keys = {names.same_frames(stack) for stack in pins.stacks_of(span)}
-    place = places.get(lowest.get(keys.pop())) if len(keys) == 1 else None
+    place = places.get(lowest.get(keys.pop(), -1)) if len(keys) == 1 else None
     mark = f' class="k{place}"' if place is not None else ""
     return f'<path d="{grid.path(pins.first[span], pins.pages[span])}"{mark}><title>{plain(told(pins, names, span))}</title></path>'
