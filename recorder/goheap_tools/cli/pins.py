@@ -26,6 +26,9 @@ PARTS = {
     "rounding": "rounding: the slots of live objects less their bytes",
     "tails": "tails of spans, behind their last slots",
     "free pages": "free pages that are still backed",
+    pinning.HELD: "stacks and other uses of the runtime, which are no objects",
+    pinning.CACHED: "pages in the page caches of processors",
+    pinning.LENT: "pages that are out to the scavenger",
 }
 
 
@@ -42,7 +45,7 @@ def counted(count: int, what: str) -> str:
 
 
 def sum_lines(pins: Pins) -> Iterator[str]:
-    spans, backed = sum(pins.pages), pins.backed * PAGE
+    spans, backed, held = sum(pins.pages), pins.backed * PAGE, pins.others[pinning.HELD]
     came = f"; {counted(pins.behind, 'object')} came behind it" if pins.behind else ""
     yield f"Mark end {pins.mark_end} of {pins.mark_ends}: {counted(pins.backed, 'page')} backed, {spans:,} of them in {counted(len(pins.first), 'span')} kept{came}"
     if pins.missed:
@@ -51,7 +54,7 @@ def sum_lines(pins: Pins) -> Iterator[str]:
     for name, size in pins.sums().items():
         emptied = f", {sum(count for _, count in pins.emptied) * PAGE:,} of them in spans that this mark end emptied" if name == "free pages" and pins.emptied else ""
         yield f"{size:>13,} {percent(size, backed):>6}  {PARTS[name]}{emptied}"
-    yield f"{backed:>13,} 100.0%  backed; in Go's words HeapInuse {spans * PAGE:,}, HeapIdle less HeapReleased {backed - spans * PAGE:,}"
+    yield f"{backed:>13,} 100.0%  backed; in Go's words HeapInuse {spans * PAGE:,}, HeapIdle less HeapReleased {backed - (spans + held) * PAGE:,}"
 
 
 def sum_rows(pins: Pins) -> Iterator[Row]:

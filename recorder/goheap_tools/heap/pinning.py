@@ -27,8 +27,9 @@ NOWHERE = -1  # no span
 # What a page is here: free with no memory behind it, free and backed, or not free.
 UNBACKED, FREE, TAKEN = b"-", b"f", b"x"
 AS_FREE = bytes.maketrans(bytes(range(pages.LENT + 1)), b"".join({pages.FREE: FREE, pages.UNTOUCHED: UNBACKED, pages.RELEASED: UNBACKED}.get(kind, TAKEN) for kind in range(pages.LENT + 1)))
-# The backed pages that are in no span, and not free.
-OTHERS = {"stacks and other uses": pages.HELD, "page caches": pages.CACHED, "out to the scavenger": pages.LENT}
+# The backed pages that are in no span, and not free, of which a real run has some.
+HELD, CACHED, LENT = "stacks and other uses", "page caches", "out to the scavenger"
+OTHERS = {HELD: pages.HELD, CACHED: pages.CACHED, LENT: pages.LENT}
 
 
 class Replay:

@@ -189,3 +189,43 @@ class Explained(Folder):
     def test_the_dead(self):
         told = self.said("a 0 24 s 1\na 0 24 s 1\ngc 1 all\nd 0 0\n", "o 0 0xc000000000\no 1 0xc000000018\nj 0 0 take 0 1 6\ns 1 0 2 0\nt 3 2 0\n")
         self.assertIn("Of its objects mark end 1 marks 1 (object 1), and 1 that lived before it it does not (object 0): `s 1 0 1 1` should stand there.", told[-1])
+
+
+class Looked(Folder):
+    """What the tables and pictures say of the report with each line of a real run."""
+
+    def setUp(self):
+        super().setUp()
+        _, trace, text = next(rows("whole"))
+        self.trace, self.report = self.put("trace", trace), self.put("report", text)
+
+    def test_pins(self):
+        # By hand, behind the lines of cycle 1: the pages 0 to 2 are held and 4 and 5 kept, 3 is free; the spans at 6 and 7 are kept, those at 64 and 65 to 69
+        # are emptied, and the block's pages had never memory. Of 341 slots of 24 bytes two are used, and of 512 of 16 bytes one, of which an object has 4.
+        status, told, fault = run("pins", self.trace, self.report)
+        self.assertEqual((status, fault), (0, ""))
+        sums = {" ".join(line.split()[2:])[:17]: int(line.split()[0].replace(",", "")) for line in told.splitlines()[2:9]}
+        self.assertEqual(sums, {"live objects, as ": 52, "free slots in kep": 16312, "rounding: the slo": 12, "tails of spans, b": 8, "free pages that a": 57344, "stacks and other ": 40960,
+                                "backed; in Go's w": 114688})  # fmt: skip
+        self.assertTrue(told.splitlines()[8].endswith("in Go's words HeapInuse 16,384, HeapIdle less HeapReleased 57,344"), told)
+        self.assertEqual(run("pins", self.trace, self.report, "--csv")[1].splitlines()[1:9],
+                         ["sum,live objects,52", "sum,free slots,16312", "sum,rounding,12", "sum,tails,8", "sum,free pages,57344", "sum,stacks and other uses,40960", "sum,backed,114688", "sum,not placed,0"])
+
+    def test_leaks(self):
+        status, told, fault = run("leaks", "--trace", self.trace)
+        self.assertEqual(status, 0)
+        of_report = run("leaks", self.report)
+        self.assertEqual(told.splitlines()[1], of_report[1].splitlines()[1])
+        # stack 1 has two objects of 24 bytes, and stack 4 a block of 16 for what rides in it
+        self.assertEqual([line.split()[:1] + line.split()[-3:-2] for line in told.splitlines()[3:]], [["48B", "1"], ["16B", "4"]])
+
+    def test_pictures(self):
+        for words in ([], ["--trace", self.trace], ["--pins", "--trace", self.trace]):
+            status, told, fault = run("picture", self.report, *words)
+            self.assertEqual((status, fault), (0, ""))
+            self.assertTrue(told.endswith("</svg>\n"))
+        told = run("picture", self.report, "--trace", self.trace)[1]
+        for name in ("stacks, and other uses", "out to the scavenger", "in a page cache"):
+            self.assertIn(name, told)
+        # held 3 and kept 2, the page 3, the spans 6, 7 and 64, the lent pages 66 and 67 and the free ones 65, 68 and 69; no page of the blocks but page 3 had memory
+        self.assertIn("At the end 14 pages (0.11 MiB) are backed, 3 of them in 3 spans.", told)
