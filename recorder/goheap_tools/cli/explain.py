@@ -8,14 +8,16 @@ report whose text is none is told by its first line that is malformed.
 """
 
 import argparse
+import io
+import itertools
 import sys
 from typing import Dict, Iterator, List
 
 from goheap_tools import tool
 from goheap_tools.formats import companions
 from goheap_tools.formats.frames import shown_frames
-from goheap_tools.formats.report import read_report
-from goheap_tools.formats.report_text import text_fault
+from goheap_tools.formats.lines import is_kind, opened
+from goheap_tools.formats.report_text import lines_of, strict_report, text_fault
 from goheap_tools.formats.stacks import Stacks, stack_file
 from goheap_tools.formats.traces import REAL, Trace, trace_in
 from goheap_tools.heap import tiny
@@ -51,16 +53,21 @@ def sound(trace: Trace) -> str:
     return f"The report meets all {'ten' if trace.version >= tiny.FIRST_VERSION else 'nine'} rules: it is sound."
 
 
-def explanation(trace: Trace, lines: List[str], frames: Dict[int, List[str]], name: str) -> Iterator[str]:
+def explanation(trace: Trace, data: bytes, frames: Dict[int, List[str]], name: str) -> Iterator[str]:
     """The sentences on the report."""
-    if malformed := text_fault(lines):
+    report = strict_report(data)
+    if report is None:
+        malformed = text_fault(lines_of(data))
+        if malformed is None:
+            raise tool.Unusable(f"{name}: the text is a report's, and cannot be read")
         yield f"report line {malformed[0]} is malformed: {malformed[1]}."
         return
-    fault = first_fault(trace, read_report(lines, name), frames)
+    fault = first_fault(trace, report, frames)
     if fault is None:
         yield sound(trace)
         return
-    yield f"report line {fault.line} breaks rule {fault.rule}, {NAMES[fault.rule]}: `{lines[fault.line - 1].rstrip()}`"
+    line = next(itertools.islice(io.BytesIO(data), fault.line - 1, None))
+    yield f"report line {fault.line} breaks rule {fault.rule}, {NAMES[fault.rule]}: `{line.decode('ascii').rstrip()}`"
     yield asked(trace, fault.rule)
     yield from fault.sentences
 
@@ -76,12 +83,11 @@ def main(words: List[str]) -> int:
         stacks = stack_file(options.stacks) if options.stacks else Stacks({}, {}, {})
         trace = trace_in(options.trace)
         companions.of_trace(stacks, trace, (options.stacks, tool.named(options.trace)))
-        with tool.reading(options.report) as file:
-            lines = file.readlines()
+        with opened(options.report) as file:
+            data = file.read()
         frames = {number: shown_frames(one) for number, one in stacks.frames.items()}
-        if lines and tool.kind_of(lines[0]) not in (None, "a report"):
-            raise tool.Unusable(f"{tool.named(options.report)}: this is {tool.kind_of(lines[0])}, and no report")
-        told = list(explanation(trace, lines, frames, tool.named(options.report)))
+        is_kind(tool.named(options.report), data[:100], "a report")
+        told = list(explanation(trace, data, frames, tool.named(options.report)))
         for sentence in told:
             out.write(sentence + "\n")
     return int(told != [sound(trace)])

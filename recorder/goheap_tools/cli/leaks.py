@@ -12,6 +12,7 @@ they are what Go's tools estimate from it: the rate is told by the stacks, or by
 import argparse
 import itertools
 import sys
+from array import array
 from collections import Counter, defaultdict
 from typing import Any, Callable, Dict, Iterable, Iterator, List, Optional, Sequence, Tuple
 
@@ -24,7 +25,7 @@ from goheap_tools.formats.stacks import Stacks, stack_file
 from goheap_tools.formats.traces import Trace, trace_in
 from goheap_tools.heap.classes import PAGE, SLOTS
 from goheap_tools.heap.estimate import factor
-from goheap_tools.heap.tiny import Rider, riders_of, slot_in
+from goheap_tools.heap.tiny import Riders, riders_of, slot_in
 from goheap_tools.tool import size_text
 
 # Of the objects behind the last mark end, of which nothing tells whether they stay alive, a word is said where they are this part.
@@ -51,13 +52,14 @@ def buckets_of_trace(trace: Trace, addresses: Optional[Sequence[int]] = None) ->
         yield mark_end, [Bucket(mark_end, stack, slot, allocs[stack, slot], frees[stack, slot]) for stack, slot in {**new[mark_end], **gone[mark_end]}]
 
 
-def slot_lasts(trace: Trace, addresses: Optional[Sequence[int]]) -> Tuple[Sequence[int], Dict[int, Rider]]:
+def slot_lasts(trace: Trace, addresses: Optional[Sequence[int]]) -> Tuple[array, Riders]:
     """Of each object the last cycle in which something lives in the slot that it got; and the objects that got none, since they ride in the slot
     of another."""
     riders = riders_of(trace, addresses)
     lasts = trace.lasts()[:] if riders else trace.lasts()
-    for one, rider in riders.items():
-        lasts[rider.lead] = max(lasts[rider.lead], lasts[one])
+    for one in riders:
+        lead = riders.leads[one]
+        lasts[lead] = max(lasts[lead], lasts[one])
     return lasts, riders
 
 

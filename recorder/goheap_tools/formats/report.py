@@ -4,7 +4,7 @@ import itertools
 import re
 from array import array
 from collections.abc import Sequence
-from typing import Any, BinaryIO, Dict, Iterable, Iterator, List, NamedTuple
+from typing import Any, BinaryIO, Dict, Iterable, Iterator, List, Mapping, NamedTuple
 
 from goheap_tools import tool
 from goheap_tools.formats.journal import KINDS, Line
@@ -25,6 +25,7 @@ FORMS = {
 }
 ORDER = "ojstpe"
 MISS = re.compile(rb"miss [0-9]+")
+NOWHERE = b" 0x2\n"
 
 
 class Sweep(NamedTuple):
@@ -103,6 +104,9 @@ class Report:
 
     def take_objects(self, run: bytes, line: int) -> None:
         first = len(self.addresses)
+        if b" 0x0\n" in run or b" 0x1\n" in run:
+            # two addresses of no region, which are other answers than the words that stand for them here
+            run = run.replace(b" 0x0\n", NOWHERE).replace(b" 0x1\n", NOWHERE)
         if b"m" in run:
             for words in map(bytes.split, run.splitlines()):
                 if words[2] == b"miss":
@@ -124,10 +128,10 @@ class Report:
             self.journal.append(KINDS[word](int(cycle), *map(int, numbers)))
 
 
-def read(file: BinaryIO, name: str) -> Report:
+def read(file: BinaryIO, name: str, forms: Mapping[str, bytes] = FORMS) -> Report:
     """The report of this text. `name` is what it is called where it is refused."""
     report, before = Report(name), 0
-    for letter, run, line in runs(file, name, 1, "report", FORMS):
+    for letter, run, line in runs(file, name, 1, "report", forms):
         place = ORDER.index(letter)
         if place < before:
             raise Unusable(f"{name}: line {line}: no line of a report may stand here")

@@ -1,7 +1,13 @@
-"""Finds the first line of a report's text that is malformed, and why (`docs/report-format.md`)."""
+"""Reads a report strictly, and finds the first line of its text that is malformed, and why (`docs/report-format.md`)."""
 
+import io
+import itertools
 import re
-from typing import Dict, List, Optional, Pattern, Sequence, Tuple
+from typing import Dict, Iterable, List, Optional, Pattern, Sequence, Tuple
+
+from goheap_tools.formats import report
+from goheap_tools.formats.report import Report
+from goheap_tools.tool import Unusable
 
 KINDS = ("o", "j", "s", "t", "p", "end")
 # The words of the forms below that stand for numbers, by the bits that these have.
@@ -71,3 +77,35 @@ def text_fault(lines: Sequence[str]) -> Optional[Tuple[int, str]]:
         before = line.split(" ")
         counts[before[0]] += 1
     return None if before == ["end"] else (len(lines) + 1, "the report ends without the line `end`")
+
+
+# The forms by which reports are read, with numbers that do not begin with 0.
+STRICT = {letter: re.sub(rb"\[0-9\]\{1,[0-9]+\}", rb"(?:0|[1-9][0-9]{0,19})", form).replace(rb"0x[0-9a-f]{1,16}", rb"0x(?:0|[1-9a-f][0-9a-f]{0,15})") for letter, form in report.FORMS.items()}
+
+
+def lines_of(data: bytes) -> List[str]:
+    """The lines of a text."""
+    return io.StringIO(data.decode("utf-8", "surrogateescape"), newline="\n").readlines()
+
+
+def rise(places: Iterable) -> bool:
+    """Whether each place is above the one before."""
+    return all(first < second for first, second in itertools.pairwise(places))
+
+
+def is_in_order(read: Report) -> bool:
+    """Whether the lines of a report rise in their orders, and its numbers have their bits."""
+    sweeps, totals, buckets = (rows.columns for rows in (read.sweeps, read.totals, read.buckets))
+    narrow = itertools.chain(*sweeps, *buckets[:2], itertools.chain.from_iterable(read.journal))
+    classes = itertools.chain(totals[0], (getattr(line, "span_class", 0) for line in read.journal))
+    return (max(narrow, default=0) >> 32 == 0 and max(classes, default=0) >> 8 == 0 and max(read.misses.values(), default=0) >> 64 == 0
+            and rise(zip(*sweeps[:2])) and rise(totals[0]) and rise(zip(*buckets[:3])))  # fmt: skip
+
+
+def strict_report(data: bytes) -> Optional[Report]:
+    """The report of this text; nothing where a line of it is malformed."""
+    try:
+        read = report.read(io.BytesIO(data), "report", STRICT)
+    except Unusable:
+        return None
+    return read if data.endswith(b"\n") and is_in_order(read) else None

@@ -1,13 +1,17 @@
 """A trace and a report of it, with what the rules ask about: needs, lives, seats, and the numbers of lines. `rules.py` has the rules."""
 
-from collections import defaultdict
-from typing import Dict, List, NamedTuple, Optional, Sized, Tuple
+import itertools
+from array import array
+from typing import Dict, Iterator, List, NamedTuple, Optional, Sized, Tuple
 
 from goheap_tools.formats.journal import Cut, journal_text
 from goheap_tools.formats.report import MISSED, Report
 from goheap_tools.formats.traces import Trace
 from goheap_tools.heap.classes import BASE, LARGEST, PAGE, PAGES, SLOTS
-from goheap_tools.heap.tiny import BLOCK, is_tiny, riders_of, size_in
+from goheap_tools.heap.tiny import BLOCK, Riders, is_tiny, riders_of, size_in
+
+
+NONE = -1  # no life
 
 
 class Need(NamedTuple):
@@ -57,20 +61,31 @@ class Judged:
     def __init__(self, trace: Trace, report: Report, frames: Optional[Dict[int, List[str]]] = None) -> None:
         self.trace, self.report, self.frames = trace, report, frames or {}
         self.last, self.cycles = trace.mark_ends, trace.cycles()
-        self.needs = {}
-        self.lasts = trace.lasts()[:]
+        self.lasts = self.own_lasts = trace.lasts()
+        self.set_needs()
         self.take_riders()
-        self.lives = []  # in the order of their Take or Cut lines
-        self.seats = []  # of each object: its life and index, or nothing
+        self.lives: List[Life] = []  # in the order of their Take or Cut lines
+        self.seats, self.indexes = array("i"), array("H")  # of each object the number of its life, or NONE, and its index there
         self.places()
 
+    def set_needs(self) -> None:
+        """What each object needs: of each the number of the need."""
+        known: Dict[Tuple[int, int], int] = {}
+        self.kinds = array("I", (known.setdefault(key, len(known)) for key in zip(self.trace.sizes, self.trace.pointers)))
+        self.needs = [need_of(size_in(self.trace.version, size, bool(has_pointers)), bool(has_pointers)) for size, has_pointers in known]
+
     def take_riders(self) -> None:
-        """Takes in who rides, where each object has an answer. A lead lives as long as its block, in which something lives."""
-        self.own_lasts, self.riding = self.lasts[:], defaultdict(list)
-        self.riders = riders_of(self.trace, self.report.addresses) if len(self.report.addresses) == len(self.lasts) else {}
-        for one, rider in self.riders.items():
-            self.riding[rider.lead].append(one)
-            self.lasts[rider.lead] = max(self.lasts[rider.lead], self.lasts[one])
+        """Takes in who rides, where each object has an answer, and who has a slot of its own. A lead lives as long as its block, in which
+        something lives."""
+        addresses = self.report.addresses
+        self.riders = riders_of(self.trace, addresses) if len(addresses) == len(self.lasts) else Riders()
+        self.placed = bytearray(map(MISSED.__lt__, addresses))
+        if self.riders:
+            self.lasts = self.own_lasts[:]
+        for one in self.riders:
+            lead = self.riders.leads[one]
+            self.lasts[lead] = max(self.lasts[lead], self.own_lasts[one])
+            self.placed[one] = False
 
     # The numbers of lines.
 
@@ -93,15 +108,11 @@ class Judged:
     # Objects.
 
     def need(self, one: int) -> Need:
-        has_pointers = bool(self.trace.pointers[one])
-        key = size_in(self.trace.version, self.trace.sizes[one], has_pointers), has_pointers
-        if key not in self.needs:
-            self.needs[key] = need_of(*key)
-        return self.needs[key]
+        return self.needs[self.kinds[one]]
 
-    def is_placed(self, one: int) -> bool:
-        """Whether the object has a slot of its own, which what rides has not."""
-        return self.report.addresses[one] > MISSED and one not in self.riders
+    def placed_ones(self) -> Iterator[int]:
+        """The objects that have a slot of their own, which what rides has not."""
+        return itertools.compress(itertools.count(), self.placed)
 
     def is_lead(self, one: int) -> bool:
         event = self.trace.events[one]
@@ -130,7 +141,7 @@ class Judged:
 
     def keeper(self, lead: int, mark_end: int) -> int:
         """An object in the lead's block that this mark end marks."""
-        return next(one for one in self.riding[lead] if self.own_lasts[one] >= mark_end)
+        return next(one for one in self.riders if self.riders.leads[one] == lead and self.own_lasts[one] >= mark_end)
 
     def kept_text(self, one: int, mark_end: int) -> str:
         """An object that a mark end keeps, with for whom where it does not mark it."""

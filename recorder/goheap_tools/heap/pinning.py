@@ -135,7 +135,7 @@ class Pins:
     def seat(self, trace: Trace, report: Report) -> Tuple[array, array]:
         """Counts each marked object in its span. Returns the span and the stack of each."""
         addresses, owners = report.addresses, self.owners()
-        leads = tiny.leads_of(trace, addresses)
+        leads = tiny.riders_of(trace, addresses).leads
         filled = Filled(leads, len(self.first)) if leads else None
         top = BASE + len(self.region) * PAGE
         spans_of, stacks_of = array("I"), array("I")

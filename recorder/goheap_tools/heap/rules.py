@@ -6,16 +6,17 @@ A report's lines are numbered from 1: the answers, the journal, the sweeps, the 
 their order, and of a rule the first line that breaks it is told. `docs/judge.md` has which line breaks which rule.
 """
 
+import itertools
 from array import array
-from bisect import bisect_right
+from bisect import bisect_left
 from collections import Counter, defaultdict
 from typing import Dict, Iterator, List, NamedTuple, Optional, Set, Tuple
 
 from goheap_tools.formats.journal import MAKING_LINES, Give, Miss, journal_text, line_text
-from goheap_tools.formats.report import MISSED, ZERO, Bucket, Report, Sweep
+from goheap_tools.formats.report import ZERO, Bucket, Report, Sweep
 from goheap_tools.formats.traces import REAL, Trace
 from goheap_tools.heap.classes import BASE, PAGE, SLOTS
-from goheap_tools.heap.judged import Judged, Life, class_name
+from goheap_tools.heap.judged import NONE, Judged, Life, class_name
 from goheap_tools.heap.pages import CHUNK
 from goheap_tools.heap.region import Region
 from goheap_tools.heap.tiny import BLOCK
@@ -87,10 +88,10 @@ def journal(judged: Judged) -> Optional[Fault]:
 def misses(judged: Judged) -> Optional[Fault]:
     """A missed object names a Miss line of its pages, span class and cycle, and no two name one line."""
     lines, named = judged.report.journal, {}
-    for one, address in enumerate(judged.report.addresses):
-        if address != MISSED or one in judged.riders:
+    for one, number in judged.report.misses.items():
+        if one in judged.riders:
             continue
-        number, need, cycle = judged.report.misses.get(one, len(lines)), judged.need(one), judged.cycles[one]
+        need, cycle = judged.need(one), judged.cycles[one]
         asked = Miss(cycle, need.pages, need.span_class)
         found = lines[number] if number < len(lines) else None
         said = [f"{judged.object_text(one)}, and found no room. It names journal line {number}."]
@@ -131,80 +132,85 @@ def why_no_seat(judged: Judged, one: int, life: Optional[Life]) -> List[str]:
 
 
 class Owners:
-    """The lives by their pages, and the open ones by their first pages, as the cycles end."""
+    """The numbers of the lives by their pages, and of the open ones by their first pages, as the cycles end."""
 
     def __init__(self, judged: Judged) -> None:
-        self.judged, self.at = judged, 0
-        self.lives = {life.number: at for at, life in enumerate(judged.lives)}
-        self.owner = array("i", [-1]) * (judged.trace.header["chunks"] * CHUNK)
-        self.open = {}
+        self.judged, self.at, self.made = judged, 0, 0
+        self.owner = array("i", [NONE]) * (judged.trace.header["chunks"] * CHUNK)
+        self.open: Dict[int, int] = {}
 
     def end_cycle(self, cycle: int) -> None:
         """Takes the journal's lines of the cycles up to this one."""
-        journal, lives = self.judged.report.journal, self.judged.lives
+        journal = self.judged.report.journal
         while self.at < len(journal) and journal[self.at].cycle <= cycle:
             line = journal[self.at]
             if isinstance(line, MAKING_LINES):
-                number = self.lives[self.at]
-                self.owner[line.page : line.page + line.pages] = array("i", [number]) * line.pages
-                self.open[line.page] = lives[number]
+                self.owner[line.page : line.page + line.pages] = array("i", [self.made]) * line.pages
+                self.open[line.page] = self.made
+                self.made += 1
             elif isinstance(line, Give):
-                self.owner[line.page : line.page + line.pages] = array("i", [-1]) * line.pages
+                self.owner[line.page : line.page + line.pages] = array("i", [NONE]) * line.pages
                 del self.open[line.page]
             self.at += 1
 
-    def of(self, page: int) -> Optional[Life]:
-        """The life that has this page, or nothing."""
-        number = self.owner[page] if 0 <= page < len(self.owner) else -1
-        return None if number < 0 else self.judged.lives[number]
+    def of(self, address: int) -> int:
+        """The number of the life in which the address is, or NONE."""
+        page = (address - BASE) // PAGE
+        return self.owner[page] if 0 <= page < len(self.owner) else NONE
 
 
-def seat(judged: Judged, one: int, owners: Owners) -> Tuple[Optional[Life], Optional[int]]:
-    """The life and the index of the object's seat, or nothing."""
-    need, address = judged.need(one), judged.report.addresses[one]
-    life = owners.of((address - BASE) // PAGE)
-    if life is None or (life.span_class, life.pages) != (need.span_class, need.pages):
-        return life, None
-    index, rest = divmod(address - BASE - life.page * PAGE, need.slot)
-    return life, index if not rest and index < need.slots and life.end > judged.lasts[one] else None
+def index_of(judged: Judged, one: int, life: Life) -> int:
+    """The index of the object's seat in this life, or NONE."""
+    need = judged.needs[judged.kinds[one]]
+    if life.span_class != need.span_class or life.pages != need.pages or life.end <= judged.lasts[one]:
+        return NONE
+    index, rest = divmod(judged.report.addresses[one] - BASE - life.page * PAGE, need.slot)
+    return NONE if rest or index >= need.slots else index
 
 
 def places(judged: Judged) -> Optional[Fault]:
     """A placed object sits in exactly one life, which is not given back while the object lives."""
-    judged.seats = [None] * len(judged.trace.sizes)
-    owners, before = Owners(judged), -1
-    for one, cycle in enumerate(judged.cycles):
-        if cycle != before:
-            owners.end_cycle(cycle)
-            before = cycle
-        if judged.is_placed(one):
-            life, index = seat(judged, one, owners)
-            if index is None:
-                return Fault(4, one + 1, [f"{judged.object_text(one)}, and sits in no span.", *why_no_seat(judged, one, life)])
-            judged.seats[one] = life, index
+    count = len(judged.trace.sizes)
+    judged.seats, judged.indexes = array("i", [NONE]) * count, array("H", [0]) * count
+    owners, before, addresses = Owners(judged), NONE, judged.report.addresses
+    for one in judged.placed_ones():
+        if judged.cycles[one] != before:
+            before = judged.cycles[one]
+            owners.end_cycle(before)
+        number = owners.of(addresses[one])
+        index = NONE if number == NONE else index_of(judged, one, judged.lives[number])
+        if index == NONE:
+            life = None if number == NONE else judged.lives[number]
+            return Fault(4, one + 1, [f"{judged.object_text(one)}, and sits in no span.", *why_no_seat(judged, one, life)])
+        judged.seats[one], judged.indexes[one] = number, index
     return None
 
 
 # Rule 5, apart.
 
 
+def slots_of(judged: Judged, number: int, value: int) -> array:
+    """A number for each slot of a life."""
+    life = judged.lives[number]
+    return array("i", [value]) * (life.pages * PAGE // judged.slot(life))
+
+
 def apart(judged: Judged) -> Optional[Fault]:
     """Objects that live in one cycle do not overlap. By rule 4 two overlap exactly where they have one seat."""
-    holder = {}
-    for one, where in enumerate(judged.seats):
-        if where is None:
-            continue
-        life, index = where
-        before = holder.get((life.number, index))
-        cycle = judged.cycles[one]
-        if before is not None and judged.lasts[before] >= cycle:
-            slot = judged.slot(life)
+    holders: List[Optional[array]] = [None] * len(judged.lives)
+    for one in judged.placed_ones():
+        number, index = judged.seats[one], judged.indexes[one]
+        held = holders[number]
+        if held is None:
+            held = holders[number] = slots_of(judged, number, NONE)
+        before = held[index]
+        if before != NONE and judged.lasts[before] >= judged.cycles[one]:
+            life = judged.lives[number]
             return Fault(5, one + 1, [
                 f"{judged.object_text(one)}, at {judged.address_text(one)}.",
                 f"{judged.object_text(before)}, at {judged.address_text(before)} (line {before + 1}), and {judged.lifetime(before)}: it is still alive then.",
-                f"Both fill the {slot} bytes of slot {index} of {judged.life_text(life)}."])  # fmt: skip
-        if before is None or judged.lasts[one] >= judged.lasts[before]:
-            holder[life.number, index] = one
+                f"Both fill the {judged.slot(life)} bytes of slot {index} of {judged.life_text(life)}."])  # fmt: skip
+        held[index] = one
     return None
 
 
@@ -214,20 +220,22 @@ def apart(judged: Judged) -> Optional[Fault]:
 class Filling:
     """How a small life is filled in the cycle so far."""
 
-    def __init__(self) -> None:
-        self.until = {}  # by index, the last cycle of an object there
-        self.cycle = self.proc = -1
+    def __init__(self, until: array) -> None:
+        self.until = until  # by index, the last cycle of an object there
+        self.cycle = self.proc = NONE
         self.low = self.first = self.flushes = 0  # whose it is, by which object, and how often the processor was flushed before that
 
     def begin(self, cycle: int) -> None:
         if self.cycle != cycle:
-            self.cycle, self.low, self.proc = cycle, 0, -1
+            self.cycle, self.low, self.proc = cycle, 0, NONE
 
-    def free(self, limit: int) -> Optional[int]:
-        """The lowest index below the limit that nobody holds, or nothing."""
-        while self.low < limit and self.until.get(self.low, -1) >= self.cycle:
-            self.low += 1
-        return self.low if self.low < limit else None
+    def free(self, limit: int) -> int:
+        """The lowest index below the limit that nobody holds, or NONE."""
+        low, until, cycle = self.low, self.until, self.cycle
+        while low < limit and until[low] >= cycle:
+            low += 1
+        self.low = low
+        return low if low < limit else NONE
 
 
 class Caches:
@@ -253,7 +261,7 @@ class Caches:
 def owner_fault(judged: Judged, one: int, state: Filling, caches: Caches) -> Optional[List[str]]:
     """Why an object may not come into a life that another processor fills, or nothing."""
     proc = judged.trace.procs[one]
-    if state.proc in (-1, proc) or caches.counts[state.proc] > state.flushes:
+    if state.proc in (NONE, proc) or caches.counts[state.proc] > state.flushes:
         return None
     at = f"object {state.first} at {judged.address_text(state.first)} (line {state.first + 1})"
     flush = ", and not flushed since" if judged.trace.version >= REAL else ""
@@ -275,28 +283,41 @@ def left_fault(judged: Judged, one: int, left: Life, gap: int) -> List[str]:
 def filling(judged: Judged) -> Optional[Fault]:
     """In a cycle a small life has one processor, is filled from its lowest free index, and is full before its processor goes on, unless the
     processor is flushed."""
-    lives, caches = defaultdict(Filling), Caches(judged.trace)
-    for one, where in enumerate(judged.seats):
-        if where is None or where[0].span_class < 2:
+    lives: Dict[int, Filling] = {}
+    caches, procs, seats, indexes = Caches(judged.trace), judged.trace.procs, judged.seats, judged.indexes
+    for one in judged.placed_ones():
+        number = seats[one]
+        span_class = judged.lives[number].span_class
+        if span_class < 2:
             continue
-        life, index = where
-        cycle, proc = judged.cycles[one], judged.trace.procs[one]
-        state = lives[life.number]
+        cycle, proc, index = judged.cycles[one], procs[one], indexes[one]
+        state = lives.get(number)
+        if state is None:
+            state = lives[number] = Filling(slots_of(judged, number, NONE))
         state.begin(cycle)
         caches.come(one, cycle)
-        sentences = owner_fault(judged, one, state, caches)
-        if sentences is None and (gap := state.free(index)) is not None:
-            sentences = gap_fault(judged, one, life, gap)
-        left = caches.current[proc].get(life.span_class)
-        if sentences is None and left is not None and left.number != life.number and (gap := lives[left.number].free(judged.need(one).slots)) is not None:
-            sentences = left_fault(judged, one, left, gap)
+        left = caches.current[proc].get(span_class, number)
+        sentences = fill_fault(judged, one, state, caches, lives[left], left) if state.proc != proc or state.low < index or left != number else None
         if sentences:
+            life = judged.lives[number]
             return Fault(6, one + 1, [f"{judged.object_text(one)}, at {judged.address_text(one)}: slot {index} of {judged.life_text(life)}.", *sentences])
-        caches.current[proc][life.span_class] = life
+        caches.current[proc][span_class] = number
         if state.proc != proc or state.flushes != caches.counts[proc]:
             state.proc, state.first, state.flushes = proc, one, caches.counts[proc]
-        state.until[index] = max(state.until.get(index, -1), judged.lasts[one])
+        state.until[index] = max(state.until[index], judged.lasts[one])
     return None
+
+
+def fill_fault(judged: Judged, one: int, state: Filling, caches: Caches, before: Filling, left: int) -> Optional[List[str]]:
+    """Why the object may not come into its life: by its processor, by a lower slot, or by the life `left` that its processor had before."""
+    number, index = judged.seats[one], judged.indexes[one]
+    if sentences := owner_fault(judged, one, state, caches):
+        return sentences
+    gap = state.free(index)
+    if gap != NONE:
+        return gap_fault(judged, one, judged.lives[number], gap)
+    gap = NONE if left == number else before.free(judged.need(one).slots)
+    return None if gap == NONE else left_fault(judged, one, judged.lives[left], gap)
 
 
 # Rule 7, sweeps.
@@ -305,10 +326,10 @@ def filling(judged: Judged) -> Optional[Fault]:
 def counts_of_sweeps(judged: Judged) -> Iterator[Tuple[int, Counter, Counter]]:
     """For each mark end, by lives: how many objects it marks, and how many that lived before it it does not."""
     born, died = defaultdict(Counter), defaultdict(Counter)
-    for one, where in enumerate(judged.seats):
-        if where is not None:
-            born[judged.cycles[one] + 1][where[0].number] += 1
-            died[judged.lasts[one] + 1][where[0].number] += 1
+    for (cycle, last, number), count in Counter(zip(judged.cycles, judged.lasts, judged.seats)).items():
+        if number != NONE:
+            born[cycle + 1][number] += count
+            died[last + 1][number] += count
     alive = Counter()
     for mark_end in range(1, judged.last + 1):
         alive.update(born[mark_end])
@@ -319,7 +340,8 @@ def counts_of_sweeps(judged: Judged) -> Iterator[Tuple[int, Counter, Counter]]:
 def objects_of(judged: Judged, life: Life, mark_end: int, is_kept: bool) -> str:
     """Some of a life's objects that the mark end keeps, or that it frees."""
     last = (lambda one: judged.lasts[one] >= mark_end) if is_kept else (lambda one: judged.lasts[one] == mark_end - 1)
-    found = [one for one, where in enumerate(judged.seats) if where and where[0].number == life.number and judged.cycles[one] < mark_end and last(one)]
+    number = judged.lives.index(life)
+    found = [one for one, seat in enumerate(judged.seats) if seat == number and judged.cycles[one] < mark_end and last(one)]
     more = f" and {len(found) - 3} more" if len(found) > 3 else ""
     names = [judged.kept_text(one, mark_end) if is_kept else str(one) for one in found[:3]]
     return f" (object{'s' if len(found) > 1 else ''} {', '.join(names)}{more})" if found else ""
@@ -329,9 +351,9 @@ def give_fault(judged: Judged) -> Optional[Fault]:
     """The first Give of a life that its mark end did not find alive, or whose sweep does not print that nothing was kept."""
     printed = {(sweep.cycle, sweep.page): at for at, sweep in reversed(list(enumerate(judged.report.sweeps)))}
     empty = {(sweep.cycle, sweep.page) for sweep in judged.report.sweeps if sweep.kept == 0}
-    for life in sorted((life for life in judged.lives if life.given is not None), key=lambda life: life.given):
-        said = [f"With {journal_text(life.given, judged.report.journal[life.given])} {judged.life_text(life)}, goes."]
-        line = judged.journal_line(life.given)
+    for given, life in sorted((life.given, life) for life in judged.lives if life.given is not None):
+        said = [f"With {journal_text(given, judged.report.journal[given])} {judged.life_text(life)}, goes."]
+        line = judged.journal_line(given)
         if life.cycle == life.end:
             return Fault(7, line, [*said, f"A span is given back by the sweep of a later mark end: none found this one alive, which began in cycle {life.cycle}."])
         if (life.end, life.page) not in empty:
@@ -344,15 +366,16 @@ def give_fault(judged: Judged) -> Optional[Fault]:
     return None
 
 
-def sweep_fault(judged: Judged, sweep: Sweep, line: int, life: Optional[Life], kept: int, freed: int, used: Set[Tuple[int, int]]) -> Optional[Fault]:
+def sweep_fault(judged: Judged, sweep: Sweep, line: int, number: int, kept: int, freed: int, used: Set[Tuple[int, int]]) -> Optional[Fault]:
     """Why a sweep is not right, or nothing."""
-    if life is None:
+    if number == NONE:
         return Fault(7, line, [f"As mark end {sweep.cycle} came, no span began at page {sweep.page}, so there was none to sweep."])
+    life = judged.lives[number]
     said = f"The sweep is of {judged.life_text(life)}."
     if (sweep.kept, sweep.freed) != (kept, freed):
         return Fault(7, line, [said, f"Of its objects mark end {sweep.cycle} marks {kept}{objects_of(judged, life, sweep.cycle, True)}, and {freed} that lived before it it does not"
                                f"{objects_of(judged, life, sweep.cycle, False)}: `s {sweep.cycle} {sweep.page} {kept} {freed}` should stand there."])  # fmt: skip
-    if not kept and life.end > sweep.cycle and (life.number, sweep.cycle) not in used:
+    if not kept and life.end > sweep.cycle and (number, sweep.cycle) not in used:
         return Fault(7, line, [said, f"Nothing of it is kept, so it is to be given back in cycle {sweep.cycle}, or an object of that cycle placed in it. Neither is so."])
     return None
 
@@ -361,7 +384,7 @@ def sweeps(judged: Judged) -> Optional[Fault]:
     """Each life that a mark end finds alive has one line of the cycle behind it, and is given back where nothing is kept."""
     if fault := give_fault(judged):
         return fault
-    used = {(where[0].number, cycle) for where, cycle in zip(judged.seats, judged.cycles) if where}
+    used = set(zip(judged.seats, judged.cycles))
     notes, at = judged.report.sweeps, 0
     counted = counts_of_sweeps(judged)
     missing, owners = None, Owners(judged)
@@ -372,17 +395,16 @@ def sweeps(judged: Judged) -> Optional[Fault]:
         seen = set()
         while at < len(notes) and notes[at].cycle <= mark_end:
             sweep = notes[at]
-            life = alive.get(sweep.page) if sweep.cycle == mark_end else None
-            number = life and life.number
-            if fault := sweep_fault(judged, sweep, judged.starts[2] + at, life, kept[number], freed[number], used):
+            number = alive.get(sweep.page, NONE) if sweep.cycle == mark_end else NONE
+            if fault := sweep_fault(judged, sweep, judged.starts[2] + at, number, kept[number], freed[number], used):
                 return fault
             seen.add(sweep.page)
             at += 1
         if missing is None and len(seen) < len(alive):
             page = min(page for page in alive if page not in seen)
-            missing = mark_end, alive[page], kept[alive[page].number], freed[alive[page].number]
+            missing = mark_end, judged.lives[alive[page]], kept[alive[page]], freed[alive[page]]
     if at < len(notes):
-        return sweep_fault(judged, notes[at], judged.starts[2] + at, None, 0, 0, used)
+        return sweep_fault(judged, notes[at], judged.starts[2] + at, NONE, 0, 0, used)
     if missing:
         mark_end, life, *counts = missing
         should = f"s {mark_end} {life.page} {counts[0]} {counts[1]}"
@@ -396,11 +418,11 @@ def sweeps(judged: Judged) -> Optional[Fault]:
 def totals(judged: Judged) -> Optional[Fault]:
     """Each size class with placed objects has one line, with how many were placed and how many of them do not live in the last cycle."""
     mallocs, frees = Counter(), Counter()
-    for one in range(len(judged.trace.sizes)):
-        if judged.is_placed(one):
-            size_class = judged.need(one).span_class // 2
-            mallocs[size_class] += 1
-            frees[size_class] += judged.lasts[one] < judged.last
+    for (kind, last, is_placed), count in Counter(zip(judged.kinds, judged.lasts, judged.placed)).items():
+        if is_placed:
+            size_class = judged.needs[kind].span_class // 2
+            mallocs[size_class] += count
+            frees[size_class] += count * (last < judged.last)
     name = lambda size_class: f"size class {size_class}, {f'of {SLOTS[size_class]} bytes' if size_class else 'that of large objects'}" if size_class < len(SLOTS) else f"size class {size_class}, which there is not"
     for at, (size_class, allocated, freed) in enumerate(judged.report.totals):
         if (allocated, freed) != (mallocs[size_class], frees[size_class]) or not allocated:
@@ -437,10 +459,13 @@ class Words:
 def samples(judged: Judged) -> Iterator[int]:
     """The placed objects that their processors' countdowns sample."""
     rate, seed = judged.trace.header["rate"], judged.trace.header["seed"]
+    if rate == 1:
+        # each byte is a sample's, and so is each object
+        yield from judged.placed_ones()
+        return
     countdowns: Dict[int, Tuple[int, Words]] = {}
-    for one, proc in enumerate(judged.trace.procs):
-        if not judged.is_placed(one) or not rate:
-            continue
+    for one in judged.placed_ones() if rate else ():
+        proc = judged.trace.procs[one]
         if proc not in countdowns:
             words = Words(seed, proc)
             countdowns[proc] = 1 + words.next() % (2 * rate - 1), words
@@ -454,35 +479,41 @@ def samples(judged: Judged) -> Iterator[int]:
 
 
 class Histories:
-    """The numbers of each bucket as of each mark end."""
+    """The numbers of each bucket as of each mark end: how many samples are of an earlier cycle, and how many lived last in one. Of each sample
+    two numbers are kept in order, its bucket's with its first and with its last cycle, so that a count is the distance of two places."""
+
+    CYCLE_BITS = 24
 
     def __init__(self, judged: Judged) -> None:
-        new, gone = defaultdict(Counter), defaultdict(Counter)
+        self.numbers: Dict[Tuple[int, int], int] = {}
+        slots = [need.slot for need in judged.needs]
+        allocs, frees = array("Q"), array("Q")
         for one in samples(judged):
-            bucket = judged.trace.stacks[one], judged.need(one).slot
-            new[judged.cycles[one] + 1][bucket] += 1
-            gone[judged.lasts[one] + 1][bucket] += 1
-        self.ends, self.counts, self.changed = defaultdict(list), defaultdict(list), {}
-        allocs, frees = Counter(), Counter()
-        for mark_end in range(1, judged.last + 1):
-            allocs.update(new[mark_end])
-            frees.update(gone[mark_end])
-            self.changed[mark_end] = sorted(set(new[mark_end]) | set(gone[mark_end]))
-            for bucket in self.changed[mark_end]:
-                self.ends[bucket].append(mark_end)
-                self.counts[bucket].append((allocs[bucket], frees[bucket]))
+            bucket = judged.trace.stacks[one], slots[judged.kinds[one]]
+            number = self.numbers.setdefault(bucket, len(self.numbers)) << self.CYCLE_BITS
+            allocs.append(number | judged.cycles[one])
+            frees.append(number | judged.lasts[one])
+        self.buckets = list(self.numbers)
+        self.sides = array("Q", sorted(allocs)), array("Q", sorted(frees))
 
     def at(self, bucket: Tuple[int, int], mark_end: int) -> Tuple[int, int]:
-        place = bisect_right(self.ends.get(bucket, []), mark_end)
-        return self.counts[bucket][place - 1] if place else (0, 0)
+        """The bucket's allocs and frees."""
+        number = self.numbers.get(bucket)
+        if number is None:
+            return 0, 0
+        first = number << self.CYCLE_BITS
+        allocs, frees = (bisect_left(side, first | mark_end) - bisect_left(side, first) for side in self.sides)
+        return allocs, frees
 
     def due(self, each: bool, last: int) -> Iterator[Tuple[int, Tuple[int, int]]]:
-        """The buckets that are to have a line, with their mark ends."""
-        for mark_end in range(1, last) if each else ():
-            for bucket in self.changed[mark_end]:
-                yield mark_end, bucket
-        for bucket in sorted(self.ends):
-            yield last, bucket
+        """The mark ends at which buckets are to have a line, with these."""
+        for side in self.sides:
+            for key, _ in itertools.groupby(side):
+                number, cycle = divmod(key, 1 << self.CYCLE_BITS)
+                if cycle < last:
+                    yield last, self.buckets[number]
+                    if each and cycle + 1 < last:
+                        yield cycle + 1, self.buckets[number]
 
 
 def profile_line_fault(judged: Judged, histories: Histories, at: int, line: Bucket, each: bool) -> Optional[Fault]:
@@ -499,7 +530,7 @@ def profile_line_fault(judged: Judged, histories: Histories, at: int, line: Buck
         should = f"`p {line.mark_end} {line.stack} {line.slot} {allocs} {frees}` should stand there" if allocs else "there should be no such line"
         return Fault(9, place, [f"Of {what}, {allocs} objects of the cycles before mark end {line.mark_end} are sampled at rate {judged.trace.header['rate']},"
                                 f" and it does not mark {frees} of them: {should}."])  # fmt: skip
-    if each and line.mark_end < judged.last and bucket not in histories.changed[line.mark_end]:
+    if each and line.mark_end < judged.last and histories.at(bucket, line.mark_end - 1) == (allocs, frees):
         return Fault(9, place, [f"Of {what} the two numbers are those as of mark end {line.mark_end - 1}, so that mark end {line.mark_end} has no line of them."])
     return None
 
@@ -512,11 +543,12 @@ def profile(judged: Judged) -> Optional[Fault]:
         if fault := profile_line_fault(judged, histories, at, line, each):
             return fault
     told = {(line.mark_end, (line.stack, line.slot)) for line in lines}
-    for mark_end, bucket in histories.due(each, judged.last) if judged.last else ():
-        if (mark_end, bucket) not in told:
-            allocs, frees = histories.at(bucket, mark_end)
-            return Fault(9, judged.end, [f"Of stack {bucket[0]} and slots of {bucket[1]} bytes, {allocs} objects of the cycles before mark end {mark_end} are sampled, and {frees} of them freed:"
-                                         f" `p {mark_end} {bucket[0]} {bucket[1]} {allocs} {frees}` should stand among the `p` lines."])  # fmt: skip
+    missing = min((one for one in histories.due(each, judged.last) if one not in told), default=None)
+    if missing:
+        mark_end, bucket = missing
+        allocs, frees = histories.at(bucket, mark_end)
+        return Fault(9, judged.end, [f"Of stack {bucket[0]} and slots of {bucket[1]} bytes, {allocs} objects of the cycles before mark end {mark_end} are sampled, and {frees} of them freed:"
+                                     f" `p {mark_end} {bucket[0]} {bucket[1]} {allocs} {frees}` should stand among the `p` lines."])  # fmt: skip
     return None
 
 

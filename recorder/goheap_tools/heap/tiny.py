@@ -3,6 +3,7 @@
 import heapq
 import itertools
 from array import array
+from collections.abc import Mapping
 from typing import Dict, Iterable, Iterator, NamedTuple, Optional, Sequence, Tuple
 
 from goheap_tools.formats.report import MISSED
@@ -66,7 +67,7 @@ def ends(trace: Trace) -> Iterable[Tuple[int, Optional[int]]]:
 
 
 def riding(trace: Trace, addresses: Optional[Sequence[int]]) -> Iterator[Tuple[int, Rider]]:
-    """The objects that ride, in their order, with where. `addresses` are those of the report; without it all leads are placed."""
+    """The objects that ride, in their order, with where."""
     blocks, at = Blocks(), 0
     for end, proc in itertools.chain(ends(trace), [(len(trace.sizes), None)]):
         some = slice(at, end)
@@ -79,16 +80,34 @@ def riding(trace: Trace, addresses: Optional[Sequence[int]]) -> Iterator[Tuple[i
         at = end
 
 
-def riders_of(trace: Trace, addresses: Optional[Sequence[int]] = None) -> Dict[int, Rider]:
-    """The objects that ride, with where."""
-    return dict(riding(trace, addresses)) if trace.version >= FIRST_VERSION else {}
+class Riders(Mapping):
+    """The objects that ride, in their order, with where. Of each object `leads` has the one that got the slot in which it stands; it has none where
+    each object has a slot of its own, before version 3."""
+
+    def __init__(self, trace: Optional[Trace] = None, addresses: Optional[Sequence[int]] = None) -> None:
+        self.leads, self.offsets, self.count = array("I"), bytearray(), 0
+        if trace and trace.version >= FIRST_VERSION:
+            self.leads.extend(range(len(trace.sizes)))
+            self.offsets.extend(bytes(len(trace.sizes)))
+            for one, (lead, offset) in riding(trace, addresses):
+                self.leads[one], self.offsets[one] = lead, offset
+                self.count += 1
+
+    def __contains__(self, one: object) -> bool:
+        return isinstance(one, int) and one < len(self.leads) and self.leads[one] != one
+
+    def __getitem__(self, one: int) -> Rider:
+        if one not in self:
+            raise KeyError(one)
+        return Rider(self.leads[one], self.offsets[one])
+
+    def __iter__(self) -> Iterator[int]:
+        return (one for one, lead in enumerate(self.leads) if lead != one)
+
+    def __len__(self) -> int:
+        return self.count
 
 
-def leads_of(trace: Trace, addresses: Sequence[int]) -> Optional[array]:
-    """Of each object the one that got the slot in which it stands; nothing where each has its own, before version 3."""
-    if trace.version < FIRST_VERSION:
-        return None
-    leads = array("I", range(len(trace.sizes)))
-    for one, rider in riding(trace, addresses):
-        leads[one] = rider.lead
-    return leads
+def riders_of(trace: Trace, addresses: Optional[Sequence[int]] = None) -> Riders:
+    """The objects that ride. `addresses` are those of the report; without it all leads are placed."""
+    return Riders(trace, addresses)

@@ -160,4 +160,4 @@ class Sentences(Folder):
             self.assertEqual(self.said("a 0 0 n 1\n", text), [why])
         trace = self.put("trace", HEAD + "end\n")
         self.assertEqual(run("explain", trace, self.put("report", ""))[1], "report line 1 is malformed: the report ends without the line `end`.\n")
-        self.assertEqual(run("explain", trace, trace), (2, "", f"explain: {trace}: this is a trace, and no report\n"))
+        self.assertEqual(run("explain", trace, trace), (2, "", f"explain: {trace}: this is a trace, and no report (goheap run --each < trace > report)\n"))

@@ -9,7 +9,7 @@ import unittest
 from collections import Counter
 
 from goheap_tools.formats import report, traces
-from goheap_tools.formats.report_text import text_fault
+from goheap_tools.formats.report_text import lines_of, strict_report, text_fault
 from goheap_tools.formats.trace_text import Draft, fault_of
 from goheap_tools.heap import rules
 from goheap_tools.tests.testing import HERE, Folder, data, run
@@ -229,3 +229,27 @@ class Looked(Folder):
             self.assertIn(name, told)
         # held 3 and kept 2, the page 3, the spans 6, 7 and 64, the lent pages 66 and 67 and the free ones 65, 68 and 69; no page of the blocks but page 3 had memory
         self.assertIn("At the end 14 pages (0.11 MiB) are backed, 3 of them in 3 spans.", told)
+
+
+class Strict(unittest.TestCase):
+    """A report is read strictly in runs of lines, and line by line where that finds anything; both ways agree."""
+
+    def test_both_ways_agree(self):
+        for table in TABLES:
+            for said, _, text in rows(table):
+                if not said.startswith("trace"):
+                    self.assertEqual(strict_report(text.encode()) is None, said.startswith("report"), text)
+
+    def test_changes(self):
+        _, _, text = next(rows("whole"))
+        lines = text.splitlines(True)
+        for at, line in enumerate(lines):
+            for changed in (line.replace(" ", "  ", 1), line.replace(" ", " 0", 1), line.replace("\n", " 0\n"), line.replace("\n", "\r\n"), line.upper(), line + line, "", "\n", "x\n"):
+                one = "".join([*lines[:at], changed, *lines[at + 1 :]])
+                self.assertEqual(strict_report(one.encode()) is None, text_fault(lines_of(one.encode())) is not None, repr(changed))
+
+    def test_addresses_of_nothing(self):
+        head = HEAD + "a 0 {} s 1\nend\n"
+        for address in ("0x0", "0x1"):
+            self.assertEqual(judged(head.format(24), f"o 0 {address}\nend\n"), "rule 4 line 1")
+            self.assertEqual(judged(head.format(0), f"o 0 {address}\nend\n"), "rule 1 line 1")
