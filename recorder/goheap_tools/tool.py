@@ -9,6 +9,8 @@ import sys
 import tempfile
 from typing import Any, Callable, IO, List, NoReturn, Optional
 
+from goheap_tools import progress
+
 
 class Unusable(Exception):
     """What was given cannot be used; the text says why."""
@@ -160,6 +162,7 @@ class Output:
     def pour(self) -> None:
         """What was written goes to where it belongs."""
         form: Any = {} if self.binary else {"encoding": "utf-8", "errors": self.errors}
+        progress.end()
         self.file.seek(0)
         if self.path != "-":
             with open(self.path, "wb" if self.binary else "w", **form) as out:
@@ -227,20 +230,25 @@ def stop(number: int, _: Any) -> NoReturn:
 
 def end_by(number: int) -> int:
     """Ends the process as the signal does."""
+    progress.end()
     drop_output()
     signal.signal(number, signal.SIG_DFL)
     os.kill(os.getpid(), number)
     return 2
 
 
-def end(name: str, main: Callable[[List[str]], int], words: List[str]) -> NoReturn:
+def end(name: str, main: Callable[[List[str]], int], words: List[str], tells: bool = False) -> NoReturn:
     """Ends the process with the status that `main` answers, or with 2 and a line that says why there is none. A reader that closes its
-    pipe, as `head` does, ends the tool without a word; so does an interrupt or SIGTERM, behind which no temporary file is left."""
+    pipe, as `head` does, ends the tool without a word; so does an interrupt or SIGTERM, behind which no temporary file is left. Where it
+    `tells`, a terminal is told how far it is."""
     signal.signal(signal.SIGPIPE, signal.SIG_IGN)
     signal.signal(signal.SIGINT, stop)
     signal.signal(signal.SIGTERM, stop)
+    if tells:
+        progress.begin(name)
     try:
         status = main(words)
+        progress.end()
         if sys.stdout is not None and not sys.stdout.closed:
             with Named("standard output"):
                 sys.stdout.flush()
@@ -249,6 +257,7 @@ def end(name: str, main: Callable[[List[str]], int], words: List[str]) -> NoRetu
     except BrokenPipeError:
         status = end_by(signal.SIGPIPE)
     except (Unusable, OSError, MemoryError) as error:
+        progress.end()
         print(f"{name}: {told(error)}", file=sys.stderr)
         drop_output()
         status = 2

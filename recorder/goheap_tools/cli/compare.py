@@ -208,4 +208,4 @@ def main(words: List[str]) -> int:
 
 
 def command() -> None:
-    tool.end("compare", main, sys.argv[1:])
+    tool.end("compare", main, sys.argv[1:], tells=True)

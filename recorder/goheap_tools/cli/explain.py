@@ -13,7 +13,7 @@ import itertools
 import sys
 from typing import Dict, Iterator, List
 
-from goheap_tools import tool
+from goheap_tools import progress, tool
 from goheap_tools.formats import companions
 from goheap_tools.formats.frames import shown_frames
 from goheap_tools.formats.lines import is_kind, opened
@@ -55,6 +55,7 @@ def sound(trace: Trace) -> str:
 
 def explanation(trace: Trace, data: bytes, frames: Dict[int, List[str]], name: str) -> Iterator[str]:
     """The sentences on the report."""
+    progress.stage("reading the report")
     report = strict_report(data)
     if report is None:
         malformed = text_fault(lines_of(data))
@@ -94,4 +95,4 @@ def main(words: List[str]) -> int:
 
 
 def command() -> None:
-    tool.end("explain", main, sys.argv[1:])
+    tool.end("explain", main, sys.argv[1:], tells=True)

@@ -16,7 +16,7 @@ from array import array
 from collections import Counter, defaultdict
 from typing import Any, Callable, Dict, Iterable, Iterator, List, Optional, Sequence, Tuple
 
-from goheap_tools import tool
+from goheap_tools import progress, tool
 from goheap_tools.formats import companions
 from goheap_tools.formats.frames import name_of, shown_frames, type_of
 from goheap_tools.formats.journal import Miss
@@ -35,14 +35,29 @@ MarkEnd = Tuple[int, Iterable[Bucket]]
 NO_MARK_END = "run the program with GOGC=20, or call runtime.GC() in it, twice at the end, and record it again"
 
 
+class Slots(dict):
+    """The bytes of the slot of an object by its size and whether it has pointers; 0 where it has none."""
+
+    def __init__(self, trace: Trace) -> None:
+        super().__init__()
+        self.trace = trace
+
+    def __missing__(self, key: Tuple[int, int]) -> int:
+        size, has_pointers = key
+        self[key] = slot_in(self.trace, size, bool(has_pointers)) if size else 0
+        return self[key]
+
+
 def buckets_of_trace(trace: Trace, addresses: Optional[Sequence[int]] = None) -> Iterator[MarkEnd]:
     """Each mark end with the buckets that changed since the one before, as a profile at rate 1 has them: of objects that share a block the
     first one counts, as long as one of them lives."""
     lasts, riders = slot_lasts(trace, addresses)
     new, gone = defaultdict(Counter), defaultdict(Counter)
-    for one, (cycle, last, size, stack) in enumerate(zip(trace.cycles(), lasts, trace.sizes, trace.stacks)):
-        if size and cycle < trace.mark_ends and one not in riders and (addresses is None or addresses[one] > MISSED):
-            bucket = stack, slot_in(trace, size, bool(trace.pointers[one]))
+    slots, leads, mark_ends = Slots(trace), riders.leads, trace.mark_ends
+    for one, (cycle, last, stack, *key) in enumerate(zip(trace.cycles(), lasts, trace.stacks, trace.sizes, trace.pointers)):
+        slot = slots[tuple(key)]
+        if slot and cycle < mark_ends and (not leads or leads[one] == one) and (addresses is None or addresses[one] > MISSED):
+            bucket = stack, slot
             new[cycle + 1][bucket] += 1
             gone[last + 1][bucket] += 1
     allocs, frees = Counter(), Counter()
@@ -313,6 +328,7 @@ def options_of(words: List[str]) -> argparse.Namespace:
 
 
 def say(text: str) -> None:
+    progress.erase()
     print(f"leaks: {text}", file=sys.stderr)
 
 
@@ -423,4 +439,4 @@ def main(words: List[str]) -> int:
 
 
 def command() -> None:
-    tool.end("leaks", main, sys.argv[1:])
+    tool.end("leaks", main, sys.argv[1:], tells=True)

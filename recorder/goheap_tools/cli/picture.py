@@ -354,4 +354,4 @@ def main(words: List[str]) -> int:
 
 
 def command() -> None:
-    tool.end("picture", main, sys.argv[1:])
+    tool.end("picture", main, sys.argv[1:], tells=True)

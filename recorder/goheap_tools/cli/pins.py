@@ -213,4 +213,4 @@ def main(words: List[str]) -> int:
 
 
 def command() -> None:
-    tool.end("pins", main, sys.argv[1:])
+    tool.end("pins", main, sys.argv[1:], tells=True)

@@ -6,7 +6,7 @@ import re
 import sys
 from typing import BinaryIO, ContextManager, Iterable, Iterator, Mapping, Tuple
 
-from goheap_tools import tool
+from goheap_tools import progress, tool
 from goheap_tools.tool import Unusable
 
 SIZE = 1 << 17  # bytes read at a time
@@ -48,6 +48,7 @@ def blocks(file: BinaryIO) -> Iterator[bytes]:
 def runs(file: BinaryIO, name: str, line: int, kind: str, forms: Mapping[str, bytes]) -> Iterator[Tuple[str, bytes, int]]:
     """The rest of a text up to its line `end` as runs of lines with one first letter: the letter, the lines, the first one's number. `line` is
     the number of the first line that is left, and `forms` has the form of a run by its letter."""
+    progress.stage(f"reading {name}")
     compiled = {ord(letter): (letter, re.compile(form)) for letter, form in forms.items()}
     ended = False
     for block in blocks(file):

@@ -12,6 +12,7 @@ from bisect import bisect_left
 from collections import Counter, defaultdict
 from typing import Dict, Iterator, List, NamedTuple, Optional, Set, Tuple
 
+from goheap_tools import progress
 from goheap_tools.formats.journal import MAKING_LINES, Give, Miss, journal_text, line_text
 from goheap_tools.formats.report import ZERO, Bucket, Report, Sweep
 from goheap_tools.formats.traces import REAL, Trace
@@ -571,7 +572,8 @@ RULES = (answers, journal, misses, places, apart, filling, sweeps, totals, profi
 def first_fault(trace: Trace, report: Report, frames: Optional[Dict[int, List[str]]] = None) -> Optional[Fault]:
     """The first rule that the report breaks, with its line and why; nothing where it meets all."""
     judged = Judged(trace, report, frames)
-    for rule in RULES:
+    for number, rule in enumerate(RULES, 1):
+        progress.stage(f"trying rule {number}, {NAMES[number]}")
         if fault := rule(judged):
             return fault
     return None

@@ -1,8 +1,11 @@
 """Tests of what the tools say of what they cannot use."""
 
 import os
+import pty
 import signal
 import subprocess
+import sys
+import unittest
 
 from goheap_tools.tests.testing import HERE, Folder, data, path_of, run
 
@@ -78,3 +81,34 @@ class Faults(Folder):
             line = " ".join([os.path.join(HERE, words[0]), *words[1:], {"input": "<&-", "output": ">&-"}[name]])
             ran = subprocess.run(["bash", "-c", line], capture_output=True, text=True)
             self.assertEqual((ran.returncode, ran.stderr), (2, f"{words[0]}: standard {name} is closed\n"))
+
+
+class Progress(unittest.TestCase):
+    """What a terminal is told of a tool that takes long."""
+
+    SLOW = "import sys, time; from goheap_tools import progress, tool; tool.end('slow', lambda _: progress.stage('at it') or time.sleep({}) or {}, [], tells={})"
+
+    def told(self, seconds, status, tells):
+        """The tool's status, and what it writes to a terminal on its errors."""
+        keeper, terminal = pty.openpty()
+        ran = subprocess.run([sys.executable, "-c", self.SLOW.format(seconds, status, tells)], cwd=HERE, stderr=terminal, stdout=subprocess.DEVNULL)
+        os.close(terminal)
+        written = b""
+        try:
+            while data := os.read(keeper, 1000):
+                written += data
+        except OSError:
+            pass  # the terminal has no other end any more
+        os.close(keeper)
+        return ran.returncode, written.decode()
+
+    def test_a_long_one_is_told_of_and_erased(self):
+        status, written = self.told(3.2, 1, True)
+        self.assertEqual(status, 1)
+        self.assertTrue(written.startswith("\r\x1b[Kslow: at it, 2 s\r\x1b[K"), repr(written))
+        self.assertTrue(written.endswith("s\r\x1b[K"), repr(written))
+
+    def test_who_is_told_nothing(self):
+        self.assertEqual(self.told(0, 0, True), (0, ""))
+        ran = subprocess.run([sys.executable, "-c", self.SLOW.format(2.6, 0, True)], cwd=HERE, capture_output=True)
+        self.assertEqual((ran.returncode, ran.stderr), (0, b""))
