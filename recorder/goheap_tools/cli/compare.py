@@ -14,6 +14,7 @@ from typing import Dict, Iterable, Iterator, List, Optional, Tuple
 
 from goheap_tools import tool
 from goheap_tools.formats import companions, golog
+from goheap_tools.formats.packed import log_in
 from goheap_tools.formats.report import MISSED, Report, report_in
 from goheap_tools.formats.stacks import stack_file
 from goheap_tools.formats.traces import Event, Trace, trace_in
@@ -196,7 +197,7 @@ def main(words: List[str]) -> int:
     parser.add_argument("--stacks", help="the stacks of the recording, by which another trace is told")
     parser.add_argument("--output", "-o", default="-", help="a file for the tables (default: standard output)")
     options = parser.parse_args(words)
-    with tool.Output(options.output) as out, tool.reading(options.log) as log:
+    with tool.Output(options.output) as out, log_in(options.log) as log:
         if options.stacks:
             check_stacks(options)
         allocations = (event for event in golog.events(golog.pieces_of(log)) if isinstance(event, golog.Allocation))

@@ -21,6 +21,7 @@ from goheap_tools import tool
 from goheap_tools.cli.recording import CHUNK_PAGES, MOST_CHUNKS, MOST_MARK_ENDS, MOST_PROCS, PIECE, USUAL_CHUNKS, VERSIONS, Recorder
 from goheap_tools.cli.running import Interrupt, Log, Run, told_pieces
 from goheap_tools.formats import golog
+from goheap_tools.formats.packed import log_in
 from goheap_tools.formats.program import READ_VERSIONS, Program
 from goheap_tools.heap import tiny
 from goheap_tools.heap.classes import slot_of
@@ -111,7 +112,8 @@ def tell_lost(recorder: Recorder, log: Log) -> None:
         first = recorder.first_broken
         say(f"{recorder.broken} blocks of the log were not whole and are left out; the first at line {first.line}: {first.what}")
     if not log.is_run and shows(recorder.foreign, recorder.lines):
-        say(f"{recorder.foreign} lines of the log are of no block, and are passed over as the program's own; the first at line {recorder.first_foreign.line}")
+        torn = f", {recorder.torn} of them torn by a block" if recorder.torn else ""
+        say(f"{recorder.foreign} lines of the log are of no block, and are passed over as the program's own{torn}; the first at line {recorder.first_foreign.line}")
     if shows(recorder.unknown_frees, recorder.frees):
         say(f"{recorder.unknown_frees} freed objects have no allocation in the log (of a program's first objects some have none; many: the log's beginning is missing)")
     if shows(recorder.lost_frees, recorder.allocations):
@@ -235,7 +237,7 @@ def write(recorder: Recorder, out: tool.Output, stacks: Optional[tool.Output]) -
 def log_of(options: argparse.Namespace, interrupt: Interrupt) -> Any:
     if options.command:
         return Run(options.command, interrupt, None if options.output != "-" else sys.stderr)
-    return Log(tool.reading(options.log), interrupt)
+    return Log(log_in(options.log), interrupt)
 
 
 def pass_on(text: str) -> None:
@@ -259,6 +261,9 @@ def main(words: List[str]) -> int:
         except BaseException:
             log.end(True)
             raise
+        finally:
+            if not log.is_run and options.log != "-":
+                log.file.close()
         log.end(recorder.ended or recorder.other)
         if not recorder.allocations:
             raise tool.Unusable(no_allocation(options, program))

@@ -119,7 +119,7 @@ class Recorder:
         self.is_told = False
         self.waiting, self.swept = frozenset(), False
         self.allocations = self.frees = self.lines = 0
-        self.guessed = self.sizes_guessed = self.unknown_frees = self.lost_frees = self.foreign = self.broken = 0
+        self.guessed = self.sizes_guessed = self.unknown_frees = self.lost_frees = self.foreign = self.torn = self.broken = 0
         self.first_foreign: Any = None
         self.first_broken: Any = None
         self.started = self.has_run = False
@@ -319,6 +319,7 @@ class Recorder:
             self.first_broken = self.first_broken or event
         else:
             self.foreign += 1
+            self.torn += event.is_torn
             self.first_foreign = self.first_foreign or event
             if self.foreign_seen:
                 self.foreign_seen(event.text)

@@ -45,7 +45,7 @@ class Log:
 
     is_run = False
 
-    def __init__(self, file: TextIO, interrupt: Interrupt) -> None:
+    def __init__(self, file: Any, interrupt: Interrupt) -> None:
         self.file, self.interrupt = file, interrupt
 
     def wait(self) -> bool:

@@ -3,7 +3,8 @@
 The runtime writes a block for each allocation (`tracealloc`), each object that a sweep frees (`tracefree`) and each mark end
 (`tracegc`), each with a stack; a blank line ends a block, and `end tracegc` that of a mark end, which has a stack for each goroutine.
 See `tracealloc`, `tracefree` and `tracegc` in `mprof.go` of Go's runtime. Lines that belong to no block, such as the program's own
-output, are passed over and counted.
+output, are passed over and counted. A block counts where its first frame is the runtime's, which allocates or sweeps: a program that prints such
+lines itself changes nothing.
 
 A whole block is not read line by line: where it has the program counters of one before, and as many lines, it has its stack, and a frame
 that was seen before is told by its place and its program counter. What is not whole, or has other lines in it, is read line by line.
@@ -12,7 +13,7 @@ that was seen before is told by its place and its program counter. What is not w
 import codecs
 import io
 import re
-from typing import Any, FrozenSet, Iterable, Iterator, NamedTuple, Optional, TextIO, Tuple
+from typing import Any, FrozenSet, Iterable, Iterator, Match, NamedTuple, Optional, TextIO, Tuple
 
 ALLOC = re.compile(r"tracealloc\((0x[0-9a-f]+), (0x[0-9a-f]+)(?:, (.*))?\)\s*$")
 FREE = re.compile(r"tracefree\((0x[0-9a-f]+), (0x[0-9a-f]+)\)\s*$")
@@ -29,6 +30,8 @@ WHOLE_ALLOC = re.compile(
     r"tracealloc\((0x[0-9a-f]+), (0x[0-9a-f]+)(?:, ([^\n]*))?\)\n(goroutine) (\d+) \[[^\n]*\nruntime\.mallocgc\((0x[0-9a-f]+), (0x[0-9a-f]+)(\??),"
 )
 WHOLE_FREE = re.compile(r"tracefree\((0x[0-9a-f]+), (0x[0-9a-f]+)\)\n")
+SWEEPS = re.compile(r"goroutine \d+ \[[^\n]*\nruntime\.")
+ALLOCATES = "runtime.mallocgc"  # the first frame of a block of an allocation
 COUNTER = re.compile(r" pc=(0x[0-9a-f]+)")
 
 # Go prints at most 100 frames of a stack, each in two lines.
@@ -78,6 +81,7 @@ class Foreign(NamedTuple):
 
     line: int
     text: str = ""
+    is_torn: bool = False  # a block begins in the line
 
 
 class Lines:
@@ -125,7 +129,7 @@ class Lines:
         return number
 
 
-def pieces_of(file: TextIO, wait: Any = lambda: True) -> Iterator[str]:
+def pieces_of(file: Any, wait: Any = lambda: True) -> Iterator[str]:
     """The text of a file in pieces, as they come. `wait` waits for the next one, and answers whether to read on."""
     source: Any = getattr(file, "buffer", file)
     decoder = io.IncrementalNewlineDecoder(codecs.getincrementaldecoder("utf-8")("surrogateescape"), True)
@@ -158,6 +162,18 @@ def frame_of(name: str, place: str) -> Optional[Tuple[str, str]]:
     if not found or "(" not in name or name.startswith(("\t", "created by ", "runtime.procresize(", "runtime.schedinit(")):
         return None
     return found, function_of(name)
+
+
+def torn(number: int, header: Match[str]) -> Iterator[Foreign]:
+    """What the program wrote into the line in which a block begins."""
+    if header.start():
+        yield Foreign(number, header.string[: header.start()] + "\n", True)
+
+
+def of_the_program(number: int, first: str, rest: Iterable[str]) -> Iterator[Foreign]:
+    """Lines that look as a block's, and are the program's own."""
+    for at, line in enumerate([first, *rest]):
+        yield Foreign(number + at, line)
 
 
 def rest_of_block(lines: Any) -> Any:
@@ -285,11 +301,14 @@ class Reader:
             if not line.isspace():
                 yield Foreign(number, line)
         elif header := ALLOC.search(line):
+            yield from torn(number, header)
             yield from self.allocation_events(number, header)
         elif header := FREE.search(line):
+            yield from torn(number, header)
             yield from self.free_events(number, header)
-        elif COLLECTION.search(line):
-            yield from self.collection_events(number)
+        elif header := COLLECTION.search(line):
+            yield from torn(number, header)
+            yield from self.collection_events(number, line)
         else:
             yield Broken(number, "a block's first line is not whole")
 
@@ -355,6 +374,9 @@ class Reader:
         if not is_whole:
             yield Broken(number, "the log ends within a tracealloc block", stack.starts)
             return
+        if stack.functions and stack.functions[0] != ALLOCATES:
+            yield from of_the_program(number, header.string[header.start() :], rest)
+            return
         yield allocation_of(number, header, stack)
         for line in stack.foreign:
             yield Foreign(number, line)
@@ -367,25 +389,32 @@ class Reader:
         header = end >= 0 and WHOLE_FREE.match(text, at, end)
         if not header or text.count("\n", at, end) != 1 + 2 * text.count("\n\t", at, end) or text.find("\ntrace", at, end) >= 0:
             return None
-        if text.count("\n", at, end) > MOST_LINES:
+        if text.count("\n", at, end) > MOST_LINES or not SWEEPS.match(text, header.end(), end):
             return None
         return Free(lines.pass_block(end), int(header.group(1), 16), int(header.group(2), 16))
 
     def free_events(self, number: int, header: Any) -> Iterator[Any]:
-        yield Free(number, int(header.group(1), 16), int(header.group(2), 16))
         rest, is_whole = rest_of_block(self.lines)
-        if not is_whole:
-            yield Broken(number, "the log ends within a tracefree block")
         stack = Stack()
         for line in rest:
             stack.take(line)
+        if is_whole and not (stack.functions and stack.functions[0].startswith("runtime.")):
+            yield from of_the_program(number, header.string[header.start() :], rest)
+            return
+        yield Free(number, int(header.group(1), 16), int(header.group(2), 16))
+        if not is_whole:
+            yield Broken(number, "the log ends within a tracefree block")
         for line in stack.foreign:
             yield Foreign(number, line)
 
-    def collection_events(self, number: int) -> Iterator[Any]:
+    def collection_events(self, number: int, first: str) -> Iterator[Any]:
         """The block has a part for each goroutine, behind a blank line."""
         waiting, foreign, stack = set(), [], Stack()
         is_whole = False
+        if (line := self.lines.next()) is not None and not line.isspace():
+            self.lines.put_back(line)
+            yield Foreign(number, first)
+            return
         while (line := self.lines.next()) is not None:
             is_whole = line.startswith("end tracegc")
             if not is_whole and line.startswith("trace") and HEADER.match(line):

@@ -1,6 +1,8 @@
 """Tests of `record`, and of what reads logs."""
 
+import gzip
 import io
+import lzma
 import os
 import pty
 import signal
@@ -26,7 +28,7 @@ class Recording(Folder):
         self.assertEqual(body(text_of(stacks)), data("small.stacks"))
         self.assertIn("1 allocations have no size as asked for", said)
         self.assertIn("6 objects, 2 mark ends, 5 marked objects, 5 stacks", said)
-        self.assertIn("record: 1 lines of the log are of no block, and are passed over as the program's own; the first at line 1\n", said)
+        self.assertIn("record: 2 lines of the log are of no block, and are passed over as the program's own, 1 of them torn by a block; the first at line 1\n", said)
 
     def test_tiny_blocks(self):
         log = data("small.allocfreetrace").replace("runtime.mallocgc(0x10, 0x0, 0x0)", "runtime.mallocgc(0x5, 0x0, 0x0)")
@@ -84,22 +86,22 @@ class Recording(Folder):
         for at in ("runtime.newobject(0xc0", "\t/home/user/main.go:12", "created by runtime.newproc", "tracealloc(0xc000012000", "tracegc()"):
             status, trace, said = run("record", *OPTIONS, given=log.replace(at, own + at, 1))
             self.assertEqual((status, trace), (0, data("small.trace")), at)
-            self.assertIn("record: 2 lines of the log are of no block", said, at)
+            self.assertIn("record: 3 lines of the log are of no block", said, at)
         for glued in ("hello ", "\udcff\udcfe "):
             self.assertEqual(run("record", *OPTIONS, given=log.replace("tracealloc(", glued + "tracealloc("))[1], data("small.trace"))
 
     def test_the_beginning_of_a_log_is_cut(self):
         log = data("small.allocfreetrace")
         _, trace, said = run("record", *OPTIONS, given=log[log.index("tracealloc(0xc000012000") :])
-        self.assertIn("record: 1 freed objects have no allocation in the log", run("record", given=block(16) + "tracegc()\nend tracegc\n\ntracefree(0x20, 0x10)\ngoroutine 0 [idle]:\n\n")[2])
+        self.assertIn("record: 1 freed objects have no allocation in the log", run("record", given=block(16) + "tracegc()\nend tracegc\n\ntracefree(0x20, 0x10)\ngoroutine 0 [idle]:\nruntime.sweepone()\n\t/go/mgcsweep.go:1\n\n")[2])
         self.assertEqual(trace.splitlines()[2:4], ["a 0 100 n 0", "a 1 16 n 1"])
 
     def test_a_stack_without_end(self):
         # Go prints at most 100 frames, so a block that goes on is not gathered.
-        log = "tracealloc(0x10, 0x10)\ngoroutine 1 [running]:\n" + 1000 * "main.f()\n\t/home/main.go:1\n"
+        log = "tracealloc(0x10, 0x10)\ngoroutine 1 [running]:\nruntime.mallocgc(0x10, 0x0, 0x1)\n\t/go/malloc.go:1\n" + 1000 * "main.f()\n\t/home/main.go:1\n"
         status, trace, said = run("record", given=log)
         self.assertEqual((status, trace.count("\na ")), (0, 1))
-        self.assertRegex(said, "record: 1751 lines of the log are of no block")
+        self.assertRegex(said, "record: 1753 lines of the log are of no block")
 
     def test_names_with_blanks(self):
         log = (
@@ -182,7 +184,7 @@ class Recording(Folder):
                 return lines.pop(0).encode() if lines else b""
 
         out = os.path.join(self.folder.name, "trace")
-        with unittest.mock.patch("goheap_tools.tool.reading", lambda _: Pieces()):
+        with unittest.mock.patch.object(record, "log_in", lambda _: Pieces()):
             self.assertEqual(record.main(["--output", out, *OPTIONS]), 0)
         reset_signals()
         self.assertEqual(text_of(out).splitlines(), [*data("small.trace").splitlines()[:5], "gc 1000", "m 0 2", "end"])
@@ -208,3 +210,31 @@ class Recording(Folder):
     def test_names_of_frames(self):
         names = ["runtime.(*mcache).refill(0x1, {0x2, 0x3})\n", "main.f[...](0x1)\n", "main.main()\n", "main.push(...)\n"]
         self.assertEqual([golog.function_of(name) for name in names], ["runtime.(*mcache).refill", "main.f[...]", "main.main", "main.push"])
+
+
+class Impostors(Folder):
+    """A program that prints lines as the runtime does, and logs that are packed."""
+
+    OWN = ("tracealloc(0xc000ff0000, 0x20, main.node)\ngoroutine 1 [running]:\nmain.fake()\n\t/home/user/main.go:1\n\n", "tracefree(0xc000010000, 0x20)\n\n",
+           "tracefree(0xc000010000, 0x20)\ngoroutine 1 [running]:\nmain.fake()\n\t/home/user/main.go:1\n\n", "tracegc()\nand more\n")  # fmt: skip
+
+    def test_a_block_is_the_runtimes(self):
+        log = data("small.allocfreetrace")
+        at = log.index("tracefree(0xc000012000")
+        for own in self.OWN:
+            for text in (own + log, log[:at] + own + log[at:], log.rstrip("\n") + "\n\n" + own):
+                status, trace, said = run("record", *OPTIONS, given=text)
+                self.assertEqual((status, trace), (0, data("small.trace")), own)
+                lines = 2 + sum(not line.isspace() for line in own.splitlines(True))
+                self.assertIn(f"record: {lines} lines of the log are of no block, and are passed over as the program's own, 1 of them torn by a block; the first at line 1\n", said)
+
+    def test_packed_logs(self):
+        log = data("small.allocfreetrace").encode()
+        for name, packed in (("log.gz", gzip.compress(log)), ("log.xz", lzma.compress(log))):
+            path = os.path.join(self.folder.name, name)
+            for content, expected in ((packed, (0, data("small.trace"))), (packed[:-30], (2, ""))):
+                with open(path, "wb") as file:
+                    file.write(content)
+                status, trace, said = run("record", path, *OPTIONS)
+                self.assertEqual((status, trace), expected, said)
+            self.assertEqual(said, f"record: {path}: the packed file is cut or damaged\n")

@@ -31,7 +31,7 @@ def run(name, *words, given=""):
     before = sys.stdin, sys.stdout, sys.stderr
     handlers = {number: signal.getsignal(number) for number in (signal.SIGINT, signal.SIGTERM, signal.SIGPIPE)}
     with tempfile.NamedTemporaryFile("r", errors="surrogateescape") as written:
-        sys.stdin = io.TextIOWrapper(io.BytesIO(given.encode(errors="surrogateescape")))
+        sys.stdin = io.TextIOWrapper(io.BufferedReader(io.BytesIO(given.encode(errors="surrogateescape"))))
         sys.stdout, sys.stderr = open(written.name, "w"), io.StringIO()
         try:
             tool.end(name, module(name).main, list(words))
