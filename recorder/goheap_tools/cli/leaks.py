@@ -11,14 +11,15 @@ they are what Go's tools estimate from it: the rate is told by the stacks, or by
 
 import argparse
 import itertools
+import re
 import sys
 from array import array
 from collections import Counter, defaultdict
-from typing import Any, Callable, Dict, Iterable, Iterator, List, Optional, Sequence, Tuple
+from typing import Any, Callable, Dict, Iterable, Iterator, List, Optional, Pattern, Sequence, Tuple
 
 from goheap_tools import progress, tool
 from goheap_tools.formats import companions
-from goheap_tools.formats.frames import name_of, shown_frames, type_of
+from goheap_tools.formats.frames import name_of, type_of
 from goheap_tools.formats.journal import Miss
 from goheap_tools.formats.report import MISSED, Bucket, Report, report_in
 from goheap_tools.formats.stacks import Stacks, stack_file
@@ -112,10 +113,11 @@ class Row:
 class Profile:
     """The rows of the table by their keys, over the mark ends."""
 
-    def __init__(self, mark_ends: Iterable[MarkEnd], key_of: Callable[[Bucket], Any], rate: int) -> None:
+    def __init__(self, mark_ends: Iterable[MarkEnd], key_of: Callable[[Bucket], Any], rate: int, shows: Callable[[int], bool] = lambda _: True) -> None:
         self.rows = defaultdict(Row)
         self.cum = defaultdict(int)  # bytes in use by stack
         self.first = self.last = 0
+        self.all = Row()  # what is not shown as well
         counts = {}
         for mark_end, buckets in mark_ends:
             self.first, self.last = self.first or mark_end, mark_end
@@ -126,6 +128,9 @@ class Profile:
                 counts[name] = bucket.allocs, bucket.frees
                 times = factor(bucket.slot, rate)
                 change = (bucket.allocs - allocs) * times, (bucket.frees - frees) * times
+                self.all.add(bucket.slot, *change)
+                if not shows(bucket.stack):
+                    continue
                 key = key_of(bucket)
                 self.rows[key].add(bucket.slot, *change)
                 self.cum[bucket.stack] += (change[0] - change[1]) * bucket.slot
@@ -162,13 +167,13 @@ class Table:
     @classmethod
     def key(cls, stacks: Stacks) -> Callable[[Bucket], Any]:
         """What a bucket's row is called by."""
-        return lambda bucket: cls.name(shown_frames(stacks.frames.get(bucket.stack, []))[0])
+        return lambda bucket: cls.name(stacks.shown(bucket.stack)[0])
 
     def cum_of_names(self) -> Dict[Any, float]:
         """What each has in use together with those that it calls."""
         cum = defaultdict(int)
         for stack, used in self.profile.cum.items():
-            for name in {self.name(frame) for frame in shown_frames(self.stacks.frames.get(stack, []))}:
+            for name in {self.name(frame) for frame in self.stacks.shown(stack)}:
                 cum[name] += used
         return cum
 
@@ -193,7 +198,7 @@ class Table:
     def lines(self) -> Iterator[str]:
         profile, names = self.profile, self.names()
         shown = names[: self.options.top]
-        total, so_far = sum(row.used for row in profile.rows.values()), 0
+        total, so_far = profile.all.used, 0.0
         yield from heading(profile, names, shown, total, self.what, self.options)
         yield f"{'flat':>10} {'flat%':>6} {'sum%':>6}{self.middle_titles()}{profile.growth_titles()}  {self.what_title()}"
         for name in shown:
@@ -269,7 +274,7 @@ class Buckets(Table):
         return f"{name[0]} {self.frames(name)[0]}"
 
     def frames(self, name: Any) -> List[str]:
-        return shown_frames(self.stacks.frames.get(name[0], []))
+        return self.stacks.shown(name[0])
 
     def below(self, name: Any) -> Iterable[str]:
         if self.options.frames:
@@ -289,8 +294,39 @@ def heading(profile: Profile, names: List[Any], shown: List[Any], total: float, 
         counted = "all objects" if options.rate == 1 else f"the objects sampled at rate {options.rate}, as they are counted"
     else:
         counted = "the sampled objects as they are counted (all objects if the rate was 1; else see --scale)"
-    yield f"Mark end {profile.last}{options.place}: {size_text(total)} in use, {size_text(sum(row.allocated for row in rows.values()))} allocated; {counted}"
+    yield f"Mark end {profile.last}{options.place}: {size_text(total)} in use, {size_text(profile.all.allocated)} allocated; {counted}{''.join(options.filters)}"
     yield f"Showing {len(shown)} of {len(names)} {what} {'' if options.sort == 'allocated' else 'in use'}".rstrip() + f", accounting for {size_text(part)}, {percent(part, total)} of {size_text(total)} total"
+
+
+def expression(text: str) -> Pattern[str]:
+    """An argument's type: a regular expression."""
+    try:
+        return re.compile(text)
+    except re.error as error:
+        raise argparse.ArgumentTypeError(f"{text!r} is no regular expression: {error}") from None
+
+
+class Choice:
+    """Which stacks a table is of, and which of their frames it shows."""
+
+    def __init__(self, stacks: Stacks, options: argparse.Namespace) -> None:
+        self.stacks, self.options = stacks, options
+        self.known: Dict[int, bool] = {}
+
+    def shows(self, number: int) -> bool:
+        if number not in self.known:
+            has = lambda pattern: any(map(pattern.search, self.stacks.frames.get(number, [])))
+            focus, ignore = self.options.focus, self.options.ignore
+            self.known[number] = (not focus or has(focus)) and not (ignore and has(ignore))
+        return self.known[number]
+
+    def stripped(self) -> Stacks:
+        """The stacks without the frames that are hidden."""
+        hide = self.options.hide
+        if not hide:
+            return self.stacks
+        frames = {number: [frame for frame in frames if not hide.search(frame)] for number, frames in self.stacks.frames.items()}
+        return self.stacks._replace(frames=frames)
 
 
 def options_of(words: List[str]) -> argparse.Namespace:
@@ -308,10 +344,16 @@ def options_of(words: List[str]) -> argparse.Namespace:
     at = parser.add_mutually_exclusive_group()
     at.add_argument("--at", type=tool.number(1, 1_000_000), metavar="N", help="as of mark end N (default: the last one)")
     at.add_argument("--peak", action="store_true", help="as of the mark end with the most bytes in use")
+    parser.add_argument("--focus", type=expression, metavar="REGEXP", help="only objects whose stack has a frame that this expression finds, as `go tool pprof` does")
+    parser.add_argument("--ignore", type=expression, metavar="REGEXP", help="no objects whose stack has such a frame")
+    parser.add_argument("--hide", type=expression, metavar="REGEXP", help="leave such frames out of the stacks")
     parser.add_argument("--scale", type=tool.number(0, 1 << 30), metavar="RATE", help="estimate the counts without sampling, from those sampled at this rate (default: the rate that the stacks tell; 0: don't)")
     parser.add_argument("--output", "-o", default="-", help="a file for the table (default: standard output)")
     options = parser.parse_args(words)
     options.place = ""
+    options.filters = [f"; {name} {getattr(options, name).pattern}" for name in ("focus", "ignore", "hide") if getattr(options, name)]
+    if options.filters and not options.stacks:
+        parser.error("--focus, --ignore and --hide need --stacks")
     if not (options.report or options.trace):
         parser.error("neither a report nor a trace was given")
     if options.table in (Table, Lines, Types) and not options.stacks:
@@ -415,6 +457,8 @@ def read_all(options: argparse.Namespace) -> Tuple[Stacks, Optional[Report], Opt
         raise tool.Unusable(f"{options.report} has {len(report.addresses)} objects, and {options.trace} has {len(trace.sizes)}: it is no report of this trace")
     if report:
         companions.of_report(stacks, report, (options.stacks, tool.named(options.report)))
+        if not trace:
+            companions.of_rate(stacks, report, (options.stacks, tool.named(options.report)))
     if trace:
         companions.of_trace(stacks, trace, (options.stacks, tool.named(options.trace)))
     return stacks, report, trace
@@ -426,8 +470,10 @@ def main(words: List[str]) -> int:
         stacks, report, trace = read_all(options)
         take_rate(stacks, options)
         mark_ends = buckets_of_trace(trace, report.addresses if report else None) if trace else buckets_of_report(report or Report())
-        profile = Profile(up_to(mark_ends, options, options.scale), options.table.key(stacks), options.scale)
-        if not profile.rows:
+        choice = Choice(stacks, options)
+        stacks = choice.stripped()
+        profile = Profile(up_to(mark_ends, options, options.scale), options.table.key(stacks), options.scale, choice.shows)
+        if not profile.all.allocs:
             raise tool.Unusable(no_profile(stacks, trace, options))
         if report:
             tell_misses(report, trace)

@@ -14,6 +14,8 @@ from goheap_tools.formats.traces import Trace
 from goheap_tools.heap.classes import SLOTS, slot_of
 from goheap_tools.tool import Unusable
 
+# Samples that chance alone can make.
+MANY = 20
 # What a stacks file and what is held against it are called.
 Names = Tuple[str, str]
 
@@ -61,6 +63,30 @@ def of_report(stacks: Stacks, report: Report, names: Names) -> None:
         if told[slot] != found[slot]:
             size = f"of {slot} bytes" if slot else f"above {SLOTS[-1]} bytes"
             refuse(stacks, names, f"{found[slot]} objects in slots {size}, and by the stacks {told[slot]}")
+
+
+def samples_of(report: Report) -> Counter:
+    """How many objects the profile of the last mark end counts, by the bytes of their slots."""
+    last = max((bucket.mark_end for bucket in report.buckets), default=0)
+    found = Counter()
+    for bucket in report.buckets:
+        found[bucket.slot] += bucket.allocs if bucket.mark_end == last else 0
+    return found
+
+
+def of_rate(stacks: Stacks, report: Report, names: Names) -> None:
+    """Refuses a report whose profile is of another rate than the recording: at rate 1 it counts each object that is placed before the last mark
+    end; above that, about one in so many bytes, and no four times as many."""
+    rate, behind = stacks.number("rate"), stacks.number("behind")
+    sampled, placed = samples_of(report), sum(total.mallocs for total in report.totals)
+    count = sum(sampled.values())
+    if not rate or behind is None or not stacks.number("mark ends"):
+        return
+    if rate == 1 and not placed - behind <= count <= placed:
+        refuse(stacks, names, f"the profile counts {count} of {placed} objects, {behind} of which came behind the last mark end, and at the stacks' rate of 1 each counts")
+    expected = sum(min(SLOTS[total.size_class] or rate, rate) * total.mallocs for total in report.totals) / rate
+    if rate > 1 and count > MANY + 4 * expected:
+        refuse(stacks, names, f"the profile counts {count} objects, and at the stacks' rate of {rate} there would be about {expected:.0f}")
 
 
 def of_trace(stacks: Stacks, trace: Trace, names: Names) -> None:

@@ -3,8 +3,8 @@
 The runtime writes a block for each allocation (`tracealloc`), each object that a sweep frees (`tracefree`) and each mark end
 (`tracegc`), each with a stack; a blank line ends a block, and `end tracegc` that of a mark end, which has a stack for each goroutine.
 See `tracealloc`, `tracefree` and `tracegc` in `mprof.go` of Go's runtime. Lines that belong to no block, such as the program's own
-output, are passed over and counted. A block counts where its first frame is the runtime's, which allocates or sweeps: a program that prints such
-lines itself changes nothing.
+output, are passed over and counted. A block counts where its first frame is the runtime's, which allocates (or switches to the stack on which it
+does) or sweeps: a program that prints such lines itself changes nothing.
 
 A whole block is not read line by line: where it has the program counters of one before, and as many lines, it has its stack, and a frame
 that was seen before is told by its place and its program counter. What is not whole, or has other lines in it, is read line by line.
@@ -31,7 +31,6 @@ WHOLE_ALLOC = re.compile(
 )
 WHOLE_FREE = re.compile(r"tracefree\((0x[0-9a-f]+), (0x[0-9a-f]+)\)\n")
 SWEEPS = re.compile(r"goroutine \d+ \[[^\n]*\nruntime\.")
-ALLOCATES = "runtime.mallocgc"  # the first frame of a block of an allocation
 COUNTER = re.compile(r" pc=(0x[0-9a-f]+)")
 
 # Go prints at most 100 frames of a stack, each in two lines.
@@ -374,7 +373,7 @@ class Reader:
         if not is_whole:
             yield Broken(number, "the log ends within a tracealloc block", stack.starts)
             return
-        if stack.functions and stack.functions[0] != ALLOCATES:
+        if stack.functions and not stack.functions[0].startswith("runtime."):
             yield from of_the_program(number, header.string[header.start() :], rest)
             return
         yield allocation_of(number, header, stack)

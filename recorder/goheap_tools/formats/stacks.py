@@ -2,7 +2,13 @@
 
 from typing import Dict, Iterable, List, NamedTuple, Optional
 
+from goheap_tools.formats.frames import shown_frames
 from goheap_tools.tool import Unusable, kind_of, named, reading
+
+
+FIRST = "# goheap stacks "
+# What the runtime describes a goroutine by, and the function that makes it.
+GOROUTINE_TYPE, GOROUTINE_FRAME = "runtime.g", "runtime.malg"
 
 
 class Stacks(NamedTuple):
@@ -12,13 +18,16 @@ class Stacks(NamedTuple):
     frames: Dict[int, List[str]]
     types: Dict[int, str]
 
+    def shown(self, number: int) -> List[str]:
+        """The frames of a stack that a table shows. The runtime makes a goroutine's description on a stack of its own, which the log does not
+        have: there stands who started the goroutine."""
+        frames = shown_frames(self.frames.get(number, []))
+        return [GOROUTINE_FRAME, *frames] if self.types.get(number) == GOROUTINE_TYPE else frames
+
     def number(self, name: str) -> Optional[int]:
         """The number that the header has under this name, or nothing."""
         value = self.header.get(name, "")
         return int(value) if value.isascii() and value.isdigit() else None
-
-
-FIRST = "# goheap stacks "
 
 
 def read_stack_file(lines: Iterable[str], name: str = "stacks") -> Stacks:

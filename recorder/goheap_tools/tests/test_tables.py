@@ -48,6 +48,41 @@ class Tables(Folder):
     def test_by_type(self):
         self.assertEqual([[row[0], row[3], " ".join(row[7:])] for row in self.table("--types")[3:]], [["240B", "15", "main.node"], ["64B", "1", "[]uint8"], ["8B", "1", "(bytes without a type)"]])
 
+    def test_filters(self):
+        names = lambda *words: [row[-1] for row in self.table(*words)[3:]]
+        table = self.table("--focus", "main\\.push")
+        # of the 312 bytes in use main.push has 240, and what it calls 8
+        self.assertEqual(table[0], "Mark end 2: 312B in use, 840B allocated; all objects; focus main\\.push".split())
+        self.assertEqual(table[1], "Showing 4 of 4 functions in use, accounting for 248B, 79.5% of 312B total".split())
+        self.assertEqual(names("--focus", "main\\.push"), ["main.push", "main.check", "main.main", "runtime.main"])
+        self.assertEqual(names("--ignore", "main\\.push"), ["main.buffer", "main.main", "runtime.main"])
+        self.assertEqual(names("--focus", "m.go:16"), ["main.buffer", "main.main", "runtime.main"])
+        self.assertEqual(self.table("--hide", "main\\.(push|check)")[3][-1], "main.main")
+        self.assertEqual([row[0] for row in self.table("--hide", "main\\.(push|check)")[3:]], ["248B", "64B", "0B"])
+        self.assertEqual(names("--focus", "nobody"), [])
+        for words, why in ((["--focus", "("], "is no regular expression"), (["--hide", "x", "--stacks", ""], "need --stacks")):
+            status, _, said = run("leaks", "-", *words, given=REPORT)
+            self.assertEqual(status, 2)
+            self.assertIn(why, said)
+
+    def test_goroutines_are_in_a_row_of_their_own(self):
+        stacks = "# goheap stacks 2\n# rate\t1\n7\truntime.g\truntime.systemstack_switch /go/asm.s:1\tmain.serve /m.go:3\n"
+        given = "o 0 0xc000000000\nj 0 0 take 0 1 56\ns 1 0 1 0\nt 28 1 0\np 1 7 512 1 0\nend\n"
+        status, table, said = run("leaks", "-", "--stacks", self.put("other", stacks), given=given)
+        self.assertEqual((status, [line.split()[0:1] + line.split()[-1:] for line in table.splitlines()[3:]]), (0, [["512B", "runtime.malg"], ["0B", "main.serve"]]))
+
+    def test_another_rate_is_refused(self):
+        # 100 objects of 16 bytes, of which the profile counts so many
+        lines = "".join(f"o {one} {0xC000000000 + 16 * one:#x}\n" for one in range(100)) + "j 0 0 take 0 1 5\ns 1 0 100 0\nt 2 100 0\n"
+        for rate, behind, count, why in ((1, 0, 100, None), (1, 5, 95, None), (1, 5, 94, "at the stacks' rate of 1 each counts"), (1, 0, 3, "counts 3 of 100 objects"), (16, 0, 100, None),
+                                         (100, 0, 16, None), (524288, 0, 100, "there would be about 0")):  # fmt: skip
+            stacks = self.put("stacks", f"# goheap stacks 2\n# rate\t{rate}\n# behind\t{behind}\n# mark ends\t1\n7\tmain.node\tmain.f /m.go:1\n")
+            status, _, said = run("leaks", "-", "--stacks", stacks, given=f"{lines}p 1 7 16 {count} 0\nend\n")
+            self.assertEqual(status, 2 if why else 0, said)
+            if why:
+                self.assertIn(f"leaks: standard input and {stacks} are of two recordings: the profile counts", said)
+                self.assertIn(why, said)
+
     def test_orders(self):
         names = lambda *words: [row[-1] for row in self.table(*words)[3:]]
         self.assertEqual(names("--sort", "cum"), ["main.main", "runtime.main", "main.push", "main.buffer", "main.check"])
