@@ -9,7 +9,7 @@ import unittest
 from goheap_tools.formats import report, traces
 from goheap_tools.formats.report_text import text_fault
 from goheap_tools.heap import rules
-from goheap_tools.tests.testing import HERE, Folder, data, module, run
+from goheap_tools.tests.testing import HERE, Folder, data, run
 
 EXAMPLES = os.path.join(HERE, "..", "examples")
 PROGRAM = os.path.join(HERE, "..", "crates", "goheap", "out", "goheap")

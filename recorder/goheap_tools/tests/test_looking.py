@@ -6,9 +6,9 @@ import xml.dom.minidom
 from goheap_tools.formats import frames, report, traces
 from goheap_tools.formats.journal import Give, Miss, Scav, Take
 from goheap_tools.heap import classes
-from goheap_tools.tests.testing import Folder, block, data, module, path_of, rows, run
+from goheap_tools.tests.testing import Folder, block, data, path_of, rows, run
 from goheap_tools.tool import Unusable
-from goheap_tools.views import course
+from goheap_tools.views import course, picture
 
 AS_COUNTED = "the sampled objects as they are counted (all objects if the rate was 1; else see --scale)"
 MISSED = "leaks: {} of {} objects ({}) found no room in the region, and are counted nowhere: the table is too low (--trace without a report counts them too)\n"
@@ -177,7 +177,6 @@ class Picture(Folder):
         # Page 0 for 24 bytes with pointers, pages 1 to 5 for a large object; mark end 1 keeps two small ones and the large one, mark end 2 one
         # small one alone; the large one's pages are scavenged.
         lines = "j 0 0 take 0 1 6\nj 1 0 take 1 5 1\nj 2 2 give 1 5\nj 3 2 scav 1 5\ns 1 0 2 1\ns 1 1 1 0\ns 2 0 1 1\ns 2 1 0 1\nend\n"
-        picture = module("picture")
         seen = course.Course(report.read_report(lines.splitlines(True)), 4, 6)
         self.assertEqual((seen.backed, seen.in_spans, seen.spans), ([1, 6, 6, 1], [1, 6, 1, 1], [1, 2, 1, 1]))
         self.assertEqual((dict(seen.kept_bytes), seen.cycles), ({1: 48 + 40960, 2: 24}, [0, 0, 2, 2]))
@@ -197,7 +196,7 @@ class Picture(Folder):
         self.assertIn("pages of 8 KiB by number, over the 1,001 lines of the journal, from left to right; the colours of up to 96 pages in a row are mixed; dashed: a mark end", texts)
 
     def test_round_numbers(self):
-        steps = module("picture").steps
+        steps = picture.steps
         self.assertEqual([list(steps(most, 4)) for most in (1, 4, 5, 9, 333, 40000)], [[0, 1], [0, 1, 2, 3, 4], [0, 2, 4], [0, 5], [0, 100, 200, 300], [0, 10000, 20000, 30000, 40000]])
 
     def test_the_picture_of_nothing(self):

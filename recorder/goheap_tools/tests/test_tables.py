@@ -7,8 +7,8 @@ import unittest
 import xml.dom.minidom
 
 from goheap_tools.formats import report
-from goheap_tools.tests.testing import HERE, Folder, data, module, rows, run, text_of
-from goheap_tools.views import course
+from goheap_tools.tests.testing import HERE, Folder, data, rows, run, text_of
+from goheap_tools.views import course, picture
 
 STACKS = (
     "# goheap stacks 2\n# rate\t1\n"
@@ -115,7 +115,6 @@ class PictureWords(Folder):
         self.assertIn("1 of main.push /m.go:12", named[-1] + named[-2] + named[0] + named[1])
 
     def test_how_full_spans_are(self):
-        picture = module("picture")
         read = report.read_report(self.REPORT.splitlines(True))
         seen = course.Course(read, 3, 6)
         self.assertEqual(seen.found, [course.Found(0, 1, 6, 2, 1), course.Found(1, 5, 1, 0, 1)])
@@ -127,7 +126,6 @@ class PictureWords(Folder):
 
     def test_the_last_mark_end_is_drawn(self):
         # No journal line comes behind the second one.
-        picture = module("picture")
         read = report.read_report(self.REPORT.replace("t 0", "s 2 0 1 1\nt 0").splitlines(True))
         self.assertEqual(picture.mark_places(read.journal, 2)[-1], (picture.LEFT + picture.WIDTH, 2))
         lines = [node for node in self.drawn().getElementsByTagName("line") if node.getAttribute("stroke") == picture.LAST]

@@ -15,6 +15,7 @@ from goheap_tools.heap import rules, tiny
 from goheap_tools.heap.classes import BASE, PAGE
 from goheap_tools.heap.judged import Judged
 from goheap_tools.tests.testing import HERE, Folder, block, data, module, run, text_of
+from goheap_tools.views import tables
 
 EXAMPLES = os.path.join(HERE, "..", "examples")
 MODEL = os.path.join(HERE, "..", "model")
@@ -148,10 +149,9 @@ class ReadersOfVersions(Folder):
         return trace, text, self.put("trace", trace), self.put("report", text)
 
     def test_leaks_counts_the_trace_as_the_report_does(self):
-        leaks = module("leaks")
         for number in range(9):
             trace, told = read(*self.files(1 + number % 3, number)[:2])
-            found = [bucket for _, buckets in leaks.buckets_of_trace(trace, told.addresses) for bucket in sorted(buckets)]
+            found = [bucket for _, buckets in tables.buckets_of_trace(trace, told.addresses) for bucket in sorted(buckets)]
             # As of each mark end before the last the report has the changed buckets, as of the last all.
             last = [bucket for bucket in told.buckets if bucket.mark_end == trace.mark_ends]
             changed = [bucket for bucket in found if bucket.mark_end < trace.mark_ends]

@@ -1,0 +1,280 @@
+"""The tables of `leaks`: what functions, lines, types or stacks have in use, by the buckets of a report or of a trace."""
+
+import argparse
+import itertools
+from array import array
+from collections import Counter, defaultdict
+from typing import Any, Callable, Dict, Iterable, Iterator, List, Optional, Sequence, Tuple
+
+from goheap_tools.formats.frames import name_of, type_of
+from goheap_tools.formats.report import MISSED, Bucket, Report
+from goheap_tools.formats.stacks import Stacks
+from goheap_tools.formats.traces import Trace
+from goheap_tools.heap.estimate import factor
+from goheap_tools.heap.tiny import Riders, riders_of, slot_in
+from goheap_tools.tool import size_text
+
+# A mark end, with its buckets.
+MarkEnd = Tuple[int, Iterable[Bucket]]
+
+
+class Slots(dict):
+    """The bytes of the slot of an object by its size and whether it has pointers; 0 where it has none."""
+
+    def __init__(self, trace: Trace) -> None:
+        super().__init__()
+        self.trace = trace
+
+    def __missing__(self, key: Tuple[int, int]) -> int:
+        size, has_pointers = key
+        self[key] = slot_in(self.trace, size, bool(has_pointers)) if size else 0
+        return self[key]
+
+
+def buckets_of_trace(trace: Trace, addresses: Optional[Sequence[int]] = None) -> Iterator[MarkEnd]:
+    """Each mark end with the buckets that changed since the one before, as a profile at rate 1 has them: of objects that share a block the
+    first one counts, as long as one of them lives."""
+    lasts, riders = slot_lasts(trace, addresses)
+    new, gone = defaultdict(Counter), defaultdict(Counter)
+    slots, leads, mark_ends = Slots(trace), riders.leads, trace.mark_ends
+    for one, (cycle, last, stack, *key) in enumerate(zip(trace.cycles(), lasts, trace.stacks, trace.sizes, trace.pointers)):
+        slot = slots[tuple(key)]
+        if slot and cycle < mark_ends and (not leads or leads[one] == one) and (addresses is None or addresses[one] > MISSED):
+            bucket = stack, slot
+            new[cycle + 1][bucket] += 1
+            gone[last + 1][bucket] += 1
+    allocs, frees = Counter(), Counter()
+    for mark_end in range(1, trace.mark_ends + 1):
+        allocs.update(new[mark_end])
+        frees.update(gone[mark_end])
+        yield mark_end, [Bucket(mark_end, stack, slot, allocs[stack, slot], frees[stack, slot]) for stack, slot in {**new[mark_end], **gone[mark_end]}]
+
+
+def slot_lasts(trace: Trace, addresses: Optional[Sequence[int]]) -> Tuple[array, Riders]:
+    """Of each object the last cycle in which something lives in the slot that it got; and the objects that got none, since they ride in the slot
+    of another."""
+    riders = riders_of(trace, addresses)
+    lasts = trace.lasts()[:] if riders else trace.lasts()
+    for one in riders:
+        lead = riders.leads[one]
+        lasts[lead] = max(lasts[lead], lasts[one])
+    return lasts, riders
+
+
+def buckets_of_report(report: Report) -> Iterator[MarkEnd]:
+    """Each mark end with its buckets in the report."""
+    in_order = sorted(report.buckets, key=lambda bucket: bucket.mark_end)
+    return itertools.groupby(in_order, key=lambda bucket: bucket.mark_end)
+
+
+class Row:
+    """The objects of a line of the table as of the last mark end so far."""
+
+    def __init__(self) -> None:
+        self.allocs = self.frees = self.allocated = self.used = 0.0
+        self.first = self.before = 0.0
+        self.grew = 0
+
+    def add(self, slot: int, allocs: float, frees: float) -> None:
+        self.allocs += allocs
+        self.frees += frees
+        self.allocated += allocs * slot
+        self.used += (allocs - frees) * slot
+
+    def end_mark_end(self, is_first: bool) -> None:
+        if is_first:
+            self.first = self.used
+        elif self.used > self.before + 0.5:
+            self.grew += 1
+        self.before = self.used
+
+    def growth(self) -> float:
+        return self.used - self.first
+
+
+class Profile:
+    """The rows of the table by their keys, over the mark ends."""
+
+    def __init__(self, mark_ends: Iterable[MarkEnd], key_of: Callable[[Bucket], Any], rate: int, shows: Callable[[int], bool] = lambda _: True) -> None:
+        self.rows = defaultdict(Row)
+        self.cum = defaultdict(int)  # bytes in use by stack
+        self.first = self.last = 0
+        self.all = Row()  # what is not shown as well
+        counts = {}
+        for mark_end, buckets in mark_ends:
+            self.first, self.last = self.first or mark_end, mark_end
+            touched = set()
+            for bucket in buckets:
+                name = bucket.stack, bucket.slot
+                allocs, frees = counts.get(name, (0, 0))
+                counts[name] = bucket.allocs, bucket.frees
+                times = factor(bucket.slot, rate)
+                change = (bucket.allocs - allocs) * times, (bucket.frees - frees) * times
+                self.all.add(bucket.slot, *change)
+                if not shows(bucket.stack):
+                    continue
+                key = key_of(bucket)
+                self.rows[key].add(bucket.slot, *change)
+                self.cum[bucket.stack] += (change[0] - change[1]) * bucket.slot
+                touched.add(key)
+            for key in touched:
+                self.rows[key].end_mark_end(mark_end == self.first)
+
+    def growth_titles(self) -> str:
+        return f" {f'since {self.first}':>10} {'grew':>6}" if self.last > self.first else ""
+
+    def growth(self, row: Row) -> str:
+        """How a row grew, where the counts of several mark ends are known."""
+        return f" {size_text(row.growth()):>10} {f'{row.grew}/{self.last - self.first}':>6}" if self.last > self.first else ""
+
+
+def percent(part: float, total: float) -> str:
+    return f"{100 * part / total:.1f}%" if total else "0.0%"
+
+
+class Table:
+    """One of the tables: what its rows are, their order, and their lines."""
+
+    what = "functions"
+    has_cum = True
+
+    def __init__(self, profile: Profile, stacks: Stacks, options: argparse.Namespace) -> None:
+        self.profile, self.stacks, self.options = profile, stacks, options
+        self.cum = self.cum_of_names()
+
+    @staticmethod
+    def name(frame: str) -> str:
+        return name_of(frame)
+
+    @classmethod
+    def key(cls, stacks: Stacks) -> Callable[[Bucket], Any]:
+        """What a bucket's row is called by."""
+        return lambda bucket: cls.name(stacks.shown(bucket.stack)[0])
+
+    def cum_of_names(self) -> Dict[Any, float]:
+        """What each has in use together with those that it calls."""
+        cum = defaultdict(int)
+        for stack, used in self.profile.cum.items():
+            for name in {self.name(frame) for frame in self.stacks.shown(stack)}:
+                cum[name] += used
+        return cum
+
+    def names(self) -> List[Any]:
+        """The rows with something in use, in their order."""
+        rows, cum = self.profile.rows, self.cum
+        firsts = {
+            "flat": lambda name: (-rows[name].used, -cum[name]),
+            "cum": lambda name: (-cum[name], -rows[name].used),
+            "allocated": lambda name: (-rows[name].allocated, -rows[name].used),
+            "grew": lambda name: (-rows[name].growth(), -rows[name].used),
+        }
+        first = firsts[self.options.sort]
+        return sorted(self.all(), key=lambda name: (*first(name), name))
+
+    def all(self) -> List[Any]:
+        """The rows with something in use; of what was allocated, where that is asked for."""
+        if self.options.sort == "allocated":
+            return [name for name, row in list(self.profile.rows.items()) if row.allocs]
+        return [name for name in self.cum if self.cum[name] > 0.5]
+
+    def lines(self) -> Iterator[str]:
+        profile, names = self.profile, self.names()
+        shown = names[: self.options.top]
+        total, so_far = profile.all.used, 0.0
+        yield from heading(profile, names, shown, total, self.what, self.options)
+        yield f"{'flat':>10} {'flat%':>6} {'sum%':>6}{self.middle_titles()}{profile.growth_titles()}  {self.what_title()}"
+        for name in shown:
+            row = profile.rows[name]
+            so_far += row.used
+            yield f"{size_text(row.used):>10} {percent(row.used, total):>6} {percent(so_far, total):>6}{self.middle(name, row, total)}{profile.growth(row)}  {self.title(name)}"
+            yield from self.below(name)
+
+    def middle_titles(self) -> str:
+        return (f" {'cum':>10} {'cum%':>6}" if self.has_cum else "") + f" {'objects':>9} {'allocated':>10}"
+
+    def middle(self, name: Any, row: Row, total: float) -> str:
+        cum = f" {size_text(self.cum[name]):>10} {percent(self.cum[name], total):>6}" if self.has_cum else ""
+        return f"{cum} {row.allocs - row.frees:>9.0f} {size_text(row.allocated):>10}"
+
+    def what_title(self) -> str:
+        return self.what[:-1]
+
+    def title(self, name: Any) -> str:
+        return name
+
+    def below(self, _: Any) -> Iterable[str]:
+        return ()
+
+
+class Lines(Table):
+    """A row for each line of the program."""
+
+    what = "lines"
+
+    @staticmethod
+    def name(frame: str) -> str:
+        return frame
+
+
+class Types(Table):
+    """A row for each type."""
+
+    what = "types"
+    has_cum = False
+
+    @classmethod
+    def key(cls, stacks: Stacks) -> Callable[[Bucket], Any]:
+        return lambda bucket: type_of(stacks.types.get(bucket.stack), stacks.frames.get(bucket.stack, []))
+
+    def cum_of_names(self) -> Dict[Any, float]:
+        return {name: row.used for name, row in self.profile.rows.items()}
+
+
+class Buckets(Table):
+    """A row for each stack and slot size."""
+
+    what = "buckets"
+    has_cum = False
+
+    @classmethod
+    def key(cls, stacks: Stacks) -> Callable[[Bucket], Any]:
+        return lambda bucket: (bucket.stack, bucket.slot)
+
+    def cum_of_names(self) -> Dict[Any, float]:
+        return {name: row.used for name, row in self.profile.rows.items()}
+
+    def middle_titles(self) -> str:
+        return f" {'objects':>9} {'allocs':>9} {'frees':>9} {'slot':>8}"
+
+    def middle(self, name: Any, row: Row, total: float) -> str:
+        return f" {row.allocs - row.frees:>9.0f} {row.allocs:>9.0f} {row.frees:>9.0f} {name[1]:>8}"
+
+    def what_title(self) -> str:
+        return "stack"
+
+    def title(self, name: Any) -> str:
+        return f"{name[0]} {self.frames(name)[0]}"
+
+    def frames(self, name: Any) -> List[str]:
+        return self.stacks.shown(name[0])
+
+    def below(self, name: Any) -> Iterable[str]:
+        if self.options.frames:
+            for frame in self.frames(name)[1:]:
+                yield " " * (66 + len(self.profile.growth_titles())) + "    " + frame
+
+
+def heading(profile: Profile, names: List[Any], shown: List[Any], total: float, what: str, options: argparse.Namespace) -> Iterator[str]:
+    """The two lines above the table."""
+    rows = profile.rows
+    part = sum(rows[name].used for name in shown)
+    if options.trace:
+        counted = "all objects of the trace"
+    elif options.scale > 1:
+        counted = f"estimated from the objects sampled at rate {options.scale}"
+    elif options.scale == 1 or options.rate_is_known:
+        counted = "all objects" if options.rate == 1 else f"the objects sampled at rate {options.rate}, as they are counted"
+    else:
+        counted = "the sampled objects as they are counted (all objects if the rate was 1; else see --scale)"
+    yield f"Mark end {profile.last}{options.place}: {size_text(total)} in use, {size_text(profile.all.allocated)} allocated; {counted}{''.join(options.filters)}"
+    yield f"Showing {len(shown)} of {len(names)} {what} {'' if options.sort == 'allocated' else 'in use'}".rstrip() + f", accounting for {size_text(part)}, {percent(part, total)} of {size_text(total)} total"
