@@ -1,0 +1,580 @@
+"""Reads the recording that a Go program made of itself; docs/recording-format.md says what each byte means.
+
+    with Recording("server.recording") as recording:
+        stacks = recording.stacks()
+        for event in recording.events():
+            ...
+
+A recording that is foreign or damaged is refused by `Damaged`, which says what is wrong and at which byte.
+"""
+
+from __future__ import annotations
+
+import heapq
+import mmap
+import os
+from collections.abc import Iterator
+from dataclasses import dataclass
+from typing import NamedTuple
+
+MAGIC = int.from_bytes(b"goheaprc", "little")
+VERSION = 1
+CHUNK_BYTES = 65536
+CHUNK_WORDS = CHUNK_BYTES // 8
+FIRST_EVENT = 4  # word of a chunk
+CHUNK_MARK = 192
+PROCESSORS = 1024
+NO_PROCESSOR = 65535
+PAGE = 8192
+STATES = {0: "recording", 1: "the file is full", 2: "the file system has no room"}
+
+OBJECT, RIDER, EMPTY, LARGE, STACK = 1, 2, 3, 4, 5
+BEGIN, STOP, MARK_START, MARK_END, SWEEP, PACE, PULL, DROP = 16, 17, 18, 19, 20, 21, 22, 23
+CUT, TAKE, GIVE, GROWTH, LEND, SCAVENGED, CACHE, FLUSH = 24, 25, 26, 27, 28, 29, 30, 31
+COUNTS, PROCESSORS_CHANGE = 32, 33
+SPAN, PAGES, BLOCK = 48, 49, 50
+
+POINTER_FREE, LEADS, SAMPLED, NOT_ASKED = 1, 2, 4, 8
+USES = ("objects", "stacks", "bitmaps", "work buffers", "not objects")
+
+
+class Damaged(Exception):
+    """The file is no recording, or not a whole one."""
+
+
+class Object(NamedTuple):
+    """An allocation: kind is OBJECT, RIDER, EMPTY or LARGE; flags of POINTER_FREE, LEADS, SAMPLED, NOT_ASKED."""
+
+    kind: int
+    processor: int
+    flags: int
+    address: int
+    size: int
+    stack: int
+
+
+class Stack(NamedTuple):
+    """Return addresses, the innermost first, and the address of the object's type."""
+
+    number: int
+    type: int
+    frames: tuple[int, ...]
+    cut: bool
+
+
+class Begin(NamedTuple):
+    ticket: int
+    processor: int
+    reason: int  # 0 the program's start, 1 a mark end, 2 a signal
+    clock: int
+    mark_ends: int
+    processors: int
+    rate: int
+
+
+class Stop(NamedTuple):
+    ticket: int
+    processor: int
+    clock: int
+
+
+class MarkStart(NamedTuple):
+    ticket: int
+    processor: int
+    clock: int
+    live: int
+
+
+class Counts(NamedTuple):
+    """The runtime's own counters; kind is MARK_END or COUNTS (runtime.ReadMemStats)."""
+
+    kind: int
+    ticket: int
+    processor: int
+    mode: int
+    generation: int
+    clock: int
+    collections: int
+    live: int
+    rate: int
+    mallocs: int
+    frees: int
+    allocated: int
+    freed: int
+    heap_in_use: int
+    stack_in_use: int
+    released: int
+    marked: int
+
+
+class Sweep(NamedTuple):
+    """A span is swept; bit i of `stays` is set where slot i keeps its object."""
+
+    ticket: int
+    processor: int
+    address: int
+    slots: int
+    free_index: int
+    before: int
+    after: int
+    span_class: int
+    generation: int
+    preserve: bool
+    stays: int
+
+
+class Pace(NamedTuple):
+    ticket: int
+    processor: int
+    done: bool
+    trigger: int
+    live: int
+    swept: int
+    in_use: int
+    distance: int
+
+
+class Block(NamedTuple):
+    """A processor's page cache; kind is PULL, DROP or BLOCK. `owner` is the processor whose it is."""
+
+    kind: int
+    ticket: int
+    processor: int
+    address: int
+    free: int
+    scavenged: int
+    owner: int
+
+
+class Run(NamedTuple):
+    """A run of pages; kind is CUT, TAKE or GIVE (there, scavenged is 0)."""
+
+    kind: int
+    ticket: int
+    processor: int
+    address: int
+    pages: int
+    span_class: int
+    use: int
+    scavenged: int
+
+
+class Growth(NamedTuple):
+    ticket: int
+    processor: int
+    address: int
+    bytes: int
+
+
+class Scavenging(NamedTuple):
+    """The scavenger's run; kind is LEND or SCAVENGED."""
+
+    kind: int
+    ticket: int
+    processor: int
+    address: int
+    pages: int
+
+
+class Cache(NamedTuple):
+    ticket: int
+    processor: int
+    address: int
+    span_class: int
+    objects: int
+    free_index: int
+    slots: int
+
+
+class Flush(NamedTuple):
+    ticket: int
+    processor: int
+    owner: int
+    mid_cycle: bool
+
+
+class Processors(NamedTuple):
+    ticket: int
+    processor: int
+    before: int
+    after: int
+
+
+class Span(NamedTuple):
+    """A span in use where the recording begins later than the program; `cached` is a processor or None."""
+
+    ticket: int
+    processor: int
+    address: int
+    pages: int
+    span_class: int
+    use: int
+    slots: int
+    free_index: int
+    objects: int
+    cached: int | None
+    occupied: int
+
+
+class Pages(NamedTuple):
+    """512 pages, there: which are not free, and which are scavenged."""
+
+    ticket: int
+    processor: int
+    address: int
+    taken: int
+    scavenged: int
+
+
+@dataclass(frozen=True)
+class Header:
+    """What the first chunk says."""
+
+    process: int
+    next_chunk: int
+    next_ticket: int
+    stacks_written: int
+    state: int
+    size: int
+    text: tuple[int, int]
+    types: tuple[int, int]
+    clock: int
+    wall: float
+    every: int
+    from_mark_end: int
+    by_signal: bool
+    greatest_frames: int
+    greatest_stack: int
+    stacks_lost: int
+    go_version: str
+    program: str
+
+    @property
+    def full(self) -> bool:
+        return self.state != 0
+
+
+class Recording:
+    """A recording in a file. `missing` is the ticket at which it ends, and `left_out` how many events stand behind
+    that one; both are known when `events` has come to its end."""
+
+    def __init__(self, path: str | os.PathLike[str]) -> None:
+        self.path = os.fspath(path)
+        self.missing: int | None = None
+        self.left_out = 0
+        with open(self.path, "rb") as file:
+            length = os.fstat(file.fileno()).st_size
+            if length < CHUNK_BYTES:
+                raise Damaged(f"{self.path}: no recording: {length} bytes, and its first chunk has {CHUNK_BYTES}")
+            self._map = mmap.mmap(file.fileno(), 0, access=mmap.ACCESS_READ)
+        self.header = self._read_header()
+        if length % CHUNK_BYTES:
+            self._refuse(length, f"the file ends within a chunk of {CHUNK_BYTES} bytes")
+        self.chunks = self._read_chunks(length // CHUNK_BYTES)
+
+    def close(self) -> None:
+        self._map.close()
+
+    def __enter__(self) -> Recording:
+        return self
+
+    def __exit__(self, *_) -> None:
+        self.close()
+
+    def stacks(self) -> dict[int, Stack]:
+        """All stacks by their numbers, those of the end that is left out among them."""
+        found: dict[int, Stack] = {}
+        for numbers in self.chunks.values():
+            for number in numbers:
+                for event in self._chunk(number, lambda kind: kind == STACK):
+                    if event.number in found:
+                        self._refuse(number * CHUNK_BYTES, f"stack {event.number} is told twice")
+                    found[event.number] = event
+        return found
+
+    def events(self) -> Iterator[NamedTuple]:
+        """All events but stacks, in the order in which they happened, up to the first ticket that is missing."""
+        streams = [self._groups(processor) for processor in sorted(self.chunks)]
+        heap = []
+        for at, stream in enumerate(streams):
+            group = next(stream, None)
+            if group is not None:
+                heap.append((group[0], at, group[1]))
+        early = [event for ticket, _, group in heap if ticket == 0 for event in group]
+        for at, (ticket, stream, _) in enumerate(heap):
+            if ticket == 0:
+                group = next(streams[stream], None)
+                heap[at] = (group[0], stream, group[1]) if group else (1 << 64, stream, [])
+        heap = [entry for entry in heap if entry[0] < 1 << 64]
+        heapq.heapify(heap)
+        yield from self._merge(heap, streams, early)
+
+    def _merge(self, heap: list, streams: list, early: list) -> Iterator[NamedTuple]:
+        expected, skipping = 1, False
+        while heap:
+            ticket, at, group = heap[0]
+            if ticket != expected:
+                break
+            following = next(streams[at], None)
+            if following is None:
+                heapq.heappop(heap)
+            else:
+                heapq.heapreplace(heap, (following[0], at, following[1]))
+            if type(group[0]) is Begin:
+                skipping = False
+            if not skipping:
+                yield from group
+                if expected == 1:
+                    yield from early
+            if type(group[0]) is Stop:
+                skipping = True
+            expected += 1
+        self.missing = expected
+        self.left_out = sum(len(group) for _, _, group in heap)
+        self.left_out += sum(len(group) for _, at, _ in heap for _, group in streams[at])
+
+    def _groups(self, processor: int) -> Iterator[tuple[int, list]]:
+        """Each ticketed event of a processor with what stands behind it, under its ticket (0: before the first)."""
+        ticket, group = 0, []
+        for number in self.chunks[processor]:
+            least = self._word(number * CHUNK_WORDS + 1)
+            for event in self._chunk(number, lambda kind: kind != STACK):
+                if type(event) is Object:
+                    group.append(event)
+                    continue
+                if group:
+                    yield ticket, group
+                if event.ticket <= ticket or event.ticket < least:
+                    self._refuse(number * CHUNK_BYTES, f"ticket {event.ticket} of this chunk does not rise")
+                if event.ticket >= self.header.next_ticket:
+                    self._refuse(number * CHUNK_BYTES, f"ticket {event.ticket} of this chunk was never drawn")
+                ticket, group = event.ticket, [event]
+        if group:
+            yield ticket, group
+
+    def _chunk(self, number: int, wanted) -> Iterator[NamedTuple]:
+        """The wanted events of a chunk."""
+        begin = number * CHUNK_BYTES
+        words = memoryview(self._map)[begin : begin + CHUNK_BYTES].cast("Q").tolist()
+        processor = words[0] >> 16
+        at, all_objects = FIRST_EVENT, wanted(OBJECT)
+        while at < CHUNK_WORDS:
+            first = words[at]
+            if first == 0:
+                return
+            kind = first & 255
+            if kind <= RIDER:
+                if at + 2 > CHUNK_WORDS or first & 0xF000 or kind == 0:
+                    self._refuse_event(begin + 8 * at, first, at + 2)
+                if all_objects:
+                    second = words[at + 1]
+                    yield Object(kind, processor, first >> 8 & 255, first >> 16, second >> 32, second & 0xFFFFFFFF)
+                at += 2
+                continue
+            reader = READERS.get(kind)
+            length = reader.length(words, at) if reader and at + reader.least <= CHUNK_WORDS else CHUNK_WORDS + 1
+            if at + length > CHUNK_WORDS or first >> 8 & 255 & ~reader.flags:
+                self._refuse_event(begin + 8 * at, first, at + length)
+            if wanted(kind):
+                event = reader.read(words, at, processor)
+                if event is None:
+                    self._refuse(begin + 8 * at, f"an event of kind {kind} has a number that it cannot have")
+                yield event
+            at += length
+
+    def _read_header(self) -> Header:
+        words = memoryview(self._map)[:CHUNK_BYTES].cast("Q").tolist()
+        if words[0] != MAGIC:
+            self._refuse(0, "no recording: it does not begin with goheaprc")
+        if words[1] != VERSION:
+            self._refuse(8, f"a recording of version {words[1]}, and only {VERSION} is known")
+        if words[2] != CHUNK_BYTES:
+            self._refuse(16, f"chunks of {words[2]} bytes, not {CHUNK_BYTES}")
+        if words[7] not in STATES:
+            self._refuse(56, f"a state {words[7]} that is not known")
+        for at in (*range(22, 32), *range(304, CHUNK_WORDS)):
+            if words[at]:
+                self._refuse(8 * at, "a word of the header that should be 0 is not")
+        text = bytes(self._map[256:2432])
+        return Header(
+            process=words[3], next_chunk=words[4], next_ticket=words[5], stacks_written=words[6], state=words[7],
+            size=words[8], text=(words[9], words[10]), types=(words[11], words[12]), clock=words[13],
+            wall=words[14] + words[15] / 1e9, every=words[16], from_mark_end=words[17], by_signal=words[18] != 0,
+            greatest_frames=words[19], greatest_stack=words[20], stacks_lost=words[21],
+            go_version=text[:128].split(b"\0")[0].decode("utf-8", "replace"),
+            program=os.fsdecode(text[128:].split(b"\0")[0]))
+
+    def _read_chunks(self, there: int) -> dict[int, list[int]]:
+        """The numbers of the chunks of each processor, in their order."""
+        if self.header.next_chunk > there and not self.header.full:
+            self._refuse(32, f"{self.header.next_chunk} chunks are in use, and the file has {there}")
+        chunks: dict[int, list[int]] = {}
+        for number in range(1, min(there, self.header.next_chunk)):
+            first = self._word(number * CHUNK_WORDS)
+            if first == 0:
+                continue
+            processor = first >> 16
+            if first & 0xFFFF != CHUNK_MARK or not (processor < PROCESSORS or processor == NO_PROCESSOR):
+                self._refuse(number * CHUNK_BYTES, "no chunk of a recording begins here")
+            before = chunks.setdefault(processor, [])
+            told = self._word(number * CHUNK_WORDS + 3)
+            if told != (before[-1] if before else 0):
+                self._refuse(number * CHUNK_BYTES + 24, f"chunk {told} should come before this one, and does not")
+            before.append(number)
+        return chunks
+
+    def _word(self, at: int) -> int:
+        return int.from_bytes(self._map[8 * at : 8 * at + 8], "little")
+
+    def _refuse_event(self, offset: int, first: int, end: int) -> None:
+        kind = first & 255
+        if kind not in READERS and kind not in (OBJECT, RIDER):
+            self._refuse(offset, f"an event of kind {kind}, which is not known")
+        if end > CHUNK_WORDS:
+            self._refuse(offset, f"an event of kind {kind} goes over the end of its chunk")
+        self._refuse(offset, f"an event of kind {kind} has a flag that it cannot have")
+
+    def _refuse(self, offset: int, reason: str) -> None:
+        raise Damaged(f"{self.path}: byte {offset}: {reason}")
+
+
+class _Reader:
+    """How an event of a kind is read: `flags` that it may have, `least` words, and `read` from its words."""
+
+    def __init__(self, flags: int, least: int, read, bits=None) -> None:
+        self.flags = flags
+        self.least = least
+        self.read = read
+        self.bits = bits  # words behind the least ones
+
+    def length(self, words: list[int], at: int) -> int:
+        return self.least + (self.bits(words, at) if self.bits else 0)
+
+
+def _low(word: int, bits: int, at: int = 0) -> int:
+    return word >> at & (1 << bits) - 1
+
+
+def _bitmap(words: list[int], at: int, count: int) -> int:
+    return sum(word << 64 * i for i, word in enumerate(words[at : at + count]))
+
+
+def _slots(word: int) -> tuple[int, int, int, int]:
+    return _low(word, 16), _low(word, 16, 16), _low(word, 16, 32), word >> 48
+
+
+def _object(words: list[int], at: int, processor: int):
+    first, second = words[at], words[at + 1]
+    kind, flags, address = first & 255, first >> 8 & 255, first >> 16
+    if kind == LARGE:
+        return None if second >> 32 else Object(kind, processor, flags, address, words[at + 2], second)
+    return Object(kind, processor, flags, address, second >> 32, second & 0xFFFFFFFF)
+
+
+def _stack(words: list[int], at: int, _: int):
+    count = words[at + 2]
+    return Stack(words[at] >> 16, words[at + 1], tuple(words[at + 3 : at + 3 + count]), bool(words[at] & 0x100))
+
+
+def _begin(words: list[int], at: int, processor: int):
+    reason = words[at] >> 8 & 255
+    return None if reason > 2 else Begin(words[at + 1], processor, reason, *words[at + 2 : at + 6])
+
+
+def _counts(words: list[int], at: int, processor: int):
+    first = words[at]
+    return Counts(first & 255, words[at + 1], processor, first >> 8 & 255, first >> 16, *words[at + 2 : at + 14])
+
+
+def _sweep(words: list[int], at: int, processor: int):
+    slots, free_index, before, after = _slots(words[at + 2])
+    third = words[at + 3]
+    stays = _bitmap(words, at + 4, (slots + 63) // 64)
+    if stays >> slots or free_index > slots or before > slots or after != stays.bit_count() or third >> 8 & 0xFFFFFF:
+        return None
+    return Sweep(words[at + 1], processor, words[at] >> 16, slots, free_index, before, after, third & 255,
+                 third >> 32, bool(words[at] & 0x100), stays)
+
+
+def _pace(words: list[int], at: int, processor: int):
+    return Pace(words[at + 1], processor, bool(words[at] & 0x100), *words[at + 2 : at + 7])
+
+
+def _block(words: list[int], at: int, processor: int):
+    kind = words[at] & 255
+    owner = processor if kind == PULL else words[at + 4]
+    return Block(kind, words[at + 1], processor, words[at] >> 16, words[at + 2], words[at + 3], owner)
+
+
+def _run(words: list[int], at: int, processor: int):
+    kind, word = words[at] & 255, words[at + 2]
+    use, span_class = _low(word, 8, 40), _low(word, 8, 32)
+    if word >> 48 or use >= len(USES) or span_class >= 136:
+        return None
+    scavenged = 0 if kind == GIVE else words[at + 3]
+    return Run(kind, words[at + 1], processor, words[at] >> 16, _low(word, 32), span_class, use, scavenged)
+
+
+def _span(words: list[int], at: int, processor: int):
+    word = words[at + 2]
+    slots, free_index, objects, rest = _slots(words[at + 3])
+    use, span_class = _low(word, 8, 40), _low(word, 8, 32)
+    occupied = _bitmap(words, at + 5, (slots + 63) // 64)
+    if word >> 48 or rest or use >= len(USES) or span_class >= 136 or occupied >> slots:
+        return None
+    cached = words[at + 4] - 1 if words[at + 4] else None
+    return Span(words[at + 1], processor, words[at] >> 16, _low(word, 32), span_class, use, slots, free_index, objects,
+                cached, occupied)
+
+
+def _pages(words: list[int], at: int, processor: int):
+    return Pages(words[at + 1], processor, words[at] >> 16, _bitmap(words, at + 2, 8), _bitmap(words, at + 10, 8))
+
+
+def _cache(words: list[int], at: int, processor: int):
+    word = words[at + 2]
+    span_class = _low(word, 8)
+    if word >> 8 & 255 or span_class >= 136:
+        return None
+    return Cache(words[at + 1], processor, words[at] >> 16, span_class, *_slots(word)[1:])
+
+
+def _flush(words: list[int], at: int, processor: int):
+    return Flush(words[at + 1], processor, words[at + 2], bool(words[at] & 0x100))
+
+
+def _addressed(kind: type, *, told: bool = False):
+    """Reads a record of ticket, processor, address and one word; with the kind before them where it is told."""
+    if told:
+        return lambda words, at, processor: kind(words[at] & 255, words[at + 1], processor, words[at] >> 16, words[at + 2])
+    return lambda words, at, processor: kind(words[at + 1], processor, words[at] >> 16, words[at + 2])
+
+
+READERS = {
+    OBJECT: _Reader(15, 2, _object),
+    RIDER: _Reader(15, 2, _object),
+    EMPTY: _Reader(15, 2, _object),
+    LARGE: _Reader(15, 3, _object),
+    STACK: _Reader(1, 3, _stack, lambda words, at: words[at + 2]),
+    BEGIN: _Reader(3, 6, _begin),
+    STOP: _Reader(0, 3, lambda words, at, processor: Stop(words[at + 1], processor, words[at + 2])),
+    MARK_START: _Reader(0, 4, lambda words, at, processor: MarkStart(words[at + 1], processor, *words[at + 2 : at + 4])),
+    MARK_END: _Reader(3, 14, _counts),
+    SWEEP: _Reader(1, 4, _sweep, lambda words, at: ((words[at + 2] & 0xFFFF) + 63) // 64),
+    PACE: _Reader(1, 7, _pace),
+    PULL: _Reader(0, 4, _block),
+    DROP: _Reader(0, 5, _block),
+    CUT: _Reader(0, 4, _run),
+    TAKE: _Reader(0, 4, _run),
+    GIVE: _Reader(0, 3, _run),
+    GROWTH: _Reader(0, 3, _addressed(Growth)),
+    LEND: _Reader(0, 3, _addressed(Scavenging, told=True)),
+    SCAVENGED: _Reader(0, 3, _addressed(Scavenging, told=True)),
+    CACHE: _Reader(0, 3, _cache),
+    FLUSH: _Reader(1, 3, _flush),
+    COUNTS: _Reader(0, 14, _counts),
+    PROCESSORS_CHANGE: _Reader(0, 4, lambda words, at, processor: Processors(words[at + 1], processor, *words[at + 2 : at + 4])),
+    SPAN: _Reader(0, 5, _span, lambda words, at: ((words[at + 3] & 0xFFFF) + 63) // 64),
+    PAGES: _Reader(0, 18, _pages),
+    BLOCK: _Reader(0, 5, _block),
+}
