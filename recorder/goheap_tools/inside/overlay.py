@@ -19,6 +19,7 @@ from .places import BEFORE, BEHIND, CLOSING, ENDING, PLACES, WORDS, Place
 
 VERSIONS = ("1.19", "1.20", "1.21")
 OWN = Path(__file__).parent / "runtime"
+MARKER = b"GOHEAP_RECORD_EVERY="  # stands in each program that was built with the overlay
 
 
 class Refused(Exception):
@@ -50,14 +51,14 @@ def toolchain(go: str = "go") -> Toolchain:
     return Toolchain(version, Path(root) / "src" / "runtime")
 
 
-def overlay(go: str = "go", cache: Path | None = None) -> Path:
+def prepare(go: str = "go", cache: Path | None = None) -> str:
     """Path of the overlay.json for this go command. It is made where it is not in the cache."""
     known = toolchain(go)
     originals = {name: _read(known, name) for name in _files()}
     folder = (cache or cache_folder()) / f"{known.version.split(' ')[0]}-{_digest(known, originals)}"
     target = folder / "overlay.json"
     if target.is_file():
-        return target
+        return str(target)
     texts = changed(known, originals)
     folder.mkdir(parents=True, exist_ok=True)
     replace = {}
@@ -65,10 +66,10 @@ def overlay(go: str = "go", cache: Path | None = None) -> Path:
         _store(folder / name, text)
         replace[str(known.runtime / name)] = str(folder / name)
     _store(target, json.dumps({"Replace": replace}, indent=1) + "\n")
-    return target
+    return str(target)
 
 
-def show(go: str = "go") -> str:
+def difference(go: str = "go") -> str:
     """The difference that the overlay makes to the runtime, as a unified diff."""
     known = toolchain(go)
     originals = {name: _read(known, name) for name in _files()}
