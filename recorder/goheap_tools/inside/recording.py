@@ -18,7 +18,7 @@ from dataclasses import dataclass
 from typing import NamedTuple
 
 MAGIC = int.from_bytes(b"goheaprc", "little")
-VERSION = 1
+VERSION = 2
 CHUNK_BYTES = 65536
 CHUNK_WORDS = CHUNK_BYTES // 8
 FIRST_EVENT = 4  # word of a chunk
@@ -59,6 +59,18 @@ class Stack(NamedTuple):
     number: int
     type: int
     frames: tuple[int, ...]
+    cut: bool
+
+
+class _Told(NamedTuple):
+    """A stack as it stands in the recording."""
+
+    number: int
+    type: int
+    frames: tuple[int, ...]
+    shared: int
+    other: int
+    wide: bool
     cut: bool
 
 
@@ -287,10 +299,20 @@ class Recording:
         for numbers in self.chunks.values():
             for number in numbers:
                 for event in self._chunk(number, lambda kind: kind == STACK):
-                    if event.number in found:
-                        self._refuse(number * CHUNK_BYTES, f"stack {event.number} is told twice")
-                    found[event.number] = event
+                    if event.number in found or not 0 < event.number <= self.header.greatest_stack:
+                        self._refuse(number * CHUNK_BYTES, f"stack {event.number} is told twice, or cannot be")
+                    found[event.number] = self._whole(event, found, number)
         return found
+
+    def _whole(self, event: _Told, found: dict[int, Stack], number: int) -> Stack:
+        """With the outer frames that it shares with a stack before."""
+        frames = event.frames if event.wide else tuple(self.header.text[0] + offset for offset in event.frames)
+        if event.shared:
+            other = found.get(event.other)
+            if other is None or len(other.frames) < event.shared:
+                self._refuse(number * CHUNK_BYTES, f"stack {event.number} shares frames with {event.other}, which has them not")
+            frames += other.frames[-event.shared :]
+        return Stack(event.number, event.type, frames, event.cut)
 
     def events(self) -> Iterator[NamedTuple]:
         """All events but stacks, in the order in which they happened, up to the first ticket that is missing."""
@@ -448,7 +470,7 @@ class _Reader:
         self.bits = bits  # words behind the least ones
 
     def length(self, words: list[int], at: int) -> int:
-        return self.least + (self.bits(words, at) if self.bits else 0)
+        return self.least + max(0, self.bits(words, at) if self.bits else 0)
 
 
 def _low(word: int, bits: int, at: int = 0) -> int:
@@ -471,9 +493,24 @@ def _object(words: list[int], at: int, processor: int):
     return Object(kind, processor, flags, address, second >> 32, second & 0xFFFFFFFF)
 
 
+def _stack_words(words: list[int], at: int) -> int:
+    """How many words its frames have."""
+    own = _low(words[at + 2], 16) - _low(words[at + 2], 16, 16)
+    return own if words[at] & 0x200 else (own + 1) // 2
+
+
 def _stack(words: list[int], at: int, _: int):
-    count = words[at + 2]
-    return Stack(words[at] >> 16, words[at + 1], tuple(words[at + 3 : at + 3 + count]), bool(words[at] & 0x100))
+    first, second = words[at], words[at + 2]
+    count, shared = _low(second, 16), _low(second, 16, 16)
+    if shared > count:
+        return None
+    wide = bool(first & 0x200)
+    frames = words[at + 3 : at + 3 + _stack_words(words, at)]
+    if not wide:
+        frames = [half for word in frames for half in (word & 0xFFFFFFFF, word >> 32)]
+        if len(frames) > count - shared and frames.pop():
+            return None
+    return _Told(first >> 16, words[at + 1], tuple(frames), shared, second >> 32, wide, bool(first & 0x100))
 
 
 def _begin(words: list[int], at: int, processor: int):
@@ -555,7 +592,7 @@ READERS = {
     RIDER: _Reader(15, 2, _object),
     EMPTY: _Reader(15, 2, _object),
     LARGE: _Reader(15, 3, _object),
-    STACK: _Reader(1, 3, _stack, lambda words, at: words[at + 2]),
+    STACK: _Reader(3, 3, _stack, _stack_words),
     BEGIN: _Reader(3, 6, _begin),
     STOP: _Reader(0, 3, lambda words, at, processor: Stop(words[at + 1], processor, words[at + 2])),
     MARK_START: _Reader(0, 4, lambda words, at, processor: MarkStart(words[at + 1], processor, *words[at + 2 : at + 4])),
