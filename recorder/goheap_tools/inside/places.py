@@ -34,7 +34,7 @@ PLACES = (
     Place("an object of size 0", "malloc.go", "func mallocgc(", r"return unsafe\.Pointer\(&zerobase\)", BEFORE,
           "goheapEmpty(uintptr(unsafe.Pointer(&zerobase)), typ, getcallersp())"),
     Place("a rider of a tiny block", "malloc.go", "func mallocgc(", r"c\.tinyAllocs\+\+", BEHIND,
-          "goheapRider(uintptr(x), size, typ, getcallersp())"),
+          "x = goheapRider(x, size, typ, getcallersp())"),
     Place("an object", "malloc.go", "func mallocgc(", r"mp\.mallocing = 0", BEFORE,
           "goheapObject(uintptr(x), dataSize, typ, getcallersp())", times=2, which=1),
     Place("an object that Go's profile samples", "malloc.go", "func profilealloc(", r"mProf_Malloc\(x, size\)", BEFORE,
