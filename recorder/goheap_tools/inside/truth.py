@@ -66,7 +66,6 @@ class Checker:
     """Takes events in order. `rules` counts how often each rule was held against an event."""
 
     rules: Counter = field(default_factory=Counter)
-    totals: Totals = field(default_factory=Totals)
     generation: int = 0
     compared: int = 0
     last: form.Counts | None = None
@@ -75,6 +74,8 @@ class Checker:
         self.forget()
 
     def forget(self) -> None:
+        """Begins anew."""
+        self.totals = Totals()
         self.heap = Pages(self.expect)
         self.spans: dict[int, Life] = {}
         self.at_page: dict[int, Life] = {}
