@@ -6,7 +6,6 @@ copies of a few of its files, and `go build -overlay` takes the copies for the f
 
 from __future__ import annotations
 
-import difflib
 import hashlib
 import json
 import os
@@ -75,10 +74,31 @@ def difference(go: str = "go") -> str:
     originals = {name: _read(known, name) for name in _files()}
     parts = []
     for name, text in changed(known, originals).items():
-        before = originals.get(name, "").splitlines(keepends=True)
         left = str(known.runtime / name) if name in originals else "/dev/null"
-        parts += difflib.unified_diff(before, text.splitlines(keepends=True), left, "goheap/" + name)
-    return "".join(parts)
+        parts += [f"--- {left}", f"+++ goheap/{name}", *_hunks(originals.get(name, "").splitlines(), text.splitlines())]
+    return "\n".join(parts) + "\n"
+
+
+def _hunks(before: list[str], after: list[str]) -> list[str]:
+    """The unified diff of texts of which the second has lines more, and nothing less."""
+    context, at, added = 3, 0, []
+    for number, line in enumerate(after):
+        if at < len(before) and line == before[at]:
+            at += 1
+        else:
+            added.append(number)
+    lines: list[str] = []
+    while added:
+        count = 1
+        while count < len(added) and added[count] - added[count - 1] <= 2 * context + 1:
+            count += 1
+        hunk, skipped = added[:count], len(after) - len(before) - len(added)
+        first, last = max(0, hunk[0] - context), min(len(after), hunk[-1] + context + 1)
+        old = last - first - count
+        lines.append(f"@@ -{first - skipped + (old > 0)},{old} +{first + 1},{last - first} @@")
+        lines += [("+" if number in hunk else " ") + after[number] for number in range(first, last)]
+        added = added[count:]
+    return lines
 
 
 def cache_folder() -> Path:
