@@ -26,6 +26,8 @@ CHUNK_MARK = 192
 PROCESSORS = 1024
 NO_PROCESSOR = 65535
 PAGE = 8192
+SPAN_CLASSES = 136
+GREATEST_SLOTS = 1024
 STATES = {0: "recording", 1: "the file is full", 2: "the file system has no room"}
 
 OBJECT, RIDER, EMPTY, LARGE, STACK = 1, 2, 3, 4, 5
@@ -335,7 +337,9 @@ class Recording:
         expected, skipping = 1, False
         while heap:
             ticket, at, group = heap[0]
-            if ticket != expected:
+            if ticket < expected:
+                self._refuse(40, f"ticket {ticket} was drawn twice")
+            if ticket > expected:
                 break
             following = next(streams[at], None)
             if following is None:
@@ -527,7 +531,7 @@ def _sweep(words: list[int], at: int, processor: int):
     slots, free_index, before, after = _slots(words[at + 2])
     third = words[at + 3]
     stays = _bitmap(words, at + 4, (slots + 63) // 64)
-    if stays >> slots or free_index > slots or before > slots or after != stays.bit_count() or third >> 8 & 0xFFFFFF:
+    if slots > GREATEST_SLOTS or stays >> slots or free_index > slots or before > slots or after != stays.bit_count() or third >> 8 & 0xFFFFFF:
         return None
     return Sweep(words[at + 1], processor, words[at] >> 16, slots, free_index, before, after, third & 255,
                  third >> 32, bool(words[at] & 0x100), stays)
@@ -546,7 +550,7 @@ def _block(words: list[int], at: int, processor: int):
 def _run(words: list[int], at: int, processor: int):
     kind, word = words[at] & 255, words[at + 2]
     use, span_class = _low(word, 8, 40), _low(word, 8, 32)
-    if word >> 48 or use >= len(USES) or span_class >= 136:
+    if word >> 48 or use >= len(USES) or span_class >= SPAN_CLASSES:
         return None
     scavenged = 0 if kind == GIVE else words[at + 3]
     return Run(kind, words[at + 1], processor, words[at] >> 16, _low(word, 32), span_class, use, scavenged)
@@ -557,7 +561,7 @@ def _span(words: list[int], at: int, processor: int):
     slots, free_index, objects, rest = _slots(words[at + 3])
     use, span_class = _low(word, 8, 40), _low(word, 8, 32)
     occupied = _bitmap(words, at + 5, (slots + 63) // 64)
-    if word >> 48 or rest or use >= len(USES) or span_class >= 136 or occupied >> slots:
+    if word >> 48 or rest or use >= len(USES) or span_class >= SPAN_CLASSES or slots > GREATEST_SLOTS or occupied >> slots:
         return None
     cached = words[at + 4] - 1 if words[at + 4] else None
     return Span(words[at + 1], processor, words[at] >> 16, _low(word, 32), span_class, use, slots, free_index, objects,
@@ -571,7 +575,7 @@ def _pages(words: list[int], at: int, processor: int):
 def _cache(words: list[int], at: int, processor: int):
     word = words[at + 2]
     span_class = _low(word, 8)
-    if word >> 8 & 255 or span_class >= 136:
+    if word >> 8 & 255 or span_class >= SPAN_CLASSES:
         return None
     return Cache(words[at + 1], processor, words[at] >> 16, span_class, *_slots(word)[1:])
 
