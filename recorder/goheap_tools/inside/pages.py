@@ -5,7 +5,7 @@ from __future__ import annotations
 from collections.abc import Callable
 
 from ..heap.classes import PAGE
-from . import recording as form
+from . import events as form
 
 BLOCK_PAGES = 64
 CHUNK_PAGES = 512

@@ -17,227 +17,23 @@ from collections.abc import Iterator
 from dataclasses import dataclass
 from typing import NamedTuple
 
+# Some of them for those who read recordings.
+from .events import (
+    BEGIN, BLOCK, CACHE, COUNTS, CUT, DROP, EMPTY, FLUSH, GIVE, GREATEST_SLOTS, GROWTH, LARGE, LEADS, LEND, MARK_END, MARK_START, NO_PROCESSOR, NOT_ASKED, OBJECT, PACE,
+    PAGE, PAGES, POINTER_FREE, PROCESSORS, PROCESSORS_CHANGE, PULL, RIDER, SAMPLED, SCAVENGED, SPAN, SPAN_CLASSES, STACK, STOP, SWEEP, TAKE, USES, Begin, Block, Cache,
+    Counts, Flush, Growth, MarkStart, Object, Pace, Pages, Processors, Run, Scavenging, Span, Stack, Stop, Sweep, Told)  # fmt: skip
+
 MAGIC = int.from_bytes(b"goheaprc", "little")
 VERSION = 2
 CHUNK_BYTES = 65536
 CHUNK_WORDS = CHUNK_BYTES // 8
 FIRST_EVENT = 4  # word of a chunk
 CHUNK_MARK = 192
-PROCESSORS = 1024
-NO_PROCESSOR = 65535
-PAGE = 8192
-SPAN_CLASSES = 136
-GREATEST_SLOTS = 1024
 STATES = {0: "recording", 1: "the file is full", 2: "the file system has no room"}
-
-OBJECT, RIDER, EMPTY, LARGE, STACK = 1, 2, 3, 4, 5
-BEGIN, STOP, MARK_START, MARK_END, SWEEP, PACE, PULL, DROP = 16, 17, 18, 19, 20, 21, 22, 23
-CUT, TAKE, GIVE, GROWTH, LEND, SCAVENGED, CACHE, FLUSH = 24, 25, 26, 27, 28, 29, 30, 31
-COUNTS, PROCESSORS_CHANGE = 32, 33
-SPAN, PAGES, BLOCK = 48, 49, 50
-
-POINTER_FREE, LEADS, SAMPLED, NOT_ASKED = 1, 2, 4, 8
-USES = ("objects", "stacks", "bitmaps", "work buffers", "not objects")
 
 
 class Damaged(Exception):
     """The file is no recording, or not a whole one."""
-
-
-class Object(NamedTuple):
-    """An allocation: kind is OBJECT, RIDER, EMPTY or LARGE; flags of POINTER_FREE, LEADS, SAMPLED, NOT_ASKED."""
-
-    kind: int
-    processor: int
-    flags: int
-    address: int
-    size: int
-    stack: int
-
-
-class Stack(NamedTuple):
-    """Return addresses, the innermost first, and the address of the object's type."""
-
-    number: int
-    type: int
-    frames: tuple[int, ...]
-    cut: bool
-
-
-class _Told(NamedTuple):
-    """A stack as it stands in the recording."""
-
-    number: int
-    type: int
-    frames: tuple[int, ...]
-    shared: int
-    other: int
-    wide: bool
-    cut: bool
-
-
-class Begin(NamedTuple):
-    ticket: int
-    processor: int
-    reason: int  # 0 the program's start, 1 a mark end, 2 a signal
-    clock: int
-    mark_ends: int
-    processors: int
-    rate: int
-
-
-class Stop(NamedTuple):
-    ticket: int
-    processor: int
-    clock: int
-
-
-class MarkStart(NamedTuple):
-    ticket: int
-    processor: int
-    clock: int
-    live: int
-
-
-class Counts(NamedTuple):
-    """The runtime's own counters; kind is MARK_END or COUNTS (runtime.ReadMemStats)."""
-
-    kind: int
-    ticket: int
-    processor: int
-    mode: int
-    generation: int
-    clock: int
-    collections: int
-    live: int
-    rate: int
-    mallocs: int
-    frees: int
-    allocated: int
-    freed: int
-    heap_in_use: int
-    stack_in_use: int
-    released: int
-    marked: int
-
-
-class Sweep(NamedTuple):
-    """A span is swept; bit i of `stays` is set where slot i keeps its object."""
-
-    ticket: int
-    processor: int
-    address: int
-    slots: int
-    free_index: int
-    before: int
-    after: int
-    span_class: int
-    generation: int
-    preserve: bool
-    stays: int
-
-
-class Pace(NamedTuple):
-    ticket: int
-    processor: int
-    done: bool
-    trigger: int
-    live: int
-    swept: int
-    in_use: int
-    distance: int
-
-
-class Block(NamedTuple):
-    """A processor's page cache; kind is PULL, DROP or BLOCK. `owner` is the processor whose it is."""
-
-    kind: int
-    ticket: int
-    processor: int
-    address: int
-    free: int
-    scavenged: int
-    owner: int
-
-
-class Run(NamedTuple):
-    """A run of pages; kind is CUT, TAKE or GIVE (there, scavenged is 0)."""
-
-    kind: int
-    ticket: int
-    processor: int
-    address: int
-    pages: int
-    span_class: int
-    use: int
-    scavenged: int
-
-
-class Growth(NamedTuple):
-    ticket: int
-    processor: int
-    address: int
-    bytes: int
-
-
-class Scavenging(NamedTuple):
-    """The scavenger's run; kind is LEND or SCAVENGED."""
-
-    kind: int
-    ticket: int
-    processor: int
-    address: int
-    pages: int
-
-
-class Cache(NamedTuple):
-    ticket: int
-    processor: int
-    address: int
-    span_class: int
-    objects: int
-    free_index: int
-    slots: int
-
-
-class Flush(NamedTuple):
-    ticket: int
-    processor: int
-    owner: int
-    mid_cycle: bool
-
-
-class Processors(NamedTuple):
-    ticket: int
-    processor: int
-    before: int
-    after: int
-
-
-class Span(NamedTuple):
-    """A span in use where the recording begins later than the program; `cached` is a processor or None."""
-
-    ticket: int
-    processor: int
-    address: int
-    pages: int
-    span_class: int
-    use: int
-    slots: int
-    free_index: int
-    objects: int
-    cached: int | None
-    occupied: int
-
-
-class Pages(NamedTuple):
-    """512 pages, there: which are not free, and which are scavenged."""
-
-    ticket: int
-    processor: int
-    address: int
-    taken: int
-    scavenged: int
 
 
 @dataclass(frozen=True)
@@ -306,7 +102,7 @@ class Recording:
                     found[event.number] = self._whole(event, found, number)
         return found
 
-    def _whole(self, event: _Told, found: dict[int, Stack], number: int) -> Stack:
+    def _whole(self, event: Told, found: dict[int, Stack], number: int) -> Stack:
         """With the outer frames that it shares with a stack before."""
         frames = event.frames if event.wide else tuple(self.header.text[0] + offset for offset in event.frames)
         if event.shared:
@@ -514,7 +310,7 @@ def _stack(words: list[int], at: int, _: int):
         frames = [half for word in frames for half in (word & 0xFFFFFFFF, word >> 32)]
         if len(frames) > count - shared and frames.pop():
             return None
-    return _Told(first >> 16, words[at + 1], tuple(frames), shared, second >> 32, wide, bool(first & 0x100))
+    return Told(first >> 16, words[at + 1], tuple(frames), shared, second >> 32, wide, bool(first & 0x100))
 
 
 def _begin(words: list[int], at: int, processor: int):

@@ -13,7 +13,7 @@ from dataclasses import dataclass, field
 from typing import NamedTuple
 
 from ..heap.classes import PAGE, SLOTS
-from . import recording as form
+from . import events as form
 from .pages import Pages
 
 TINY_BYTES = 16
