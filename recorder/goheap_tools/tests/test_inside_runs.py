@@ -7,6 +7,7 @@ import signal
 import subprocess
 import tempfile
 import unittest
+from collections import Counter
 
 from goheap_tools.inside.recording import (
     COUNTS, EMPTY, LARGE, NOT_ASKED, OBJECT, RIDER, SAMPLED, Begin, Counts, Object, Recording, Stop)  # fmt: skip
@@ -111,18 +112,14 @@ class Unchanged(Runs):
     """The program does what it does without the recorder."""
 
     def test_addresses_on_one_processor(self):
-        """The runtime's own threads make it one of a few rows of addresses, with the recorder and without."""
+        """What the runtime's own threads do meanwhile makes it one of two rows of addresses, and of some rare ones, with the recorder
+        and without. The row that most runs with the recorder give is one that the plain program gives."""
         for version in toolchains():
             plain, inside = go_tools.built(version, "heaps"), recorded(version, "heaps")
-            rows = [self.addresses(inside, self.path(f"{version}-{run}")) for run in range(3)]
-            seen = set()
-            for _ in range(200):
-                seen.add(self.addresses(plain, None))
-                if seen.issuperset(rows):
-                    break
+            row, _ = Counter(self.addresses(inside, self.path(f"{version}-{run}")) for run in range(7)).most_common(1)[0]
             with self.subTest(version=version):
-                self.assertEqual(len(rows[0].split()), 60)
-                self.assertTrue(seen.issuperset(rows))
+                self.assertEqual(len(row.split()), 60)
+                self.assertTrue(any(self.addresses(plain, None) == row for _ in range(100)))
 
     def addresses(self, program, path):
         environment = {**self.environment(path, processors=1), "GOGC": "off"}
