@@ -14,6 +14,7 @@ import subprocess
 from dataclasses import dataclass
 from pathlib import Path
 
+from ..tool import Unusable
 from .places import BEFORE, BEHIND, CLOSING, ENDING, PLACES, WORDS, Place
 
 VERSIONS = ("1.19", "1.20", "1.21")
@@ -21,7 +22,7 @@ OWN = Path(__file__).parent / "runtime"
 MARKER = b"GOHEAP_RECORD_EVERY="  # stands in each program that was built with the overlay
 
 
-class Refused(Exception):
+class Refused(Unusable):
     """No overlay can be made; the text says why."""
 
 

@@ -17,7 +17,7 @@ class Pages:
 
     def __init__(self, expect: Callable) -> None:
         self.expect = expect
-        self.first: int | None = None  # page number of the first
+        self.first = 0  # number of the first page, when there is one
         self.state = bytearray()
         self.scavenged = bytearray()
         self.blocks: dict[int, tuple[int, int, int]] = {}  # first page, free ones, scavenged ones
@@ -29,7 +29,7 @@ class Pages:
 
     def grow(self, event: form.Growth) -> None:
         page, count = event.address // PAGE, event.bytes // PAGE
-        if self.first is None:
+        if not self.state:
             self.first = page
         end = self.first + len(self.state)
         self.expect(page == end and count % CHUNK_PAGES == 0, "the region grows upwards without a gap, by whole chunks", event, end)
@@ -38,7 +38,7 @@ class Pages:
 
     def stand(self, event: form.Pages) -> None:
         page = event.address // PAGE
-        if self.first is None:
+        if not self.state:
             self.first = page
         end = self.first + len(self.state)
         self.expect(page >= end, "the standing pages rise", event, end)

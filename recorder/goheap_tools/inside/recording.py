@@ -15,9 +15,11 @@ import mmap
 import os
 from collections.abc import Iterator
 from dataclasses import dataclass
-from typing import NamedTuple
+from typing import Any, NoReturn
 
-# Some of them for those who read recordings.
+from ..tool import Unusable
+
+# Some of these are for those who read recordings.
 from .events import (
     BEGIN, BLOCK, CACHE, COUNTS, CUT, DROP, EMPTY, FLUSH, GIVE, GREATEST_SLOTS, GROWTH, LARGE, LEADS, LEND, MARK_END, MARK_START, NO_PROCESSOR, NOT_ASKED, OBJECT, PACE,
     PAGE, PAGES, POINTER_FREE, PROCESSORS, PROCESSORS_CHANGE, PULL, RIDER, SAMPLED, SCAVENGED, SPAN, SPAN_CLASSES, STACK, STOP, SWEEP, TAKE, USES, Begin, Block, Cache,
@@ -32,7 +34,7 @@ CHUNK_MARK = 192
 STATES = {0: "recording", 1: "the file is full", 2: "the file system has no room"}
 
 
-class Damaged(Exception):
+class Damaged(Unusable):
     """The file is no recording, or not a whole one."""
 
 
@@ -97,51 +99,53 @@ class Recording:
         for numbers in self.chunks.values():
             for number in numbers:
                 for event in self._chunk(number, lambda kind: kind == STACK):
-                    if event.number in found or not 0 < event.number <= self.header.greatest_stack:
-                        self._refuse(number * CHUNK_BYTES, f"stack {event.number} is told twice, or cannot be")
-                    found[event.number] = self._whole(event, found, number)
+                    self.take_stack(event, found, number)
         return found
+
+    def take_stack(self, event: Told, found: dict[int, Stack], number: int) -> None:
+        """Puts a stack that stands in chunk `number` to those found before it there."""
+        if event.number in found or not 0 < event.number <= self.header.greatest_stack:
+            self._refuse(number * CHUNK_BYTES, f"stack {event.number} is told twice, or cannot be")
+        found[event.number] = self._whole(event, found, number)
 
     def _whole(self, event: Told, found: dict[int, Stack], number: int) -> Stack:
         """With the outer frames that it shares with a stack before."""
         frames = event.frames if event.wide else tuple(self.header.text[0] + offset for offset in event.frames)
         if event.shared:
-            other = found.get(event.other)
-            if other is None or len(other.frames) < event.shared:
+            other = found[event.other].frames if event.other in found else ()
+            if len(other) < event.shared:
                 self._refuse(number * CHUNK_BYTES, f"stack {event.number} shares frames with {event.other}, which has them not")
-            frames += other.frames[-event.shared :]
+            frames += other[-event.shared :]
         return Stack(event.number, event.type, frames, event.cut)
 
-    def events(self) -> Iterator[NamedTuple]:
+    def events(self) -> Iterator[Any]:
         """All events but stacks, in the order in which they happened, up to the first ticket that is missing."""
         streams = [self._groups(processor) for processor in sorted(self.chunks)]
-        heap = []
+        heads: list[tuple[int, int, list]] = []
+        early: list = []
         for at, stream in enumerate(streams):
             group = next(stream, None)
+            if group is not None and group[0] == 0:
+                early += group[1]
+                group = next(stream, None)
             if group is not None:
-                heap.append((group[0], at, group[1]))
-        early = [event for ticket, _, group in heap if ticket == 0 for event in group]
-        for at, (ticket, stream, _) in enumerate(heap):
-            if ticket == 0:
-                group = next(streams[stream], None)
-                heap[at] = (group[0], stream, group[1]) if group else (1 << 64, stream, [])
-        heap = [entry for entry in heap if entry[0] < 1 << 64]
-        heapq.heapify(heap)
-        yield from self._merge(heap, streams, early)
+                heads.append((group[0], at, group[1]))
+        heapq.heapify(heads)
+        yield from self._merge(heads, streams, early)
 
-    def _merge(self, heap: list, streams: list, early: list) -> Iterator[NamedTuple]:
+    def _merge(self, heads: list, streams: list, early: list) -> Iterator[Any]:
         expected, skipping = 1, False
-        while heap:
-            ticket, at, group = heap[0]
+        while heads:
+            ticket, at, group = heads[0]
             if ticket < expected:
                 self._refuse(40, f"ticket {ticket} was drawn twice")
             if ticket > expected:
                 break
             following = next(streams[at], None)
             if following is None:
-                heapq.heappop(heap)
+                heapq.heappop(heads)
             else:
-                heapq.heapreplace(heap, (following[0], at, following[1]))
+                heapq.heapreplace(heads, (following[0], at, following[1]))
             if type(group[0]) is Begin:
                 skipping = False
             if not skipping:
@@ -152,12 +156,13 @@ class Recording:
                 skipping = True
             expected += 1
         self.missing = expected
-        self.left_out = sum(len(group) for _, _, group in heap)
-        self.left_out += sum(len(group) for _, at, _ in heap for _, group in streams[at])
+        self.left_out = sum(len(group) for _, _, group in heads)
+        self.left_out += sum(len(group) for _, at, _ in heads for _, group in streams[at])
 
     def _groups(self, processor: int) -> Iterator[tuple[int, list]]:
         """Each ticketed event of a processor with what stands behind it, under its ticket (0: before the first)."""
-        ticket, group = 0, []
+        ticket = 0
+        group: list = []
         for number in self.chunks[processor]:
             least = self._word(number * CHUNK_WORDS + 1)
             for event in self._chunk(number, lambda kind: kind != STACK):
@@ -174,7 +179,7 @@ class Recording:
         if group:
             yield ticket, group
 
-    def _chunk(self, number: int, wanted) -> Iterator[NamedTuple]:
+    def _chunk(self, number: int, wanted) -> Iterator[Any]:
         """The wanted events of a chunk."""
         begin = number * CHUNK_BYTES
         words = memoryview(self._map)[begin : begin + CHUNK_BYTES].cast("Q").tolist()
@@ -194,7 +199,9 @@ class Recording:
                 at += 2
                 continue
             reader = READERS.get(kind)
-            length = reader.length(words, at) if reader and at + reader.least <= CHUNK_WORDS else CHUNK_WORDS + 1
+            if reader is None or at + reader.least > CHUNK_WORDS:
+                self._refuse_event(begin + 8 * at, first, CHUNK_WORDS + 1)
+            length = reader.length(words, at)
             if at + length > CHUNK_WORDS or first >> 8 & 255 & ~reader.flags:
                 self._refuse_event(begin + 8 * at, first, at + length)
             if wanted(kind):
@@ -248,7 +255,7 @@ class Recording:
     def _word(self, at: int) -> int:
         return int.from_bytes(self._map[8 * at : 8 * at + 8], "little")
 
-    def _refuse_event(self, offset: int, first: int, end: int) -> None:
+    def _refuse_event(self, offset: int, first: int, end: int) -> NoReturn:
         kind = first & 255
         if kind not in READERS and kind not in (OBJECT, RIDER):
             self._refuse(offset, f"an event of kind {kind}, which is not known")
@@ -256,7 +263,7 @@ class Recording:
             self._refuse(offset, f"an event of kind {kind} goes over the end of its chunk")
         self._refuse(offset, f"an event of kind {kind} has a flag that it cannot have")
 
-    def _refuse(self, offset: int, reason: str) -> None:
+    def _refuse(self, offset: int, reason: str) -> NoReturn:
         raise Damaged(f"{self.path}: byte {offset}: {reason}")
 
 

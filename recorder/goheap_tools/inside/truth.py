@@ -8,9 +8,9 @@ tells what happened: an event that is lost, doubled or out of order breaks a rul
 from __future__ import annotations
 
 from collections import Counter
-from collections.abc import Iterable
+from collections.abc import Callable, Iterable
 from dataclasses import dataclass, field
-from typing import NamedTuple
+from typing import ClassVar, NamedTuple
 
 from ..heap.classes import PAGE, SLOTS
 from . import events as form
@@ -47,6 +47,9 @@ class Life:
         size_class = self.span_class >> 1
         self.slot_bytes = SLOTS[size_class] if size_class else self.pages * PAGE
         self.slots = self.pages * PAGE // self.slot_bytes if self.use == 0 else 0
+
+
+NOWHERE = Life(0, 0, 0, -1, -1)  # where a span should be, and none is
 
 
 @dataclass
@@ -145,9 +148,9 @@ class Checker:
             self.totals.stack_in_use += life.pages * PAGE
 
     def _give(self, event: form.Run) -> None:
-        life = self.spans.pop(event.address, None)
-        same = life is not None and (life.pages, life.use) == (event.pages, event.use)
-        standing = life is not None and life.use == 4 and life.pages == event.pages
+        life = self.spans.pop(event.address, NOWHERE)
+        same = (life.pages, life.use) == (event.pages, event.use)
+        standing = life.use == 4 and life.pages == event.pages
         self.expect(same or standing, "a run goes back as it was taken", event, life)
         if event.use == 0:
             self.expect(life.occupied == 0 and life.cached is None, "a span that goes back is empty", event, life)
@@ -168,8 +171,8 @@ class Checker:
         if event.kind == form.RIDER:
             self._ride(event)
             return
-        life = self.at_page.get(event.address // PAGE)
-        self.expect(life is not None, "an object is in a span", event)
+        life = self.at_page.get(event.address // PAGE, NOWHERE)
+        self.expect(life is not NOWHERE, "an object is in a span", event)
         self.totals.allocated += life.slot_bytes
         if event.kind == form.LARGE:
             self._large(event, life)
@@ -214,8 +217,8 @@ class Checker:
     # Caches, sweeps and mark ends.
 
     def cache(self, event: form.Cache) -> None:
-        life = self.spans.get(event.address)
-        known = life is not None and life.use == 0 and life.span_class == event.span_class
+        life = self.spans.get(event.address, NOWHERE)
+        known = life.use == 0 and life.span_class == event.span_class
         self.expect(known, "a cached span is of its class", event, life)
         self.expect(life.cached is None and life.swept == self.generation, "a span is swept before it is cached", event, life)
         told = (event.objects, event.slots)
@@ -235,8 +238,8 @@ class Checker:
         self.tiny.pop(event.owner, None)
 
     def sweep(self, event: form.Sweep) -> None:
-        life = self.spans.get(event.address)
-        known = life is not None and life.use == 0 and (life.span_class, life.slots) == (event.span_class, event.slots)
+        life = self.spans.get(event.address, NOWHERE)
+        known = life.use == 0 and (life.span_class, life.slots) == (event.span_class, event.slots)
         self.expect(known and event.generation == self.generation, "a swept span is one in use", event, life)
         self.expect(life.swept == self.generation - 2 and life.cached is None, "a span is swept once a cycle", event, life)
         life.swept = self.generation
@@ -287,7 +290,7 @@ class Checker:
     def quiet(self, event: NamedTuple) -> None:
         """Nothing to hold it against."""
 
-    ACTIONS = {
+    ACTIONS: ClassVar[dict[type, Callable]] = {
         form.Begin: begin, form.Span: span, form.Pages: pages, form.Block: block, form.Run: run, form.Growth: lambda self, event: self.heap.grow(event),
         form.Scavenging: lambda self, event: self.heap.scavenge(event), form.Object: object, form.Cache: cache, form.Flush: flush,
         form.Sweep: sweep, form.Counts: counts, form.Stop: quiet, form.MarkStart: quiet, form.Pace: quiet, form.Processors: quiet,
