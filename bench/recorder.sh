@@ -1,12 +1,14 @@
 #!/usr/bin/env bash
-# recorder.sh [REQUESTS]: what recording costs, on the HTTP server of examples/programs/server: the time of a plain run beside one that writes
-# its log, the log's bytes an allocation, and how many megabytes of that log `record` reads in a second of processor time, by the median of
-# five runs, beside `wc -l`. Needs a Go of 1.19 to 1.21 (GO names it; default: go).
+# recorder.sh [REQUESTS]: what recording costs. First, of programs that record themselves: their processor time beside the same programs plain, run in
+# turns, and the bytes of their recordings (recorder.py). Then, of the log, on the HTTP server of examples/programs/server: the time of a plain run
+# beside one that writes its log, the log's bytes an allocation, and how many megabytes of that log `record` reads in a second of processor time, by the
+# median of five runs, beside `wc -l`. Needs a Go of 1.19 to 1.21 (GO names it; default: go).
 set -eu
 
 cd "$(dirname "$(readlink -f "$0")")/.."
 requests=${1:-500}
 go=${GO:-go}
+python3 bench/recorder.py "$go"
 folder=$(mktemp -d)
 trap 'rm -rf "$folder"' EXIT
 (cd examples/programs/server && "$go" build -o "$folder/server" .)
