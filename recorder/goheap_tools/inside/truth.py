@@ -8,7 +8,7 @@ tells what happened: an event that is lost, doubled or out of order breaks a rul
 from __future__ import annotations
 
 from collections import Counter
-from collections.abc import Callable, Iterable
+from collections.abc import Callable, Iterable, Iterator
 from dataclasses import dataclass, field
 from typing import ClassVar, NamedTuple
 
@@ -87,13 +87,19 @@ class Checker:
         self.unswept = 0
         self.standing = False
 
+    def through(self, events: Iterable[NamedTuple]) -> Iterator[NamedTuple]:
+        """Takes them, and hands each on behind its trial."""
+        for event in events:
+            action = self.ACTIONS.get(type(event))
+            if action is None:
+                raise Untrue(f"{event}: no such event is known here")
+            action(self, event)
+            yield event
+
     def all(self, events: Iterable[NamedTuple]) -> Checker:
         """Takes them all."""
-        for event in events:
-            try:
-                self.ACTIONS[type(event)](self, event)
-            except KeyError:
-                raise Untrue(f"{event}: no such event is known here") from None
+        for _ in self.through(events):
+            pass
         return self
 
     def expect(self, true: bool, rule: str, event: NamedTuple, why: object = "") -> None:

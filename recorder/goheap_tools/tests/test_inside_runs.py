@@ -75,8 +75,7 @@ class Truth(Runs):
         with Recording(path) as recording:
             self.assertFalse(recording.header.full)
             checker, told = Checker(), None
-            for event in recording.events():
-                checker.all([event])
+            for event in checker.through(recording.events()):
                 if isinstance(event, Counts) and event.kind == COUNTS:
                     totals = checker.totals
                     told = (totals.mallocs, totals.frees, totals.allocated - totals.freed, totals.heap_in_use, totals.stack_in_use, event.collections)
@@ -162,23 +161,29 @@ class Unchanged(Runs):
 
 class Bounds(Runs):
     def test_kill_loses_nothing_that_was_written(self):
+        """All objects are in the file that the program had told of. On several processors one may be stopped between a ticket's drawing
+        and its event while the others go on, and then the order is known up to there."""
         for version in toolchains():
-            with self.subTest(version=version):
-                path = self.path(version)
-                run = self.start([recorded(version, "heaps"), "forever"], path)
-                while (said := int(run.stdout.readline())) < 200000:
-                    pass
-                run.send_signal(signal.SIGKILL)
-                run.wait()
-                with Recording(path) as recording:
-                    stacks = recording.stacks()
-                    checker, objects = Checker(), 0
-                    for event in recording.events():
-                        checker.all([event])
-                        objects += isinstance(event, Object) and event.kind == OBJECT and event.size == 32 and not event.flags & ~SAMPLED
-                    self.assertLessEqual(recording.header.next_ticket - recording.missing, 4)
-                self.assertGreaterEqual(objects, said)
-                self.assertGreater(len(stacks), 10)
+            for processors in (1, 4):
+                with self.subTest(version=version, processors=processors):
+                    path = self.path(f"{version}-{processors}")
+                    run = self.start([recorded(version, "heaps"), "forever"], path, processors=processors)
+                    while (said := int(run.stdout.readline())) < 100000:
+                        pass
+                    run.send_signal(signal.SIGKILL)
+                    run.wait()
+                    with Recording(path) as recording:
+                        written = sum(self.nodes(group) for processor in recording.chunks for _, group in recording._groups(processor))
+                        in_order = sum(self.nodes([event]) for event in Checker().through(recording.events()))
+                        missing = recording.header.next_ticket - recording.missing
+                    self.assertGreaterEqual(written, said)
+                    if processors == 1:
+                        self.assertGreaterEqual(in_order, said)
+                        self.assertLessEqual(missing, 2)
+
+    def nodes(self, events):
+        """How many of them are objects as the program allocates them."""
+        return sum(isinstance(event, Object) and event.kind == OBJECT and event.size == 32 and not event.flags & ~SAMPLED for event in events)
 
     def test_a_full_file(self):
         for version in toolchains():
