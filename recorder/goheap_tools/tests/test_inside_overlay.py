@@ -74,7 +74,8 @@ class Places(FakeGo):
         target = overlay.prepare(self.command(), self.folder / "cache")
         replaced = json.loads(Path(target).read_text())["Replace"]
         self.assertEqual({Path(path).parent for path in replaced}, {self.runtime})
-        inserted = [line.strip() for path in replaced.values() for line in Path(path).read_text().split("\n") if not os.path.basename(path).startswith("goheap_")]
+        texts = [Path(path).read_text() for path in replaced.values() if not os.path.basename(path).startswith("goheap_")]
+        inserted = [line.strip() for text in texts for line in text.split("\n")]
         for place in places.PLACES:
             count = place.times if place.which is None else 1
             same = [other for other in places.PLACES if other.call == place.call]
@@ -89,7 +90,8 @@ class Places(FakeGo):
                 with self.subTest(place=place.event, found=found):
                     self.runtime_of(missing, twice)
                     said = self.refused(self.command("go1.20.3"))
-                    self.assertEqual(said, f"go1.20.3: {place.event}: `{place.function}` in runtime/{place.file} has {found} statements `{place.statement}`, not {place.times}")
+                    where = f"`{place.function}` in runtime/{place.file}"
+                    self.assertEqual(said, f"go1.20.3: {place.event}: {where} has {found} statements `{place.statement}`, not {place.times}")
 
     def test_a_function_that_is_not_there_is_named(self):
         self.runtime_of()
