@@ -8,6 +8,7 @@ A program that was not built so is run with Go's log in place of a recording (`r
 """
 
 import argparse
+import errno
 import os
 import re
 import shutil
@@ -213,7 +214,7 @@ def wants_log(call: Words) -> bool:
     if call.is_told:
         return False
     if not call.command:
-        return "--log" in call.names or not ({"--show", "--overlay", "--help", "-h"} & set(call.names)) and not sys.stdin.isatty()
+        return "--log" in call.names or not ({"--show", "--overlay", "--help", "-h"} & set(call.names)) and not (sys.stdin and sys.stdin.isatty())
     name = call.command[0]
     return name == "-" or os.path.isfile(name) and not os.access(name, os.X_OK) and kind_of(name) in (Kind.OTHER, Kind.PACKED) and refusal(name, kind_of(name)) is None
 
@@ -233,7 +234,7 @@ def record_command(call: Words, options: argparse.Namespace) -> int:
     if is_go(call.command) and kind is not Kind.ITSELF:
         return record_go(call.command, options)
     if path is None:
-        raise tool.Unusable(f"{name}: no such file, and no such program")
+        raise FileNotFoundError(errno.ENOENT, os.strerror(errno.ENOENT), name)
     if why := refusal(path, kind):
         raise tool.Unusable(why)
     if not os.access(path, os.X_OK):

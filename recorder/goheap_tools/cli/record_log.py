@@ -270,7 +270,7 @@ def main(words: List[str]) -> int:
         check_begun(recorder)
         write(recorder, out, stacks)
     tell(recorder, log)
-    return 0
+    return log.ended_status()
 
 
 def command() -> None:

@@ -15,6 +15,8 @@ from goheap_tools.formats import golog
 TOLD_EVERY = 1_000_000
 # Seconds that a program has to end when it is asked to.
 PATIENCE = 10
+# Signals that the program takes itself.
+HANDED = (signal.SIGHUP, signal.SIGQUIT, signal.SIGUSR1, signal.SIGUSR2)
 
 
 class Interrupt:
@@ -57,6 +59,9 @@ class Log:
     def end(self, early: bool) -> None:
         pass
 
+    def ended_status(self) -> int:
+        return 0
+
 
 class Run:
     """A program that runs, and its log."""
@@ -71,6 +76,13 @@ class Run:
         with tool.Named(words[0]):
             self.process = subprocess.Popen(words, stderr=subprocess.PIPE, stdout=out, env={**os.environ, "GODEBUG": debug})
         self.file = self.process.stderr
+        for number in HANDED:
+            signal.signal(number, self.hand_on)
+
+    def hand_on(self, number: int, _: object) -> None:
+        """What is for the program reaches it. Those that ask it to end are `Interrupt`'s."""
+        if self.process.poll() is None:
+            self.process.send_signal(number)
 
     def wait(self) -> bool:
         """The program's children may hold its log open, so its end is the log's."""
@@ -108,6 +120,11 @@ class Run:
     def status(self) -> str:
         status = self.process.returncode
         return f"signal {-status}" if status < 0 else f"status {status}"
+
+    def ended_status(self) -> int:
+        """The program's own status, 128 and the signal where one ended it; 0 where it was ended here, since the trace was full."""
+        status = self.process.returncode
+        return 0 if self.stopped else 128 - status if status < 0 else status
 
 
 def told_pieces(log: Log) -> Iterator[str]:

@@ -2,6 +2,7 @@
 
 import glob
 import os
+import shutil
 import signal
 import subprocess
 import sys
@@ -52,7 +53,9 @@ class Running(Folder):
     def test_the_program_is_run(self):
         ran = self.record("--", self.program(), "an argument", "--rate", GODEBUG="madvdontneed=1")
         self.assertEqual((ran.returncode, ran.stdout), (0, "own output ['an argument', '--rate'] madvdontneed=1,allocfreetrace=1\n"))
-        self.assertEqual(ran.stderr.splitlines()[0], "a word of its own")
+        said, own = ran.stderr.splitlines()[:2]
+        self.assertIn("record: ./program was not built to record itself, so its log is read", said)
+        self.assertEqual(own, "a word of its own")
         self.assertNotIn("of no block", ran.stderr)
         self.assertEqual(ran.stderr.splitlines()[-1], "record: written to trace and stacks; for a table: leaks --trace trace --stacks stacks")
         self.assertEqual(self.read("trace"), run("record", given=self.LOG)[1])
@@ -84,23 +87,39 @@ class Running(Folder):
         time.sleep(0.5)
         ran.send_signal(signal.SIGTERM)
         said = ran.communicate(timeout=60)[1]
-        self.assertEqual(ran.returncode, 0)
+        self.assertEqual(ran.returncode, 128 + signal.SIGTERM)
         self.assertIn("interrupted; the trace ends where the log was then, and is whole", said)
         self.assertTrue(self.read("trace").endswith("end\n"))
         self.assertEqual(self.files(), ["program", "stacks", "trace"])
 
     def test_how_it_ended(self):
-        self.assertIn("record: the program ended with status 3\n", self.record("--", self.program("sys.exit(3)")).stderr)
+        ran = self.record("--", self.program("sys.exit(3)"))
+        self.assertIn("record: the program ended with status 3\n", ran.stderr)
+        self.assertEqual(ran.returncode, 3)
+        ran = self.record("--", self.program("os.kill(os.getpid(), signal.SIGKILL)"))
+        self.assertIn("record: the program ended with signal 9\n", ran.stderr)
+        self.assertEqual(ran.returncode, 128 + signal.SIGKILL)
+
+    def test_signals_reach_the_program(self):
+        self.program("signal.signal(signal.SIGUSR1, lambda *_: sys.exit(7))\nprint('ready', flush=True)\ntime.sleep(30)")
+        ran = subprocess.Popen([RECORD, "--", "./program"], cwd=self.folder.name, stdout=subprocess.PIPE, stderr=subprocess.PIPE, text=True)
+        while ran.stdout.readline() != "ready\n":
+            pass
+        ran.send_signal(signal.SIGUSR1)
+        ran.communicate(timeout=60)
+        self.assertEqual(ran.returncode, 7)
 
     def test_what_cannot_be_run(self):
         self.put("trace", "a text of the user's own\n")
         for words, why in ((["--", "./program"], "trace is there, and is not a trace: name another file"),
                            (["-o", "new", "--", "./none"], "./none: No such file or directory"),
-                           (["-o", "new", "--", "true"], "true: no allocation was found: is this a log of GODEBUG=allocfreetrace=1?")):  # fmt: skip
+                           (["-o", "new", "--", "true"], f"{shutil.which('true')} is no Go program, so that there is nothing of Go's heap in it: name the Go program itself"),
+                           (["-o", "new", "--", "./empty"], "./empty: no allocation was found: is this a log of GODEBUG=allocfreetrace=1?")):  # fmt: skip
+            os.chmod(self.put("empty", "#!/bin/sh\n"), 0o755)
             self.program()
             ran = self.record(*words)
             self.assertEqual((ran.returncode, ran.stderr.splitlines()[-1]), (2, f"record: {why}"))
-            self.assertEqual(self.files(), ["program", "trace"])
+            self.assertEqual(self.files(), ["empty", "program", "trace"])
         for words in (["--"], ["log", "--", "true"]):
             self.assertEqual(self.record(*words).returncode, 2)
         self.assertEqual(self.read("trace"), "a text of the user's own\n")
