@@ -124,7 +124,7 @@ def record_program(path: str, words: Sequence[str], options: argparse.Namespace,
     progress.clear()
     if status:
         say(f"the program ended with {told_status(status)}")
-    found = finish(output, path, running.process.pid if own else None)
+    found = finish(output, running.process.pid if own else None)
     tell(found, say)
     return status
 
@@ -160,7 +160,7 @@ def run_go(command: GoCommand, prepared: str, asked: Asked, options: argparse.Na
         taken.add(output)
         return output
 
-    host = runner.Host(choose, lambda program, output, process: found.extend(finish(output, program, process)))
+    host = runner.Host(choose, lambda output, process: found.extend(finish(output, process)))
     begin = [sys.executable, os.path.join(HERE, "record"), runner.WORD, host.name, *told_options(asked), "--"]
     running = Running(command.changed(prepared, begin), dict(os.environ))
     host.begin()
@@ -231,18 +231,23 @@ def record_command(call: Words, options: argparse.Namespace) -> int:
     name = call.command[0]
     path = name if os.path.isfile(name) and "/" in name else shutil.which(name) or (name if os.path.isfile(name) else None)
     kind = kind_of(path) if path else None
+    of_log = next((one for one in call.names if one in OF_LOG), None)
     if is_go(call.command) and kind is not Kind.ITSELF:
+        if of_log or "--log" in call.names:
+            raise tool.Unusable(f"{of_log or '--log'} is for logs, and what a go command makes here records itself")
         return record_go(call.command, options)
     if path is None:
         raise FileNotFoundError(errno.ENOENT, os.strerror(errno.ENOENT), name)
-    if why := refusal(path, kind):
+    if (why := refusal(path, kind)) and not (kind is Kind.ELF and options.keep_children):
         raise tool.Unusable(why)
     if not os.access(path, os.X_OK):
         raise tool.Unusable(f"{name} is there, and may not be run: for a log leave the -- out")
     if kind is Kind.ITSELF and "--log" not in call.names:
-        if of_log := next((one for one in call.names if one in OF_LOG), None):
+        if of_log:
             raise tool.Unusable(f"{of_log} is for logs, and {name} records itself: leave it out, or say --log")
         return record_program(path, call.command, options)
+    if options.keep_children and "--log" not in call.names:
+        return record_program(path, call.command, options, own=False)  # what it starts may record itself
     return program_by_log(path, call)
 
 

@@ -21,7 +21,7 @@ from goheap_tools.inside.scan import ROW, Chunk, Chunks, Piece
 TINY_BLOCK = 16
 FIRST_TICKETED = 16
 BOUNDARIES = (form.BEGIN, form.STOP, form.MARK_END, form.COUNTS)
-OBJECTS, STACKS = 0, 1  # uses of a run of pages
+OBJECTS, STACKS, NO_OBJECTS = 0, 1, 4  # uses of a run of pages
 KNOWN_SIZES: Dict[Tuple[int, int, int], int] = {}
 
 
@@ -234,7 +234,11 @@ class Facts:
 
 
 def base_on(total: Sums, told: form.Counts) -> None:
-    """What was allocated and freed before the recording began is what the runtime counted by then."""
+    """What was allocated and freed before the recording began is what the runtime counted by then; so is how many of the pages that have no
+    objects are stacks."""
+    stacks = told.stack_in_use // PAGE - total.pages[STACKS]
+    total.pages[STACKS] += stacks
+    total.pages[NO_OBJECTS] -= stacks
     total.mallocs, total.frees, total.allocated, total.freed, total.released = told.mallocs, told.frees, told.allocated, told.freed, told.released // PAGE
 
 

@@ -30,8 +30,8 @@ class Host:
     """Who ran the go command. Answers the runners, each from a thread of its own."""
 
     def __init__(self, choose, finish):
-        """`choose` answers the output for a program's name; `finish` is called with the program's file, the output and the process when it has
-        ended, while its file is still there: the go command takes it away behind that."""
+        """`choose` answers the output for a program's name; `finish` is called with the output and the process when it has ended, while the
+        program's file is still there: the go command takes it away behind that."""
         self.choose, self.finish = choose, finish
         self.name = f"goheap-{os.getpid()}-{secrets.token_hex(8)}"
         self.lock = threading.Lock()
@@ -76,7 +76,7 @@ class Host:
         with self.lock:
             del self.processes[output]
             try:
-                self.finish(program, output, process)
+                self.finish(output, process)
             except (tool.Unusable, OSError) as fault:
                 self.faults.append(tool.told(fault))
             self.ended.append(Ended(program, output, told["status"]))

@@ -2,6 +2,7 @@
 
 import glob
 import os
+import shlex
 import struct
 from collections import Counter
 from typing import Callable, Iterable, Iterator, List, NamedTuple, Optional
@@ -40,32 +41,32 @@ def paths_of(output: str) -> List[str]:
     return sorted(found, key=lambda path: int(path[len(front) : len(path) - len(end)]))
 
 
-def finish(output: str, program: str, process: Optional[int]) -> List[Found]:
+def finish(output: str, process: Optional[int]) -> List[Found]:
     """Closes the files of a run: what was never used is cut off, and the names come behind the rest. `process` is the one that should have
     written it, where that is known."""
     paths = [path for path in paths_of(output) if os.path.exists(path)]
     if not paths:
-        return [Found(output, f"{output} was not written: nothing was recorded. Was it an ELF program's library, or was there no room for the file?")]
-    return [finish_one(path, program, process if PROCESS not in output else None) for path in paths]
+        return [Found(output, f"{shown(output)} was not written: nothing was recorded. Was there room for a file, and was the program built by `record -- go build`?")]
+    return [finish_one(path, process if PROCESS not in output else None) for path in paths]
 
 
-def finish_one(path: str, program: str, process: Optional[int]) -> Found:
+def finish_one(path: str, process: Optional[int]) -> Found:
     try:
         if writer := writer_of(path):
-            return Found(path, f"{path} is still being written, by process {writer}: it is whole when that ends")
+            return Found(path, f"{shown(path)} is still being written, by process {writer}: it is whole when that ends")
         with Recording(path) as recording:
             if process is not None and recording.header.process != process:
-                return Found(path, f"{path} was written by process {recording.header.process} at the same time, so that nothing was recorded of this run: name another file")
-            return close(recording, program)
+                return Found(path, f"{shown(path)} was written by process {recording.header.process} at the same time, so that nothing was recorded of this run: name another file")
+            return close(recording)
     except (Damaged, tool.Unusable, OSError) as fault:
         return Found(path, tool.told(fault))
 
 
-def close(recording: Recording, program: str) -> Found:
+def close(recording: Recording) -> Found:
     """Sums a recording up, and closes its file."""
     found, stacks = sums(recording)
     try:
-        known = names.from_program(recording, program if os.path.exists(program) else recording.header.program, stacks)
+        known = names.from_program(recording, recording.header.program, stacks)
         tail = names.packed(known)
     except (OSError, tool.Unusable) as fault:
         tail, found = b"", found._replace(unnamed=tool.told(fault))
@@ -116,17 +117,15 @@ def tell(found: Iterable[Found], say: Callable[[str], None]) -> None:
         good.append(one)
         each = f", {one.size / one.objects:.0f} bytes an object" if one.objects else ""
         live = "" if one.live is None else f"; {tool.size_text(one.live)} in use at the last mark end, before its sweep"
-        say(f"{one.path}: {one.objects:,} objects, {one.mark_ends} mark ends, {one.stacks:,} stacks, {tool.size_text(one.size)}{each}{live}")
+        say(f"{shown(one.path)}: {one.objects:,} objects, {one.mark_ends} mark ends, {one.stacks:,} stacks, {tool.size_text(one.size)}{each}{live}")
         if one.state in STATES:
             say(STATES[one.state])
         if one.unnamed:
             say(f"its stacks have no names: {one.unnamed}")
     if good:
-        say(f"next: facts {shell_word(good[0].path)}")
+        say(f"next: facts {shlex.quote(shown(good[0].path))}")
 
 
-def shell_word(text: str) -> str:
-    """A name as it is written in a shell."""
-    import shlex
-
-    return shlex.quote(os.path.relpath(text) if len(os.path.relpath(text)) < len(text) else text)
+def shown(path: str) -> str:
+    """A file's name as it is told: the shorter one, from here or from the root."""
+    return min(path, os.path.relpath(path), key=len)

@@ -180,7 +180,7 @@ func wait() {
 
 func environment() {
 	for _, one := range os.Environ() {
-		if strings.HasPrefix(one, "GOHEAP") {
+		if strings.HasPrefix(one, "GOHEAP_RECORD") {
 			fmt.Println(one)
 		}
 	}
