@@ -15,8 +15,8 @@ from typing import Dict, Iterable, Iterator, List, Sequence
 
 from goheap_tools import tool
 from goheap_tools.inside import recording as form
-from goheap_tools.inside.facts import Facts, Point, Sample, profiles
-from goheap_tools.inside.names import names_of, who
+from goheap_tools.inside.facts import Facts, Point, Sample, Sums, profiles
+from goheap_tools.inside.names import Names, names_of, who
 from goheap_tools.inside.recording import Recording
 from goheap_tools.tool import size_text
 
@@ -36,9 +36,16 @@ def options_of(words: Sequence[str]) -> argparse.Namespace:
     return parser.parse_args(words)
 
 
+def plain(value: float) -> str:
+    return f"{value:.0f}"
+
+
+def grouped(value: float) -> str:
+    return f"{value:,.0f}"
+
+
 def rows_of(points: Iterable[Point], is_plain: bool) -> Iterator[List[str]]:
-    size = str if is_plain else size_text
-    count = str if is_plain else "{:,}".format
+    size, count = (plain, plain) if is_plain else (size_text, grouped)
     yield ["mark end", *TITLES]
     for point in points:
         sums = point.sums
@@ -87,7 +94,7 @@ def closing(facts: Facts) -> Iterator[str]:
     yield sampled_text(facts, last)
 
 
-def sampled_text(facts: Facts, last) -> str:
+def sampled_text(facts: Facts, last: Sums) -> str:
     """What Go's own profile sampled."""
     if not facts.rate:
         return "Go's own heap profile was off.\n"
@@ -110,15 +117,15 @@ def by_function(samples: Iterable[Sample], labels: Dict[int, str]) -> List[List]
     return sorted(found.values(), key=lambda sums: (-sums[2], sums[0]))
 
 
-def profile_rows(facts: Facts, names, top: int, is_plain: bool) -> Iterator[List[str]]:
-    size = (lambda value: f"{value:.0f}") if is_plain else size_text
+def profile_rows(facts: Facts, names: Names, top: int, is_plain: bool) -> Iterator[List[str]]:
+    size, count = (plain, plain) if is_plain else (size_text, grouped)
     yield ["function", "objects", "bytes", "sampled", "estimated objects", "estimated bytes"]
     labels = {}
     for number, stack in facts.stacks.items():
         frames = who(names.frames(stack))
         labels[number] = frames[0].function if frames else "(no frames)"
     for label, objects, total, sampled, guess, guessed in by_function(profiles(facts), labels)[:top]:
-        yield [label, str(objects) if is_plain else f"{objects:,}", size(total), str(sampled), f"{guess:.0f}", size(guessed)]
+        yield [label, count(objects), size(total), count(sampled), count(guess), size(guessed)]
 
 
 def lines_of(recording: Recording, options: argparse.Namespace) -> Iterator[str]:

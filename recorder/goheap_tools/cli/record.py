@@ -13,19 +13,18 @@ import os
 import re
 import shutil
 import sys
-from typing import List, NamedTuple, Optional, Sequence
+from typing import List, NamedTuple, Sequence, Set, Union
 
 from goheap_tools import tool
 from goheap_tools.formats.program import READ_VERSIONS, Program
-from goheap_tools.inside import overlay, runner
+from goheap_tools.inside import overlay, runner, under_go
 from goheap_tools.inside.gocommand import GoCommand, is_go
 from goheap_tools.inside.kinds import Kind, kind_of, refusal
 from goheap_tools.inside.process import Running, told_status
 from goheap_tools.inside.progress import Progress
 from goheap_tools.inside.session import DEFAULT_SIZE, LEAST_SIZE, MOST_EVERY, MOST_SIZE, Asked, environment, make_way, output_for
-from goheap_tools.inside.summary import finish, tell
+from goheap_tools.inside.summary import Found, finish, tell
 
-HERE = os.path.dirname(os.path.dirname(os.path.dirname(os.path.abspath(__file__))))
 UNITS = {"": 1, "K": 1 << 10, "M": 1 << 20, "G": 1 << 30, "T": 1 << 40}
 # Options of a run that records itself, and those of the log, by whether a value follows.
 OWN = {"--size": True, "--from": True, "--every": True, "--keep-children": False}
@@ -76,7 +75,7 @@ def size_of(text: str) -> int:
     return value
 
 
-def begin_of(text: str):
+def begin_of(text: str) -> Union[int, str]:
     """A mark end, or the word for a signal."""
     if text == "signal":
         return text
@@ -146,7 +145,9 @@ def record_go(words: Sequence[str], options: argparse.Namespace) -> int:
 
 
 def run_go(command: GoCommand, prepared: str, asked: Asked, options: argparse.Namespace) -> int:
-    folder, taken, found = os.getcwd(), set(), []
+    folder = os.getcwd()
+    taken: Set[str] = set()
+    found: List[Found] = []
 
     def choose(program: str) -> str:
         """Each program of this go command has a file of its own."""
@@ -161,7 +162,7 @@ def run_go(command: GoCommand, prepared: str, asked: Asked, options: argparse.Na
         return output
 
     host = runner.Host(choose, lambda output, process: found.extend(finish(output, process)))
-    begin = [sys.executable, os.path.join(HERE, "record"), runner.WORD, host.name, *told_options(asked), "--"]
+    begin = [sys.executable, os.path.abspath(under_go.__file__), runner.WORD, host.name, *told_options(asked), "--"]
     running = Running(command.changed(prepared, begin), dict(os.environ))
     host.begin()
     progress = Progress(host.outputs, options.verbose)
@@ -236,7 +237,7 @@ def record_command(call: Words, options: argparse.Namespace) -> int:
         if of_log or "--log" in call.names:
             raise tool.Unusable(f"{of_log or '--log'} is for logs, and what a go command makes here records itself")
         return record_go(call.command, options)
-    if path is None:
+    if path is None or kind is None:
         raise FileNotFoundError(errno.ENOENT, os.strerror(errno.ENOENT), name)
     if (why := refusal(path, kind)) and not (kind is Kind.ELF and options.keep_children):
         raise tool.Unusable(why)

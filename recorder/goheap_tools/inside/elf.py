@@ -7,7 +7,7 @@ import mmap
 import os
 import struct
 from array import array
-from typing import Iterator, NamedTuple, Optional
+from typing import Dict, Iterator, NamedTuple, Optional, Tuple
 
 from goheap_tools import tool
 
@@ -38,17 +38,18 @@ class Elf:
         self.path = path
         with open(path, "rb") as file:
             size = os.fstat(file.fileno()).st_size
-            self.bytes = mmap.mmap(file.fileno(), 0, access=mmap.ACCESS_READ) if size else b""
+            if not size:
+                raise Damaged(f"{path}: no 64-bit little-endian ELF program: it is empty")
+            self.bytes = mmap.mmap(file.fileno(), 0, access=mmap.ACCESS_READ)
         if self.bytes[:6] != b"\x7fELF\x02\x01":
             raise Damaged(f"{path}: no 64-bit little-endian ELF program")
         self.is_anywhere = self.numbers("<H", 16)[0] == 3  # ET_DYN: the loader chooses its base
         self.parts = list(self.read_parts())
         self.sections = {part.name: part for part in self.read_sections()}
-        self.moved = None
+        self.moved: Optional[Dict[int, int]] = None
 
     def close(self) -> None:
-        if self.bytes:
-            self.bytes.close()
+        self.bytes.close()
 
     def numbers(self, form: str, offset: int) -> tuple:
         """The numbers of this form that stand at this offset of the file."""
@@ -106,7 +107,7 @@ class Elf:
             raise Damaged(f"{self.path}: nothing of the file stands at address {address:#x} of the program")
         return self.numbers("<Q", offset)[0]
 
-    def relocations(self) -> Iterator[tuple]:
+    def relocations(self) -> Iterator[Tuple[int, int]]:
         """Each word that holds an address, and that address."""
         section = self.sections.get(".rela.dyn") or self.sections.get(".rela")
         if section:

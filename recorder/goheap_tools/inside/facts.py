@@ -7,9 +7,8 @@ the heap as it stood then, but not how much was allocated and freed before: thos
 
 from array import array
 from bisect import bisect_right
-from collections import Counter
 from dataclasses import dataclass, field
-from typing import Dict, List, NamedTuple, Optional, Tuple
+from typing import Any, Callable, Counter, Dict, Iterator, List, NamedTuple, Optional, Tuple
 
 from goheap_tools import tool
 from goheap_tools.heap.classes import PAGE, SLOTS, slot_of
@@ -113,16 +112,14 @@ class Facts:
     def __init__(self, recording: Recording):
         self.header = recording.header
         self.path = recording.path
-        self.full: Counter = Counter()  # objects by their stack and size: size << 32 | stack
-        self.sampled: Counter = Counter()  # those that Go's own profile sampled
-        self.without_stack = 0
+        self.full: Counter[int] = Counter()  # objects by their stack and size: size << 32 | stack
+        self.sampled: Counter[int] = Counter()  # those that Go's own profile sampled
         self.left_out = 0  # events behind the first ticket that is missing
         self.rate = 0
         with Chunks(recording) as chunks:
             self.find_boundaries(chunks)
             self.stacks: Dict[int, Stack] = chunks.stacks
             self.parts = [Sums() for _ in range(len(self.boundaries) + 1)]
-            self.large: Dict[int, int] = {}
             for processor in chunks.by_processor:
                 self.go_through(chunks, chunks.by_processor[processor])
         self.points = list(self.sum_up())
@@ -130,7 +127,9 @@ class Facts:
     # The first time through: which tickets there are, and at which of them a part begins.
 
     def find_boundaries(self, chunks: Chunks) -> None:
-        tickets, self.boundaries, self.changes = array("Q"), [], []
+        tickets = array("Q")
+        self.boundaries: List[Any] = []
+        self.changes: List[form.Processors] = []
         for number in chunks.numbers:
             chunk = chunks.chunk(number)
             for piece in chunk.pieces():
@@ -206,7 +205,7 @@ class Facts:
 
     # The sums at each point.
 
-    def sum_up(self):
+    def sum_up(self) -> Iterator[Point]:
         total, processors, change = Sums(), 0, 0
         awaits_base = False
         total.add(self.parts[0])
@@ -298,7 +297,7 @@ def take_pages(event: form.Pages, sums: Sums) -> None:
     sums.grown += 512
 
 
-TAKERS = {
+TAKERS: Dict[int, Callable[[Any, Sums], None]] = {
     form.SWEEP: take_sweep, form.CUT: take_run, form.TAKE: take_run, form.GIVE: take_run, form.GROWTH: take_growth, form.SCAVENGED: take_scavenging,
     form.FLUSH: take_flush, form.SPAN: take_span, form.PAGES: take_pages,
 }  # fmt: skip

@@ -69,9 +69,10 @@ class GoCommand:
 
     def __init__(self, words: Sequence[str]):
         self.words = list(words)
-        self.go = shutil.which(words[0])
-        if self.go is None:
+        go = shutil.which(words[0])
+        if go is None:
             raise tool.Unusable(f"{words[0]}: no such command: is Go's bin folder on the path?")
+        self.go: str = go
         self.kind = words[1]
         self.flags = list(flags_of(words))
         self.values = {flag.name: flag.value for flag in self.flags}

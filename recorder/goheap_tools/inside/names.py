@@ -125,8 +125,7 @@ def behind(recording: Recording) -> Optional[Names]:
     if len(body) < length:
         raise tool.Unusable(f"{recording.path}: byte {begin + 16}: {length} bytes of names should stand here, and do not")
     try:
-        unpacker = zlib.decompressobj()
-        told = json.loads(unpacker.decompress(body, MOST_BYTES).decode("utf-8", "surrogateescape"))
+        told = json.loads(zlib.decompressobj().decompress(body, MOST_BYTES).decode("utf-8", "surrogateescape"))
         texts = told["texts"]
         frame = lambda function, file, line, identifier: (Frame(texts[function], texts[file], int(line)), int(identifier))
         places = {int(address, 16): tuple(frame(*one) for one in frames) for address, frames in told["places"].items()}

@@ -7,7 +7,7 @@ import time
 from typing import Callable, Dict, Optional, Sequence
 
 from goheap_tools import tool
-from goheap_tools.inside.recording import CHUNK_BYTES, COUNTS, EMPTY, LARGE, MARK_END
+from goheap_tools.inside.recording import CHUNK_BYTES, COUNTS, EMPTY, LARGE, MARK_END, Counts
 from goheap_tools.inside.scan import ROW, Chunk
 from goheap_tools.inside.session import MAGIC
 
@@ -32,27 +32,28 @@ class Counted:
         self.live: Optional[int] = None
         self.ticket = 0
 
-    def open(self) -> bool:
+    def open(self) -> Optional[mmap.mmap]:
+        """The file's bytes, where it was begun."""
         if self.map is None and os.path.exists(self.path) and os.path.getsize(self.path) >= CHUNK_BYTES:
             with open(self.path, "rb") as file:
                 self.map = mmap.mmap(file.fileno(), 0, access=mmap.ACCESS_READ)
-        return self.map is not None and self.map[:8] == MAGIC
+        return self.map if self.map is not None and self.map[:8] == MAGIC else None
 
     def look(self) -> int:
         """Takes in what was written since. Answers the bytes of the file that are used."""
-        if not self.open():
+        data = self.open()
+        if data is None:
             return 0
-        used = min(int.from_bytes(self.map[NEXT_CHUNK : NEXT_CHUNK + 8], "little"), len(self.map) // CHUNK_BYTES)
+        used = min(int.from_bytes(data[NEXT_CHUNK : NEXT_CHUNK + 8], "little"), len(data) // CHUNK_BYTES)
         first = max(self.chunk, used - MOST_CHUNKS)
         passed = first - self.chunk
         for number in range(first, used):
-            self.take(number)
+            self.take(number, data[number * CHUNK_BYTES : (number + 1) * CHUNK_BYTES])
         self.chunk = max(self.chunk, used)
         self.objects += passed * self.counted / (self.looked_at or 1)
         return used * CHUNK_BYTES
 
-    def take(self, number: int) -> None:
-        data = self.map[number * CHUNK_BYTES : (number + 1) * CHUNK_BYTES]
+    def take(self, number: int, data: bytes) -> None:
         chunk = Chunk(self.path, number, data)
         objects = 0
         try:
@@ -70,7 +71,7 @@ class Counted:
         self.counted += objects
         self.objects += objects
 
-    def take_counts(self, event) -> None:
+    def take_counts(self, event: Counts) -> None:
         if event.ticket > self.ticket:
             self.ticket, self.mark_ends, self.live = event.ticket, event.collections, event.allocated - event.freed
 

@@ -9,7 +9,7 @@ import os
 import secrets
 import socket
 import threading
-from typing import Dict, List, NamedTuple, Sequence
+from typing import Callable, Dict, List, NamedTuple, Sequence, TextIO
 
 from goheap_tools import tool
 from goheap_tools.inside.process import Running
@@ -29,7 +29,7 @@ class Ended(NamedTuple):
 class Host:
     """Who ran the go command. Answers the runners, each from a thread of its own."""
 
-    def __init__(self, choose, finish):
+    def __init__(self, choose: Callable[[str], str], finish: Callable[[str, int], None]):
         """`choose` answers the output for a program's name; `finish` is called with the output and the process when it has ended, while the
         program's file is still there: the go command takes it away behind that."""
         self.choose, self.finish = choose, finish
@@ -67,7 +67,7 @@ class Host:
             send(lines, {"output": output})
             self.follow(lines, program, output)
 
-    def follow(self, lines, program: str, output: str) -> None:
+    def follow(self, lines: TextIO, program: str, output: str) -> None:
         """From the program's beginning to its end."""
         process = json.loads(lines.readline())["process"]
         with self.lock:
@@ -94,7 +94,7 @@ class Host:
         self.server.close()
 
 
-def send(lines, what: dict) -> None:
+def send(lines: TextIO, what: dict) -> None:
     lines.write(json.dumps(what) + "\n")
     lines.flush()
 

@@ -5,9 +5,8 @@ told one by one.
 """
 
 import mmap
-import os
 import re
-from typing import Dict, Iterator, List, NamedTuple
+from typing import Any, Dict, Iterator, List, NamedTuple
 
 from goheap_tools import tool
 from goheap_tools.inside.recording import CHUNK_BYTES, READERS, Recording, Stack
@@ -30,7 +29,7 @@ class Chunk:
 
     def __init__(self, path: str, number: int, data: bytes):
         self.path, self.number, self.data = path, number, data
-        self.words = memoryview(data).cast("Q")
+        self.words: Any = memoryview(data).cast("Q")  # read as a list of integers is
         self.processor = self.words[0] >> 16
 
     def pieces(self, at: int = FIRST_BYTE) -> Iterator[Piece]:
@@ -58,7 +57,7 @@ class Chunk:
             raise tool.Unusable(f"{self.path}: byte {offset}: an event of kind {kind}, which is not known or goes over the end of its chunk")
         return length
 
-    def event(self, piece: Piece):
+    def event(self, piece: Piece) -> Any:
         """The event of a piece that is no row."""
         event = READERS[piece.kind].read(self.words, piece.at // 8, self.processor)
         if event is None:
@@ -81,7 +80,7 @@ class Chunks:
     def __enter__(self) -> "Chunks":
         return self
 
-    def __exit__(self, *_) -> None:
+    def __exit__(self, *_: object) -> None:
         self.map.close()
 
     def chunk(self, number: int) -> Chunk:

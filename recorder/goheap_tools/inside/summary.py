@@ -4,12 +4,11 @@ import glob
 import os
 import shlex
 import struct
-from collections import Counter
-from typing import Callable, Iterable, Iterator, List, NamedTuple, Optional
+from typing import Callable, Counter, Iterable, List, NamedTuple, Optional, Tuple
 
 from goheap_tools import tool
 from goheap_tools.inside import names
-from goheap_tools.inside.recording import CHUNK_BYTES, EMPTY, LARGE, MARK_END, RIDER, STACK, Damaged, Recording
+from goheap_tools.inside.recording import CHUNK_BYTES, EMPTY, LARGE, MARK_END, RIDER, STACK, Recording, Stack
 from goheap_tools.inside.scan import ROW, Chunks
 from goheap_tools.inside.session import PROCESS, writer_of
 
@@ -58,7 +57,7 @@ def finish_one(path: str, process: Optional[int]) -> Found:
             if process is not None and recording.header.process != process:
                 return Found(path, f"{shown(path)} was written by process {recording.header.process} at the same time, so that nothing was recorded of this run: name another file")
             return close(recording)
-    except (Damaged, tool.Unusable, OSError) as fault:
+    except (tool.Unusable, OSError) as fault:
         return Found(path, tool.told(fault))
 
 
@@ -81,9 +80,10 @@ def close(recording: Recording) -> Found:
     return found
 
 
-def sums(recording: Recording):
+def sums(recording: Recording) -> Tuple[Found, List[Stack]]:
     """What a recording has, and its stacks."""
-    kinds, mark_ends = Counter(), 0
+    kinds: Counter[int] = Counter()
+    mark_ends = 0
     last = None
     with Chunks(recording) as chunks:
         for number in chunks.numbers:

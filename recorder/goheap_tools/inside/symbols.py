@@ -5,9 +5,10 @@ where each function begins, and for each function, by the place in its code, the
 instruction belongs to. It is there in stripped programs too. Its form is that of Go 1.18 and 1.19, or of 1.20 and 1.21.
 """
 
+import mmap
 import struct
 from bisect import bisect_right
-from typing import Dict, List, NamedTuple, Tuple
+from typing import Dict, Iterable, Iterator, List, NamedTuple, Optional, Tuple, Union
 
 from goheap_tools.inside.elf import Damaged, Elf
 
@@ -113,7 +114,8 @@ class Symbols:
         self.functions: Dict[int, Function] = {}
         self.known: Dict[int, Tuple[Tuple[Frame, int], ...]] = {}
         self.names: Dict[int, str] = {}
-        self.calls = self.module = None
+        self.calls: Optional[int] = None
+        self.module: Optional[int] = None
 
     def name(self, at: int) -> str:
         """The name of a function, as Go prints it: of what a generic one was made for `[...]` alone."""
@@ -150,7 +152,7 @@ class Symbols:
         return Steps(ends, values)
 
     @staticmethod
-    def number(data, at: int) -> Tuple[int, int]:
+    def number(data: Union[bytes, mmap.mmap], at: int) -> Tuple[int, int]:
         """A number of seven bits a byte, and where it ends."""
         value = shift = 0
         while True:
@@ -189,7 +191,7 @@ class Symbols:
             raise Damaged(f"{self.elf.path}: the module's data of Go's runtime was not found, so that nothing tells what was inlined")
         return found[0]
 
-    def function_at(self, address: int):
+    def function_at(self, address: int) -> Optional[Tuple[Function, int]]:
         """The function that has its code there, and how far into it; nothing where no function of Go's is there."""
         offset = address - self.text
         at = bisect_right(self.entries, offset) - 1
@@ -215,23 +217,22 @@ class Symbols:
             found = self.known[address] = tuple(self.read_frames(address))
         return found
 
-    def read_frames(self, address: int):
+    def read_frames(self, address: int) -> Iterator[Tuple[Frame, int]]:
         found = self.function_at(address)
         if found is None:
             return
         function, place = found
-        index = function.inlined.at(place) if function.inlined else -1
-        while index >= 0:
+        inlined = function.inlined
+        while inlined and (index := inlined.at(place)) >= 0:
             call = self.form.call
             identifier, name, parent = call.unpack(self.elf.slice(self.calls_at() + function.tree + index * call.size, call.size))
             yield Frame(self.name(name), self.file(function, place), function.lines.at(place)), identifier
             if parent == place:
                 return
             place = parent
-            index = function.inlined.at(place)
         yield Frame(function.name, self.file(function, place), function.lines.at(place)), function.identifier
 
-    def stack(self, addresses) -> Tuple[Frame, ...]:
+    def stack(self, addresses: Iterable[int]) -> Tuple[Frame, ...]:
         """The frames of a stack of return addresses, the innermost first, without the wrappers that the compiler wrote, as Go shows them. A
         call ends before its return address; a fault is at it."""
         shown, last = [], None
