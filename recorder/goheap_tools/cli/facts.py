@@ -66,10 +66,17 @@ def table(rows: Iterable[List[str]], is_plain: bool) -> Iterator[str]:
         yield "  ".join([row[0].ljust(widths[0]), *(field.rjust(width) for field, width in zip(row[1:], widths[1:]))]).rstrip() + "\n"
 
 
+def time_text(seconds: float) -> str:
+    """A time of the wall's clock, in this place's zone."""
+    try:
+        return time.strftime("%Y-%m-%d %H:%M:%S", time.localtime(seconds))
+    except (OverflowError, ValueError, OSError):
+        return "at no time that there is"
+
+
 def heading(facts: Facts, size: int) -> Iterator[str]:
     header = facts.header
-    wall = time.strftime("%Y-%m-%d %H:%M:%S", time.localtime(header.wall))
-    yield f"{header.program or 'a program without a name'}, {header.go_version}, process {header.process}, begun {wall}\n"
+    yield f"{header.program or 'a program without a name'}, {header.go_version}, process {header.process}, begun {time_text(header.wall)}\n"
     total = facts.points[-1].sums if facts.points else None
     if total is None:
         yield "Nothing was recorded.\n"

@@ -144,6 +144,8 @@ class Facts:
         self.missing = first_missing(self.path, tickets)
         self.boundaries = sorted((event for event in self.boundaries if event.ticket < self.missing), key=lambda event: event.ticket)
         self.changes = sorted((event for event in self.changes if event.ticket < self.missing), key=lambda event: event.ticket)
+        if self.missing > 1 and not (self.boundaries and type(self.boundaries[0]) is form.Begin and self.boundaries[0].ticket == 1):
+            raise tool.Unusable(f"{self.path}: the event with ticket 1 is no beginning of a recording")
         self.begins = [event.ticket for event in self.boundaries]
         self.rate = next((event.rate for event in reversed(self.boundaries) if type(event) is form.Counts), 0)
 
@@ -160,11 +162,13 @@ class Facts:
             chunk = chunks.chunk(number)
             for piece in chunk.pieces():
                 if piece.kind >= FIRST_TICKETED:
-                    ticket = chunk.words[piece.at // 8 + 1]
+                    before, ticket = ticket, chunk.words[piece.at // 8 + 1]
+                    if not before < ticket < self.header.next_ticket:
+                        chunk.refuse(piece.at, f"ticket {ticket} does not rise, or was never drawn")
                     if ticket >= end:
                         part = bisect_right(self.begins, ticket)
                         end = self.begins[part] if part < len(self.begins) else 1 << 64
-                if ticket >= self.missing:
+                if max(ticket, 1) >= self.missing:
                     self.left_out += (piece.end - piece.at) // 16 if piece.kind == ROW else piece.kind != form.STACK
                 elif self.is_recorded(part):
                     self.take(chunk, piece, self.parts[part])

@@ -6,7 +6,7 @@ told one by one.
 
 import mmap
 import re
-from typing import Any, Dict, Iterator, List, NamedTuple
+from typing import Any, Dict, Iterator, List, NamedTuple, NoReturn
 
 from goheap_tools import tool
 from goheap_tools.inside.recording import CHUNK_BYTES, READERS, Recording, Stack
@@ -51,18 +51,24 @@ class Chunk:
     def length(self, kind: int, at: int) -> int:
         """The words of the event that begins at this word."""
         reader = READERS.get(kind)
-        length = reader.length(self.words, at) if reader and at + reader.least <= CHUNK_WORDS else CHUNK_WORDS + 1
+        if reader is None:
+            self.refuse(8 * at, f"an event of kind {kind}, which is not known")
+        length = reader.length(self.words, at) if at + reader.least <= CHUNK_WORDS else CHUNK_WORDS + 1
         if at + length > CHUNK_WORDS:
-            offset = self.number * CHUNK_BYTES + 8 * at
-            raise tool.Unusable(f"{self.path}: byte {offset}: an event of kind {kind}, which is not known or goes over the end of its chunk")
+            self.refuse(8 * at, f"an event of kind {kind} goes over the end of its chunk")
+        if self.data[8 * at + 1] & ~reader.flags:
+            self.refuse(8 * at, f"an event of kind {kind} has a flag that it cannot have")
         return length
+
+    def refuse(self, at: int, why: str) -> NoReturn:
+        """What is wrong at this byte of the chunk."""
+        raise tool.Unusable(f"{self.path}: byte {self.number * CHUNK_BYTES + at}: {why}")
 
     def event(self, piece: Piece) -> Any:
         """The event of a piece that is no row."""
         event = READERS[piece.kind].read(self.words, piece.at // 8, self.processor)
         if event is None:
-            offset = self.number * CHUNK_BYTES + piece.at
-            raise tool.Unusable(f"{self.path}: byte {offset}: an event of kind {piece.kind} has a number that it cannot have")
+            self.refuse(piece.at, f"an event of kind {piece.kind} has a number that it cannot have")
         return event
 
 
