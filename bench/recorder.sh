@@ -1,17 +1,29 @@
 #!/usr/bin/env bash
-# recorder.sh [REQUESTS]: what recording costs. First, of programs that record themselves: their processor time beside the same programs plain, run in
-# turns, and the bytes of their recordings (recorder.py). Then, of the log, on the HTTP server of examples/programs/server: the time of a plain run
-# beside one that writes its log, the log's bytes an allocation, and how many megabytes of that log `record` reads in a second of processor time, by the
-# median of five runs, beside `wc -l`. Needs a Go of 1.19 to 1.21 (GO names it; default: go).
+# recorder.sh [REQUESTS]: what recording costs. First the programs that record themselves beside the same ones plain, by processor time
+# (recorder.py): gofmt, a server with eight clients, and a program that only allocates small objects, on one processor and on four. Then
+# the HTTP server of examples/programs/server: how many seconds of it fit into a recording of 1 GB; and by its log, the time beside a plain
+# run, the log's bytes an allocation, and how many megabytes of it `record` reads in a second of processor time, by the median of five runs,
+# beside `wc -l`. Needs a Go of 1.19 to 1.21 (GO names it; default: go).
 set -eu
 
 cd "$(dirname "$(readlink -f "$0")")/.."
 requests=${1:-500}
 go=${GO:-go}
-python3 bench/recorder.py "$go"
 folder=$(mktemp -d)
 trap 'rm -rf "$folder"' EXIT
+python3 bench/recorder.py "$go"
 (cd examples/programs/server && "$go" build -o "$folder/server" .)
+(cd examples/programs/server && ../../../recorder/record -- "$go" build -o "$folder/recorded" .)
+
+# How long the server runs, in seconds of a clock, and what its recording takes.
+begin=${EPOCHREALTIME/./}
+recorder/record -o "$folder/server.heap" -- "$folder/recorded" -requests $((20 * requests)) 2>"$folder/said" >"$folder/out"
+ran=$((${EPOCHREALTIME/./} - begin))
+used=$(python3 -c 'import struct, sys; print(struct.unpack_from("<Q", open(sys.argv[1], "rb").read(40), 32)[0] << 16)' "$folder/server.heap")
+awk -v ran="$ran" -v used="$used" -v requests=$((20 * requests)) 'BEGIN {
+  printf "the server, one client, %d requests: %.1f s and %.1f MB of recording; %.0f s and %d requests fit into 1 GB\n", requests, ran / 1e6, used / 1e6,
+    ran / 1e6 * 1e9 / used, requests * 1e9 / used
+}'
 
 # seconds WORDS: the processor seconds of a command, its own and the system's.
 seconds() {
