@@ -7,6 +7,7 @@ the heap as it stood then, but not how much was allocated and freed before: thos
 
 from array import array
 from bisect import bisect_right
+from collections import defaultdict
 from dataclasses import dataclass, field
 from typing import Any, Callable, Counter, Dict, Iterator, List, NamedTuple, Optional, Tuple
 
@@ -120,8 +121,11 @@ class Facts:
             self.find_boundaries(chunks)
             self.stacks: Dict[int, Stack] = chunks.stacks
             self.parts = [Sums() for _ in range(len(self.boundaries) + 1)]
+            self.objects: List[Dict[int, Counter[int]]] = [defaultdict(Counter) for _ in self.parts]
             for processor in chunks.by_processor:
                 self.go_through(chunks, chunks.by_processor[processor])
+        for part in range(len(self.parts)):
+            self.take_objects(part)
         self.points = list(self.sum_up())
 
     # The first time through: which tickets there are, and at which of them a part begins.
@@ -171,41 +175,43 @@ class Facts:
                 if max(ticket, 1) >= self.missing:
                     self.left_out += (piece.end - piece.at) // 16 if piece.kind == ROW else piece.kind != form.STACK
                 elif self.is_recorded(part):
-                    self.take(chunk, piece, self.parts[part])
+                    self.take(chunk, piece, part)
 
-    def take(self, chunk: Chunk, piece: Piece, sums: Sums) -> None:
+    def take(self, chunk: Chunk, piece: Piece, part: int) -> None:
         if piece.kind == ROW:
-            self.take_row(chunk, piece, sums)
+            self.take_row(chunk.data[piece.at : piece.end], self.objects[part])
         elif piece.kind == form.LARGE:
-            self.take_large(chunk.event(piece), sums)
+            event = chunk.event(piece)
+            self.objects[part][form.LARGE | event.flags << 8][event.size << 32 | event.stack] += 1
         elif piece.kind in TAKERS:
-            TAKERS[piece.kind](chunk.event(piece), sums)
+            TAKERS[piece.kind](chunk.event(piece), self.parts[part])
 
-    def take_row(self, chunk: Chunk, piece: Piece, sums: Sums) -> None:
-        row = chunk.data[piece.at : piece.end]
-        kinds, flags = row[::16], row[1::16]
-        words = array("Q", row)[1::2]
-        self.full.update(words)
-        if any(flags.count(flag) for flag in SAMPLED_FLAGS):
-            self.sampled.update(word for word, flag in zip(words, flags) if flag & form.SAMPLED)
-        for (kind, flag, size), count in Counter(zip(kinds, flags, array("I", row)[3::4])).items():
+    def take_row(self, row: bytes, objects: Dict[int, Counter[int]]) -> None:
+        """Counts a row's objects by kind and flags, which most rows have the same of all, and by size and stack."""
+        heads, words = array("H", row)[::8], array("Q", row)[1::2]
+        if heads.count(heads[0]) == len(heads):
+            objects[heads[0]].update(words)
+        else:
+            for head in set(heads):
+                objects[head].update(word for one, word in zip(heads, words) if one == head)
+
+    def take_objects(self, part: int) -> None:
+        """The sums of a part's objects, which are counted by what is the same of them: kind and flags, and size and stack."""
+        sums = self.parts[part]
+        for head, word, count in ((head, word, count) for head, words in self.objects[part].items() for word, count in words.items()):
+            kind, flags, size = head & 255, head >> 8, word >> 32
+            self.full[word] += count
             if kind == form.EMPTY:
                 sums.empty += count
                 continue
             sums.mallocs += count
-            sums.allocated += count * slot_bytes(kind, flag, size)
-            sums.sampled += count if flag & form.SAMPLED else 0
+            sums.allocated += count * slot_bytes(kind, flags, size)
+            if flags & form.SAMPLED:
+                sums.sampled += count
+                self.sampled[word] += count
             if kind == form.RIDER:
                 sums.riders += count
                 sums.frees += count
-
-    def take_large(self, event: form.Object, sums: Sums) -> None:
-        sums.mallocs += 1
-        sums.allocated += slot_bytes(form.LARGE, 0, event.size)
-        self.full[event.size << 32 | event.stack] += 1
-        if event.flags & form.SAMPLED:
-            sums.sampled += 1
-            self.sampled[event.size << 32 | event.stack] += 1
 
     # The sums at each point.
 
@@ -305,7 +311,6 @@ TAKERS: Dict[int, Callable[[Any, Sums], None]] = {
     form.SWEEP: take_sweep, form.CUT: take_run, form.TAKE: take_run, form.GIVE: take_run, form.GROWTH: take_growth, form.SCAVENGED: take_scavenging,
     form.FLUSH: take_flush, form.SPAN: take_span, form.PAGES: take_pages,
 }  # fmt: skip
-SAMPLED_FLAGS = [flags for flags in range(16) if flags & form.SAMPLED]
 
 
 # Go's own profile beside the full one.

@@ -13,7 +13,7 @@ from goheap_tools.inside.recording import CHUNK_BYTES, READERS, Recording, Stack
 
 ROW = 0  # the kind of a row of allocations, in what `walk` answers
 # Allocations of two words: kinds 1 to 3, each with its flags.
-ALLOCATIONS = re.compile(rb"(?:[\x01-\x03][\x00-\x0f][\s\S]{14})++")
+ALLOCATIONS = re.compile(rb"(?:[\x01-\x03][\x00-\x0f].{14})++", re.DOTALL)
 FIRST_BYTE = 32
 CHUNK_WORDS = CHUNK_BYTES // 8
 
