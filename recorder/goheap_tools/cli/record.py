@@ -217,7 +217,7 @@ def wants_log(call: Words) -> bool:
     if not call.command:
         return "--log" in call.names or not ({"--show", "--overlay", "--help", "-h"} & set(call.names)) and not (sys.stdin and sys.stdin.isatty())
     name = call.command[0]
-    return name == "-" or os.path.isfile(name) and not os.access(name, os.X_OK) and kind_of(name) in (Kind.OTHER, Kind.PACKED) and refusal(name, kind_of(name)) is None
+    return name == "-" or os.path.isfile(name) and not os.access(name, os.X_OK) and kind_of(name) in (Kind.OTHER, Kind.LOG) and refusal(name, kind_of(name)) is None
 
 
 def overlay_words(call: Words, options: argparse.Namespace) -> int:
@@ -259,13 +259,13 @@ def main(words: Sequence[str]) -> int:
     call = taken_apart(words)
     if wants_log(call):
         return by_log([word for word in words if word != "--log"])
-    is_of_log = any(name in OF_LOG for name in call.names)
-    options = options_of([] if is_of_log else call.options)
+    if {"--help", "-h"} & set(call.names):
+        options_of(["--help"])
+    options = options_of([] if any(name in OF_LOG for name in call.names) else call.options)
     if options.show or options.overlay:
         return overlay_words(call, options)
     if not call.command:
-        options_of(["--help"]) if not call.is_told else None
-        raise tool.Unusable("no program stands behind --")
+        raise tool.Unusable("no program stands behind --" if call.is_told else "name a go command, a program or a log (record --help)")
     return record_command(call, options)
 
 

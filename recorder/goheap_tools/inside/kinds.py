@@ -5,12 +5,14 @@ import os
 from typing import Optional
 
 from goheap_tools import tool
+from goheap_tools.formats.packed import OPENERS
 from goheap_tools.formats.program import BUILD_INFORMATION
 from goheap_tools.inside.elf import Damaged, Elf
 from goheap_tools.inside.overlay import MARKER
 from goheap_tools.inside.session import MAGIC
 
-PACKED = {b"\x1f\x8b": "gzip", b"\xfd7zXZ\x00": "xz", b"(\xb5/\xfd": "zstd", b"BZh": "bzip2"}
+# How else a file may be packed than logs are that are read.
+PACKED = {b"(\xb5/\xfd": "zstd", b"BZh": "bzip2", b"PK\x03\x04": "zip"}
 
 
 class Kind(enum.Enum):
@@ -19,7 +21,8 @@ class Kind(enum.Enum):
     ELF = "a program, but not of Go"
     SCRIPT = "a script"
     RECORDING = "a recording"
-    PACKED = "packed"
+    LOG = "a log, packed or not"
+    PACKED = "packed as no log is read"
     OTHER = "none of these"
 
 
@@ -32,6 +35,8 @@ def kind_of(path: str) -> Kind:
         return Kind.SCRIPT
     if head.startswith(MAGIC):
         return Kind.RECORDING
+    if any(head.startswith(front) for front in (*OPENERS, b"tracealloc(")):
+        return Kind.LOG
     return Kind.PACKED if any(head.startswith(front) for front in PACKED) else Kind.OTHER
 
 
@@ -54,6 +59,8 @@ def refusal(path: str, kind: Kind) -> Optional[str]:
         return f"{path} is a recording: `facts {path}` shows what is in it"
     if kind is Kind.ELF:
         return f"{path} is no Go program, so that there is nothing of Go's heap in it: name the Go program itself"
+    if kind is Kind.PACKED:
+        return f"{path} is packed, and not by gzip or xz, by which logs are read: unpack it first"
     if kind is Kind.OTHER:
         with open(path, encoding="utf-8", errors="replace") as file:
             found = tool.kind_of(file.readline(4096))

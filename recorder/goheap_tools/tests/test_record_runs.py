@@ -237,6 +237,20 @@ class Ends(Runs):
             self.assertGreater(facts.points[-1].sums.mallocs, 5_000)
             self.assertIn("main.keep", self.functions("x.heap", facts).values())
 
+    def test_a_file_system_without_room(self):
+        place = self.path("small")
+        os.mkdir(place)
+        if subprocess.run(["mount", "-t", "tmpfs", "-o", "size=640k", "tmpfs", place], capture_output=True).returncode:
+            self.skipTest("no small file system can be mounted here: only root may, where it may at all")
+        self.addCleanup(subprocess.run, ["umount", place], check=True)
+        for version in toolchains():
+            ran = self.record("-o", "small/x.heap", "--", recorded(version, "modes"), "counts")
+            self.assertEqual((ran.returncode, ran.stdout.count("mallocs")), (0, 17), ran.stderr)
+            self.assertIn("the file system had no room left, and the recording is whole up to there", ran.stderr)
+            facts = self.facts("small/x.heap")
+            self.assertEqual(facts.header.state, 2)
+            self.assertGreater(facts.points[-1].sums.mallocs, 5_000)
+
     def test_two_programs_on_one_file(self):
         program = recorded(max(toolchains()), "modes")
         first = self.start("-o", "x.heap", "--", program, "wait")
