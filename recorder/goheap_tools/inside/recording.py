@@ -11,7 +11,6 @@ A recording that is foreign or damaged is refused by `Damaged`, which says what 
 from __future__ import annotations
 
 import heapq
-import mmap
 import os
 from collections.abc import Iterator
 from dataclasses import dataclass
@@ -74,18 +73,29 @@ class Recording:
         self.path = os.fspath(path)
         self.missing: int | None = None
         self.left_out = 0
-        with open(self.path, "rb") as file:
-            length = os.fstat(file.fileno()).st_size
+        self._file = open(self.path, "rb", buffering=0)
+        try:
+            length = os.fstat(self._file.fileno()).st_size
             if length < CHUNK_BYTES:
                 raise Damaged(f"{self.path}: no recording: {length} bytes, and its first chunk has {CHUNK_BYTES}")
-            self._map = mmap.mmap(file.fileno(), 0, access=mmap.ACCESS_READ)
-        self.header = self._read_header()
-        if length % CHUNK_BYTES:
-            self._refuse(length, f"the file ends within a chunk of {CHUNK_BYTES} bytes")
-        self.chunks = self._read_chunks(length // CHUNK_BYTES)
+            self.header = self._read_header()
+            if length % CHUNK_BYTES:
+                self._refuse(length, f"the file ends within a chunk of {CHUNK_BYTES} bytes")
+            self.chunks = self._read_chunks(length // CHUNK_BYTES)
+        except BaseException:
+            self._file.close()
+            raise
 
     def close(self) -> None:
-        self._map.close()
+        self._file.close()
+
+    def bytes(self, begin: int, size: int) -> bytes:
+        """So many bytes of the file. It is not mapped: where the file system has no room for a hole of the file, or another process cuts it
+        meanwhile, looking at a map would end this one by a signal."""
+        found = os.pread(self._file.fileno(), size, begin)
+        if len(found) < size:
+            self._refuse(begin + len(found), "the file ends here, and is shorter than it was")
+        return found
 
     def __enter__(self) -> Recording:
         return self
@@ -182,7 +192,7 @@ class Recording:
     def _chunk(self, number: int, wanted) -> Iterator[Any]:
         """The wanted events of a chunk."""
         begin = number * CHUNK_BYTES
-        words = memoryview(self._map)[begin : begin + CHUNK_BYTES].cast("Q").tolist()
+        words = memoryview(self.bytes(begin, CHUNK_BYTES)).cast("Q").tolist()
         processor = words[0] >> 16
         at, all_objects = FIRST_EVENT, wanted(OBJECT)
         while at < CHUNK_WORDS:
@@ -212,7 +222,7 @@ class Recording:
             at += length
 
     def _read_header(self) -> Header:
-        words = memoryview(self._map)[:CHUNK_BYTES].cast("Q").tolist()
+        words = memoryview(self.bytes(0, CHUNK_BYTES)).cast("Q").tolist()
         if words[0] != MAGIC:
             self._refuse(0, "no recording: it does not begin with goheaprc")
         if words[1] != VERSION:
@@ -224,7 +234,7 @@ class Recording:
         for at in (*range(22, 32), *range(304, CHUNK_WORDS)):
             if words[at]:
                 self._refuse(8 * at, "a word of the header that should be 0 is not")
-        text = bytes(self._map[256:2432])
+        text = self.bytes(256, 2432 - 256)
         return Header(
             process=words[3], next_chunk=words[4], next_ticket=words[5], stacks_written=words[6], state=words[7],
             size=words[8], text=(words[9], words[10]), types=(words[11], words[12]), clock=words[13],
@@ -253,7 +263,7 @@ class Recording:
         return chunks
 
     def _word(self, at: int) -> int:
-        return int.from_bytes(self._map[8 * at : 8 * at + 8], "little")
+        return int.from_bytes(self.bytes(8 * at, 8), "little")
 
     def _refuse_event(self, offset: int, first: int, end: int) -> NoReturn:
         kind = first & 255
