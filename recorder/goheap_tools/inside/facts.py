@@ -117,13 +117,13 @@ class Facts:
         self.sampled: Counter[int] = Counter()  # those that Go's own profile sampled
         self.left_out = 0  # events behind the first ticket that is missing
         self.rate = 0
-        with Chunks(recording) as chunks:
-            self.find_boundaries(chunks)
-            self.stacks: Dict[int, Stack] = chunks.stacks
-            self.parts = [Sums() for _ in range(len(self.boundaries) + 1)]
-            self.objects: List[Dict[int, Counter[int]]] = [defaultdict(Counter) for _ in self.parts]
-            for processor in chunks.by_processor:
-                self.go_through(chunks, chunks.by_processor[processor])
+        chunks = Chunks(recording)
+        self.find_boundaries(chunks)
+        self.stacks: Dict[int, Stack] = chunks.stacks
+        self.parts = [Sums() for _ in range(len(self.boundaries) + 1)]
+        self.objects: List[Dict[int, Counter[int]]] = [defaultdict(Counter) for _ in self.parts]
+        for numbers in chunks.by_processor.values():
+            self.go_through(chunks, numbers)
         for part in range(len(self.parts)):
             self.take_objects(part)
         self.points = list(self.sum_up())

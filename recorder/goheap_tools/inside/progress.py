@@ -1,6 +1,5 @@
 """One line on how far a recording is, while the program runs."""
 
-import mmap
 import os
 import sys
 import time
@@ -23,7 +22,6 @@ class Counted:
 
     def __init__(self, path: str):
         self.path = path
-        self.map: Optional[mmap.mmap] = None
         self.chunk = 1  # the next one to look at
         self.objects = 0.0
         self.looked_at = 0  # chunks
@@ -32,23 +30,23 @@ class Counted:
         self.live: Optional[int] = None
         self.ticket = 0
 
-    def open(self) -> Optional[mmap.mmap]:
-        """The file's bytes, where it was begun."""
-        if self.map is None and os.path.exists(self.path) and os.path.getsize(self.path) >= CHUNK_BYTES:
-            with open(self.path, "rb") as file:
-                self.map = mmap.mmap(file.fileno(), 0, access=mmap.ACCESS_READ)
-        return self.map if self.map is not None and self.map[:8] == MAGIC else None
-
     def look(self) -> int:
-        """Takes in what was written since. Answers the bytes of the file that are used."""
-        data = self.open()
-        if data is None:
+        """Takes in what was written since. Answers the bytes of the file that are used; 0 where it was not begun."""
+        try:
+            with open(self.path, "rb", buffering=0) as file:
+                return self.look_at(file.fileno(), os.fstat(file.fileno()).st_size // CHUNK_BYTES)
+        except FileNotFoundError:
             return 0
-        used = min(int.from_bytes(data[NEXT_CHUNK : NEXT_CHUNK + 8], "little"), len(data) // CHUNK_BYTES)
+
+    def look_at(self, file: int, chunks: int) -> int:
+        head = os.pread(file, NEXT_CHUNK + 8, 0)
+        if head[:8] != MAGIC:
+            return 0
+        used = min(int.from_bytes(head[NEXT_CHUNK:], "little"), chunks)
         first = max(self.chunk, used - MOST_CHUNKS)
         passed = first - self.chunk
         for number in range(first, used):
-            self.take(number, data[number * CHUNK_BYTES : (number + 1) * CHUNK_BYTES])
+            self.take(number, os.pread(file, CHUNK_BYTES, number * CHUNK_BYTES).ljust(CHUNK_BYTES, b"\0"))
         self.chunk = max(self.chunk, used)
         self.objects += passed * self.counted / (self.looked_at or 1)
         return used * CHUNK_BYTES

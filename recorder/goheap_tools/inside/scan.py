@@ -4,7 +4,6 @@ Most events are allocations of two words, and stand in rows: one search finds wh
 told one by one.
 """
 
-import mmap
 import re
 from typing import Any, Dict, Iterator, List, NamedTuple, NoReturn
 
@@ -78,19 +77,11 @@ class Chunks:
     def __init__(self, recording: Recording):
         self.recording, self.path = recording, recording.path
         self.stacks: Dict[int, Stack] = {}
-        with open(recording.path, "rb") as file:
-            self.map = mmap.mmap(file.fileno(), 0, access=mmap.ACCESS_READ)
         self.numbers: List[int] = sorted(number for numbers in recording.chunks.values() for number in numbers)
         self.by_processor = recording.chunks
 
-    def __enter__(self) -> "Chunks":
-        return self
-
-    def __exit__(self, *_: object) -> None:
-        self.map.close()
-
     def chunk(self, number: int) -> Chunk:
-        return Chunk(self.path, number, self.map[number * CHUNK_BYTES : (number + 1) * CHUNK_BYTES])
+        return Chunk(self.path, number, self.recording.bytes(number * CHUNK_BYTES, CHUNK_BYTES))
 
     def take_stack(self, chunk: Chunk, piece: Piece) -> None:
         """Takes the stack that is told there in with those before, whose outer frames it may share."""

@@ -62,22 +62,26 @@ def finish_one(path: str, process: Optional[int]) -> Found:
 
 
 def close(recording: Recording) -> Found:
-    """Sums a recording up, and closes its file."""
+    """Sums a recording up, and closes its file: what was never used is cut off, and the names come behind the rest, where there is room for them."""
     found, stacks = sums(recording)
-    try:
-        known = names.from_program(recording, recording.header.program, stacks)
-        tail = names.packed(known)
-    except (OSError, tool.Unusable) as fault:
-        tail, found = b"", found._replace(unnamed=tool.told(fault))
     chunks = found.size // CHUNK_BYTES
-    with open(recording.path, "r+b") as file:
+    with open(recording.path, "r+b", buffering=0) as file:
         if recording.header.next_chunk != chunks:  # it was full, and the counter ran on
-            file.seek(32)
-            file.write(struct.pack("<Q", chunks))
+            os.pwrite(file.fileno(), struct.pack("<Q", chunks), 32)
         file.truncate(found.size)
-        file.seek(found.size)
-        file.write(tail)
+        try:
+            tail = names.packed(names.from_program(recording, recording.header.program, stacks))
+            write_all(file.fileno(), tail, found.size)
+        except (OSError, tool.Unusable) as fault:
+            file.truncate(found.size)
+            return found._replace(unnamed=tool.told(fault))
     return found
+
+
+def write_all(file: int, data: bytes, at: int) -> None:
+    while data:
+        written = os.pwrite(file, data, at)
+        data, at = data[written:], at + written
 
 
 def sums(recording: Recording) -> Tuple[Found, List[Stack]]:
@@ -85,20 +89,20 @@ def sums(recording: Recording) -> Tuple[Found, List[Stack]]:
     kinds: Counter[int] = Counter()
     mark_ends = 0
     last = None
-    with Chunks(recording) as chunks:
-        for number in chunks.numbers:
-            chunk = chunks.chunk(number)
-            for piece in chunk.pieces():
-                if piece.kind == ROW:
-                    kinds.update(chunk.data[piece.at : piece.end : 16])
-                elif piece.kind == LARGE:
-                    kinds[LARGE] += 1
-                elif piece.kind == STACK:
-                    chunks.take_stack(chunk, piece)
-                elif piece.kind == MARK_END:
-                    mark_ends += 1
-                    event = chunk.event(piece)
-                    last = event if last is None or event.ticket > last.ticket else last
+    chunks = Chunks(recording)
+    for number in chunks.numbers:
+        chunk = chunks.chunk(number)
+        for piece in chunk.pieces():
+            if piece.kind == ROW:
+                kinds.update(chunk.data[piece.at : piece.end : 16])
+            elif piece.kind == LARGE:
+                kinds[LARGE] += 1
+            elif piece.kind == STACK:
+                chunks.take_stack(chunk, piece)
+            elif piece.kind == MARK_END:
+                mark_ends += 1
+                event = chunk.event(piece)
+                last = event if last is None or event.ticket > last.ticket else last
     stacks = list(chunks.stacks.values())
     length = os.path.getsize(recording.path) // CHUNK_BYTES
     size = min(recording.header.next_chunk, length) * CHUNK_BYTES
@@ -121,7 +125,7 @@ def tell(found: Iterable[Found], say: Callable[[str], None]) -> None:
         if one.state in STATES:
             say(STATES[one.state])
         if one.unnamed:
-            say(f"its stacks have no names: {one.unnamed}")
+            say(f"the names of its stacks are not in the file: {one.unnamed}")
     if good:
         say(f"next: facts {shlex.quote(shown(good[0].path))}")
 
