@@ -4,10 +4,12 @@ They speak through a socket without a file, a line of JSON each way: the runner 
 its process, so that signals can be handed to it; at the end its status.
 """
 
+import contextlib
 import json
 import os
 import secrets
 import socket
+import struct
 import threading
 from typing import Callable, Dict, List, NamedTuple, Sequence, TextIO
 
@@ -55,8 +57,12 @@ class Host:
             threading.Thread(target=self.answer, args=(connection,), daemon=True).start()
 
     def answer(self, connection: socket.socket) -> None:
+        """Speaks with a runner, which has to be of the same user: such a socket has no permissions of its own."""
         with connection, connection.makefile("rw") as lines:
-            program = json.loads(lines.readline())["program"]
+            told = lines.readline() if is_ours(connection) else ""
+            if not told:
+                return
+            program = json.loads(told)["program"]
             try:
                 with self.lock:
                     output = self.choose(program)
@@ -69,7 +75,10 @@ class Host:
 
     def follow(self, lines: TextIO, program: str, output: str) -> None:
         """From the program's beginning to its end."""
-        process = json.loads(lines.readline())["process"]
+        begun = lines.readline()
+        if not begun:
+            return  # the program could not be begun, which the runner has said
+        process = json.loads(begun)["process"]
         with self.lock:
             self.processes[output] = process
         told = json.loads(lines.readline() or '{"status": 255}')
@@ -80,7 +89,8 @@ class Host:
             except (tool.Unusable, OSError) as fault:
                 self.faults.append(tool.told(fault))
             self.ended.append(Ended(program, output, told["status"]))
-        send(lines, {})
+        with contextlib.suppress(BrokenPipeError):
+            send(lines, {})
 
     def running(self) -> List[int]:
         with self.lock:
@@ -92,6 +102,12 @@ class Host:
 
     def close(self) -> None:
         self.server.close()
+
+
+def is_ours(connection: socket.socket) -> bool:
+    """Whether who is at the other end is of this user."""
+    _, user, _ = struct.unpack("3i", connection.getsockopt(socket.SOL_SOCKET, socket.SO_PEERCRED, struct.calcsize("3i")))
+    return user == os.getuid()
 
 
 def send(lines: TextIO, what: dict) -> None:
