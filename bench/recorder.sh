@@ -15,14 +15,13 @@ python3 bench/recorder.py "$go"
 (cd examples/programs/server && "$go" build -o "$folder/server" .)
 (cd examples/programs/server && ../../../recorder/record -- "$go" build -o "$folder/recorded" .)
 
-# How long the server runs, in seconds of a clock, and what its recording takes.
-begin=${EPOCHREALTIME/./}
-recorder/record -o "$folder/server.heap" -- "$folder/recorded" -requests $((20 * requests)) 2>"$folder/said" >"$folder/out"
-ran=$((${EPOCHREALTIME/./} - begin))
-used=$(python3 -c 'import struct, sys; print(struct.unpack_from("<Q", open(sys.argv[1], "rb").read(40), 32)[0] << 16)' "$folder/server.heap")
+# What a second of the server takes in a recording: it ends in a collection, which tells when that was.
+recorder/record -o "$folder/server.heap" -- "$folder/recorded" -requests $((20 * requests)) >"$folder/out" 2>&1
+ran=$(recorder/facts --csv "$folder/server.heap" | awk -F, '$1 + 0 { at = $2 } END { print at + 0 }')
+used=$(stat -c %s "$folder/server.heap")
 awk -v ran="$ran" -v used="$used" -v requests=$((20 * requests)) 'BEGIN {
-  printf "the server, one client, %d requests: %.1f s and %.1f MB of recording; %.0f s and %d requests fit into 1 GB\n", requests, ran / 1e6, used / 1e6,
-    ran / 1e6 * 1e9 / used, requests * 1e9 / used
+  printf "the server, one client, %d requests: %.1f s and %.1f MB of recording; %.0f s of it and %d requests fit into 1 GB\n", requests, ran, used / 1e6,
+    ran * 1e9 / used, requests * 1e9 / used
 }'
 
 # seconds WORDS: the processor seconds of a command, its own and the system's.
