@@ -9,7 +9,8 @@ from typing import NamedTuple
 HERE = os.path.dirname(os.path.abspath(__file__))
 sys.path.insert(0, os.path.join(HERE, "..", "model"))
 
-from run import CLASSES, TINY, Living, Sampler, Tiny, profiles_of  # noqa: E402
+from living import Living, profiles_of  # noqa: E402
+from run import CLASSES, TINY, Sampler, Tiny  # noqa: E402
 from traces import made_trace  # noqa: E402
 
 PROGRAM = os.path.join(HERE, "..", "crates", "goheap", "out", "goheap")

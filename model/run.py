@@ -15,6 +15,8 @@ import itertools
 import sys
 from collections import Counter, deque
 
+from living import Living, profiles_of
+
 BASE, PAGE, CHUNK = 0xC000000000, 8192, 512
 # The pages of a block of a page cache, and those that a span has at least that is cut out of none.
 BLOCK, UNCUT = 64, 16
@@ -485,158 +487,103 @@ def profile_lines(profiles, each):
     return [f"p {m} {stack} {slot} {a} {f}\n" for m in sorted(shown) for (stack, slot), (a, f) in sorted(shown[m].items())]
 
 
-def profiles_of(sampled, cycles, lasts, mark_ends):
-    """The profile as of each mark end by the trace: the samples of the cycles before it, and those of them that it does not mark any more.
-    `lasts` has the last cycle in which each object lives."""
-    new, gone = {}, {}
-    for i, bucket in sampled.items():
-        new.setdefault(cycles[i] + 1, []).append(bucket)
-        gone.setdefault(lasts[i] + 1, []).append(bucket)
-    allocs, frees = Counter(), Counter()
-    for m in range(1, mark_ends + 1):
-        allocs.update(new.get(m, ()))
-        frees.update(gone.get(m, ()))
-        yield {b: (n, frees[b]) for b, n in allocs.items()}
+class Run:
+    """A run of a trace, with what became of each object."""
 
+    def __init__(self, lines, background):
+        head = lines[1].split()
+        chunks, procs, rate, seed, goal = (int(head[i]) for i in (1, 3, 5, 7, 9))
+        self.heap = Heap(int(lines[0].split()[1]), chunks, goal, procs, rate, seed)
+        self.lines, self.background = lines, background
+        # of each object its cycle and what became of it; the bucket of each sampled one; and the profile as of each mark end
+        self.cycles, self.out, self.sampled, self.profiles = [], {}, {}, []
+        self.queues = [[] for _ in range(procs)]
+        self.living = Living(self.out, self.cycles)
 
-class Living:
-    """Who lives, of the objects that have a slot: how many of its block do, and by pages the slots that are held. A mark end costs what its lines
-    name and what was allocated since the one before."""
+    def go(self):
+        at = 2
+        while True:
+            f = self.lines[at].split()
+            at += 1
+            if f[0] == "a":
+                self.queues[int(f[1])].append((len(self.cycles), int(f[2]), f[3] == "s", int(f[4])))
+                self.cycles.append(self.heap.cycle)
+            elif f[0] == "f":
+                self.queues[int(f[1])].append(None)
+            else:
+                self.run_cycle()
+                if f[0] == "end":
+                    return self.end()
+                at = self.mark_end(f, at)
 
-    def __init__(self, answers, cycles):
-        # what became of each object, and the cycle in which it was allocated
-        self.answers, self.cycles = answers, cycles
-        self.holders, self.marks, self.lasts = {}, {}, {}
-        self.at = 0
+    def run_cycle(self):
+        for p, queue in enumerate(self.queues):
+            for event in queue:
+                if event is None:
+                    self.heap.forget(p)
+                else:
+                    self.answer(p, *event)
+            queue.clear()
+            self.heap.drop(p)
+        self.heap.end_cycle(self.background)
 
-    def root(self, i):
-        """The object whose slot this one is in, if it is in one."""
-        what, *rest = self.answers[i]
-        return i if what == "at" else rest[0] if what == "rides" else None
+    def answer(self, p, i, size, scan, stack):
+        self.out[i] = self.heap.answer(i, p, size, scan)
+        if self.out[i][0] == "at" and self.heap.sample(p, stack, self.out[i]):
+            self.sampled[i] = (stack, self.out[i][1].slot)
 
-    def hold(self, i):
-        """The object lives."""
-        root = self.root(i)
-        if root is not None:
-            self.holders[root] = self.holders.get(root, 0) + 1
-            self.marks.setdefault(self.answers[root][1].page, set()).add(self.answers[root][2])
+    def mark_end(self, f, at):
+        """A `gc` line, whose lines begin there. Returns where those behind them begin."""
+        named = []
+        while self.lines[at][:2] in ("m ", "d "):
+            _, lo, hi = self.lines[at].split()
+            named.append(range(int(lo), int(hi) + 1))
+            at += 1
+        self.living.mark_end(self.heap.cycle + 1, f[2:] == ["all"], itertools.chain.from_iterable(named))
+        self.heap.mark_end(int(f[1]), self.living.marks)
+        if self.heap.cycle > 1:
+            self.profiles.append(self.heap.ring.profile())
+        return at
 
-    def drop(self, i, m):
-        """The object is found dead by this mark end."""
-        root = self.root(i)
-        if root is None:
-            return
-        self.holders[root] -= 1
-        if not self.holders[root]:
-            del self.holders[root]
-            self.lasts[root] = m - 1
-            page = self.answers[root][1].page
-            self.marks[page].discard(self.answers[root][2])
-            if not self.marks[page]:
-                del self.marks[page]
+    def end(self):
+        if self.heap.cycle:
+            self.profiles.append(self.heap.ring.profile())
+        self.living.end(self.heap.cycle)
+        told = profiles_of(self.sampled, self.cycles, self.living.lasts, self.heap.cycle)
+        for m, (profile, wanted) in enumerate(zip(self.profiles, told), 1):
+            assert profile == wanted, f"the ring is wrong as of mark end {m}"
 
-    def mark_end(self, m, is_of_dead, named):
-        """A mark end names the dead, or the marked."""
-        for i in range(self.at, len(self.cycles)):
-            self.hold(i)
-        self.at = len(self.cycles)
-        if is_of_dead:
-            for i in named:
-                self.drop(i, m)
-            return
-        before = self.holders
-        self.holders, self.marks = {}, {}
-        for i in named:
-            self.hold(i)
-        self.lasts.update((root, m - 1) for root in before if root not in self.holders)
+    def totals(self):
+        """How many objects of each size class were placed, and how many of them do not live any more."""
+        totals = {}
+        for i, a in self.out.items():
+            if a[0] == "at":
+                t = totals.setdefault(a[1].cls // 2, [0, 0])
+                t[0] += 1
+                t[1] += self.living.lasts[i] < self.heap.cycle
+        return totals
 
-    def end(self, m):
-        """The trace ends with this mark end the last. What lives, and what came behind it, lives on."""
-        self.lasts.update(dict.fromkeys(self.holders, m))
-        self.lasts.update((i, m) for i in range(self.at, len(self.cycles)))
+    def report(self, each):
+        """The lines of the report."""
+        for i in range(len(self.cycles)):
+            a = self.out[i]
+            yield f"o {i} zero\n" if a[0] == "zero" else f"o {i} miss {a[1]}\n" if a[0] == "miss" else f"o {i} {a[3]:#x}\n"
+        for n, (c, text) in enumerate(self.heap.lines):
+            yield f"j {n} {c} {text}\n"
+        for c, p, k, fr in sorted(self.heap.notes):
+            yield f"s {c} {p} {k} {fr}\n"
+        for c, (mallocs, frees) in sorted(self.totals().items()):
+            yield f"t {c} {mallocs} {frees}\n"
+        yield from profile_lines(self.profiles, each)
+        yield "end\n"
 
 
 def main():
     each = "--each" in sys.argv[1:]
     background = next((int(word.split("=")[1]) for word in sys.argv[1:] if word.startswith("--background=")), 1)
-    lines = sys.stdin.read().split("\n")
-    head = lines[1].split()
-    chunks, procs, rate, seed, goal = (int(head[i]) for i in (1, 3, 5, 7, 9))
-    heap = Heap(int(lines[0].split()[1]), chunks, goal, procs, rate, seed)
-    # the bucket of each sampled object, and the profile as of each mark end
-    sampled, profiles = {}, []
-    queues = [[] for _ in range(procs)]
-    at = 2
-    ids = 0
-    cyc = []
-    out = {}
-    living = Living(out, cyc)
-
-    def run_cycle():
-        for p in range(procs):
-            for event in queues[p]:
-                if event is None:
-                    heap.forget(p)
-                    continue
-                i, size, scan, stack = event
-                out[i] = heap.answer(i, p, size, scan)
-                if out[i][0] == "at" and heap.sample(p, stack, out[i]):
-                    sampled[i] = (stack, out[i][1].slot)
-            queues[p].clear()
-            heap.drop(p)
-        heap.end_cycle(background)
-
-    while True:
-        f = lines[at].split()
-        at += 1
-        if f[0] == "a":
-            queues[int(f[1])].append((ids, int(f[2]), f[3] == "s", int(f[4])))
-            cyc.append(heap.cycle)
-            ids += 1
-        elif f[0] == "f":
-            queues[int(f[1])].append(None)
-        elif f[0] in ("gc", "end"):
-            run_cycle()
-            if f[0] == "end":
-                if heap.cycle:
-                    profiles.append(heap.ring.profile())
-                break
-            named = []
-            while lines[at][:2] in ("m ", "d "):
-                _, lo, hi = lines[at].split()
-                named.append(range(int(lo), int(hi) + 1))
-                at += 1
-            living.mark_end(heap.cycle + 1, f[2:] == ["all"], itertools.chain.from_iterable(named))
-            heap.mark_end(int(f[1]), living.marks)
-            if heap.cycle > 1:
-                profiles.append(heap.ring.profile())
-    living.end(heap.cycle)
-    for m, (profile, told) in enumerate(zip(profiles, profiles_of(sampled, cyc, living.lasts, heap.cycle)), 1):
-        assert profile == told, f"the ring is wrong as of mark end {m}"
-    w = sys.stdout.write
-    totals = {}
-    for i in range(ids):
-        a = out[i]
-        if a[0] == "zero":
-            w(f"o {i} zero\n")
-        elif a[0] == "miss":
-            w(f"o {i} miss {a[1]}\n")
-        else:
-            w(f"o {i} {a[3]:#x}\n")
-            if a[0] == "rides":
-                continue
-            t = totals.setdefault(a[1].cls // 2, [0, 0])
-            t[0] += 1
-            t[1] += living.lasts[i] < heap.cycle
-    for n, (c, text) in enumerate(heap.lines):
-        w(f"j {n} {c} {text}\n")
-    for c, p, k, fr in sorted(heap.notes):
-        w(f"s {c} {p} {k} {fr}\n")
-    for c in sorted(totals):
-        w(f"t {c} {totals[c][0]} {totals[c][1]}\n")
-    for line in profile_lines(profiles, each):
-        w(line)
-    w("end\n")
+    run = Run(sys.stdin.read().split("\n"), background)
+    run.go()
+    sys.stdout.writelines(run.report(each))
 
 
 if __name__ == "__main__":
