@@ -37,7 +37,7 @@ class Full(Exception):
     """A limit of traces is reached."""
 
 
-class Trace:
+class TraceText:
     """A trace as its lines come, within the limits. What does not fit is left out. The second line is made at the end."""
 
     def __init__(self, header: Callable[[], str], spare: int = 0) -> None:
@@ -103,7 +103,7 @@ class Recorder:
         self.options, self.program, self.say = options, program, say
         self.most_chunks = MOST_CHUNKS[options.version]
         # The numbers of a region that grows have more digits.
-        self.trace = Trace(self.header, len(str(self.most_chunks)) + len(str(self.most_chunks * CHUNK_PAGES)) - len(f"{USUAL_CHUNKS}{USUAL_GOAL}"))
+        self.trace = TraceText(self.header, len(str(self.most_chunks)) + len(str(self.most_chunks * CHUNK_PAGES)) - len(f"{USUAL_CHUNKS}{USUAL_GOAL}"))
         self.live = {}  # the object at each address, in rising order of objects
         self.old: Any = None  # those of them that the last mark end may have found; None before the first
         self.spool: Any = None  # the allocations since the last mark end
