@@ -19,7 +19,8 @@ from goheap_tools.formats.frames import shown_frames
 from goheap_tools.formats.lines import is_kind, opened
 from goheap_tools.formats.report_text import lines_of, strict_report, text_fault
 from goheap_tools.formats.stacks import Stacks, stack_file
-from goheap_tools.formats.traces import REAL, Trace, trace_in
+from goheap_tools.formats.trace_text import fault_of
+from goheap_tools.formats.traces import REAL, Trace, read
 from goheap_tools.heap import tiny
 from goheap_tools.heap.rules import NAMES, first_fault
 
@@ -53,6 +54,20 @@ def sound(trace: Trace) -> str:
     return f"The report meets all {'ten' if trace.version >= tiny.FIRST_VERSION else 'nine'} rules: it is sound."
 
 
+def checked_trace(path: str) -> Trace:
+    """The trace in the file. One that is refused is told with its first fault."""
+    name = tool.named(path)
+    with opened(path) as file:
+        data = file.read()
+    is_kind(name, data[:100], "a trace")
+    fault = fault_of(io.BytesIO(data))
+    if fault == (1, "malformed"):
+        raise tool.no_trace(name)
+    if fault:
+        raise tool.Unusable(f"{name}: line {fault[0]}: {fault[1]}: this trace is refused, and nothing is judged by it")
+    return read(io.BytesIO(data), name)
+
+
 def explanation(trace: Trace, data: bytes, frames: Dict[int, List[str]], name: str) -> Iterator[str]:
     """The sentences on the report."""
     progress.stage("reading the report")
@@ -82,7 +97,8 @@ def main(words: List[str]) -> int:
     options = parser.parse_args(words)
     with tool.Output(options.output) as out:
         stacks = stack_file(options.stacks) if options.stacks else Stacks({}, {}, {})
-        trace = trace_in(options.trace)
+        progress.stage("reading the trace")
+        trace = checked_trace(options.trace)
         companions.of_trace(stacks, trace, (options.stacks, tool.named(options.trace)))
         with opened(options.report) as file:
             data = file.read()

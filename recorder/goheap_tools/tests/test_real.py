@@ -186,6 +186,10 @@ class Explained(Folder):
         self.assertIn("In a cycle a small span has one processor up to the flush of that one", told[1])
         self.assertIn("the span is filled by processor 0, and not flushed since: object 0 at 0xc000000000 (line 1) is there.", told[-1])
 
+    def test_a_refused_trace(self):
+        trace = self.put("trace", HEAD + "a 0 24 s 1\ngc 1 all\nd 0 1\nend\n")
+        self.assertEqual(run("explain", trace, "-", given="end\n"), (2, "", f"explain: {trace}: line 5: object 1 is not live: this trace is refused, and nothing is judged by it\n"))
+
     def test_the_dead(self):
         told = self.said("a 0 24 s 1\na 0 24 s 1\ngc 1 all\nd 0 0\n", "o 0 0xc000000000\no 1 0xc000000018\nj 0 0 take 0 1 6\ns 1 0 2 0\nt 3 2 0\n")
         self.assertIn("Of its objects mark end 1 marks 1 (object 1), and 1 that lived before it it does not (object 0): `s 1 0 1 1` should stand there.", told[-1])
