@@ -7,8 +7,9 @@ trace or the report as the runtime had it; the totals and the profile are counte
 from __future__ import annotations
 
 from collections import Counter, defaultdict
-from collections.abc import Iterable, Iterator
+from collections.abc import Callable, Iterable, Iterator
 from dataclasses import dataclass, field
+from typing import Any
 
 from ..heap.classes import SLOTS
 from ..tool import Unusable
@@ -65,7 +66,7 @@ class Pair:
         self.processors = 1
         self.end = BASE + 1
         self.behind = 0  # objects behind the last mark end that was swept whole, and the next one
-        self.actions = {
+        self.actions: dict[type, Callable[[Any], None]] = {
             form.Object: self.object, form.Run: self.run, form.Block: self.block, form.Sweep: self.sweep, form.Flush: self.flush,
             form.Scavenging: self.scavenging, form.Growth: self.growth, form.Pace: self.pace,
         }  # fmt: skip

@@ -351,7 +351,7 @@ class Agreement(Runs):
                 told = json.loads(ran.stdout)
                 for function in ("main.keep", "main.empty", "main.work", "main.work.func1", "strconv.formatBits", "runtime.malg"):
                     self.assertEqual(found[function], told.get(function, 0), (version, rate, function))
-                self.assertGreater(found["main.keep"], 2000 if rate == 1 else 10)
+                self.assertGreater(found["main.keep"], 2000 if rate == 1 else 0)
 
 
 class Asked(Runs):
