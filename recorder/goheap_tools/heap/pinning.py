@@ -32,6 +32,11 @@ HELD, CACHED, LENT = "stacks and other uses", "page caches", "out to the scaveng
 OTHERS = {HELD: pages.HELD, CACHED: pages.CACHED, LENT: pages.LENT}
 
 
+def others_of(now: pages.Pages) -> Dict[str, int]:
+    """The backed pages that are free to nobody and in no span, by what they are: in a real run there are some."""
+    return {name: sum(kind == one and not bare for one, bare in zip(now.kinds, now.scavenged)) if kind in now.kinds else 0 for name, kind in OTHERS.items()}
+
+
 class Replay:
     """The pages as the journal's lines come."""
 
@@ -101,7 +106,7 @@ class Pins:
         replay.go_on(mark_end)
         self.backed, self.region = replay.pages.backed, replay.pages.kinds.translate(AS_FREE)
         self.set_spans(replay.pages)
-        self.set_others(replay.pages)
+        self.others = others_of(replay.pages)
         self.missed = self.missed_bytes = 0
         stacks = max(trace.stacks, default=-1) + 1
         self.own, self.live = array("Q", bytes(8 * stacks)), array("I", bytes(4 * stacks))  # bytes and objects by stack
@@ -120,10 +125,6 @@ class Pins:
         self.slots = [pages * PAGE // slot for pages, slot in zip(self.pages, self.slot)]
         self.held = [0] * len(lines)
         self.asked = [0] * len(lines)
-
-    def set_others(self, now: pages.Pages) -> None:
-        """The backed pages that are free to nobody and in no span, by what they are: in a real run there are some."""
-        self.others = {name: sum(kind == one and not bare for one, bare in zip(now.kinds, now.scavenged)) if kind in now.kinds else 0 for name, kind in OTHERS.items()}
 
     def owners(self) -> List[int]:
         """The number of the span by page."""

@@ -1,0 +1,108 @@
+"""Makes a page: one HTML file with its style, its code and its data, which needs nothing else."""
+
+import html
+import json
+import os
+from typing import Any, Dict, List, Optional, Tuple
+
+from goheap_tools.formats.stacks import Stacks
+from goheap_tools.heap.classes import BASE, PAGE, PAGES, SLOTS
+from goheap_tools.heap.pinning import Pins
+from goheap_tools.look import gather
+from goheap_tools.look.columns import Columns
+from goheap_tools.look.gather import Course, Recording, StackTable
+from goheap_tools.look.summary import Facts, Sentence, sentences
+
+FOLDER = os.path.dirname(os.path.abspath(__file__))
+# The parts of the page's code, in the order in which they stand in it.
+CODE = ("data", "counts", "state", "draw", "summary", "time", "tree", "flame", "table", "place", "heap", "span", "pins", "two", "judged", "start")
+# Bytes that a page may have.
+MOST = 8_000_000
+
+
+def part(name: str) -> str:
+    """One of the page's parts."""
+    with open(os.path.join(FOLDER, name), encoding="utf-8") as file:
+        return file.read()
+
+
+def json_text(value: Any) -> str:
+    """JSON that may stand in a page: nothing in it ends a script."""
+    return json.dumps(value, ensure_ascii=True, separators=(",", ":")).replace("<", "\\u003c")
+
+
+class Page:
+    """What a page is made of."""
+
+    def __init__(self, recording: Recording, title: str, files: Dict[str, str]) -> None:
+        self.recording, self.title, self.files = recording, title, files
+        self.course = Course(recording)
+        count = recording.trace.mark_ends
+        self.pins: Optional[Pins] = Pins(recording.trace, recording.report, count) if count else None
+        self.judged: Dict[str, Any] = {}
+        self.two: Optional[Dict[str, Any]] = None
+        self.base: Optional[Recording] = None
+
+    def facts(self) -> Facts:
+        return Facts(self.recording, self.course, self.pins, self.files)
+
+    def text(self) -> str:
+        """The page's text, of which the parts that take the most room are left out where it would be too long."""
+        everyone = list(gather.survivors(self.recording))
+        count = self.recording.trace.mark_ends
+        some = [one for one in everyone if self.recording.trace.lasts()[one] >= count]
+        choices: Tuple[Tuple[List[int], str], ...] = (
+            (everyone, ""),
+            (some, f"The heap of the mark ends before the last one is without its {len(everyone) - len(some):,} objects, which would make the page too long: make a page of a shorter trace to see them."),
+            ([], "The heap is without its objects, which would make the page too long: it has the spans alone, and no table of what pins them."),
+        )
+        text = ""
+        for objects, left_out in choices:
+            text = self.written(objects, len(everyone), left_out)
+            if len(text) <= MOST:
+                break
+        return text
+
+    def written(self, objects: List[int], alive: int, left_out: str) -> str:
+        columns, told = self.columns(objects)
+        trace, stacks = self.recording.trace, self.recording.stacks
+        missed, missed_bytes = gather.missed_of(self.recording)
+        lines = sentences(self.facts()) + ([Sentence("limit", left_out)] if left_out else [])
+        meta = {
+            "title": self.title, "files": self.files, "version": trace.version, **trace.header, "objects": len(trace.sizes), "markEnds": trace.mark_ends, "alive": alive,
+            "kept": len(objects), "leftOut": left_out, "missed": missed, "missedBytes": missed_bytes, "top": self.course.top, "others": self.course.others, "hasNames": bool(stacks.frames),
+            "recorded": recorded(stacks), "words": gather.WORDS, "slots": SLOTS, "classPages": PAGES, "page": PAGE, "base": f"{BASE:x}", "aligned": gather.ALIGNED,
+            "sentences": [line._asdict() for line in lines], "judged": self.judged, "two": self.two, "printed": self.printed(), **told,
+        }  # fmt: skip
+        meta["columns"] = columns.table
+        return page_text(self.title, json_text(meta), columns.text())
+
+    def columns(self, objects: List[int]) -> Any:
+        columns, table = Columns(), StackTable()
+        places = table.add(gather.stack_numbers(self.recording), self.recording.stacks)
+        gather.put_profile(columns, self.recording.mark_ends, places)
+        if self.base:
+            base_places = table.add(gather.stack_numbers(self.base), self.base.stacks)
+            gather.put_profile(columns, self.base.mark_ends, base_places, "base")
+        columns.add("born", gather.marks_of(self.recording.trace), True)
+        self.course.put(columns)
+        gather.put_objects(columns, self.recording, places, objects)
+        gather.put_journal(columns, self.recording.report)
+        return columns, table.put(columns)
+
+    def printed(self) -> Dict[str, int]:
+        """What `pins` prints of the last mark end, which the page counts by itself and holds against this."""
+        return {**self.pins.sums(), "backed": self.pins.backed * PAGE} if self.pins else {}
+
+
+def recorded(stacks: Stacks) -> Dict[str, str]:
+    """What the stacks file tells of the recording, but for what only tools ask for."""
+    return {name: value for name, value in stacks.header.items() if name not in ("digest", "slots")}
+
+
+def page_text(title: str, meta: str, data: str) -> str:
+    """The whole page."""
+    code = "\n".join(part(f"{name}.js") for name in CODE)
+    filled = {"TITLE": html.escape(title), "STYLE": part("page.css"), "META": meta, "DATA": data, "CODE": code}
+    pieces = part("page.html").split("@@")
+    return "".join(filled.get(piece, piece) for piece in pieces)

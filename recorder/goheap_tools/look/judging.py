@@ -1,0 +1,81 @@
+"""Has traces run and reports judged: by goheap where it is built, and else by what stands beside it in Python, which says so."""
+
+import os
+import subprocess
+import sys
+from typing import Any, Dict, List
+
+from goheap_tools.cli import explain
+from goheap_tools.formats.frames import shown_frames
+from goheap_tools.look.gather import Recording
+from goheap_tools.tool import Output, Unusable
+
+TOP = os.path.dirname(os.path.dirname(os.path.dirname(os.path.dirname(os.path.abspath(__file__)))))
+BUILT = os.path.join(TOP, "crates", "goheap", "out", "goheap")
+LAUNCHER, MODEL = os.path.join(TOP, "goheap"), os.path.join(TOP, "model", "run.py")
+# Sentences of a judge that are shown.
+MOST = 200
+
+
+def is_built() -> bool:
+    """Whether the proved program stands."""
+    return os.access(BUILT, os.X_OK)
+
+
+def runner() -> List[str]:
+    """The command that makes a report of a trace."""
+    return [LAUNCHER, "run", "--each"] if is_built() else [sys.executable, MODEL, "--each"]
+
+
+def by_whom() -> str:
+    """Who runs traces here."""
+    return "goheap" if is_built() else "the plain model, since goheap is not built (./goheap --build)"
+
+
+def run_trace(trace: str, report: str) -> None:
+    """Makes the report of a trace."""
+    with open(trace, "rb") as given, Output(report, binary=True) as out:
+        with subprocess.Popen(runner(), stdin=given, stdout=subprocess.PIPE, stderr=subprocess.PIPE) as ran:
+            while ran.stdout and (piece := ran.stdout.read(1 << 20)):
+                out.write(piece)
+            said = ran.stderr.read().decode(errors="replace").strip() if ran.stderr else ""
+            if ran.wait():
+                raise Unusable(f"{trace}: it was not run: {said.splitlines()[-1] if said else f'status {ran.returncode}'}")
+
+
+def checked(trace: str, report: str) -> Dict[str, Any]:
+    """What `goheap check` says of the report."""
+    with subprocess.Popen([LAUNCHER, "check"], stdin=subprocess.PIPE, stdout=subprocess.PIPE, stderr=subprocess.STDOUT) as ran:
+        try:
+            for path in (trace, report):
+                with open(path, "rb") as file:
+                    while ran.stdin and (piece := file.read(1 << 20)):
+                        ran.stdin.write(piece)
+            if ran.stdin:
+                ran.stdin.close()
+        except BrokenPipeError:
+            pass  # it refused the beginning already, and says why
+        lines = ran.stdout.read().decode(errors="replace").splitlines() if ran.stdout else []
+    verdict = lines[-1] if lines else f"status {ran.returncode}"
+    return {"by": "As `goheap check` says, the proved judge.", "verdict": verdict, "lines": lines[:-1], "sound": ran.returncode == 0 and verdict == "check ok"}
+
+
+def explained(recording: Recording, report: str) -> Dict[str, Any]:
+    """What `explain` says of the report: the same rules, tried in Python."""
+    with open(report, encoding="utf-8", errors="surrogateescape") as file:
+        lines = file.readlines()
+    frames = {number: shown_frames(one) for number, one in recording.stacks.frames.items()}
+    told = list(explain.explanation(recording.trace, lines, frames, os.path.basename(report)))
+    sound = told == [explain.sound(recording.trace)]
+    return {"by": "As `recorder/explain` says, which tries the rules of `goheap check` by itself in Python; goheap is not built here.", "verdict": told[0], "lines": told[1:MOST], "sound": sound}
+
+
+def judged(recording: Recording, trace: str, report: str) -> Dict[str, Any]:
+    """The words of the judge on the report. A refused one has what `explain` says of it as well."""
+    if not is_built():
+        return explained(recording, report)
+    found = checked(trace, report)
+    if not found["sound"]:
+        why = explained(recording, report)
+        found["lines"] += ["", "In the words of `recorder/explain`:", why["verdict"], *why["lines"]]
+    return found
