@@ -3,7 +3,7 @@
 import html
 import json
 import os
-from typing import Any, Dict, List, Optional, Tuple
+from typing import Any, Dict, Iterator, List, Optional, Tuple
 
 from goheap_tools.formats.stacks import Stacks
 from goheap_tools.heap.classes import BASE, PAGE, PAGES, SLOTS
@@ -16,8 +16,8 @@ from goheap_tools.look.summary import Facts, Sentence, sentences
 FOLDER = os.path.dirname(os.path.abspath(__file__))
 # The parts of the page's code, in the order in which they stand in it.
 CODE = ("data", "counts", "state", "draw", "summary", "time", "tree", "flame", "table", "place", "heap", "span", "pins", "two", "judged", "start")
-# Bytes that a page may have.
-MOST = 8_000_000
+# Characters that the columns of a page may have; the rest of a page takes few.
+MOST = 7_800_000
 
 
 def part(name: str) -> str:
@@ -48,36 +48,38 @@ class Page:
 
     def text(self) -> str:
         """The page's text, of which the parts that take the most room are left out where it would be too long."""
-        everyone = list(gather.survivors(self.recording))
-        count = self.recording.trace.mark_ends
-        some = [one for one in everyone if self.recording.trace.lasts()[one] >= count]
-        choices: Tuple[Tuple[List[int], str], ...] = (
-            (everyone, ""),
-            (some, f"The heap of the mark ends before the last one is without its {len(everyone) - len(some):,} objects, which would make the page too long: make a page of a shorter trace to see them."),
-            ([], "The heap is without its objects, which would make the page too long: it has the spans alone, and no table of what pins them."),
-        )
-        text = ""
-        for objects, left_out in choices:
-            text = self.written(objects, len(everyone), left_out)
-            if len(text) <= MOST:
+        columns, places = self.columns()
+        everyone, left_out, objects = list(gather.survivors(self.recording)), "", Columns()
+        for choice, told in self.choices(everyone):
+            objects, left_out = Columns(), told
+            gather.put_objects(objects, self.recording, places, choice)
+            if columns.size() + objects.size() < MOST:
                 break
-        return text
+        columns.table.update(objects.table)
+        return self.written(columns, left_out)
 
-    def written(self, objects: List[int], alive: int, left_out: str) -> str:
-        columns, told = self.columns(objects)
+    def choices(self, everyone: List[int]) -> Iterator[Tuple[List[int], str]]:
+        """The objects that the page may have, and what is said of those that it has not."""
+        yield everyone, ""
+        lasts, count = self.recording.trace.lasts(), self.recording.trace.mark_ends
+        some = [one for one in everyone if lasts[one] >= count]
+        yield some, f"The heap of the mark ends before the last one is without {len(everyone) - len(some):,} objects that had died by the last one: with them the page would be too long."
+        yield [], f"The heap is without its {len(everyone):,} objects, with which the page would be too long: it has the spans, and no one who is in them or pins them."
+
+    def written(self, columns: Columns, left_out: str) -> str:
         trace, stacks = self.recording.trace, self.recording.stacks
         missed, missed_bytes = gather.missed_of(self.recording)
         lines = sentences(self.facts()) + ([Sentence("limit", left_out)] if left_out else [])
         meta = {
-            "title": self.title, "files": self.files, "version": trace.version, **trace.header, "objects": len(trace.sizes), "markEnds": trace.mark_ends, "alive": alive,
-            "kept": len(objects), "leftOut": left_out, "missed": missed, "missedBytes": missed_bytes, "top": self.course.top, "others": self.course.others, "hasNames": bool(stacks.frames),
+            "title": self.title, "files": self.files, "version": trace.version, **trace.header, "objects": len(trace.sizes), "markEnds": trace.mark_ends,
+            "leftOut": left_out, "missed": missed, "missedBytes": missed_bytes, "top": self.course.top, "others": self.course.others, "hasNames": bool(stacks.frames),
             "recorded": recorded(stacks), "words": gather.WORDS, "slots": SLOTS, "classPages": PAGES, "page": PAGE, "base": f"{BASE:x}", "aligned": gather.ALIGNED,
-            "sentences": [line._asdict() for line in lines], "judged": self.judged, "two": self.two, "printed": self.printed(), **told,
+            "sentences": [line._asdict() for line in lines], "judged": self.judged, "two": self.two, "printed": self.printed(),
         }  # fmt: skip
-        meta["columns"] = columns.table
-        return page_text(self.title, json_text(meta), columns.text())
+        return page_text(self.title, json_text(meta), json_text(columns.table))
 
-    def columns(self, objects: List[int]) -> Any:
+    def columns(self) -> Tuple[Columns, Dict[int, int]]:
+        """All columns but those of the objects, and the places of the stacks."""
         columns, table = Columns(), StackTable()
         places = table.add(gather.stack_numbers(self.recording), self.recording.stacks)
         gather.put_profile(columns, self.recording.mark_ends, places)
@@ -86,9 +88,9 @@ class Page:
             gather.put_profile(columns, self.base.mark_ends, base_places, "base")
         columns.add("born", gather.marks_of(self.recording.trace), True)
         self.course.put(columns)
-        gather.put_objects(columns, self.recording, places, objects)
         gather.put_journal(columns, self.recording.report)
-        return columns, table.put(columns)
+        table.put(columns)
+        return columns, places
 
     def printed(self) -> Dict[str, int]:
         """What `pins` prints of the last mark end, which the page counts by itself and holds against this."""

@@ -1,6 +1,7 @@
-"""Columns of numbers as a page carries them: one after the other as small integers or differences, compressed, in base64."""
+"""Columns of numbers as a page carries them: as small integers or differences, each column compressed, in base64."""
 
 import base64
+import json
 import sys
 import zlib
 from array import array
@@ -10,8 +11,8 @@ from typing import Any, Dict, Iterable, List
 
 # The types of a column's numbers by their widths in bytes, as `array` names them.
 UNSIGNED, SIGNED = ((1, "B"), (2, "H"), (4, "I")), ((1, "b"), (2, "h"), (4, "i"))
-# Exact whole numbers above 32 bits, as the page's own numbers are.
-FLOAT = "d"
+# Exact whole numbers above 32 bits, as the page's own numbers are; and texts.
+FLOAT, TEXTS = "d", "t"
 SAFE = 1 << 53
 
 
@@ -32,36 +33,41 @@ def differences(numbers: List[int]) -> List[int]:
     return list(chain(numbers[:1], map(sub, numbers[1:], numbers)))
 
 
+def swapped(column: array) -> array:
+    """The column with its least byte first, as the page reads it."""
+    if sys.byteorder == "big":
+        column.byteswap()
+    return column
+
+
 class Columns:
-    """Named columns, of which the page reads each by its type, its length and its place in the bytes."""
+    """Named columns: of each its type, its length, whether it has differences, and its bytes as text."""
 
     def __init__(self) -> None:
-        self.parts: List[bytes] = []
         self.table: Dict[str, List[Any]] = {}
-        self.at = 0
+
+    def put(self, name: str, code: str, length: int, rising: bool, data: bytes) -> None:
+        self.table[name] = [code, length, int(rising), base64.b64encode(zlib.compress(data)).decode("ascii")]
 
     def add(self, name: str, numbers: Iterable[int], rising: bool = False) -> None:
         """Adds a column; of one that mostly rises by little the differences are kept."""
         whole = list(numbers)
         column = packed(differences(whole) if rising else whole)
-        if sys.byteorder == "big":
-            column.byteswap()
-        data = column.tobytes()
-        data += bytes(-len(data) % 8)
-        self.table[name] = [column.typecode, len(column), self.at, int(rising)]
-        self.parts.append(data)
-        self.at += len(data)
+        code, length = column.typecode, len(column)
+        self.put(name, code, length, rising, swapped(column).tobytes())
 
-    def text(self) -> str:
-        """All columns as the page has them."""
-        return base64.b64encode(zlib.compress(b"".join(self.parts), 9 if self.at < 1 << 23 else 6)).decode("ascii")
+    def add_texts(self, name: str, texts: List[str]) -> None:
+        """Adds a column of texts."""
+        self.put(name, TEXTS, len(texts), False, json.dumps(texts, ensure_ascii=False, separators=(",", ":")).encode("utf-8", "replace"))
+
+    def size(self) -> int:
+        """How many characters they take."""
+        return sum(len(column[-1]) for column in self.table.values())
 
     def numbers(self, name: str) -> List[int]:
         """A column as it was added."""
-        code, length, at, rising = self.table[name]
+        code, _, rising, text = self.table[name]
         column = array(code)
-        column.frombytes(b"".join(self.parts)[at : at + length * column.itemsize])
-        if sys.byteorder == "big":
-            column.byteswap()
-        whole = list(map(int, column))
+        column.frombytes(zlib.decompress(base64.b64decode(text)))
+        whole = list(map(int, swapped(column)))
         return list(accumulate(whole)) if rising else whole

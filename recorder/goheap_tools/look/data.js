@@ -25,13 +25,19 @@ function summed(column) {
   return low >= 0 && high < 2 ** 32 ? Uint32Array.from(whole) : whole;
 }
 
-async function readData() {
-  const buffer = await inflated(document.getElementById("data").textContent);
-  for (const [name, [type, length, at, rising]] of Object.entries(meta.columns)) {
-    const column = new TYPES[type](buffer, at, length);
+async function readColumn(name, [type, length, rising, text]) {
+  const buffer = await inflated(text);
+  if (type === "t") meta[name] = JSON.parse(new TextDecoder().decode(buffer));
+  else {
+    const column = new TYPES[type](buffer, 0, length);
     col[name] = rising ? summed(column) : column;
   }
-  document.getElementById("data").textContent = "";
+}
+
+async function readData() {
+  const place = document.getElementById("data"), table = JSON.parse(place.textContent);
+  await Promise.all(Object.entries(table).map(([name, column]) => readColumn(name, column)));
+  place.textContent = "";
   setStacks();
 }
 

@@ -86,18 +86,19 @@ class StackTable:
             return [(f"(stack {number})", "")]
         return [(name_of(frame), place_of(frame)) for frame in shown_frames(frames)]
 
-    def put(self, columns: Columns) -> Dict[str, List[str]]:
-        """Puts the table into columns. Returns the texts that they number."""
+    def put(self, columns: Columns) -> None:
         frames = self.frames.list()
         columns.add("stackNumber", self.numbers, True)
         columns.add("stackType", self.of_type)
-        columns.add("stackGroup", self.group)
+        columns.add("stackGroup", self.group, True)
         columns.add("stackBegin", self.begins, True)
-        columns.add("stackFrame", self.shown)
+        columns.add("stackFrame", self.shown, True)
         columns.add("hiddenBegin", self.hidden_begins, True)
         columns.add("hiddenFunction", self.hidden)
-        columns.add("frameFunction", [function for function, _ in frames])
-        return {"functions": self.functions.list(), "places": [place for _, place in frames], "types": self.types.list()}
+        columns.add("frameFunction", (function for function, _ in frames), True)
+        columns.add_texts("functions", self.functions.list())
+        columns.add_texts("places", [place for _, place in frames])
+        columns.add_texts("types", self.types.list())
 
 
 def put_profile(columns: Columns, mark_ends: List[MarkEnd], places: Dict[int, int], front: str = "") -> None:
