@@ -94,6 +94,11 @@ def size_text(size: float) -> str:
     return f"{size:.0f}B"
 
 
+def plain(value: float) -> float:
+    """The number as JSON has it: a whole one without a point."""
+    return int(value) if float(value).is_integer() else value
+
+
 class Output:
     """A file that is written whole or not at all: what is written goes to a temporary file beside it, which takes its name at the end of
     the `with` where nothing was raised, and goes away else. `-` is standard output, and what is no regular file (a terminal, a pipe) is

@@ -8,9 +8,10 @@ class: how many spans hold an object that was found alive. Nothing is claimed of
 
 import argparse
 import itertools
+import json
 import sys
 from collections import Counter, defaultdict
-from typing import Dict, Iterable, Iterator, List, Optional, Tuple
+from typing import Any, Dict, Iterable, Iterator, List, NamedTuple, Optional, Tuple
 
 from goheap_tools import tool
 from goheap_tools.formats import companions, golog
@@ -28,6 +29,8 @@ TRIED = 1000
 
 # What an object is counted as: with the block that it began in the program, of another size in the model or in the block of another there.
 OWN_SIZE, SHARING = "tiny, a block of its own in the model", "tiny, in another's block in the model"
+# The names of these in JSON.
+TOLD = {OWN_SIZE: "tiny_alone", SHARING: "tiny_sharing", "objects": "all", "refused by the model": "refused"}
 
 
 def seat(address: int, slot: int) -> Optional[Tuple[int, int]]:
@@ -76,6 +79,12 @@ class Agreement:
         else:
             row["other"] += 1
 
+    def told(self) -> Dict[str, Any]:
+        """The counts for a script."""
+        names = ("objects", "same slot size", OWN_SIZE, SHARING, "another slot size", "refused by the model")
+        slots = [{"slot": slot, **{name: self.by_class[slot][name] for name in ("same", "other", "unknown")}} for slot in sorted(self.by_class)]
+        return {"objects": {TOLD.get(name, name.replace(" ", "_")): self.counts[name] for name in names}, "slots": slots}
+
     def lines(self) -> Iterator[str]:
         count = self.counts["objects"] or 1
         for name in ("objects", "same slot size", OWN_SIZE, SHARING, "another slot size", "refused by the model"):
@@ -123,8 +132,18 @@ def changes(trace: Trace, seats: List[Optional[Seat]]) -> Tuple[Dict[int, List[S
     return new, gone
 
 
-def span_lines(trace: Trace, real: List[Optional[Seat]], model: List[Optional[Seat]]) -> Iterator[str]:
-    yield f"{'mark end':>8} {'spans alive':>12} {'model':>8} {'sizes with as many':>20} {'within a tenth':>15} {'of':>4}"
+class SpanRow(NamedTuple):
+    """How many spans a mark end finds alive in the program and in the model, and of how many slot sizes there are as many, and nearly."""
+
+    mark_end: int
+    program: int
+    model: int
+    sizes_equal: int
+    sizes_near: int
+    sizes: int
+
+
+def span_rows(trace: Trace, real: List[Optional[Seat]], model: List[Optional[Seat]]) -> Iterator[SpanRow]:
     sides = [(Alive(), *changes(trace, seats)) for seats in (real, model)]
     for number in range(1, trace.mark_ends + 1):
         for alive, new, gone in sides:
@@ -135,7 +154,13 @@ def span_lines(trace: Trace, real: List[Optional[Seat]], model: List[Optional[Se
         pairs = [(theirs.get(slot, 0), ours.get(slot, 0)) for slot in slots]
         equal = sum(a == b for a, b in pairs)
         near = sum(abs(a - b) * 10 <= max(a, b) for a, b in pairs)
-        yield f"{number:>8} {sum(theirs.values()):>12} {sum(ours.values()):>8} {equal:>20} {near:>15} {len(slots):>4}"
+        yield SpanRow(number, sum(theirs.values()), sum(ours.values()), equal, near, len(slots))
+
+
+def span_lines(rows: Iterable[SpanRow]) -> Iterator[str]:
+    yield f"{'mark end':>8} {'spans alive':>12} {'model':>8} {'sizes with as many':>20} {'within a tenth':>15} {'of':>4}"
+    for row in rows:
+        yield f"{row.mark_end:>8} {row.program:>12} {row.model:>8} {row.sizes_equal:>20} {row.sizes_near:>15} {row.sizes:>4}"
 
 
 def check(number: int, event: Event, found: golog.Allocation) -> None:
@@ -156,8 +181,8 @@ def first_allocations(allocations: Iterator[golog.Allocation], path: str) -> Lis
     return firsts
 
 
-def compare(allocations: Iterator[golog.Allocation], trace: Trace, report: Report) -> Iterator[str]:
-    """The lines of both tables. A trace may end before its log."""
+def compare(allocations: Iterator[golog.Allocation], trace: Trace, report: Report) -> Tuple[Agreement, List[SpanRow]]:
+    """What both tables have. A trace may end before its log."""
     if len(trace.sizes) != len(report.addresses):
         raise tool.Unusable(f"the trace has {len(trace.sizes)} objects and the report {len(report.addresses)}: it is no report of this trace")
     agreement, riders = Agreement(), riders_of(trace, report.addresses)
@@ -175,9 +200,7 @@ def compare(allocations: Iterator[golog.Allocation], trace: Trace, report: Repor
         model = seat(placed - riders[number].offset if number in riders else placed, slot) if placed and slot else None
         real_seats.append((found.slot, real[0]) if real else None)
         model_seats.append((slot, model[0]) if model else None)
-    yield from agreement.lines()
-    yield ""
-    yield from span_lines(trace, real_seats, model_seats)
+    return agreement, list(span_rows(trace, real_seats, model_seats))
 
 
 def check_stacks(options: argparse.Namespace) -> None:
@@ -195,6 +218,7 @@ def main(words: List[str]) -> int:
     parser.add_argument("trace")
     parser.add_argument("report", help="what goheap printed of the trace")
     parser.add_argument("--stacks", help="the stacks of the recording, by which another trace is told")
+    parser.add_argument("--json", action="store_true", help="print the counts as JSON")
     parser.add_argument("--output", "-o", default="-", help="a file for the tables (default: standard output)")
     options = parser.parse_args(words)
     with tool.Output(options.output) as out, log_in(options.log) as log:
@@ -203,8 +227,12 @@ def main(words: List[str]) -> int:
         allocations = (event for event in golog.events(golog.pieces_of(log)) if isinstance(event, golog.Allocation))
         firsts = first_allocations(allocations, options.trace)
         trace, report = trace_in(options.trace), report_in(options.report)
-        for line in compare(itertools.chain(firsts, allocations), trace, report):
-            out.write(line + "\n")
+        agreement, spans = compare(itertools.chain(firsts, allocations), trace, report)
+        if options.json:
+            out.write(json.dumps({**agreement.told(), "mark_ends": [row._asdict() for row in spans]}, indent=1) + "\n")
+        else:
+            for line in itertools.chain(agreement.lines(), [""], span_lines(spans)):
+                out.write(line + "\n")
     return 0
 
 

@@ -10,11 +10,13 @@ they are what Go's tools estimate from it: the rate is told by the stacks, or by
 """
 
 import argparse
+import json
 import re
 import sys
 from typing import Dict, Iterable, List, Optional, Pattern, Tuple
 
 from goheap_tools import progress, tool
+from goheap_tools.cli import growth
 from goheap_tools.formats import companions
 from goheap_tools.formats.journal import Miss
 from goheap_tools.formats.report import MISSED, Report, report_in
@@ -62,7 +64,7 @@ class Choice:
 
 def options_of(words: List[str]) -> argparse.Namespace:
     parser = argparse.ArgumentParser(prog="leaks", description=__doc__.split("\n\n")[0])
-    parser.add_argument("report", nargs="?", help="a report; - is standard input")
+    parser.add_argument("report", nargs="?", help="a report; - is standard input. With --base a recording: a folder, or what the names of its files begin with")
     parser.add_argument("--stacks", help="the stacks that `record` wrote")
     parser.add_argument("--trace", help="count the objects of this trace in place of a report's profile; with a report, its misses are left out")
     parser.add_argument("--top", type=tool.number(1, 10**9), default=20, help="how many rows (default 20)")
@@ -79,9 +81,26 @@ def options_of(words: List[str]) -> argparse.Namespace:
     parser.add_argument("--ignore", type=expression, metavar="REGEXP", help="no objects whose stack has such a frame")
     parser.add_argument("--hide", type=expression, metavar="REGEXP", help="leave such frames out of the stacks")
     parser.add_argument("--scale", type=tool.number(0, 1 << 30), metavar="RATE", help="estimate the counts without sampling, from those sampled at this rate (default: the rate that the stacks tell; 0: don't)")
+    parser.add_argument("--base", metavar="OLD", help="what grew since this recording: its folder, or what the names of its files begin with")
+    parser.add_argument("--fail-over", type=growth.limit, metavar="LIMIT", help="end with status 1 where a row grew by more since the base: bytes, as 64KB, or a part of what is in use there, as 5%%")
+    parser.add_argument("--json", action="store_true", help="print all rows as JSON, with plain numbers")
     parser.add_argument("--output", "-o", default="-", help="a file for the table (default: standard output)")
     options = parser.parse_args(words)
     options.place = ""
+    check_options(parser, options)
+    return options
+
+
+def check_options(parser: argparse.ArgumentParser, options: argparse.Namespace) -> None:
+    """Refuses options that do not go together, and sets the table where none is named."""
+    if options.fail_over and not options.base:
+        parser.error("--fail-over needs --base")
+    if options.base:
+        given = (options.trace, options.stacks, options.scale, options.at, options.peak, options.frames, options.focus, options.ignore, options.hide)
+        if not options.report or any(given) or options.table is Buckets:
+            parser.error("--base OLD goes with NEW, and with functions, lines or types of the last mark ends")
+        options.table = options.table or Table
+        return
     options.filters = [f"; {name} {getattr(options, name).pattern}" for name in ("focus", "ignore", "hide") if getattr(options, name)]
     if options.filters and not options.stacks:
         parser.error("--focus, --ignore and --hide need --stacks")
@@ -97,7 +116,6 @@ def options_of(words: List[str]) -> argparse.Namespace:
         options.table = Table if options.stacks and not options.frames else Buckets
     if options.sort == "cum" and not options.table.has_cum:
         parser.error(f"{options.table.what} have no cum")
-    return options
 
 
 def say(text: str) -> None:
@@ -198,6 +216,8 @@ def read_all(options: argparse.Namespace) -> Tuple[Stacks, Optional[Report], Opt
 def main(words: List[str]) -> int:
     options = options_of(words)
     with tool.Output(options.output) as out:
+        if options.base:
+            return growth.compare(options, out)
         stacks, report, trace = read_all(options)
         take_rate(stacks, options)
         mark_ends = buckets_of_trace(trace, report.addresses if report else None) if trace else buckets_of_report(report or Report())
@@ -210,8 +230,12 @@ def main(words: List[str]) -> int:
             tell_misses(report, trace)
         if not options.place:
             tell_behind(*behind_of(stacks, trace))
-        for line in options.table(profile, stacks, options).lines():
-            out.write(line + "\n")
+        table = options.table(profile, stacks, options)
+        if options.json:
+            out.write(json.dumps(table.told(), indent=1) + "\n")
+        else:
+            for line in table.lines():
+                out.write(line + "\n")
     return 0
 
 

@@ -129,6 +129,9 @@ def page_of(options: argparse.Namespace, progress: Progress) -> Tuple[Page, File
     names: Dict[str, str] = {name: path or "" for name, path in files._asdict().items()}
     with progress.step("follows the pages", COUNTING * size):
         page = Page(recording, title_of(options, files, recording), names)
+    if options.base:
+        base_files = with_report(recording_at(options.base), progress)
+        page.hold_against(read(base_files, progress), options.base)
     if options.judge:
         pace = READING if judging.is_built() else EXPLAINING
         with progress.step("has the report judged", pace * size):

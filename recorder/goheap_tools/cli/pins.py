@@ -8,6 +8,7 @@ It counts at a mark end, the last one where none is named, over the spans that a
 
 import argparse
 import csv
+import json
 import sys
 from typing import List
 
@@ -15,7 +16,7 @@ from goheap_tools import tool
 from goheap_tools.formats.stacks import Stacks, stack_file
 from goheap_tools.heap import pinning
 from goheap_tools.heap.pinning import Names
-from goheap_tools.views.pin_tables import lines, tables
+from goheap_tools.views.pin_tables import lines, tables, told
 
 def options_of(words: List[str]) -> argparse.Namespace:
     parser = argparse.ArgumentParser(prog="pins", description=__doc__.split("\n\n")[0])
@@ -30,6 +31,7 @@ def options_of(words: List[str]) -> argparse.Namespace:
     parser.add_argument("--frames", action="store_true", help="print whole stacks")
     parser.add_argument("--output", "-o", default="-", help="a file for the tables (default: standard output)")
     parser.add_argument("--csv", action="store_true", help="print all rows as CSV; the first field is the name of a row's table")
+    parser.add_argument("--json", action="store_true", help="print all rows as JSON, with plain numbers")
     options = parser.parse_args(words)
     if options.trace == options.report == "-":
         parser.error("the trace and the report cannot both be standard input")
@@ -45,7 +47,9 @@ def main(words: List[str]) -> int:
     with tool.Output(options.output) as out:
         stacks = stack_file(options.stacks) if options.stacks else Stacks({}, {}, {})
         pins, names = pinning.pins_of(options.trace, options.report, options, stacks), Names(stacks.frames)
-        if options.csv:
+        if options.json:
+            out.write(json.dumps(told(pins, names, options), indent=1) + "\n")
+        elif options.csv:
             csv.writer(out, lineterminator="\n").writerows(tables(pins, names, options))
         else:
             for line in lines(pins, names, options):

@@ -5,13 +5,17 @@ import json
 import os
 from typing import Any, Dict, Iterator, List, Optional, Tuple
 
+from goheap_tools.views.tables import Table
 from goheap_tools.formats.stacks import Stacks
 from goheap_tools.heap.classes import BASE, PAGE, PAGES, SLOTS
+from goheap_tools.views.tables import Profile
+from goheap_tools.heap.difference import differences, in_use, ratio_of
 from goheap_tools.heap.pinning import Pins
 from goheap_tools.look import gather
 from goheap_tools.look.columns import Columns
 from goheap_tools.look.gather import Course, Recording, StackTable
 from goheap_tools.look.summary import Facts, Sentence, sentences
+from goheap_tools.tool import size_text
 
 FOLDER = os.path.dirname(os.path.abspath(__file__))
 # The parts of the page's code, in the order in which they stand in it.
@@ -42,6 +46,18 @@ class Page:
         self.judged: Dict[str, Any] = {}
         self.two: Optional[Dict[str, Any]] = None
         self.base: Optional[Recording] = None
+
+    def hold_against(self, base: Recording, name: str) -> None:
+        """Takes in another recording, to show what grew since."""
+        self.base = base
+        key = Table.key
+        here, there = Profile(self.recording.mark_ends, key(self.recording.stacks), 0), Profile(base.mark_ends, key(base.stacks), 0)
+        ratio = ratio_of(here, there)
+        self.two = {
+            "ratio": ratio, "markEnds": base.trace.mark_ends, "rows": [row._asdict() for row in differences(here, there)],
+            "told": f"The base is {name}: {size_text(in_use(there))} live at its last mark end, and {size_text(in_use(here))} here. {ratio:.3f} times as many objects were allocated here;"
+                    " a row's normalised change is what is live now less so many times what was in the base. Both are as of the last mark ends.",
+        }  # fmt: skip
 
     def facts(self) -> Facts:
         return Facts(self.recording, self.course, self.pins, self.files)

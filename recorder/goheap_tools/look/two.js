@@ -5,8 +5,8 @@ const TWO_COLUMNS = [
   {id: "live", title: "now", of: row => row.live, text: bytes, says: "bytes in use at the last mark end here"},
   {id: "change", title: "change", of: row => row.live - row.base, text: value => signed(value), says: "now less base"},
   {id: "normalised", title: "normalised", of: row => row.normalised, text: value => signed(value), says: "now less what the base would have if it had allocated as many objects"},
-  {id: "objects", title: "objects", of: row => row.objects - row.baseObjects, text: value => signed(value, number), says: "change of the objects in use"},
-  {id: "allocated", title: "allocated", of: row => row.allocated - row.baseAllocated, text: value => signed(value), says: "change of the bytes allocated"},
+  {id: "objects", title: "objects", of: row => row.objects - row.base_objects, text: value => signed(value, number), says: "change of the objects in use"},
+  {id: "allocated", title: "allocated", of: row => row.allocated - row.base_allocated, text: value => signed(value), says: "change of the bytes allocated"},
 ];
 const WIDE = {now: [BYTES_LIVE, ""], base: [BYTES_LIVE, "base"]};
 let twoFlame = null, twoWide = "now";

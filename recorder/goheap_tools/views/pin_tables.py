@@ -1,7 +1,7 @@
 """The tables of `pins`: what the backed bytes are, and whose objects keep which spans."""
 
 import argparse
-from typing import Any, Iterator, List, Optional, Tuple
+from typing import Any, Dict, Iterator, List, Optional, Tuple
 
 from goheap_tools.heap import pinning
 from goheap_tools.heap.classes import PAGE, SLOTS
@@ -153,6 +153,20 @@ def tables(pins: Pins, names: Names, options: argparse.Namespace) -> List[Row]:
     found.append(("class", class_rows(pins)))
     found.append(("function", function_rows(pins, names, options)) if options.functions else ("stack", stack_rows(pins, names)))
     return [(name, *row) for name, rows in found for row in rows]
+
+
+def told(pins: Pins, names: Names, options: argparse.Namespace) -> Dict[str, Any]:
+    """The tables for a script: each row by the names of its columns, with blanks as underscores."""
+    found: Dict[str, Any] = {"mark_end": pins.mark_end, "mark_ends": pins.mark_ends, "objects_behind": pins.behind, "backed_pages": pins.backed}
+    titles: Dict[str, List[str]] = {}
+    for name, *row in tables(pins, names, options):
+        if name not in titles:
+            titles[name] = [str(title).replace(" ", "_") for title in row]
+            found[name] = []
+        else:
+            found[name].append(dict(zip(titles[name], row)))
+    found["sum"] = {row["part"].replace(" ", "_"): row["bytes"] for row in found["sum"]}
+    return found
 
 
 def lines(pins: Pins, names: Names, options: argparse.Namespace) -> Iterator[str]:

@@ -12,7 +12,7 @@ from goheap_tools.formats.stacks import Stacks
 from goheap_tools.formats.traces import Trace
 from goheap_tools.heap.estimate import factor
 from goheap_tools.heap.tiny import Riders, riders_of, slot_in
-from goheap_tools.tool import size_text
+from goheap_tools.tool import plain, size_text
 
 # A mark end, with its buckets.
 MarkEnd = Tuple[int, Iterable[Bucket]]
@@ -205,6 +205,20 @@ class Table:
     def below(self, _: Any) -> Iterable[str]:
         return ()
 
+    def told(self) -> Dict[str, Any]:
+        """The table for a script: all rows, with plain numbers."""
+        profile, rows = self.profile, self.profile.rows
+        return {
+            "mark_end": profile.last, "first_mark_end": profile.first, "in_use": plain(sum(row.used for row in rows.values())), "allocated": plain(sum(row.allocated for row in rows.values())),
+            "rate": 1 if self.options.trace else self.options.rate, "estimated_at": self.options.scale if self.options.scale > 1 else None, "rows_are": self.what,
+            "rows": [self.told_row(name, rows[name]) for name in self.names()],
+        }  # fmt: skip
+
+    def told_row(self, name: Any, row: Row) -> Dict[str, Any]:
+        cum = {"cum": self.cum[name]} if self.has_cum else {}
+        counts = {"flat": row.used, **cum, "objects": row.allocs - row.frees, "allocs": row.allocs, "frees": row.frees, "allocated": row.allocated, "growth": row.growth(), "grew": row.grew}
+        return {"name": self.title(name), **{field: plain(count) for field, count in counts.items()}}
+
 
 class Lines(Table):
     """A row for each line of the program."""
@@ -254,6 +268,9 @@ class Buckets(Table):
 
     def title(self, name: Any) -> str:
         return f"{name[0]} {self.frames(name)[0]}"
+
+    def told_row(self, name: Any, row: Row) -> Dict[str, Any]:
+        return {**super().told_row(name, row), "stack": name[0], "slot": name[1], "frames": self.frames(name)}
 
     def frames(self, name: Any) -> List[str]:
         return self.stacks.shown(name[0])
