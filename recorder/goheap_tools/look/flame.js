@@ -18,6 +18,9 @@ function change(sign) {
   return now.map((one, stack) => Math.max(0, sign * (one - then[stack])));
 }
 
+// A function without the folders of its package, as there is little room.
+function shortName(name) { return name.replace(/^[^\s()[\]{}]*\//, ""); }
+
 // A flame graph on a canvas. `told` says what a node is, `shade` its colour.
 class Flame {
   constructor(place, label, {told, shade, chosen}) {
@@ -77,7 +80,7 @@ class Flame {
     }
     draw.fillStyle = colour("frame-ink");
     draw.textAlign = "left";
-    const text = w > 40 ? `${node.name}  ${percent(node.value, this.root.value)}` : node.name;
+    const text = w > 40 ? `${shortName(node.name)}  ${percent(node.value, this.root.value)}` : shortName(node.name);
     draw.fillText(fitted(draw, text, w - 9), x + 5, y + ROW_HIGH / 2 + 0.5);
   }
 

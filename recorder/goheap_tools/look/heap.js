@@ -57,7 +57,7 @@ const PAINTS = {
 
 function classColour(spanClass) {
   const size = spanClass >> 1;
-  return size ? `hsl(${size * 53 % 360} ${spanClass % 2 ? 45 : 70}% ${spanClass % 2 ? 66 : 48}%)` : spanClass % 2 ? "#f0b070" : "#b3541e";
+  return size ? `hsl(${size * 137 % 360} ${spanClass % 2 ? 45 : 70}% ${spanClass % 2 ? 66 : 48}%)` : spanClass % 2 ? "#f0b070" : "#b3541e";
 }
 
 function classLegend(heap) {

@@ -66,6 +66,7 @@ function makeTools() {
   from.addEventListener("change", () => set({from: Number(from.value)}));
   document.getElementById("names").append(...meta.functions.slice(0, 3000).map(name => el("option", {value: name})));
   find.addEventListener("change", () => { if (meta.functions.includes(find.value)) { set({choice: {kind: "function", name: find.value}}); find.value = ""; } });
+  document.getElementById("skip").addEventListener("click", () => document.getElementById("main").focus());
   document.getElementById("forget").addEventListener("click", () => set({choice: {kind: "function", name: ""}}));
 }
 
