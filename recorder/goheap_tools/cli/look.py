@@ -34,8 +34,9 @@ RECORDER = os.path.join(judging.TOP, "recorder", "record")
 
 def options_of(words: List[str]) -> argparse.Namespace:
     at = words.index("--") if "--" in words else len(words)
-    parser = argparse.ArgumentParser(prog="look", description=__doc__.split("\n\n")[0], usage="look [options] [trace report | --base OLD NEW | [options of record] -- program arguments]")
-    parser.add_argument("given", nargs="*", metavar="file", help="a trace and its report, or one recording: a folder, or what the names of its files begin with")
+    parser = argparse.ArgumentParser(prog="look", description=__doc__.split("\n\n")[0], usage="look [options] [trace report | --base OLD NEW | [options of record] -- program arguments]", allow_abbrev=False)
+    if "--" not in words:
+        parser.add_argument("given", nargs="*", metavar="file", help="a trace and its report, or one recording: a folder, or what the names of its files begin with")
     parser.add_argument("--stacks", help="the stacks that `record` wrote")
     parser.add_argument("--base", metavar="OLD", help="a recording to hold this one against: a folder, or what the names of its files begin with")
     parser.add_argument("--output", "-o", default="look.html", help="the page (default look.html)")
@@ -44,11 +45,11 @@ def options_of(words: List[str]) -> argparse.Namespace:
     parser.add_argument("--open", action="store_true", help="open the page in the browser")
     parser.add_argument("--no-judge", dest="judge", action="store_false", help="leave the report unjudged")
     options, others = parser.parse_known_args(words[:at])
-    options.command, options.record = words[at + 1 :], others
+    options.command, options.record, options.given = words[at + 1 :], others, getattr(options, "given", [])
     if "--" in words and not options.command:
         parser.error("no program stands behind --")
-    if options.command and (options.given or options.base or options.stacks):
-        parser.error("files and a program to run were given")
+    if options.command and options.stacks:
+        parser.error("stacks and a program to run were given")
     if others and not options.command:
         parser.error(f"unrecognized arguments: {' '.join(others)}")
     if not options.command and len(options.given) not in (1, 2):

@@ -162,9 +162,10 @@ def limits(facts: Facts) -> Iterator[Sentence]:
         yield Sentence("limit", f"{behind:,} of {len(trace.sizes):,} objects ({percent(behind, len(trace.sizes))}) came behind the last mark end and are in no number: nothing tells whether they stay alive.", "time")
     if missed_of(facts.recording)[0]:
         yield Sentence("limit", "Objects that found no room are counted nowhere.", "", "", f"{facts.leaks}")
-    told = stacks.header.get("left out")
-    if told:
-        yield Sentence("limit", f"The recording left out {told}.")
+    if "limit" in stacks.header:
+        yield Sentence("limit", f"The trace ends at the limit of {stacks.header['limit']}; what the program did behind it is in no number.")
+    if "from mark end" in stacks.header:
+        yield Sentence("limit", f"The trace begins at mark end {stacks.header['from mark end']} of the program's log: the objects that it found alive are the first ones.")
     yield Sentence("limit", "All objects of the trace are counted, at whatever rate the run sampled. Addresses, spans and free pages are those of the run of goheap, which places the program's objects as Go's allocator does:"
                    " where memory was given back to the system by Go's own scavenger in the background, the program had fewer free pages.")  # fmt: skip
 
