@@ -2,17 +2,24 @@
 
 const UNITS = [[2 ** 30, "GB"], [2 ** 20, "MB"], [2 ** 10, "kB"]];
 
+// A number with so many digits behind the point, a half to the even one, as Python writes it.
+function fixed(value, digits) {
+  if (value < 0) return "-" + fixed(-value, digits);
+  const times = value * 10 ** digits, low = Math.floor(times), isHalf = times - low === 0.5 && (2 * low + 1) % 5 ** digits === 0;
+  return (isHalf && low % 2 === 0 ? low / 10 ** digits : value).toFixed(digits);
+}
+
 // So many bytes, as `leaks` and `go tool pprof` write them.
 function bytes(size) {
   for (const [unit, name] of UNITS) {
-    if (Math.abs(size) >= unit) return (size / unit).toFixed(2) + name;
+    if (Math.abs(size) >= unit) return fixed(size / unit, 2) + name;
   }
-  return size.toFixed(0) + "B";
+  return fixed(size, 0) + "B";
 }
 
 const GROUPED = new Intl.NumberFormat("en-US", {maximumFractionDigits: 1});
 function number(value) { return GROUPED.format(value); }
-function percent(part, whole) { return whole ? (100 * part / whole).toFixed(1) + "%" : "0.0%"; }
+function percent(part, whole) { return whole ? fixed(100 * part / whole, 1) + "%" : "0.0%"; }
 function signed(size, text = bytes) { return size > 0 ? "+" + text(size) : text(size); }
 function counted(count, what) { return `${number(count)} ${what}${count === 1 ? "" : "s"}`; }
 

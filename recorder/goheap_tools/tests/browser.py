@@ -11,7 +11,7 @@ import time
 
 NAMES = ("chromium", "chromium-browser", "google-chrome", "chrome")
 # Seconds that an answer may take.
-PATIENCE = 60
+PATIENCE = 300
 
 
 def browser_command():
@@ -44,7 +44,18 @@ class Browser:
         self.session = self.call("Target.attachToTarget", targetId=target, flatten=True)["sessionId"]
         for domain in ("Page", "Runtime", "Log", "Network"):
             self.call(f"{domain}.enable")
-        self.resize(width, height)
+        self.size = width, height
+        self.forget(dark)
+
+    def forget(self, dark=False):
+        """As it was at its beginning, but for what it keeps open."""
+        self.resize(*self.size)
+        self.shade(dark)
+        self.errors.clear()
+        self.requests.clear()
+
+    def shade(self, dark):
+        """What the reader's system is set to."""
         self.call("Emulation.setEmulatedMedia", features=[{"name": "prefers-color-scheme", "value": "dark" if dark else "light"}])
 
     def resize(self, width, height):
@@ -109,7 +120,7 @@ class Browser:
             raise RuntimeError(details.get("exception", {}).get("description", details["text"]))
         return found["result"].get("value")
 
-    def wait(self, script, seconds=30):
+    def wait(self, script, seconds=PATIENCE):
         """Waits until a script comes to something."""
         end = time.monotonic() + seconds
         while time.monotonic() < end:

@@ -2,6 +2,7 @@
 that `leaks` and `pins` print. Where there is no browser these are skipped; none is installed here."""
 
 import base64
+import functools
 import glob
 import json
 import os
@@ -26,6 +27,13 @@ def plain(text):
     return int(text.replace(",", ""))
 
 
+@functools.cache
+def made_recording(objects, mark_ends, version):
+    """The texts of a made recording, which several tests look at."""
+    trace, stacks = made.made_trace(objects, mark_ends, version)
+    return trace, made.modelled(trace), stacks
+
+
 class Recorded(Folder):
     """Tests with recordings in a folder."""
 
@@ -37,8 +45,7 @@ class Recorded(Folder):
         return os.path.join(self.folder.name, name)
 
     def made(self, name="made", objects=1500, mark_ends=5, version=1):
-        trace, stacks = made.made_trace(objects, mark_ends, version)
-        return self.recording(name, trace, made.modelled(trace), stacks)
+        return self.recording(name, *made_recording(objects, mark_ends, version))
 
     def page(self, *words, name="page.html"):
         """Makes a page. Returns its path."""
@@ -180,10 +187,14 @@ class Json(Recorded):
 class InABrowser(Recorded):
     """The page as a person sees it."""
 
+    @classmethod
+    def setUpClass(cls):
+        cls.browser = Browser()
+        cls.addClassCleanup(cls.browser.close)
+
     def setUp(self):
         super().setUp()
-        self.browser = Browser()
-        self.addCleanup(self.browser.close)
+        self.browser.forget()
 
     def ends_well(self):
         """Nothing went wrong in the page, and nothing but files was asked for."""
@@ -414,7 +425,7 @@ class InABrowser(Recorded):
     def test_two_sizes_of_window_and_the_dark(self):
         path = self.page(self.made())
         for dark in (False, True):
-            self.browser.call("Emulation.setEmulatedMedia", features=[{"name": "prefers-color-scheme", "value": "dark" if dark else "light"}])
+            self.browser.shade(dark)
             for width, height in ((1400, 900), (640, 800)):
                 self.browser.resize(width, height)
                 for view in VIEWS:
