@@ -62,10 +62,10 @@ def checked(trace: str, report: str) -> Dict[str, Any]:
 
 def explained(recording: Recording, report: str) -> Dict[str, Any]:
     """What `explain` says of the report: the same rules, tried in Python."""
-    with open(report, encoding="utf-8", errors="surrogateescape") as file:
-        lines = file.readlines()
+    with open(report, "rb") as file:
+        data = file.read()
     frames = {number: shown_frames(one) for number, one in recording.stacks.frames.items()}
-    told = list(explain.explanation(recording.trace, lines, frames, os.path.basename(report)))
+    told = list(explain.explanation(recording.trace, data, frames, os.path.basename(report)))
     sound = told == [explain.sound(recording.trace)]
     return {"by": "As `recorder/explain` says, which tries the rules of `goheap check` by itself in Python; goheap is not built here.", "verdict": told[0], "lines": told[1:MOST], "sound": sound}
 
