@@ -1,15 +1,18 @@
 """Makes one page of a recording, which a browser opens: what is live, what grew, who allocated it, where it stands, and who keeps which pages.
 
     recorder/look [OPTIONS] -- ./program ARGUMENTS
+    recorder/look server.heap
     recorder/look trace report --stacks stacks
     recorder/look --base OLD NEW
 
-The first form records the program (options that it does not know are those of `record`), runs the trace and makes the page. The last one
+The first form records the program (options that it does not know are those of `record`) and makes the page: of a program that records itself
+that of its real heap, of another one that of the trace which is run. The second is for a recording that such a program made. The last one
 sets two recordings side by side, each a folder with the files trace, report and stacks, or what the names NAME.trace, NAME.report and
 NAME.stacks begin with.
 """
 
 import argparse
+import contextlib
 import os
 import subprocess
 import sys
@@ -17,18 +20,20 @@ import webbrowser
 from typing import Dict, List, Optional, Tuple
 
 from goheap_tools import tool
+from goheap_tools.cli import pair
 from goheap_tools.formats import companions
 from goheap_tools.formats.recordings import Files, recording_at
 from goheap_tools.formats.report import report_in
 from goheap_tools.formats.stacks import Stacks, stack_file
 from goheap_tools.formats.traces import trace_in
+from goheap_tools.inside.kinds import Kind, kind_of
 from goheap_tools.look import gather, judging
 from goheap_tools.look.assemble import Page
 from goheap_tools.look.gather import Recording
 from goheap_tools.look.progress import Progress
 
 # Seconds that a megabyte of trace and report takes, by step, as measured; so a step tells how far it is.
-READING, COUNTING, WRITING, EXPLAINING, RUNNING, MODELLING = 0.06, 0.09, 0.12, 0.5, 0.05, 2.0
+READING, COUNTING, WRITING, EXPLAINING, RUNNING, MODELLING, PAIRING = 0.06, 0.09, 0.12, 0.5, 0.05, 2.0, 1.0
 RECORDER = os.path.join(judging.TOP, "recorder", "record")
 
 
@@ -36,7 +41,7 @@ def options_of(words: List[str]) -> argparse.Namespace:
     at = words.index("--") if "--" in words else len(words)
     parser = argparse.ArgumentParser(prog="look", description=__doc__.split("\n\n")[0], usage="look [options] [trace report | --base OLD NEW | [options of record] -- program arguments]", allow_abbrev=False)
     if "--" not in words:
-        parser.add_argument("given", nargs="*", metavar="file", help="a trace and its report, or one recording: a folder, or what the names of its files begin with")
+        parser.add_argument("given", nargs="*", metavar="file", help="a trace and its report, or one recording: a file that a program recorded itself into, a folder, or what the names of its files begin with")
     parser.add_argument("--stacks", help="the stacks that `record` wrote")
     parser.add_argument("--base", metavar="OLD", help="a recording to hold this one against: a folder, or what the names of its files begin with")
     parser.add_argument("--output", "-o", default="look.html", help="the page (default look.html)")
@@ -62,8 +67,10 @@ def megabytes(*paths: Optional[str]) -> float:
 
 
 def record(options: argparse.Namespace, progress: Progress) -> Files:
-    """Runs the program under `record`, and the trace."""
+    """Runs the program under `record`, and the trace of one that does not record itself."""
     os.makedirs(options.folder, exist_ok=True)
+    if os.path.isfile(options.command[0]) and kind_of(options.command[0]) is Kind.ITSELF:
+        return record_itself(options, progress)
     trace, report, stacks = (os.path.join(options.folder, name) for name in Files._fields)
     with progress.step(f"records {os.path.basename(options.command[0])}"):
         ran = subprocess.run([RECORDER, *options.record, "-o", trace, "--stacks", stacks, "--", *options.command], stderr=subprocess.PIPE, text=True)
@@ -74,6 +81,25 @@ def record(options: argparse.Namespace, progress: Progress) -> Files:
         progress.done(line)
     run(trace, report, progress)
     return Files(trace, report, stacks)
+
+
+def record_itself(options: argparse.Namespace, progress: Progress) -> Files:
+    """Runs a program that records itself, whatever its own status is: its report is what Go's runtime did."""
+    path = os.path.join(options.folder, os.path.basename(options.command[0]) + ".heap")
+    with contextlib.suppress(FileNotFoundError):
+        os.remove(path)
+    with progress.step(f"records {os.path.basename(options.command[0])}"):
+        ran = subprocess.run([RECORDER, *options.record, "-o", path, "--", *options.command], stderr=subprocess.PIPE, text=True)
+    if not os.path.exists(path):
+        raise tool.Unusable(ran.stderr.strip() or f"record ended with status {ran.returncode}")
+    return paired(path, progress)
+
+
+def paired(path: str, progress: Progress) -> Files:
+    """Trace, report and stacks of a recording that a program made of itself, beside it."""
+    with progress.step("makes trace and report of the recording", PAIRING * megabytes(path)):
+        pair.main([path])
+    return Files(*(os.path.splitext(path)[0] + "." + name for name in Files._fields))
 
 
 def run(trace: str, report: str, progress: Progress) -> None:
@@ -89,6 +115,8 @@ def files_of(options: argparse.Namespace, progress: Progress) -> Files:
         return record(options, progress)
     if len(options.given) == 2:
         return Files(options.given[0], options.given[1], options.stacks)
+    if os.path.isfile(options.given[0]) and kind_of(options.given[0]) is Kind.RECORDING:
+        return paired(options.given[0], progress)
     found = recording_at(options.given[0])
     return with_report(found._replace(stacks=options.stacks or found.stacks), progress)
 
@@ -142,7 +170,8 @@ def page_of(options: argparse.Namespace, progress: Progress) -> Tuple[Page, File
 
 def steps_of(options: argparse.Namespace) -> int:
     """How many steps there are."""
-    return 4 + options.judge + 2 * bool(options.command) + 2 * bool(options.base)
+    is_recording = len(options.given) == 1 and os.path.isfile(options.given[0])
+    return 4 + options.judge + is_recording + 2 * bool(options.command) + 2 * bool(options.base)
 
 
 def main(words: List[str]) -> int:

@@ -15,6 +15,8 @@ BUILT = os.path.join(TOP, "crates", "goheap", "out", "goheap")
 LAUNCHER, MODEL = os.path.join(TOP, "goheap"), os.path.join(TOP, "model", "run.py")
 # Sentences of a judge that are shown.
 MOST = 200
+# The newest version of a trace that goheap reads.
+NEWEST = 3
 
 
 def is_built() -> bool:
@@ -60,6 +62,11 @@ def checked(trace: str, report: str) -> Dict[str, Any]:
     return {"by": "As `goheap check` says, the proved judge.", "verdict": verdict, "lines": lines[:-1], "sound": ran.returncode == 0 and verdict == "check ok"}
 
 
+def why_not(recording: Recording) -> str:
+    """Why the proved judge does not say it."""
+    return "goheap is not built here" if not is_built() else f"goheap reads traces up to version {NEWEST} as yet"
+
+
 def explained(recording: Recording, report: str) -> Dict[str, Any]:
     """What `explain` says of the report: the same rules, tried in Python."""
     with open(report, "rb") as file:
@@ -67,12 +74,12 @@ def explained(recording: Recording, report: str) -> Dict[str, Any]:
     frames = {number: shown_frames(one) for number, one in recording.stacks.frames.items()}
     told = list(explain.explanation(recording.trace, data, frames, os.path.basename(report)))
     sound = told == [explain.sound(recording.trace)]
-    return {"by": "As `recorder/explain` says, which tries the rules of `goheap check` by itself in Python; goheap is not built here.", "verdict": told[0], "lines": told[1:MOST], "sound": sound}
+    return {"by": f"As `recorder/explain` says, which tries the rules of `goheap check` by itself in Python; {why_not(recording)}.", "verdict": told[0], "lines": told[1:MOST], "sound": sound}
 
 
 def judged(recording: Recording, trace: str, report: str) -> Dict[str, Any]:
     """The words of the judge on the report. A refused one has what `explain` says of it as well."""
-    if not is_built():
+    if not is_built() or recording.trace.version > NEWEST:
         return explained(recording, report)
     found = checked(trace, report)
     if not found["sound"]:

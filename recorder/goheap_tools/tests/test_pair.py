@@ -6,6 +6,7 @@ import io
 import os
 import re
 
+from goheap_tools.cli import look
 from goheap_tools.cli import pair as command
 from goheap_tools.formats import report, stacks, traces
 from goheap_tools.heap import rules
@@ -101,6 +102,16 @@ class RealRuns(test_inside_runs.Runs):
         self.assertEqual(known.number("objects"), len(trace.sizes))
         self.assertEqual(known.number("mark ends"), trace.mark_ends)
         self.assertTrue(any(any(frame.startswith("main.tiny ") for frame in frames) for frames in known.frames.values()))
+
+    def test_a_page_of_the_real_heap(self):
+        path, page = self.path("one run.heap"), self.path("page.html")
+        self.run_program([recorded(max(toolchains()), "heaps"), "small"], path, processors=2)
+        with contextlib.redirect_stderr(io.StringIO()):
+            self.assertEqual(look.main([path, "-o", page]), 0)
+        with open(page, encoding="utf-8") as file:
+            text = file.read()
+        self.assertIn("The report meets all ten rules: it is sound.", text)
+        self.assertIn("<title>heaps-", text)
 
     def test_a_recording_that_begins_later_has_no_pair(self):
         path = self.path("later")
