@@ -2,13 +2,13 @@
 //! the pages and the page caches make.
 
 ghost use Rattle.std.specs.Prelude.{◌≡◌, ◌<◌, IfOk};
-ghost use Rattle.page_replay.specs.Replays.{IsReplay, region_in};
+ghost use Rattle.report_check.specs.Replays.{IsReplay, region_in};
 
 use crate::plain_body::{GOAL, PAGES, count, fill, loose, search, size_of};
 use page_bitmap::{Line, Run};
-use page_replay::Replay;
 use rand_core::utils::NextWord;
 use rand_pcg::Pcg32;
+use report_check::Replay;
 use std::process::Abort;
 use std::test::Fail;
 

@@ -6,8 +6,8 @@ use Rattle.std.proofs.lemmas.List.{reverse-append, take_more}
 use Rattle.page_bitmap.specs.declared.line.Line.{Line}
 use Rattle.page_alloc.specs.Blocks.{open_blocks}
 use Rattle.page_alloc.specs.Journal.{IsBy, LegalFor, cycle_of, past_of}
-use Rattle.page_replay.specs.declared.replay.Replay.{Replay}
-use Rattle.page_replay.specs.Replays.{Accepts, Begins, IsReplay, MayStandIn, goal_in, past_in, procs_in, region_in}
+use Rattle.report_check.specs.declared.replay.Replay.{Replay}
+use Rattle.report_check.specs.Replays.{Accepts, Begins, IsReplay, MayStandIn, goal_in, past_in, procs_in, region_in}
 use Rattle.trace_reader.specs.declared.trace.Trace.{Trace}
 use Rattle.cycle_history.specs.declared.Report.{Report}
 use Rattle.cycle_history.specs.Requests.{caching_procs, last_cycle, region_of}

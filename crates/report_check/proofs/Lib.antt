@@ -1,3 +1,9 @@
+pub mod Coming
+pub mod CachedPages
+pub mod Standing
+pub mod Steps
+pub mod Moves
+pub mod Begun
 pub mod Requests
 pub mod Answered
 pub mod Numbered

@@ -1,3 +1,5 @@
+pub mod ReplayedLines
+pub mod Replays
 pub mod Fault
 pub mod Items
 pub mod Pieces

@@ -8,8 +8,8 @@ ghost use Rattle.report_check.specs.Fault.{IsFaultOf};
 
 use crate::CheckFault;
 use crate::lines::end_of;
+use crate::replay::{Replay, cycle_of};
 use cycle_history::{Report, caching_procs};
-use page_replay::{Replay, cycle_of};
 use std::alloc::Global;
 use trace_reader::Trace;
 

@@ -1,7 +1,7 @@
 //! The judge of reports: which rule a report breaks first, and the first of its lines that breaks it.
 //!
 //! `check` tries the rules in their order, each in passes that answer the least line that breaks it: answers (`items`), the
-//! journal (`journal`), misses (`misses`), places (`places`, by the table of open lives in `lives`), overlaps (`apart`),
+//! journal (`journal`, by a `replay` over the pages and the page caches), misses (`misses`), places (`places`, by the table of open lives in `lives`), overlaps (`apart`),
 //! filling (`filling`, by the table of last cycles in `tops`), sweeps (`gives`, `sweeps`, by what `ledger` counts at each mark end, and `unswept`), totals (`totals`) and the
 //! profile (`profile`, by the samples of `sampled`, whose buckets are searched among `sorted` numbers).
 //! From rule 5 on each object has its seat (`objects`) and its last cycle (`lasts`), so that no rule searches for a life or
@@ -28,6 +28,7 @@ mod objects;
 mod piece;
 mod places;
 mod profile;
+mod replay;
 mod sampled;
 mod sorted;
 mod sweeps;
@@ -50,6 +51,7 @@ pub use misses::judge_misses;
 pub use objects::Objects;
 pub use piece::Piece;
 pub use places::{first_lost, judge_places};
+pub use replay::{Replay, cycle_of};
 pub use tops::Tops;
 pub use totals::judge_totals;
 pub use unswept::judge_lives;

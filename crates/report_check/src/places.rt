@@ -18,8 +18,8 @@ ghost use Rattle.report_check.specs.Seats.{AllHaveLives, AreSameBut, AreSeatedIn
 use crate::CheckFault;
 use crate::items::Item;
 use crate::lives::{OpenLife, Seat, has_life, no_lives, seat_of, take_up};
+use crate::replay::cycle_of;
 use cycle_history::{Answer, Report, spans_at};
-use page_replay::cycle_of;
 use size_classes::CHUNK_PAGES;
 use std::alloc::Global;
 use trace_reader::{Span, Trace};

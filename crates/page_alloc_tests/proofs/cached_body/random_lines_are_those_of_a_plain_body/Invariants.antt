@@ -1,5 +1,5 @@
 use Rattle.std.proofs.Common.{◌≡◌}
-use Rattle.page_replay.specs.Replays.{IsReplay, region_in}
+use Rattle.report_check.specs.Replays.{IsReplay, region_in}
 use Rattle.page_alloc_tests.proofs.cached_body.random_lines_are_those_of_a_plain_body.Given as goal
 
 abbrev pub invariant-loop : goal.invariant-loop

@@ -1,5 +1,0 @@
-use Rattle.page_replay.proofs.Steps.{settled-test}
-use Rattle.page_replay.proofs.replay.Replay.is_settled.Goals as goal
-
-pub returns : goal.returns
-returns c = settled-test c.args.self.now c.requires
