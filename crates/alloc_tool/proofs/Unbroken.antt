@@ -7,7 +7,7 @@ use Rattle.cycle_history.specs.Objects.{Object}
 use Rattle.cycle_history.specs.Sound.{IsSound, IsSoundAndUsed}
 use Rattle.cycle_history.specs.declared.versions.TheConstants.{TINY_VERSION}
 use Rattle.trace_gen.specs.Made.{made_trace}
-use Rattle.report_rules.proofs.Exact.{first-broken}
+use Rattle.report_check.proofs.Exact.{first-broken}
 use Rattle.report_check.specs.Fault.{BreaksRules, MeetsChecked}
 
 -- a sound report meets the rules up to each

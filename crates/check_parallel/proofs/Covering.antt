@@ -16,7 +16,7 @@ use Rattle.cycle_history.specs.Objects.{Object, IsApart, IsHeld, is_placed, live
 use Rattle.cycle_history.specs.Rules.{AreApart, AreFilled}
 use Rattle.cycle_history.specs.Sound.{past_in}
 use Rattle.sound_run.proofs.Live.{live-placed}
-use Rattle.report_rules.specs.Placing.{BreaksApart, BreaksFilling, IsEarlierOf}
+use Rattle.report_check.specs.Placing.{BreaksApart, BreaksFilling, IsEarlierOf}
 use Rattle.report_check.specs.declared.fault.CheckFault.{CheckFault}
 use Rattle.report_check.specs.declared.fault.CheckFault.TheVariants.{Broken, NoMemory}
 use Rattle.report_check.specs.declared.items.Item.{Item}

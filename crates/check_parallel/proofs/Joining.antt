@@ -3,7 +3,7 @@ use Rattle.std.specs.Prelude.{fold, nat_lt}
 use Rattle.std.proofs.Common.{◌≡◌, ℕ, suc, ◌+◌, ◌<◌, ◌≤◌, Bool, true, false, List, [], ◌∷◌, length, Some, Result, Ok, Err, refl, subst, arith, ◌⊎◌, inl, inr}
 use Rattle.std.specs.List.{slice_get}
 use Rattle.std.proofs.lemmas.Bool.{cases_lt, ltb-true, ltb-false}
-use Rattle.report_rules.specs.Lines.{IsLeast}
+use Rattle.report_check.specs.Lines.{IsLeast}
 use Rattle.report_check.specs.declared.fault.CheckFault.{CheckFault}
 use Rattle.report_check.specs.declared.fault.CheckFault.TheVariants.{Broken, NoMemory}
 use Rattle.check_parallel.specs.Verdicts.{AnswersRule, least, lesser, second_if}

@@ -10,10 +10,10 @@ use Rattle.cycle_history.specs.Requests.{last_cycle, marked_by}
 use Rattle.cycle_history.specs.Rules.{AreApart, AreFilled, AreMissed}
 use Rattle.cycle_history.specs.Sound.{HasAnswers, HasJournal, HasProfile, past_in}
 use Rattle.cycle_history.specs.Sweeps.{AreSwept, AreTotals}
-use Rattle.report_rules.specs.Answers.{BreaksJournal, BreaksMisses}
-use Rattle.report_rules.specs.Placing.{BreaksApart, BreaksFilling}
-use Rattle.report_rules.specs.Closing.{BreaksSweeps, BreaksTotals}
-use Rattle.report_rules.specs.Published.{BreaksProfile}
+use Rattle.report_check.specs.Answers.{BreaksJournal, BreaksMisses}
+use Rattle.report_check.specs.Placing.{BreaksApart, BreaksFilling}
+use Rattle.report_check.specs.Closing.{BreaksSweeps, BreaksTotals}
+use Rattle.report_check.specs.Published.{BreaksProfile}
 use Rattle.report_check.specs.declared.fault.CheckFault.{CheckFault}
 use Rattle.report_check.specs.declared.items.Item.{Item}
 use Rattle.report_check.specs.declared.piece.Piece.{Piece}

@@ -8,7 +8,7 @@ use Rattle.cycle_history.specs.Counted.{AreZeros}
 use Rattle.cycle_history.specs.Objects.{Object}
 use Rattle.cycle_history.specs.Sound.{HasAnswers}
 use Rattle.cycle_history.proofs.OfObjects.{objects-zeros}
-use Rattle.report_rules.proofs.Twins.{answers-length}
+use Rattle.report_check.proofs.Twins.{answers-length}
 use Rattle.tiny_alloc.specs.declared.base.Based.{Based}
 use Rattle.tiny_alloc.specs.Base.{IsBase}
 use Rattle.tiny_alloc.specs.Sound.{based_report}

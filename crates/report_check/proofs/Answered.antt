@@ -17,8 +17,8 @@ use Rattle.cycle_history.specs.Objects.{Object}
 use Rattle.cycle_history.specs.Rules.{IsObject, AreAnswered}
 use Rattle.cycle_history.specs.Sound.{HasAnswers}
 use Rattle.cycle_history.proofs.OfObjects.{requests-events}
-use Rattle.report_rules.specs.Lines.{end_of, IsLeast}
-use Rattle.report_rules.specs.Answers.{IsRightAnswer, BreaksAnswers}
+use Rattle.report_check.specs.Lines.{end_of, IsLeast}
+use Rattle.report_check.specs.Answers.{IsRightAnswer, BreaksAnswers}
 use Rattle.report_check.specs.declared.asked.Asked.{Asked}
 use Rattle.report_check.specs.declared.items.Item.{Item}
 use Rattle.report_check.specs.Items.{AreRequests, IsItem, object_of, objects_of, request_of}

@@ -24,9 +24,9 @@ use Rattle.cycle_history.proofs.OfObjects.{request-of, number-get}
 use Rattle.sound_run.specs.Run.{Fits, slot_for}
 use Rattle.sound_run.proofs.Live.{legal-at_end, live-cases, live-placed, live-of, live-marked}
 use Rattle.sound_run.proofs.Seats.{apart}
-use Rattle.report_rules.specs.Lines.{IsLeast}
-use Rattle.report_rules.specs.Placing.{BreaksApart}
-use Rattle.report_rules.proofs.Twins.{event-at}
+use Rattle.report_check.specs.Lines.{IsLeast}
+use Rattle.report_check.specs.Placing.{BreaksApart}
+use Rattle.report_check.proofs.Twins.{event-at}
 use Rattle.report_check.specs.declared.items.Item.{Item}
 use Rattle.report_check.specs.declared.tops.Tops.{Tops}
 use Rattle.report_check.specs.Items.{need_of, object_of, objects_of}

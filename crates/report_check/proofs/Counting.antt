@@ -6,7 +6,7 @@ use Rattle.std.proofs.lemmas.List.Sorted.{sum_by-IsPermutation}
 use Rattle.std.proofs.lemmas.List.Recursion.{is_sum_by}
 use Rattle.std.proofs.lemmas.Option.{slice_get-get_or, slice_get_within, get_or_from_slice_get}
 use Rattle.page_alloc.specs.Lists.{In, count, one_if}
-use Rattle.report_rules.proofs.Counts.{get-in}
+use Rattle.report_check.proofs.Counts.{get-in}
 use Rattle.report_check.proofs.Summed.{in-get}
 
 -- ---- a search

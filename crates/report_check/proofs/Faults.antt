@@ -10,12 +10,12 @@ use Rattle.cycle_history.specs.Rules.{AreApart, AreFilled, AreMissed, AreSeated}
 use Rattle.cycle_history.specs.Sweeps.{AreSwept, AreTotals}
 use Rattle.cycle_history.specs.Sound.{past_in, HasAnswers, HasJournal, HasProfile, IsSound}
 use Rattle.cycle_history.specs.Broken.{MeetsUpTo}
-use Rattle.report_rules.specs.Lines.{IsLeast}
-use Rattle.report_rules.specs.Answers.{BreaksAnswers, BreaksJournal, BreaksMisses}
-use Rattle.report_rules.specs.Placing.{BreaksApart, BreaksFilling, BreaksPlaces}
-use Rattle.report_rules.specs.Closing.{BreaksSweeps, BreaksTotals}
-use Rattle.report_rules.specs.Published.{BreaksProfile}
-use Rattle.report_rules.specs.Broken.{Breaks, IsBroken}
+use Rattle.report_check.specs.Lines.{IsLeast}
+use Rattle.report_check.specs.Answers.{BreaksAnswers, BreaksJournal, BreaksMisses}
+use Rattle.report_check.specs.Placing.{BreaksApart, BreaksFilling, BreaksPlaces}
+use Rattle.report_check.specs.Closing.{BreaksSweeps, BreaksTotals}
+use Rattle.report_check.specs.Published.{BreaksProfile}
+use Rattle.report_check.specs.Broken.{Breaks, IsBroken}
 use Rattle.report_check.specs.declared.fault.CheckFault.{CheckFault}
 use Rattle.report_check.specs.declared.fault.CheckFault.TheVariants.{Broken, NoMemory}
 use Rattle.report_check.specs.Fault.{IsFault, IsFaultOf, IsUpTo}

@@ -10,8 +10,8 @@ use Rattle.cycle_history.specs.Requests.{marked_by}
 use Rattle.cycle_history.specs.Objects.{Object, is_placed, Holds, IsHeld}
 use Rattle.cycle_history.specs.Rules.{AreFilled, IsSmall}
 use Rattle.sound_run.specs.Run.{count_for}
-use Rattle.report_rules.specs.Lines.{IsLeast}
-use Rattle.report_rules.specs.Placing.{BreaksFilling, IsMisplaced}
+use Rattle.report_check.specs.Lines.{IsLeast}
+use Rattle.report_check.specs.Placing.{BreaksFilling, IsMisplaced}
 use Rattle.report_check.specs.declared.items.Item.{Item}
 use Rattle.report_check.specs.declared.tops.Tops.{Tops}
 use Rattle.report_check.specs.declared.filling.Fill.{Fill}

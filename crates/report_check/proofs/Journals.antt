@@ -12,8 +12,8 @@ use Rattle.trace_reader.specs.declared.trace.Trace.{Trace}
 use Rattle.cycle_history.specs.declared.Report.{Report}
 use Rattle.cycle_history.specs.Requests.{caching_procs, last_cycle, region_of}
 use Rattle.cycle_history.specs.Sound.{HasJournal, past_in as printed_past}
-use Rattle.report_rules.specs.Lines.{IsLeast, end_of, journal_at}
-use Rattle.report_rules.specs.Answers.{BreaksJournal, IsJournalTo}
+use Rattle.report_check.specs.Lines.{IsLeast, end_of, journal_at}
+use Rattle.report_check.specs.Answers.{BreaksJournal, IsJournalTo}
 
 -- one line more of a journal stands first in its past
 past-more : (journal : List Line) (n : ℕ) (d : Line) → n < length journal → past_of (take (n + 1) journal) ≡ get_or journal n d ∷ past_of (take n journal)

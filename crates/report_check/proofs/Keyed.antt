@@ -8,7 +8,7 @@ use Rattle.span_state.specs.declared.sweep.SweepNote.{SweepNote}
 use Rattle.report_check.specs.declared.keys.Keys.{Keys}
 use Rattle.report_check.specs.Keys.{AreKeys}
 use Rattle.report_check.specs.Sweeping.{key_of}
-use Rattle.report_rules.proofs.Counts.{get-in}
+use Rattle.report_check.proofs.Counts.{get-in}
 
 -- a wanted sweep of the first n has the key
 pub record HasKeyTo (empty : Bool) (sweeps : List SweepNote) (n key : ℕ) : Type 0 where

@@ -1,3 +1,10 @@
+pub mod Twins
+pub mod Counts
+pub mod Profiles
+pub mod Seats
+pub mod Sweeping
+pub mod Exact
+pub mod PlainLines
 pub mod Coming
 pub mod CachedPages
 pub mod Standing

@@ -14,8 +14,8 @@ use Rattle.cycle_history.specs.declared.Answer.TheVariants.{Placed, Zero, Missed
 use Rattle.cycle_history.specs.Objects.{Object}
 use Rattle.cycle_history.specs.Rules.{NamesMiss, AreMissed}
 use Rattle.cycle_history.proofs.OfObjects.{number-get, get-number}
-use Rattle.report_rules.specs.Lines.{IsLeast}
-use Rattle.report_rules.specs.Answers.{IsNamedBefore, BreaksMisses}
+use Rattle.report_check.specs.Lines.{IsLeast}
+use Rattle.report_check.specs.Answers.{IsNamedBefore, BreaksMisses}
 use Rattle.report_check.specs.declared.items.Item.{Item}
 use Rattle.report_check.specs.Items.{object_of, objects_of}
 use Rattle.report_check.proofs.Numbered.{item-of, object-in}

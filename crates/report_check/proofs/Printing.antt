@@ -11,7 +11,7 @@ use Rattle.cycle_history.specs.Objects.{Object}
 use Rattle.cycle_history.specs.Orders.{IsProfBefore}
 use Rattle.cycle_history.specs.Profile.{Bucket, Samples, IsProf, IsChanged, IsProfileIn, allocs_at, frees_at, bucket_of, is_sample}
 use Rattle.cycle_history.proofs.Sampling.{AreAlike, allocs-alike, frees-alike}
-use Rattle.report_rules.specs.Published.{IsRightProf, IsDue}
+use Rattle.report_check.specs.Published.{IsRightProf, IsDue}
 use Rattle.report_check.specs.Printed.{HasNumbers, AreRightProfs, IsFirstWrongProf, AllPrinted}
 use Rattle.report_check.proofs.Summed.{in-get}
 

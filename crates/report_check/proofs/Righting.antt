@@ -20,8 +20,8 @@ use Rattle.cycle_history.specs.Orders.{IsSweepBefore}
 use Rattle.cycle_history.specs.Sweeps.{AreSwept, GivesWhenEmpty, IsNote, IsOpenAfter, IsUsedAgain}
 use Rattle.cycle_history.specs.Sound.{past_in}
 use Rattle.sound_run.proofs.Live.{legal-at_end}
-use Rattle.report_rules.specs.Lines.{IsLeast, end_of, sweep_at}
-use Rattle.report_rules.specs.Closing.{BreaksSweeps, IsOutOfOrder, IsRightSweep, MayGive}
+use Rattle.report_check.specs.Lines.{IsLeast, end_of, sweep_at}
+use Rattle.report_check.specs.Closing.{BreaksSweeps, IsOutOfOrder, IsRightSweep, MayGive}
 use Rattle.report_check.specs.declared.items.Item.{Item}
 use Rattle.report_check.specs.declared.lives.OpenLife.{OpenLife}
 use Rattle.report_check.specs.declared.ledger.Ledger.{Ledger}

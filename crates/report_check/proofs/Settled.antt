@@ -30,8 +30,8 @@ use Rattle.cycle_history.proofs.Firsts.{before-rise, before-all, before-le}
 use Rattle.cycle_history.proofs.OfObjects.{number-get, request-of, requests-events}
 use Rattle.cycle_history.proofs.Plain.{request_in, same_length}
 use Rattle.cycle_history.proofs.Rising.{marked-early, marks-within}
-use Rattle.report_rules.specs.Lines.{IsLeast}
-use Rattle.report_rules.specs.Placing.{BreaksPlaces, HasSeat}
+use Rattle.report_check.specs.Lines.{IsLeast}
+use Rattle.report_check.specs.Placing.{BreaksPlaces, HasSeat}
 use Rattle.report_check.specs.declared.items.Item.{Item}
 use Rattle.report_check.specs.declared.lives.OpenLife.{OpenLife}
 use Rattle.report_check.specs.declared.lives.Seat.{Seat}

@@ -16,8 +16,8 @@ use Rattle.cycle_history.specs.Sampled.{stack_of}
 use Rattle.cycle_history.specs.Profile.{Bucket, Samples, SamplesBy, IsChanged, IsOf, allocs_at, frees_at, is_sample, samples_in}
 use Rattle.cycle_history.specs.Sound.{HasProfile}
 use Rattle.cycle_history.proofs.Sampling.{AreAlike, samples-one}
-use Rattle.report_rules.specs.Lines.{IsLeast, end_of, profile_at}
-use Rattle.report_rules.specs.Published.{BreaksProfile, IsDue, IsRightProf, is_of_each}
+use Rattle.report_check.specs.Lines.{IsLeast, end_of, profile_at}
+use Rattle.report_check.specs.Published.{BreaksProfile, IsDue, IsRightProf, is_of_each}
 use Rattle.report_check.specs.declared.items.Item.{Item}
 use Rattle.report_check.specs.declared.sampled.Sampled.{Sampled}
 use Rattle.report_check.specs.Items.{object_of, objects_of}
@@ -372,7 +372,7 @@ alike-sym s s' objects alike o among placed = (let a = alike o among placed in (
 -- lines that are right break no rule
 rights-break : (t : Trace) (report : Report) (items : List Item) (sampled : Sampled) (n k : ℕ) (prof : Prof) (which : ℕ → Bool) → AreSamples t items sampled → SamplesBy t.header.rate t.header.seed which (objects_of items)
     → AreRightProfs (IsRightProf (is_of_each (last_cycle t) report.profile) (marked_by t) (samples_by t sampled) (last_cycle t) (objects_of items)) report.profile n → k < n → slice_get report.profile k ≡ Some prof
-    → ¬ ((¬ IsRightProf (is_of_each (last_cycle t) report.profile) (marked_by t) (samples_in t which) (last_cycle t) (objects_of items) prof) ⊎ Rattle.report_rules.specs.Closing.IsOutOfOrder IsProfBefore report.profile k prof)
+    → ¬ ((¬ IsRightProf (is_of_each (last_cycle t) report.profile) (marked_by t) (samples_in t which) (last_cycle t) (objects_of items) prof) ⊎ Rattle.report_check.specs.Closing.IsOutOfOrder IsProfBefore report.profile k prof)
 rights-break t report items sampled n k prof which are by right lt at wrong = elim wrong [
   | inl off ↦ off (right-alike (marked_by t) (samples_by t sampled) (samples_in t which) (objects_of items) (alike-by t items sampled which are by) (is_of_each (last_cycle t) report.profile) (last_cycle t) prof (right.right k prof lt at))
   | inr order ↦ order.wrong (right.order order.place k order.earlier prof order.before lt order.among at)

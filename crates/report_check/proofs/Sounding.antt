@@ -5,7 +5,7 @@ use Rattle.cycle_history.specs.declared.Report.{Report}
 use Rattle.cycle_history.specs.Objects.{Object}
 use Rattle.cycle_history.specs.Sound.{IsSound}
 use Rattle.cycle_history.specs.Broken.{MeetsUpTo}
-use Rattle.report_rules.proofs.Exact.{first-broken}
+use Rattle.report_check.proofs.Exact.{first-broken}
 use Rattle.report_check.specs.declared.fault.CheckFault.{CheckFault}
 use Rattle.report_check.specs.declared.fault.CheckFault.TheVariants.{Broken, NoMemory}
 use Rattle.report_check.specs.Fault.{IsFault, MeetsChecked}

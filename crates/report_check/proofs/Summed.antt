@@ -16,10 +16,10 @@ use Rattle.cycle_history.specs.Orders.{AreRisingTotals}
 use Rattle.cycle_history.specs.Sound.{HasAnswers}
 use Rattle.cycle_history.specs.Sweeps.{IsTotal, AreTotals, is_placed_of}
 use Rattle.cycle_history.specs.Counted.{AreZeros, AreObjectsOf}
-use Rattle.report_rules.specs.Lines.{IsLeast, total_at, end_of}
-use Rattle.report_rules.specs.Closing.{BreaksTotals, IsWrongTotal}
-use Rattle.report_rules.proofs.Exact.{right-of}
-use Rattle.report_rules.proofs.Twins.{answers-length}
+use Rattle.report_check.specs.Lines.{IsLeast, total_at, end_of}
+use Rattle.report_check.specs.Closing.{BreaksTotals, IsWrongTotal}
+use Rattle.report_check.proofs.Exact.{right-of}
+use Rattle.report_check.proofs.Twins.{answers-length}
 use Rattle.report_check.specs.Totals.{AreFitting, IsMisfit, HasAll, LacksTotal}
 
 -- ---- places of a list

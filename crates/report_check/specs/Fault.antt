@@ -4,8 +4,8 @@ use Rattle.trace_reader.specs.declared.trace.Trace.{Trace}
 use Rattle.cycle_history.specs.declared.Report.{Report}
 use Rattle.cycle_history.specs.Objects.{Object}
 use Rattle.cycle_history.specs.Sound.{IsSound}
-use Rattle.report_rules.specs.Lines.{IsLeast}
-use Rattle.report_rules.specs.Broken.{IsBroken}
+use Rattle.report_check.specs.Lines.{IsLeast}
+use Rattle.report_check.specs.Broken.{IsBroken}
 use Rattle.report_check.specs.declared.fault.CheckFault.{CheckFault}
 use Rattle.report_check.specs.declared.fault.CheckFault.TheVariants.{Broken, NoMemory}
 

@@ -1,3 +1,10 @@
+pub mod Lines
+pub mod Answers
+pub mod Placing
+pub mod Closing
+pub mod Published
+pub mod Broken
+pub mod Plain
 pub mod ReplayedLines
 pub mod Replays
 pub mod Fault

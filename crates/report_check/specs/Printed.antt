@@ -8,8 +8,8 @@ use Rattle.cycle_history.specs.Requests.{Marking}
 use Rattle.cycle_history.specs.Objects.{Object}
 use Rattle.cycle_history.specs.Orders.{IsProfBefore}
 use Rattle.cycle_history.specs.Profile.{Bucket, Samples, IsOf}
-use Rattle.report_rules.specs.Closing.{IsOutOfOrder}
-use Rattle.report_rules.specs.Published.{IsDue}
+use Rattle.report_check.specs.Closing.{IsOutOfOrder}
+use Rattle.report_check.specs.Published.{IsDue}
 use Rattle.report_check.specs.declared.items.Item.{Item}
 use Rattle.report_check.specs.Lasts.{last_at}
 use Rattle.report_check.specs.Order.{place_of}

@@ -12,7 +12,7 @@ use Rattle.cycle_history.specs.Objects.{Object}
 use Rattle.cycle_history.specs.Orders.{IsSweepBefore}
 use Rattle.cycle_history.specs.Sweeps.{IsOpenAfter}
 use Rattle.cycle_history.specs.Sound.{past_in}
-use Rattle.report_rules.specs.Closing.{IsOutOfOrder, IsRightSweep, IsUnswept, MayGive}
+use Rattle.report_check.specs.Closing.{IsOutOfOrder, IsRightSweep, IsUnswept, MayGive}
 use Rattle.report_check.specs.declared.lives.OpenLife.{OpenLife}
 
 -- A sweep's cycle and page as one number.

@@ -4,7 +4,7 @@ use Rattle.std.specs.List.{slice_get}
 use Rattle.page_alloc.specs.Lists.{In}
 use Rattle.cycle_history.specs.declared.Total.{Total}
 use Rattle.cycle_history.specs.Orders.{IsTotalBefore}
-use Rattle.report_rules.specs.Closing.{IsOutOfOrder}
+use Rattle.report_check.specs.Closing.{IsOutOfOrder}
 
 -- The first n printed totals are right ones, and stand in order.
 pub record AreFitting (right printed : List Total) (n : ℕ) : Type 0 where

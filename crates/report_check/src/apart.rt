@@ -3,7 +3,7 @@
 ghost use Rattle.std.specs.Prelude.{◌≤◌, IfErr, OnOk};
 ghost use Rattle.cycle_history.specs.Requests.{marked_by};
 ghost use Rattle.cycle_history.specs.Rules.{AreApart};
-ghost use Rattle.report_rules.specs.Placing.{BreaksApart};
+ghost use Rattle.report_check.specs.Placing.{BreaksApart};
 
 use crate::CheckFault;
 use crate::objects::Objects;

@@ -3,7 +3,7 @@
 ghost use Rattle.std.specs.Prelude.{◌≡◌, ◌≤◌, ◌<◌, length, slice_index_or, IfErr, IfNone, IfOk, IfSome, MatchBool, OnOk, slice_set, Some as Just, None as Nothing};
 ghost use Rattle.cycle_history.specs.Requests.{marked_by};
 ghost use Rattle.cycle_history.specs.Rules.{AreFilled};
-ghost use Rattle.report_rules.specs.Placing.{BreaksFilling};
+ghost use Rattle.report_check.specs.Placing.{BreaksFilling};
 ghost use Rattle.report_check.specs.Tops.{lives_of};
 ghost use Rattle.report_check.specs.Filling.{HasFillingRoom, IsEmptyFilling, IsTakenUp, filled_by, next_in as next_of, place_of_class};
 ghost use Rattle.report_check.specs.Fitting.{AreHeld, IsFitting, IsFreeAt, FillsOther, IsOthers, IsOwn, IsStaying, IsUnfitting};

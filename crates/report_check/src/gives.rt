@@ -6,7 +6,7 @@ ghost use Rattle.cycle_history.specs.Before.{IsLimited};
 ghost use Rattle.cycle_history.specs.Objects.{Object};
 ghost use Rattle.cycle_history.specs.Requests.{last_cycle, marked_by};
 ghost use Rattle.cycle_history.specs.Sound.{HasJournal};
-ghost use Rattle.report_rules.specs.Closing.{BreaksSweeps};
+ghost use Rattle.report_check.specs.Closing.{BreaksSweeps};
 ghost use Rattle.report_check.specs.Fault.{IsFaultOf};
 ghost use Rattle.report_check.specs.Keys.{AreKeys};
 ghost use Rattle.report_check.specs.Sweeping.{AllMayGive, CanGive};

@@ -4,7 +4,7 @@ ghost use Rattle.std.specs.Prelude.{◌≡◌, ◌≤◌, ◌^◌, ◌↔◌, If
 ghost use Rattle.cycle_history.specs.declared.Answer.TheVariants.{Zero};
 ghost use Rattle.cycle_history.specs.Before.{IsLimited};
 ghost use Rattle.cycle_history.specs.Sound.{HasAnswers};
-ghost use Rattle.report_rules.specs.Answers.{BreaksAnswers};
+ghost use Rattle.report_check.specs.Answers.{BreaksAnswers};
 ghost use Rattle.report_check.specs.Fault.{IsFaultOf};
 ghost use Rattle.report_check.specs.Items.{objects_of};
 

@@ -3,7 +3,7 @@
 ghost use Rattle.std.specs.Prelude.{◌≡◌, IfErr, OnOk};
 ghost use Rattle.cycle_history.specs.Before.{IsLimited};
 ghost use Rattle.cycle_history.specs.Sound.{HasJournal};
-ghost use Rattle.report_rules.specs.Answers.{BreaksJournal};
+ghost use Rattle.report_check.specs.Answers.{BreaksJournal};
 ghost use Rattle.report_check.specs.Fault.{IsFaultOf};
 
 use crate::CheckFault;

@@ -6,7 +6,11 @@
 //! profile (`profile`, by the samples of `sampled`, whose buckets are searched among `sorted` numbers).
 //! From rule 5 on each object has its seat (`objects`) and its last cycle (`lasts`), so that no rule searches for a life or
 //! asks the marks again. `totals` tries rule 8 alone too, where rule 1 is met. The parts are offered each by itself, and the rules
-//! 5 and 6 of a `piece` of the objects alone. What breaks a rule is defined in the crate `report_rules`.
+//! 5 and 6 of a `piece` of the objects alone.
+//!
+//! `specs/Lines.antt` numbers the lines of a report. `Answers.antt`, `Placing.antt`, `Closing.antt` and `Published.antt` say
+//! which of them breaks each rule, and `Broken.antt` which rule is the first and which line the least. `laws` says that where
+//! a line is named so, the report doesn't meet that rule, and that rule 2 is that of `Plain.antt` where no processor has a page cache.
 #![tactic(auto)]
 
 mod apart;
@@ -20,6 +24,7 @@ mod journal;
 mod judge;
 mod keys;
 mod lasts;
+mod laws;
 mod ledger;
 mod lines;
 mod lives;
@@ -45,6 +50,10 @@ pub use items::{Item, is_right, items_of};
 pub use journal::judge_journal;
 pub use judge::{check, check_first_rules};
 pub use lasts::lasts_of;
+pub use laws::{
+    a_broken_report_breaks_its_rule, a_plain_journal_breaks_the_same_lines,
+    version_1_breaks_the_same_lines,
+};
 pub use lines::end_of;
 pub use lives::{OpenLife, Seat, seat_of};
 pub use misses::judge_misses;

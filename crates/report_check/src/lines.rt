@@ -1,7 +1,7 @@
 //! The lines of a report.
 
 ghost use Rattle.std.specs.Prelude.{◌≡◌};
-ghost use Rattle.report_rules.specs.Lines as lines;
+ghost use Rattle.report_check.specs.Lines as lines;
 
 use cycle_history::Report;
 

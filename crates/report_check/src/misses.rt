@@ -5,7 +5,7 @@ ghost use Rattle.std.specs.List.{slice_get};
 ghost use Rattle.page_bitmap.specs.declared.line.Line.TheVariants.{Miss};
 ghost use Rattle.cycle_history.specs.Rules.{AreMissed};
 ghost use Rattle.cycle_history.specs.Sound.{past_in};
-ghost use Rattle.report_rules.specs.Answers.{BreaksMisses};
+ghost use Rattle.report_check.specs.Answers.{BreaksMisses};
 ghost use Rattle.report_check.specs.Fault.{IsFaultOf};
 ghost use Rattle.report_check.specs.Items.{objects_of};
 

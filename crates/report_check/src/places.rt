@@ -8,7 +8,7 @@ ghost use Rattle.cycle_history.specs.Objects.{is_placed};
 ghost use Rattle.cycle_history.specs.Requests.{is_within, marked_by, region_of};
 ghost use Rattle.cycle_history.specs.Rules.{AreSeated};
 ghost use Rattle.cycle_history.specs.Sound.{HasAnswers, HasJournal, past_in};
-ghost use Rattle.report_rules.specs.Placing.{BreaksPlaces};
+ghost use Rattle.report_check.specs.Placing.{BreaksPlaces};
 ghost use Rattle.report_check.specs.declared.items.Item.{Item as Entry};
 ghost use Rattle.report_check.specs.Fault.{IsFaultOf};
 ghost use Rattle.report_check.specs.Items.{objects_of};

@@ -5,8 +5,8 @@ ghost use Rattle.cycle_history.specs.declared.Prof.{Prof as ALine};
 ghost use Rattle.cycle_history.specs.Orders.{IsProfBefore};
 ghost use Rattle.cycle_history.specs.Profile.{allocs_at, frees_at};
 ghost use Rattle.cycle_history.specs.Requests.{last_cycle, marked_by};
-ghost use Rattle.report_rules.specs.Lines as lines;
-ghost use Rattle.report_rules.specs.Published.{IsRightProf, is_of_each};
+ghost use Rattle.report_check.specs.Lines as lines;
+ghost use Rattle.report_check.specs.Published.{IsRightProf, is_of_each};
 ghost use Rattle.report_check.specs.Printed.{ArePrinted, HasBucketLine, HasNumbers, IsFirstWrongProf, IsItemPrinted, LacksLine, AreRightProfs};
 
 use crate::CheckFault;
@@ -21,7 +21,7 @@ use std::alloc::Global;
 
 impl Objects<'_> {
     ghost use Rattle.cycle_history.specs.Sound.{HasProfile};
-    ghost use Rattle.report_rules.specs.Published.{BreaksProfile};
+    ghost use Rattle.report_check.specs.Published.{BreaksProfile};
     ghost use Rattle.report_check.specs.Fault.{IsFaultOf};
     ghost use Rattle.report_check.specs.Items.{objects_of};
     ghost use Rattle.report_check.specs.Known.{AreKnownItems};

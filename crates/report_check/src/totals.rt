@@ -7,8 +7,8 @@ ghost use Rattle.cycle_history.specs.Objects.{Object};
 ghost use Rattle.cycle_history.specs.Requests.{last_cycle, marked_by};
 ghost use Rattle.cycle_history.specs.Sound.{HasAnswers};
 ghost use Rattle.cycle_history.specs.Sweeps.{AreTotals};
-ghost use Rattle.report_rules.specs.Closing.{BreaksTotals};
-ghost use Rattle.report_rules.specs.Lines as lines;
+ghost use Rattle.report_check.specs.Closing.{BreaksTotals};
+ghost use Rattle.report_check.specs.Lines as lines;
 ghost use Rattle.report_check.specs.Fault.{IsFaultOf};
 ghost use Rattle.report_check.specs.Totals.{AreFitting, HasAll, IsMisfit, LacksTotal};
 

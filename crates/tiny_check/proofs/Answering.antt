@@ -11,8 +11,8 @@ use Rattle.cycle_history.specs.declared.Answer.TheVariants.{Zero}
 use Rattle.cycle_history.specs.declared.Report.{Report}
 use Rattle.cycle_history.specs.Before.{objects_before}
 use Rattle.cycle_history.proofs.Found.{cycle-event}
-use Rattle.report_rules.specs.Lines.{end_of, IsLeast}
-use Rattle.report_rules.specs.Answers.{BreaksAnswers}
+use Rattle.report_check.specs.Lines.{end_of, IsLeast}
+use Rattle.report_check.specs.Answers.{BreaksAnswers}
 use Rattle.report_check.proofs.Answered.{AreRight, right-more, wrong-first, wrong-behind, missing-last}
 use Rattle.tiny_check.specs.Answered.{AreAnsweredTo, IsAnswered}
 

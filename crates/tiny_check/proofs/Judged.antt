@@ -5,9 +5,9 @@ use Rattle.std.proofs.lemmas.Bool.{cases_lt}
 use Rattle.trace_reader.specs.declared.trace.Trace.{Trace}
 use Rattle.cycle_history.specs.declared.Answer.{Answer}
 use Rattle.cycle_history.specs.declared.Report.{Report}
-use Rattle.report_rules.specs.Answers.{BreaksAnswers}
-use Rattle.report_rules.specs.Broken.{IsBroken}
-use Rattle.report_rules.proofs.Exact.{first-broken}
+use Rattle.report_check.specs.Answers.{BreaksAnswers}
+use Rattle.report_check.specs.Broken.{IsBroken}
+use Rattle.report_check.proofs.Exact.{first-broken}
 use Rattle.report_check.specs.declared.fault.CheckFault.{CheckFault}
 use Rattle.report_check.specs.declared.fault.CheckFault.TheVariants.{Broken, NoMemory}
 use Rattle.report_check.specs.Fault.{IsFaultOf, MeetsChecked}

@@ -8,7 +8,7 @@ use Rattle.trace_reader.specs.declared.trace.Trace.{Trace}
 use Rattle.cycle_history.specs.declared.Answer.{Answer}
 use Rattle.cycle_history.specs.declared.Answer.TheVariants.{Placed, Zero, Missed}
 use Rattle.cycle_history.specs.Requests.{requests_from}
-use Rattle.report_rules.specs.Lines.{IsLeast}
+use Rattle.report_check.specs.Lines.{IsLeast}
 use Rattle.tiny_alloc.specs.declared.part.Part.{Part}
 use Rattle.tiny_alloc.specs.declared.part.Part.TheVariants.{Other, Lead, Ride}
 use Rattle.tiny_alloc.specs.declared.part.Rider.{Rider}

@@ -10,7 +10,7 @@ use Rattle.cycle_history.specs.declared.Report.{Report}
 use Rattle.cycle_history.specs.Requests.{Request, requests_from}
 use Rattle.cycle_history.specs.Broken.{MeetsRules}
 use Rattle.cycle_history.proofs.Counted.{get-some}
-use Rattle.report_rules.specs.Answers.{BreaksAnswers, IsRightAnswer}
+use Rattle.report_check.specs.Answers.{BreaksAnswers, IsRightAnswer}
 use Rattle.tiny_alloc.specs.declared.base.Based.{Based}
 use Rattle.tiny_alloc.specs.declared.part.Part.{Part}
 use Rattle.tiny_alloc.specs.declared.part.Part.TheVariants.{Other, Lead, Ride}

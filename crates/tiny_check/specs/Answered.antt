@@ -5,7 +5,7 @@ use Rattle.trace_reader.specs.declared.trace.Trace.{Trace}
 use Rattle.trace_reader.specs.Limits.{events_of}
 use Rattle.cycle_history.specs.declared.Answer.{Answer}
 use Rattle.cycle_history.specs.declared.Report.{Report}
-use Rattle.report_rules.specs.Answers.{IsRightAnswer}
+use Rattle.report_check.specs.Answers.{IsRightAnswer}
 
 -- The first n objects have answers, and these are right.
 pub record AreAnsweredTo (t : Trace) (report : Report) (n : ℕ) : Type 0 where

@@ -7,8 +7,8 @@ use Rattle.cycle_history.specs.declared.Answer.TheVariants.{Placed, Zero, Missed
 use Rattle.cycle_history.specs.declared.Report.{Report}
 use Rattle.cycle_history.specs.Objects.{Object}
 use Rattle.cycle_history.specs.Broken.{MeetsRules}
-use Rattle.report_rules.specs.Lines.{answer_at, IsLeast}
-use Rattle.report_rules.specs.Broken.{IsBroken}
+use Rattle.report_check.specs.Lines.{answer_at, IsLeast}
+use Rattle.report_check.specs.Broken.{IsBroken}
 use Rattle.report_check.specs.declared.fault.CheckFault.{CheckFault}
 use Rattle.report_check.specs.declared.fault.CheckFault.TheVariants.{Broken, NoMemory}
 use Rattle.report_check.specs.Fault.{MeetsChecked}

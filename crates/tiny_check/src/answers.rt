@@ -2,7 +2,7 @@
 
 ghost use Rattle.std.specs.Prelude.{◌≡◌, ◌+◌, ◌<◌, length, IfErr, OnOk};
 ghost use Rattle.cycle_history.specs.Before.{IsLimited, objects_before};
-ghost use Rattle.report_rules.specs.Answers.{BreaksAnswers};
+ghost use Rattle.report_check.specs.Answers.{BreaksAnswers};
 ghost use Rattle.report_check.specs.Fault.{IsFaultOf};
 ghost use Rattle.tiny_alloc.specs.Base.{as_version_2};
 ghost use Rattle.tiny_check.specs.Answered.{AreAnsweredTo, IsAnswered};

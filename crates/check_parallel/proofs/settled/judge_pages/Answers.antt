@@ -1,5 +1,5 @@
 use Rattle.cycle_history.specs.Sound.{HasJournal}
-use Rattle.report_rules.specs.Answers.{BreaksJournal}
+use Rattle.report_check.specs.Answers.{BreaksJournal}
 use Rattle.report_check.specs.Fault.{IsFaultOf}
 use Rattle.check_parallel.specs.declared.settled.Lived.{Lived}
 use Rattle.check_parallel.specs.Parts.{IsLived}

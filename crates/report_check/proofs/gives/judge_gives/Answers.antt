@@ -7,8 +7,8 @@ use Rattle.page_alloc.specs.Journal.{LegalFor, past_of}
 use Rattle.span_state.specs.declared.sweep.SweepNote.{SweepNote}
 use Rattle.cycle_history.specs.Requests.{caching_procs, last_cycle, marked_by, region_of}
 use Rattle.cycle_history.specs.declared.Answer.{Answer}
-use Rattle.report_rules.specs.Lines.{IsLeast}
-use Rattle.report_rules.specs.Closing.{BreaksSweeps}
+use Rattle.report_check.specs.Lines.{IsLeast}
+use Rattle.report_check.specs.Closing.{BreaksSweeps}
 use Rattle.report_check.specs.declared.lives.OpenLife.{OpenLife}
 use Rattle.report_check.specs.Keys.{AreKeys}
 use Rattle.report_check.specs.Lives.{AreLives}

@@ -3,7 +3,7 @@ use Rattle.std.specs.List.{slice_get}
 use Rattle.page_bitmap.specs.declared.line.Line.TheVariants.{Give}
 use Rattle.page_alloc.specs.Journal.{past_of}
 use Rattle.cycle_history.specs.Requests.{region_of}
-use Rattle.report_rules.specs.Closing.{MayGive}
+use Rattle.report_check.specs.Closing.{MayGive}
 use Rattle.report_check.specs.Lives.{AreLives}
 use Rattle.report_check.proofs.gives.judge_gives.Given as goal
 

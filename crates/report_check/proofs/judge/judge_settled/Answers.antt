@@ -1,13 +1,13 @@
 use Rattle.report_check.specs.Items.{objects_of}
 use Rattle.report_check.specs.Fault.{IsFault, IsFaultOf}
 use Rattle.report_check.specs.declared.fault.CheckFault.{CheckFault}
-use Rattle.report_rules.specs.Published.{BreaksProfile}
+use Rattle.report_check.specs.Published.{BreaksProfile}
 use Rattle.std.specs.Prelude.{OnOk}
 use Rattle.std.proofs.Common.{List, Result, Ok, Err, subst}
 use Rattle.trace_reader.specs.declared.trace.Trace.{Trace}
 use Rattle.cycle_history.specs.Requests.{marked_by}
 use Rattle.cycle_history.specs.Rules.{AreApart, AreFilled}
-use Rattle.report_rules.specs.Placing.{BreaksApart, BreaksFilling}
+use Rattle.report_check.specs.Placing.{BreaksApart, BreaksFilling}
 use Rattle.report_check.specs.declared.items.Item.{Item}
 use Rattle.report_check.specs.Pieces.{seen_by}
 use Rattle.report_check.proofs.Pieces.{seen-whole}

@@ -1,7 +1,7 @@
 use Rattle.std.proofs.Common.{refl, arith}
 use Rattle.std.proofs.lemmas.Option.{slice_get_within}
 use Rattle.cycle_history.specs.Requests.{last_cycle, marked_by}
-use Rattle.report_rules.proofs.Twins.{answers-length}
+use Rattle.report_check.proofs.Twins.{answers-length}
 use Rattle.report_check.proofs.Summed.{are-zeros, objects-of, judge-misfit, judge-lacking, judge-met}
 use Rattle.report_check.proofs.totals.judge_totals.Goals as goal
 

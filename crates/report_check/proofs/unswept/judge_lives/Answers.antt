@@ -1,7 +1,7 @@
 use Rattle.std.proofs.Common.{ℕ, refl, sym, subst}
 use Rattle.cycle_history.specs.Requests.{last_cycle, marked_by}
-use Rattle.report_rules.specs.Lines.{IsLeast}
-use Rattle.report_rules.specs.Closing.{BreaksSweeps}
+use Rattle.report_check.specs.Lines.{IsLeast}
+use Rattle.report_check.specs.Closing.{BreaksSweeps}
 use Rattle.report_check.proofs.Righting.{end-fault, on-false, on-true}
 use Rattle.report_check.proofs.unswept.judge_lives.Goals as goal
 

@@ -3,7 +3,7 @@ use Rattle.std.specs.List.{slice_get}
 use Rattle.span_state.specs.declared.sweep.SweepNote.{SweepNote}
 use Rattle.cycle_history.specs.Before.{objects_before}
 use Rattle.cycle_history.specs.Requests.{last_cycle, marked_by}
-use Rattle.report_rules.specs.Closing.{IsRightSweep}
+use Rattle.report_check.specs.Closing.{IsRightSweep}
 use Rattle.report_check.specs.Items.{objects_of}
 use Rattle.report_check.specs.Ledgers.{IsLedger}
 use Rattle.report_check.proofs.objects.Objects.first_wrong.Given as goal

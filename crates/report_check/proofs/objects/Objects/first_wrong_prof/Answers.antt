@@ -1,7 +1,7 @@
 use Rattle.std.proofs.Common.{arith, inl, inr}
 use Rattle.cycle_history.specs.declared.Prof.{Prof}
 use Rattle.cycle_history.specs.Requests.{last_cycle, marked_by}
-use Rattle.report_rules.specs.Published.{IsRightProf}
+use Rattle.report_check.specs.Published.{IsRightProf}
 use Rattle.report_check.specs.Items.{objects_of}
 use Rattle.report_check.specs.Sampling.{samples_by}
 use Rattle.report_check.proofs.Printing.{profs-next}

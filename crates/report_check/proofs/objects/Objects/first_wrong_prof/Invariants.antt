@@ -1,5 +1,5 @@
 use Rattle.cycle_history.specs.Requests.{last_cycle, marked_by}
-use Rattle.report_rules.specs.Published.{IsRightProf}
+use Rattle.report_check.specs.Published.{IsRightProf}
 use Rattle.report_check.specs.Items.{objects_of}
 use Rattle.report_check.specs.Printed.{AreRightProfs}
 use Rattle.report_check.specs.Sampling.{samples_by}

@@ -1,8 +1,8 @@
 use Rattle.std.specs.Prelude.{IfSome, MatchOption}
 use Rattle.std.proofs.Common.{◌≡◌, ◌≢◌, ℕ, ◌^◌, ◌<◌, Option, None, Some, refl, sym, subst}
 use Rattle.cycle_history.specs.Requests.{last_cycle, marked_by}
-use Rattle.report_rules.specs.Lines.{IsLeast}
-use Rattle.report_rules.specs.Closing.{BreaksSweeps}
+use Rattle.report_check.specs.Lines.{IsLeast}
+use Rattle.report_check.specs.Closing.{BreaksSweeps}
 use Rattle.report_check.specs.Items.{objects_of}
 use Rattle.report_check.proofs.Righting.{sweep-fault}
 use Rattle.report_check.proofs.objects.Objects.judge_notes.Goals as goal

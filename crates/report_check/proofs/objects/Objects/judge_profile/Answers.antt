@@ -1,7 +1,7 @@
 use Rattle.std.proofs.Common.{ℕ, Bool, length, refl, sym, subst}
 use Rattle.cycle_history.specs.Requests.{last_cycle, marked_by}
-use Rattle.report_rules.specs.Lines.{IsLeast}
-use Rattle.report_rules.specs.Published.{BreaksProfile, IsRightProf}
+use Rattle.report_check.specs.Lines.{IsLeast}
+use Rattle.report_check.specs.Published.{BreaksProfile, IsRightProf}
 use Rattle.report_check.specs.Items.{objects_of}
 use Rattle.report_check.specs.Printed.{AllPrinted, AreRightProfs, IsFirstWrongProf, LacksLine}
 use Rattle.report_check.specs.Sampling.{samples_by}

@@ -3,7 +3,7 @@ use Rattle.std.proofs.Common.{Result, Ok, Err}
 use Rattle.report_check.specs.declared.fault.CheckFault.{CheckFault}
 use Rattle.report_check.specs.Items.{objects_of}
 use Rattle.cycle_history.specs.Requests.{last_cycle, marked_by}
-use Rattle.report_rules.specs.Closing.{BreaksSweeps}
+use Rattle.report_check.specs.Closing.{BreaksSweeps}
 use Rattle.report_check.specs.Fault.{IsFaultOf}
 use Rattle.report_check.proofs.Faults.{err-from, err-map}
 use Rattle.report_check.proofs.Righting.{swept-all}

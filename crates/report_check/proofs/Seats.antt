@@ -15,8 +15,8 @@ use Rattle.cycle_history.specs.Objects.{IsApart, IsHeld, Object, Sits, is_placed
 use Rattle.cycle_history.specs.Rules.{AreApart, AreFilled, AreSeated, IsSmall}
 use Rattle.cycle_history.specs.Sound.{past_in, HasAnswers}
 use Rattle.cycle_history.proofs.OfObjects.{request-of}
-use Rattle.report_rules.specs.Placing.{BreaksApart, BreaksFilling, BreaksPlaces}
-use Rattle.report_rules.proofs.Twins.{IsTwin, twin-of}
+use Rattle.report_check.specs.Placing.{BreaksApart, BreaksFilling, BreaksPlaces}
+use Rattle.report_check.proofs.Twins.{IsTwin, twin-of}
 
 placed-not_zero : (a : Answer) → is_placed a ≡ true → a ≢ Zero
 placed-not_zero a placed e = (let off : is_placed a ≡ false = ap is_placed e in cc)

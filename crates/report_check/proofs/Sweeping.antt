@@ -18,10 +18,10 @@ use Rattle.cycle_history.specs.Orders.{IsSweepBefore}
 use Rattle.cycle_history.specs.Rules.{AreAnswered, AreSeated, IsObject}
 use Rattle.cycle_history.specs.Sound.{past_in, HasAnswers, HasJournal}
 use Rattle.cycle_history.specs.Sweeps.{AreSwept, GivesWhenEmpty, IsOpenAfter}
-use Rattle.report_rules.specs.Closing.{BreaksSweeps, IsRightSweep, IsWrongGive}
-use Rattle.report_rules.proofs.Counts.{apart-at, get-in, live-same}
-use Rattle.report_rules.proofs.Seats.{twin-seat}
-use Rattle.report_rules.proofs.Twins.{IsTwin, need-one, twin-of}
+use Rattle.report_check.specs.Closing.{BreaksSweeps, IsRightSweep, IsWrongGive}
+use Rattle.report_check.proofs.Counts.{apart-at, get-in, live-same}
+use Rattle.report_check.proofs.Seats.{twin-seat}
+use Rattle.report_check.proofs.Twins.{IsTwin, need-one, twin-of}
 
 -- ---- the journal at a line
 

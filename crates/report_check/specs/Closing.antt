@@ -13,7 +13,7 @@ use Rattle.cycle_history.specs.Objects.{Object, is_placed, kept}
 use Rattle.cycle_history.specs.Orders.{IsSweepBefore, IsTotalBefore}
 use Rattle.cycle_history.specs.Sweeps.{IsOpenAfter, IsUsedAgain, IsNote, IsTotal}
 use Rattle.cycle_history.specs.Sound.{past_in}
-use Rattle.report_rules.specs.Lines.{journal_at, sweep_at, total_at, end_of}
+use Rattle.report_check.specs.Lines.{journal_at, sweep_at, total_at, end_of}
 
 -- The Give on journal line n may give the life back: the mark end of its cycle found the life alive, and the life's sweep
 -- of that cycle prints that nothing was kept.

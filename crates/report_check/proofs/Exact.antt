@@ -18,13 +18,13 @@ use Rattle.cycle_history.specs.Rules.{AreMissed}
 use Rattle.cycle_history.specs.Sound.{past_in, HasAnswers, HasJournal}
 use Rattle.cycle_history.specs.Broken.{MeetsUpTo, MeetsRules, IsFirstBroken}
 use Rattle.cycle_history.proofs.OfObjects.{request-of, object-of, get-number}
-use Rattle.report_rules.specs.Answers.{IsRightAnswer, BreaksAnswers, BreaksJournal, IsJournalTo, BreaksMisses}
-use Rattle.report_rules.specs.Broken.{Breaks, IsBroken}
-use Rattle.report_rules.proofs.Counts.{totals-unmet}
-use Rattle.report_rules.proofs.Profiles.{profile-unmet}
-use Rattle.report_rules.proofs.Seats.{apart-met, filling-met, places-met}
-use Rattle.report_rules.proofs.Sweeping.{by-behind, legal-behind, sweeps-unmet}
-use Rattle.report_rules.proofs.Twins.{twin-of, answers-length, event-at}
+use Rattle.report_check.specs.Answers.{IsRightAnswer, BreaksAnswers, BreaksJournal, IsJournalTo, BreaksMisses}
+use Rattle.report_check.specs.Broken.{Breaks, IsBroken}
+use Rattle.report_check.proofs.Counts.{totals-unmet}
+use Rattle.report_check.proofs.Profiles.{profile-unmet}
+use Rattle.report_check.proofs.Seats.{apart-met, filling-met, places-met}
+use Rattle.report_check.proofs.Sweeping.{by-behind, legal-behind, sweeps-unmet}
+use Rattle.report_check.proofs.Twins.{twin-of, answers-length, event-at}
 
 -- ---- rule 1
 

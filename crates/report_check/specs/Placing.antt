@@ -6,7 +6,7 @@ use Rattle.page_alloc.specs.Lives.{Life}
 use Rattle.cycle_history.specs.Requests.{Marking}
 use Rattle.cycle_history.specs.Objects.{Object, is_placed, live, IsSeated, IsApart, IsHeld}
 use Rattle.cycle_history.specs.Rules.{IsSmall}
-use Rattle.report_rules.specs.Lines.{answer_at}
+use Rattle.report_check.specs.Lines.{answer_at}
 
 -- The object with a seat at index k of a life.
 abbrev pub seat_at : Object → Life → ℕ → Object

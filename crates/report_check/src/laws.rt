@@ -6,10 +6,10 @@ ghost use Rattle.cycle_history.specs.declared.Report.{Report};
 ghost use Rattle.cycle_history.specs.Broken.{IsFirstBroken};
 ghost use Rattle.cycle_history.specs.Making.{ArePlain};
 ghost use Rattle.cycle_history.specs.Sound.{past_in};
-ghost use Rattle.report_rules.specs.Answers.{BreaksJournal};
-ghost use Rattle.report_rules.specs.Broken.{IsBroken};
-ghost use Rattle.report_rules.specs.Lines.{IsLeast};
-ghost use Rattle.report_rules.specs.Plain.{BreaksPlainJournal};
+ghost use Rattle.report_check.specs.Answers.{BreaksJournal};
+ghost use Rattle.report_check.specs.Broken.{IsBroken};
+ghost use Rattle.report_check.specs.Lines.{IsLeast};
+ghost use Rattle.report_check.specs.Plain.{BreaksPlainJournal};
 
 /// A report that is broken at a line of a rule meets the rules before it, and not that rule.
 pub fn a_broken_report_breaks_its_rule()

@@ -6,11 +6,11 @@ use Rattle.cycle_history.specs.Requests.{marked_by, last_cycle}
 use Rattle.cycle_history.specs.Objects.{Object}
 use Rattle.cycle_history.specs.Sound.{past_in}
 use Rattle.cycle_history.specs.Broken.{MeetsUpTo}
-use Rattle.report_rules.specs.Lines.{IsLeast}
-use Rattle.report_rules.specs.Answers.{BreaksAnswers, BreaksJournal, BreaksMisses}
-use Rattle.report_rules.specs.Placing.{BreaksPlaces, BreaksApart, BreaksFilling}
-use Rattle.report_rules.specs.Closing.{BreaksSweeps, BreaksTotals}
-use Rattle.report_rules.specs.Published.{BreaksProfile}
+use Rattle.report_check.specs.Lines.{IsLeast}
+use Rattle.report_check.specs.Answers.{BreaksAnswers, BreaksJournal, BreaksMisses}
+use Rattle.report_check.specs.Placing.{BreaksPlaces, BreaksApart, BreaksFilling}
+use Rattle.report_check.specs.Closing.{BreaksSweeps, BreaksTotals}
+use Rattle.report_check.specs.Published.{BreaksProfile}
 
 -- The line breaks rule n.
 pub record Breaks (n : ℕ) (t : Trace) (report : Report) (objects : List Object) (line : ℕ) : Type 0 where

@@ -4,7 +4,7 @@ use Rattle.page_alloc.specs.Journal.{past_of, IsBy, Legal}
 use Rattle.trace_reader.specs.declared.trace.Trace.{Trace}
 use Rattle.cycle_history.specs.declared.Report.{Report}
 use Rattle.cycle_history.specs.Requests.{last_cycle, region_of}
-use Rattle.report_rules.specs.Lines.{journal_at}
+use Rattle.report_check.specs.Lines.{journal_at}
 
 -- The first n lines of the journal are ones that pages of the trace's region and goal can have without page caches, by the
 -- trace's last cycle.

@@ -15,8 +15,8 @@ use Rattle.cycle_history.specs.Orders.{IsTotalBefore}
 use Rattle.cycle_history.specs.Rules.{IsObject, AreAnswered}
 use Rattle.cycle_history.specs.Sound.{HasAnswers}
 use Rattle.cycle_history.specs.Sweeps.{IsTotal, AreTotals, is_placed_of}
-use Rattle.report_rules.specs.Closing.{BreaksTotals}
-use Rattle.report_rules.proofs.Twins.{need-one, twin-of}
+use Rattle.report_check.specs.Closing.{BreaksTotals}
+use Rattle.report_check.proofs.Twins.{need-one, twin-of}
 
 -- a placed object has a size
 pub sized : (r : Request) (n : ℕ) (o : Object) → IsObject r n o → is_placed o.answer ≡ true → 1 ≤ r.event.size

@@ -13,9 +13,9 @@ use Rattle.cycle_history.specs.Requests.{caching_procs, region_of}
 use Rattle.cycle_history.specs.Sound.{past_in}
 use Rattle.cycle_history.specs.Making.{ArePlain}
 use Rattle.cycle_history.proofs.PlainJournals.{no-procs}
-use Rattle.report_rules.specs.Lines.{IsLeast, end_of, journal_at}
-use Rattle.report_rules.specs.Answers.{BreaksJournal, IsJournalTo}
-use Rattle.report_rules.specs.Plain.{BreaksPlainJournal, IsPlainJournalTo}
+use Rattle.report_check.specs.Lines.{IsLeast, end_of, journal_at}
+use Rattle.report_check.specs.Answers.{BreaksJournal, IsJournalTo}
+use Rattle.report_check.specs.Plain.{BreaksPlainJournal, IsPlainJournalTo}
 
 -- ---- all lines are Takes, Misses, Gives and Scavs
 

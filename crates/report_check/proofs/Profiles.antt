@@ -14,9 +14,9 @@ use Rattle.cycle_history.specs.Rules.{IsObject, AreAnswered}
 use Rattle.cycle_history.specs.Profile.{Bucket, Samples, SamplesBy, samples_in, placed_by, passing, is_sample, allocs_at, frees_at, bucket_of, IsProf, IsChanged, IsOf, IsProfileIn}
 use Rattle.cycle_history.specs.Sound.{HasAnswers, HasProfile}
 use Rattle.cycle_history.proofs.Sampling.{samples-one, AreAlike, allocs-alike, frees-alike, each-last}
-use Rattle.report_rules.specs.Published.{is_of_each, IsRightProf, IsDue, BreaksProfile}
-use Rattle.report_rules.proofs.Counts.{IsAlike, sized, count-same, get-in, apart-at}
-use Rattle.report_rules.proofs.Twins.{need-one}
+use Rattle.report_check.specs.Published.{is_of_each, IsRightProf, IsDue, BreaksProfile}
+use Rattle.report_check.proofs.Counts.{IsAlike, sized, count-same, get-in, apart-at}
+use Rattle.report_check.proofs.Twins.{need-one}
 
 -- ---- other objects that answer the trace alike
 

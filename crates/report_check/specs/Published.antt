@@ -9,8 +9,8 @@ use Rattle.cycle_history.specs.Requests.{Marking, marked_by, last_cycle}
 use Rattle.cycle_history.specs.Objects.{Object}
 use Rattle.cycle_history.specs.Orders.{IsProfBefore}
 use Rattle.cycle_history.specs.Profile.{Bucket, Samples, SamplesBy, samples_in, allocs_at, bucket_of, IsProf, IsChanged, IsOf}
-use Rattle.report_rules.specs.Lines.{profile_at, end_of}
-use Rattle.report_rules.specs.Closing.{IsOutOfOrder}
+use Rattle.report_check.specs.Lines.{profile_at, end_of}
+use Rattle.report_check.specs.Closing.{IsOutOfOrder}
 
 -- A profile is of the form of each mark end where its first line names a mark end before the last one, and otherwise of
 -- the form of the last one.

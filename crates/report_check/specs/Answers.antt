@@ -15,7 +15,7 @@ use Rattle.cycle_history.specs.Requests.{caching_procs, last_cycle, region_of}
 use Rattle.cycle_history.specs.Objects.{Object}
 use Rattle.cycle_history.specs.Rules.{NamesMiss}
 use Rattle.cycle_history.specs.Sound.{past_in}
-use Rattle.report_rules.specs.Lines.{answer_at, journal_at, end_of}
+use Rattle.report_check.specs.Lines.{answer_at, journal_at, end_of}
 
 -- The answer with number i is right where the trace has an object i, and the answer is `zero` exactly where its size is 0.
 pub record IsRightAnswer (t : Trace) (i : ℕ) (answer : Answer) : Type 0 where

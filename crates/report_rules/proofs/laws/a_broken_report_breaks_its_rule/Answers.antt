@@ -1,5 +1,0 @@
-use Rattle.report_rules.proofs.Exact.{first-broken}
-use Rattle.report_rules.proofs.laws.a_broken_report_breaks_its_rule.Goals as goal
-
-pub returns : goal.returns
-returns c = first-broken

@@ -1,5 +1,0 @@
-use Rattle.report_rules.proofs.PlainLines.{plain-breaks}
-use Rattle.report_rules.proofs.laws.a_plain_journal_breaks_the_same_lines.Goals as goal
-
-pub returns : goal.returns
-returns c = plain-breaks

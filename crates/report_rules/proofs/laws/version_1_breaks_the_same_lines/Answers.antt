@@ -1,5 +1,0 @@
-use Rattle.report_rules.proofs.PlainLines.{version-1-breaks}
-use Rattle.report_rules.proofs.laws.version_1_breaks_the_same_lines.Goals as goal
-
-pub returns : goal.returns
-returns c = version-1-breaks
