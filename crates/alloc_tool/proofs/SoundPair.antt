@@ -16,8 +16,8 @@ use Rattle.report_text.specs.declared.fault.ReportFault.{ReportFault}
 use Rattle.report_text.specs.Read.{IsText}
 use Rattle.report_text.proofs.Refused.{not_refused_law}
 use Rattle.report_text.proofs.Unique.{one_report}
-use Rattle.tiny_check.proofs.Judged.{version-unbroken}
-use Rattle.tiny_check.specs.Fault.{BreaksVersion, MeetsVersion}
+use Rattle.report_check.proofs.Judged.{version-unbroken}
+use Rattle.report_check.specs.Versions.{BreaksVersion, MeetsVersion}
 use Rattle.commands.specs.Pair.{ArePair, IsReportFault}
 use Rattle.commands.specs.Heaped.{Heaped}
 use Rattle.alloc_tool.specs.Checked.{BreaksAt, Checked}

@@ -9,7 +9,7 @@ use Rattle.trace_reader.specs.Told.{IsOfTrace}
 use Rattle.cycle_history.specs.declared.Report.{Report}
 use Rattle.report_text.specs.declared.fault.ReportFault.{ReportFault}
 use Rattle.report_text.specs.Read.{IsOfReport}
-use Rattle.tiny_check.specs.Fault.{BreaksVersion, MeetsVersion}
+use Rattle.report_check.specs.Versions.{BreaksVersion, MeetsVersion}
 use Rattle.commands.specs.declared.stop.Stop.TheVariants.{Trace as OfTrace, Report as OfReport}
 use Rattle.commands.specs.Judged.{IsSound}
 use Rattle.commands.specs.Pair.{ArePair, BreaksOff, ReadsPair, Refuses}

@@ -6,7 +6,7 @@ ghost use Rattle.edge_io.specs.Causes.{Rose};
 ghost use Rattle.edge_io.specs.Front.{AppendsFront};
 ghost use Rattle.commands.specs.Judged.{IsSound, Stops};
 ghost use Rattle.commands.specs.Pair.{BreaksOff, HasReadCause, IsReadFault};
-ghost use Rattle.tiny_check.specs.Fault.{BreaksVersion, MeetsVersion};
+ghost use Rattle.report_check.specs.Versions.{BreaksVersion, MeetsVersion};
 ghost use Rattle.alloc_tool.specs.Checked.{Checked, check_text};
 ghost use Rattle.commands.specs.Texts.{status_text};
 ghost use Rattle.commands.specs.Told.{Tells};
@@ -15,7 +15,7 @@ use check_parallel::check_version_parallel;
 use commands::{Judge, Stop, Verdict, check_input, read_pair, refuse_pair, stop_writing};
 use cycle_history::Report;
 use edge_io::{Sink, Source, write_all};
-use report_check::CheckFault;
+use report_check::{CheckFault, check_version};
 use std::alloc::Global;
 use std::thread::Threads;
 use trace_reader::Trace;
@@ -29,7 +29,7 @@ impl Judge for Rules {
     ghost Broken = { BreaksVersion };
 
     fn judge(&self, alloc: Global, trace: &Trace, report: &Report) -> Result<(), Verdict> {
-        match tiny_check::check(alloc, trace, report) {
+        match check_version(alloc, trace, report) {
             Ok(()) => Ok(()),
             Err(CheckFault::Broken { rule, line }) => Err(Verdict::Broken { rule, line }),
             Err(CheckFault::NoMemory) => Err(Verdict::NoMemory),

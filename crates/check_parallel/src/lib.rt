@@ -7,7 +7,7 @@
 //! other: the third rule; the overlaps and the filling in pieces of the size classes (`pieces`, by the bytes of `homes`), whose answers
 //! are joined by the least line (`least`); and what is left of the sweeps, the totals and the profile (`closing`).
 //!
-//! `check_version_parallel` (`versions`) answers so what `check` of `tiny_check` answers of a trace of any version.
+//! `check_version_parallel` (`versions`) answers so what `check_version` answers of a trace of any version.
 #![tactic(auto)]
 
 mod closing;

@@ -3,17 +3,16 @@
 ghost use Rattle.std.specs.Prelude.{◌≡◌, ◌≤◌, IfErr, OnOk};
 ghost use Rattle.cycle_history.specs.Before.{IsLimited};
 ghost use Rattle.report_check.specs.declared.fault.CheckFault.TheVariants.{NoMemory as OutOfMemory};
-ghost use Rattle.tiny_check.specs.Fault.{IsFault, IsFaultTiny, MeetsTiny, MeetsVersion};
+ghost use Rattle.report_check.specs.Versions.{IsVersionFault, IsFaultTiny, MeetsTiny, MeetsVersion};
 
 use crate::judge::check_parallel;
 use cycle_history::{Report, TINY_VERSION};
-use report_check::CheckFault;
+use report_check::{CheckFault, base_report, judge_riders};
 use std::alloc::Global;
 use std::thread::Threads;
-use tiny_check::{base_report, judge_riders};
 use trace_reader::Trace;
 
-/// Tries the rules of a sound report of a trace of any version, as `check` of `tiny_check` does, with the objects in so many pieces:
+/// Tries the rules of a sound report of a trace of any version, as `check_version` of `report_check` does, with the objects in so many pieces:
 /// the first that the report breaks, with the first of its lines that breaks it. A sound report is refused for want of memory alone.
 ///
 /// Of a trace with tiny objects the base is made once, and judged in pieces. Rule 1 of the trace itself and rule 10 are judged whole.
@@ -28,7 +27,7 @@ pub fn check_version_parallel<R: Threads + Sync>(
     requires some { 1 ≤ pieces }
     requires few { pieces ≤ 64 }
     ensures met { OnOk result (MeetsVersion trace.now report.now) }
-    ensures broken { IfErr result (IsFault trace.now report.now) }
+    ensures broken { IfErr result (IsVersionFault trace.now report.now) }
     ensures sound { MeetsVersion trace.now report.now → IfErr result (λ fault. fault ≡ OutOfMemory) }
 {
     judge_version(rt, alloc, trace, report, pieces)
@@ -46,7 +45,7 @@ fn judge_version<R: Threads + Sync>(
     requires some { 1 ≤ pieces }
     requires few { pieces ≤ 64 }
     ensures met { OnOk result (MeetsVersion trace.now report.now) }
-    ensures broken { IfErr result (IsFault trace.now report.now) }
+    ensures broken { IfErr result (IsVersionFault trace.now report.now) }
 {
     if trace.header.version < TINY_VERSION {
         check_parallel(rt, alloc, trace, report, pieces)

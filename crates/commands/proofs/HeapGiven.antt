@@ -13,8 +13,8 @@ use Rattle.tiny_alloc.specs.declared.base.Based.{Based}
 use Rattle.tiny_alloc.specs.Base.{IsBase}
 use Rattle.tiny_alloc.specs.Sound.{based_report}
 use Rattle.cycle_history.specs.declared.versions.TheConstants.{TINY_VERSION}
-use Rattle.tiny_check.specs.Fault.{MeetsVersion}
-use Rattle.tiny_check.proofs.Judged.{base-meets}
+use Rattle.report_check.specs.Versions.{MeetsVersion}
+use Rattle.report_check.proofs.Judged.{base-meets}
 
 -- What is known of the answers of a trace.
 abbrev Given : Trace → List Answer → Type 0

@@ -13,7 +13,7 @@ use Rattle.cycle_history.specs.declared.Answer.{Answer}
 use Rattle.tiny_alloc.specs.declared.base.Based.{Based}
 use Rattle.tiny_alloc.specs.Base.{IsBase}
 use Rattle.cycle_history.specs.declared.versions.TheConstants.{TINY_VERSION}
-use Rattle.tiny_check.specs.Fault.{BreaksVersion, MeetsVersion}
+use Rattle.report_check.specs.Versions.{BreaksVersion, MeetsVersion}
 use Rattle.commands.specs.declared.stop.Stop.TheVariants.{Trace as OfTrace, Report as OfReport}
 use Rattle.commands.specs.Pair.{BreaksOff, ReadsPair, Refuses}
 use Rattle.heap_text.specs.declared.text.HeapText.{HeapText}

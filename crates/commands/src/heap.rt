@@ -5,7 +5,7 @@ ghost use Rattle.std.specs.Io.KnownBytes.{Appends};
 ghost use Rattle.edge_io.specs.Causes.{Rose};
 ghost use Rattle.edge_io.specs.Front.{AppendsFront};
 ghost use Rattle.cycle_history.specs.Before.{IsLimited};
-ghost use Rattle.tiny_check.specs.Fault.{BreaksVersion, MeetsVersion};
+ghost use Rattle.report_check.specs.Versions.{BreaksVersion, MeetsVersion};
 ghost use Rattle.commands.specs.Judged.{Stops};
 ghost use Rattle.commands.specs.Pair.{BreaksOff, HasReadCause, IsReadFault};
 ghost use Rattle.heap_text.specs.Lawful.{IsLawful};
@@ -20,10 +20,9 @@ use crate::stop::{Stop, Verdict};
 use cycle_history::{Report, TINY_VERSION};
 use edge_io::{NoMemory, Sink, Source};
 use heap_text::{HeapText, heap_of, write_heap};
-use report_check::CheckFault;
+use report_check::{CheckFault, check_version};
 use std::alloc::Global;
 use tiny_alloc::base_of;
-use tiny_check::check;
 use trace_reader::Trace;
 
 /// Reads a trace, and behind it a report, judges the report, and where it is sound writes the heap profile as of the last mark end.
@@ -51,7 +50,7 @@ fn heap_in<S: Source>(alloc: Global, input: &mut S) -> Result<HeapText, Stop>
     ensures cause { HasReadCause (S.faults input.old) (S.faults input.new) result }
 {
     let (trace, report) = read_pair(alloc, input)?;
-    match check(alloc, &trace, &report) {
+    match check_version(alloc, &trace, &report) {
         Ok(()) => {}
         Err(CheckFault::Broken { rule, line }) => {
             return Err(Stop::Verdict(Verdict::Broken { rule, line }));

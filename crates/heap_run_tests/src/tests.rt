@@ -7,6 +7,7 @@ ghost use Rattle.trace_reader.specs.Limits.{WithinLimits};
 use cycle_history::Report;
 use edge_io::{Gate, HoldGate, Lines, List, MemorySource, OpenGate};
 use heap_run::{Options, run_trace};
+use report_check::check_version;
 use report_text::read_report;
 use std::alloc::Global;
 use std::process::Abort;
@@ -14,7 +15,6 @@ use std::sync::Wait;
 use std::sync::atomic::{AtomicBool, AtomicU64, Ordering};
 use std::test::Fail;
 use std::thread::Threads;
-use tiny_check::check;
 use trace_reader::{Trace, read_trace};
 
 mod caching;
@@ -226,7 +226,7 @@ fn judge<R: Abort + AllocGlobal + Threads + Wait + Sync, G: Gate>(
     requires background { background ≤ 4 }
 {
     let report = ran(rt, trace, background, each, gate)?;
-    assert!(rt; check(rt.alloc(), trace, &report).is_ok());
+    assert!(rt; check_version(rt.alloc(), trace, &report).is_ok());
     Ok(())
 }
 

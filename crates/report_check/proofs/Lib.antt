@@ -41,3 +41,8 @@ pub mod Bucketing
 pub mod Printing
 pub mod Showing
 pub mod Sounding
+pub mod RuleOne
+pub mod OneBase
+pub mod Answering
+pub mod Riding
+pub mod Judged

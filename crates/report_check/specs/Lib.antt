@@ -27,3 +27,6 @@ pub mod Keys
 pub mod Order
 pub mod Sampling
 pub mod Printed
+pub mod Answered
+pub mod Based
+pub mod Versions

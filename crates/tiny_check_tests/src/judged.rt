@@ -6,11 +6,10 @@ ghost use Rattle.cycle_history.specs.Before.{IsLimited};
 use crate::read::{report_of, trace_of};
 use check_parallel::check_version_parallel;
 use cycle_history::Report;
-use report_check::CheckFault;
+use report_check::{CheckFault, check_version};
 use std::process::Abort;
 use std::test::Fail;
 use std::thread::Threads;
-use tiny_check::check;
 use trace_reader::Trace;
 
 /// The lines of a trace, a report of it without its last line, and the rule and the line that it breaks first.
@@ -44,7 +43,7 @@ fn judge<R: Abort + AllocGlobal + Threads + Sync>(
     let alloc = rt.alloc();
     let trace = trace_of(alloc, procs, rate, lines)?;
     let report = report_of(alloc, printed)?;
-    let whole = check(alloc, &trace, &report);
+    let whole = check_version(alloc, &trace, &report);
     let found = match whole {
         Ok(()) => None,
         Err(CheckFault::Broken { rule, line }) => Some((rule, line)),

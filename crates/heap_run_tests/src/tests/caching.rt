@@ -3,8 +3,8 @@
 use super::{Row, judge, ran, run_row, trace_by};
 use cycle_history::Answer;
 use edge_io::OpenGate;
+use report_check::check_version;
 use std::test::Fail;
-use tiny_check::check;
 
 // The first line of a trace of version 2.
 const VERSION: &str = "goheap 2";
@@ -82,6 +82,6 @@ fn processors_cut_beside_each_other(rt: HostRuntime) -> Result<(), Fail> {
         _ => false,
     };
     assert!(rt; found);
-    assert!(rt; check(rt.alloc(), &trace, &report).is_ok());
+    assert!(rt; check_version(rt.alloc(), &trace, &report).is_ok());
     judge(&rt, &trace, 4, true, &OpenGate)
 }

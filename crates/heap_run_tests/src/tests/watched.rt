@@ -6,11 +6,11 @@ ghost use Rattle.trace_reader.specs.Limits.{WithinLimits};
 use super::trace_of;
 use edge_io::{List, OpenGate};
 use heap_run::{Sight, Watched, run_watched};
+use report_check::check_version;
 use std::process::Abort;
 use std::sync::Wait;
 use std::test::Fail;
 use std::thread::Threads;
-use tiny_check::check;
 use trace_reader::Trace;
 
 // A trace with the sums of its profiles: the allocations and the frees as of each mark end, from number 0 on.
@@ -83,7 +83,7 @@ fn watchers_see_the_sums_of_mark_ends(rt: HostRuntime) -> Result<(), Fail> {
         let trace = trace_of(rt.alloc(), row.head, row.lines)?;
         for before in 0..4 {
             let watched = watched(&rt, &trace, before + 1)?;
-            assert!(rt; check(rt.alloc(), &trace, &watched.ran.report).is_ok());
+            assert!(rt; check_version(rt.alloc(), &trace, &watched.ran.report).is_ok());
             assert_eq!(rt; watched.seen.len(), before as usize + 1);
             for sights in watched.seen.as_slice() {
                 assert!(rt; is_right(sights, row.sums), "at {}", row.lines);

@@ -1,5 +1,5 @@
 use Rattle.std.proofs.lemmas.Result.{err_from_is_err_and}
-use Rattle.tiny_check.specs.Fault.{BreaksVersion}
+use Rattle.report_check.specs.Versions.{BreaksVersion}
 use Rattle.commands.proofs.Pairs.{stops_before}
 use Rattle.alloc_tool.proofs.judging.check_in_pieces.Goals as goal
 

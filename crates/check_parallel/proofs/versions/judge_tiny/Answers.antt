@@ -1,6 +1,6 @@
 use Rattle.report_check.proofs.Faults.{err-from}
-use Rattle.tiny_check.specs.Fault.{IsFaultTiny}
-use Rattle.tiny_check.proofs.Judged.{base-broken}
+use Rattle.report_check.specs.Versions.{IsFaultTiny}
+use Rattle.report_check.proofs.Judged.{base-broken}
 use Rattle.check_parallel.proofs.versions.judge_tiny.Goals as goal
 
 pub returns-in_err-check_parallel-clause-broken : goal.returns-in_err-check_parallel-clause-broken

@@ -1,5 +1,0 @@
-pub mod RuleOne
-pub mod OneBase
-pub mod Answering
-pub mod Riding
-pub mod Judged

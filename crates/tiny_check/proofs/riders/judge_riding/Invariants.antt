@@ -1,6 +1,0 @@
-use Rattle.tiny_check.proofs.Riding.{AreRidingTo}
-use Rattle.tiny_check.proofs.riders.judge_riding.Given as goal
-
--- the riders so far stand where they ride
-abbrev pub invariant-loop-rider : goal.invariant-loop-rider
-invariant-loop-rider l = AreRidingTo l.answers l.riders l.rider-index
